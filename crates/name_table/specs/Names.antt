@@ -1,0 +1,22 @@
+-- What the labels of a table mean, from label 0 on.
+use Rattle.std.specs.Prelude.{◌≡◌, ℕ, Bool, true, false, List, slice_set}
+use Rattle.std.specs.List.{slice_index_or}
+use Rattle.name_table.specs.declared.table.NameState.{NameState}
+use Rattle.name_table.specs.declared.table.NameState.TheVariants as state
+use Rattle.name_table.specs.declared.table.Taken.{Taken}
+use Rattle.name_table.specs.declared.table.Taken.TheVariants.{Set, NotYet}
+
+-- what a label means
+abbrev pub state_of : List NameState → ℕ → NameState
+state_of names label = slice_index_or names label state.Unpublished
+
+-- whether a label with this meaning was published, taken since or not
+abbrev pub was_published : NameState → Bool
+was_published state.Unpublished = false
+was_published (state.Published value) = true
+was_published state.Taken = true
+
+-- taking a label either finds it unpublished and changes nothing, or gives the value with which it was published and changes that label alone
+abbrev pub TakesName : List NameState → List NameState → ℕ → Taken → Type 0
+TakesName old new label NotYet = (state_of old label ≡ state.Unpublished) × (new ≡ old)
+TakesName old new label (Set value) = (state_of old label ≡ state.Published value) × (new ≡ slice_set old label state.Taken)

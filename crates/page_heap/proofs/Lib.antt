@@ -1,0 +1,16 @@
+pub mod Examples
+pub mod Counts
+pub mod Runs
+pub mod RangeLemmas
+pub mod Tables
+pub mod Hugepages
+pub mod Trims
+pub mod RangeFacts
+pub mod Kept
+pub mod Views
+pub mod Soundness
+pub mod Choices
+pub mod Chosen
+pub mod Measures
+pub mod Opened
+pub mod Options

@@ -1,0 +1,6 @@
+pub mod Ranges
+pub mod Heap
+pub mod Choice
+pub mod Sound
+pub mod Table
+pub mod Spots

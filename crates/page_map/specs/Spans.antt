@@ -1,0 +1,48 @@
+-- The spans of an arena, in the order of their first pages, and the pages that they hold.
+use Rattle.std.specs.Prelude.{ℕ, ◌+◌, ◌*◌, ◌<◌, ◌≤◌, ◌⊎◌, Bool, ◌==◌, ◌&&◌, not, nat_lt, nat_le, List, [], ◌∷◌, filter, All, AllPairs, if◌then◌else◌}
+use Rattle.tc_units.specs.Units.{huge_pages}
+use Rattle.tc_units.specs.declared.units.TheConstants.{MOST_HUGE}
+use Rattle.tc_units.specs.declared.spans.SpanRef.{SpanRef}
+
+-- a page map as contracts see it: how many hugepages the arena has, and its spans in the order of their first pages
+pub record SpanMap : Type 0 where
+  pub huge : ℕ
+  pub spans : List SpanRef
+
+-- whether a span holds a page
+abbrev pub holds : ℕ → SpanRef → Bool
+holds page span = nat_le span.first.0 page && nat_lt page (span.first.0 + span.pages)
+
+-- whether a span begins at a page or before it
+abbrev pub begins_by : ℕ → SpanRef → Bool
+begins_by page span = nat_le span.first.0 page
+
+-- the spans with one more, which stands before the first span that begins behind it
+abbrev pub with_span : SpanRef → List SpanRef → List SpanRef
+with_span span [] = span ∷ []
+with_span span (s ∷ ss) = if nat_lt span.first.0 s.first.0 then span ∷ s ∷ ss else s ∷ with_span span ss
+
+-- the spans without those that begin where the given one does
+abbrev pub without_span : SpanRef → List SpanRef → List SpanRef
+without_span span spans = filter (λ s. not (s.first.0 == span.first.0)) spans
+
+-- a span has a page at least, and its pages are those of hugepages 1 to huge
+pub record IsInside (huge : ℕ) (span : SpanRef) : Type 0 where
+  pub some : 0 < span.pages
+  pub low : huge_pages ≤ span.first.0
+  pub high : span.first.0 + span.pages ≤ huge_pages * (huge + 1)
+
+-- the pages of a span end before those of another begin
+abbrev pub IsBefore : SpanRef → SpanRef → Type 0
+IsBefore s t = s.first.0 + s.pages ≤ t.first.0
+
+-- two spans have no page in common
+abbrev pub AreApart : SpanRef → SpanRef → Type 0
+AreApart s t = IsBefore s t ⊎ IsBefore t s
+
+-- the arena has a size that the units allow, each span is inside it, and each ends before the later ones begin
+pub record IsWellFormed (map : SpanMap) : Type 0 where
+  pub some : 0 < map.huge
+  pub few : map.huge ≤ MOST_HUGE
+  pub inside : All (IsInside map.huge) map.spans
+  pub apart : AllPairs IsBefore map.spans

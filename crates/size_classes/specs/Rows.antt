@@ -1,0 +1,29 @@
+-- The rules of the rows of a class table.
+use Rattle.std.specs.Prelude.{◌≡◌, ℕ, ◌*◌, ◌%◌, ◌<◌, ◌≤◌, List, [], ◌∷◌, length, map}
+use Rattle.tc_units.specs.declared.spans.ClassRow.{ClassRow}
+
+-- the rules of one row alone
+pub record IsRow (row : ClassRow) : Type 0 where
+  pub aligned : row.size % 8 ≡ 0
+  pub least_size : 8 ≤ row.size
+  pub most_size : row.size ≤ 262144
+  pub least_pages : 1 ≤ row.pages
+  pub most_pages : row.pages ≤ 255
+  pub fits : row.size ≤ row.pages * 8192
+  pub least_batch : 1 ≤ row.batch
+  pub most_batch : row.batch ≤ 128
+
+-- each row is one by its rules, and the sizes rise from above this one on
+abbrev pub AreRows : ℕ → List ClassRow → Type 0
+AreRows above [] = Unit {0}
+AreRows above (row ∷ rows) = IsRow row × (above < row.size) × AreRows row.size rows
+
+-- a table has 1 to 120 rows of rising sizes
+pub record IsTable (rows : List ClassRow) : Type 0 where
+  pub some : 1 ≤ length rows
+  pub most : length rows ≤ 120
+  pub rows_rise : AreRows 0 rows
+
+-- the sizes of the rows
+abbrev pub sizes_of : List ClassRow → List ℕ
+sizes_of rows = map (λ (row : ClassRow). row.size) rows

@@ -1,0 +1,6 @@
+pub mod Faults
+pub mod Told
+pub mod Shelves
+pub mod Whole
+pub mod Mem
+pub mod Shelved

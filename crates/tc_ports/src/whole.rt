@@ -1,0 +1,60 @@
+//! Reading a whole source, up to a limit.
+ghost use Rattle.std.specs.Prelude.{◌≡◌, ◌<◌, ◌≤◌, ◌+◌, ◌↔◌, [], length, None, IfOk, OnOk, OnErr, IfErr, IfSome, IsNone};
+ghost use Rattle.tc_ports.specs.Told.{LostAtMost};
+ghost use Rattle.tc_ports.specs.Whole.{ReadAllCounted, LimitRefused};
+
+use crate::fault::Failed;
+use crate::source::Source;
+use std::alloc::Global;
+
+/// Why a source was not read to its end.
+#[derive(Clone, Copy, Debug, PartialEq, Eq)]
+pub enum ReadAllFault {
+    /// A read failed.
+    ReadFault,
+    /// There are more bytes than the limit.
+    TooLong,
+    /// Memory ran out.
+    Memory,
+}
+
+/// Bytes that are read at a time.
+const CHUNK: usize = 16384;
+
+/// All the bytes of a source that has at most `limit` of them. It never reads more than one byte
+/// past the limit, and after a refusal the source has lost what was read and no more.
+pub fn read_all<S: Source>(
+    alloc: Global,
+    source: &mut S,
+    limit: u64,
+) -> Result<Vec<u8>, ReadAllFault>
+    ensures within { IfOk result (λ all. length all.items ≤ limit) }
+    ensures whole { IfOk result (λ all. IfSome (S.left source.old) (λ bytes. all.items ≡ bytes)) }
+    ensures end { OnOk result (IfSome (S.left source.new) (λ rest. rest ≡ [])) }
+    ensures too_long { IfErr result
+        (λ fault. LimitRefused fault (S.left source.old) (S.left source.new) limit) }
+    ensures lost { OnErr result (LostAtMost (S.left source.old) (S.left source.new) (limit + 1)) }
+    ensures tells { IsNone (S.left source.new) ↔ IsNone (S.left source.old) }
+
+    // Only a read that failed raises the count of faults.
+    ensures cause { IfErr result
+        (λ fault. ReadAllCounted fault (S.faults source.old) (S.faults source.new)) }
+    ensures count { OnOk result (S.faults source.new ≡ S.faults source.old) }
+{
+    let mut all = Vec::new(alloc);
+    let mut chunk = [0u8; CHUNK];
+    loop {
+        let room = limit - all.len() as u64;
+        let ask = room.saturating_add(1).min(CHUNK as u64) as usize;
+        match source.read(&mut chunk[..ask]) {
+            Err(Failed) => return Err(ReadAllFault::ReadFault),
+            Ok(0) => return Ok(all),
+            Ok(n) if n as u64 > room => return Err(ReadAllFault::TooLong),
+            Ok(n) => {
+                if all.extend_from_slice(&chunk[..n]).is_err() {
+                    return Err(ReadAllFault::Memory);
+                }
+            }
+        }
+    }
+}

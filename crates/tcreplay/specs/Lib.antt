@@ -1,0 +1,13 @@
+pub mod Lines
+pub mod Form
+pub mod Reading
+pub mod Reader
+pub mod Text
+pub mod Machine
+pub mod Facts
+pub mod Invariant
+pub mod Runner
+pub mod Words
+pub mod Status
+pub mod Inputs
+pub mod Ends

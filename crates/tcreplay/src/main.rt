@@ -1,0 +1,48 @@
+//! Replays a trace of allocator calls over numbered pages.
+#![tactic(auto)]
+
+mod input;
+mod outcome;
+mod replay;
+mod run;
+mod serve;
+mod text;
+mod trace;
+mod words;
+
+use crate::outcome::End;
+use crate::replay::tcreplay;
+use std::process::ExitCode;
+use std::{env, io};
+use tc_ports::{FileShelf, OpenGate, ReaderSource, WriterSink};
+
+/// The words behind the program's name.
+fn words_of(rt: &HostRuntime) -> Result<Vec<String>, End> {
+    let Ok(words) = env::args(rt) else {
+        return Err(End::Usage);
+    };
+    words.skip(1).collect(rt.alloc()).map_err(|_| End::Memory)
+}
+
+/// Standard input is the trace, standard output takes the text, and standard error is for notes.
+fn main(rt: HostRuntime) -> ExitCode {
+    let words = match words_of(&rt) {
+        Ok(words) => words,
+        Err(end) => return ExitCode::from(end.status()),
+    };
+    let mut trace = ReaderSource::new(rt.reader());
+    let mut files = FileShelf::new(&rt);
+    let mut out = WriterSink::new(io::writer(&rt));
+    let mut notes = WriterSink::new(rt.stderr());
+    let outcome = tcreplay(
+        &rt,
+        rt.alloc(),
+        &words,
+        &mut trace,
+        &mut files,
+        &mut out,
+        &mut notes,
+        &OpenGate,
+    );
+    ExitCode::from(outcome.status)
+}

@@ -1,0 +1,101 @@
+//! How a call ends: its status, its cause, and the order that was run.
+ghost use Rattle.std.specs.Prelude.{◌≡◌, []};
+ghost use Rattle.tcreplay.specs.Status.{status_of};
+
+use crate::trace::LineWhy;
+use size_classes::RowWhy;
+use std::alloc::Global;
+use tc_units::Listed;
+
+/// The first rule that a line of an order file fails.
+#[derive(Clone, Copy, Debug, PartialEq, Eq)]
+pub enum OrderWhy {
+    /// It is line 1,000,001.
+    Lines,
+    /// It has another number of fields.
+    Fields,
+    /// A field is no canonical decimal in its range.
+    Number,
+    /// There is no such thread.
+    Thread,
+    /// There are too many picks.
+    Picks,
+}
+
+/// The end of a call, with its cause.
+#[derive(Clone, Copy, Debug, PartialEq, Eq)]
+pub enum End {
+    /// The run ended and its text was written.
+    Done,
+    /// The words are not in the grammar.
+    Usage,
+    /// The class table isn't valid: its first bad record, from 1, with its first failing rule.
+    BadTable { row: u32, why: RowWhy },
+    /// The trace isn't valid: its first bad line, from 1, with its first failing rule.
+    BadTrace { line: u32, why: LineWhy },
+    /// A read of the trace failed.
+    ReadFault,
+    /// A write failed.
+    WriteFault,
+    /// Memory ran out.
+    Memory,
+    /// An input has more bytes than its limit.
+    TooLong { limit: u64 },
+    /// A pick would move behind the last ticket.
+    Full { ticket: u64 },
+    /// The order file isn't valid: its first bad line, from 1, with its first failing rule.
+    BadOrder { line: u32, why: OrderWhy },
+    /// A file isn't there, or its load failed.
+    FileFault,
+}
+
+impl End {
+    /// The number by which a process tells this end.
+    pub fn status(self) -> u8
+        ensures { result ≡ status_of self }
+    {
+        match self {
+            End::Done => 0,
+            End::Usage => 2,
+            End::BadTable { .. } => 3,
+            End::BadTrace { .. } => 4,
+            End::ReadFault => 5,
+            End::WriteFault => 6,
+            End::Memory => 7,
+            End::TooLong { .. } => 8,
+            End::Full { .. } => 9,
+            End::BadOrder { .. } => 10,
+            End::FileFault => 11,
+        }
+    }
+}
+
+/// What a call answers.
+#[derive(Drop)]
+pub struct Outcome {
+    /// The number of its end.
+    pub status: u8,
+    pub end: End,
+    /// The threads whose picks moved, in order, where a run was written or its writing failed.
+    pub order: Listed<u16>,
+}
+
+impl Outcome {
+    /// An end with the order that was run.
+    pub fn new(end: End, order: Vec<u16>) -> Self
+        ensures { result ≡ record { status = status_of end; end = end; order = order.items } }
+    {
+        Outcome {
+            status: end.status(),
+            end,
+            order: Listed::new(order),
+        }
+    }
+
+    /// An end without a run.
+    pub fn without_run(alloc: Global, end: End) -> Self
+        ensures { result ≡ record { status = status_of end; end = end; order = [] } }
+    {
+        Outcome::new(end, Vec::new(alloc))
+    }
+}
