@@ -16,10 +16,12 @@ use std::process::ExitCode;
 use std::{env, io};
 use tc_ports::{FileShelf, OpenGate, ReaderSource, WriterSink};
 
-/// The words behind the program's name.
+/// The words behind the program's name. Words that are no text are in no grammar.
 fn words_of(rt: &HostRuntime) -> Result<Vec<String>, End> {
-    let Ok(words) = env::args(rt) else {
-        return Err(End::Usage);
+    let words = match env::args(rt) {
+        Ok(words) => words,
+        Err(error) if error.kind() == io::ErrorKind::OutOfMemory => return Err(End::Memory),
+        Err(_) => return Err(End::Usage),
     };
     words.skip(1).collect(rt.alloc()).map_err(|_| End::Memory)
 }
