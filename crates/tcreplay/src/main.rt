@@ -6,6 +6,8 @@ mod outcome;
 mod replay;
 mod run;
 mod serve;
+#[cfg(test)]
+mod tests;
 mod text;
 mod trace;
 mod words;
