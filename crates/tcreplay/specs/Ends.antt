@@ -40,7 +40,8 @@ TextTaken output written text (Full ticket) = ⊥
 TextTaken output written text (BadOrder line why) = ⊥
 TextTaken output written text FileFault = ⊥
 
--- The inputs ask for this and it was served by this order; no count of the inputs' faults rose.
+-- The inputs ask for this and it was served by this order. The trace was read to its end, and no count of the inputs'
+-- faults rose.
 pub record HasRun (words : List (List ℕ)) (before after : Inputs) (order : List ℕ) : Type 0 where
   pub asked : Asked
   pub input : IsInput words before asked
@@ -48,6 +49,7 @@ pub record HasRun (words : List (List ℕ)) (before after : Inputs) (order : Lis
   pub read_faults : after.read_faults ≡ before.read_faults
   pub file_faults : after.file_faults ≡ before.file_faults
   pub files : after.files ≡ before.files
+  pub drained : IfSome after.left (λ rest. rest ≡ [])
 
 -- Nothing was run that shows: the output is untouched, and the order is empty.
 pub record HasNotRun (words : List (List ℕ)) (before after : Inputs) (output written : Output) (order : List ℕ) (end : End) : Type 0 where
