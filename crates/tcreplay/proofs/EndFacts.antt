@@ -1,9 +1,10 @@
 -- What each end says of the inputs.
-use Rattle.std.proofs.Common.{◌≡◌, ℕ, ◌<◌, ◌≤◌, ◌⊎◌, inl, inr, Bool, true, false, List, [], length, Option, Some, None, refl, sym, ap, subst, ◌∙◌, arith, if◌then◌else◌, nat_lt}
-use Rattle.std.specs.Prelude.{IfSome, IsSomeAnd, ◌↔◌}
+use Rattle.std.proofs.Common.{◌≡◌, ℕ, ◌+◌, ◌<◌, ◌≤◌, ◌⊎◌, inl, inr, Bool, true, false, List, [], length, Option, Some, None, refl, sym, ap, subst, ◌∙◌, arith, if◌then◌else◌, nat_lt}
+use Rattle.std.specs.Prelude.{IsNone, IfSome, IsSomeAnd, ◌↔◌}
+use Rattle.std.proofs.lemmas.List.{drop_all}
 use Rattle.std.specs.FinMap.{get}
 use Rattle.tc_units.specs.declared.spans.ClassRow.{ClassRow}
-use Rattle.tc_ports.specs.Told.{Took, TookPart}
+use Rattle.tc_ports.specs.Told.{Took, TookPart, LostAtMost}
 use Rattle.tc_ports.specs.Shelves.{Files}
 use Rattle.size_classes.specs.Table.{table_of}
 use Rattle.tcreplay.specs.declared.outcome.End.{End}
@@ -170,8 +171,8 @@ refused_usage words before after end h = elim h [
 ]
 
 -- want of memory behind valid inputs
-pub input_memory : (words : List (List ℕ)) (before after : Inputs) (asked : Asked) → IsInput words before asked → after.files ≡ before.files → after.read_faults ≡ before.read_faults → after.file_faults ≡ before.file_faults → InputRefused words before after Memory
-input_memory words before after asked is files read_faults file_faults = inr (inr (record { name = is.name; rows = is.rows; named = is.named; table = is.table; refused = read_faults; files = files; count = file_faults }))
+pub input_memory : (words : List (List ℕ)) (before after : Inputs) (asked : Asked) → IsInput words before asked → after.files ≡ before.files → after.read_faults ≡ before.read_faults → after.file_faults ≡ before.file_faults → LostAtMost before.left after.left 67108865 → InputRefused words before after Memory
+input_memory words before after asked is files read_faults file_faults lost = inr (inr (record { name = is.name; rows = is.rows; named = is.named; table = is.table; refused = read_faults; lost = lost; files = files; count = file_faults }))
 
 pub run_not_usage : (words : List (List ℕ)) (before : Inputs) (asked : Asked) (end : End) → IsInput words before asked → (end ≡ Usage → ⊥) → (end ≡ Usage) ↔ (class_file words ≡ None)
 run_not_usage words before asked end is other = named_not_usage words is.name end is.named other
@@ -189,3 +190,11 @@ written_ended words before after output written order text (TooLong limit) ran e
 written_ended words before after output written order text (Full ticket) ran e taken = absurd taken
 written_ended words before after output written order text (BadOrder line why) ran e taken = absurd taken
 written_ended words before after output written order text FileFault ran e taken = absurd taken
+
+-- a source that was read whole has lost no more than its bytes
+pub whole_lost : (old new : Option (List ℕ)) (all : List ℕ) (limit : ℕ) → length all ≤ limit → IfSome old (λ bytes. all ≡ bytes) → IfSome new (λ rest. rest ≡ []) → IsNone new ↔ IsNone old → LostAtMost old new (limit + 1)
+whole_lost None None all limit short whole end tells = refl
+whole_lost None (Some rest) all limit short whole end tells = absurd (let no : IsNone (Some rest) = tells.1 refl in cc)
+whole_lost (Some bytes) None all limit short whole end tells = absurd (let no : IsNone (Some bytes) = tells.0 refl in cc)
+whole_lost (Some bytes) (Some rest) all limit short whole end tells =
+    (length bytes, omega (arith, ap length whole), ap Some (end ∙ sym (drop_all (length bytes) bytes (omega arith))))

@@ -1,8 +1,9 @@
 -- What the words, the class table and the trace ask for, or why they are refused.
-use Rattle.std.specs.Prelude.{◌≡◌, ℕ, ◌<◌, ◌≤◌, ◌⊎◌, List, length, Option, Some, None, Ok, Err, IfSome, IsSomeAnd}
+use Rattle.std.specs.Prelude.{◌≡◌, ℕ, ◌+◌, ◌<◌, ◌≤◌, ◌⊎◌, List, length, Option, Some, None, Ok, Err, IfSome, IsSomeAnd}
 use Rattle.std.specs.FinMap.{get}
 use Rattle.tc_units.specs.declared.spans.ClassRow.{ClassRow}
 use Rattle.tc_ports.specs.Faults.{Rose}
+use Rattle.tc_ports.specs.Told.{LostAtMost}
 use Rattle.tc_ports.specs.Shelves.{Files}
 use Rattle.size_classes.specs.declared.fault.RowWhy.{RowWhy}
 use Rattle.size_classes.specs.declared.fault.TableFault.TheVariants as table
@@ -112,13 +113,14 @@ pub record FileRefused (words : List (List ℕ)) (before after : Inputs) (end : 
   pub left : after.left ≡ before.left
   pub count : after.read_faults ≡ before.read_faults
 
--- The trace is refused, behind a valid table.
+-- The trace is refused, behind a valid table. Its source has lost at most one byte more than the limit.
 pub record TextRefused (words : List (List ℕ)) (before after : Inputs) (end : End) : Type 0 where
   pub name : List ℕ
   pub rows : List ClassRow
   pub named : class_file words ≡ Some name
   pub table : IsTableOf before.files name rows
   pub refused : TraceRefused rows before.left before.read_faults after.read_faults end
+  pub lost : LostAtMost before.left after.left (trace_limit + 1)
   pub files : after.files ≡ before.files
   pub count : after.file_faults ≡ before.file_faults
 

@@ -1,5 +1,6 @@
 //! Reading what a run works on: the class table that the words name, and the trace.
 ghost use Rattle.std.specs.Prelude.{◌≡◌, ◌≤◌, length, map, [], IfOk, IfErr, IfSome, OnOk, string_bytes};
+ghost use Rattle.tc_ports.specs.Told.{LostAtMost};
 ghost use Rattle.tcreplay.specs.Reading.{IsScript};
 ghost use Rattle.tcreplay.specs.Reader.{asks};
 ghost use Rattle.tcreplay.specs.Inputs.{IsTableOf, IsTraceOf, TableRefused, TraceRefused, IsInput, InputRefused};
@@ -49,6 +50,7 @@ fn load_trace<S: Source>(alloc: Global, classes: &ClassTable, source: &mut S) ->
     ensures refused { IfErr result (λ end. TraceRefused classes.now (S.left source.old) (S.faults source.old) (S.faults source.new) end) }
     ensures count { OnOk result (S.faults source.new ≡ S.faults source.old) }
     ensures drained { OnOk result (IfSome (S.left source.new) (λ rest. rest ≡ [])) }
+    ensures lost { LostAtMost (S.left source.old) (S.left source.new) 67108865 }
 {
     let text = match read_all(alloc, source, MOST_TRACE_BYTES) {
         Ok(text) => text,
@@ -82,6 +84,7 @@ pub fn read_input<S: Source, F: Shelf>(
     ensures count { OnOk result (S.faults source.new ≡ S.faults source.old) }
     ensures file_count { OnOk result (F.faults files.new ≡ F.faults files.old) }
     ensures drained { OnOk result (IfSome (S.left source.new) (λ rest. rest ≡ [])) }
+    ensures lost { OnOk result (LostAtMost (S.left source.old) (S.left source.new) 67108865) }
 {
     let Some(name) = class_file(words) else {
         return Err(End::Usage);
