@@ -15,7 +15,7 @@ use Rattle.tcreplay.specs.declared.run.next.NextAct.TheVariants as next
 use Rattle.tcreplay.specs.declared.run.runner.Runner.{Runner}
 use Rattle.tcreplay.specs.Reading.{Asked}
 use Rattle.tcreplay.specs.Machine.{State, start, run, pick, act, act_on, act_of, moves, can_move, waits_for}
-use Rattle.tcreplay.specs.Facts.{Holds, NoneExactly, Went, undecided}
+use Rattle.tcreplay.specs.Facts.{Holds, NoneExactly, NamesGoOn, Went, undecided}
 use Rattle.tcreplay.specs.Runner.{state_of, rest_of, IsAt}
 use Rattle.tcreplay.proofs.RunnerFacts.{left_is}
 
@@ -48,11 +48,12 @@ went_none asked holds = record {
   moves = λ k d l. absurd (omega arith);
   holds = λ k l. subst (λ (j : ℕ). Holds asked (run asked (take j []))) (let none : 0 ≡ k = omega arith in none) holds;
   none = λ k l. absurd (omega arith);
+  names = λ k l. absurd (omega arith);
 }
 
 -- one pick more went as it has to
-pub went_more : (asked : Asked) (order : List ℕ) → Went asked order → moves (run asked order) 0 ≡ true → NoneExactly (run asked order) → Holds asked (run asked (order ++ 0 ∷ [])) → Went asked (order ++ 0 ∷ [])
-went_more asked order went move none holds =
+pub went_more : (asked : Asked) (order : List ℕ) → Went asked order → moves (run asked order) 0 ≡ true → NoneExactly (run asked order) → Holds asked (run asked (order ++ 0 ∷ [])) → NamesGoOn (run asked order).names (run asked (order ++ 0 ∷ [])).names → Went asked (order ++ 0 ∷ [])
+went_more asked order went move none holds names =
     let len : length (order ++ 0 ∷ []) ≡ length order + 1 = length-append order (0 ∷ []) in
     let all : take (length order) order ≡ order = take_all (length order) order (omega arith) in
     record {
@@ -76,6 +77,17 @@ went_more asked order went move none holds =
             subst (λ (x : List ℕ). NoneExactly (run asked x)) (sym (before order k (omega arith)))
             (subst (λ (j : ℕ). NoneExactly (run asked (take j order))) last
             (subst (λ (x : List ℕ). NoneExactly (run asked x)) (sym all) none))
+      ];
+      names = λ k l. elim (cases_lt k (length order)) [
+        | inl here ↦
+            subst (λ (x : List ℕ). NamesGoOn (run asked x).names (run asked (take (k + 1) (order ++ 0 ∷ []))).names) (sym (before order k (omega arith)))
+            (subst (λ (x : List ℕ). NamesGoOn (run asked (take k order)).names (run asked x).names) (sym (before order (k + 1) (omega arith))) (went.names k here))
+        | inr past ↦
+            let last : length order ≡ k = omega (arith, len) in
+            let whole : take (k + 1) (order ++ 0 ∷ []) ≡ order ++ 0 ∷ [] = take_all (k + 1) (order ++ 0 ∷ []) (omega (arith, len)) in
+            let there : take k (order ++ 0 ∷ []) ≡ order = before order k (omega arith) ∙ take_all k order (omega arith) in
+            subst (λ (x : List ℕ). NamesGoOn (run asked x).names (run asked (take (k + 1) (order ++ 0 ∷ []))).names) (sym there)
+            (subst (λ (x : List ℕ). NamesGoOn (run asked order).names (run asked x).names) (sym whole) names)
       ];
     }
 

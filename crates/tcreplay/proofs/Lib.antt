@@ -11,3 +11,5 @@ mod StartFacts
 mod ActFacts
 mod FinishFacts
 mod EndFacts
+mod NameSteps
+mod EndNames

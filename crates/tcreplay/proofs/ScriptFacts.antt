@@ -53,7 +53,7 @@ none_of : (o : Option Answer) → is_some o ≡ false → o ≡ None
 none_of None h = refl
 none_of (Some a) h = absurd (false≢true (sym h))
 
-some_of : (o : Option Answer) → is_some o ≡ true → (answer : Answer) × (o ≡ Some answer)
+pub some_of : (o : Option Answer) → is_some o ≡ true → (answer : Answer) × (o ≡ Some answer)
 some_of None h = absurd (false≢true h)
 some_of (Some a) h = (a, refl)
 
