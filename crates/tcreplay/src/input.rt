@@ -76,10 +76,14 @@ pub fn read_input<S: Source, F: Shelf>(
     source: &mut S,
     files: &mut F,
 ) -> Result<Trace, End>
-    ensures input { IfOk result (λ trace. IsInput (map string_bytes words.now) (record { left = S.left source.old; files = F.files files.old; read_faults = S.faults source.old; file_faults = F.faults files.old }) (asks trace)) }
+    ensures input { IfOk result (λ trace. IsInput (map string_bytes words.now)
+        (record { left = S.left source.old; files = F.files files.old; read_faults = S.faults source.old; file_faults = F.faults files.old })
+        (asks trace)) }
     ensures script { IfOk result (λ trace. IsScript (asks trace)) }
     ensures short { IfOk result (λ trace. length trace.script.calls ≤ 1000000) }
-    ensures refused { IfErr result (InputRefused (map string_bytes words.now) (record { left = S.left source.old; files = F.files files.old; read_faults = S.faults source.old; file_faults = F.faults files.old }) (record { left = S.left source.new; files = F.files files.new; read_faults = S.faults source.new; file_faults = F.faults files.new })) }
+    ensures refused { IfErr result (InputRefused (map string_bytes words.now)
+        (record { left = S.left source.old; files = F.files files.old; read_faults = S.faults source.old; file_faults = F.faults files.old })
+        (record { left = S.left source.new; files = F.files files.new; read_faults = S.faults source.new; file_faults = F.faults files.new })) }
     ensures same_files { F.files files.new ≡ F.files files.old }
     ensures count { OnOk result (S.faults source.new ≡ S.faults source.old) }
     ensures file_count { OnOk result (F.faults files.new ≡ F.faults files.old) }

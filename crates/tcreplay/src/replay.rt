@@ -17,7 +17,10 @@ use tc_ports::{Failed, Gate, Shelf, Sink, Source};
 fn write<K: Sink>(out: &mut K, served: Served) -> Outcome
     ensures order { result.order ≡ served.order.items }
     ensures status { result.status ≡ status_of result.end }
-    ensures written { TextTaken (record { taken = K.taken out.old; faults = K.faults out.old }) (record { taken = K.taken out.new; faults = K.faults out.new }) served.text.items result.end }
+    ensures written { TextTaken
+        (record { taken = K.taken out.old; faults = K.faults out.old })
+        (record { taken = K.taken out.new; faults = K.faults out.new })
+        served.text.items result.end }
 {
     let Served { order, text } = served;
     match out.put(&text) {
