@@ -2,6 +2,7 @@
 use Rattle.std.specs.Prelude.{ℕ, ◌+◌, ◌-◌, ◌*◌, ◌/◌, ◌%◌, Bool, true, false, ◌==◌, ◌&&◌, not, nat_lt, nat_le, List, [], ◌∷◌, length, filter, map, count_by, replicate, if◌then◌else◌, sum_by}
 use Rattle.std.specs.List.{list_any, list_all, range_with_len, slice_index_or, slice_set}
 use Rattle.tc_units.specs.Units.{huge_pages}
+use Rattle.tc_units.specs.Sorted.{with_item, without_key}
 use Rattle.tc_units.specs.declared.spans.Run.{Run}
 use Rattle.tc_units.specs.declared.rows.RowKind.{RowKind}
 use Rattle.tc_units.specs.declared.rows.RowKind.TheVariants as kind
@@ -58,11 +59,10 @@ is_used runs page = list_any (holds page) runs
 
 -- the runs with one more, and without the one that begins where the given one does
 abbrev pub with_run : Run → List Run → List Run
-with_run run [] = run ∷ []
-with_run run (r ∷ rs) = if nat_lt run.first.0 r.first.0 then run ∷ r ∷ rs else r ∷ with_run run rs
+with_run run runs = with_item (λ r. r.first.0) run runs
 
 abbrev pub without_run : Run → List Run → List Run
-without_run run runs = filter (λ r. not (r.first.0 == run.first.0)) runs
+without_run run runs = without_key (λ r. r.first.0) run.first.0 runs
 
 -- the numbers of the pages of hugepage h, and of the arena
 abbrev pub pages_of : ℕ → List ℕ

@@ -1,15 +1,14 @@
 -- What holds of every heap that calls can reach.
 use Rattle.std.specs.Prelude.{◌≡◌, ℕ, ◌+◌, ◌*◌, ◌<◌, ◌≤◌, true, length, count_by, All}
 use Rattle.tc_units.specs.Units.{huge_pages}
+use Rattle.tc_units.specs.Arena.{IsInArena}
 use Rattle.tc_units.specs.declared.spans.Run.{Run}
 use Rattle.page_heap.specs.declared.config.HeapConfig.{HeapConfig}
 use Rattle.page_heap.specs.Heap.{Heap, hugepage, holds, is_used, is_backed, is_free, is_filler, used_count}
 
 -- a run has pages, and all of them lie in hugepages 1 to `huge`
-pub record IsInside (huge : ℕ) (run : Run) : Type 0 where
-  pub some : 0 < run.pages
-  pub from : huge_pages ≤ run.first.0
-  pub to : run.first.0 + run.pages ≤ huge_pages * (huge + 1)
+abbrev pub IsInside : ℕ → Run → Type 0
+IsInside huge run = IsInArena huge_pages huge run.first.0 run.pages
 
 -- Live runs are disjoint and inside the arena, and each of their pages is backed. A free hugepage has no used page,
 -- and one of the filler has some.

@@ -1,6 +1,8 @@
 -- The spans of an arena, in the order of their first pages, and the pages that they hold.
 use Rattle.std.specs.Prelude.{ℕ, ◌+◌, ◌*◌, ◌<◌, ◌≤◌, ◌⊎◌, Bool, ◌==◌, ◌&&◌, not, nat_lt, nat_le, List, [], ◌∷◌, filter, All, AllPairs, if◌then◌else◌}
 use Rattle.tc_units.specs.Units.{huge_pages}
+use Rattle.tc_units.specs.Arena.{IsInArena}
+use Rattle.tc_units.specs.Sorted.{with_item, without_key}
 use Rattle.tc_units.specs.declared.units.TheConstants.{MOST_HUGE}
 use Rattle.tc_units.specs.declared.spans.SpanRef.{SpanRef}
 
@@ -19,18 +21,15 @@ begins_by page span = nat_le span.first.0 page
 
 -- the spans with one more, which stands before the first span that begins behind it
 abbrev pub with_span : SpanRef → List SpanRef → List SpanRef
-with_span span [] = span ∷ []
-with_span span (s ∷ ss) = if nat_lt span.first.0 s.first.0 then span ∷ s ∷ ss else s ∷ with_span span ss
+with_span span spans = with_item (λ s. s.first.0) span spans
 
 -- the spans without those that begin where the given one does
 abbrev pub without_span : SpanRef → List SpanRef → List SpanRef
-without_span span spans = filter (λ s. not (s.first.0 == span.first.0)) spans
+without_span span spans = without_key (λ s. s.first.0) span.first.0 spans
 
--- a span has a page at least, and its pages are those of hugepages 1 to huge
-pub record IsInside (huge : ℕ) (span : SpanRef) : Type 0 where
-  pub some : 0 < span.pages
-  pub low : huge_pages ≤ span.first.0
-  pub high : span.first.0 + span.pages ≤ huge_pages * (huge + 1)
+-- a span has a page at least, and its pages lie in the arena
+abbrev pub IsInside : ℕ → SpanRef → Type 0
+IsInside huge span = IsInArena huge_pages huge span.first.0 span.pages
 
 -- the pages of a span end before those of another begin
 abbrev pub IsBefore : SpanRef → SpanRef → Type 0

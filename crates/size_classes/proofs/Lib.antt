@@ -1,3 +1,4 @@
 pub mod Fields
 pub mod Sizes
 pub mod Progress
+pub mod ClassFacts

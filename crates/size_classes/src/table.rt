@@ -1,5 +1,6 @@
 //! A class table, and the class of a size.
 ghost use Rattle.std.specs.Prelude.{◌≡◌, ◌-◌, ◌<◌, ◌≤◌, ◌↔◌, ℕ, length, Some, IfSome, IsNone, slice_get, slice_index};
+ghost use Rattle.tc_units.specs.Classes.{class_of};
 ghost use Rattle.size_classes.specs.Rows.{IsRow, IsTable, sizes_of};
 
 use std::marker::Model;
@@ -61,6 +62,7 @@ impl ClassTable {
     /// The least class whose size is at least this. It halves what is left of the table at each
     /// step.
     pub fn class_of(&self, size: u64) -> Option<Class>
+        ensures value { result ≡ class_of self.now size }
         ensures in_range { IfSome result (λ class. class.0 < length self.now) }
         ensures holds { IfSome result (λ class. size ≤ slice_index (sizes_of self.now) class.0) }
         ensures least { IfSome result

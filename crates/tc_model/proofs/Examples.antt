@@ -1,7 +1,9 @@
 -- Small runs by hand, for what the definitions say of them.
 use Rattle.std.proofs.Common.{◌≡◌, ℕ, zero, suc, [], ◌∷◌, true, false, refl, arith}
 use Rattle.std.proofs.lemmas.Bool.{true≢false}
-use Rattle.tc_model.specs.Blocks.{Held, IsInArena, IsAllowed, IsBlockRun, meets, blocks_after, live_count, live_bytes}
+use Rattle.tc_units.specs.Arena.{IsInArena}
+use Rattle.tc_units.specs.Units.{huge_bytes}
+use Rattle.tc_model.specs.Blocks.{Extent, IsAllowed, IsBlockRun, meets, blocks_after, live_count, live_bytes}
 use Rattle.tc_model.specs.declared.calls.Call.{Call}
 use Rattle.tc_model.specs.declared.calls.Call.TheVariants.{Malloc, Free}
 use Rattle.tc_model.specs.declared.answers.Answer.{Answer}
@@ -21,7 +23,7 @@ got label addr len = call_line (Malloc (record { 0 = label }) len) (Block (recor
 abbrev gave : ℕ → ℕ → CallLine
 gave label addr = call_line (Free (record { 0 = label })) (Freed (record { 0 = addr }))
 
-abbrev block : ℕ → ℕ → Held
+abbrev block : ℕ → ℕ → Extent
 block addr len = record { addr = addr; len = len }
 
 -- blocks stand in the order of their addresses, and not of their calls
@@ -49,18 +51,18 @@ inside : meets (block 2097160 8) (block 2097152 24) ≡ true
 inside = refl
 
 -- the arena has its last byte, and none beyond or before its hugepages
-to_the_end : IsInArena 1 (block 4194288 16)
-to_the_end = record { from = omega arith; to = omega arith }
+to_the_end : IsInArena huge_bytes 1 4194288 16
+to_the_end = record { some = omega arith; from = omega arith; to = omega arith }
 
-beyond : IsInArena 1 (block 4194289 16) → ⊥
+beyond : IsInArena huge_bytes 1 4194289 16 → ⊥
 beyond h = omega (arith, h.to)
 
-before : IsInArena 1 (block 2097151 16) → ⊥
+before : IsInArena huge_bytes 1 2097151 16 → ⊥
 before h = omega (arith, h.from)
 
 -- after one allocation, the next one may touch its block, and neither meet it nor have another length
 next_touches : IsAllowed 1 (λ n. n) (got 1 2097152 24 ∷ []) (Malloc (record { 0 = 2 }) 16) (Block (record { 0 = 2097176 }) 16)
-next_touches = (refl, record { inside = record { from = omega arith; to = omega arith }; apart = refl })
+next_touches = (refl, record { inside = record { some = omega arith; from = omega arith; to = omega arith }; apart = refl })
 
 next_meets : IsAllowed 1 (λ n. n) (got 1 2097152 24 ∷ []) (Malloc (record { 0 = 2 }) 16) (Block (record { 0 = 2097175 }) 16) → ⊥
 next_meets h = true≢false h.1.apart
@@ -85,8 +87,8 @@ other_answer h = h
 
 -- a whole run: two allocations, a free, and an allocation of the bytes that it gave back
 whole_run : IsBlockRun 1 (λ n. n) (got 1 2097176 16 ∷ got 2 2097152 24 ∷ gave 1 2097176 ∷ got 3 2097184 8 ∷ [])
-whole_run zero d l = (refl, record { inside = record { from = omega arith; to = omega arith }; apart = refl })
-whole_run (suc zero) d l = (refl, record { inside = record { from = omega arith; to = omega arith }; apart = refl })
+whole_run zero d l = (refl, record { inside = record { some = omega arith; from = omega arith; to = omega arith }; apart = refl })
+whole_run (suc zero) d l = (refl, record { inside = record { some = omega arith; from = omega arith; to = omega arith }; apart = refl })
 whole_run (suc (suc zero)) d l = record { len = 16; answered = refl; stands = refl; once = refl }
-whole_run (suc (suc (suc zero))) d l = (refl, record { inside = record { from = omega arith; to = omega arith }; apart = refl })
+whole_run (suc (suc (suc zero))) d l = (refl, record { inside = record { some = omega arith; from = omega arith; to = omega arith }; apart = refl })
 whole_run (suc (suc (suc (suc k)))) d l = absurd (omega (arith, l))

@@ -2,6 +2,8 @@
 use Rattle.std.specs.Prelude.{◌≡◌, ℕ, ◌+◌, ◌*◌, ◌<◌, ◌≤◌, Bool, false, ◌==◌, ◌&&◌, not, nat_lt, List, [], ◌∷◌, length, take, fold, filter, Option, Some, None, if◌then◌else◌, sum_by}
 use Rattle.std.specs.List.{list_any, find, slice_index_or}
 use Rattle.tc_units.specs.Units.{huge_bytes}
+use Rattle.tc_units.specs.Arena.{IsInArena}
+use Rattle.tc_units.specs.Sorted.{with_item, without_key}
 use Rattle.tc_model.specs.declared.calls.Call.{Call}
 use Rattle.tc_model.specs.declared.calls.Call.TheVariants.{Malloc, Free, Release, Drain, Resize}
 use Rattle.tc_model.specs.declared.answers.Answer.{Answer}
@@ -9,31 +11,25 @@ use Rattle.tc_model.specs.declared.answers.Answer.TheVariants.{Block, NoBlock, F
 use Rattle.tc_model.specs.declared.answers.CallLine.{CallLine}
 
 -- bytes from an address on
-pub record Held : Type 0 where
+pub record Extent : Type 0 where
   pub addr : ℕ
   pub len : ℕ
 
 -- A set of blocks is a finite map from address to length, kept as its entries in the order of their addresses.
 -- the set with one more block
-abbrev pub with_block : Held → List Held → List Held
-with_block block [] = block ∷ []
-with_block block (b ∷ bs) = if nat_lt block.addr b.addr then block ∷ b ∷ bs else b ∷ with_block block bs
+abbrev pub with_block : Extent → List Extent → List Extent
+with_block block blocks = with_item (λ b. b.addr) block blocks
 
 -- the set without the block at an address
-abbrev pub without_block : ℕ → List Held → List Held
-without_block addr blocks = filter (λ b. not (b.addr == addr)) blocks
+abbrev pub without_block : ℕ → List Extent → List Extent
+without_block addr blocks = without_key (λ b. b.addr) addr blocks
 
 -- whether two blocks have a byte in common
-abbrev pub meets : Held → Held → Bool
+abbrev pub meets : Extent → Extent → Bool
 meets a b = nat_lt a.addr (b.addr + b.len) && nat_lt b.addr (a.addr + a.len)
 
--- the arena of so many hugepages has the bytes of hugepages 1 to that number
-pub record IsInArena (huge : ℕ) (block : Held) : Type 0 where
-  pub from : huge_bytes ≤ block.addr
-  pub to : block.addr + block.len ≤ huge_bytes * (huge + 1)
-
 -- what a call's answer makes of the blocks
-abbrev pub blocks_with : List Held → Answer → List Held
+abbrev pub blocks_with : List Extent → Answer → List Extent
 blocks_with blocks (Block addr len) = with_block (record { addr = addr.0; len = len }) blocks
 blocks_with blocks (Freed addr) = without_block addr.0 blocks
 blocks_with blocks NoBlock = blocks
@@ -46,7 +42,7 @@ blocks_with blocks (OverLimit sum) = blocks
 blocks_with blocks (OverStatic cap) = blocks
 
 -- the blocks that stand after these calls, of none at first
-abbrev pub blocks_after : List CallLine → List Held
+abbrev pub blocks_after : List CallLine → List Extent
 blocks_after calls = fold (λ blocks c. blocks_with blocks c.answer) [] calls
 
 -- whether a call allocates under a label, and whether it frees it
@@ -74,8 +70,8 @@ abbrev pub freed_in : ℕ → List CallLine → Bool
 freed_in label calls = list_any (λ c. frees label c.call) calls
 
 -- A block may be answered where it lies in the arena, has the rounded length and meets no block.
-pub record IsFreePlace (huge : ℕ) (blocks : List Held) (block : Held) : Type 0 where
-  pub inside : IsInArena huge block
+pub record IsFreePlace (huge : ℕ) (blocks : List Extent) (block : Extent) : Type 0 where
+  pub inside : IsInArena huge_bytes huge block.addr block.len
   pub apart : list_any (meets block) blocks ≡ false
 
 -- A free gives back the block of its label's allocation, which stands, and no earlier call freed that label.

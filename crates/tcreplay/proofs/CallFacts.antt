@@ -10,7 +10,7 @@ use Rattle.std.proofs.lemmas.List.Recursion.{or_push}
 use Rattle.std.proofs.lemmas.List.Elements.{All-cons, All-head, All-tail}
 use Rattle.tc_model.specs.declared.answers.Answer.{Answer}
 use Rattle.tc_model.specs.declared.answers.CallLine.{CallLine}
-use Rattle.tc_model.specs.Blocks.{Held, with_block, without_block, meets, blocks_with, blocks_after, allocates, frees, answer_to, freed_in, IsAllowed, IsBlockRun}
+use Rattle.tc_model.specs.Blocks.{Extent, with_block, without_block, meets, blocks_with, blocks_after, allocates, frees, answer_to, freed_in, IsAllowed, IsBlockRun}
 use Rattle.tcreplay.specs.Facts.{rounded}
 
 -- One call more.
@@ -60,33 +60,33 @@ IsBlockRun-push huge calls c run allowed k d l =
 
 -- Blocks by their addresses.
 -- the block that is added is found, where none begins at its address
-pub find-with_block_same : (block : Held) (bs : List Held) → find (λ b. b.addr == block.addr) bs ≡ None → find (λ b. b.addr == block.addr) (with_block block bs) ≡ Some block
+pub find-with_block_same : (block : Extent) (bs : List Extent) → find (λ b. b.addr == block.addr) bs ≡ None → find (λ b. b.addr == block.addr) (with_block block bs) ≡ Some block
 find-with_block_same block [] h = cond-true _ (Some block) None (eq-eqb block.addr block.addr refl)
 find-with_block_same block (b ∷ bs) h = grind (arith, nat_tests, find-with_block_same block bs)
 
 -- and every other is found as before
-pub find-with_block_other : (block : Held) (addr : ℕ) (bs : List Held) → (block.addr ≡ addr → ⊥) → find (λ b. b.addr == addr) (with_block block bs) ≡ find (λ b. b.addr == addr) bs
+pub find-with_block_other : (block : Extent) (addr : ℕ) (bs : List Extent) → (block.addr ≡ addr → ⊥) → find (λ b. b.addr == addr) (with_block block bs) ≡ find (λ b. b.addr == addr) bs
 find-with_block_other block addr [] ne = cond-false _ (Some block) None (ne_eqb block.addr addr ne)
 find-with_block_other block addr (b ∷ bs) ne = grind (arith, nat_tests, find-with_block_other block addr bs ne)
 
 -- without a block, every other is found as before
-pub find-without_block : (gone addr : ℕ) (bs : List Held) → (gone ≡ addr → ⊥) → find (λ b. b.addr == addr) (without_block gone bs) ≡ find (λ b. b.addr == addr) bs
+pub find-without_block : (gone addr : ℕ) (bs : List Extent) → (gone ≡ addr → ⊥) → find (λ b. b.addr == addr) (without_block gone bs) ≡ find (λ b. b.addr == addr) bs
 find-without_block gone addr [] ne = refl
 find-without_block gone addr (b ∷ bs) ne = grind (arith, nat_tests, find-without_block gone addr bs ne)
 
 -- a block that is found begins at its address, has what all have, and meets no block that meets none
-pub find_all : (P : Held → Type 0) (addr : ℕ) (bs : List Held) (b : Held) → All P bs → find (λ x. x.addr == addr) bs ≡ Some b → P b × (b.addr ≡ addr)
+pub find_all : (P : Extent → Type 0) (addr : ℕ) (bs : List Extent) (b : Extent) → All P bs → find (λ x. x.addr == addr) bs ≡ Some b → P b × (b.addr ≡ addr)
 find_all P addr [] b all h = absurd (cc)
 find_all P addr (x ∷ xs) b all h =
     elim (cases_Bool (eqb x.addr addr)) [
       | inl here ↦
           let same : Some x ≡ Some b = sym (cond-true (eqb x.addr addr) (Some x) (find (λ y. y.addr == addr) xs) here) ∙ h in
           let e : x ≡ b = cc in
-          (subst P e (All-head P x xs all), ap (λ (y : Held). y.addr) (sym e) ∙ eqb-true x.addr addr here)
+          (subst P e (All-head P x xs all), ap (λ (y : Extent). y.addr) (sym e) ∙ eqb-true x.addr addr here)
       | inr not_here ↦ find_all P addr xs b (All-tail P x xs all) (sym (cond-false (eqb x.addr addr) (Some x) (find (λ y. y.addr == addr) xs) not_here) ∙ h)
     ]
 
-pub find_apart : (block : Held) (addr : ℕ) (bs : List Held) (b : Held) → list_any (meets block) bs ≡ false → find (λ x. x.addr == addr) bs ≡ Some b → meets block b ≡ false
+pub find_apart : (block : Extent) (addr : ℕ) (bs : List Extent) (b : Extent) → list_any (meets block) bs ≡ false → find (λ x. x.addr == addr) bs ≡ Some b → meets block b ≡ false
 find_apart block addr [] b apart h = absurd (cc)
 find_apart block addr (x ∷ xs) b apart h =
     let parts : (meets block x ≡ false) × (list_any (meets block) xs ≡ false) = or_parts (meets block x) (list_any (meets block) xs) apart in
@@ -99,7 +99,7 @@ find_apart block addr (x ∷ xs) b apart h =
     ]
 
 -- all blocks have what the old ones and the new one have
-pub All-with_block : (P : Held → Type 0) (block : Held) (bs : List Held) → P block → All P bs → All P (with_block block bs)
+pub All-with_block : (P : Extent → Type 0) (block : Extent) (bs : List Extent) → P block → All P bs → All P (with_block block bs)
 All-with_block P block [] p all = All-cons P block [] p all
 All-with_block P block (b ∷ bs) p all =
     elim (cases_Bool (ltb block.addr b.addr)) [

@@ -10,7 +10,7 @@ use Rattle.tc_model.specs.declared.calls.Call.TheVariants.{Malloc, Free}
 use Rattle.tc_model.specs.declared.answers.Answer.{Answer}
 use Rattle.tc_model.specs.declared.answers.Answer.TheVariants.{Block, NoBlock, Freed, FreedNull}
 use Rattle.tc_model.specs.declared.answers.CallLine.{CallLine}
-use Rattle.tc_model.specs.Blocks.{Held, with_block, meets, blocks_after, allocates, frees, answer_to, freed_in, IsFreePlace}
+use Rattle.tc_model.specs.Blocks.{Extent, with_block, meets, blocks_after, allocates, frees, answer_to, freed_in, IsFreePlace}
 use Rattle.tcreplay.specs.Facts.{rounded}
 use Rattle.tcreplay.specs.Invariant.{HasBlock, IsOfMalloc, AreKept}
 use Rattle.tcreplay.proofs.CallFacts.{blocks_after-push, freed_in-push, answer_to-push_old, answer_to-push_new, answer_cases, IsBlockRun-push, find-with_block_same, find-with_block_other, find-without_block, find_all, find_apart, All-with_block}
@@ -58,7 +58,7 @@ known_after calls c known own label h =
     ]
 
 -- a block is found or isn't; addresses are one where their numbers are
-found_cases : (o : Option Held) → (o ≡ None) ⊎ ((b : Held) × (o ≡ Some b))
+found_cases : (o : Option Extent) → (o ≡ None) ⊎ ((b : Extent) × (o ≡ Some b))
 found_cases None = inl refl
 found_cases (Some b) = inr (b, refl)
 
@@ -88,7 +88,7 @@ module _ (huge : ℕ) (calls : List CallLine) (thread : ThreadNo) (label : Label
   abbrev line : CallLine
   line = record { thread = thread; call = Malloc label size; answer = Block addr len }
 
-  abbrev place : Held
+  abbrev place : Extent
   place = record { addr = addr.0; len = len }
 
   -- a label of an older block is another one, and its block is elsewhere

@@ -11,7 +11,7 @@ use Rattle.tc_model.specs.declared.calls.Planned.{Planned}
 use Rattle.tc_model.specs.declared.answers.Answer.{Answer}
 use Rattle.tc_model.specs.declared.answers.Answer.TheVariants.{Block, NoBlock, Freed, FreedNull, Released, Drained, Busy, CapSet, OverLimit, OverStatic}
 use Rattle.tc_model.specs.declared.answers.CallLine.{CallLine}
-use Rattle.tc_model.specs.Blocks.{Held, blocks_after, answer_to, freed_in, allocates, frees}
+use Rattle.tc_model.specs.Blocks.{Extent, blocks_after, answer_to, freed_in, allocates, frees}
 use Rattle.name_table.specs.declared.table.NameState.{NameState}
 use Rattle.name_table.specs.declared.table.NameState.TheVariants.{Unpublished, Published, Taken}
 use Rattle.name_table.specs.Names.{state_of}
@@ -88,7 +88,7 @@ none_by_value (OverLimit n) of_malloc h = absurd of_malloc
 none_by_value (OverStatic n) of_malloc h = absurd of_malloc
 
 -- a block that is found among those of runs is that of one of them
-pub find-block_of : (rs : List Run) (addr : ℕ) (b : Held) → find (λ x. x.addr == addr) (map block_of rs) ≡ Some b → (r : Run) × Contains rs r × (block_of r ≡ b)
+pub find-block_of : (rs : List Run) (addr : ℕ) (b : Extent) → find (λ x. x.addr == addr) (map block_of rs) ≡ Some b → (r : Run) × Contains rs r × (block_of r ≡ b)
 find-block_of [] addr b h = absurd (cc)
 find-block_of (r ∷ rs) addr b h =
     elim (cases_Bool (eqb (r.first.0 * page_bytes) addr)) [
@@ -104,7 +104,7 @@ find-block_of (r ∷ rs) addr b h =
 pub run_of_label : (huge : ℕ) (calls : List CallLine) (runs : List Run) (label : ℕ) (addr : Addr) (len : ℕ) → AreKept huge calls → blocks_after calls ≡ map block_of runs → HasBlock calls label addr len → (r : Run) × Contains runs r × (addr ≡ address_of r.first) × (len ≡ r.pages * page_bytes)
 run_of_label huge calls runs label addr len kept live has =
     let found = find-block_of runs addr.0 (record { addr = addr.0; len = len }) (ap (find (λ x. x.addr == addr.0)) (sym live) ∙ kept.stands label addr len has) in
-    (found.0, found.1, ap (λ (b : Held). record { 0 = b.addr }) (sym found.2), ap (λ (b : Held). b.len) (sym found.2))
+    (found.0, found.1, ap (λ (b : Extent). record { 0 = b.addr }) (sym found.2), ap (λ (b : Extent). b.len) (sym found.2))
 
 -- a label with an address has a block
 pub block_of_name : (huge : ℕ) (calls : List CallLine) (label : ℕ) (addr : Addr) → AreKept huge calls → name_after calls label ≡ Published (Some addr) → (len : ℕ) × HasBlock calls label addr len

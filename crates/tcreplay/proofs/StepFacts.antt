@@ -132,7 +132,7 @@ module _ (asked : Asked) (h g : Heap) (r : Run) (m : SpanMap) (n : List NameStat
 
   free : IsFreePlace asked.huge (blocks_after c) (block_of r)
   free = record {
-    inside = record { from = omega (arith, inside.from); to = omega (arith, inside.to) };
+    inside = record { some = omega (arith, inside.some); from = omega (arith, inside.from); to = omega (arith, inside.to) };
     apart = ap (λ bs. list_any (meets (block_of r)) bs) inv.holds.live ∙ unmet r h.runs inside.some solid unused;
   }
 
@@ -163,7 +163,7 @@ module _ (asked : Asked) (h g : Heap) (r : Run) (m : SpanMap) (n : List NameStat
         kind = refl;
         live = there;
         rest = ap (with_run r) without ∙ sym runs;
-        inside = subst (λ (x : ℕ). spans.IsInside x (large r)) (sym inv.arena) (record { some = inside.some; low = inside.from; high = inside.to });
+        inside = subst (λ (x : ℕ). spans.IsInside x (large r)) (sym inv.arena) inside;
         apart = subst (All (spans.AreApart (large r))) (sym inv.holds.spans) (all_apart r h.runs inside.some solid unused);
       })
 

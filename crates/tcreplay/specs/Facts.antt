@@ -7,7 +7,7 @@ use Rattle.tc_units.specs.declared.units.Label.{Label}
 use Rattle.tc_units.specs.declared.spans.Run.{Run}
 use Rattle.tc_model.specs.declared.calls.Call.TheVariants.{Malloc}
 use Rattle.tc_model.specs.declared.calls.Planned.{Planned}
-use Rattle.tc_model.specs.Blocks.{Held, IsBlockRun, blocks_after}
+use Rattle.tc_model.specs.Blocks.{Extent, IsBlockRun, blocks_after}
 use Rattle.page_heap.specs.Heap.{without_run}
 use Rattle.page_heap.specs.Choice.{new_below_hugepage, NoneFits}
 use Rattle.page_heap.specs.Sound.{IsSound}
@@ -24,7 +24,7 @@ abbrev pub rounded : ℕ → ℕ
 rounded size = pages_holding size * page_bytes
 
 -- the block of a run
-abbrev pub block_of : Run → Held
+abbrev pub block_of : Run → Extent
 block_of r = record { addr = r.first.0 * page_bytes; len = r.pages * page_bytes }
 
 -- the live runs that the page map has to know: all but the one whose call is between New and Set, or between Clear and Free
