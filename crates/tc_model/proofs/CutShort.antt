@@ -1,12 +1,11 @@
 -- What is left of a whole order where a pick of it is refused.
-use Rattle.std.proofs.Common.{◌≡◌, ℕ, ◌-◌, ◌<◌, ◌≤◌, Bool, true, false, ltb, cond, List, [], ◌∷◌, ◌++◌, length, take, drop, get_or, refl, sym, ap, ◌∙◌, subst, arith}
+use Rattle.std.proofs.Common.{◌≡◌, ℕ, ◌-◌, ◌≤◌, true, false, ltb, cond, List, [], ◌∷◌, ◌++◌, length, take, drop, refl, sym, ap, ◌∙◌, subst, arith}
 use Rattle.std.proofs.lemmas.List.{take-append-drop}
-use Rattle.std.proofs.lemmas.Bool.{lt-ltb, le-ltb}
 use Rattle.tc_model.specs.declared.steps.Stepped.{Stepped}
 use Rattle.tc_model.specs.declared.steps.Stepped.TheVariants as step
 use Rattle.tc_model.specs.declared.steps.StepFault.{StepFault}
 use Rattle.tc_model.specs.declared.steps.StepFault.TheVariants.{Full, Memory}
-use Rattle.tc_model.specs.Run.{Rules, World, run}
+use Rattle.tc_model.specs.Run.{Rules, run}
 use Rattle.tc_model.specs.Steps.{stepped, order_with}
 use Rattle.tc_model.specs.Replays.{IsFaultAt}
 use Rattle.tc_model.specs.Serial.{completion, completed, order_to, followed, IsCutShort}

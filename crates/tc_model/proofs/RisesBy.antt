@@ -1,11 +1,11 @@
 -- Where no act lowers its local's number of ended calls, no pick does.
-use Rattle.std.proofs.Common.{◌≡◌, ℕ, ◌+◌, ◌<◌, ◌≤◌, Bool, true, false, cond, List, [], ◌∷◌, ◌++◌, Option, Some, None, refl, sym, ap, ◌∙◌, subst, arith, inl, inr}
-use Rattle.std.specs.List.{slice_get, slice_set}
-use Rattle.std.proofs.lemmas.Bool.{cases_eq, ltb-true, ltb-false}
+use Rattle.std.proofs.Common.{◌≡◌, ℕ, ◌<◌, ◌≤◌, Bool, true, false, cond, List, [], ◌∷◌, ◌++◌, Option, Some, None, refl, sym, ap, ◌∙◌, subst, arith, inl, inr}
+use Rattle.std.specs.List.{slice_get}
+use Rattle.std.proofs.lemmas.Bool.{cases_eq, ltb-true}
 use Rattle.std.proofs.Common.{ltb}
 use Rattle.tc_model.proofs.Lists.{append-one, append-none, set_here, set_elsewhere}
 use Rattle.tc_model.specs.declared.machine.PartNo.{PartNo}
-use Rattle.tc_model.specs.Run.{Rules, World, pick, act_by, act_at, act_on, with_pair}
+use Rattle.tc_model.specs.Run.{Rules, World, act_by, act_at, act_on, with_pair}
 use Rattle.tc_model.specs.Calls.{picks_of}
 use Rattle.tc_model.specs.Replays.{done_by, done_in}
 use Rattle.tc_model.specs.Serial.{next_turn, Rises}

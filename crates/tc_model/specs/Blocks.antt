@@ -1,5 +1,5 @@
 -- A set of disjoint blocks, and which answers to calls it allows.
-use Rattle.std.specs.Prelude.{◌≡◌, ℕ, ◌+◌, ◌*◌, ◌<◌, ◌≤◌, Bool, false, ◌==◌, ◌&&◌, not, nat_lt, List, [], ◌∷◌, length, take, fold, filter, Option, Some, None, if◌then◌else◌, sum_by}
+use Rattle.std.specs.Prelude.{◌≡◌, ℕ, ◌+◌, ◌<◌, Bool, false, ◌==◌, ◌&&◌, nat_lt, List, [], ◌∷◌, length, take, fold, Option, Some, None, if◌then◌else◌, sum_by}
 use Rattle.std.specs.List.{list_any, find, slice_index_or}
 use Rattle.tc_units.specs.Units.{huge_bytes}
 use Rattle.tc_units.specs.Arena.{IsInArena}

@@ -1,0 +1,173 @@
+-- A release answers how many pages it unbacked, and the filler's order is a walk by candidates.
+use Rattle.std.proofs.Common.{◌≡◌, ℕ, ◌+◌, ◌-◌, ◌*◌, ◌%◌, ◌<◌, ◌≤◌, Bool, true, false, not, ◌&&◌, cond, nat_lt, List, [], ◌∷◌, length, get_or, filter, map, count_by, sum_by, All, refl, sym, ap, subst, ◌∙◌, inl, inr, arith}
+use Rattle.std.specs.List.{range_with_len, enumerate_from, list_all}
+use Rattle.std.proofs.lemmas.Bool.{cases_Bool, cases_lt, and_parts, false≢true}
+use Rattle.std.proofs.lemmas.List.{same_lists, get_or_default, length-map, get_or-map}
+use Rattle.std.proofs.lemmas.List.FromFn.{length-map-range_with_len, get_or-map-range_with_len, length-enumerate_from, get_or-enumerate_from}
+use Rattle.std.proofs.lemmas.List.Elements.{All-head, All-tail}
+use Rattle.std.proofs.lemmas.List.Sums.{sum_by-cons}
+use Rattle.heap_rules.specs.Heap.{Heap, Hugepage, hugepage, numbers, untouched, each, is_used, is_filler, backs, pages_of, backed_count, backed_pages}
+use Rattle.heap_rules.specs.Settle.{unbacked}
+use Rattle.heap_rules.specs.GiveUp.{gives_whole, SpareRow, gives_before, gives_spare}
+use Rattle.heap_rules.specs.Release.{only_used, whole_given, spare_row, spare_rows, spare_given}
+use Rattle.heap_rules.proofs.RangeLemmas.{range-within}
+use Rattle.heap_rules.proofs.Counts.{one-true}
+use Rattle.heap_rules.proofs.Places.{at}
+
+-- a sum over the elements that pass
+sum-filter : {X : Type 0} (f : X → ℕ) (p : X → Bool) (xs : List X) → sum_by f (filter p xs) ≡ sum_by (λ x. cond (p x) (f x) 0) xs
+sum-filter f p [] = refl
+sum-filter f p (x ∷ xs) =
+    let rest = sum-filter f p xs in
+    let a = sum_by-cons f x (filter p xs) in
+    let b = sum_by-cons (λ y. cond (p y) (f y) 0) x xs in
+    (elim (p x) as (λ b. sum_by f (cond b (x ∷ filter p xs) (filter p xs)) ≡ cond b (f x) 0 + sum_by (λ y. cond (p y) (f y) 0) xs) [
+      | true ↦ omega arith
+      | false ↦ omega arith
+    ]) ∙ sym b
+
+-- sums that agree place by place, as two that add up to a third
+sum-adds : {X : Type 0} (f g k : X → ℕ) (xs : List X) → All (λ x. f x + g x ≡ k x) xs → sum_by f xs + sum_by g xs ≡ sum_by k xs
+sum-adds f g k [] h = refl
+sum-adds f g k (x ∷ xs) h =
+    let head : f x + g x ≡ k x = All-head (λ y. f y + g y ≡ k y) x xs h in
+    let rest = sum-adds f g k xs (All-tail (λ y. f y + g y ≡ k y) x xs h) in
+    let a = sum_by-cons f x xs in
+    let b = sum_by-cons g x xs in
+    let c = sum_by-cons k x xs in
+    omega arith
+
+sum-map' : {X Y : Type 0} (f : Y → ℕ) (v : X → Y) (xs : List X) → sum_by f (map v xs) ≡ sum_by (λ x. f (v x)) xs
+sum-map' f v [] = refl
+sum-map' f v (x ∷ xs) = let a = sum_by-cons f (v x) (map v xs) in let b = sum_by-cons (λ y. f (v y)) x xs in let rest = sum-map' f v xs in omega arith
+
+-- a list is what it has at each number from 1 on
+by_numbers : (f : ℕ → Hugepage → Hugepage) (xs : List Hugepage) → each f xs ≡ map (λ h. f h (at xs h)) (range_with_len 1 (length xs))
+by_numbers f xs =
+    let g : ℕ → Hugepage = λ h. f h (at xs h) in
+    let len = length-enumerate_from 1 xs in
+    let len' = length-map (enumerate_from 1 xs) (λ (p : ℕ × Hugepage). f p.0 p.1) in
+    let count = length-map-range_with_len g 1 (length xs) in
+    same_lists _ _ (len' ∙ len ∙ sym count)
+    (λ k d l.
+    let short : k < length xs = omega arith in
+    let e : 1 + k - 1 ≡ k = omega arith in
+    get_or-map (λ (p : ℕ × Hugepage). f p.0 p.1) (enumerate_from 1 xs) k (0, untouched) d (omega arith)
+    ∙ ap (λ (p : ℕ × Hugepage). f p.0 p.1) (get_or-enumerate_from 1 xs k (0, untouched) short)
+    ∙ ap (λ i. f (1 + k) (get_or xs i untouched)) (sym e)
+    ∙ sym (get_or-map-range_with_len g 1 (length xs) k (1 + k) d short refl))
+
+self : (xs : List Hugepage) → xs ≡ map (at xs) (range_with_len 1 (length xs))
+self xs =
+    let count = length-map-range_with_len (at xs) 1 (length xs) in
+    same_lists _ _ (sym count)
+    (λ k d l. let e : k ≡ 1 + k - 1 = omega arith in get_or_default xs k d untouched l ∙ ap (λ i. get_or xs i untouched) e ∙ sym (get_or-map-range_with_len (at xs) 1 (length xs) k (1 + k) d l refl))
+
+-- the backed pages of a hugepage, over the numbers of its pages
+own_backs : (h : ℕ) (x : Hugepage) → length x.backed ≡ 256 → x.backed ≡ map (backs x) (pages_of h)
+own_backs h x e =
+    let count = length-map-range_with_len (backs x) (256 * h) 256 in
+    same_lists _ _ (e ∙ sym count)
+    (λ k d l.
+    let short : k < 256 = omega (arith, e) in
+    let place : k ≡ (256 * h + k) % 256 = omega (arith, short) in
+    get_or_default x.backed k d false l ∙ ap (λ i. get_or x.backed i false) place ∙ sym (get_or-map-range_with_len (backs x) (256 * h) 256 k (256 * h + k) d short refl))
+
+plus_none : (n : ℕ) → n + 0 ≡ n
+plus_none n = omega arith
+
+one_more : (a b : Bool) → cond (a && b) 1 0 + cond (a && not b) 1 0 ≡ cond a 1 0
+one_more true true = refl
+one_more true false = refl
+one_more false b = refl
+
+both : (backed : List Bool) (used : ℕ → Bool) (ps : List ℕ) (b : ℕ → Bool) → backed ≡ map b ps → count_by (λ x. x) (map (λ p. b p && used p) ps) + count_by (λ p. b p && not (used p)) ps ≡ count_by (λ x. x) backed
+both backed used ps b e =
+    let one = sum-map' (λ x. cond x 1 0) (λ p. b p && used p) ps in
+    let two = sum-map' (λ x. cond x 1 0) b ps in
+    let all = sum-adds (λ p. cond (b p && used p) 1 0) (λ p. cond (b p && not (used p)) 1 0) (λ p. cond (b p) 1 0) ps (λ k d l. one_more (b (get_or ps k d)) (used (get_or ps k d))) in
+    rw (e, one, two) all
+
+-- A change of each hugepage, of which each gives some of its backed pages up.
+pub change_counts : (heap : Heap) (change : ℕ → Hugepage → Hugepage) (gives : ℕ → ℕ) → ((h : ℕ) → 1 ≤ h → h < 1 + length heap.hugepages → backed_count (change h (hugepage heap h)) + gives h ≡ backed_count (hugepage heap h)) → sum_by backed_count (each change heap.hugepages) + sum_by gives (numbers heap) ≡ backed_pages heap
+change_counts heap change gives gave =
+    let here : sum_by backed_count (each change heap.hugepages) ≡ sum_by (λ h. backed_count (change h (hugepage heap h))) (numbers heap) = ap (sum_by backed_count) (by_numbers change heap.hugepages) ∙ sum-map' backed_count (λ h. change h (hugepage heap h)) (numbers heap) in
+    let before : backed_pages heap ≡ sum_by (λ h. backed_count (hugepage heap h)) (numbers heap) = ap (sum_by backed_count) (self heap.hugepages) ∙ sum-map' backed_count (hugepage heap) (numbers heap) in
+    let all = sum-adds (λ h. backed_count (change h (hugepage heap h))) gives (λ h. backed_count (hugepage heap h)) (numbers heap)
+    (λ k d l. let inside = range-within 1 (length heap.hugepages) k d l in gave (get_or (numbers heap) k d) inside.0 inside.1) in
+    rw (here, before) all
+
+one_row : (m : ℕ) (a b : Bool) → (0 < m → a ≡ true → b ≡ true) × (b ≡ true → a ≡ true) → cond a m 0 ≡ cond b m 0
+one_row m true true h = refl
+one_row m true false h = elim (cases_lt 0 m) [ inl some ↦ absurd (false≢true (h.0 some refl)) | inr none ↦ omega arith ]
+one_row m false true h = absurd (false≢true (h.1 refl))
+one_row m false false h = refl
+
+same_sums : (f g : SpareRow → ℕ) (rows : List SpareRow) → All (λ r. f r ≡ g r) rows → sum_by f rows ≡ sum_by g rows
+same_sums f g [] h = refl
+same_sums f g (x ∷ xs) h = let a = sum_by-cons f x xs in let b = sum_by-cons g x xs in let rest = same_sums f g xs (All-tail (λ r. f r ≡ g r) x xs h) in let head : f x ≡ g x = All-head (λ r. f r ≡ g r) x xs h in omega arith
+
+-- Sums over the rows that pass one test or another, which differ only at rows that add nothing.
+pub sum_agrees : (f : SpareRow → ℕ) (p q : SpareRow → Bool) (rows : List SpareRow) → All (λ r. (0 < f r → p r ≡ true → q r ≡ true) × (q r ≡ true → p r ≡ true)) rows → sum_by f (filter p rows) ≡ sum_by f (filter q rows)
+sum_agrees f p q rows h = sum-filter f p rows ∙ same_sums (λ r. cond (p r) (f r) 0) (λ r. cond (q r) (f r) 0) rows (λ k d l. one_row (f (get_or rows k d)) (p (get_or rows k d)) (q (get_or rows k d)) (h k d l)) ∙ sym (sum-filter f q rows)
+
+-- The next candidate gives exactly where fewer than n pages were given: those before it that have spare pages are gone, and all that are gone stand before it.
+pub candidate_gives : (rows : List SpareRow) (n : ℕ) (gone : SpareRow → Bool) (c : SpareRow) → All (λ r. (0 < r.spare → gives_before c r ≡ true → gone r ≡ true) × (gone r ≡ true → gives_before c r ≡ true)) rows → gives_spare rows n c ≡ nat_lt (sum_by (λ r. r.spare) (filter gone rows)) n
+candidate_gives rows n gone c h = ap (λ i. nat_lt i n) (sum_agrees (λ r. r.spare) (gives_before c) gone rows h)
+
+-- The pages of each step of a release.
+scaled : {X : Type 0} (p : X → Bool) (xs : List X) → sum_by (λ x. cond (p x) 256 0) xs ≡ 256 * count_by p xs
+scaled p [] = refl
+scaled p (x ∷ xs) =
+    let a = sum_by-cons (λ y. cond (p y) 256 0) x xs in
+    let b = sum_by-cons (λ y. cond (p y) 1 0) x xs in
+    let rest = scaled p xs in
+    let c : cond (p x) 256 0 ≡ 256 * cond (p x) 1 0 = elim (p x) as (λ b. cond b 256 0 ≡ 256 * cond b 1 0) [ true ↦ refl | false ↦ refl ] in
+    omega arith
+
+pub all_counted : (xs : List Bool) → list_all (λ b. b) xs ≡ true → count_by (λ b. b) xs ≡ length xs
+all_counted [] e = refl
+all_counted (x ∷ xs) e =
+    let parts : (x ≡ true) × (list_all (λ b. b) xs ≡ true) = and_parts x (list_all (λ b. b) xs) e in
+    let rest : count_by (λ b. b) xs ≡ length xs = all_counted xs parts.1 in
+    let a : count_by (λ b. b) (x ∷ xs) ≡ cond x 1 0 + count_by (λ b. b) xs = sum_by-cons (λ b. cond b 1 0) x xs in
+    let one : ◌≡◌ {A = ℕ} (cond x 1 0) 1 = one-true x parts.0 in
+    omega arith
+
+nested : (f : SpareRow → ℕ) (p : SpareRow → Bool) (v : ℕ → SpareRow) (q : ℕ → Bool) (xs : List ℕ) → sum_by f (filter p (map v (filter q xs))) ≡ sum_by (λ x. cond (q x && p (v x)) (f (v x)) 0) xs
+nested f p v q [] = refl
+nested f p v q (x ∷ xs) =
+    let rest = nested f p v q xs in
+    let b = sum_by-cons (λ y. cond (q y && p (v y)) (f (v y)) 0) x xs in
+    (elim (q x) as (λ t. sum_by f (filter p (map v (cond t (x ∷ filter q xs) (filter q xs)))) ≡ cond (t && p (v x)) (f (v x)) 0 + sum_by (λ y. cond (q y && p (v y)) (f (v y)) 0) xs) [
+      | false ↦ omega arith
+      | true ↦
+          (let a = sum_by-cons f (v x) (filter p (map v (filter q xs))) in
+          elim (p (v x)) as (λ t. sum_by f (cond t (v x ∷ filter p (map v (filter q xs))) (filter p (map v (filter q xs)))) ≡ cond t (f (v x)) 0 + sum_by (λ y. cond (q y && p (v y)) (f (v y)) 0) xs) [ true ↦ omega arith | false ↦ omega arith ])
+    ]) ∙ sym b
+
+pub whole_counts : (flags : List Bool) (heap : Heap) (n : ℕ) → ((h : ℕ) → 1 ≤ h → h < 1 + length heap.hugepages → get_or flags (h - 1) false ≡ true → backed_count (hugepage heap h) ≡ 256) → backed_pages (whole_given flags heap n).heap + (whole_given flags heap n).pages ≡ backed_pages heap
+whole_counts flags heap n full =
+    let all = change_counts heap (λ h x. cond (gives_whole flags n h) (unbacked x) x) (λ h. cond (gives_whole flags n h) 256 0)
+    (λ h from to.
+    (let x = hugepage heap h in
+    let P : Bool → Type 0 = λ b. backed_count (cond b (unbacked x) x) + cond b 256 0 ≡ backed_count x in
+    elim (cases_Bool (gives_whole flags n h)) [
+      | inl t ↦ subst P (sym t) (sym (full h from to (and_parts _ _ t).0))
+      | inr f ↦ subst P (sym f) (plus_none (backed_count x))
+    ])) in
+    ap (λ k. backed_pages (whole_given flags heap n).heap + k) (sym (scaled (gives_whole flags n) (numbers heap))) ∙ all
+
+pub spare_counts : (heap : Heap) (n : ℕ) → ((h : ℕ) → 1 ≤ h → h < 1 + length heap.hugepages → length (hugepage heap h).backed ≡ 256) → backed_pages (spare_given heap n).heap + (spare_given heap n).pages ≡ backed_pages heap
+spare_counts heap n size =
+    let asked : ℕ → Hugepage → Bool = λ h x. is_filler x && gives_spare (spare_rows heap) n (spare_row heap h) in
+    let gives : ℕ → ℕ = λ h. cond (asked h (hugepage heap h)) (spare_row heap h).spare 0 in
+    let all = change_counts heap (λ h x. cond (asked h x) (only_used heap.runs h x) x) gives
+    (λ h from to.
+    (let x = hugepage heap h in
+    let P : Bool → Type 0 = λ b. backed_count (cond b (only_used heap.runs h x) x) + cond b (spare_row heap h).spare 0 ≡ backed_count x in
+    elim (cases_Bool (asked h x)) [
+      | inl t ↦ subst P (sym t) (both x.backed (is_used heap.runs) (pages_of h) (backs x) (own_backs h x (size h from to)))
+      | inr f ↦ subst P (sym f) (plus_none (backed_count x))
+    ])) in
+    ap (λ k. backed_pages (spare_given heap n).heap + k) (nested (λ r. r.spare) (gives_spare (spare_rows heap) n) (spare_row heap) (λ h. is_filler (hugepage heap h)) (numbers heap)) ∙ all

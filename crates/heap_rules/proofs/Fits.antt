@@ -1,0 +1,68 @@
+-- What a hugepage serves, while runs that do not reach it come and go.
+use Rattle.std.proofs.Common.{◌≡◌, ℕ, ◌+◌, ◌*◌, ◌<◌, ◌≤◌, true, false, List, refl, sym, subst, ◌∙◌, arith}
+use Rattle.std.proofs.lemmas.Bool.{and_from, and_parts, leb-true, ltb-true, lt-ltb, le-leb, false≢true, false_from_ne_true}
+use Rattle.tc_units.specs.declared.spans.Run.{Run}
+use Rattle.tc_units.specs.declared.rows.RowKind.{RowKind}
+use Rattle.tc_units.specs.declared.rows.RowKind.TheVariants as kind
+use Rattle.heap_rules.specs.Heap.{Hugepage, holds, with_run, reaches, spans, is_kind_region, is_kind_free}
+use Rattle.heap_rules.specs.Sound.{IsPageOf, HasUsed, HasOneRun, Serves, IsFit}
+use Rattle.heap_rules.proofs.Live.{used_with_old, unused_with, Contains-old}
+
+-- what a run holds, in numbers
+pub holds_parts : (page : ℕ) (run : Run) → holds page run ≡ true → (run.first.0 ≤ page) × (page < run.first.0 + run.pages)
+holds_parts page run e = let parts = and_parts _ _ e in (leb-true run.first.0 page parts.0, ltb-true page (run.first.0 + run.pages) parts.1)
+
+pub holds_from : (page : ℕ) (run : Run) → run.first.0 ≤ page → page < run.first.0 + run.pages → holds page run ≡ true
+holds_from page run a b = and_from _ _ (le-leb run.first.0 page a) (lt-ltb page (run.first.0 + run.pages) b)
+
+pub reaches_parts : (h : ℕ) (run : Run) → reaches h run ≡ true → (run.first.0 < 256 * (h + 1)) × (256 * h < run.first.0 + run.pages)
+reaches_parts h run e = let parts = and_parts _ _ e in (ltb-true run.first.0 (256 * (h + 1)) parts.0, ltb-true (256 * h) (run.first.0 + run.pages) parts.1)
+
+pub reaches_from : (h : ℕ) (run : Run) → run.first.0 < 256 * (h + 1) → 256 * h < run.first.0 + run.pages → reaches h run ≡ true
+reaches_from h run a b = and_from _ _ (lt-ltb run.first.0 (256 * (h + 1)) a) (lt-ltb (256 * h) (run.first.0 + run.pages) b)
+
+-- a run that holds a page of a hugepage reaches it
+pub holds_reaches : (h page : ℕ) (run : Run) → IsPageOf h page → holds page run ≡ true → reaches h run ≡ true
+holds_reaches h page run own e = let parts = holds_parts page run e in reaches_from h run (omega (arith, own.from, own.to)) (omega (arith, own.from, own.to))
+
+pub unreached_unheld : (h page : ℕ) (run : Run) → IsPageOf h page → reaches h run ≡ false → holds page run ≡ false
+unreached_unheld h page run own e = false_from_ne_true (holds page run) (λ t. false≢true (sym e ∙ holds_reaches h page run own t))
+
+pub spans_parts : (width h r : ℕ) → spans width h r ≡ true → (r ≤ h) × (h < r + width)
+spans_parts width h r e = let parts = and_parts _ _ e in (leb-true r h parts.0, ltb-true h (r + width) parts.1)
+
+pub spans_from : (width h r : ℕ) → r ≤ h → h < r + width → spans width h r ≡ true
+spans_from width h r a b = and_from _ _ (le-leb r h a) (lt-ltb h (r + width) b)
+
+-- runs that come: more is used
+pub used_more : (run : Run) (runs : List Run) (h : ℕ) → HasUsed runs h → HasUsed (with_run run runs) h
+used_more run runs h has = record { page = has.page; own = has.own; used = used_with_old run runs has.page has.used }
+
+pub one_more : (run : Run) (runs : List Run) (h : ℕ) → HasOneRun runs h → HasOneRun (with_run run runs) h
+one_more run runs h has = record { run = has.run; live = Contains-old (λ (r : Run). r.first.0) run runs has.run has.live; from = has.from; to = has.to }
+
+-- and nothing where they do not reach
+serves_more : (run : Run) (runs : List Run) (regions : List ℕ) (width h : ℕ) (x : Hugepage) (k : RowKind) → reaches h run ≡ false → Serves runs regions width h x k → Serves (with_run run runs) regions width h x k
+serves_more run runs regions width h x kind.Free e s = ((λ page own. unused_with run runs page (unreached_unheld h page run own e) (s.0 page own)), s.1)
+serves_more run runs regions width h x kind.Filler e s = used_more run runs h s
+serves_more run runs regions width h x kind.Run e s = (one_more run runs h s.0, s.1)
+serves_more run runs regions width h x kind.Region e s = s
+
+pub fit_more : (run : Run) (runs : List Run) (regions : List ℕ) (width h : ℕ) (x : Hugepage) → reaches h run ≡ false → IsFit runs regions width h x → IsFit (with_run run runs) regions width h x
+fit_more run runs regions width h x e fit = record { size = fit.size; serves = serves_more run runs regions width h x x.kind e fit.serves; donated = fit.donated }
+
+-- what a hugepage of a known kind serves
+pub serves_at : (runs : List Run) (regions : List ℕ) (width h : ℕ) (x : Hugepage) (k : RowKind) → x.kind ≡ k → IsFit runs regions width h x → Serves runs regions width h x k
+serves_at runs regions width h x k e fit = subst (λ j. Serves runs regions width h x j) e fit.serves
+
+pub is_Free : (k : RowKind) → is_kind_free k ≡ true → k ≡ kind.Free
+is_Free kind.Free e = refl
+is_Free kind.Filler e = absurd (false≢true e)
+is_Free kind.Run e = absurd (false≢true e)
+is_Free kind.Region e = absurd (false≢true e)
+
+pub is_Region : (k : RowKind) → is_kind_region k ≡ true → k ≡ kind.Region
+is_Region kind.Free e = absurd (false≢true e)
+is_Region kind.Filler e = absurd (false≢true e)
+is_Region kind.Run e = absurd (false≢true e)
+is_Region kind.Region e = refl

@@ -1,0 +1,51 @@
+-- Giving from the greatest number down, place by place, is a walk that adds up what was given.
+use Rattle.std.proofs.Common.{◌≡◌, ℕ, zero, suc, ◌+◌, ◌-◌, ◌*◌, ◌<◌, ◌≤◌, ◌⊎◌, Bool, false, ◌&&◌, cond, nat_lt, List, length, get_or, drop, count_by, sym, ap, ◌∙◌, inl, inr, arith}
+use Rattle.std.specs.List.{range_with_len}
+use Rattle.std.proofs.lemmas.Bool.{cases_Bool, cases_lt, and_left, lt-ltb, le-ltb}
+use Rattle.std.proofs.lemmas.List.{drop_more, drop_all}
+use Rattle.heap_rules.specs.GiveUp.{gives_whole}
+use Rattle.heap_rules.proofs.Counts.{count-cons, one-true, one-false}
+
+-- what a walk has given when hugepages h + 1 to h + m are behind it
+abbrev pub given_behind : List Bool → ℕ → ℕ → ℕ → ℕ
+given_behind flags n h m = 256 * count_by (gives_whole flags n) (range_with_len (h + 1) m)
+
+abbrev flagged_behind : List Bool → ℕ → ℕ
+flagged_behind flags h = 256 * count_by (λ b. b) (drop h flags)
+
+-- All that have the flag have given, or enough was given.
+step_flag : (flags : List Bool) (h : ℕ) → h < length flags → count_by (λ b. b) (drop h flags) ≡ cond (get_or flags h false) 1 0 + count_by (λ b. b) (drop (h + 1) flags)
+step_flag flags h l = ap (count_by (λ b. b)) (drop_more flags h false l) ∙ count-cons (λ b. b) (get_or flags h false) (drop (h + 1) flags)
+
+pub all_or_enough : (flags : List Bool) (n h m : ℕ) → h + m ≡ length flags → (given_behind flags n h m ≡ flagged_behind flags h) ⊎ ((n ≤ given_behind flags n h m) × (n ≤ flagged_behind flags h))
+all_or_enough flags n h zero e = inl (ap (λ xs. 256 * count_by (λ b. b) xs) (sym (drop_all h flags (omega arith))))
+all_or_enough flags n h (suc m) e =
+    let rest = all_or_enough flags n (h + 1) m (omega arith) in
+    let flag = step_flag flags h (omega arith) in
+    let one = count-cons (gives_whole flags n) (h + 1) (range_with_len (h + 1 + 1) m) in
+    let back : h + 1 - 1 ≡ h = omega arith in
+    let test : gives_whole flags n (h + 1) ≡ (get_or flags h false && nat_lt (flagged_behind flags (h + 1)) n) = ap (λ i. get_or flags i false && nat_lt (flagged_behind flags (h + 1)) n) back in
+    elim (cases_Bool (get_or flags h false)) [
+      | inr f ↦
+          (let not_given = one-false (gives_whole flags n (h + 1)) (test ∙ and_left _ _ f) in
+          let not_flag = one-false (get_or flags h false) f in
+          elim rest [ inl same ↦ inl (omega arith) | inr enough ↦ inr (omega arith, omega arith) ])
+      | inl t ↦
+          (let is_flag = one-true (get_or flags h false) t in
+          elim (cases_lt (flagged_behind flags (h + 1)) n) [
+            | inl few ↦
+                (let given = one-true (gives_whole flags n (h + 1)) (test ∙ ap (λ b. b && nat_lt (flagged_behind flags (h + 1)) n) t ∙ lt-ltb (flagged_behind flags (h + 1)) n few) in
+                elim rest [ inl same ↦ inl (omega arith) | inr enough ↦ absurd (omega (arith, enough.1)) ])
+            | inr many ↦
+                (let given = one-false (gives_whole flags n (h + 1)) (test ∙ ap (λ b. b && nat_lt (flagged_behind flags (h + 1)) n) t ∙ le-ltb (flagged_behind flags (h + 1)) n many) in
+                elim rest [ inl same ↦ inr (omega arith, omega arith) | inr enough ↦ inr (omega (arith, enough.0), omega (arith, enough.1)) ])
+          ])
+    ]
+
+-- So a hugepage gives exactly where it has the flag and fewer than n were given before.
+pub gives_by_walk : (flags : List Bool) (n h m : ℕ) → 0 < h → h + m ≡ length flags → gives_whole flags n h ≡ (get_or flags (h - 1) false && nat_lt (given_behind flags n h m) n)
+gives_by_walk flags n h m some e =
+    elim (all_or_enough flags n h m e) [
+      | inl same ↦ ap (λ i. get_or flags (h - 1) false && nat_lt i n) (sym same)
+      | inr enough ↦ ap (λ b. get_or flags (h - 1) false && b) (le-ltb (flagged_behind flags h) n enough.1 ∙ sym (le-ltb (given_behind flags n h m) n enough.0))
+    ]

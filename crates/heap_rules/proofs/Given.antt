@@ -1,0 +1,202 @@
+-- A new run: what it gives, and that it gives none exactly where none fits.
+use Rattle.std.proofs.Common.{◌≡◌, ℕ, ◌+◌, ◌-◌, ◌*◌, ◌<◌, ◌≤◌, Bool, true, false, not, ◌&&◌, ◌||◌, cond, nat_le, nat_lt, List, [], length, get_or, filter, All, Contains, Option, Some, None, IfSome, option_map, refl, sym, ap, subst, ◌∙◌, inl, inr, arith}
+use Rattle.std.specs.Prelude.{MatchOption}
+use Rattle.std.specs.List.{list_all}
+use Rattle.std.proofs.lemmas.Bool.{cases_Bool, cases_lt, and_parts, and_from, and_left, and_right, leb-true, lt-ltb, le-ltb, not_from_true, not_from_false}
+use Rattle.std.proofs.lemmas.Option.{none-some}
+use Rattle.std.proofs.lemmas.List.{length-map, get_or-map}
+use Rattle.std.proofs.lemmas.List.Elements.{All-filter, filter_passes, Contains-get_or}
+use Rattle.std.proofs.lemmas.List.Sums.{list_all-from_AllPass}
+use Rattle.std.proofs.lemmas.List.Folds.{list_all_at}
+use Rattle.heap_rules.specs.Ranges.{best, longest, first_least}
+use Rattle.heap_rules.specs.Heap.{Heap, untouched, is_free, used_row, region_row}
+use Rattle.heap_rules.specs.FillerRows.{FillerRow, place_in_row, filler_place}
+use Rattle.heap_rules.specs.FillerRows as filler
+use Rattle.heap_rules.specs.RegionRows.{RegionRow, place_in_region, region_place}
+use Rattle.heap_rules.specs.RegionRows as regions
+use Rattle.heap_rules.specs.Choice.{filler_rows, run_choice, taken_row, region_row_of, region_rows, hugepages_for}
+use Rattle.heap_rules.specs.New.{Placed, in_filler, in_fresh, by_filler, new_small, in_free, new_whole, in_region, in_new_region, slack, or_whole, new_beside_regions, by_regions, suits_region, new_unsettled, settled_placed, none_fits}
+use Rattle.heap_rules.specs.Sound.{IsRegion, IsSound}
+use Rattle.heap_rules.specs.Laws.{IsGiven, NewGives}
+use Rattle.heap_rules.proofs.RangeLemmas.{first_least-all, first_least-none, filter-some}
+use Rattle.heap_rules.proofs.RangeFacts.{best_there}
+use Rattle.heap_rules.proofs.Chosen.{AreFree, run_choice_free, run_choice_none}
+use Rattle.heap_rules.proofs.Fillers.{IsRowWithRoom, rows_fit, unused_at, given_filler}
+use Rattle.heap_rules.proofs.Regions.{given_region, given_new_region}
+use Rattle.heap_rules.proofs.Routes.{given_free, given_fresh}
+use Rattle.heap_rules.proofs.Settled.{settled_sound}
+use Rattle.heap_rules.proofs.Longest.{longest-le}
+
+-- a run is given where `none` is false, and else `none` holds
+abbrev IsAnswer : Heap → ℕ → Bool → Option Placed → Type 0
+IsAnswer heap n none o = MatchOption o (none ≡ true) (λ p. IsGiven heap n p × (none ≡ false))
+
+-- where no element of a list passes, and where one does
+none_pass : {X : Type 0} (p : X → Bool) (xs : List X) → filter p xs ≡ [] → list_all (λ x. not (p x)) xs ≡ true
+none_pass p xs e = list_all-from_AllPass (λ x. not (p x)) xs (λ k d l. elim (cases_Bool (p (get_or xs k d))) [
+  | inl t ↦ absurd (filter-some p xs k d l t e)
+  | inr f ↦ not_from_false _ f
+])
+
+-- a region with room
+pub record IsRegionWithRoom (heap : Heap) (n : ℕ) (row : RegionRow) : Type 0 where
+  pub number : ℕ
+  pub row_is : row ≡ region_row_of heap number
+  pub region : IsRegion heap number
+  pub room : regions.has_room n row ≡ true
+  pub known : Contains (region_rows heap) row
+
+regions_fit : (heap : Heap) (n : ℕ) → IsSound heap → All (IsRegionWithRoom heap n) (filter (regions.has_room n) (region_rows heap))
+regions_fit heap n sound k d l =
+    let row = get_or (filter (regions.has_room n) (region_rows heap)) k d in
+    let known : Contains (region_rows heap) row = All-filter (regions.has_room n) (Contains (region_rows heap)) (region_rows heap) (λ i c j. Contains-get_or (region_rows heap) i c j) k d l in
+    let len = length-map heap.regions (region_row_of heap) in
+    let short : known.0 < length heap.regions = omega (arith, known.1) in
+    record {
+      number = get_or heap.regions known.0 0;
+      row_is = sym known.2 ∙ get_or-map (region_row_of heap) heap.regions known.0 0 row short;
+      region = sound.regions known.0 0 short;
+      room = filter_passes (regions.has_room n) (region_rows heap) k d l;
+      known = known;
+    }
+
+-- Below a hugepage.
+abbrev none_small : Heap → ℕ → Bool
+none_small heap n = list_all (λ row. not (filler.has_room n row)) (filler_rows heap) && list_all (λ x. not (is_free x)) heap.hugepages
+
+longest-all : (heap : Heap) → longest (taken_row heap) < 1 → list_all (λ x. not (is_free x)) heap.hugepages ≡ true
+longest-all heap short = list_all-from_AllPass (λ x. not (is_free x)) heap.hugepages (λ k d l. elim (cases_Bool (is_free (get_or heap.hugepages k d))) [
+  | inr f ↦ not_from_false _ f
+  | inl t ↦
+      (let len = length-map heap.hugepages (λ x. not (is_free x)) in
+      let one = longest-le (taken_row heap) k 1 (omega arith) (omega arith)
+      (λ j z. (let e : k ≡ k + j = omega arith in subst (λ i. get_or (taken_row heap) i true ≡ false) e (get_or-map (λ x. not (is_free x)) heap.hugepages k d true l ∙ not_from_true _ t))) in
+      absurd (omega arith))
+])
+
+module _ (heap : Heap) (n : ℕ) (sound : IsSound heap) (some : 0 < n) where
+  small_fresh : n < 256 → (o : Option ℕ) → run_choice heap 1 ≡ o → list_all (λ row. not (filler.has_room n row)) (filler_rows heap) ≡ true → IsAnswer heap n (none_small heap n) (option_map (in_fresh heap n) o)
+  small_fresh small None e none = and_from _ _ none (longest-all heap (run_choice_none heap 1 (omega arith) e))
+  small_fresh small (Some h) e none =
+      let are = run_choice_free heap 1 h (omega arith) e in (
+        given_fresh heap n h 1 sound some (omega arith) are refl,
+        and_right _ _ (list_all_at (λ x. not (is_free x)) heap.hugepages (h - 1) untouched (omega (arith, are.from, are.to)) (not_from_true _ (are.free h (omega arith) (omega arith)))),
+      )
+
+  small_own : (row : FillerRow) → IsRowWithRoom heap n row → (o : Option ℕ) → best row.used n ≡ o → IsAnswer heap n (none_small heap n) (by_filler heap n (option_map (λ start. 256 * row.number + start) o))
+  small_own row is None e =
+      let there = best_there row.used n some (leb-true n (longest row.used) is.room) in
+      absurd (none-some there.0 (sym e ∙ there.1))
+  small_own row is (Some s) e =
+      let h = is.number in
+      let at : row.number ≡ h = ap (λ (r : FillerRow). r.number) is.row_is in
+      let place : best (used_row heap.runs h) n ≡ Some s = ap (λ (r : FillerRow). best r.used n) (sym is.row_is) ∙ e in
+      let given : IsGiven heap n (in_filler heap n (256 * h + s)) = given_filler heap n h s sound some is.fitting (unused_at heap.runs (256 * h) 256 n s some place) in (
+        subst (λ k. IsGiven heap n (in_filler heap n (256 * k + s))) (sym at) given,
+        and_left _ _ (list_all_at (λ r. not (filler.has_room n r)) (filler_rows heap) is.known.0 row is.known.1 (ap (λ r. not (filler.has_room n r)) is.known.2 ∙ not_from_true _ is.room)),
+      )
+
+  small_by : n < 256 → (o : Option FillerRow) → first_least filler.is_preferred (filter (filler.has_room n) (filler_rows heap)) ≡ o → IfSome o (IsRowWithRoom heap n) → IsAnswer heap n (none_small heap n) (by_filler heap n (place_in_row n o))
+  small_by small None e is = small_fresh small (run_choice heap 1) refl (none_pass (filler.has_room n) (filler_rows heap) (first_least-none filler.is_preferred (filter (filler.has_room n) (filler_rows heap)) e))
+  small_by small (Some row) e is = small_own row is (best row.used n) refl
+
+  given_small : n < 256 → IsAnswer heap n (none_small heap n) (new_small heap n)
+  given_small small = small_by small (first_least filler.is_preferred (filter (filler.has_room n) (filler_rows heap))) refl (first_least-all (IsRowWithRoom heap n) filler.is_preferred (filter (filler.has_room n) (filler_rows heap)) (rows_fit heap n))
+
+  -- From a hugepage on.
+  free_long : (h m : ℕ) → 0 < m → AreFree heap h m → m ≤ longest (taken_row heap)
+  free_long h m pos are =
+      let len = length-map heap.hugepages (λ x. not (is_free x)) in
+      longest-le (taken_row heap) (h - 1) m pos (omega (arith, are.from, are.to))
+      (λ k l. (let e : h + k - 1 ≡ h - 1 + k = omega (arith, are.from) in
+      subst (λ i. get_or (taken_row heap) i true ≡ false) e
+      (get_or-map (λ x. not (is_free x)) heap.hugepages (h + k - 1) untouched true (omega (arith, are.from, are.to)) ∙ not_from_true _ (are.free (h + k) (omega arith) (omega arith)))))
+
+  whole_by : (other : Bool) → other ≡ true → (o : Option ℕ) → run_choice heap (hugepages_for n) ≡ o → IsAnswer heap n (nat_lt (longest (taken_row heap)) (hugepages_for n) && other) (option_map (in_free heap n) o)
+  whole_by other t None e = and_from _ _ (lt-ltb (longest (taken_row heap)) (hugepages_for n) (run_choice_none heap (hugepages_for n) (omega arith) e)) t
+  whole_by other t (Some h) e =
+      let are = run_choice_free heap (hugepages_for n) h (omega arith) e in (
+        given_free heap n h (hugepages_for n) sound some (omega arith) are,
+        and_left _ _ (le-ltb (longest (taken_row heap)) (hugepages_for n) (free_long h (hugepages_for n) (omega arith) are)),
+      )
+
+  given_whole : (other : Bool) → other ≡ true → IsAnswer heap n (nat_lt (longest (taken_row heap)) (hugepages_for n) && other) (new_whole heap n)
+  given_whole other t = whole_by other t (run_choice heap (hugepages_for n)) refl
+
+  abbrev no_region : Bool
+  no_region = list_all (λ row. not (regions.has_room n row)) (region_rows heap)
+
+  abbrev none_beside : Bool
+  none_beside = nat_lt (longest (taken_row heap)) (hugepages_for n) && no_region
+
+  module _ (wide : 2 ≤ heap.config.region) (fits' : n ≤ 256 * heap.config.region) where
+    new_region_by : no_region ≡ true → (o : Option ℕ) → run_choice heap heap.config.region ≡ o → IsAnswer heap n none_beside (or_whole heap n (option_map (in_new_region heap n) o))
+    new_region_by t None e = given_whole no_region t
+    new_region_by t (Some r) e =
+        let are = run_choice_free heap heap.config.region r (omega arith) e in
+        let long = free_long r heap.config.region (omega arith) are in (
+          given_new_region heap r sound are n some fits',
+          and_left _ _ (le-ltb (longest (taken_row heap)) (hugepages_for n) (omega arith)),
+        )
+
+    given_beside : no_region ≡ true → IsAnswer heap n none_beside (new_beside_regions heap n)
+    given_beside t =
+        elim (nat_le heap.config.slack (slack heap n)) as (λ b. IsAnswer heap n none_beside (or_whole heap n (cond b (option_map (in_new_region heap n) (run_choice heap heap.config.region)) None))) [
+          | true ↦ new_region_by t (run_choice heap heap.config.region) refl
+          | false ↦ given_whole no_region t
+        ]
+
+    -- what the choice of a region gives
+    own_by : (row : RegionRow) → IsRegionWithRoom heap n row → (o : Option ℕ) → best row.used n ≡ o → IsAnswer heap n none_beside (by_regions heap n (option_map (λ start. 256 * row.first + start) o))
+    own_by row is None e =
+        let there = best_there row.used n some (leb-true n (longest row.used) is.room) in
+        absurd (none-some there.0 (sym e ∙ there.1))
+    own_by row is (Some s) e =
+        let r = is.number in
+        let at : row.first ≡ r = ap (λ (x : RegionRow). x.first) is.row_is in
+        let place : best (region_row heap.runs heap.config.region r) n ≡ Some s = ap (λ (x : RegionRow). best x.used n) (sym is.row_is) ∙ e in
+        let given : IsGiven heap n (in_region heap n (256 * r + s)) = given_region heap n r s sound some is.region (unused_at heap.runs (256 * r) (256 * heap.config.region) n s some place) in (
+          subst (λ k. IsGiven heap n (in_region heap n (256 * k + s))) (sym at) given,
+          and_right _ _ (list_all_at (λ x. not (regions.has_room n x)) (region_rows heap) is.known.0 row is.known.1 (ap (λ x. not (regions.has_room n x)) is.known.2 ∙ not_from_true _ is.room)),
+        )
+
+    region_by : (o : Option RegionRow) → first_least regions.is_preferred (filter (regions.has_room n) (region_rows heap)) ≡ o → IfSome o (IsRegionWithRoom heap n) → IsAnswer heap n none_beside (by_regions heap n (place_in_region n o))
+    region_by None e is = given_beside (none_pass (regions.has_room n) (region_rows heap) (first_least-none regions.is_preferred (filter (regions.has_room n) (region_rows heap)) e))
+    region_by (Some row) e is = own_by row is (best row.used n) refl
+
+    given_by_regions : IsAnswer heap n none_beside (by_regions heap n (region_place (region_rows heap) n))
+    given_by_regions = region_by (first_least regions.is_preferred (filter (regions.has_room n) (region_rows heap))) refl (first_least-all (IsRegionWithRoom heap n) regions.is_preferred (filter (regions.has_room n) (region_rows heap)) (regions_fit heap n sound))
+
+  given_large : 2 ≤ heap.config.region → IsAnswer heap n (nat_lt (longest (taken_row heap)) (hugepages_for n) && (not (suits_region heap.config n) || no_region)) (cond (suits_region heap.config n) (by_regions heap n (region_place (region_rows heap) n)) (new_whole heap n))
+  given_large wide =
+      let P : Bool → Type 0 = λ b. IsAnswer heap n (nat_lt (longest (taken_row heap)) (hugepages_for n) && (not b || no_region)) (cond b (by_regions heap n (region_place (region_rows heap) n)) (new_whole heap n)) in
+      elim (cases_Bool (suits_region heap.config n)) [
+        | inl t ↦ subst P (sym t) (given_by_regions wide (leb-true n (256 * heap.config.region) (and_parts _ _ t).1))
+        | inr f ↦ subst P (sym f) (given_whole true refl)
+      ]
+
+  given_unsettled : 2 ≤ heap.config.region → IsAnswer heap n (none_fits heap n) (new_unsettled heap n)
+  given_unsettled wide =
+      let P : Bool → Type 0 = λ b. IsAnswer heap n (cond b (none_small heap n) (nat_lt (longest (taken_row heap)) (hugepages_for n) && (not (suits_region heap.config n) || no_region))) (cond b (new_small heap n) (cond (suits_region heap.config n) (by_regions heap n (region_place (region_rows heap) n)) (new_whole heap n))) in
+      elim (cases_lt n 256) [
+        | inl small ↦ subst P (sym (lt-ltb n 256 small)) (given_small small)
+        | inr large ↦ subst P (sym (le-ltb n 256 large)) (given_large wide)
+      ]
+
+-- settling changes no run
+given_settled : (heap : Heap) (n : ℕ) (none : Bool) (o : Option Placed) → IsAnswer heap n none o → IsAnswer heap n none (option_map settled_placed o)
+given_settled heap n none None is = is
+given_settled heap n none (Some p) is = (
+  record {
+    pages = is.0.pages;
+    inside = is.0.inside;
+    unused = is.0.unused;
+    runs = is.0.runs;
+    config = is.0.config;
+    sound = settled_sound p.heap is.0.sound;
+  },
+  is.1,
+)
+
+pub new_gives : NewGives
+new_gives heap n sound wide some = given_settled heap n (none_fits heap n) (new_unsettled heap n) (given_unsettled heap n sound some wide)

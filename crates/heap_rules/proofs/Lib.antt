@@ -1,0 +1,25 @@
+pub mod Rows
+pub mod Counts
+pub mod RangeLemmas
+pub mod RangeFacts
+pub mod Places
+pub mod Live
+pub mod Fits
+pub mod Grown
+pub mod Chosen
+pub mod Routes
+pub mod Fillers
+pub mod Regions
+pub mod Remade
+pub mod Settled
+pub mod Longest
+pub mod Given
+pub mod Left
+pub mod Ended
+pub mod Released
+pub mod Opened
+pub mod Trims
+pub mod GiveUps
+pub mod Accounts
+mod Placing
+mod Unbacking

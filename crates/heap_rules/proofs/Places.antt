@@ -1,0 +1,36 @@
+-- A change of each hugepage, place by place.
+use Rattle.std.proofs.Common.{◌≡◌, ℕ, ◌+◌, ◌-◌, ◌*◌, ◌/◌, ◌%◌, ◌<◌, ◌≤◌, Bool, false, List, length, get_or, map, ap, ◌∙◌, arith}
+use Rattle.std.specs.List.{enumerate_from}
+use Rattle.std.proofs.lemmas.List.{length-map, get_or-map, get_or-replicate}
+use Rattle.std.proofs.lemmas.List.FromFn.{length-enumerate_from, get_or-enumerate_from, get_or-map-range_with_len}
+use Rattle.heap_rules.specs.Heap.{Hugepage, untouched, each, whole, pages_of}
+use Rattle.heap_rules.specs.Sound.{IsPageOf}
+
+-- hugepage h of a list
+abbrev pub at : List Hugepage → ℕ → Hugepage
+at xs h = get_or xs (h - 1) untouched
+
+pub length-each : (f : ℕ → Hugepage → Hugepage) (xs : List Hugepage) → length (each f xs) ≡ length xs
+length-each f xs = length-map (enumerate_from 1 xs) (λ (p : ℕ × Hugepage). f p.0 p.1) ∙ length-enumerate_from 1 xs
+
+pub at-each : (f : ℕ → Hugepage → Hugepage) (xs : List Hugepage) (h : ℕ) → 0 < h → h ≤ length xs → at (each f xs) h ≡ f h (at xs h)
+at-each f xs h some inside =
+    let len = length-enumerate_from 1 xs in
+    let e : 1 + (h - 1) ≡ h = omega arith in
+    get_or-map (λ (p : ℕ × Hugepage). f p.0 p.1) (enumerate_from 1 xs) (h - 1) (0, untouched) untouched (omega arith)
+    ∙ ap (λ (p : ℕ × Hugepage). f p.0 p.1) (get_or-enumerate_from 1 xs (h - 1) (0, untouched) (omega arith))
+    ∙ ap (λ k. f k (at xs h)) e
+
+-- the hugepage of a page
+pub own : (h page : ℕ) → IsPageOf h page → page / 256 ≡ h
+own h page is = omega (arith, is.from, is.to)
+
+pub page_of : (page : ℕ) → IsPageOf (page / 256) page
+page_of page = record { from = omega arith; to = omega arith }
+
+-- a test of the pages of hugepage h, read at one of them
+pub backs-map : (f : ℕ → Bool) (h page : ℕ) → IsPageOf h page → get_or (map f (pages_of h)) (page % 256) false ≡ f page
+backs-map f h page is = get_or-map-range_with_len f (256 * h) 256 (page % 256) page false (omega arith) (omega (arith, is.from, is.to))
+
+pub backs-whole : (b : Bool) (page : ℕ) → get_or (whole b) (page % 256) false ≡ b
+backs-whole b page = get_or-replicate 256 (page % 256) b false (omega arith)

@@ -1,0 +1,95 @@
+-- Each route of a new run gives a sound heap with it.
+use Rattle.std.proofs.Common.{◌≡◌, ℕ, ◌+◌, ◌*◌, ◌/◌, ◌<◌, ◌≤◌, Bool, true, false, cond, refl, sym, ap, subst, ◌∙◌, inl, inr, arith}
+use Rattle.std.proofs.lemmas.Bool.{cases_lt, le-leb, lt-leb, false≢true}
+use Rattle.std.proofs.lemmas.List.{length-replicate}
+use Rattle.tc_units.specs.declared.spans.Run.{Run}
+use Rattle.tc_units.specs.declared.rows.RowKind.TheVariants as kind
+use Rattle.heap_rules.specs.Heap.{Heap, Hugepage, hugepage, holds, is_used, is_free, is_region, is_kind_region, run_at, reaches}
+use Rattle.heap_rules.specs.New.{placed, filler_page, run_page, run_or_tail, in_free, in_fresh}
+use Rattle.heap_rules.specs.Sound.{IsInside, IsPageOf, IsHugepageOf, AreRunsSound, IsSound}
+use Rattle.heap_rules.specs.Laws.{IsGiven}
+use Rattle.heap_rules.proofs.Places.{backs-whole, page_of}
+use Rattle.heap_rules.proofs.Live.{used_with_new, Contains-new}
+use Rattle.heap_rules.proofs.Fits.{holds_from, reaches_parts, holds_reaches, serves_at, is_Free}
+use Rattle.heap_rules.proofs.Grown.{IsTurned, held_in, grown_sound}
+use Rattle.heap_rules.proofs.Chosen.{AreFree}
+
+-- a route's answer, from what it does to the hugepages that the run reaches
+pub given_by : (heap : Heap) (page n : ℕ) (becomes : ℕ → Hugepage → Hugepage) → IsSound heap → IsInside heap.config.huge (run_at page n) → ((p : ℕ) → holds p (run_at page n) ≡ true → is_used heap.runs p ≡ false) → ((h : ℕ) → IsHugepageOf heap.config.huge h → reaches h (run_at page n) ≡ true → IsTurned heap.runs heap.regions heap.config.region (run_at page n) h (hugepage heap h) (becomes h (hugepage heap h))) → IsGiven heap n (placed heap page n becomes)
+given_by heap page n becomes sound inside unused turned = record {
+  pages = refl;
+  inside = inside;
+  unused = unused;
+  runs = refl;
+  config = refl;
+  sound = grown_sound heap page n becomes sound inside unused turned;
+}
+
+pub free_not_region : (x : Hugepage) → is_free x ≡ true → is_region x ≡ true → ⊥
+free_not_region x free region = false≢true (sym (ap is_kind_region (is_Free x.kind free)) ∙ region)
+
+-- a free hugepage that becomes the filler's, or a run's alone
+turned_filler : (heap : Heap) (run : Run) (h page : ℕ) (donated : Bool) (x : Hugepage) → is_free x ≡ true → IsPageOf h page → holds page run ≡ true → IsTurned heap.runs heap.regions heap.config.region run h x (filler_page donated)
+turned_filler heap run h page donated x free own' held = record {
+  fit = record {
+    size = length-replicate 256 true;
+    serves = record { page = page; own = own'; used = used_with_new run heap.runs page held };
+    donated = λ _. refl;
+  };
+  held = λ p _ _. backs-whole true p;
+  kept = λ p _ _. backs-whole true p;
+  region = λ e. absurd (free_not_region x free e);
+}
+
+turned_run : (heap : Heap) (run : Run) (h : ℕ) (x : Hugepage) → is_free x ≡ true → run.first.0 ≤ 256 * h → 256 * h + 256 ≤ run.first.0 + run.pages → IsTurned heap.runs heap.regions heap.config.region run h x run_page
+turned_run heap run h x free from to = record {
+  fit = record {
+    size = length-replicate 256 true;
+    serves = (record { run = run; live = Contains-new (λ (r : Run). r.first.0) run heap.runs; from = from; to = to }, refl);
+    donated = λ e. absurd (false≢true e);
+  };
+  held = λ p _ _. backs-whole true p;
+  kept = λ p _ _. backs-whole true p;
+  region = λ e. absurd (free_not_region x free e);
+}
+
+-- a page of a free hugepage is unused
+pub free_unused : (heap : Heap) (h page : ℕ) → AreRunsSound heap → IsHugepageOf heap.config.huge h → is_free (hugepage heap h) ≡ true → IsPageOf h page → is_used heap.runs page ≡ false
+free_unused heap h page sound is free own' = (serves_at heap.runs heap.regions heap.config.region h (hugepage heap h) kind.Free (is_Free (hugepage heap h).kind free) (sound.fit h is)).0 page own'
+
+module _ (heap : Heap) (n h m : ℕ) (sound : IsSound heap) (some : 0 < n) (fits : n ≤ 256 * m) (are : AreFree heap h m) where
+  pub inside_free : IsInside heap.config.huge (run_at (256 * h) n)
+  inside_free = let len = sound.runs.arena in record { some = some; from = omega (arith, are.from); to = omega (arith, are.to) }
+
+  pub reached_free : (k : ℕ) → reaches k (run_at (256 * h) n) ≡ true → (h ≤ k) × (k < h + m)
+  reached_free k e = let parts = reaches_parts k (run_at (256 * h) n) e in (omega arith, omega arith)
+
+  pub unused_free : (p : ℕ) → holds p (run_at (256 * h) n) ≡ true → is_used heap.runs p ≡ false
+  unused_free p e =
+      let near = reached_free (p / 256) (holds_reaches (p / 256) p (run_at (256 * h) n) (page_of p) e) in
+      free_unused heap (p / 256) p sound.runs (held_in heap.config.huge p (run_at (256 * h) n) inside_free e) (are.free (p / 256) near.0 near.1) (page_of p)
+
+  -- the run route
+  turned_free : (k : ℕ) → IsHugepageOf heap.config.huge k → reaches k (run_at (256 * h) n) ≡ true → IsTurned heap.runs heap.regions heap.config.region (run_at (256 * h) n) k (hugepage heap k) (run_or_tail (256 * h + n) k)
+  turned_free k is e =
+      let near = reached_free k e in
+      let free = are.free k near.0 near.1 in
+      let parts = reaches_parts k (run_at (256 * h) n) e in
+      let P : Hugepage → Type 0 = λ y. IsTurned heap.runs heap.regions heap.config.region (run_at (256 * h) n) k (hugepage heap k) y in
+      elim (cases_lt (256 * h + n) (256 * (k + 1))) [
+        | inl tail ↦ subst (λ b. P (cond b run_page (filler_page true))) (sym (lt-leb (256 * (k + 1)) (256 * h + n) tail))
+            (turned_filler heap (run_at (256 * h) n) k (256 * k) true (hugepage heap k) free (record { from = omega arith; to = omega arith }) (holds_from (256 * k) (run_at (256 * h) n) (omega arith) parts.1))
+        | inr all ↦ subst (λ b. P (cond b run_page (filler_page true))) (sym (le-leb (256 * (k + 1)) (256 * h + n) all))
+            (turned_run heap (run_at (256 * h) n) k (hugepage heap k) free (omega arith) (omega arith))
+      ]
+
+  pub given_free : IsGiven heap n (in_free heap n h)
+  given_free = given_by heap (256 * h) n (λ k _. run_or_tail (256 * h + n) k) sound inside_free unused_free turned_free
+
+  -- a free hugepage for the filler
+  pub given_fresh : m ≡ 1 → IsGiven heap n (in_fresh heap n h)
+  given_fresh one = given_by heap (256 * h) n (λ _ _. filler_page false) sound inside_free unused_free
+      (λ k is e.
+      let near = reached_free k e in
+      let parts = reaches_parts k (run_at (256 * h) n) e in
+      turned_filler heap (run_at (256 * h) n) k (256 * k) false (hugepage heap k) (are.free k near.0 near.1) (record { from = omega arith; to = omega arith }) (holds_from (256 * k) (run_at (256 * h) n) (omega arith) parts.1))
