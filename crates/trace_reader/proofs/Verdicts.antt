@@ -1,0 +1,137 @@
+-- The verdict on a line, by what is known of it.
+use Rattle.std.proofs.Common.{◌≡◌, ℕ, ◌<◌, leb, Bool, true, false, not, List, Option, Some, None, Ok, Err, refl, sym, ap, ◌∙◌, arith, cond, inl, inr, option_map, min, nat_lt}
+use Rattle.std.proofs.lemmas.Bool.{cases_Bool, le-ltb, leb-false, not-false}
+use Rattle.std.specs.Option.{ok_or}
+use Rattle.trace_reader.specs.declared.why.LineWhy.{LineWhy}
+use Rattle.trace_reader.specs.declared.why.LineWhy.TheVariants as why
+use Rattle.trace_reader.specs.declared.word.Word.{Word}
+use Rattle.trace_reader.specs.declared.reader.Reader.{Reader}
+use Rattle.trace_reader.specs.declared.form.Form.{Form}
+use Rattle.trace_reader.specs.declared.form.Form.TheVariants.{Head, Malloc, Free, Move, Release, Drain, Resize}
+use Rattle.trace_reader.specs.Form.{has_fields, form_of, read_fields}
+use Rattle.trace_reader.specs.Reading.{Line, Rule, other_fields, line_form, verdict}
+use Rattle.trace_reader.specs.Steps.{HasWord, broken, broken_label, so_far, Fits}
+use Rattle.trace_reader.specs.Kept.{calls_of}
+use Rattle.trace_reader.specs.Labels.{is_allocated, is_freed}
+
+-- what the rules on the fields give, where their number is right
+read_fields-has : (w : Word) (fields : List (List ℕ)) (form : Option Form) → has_fields w fields ≡ true → form_of w fields ≡ form → read_fields w fields ≡ ok_or form why.Number
+read_fields-has w fields form has is = ap (λ b. cond b (ok_or (form_of w fields) why.Number) (Err why.Fields)) has ∙ ap (λ o. ok_or o why.Number) is
+
+read_fields-lacks : (w : Word) (fields : List (List ℕ)) → has_fields w fields ≡ false → read_fields w fields ≡ Err why.Fields
+read_fields-lacks w fields lacks = ap (λ b. cond b (ok_or (form_of w fields) why.Number) (Err why.Fields)) lacks
+
+-- the fields behind the word are another number of them
+verdict-fields : (line : Line) (w : Word) → HasWord line w → has_fields w (other_fields line.fields) ≡ false → verdict line ≡ Some why.Fields
+verdict-fields line w known lacks =
+    let lines : nat_lt 1000000 line.number ≡ false = le-ltb 1000000 line.number known.few in
+    let word = known.word in
+    let early = known.early in
+    rw (lines, word, early, lacks) refl
+
+-- they aren't all numbers in their ranges
+verdict-number : (line : Line) (w : Word) → HasWord line w → has_fields w (other_fields line.fields) ≡ true → form_of w (other_fields line.fields) ≡ None → verdict line ≡ Some why.Number
+verdict-number line w known has none =
+    let lines : nat_lt 1000000 line.number ≡ false = le-ltb 1000000 line.number known.few in
+    let word = known.word in
+    let early = known.early in
+    rw (lines, word, early, has, none) refl
+
+-- the reason of the first rule that fails
+reason-cond : (fails : Bool) (first others : Option Rule) → option_map (λ (r : Rule). r.why) (cond fails first others) ≡ cond fails (option_map (λ (r : Rule). r.why) first) (option_map (λ (r : Rule). r.why) others)
+reason-cond true first others = refl
+reason-cond false first others = refl
+
+-- the line has a form, and the rules on it decide
+verdict-form : (line : Line) (w : Word) (form : Form) → HasWord line w → has_fields w (other_fields line.fields) ≡ true → form_of w (other_fields line.fields) ≡ Some form → verdict line ≡ broken line.classes line.before.asked form
+verdict-form line w form known has is =
+    let lines : nat_lt 1000000 line.number ≡ false = le-ltb 1000000 line.number known.few in
+    let word = known.word in
+    let early = known.early in
+    rw (lines, word, early, has, is) (simp reason-cond)
+
+pub verdict-err : (line : Line) (w : Word) (reason : LineWhy) → HasWord line w → read_fields w (other_fields line.fields) ≡ Err reason → verdict line ≡ Some reason
+verdict-err line w reason known h =
+    elim (cases_Bool (has_fields w (other_fields line.fields))) [
+      | inl has ↦ by_form (form_of w (other_fields line.fields)) line w reason known has refl h
+      | inr lacks ↦
+          let is : Err why.Fields ≡ Err reason = sym (read_fields-lacks w (other_fields line.fields) lacks) ∙ h in
+          let e : why.Fields ≡ reason = cc in
+          verdict-fields line w known lacks ∙ ap Some e
+    ]
+  where
+    by_form : (form : Option Form) (line : Line) (w : Word) (reason : LineWhy) → HasWord line w → has_fields w (other_fields line.fields) ≡ true → form_of w (other_fields line.fields) ≡ form → read_fields w (other_fields line.fields) ≡ Err reason → verdict line ≡ Some reason
+    by_form None line w reason known has is h =
+        let same : Err why.Number ≡ Err reason = sym (read_fields-has w (other_fields line.fields) None has is) ∙ h in
+        let e : why.Number ≡ reason = cc in
+        verdict-number line w known has is ∙ ap Some e
+    by_form (Some form) line w reason known has is h =
+        let same : Ok form ≡ Err reason = sym (read_fields-has w (other_fields line.fields) (Some form) has is) ∙ h in
+        absurd (cc)
+
+-- where the rules on the fields pass, the fields are right in number, and the word has this form with them
+form_from_fields : (w : Word) (fields : List (List ℕ)) (form : Form) → read_fields w fields ≡ Ok form → (has_fields w fields ≡ true) × (form_of w fields ≡ Some form)
+form_from_fields w fields form h =
+    elim (cases_Bool (has_fields w fields)) [
+      | inl has ↦ (has, by_form w fields (form_of w fields) form has refl h)
+      | inr lacks ↦
+          let is : Err why.Fields ≡ Ok form = sym (read_fields-lacks w fields lacks) ∙ h in
+          absurd (cc)
+    ]
+  where
+    by_form : (w : Word) (fields : List (List ℕ)) (found : Option Form) (form : Form) → has_fields w fields ≡ true → form_of w fields ≡ found → read_fields w fields ≡ Ok form → form_of w fields ≡ Some form
+    by_form w fields None form has is h =
+        let same : Err why.Number ≡ Ok form = sym (read_fields-has w fields None has is) ∙ h in
+        absurd (cc)
+    by_form w fields (Some found) form has is h =
+        let same : Ok found ≡ Ok form = sym (read_fields-has w fields (Some found) has is) ∙ h in
+        let e : found ≡ form = cc in
+        is ∙ ap Some e
+
+pub verdict-ok : (line : Line) (w : Word) (form : Form) → HasWord line w → read_fields w (other_fields line.fields) ≡ Ok form → verdict line ≡ broken line.classes line.before.asked form
+verdict-ok line w form known h =
+    let facts = form_from_fields w (other_fields line.fields) form h in
+    verdict-form line w form known facts.0 facts.1
+
+pub line_form-ok : (line : Line) (w : Word) (form : Form) → HasWord line w → read_fields w (other_fields line.fields) ≡ Ok form → line_form line.fields ≡ Some form
+line_form-ok line w form known h =
+    let facts = form_from_fields w (other_fields line.fields) form h in
+    let word = known.word in
+    rw word facts.1
+
+-- no rule on a form fails, so none of the first ones does
+none_first : (fails : Bool) (reason : LineWhy) (others : Option LineWhy) → cond fails (Some reason) others ≡ None → (fails ≡ false) × (others ≡ None)
+none_first true reason others h = absurd (cc)
+none_first false reason others h = (refl, h)
+
+below : (bound n : ℕ) → leb bound n ≡ false → n < bound
+below bound n h = leb-false bound n h
+
+pub fits : (classes : ℕ) (reader : Reader) (form : Form) → broken classes (so_far reader).asked form ≡ None → Fits reader form
+fits classes reader (Head head value) h = tt
+fits classes reader (Malloc thread label size) h =
+    let t = none_first (leb reader.config.threads thread) why.Thread (broken_label (calls_of reader.calls) (Malloc thread label size)) h in
+    let l = none_first (is_allocated label (calls_of reader.calls)) why.LabelUsed None t.1 in
+    (below reader.config.threads thread t.0, l.0)
+fits classes reader (Free thread label) h =
+    let all = calls_of reader.calls in
+    let t = none_first (leb reader.config.threads thread) why.Thread (broken_label all (Free thread label)) h in
+    let l = none_first (not (is_allocated label all)) why.LabelUnknown (cond (is_freed label all) (Some why.LabelFreed) None) t.1 in
+    (below reader.config.threads thread t.0, not-false (is_allocated label all) l.0)
+fits classes reader (Move thread before cpu) h =
+    let t = none_first (leb reader.config.threads thread) why.Thread (cond (leb reader.config.cpus cpu) (Some why.Cpu) None) h in
+    let p = none_first (leb reader.config.cpus cpu) why.Cpu None t.1 in
+    (below reader.config.threads thread t.0, below reader.config.cpus cpu p.0)
+fits classes reader (Release thread pages) h =
+    let t = none_first (leb reader.config.threads thread) why.Thread None h in
+    below reader.config.threads thread t.0
+fits classes reader (Drain thread cpu) h =
+    let t = none_first (leb reader.config.threads thread) why.Thread (cond (leb reader.config.cpus cpu) (Some why.Cpu) None) h in
+    let p = none_first (leb reader.config.cpus cpu) why.Cpu None t.1 in
+    (below reader.config.threads thread t.0, below reader.config.cpus cpu p.0)
+fits classes reader (Resize thread cpu class cap) h =
+    let t = none_first (leb reader.config.threads thread) why.Thread (cond (leb reader.config.cpus cpu) (Some why.Cpu) (cond (leb (min classes 256) class) (Some why.Class) None)) h in
+    let p = none_first (leb reader.config.cpus cpu) why.Cpu (cond (leb (min classes 256) class) (Some why.Class) None) t.1 in
+    let k = none_first (leb (min classes 256) class) why.Class None p.1 in
+    let small : class < min classes 256 = below (min classes 256) class k.0 in
+    (below reader.config.threads thread t.0, below reader.config.cpus cpu p.0, omega arith)

@@ -1,0 +1,41 @@
+use Rattle.std.proofs.Common.{ap, sym, ◌∙◌}
+use Rattle.std.proofs.lemmas.Result.{err_from_is_err_and}
+use Rattle.trace_reader.specs.Form.{read_fields}
+use Rattle.trace_reader.specs.Steps.{line_at}
+use Rattle.trace_reader.proofs.Verdicts.{verdict-err, verdict-ok, line_form-ok, fits}
+use Rattle.trace_reader.proofs.reader.Reader.judge.Goals as goal
+
+pub returns-in_err-form-clause-verdict : goal.returns-in_err-form-clause-verdict
+returns-in_err-form-clause-verdict c =
+    let line = line_at c.args.classes c.args.self.now c.args.line.now in
+    let known = c.in_ok-word.ensures.word c.args.classes in
+    let fields = ap (read_fields c.in_ok-word.word) (sym c.in_ok-word.ensures.others) ∙ sym c.in_err-form.ensures.form in
+    let p = err_from_is_err_and c.from_residual-in_err-form.result c.from_residual-in_err-form.ensures.1 in
+    rw (p.1, p.2) (verdict-err line c.in_ok-word.word _ known fields)
+
+pub returns-in-Some-clause-verdict : goal.returns-in-Some-clause-verdict
+returns-in-Some-clause-verdict c =
+    let line = line_at c.args.classes c.args.self.now c.args.line.now in
+    let known = c.in_ok-word.ensures.word c.args.classes in
+    let fields = ap (read_fields c.in_ok-word.word) (sym c.in_ok-word.ensures.others) ∙ sym c.in_ok-form.ensures.form in
+    verdict-ok line c.in_ok-word.word c.in_ok-form.form known fields ∙ sym c.in-Some.ensures
+
+pub returns-in-None-clause-verdict : goal.returns-in-None-clause-verdict
+returns-in-None-clause-verdict c =
+    let line = line_at c.args.classes c.args.self.now c.args.line.now in
+    let known = c.in_ok-word.ensures.word c.args.classes in
+    let fields = ap (read_fields c.in_ok-word.word) (sym c.in_ok-word.ensures.others) ∙ sym c.in_ok-form.ensures.form in
+    verdict-ok line c.in_ok-word.word c.in_ok-form.form known fields ∙ sym c.in-None.ensures
+
+pub returns-in-None-clause-form : goal.returns-in-None-clause-form
+returns-in-None-clause-form c =
+    let line = line_at c.args.classes c.args.self.now c.args.line.now in
+    let known = c.in_ok-word.ensures.word c.args.classes in
+    let fields = ap (read_fields c.in_ok-word.word) (sym c.in_ok-word.ensures.others) ∙ sym c.in_ok-form.ensures.form in
+    line_form-ok line c.in_ok-word.word c.in_ok-form.form known fields
+
+pub returns-in-None-clause-fits : goal.returns-in-None-clause-fits
+returns-in-None-clause-fits c = fits c.args.classes c.args.self.now c.in_ok-form.form (sym c.in-None.ensures)
+
+pub returns-in-None-clause-few : goal.returns-in-None-clause-few
+returns-in-None-clause-few c = (c.in_ok-word.ensures.word c.args.classes).few

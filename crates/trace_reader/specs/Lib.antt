@@ -1,0 +1,10 @@
+pub mod Words
+pub mod Form
+pub mod Limits
+pub mod Labels
+pub mod Reading
+pub mod Kept
+pub mod Steps
+pub mod Traces
+pub mod Orders
+pub mod Turning

@@ -1,0 +1,183 @@
+-- What a trace asks for, line by line, or its first bad line with the first rule that it fails.
+use Rattle.std.specs.Prelude.{ℕ, ◌+◌, Bool, true, false, ◌&&◌, not, nat_le, nat_lt, min, List, [], ◌∷◌, ◌++◌, replicate, slice_set, find, is_none, Option, Some, None, Result, Ok, Err, option_map, option_and_then}
+use Rattle.std.specs.List.{slice_index_or}
+use Rattle.std.specs.Option.{option_map_or}
+use Rattle.tc_model.specs.declared.calls.Call.{Call}
+use Rattle.tc_model.specs.declared.calls.Call.TheVariants as call
+use Rattle.tc_model.specs.declared.calls.MoveTo.{MoveTo}
+use Rattle.tc_model.specs.Input.{ThreadCall, Asked, default_config}
+use Rattle.trace_text.specs.Lines.{lines_of}
+use Rattle.trace_reader.specs.declared.why.LineWhy.{LineWhy}
+use Rattle.trace_reader.specs.declared.why.LineWhy.TheVariants as why
+use Rattle.trace_reader.specs.declared.word.Word.{Word}
+use Rattle.trace_reader.specs.declared.form.Form.{Form}
+use Rattle.trace_reader.specs.declared.form.Form.TheVariants.{Head, Malloc, Free, Move, Release, Drain, Resize}
+use Rattle.trace_reader.specs.Words.{word_of, is_head}
+use Rattle.trace_reader.specs.Form.{has_fields, form_of}
+use Rattle.trace_reader.specs.Limits.{with_limit}
+use Rattle.trace_reader.specs.Labels.{is_allocated, is_freed}
+
+-- what the lines so far say: what they ask for, whether one of them is no head, and each thread's pending move
+pub record SoFar : Type 0 where
+  pub asked : Asked
+  pub late : Bool
+  pub moves : List (Option MoveTo)
+
+-- before the first line
+abbrev pub nothing : SoFar
+nothing = record { asked = record { config = default_config; calls = [] }; late = false; moves = replicate 64 None }
+
+-- a line: how many size classes there are, what the lines before it say, its number, and its fields
+pub record Line : Type 0 where
+  pub classes : ℕ
+  pub before : SoFar
+  pub number : ℕ
+  pub fields : List (List ℕ)
+
+-- what a line's first field names, and the fields behind it
+abbrev pub first_word : List (List ℕ) → Option Word
+first_word [] = None
+first_word (field ∷ fields) = word_of field
+
+abbrev pub other_fields : List (List ℕ) → List (List ℕ)
+other_fields [] = []
+other_fields (field ∷ fields) = fields
+
+-- what a line says, where its first field is a word and the fields behind it are that word's
+abbrev pub line_form : List (List ℕ) → Option Form
+line_form fields = option_and_then (λ word. form_of word (other_fields fields)) (first_word fields)
+
+-- the thread, the CPU and the class that a form names
+abbrev pub thread_of : Form → Option ℕ
+thread_of (Head head value) = None
+thread_of (Malloc thread label size) = Some thread
+thread_of (Free thread label) = Some thread
+thread_of (Move thread before cpu) = Some thread
+thread_of (Release thread pages) = Some thread
+thread_of (Drain thread cpu) = Some thread
+thread_of (Resize thread cpu class cap) = Some thread
+
+abbrev pub cpu_of : Form → Option ℕ
+cpu_of (Head head value) = None
+cpu_of (Malloc thread label size) = None
+cpu_of (Free thread label) = None
+cpu_of (Move thread before cpu) = Some cpu
+cpu_of (Release thread pages) = None
+cpu_of (Drain thread cpu) = Some cpu
+cpu_of (Resize thread cpu class cap) = Some cpu
+
+abbrev pub class_of : Form → Option ℕ
+class_of (Head head value) = None
+class_of (Malloc thread label size) = None
+class_of (Free thread label) = None
+class_of (Move thread before cpu) = None
+class_of (Release thread pages) = None
+class_of (Drain thread cpu) = None
+class_of (Resize thread cpu class cap) = Some class
+
+-- whether a number is there and isn't below a bound
+abbrev pub is_past : ℕ → Option ℕ → Bool
+is_past bound number = option_map_or (nat_le bound) number false
+
+-- whether a form names a thread, a CPU or a class that isn't there; a class number is at most 255
+abbrev pub lacks_thread : Asked → Form → Bool
+lacks_thread asked form = is_past asked.config.threads (thread_of form)
+
+abbrev pub lacks_cpu : Asked → Form → Bool
+lacks_cpu asked form = is_past asked.config.cpus (cpu_of form)
+
+abbrev pub lacks_class : ℕ → Form → Bool
+lacks_class classes form = is_past (min classes 256) (class_of form)
+
+-- whether a form allocates under a label that an earlier allocation has, frees a label that no earlier allocation has,
+-- and frees a label that an earlier free has
+abbrev pub label_used : List ThreadCall → Form → Bool
+label_used calls (Malloc thread label size) = is_allocated label calls
+label_used calls form = false
+
+abbrev pub label_unknown : List ThreadCall → Form → Bool
+label_unknown calls (Free thread label) = not (is_allocated label calls)
+label_unknown calls form = false
+
+abbrev pub label_freed : List ThreadCall → Form → Bool
+label_freed calls (Free thread label) = is_freed label calls
+label_freed calls form = false
+
+-- whether a line names a word, or has a form, that passes a test
+abbrev pub has_word : (Word → Bool) → Line → Bool
+has_word test line = option_map_or test (first_word line.fields) false
+
+abbrev pub has_form : (Form → Bool) → Line → Bool
+has_form test line = option_map_or test (line_form line.fields) false
+
+-- a rule: what is wrong with a line that fails it, and which lines fail it
+pub record Rule : Type 0 where
+  pub why : LineWhy
+  pub fails : Line → Bool
+
+-- the rules, in the order in which they are tested
+abbrev pub rules : List Rule
+rules =
+    record { why = why.Lines; fails = λ line. nat_lt 1000000 line.number }
+    ∷ record { why = why.Word; fails = λ line. is_none (first_word line.fields) }
+    ∷ record { why = why.HeadLate; fails = λ line. line.before.late && has_word is_head line }
+    ∷ record { why = why.Fields; fails = λ line. has_word (λ word. not (has_fields word (other_fields line.fields))) line }
+    ∷ record { why = why.Number; fails = λ line. is_none (line_form line.fields) }
+    ∷ record { why = why.Thread; fails = λ line. has_form (lacks_thread line.before.asked) line }
+    ∷ record { why = why.Cpu; fails = λ line. has_form (lacks_cpu line.before.asked) line }
+    ∷ record { why = why.Class; fails = λ line. has_form (lacks_class line.classes) line }
+    ∷ record { why = why.LabelUsed; fails = λ line. has_form (label_used line.before.asked.calls) line }
+    ∷ record { why = why.LabelUnknown; fails = λ line. has_form (label_unknown line.before.asked.calls) line }
+    ∷ record { why = why.LabelFreed; fails = λ line. has_form (label_freed line.before.asked.calls) line }
+    ∷ []
+
+-- the verdict on a line: the first rule that it fails
+abbrev pub verdict : Line → Option LineWhy
+verdict line = option_map (λ rule. rule.why) (find (λ rule. rule.fails line) rules)
+
+-- what the lines say with a call more, which takes the thread's pending move
+abbrev pub with_call : ℕ → ℕ → Call → SoFar → SoFar
+with_call number thread call before = record {
+  asked = record { config = before.asked.config; calls = before.asked.calls ++ record { thread = record { 0 = thread }; planned = record { line = number; call = call; moved = slice_index_or before.moves thread None } } ∷ [] };
+  late = true;
+  moves = slice_set before.moves thread None;
+}
+
+-- what the lines say with one more, of this number and form; a later move of a thread replaces an earlier one
+abbrev pub with_form : ℕ → Form → SoFar → SoFar
+with_form number (Head head value) before = record { asked = record { config = with_limit head value before.asked.config; calls = before.asked.calls }; late = before.late; moves = before.moves }
+with_form number (Malloc thread label size) before = with_call number thread (call.Malloc (record { 0 = label }) size) before
+with_form number (Free thread label) before = with_call number thread (call.Free (record { 0 = label })) before
+with_form number (Move thread instruction cpu) before = record { asked = before.asked; late = true; moves = slice_set before.moves thread (Some (record { before = instruction; cpu = record { 0 = cpu } })) }
+with_form number (Release thread pages) before = with_call number thread (call.Release pages) before
+with_form number (Drain thread cpu) before = with_call number thread (call.Drain (record { 0 = cpu })) before
+with_form number (Resize thread cpu class cap) before = with_call number thread (call.Resize (record { 0 = cpu }) (record { 0 = class }) cap) before
+
+abbrev pub with_line : Line → SoFar
+with_line line = option_map_or (λ form. with_form line.number form line.before) (line_form line.fields) line.before
+
+-- one line
+abbrev pub judged : Option LineWhy → SoFar → Result SoFar LineWhy
+judged None after = Ok after
+judged (Some why) after = Err why
+
+abbrev pub read_line : Line → Result SoFar LineWhy
+read_line line = judged (verdict line) (with_line line)
+
+-- the first bad line, with the first rule that it fails
+pub record BadLine (Why : Type 0) : Type 0 where
+  pub line : ℕ
+  pub why : Why
+
+-- the lines from a number on, one after another
+abbrev pub and_then : ℕ → Result SoFar LineWhy → (SoFar → Result Asked (BadLine LineWhy)) → Result Asked (BadLine LineWhy)
+and_then number (Ok after) more = more after
+and_then number (Err why) more = Err (record { line = number; why = why })
+
+abbrev pub read_lines : ℕ → SoFar → ℕ → List (List (List ℕ)) → Result Asked (BadLine LineWhy)
+read_lines classes before number [] = Ok before.asked
+read_lines classes before number (fields ∷ lines) = and_then number (read_line (record { classes = classes; before = before; number = number; fields = fields })) (λ after. read_lines classes after (number + 1) lines)
+
+-- what the text of a trace asks for, where there are so many size classes
+abbrev pub asked_by : ℕ → List ℕ → Result Asked (BadLine LineWhy)
+asked_by classes text = read_lines classes nothing 1 (lines_of text)

@@ -1,0 +1,20 @@
+//! Reading a trace, which says what an allocator is asked by which thread, and an order file, which
+//! says which thread is picked when: what they ask for, or the first bad line with the first rule that
+//! it fails. Both formats are this project's own.
+#![tactic(auto)]
+
+mod calls;
+mod form;
+mod head;
+mod order;
+mod reader;
+#[cfg(test)]
+mod tests;
+mod trace;
+mod turn;
+mod why;
+mod word;
+
+pub use order::read_order;
+pub use trace::{Trace, read_trace};
+pub use why::{LineWhy, OrderFault, OrderWhy, TraceFault};

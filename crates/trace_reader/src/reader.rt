@@ -1,0 +1,288 @@
+//! Reading a trace line by line.
+ghost use Rattle.std.specs.Prelude.{ℕ, ◌≡◌, ◌<◌, ◌≤◌, Ok, Some, None, false, OnOk, IfOk, IfErr, MatchResult};
+ghost use Rattle.std.specs.Option.{option_map_or};
+ghost use Rattle.trace_reader.specs.Words.{is_head};
+ghost use Rattle.trace_reader.specs.Form.{IsInRange};
+ghost use Rattle.trace_reader.specs.Reading.{first_word, other_fields, is_past, thread_of, cpu_of, class_of, line_form, verdict, nothing, read_line, with_call, with_form};
+ghost use Rattle.tc_model.specs.Input.{label_end};
+ghost use Rattle.trace_reader.specs.Kept.{MayFollow};
+ghost use Rattle.trace_reader.specs.Steps.{broken, broken_label, so_far, line_at, IsLineFault, HasWord, Fits, IsReading};
+
+use crate::calls::{Calls, LabelUse};
+use crate::form::{Form, read_form};
+use crate::head::set_limit;
+use crate::why::{LineWhy, TraceFault};
+use crate::word::{Word, read_word};
+use std::alloc::{AllocError, Global};
+use tc_model::{Call, Config, MoveTo, Planned};
+use tc_units::{Class, CpuNo, Label, ThreadNo};
+use trace_text::Fields;
+
+/// The most lines of a trace.
+const MOST_LINES: u32 = 1_000_000;
+
+/// The most size classes, since a class's number is a `u8`.
+const MOST_CLASSES: u32 = 256;
+
+/// The limits of a trace that sets none.
+const DEFAULTS: Config = Config {
+    cpus: 1,
+    threads: 1,
+    huge: 64,
+    cache: 8,
+    region: 512,
+    slack: 8192,
+    transfer: 64,
+    slab: 2048,
+    percpu: 1_572_864,
+    events: 40_000_000,
+};
+
+/// What the lines so far say.
+#[derive(Drop)]
+pub struct Reader {
+    pub config: Config,
+    /// Whether a line was no head.
+    late: bool,
+    /// The pending move of each thread.
+    moves: [Option<MoveTo>; 64],
+    pub calls: Calls,
+}
+
+/// Whether a number is there and isn't below a bound.
+fn is_past(number: Option<u64>, bound: u64) -> bool
+    ensures { result ≡ is_past bound number }
+{
+    number.is_some_and(|n| n >= bound)
+}
+
+impl Form {
+    fn thread(self) -> Option<u64>
+        ensures { result ≡ thread_of self }
+    {
+        match self {
+            Form::Head { .. } => None,
+            Form::Malloc { thread, .. }
+            | Form::Free { thread, .. }
+            | Form::Move { thread, .. }
+            | Form::Release { thread, .. }
+            | Form::Drain { thread, .. }
+            | Form::Resize { thread, .. } => Some(thread),
+        }
+    }
+
+    fn cpu(self) -> Option<u64>
+        ensures { result ≡ cpu_of self }
+    {
+        match self {
+            Form::Move { cpu, .. } | Form::Drain { cpu, .. } | Form::Resize { cpu, .. } => {
+                Some(cpu)
+            }
+            Form::Head { .. } | Form::Malloc { .. } | Form::Free { .. } | Form::Release { .. } =>
+                None,
+        }
+    }
+
+    fn class(self) -> Option<u64>
+        ensures { result ≡ class_of self }
+    {
+        match self {
+            Form::Resize { class, .. } => Some(class),
+            _ => None,
+        }
+    }
+}
+
+/// Whether a word names a head.
+fn is_head(word: Word) -> bool
+    ensures { result ≡ is_head word }
+{
+    matches!(word, Word::Head(_))
+}
+
+/// What the first of a line's fields names.
+fn read_first(line: &mut Fields) -> Option<Word>
+    ensures word { result ≡ first_word line.old.fields }
+    ensures others { line.new.fields ≡ other_fields line.old.fields }
+{
+    let field = line.next()?;
+    read_word(field.bytes)
+}
+
+impl Reader {
+    /// Before the first line.
+    pub fn new(alloc: Global) -> Result<Self, AllocError>
+        ensures nothing { IfOk result (λ reader. so_far reader ≡ nothing) }
+        ensures reading { IfOk result IsReading }
+    {
+        Ok(Reader {
+            config: DEFAULTS,
+            late: false,
+            moves: [None; 64],
+            calls: Calls::new(alloc)?,
+        })
+    }
+
+    /// The rule on labels that a form fails.
+    fn broken_label(&self, form: Form) -> Option<LineWhy>
+        requires { IsReading self.now }
+        ensures { result ≡ broken_label (so_far self.now).asked.calls form }
+    {
+        match form {
+            Form::Malloc { label, .. } => match self.calls.use_of(label) {
+                LabelUse::New => None,
+                LabelUse::Allocated | LabelUse::Freed => Some(LineWhy::LabelUsed),
+            },
+            Form::Free { label, .. } => match self.calls.use_of(label) {
+                LabelUse::New => Some(LineWhy::LabelUnknown),
+                LabelUse::Allocated => None,
+                LabelUse::Freed => Some(LineWhy::LabelFreed),
+            },
+            _ => None,
+        }
+    }
+
+    /// The first rule that a form fails.
+    fn broken_rule(&self, classes: u32, form: Form) -> Option<LineWhy>
+        requires { IsReading self.now }
+        ensures { result ≡ broken classes (so_far self.now).asked form }
+    {
+        if is_past(form.thread(), u64::from(self.config.threads)) {
+            Some(LineWhy::Thread)
+        } else if is_past(form.cpu(), u64::from(self.config.cpus)) {
+            Some(LineWhy::Cpu)
+        } else if is_past(form.class(), u64::from(classes.min(MOST_CLASSES))) {
+            Some(LineWhy::Class)
+        } else {
+            self.broken_label(form)
+        }
+    }
+
+    /// What a line's first field names, or the first rule on it that the line fails.
+    fn judge_word(&self, line: &mut Fields) -> Result<Word, LineWhy>
+        ensures word { (classes : ℕ) → MatchResult result (HasWord (line_at classes self.now line.old)) (λ why. verdict (line_at classes self.now line.old) ≡ Some why) }
+        ensures others { OnOk result (line.new.fields ≡ other_fields line.old.fields) }
+    {
+        if line.line() > MOST_LINES {
+            return Err(LineWhy::Lines);
+        }
+        let Some(word) = read_first(line) else {
+            return Err(LineWhy::Word);
+        };
+        if self.late && is_head(word) {
+            return Err(LineWhy::HeadLate);
+        }
+        Ok(word)
+    }
+
+    /// What a line says, or the first rule that it fails.
+    fn judge(&self, classes: u32, line: &mut Fields) -> Result<Form, LineWhy>
+        requires { IsReading self.now }
+        ensures verdict { MatchResult result (λ _. verdict (line_at classes self.now line.old) ≡ None) (λ why. verdict (line_at classes self.now line.old) ≡ Some why) }
+        ensures form { IfOk result (λ form. line_form line.old.fields ≡ Some form) }
+        ensures range { IfOk result IsInRange }
+        ensures fits { IfOk result (Fits self.now) }
+        ensures few { IfOk result (λ _. line.old.line ≤ 1000000) }
+    {
+        let word = self.judge_word(line)?;
+        let form = read_form(word, line)?;
+        match self.broken_rule(classes, form) {
+            Some(why) => Err(why),
+            None => Ok(form),
+        }
+    }
+
+    /// Adds a call, which takes the thread's pending move.
+    fn call(&mut self, line: u32, thread: u64, call: Call) -> Result<(), AllocError>
+        requires thread { thread < self.old.config.threads }
+        requires few { label_end call ≤ 1000000 }
+        requires order { MayFollow (so_far self.old).asked.calls call }
+        requires reading { IsReading self.old }
+        ensures added { OnOk result (so_far self.new ≡ with_call line thread call (so_far self.old)) }
+        ensures reading { OnOk result (IsReading self.new) }
+    {
+        let place = thread as usize;
+        let moved = self.moves[place];
+        self.moves[place] = None;
+        self.late = true;
+        let planned = Planned { line, call, moved };
+        self.calls.add(ThreadNo(thread as u8), planned)
+    }
+
+    /// Adds what a line says, which fails no rule.
+    fn add(&mut self, line: u32, form: Form) -> Result<(), AllocError>
+        requires range { IsInRange form }
+        requires fits { Fits self.old form }
+        requires reading { IsReading self.old }
+        ensures added { OnOk result (so_far self.new ≡ with_form line form (so_far self.old)) }
+        ensures reading { OnOk result (IsReading self.new) }
+    {
+        match form {
+            Form::Head { head, value } => {
+                set_limit(&mut self.config, head, value);
+                Ok(())
+            }
+            Form::Move {
+                thread,
+                before,
+                cpu,
+            } => {
+                self.moves[thread as usize] = Some(MoveTo {
+                    before: before as u32,
+                    cpu: CpuNo(cpu as u8),
+                });
+                self.late = true;
+                Ok(())
+            }
+            Form::Malloc {
+                thread,
+                label,
+                size,
+            } => {
+                let label = Label(label as u32);
+                self.call(line, thread, Call::Malloc { label, size })
+            }
+            Form::Free { thread, label } => {
+                let label = Label(label as u32);
+                self.call(line, thread, Call::Free { label })
+            }
+            Form::Release { thread, pages } => self.call(line, thread, Call::Release { pages }),
+            Form::Drain { thread, cpu } => {
+                let cpu = CpuNo(cpu as u8);
+                self.call(line, thread, Call::Drain { cpu })
+            }
+            Form::Resize {
+                thread,
+                cpu,
+                class,
+                cap,
+            } => {
+                let resize = Call::Resize {
+                    cpu: CpuNo(cpu as u8),
+                    class: Class(class as u8),
+                    cap: cap as u32,
+                };
+                self.call(line, thread, resize)
+            }
+        }
+    }
+
+    /// Reads one line by its rules, in their order.
+    pub fn read_line(&mut self, classes: u32, line: &mut Fields) -> Result<(), TraceFault>
+        requires { IsReading self.old }
+        ensures read { OnOk result (read_line (line_at classes self.old line.old) ≡ Ok (so_far self.new)) }
+        ensures reading { OnOk result (IsReading self.new) }
+        ensures few { OnOk result (line.old.line ≤ 1000000) }
+        ensures fault { IfErr result (IsLineFault (line_at classes self.old line.old)) }
+    {
+        let number = line.line();
+        let form = match self.judge(classes, line) {
+            Ok(form) => form,
+            Err(why) => return Err(TraceFault::BadLine { line: number, why }),
+        };
+        match self.add(number, form) {
+            Ok(()) => Ok(()),
+            Err(_) => Err(TraceFault::Memory),
+        }
+    }
+}
