@@ -1,0 +1,64 @@
+//! The whole text of a finished run, and its summary alone.
+ghost use Rattle.std.specs.Prelude.{◌≡◌, ◌*◌, ◌≤◌, [], length, IfOk, IsTrue, if◌then◌else◌};
+ghost use Rattle.std.specs.List.{list_all};
+ghost use Rattle.tc_units.specs.Units.{page_bytes};
+ghost use Rattle.usage_report.specs.Report.{can_answer, summary_of, text_of};
+
+use crate::lines::push_call_lines;
+use crate::rows::push_rows;
+use crate::totals::push_summary;
+use std::alloc::{AllocError, Global};
+use tc_model::Finished;
+
+/// At least the bytes of a call's line.
+const CALL_BYTES: usize = 64;
+
+/// At least the bytes of a hugepage's line.
+const ROW_BYTES: usize = 80;
+
+/// At least the bytes of the summary.
+const SUMMARY_BYTES: usize = 160;
+
+/// An empty text with room for so many lines, which is made at once so that the text never moves.
+fn roomy(alloc: Global, calls: usize, rows: usize) -> Result<Vec<u8>, AllocError>
+    ensures { IfOk result (λ text. text.items ≡ []) }
+{
+    let calls = calls.checked_mul(CALL_BYTES).ok_or(AllocError)?;
+    let rows = rows.checked_mul(ROW_BYTES).ok_or(AllocError)?;
+    let lines = calls.checked_add(rows).ok_or(AllocError)?;
+    let room = lines.checked_add(SUMMARY_BYTES).ok_or(AllocError)?;
+    Vec::with_capacity(alloc, room)
+}
+
+/// The text of a finished run: its calls' lines in order, the summary, and with `rows` a line for each
+/// hugepage. The format is this project's own.
+pub fn report(alloc: Global, finished: &Finished, rows: bool) -> Result<Vec<u8>, AllocError>
+    requires few { finished.now.resident ≤ 8388608 }
+    requires within { finished.now.live_bytes ≤ finished.now.resident * page_bytes }
+    requires answered { IsTrue (list_all (λ c. can_answer c.call c.answer) finished.now.calls) }
+    ensures { IfOk result (λ text. text.items
+        ≡ text_of finished.now.calls finished.now.live finished.now.live_bytes finished.now.used
+        finished.now.resident (if rows then finished.now.rows else [])) }
+{
+    let told = if rows { finished.rows.as_slice() } else { &[] };
+    let calls = finished.calls.as_slice();
+    let mut text = roomy(alloc, calls.len(), told.len())?;
+    push_call_lines(&mut text, calls)?;
+    push_summary(&mut text, finished)?;
+    push_rows(&mut text, told)?;
+    Ok(text)
+}
+
+/// The five lines of summary alone.
+pub fn summary(alloc: Global, finished: &Finished) -> Result<Vec<u8>, AllocError>
+    requires few { finished.now.resident ≤ 8388608 }
+    requires within { finished.now.live_bytes ≤ finished.now.resident * page_bytes }
+    requires answered { IsTrue (list_all (λ c. can_answer c.call c.answer) finished.now.calls) }
+    ensures { IfOk result (λ text. text.items
+        ≡ summary_of (length finished.now.calls) finished.now.live finished.now.live_bytes
+        finished.now.used finished.now.resident) }
+{
+    let mut text = roomy(alloc, 0, 0)?;
+    push_summary(&mut text, finished)?;
+    Ok(text)
+}
