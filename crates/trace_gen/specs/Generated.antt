@@ -1,0 +1,85 @@
+-- The generated trace as values: the lines of each call, as functions of its draws and of the live labels.
+use Rattle.std.specs.Prelude.{ℕ, zero, suc, ◌+◌, ◌*◌, ◌/◌, ◌%◌, ◌==◌, nat_lt, not, ◌&&◌, List, [], ◌∷◌, ◌++◌, length, slice_index, if◌then◌else◌, Option, None, Some, option_to_list}
+use Rattle.std.specs.List.{swap_remove}
+use Rattle.trace_gen.specs.declared.line.Line.{Line}
+use Rattle.trace_gen.specs.declared.line.Line.TheVariants as line
+use Rattle.trace_gen.specs.declared.kind.Kind.{Kind}
+use Rattle.trace_gen.specs.declared.kind.Kind.TheVariants as kind
+use Rattle.trace_gen.specs.Draws.{number_after, draw}
+
+-- between two draws: the number behind which the next one comes, the live labels, and the next label
+pub record State : Type 0 where
+  pub number : ℕ
+  pub live : List ℕ
+  pub next : ℕ
+
+-- the state after n draws
+abbrev pub drawn : ℕ → State → State
+drawn n s = record s { number = number_after n s.number }
+
+-- half as many CPUs as threads, rounded up
+abbrev pub cpus_of : ℕ → ℕ
+cpus_of threads = (threads + 1) / 2
+
+-- what kind of call a number from 0 to 99 stands for
+abbrev pub kind_of : ℕ → List ℕ → Kind
+kind_of chance live =
+    if nat_lt chance 45 && not (length live == 0) then kind.Free
+    else (if chance == 98 then kind.Drain else (if chance == 99 then kind.Release else kind.Malloc))
+
+-- the bytes of a request: of 16 requests 12 have 1 to 1024, 3 have 0 to 32767 and 1 has up to 524272
+abbrev pub size_of : ℕ → ℕ → ℕ
+size_of scale drawn = if nat_lt scale 12 then drawn % 1024 + 1 else (if scale == 15 then drawn * 16 else drawn)
+
+-- the place of the label that is freed, and that label
+abbrev pub freed_place : State → ℕ
+freed_place s = draw 0 s.number % length s.live
+
+abbrev pub freed_label : State → ℕ
+freed_label s = slice_index s.live (freed_place s)
+
+-- the line of a call of thread t
+abbrev pub call_line : ℕ → ℕ → Kind → State → Line
+call_line cpus t kind.Malloc s = line.Malloc t s.next (size_of (draw 0 s.number % 16) (draw 1 s.number))
+call_line cpus t kind.Free s = line.Free t (freed_label s)
+call_line cpus t kind.Drain s = line.Drain t (draw 0 s.number % cpus)
+call_line cpus t kind.Release s = line.Release t (draw 0 s.number % 1000)
+
+-- what stands behind it: an allocation's label is the last live one, and the last one takes the place of the freed one
+abbrev pub after_call : Kind → State → State
+after_call kind.Malloc s = record { number = number_after 2 s.number; live = s.live ++ s.next ∷ []; next = s.next + 1 }
+after_call kind.Free s = record { number = number_after 1 s.number; live = swap_remove s.live (freed_place s) (freed_label s); next = s.next }
+after_call kind.Drain s = drawn 1 s
+after_call kind.Release s = drawn 1 s
+
+-- thread, and kind of the call, by the first two draws
+abbrev pub thread_of : ℕ → State → ℕ
+thread_of threads s = draw 0 s.number % threads
+
+abbrev pub next_kind : State → Kind
+next_kind s = kind_of (draw 1 s.number % 100) s.live
+
+-- every tenth call is preempted before one of its first eight instructions, by two draws
+abbrev pub preempting : ℕ → ℕ → ℕ → State → Option Line
+preempting cpus t i s = if i % 10 == 9 then Some (line.Preempt t (draw 0 s.number % 8 + 1) (draw 1 s.number % cpus)) else None
+
+-- the state at which the call itself draws
+abbrev pub at_call : ℕ → State → State
+at_call i s = if i % 10 == 9 then drawn 4 s else drawn 2 s
+
+-- the lines of call i
+abbrev pub lines_of : ℕ → ℕ → State → List Line
+lines_of threads i s =
+    let cpus = cpus_of threads in
+    let t = thread_of threads s in
+    option_to_list (preempting cpus t i (drawn 2 s)) ++ call_line cpus t (next_kind s) (at_call i s) ∷ []
+
+-- the state before call i
+abbrev pub state_at : ℕ → ℕ → State
+state_at seed zero = record { number = seed; live = []; next = 0 }
+state_at seed (suc i) = after_call (next_kind (state_at seed i)) (at_call i (state_at seed i))
+
+-- the lines of the first calls
+abbrev pub lines_before : ℕ → ℕ → ℕ → List Line
+lines_before seed threads zero = []
+lines_before seed threads (suc i) = lines_before seed threads i ++ lines_of threads i (state_at seed i)
