@@ -3,7 +3,7 @@ ghost use Rattle.std.specs.Prelude.{◌≡◌, ◌∷◌, ◌++◌, OnOk, decima
 ghost use Rattle.std.specs.List.{flat_map};
 ghost use Rattle.usage_report.specs.Report.{spaced, letter_of, named_words, answer_words, call_line};
 
-use crate::words::{push_counted, push_number};
+use crate::words::{push_counted, push_lettered, push_number};
 use std::alloc::AllocError;
 use tc_model::{Answer, Call, CallLine};
 use tc_units::ThreadNo;
@@ -16,20 +16,20 @@ fn push_call(text: &mut Vec<u8>, thread: ThreadNo, call: Call) -> Result<(), All
     let thread = u64::from(thread.0);
     match call {
         Call::Malloc { label, .. } => {
-            push_counted(text, b"a", thread)?;
+            push_lettered(text, b'a', thread)?;
             push_number(text, u64::from(label.0))?;
         }
         Call::Free { label } => {
-            push_counted(text, b"f", thread)?;
+            push_lettered(text, b'f', thread)?;
             push_number(text, u64::from(label.0))?;
         }
-        Call::Release { .. } => push_counted(text, b"r", thread)?,
+        Call::Release { .. } => push_lettered(text, b'r', thread)?,
         Call::Drain { cpu } => {
-            push_counted(text, b"d", thread)?;
+            push_lettered(text, b'd', thread)?;
             push_number(text, u64::from(cpu.0))?;
         }
         Call::Resize { cpu, class, cap } => {
-            push_counted(text, b"z", thread)?;
+            push_lettered(text, b'z', thread)?;
             push_number(text, u64::from(cpu.0))?;
             push_number(text, u64::from(class.0))?;
             push_number(text, u64::from(cap))?;
@@ -65,7 +65,7 @@ fn push_call_line(text: &mut Vec<u8>, line: &CallLine) -> Result<(), AllocError>
 {
     push_call(text, line.thread, line.call)?;
     push_answer(text, line.answer)?;
-    text.extend_from_slice(b"\n")?;
+    text.push(b'\n')?;
     Ok(())
 }
 

@@ -2,7 +2,7 @@
 ghost use Rattle.std.specs.Prelude.{◌≡◌, ◌++◌, OnOk};
 ghost use Rattle.usage_report.specs.Report.{spaced, kind_word, measures, row_line, row_lines};
 
-use crate::words::{push_counted, push_number, push_word};
+use crate::words::{push_lettered, push_number, push_word};
 use std::alloc::AllocError;
 use tc_units::{RowKind, RowView};
 
@@ -34,10 +34,10 @@ fn push_measures(text: &mut Vec<u8>, row: &RowView) -> Result<(), AllocError>
 fn push_row(text: &mut Vec<u8>, number: u64, row: &RowView) -> Result<(), AllocError>
     ensures { OnOk result (text.new.items ≡ text.old.items ++ row_line number row.now) }
 {
-    push_counted(text, b"h", number)?;
+    push_lettered(text, b'h', number)?;
     push_word(text, kind_word(row.kind))?;
     push_measures(text, row)?;
-    text.extend_from_slice(b"\n")?;
+    text.push(b'\n')?;
     Ok(())
 }
 

@@ -28,7 +28,7 @@ fn push_live(text: &mut Vec<u8>, blocks: u64, bytes: u64) -> Result<(), AllocErr
 {
     push_counted(text, b"live", blocks)?;
     push_number(text, bytes)?;
-    text.extend_from_slice(b"\n")?;
+    text.push(b'\n')?;
     Ok(())
 }
 

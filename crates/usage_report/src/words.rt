@@ -34,11 +34,19 @@ pub fn push_counted(text: &mut Vec<u8>, word: &[u8], n: u64) -> Result<(), Alloc
     Ok(())
 }
 
+/// Appends a letter, and a number behind a space.
+pub fn push_lettered(text: &mut Vec<u8>, letter: u8, n: u64) -> Result<(), AllocError>
+    ensures { OnOk result (text.new.items ≡ text.old.items ++ letter ∷ spaced (decimal n ∷ [])) }
+{
+    text.push(letter)?;
+    push_number(text, n)
+}
+
 /// Appends a line of a word and a number.
 pub fn push_count_line(text: &mut Vec<u8>, word: &[u8], n: u64) -> Result<(), AllocError>
     ensures { OnOk result (text.new.items ≡ text.old.items ++ line_of word.now (decimal n ∷ [])) }
 {
     push_counted(text, word, n)?;
-    text.extend_from_slice(b"\n")?;
+    text.push(b'\n')?;
     Ok(())
 }
