@@ -59,7 +59,7 @@ clear_bits-set words n i v b within less here others =
           get_or-set_other (clear_bits words n) i k b b differ ∙ get_or-clear_bits words n k b below ∙ sym (ap (λ b. b == 0) (other_bit words i k v (word_of i n (length words) less within) differ others))
     ]))
 
-first_is : (xs : List Bool) (i : ℕ) → position_or_len (λ b. b) xs ≡ i → i < length xs → position (λ b. b) xs ≡ Some i
+pub first_is : (xs : List Bool) (i : ℕ) → position_or_len (λ b. b) xs ≡ i → i < length xs → position (λ b. b) xs ≡ Some i
 first_is xs i at less =
     ap (λ t. cond t (Some (position_or_len (λ (b : Bool). b) xs)) None) (lt-ltb (position_or_len (λ (b : Bool). b) xs) (length xs) (omega arith)) ∙ ap (λ j. Some j) at
 

@@ -1,0 +1,87 @@
+-- Several puts, one by one: what stands after some of them.
+use Rattle.std.proofs.Common.{◌≡◌, ◌≢◌, ℕ, ◌+◌, ◌<◌, ◌≤◌, Bool, List, [], ◌∷◌, ◌++◌, length, get_or, drop, count_by, cond, refl, sym, ◌∙◌, ap, arith}
+use Rattle.std.specs.Prelude.{All}
+use Rattle.std.specs.List.{flat_map}
+use Rattle.std.proofs.lemmas.List.{append_assoc, append-nil, length-append, drop_more, drop_all, get_or_read}
+use Rattle.std.proofs.lemmas.List.Concat.{flat_map-append}
+use Rattle.std.proofs.lemmas.List.Sums.{sum_by-append}
+use Rattle.tc_units.specs.declared.units.Addr.{Addr}
+use Rattle.tc_units.specs.declared.spans.SpanRef.{SpanRef}
+use Rattle.tc_units.specs.declared.spans.ClassRow.{ClassRow}
+use Rattle.tc_units.specs.Bag.{Contents}
+use Rattle.span_list.specs.Span.{SpanState, objects_of}
+use Rattle.central_free.specs.Central.{Central, put_one, put_all, IsTakenIn, AreDifferent, IsSound, free_in}
+
+-- what stands after `done` of the list's objects
+pub record IsPutting (list : List Addr) (start now : Central) (before freed : Contents SpanRef) (done : ℕ) : Type 0 where
+  pub row : now.row ≡ start.row
+  pub spans : (put_all (drop done list) now.spans).spans ≡ (put_all list start.spans).spans
+  pub items : freed.items ++ (put_all (drop done list) now.spans).freed ≡ before.items ++ (put_all list start.spans).freed
+  pub room : length freed.items + freed.spare ≡ length before.items + before.spare
+  pub few : length freed.items ≤ length before.items + done
+  pub sound : IsSound now
+  pub taken : (k : ℕ) (d : Addr) → done ≤ k → k < length list → IsTakenIn now.spans (get_or list k d)
+  pub moves : (test : Addr → Bool) → count_by test (free_in now.spans) + count_by test (flat_map (objects_of start.row.size) freed.items) + count_by test (drop done list) ≡ count_by test (free_in start.spans) + count_by test (flat_map (objects_of start.row.size) before.items) + count_by test list
+
+pub IsPutting-none : (list : List Addr) (start : Central) (before : Contents SpanRef) → IsSound start → All (IsTakenIn start.spans) list → IsPutting list start start before before 0
+IsPutting-none list start before sound taken =
+    record {
+      row = refl;
+      spans = refl;
+      items = refl;
+      room = refl;
+      few = omega arith;
+      sound = sound;
+      taken = λ k d from within. taken k d within;
+      moves = λ test. refl;
+    }
+
+-- one more object, which frees its span or doesn't
+pub IsPutting-more : (list : List Addr) (start now next : Central) (before freed more : Contents SpanRef) (done : ℕ) (a : Addr) (gone : List SpanRef) → IsPutting list start now before freed done → AreDifferent list → done < length list → a ≡ get_or list done a → next.row ≡ now.row → next.spans ≡ (put_one a now.spans).spans → gone ≡ (put_one a now.spans).freed → more.items ≡ freed.items ++ gone → length more.items + more.spare ≡ length freed.items + freed.spare → length gone ≤ 1 → IsSound next → ((b : Addr) → IsTakenIn now.spans b → b ≢ a → IsTakenIn next.spans b) → ((test : Addr → Bool) → count_by test (free_in next.spans) + count_by test (flat_map (objects_of now.row.size) gone) ≡ count_by test (free_in now.spans) + count_by test (a ∷ [])) → IsPutting list start next before more (done + 1)
+IsPutting-more list start now next before freed more done a gone so_far different less read row spans gone_is items room one sound kept moves =
+    let split : drop done list ≡ a ∷ drop (done + 1) list = drop_more list done a less ∙ ap (λ x. x ∷ drop (done + 1) list) (sym read) in
+    let rest : put_all (drop (done + 1) list) (put_one a now.spans).spans ≡ put_all (drop (done + 1) list) next.spans = ap (put_all (drop (done + 1) list)) (sym spans) in
+    record {
+      row = row ∙ so_far.row;
+      spans = ap (λ p. p.spans) (sym rest) ∙ ap (λ xs. (put_all xs now.spans).spans) (sym split) ∙ so_far.spans;
+      items = ap (λ xs. xs ++ (put_all (drop (done + 1) list) next.spans).freed) items ∙ append_assoc freed.items gone (put_all (drop (done + 1) list) next.spans).freed
+          ∙ ap (λ xs. freed.items ++ (xs ++ (put_all (drop (done + 1) list) next.spans).freed)) gone_is ∙ ap (λ p. freed.items ++ ((put_one a now.spans).freed ++ p.freed)) (sym rest) ∙ ap (λ xs. freed.items ++ (put_all xs now.spans).freed) (sym split) ∙ so_far.items;
+      room = room ∙ so_far.room;
+      few = omega (arith, so_far.few, ap length items, length-append {A = SpanRef} freed.items gone);
+      sound = sound;
+      taken = λ k d from within.
+          kept (get_or list k d) (so_far.taken k d (omega arith) within) (λ same. different done k d (omega arith) within (sym (get_or_read list done a less read d) ∙ sym same));
+      moves = λ test. (
+          let size : flat_map (objects_of now.row.size) gone ≡ flat_map (objects_of start.row.size) gone = ap (λ r. flat_map (objects_of r.size) gone) so_far.row in
+          let sizes : count_by test (flat_map (objects_of now.row.size) gone) ≡ count_by test (flat_map (objects_of start.row.size) gone) = ap (count_by test) size in
+          let joined : count_by test (flat_map (objects_of start.row.size) more.items) ≡ count_by test (flat_map (objects_of start.row.size) freed.items) + count_by test (flat_map (objects_of start.row.size) gone) =
+          ap (λ xs. count_by test (flat_map (objects_of start.row.size) xs)) items ∙ ap (count_by test) (flat_map-append (objects_of start.row.size) freed.items gone) ∙ sum_by-append (λ x. cond {A = ℕ} (test x) 1 0) (flat_map (objects_of start.row.size) freed.items) (flat_map (objects_of start.row.size) gone) in
+          let left : count_by test (drop done list) ≡ count_by test (a ∷ []) + count_by test (drop (done + 1) list) = ap (count_by test) split ∙ sum_by-append (λ x. cond {A = ℕ} (test x) 1 0) (a ∷ []) (drop (done + 1) list) in
+          omega (arith, sizes, joined, left, moves test, so_far.moves test));
+    }
+
+-- what stands behind the last one
+pub record IsPut (list : List Addr) (start now : Central) (before freed : Contents SpanRef) : Type 0 where
+  pub spans : now ≡ record { row = start.row; spans = (put_all list start.spans).spans }
+  pub items : freed.items ≡ before.items ++ (put_all list start.spans).freed
+  pub spare : freed.spare + length (put_all list start.spans).freed ≡ before.spare
+  pub moves : (test : Addr → Bool) → count_by test (free_in now.spans) + count_by test (flat_map (objects_of start.row.size) (put_all list start.spans).freed) ≡ count_by test (free_in start.spans) + count_by test list
+
+abbrev central_of : ClassRow → List SpanState → Central
+central_of row spans = record { row = row; spans = spans }
+
+pub IsPut-end : (list : List Addr) (start now : Central) (before freed : Contents SpanRef) (done : ℕ) → IsPutting list start now before freed done → length list ≤ done → IsPut list start now before freed
+IsPut-end list start now before freed done so_far past =
+    let none : drop done list ≡ [] = drop_all done list past in
+    let last : put_all (drop done list) now.spans ≡ record { spans = now.spans; freed = [] } = ap (λ xs. put_all xs now.spans) none in
+    let items : freed.items ≡ before.items ++ (put_all list start.spans).freed = sym (append-nil freed.items) ∙ ap (λ p. freed.items ++ p.freed) (sym last) ∙ so_far.items in
+    record {
+      spans = ap (λ r. central_of r now.spans) so_far.row ∙ ap (central_of start.row) (ap (λ p. p.spans) (sym last) ∙ so_far.spans);
+      items = items;
+      spare = omega (arith, so_far.room, ap length items, length-append {A = SpanRef} before.items (put_all list start.spans).freed);
+      moves = λ test. (
+          let joined : count_by test (flat_map (objects_of start.row.size) freed.items) ≡ count_by test (flat_map (objects_of start.row.size) before.items) + count_by test (flat_map (objects_of start.row.size) (put_all list start.spans).freed) =
+          ap (λ xs. count_by test (flat_map (objects_of start.row.size) xs)) items ∙ ap (count_by test) (flat_map-append (objects_of start.row.size) before.items (put_all list start.spans).freed) ∙ sum_by-append (λ x. cond {A = ℕ} (test x) 1 0) (flat_map (objects_of start.row.size) before.items) (flat_map (objects_of start.row.size) (put_all list start.spans).freed) in
+          let empty : count_by test (drop done list) ≡ 0 = ap (count_by test) none in
+          omega (arith, joined, empty, so_far.moves test));
+    }

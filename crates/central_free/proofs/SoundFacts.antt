@@ -1,0 +1,105 @@
+-- A sound list of spans stays so where one of them gives or takes an object.
+use Rattle.std.proofs.Common.{◌≡◌, ℕ, ◌+◌, ◌<◌, ◌≤◌, Bool, true, false, nat_le, List, [], ◌∷◌, length, get_or, set, count_by, Option, Some, None, cond, refl, sym, ◌∙◌, ap, subst, inl, inr, arith}
+use Rattle.std.specs.Prelude.{AllPairs, All}
+use Rattle.std.specs.List.{flat_map, sum_by, prefix_len}
+use Rattle.std.specs.List.Sorted.{IsNonDecreasingBy, IsPartitionPoint}
+use Rattle.tc_units.specs.declared.spans.SpanKind.TheVariants.{Large}
+use Rattle.std.proofs.lemmas.List.{get_or-set_same, get_or-set_other, length-set, get_or_default}
+use Rattle.std.proofs.lemmas.List.Elements.{All-set}
+use Rattle.std.proofs.lemmas.List.Sums.{sum_by-cons, sum_by-append, sum_by-set, prefix_len_is}
+use Rattle.std.proofs.lemmas.Bool.{cases_eq, cases_lt}
+use Rattle.tc_units.specs.declared.units.Addr.{Addr}
+use Rattle.tc_units.specs.declared.spans.ClassRow.{ClassRow}
+use Rattle.span_list.specs.Span.{SpanState, IsCut, first_byte, least, with_object, after_take, free_objects}
+use Rattle.span_list.proofs.SpanFacts.{take_counts}
+use Rattle.central_free.specs.Central.{Central, IsBefore, IsOfRow, IsSound, free_in}
+
+-- each span has a page
+pub has_pages : (central : Central) → IsSound central → All (λ s. 0 < s.span.pages) central.spans
+has_pages central sound = λ k d within.
+    (let row : IsOfRow central.row (get_or central.spans k d) = sound.of_row k d within in
+    omega (arith, row.pages, sound.some, sound.fits))
+
+-- a span of which one object is written is cut as it was
+pub IsCut-with_object : (s : SpanState) (i : ℕ) (free : Bool) → IsCut s → IsCut (with_object s i free)
+IsCut-with_object s i free cut =
+    record {
+      some = cut.some;
+      sizes = cut.sizes;
+      first = cut.first;
+      pages = cut.pages;
+      objects = length-set s.free i free ∙ cut.objects;
+    }
+
+-- a take leaves a span of its row
+IsOfRow-taken : (row : ClassRow) (s : SpanState) (at : Option ℕ) → least s ≡ at → IsOfRow row s → IsOfRow row (after_take s at)
+IsOfRow-taken row s None is of_row = of_row
+IsOfRow-taken row s (Some i) is of_row =
+    record {
+      cut = IsCut-with_object s i false of_row.cut;
+      size = of_row.size;
+      pages = of_row.pages;
+      taken = omega (arith, take_counts s.free i is);
+    }
+
+pub IsOfRow-after_take : (row : ClassRow) (s : SpanState) → IsOfRow row s → IsOfRow row (after_take s (least s))
+IsOfRow-after_take row s of_row = IsOfRow-taken row s (least s) refl of_row
+
+span-taken : (s : SpanState) (at : Option ℕ) → (after_take s at).span ≡ s.span
+span-taken s None = refl
+span-taken s (Some i) = refl
+
+pub span-after_take : (s : SpanState) → (after_take s (least s)).span ≡ s.span
+span-after_take s = span-taken s (least s)
+
+-- a span in another's stead, with the same pages
+same_span : (spans : List SpanState) (k : ℕ) (t : SpanState) → k < length spans → ((d : SpanState) → t.span ≡ (get_or spans k d).span) → (i : ℕ) (d : SpanState) → (get_or (set spans k t) i d).span ≡ (get_or spans i d).span
+same_span spans k t within same i d =
+    elim (cases_eq i k) [
+      | inl here ↦
+          (let F : ℕ → Type 0 = λ j. (get_or (set spans k t) j d).span ≡ (get_or spans j d).span in
+          subst F (sym here) (ap (λ u. u.span) (get_or-set_same spans k t d within) ∙ same d))
+      | inr other ↦ ap (λ u. u.span) (get_or-set_other spans k i t d other)
+    ]
+
+pub IsSound-set : (row : ClassRow) (spans : List SpanState) (k : ℕ) (s t : SpanState) → IsSound (record { row = row; spans = spans }) → k < length spans → s ≡ get_or spans k s → t.span ≡ s.span → IsOfRow row t → IsSound (record { row = row; spans = set spans k t })
+IsSound-set row spans k s t sound within read same of_row =
+    let pages : (i : ℕ) (d : SpanState) → (get_or (set spans k t) i d).span ≡ (get_or spans i d).span = same_span spans k t within (λ d. same ∙ ap (λ u. u.span) (read ∙ get_or_default spans k s d within)) in
+    record {
+      some = sound.some;
+      fits = sound.fits;
+      of_row = All-set (IsOfRow row) spans k t of_row sound.of_row;
+      apart = λ i j d less inside.
+          let before : IsBefore (get_or spans i d) (get_or spans j d) = sound.apart i j d less (omega (arith, length-set spans k t)) in
+          let from : (get_or (set spans k t) i d).span.first.0 + (get_or (set spans k t) i d).span.pages ≡ (get_or spans i d).span.first.0 + (get_or spans i d).span.pages = ap (λ u. u.first.0 + u.pages) (pages i d) in
+          let to : (get_or (set spans k t) j d).span.first.0 ≡ (get_or spans j d).span.first.0 = ap (λ u. u.first.0) (pages j d) in
+          omega arith;
+    }
+
+-- how often something is among the free objects of all spans
+pub count-flat_map : {X A : Type 0} (test : A → Bool) (f : X → List A) (xs : List X) → count_by test (flat_map f xs) ≡ sum_by (λ x. count_by test (f x)) xs
+count-flat_map test f [] = refl
+count-flat_map test f (x ∷ xs) =
+    sum_by-append (λ a. cond (test a) 1 0) (f x) (flat_map f xs) ∙ ap (λ n. count_by test (f x) + n) (count-flat_map test f xs) ∙ sym (sum_by-cons (λ y. count_by test (f y)) x xs)
+
+-- one span for another changes that by the two spans' own
+pub count-set : (test : Addr → Bool) (spans : List SpanState) (k : ℕ) (s t : SpanState) → k < length spans → s ≡ get_or spans k s → count_by test (free_in (set spans k t)) + count_by test (free_objects s) ≡ count_by test (free_in spans) + count_by test (free_objects t)
+count-set test spans k s t within read =
+    let old : count_by test (free_objects s) ≡ count_by test (free_objects (get_or spans k s)) = ap (λ u. count_by test (free_objects u)) read in
+    omega (arith, count-flat_map test free_objects (set spans k t), count-flat_map test free_objects spans, sum_by-set (λ u. count_by test (free_objects u)) spans k t s within, old)
+
+-- spans in order begin in order
+pub first_bytes_rise : (spans : List SpanState) → AllPairs IsBefore spans → IsNonDecreasingBy (λ s. first_byte s.span) spans
+first_bytes_rise spans apart = λ i j d le within.
+    elim (cases_lt i j) [
+      | inl less ↦ (let before : IsBefore (get_or spans i d) (get_or spans j d) = apart i j d less within in omega arith)
+      | inr above ↦ (let same : i ≡ j = omega arith in rw same (omega arith))
+    ]
+
+-- the place where the spans that begin by an address end
+nowhere : SpanState
+nowhere = record { span = record { first = record { 0 = 0 }; pages = 0; kind = Large }; size = 0; free = [] }
+
+pub point_is_count : (at : ℕ) (spans : List SpanState) (i : ℕ) → i ≤ length spans → IsPartitionPoint (λ s. nat_le (first_byte s.span) at ≡ true) (λ s. nat_le (first_byte s.span) at ≡ false) spans i → i ≡ prefix_len (λ s. nat_le (first_byte s.span) at) spans
+point_is_count at spans i within point =
+    sym (prefix_len_is (λ s. nat_le (first_byte s.span) at) spans i nowhere within (λ k below. point.0 k nowhere (omega arith) below) (λ more. point.1 i nowhere (omega arith) more))

@@ -1,0 +1,9 @@
+//! The central free list of one size class: its spans, from which objects are taken and to which they
+//! are put back.
+#![tactic(auto)]
+
+mod central;
+#[cfg(test)]
+mod tests;
+
+pub use central::CentralFree;
