@@ -1,0 +1,6 @@
+pub mod Victims
+pub mod Places
+pub mod SlabFacts
+pub mod LaidOut
+pub mod GrowthFacts
+pub mod Opened

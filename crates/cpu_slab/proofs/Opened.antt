@@ -1,0 +1,47 @@
+-- A slab at its opening.
+use Rattle.std.proofs.Common.{◌≡◌, ℕ, ◌+◌, ◌*◌, ◌<◌, List, [], ◌∷◌, length, map, get_or, replicate, All, refl, sym, ap, ◌∙◌, arith}
+use Rattle.std.proofs.lemmas.List.{length-map, length-replicate}
+use Rattle.std.proofs.lemmas.List.Elements.{All-map}
+use Rattle.std.proofs.lemmas.List.Sums.{sum_by-cons}
+use Rattle.tc_units.specs.declared.spans.ClassRow.{ClassRow}
+use Rattle.cpu_slab.specs.declared.marks.ClassMarks.{ClassMarks}
+use Rattle.cpu_slab.specs.Slots.{SlabRow, null, empty_row, opened}
+use Rattle.cpu_slab.specs.Growth.{cap_bytes, used}
+use Rattle.cpu_slab.specs.Sound.{AreSlabLimits, IsSoundRow, IsSoundSlab}
+use Rattle.cpu_slab.specs.Layout.{slab_of, IsLaidOut}
+use Rattle.cpu_slab.proofs.LaidOut.{laid_out}
+use Rattle.tc_units.specs.declared.units.Addr.{Addr}
+use Rattle.cpu_slab.proofs.Places.{rows_of-opened}
+
+used_opened : (most : ℕ) (rows : List ClassRow) → used (map (empty_row most) rows) ≡ 0
+used_opened most [] = refl
+used_opened most (row ∷ rows) =
+    let e : used (empty_row most row ∷ map (empty_row most) rows) ≡ cap_bytes (empty_row most row) + used (map (empty_row most) rows) = sum_by-cons cap_bytes (empty_row most row) (map (empty_row most) rows) in
+    let z : cap_bytes (empty_row most row) ≡ 0 = omega arith in
+    omega (arith, e, z, used_opened most rows)
+
+each_opened : (most : ℕ) (P : SlabRow → Type 0) (rows : List ClassRow) → ((row : ClassRow) → 0 < row.size → P (empty_row most row)) → All (λ (row : ClassRow). 0 < row.size) rows → All P (map (empty_row most) rows)
+each_opened most P rows made sizes = All-map P (empty_row most) rows (λ k d low. made (get_or rows k d) (sizes k d low))
+
+pub sound_opened : (rows : List ClassRow) (most limit : ℕ) → AreSlabLimits (length rows) most limit → All (λ (row : ClassRow). 0 < row.size) rows → IsSoundSlab (opened rows most limit)
+sound_opened rows most limit limits sizes =
+    record {
+      limits = record { classes = omega (arith, length-map rows (empty_row most), limits.classes); some = limits.some; most = limits.most; limit = limits.limit };
+      rows = each_opened most IsSoundRow rows (λ row some. record { top = omega arith; cap = omega arith; size = some }) sizes;
+      slots = each_opened most (λ (row : SlabRow). length row.slots ≡ most) rows (λ row some. length-replicate most null) sizes;
+      budget = omega (arith, used_opened most rows);
+    }
+
+-- the numbers of a class at the opening
+abbrev pub first_marks : ClassRow → ClassMarks
+first_marks row = record { size = row.size; batch = row.batch; cap = 0; top = 0 }
+
+pub opened_is : (rows : List ClassRow) (most limit : ℕ) (marks : List ClassMarks) (slots : List Addr) → marks ≡ map first_marks rows → slots ≡ replicate (length rows * most) null → slab_of most limit marks slots ≡ opened rows most limit
+opened_is rows most limit marks slots marks_are slots_are =
+    ap (λ (ms : List ClassMarks). slab_of most limit ms slots) marks_are ∙ (ap (λ (xs : List Addr). slab_of most limit (map first_marks rows) xs) slots_are ∙ ap (λ (rs : List SlabRow). record { most = most; limit = limit; rows = rs }) (rows_of-opened most rows))
+
+pub opened_out : (rows : List ClassRow) (most limit : ℕ) (marks : List ClassMarks) (slots : List Addr) → AreSlabLimits (length rows) most limit → All (λ (row : ClassRow). 0 < row.size) rows → marks ≡ map first_marks rows → slots ≡ replicate (length rows * most) null → IsLaidOut most limit 0 marks slots
+opened_out rows most limit marks slots limits sizes marks_are slots_are =
+    let classes : length marks ≡ length rows = ap length marks_are ∙ length-map rows first_marks in
+    let places : length slots ≡ length rows * most = ap length slots_are ∙ length-replicate (length rows * most) null in
+    laid_out most limit 0 marks slots (opened rows most limit) (opened_is rows most limit marks slots marks_are slots_are) (places ∙ ap (λ n. n * most) (sym classes)) (sym (used_opened most rows)) (sound_opened rows most limit limits sizes)

@@ -1,0 +1,13 @@
+use Rattle.std.proofs.Common.{arith}
+use Rattle.cpu_slab.proofs.LaidOut.{class_low, read_marks}
+use Rattle.cpu_slab.proofs.slab.Slab.marks_at.Goals as goal
+
+pub index-requires : goal.index-requires
+index-requires c =
+    let s = c.self.inside in
+    omega (arith, class_low s.most s.limit s.marks.items s.slots.items c.args.self.now c.args.k c.self.view_is c.requires)
+
+pub returns-clause-marks : goal.returns-clause-marks
+returns-clause-marks c =
+    let s = c.self.inside in
+    read_marks s.most s.limit s.marks.items s.slots.items c.args.self.now c.args.k c.index.result.now c.self.view_is c.requires c.index.ensures

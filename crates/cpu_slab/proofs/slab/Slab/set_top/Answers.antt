@@ -1,0 +1,27 @@
+use Rattle.std.proofs.Common.{◌∙◌, arith, refl, subst, sym}
+use Rattle.cpu_slab.specs.Slots.{row_at}
+use Rattle.cpu_slab.specs.Sound.{IsSoundSlab}
+use Rattle.cpu_slab.proofs.SlabFacts.{sound_top, used_same}
+use Rattle.cpu_slab.proofs.LaidOut.{class_low, top_set, laid_out_marks, counted_is}
+use Rattle.cpu_slab.proofs.slab.Slab.set_top.Goals as goal
+
+pub index_mut-requires : goal.index_mut-requires
+index_mut-requires c =
+    let s = c.self.inside in
+    omega (arith, class_low s.most s.limit s.marks.items s.slots.items c.args.self.now c.args.class.0 c.self.view_is c.requires.class)
+
+pub returns-clause-top : goal.returns-clause-top
+returns-clause-top c =
+    let s = c.self.inside in
+    top_set s.most s.limit s.marks.items s.slots.items c.args.self.now c.args.class.0 c.args.n c.index_mut.result.now c.self.view_is c.requires.class c.index_mut.ensures.value
+
+pub invariant_of-self : goal.invariant_of-self
+invariant_of-self c =
+    let s = c.self.inside in
+    let k = c.args.class.0 in
+    let old : IsSoundSlab c.args.self.now = subst IsSoundSlab c.self.view_is c.self.invariant.sound in
+    let same = used_same c.args.self.now.rows k (record (row_at c.args.self.now k) { top = c.args.n }) c.requires.class refl refl in
+    laid_out_marks s.most s.limit s.counted s.marks.items s.slots.items _ k _ (returns-clause-top c) c.self.invariant.slots (counted_is s.most s.limit s.counted s.marks.items s.slots.items c.args.self.now c.self.invariant c.self.view_is ∙ sym same) (sound_top c.args.self.now k c.args.n c.requires.class c.requires.within old)
+
+pub returns-clause-sound : goal.returns-clause-sound
+returns-clause-sound c = (invariant_of-self c).sound

@@ -1,0 +1,5 @@
+pub mod Slots
+pub mod Growth
+pub mod Sound
+pub mod Caps
+pub mod Layout

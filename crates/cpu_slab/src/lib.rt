@@ -1,0 +1,10 @@
+//! The slab of one CPU, TCMalloc's per-CPU cache of free objects: for each size class an array of
+//! slots with a top, a capacity that changes, and a static greatest capacity.
+#![tactic(auto)]
+
+mod marks;
+mod slab;
+#[cfg(test)]
+mod tests;
+
+pub use slab::{CapFault, Slab};
