@@ -1,0 +1,4 @@
+pub mod OnePlace
+pub mod CellKept
+pub mod Whole
+pub mod Able

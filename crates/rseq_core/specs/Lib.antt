@@ -1,0 +1,5 @@
+pub mod Bags
+pub mod Tables
+pub mod Agrees
+pub mod Acts
+pub mod Alone

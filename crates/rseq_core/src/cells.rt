@@ -1,0 +1,173 @@
+//! One instruction of a sequence, on the slab and the registers.
+ghost use Rattle.std.specs.Prelude.{◌≡◌, ◌+◌, ◌-◌, ◌^◌, ◌<◌, ◌≤◌, true, false, length, Some, None};
+ghost use Rattle.cpu_slab.specs.Slots.{row_at, with_row};
+ghost use Rattle.rseq_core.specs.Tables.{is_pop, copy_or_commit, header, test, copy, commit, cell};
+ghost use Rattle.rseq_core.specs.Agrees.{IsAble};
+ghost use Rattle.rseq_core.specs.declared.sequence.Pc.TheVariants.{Test, Copy, Commit};
+
+use crate::bags;
+use crate::regs::Regs;
+use crate::sequence::{Pc, Reply};
+use cpu_slab::Slab;
+
+/// Header: looks for a stopper, and reads the top.
+fn header(stopped: bool, slab: &Slab, regs: &mut Regs) -> Option<Reply>
+    requires class { regs.old.class.0 < length slab.now.rows }
+    requires ran { regs.old.ran < 2 ^ 32 - 1 }
+    ensures regs { regs.new ≡ (header stopped (row_at slab.now regs.old.class.0) regs.old).regs }
+    ensures reply { result ≡ (header stopped (row_at slab.now regs.old.class.0) regs.old).reply }
+{
+    if stopped {
+        regs.close();
+        return Some(Reply::Stopped);
+    }
+    regs.top = slab.top(regs.class);
+    regs.go_on(Pc::Test);
+    None
+}
+
+/// So many objects are to be copied.
+fn counted(regs: &mut Regs, count: u32)
+    requires { regs.old.ran < 2 ^ 32 - 1 }
+    ensures { regs.new ≡ record regs.old { count = count; pc = copy_or_commit 0 count; ran = regs.old.ran + 1 } }
+{
+    regs.count = count;
+    regs.go_on(if count > 0 {
+        Pc::Copy { done: 0 }
+    } else {
+        Pc::Commit
+    });
+}
+
+/// Test: compares the top with 0, or with the capacity.
+fn test(slab: &Slab, regs: &mut Regs) -> Option<Reply>
+    requires class { regs.old.class.0 < length slab.now.rows }
+    requires ran { regs.old.ran < 2 ^ 32 - 1 }
+    requires top { regs.old.top ≡ (row_at slab.now regs.old.class.0).top }
+    ensures regs { regs.new ≡ (test (is_pop regs.old.seq) (row_at slab.now regs.old.class.0) regs.old).regs }
+    ensures reply { result ≡ (test (is_pop regs.old.seq) (row_at slab.now regs.old.class.0) regs.old).reply }
+{
+    if regs.is_pop() {
+        if regs.top == 0 {
+            regs.close();
+            return Some(Reply::Empty);
+        }
+        let count = regs.wanted(regs.top);
+        counted(regs, count);
+        return None;
+    }
+    let cap = slab.cap(regs.class);
+    if regs.top == cap {
+        regs.close();
+        return Some(Reply::Full);
+    }
+    let count = regs.wanted(cap - regs.top);
+    counted(regs, count);
+    None
+}
+
+/// One more object is copied.
+fn copied(regs: &mut Regs, done: u32)
+    requires done { done < regs.old.count }
+    requires ran { regs.old.ran < 2 ^ 32 - 1 }
+    ensures { regs.new ≡ record regs.old { pc = copy_or_commit (done + 1) regs.old.count; ran = regs.old.ran + 1 } }
+{
+    let count = regs.count;
+    regs.go_on(if done + 1 < count {
+        Pc::Copy { done: done + 1 }
+    } else {
+        Pc::Commit
+    });
+}
+
+/// Copy of a pop: loads the object that lies `done` below the topmost.
+fn load(slab: &Slab, regs: &mut Regs, done: u32)
+    requires class { regs.old.class.0 < length slab.now.rows }
+    requires ran { regs.old.ran < 2 ^ 32 - 1 }
+    requires able { IsAble true (row_at slab.now regs.old.class.0) regs.old (Copy done) }
+    ensures { regs.new ≡ (copy true (row_at slab.now regs.old.class.0) regs.old done).regs }
+{
+    let _cap = slab.cap(regs.class);
+    let object = slab.slot(regs.class, regs.top - (done + 1));
+    bags::append_one(&mut regs.loaded, object);
+    copied(regs, done);
+}
+
+/// Copy of a push: stores an object of the hand in scratch, `done` above the top.
+fn store(slab: &mut Slab, regs: &mut Regs, done: u32)
+    requires class { regs.old.class.0 < length slab.old.rows }
+    requires ran { regs.old.ran < 2 ^ 32 - 1 }
+    requires able { IsAble false (row_at slab.old regs.old.class.0) regs.old (Copy done) }
+    ensures slab { slab.new ≡ with_row slab.old regs.old.class.0 (copy false (row_at slab.old regs.old.class.0) regs.old done).row }
+    ensures regs { regs.new ≡ (copy false (row_at slab.old regs.old.class.0) regs.old done).regs }
+{
+    let _cap = slab.cap(regs.class);
+    let object = regs.hand.as_slice()[done as usize];
+    slab.set_slot(regs.class, regs.top + done, object);
+    copied(regs, done);
+}
+
+/// Commit of a pop: what is loaded comes to the hand.
+fn commit_pop(slab: &mut Slab, regs: &mut Regs) -> Reply
+    requires class { regs.old.class.0 < length slab.old.rows }
+    requires ran { regs.old.ran < 2 ^ 32 - 1 }
+    requires able { IsAble true (row_at slab.old regs.old.class.0) regs.old Commit }
+    ensures slab { slab.new ≡ with_row slab.old regs.old.class.0 (commit true (row_at slab.old regs.old.class.0) regs.old).row }
+    ensures regs { regs.new ≡ (commit true (row_at slab.old regs.old.class.0) regs.old).regs }
+    ensures reply { Some result ≡ (commit true (row_at slab.old regs.old.class.0) regs.old).reply }
+{
+    let _cap = slab.cap(regs.class);
+    bags::append(&mut regs.hand, regs.loaded.as_slice());
+    slab.set_top(regs.class, regs.top - regs.count);
+    regs.close();
+    Reply::Popped
+}
+
+/// Commit of a push: what was stored has left the hand.
+fn commit_push(slab: &mut Slab, regs: &mut Regs) -> Reply
+    requires class { regs.old.class.0 < length slab.old.rows }
+    requires ran { regs.old.ran < 2 ^ 32 - 1 }
+    requires able { IsAble false (row_at slab.old regs.old.class.0) regs.old Commit }
+    ensures slab { slab.new ≡ with_row slab.old regs.old.class.0 (commit false (row_at slab.old regs.old.class.0) regs.old).row }
+    ensures regs { regs.new ≡ (commit false (row_at slab.old regs.old.class.0) regs.old).regs }
+    ensures reply { Some result ≡ (commit false (row_at slab.old regs.old.class.0) regs.old).reply }
+{
+    let count = regs.count;
+    let _cap = slab.cap(regs.class);
+    bags::drop_first(&mut regs.hand, count);
+    slab.set_top(regs.class, regs.top + count);
+    regs.close();
+    Reply::Pushed { count }
+}
+
+/// One instruction of the sequence in the registers.
+pub(crate) fn cell(stopped: bool, slab: &mut Slab, regs: &mut Regs) -> Option<Reply>
+    requires class { regs.old.class.0 < length slab.old.rows }
+    requires ran { regs.old.ran < 2 ^ 32 - 1 }
+    requires able { IsAble (is_pop regs.old.seq) (row_at slab.old regs.old.class.0) regs.old regs.old.pc }
+    ensures slab { slab.new ≡ with_row slab.old regs.old.class.0 (cell stopped (is_pop regs.old.seq) (row_at slab.old regs.old.class.0) regs.old regs.old.pc).row }
+    ensures regs { regs.new ≡ (cell stopped (is_pop regs.old.seq) (row_at slab.old regs.old.class.0) regs.old regs.old.pc).regs }
+    ensures reply { result ≡ (cell stopped (is_pop regs.old.seq) (row_at slab.old regs.old.class.0) regs.old regs.old.pc).reply }
+{
+    match regs.pc {
+        Pc::Begin => {
+            regs.go_on(Pc::Header);
+            None
+        }
+        Pc::Header => header(stopped, slab, regs),
+        Pc::Test => test(slab, regs),
+        Pc::Copy { done } => {
+            if regs.is_pop() {
+                load(slab, regs, done);
+            } else {
+                store(slab, regs, done);
+            }
+            None
+        }
+        Pc::Commit => Some(if regs.is_pop() {
+            commit_pop(slab, regs)
+        } else {
+            commit_push(slab, regs)
+        }),
+    }
+}
