@@ -1,0 +1,4 @@
+pub mod Steps
+pub mod Seated
+pub mod Lawful
+pub mod Moved

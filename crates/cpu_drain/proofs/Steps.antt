@@ -1,0 +1,55 @@
+-- Small facts that the acts share.
+use Rattle.std.proofs.Common.{◌≡◌, ℕ, Bool, true, false, [], Option, Some, None, refl, ap, arith}
+use Rattle.std.specs.Prelude.{IsSome}
+use Rattle.std.proofs.lemmas.Bool.{eqb-true}
+use Rattle.std.proofs.lemmas.Bool.Decides.{nat_tests}
+use Rattle.tc_units.specs.declared.units.ThreadNo.{ThreadNo}
+use Rattle.cpu_slab.specs.Slots.{SlabRow, row_at}
+use Rattle.rseq_core.specs.declared.sequence.Pc.{Pc}
+use Rattle.rseq_core.specs.declared.sequence.Pc.TheVariants.{Begin, Header, Test, Copy, Commit}
+use Rattle.rseq_core.specs.declared.regs.Regs.{Regs}
+use Rattle.rseq_core.specs.declared.cpu_part.CpuPart.{CpuPart}
+use Rattle.rseq_core.specs.Agrees.{Agrees, IsAtRest}
+use Rattle.rseq_core.specs.Acts.{runs, stands}
+use Rattle.cpu_drain.specs.Seats.{Standing, Holds}
+
+pub runs_is : (o : Option ThreadNo) (t : ThreadNo) → runs o t ≡ true → o ≡ Some t
+runs_is None t is = absurd (cc)
+runs_is (Some u) t is = let same : u.0 ≡ t.0 = eqb-true u.0 t.0 is in ap (λ (k : ℕ). let v : ThreadNo = record { 0 = k } in Some v) same
+
+pub runs_not : (o : Option ThreadNo) (t : ThreadNo) → runs o t ≡ false → o ≡ Some t → ⊥
+runs_not None t is e = cc
+runs_not (Some u) t is e =
+    let same : u ≡ t = (cc) in
+    let number : u.0 ≡ t.0 = ap (λ (v : ThreadNo). v.0) same in
+    grind (arith, nat_tests)
+
+pub stands_some : (o : Option ThreadNo) → IsSome o → stands o ≡ true
+stands_some None some = (cc)
+stands_some (Some t) some = refl
+
+pub some_is : (o : Option ThreadNo) (t : ThreadNo) → o ≡ Some t → IsSome o
+some_is o t is = rw is refl
+
+-- at its begin nothing is said of the row
+pub agrees_begin : (pops : Bool) (row : SlabRow) (r : Regs) → r.pc ≡ Begin → r.loaded.items ≡ [] → Agrees pops row r r.pc
+agrees_begin pops row r begin nothing = rw begin nothing
+
+pub begin_nothing : (pops : Bool) (row : SlabRow) (r : Regs) → r.pc ≡ Begin → Agrees pops row r r.pc → r.loaded.items ≡ []
+begin_nothing pops row r begin has = rw begin at has
+
+pub begin_rests : (pc : Pc) → pc ≡ Begin → IsAtRest pc
+begin_rests pc begin = rw begin tt
+
+-- at rest nothing is said of the row
+pub agrees_at_rest : (pops : Bool) (row row' : SlabRow) (r : Regs) (pc : Pc) → IsAtRest pc → Agrees pops row r pc → Agrees pops row' r pc
+agrees_at_rest pops row row' r Begin rests has = has
+agrees_at_rest pops row row' r Header rests has = has
+agrees_at_rest pops row row' r Test rests has = absurd rests
+agrees_at_rest pops row row' r (Copy n) rests has = absurd rests
+agrees_at_rest pops row row' r Commit rests has = absurd rests
+
+-- what a stopper holds stays, where it stays the stopper, and after its fence the mark and empty classes stay
+pub stage_kept : (i : ℕ) (t : ThreadNo) (p p' : CpuPart) (o : Option Standing) → (p.stopper ≡ Some t → p'.stopper ≡ Some t) → (p.stopper ≡ Some t → p.fenced ≡ true → p'.fenced ≡ true) → (p.fenced ≡ true → (k : ℕ) → (row_at p.slab k).top ≡ 0 → (row_at p'.slab k).top ≡ 0) → Holds i t p o → Holds i t p' o
+stage_kept i t p p' None stopper fenced empty has = tt
+stage_kept i t p p' (Some s) stopper fenced empty has = λ e. record { stopper = stopper (has e).stopper; fenced = λ f. fenced (has e).stopper ((has e).fenced f); empty = λ k b. (let was = (has e).empty k b in (fenced (has e).stopper was.0, empty was.0 k was.1)) }

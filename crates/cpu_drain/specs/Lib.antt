@@ -1,0 +1,3 @@
+pub mod Drains
+pub mod Seats
+pub mod Laws
