@@ -1,0 +1,9 @@
+pub mod Fits
+pub mod Kept
+pub mod Law
+pub mod Machine
+pub mod Rows
+pub mod Scripts
+pub mod State
+pub mod Valid
+pub mod Weights

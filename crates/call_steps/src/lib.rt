@@ -1,0 +1,7 @@
+//! What a thread does for its calls, one act at a time: each act is one row of the call programs, on one
+//! part. Today these are the rows of large blocks.
+#![tactic(auto)]
+
+mod step;
+
+pub use step::{HeapStep, MapStep, NamesStep, Step, Target};
