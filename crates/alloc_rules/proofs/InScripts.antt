@@ -12,7 +12,8 @@ use Rattle.tc_model.specs.declared.calls.Call.{Call}
 use Rattle.tc_model.specs.declared.calls.Call.TheVariants.{Malloc, Free, Release, Drain, Resize}
 use Rattle.tc_model.specs.declared.calls.Planned.{Planned}
 use Rattle.tc_model.specs.declared.answers.CallLine.{CallLine}
-use Rattle.tc_model.proofs.Lists.{append-none, set_here, set_elsewhere}
+use Rattle.std.proofs.lemmas.List.{append-nil}
+use Rattle.tc_model.proofs.Lists.{set_here, set_elsewhere}
 use Rattle.name_table.specs.declared.table.NameState.{NameState}
 use Rattle.name_table.specs.declared.table.NameState.TheVariants as name
 use Rattle.name_table.specs.Names.{state_of}
@@ -21,11 +22,12 @@ use Rattle.call_steps.specs.declared.step.MapStep.TheVariants.{Set, Lookup, Clea
 use Rattle.call_steps.specs.declared.step.NamesStep.TheVariants.{Publish, Take}
 use Rattle.call_steps.specs.declared.step.Step.{Step}
 use Rattle.call_steps.specs.declared.step.Step.TheVariants as does
-use Rattle.call_steps.specs.Local.{Local, Decided, first_of_call, first_step, others, goes_on, ends}
+use Rattle.call_steps.specs.Local.{Local, Decided, first_of_call, first_step, others, under, goes_on, ends}
 use Rattle.alloc_rules.specs.State.{State, Setup, bit}
 use Rattle.alloc_rules.specs.Weights.{publishing, unbuilt, unbuilt_in, unbuilt_of, is_out, Facts}
 use Rattle.alloc_rules.specs.Rows.{Row, NewNone, NewRun, SetSpan, PublishName, TakeNull, TakeSome, LookupSpan, ClearSpan, FreeRun}
-use Rattle.alloc_rules.specs.Scripts.{call_at, IsOfCall, under, IsIn, AreIn}
+use Rattle.alloc_rules.specs.Scripts.{IsOfCall, IsIn, AreIn}
+use Rattle.call_steps.specs.Kept.{call_at}
 use Rattle.alloc_rules.proofs.Sums.{least, name_cases}
 use Rattle.alloc_rules.proofs.Named.{within_by}
 
@@ -70,12 +72,12 @@ Decides script l before (d ∷ []) = (before ≡ l.ended + 1) × (under l.step �
 Decides script l before (d ∷ e ∷ more) = ⊥
 
 answers_count : (names : List NameState) (script : List Planned) (l : Local) (before : ℕ) (new : List Decided) → IsIn names script l → Decides script l before new → length (l.answers ++ new) ≡ before
-answers_count names script l before [] inside decides = ap length (append-none l.answers) ∙ omega (arith, inside.count, decides)
+answers_count names script l before [] inside decides = ap length (append-nil l.answers) ∙ omega (arith, inside.count, decides)
 answers_count names script l before (d ∷ []) inside decides = omega (arith, length-append l.answers (d ∷ []), inside.count, decides.0, decides.1)
 answers_count names script l before (d ∷ e ∷ more) inside decides = absurd decides
 
 answers_decided : (names : List NameState) (script : List Planned) (l : Local) (before : ℕ) (new : List Decided) → IsIn names script l → Decides script l before new → (j : ℕ) (d : Decided) → slice_get (l.answers ++ new) j ≡ Some d → call_at script j ≡ Some d.call
-answers_decided names script l before [] inside decides j d is = inside.decided j d (ap (λ xs. slice_get xs j) (sym (append-none l.answers)) ∙ is)
+answers_decided names script l before [] inside decides j d is = inside.decided j d (ap (λ xs. slice_get xs j) (sym (append-nil l.answers)) ∙ is)
 answers_decided names script l before (e ∷ []) inside decides j d is =
     elim (pushed l.answers e d j is) [
       | inl old ↦ inside.decided j d old

@@ -9,7 +9,8 @@ use Rattle.tc_model.specs.declared.calls.Call.{Call}
 use Rattle.tc_model.specs.declared.calls.Call.TheVariants.{Malloc, Free, Release, Drain, Resize}
 use Rattle.tc_model.specs.declared.calls.Planned.{Planned}
 use Rattle.tc_model.specs.Input.{Input, ThreadCall, script_of, label_end}
-use Rattle.tc_model.proofs.Lists.{append-one, append-none}
+use Rattle.std.proofs.lemmas.List.{append-nil}
+use Rattle.std.proofs.Math.Seq.{append_snoc}
 use Rattle.alloc_rules.specs.State.{Thread, bit}
 use Rattle.alloc_rules.specs.Weights.{got, put, gets, puts, unbuilt, unbuilt_in}
 use Rattle.alloc_rules.specs.Machine.{thread_of, setup_of}
@@ -80,7 +81,7 @@ InOrder rows earlier (c ∷ cs) = IsInOrder rows earlier c.planned.call × InOrd
 
 in_order : (input : Input) (earlier cs : List ThreadCall) → earlier ++ cs ≡ input.asked.calls → IsValid input → InOrder input.rows earlier cs
 in_order input earlier [] is valid = tt
-in_order input earlier (c ∷ cs) is valid = ((valid.calls earlier c cs is).order, in_order input (earlier ++ c ∷ []) cs (append-one earlier c cs ∙ is) valid)
+in_order input earlier (c ∷ cs) is valid = ((valid.calls earlier c cs is).order, in_order input (earlier ++ c ∷ []) cs (append_snoc earlier c cs ∙ is) valid)
 
 pub got_push : (x : ℕ) (earlier : List ThreadCall) (c : ThreadCall) → got_in x (earlier ++ c ∷ []) ≡ got_in x earlier + got x c.planned.call
 got_push x earlier c = omega (arith, sum_by-append (λ (d : ThreadCall). got x d.planned.call) earlier (c ∷ []), sum_by-cons (λ (d : ThreadCall). got x d.planned.call) c [])
@@ -135,7 +136,7 @@ pub record Counts (x : ℕ) (calls : List ThreadCall) : Type 0 where
   pub got_first : 0 < put_in x calls → 0 < got_in x calls
 
 counts : (rows : List ClassRow) (x : ℕ) (earlier cs : List ThreadCall) → InOrder rows earlier cs → Counts x earlier → Counts x (earlier ++ cs)
-counts rows x earlier [] order so_far = subst (Counts x) (sym (append-none earlier)) so_far
+counts rows x earlier [] order so_far = subst (Counts x) (sym (append-nil earlier)) so_far
 counts rows x earlier (c ∷ cs) order so_far =
     let a = adds rows x earlier c.planned.call order.0 in
     let g = got_push x earlier c in
@@ -145,7 +146,7 @@ counts rows x earlier (c ∷ cs) order so_far =
       put_once = omega (arith, p, a.put_once so_far.put_once);
       got_first = λ some. first_of_either (put_in x earlier) (put x c.planned.call) (omega (arith, some, p)) (λ old. omega (arith, g, so_far.got_first old)) (λ own. omega (arith, g, a.got_first own));
     } in
-    subst (Counts x) (append-one earlier c cs) (counts rows x (earlier ++ c ∷ []) cs order.1 next)
+    subst (Counts x) (append_snoc earlier c cs) (counts rows x (earlier ++ c ∷ []) cs order.1 next)
 
 pub counted : (input : Input) (x : ℕ) → IsValid input → Counts x input.asked.calls
 counted input x valid = counts input.rows x [] input.asked.calls (in_order input [] input.asked.calls refl valid) (record { got_once = omega arith; put_once = omega arith; got_first = λ some. absurd (omega arith) })

@@ -1,5 +1,5 @@
 -- Each row keeps what holds between any two acts.
-use Rattle.std.proofs.Common.{◌≡◌, ℕ, ◌+◌, List, [], ◌∷◌, ◌++◌, map, Some, refl, sym, ap, subst}
+use Rattle.std.proofs.Common.{◌≡◌, ℕ, ◌+◌, List, [], ◌++◌, map, Some, refl, sym, subst}
 use Rattle.std.specs.List.{slice_get, slice_set}
 use Rattle.tc_units.specs.declared.spans.Run.{Run}
 use Rattle.tc_model.specs.declared.answers.CallLine.{CallLine}
@@ -16,13 +16,10 @@ use Rattle.alloc_rules.proofs.SetAct.{set_span}
 use Rattle.alloc_rules.proofs.LookupAct.{lookup}
 use Rattle.alloc_rules.proofs.ClearAct.{clear_span}
 use Rattle.alloc_rules.proofs.FreeAct.{give_back}
-
-append-none : {C : Type 0} (xs : List C) → xs ++ [] ≡ xs
-append-none [] = refl
-append-none (x ∷ xs) = ap (λ r. x ∷ r) (append-none xs)
+use Rattle.std.proofs.lemmas.List.{append-nil}
 
 quiet : (m : Setup) (s : State) (cs : List CallLine) → Facts m s cs → Facts m s (cs ++ [])
-quiet m s cs f = subst (Facts m s) (sym (append-none cs)) f
+quiet m s cs f = subst (Facts m s) (sym (append-nil cs)) f
 
 pub row_facts : (m : Setup) (s : State) (cs : List CallLine) (t : ℕ) (l : Local) {heap spans : List Run} {names : List NameState} {l' : Local} {new : List Decided} → Facts m s cs → slice_get s.locals t ≡ Some l → Row m s l heap spans names l' new → Facts m (record { heap = heap; spans = spans; names = names; locals = slice_set s.locals t l' }) (cs ++ map (told t) new)
 row_facts m s cs t l f local (NewNone label size is) = new_none m s cs t l label size f local is

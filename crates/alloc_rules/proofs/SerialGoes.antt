@@ -17,7 +17,7 @@ use Rattle.tc_model.specs.Steps.{stepped}
 use Rattle.tc_model.specs.Replays.{done_by, done_in}
 use Rattle.tc_model.specs.Calls.{picks_of}
 use Rattle.tc_model.specs.Serial.{next_turn}
-use Rattle.tc_model.proofs.Lists.{append-one}
+use Rattle.std.proofs.Math.Seq.{append_snoc}
 use Rattle.tc_model.proofs.CallSteps.{picks-cons, picks-push_same, picks-push_other}
 use Rattle.name_table.specs.declared.table.NameState.{NameState}
 use Rattle.name_table.specs.declared.table.NameState.TheVariants as name
@@ -31,7 +31,8 @@ use Rattle.call_steps.specs.Local.{Local}
 use Rattle.call_steps.specs.Acts.{is_unpublished, waits_for}
 use Rattle.alloc_rules.specs.State.{State, first_of}
 use Rattle.alloc_rules.specs.Weights.{got, is_out}
-use Rattle.alloc_rules.specs.Scripts.{call_at, IsOfCall, IsIn, AreIn}
+use Rattle.alloc_rules.specs.Scripts.{IsOfCall, IsIn, AreIn}
+use Rattle.call_steps.specs.Kept.{call_at}
 use Rattle.alloc_rules.specs.Machine.{Part, Parts, parts_of, rules, thread_of, setup_of, turns}
 use Rattle.alloc_rules.specs.Valid.{got_in, IsInOrder, IsValid}
 use Rattle.alloc_rules.proofs.Standing.{bit_is}
@@ -177,7 +178,7 @@ module _ (input : Input) (valid : IsValid input) (p : Parts) (s : State) (names 
       λ k. elim k as (λ b. ltb (picks_of c.thread.0 (turns_of before)) (done c.thread.0) ≡ b → cond b (next_turn done (turns_of before ++ c.thread.0 ∷ []) (turns_of cs)) (Some c.thread.0) ≡ Some t → stepped (rules input) w t ≡ step.Moved) [
         | true ↦ λ test go.
             let early : picks_of c.thread.0 (turns_of before) < done c.thread.0 = ltb-true (picks_of c.thread.0 (turns_of before)) (done c.thread.0) test in
-            walk (before ++ c ∷ []) cs (is ∙ sym (append-one before c cs))
+            walk (before ++ c ∷ []) cs (is ∙ sym (append_snoc before c cs))
             (λ u. subst (λ us. picks_of u us ≤ done u) (sym (turns-push before c))
             (elim (cases_eq c.thread.0 u) [
               | inl same ↦ subst (λ v. picks_of v (turns_of before ++ c.thread.0 ∷ []) ≤ done v) same (omega (arith, picks-push_same c.thread.0 (turns_of before), early))

@@ -32,7 +32,8 @@ use Rattle.call_steps.specs.declared.step.Step.TheVariants as does
 use Rattle.call_steps.specs.Local.{Local}
 use Rattle.call_steps.specs.Acts.{heap_after, map_after, names_after, after_new, after_lookup, after_take}
 use Rattle.alloc_rules.specs.State.{State, first_of}
-use Rattle.alloc_rules.specs.Scripts.{call_at, IsOfCall, AreIn}
+use Rattle.alloc_rules.specs.Scripts.{IsOfCall, AreIn}
+use Rattle.call_steps.specs.Kept.{call_at}
 use Rattle.alloc_rules.specs.Machine.{Part, Parts, parts_of, place_of, after, rules, turns, thread_of, setup_of}
 use Rattle.alloc_rules.specs.Machine as part
 use Rattle.alloc_rules.specs.Valid.{IsValid}

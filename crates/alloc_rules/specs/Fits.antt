@@ -1,41 +1,10 @@
--- What an act needs of its part: each condition of a lower call, by the row.
-use Rattle.std.specs.Prelude.{◌≡◌, ◌≢◌, ◌<◌, ◌*◌, ◌/◌, List, length, find, All, Contains, Some}
-use Rattle.tc_units.specs.Units.{page_bytes, huge_bytes, pages_holding}
-use Rattle.tc_units.specs.declared.spans.SpanRef.{SpanRef}
-use Rattle.page_map.specs.Spans.{SpanMap, holds, IsInside, AreApart}
-use Rattle.name_table.specs.declared.table.NameState.{NameState}
-use Rattle.name_table.specs.declared.table.NameState.TheVariants as name
-use Rattle.name_table.specs.Names.{state_of}
-use Rattle.heap_rules.specs.Heap as heaps
-use Rattle.call_steps.specs.declared.step.HeapStep.{HeapStep}
-use Rattle.call_steps.specs.declared.step.HeapStep.TheVariants.{New, GiveBack}
-use Rattle.call_steps.specs.declared.step.MapStep.{MapStep}
-use Rattle.call_steps.specs.declared.step.MapStep.TheVariants.{Set, Lookup, Clear}
-use Rattle.call_steps.specs.declared.step.NamesStep.{NamesStep}
-use Rattle.call_steps.specs.declared.step.NamesStep.TheVariants.{Publish, Take}
+-- The part is the one that the next act is on, and fits it.
 use Rattle.call_steps.specs.declared.step.Step.{Step}
 use Rattle.call_steps.specs.declared.step.Step.TheVariants as does
 use Rattle.call_steps.specs.Local.{Local}
-use Rattle.call_steps.specs.Acts.{large}
+use Rattle.call_steps.specs.Fits.{FitsHeap, FitsMap, FitsNames}
 use Rattle.alloc_rules.specs.Machine.{Part, Heap, Map, Names}
 
--- New asks for pages, and a run that is given back lives
-abbrev pub FitsHeap : heaps.Heap → HeapStep → Type 0
-FitsHeap heap (New label size) = 0 < pages_holding size
-FitsHeap heap (GiveBack label run) = Contains heap.runs run
-
--- A span that is set lies in the arena and meets no span, one that is looked up is there, and so is one that is cleared.
-abbrev pub FitsMap : SpanMap → MapStep → Type 0
-FitsMap map (Set label run) = IsInside map.huge (large run) × All (AreApart (large run)) map.spans
-FitsMap map (Lookup label addr) = (span : SpanRef) × (find (holds (addr.0 / page_bytes)) map.spans ≡ Some span) × (addr.0 < 4097 * huge_bytes)
-FitsMap map (Clear label run) = Contains map.spans (large run)
-
--- A label is published once, and taken once.
-abbrev pub FitsNames : List NameState → NamesStep → Type 0
-FitsNames names (Publish label value) = (label.0 < length names) × (state_of names label.0 ≡ name.Unpublished)
-FitsNames names (Take label) = (label.0 < length names) × (state_of names label.0 ≢ name.Taken)
-
--- the part is the one that the next act is on, and fits it
 abbrev pub fits_step : Part → Step → Type 0
 fits_step (Heap heap) (does.Heap row) = FitsHeap heap row
 fits_step (Map map) (does.Map row) = FitsMap map row

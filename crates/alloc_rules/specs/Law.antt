@@ -14,12 +14,12 @@ use Rattle.name_table.specs.declared.table.NameState.TheVariants as name
 use Rattle.name_table.specs.Names.{state_of}
 use Rattle.heap_rules.specs.Sound as heaps
 use Rattle.heap_rules.specs.New.{new, none_fits}
-use Rattle.call_steps.specs.Local.{Local, Decided}
+use Rattle.call_steps.specs.Local.{Local, Decided, under}
 use Rattle.call_steps.specs.Acts.{run_of}
 use Rattle.alloc_rules.specs.State.{bit, runs_like, runs_at, calls}
 use Rattle.alloc_rules.specs.Weights.{owns_at, named_at, off_map, unpublished, untaken, is_out, is_taken}
 use Rattle.alloc_rules.specs.Machine.{Parts, parts_of, rules, turns}
-use Rattle.alloc_rules.specs.Scripts.{call_at, under}
+use Rattle.call_steps.specs.Kept.{call_at}
 use Rattle.alloc_rules.specs.Fits.{fits}
 use Rattle.alloc_rules.specs.Valid.{IsValid}
 

@@ -1,5 +1,5 @@
 -- Where a local is in its script, and that its decided calls are the first ones of it.
-use Rattle.std.specs.Prelude.{◌≡◌, ℕ, ◌+◌, ◌<◌, true, List, length, Option, Some, None, option_map, slice_get}
+use Rattle.std.specs.Prelude.{◌≡◌, ℕ, ◌+◌, ◌<◌, true, List, length, Option, Some, None, slice_get}
 use Rattle.tc_units.specs.declared.units.Label.{Label}
 use Rattle.tc_model.specs.declared.calls.Call.{Call}
 use Rattle.tc_model.specs.declared.calls.Call.TheVariants.{Malloc, Free}
@@ -11,13 +11,10 @@ use Rattle.call_steps.specs.declared.step.MapStep.TheVariants.{Set, Lookup, Clea
 use Rattle.call_steps.specs.declared.step.NamesStep.TheVariants.{Publish, Take}
 use Rattle.call_steps.specs.declared.step.Step.{Step}
 use Rattle.call_steps.specs.declared.step.Step.TheVariants as does
-use Rattle.call_steps.specs.Local.{Local, Decided}
+use Rattle.call_steps.specs.Local.{Local, Decided, under}
+use Rattle.call_steps.specs.Kept.{call_at}
 use Rattle.alloc_rules.specs.State.{State, Setup, Thread}
 use Rattle.alloc_rules.specs.Weights.{is_out}
-
--- a script's call at a place
-abbrev pub call_at : List Planned → ℕ → Option Call
-call_at script j = option_map (λ p. p.call) (slice_get script j)
 
 -- the step is one of this call, or the script has ended
 abbrev pub IsOfCall : Step → Option Call → Type 0
@@ -29,12 +26,6 @@ IsOfCall (does.Map (Lookup label a)) call = call ≡ Some (Free label)
 IsOfCall (does.Map (Clear label r)) call = call ≡ Some (Free label)
 IsOfCall (does.Heap (GiveBack label r)) call = call ≡ Some (Free label)
 IsOfCall does.Ended call = call ≡ None
-
--- whether the call under way is decided: an allocation is, once New has answered
-abbrev pub under : Step → ℕ
-under (does.Map (Set label r)) = 1
-under (does.Names (Publish label value)) = 1
-under step = 0
 
 -- A local is at the call of its script that its number of ended calls says; the labels that ended calls allocated are
 -- out; and each call is decided once, in the script's order.

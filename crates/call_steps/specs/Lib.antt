@@ -1,2 +1,4 @@
 pub mod Local
 pub mod Acts
+pub mod Fits
+pub mod Kept

@@ -1,7 +1,8 @@
 -- What one thread has: the state of its call under way, the calls behind it, and its answers.
-use Rattle.std.specs.Prelude.{ℕ, ◌+◌, List, [], ◌∷◌, ◌++◌}
+use Rattle.std.specs.Prelude.{ℕ, ◌+◌, List, [], ◌∷◌, ◌++◌, Option, Some, None}
 use Rattle.tc_units.specs.declared.units.ThreadNo.{ThreadNo}
 use Rattle.tc_units.specs.declared.units.CpuNo.{CpuNo}
+use Rattle.tc_units.specs.declared.units.Label.{Label}
 use Rattle.tc_model.specs.declared.calls.Call.{Call}
 use Rattle.tc_model.specs.declared.calls.Call.TheVariants.{Malloc, Free, Release, Drain, Resize}
 use Rattle.tc_model.specs.declared.calls.Planned.{Planned}
@@ -9,8 +10,9 @@ use Rattle.tc_model.specs.declared.answers.Answer.{Answer}
 use Rattle.tc_model.specs.declared.answers.CallLine.{CallLine}
 use Rattle.call_steps.specs.declared.step.Step.{Step}
 use Rattle.call_steps.specs.declared.step.Step.TheVariants as step
-use Rattle.call_steps.specs.declared.step.HeapStep.TheVariants.{New}
-use Rattle.call_steps.specs.declared.step.NamesStep.TheVariants.{Take}
+use Rattle.call_steps.specs.declared.step.HeapStep.TheVariants.{New, GiveBack}
+use Rattle.call_steps.specs.declared.step.MapStep.TheVariants.{Set, Lookup, Clear}
+use Rattle.call_steps.specs.declared.step.NamesStep.TheVariants.{Publish, Take}
 
 -- a call that was decided, with its answer and the number of the act that decided it among the thread's own acts
 pub record Decided : Type 0 where
@@ -49,6 +51,20 @@ others (p ∷ rest) = rest
 -- a thread before its first act
 abbrev pub first_local : ThreadNo → CpuNo → List Planned → Local
 first_local thread cpu script = record { thread = thread; cpu = cpu; step = first_step script; rest = others script; ended = 0; acts = 0; answers = [] }
+
+-- whether the call under way is decided: an allocation is, once New has answered
+abbrev pub under : Step → ℕ
+under (step.Map (Set label run)) = 1
+under (step.Names (Publish label value)) = 1
+under other = 0
+
+-- the label of a free under way
+abbrev pub freed_by : Step → Option Label
+freed_by (step.Heap (GiveBack label run)) = Some label
+freed_by (step.Map (Lookup label addr)) = Some label
+freed_by (step.Map (Clear label run)) = Some label
+freed_by (step.Names (Take label)) = Some label
+freed_by other = None
 
 -- an answer that the next act decides
 abbrev pub decides : Local → Call → Answer → List Decided

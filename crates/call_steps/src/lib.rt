@@ -2,6 +2,12 @@
 //! part. Today these are the rows of large blocks.
 #![tactic(auto)]
 
+mod acts;
+mod local;
 mod step;
+#[cfg(test)]
+mod tests;
 
+pub use acts::{act_map, act_names, waits};
+pub use local::Local;
 pub use step::{HeapStep, MapStep, NamesStep, Step, Target};
