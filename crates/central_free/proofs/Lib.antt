@@ -1,7 +1,9 @@
-pub mod BestFacts
+pub mod RankedFacts
 pub mod ChoiceFacts
 pub mod SoundFacts
 pub mod TookFacts
 pub mod PutFacts
 pub mod AddFacts
 pub mod PutAllFacts
+pub mod RankFacts
+pub mod RankWrites

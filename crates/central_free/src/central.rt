@@ -1,12 +1,13 @@
 //! The spans of one size class in the order of their first pages, and which of them serves next.
-ghost use Rattle.std.specs.Prelude.{◌≡◌, ◌≢◌, ℕ, ◌+◌, ◌-◌, ◌*◌, ◌/◌, ◌<◌, ◌≤◌, ◌↔◌, ◌⊎◌, Bool, true, [], ◌∷◌, ◌++◌, All, IfOk, MatchOption, OnErr, OnOk, Some, None, count_by, drop, length, map, min, nat_le, replicate};
+ghost use Rattle.std.specs.Prelude.{◌≡◌, ◌≢◌, ℕ, ◌+◌, ◌-◌, ◌*◌, ◌/◌, ◌<◌, ◌≤◌, ◌↔◌, ◌⊎◌, Bool, true, [], ◌∷◌, ◌++◌, All, IfOk, MatchOption, OnErr, OnOk, Some, None, count_by, drop, length, map, min, nat_le, replicate, vec_len, vec_capacity, AllPairs};
 ghost use Rattle.std.specs.List.{flat_map, prefix_len};
 ghost use Rattle.std.specs.Option.{option_to_list};
 ghost use Rattle.tc_units.specs.Units.{page_bytes};
 ghost use Rattle.tc_units.specs.declared.units.Addr.{Addr};
 ghost use Rattle.span_list.specs.Span.{all_free, objects_of, free_objects, free_count, first_byte};
-ghost use Rattle.central_free.specs.Central.{taken_one, taken, has_free, weight, IsBestPlace, opened, opening, with_span, put_one, put_all, IsTakenIn, AreDifferent, IsApartFrom, IsSound, free_in};
+ghost use Rattle.central_free.specs.Central.{taken_one, taken, has_free, weight, IsBestPlace, opened, opening, with_span, put_one, put_all, IsTakenIn, AreDifferent, IsApartFrom, IsBefore, IsRanked, IsSound, free_in};
 
+use crate::ranking::Ranking;
 use span_list::Span;
 use std::alloc::{AllocError, Global};
 use std::marker::Model;
@@ -17,24 +18,51 @@ use tc_units::{Addr, Bag, ClassRow, SpanRef, addr_of};
 #[derive(Drop)]
 pub struct CentralFree {
     row: ClassRow,
+    /// In the order of first pages.
     spans: Vec<Span>,
+    /// How much each of them is to be emptied.
+    ranking: Ranking,
 }
 
 impl Model for CentralFree {
-    ghost use Rattle.central_free.specs.Central.{Central, IsSound};
+    ghost use Rattle.central_free.specs.Central.{Central, IsSound, IsRanked};
 
     ghost Value = { Central };
 
     ghost view = { λ c. record { row = c.row; spans = c.spans.items } };
 
-    ghost invariant = { λ c. IsSound (record { row = c.row; spans = c.spans.items }) };
+    ghost invariant = { λ c. IsSound (record { row = c.row; spans = c.spans.items }) × IsRanked c.spans.items c.ranking };
 }
 
 /// How much a span is to be emptied: its taken objects, and 0 where none is free.
-fn weight(span: &Span) -> u32
+pub fn weight(span: &Span) -> u32
     ensures { result ≡ weight span.now }
 {
     if span.free() == 0 { 0 } else { span.taken() }
+}
+
+/// How many spans begin by an address.
+fn begun_by(spans: &[Span], address: u64) -> usize
+    requires { AllPairs IsBefore spans.now }
+    ensures { result ≡ prefix_len (λ s. nat_le (first_byte s.span) address) spans.now }
+{
+    spans.partition_point(|span| addr_of(span.span().first).0 <= address)
+}
+
+/// Makes room for one more span, and for its place in the ranking.
+fn make_room(spans: &mut Vec<Span>, ranking: &mut Ranking) -> Result<(), AllocError>
+    requires { IsRanked spans.old.items ranking.old }
+    ensures spans { spans.new.items ≡ spans.old.items }
+    ensures room { OnOk result (vec_len spans.new < vec_capacity spans.new) }
+    ensures place { OnOk result (length spans.new.items < length ranking.new) }
+    ensures ranked { IsRanked spans.new.items ranking.new }
+{
+    spans.reserve(1)?;
+    if spans.len() == ranking.len() {
+        let places = 2 * spans.len() + 1;
+        *ranking = Ranking::open(*spans.allocator(), places, spans)?;
+    }
+    Ok(())
 }
 
 /// Takes the first `n` objects of a span all of which are free, or all where it has fewer.
@@ -68,23 +96,8 @@ impl CentralFree {
         CentralFree {
             row,
             spans: Vec::new(alloc),
+            ranking: Ranking::empty(alloc),
         }
-    }
-
-    /// Where the span stands that serves next.
-    fn best(&self) -> Option<usize>
-        ensures { IsBestPlace (map weight self.now.spans) result }
-    {
-        let mut best = None;
-        let mut most = 0;
-        for (place, span) in self.spans.iter().enumerate() {
-            let weight = weight(span);
-            if weight > most {
-                most = weight;
-                best = Some(place);
-            }
-        }
-        best
     }
 
     /// Takes one object, if one is free.
@@ -94,8 +107,10 @@ impl CentralFree {
             ≡ count_by test (free_in self.old.spans) }
         ensures sound { IsSound self.new }
     {
-        let place = self.best()?;
-        self.spans[place].take()
+        let place = self.ranking.best()?;
+        let object = self.spans[place].take();
+        self.ranking.set(place, weight(&self.spans[place]));
+        object
     }
 
     /// Takes up to `n` objects one by one, each the first free one of the span with most taken objects
@@ -122,14 +137,6 @@ impl CentralFree {
             }
         }
         n
-    }
-
-    /// How many spans begin by an address.
-    fn begun_by(&self, address: u64) -> usize
-        ensures { result ≡ prefix_len (λ s. nat_le (first_byte s.span) address) self.now.spans }
-    {
-        self.spans
-            .partition_point(|span| addr_of(span.span().first).0 <= address)
     }
 
     /// Adds a span of the row's pages, and takes its first `n` objects, or all where it has fewer. Appends
@@ -160,11 +167,14 @@ impl CentralFree {
         ensures moves { OnOk result ((test : Addr → Bool) → count_by test (free_in self.new.spans) + count_by test out.new.items
             ≡ count_by test (free_in self.old.spans) + count_by test out.old.items + count_by test (objects_of self.old.row.size span)) }
     {
-        self.spans.reserve(1)?;
+        make_room(&mut self.spans, &mut self.ranking)?;
         let mut added = Span::new(*self.spans.allocator(), span, self.row.size)?;
         let came = take_first(&mut added, n, out);
-        let place = self.begun_by(addr_of(span.first).0);
+        let place = begun_by(&self.spans, addr_of(span.first).0);
+
+        // It fits: the room was made above.
         let _ = self.spans.insert(place, added);
+        self.ranking.fill(&self.spans);
         Ok(came)
     }
 
@@ -178,10 +188,13 @@ impl CentralFree {
         ensures moves { (test : Addr → Bool) → count_by test (free_in self.new.spans) + count_by test (flat_map (objects_of self.old.row.size) (option_to_list result))
             ≡ count_by test (free_in self.old.spans) + count_by test (object ∷ []) }
     {
-        let place = self.begun_by(object.0) - 1;
+        let place = begun_by(&self.spans, object.0) - 1;
         if self.spans[place].put(object) {
-            Some(self.spans.remove(place).span())
+            let left = self.spans.remove(place).span();
+            self.ranking.fill(&self.spans);
+            Some(left)
         } else {
+            self.ranking.set(place, weight(&self.spans[place]));
             None
         }
     }

@@ -3,6 +3,7 @@
 #![tactic(auto)]
 
 mod central;
+mod ranking;
 #[cfg(test)]
 mod tests;
 

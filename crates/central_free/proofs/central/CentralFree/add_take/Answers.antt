@@ -1,9 +1,9 @@
-use Rattle.std.proofs.Common.{◌≡◌, ◌+◌, ◌^◌, ◌<◌, ◌≤◌, nat_le, List, length, count_by, sym, ap, subst, arith, rules}
+use Rattle.std.proofs.Common.{◌≡◌, ◌+◌, ◌^◌, ◌<◌, ◌≤◌, nat_le, List, map, length, get_or, count_by, sym, ◌∙◌, ap, subst, arith, rules}
 use Rattle.std.specs.List.{prefix_len}
 use Rattle.std.proofs.lemmas.List.Sums.{prefix_len-le-length}
 use Rattle.span_list.specs.Span.{SpanState, first_byte, objects_in, all_free, free_objects}
 use Rattle.tc_units.specs.declared.spans.ClassRow.{ClassRow}
-use Rattle.central_free.specs.Central.{Central, opened, opening, with_span, IsSound, free_in, IsTakenIn}
+use Rattle.central_free.specs.Central.{Central, weight, opened, opening, with_span, IsSound, free_in, IsTakenIn}
 use Rattle.central_free.proofs.AddFacts.{length-opening, some_objects, IsOfRow-opened, IsSound-with_span, count-with_span, opening-taken, opening-different}
 use Rattle.std.specs.Prelude.{All}
 use Rattle.central_free.proofs.central.CentralFree.add_take.Goals as goal
@@ -13,30 +13,38 @@ central_of row spans = record { row = row; spans = spans }
 
 pub insert-requires : goal.insert-requires
 insert-requires c =
-    let place : c.begun_by-place.result ≡ prefix_len (λ s. nat_le (first_byte s.span) c.addr_of.result.0) c.reserve.new.self.items = c.begun_by-place.ensures in
-    omega (arith, place, prefix_len-le-length (λ (s : SpanState). nat_le (first_byte s.span) c.addr_of.result.0) c.reserve.new.self.items)
+    let place : c.begun_by-place.result ≡ prefix_len (λ s. nat_le (first_byte s.span) c.addr_of.result.0) c.make_room.new.spans.items = c.begun_by-place.ensures ∙ ap (prefix_len (λ (s : SpanState). nat_le (first_byte s.span) c.addr_of.result.0)) c.deref.ensures.value in
+    omega (arith, place, prefix_len-le-length (λ (s : SpanState). nat_le (first_byte s.span) c.addr_of.result.0) c.make_room.new.spans.items)
 
 -- the spans with the new one
-added : (c : goal.Joined-insert) → central_of c.self.inside.row c.insert.new.self.items ≡ central_of c.args.self.now.row (with_span (opened c.args.span c.args.self.now.row.size c.args.n) c.args.self.now.spans)
+added : (c : goal.After-fill) → central_of c.self.inside.row c.insert.new.self.items ≡ central_of c.args.self.now.row (with_span (opened c.args.span c.args.self.now.row.size c.args.n) c.args.self.now.spans)
 added c = search rules
 
-sound : (c : goal.Joined-insert) → IsSound (central_of c.args.self.now.row (with_span (opened c.args.span c.args.self.now.row.size c.args.n) c.args.self.now.spans))
+sound : (c : goal.After-fill) → IsSound (central_of c.args.self.now.row (with_span (opened c.args.span c.args.self.now.row.size c.args.n) c.args.self.now.spans))
 sound c =
-    let before : IsSound c.args.self.now = subst IsSound c.self.view_is c.self.invariant in
+    let before : IsSound c.args.self.now = subst IsSound c.self.view_is c.self.invariant.0 in
     let sizes : c.args.self.now.row.size < 2 ^ 32 = search rules in
     let first : c.args.span.first.0 < 2 ^ 32 = search rules in
     let pages : c.args.self.now.row.pages ≤ 255 = search rules in
     IsSound-with_span c.args.self.now.row c.args.self.now.spans (opened c.args.span c.args.self.now.row.size c.args.n) before (IsOfRow-opened c.args.self.now.row c.args.span c.args.n before.some sizes before.fits first pages c.requires.pages c.requires.some) c.requires.apart
 
-pub invariant_of-self-3 : goal.invariant_of-self-3
-invariant_of-self-3 c = subst IsSound (sym (added c)) (sound c)
+pub invariant_of-self-2 : goal.invariant_of-self-2
+invariant_of-self-2 c =
+    let filled : c.deref-2.result.now ≡ c.insert.new.self.items = c.deref-2.ensures.value in
+    let fits : length c.deref-2.result.now ≤ length c.make_room.new.ranking = search rules in (
+      subst IsSound (sym (added c)) (sound c),
+      record {
+        room = omega (arith, fits, ap length filled, c.fill.ensures.places);
+        weights = λ k. c.fill.ensures.weights k ∙ ap (λ xs. get_or (map weight xs) k 0) filled;
+      },
+    )
 
 pub returns-clause-sound : goal.returns-clause-sound
 returns-clause-sound c = subst IsSound (sym (added c)) (sound c)
 
 pub returns-clause-any : goal.returns-clause-any
 returns-clause-any c =
-    let before : IsSound c.args.self.now = subst IsSound c.self.view_is c.self.invariant in
+    let before : IsSound c.args.self.now = subst IsSound c.self.view_is c.self.invariant.0 in
     let count : c.take_first-came.result ≡ length (opening c.args.span c.args.self.now.row.size c.args.n) = search rules in
     let objects : 0 < objects_in c.args.span.pages c.args.self.now.row.size = some_objects c.args.span.pages c.args.self.now.row.size before.some (omega (arith, before.fits, c.requires.pages)) in
     omega (arith, count, length-opening c.args.span c.args.self.now.row.size c.args.n, c.requires.some, objects)
@@ -56,5 +64,5 @@ returns-clause-given c =
 
 pub returns-clause-different : goal.returns-clause-different
 returns-clause-different c =
-    let before : IsSound c.args.self.now = subst IsSound c.self.view_is c.self.invariant in
+    let before : IsSound c.args.self.now = subst IsSound c.self.view_is c.self.invariant.0 in
     opening-different c.args.span c.args.self.now.row.size c.args.n before.some

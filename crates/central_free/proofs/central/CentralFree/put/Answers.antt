@@ -15,7 +15,7 @@ at_most_one (Some s) = omega arith
 
 pub loop-object-init : goal.loop-object-init
 loop-object-init c =
-    IsPutting-none c.args.list.now c.args.self.now c.args.freed.now (subst IsSound c.self.view_is c.self.invariant) c.requires.taken
+    IsPutting-none c.args.list.now c.args.self.now c.args.freed.now (subst IsSound c.self.view_is c.self.invariant.0) c.requires.taken
 
 pub put_one-requires : goal.put_one-requires
 put_one-requires c = c.loop-object.invariant.taken c.loop-object.object-index (record { 0 = 0 }) (omega arith) c.loop-object-test.true

@@ -5,7 +5,7 @@ use Rattle.central_free.proofs.central.CentralFree.take.Goals as goal
 
 pub loop-came-init : goal.loop-came-init
 loop-came-init c =
-    IsTaking-none c.args.n c.args.self.now c.args.out.now (subst IsSound c.self.view_is c.self.invariant)
+    IsTaking-none c.args.n c.args.self.now c.args.out.now (subst IsSound c.self.view_is c.self.invariant.0)
 
 pub push-requires : goal.push-requires
 push-requires c = omega (arith, c.loop-came.invariant.spare)

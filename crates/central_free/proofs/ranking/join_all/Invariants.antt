@@ -1,0 +1,7 @@
+use Rattle.std.proofs.Common.{◌-◌}
+use Rattle.central_free.proofs.RankWrites.{HasSameLeaves, IsJoinedBehind}
+use Rattle.central_free.proofs.ranking.join_all.Given as goal
+
+abbrev pub invariant-loop-above : goal.invariant-loop-above
+invariant-loop-above l =
+    HasSameLeaves l.places l.initial.nodes l.nodes × IsJoinedBehind l.places l.nodes (l.places - l.above)

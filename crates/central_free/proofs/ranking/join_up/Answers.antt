@@ -1,0 +1,29 @@
+use Rattle.std.proofs.Common.{◌≡◌, ◌*◌, ◌/◌, List, length, set, refl, sym, subst, arith}
+use Rattle.central_free.specs.declared.ranking.Rank.{Rank}
+use Rattle.central_free.specs.Ranking.{IsJoinedBut}
+use Rattle.central_free.proofs.RankWrites.{HasSameLeaves-more, HasLeaves-same, weights_of-same, IsJoinedBut-up, IsJoined-all}
+use Rattle.central_free.proofs.ranking.join_up.Goals as goal
+
+pub loop-node-init : goal.loop-node-init
+loop-node-init c = (c.requires.inside, λ k less. refl, c.requires.others)
+
+pub loop-node-preserved : goal.loop-node-preserved
+loop-node-preserved c =
+    let m = c.loop-node.node / 2 in
+    let nodes : List Rank = c.loop-node.nodes in
+    let size : length nodes ≡ 2 * c.args.places = omega (arith, c.requires.size) in
+    let P : Rank → Type 0 = λ r. IsJoinedBut c.args.places (set nodes m r) (m / 2) in (
+      omega (arith, c.loop-node.invariant.0),
+      HasSameLeaves-more c.args.places c.args.nodes.now nodes m c.better.result (omega (arith, c.loop-node.invariant.0)) c.loop-node.invariant.1,
+      subst P (sym c.better.ensures) (IsJoinedBut-up c.args.places nodes m (omega arith) (omega (arith, c.loop-node.invariant.0)) size c.loop-node.invariant.2),
+    )
+
+pub returns-clause-leaves : goal.returns-clause-leaves
+returns-clause-leaves c =
+    HasLeaves-same c.args.places c.args.nodes.now c.loop-node.nodes c.requires.leaves c.loop-node.invariant.1
+
+pub returns-clause-joined : goal.returns-clause-joined
+returns-clause-joined c = IsJoined-all c.args.places c.loop-node.nodes c.loop-node.node (omega arith) c.loop-node.invariant.2
+
+pub returns-clause-weights : goal.returns-clause-weights
+returns-clause-weights c = weights_of-same c.args.places c.args.nodes.now c.loop-node.nodes c.loop-node.invariant.1

@@ -1,0 +1,11 @@
+use Rattle.std.proofs.Common.{◌/◌, ◌*◌, ◌<◌}
+use Rattle.central_free.specs.Ranking.{IsJoinedBut}
+use Rattle.central_free.proofs.RankWrites.{HasSameLeaves}
+use Rattle.central_free.proofs.ranking.join_up.Given as goal
+
+abbrev pub invariant-loop-node : goal.invariant-loop-node
+invariant-loop-node l =
+    (l.node < 2 * l.places) × HasSameLeaves l.places l.initial.nodes l.nodes × IsJoinedBut l.places l.nodes (l.node / 2)
+
+abbrev pub decreases-loop-node : goal.decreases-loop-node
+decreases-loop-node l = l.node
