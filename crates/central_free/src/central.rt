@@ -222,3 +222,6 @@ impl CentralFree {
         }
     }
 }
+
+#[cfg(test)]
+mod tests;

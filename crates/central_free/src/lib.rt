@@ -4,7 +4,5 @@
 
 mod central;
 mod ranking;
-#[cfg(test)]
-mod tests;
 
 pub use central::CentralFree;

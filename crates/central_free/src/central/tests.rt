@@ -1,0 +1,127 @@
+//! Each public function, with answers that were worked out by hand.
+ghost use Rattle.std.specs.Prelude.{◌≡◌, ◌<◌, ◌≤◌, All};
+ghost use Rattle.std.specs.Bool.{OnTrue};
+ghost use Rattle.central_free.specs.Central.{IsApartFrom};
+
+use super::{CentralFree, weight};
+use std::test::Fail;
+use tc_units::{Addr, Bag, Class, ClassRow, Page, SpanKind, SpanRef};
+
+fn span_at(first: u32, pages: u32) -> SpanRef
+    ensures { result.pages ≡ pages }
+{
+    SpanRef {
+        first: Page(first),
+        pages,
+        kind: SpanKind::Small(Class(2)),
+    }
+}
+
+#[test]
+fn all_objects_of_a_span(rt: HostRuntime) -> Result<(), Fail> {
+    let row = ClassRow {
+        size: 48,
+        pages: 1,
+        batch: 128,
+    };
+    let mut central = CentralFree::new(rt.alloc(), row);
+    let mut out = Bag::open(rt.alloc(), 256)?;
+    assert_eq!(rt; central.take(3, &mut out), 0);
+
+    // 170 objects of 48 bytes: 128 at once, then the other 42.
+    assert_eq!(rt; central.add_take(span_at(256, 1), 128, &mut out)?, 128);
+    assert_eq!(rt; central.take(0, &mut out), 0);
+    assert_eq!(rt; central.take(60, &mut out), 42);
+    assert_eq!(rt; central.take(1, &mut out), 0);
+    assert_eq!(rt; out.as_slice().len(), 170);
+    assert_eq!(rt;
+        out.as_slice().last().copied(),
+        Some(Addr(2097152 + 48 * 169))
+    );
+    Ok(())
+}
+
+#[test]
+fn a_span_whose_objects_are_all_back_leaves(rt: HostRuntime) -> Result<(), Fail> {
+    let row = ClassRow {
+        size: 48,
+        pages: 1,
+        batch: 32,
+    };
+    let span = span_at(300, 1);
+    let mut out = Bag::open(rt.alloc(), 3)?;
+    let mut freed = Bag::open(rt.alloc(), 3)?;
+    let mut central = CentralFree::new(rt.alloc(), row);
+    let came = central.add_take(span, 3, &mut out)?;
+    central.put(out.as_slice(), &mut freed);
+    assert_eq!(rt; came, 3);
+    assert_eq!(rt;
+        out.as_slice(),
+        [Addr(2457600), Addr(2457648), Addr(2457696)].as_slice()
+    );
+    assert_eq!(rt; freed.as_slice(), [span].as_slice());
+    out.clear();
+    assert_eq!(rt; central.take(1, &mut out), 0);
+    Ok(())
+}
+
+/// Whether a span has no page of those of the list.
+fn is_clear(central: &CentralFree, span: SpanRef) -> bool
+    ensures { OnTrue result (All (IsApartFrom span) central.now.spans) }
+{
+    let first = u64::from(span.first.0);
+    for other in &central.spans {
+        let held = other.span();
+        let other_first = u64::from(held.first.0);
+        if first + u64::from(span.pages) > other_first
+            && other_first + u64::from(held.pages) > first
+        {
+            return false;
+        }
+    }
+    true
+}
+
+/// The place of the span that serves next, by looking at every span.
+fn scanned(central: &CentralFree) -> Option<usize> {
+    let mut best = None;
+    let mut most = 0;
+    for (place, span) in central.spans.iter().enumerate() {
+        let heavy = weight(span);
+        if heavy > most {
+            most = heavy;
+            best = Some(place);
+        }
+    }
+    best
+}
+
+#[test]
+fn the_most_taken_span_serves_and_the_lowest_of_equals(rt: HostRuntime) -> Result<(), Fail> {
+    // Four objects of 2 KiB in a span. The spans are added in falling order, but for one.
+    let row = ClassRow {
+        size: 2048,
+        pages: 1,
+        batch: 32,
+    };
+    let mut central = CentralFree::new(rt.alloc(), row);
+    for (first, n) in [(340, 1), (330, 2), (320, 4), (310, 2), (300, 1), (305, 2)] {
+        let span = span_at(first, u32::from(central.row.pages));
+        assert!(rt; is_clear(&central, span));
+        let mut out = Bag::open(rt.alloc(), 4)?;
+        central.add_take(span, n, &mut out)?;
+        assert_eq!(rt; central.ranking.best(), scanned(&central));
+    }
+
+    // Of the spans with two taken objects the one at 305 begins first; then it has three and goes on.
+    for page in [305, 305, 310, 310, 330, 330, 300, 300, 300, 340, 340, 340] {
+        assert_eq!(rt; central.ranking.best(), scanned(&central));
+        assert_eq!(rt;
+            central.take_one().map(|object| object.0 / 8192),
+            Some(page)
+        );
+    }
+    assert_eq!(rt; central.ranking.best(), None);
+    assert_eq!(rt; central.take_one(), None);
+    Ok(())
+}
