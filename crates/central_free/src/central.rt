@@ -1,5 +1,5 @@
 //! The spans of one size class in the order of their first pages, and which of them serves next.
-ghost use Rattle.std.specs.Prelude.{◌≡◌, ◌≢◌, ℕ, ◌+◌, ◌-◌, ◌*◌, ◌/◌, ◌<◌, ◌≤◌, ◌↔◌, ◌⊎◌, Bool, true, [], ◌∷◌, ◌++◌, All, IfOk, MatchOption, OnErr, OnOk, Some, None, count_by, drop, length, map, min, nat_le, replicate, vec_len, vec_capacity, AllPairs};
+ghost use Rattle.std.specs.Prelude.{◌≡◌, ◌≢◌, ℕ, ◌+◌, ◌-◌, ◌*◌, ◌/◌, ◌<◌, ◌≤◌, ◌↔◌, ◌⊎◌, Bool, true, [], ◌∷◌, ◌++◌, All, IfOk, MatchOption, OnErr, OnOk, Some, None, count_by, drop, length, map, min, nat_le, replicate, slice_index, vec_len, vec_capacity, AllPairs};
 ghost use Rattle.std.specs.List.{flat_map, prefix_len};
 ghost use Rattle.std.specs.Option.{option_to_list};
 ghost use Rattle.tc_units.specs.Units.{page_bytes};
@@ -47,6 +47,21 @@ fn begun_by(spans: &[Span], address: u64) -> usize
     ensures { result ≡ prefix_len (λ s. nat_le (first_byte s.span) address) spans.now }
 {
     spans.partition_point(|span| addr_of(span.span().first).0 <= address)
+}
+
+/// Ranks spans anew once one was added at a place: behind the others it takes few steps.
+fn rank_added(ranking: &mut Ranking, spans: &[Span], place: usize)
+    requires inside { place < length spans.now }
+    requires room { length spans.now ≤ length ranking.old }
+    requires before { (k : ℕ) → k < place → slice_index ranking.old k ≡ slice_index (map weight spans.now) k }
+    requires behind { (k : ℕ) → length spans.now ≤ k → slice_index ranking.old k ≡ 0 }
+    ensures { IsRanked spans.now ranking.new }
+{
+    if place == spans.len() - 1 {
+        ranking.set(place, weight(&spans[place]));
+    } else {
+        ranking.fill(spans);
+    }
 }
 
 /// Makes room for one more span, and for its place in the ranking.
@@ -174,7 +189,7 @@ impl CentralFree {
 
         // It fits: the room was made above.
         let _ = self.spans.insert(place, added);
-        self.ranking.fill(&self.spans);
+        rank_added(&mut self.ranking, &self.spans, place);
         Ok(came)
     }
 

@@ -1,9 +1,10 @@
 use Rattle.std.proofs.Common.{◌≡◌, ◌+◌, ◌^◌, ◌<◌, ◌≤◌, nat_le, List, map, length, get_or, count_by, sym, ◌∙◌, ap, subst, arith, rules}
-use Rattle.std.specs.List.{prefix_len}
+use Rattle.std.specs.List.{prefix_len, insert}
+use Rattle.central_free.proofs.RankedFacts.{weights-insert_before}
 use Rattle.std.proofs.lemmas.List.Sums.{prefix_len-le-length}
 use Rattle.span_list.specs.Span.{SpanState, first_byte, objects_in, all_free, free_objects}
 use Rattle.tc_units.specs.declared.spans.ClassRow.{ClassRow}
-use Rattle.central_free.specs.Central.{Central, weight, opened, opening, with_span, IsSound, free_in, IsTakenIn}
+use Rattle.central_free.specs.Central.{Central, IsRanked, weight, opened, opening, with_span, IsSound, free_in, IsTakenIn}
 use Rattle.central_free.proofs.AddFacts.{length-opening, some_objects, IsOfRow-opened, IsSound-with_span, count-with_span, opening-taken, opening-different}
 use Rattle.std.specs.Prelude.{All}
 use Rattle.central_free.proofs.central.CentralFree.add_take.Goals as goal
@@ -17,10 +18,10 @@ insert-requires c =
     omega (arith, place, prefix_len-le-length (λ (s : SpanState). nat_le (first_byte s.span) c.addr_of.result.0) c.make_room.new.spans.items)
 
 -- the spans with the new one
-added : (c : goal.After-fill) → central_of c.self.inside.row c.insert.new.self.items ≡ central_of c.args.self.now.row (with_span (opened c.args.span c.args.self.now.row.size c.args.n) c.args.self.now.spans)
+added : (c : goal.After-rank_added) → central_of c.self.inside.row c.insert.new.self.items ≡ central_of c.args.self.now.row (with_span (opened c.args.span c.args.self.now.row.size c.args.n) c.args.self.now.spans)
 added c = search rules
 
-sound : (c : goal.After-fill) → IsSound (central_of c.args.self.now.row (with_span (opened c.args.span c.args.self.now.row.size c.args.n) c.args.self.now.spans))
+sound : (c : goal.After-rank_added) → IsSound (central_of c.args.self.now.row (with_span (opened c.args.span c.args.self.now.row.size c.args.n) c.args.self.now.spans))
 sound c =
     let before : IsSound c.args.self.now = subst IsSound c.self.view_is c.self.invariant.0 in
     let sizes : c.args.self.now.row.size < 2 ^ 32 = search rules in
@@ -28,16 +29,19 @@ sound c =
     let pages : c.args.self.now.row.pages ≤ 255 = search rules in
     IsSound-with_span c.args.self.now.row c.args.self.now.spans (opened c.args.span c.args.self.now.row.size c.args.n) before (IsOfRow-opened c.args.self.now.row c.args.span c.args.n before.some sizes before.fits first pages c.requires.pages c.requires.some) c.requires.apart
 
+pub rank_added-requires-clause-before : goal.rank_added-requires-clause-before
+rank_added-requires-clause-before c =
+    let filled : c.deref-2.result.now ≡ insert c.make_room.new.spans.items c.begun_by-place.result c.take_first-came.new.span = search rules in
+    let place : c.begun_by-place.result ≡ prefix_len (λ s. nat_le (first_byte s.span) c.addr_of.result.0) c.make_room.new.spans.items = c.begun_by-place.ensures ∙ ap (prefix_len (λ (s : SpanState). nat_le (first_byte s.span) c.addr_of.result.0)) c.deref.ensures.value in
+    let within : c.begun_by-place.result ≤ length c.make_room.new.spans.items = omega (arith, place, prefix_len-le-length (λ (s : SpanState). nat_le (first_byte s.span) c.addr_of.result.0) c.make_room.new.spans.items) in
+    λ k early.
+    weights-insert_before c.make_room.new.spans.items c.make_room.new.ranking c.begun_by-place.result c.take_first-came.new.span c.in_ok-make_room.ensures.ranked within k early ∙ ap (λ xs. get_or (map weight xs) k 0) (sym filled)
+
 pub invariant_of-self-2 : goal.invariant_of-self-2
 invariant_of-self-2 c =
     let filled : c.deref-2.result.now ≡ c.insert.new.self.items = c.deref-2.ensures.value in
-    let fits : length c.deref-2.result.now ≤ length c.make_room.new.ranking = search rules in (
-      subst IsSound (sym (added c)) (sound c),
-      record {
-        room = omega (arith, fits, ap length filled, c.fill.ensures.places);
-        weights = λ k. c.fill.ensures.weights k ∙ ap (λ xs. get_or (map weight xs) k 0) filled;
-      },
-    )
+    let P : List SpanState → Type 0 = λ xs. IsRanked xs c.rank_added.new.ranking in
+    (subst IsSound (sym (added c)) (sound c), subst P filled c.rank_added.ensures)
 
 pub returns-clause-sound : goal.returns-clause-sound
 returns-clause-sound c = subst IsSound (sym (added c)) (sound c)
