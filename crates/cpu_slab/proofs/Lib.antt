@@ -3,4 +3,5 @@ pub mod Places
 pub mod SlabFacts
 pub mod LaidOut
 pub mod GrowthFacts
+pub mod BestVictim
 pub mod Opened

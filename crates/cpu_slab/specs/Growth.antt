@@ -1,5 +1,5 @@
 -- How the capacity of a class grows, out of the budget or at the cost of another class.
-use Rattle.std.specs.Prelude.{ℕ, ◌+◌, ◌-◌, ◌*◌, ◌==◌, nat_lt, nat_le, List, [], ◌∷◌, length, map, sum_by, min, Option, Some, None, option_map, unwrap_or, slice_set, if◌then◌else◌}
+use Rattle.std.specs.Prelude.{◌≡◌, ◌≢◌, ℕ, ◌+◌, ◌-◌, ◌*◌, ◌<◌, ◌≤◌, ◌==◌, nat_lt, nat_le, List, [], ◌∷◌, length, map, sum_by, min, Option, Some, None, option_map, unwrap_or, slice_index, slice_set, if◌then◌else◌}
 use Rattle.std.specs.List.{slice_index_or}
 use Rattle.std.specs.Int.{div_ceil}
 use Rattle.cpu_slab.specs.declared.marks.Unused.{Unused}
@@ -39,6 +39,18 @@ preferred (Some best) (Some later) = if nat_lt best.bytes later.bytes then Some 
 abbrev pub victim : ℕ → ℕ → List ℕ → Option Unused
 victim k i [] = None
 victim k i (bytes ∷ later) = if i == k then victim k (i + 1) later else preferred (Some (record { class = i; bytes = bytes })) (victim k (i + 1) later)
+
+-- another class with most unused bytes, and the least such class
+pub record IsVictim (k : ℕ) (ns : List ℕ) (best : Unused) : Type 0 where
+  pub there : best.class < length ns
+  pub other : best.class ≢ k
+  pub is : slice_index ns best.class ≡ best.bytes
+  pub most : (j : ℕ) → j < length ns → j ≢ k → slice_index ns j ≤ best.bytes
+  pub least : (j : ℕ) → j < best.class → j ≢ k → slice_index ns j < best.bytes
+
+-- each victim is such a class, and there is none only where there is no other class
+abbrev pub VictimsAreBest : Type 0
+VictimsAreBest = (k : ℕ) (ns : List ℕ) → ((best : Unused) → victim k 0 ns ≡ Some best → IsVictim k ns best) × (victim k 0 ns ≡ None → (j : ℕ) → j < length ns → j ≡ k)
 
 -- the classes after one gave up so many places, or none where it has fewer unused
 abbrev pub given_up : List SlabRow → ℕ → ℕ → Option (List SlabRow)

@@ -2,9 +2,11 @@
 //! slots with a top, a capacity that changes, and a static greatest capacity.
 #![tactic(auto)]
 
+mod laws;
 mod marks;
 mod slab;
 #[cfg(test)]
 mod tests;
 
+pub use laws::victims_are_best;
 pub use slab::{CapFault, Slab};

@@ -1,0 +1,7 @@
+//! What holds of the victim of a growth, as definitions.
+ghost use Rattle.cpu_slab.specs.Growth.{VictimsAreBest};
+
+/// The victim of a growth has most unused bytes of all other classes, and is the least such class.
+pub fn victims_are_best()
+    ensures { VictimsAreBest }
+{}
