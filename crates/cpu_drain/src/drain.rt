@@ -1,7 +1,8 @@
 //! The acts of a thread at a CPU where it need not run.
 ghost use Rattle.std.specs.Prelude.{◌≡◌, ◌≢◌, ℕ, ◌+◌, ◌-◌, ◌^◌, ◌<◌, ◌≤◌, ◌↔◌, Some, None, Err, length, reverse, true};
 ghost use Rattle.std.specs.Result.{result_err};
-ghost use Rattle.cpu_slab.specs.Slots.{row_at, held};
+ghost use Rattle.cpu_slab.specs.Slots.{row_at, held, with_cap};
+ghost use Rattle.cpu_slab.specs.Growth.{used};
 ghost use Rattle.cpu_slab.specs.Caps.{cap_fault};
 ghost use Rattle.rseq_core.specs.Bags.{appended};
 ghost use Rattle.cpu_drain.specs.Drains.{stopped, stop_answer, fenced, taken, taken_to, capped, started, IsFencedBy};
@@ -73,6 +74,9 @@ pub fn set_cap(cpu: &mut CpuPart, thread: ThreadNo, class: Class, n: u32) -> Res
     requires empty { (row_at cpu.old.slab class.0).top ≡ 0 }
     ensures cpu { cpu.new ≡ capped cpu.old class.0 n }
     ensures fault { result_err result ≡ cap_fault cpu.old.slab class.0 n }
+    ensures over_static { (result ≡ Err (CapFault.OverStatic cpu.old.slab.most)) ↔ (cpu.old.slab.most < n) }
+    ensures over_limit { (sum : ℕ) → ((result ≡ Err (CapFault.OverLimit sum))
+        ↔ ((n ≤ cpu.old.slab.most) × (cpu.old.slab.limit < sum) × (sum ≡ used (with_cap cpu.old.slab class.0 n).rows))) }
     ensures classes { length cpu.new.slab.rows ≡ length cpu.old.slab.rows }
 {
     cpu.slab.set_cap(class, n)

@@ -1,5 +1,5 @@
 //! The slots, tops and capacities of all classes at one CPU.
-ghost use Rattle.std.specs.Prelude.{◌≡◌, ◌+◌, ◌-◌, ◌<◌, ◌≤◌, ◌↔◌, false, All, IfOk, OnErr, OnOk, Err, length, map, replicate, is_some, unwrap_or};
+ghost use Rattle.std.specs.Prelude.{◌≡◌, ℕ, ◌+◌, ◌-◌, ◌<◌, ◌≤◌, ◌↔◌, false, All, IfOk, OnErr, OnOk, Err, length, map, replicate, is_some, unwrap_or};
 ghost use Rattle.std.specs.Bool.{OnTrue};
 ghost use Rattle.std.specs.Int.{div_ceil};
 ghost use Rattle.std.specs.Result.{result_err};
@@ -150,6 +150,8 @@ impl Slab {
         ensures fault { result_err result ≡ cap_fault self.old class.0 n }
         ensures classes { length self.new.rows ≡ length self.old.rows }
         ensures over_static { (result ≡ Err (CapFault.OverStatic self.old.most)) ↔ (self.old.most < n) }
+        ensures over_limit { (sum : ℕ) → ((result ≡ Err (CapFault.OverLimit sum))
+            ↔ ((n ≤ self.old.most) × (self.old.limit < sum) × (sum ≡ used (with_cap self.old class.0 n).rows))) }
         ensures sound { IsSoundSlab self.new }
     {
         if n > self.most {
