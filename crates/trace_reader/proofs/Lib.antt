@@ -1,3 +1,4 @@
 pub mod Joins
 pub mod Verdicts
 pub mod Keeps
+pub mod Valids

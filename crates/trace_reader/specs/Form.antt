@@ -1,5 +1,5 @@
 -- What a line of a trace says, its numbers in their ranges.
-use Rattle.std.specs.Prelude.{ℕ, ◌<◌, ◌≤◌, Bool, ◌==◌, nat_le, List, [], ◌∷◌, length, Option, Some, None, Result, Err, if◌then◌else◌, option_map, option_and_then}
+use Rattle.std.specs.Prelude.{ℕ, ◌≡◌, ◌<◌, ◌≤◌, Bool, true, false, ◌==◌, nat_le, List, [], ◌∷◌, length, Option, Some, None, Result, Err, if◌then◌else◌, option_map, option_and_then}
 use Rattle.std.specs.Option.{ok_or}
 use Rattle.tc_units.specs.Decimal.{number_of}
 use Rattle.trace_reader.specs.declared.why.LineWhy.{LineWhy}
@@ -8,7 +8,7 @@ use Rattle.trace_reader.specs.declared.word.Word.{Word}
 use Rattle.trace_reader.specs.declared.word.Word.TheVariants as word
 use Rattle.trace_reader.specs.declared.form.Form.{Form}
 use Rattle.trace_reader.specs.declared.form.Form.TheVariants.{Head, Malloc, Free, Move, Release, Drain, Resize}
-use Rattle.trace_reader.specs.Words.{Range, ranges_of, head_range}
+use Rattle.trace_reader.specs.Words.{Range, is_head, ranges_of, head_range}
 
 -- the number of a field, where it is a canonical decimal in its range
 abbrev pub number_in : Range → List ℕ → Option ℕ
@@ -51,3 +51,17 @@ IsInRange (Move thread before cpu) = (0 < before) × (before ≤ 1000000)
 IsInRange (Release thread pages) = pages ≤ 1048576
 IsInRange (Drain thread cpu) = Unit {0}
 IsInRange (Resize thread cpu class cap) = cap ≤ 1000000
+
+-- whether a form is a head's
+abbrev pub is_head_form : Form → Bool
+is_head_form (Head head value) = true
+is_head_form (Malloc thread label size) = false
+is_head_form (Free thread label) = false
+is_head_form (Move thread before cpu) = false
+is_head_form (Release thread pages) = false
+is_head_form (Drain thread cpu) = false
+is_head_form (Resize thread cpu class cap) = false
+
+-- a form that was read with a word: its numbers are in their ranges, and it is a head's where the word is
+abbrev pub IsReadAs : Word → Form → Type 0
+IsReadAs word form = IsInRange form × (is_head_form form ≡ is_head word)

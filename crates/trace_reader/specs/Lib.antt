@@ -2,6 +2,7 @@ pub mod Words
 pub mod Form
 pub mod Limits
 pub mod Labels
+pub mod Valid
 pub mod Reading
 pub mod Kept
 pub mod Steps

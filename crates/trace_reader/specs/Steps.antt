@@ -1,5 +1,5 @@
 -- The steps of the code that reads a trace, and what it keeps.
-use Rattle.std.specs.Prelude.{ℕ, ◌≡◌, ◌<◌, ◌≤◌, ◌&&◌, true, false, List, length, Option, Some, None, Err, if◌then◌else◌}
+use Rattle.std.specs.Prelude.{ℕ, [], min, replicate, IfSome, ◌≡◌, ◌<◌, ◌≤◌, ◌&&◌, true, false, List, length, Option, Some, None, Err, if◌then◌else◌}
 use Rattle.tc_model.specs.Input.{ThreadCall, Asked}
 use Rattle.trace_reader.specs.declared.reader.Reader.{Reader}
 use Rattle.trace_text.specs.Places.{LineLeft}
@@ -11,7 +11,9 @@ use Rattle.trace_reader.specs.declared.why.LineWhy.TheVariants as why
 use Rattle.trace_reader.specs.declared.why.TraceFault.{TraceFault}
 use Rattle.trace_reader.specs.declared.why.TraceFault.TheVariants as fault
 use Rattle.trace_reader.specs.Words.{is_head}
-use Rattle.trace_reader.specs.Labels.{is_allocated}
+use Rattle.std.specs.List.{slice_index_or}
+use Rattle.trace_reader.specs.Valid.{IsConfig, IsMove, AreCalls}
+use Rattle.trace_reader.specs.Labels.{is_allocated, is_freed}
 use Rattle.trace_reader.specs.Kept.{IsKept, calls_of}
 use Rattle.trace_reader.specs.Reading.{SoFar, Line, read_line, first_word, lacks_thread, lacks_cpu, lacks_class, label_used, label_unknown, label_freed}
 
@@ -50,14 +52,21 @@ pub record HasWord (line : Line) (w : Word) : Type 0 where
   pub early : (line.before.late && is_head w) ≡ false
 
 -- a form fails no rule: its thread, CPU and class are there, and its label may be used
-abbrev pub Fits : Reader → Form → Type 0
-Fits reader (Head head value) = Unit {0}
-Fits reader (Malloc thread label size) = (thread < reader.config.threads) × (is_allocated label (calls_of reader.calls) ≡ false)
-Fits reader (Free thread label) = (thread < reader.config.threads) × (is_allocated label (calls_of reader.calls) ≡ true)
-Fits reader (Move thread before cpu) = (thread < reader.config.threads) × (cpu < reader.config.cpus)
-Fits reader (Release thread pages) = thread < reader.config.threads
-Fits reader (Drain thread cpu) = (thread < reader.config.threads) × (cpu < reader.config.cpus)
-Fits reader (Resize thread cpu class cap) = (thread < reader.config.threads) × (cpu < reader.config.cpus) × (class < 256)
+abbrev pub Fits : ℕ → Asked → Form → Type 0
+Fits classes asked (Head head value) = Unit {0}
+Fits classes asked (Malloc thread label size) = (thread < asked.config.threads) × (is_allocated label asked.calls ≡ false)
+Fits classes asked (Free thread label) = (thread < asked.config.threads) × (is_allocated label asked.calls ≡ true) × (is_freed label asked.calls ≡ false)
+Fits classes asked (Move thread before cpu) = (thread < asked.config.threads) × (cpu < asked.config.cpus)
+Fits classes asked (Release thread pages) = thread < asked.config.threads
+Fits classes asked (Drain thread cpu) = (thread < asked.config.threads) × (cpu < asked.config.cpus)
+Fits classes asked (Resize thread cpu class cap) = (thread < asked.config.threads) × (cpu < asked.config.cpus) × (class < min classes 256)
+
+-- what was read so far is valid, each pending move too, and no call and no move stands before a head
+pub record IsSoFar (classes : ℕ) (sofar : SoFar) : Type 0 where
+  pub config : IsConfig sofar.asked.config
+  pub calls : AreCalls classes sofar.asked.config sofar.asked.calls
+  pub moves : (thread : ℕ) → IfSome (slice_index_or sofar.moves thread None) (IsMove sofar.asked.config)
+  pub early : sofar.late ≡ false → (sofar.asked.calls ≡ []) × (sofar.moves ≡ replicate 64 None)
 
 -- a fault is want of memory, or what the definition says of the line
 abbrev pub IsLineFault : Line → TraceFault → Type 0

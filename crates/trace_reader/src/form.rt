@@ -2,7 +2,7 @@
 ghost use Rattle.std.specs.Prelude.{◌≡◌, ◌≢◌, ◌≤◌, [], ◌∷◌, length, IfOk, IfSome, MatchOption};
 ghost use Rattle.std.specs.Option.{ok_or};
 ghost use Rattle.trace_reader.specs.Words.{from_to, place};
-ghost use Rattle.trace_reader.specs.Form.{number_in, form_of, read_fields, IsInRange};
+ghost use Rattle.trace_reader.specs.Form.{number_in, form_of, read_fields, IsReadAs};
 ghost use Rattle.trace_reader.specs.declared.word.Word.TheVariants as word;
 
 use crate::head::range_of;
@@ -129,7 +129,7 @@ fn four<'a>(fields: &mut Fields<'a>) -> Option<(&'a [u8], &'a [u8], &'a [u8], &'
 
 fn head_with(head: Head, value: &[u8]) -> Option<Form>
     ensures form { result ≡ form_of (word.Head head) (value.now ∷ []) }
-    ensures range { IfSome result IsInRange }
+    ensures range { IfSome result (IsReadAs (word.Head head)) }
 {
     let (least, most) = range_of(head);
     let value = read_number(value, least, most)?;
@@ -138,7 +138,7 @@ fn head_with(head: Head, value: &[u8]) -> Option<Form>
 
 fn malloc_with(thread: &[u8], label: &[u8], size: &[u8]) -> Option<Form>
     ensures form { result ≡ form_of word.Malloc (thread.now ∷ label.now ∷ size.now ∷ []) }
-    ensures range { IfSome result IsInRange }
+    ensures range { IfSome result (IsReadAs word.Malloc) }
 {
     let thread = read_place(thread)?;
     let label = read_number(label, 0, MOST_LABEL)?;
@@ -152,7 +152,7 @@ fn malloc_with(thread: &[u8], label: &[u8], size: &[u8]) -> Option<Form>
 
 fn free_with(thread: &[u8], label: &[u8]) -> Option<Form>
     ensures form { result ≡ form_of word.Free (thread.now ∷ label.now ∷ []) }
-    ensures range { IfSome result IsInRange }
+    ensures range { IfSome result (IsReadAs word.Free) }
 {
     let thread = read_place(thread)?;
     let label = read_number(label, 0, MOST_LABEL)?;
@@ -161,7 +161,7 @@ fn free_with(thread: &[u8], label: &[u8]) -> Option<Form>
 
 fn move_with(thread: &[u8], before: &[u8], cpu: &[u8]) -> Option<Form>
     ensures form { result ≡ form_of word.Move (thread.now ∷ before.now ∷ cpu.now ∷ []) }
-    ensures range { IfSome result IsInRange }
+    ensures range { IfSome result (IsReadAs word.Move) }
 {
     let thread = read_place(thread)?;
     let before = read_number(before, 1, MOST_BEFORE)?;
@@ -175,7 +175,7 @@ fn move_with(thread: &[u8], before: &[u8], cpu: &[u8]) -> Option<Form>
 
 fn release_with(thread: &[u8], pages: &[u8]) -> Option<Form>
     ensures form { result ≡ form_of word.Release (thread.now ∷ pages.now ∷ []) }
-    ensures range { IfSome result IsInRange }
+    ensures range { IfSome result (IsReadAs word.Release) }
 {
     let thread = read_place(thread)?;
     let pages = read_number(pages, 0, MOST_RELEASED)?;
@@ -184,7 +184,7 @@ fn release_with(thread: &[u8], pages: &[u8]) -> Option<Form>
 
 fn drain_with(thread: &[u8], cpu: &[u8]) -> Option<Form>
     ensures form { result ≡ form_of word.Drain (thread.now ∷ cpu.now ∷ []) }
-    ensures range { IfSome result IsInRange }
+    ensures range { IfSome result (IsReadAs word.Drain) }
 {
     let thread = read_place(thread)?;
     let cpu = read_place(cpu)?;
@@ -193,7 +193,7 @@ fn drain_with(thread: &[u8], cpu: &[u8]) -> Option<Form>
 
 fn resize_with(thread: &[u8], cpu: &[u8], class: &[u8], cap: &[u8]) -> Option<Form>
     ensures form { result ≡ form_of word.Resize (thread.now ∷ cpu.now ∷ class.now ∷ cap.now ∷ []) }
-    ensures range { IfSome result IsInRange }
+    ensures range { IfSome result (IsReadAs word.Resize) }
 {
     let thread = read_place(thread)?;
     let cpu = read_place(cpu)?;
@@ -210,7 +210,7 @@ fn resize_with(thread: &[u8], cpu: &[u8], class: &[u8], cap: &[u8]) -> Option<Fo
 /// What a word says with the fields behind it, by the rules `Fields` and `Number`.
 pub fn read_form(word: Word, fields: &mut Fields) -> Result<Form, LineWhy>
     ensures form { result ≡ read_fields word fields.old.fields }
-    ensures range { IfOk result IsInRange }
+    ensures range { IfOk result (IsReadAs word) }
 {
     let form = match word {
         Word::Head(head) => {

@@ -1,12 +1,12 @@
 //! Reading a trace line by line.
-ghost use Rattle.std.specs.Prelude.{ℕ, ◌≡◌, ◌<◌, ◌≤◌, Ok, Some, None, false, OnOk, IfOk, IfErr, MatchResult};
+ghost use Rattle.std.specs.Prelude.{ℕ, ◌≡◌, ◌<◌, ◌≤◌, Ok, Some, None, true, false, length, ◌+◌, OnOk, IfOk, IfErr, MatchResult};
 ghost use Rattle.std.specs.Option.{option_map_or};
 ghost use Rattle.trace_reader.specs.Words.{is_head};
-ghost use Rattle.trace_reader.specs.Form.{IsInRange};
+ghost use Rattle.trace_reader.specs.Form.{is_head_form, IsInRange};
 ghost use Rattle.trace_reader.specs.Reading.{first_word, other_fields, is_past, thread_of, cpu_of, class_of, line_form, verdict, nothing, read_line, with_call, with_form};
 ghost use Rattle.tc_model.specs.Input.{label_end};
 ghost use Rattle.trace_reader.specs.Kept.{MayFollow};
-ghost use Rattle.trace_reader.specs.Steps.{broken, broken_label, so_far, line_at, IsLineFault, HasWord, Fits, IsReading};
+ghost use Rattle.trace_reader.specs.Steps.{broken, broken_label, so_far, line_at, IsLineFault, HasWord, Fits, IsReading, IsSoFar};
 
 use crate::calls::{Calls, LabelUse};
 use crate::form::{Form, read_form};
@@ -181,7 +181,8 @@ impl Reader {
         ensures verdict { MatchResult result (λ _. verdict (line_at classes self.now line.old) ≡ None) (λ why. verdict (line_at classes self.now line.old) ≡ Some why) }
         ensures form { IfOk result (λ form. line_form line.old.fields ≡ Some form) }
         ensures range { IfOk result IsInRange }
-        ensures fits { IfOk result (Fits self.now) }
+        ensures fits { IfOk result (Fits classes (so_far self.now).asked) }
+        ensures head { IfOk result (λ form. is_head_form form ≡ true → self.now.late ≡ false) }
         ensures few { IfOk result (λ _. line.old.line ≤ 1000000) }
     {
         let word = self.judge_word(line)?;
@@ -210,9 +211,9 @@ impl Reader {
     }
 
     /// Adds what a line says, which fails no rule.
-    fn add(&mut self, line: u32, form: Form) -> Result<(), AllocError>
+    fn add(&mut self, classes: u32, line: u32, form: Form) -> Result<(), AllocError>
         requires range { IsInRange form }
-        requires fits { Fits self.old form }
+        requires fits { Fits classes (so_far self.old).asked form }
         requires reading { IsReading self.old }
         ensures added { OnOk result (so_far self.new ≡ with_form line form (so_far self.old)) }
         ensures reading { OnOk result (IsReading self.new) }
@@ -269,9 +270,12 @@ impl Reader {
 
     /// Reads one line by its rules, in their order.
     pub fn read_line(&mut self, classes: u32, line: &mut Fields) -> Result<(), TraceFault>
-        requires { IsReading self.old }
+        requires reading { IsReading self.old }
+        requires valid { IsSoFar classes (so_far self.old) }
         ensures read { OnOk result (read_line (line_at classes self.old line.old) ≡ Ok (so_far self.new)) }
         ensures reading { OnOk result (IsReading self.new) }
+        ensures valid { OnOk result (IsSoFar classes (so_far self.new)) }
+        ensures grows { OnOk result (length (so_far self.new).asked.calls ≤ length (so_far self.old).asked.calls + 1) }
         ensures few { OnOk result (line.old.line ≤ 1000000) }
         ensures fault { IfErr result (IsLineFault (line_at classes self.old line.old)) }
     {
@@ -280,7 +284,7 @@ impl Reader {
             Ok(form) => form,
             Err(why) => return Err(TraceFault::BadLine { line: number, why }),
         };
-        match self.add(number, form) {
+        match self.add(classes, number, form) {
             Ok(()) => Ok(()),
             Err(_) => Err(TraceFault::Memory),
         }

@@ -2,6 +2,7 @@
 ghost use Rattle.std.specs.Prelude.{◌≡◌, ◌≤◌, IfOk, IfErr, IsOkAnd};
 ghost use Rattle.trace_reader.specs.Reading.{asked_by};
 ghost use Rattle.trace_reader.specs.Steps.{so_far, IsReading};
+ghost use Rattle.trace_reader.specs.Valid.{IsAsked};
 ghost use Rattle.trace_reader.specs.Traces.{trace_of, IsTraceFault};
 
 use crate::reader::Reader;
@@ -44,6 +45,7 @@ fn trace_read(alloc: Global, reader: Reader) -> Result<Trace, AllocError>
 /// 255. Unless memory runs out, a refusal is the first bad line with the first rule that it fails.
 pub fn read_trace(alloc: Global, bytes: &[u8], classes: u32) -> Result<Trace, TraceFault>
     ensures trace { IfOk result (λ trace. IsOkAnd (asked_by classes bytes.now) (λ asked. trace ≡ trace_of asked)) }
+    ensures valid { IfOk result (λ _. IsOkAnd (asked_by classes bytes.now) (IsAsked classes)) }
     ensures fault { IfErr result (IsTraceFault classes bytes.now) }
 {
     let Ok(mut reader) = Reader::new(alloc) else {

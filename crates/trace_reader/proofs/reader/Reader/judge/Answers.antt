@@ -1,8 +1,9 @@
 use Rattle.std.proofs.Common.{ap, sym, ◌∙◌}
 use Rattle.std.proofs.lemmas.Result.{err_from_is_err_and}
+use Rattle.trace_reader.specs.Words.{is_head}
 use Rattle.trace_reader.specs.Form.{read_fields}
-use Rattle.trace_reader.specs.Steps.{line_at}
-use Rattle.trace_reader.proofs.Verdicts.{verdict-err, verdict-ok, line_form-ok, fits}
+use Rattle.trace_reader.specs.Steps.{line_at, so_far}
+use Rattle.trace_reader.proofs.Verdicts.{verdict-err, verdict-ok, line_form-ok, fits, early_head}
 use Rattle.trace_reader.proofs.reader.Reader.judge.Goals as goal
 
 pub returns-in_err-form-clause-verdict : goal.returns-in_err-form-clause-verdict
@@ -35,7 +36,12 @@ returns-in-None-clause-form c =
     line_form-ok line c.in_ok-word.word c.in_ok-form.form known fields
 
 pub returns-in-None-clause-fits : goal.returns-in-None-clause-fits
-returns-in-None-clause-fits c = fits c.args.classes c.args.self.now c.in_ok-form.form (sym c.in-None.ensures)
+returns-in-None-clause-fits c = fits c.args.classes (so_far c.args.self.now).asked c.in_ok-form.form (sym c.in-None.ensures)
 
 pub returns-in-None-clause-few : goal.returns-in-None-clause-few
 returns-in-None-clause-few c = (c.in_ok-word.ensures.word c.args.classes).few
+
+pub returns-in-None-clause-head : goal.returns-in-None-clause-head
+returns-in-None-clause-head c = λ h.
+    let known = c.in_ok-word.ensures.word c.args.classes in
+    early_head c.args.self.now.late (is_head c.in_ok-word.word) known.early (sym c.in_ok-form.ensures.range.1 ∙ h)

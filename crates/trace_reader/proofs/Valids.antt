@@ -1,0 +1,158 @@
+-- What holds of the lines so far holds with one more.
+use Rattle.std.proofs.Common.{◌≡◌, ℕ, ◌<◌, ◌≤◌, true, false, List, [], ◌∷◌, ◌++◌, length, get_or, set, replicate, Option, Some, None, IfSome, refl, sym, ap, subst, ◌∙◌, arith, inl, inr, ◌⊎◌, lit≤}
+use Rattle.std.proofs.lemmas.Bool.{cases_eq, cases_lt, false≢true}
+use Rattle.std.proofs.lemmas.List.{get_or-set_same, get_or-set_other, get_or-replicate, get_or_past, set_past, length-append, length-replicate}
+use Rattle.tc_model.specs.declared.calls.Call.{Call}
+use Rattle.tc_model.specs.declared.calls.Call.TheVariants as call
+use Rattle.tc_model.specs.declared.calls.MoveTo.{MoveTo}
+use Rattle.tc_model.specs.declared.config.Config.{Config}
+use Rattle.tc_model.specs.Input.{ThreadCall, default_config}
+use Rattle.trace_reader.specs.declared.word.Head as heads
+use Rattle.trace_reader.specs.declared.word.Head.TheVariants as head
+use Rattle.trace_reader.specs.declared.form.Form.{Form}
+use Rattle.trace_reader.specs.declared.form.Form.TheVariants.{Head, Malloc, Free, Move, Release, Drain, Resize}
+use Rattle.trace_reader.specs.Words.{head_range}
+use Rattle.trace_reader.specs.Form.{is_head_form, IsInRange}
+use Rattle.trace_reader.specs.Limits.{with_limit}
+use Rattle.trace_reader.specs.Reading.{SoFar, nothing, with_call, with_form}
+use Rattle.trace_reader.specs.Steps.{Fits, IsSoFar}
+use Rattle.trace_reader.specs.Valid.{IsConfig, IsMove, IsCall, IsThreadCall, AreCalls}
+
+-- the limits before a head, and with one of them set in its range
+IsConfig-default : IsConfig default_config
+IsConfig-default = record {
+  cpus = (lit≤ tt, lit≤ tt);
+  threads = (lit≤ tt, lit≤ tt);
+  huge = (lit≤ tt, lit≤ tt);
+  cache = lit≤ tt;
+  region = (lit≤ tt, lit≤ tt);
+  slack = lit≤ tt;
+  transfer = lit≤ tt;
+  slab = (lit≤ tt, lit≤ tt);
+  percpu = lit≤ tt;
+  events = (lit≤ tt, lit≤ tt);
+}
+
+IsConfig-with : (h : heads.Head) (value : ℕ) (config : Config) → IsConfig config → (head_range h).least ≤ value → value ≤ (head_range h).most → IsConfig (with_limit h value config)
+IsConfig-with head.Cpus value config k least most = record { cpus = (least, most); threads = k.threads; huge = k.huge; cache = k.cache; region = k.region; slack = k.slack; transfer = k.transfer; slab = k.slab; percpu = k.percpu; events = k.events }
+IsConfig-with head.Threads value config k least most = record { cpus = k.cpus; threads = (least, most); huge = k.huge; cache = k.cache; region = k.region; slack = k.slack; transfer = k.transfer; slab = k.slab; percpu = k.percpu; events = k.events }
+IsConfig-with head.Huge value config k least most = record { cpus = k.cpus; threads = k.threads; huge = (least, most); cache = k.cache; region = k.region; slack = k.slack; transfer = k.transfer; slab = k.slab; percpu = k.percpu; events = k.events }
+IsConfig-with head.Cache value config k least most = record { cpus = k.cpus; threads = k.threads; huge = k.huge; cache = most; region = k.region; slack = k.slack; transfer = k.transfer; slab = k.slab; percpu = k.percpu; events = k.events }
+IsConfig-with head.Region value config k least most = record { cpus = k.cpus; threads = k.threads; huge = k.huge; cache = k.cache; region = (least, most); slack = k.slack; transfer = k.transfer; slab = k.slab; percpu = k.percpu; events = k.events }
+IsConfig-with head.Slack value config k least most = record { cpus = k.cpus; threads = k.threads; huge = k.huge; cache = k.cache; region = k.region; slack = most; transfer = k.transfer; slab = k.slab; percpu = k.percpu; events = k.events }
+IsConfig-with head.Transfer value config k least most = record { cpus = k.cpus; threads = k.threads; huge = k.huge; cache = k.cache; region = k.region; slack = k.slack; transfer = most; slab = k.slab; percpu = k.percpu; events = k.events }
+IsConfig-with head.Slab value config k least most = record { cpus = k.cpus; threads = k.threads; huge = k.huge; cache = k.cache; region = k.region; slack = k.slack; transfer = k.transfer; slab = (least, most); percpu = k.percpu; events = k.events }
+IsConfig-with head.Percpu value config k least most = record { cpus = k.cpus; threads = k.threads; huge = k.huge; cache = k.cache; region = k.region; slack = k.slack; transfer = k.transfer; slab = k.slab; percpu = most; events = k.events }
+IsConfig-with head.Events value config k least most = record { cpus = k.cpus; threads = k.threads; huge = k.huge; cache = k.cache; region = k.region; slack = k.slack; transfer = k.transfer; slab = k.slab; percpu = k.percpu; events = (least, most) }
+
+-- a place in a list with one item more: the new item's, or one of the list before
+record IsLast (calls earlier later : List ThreadCall) (c x : ThreadCall) : Type 0 where
+  before : earlier ≡ calls
+  same : c ≡ x
+
+record IsWithin (calls earlier : List ThreadCall) (c : ThreadCall) : Type 0 where
+  rest : List ThreadCall
+  parts : earlier ++ c ∷ rest ≡ calls
+
+place_in_push : (calls earlier later : List ThreadCall) (c x : ThreadCall) → earlier ++ c ∷ later ≡ calls ++ x ∷ [] → IsLast calls earlier later c x ⊎ IsWithin calls earlier c
+place_in_push [] [] later c x e =
+    let same : c ≡ x = cc in
+    inl (record { before = refl; same = same })
+place_in_push [] (d ∷ earlier) later c x e =
+    let none : earlier ++ c ∷ later ≡ [] = cc in
+    absurd (omega (arith, length-append earlier (c ∷ later), ap length none))
+place_in_push (d ∷ calls) [] later c x e =
+    let same : c ≡ d = cc in
+    inr (record { rest = calls; parts = ap (λ y. y ∷ calls) same })
+place_in_push (d ∷ calls) (y ∷ earlier) later c x e =
+    let first : y ≡ d = cc in
+    let more : earlier ++ c ∷ later ≡ calls ++ x ∷ [] = cc in
+    elim (place_in_push calls earlier later c x more) [
+      | inl l ↦ inl (record { before = ap (λ ys. y ∷ ys) l.before ∙ ap (λ z. z ∷ calls) first; same = l.same })
+      | inr w ↦ inr (record { rest = w.rest; parts = ap (λ ys. y ∷ ys) w.parts ∙ ap (λ z. z ∷ calls) first })
+    ]
+
+AreCalls-none : (classes : ℕ) (config : Config) (calls : List ThreadCall) → calls ≡ [] → AreCalls classes config calls
+AreCalls-none classes config calls none earlier c later e = absurd (omega (arith, length-append earlier (c ∷ later), ap length e, ap length none))
+
+AreCalls-push : (classes : ℕ) (config : Config) (calls : List ThreadCall) (x : ThreadCall) → AreCalls classes config calls → IsThreadCall classes config calls x → AreCalls classes config (calls ++ x ∷ [])
+AreCalls-push classes config calls x known new earlier c later e = elim (place_in_push calls earlier later c x e) [
+  | inl l ↦
+      let P : List ThreadCall → Type 0 = λ all. IsThreadCall classes config all c in
+      let Q : ThreadCall → Type 0 = λ y. IsThreadCall classes config calls y in
+      subst P (sym l.before) (subst Q (sym l.same) new)
+  | inr w ↦ known earlier c w.rest w.parts
+]
+
+-- pending moves, of which one is set anew
+moves-set : (config : Config) (moves : List (Option MoveTo)) (thread : ℕ) (now : Option MoveTo) → ((t : ℕ) → IfSome (get_or moves t None) (IsMove config)) → IfSome now (IsMove config) → (t : ℕ) → IfSome (get_or (set moves thread now) t None) (IsMove config)
+moves-set config moves thread now known new t =
+    let P : Option MoveTo → Type 0 = λ o. IfSome o (IsMove config) in
+    elim (cases_lt thread (length moves)) [
+      | inl l ↦ elim (cases_eq t thread) [
+        | inl e ↦ subst P (sym (ap (λ (k : ℕ). get_or (set moves thread now) k None) e ∙ get_or-set_same moves thread now None l)) new
+        | inr ne ↦ subst P (sym (get_or-set_other moves thread t now None ne)) (known t)
+      ]
+      | inr g ↦ subst P (sym (ap (λ ms. get_or ms t None) (set_past moves thread now g))) (known t)
+    ]
+
+none_pending : (none : Option MoveTo) (n t : ℕ) → get_or (replicate n none) t none ≡ none
+none_pending none n t = elim (cases_lt t n) [
+  | inl l ↦ get_or-replicate n t none none l
+  | inr g ↦ get_or_past (replicate n none) t none (omega (arith, length-replicate n none))
+]
+
+-- a call more, which takes the thread's pending move
+IsSoFar-call : (classes number thread : ℕ) (what : Call) (before : SoFar) → IsSoFar classes before → thread < before.asked.config.threads → IsCall classes before.asked.config before.asked.calls what → IsSoFar classes (with_call number thread what before)
+IsSoFar-call classes number thread what before known there may =
+    let config = before.asked.config in
+    let x : ThreadCall = record { thread = record { 0 = thread }; planned = record { line = number; call = what; moved = get_or before.moves thread None } } in
+    record {
+      config = known.config;
+      calls = AreCalls-push classes config before.asked.calls x known.calls (record { thread = there; call = may; moved = known.moves thread });
+      moves = moves-set config before.moves thread None known.moves tt;
+      early = λ h. absurd (false≢true (sym h));
+    }
+
+-- a line more, of a form that fails no rule
+pub IsSoFar-form : (classes number : ℕ) (form : Form) (before : SoFar) → IsSoFar classes before → IsInRange form → Fits classes before.asked form → (is_head_form form ≡ true → before.late ≡ false) → IsSoFar classes (with_form number form before)
+IsSoFar-form classes number (Head head value) before known range fits first =
+    let none = known.early (first refl) in
+    let config = with_limit head value before.asked.config in
+    let P : List (Option MoveTo) → Type 0 = λ moves. (t : ℕ) → IfSome (get_or moves t None) (IsMove config) in
+    let Q : Option MoveTo → Type 0 = λ o. IfSome o (IsMove config) in
+    record {
+      config = IsConfig-with head value before.asked.config known.config range.0 range.1;
+      calls = AreCalls-none classes config before.asked.calls none.0;
+      moves = subst P (sym none.1) (λ t. subst Q (sym (none_pending None 64 t)) tt);
+      early = known.early;
+    }
+IsSoFar-form classes number (Malloc thread label size) before known range fits first =
+    IsSoFar-call classes number thread (call.Malloc (record { 0 = label }) size) before known fits.0 (range.0, range.1, fits.1)
+IsSoFar-form classes number (Free thread label) before known range fits first =
+    IsSoFar-call classes number thread (call.Free (record { 0 = label })) before known fits.0 (range, fits.1, fits.2)
+IsSoFar-form classes number (Move thread instruction cpu) before known range fits first =
+    let moved : MoveTo = record { before = instruction; cpu = record { 0 = cpu } } in
+    record {
+      config = known.config;
+      calls = known.calls;
+      moves = moves-set before.asked.config before.moves thread (Some moved) known.moves (record { before = range; cpu = fits.1 });
+      early = λ h. absurd (false≢true (sym h));
+    }
+IsSoFar-form classes number (Release thread pages) before known range fits first =
+    IsSoFar-call classes number thread (call.Release pages) before known fits range
+IsSoFar-form classes number (Drain thread cpu) before known range fits first =
+    IsSoFar-call classes number thread (call.Drain (record { 0 = cpu })) before known fits.0 fits.1
+IsSoFar-form classes number (Resize thread cpu class_ cap_) before known range fits first =
+    IsSoFar-call classes number thread (call.Resize (record { 0 = cpu }) (record { 0 = class_ }) cap_) before known fits.0 (fits.1, fits.2, range)
+
+-- before the first line
+pub IsSoFar-nothing : (classes : ℕ) → IsSoFar classes nothing
+IsSoFar-nothing classes =
+    let Q : Option MoveTo → Type 0 = λ o. IfSome o (IsMove default_config) in
+    record {
+      config = IsConfig-default;
+      calls = AreCalls-none classes default_config [] refl;
+      moves = λ t. subst Q (sym (none_pending None 64 t)) tt;
+      early = λ h. (refl, refl);
+    }
