@@ -1,0 +1,140 @@
+-- Bits of words: the first one from a bit on, and bits that a mask makes 1 or 0.
+use Rattle.std.proofs.Common.{◌≡◌, ℕ, ◌-◌, ◌^◌, ◌<◌, ◌≤◌, Bool, true, false, cond, eqb, not, nat_le, nat_lt, ◌&&◌, min, max, sym, ap, ◌∙◌, inl, inr, arith, bit_and, bit_or, w64}
+use Rattle.std.proofs.lemmas.Bool.{cases_lt}
+use Rattle.std.proofs.lemmas.Bool.Decides.{nat_tests}
+use Rattle.std.proofs.lemmas.Nat.Bits.{bit_at_and, bit_at_or, bit_at_not, bit_at-lt, bit_at-zero, bit_at-trailing_zeros, bit_at_mask_inside, bit_at_mask_below, bit_at_mask_above}
+use Rattle.std.proofs.lemmas.Nat.{and_le_l, pow_pos}
+use Rattle.std.proofs.Math.Nat.{pow-le-pow_right}
+use Rattle.std.specs.Int.Count.{trailing_of_zero}
+use Rattle.std.specs.Int.{bit_at, bit_not, trailing_zeros}
+use Rattle.range_bits.specs.Words.{is_one}
+
+-- whether a bit is one of those from `low` up to `high`
+abbrev pub is_between : ℕ → ℕ → ℕ → Bool
+is_between low high k = nat_le low k && nat_lt k high
+
+-- the bits of a mask are those
+mask_bit : (low high k : ℕ) → low ≤ high → bit_at (2 ^ high - 2 ^ low) k ≡ cond (is_between low high k) 1 0
+mask_bit low high k order =
+    elim (cases_lt k low) [
+      | inl below ↦ (let e : bit_at (2 ^ high - 2 ^ low) k ≡ 0 = bit_at_mask_below low high k below in grind (arith, nat_tests))
+      | inr from ↦ elim (cases_lt k high) [
+        | inl inside ↦ (let e : bit_at (2 ^ high - 2 ^ low) k ≡ 1 = bit_at_mask_inside low high k from inside in grind (arith, nat_tests))
+        | inr above ↦ (let e : bit_at (2 ^ high - 2 ^ low) k ≡ 0 = bit_at_mask_above low high k above in grind (arith, nat_tests))
+      ]
+    ]
+
+or_bit : (b m : ℕ) (inside : Bool) → b < 2 → m ≡ cond inside 1 0 → eqb (max b m) 1 ≡ cond inside true (eqb b 1)
+or_bit b m true small e = let one : max b m ≡ 1 = omega arith in ap (λ (t : ℕ). eqb t 1) one
+or_bit b m false small e = let same : max b m ≡ b = omega arith in ap (λ (t : ℕ). eqb t 1) same
+
+and_not_bit : (b m : ℕ) (inside : Bool) → b < 2 → m ≡ cond inside 1 0 → eqb (min b (1 - m)) 1 ≡ cond inside false (eqb b 1)
+and_not_bit b m true small e = let none : min b (1 - m) ≡ 0 = omega arith in ap (λ (t : ℕ). eqb t 1) none
+and_not_bit b m false small e = let same : min b (1 - m) ≡ b = omega arith in ap (λ (t : ℕ). eqb t 1) same
+
+mask_fits : (low high : ℕ) → high ≤ 64 → 2 ^ high - 2 ^ low < 2 ^ 64
+mask_fits low high within =
+    let most : 2 ^ high ≤ 2 ^ 64 = pow-le-pow_right (omega arith) within in
+    let some : 0 < 2 ^ low = pow_pos low in
+    omega arith
+
+-- made 1
+pub used_bits : (word low high k : ℕ) → low ≤ high → is_one (bit_or word (2 ^ high - 2 ^ low)) k ≡ cond (is_between low high k) true (is_one word k)
+used_bits word low high k order =
+    ap (λ (b : ℕ). eqb b 1) (bit_at_or word (2 ^ high - 2 ^ low) k)
+    ∙ or_bit (bit_at word k) (bit_at (2 ^ high - 2 ^ low) k) (is_between low high k) (bit_at-lt word k) (mask_bit low high k order)
+
+-- made 0
+pub free_bits : (word low high k : ℕ) → low ≤ high → high ≤ 64 → k < 64 → is_one (bit_and word (bit_not w64 (2 ^ high - 2 ^ low))) k ≡ cond (is_between low high k) false (is_one word k)
+free_bits word low high k order within small =
+    let mask : ℕ = 2 ^ high - 2 ^ low in
+    ap (λ (b : ℕ). eqb b 1) (bit_at_and word (bit_not w64 mask) k ∙ ap (λ (m : ℕ). min (bit_at word k) m) (bit_at_not w64 mask k (mask_fits low high within) small))
+    ∙ and_not_bit (bit_at word k) (bit_at mask k) (is_between low high k) (bit_at-lt word k) (mask_bit low high k order)
+
+-- the first bit from `low` on that is 1, or that is 0
+pub record FirstBit (word low : ℕ) (used : Bool) (at : ℕ) : Type 0 where
+  pub behind : low ≤ at
+  pub within : at ≤ 64
+  pub before : (k : ℕ) → low ≤ k → k < at → is_one word k ≡ not used
+  pub there : at < 64 → is_one word at ≡ used
+
+-- the least 1 of a word whose bits below `low` are cleared
+record FirstOne (seen low at : ℕ) : Type 0 where
+  behind : low ≤ at
+  within : at ≤ 64
+  before : (k : ℕ) → low ≤ k → k < at → bit_at seen k ≡ 0
+  there : at < 64 → bit_at seen at ≡ 1
+
+kept_bit : (seen low k : ℕ) → k < 64 → low ≤ 64 → bit_at (bit_and seen (2 ^ 64 - 2 ^ low)) k ≡ min (bit_at seen k) (cond (is_between low 64 k) 1 0)
+kept_bit seen low k small order = bit_at_and seen (2 ^ 64 - 2 ^ low) k ∙ ap (λ (m : ℕ). min (bit_at seen k) m) (mask_bit low 64 k order)
+
+kept_inside : (seen low k : ℕ) → k < 64 → low ≤ k → bit_at (bit_and seen (2 ^ 64 - 2 ^ low)) k ≡ bit_at seen k
+kept_inside seen low k small from =
+    let e = kept_bit seen low k small (omega arith) in
+    let lt = bit_at-lt seen k in
+    grind (arith, nat_tests)
+
+kept_below : (seen low k : ℕ) → k < low → low ≤ 64 → bit_at (bit_and seen (2 ^ 64 - 2 ^ low)) k ≡ 0
+kept_below seen low k below order =
+    let e = kept_bit seen low k (omega arith) order in
+    grind (arith, nat_tests)
+
+first_one : (seen low kept : ℕ) → seen < 2 ^ 64 → low < 64 → kept ≡ bit_and seen (2 ^ 64 - 2 ^ low) → FirstOne seen low (trailing_zeros w64 kept)
+first_one seen low kept fits small e =
+    elim (cases_lt 0 kept) [
+      | inl some ↦
+          (let size : kept < 2 ^ 64 = omega (arith, and_le_l seen (2 ^ 64 - 2 ^ low)) in
+          let at : ℕ = trailing_zeros w64 kept in
+          let found = bit_at-trailing_zeros w64 kept some size in
+          let behind : low ≤ at =
+          elim (cases_lt at low) [
+            | inl below ↦ (let none : bit_at kept at ≡ 0 = ap (λ (n : ℕ). bit_at n at) e ∙ kept_below seen low at below (omega arith) in absurd (omega (arith, none, found.1)))
+            | inr from ↦ from
+          ] in
+          record {
+            behind = behind;
+            within = omega (arith, found.0);
+            before = λ k from before. sym (kept_inside seen low k (omega (arith, found.0)) from) ∙ ap (λ (n : ℕ). bit_at n k) (sym e) ∙ found.2 k before;
+            there = λ inside. sym (kept_inside seen low at inside behind) ∙ ap (λ (n : ℕ). bit_at n at) (sym e) ∙ found.1;
+          })
+      | inr none ↦
+          (let zero_kept : kept ≡ 0 = omega arith in
+          let end : trailing_zeros w64 kept ≡ 64 = ap (trailing_zeros w64) zero_kept ∙ trailing_of_zero 64 in
+          record {
+            behind = omega arith;
+            within = omega arith;
+            before = λ k from before. sym (kept_inside seen low k (omega arith) from) ∙ ap (λ (n : ℕ). bit_at n k) (sym e ∙ zero_kept) ∙ bit_at-zero k;
+            there = λ inside. absurd (omega arith);
+          })
+    ]
+
+-- found in the word itself, or in the word turned round
+pub first_used : (word low kept : ℕ) → word < 2 ^ 64 → low < 64 → kept ≡ bit_and word (2 ^ 64 - 2 ^ low) → FirstBit word low true (trailing_zeros w64 kept)
+first_used word low kept fits small e =
+    let one = first_one word low kept fits small e in
+    record {
+      behind = one.behind;
+      within = one.within;
+      before = λ k from before. ap (λ (b : ℕ). eqb b 1) (one.before k from before);
+      there = λ inside. ap (λ (b : ℕ). eqb b 1) (one.there inside);
+    }
+
+pub first_free : (word low kept : ℕ) → word < 2 ^ 64 → low < 64 → kept ≡ bit_and (bit_not w64 word) (2 ^ 64 - 2 ^ low) → FirstBit word low false (trailing_zeros w64 kept)
+first_free word low kept fits small e =
+    let one = first_one (bit_not w64 word) low kept (omega arith) small e in
+    record {
+      behind = one.behind;
+      within = one.within;
+      before = λ k from before.
+          let turned = bit_at_not w64 word k fits (omega (arith, one.within)) in
+          let here : bit_at word k ≡ 1 = omega (arith, one.before k from before, turned, bit_at-lt word k) in
+          ap (λ (b : ℕ). eqb b 1) here;
+      there = λ inside.
+          let turned = bit_at_not w64 word (trailing_zeros w64 kept) fits inside in
+          let here : bit_at word (trailing_zeros w64 kept) ≡ 0 = omega (arith, one.there inside, turned, bit_at-lt word (trailing_zeros w64 kept)) in
+          ap (λ (b : ℕ). eqb b 1) here;
+    }
+
+pub found_bit : (word seen low mask : ℕ) (used : Bool) → word < 2 ^ 64 → low < 64 → mask ≡ 2 ^ 64 - 2 ^ low → seen ≡ cond used word (bit_not w64 word) → FirstBit word low used (trailing_zeros w64 (bit_and seen mask))
+found_bit word seen low mask true fits small m e = first_used word low (bit_and seen mask) fits small (ap (λ (s : ℕ). bit_and s mask) e ∙ ap (bit_and word) m)
+found_bit word seen low mask false fits small m e = first_free word low (bit_and seen mask) fits small (ap (λ (s : ℕ). bit_and s mask) e ∙ ap (bit_and (bit_not w64 word)) m)

@@ -1,0 +1,6 @@
+mod BitFacts
+mod Counts
+mod Existence
+mod Placing
+mod RowFacts
+mod Scan

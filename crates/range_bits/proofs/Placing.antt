@@ -1,0 +1,131 @@
+-- Places that are made used or free, a word at a time.
+use Rattle.std.proofs.Common.{◌≡◌, ◌≢◌, ℕ, ◌+◌, ◌-◌, ◌*◌, ◌/◌, ◌%◌, ◌<◌, ◌≤◌, Bool, true, false, cond, List, ◌++◌, length, get_or, set, take, drop, replicate, min, sym, ap, ◌∙◌, inl, inr, arith}
+use Rattle.std.proofs.lemmas.Bool.{cases_lt}
+use Rattle.std.proofs.lemmas.Bool.Decides.{nat_tests}
+use Rattle.std.proofs.lemmas.List.{same_lists, get_or-set_same, get_or-set_other, get_or_append_left, get_or-append_right, length-take-le, length-replicate, length-drop, length-append, get_or-take, get_or-drop, get_or-replicate}
+use Rattle.range_bits.specs.Ranges.{with_places}
+use Rattle.range_bits.specs.Words.{is_one, is_marked, row_of}
+use Rattle.range_bits.proofs.BitFacts.{is_between}
+use Rattle.range_bits.proofs.RowFacts.{length-row_of, get_or-row_of, marked_in_word}
+
+-- the places from `start` up to `to` are in the state `used`, and all others as before
+pub record Placed (old words : List ℕ) (start to : ℕ) (used : Bool) : Type 0 where
+  pub each : (p : ℕ) → is_marked words p ≡ cond (is_between start to p) used (is_marked old p)
+
+outside_below : (start to p : ℕ) → p < start → is_between start to p ≡ false
+outside_below start to p l = grind (arith, nat_tests)
+
+outside_above : (start to p : ℕ) → to ≤ p → is_between start to p ≡ false
+outside_above start to p l = grind (arith, nat_tests)
+
+inside_both : (start to p : ℕ) → start ≤ p → p < to → is_between start to p ≡ true
+inside_both start to p a b = grind (arith, nat_tests)
+
+pub placed_none : (words : List ℕ) (start to : ℕ) (used : Bool) → to ≤ start → Placed words words start to used
+placed_none words start to used none =
+    record {
+      each = λ p. elim (cases_lt p start) [
+        | inl l ↦ sym (ap (λ (b : Bool). cond b used (is_marked words p)) (outside_below start to p l))
+        | inr l ↦ sym (ap (λ (b : Bool). cond b used (is_marked words p)) (outside_above start to p (omega arith)))
+      ];
+    }
+
+-- a test by a place in a word is the test by the place in the row
+same_test : (base low high start to k p : ℕ) → base + k ≡ p → low ≡ start - base → high ≡ min (to - base) 64 → k < 64 → base < to → is_between low high k ≡ is_between start (min to (base + 64)) p
+same_test base low high start to k p at l h small some =
+    elim (cases_lt p start) [
+      | inl below ↦ outside_below low high k (omega arith) ∙ sym (outside_below start (min to (base + 64)) p below)
+      | inr from ↦ elim (cases_lt p to) [
+        | inl in_range ↦ inside_both low high k (omega arith) (omega arith) ∙ sym (inside_both start (min to (base + 64)) p from (omega arith))
+        | inr past ↦ outside_above low high k (omega arith) ∙ sym (outside_above start (min to (base + 64)) p (omega arith))
+      ]
+    ]
+
+-- a place before a word passes the test as far as the word's begin or end alike
+test_below : (base start to p : ℕ) → p < base → is_between start (min to base) p ≡ is_between start (min to (base + 64)) p
+test_below base start to p l =
+    elim (cases_lt p start) [
+      | inl below ↦ outside_below start (min to base) p below ∙ sym (outside_below start (min to (base + 64)) p below)
+      | inr from ↦ elim (cases_lt p to) [
+        | inl in_range ↦ inside_both start (min to base) p from (omega arith) ∙ sym (inside_both start (min to (base + 64)) p from (omega arith))
+        | inr past ↦ outside_above start (min to base) p (omega arith) ∙ sym (outside_above start (min to (base + 64)) p (omega arith))
+      ]
+    ]
+
+other_word : (words : List ℕ) (index word p : ℕ) → p / 64 ≢ index → is_marked (set words index word) p ≡ is_marked words p
+other_word words index word p other = ap (λ (w : ℕ). is_one w (p % 64)) (get_or-set_other words index (p / 64) word 0 other)
+
+pub placed_word : (old words : List ℕ) (start to index low high word : ℕ) (used : Bool) → index < length words → 64 * index < to → low ≡ start - 64 * index → high ≡ min (to - 64 * index) 64 → ((k : ℕ) → k < 64 → is_one word k ≡ cond (is_between low high k) used (is_one (get_or words index 0) k)) → Placed old words start (min to (64 * index)) used → Placed old (set words index word) start (min to (64 * index + 64)) used
+placed_word old words start to index low high word used row some l h made so_far =
+    let base : ℕ = 64 * index in
+    record {
+      each = λ p.
+          elim (cases_lt p base) [
+            | inl below ↦
+                other_word words index word p (λ e. omega arith)
+                ∙ so_far.each p
+                ∙ ap (λ (b : Bool). cond b used (is_marked old p)) (test_below base start to p below)
+            | inr from ↦ elim (cases_lt p (base + 64)) [
+              | inl inside ↦
+                  (let k : ℕ = p - base in
+                  let kept : is_one (get_or words index 0) k ≡ is_marked old p =
+                  sym (marked_in_word words index p from inside) ∙ so_far.each p ∙ ap (λ (b : Bool). cond b used (is_marked old p)) (outside_above start (min to base) p (omega arith)) in
+                  marked_in_word (set words index word) index p from inside
+                  ∙ ap (λ (w : ℕ). is_one w k) (get_or-set_same words index word 0 row)
+                  ∙ made k (omega arith)
+                  ∙ ap (λ (b : Bool). cond (is_between low high k) used b) kept
+                  ∙ ap (λ (b : Bool). cond b used (is_marked old p)) (same_test base low high start to k p (omega arith) l h (omega arith) some))
+              | inr past ↦
+                  other_word words index word p (λ e. omega arith)
+                  ∙ so_far.each p
+                  ∙ ap (λ (b : Bool). cond b used (is_marked old p)) (outside_above start (min to base) p (omega arith) ∙ sym (outside_above start (min to (base + 64)) p (omega arith)))
+            ]
+          ];
+    }
+
+-- the places of a row some of which were made used or free
+pub length-with_places : (row : List Bool) (start n : ℕ) (used : Bool) → start + n ≤ length row → length (with_places row start n used) ≡ length row
+length-with_places row start n used inside =
+    let front = length-take-le start row (omega arith) in
+    let middle = length-replicate n used in
+    let back = length-drop (start + n) row in
+    omega (arith, length-append (take start row ++ replicate n used) (drop (start + n) row), length-append (take start row) (replicate n used))
+
+pub get_or-with_places : (row : List Bool) (start n : ℕ) (used : Bool) (k : ℕ) (d : Bool) → start + n ≤ length row → get_or (with_places row start n used) k d ≡ cond (is_between start (start + n) k) used (get_or row k d)
+get_or-with_places row start n used k d inside =
+    let front = length-take-le start row (omega arith) in
+    let both : length (take start row ++ replicate n used) ≡ start + n = omega (arith, length-append (take start row) (replicate n used), length-replicate n used) in
+    elim (cases_lt k start) [
+      | inl below ↦
+          get_or_append_left (take start row ++ replicate n used) (drop (start + n) row) d k (omega arith)
+          ∙ get_or_append_left (take start row) (replicate n used) d k (omega arith)
+          ∙ get_or-take start row k d below
+          ∙ sym (ap (λ (b : Bool). cond b used (get_or row k d)) (outside_below start (start + n) k below))
+      | inr from ↦ elim (cases_lt k (start + n)) [
+        | inl in_range ↦
+            get_or_append_left (take start row ++ replicate n used) (drop (start + n) row) d k (omega arith)
+            ∙ get_or-append_right (take start row) (replicate n used) start k d front from
+            ∙ get_or-replicate n (k - start) used d (omega arith)
+            ∙ sym (ap (λ (b : Bool). cond b used (get_or row k d)) (inside_both start (start + n) k from in_range))
+        | inr past ↦
+            get_or-append_right (take start row ++ replicate n used) (drop (start + n) row) (start + n) k d both past
+            ∙ get_or-drop (start + n) row (k - (start + n)) d
+            ∙ ap (λ (i : ℕ). get_or row i d) (omega arith)
+            ∙ sym (ap (λ (b : Bool). cond b used (get_or row k d)) (outside_above start (start + n) k past))
+      ]
+    ]
+
+pub placed_all : (old words : List ℕ) (start to : ℕ) (used : Bool) → start ≤ to → to ≤ 64 * length old → length words ≡ length old → Placed old words start to used → row_of words ≡ with_places (row_of old) start (to - start) used
+placed_all old words start to used order inside size placed =
+    let n : ℕ = to - start in
+    let before = length-row_of old in
+    let after = length-row_of words in
+    let fits : start + n ≤ length (row_of old) = omega arith in
+    let end : start + n ≡ to = omega arith in
+    let same : length (row_of words) ≡ length (with_places (row_of old) start n used) = omega (arith, length-with_places (row_of old) start n used fits) in
+    same_lists (row_of words) (with_places (row_of old) start n used) same (λ k d l.
+    get_or-row_of words k d (omega arith)
+    ∙ placed.each k
+    ∙ ap (λ (b : Bool). cond (is_between start to k) used b) (sym (get_or-row_of old k d (omega arith)))
+    ∙ ap (λ (t : ℕ). cond (is_between start t k) used (get_or (row_of old) k d)) (sym end)
+    ∙ sym (get_or-with_places (row_of old) start n used k d fits))

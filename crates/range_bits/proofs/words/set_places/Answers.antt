@@ -1,0 +1,24 @@
+use Rattle.std.proofs.Common.{◌≡◌, ℕ, ◌+◌, ◌*◌, set, min, subst, arith}
+use Rattle.range_bits.proofs.Placing.{Placed, placed_none, placed_word, placed_all}
+use Rattle.range_bits.proofs.words.set_places.Goals as goal
+
+pub loop-index-init : goal.loop-index-init
+loop-index-init c = placed_none c.args.words.now c.args.start _ c.args.used (omega arith)
+
+pub loop-index-preserved : goal.loop-index-preserved
+loop-index-preserved c =
+    let old = c.args.words.now in
+    let words = c.loop-index.words in
+    let index = c.loop-index.index in
+    let word = c.with_bits.result in
+    let next : 64 * index + 64 ≡ 64 * (index + 1) = omega arith in
+    let P : ℕ → Type 0 = λ t. Placed old (set words index word) c.args.start (min c.args.end t) c.args.used in
+    subst P next (placed_word old words c.args.start c.args.end index c.saturating_sub-low.result c.min-high.result word c.args.used (omega (arith, c.loop-index.auto.words)) (omega arith) (omega arith) (omega arith) c.with_bits.ensures c.loop-index.invariant)
+
+pub returns-clause-places : goal.returns-clause-places
+returns-clause-places c =
+    let old = c.args.words.now in
+    let words = c.loop-index.words in
+    let end : min c.args.end (64 * c.loop-index.index) ≡ c.args.end = omega arith in
+    let P : ℕ → Type 0 = λ t. Placed old words c.args.start t c.args.used in
+    placed_all old words c.args.start c.args.end c.args.used c.requires.order c.requires.inside c.loop-index.auto.words (subst P end c.loop-index.invariant)

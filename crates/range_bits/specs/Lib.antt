@@ -1,0 +1,3 @@
+pub mod FreeRanges
+pub mod Ranges
+pub mod Words

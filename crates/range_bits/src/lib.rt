@@ -1,0 +1,14 @@
+//! Which places of a row are used, a bit a place, and where its free ranges are: work goes by whole
+//! words of 64 places where it can.
+#![tactic(auto)]
+
+mod bits256;
+mod marks;
+mod ranges;
+#[cfg(test)]
+mod tests;
+mod wide_bits;
+mod words;
+
+pub use bits256::Bits256;
+pub use wide_bits::WideBits;

@@ -1,0 +1,118 @@
+//! Free ranges of rows that were worked out by hand, and by looking at every place.
+ghost use Rattle.std.specs.Prelude.{◌*◌, ◌^◌, ◌<◌, length};
+
+use crate::{Bits256, WideBits, ranges};
+use std::test::Fail;
+
+#[test]
+fn the_shortest_range_that_is_long_enough(rt: HostRuntime) {
+    let mut bits = Bits256::new();
+    assert_eq!(rt; bits.best(256), Some(0));
+    assert_eq!(rt; bits.longest(), 256);
+    bits.mark(0, 1);
+    bits.mark(63, 2);
+    bits.mark(128, 64);
+    bits.mark(255, 1);
+    // Free are 1 to 62, 65 to 127 and 192 to 254: 62, 63 and 63 places.
+    assert_eq!(rt; bits.used(), 68);
+    assert_eq!(rt; bits.longest(), 63);
+    assert_eq!(rt; bits.best(1), Some(1));
+    assert_eq!(rt; bits.best(62), Some(1));
+    assert_eq!(rt; bits.best(63), Some(65));
+    assert_eq!(rt; bits.best(64), None);
+    bits.unmark(64, 1);
+    // 64 to 127 are 64 places now.
+    assert_eq!(rt; bits.best(63), Some(192));
+    assert_eq!(rt; bits.best(64), Some(64));
+    bits.unmark(128, 64);
+    assert_eq!(rt; bits.best(64), Some(64));
+    assert_eq!(rt; bits.longest(), 191);
+    assert_eq!(rt; bits.used(), 3);
+}
+
+#[test]
+fn a_row_without_free_places(rt: HostRuntime) {
+    let mut bits = Bits256::new();
+    bits.mark(0, 256);
+    assert_eq!(rt; bits.longest(), 0);
+    assert_eq!(rt; bits.best(1), None);
+    bits.unmark(255, 1);
+    assert_eq!(rt; bits.best(1), Some(255));
+    assert_eq!(rt; bits.used(), 255);
+    assert_eq!(rt; Bits256::default().longest(), 256);
+}
+
+#[test]
+fn many_words(rt: HostRuntime) -> Result<(), Fail> {
+    let mut bits = WideBits::open(rt.alloc(), 8)?;
+    assert_eq!(rt; bits.best(512), Some(0));
+    bits.mark(100, 300);
+    assert_eq!(rt; bits.best(100), Some(0));
+    assert_eq!(rt; bits.best(101), Some(400));
+    assert_eq!(rt; bits.best(113), None);
+    bits.unmark(200, 100);
+    assert_eq!(rt; bits.best(100), Some(0));
+    assert_eq!(rt; bits.longest(), 112);
+    assert_eq!(rt; bits.used(), 200);
+
+    // No place is in a row without words.
+    let none = WideBits::open(rt.alloc(), 0)?;
+    assert_eq!(rt; none.longest(), 0);
+    assert_eq!(rt; none.best(1), None);
+
+    // More places than a number of 32 bits tells.
+    assert!(rt; WideBits::open(rt.alloc(), 67_108_864).is_err());
+    Ok(())
+}
+
+/// Where the best range begins and how long the longest one is, by looking at every place.
+fn by_every_place(words: &[u64], n: usize) -> (Option<usize>, usize)
+    requires { 64 * length words.now < 2 ^ 32 }
+{
+    let places = words.len() * 64;
+    let mut best = None;
+    let mut shortest = usize::MAX;
+    let mut longest = 0;
+    let mut start = 0;
+    for place in 0..places + 1 {
+        if place < places && words[place / 64] >> (place % 64) & 1 == 0 {
+            continue;
+        }
+        let len = place.saturating_sub(start);
+        if n <= len && len < shortest {
+            best = Some(start);
+            shortest = len;
+        }
+        longest = len.max(longest);
+        start = place + 1;
+    }
+    (best, longest)
+}
+
+#[test]
+fn as_by_every_place(rt: HostRuntime) {
+    for words in [
+        [0, 0, 0, 0],
+        [u64::MAX, u64::MAX, u64::MAX, u64::MAX],
+        [u64::MAX, 0, u64::MAX, 0],
+        [0, u64::MAX, 0, u64::MAX],
+        [1 << 63, 1, 0, 1 << 63],
+        [1, 1 << 63, 1, 1 << 63],
+        [0x5555_5555_5555_5555, 0xaaaa_aaaa_aaaa_aaaa, 0, 1],
+        [
+            0x0123_4567_89ab_cdef,
+            0xfedc_ba98_7654_3210,
+            0x00ff_0000_0000_ff00,
+            0x8000_0000_0000_0001,
+        ],
+    ] {
+        for n in [
+            1, 2, 3, 4, 7, 8, 16, 32, 62, 63, 64, 65, 127, 128, 192, 255, 256,
+        ] {
+            let found = ranges::best(&words, n).map(|start| start as usize);
+            let (best, longest) = by_every_place(&words, n as usize);
+            assert_eq!(rt; found, best, "of {n} in {words:?}");
+            assert_eq!(rt; ranges::longest(&words) as usize, longest, "in {words:?}");
+        }
+    }
+}
