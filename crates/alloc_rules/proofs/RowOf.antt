@@ -29,7 +29,7 @@ use Rattle.heap_rules.specs.Laws.{IsGiven}
 use Rattle.heap_rules.proofs.Given.{new_gives}
 use Rattle.heap_rules.proofs.Ended.{free_leaves}
 use Rattle.heap_rules.proofs.Live.{unused_counts}
-use Rattle.heap_rules.proofs.Counts.{count_some}
+use Rattle.tc_units.proofs.Counts.{count_some}
 use Rattle.heap_rules.proofs.Fits.{holds_from}
 use Rattle.call_steps.specs.declared.step.HeapStep.TheVariants.{New, GiveBack}
 use Rattle.call_steps.specs.declared.step.MapStep.TheVariants.{Set, Lookup, Clear}

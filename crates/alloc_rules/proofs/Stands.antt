@@ -17,7 +17,7 @@ use Rattle.heap_rules.specs.declared.config.HeapConfig.{HeapConfig}
 use Rattle.heap_rules.specs.Heap as heaps
 use Rattle.heap_rules.specs.Sound.{IsSound, IsInside}
 use Rattle.std.proofs.lemmas.List.Sums.{sum_by-cons}
-use Rattle.heap_rules.proofs.Counts.{one-true, one-false}
+use Rattle.tc_units.proofs.Counts.{one-true, one-false}
 use Rattle.heap_rules.proofs.Left.{same_member}
 use Rattle.heap_rules.proofs.Fits.{holds_from}
 use Rattle.call_steps.specs.declared.step.HeapStep.TheVariants.{GiveBack}

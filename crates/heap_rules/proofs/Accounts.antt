@@ -10,8 +10,8 @@ use Rattle.heap_rules.specs.Heap.{Heap, Hugepage, hugepage, numbers, untouched, 
 use Rattle.heap_rules.specs.Settle.{unbacked}
 use Rattle.heap_rules.specs.GiveUp.{gives_whole, SpareRow, gives_before, gives_spare}
 use Rattle.heap_rules.specs.Release.{only_used, whole_given, spare_row, spare_rows, spare_given}
-use Rattle.heap_rules.proofs.RangeLemmas.{range-within}
-use Rattle.heap_rules.proofs.Counts.{one-true}
+use Rattle.range_bits.proofs.RangeLemmas.{range-within}
+use Rattle.tc_units.proofs.Counts.{one-true}
 use Rattle.heap_rules.proofs.Places.{at}
 
 -- a sum over the elements that pass

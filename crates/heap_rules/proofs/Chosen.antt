@@ -3,12 +3,12 @@ use Rattle.std.proofs.Common.{◌≡◌, ℕ, ◌+◌, ◌-◌, ◌<◌, ◌≤�
 use Rattle.std.proofs.lemmas.Bool.{and_parts, not-false}
 use Rattle.std.proofs.lemmas.List.{length-map, get_or-map}
 use Rattle.std.proofs.lemmas.Option.{none-some, same_Some}
-use Rattle.heap_rules.specs.Ranges.{best, longest}
+use Rattle.range_bits.specs.Ranges.{best, longest}
 use Rattle.heap_rules.specs.Heap.{Heap, Hugepage, hugepage, untouched, is_free, is_free_backed}
 use Rattle.heap_rules.specs.CacheFlags.{or_else}
 use Rattle.heap_rules.specs.Choice.{taken_row, unready_row, run_choice}
-use Rattle.heap_rules.proofs.RangeLemmas.{best-at, free_fits, free_at}
-use Rattle.heap_rules.proofs.RangeFacts.{longest_is_short}
+use Rattle.range_bits.proofs.RangeLemmas.{best-at, free_fits, free_at}
+use Rattle.range_bits.proofs.RangeFacts.{longest_is_short}
 
 -- from the value of a mapped option, the value
 pub mapped : {X Y : Type 0} (f : X → Y) (o : Option X) (y : Y) → option_map f o ≡ Some y → (x : X) × (o ≡ Some x) × (f x ≡ y)

@@ -7,14 +7,14 @@ use Rattle.std.proofs.lemmas.List.Elements.{All-filter, filter_passes, Contains-
 use Rattle.tc_units.specs.declared.spans.Run.{Run}
 use Rattle.tc_units.specs.declared.rows.RowKind.{RowKind}
 use Rattle.tc_units.specs.declared.rows.RowKind.TheVariants as kind
-use Rattle.heap_rules.specs.Ranges.{best}
+use Rattle.range_bits.specs.Ranges.{best}
 use Rattle.heap_rules.specs.Heap.{Heap, Hugepage, hugepage, numbers, holds, is_used, is_filler, is_kind_filler, with_run, run_at, backs, used_from}
 use Rattle.heap_rules.specs.FillerRows.{FillerRow, has_room}
 use Rattle.heap_rules.specs.Choice.{filler_row, filler_rows}
 use Rattle.heap_rules.specs.New.{placed, more_backed}
 use Rattle.heap_rules.specs.Sound.{Serves, IsFit, IsSound}
 use Rattle.heap_rules.specs.Laws.{IsGiven}
-use Rattle.heap_rules.proofs.RangeLemmas.{range-within, best-at, free_fits, free_at}
+use Rattle.range_bits.proofs.RangeLemmas.{range-within, best-at, free_fits, free_at}
 use Rattle.heap_rules.proofs.Places.{backs-map}
 use Rattle.heap_rules.proofs.Fits.{holds_parts, reaches_parts, used_more, serves_at}
 use Rattle.heap_rules.proofs.Grown.{IsTurned}

@@ -4,7 +4,7 @@ use Rattle.std.specs.List.{range_with_len}
 use Rattle.std.proofs.lemmas.Bool.{cases_Bool, cases_lt, and_left, lt-ltb, le-ltb}
 use Rattle.std.proofs.lemmas.List.{drop_more, drop_all}
 use Rattle.heap_rules.specs.GiveUp.{gives_whole}
-use Rattle.heap_rules.proofs.Counts.{count-cons, one-true, one-false}
+use Rattle.tc_units.proofs.Counts.{count-cons, one-true, one-false}
 
 -- what a walk has given when hugepages h + 1 to h + m are behind it
 abbrev pub given_behind : List Bool → ℕ → ℕ → ℕ → ℕ

@@ -8,7 +8,7 @@ use Rattle.std.proofs.lemmas.List.{length-map, get_or-map}
 use Rattle.std.proofs.lemmas.List.Elements.{All-filter, filter_passes, Contains-get_or}
 use Rattle.std.proofs.lemmas.List.Sums.{list_all-from_AllPass}
 use Rattle.std.proofs.lemmas.List.Folds.{list_all_at}
-use Rattle.heap_rules.specs.Ranges.{best, longest, first_least}
+use Rattle.range_bits.specs.Ranges.{best, longest, first_least}
 use Rattle.heap_rules.specs.Heap.{Heap, untouched, is_free, used_row, region_row}
 use Rattle.heap_rules.specs.FillerRows.{FillerRow, place_in_row, filler_place}
 use Rattle.heap_rules.specs.FillerRows as filler
@@ -18,8 +18,8 @@ use Rattle.heap_rules.specs.Choice.{filler_rows, run_choice, taken_row, region_r
 use Rattle.heap_rules.specs.New.{Placed, in_filler, in_fresh, by_filler, new_small, in_free, new_whole, in_region, in_new_region, slack, or_whole, new_beside_regions, by_regions, suits_region, new_unsettled, settled_placed, none_fits}
 use Rattle.heap_rules.specs.Sound.{IsRegion, IsSound}
 use Rattle.heap_rules.specs.Laws.{IsGiven, NewGives}
-use Rattle.heap_rules.proofs.RangeLemmas.{first_least-all, first_least-none, filter-some}
-use Rattle.heap_rules.proofs.RangeFacts.{best_there}
+use Rattle.range_bits.proofs.RangeLemmas.{first_least-all, first_least-none, filter-some}
+use Rattle.range_bits.proofs.RangeFacts.{best_there}
 use Rattle.heap_rules.proofs.Chosen.{AreFree, run_choice_free, run_choice_none}
 use Rattle.heap_rules.proofs.Fillers.{IsRowWithRoom, rows_fit, unused_at, given_filler}
 use Rattle.heap_rules.proofs.Regions.{given_region, given_new_region}

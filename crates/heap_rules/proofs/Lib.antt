@@ -1,7 +1,4 @@
 pub mod Rows
-pub mod Counts
-pub mod RangeLemmas
-pub mod RangeFacts
 pub mod Places
 pub mod Live
 pub mod Fits

@@ -5,7 +5,7 @@ use Rattle.std.proofs.lemmas.List.Elements.{All-cons, All-head, All-tail}
 use Rattle.tc_units.specs.declared.spans.Run.{Run}
 use Rattle.tc_units.specs.Sorted.{with_item}
 use Rattle.heap_rules.specs.Heap.{holds, is_used, with_run}
-use Rattle.heap_rules.proofs.Counts.{count-cons, any_is_count, count_some, one-true, one-false}
+use Rattle.tc_units.proofs.Counts.{count-cons, any_is_count, count_some, one-true, one-false}
 
 -- a page is used exactly where a run that holds it is counted
 pub used_counts : (runs : List Run) (page : ℕ) → is_used runs page ≡ true → 0 < count_by (holds page) runs

@@ -4,7 +4,7 @@ use Rattle.std.specs.List.{prefix_len}
 use Rattle.std.proofs.lemmas.Bool.{not_from_false}
 use Rattle.std.proofs.lemmas.List.{length-drop, get_or-drop}
 use Rattle.std.proofs.lemmas.List.FromFn.{get_or-map-range_with_len, length-map-range_with_len}
-use Rattle.heap_rules.specs.Ranges.{free_from, places, longest}
+use Rattle.range_bits.specs.Ranges.{free_from, places, longest}
 
 fold_max-from : (a : ℕ) (xs : List ℕ) → a ≤ fold max a xs
 fold_max-from a [] = omega arith

@@ -11,7 +11,7 @@ use Rattle.heap_rules.specs.Heap.{Heap, Hugepage, hugepage, holds, is_used, is_f
 use Rattle.heap_rules.specs.New.{placed, all_backed, region_page, with_region, with_new_region, in_new_region}
 use Rattle.heap_rules.specs.Sound.{IsInside, IsHugepageOf, LiesInRegion, Serves, IsFit, IsRegion, AreRunsSound, IsSound}
 use Rattle.heap_rules.specs.Laws.{IsGiven}
-use Rattle.heap_rules.proofs.Counts.{any_is_count}
+use Rattle.tc_units.proofs.Counts.{any_is_count}
 use Rattle.heap_rules.proofs.Places.{length-each, at-each, backs-whole}
 use Rattle.heap_rules.proofs.Live.{count-with_item, All-with_item, Contains-new, Contains-old, used_with_new}
 use Rattle.heap_rules.proofs.Fits.{holds_parts, holds_from, reaches_parts, spans_parts, spans_from, serves_at, is_Free, is_Region}

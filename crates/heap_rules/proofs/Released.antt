@@ -12,7 +12,7 @@ use Rattle.heap_rules.specs.GiveUp.{gives_whole, gives_spare}
 use Rattle.heap_rules.specs.Release.{Released, whole_given, free_given, is_idle, idle_given, spare_row, spare_rows, only_used, spare_given, release}
 use Rattle.heap_rules.specs.Sound.{IsHugepageOf, HasNoUsed, Serves, IsFit, IsSound}
 use Rattle.heap_rules.specs.Laws.{ReleaseKeeps}
-use Rattle.heap_rules.proofs.Counts.{count_some}
+use Rattle.tc_units.proofs.Counts.{count_some}
 use Rattle.heap_rules.proofs.Places.{backs-map}
 use Rattle.heap_rules.proofs.Fits.{serves_at, is_Region}
 use Rattle.heap_rules.proofs.Accounts.{all_counted, whole_counts, spare_counts}

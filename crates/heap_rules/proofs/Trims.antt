@@ -7,7 +7,7 @@ use Rattle.heap_rules.specs.Heap.{Hugepage, is_free, is_free_backed}
 use Rattle.std.proofs.lemmas.List.{get_or-map, length-map}
 use Rattle.heap_rules.specs.CacheFlags.{is_over}
 use Rattle.heap_rules.specs.Settle.{unbacked, trimmed}
-use Rattle.heap_rules.proofs.Counts.{count-cons, one-true, one-false}
+use Rattle.tc_units.proofs.Counts.{count-cons, one-true, one-false}
 
 -- the walk of a loop: the first `left` backed free hugepages stay backed
 pub walked : ℕ → List Hugepage → List Hugepage

@@ -1,7 +1,7 @@
 -- (huge_cache) The choice of adjacent free hugepages, and the limit of backed ones, over flags.
 use Rattle.std.specs.Prelude.{ℕ, ◌+◌, ◌-◌, Bool, false, ◌&&◌, nat_le, List, [], ◌∷◌, ◌++◌, length, take, drop, fold, min, max, count_by, Option, Some, None, option_map}
 use Rattle.std.specs.List.{last_or, slice_index_or}
-use Rattle.heap_rules.specs.Ranges.{best}
+use Rattle.range_bits.specs.Ranges.{best}
 
 -- the first, or where there is none the second
 abbrev pub or_else : Option ℕ → Option ℕ → Option ℕ

@@ -7,7 +7,7 @@ use Rattle.tc_units.specs.declared.spans.Run.{Run}
 use Rattle.tc_units.specs.declared.rows.RowKind.{RowKind}
 use Rattle.tc_units.specs.declared.rows.RowKind.TheVariants as kind
 use Rattle.heap_rules.specs.declared.config.HeapConfig.{HeapConfig}
-use Rattle.heap_rules.specs.Ranges.{longest}
+use Rattle.range_bits.specs.Ranges.{longest}
 
 -- what a hugepage serves, whether it is the donated tail of a larger run, and which of its 256 pages are backed
 pub record Hugepage : Type 0 where

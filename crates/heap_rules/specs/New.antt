@@ -6,7 +6,7 @@ use Rattle.tc_units.specs.Sorted.{with_item}
 use Rattle.tc_units.specs.declared.spans.Run.{Run}
 use Rattle.tc_units.specs.declared.rows.RowKind.TheVariants as kind
 use Rattle.heap_rules.specs.declared.config.HeapConfig.{HeapConfig}
-use Rattle.heap_rules.specs.Ranges.{longest}
+use Rattle.range_bits.specs.Ranges.{longest}
 use Rattle.heap_rules.specs.Heap.{Heap, Hugepage, hugepage, numbers, each, whole, run_at, holds, with_run, pages_of, used_count, reaches, backs, is_free, spans}
 use Rattle.heap_rules.specs.FillerRows.{filler_place}
 use Rattle.heap_rules.specs.FillerRows as filler

@@ -2,7 +2,7 @@
 use Rattle.std.specs.Prelude.{ℕ, ◌+◌, ◌*◌, Bool, nat_le, List, filter, Option, Some, None, option_map}
 use Rattle.std.specs.Ordering.{nat_cmp, ordering_then, is_lt}
 use Rattle.tc_units.specs.Units.{huge_pages}
-use Rattle.heap_rules.specs.Ranges.{best, longest, first_least}
+use Rattle.range_bits.specs.Ranges.{best, longest, first_least}
 
 -- a region: its first hugepage, and which of its pages are used
 pub record RegionRow : Type 0 where

@@ -6,9 +6,9 @@ use Rattle.std.proofs.lemmas.Option.{IfSome_then}
 use Rattle.std.proofs.lemmas.List.Elements.{All-filter, filter_passes}
 use Rattle.page_heap.specs.declared.rows.Row.{Row}
 use Rattle.page_heap.specs.Heap.{is_kind_filler}
-use Rattle.page_heap.specs.Ranges.{first_least, first_of_two}
+use Rattle.range_bits.specs.Ranges.{first_least, first_of_two}
 use Rattle.page_heap.specs.Table.{no_row, suits, is_preferred, choice_from}
-use Rattle.page_heap.proofs.RangeLemmas.{range-within, first_least-all}
+use Rattle.range_bits.proofs.RangeLemmas.{range-within, first_least-all}
 
 step_by : (less : ℕ → ℕ → Bool) (b : Bool) (x : ℕ) (xs : List ℕ) → first_least less (cond b (x ∷ xs) xs) ≡ cond b (Some (first_of_two less x (first_least less xs))) (first_least less xs)
 step_by less true x xs = refl

@@ -15,11 +15,11 @@ use Rattle.page_heap.specs.declared.rows.Row.{Row}
 use Rattle.page_heap.specs.declared.spots.Spot.{Spot}
 use Rattle.page_heap.specs.Heap.{Hugepage, hugepage, whole, numbers, longest_range, allocation_count, tier, is_free, is_free_backed, is_filler, is_kind_free, is_kind_filler}
 use Rattle.page_heap.specs.Choice.{placed, fits, preference, filler_choice, first_of, run_choice, in_fresh, back, by_filler, new_below_hugepage, NoneFits}
-use Rattle.page_heap.specs.Ranges.{longest, best, first_least}
+use Rattle.range_bits.specs.Ranges.{longest, best, first_least}
 use Rattle.page_heap.specs.Spots.{IsChosen, filler_page}
 use Rattle.page_heap.specs.Table.{runs_from, heap_of, hugepage_of, flags_of, row_at, no_row, suits, is_preferred, choice_from, spot_by, spot_of, is_taken, is_unready, IsKept}
 use Rattle.page_heap.proofs.Choices.{IsSuited, suited_all, choice-suits}
-use Rattle.page_heap.proofs.RangeLemmas.{range-within, free_fits, free_at, longest-at, first_least-none, first_least-agree, filter-agree, filter-none, filter-some, best-at, best-some, best-none, all-used}
+use Rattle.range_bits.proofs.RangeLemmas.{range-within, free_fits, free_at, longest-at, first_least-none, first_least-agree, filter-agree, filter-none, filter-some, best-at, best-some, best-none, all-used}
 use Rattle.page_heap.proofs.Tables.{row_is, length-flags, filled-same, used_is}
 use Rattle.page_heap.proofs.Hugepages.{filler_some, free_none}
 use Rattle.page_heap.proofs.Trims.{whole-all, ready_is}

@@ -6,9 +6,9 @@ use Rattle.tc_units.specs.declared.rows.RowKind.{RowKind}
 use Rattle.tc_units.specs.declared.rows.RowKind.TheVariants as kind
 use Rattle.page_heap.specs.declared.rows.Row.{Row}
 use Rattle.page_heap.specs.Heap.{reaches, is_kind_free}
-use Rattle.page_heap.specs.Ranges.{longest}
+use Rattle.range_bits.specs.Ranges.{longest}
 use Rattle.page_heap.specs.Table.{filled, flags_of, joined, left, is_ready, IsRow}
-use Rattle.page_heap.proofs.Counts.{one-true, one-false}
+use Rattle.tc_units.proofs.Counts.{one-true, one-false}
 use Rattle.page_heap.proofs.Runs.{run_at}
 use Rattle.page_heap.proofs.Tables.{length-flags, length-filled, filled-below, filled-above, sum-came, sum-left, IsGap, IsHeld}
 

@@ -8,7 +8,7 @@ use Rattle.tc_units.specs.declared.spans.Run.{Run}
 use Rattle.page_heap.specs.declared.config.HeapConfig.{HeapConfig}
 use Rattle.page_heap.specs.declared.rows.Row.{Row}
 use Rattle.page_heap.specs.Heap.{reaches}
-use Rattle.page_heap.specs.Ranges.{longest}
+use Rattle.range_bits.specs.Ranges.{longest}
 use Rattle.page_heap.specs.Spots.{IsOpen}
 use Rattle.page_heap.specs.Table.{runs_from, heap_of, filled, flags_of, joined, left, no_row, is_ready, is_taken, is_unready, trimmed_rows, IsRow, IsKept}
 use Rattle.page_heap.proofs.Runs.{run_at, runs-all, length-runs}

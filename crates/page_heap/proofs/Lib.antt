@@ -1,11 +1,8 @@
 pub mod Examples
-pub mod Counts
 pub mod Runs
-pub mod RangeLemmas
 pub mod Tables
 pub mod Hugepages
 pub mod Trims
-pub mod RangeFacts
 pub mod Kept
 pub mod Views
 pub mod Soundness

@@ -11,10 +11,10 @@ use Rattle.tc_units.specs.declared.rows.RowView.{RowView}
 use Rattle.page_heap.specs.declared.config.HeapConfig.{HeapConfig}
 use Rattle.page_heap.specs.declared.rows.Row.{Row}
 use Rattle.page_heap.specs.Heap.{Hugepage, hugepage, whole, is_used, is_backed, reaches, used_count, pages_of, used_pages, backed_count, row_of, longest_range, allocation_count}
-use Rattle.page_heap.specs.Ranges.{longest}
+use Rattle.range_bits.specs.Ranges.{longest}
 use Rattle.page_heap.specs.Table.{runs_from, heap_of, hugepage_of, flags_of, no_row, IsKept, IsRow}
-use Rattle.page_heap.proofs.Counts.{count_none}
-use Rattle.page_heap.proofs.RangeLemmas.{longest-le-length}
+use Rattle.tc_units.proofs.Counts.{count_none}
+use Rattle.range_bits.proofs.RangeLemmas.{longest-le-length}
 use Rattle.page_heap.proofs.Runs.{sum-pages}
 use Rattle.page_heap.proofs.Tables.{used_is, row_is, length-flags}
 use Rattle.page_heap.proofs.Kept.{size, pages_within}

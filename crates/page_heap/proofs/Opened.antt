@@ -8,7 +8,7 @@ use Rattle.tc_units.specs.declared.rows.RowKind.TheVariants as kind
 use Rattle.page_heap.specs.declared.config.HeapConfig.{HeapConfig}
 use Rattle.page_heap.specs.declared.rows.Row.{Row}
 use Rattle.page_heap.specs.Heap.{Heap, Hugepage, holds, reaches, opened}
-use Rattle.page_heap.specs.Ranges.{longest}
+use Rattle.range_bits.specs.Ranges.{longest}
 use Rattle.page_heap.specs.Sound.{AreLimits}
 use Rattle.page_heap.specs.Table.{runs_from, heap_of, hugepage_of, flags_of, is_taken, is_unready, is_ready, IsTable, IsRow, IsKept}
 

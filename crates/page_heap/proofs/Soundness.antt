@@ -13,8 +13,8 @@ use Rattle.page_heap.specs.declared.rows.Row.{Row}
 use Rattle.page_heap.specs.Heap.{whole, holds, reaches, is_used, used_count, pages_of, is_kind_free, is_kind_filler}
 use Rattle.page_heap.specs.Sound.{IsInside, IsSound}
 use Rattle.page_heap.specs.Table.{runs_from, heap_of, hugepage_of, no_row, IsKept, IsRow}
-use Rattle.page_heap.proofs.Counts.{any_is_count, count_none, count_le, count_some}
-use Rattle.page_heap.proofs.RangeLemmas.{range-within}
+use Rattle.tc_units.proofs.Counts.{any_is_count, count_none, count_le, count_some}
+use Rattle.range_bits.proofs.RangeLemmas.{range-within}
 use Rattle.page_heap.proofs.Runs.{runs-all}
 use Rattle.page_heap.proofs.Hugepages.{free_none}
 use Rattle.page_heap.proofs.Kept.{IsLive, all_live}

@@ -8,7 +8,7 @@ use Rattle.std.proofs.lemmas.List.Folds.{sum_by-replicate}
 use Rattle.tc_units.specs.declared.spans.Run.{Run}
 use Rattle.page_heap.specs.Heap.{holds, is_used, used_row}
 use Rattle.page_heap.specs.Table.{runs_from, filled, flags_of, LiesIn, IsTable}
-use Rattle.page_heap.proofs.Counts.{any_is_count}
+use Rattle.tc_units.proofs.Counts.{any_is_count}
 use Rattle.page_heap.proofs.Runs.{run_at, weight, weight-none, weight-some, sum-runs-set}
 
 -- a page is used where its flag is set

@@ -10,7 +10,7 @@ use Rattle.page_heap.specs.declared.rows.Row.{Row}
 use Rattle.page_heap.specs.Heap.{whole, is_free_backed, is_kind_free, is_kind_filler}
 use Rattle.page_heap.specs.Choice.{trimmed}
 use Rattle.page_heap.specs.Table.{hugepage_of, left, no_row, is_ready, is_taken, is_unready, trimmed_rows}
-use Rattle.page_heap.proofs.Counts.{count-cons, one-true, one-false}
+use Rattle.tc_units.proofs.Counts.{count-cons, one-true, one-false}
 
 -- a hugepage that is backed all or none
 pub whole-all : (b : Bool) → list_all (λ x. x) (whole b) ≡ b

@@ -9,10 +9,10 @@ use Rattle.page_heap.specs.declared.config.HeapConfig.{HeapConfig}
 use Rattle.page_heap.specs.declared.rows.Row.{Row}
 use Rattle.page_heap.specs.Heap.{Heap, Hugepage, hugepage, untouched, whole, reaches, without_run}
 use Rattle.page_heap.specs.Choice.{Placed, after_leaving, trimmed, freed, freed_by, left_filler}
-use Rattle.page_heap.specs.Ranges.{longest}
+use Rattle.range_bits.specs.Ranges.{longest}
 use Rattle.page_heap.specs.Spots.{IsOpen, taken_at, filler_page}
 use Rattle.page_heap.specs.Table.{runs_from, heap_of, hugepage_of, flags_of, joined, left, no_row, IsKept}
-use Rattle.page_heap.proofs.Counts.{one-true}
+use Rattle.tc_units.proofs.Counts.{one-true}
 use Rattle.page_heap.proofs.Runs.{run_at, with_run-set, without_run-set}
 use Rattle.page_heap.proofs.Tables.{none_begins, sum-left}
 use Rattle.page_heap.proofs.Hugepages.{IsWithin, own_some, reaches_own, filler_some}

@@ -7,7 +7,7 @@ use Rattle.tc_units.specs.Units.{huge_pages}
 use Rattle.tc_units.specs.declared.spans.Run.{Run}
 use Rattle.tc_units.specs.declared.rows.RowKind.{RowKind}
 use Rattle.tc_units.specs.declared.rows.RowKind.TheVariants as kind
-use Rattle.page_heap.specs.Ranges.{best, first_least}
+use Rattle.range_bits.specs.Ranges.{best, first_least}
 use Rattle.page_heap.specs.Heap.{Heap, Hugepage, hugepage, with_hugepage, numbers, whole, with_run, without_run, used_row, longest_range, allocation_count, tier, is_free, is_filler, is_free_backed}
 
 -- The filler's choice for n pages.

@@ -1,4 +1,3 @@
-pub mod Ranges
 pub mod Heap
 pub mod Choice
 pub mod Sound

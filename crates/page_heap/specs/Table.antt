@@ -8,7 +8,7 @@ use Rattle.tc_units.specs.declared.rows.RowKind.TheVariants as kind
 use Rattle.page_heap.specs.declared.config.HeapConfig.{HeapConfig}
 use Rattle.page_heap.specs.declared.rows.Row.{Row}
 use Rattle.page_heap.specs.declared.spots.Spot.{Spot}
-use Rattle.page_heap.specs.Ranges.{longest, first_least, best}
+use Rattle.range_bits.specs.Ranges.{longest, first_least, best}
 use Rattle.page_heap.specs.Choice.{first_of}
 use Rattle.page_heap.specs.Heap.{Heap, Hugepage, whole, holds, reaches, is_kind_free, is_kind_filler}
 use Rattle.page_heap.specs.Sound.{AreLimits}

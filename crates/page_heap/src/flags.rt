@@ -1,7 +1,7 @@
 //! The flags of the pages: which ones live runs hold.
 ghost use Rattle.std.specs.Prelude.{◌≡◌, ◌+◌, ◌*◌, ◌≤◌, length, count_by};
 ghost use Rattle.tc_units.specs.Units.{huge_pages};
-ghost use Rattle.page_heap.specs.Ranges.{longest};
+ghost use Rattle.range_bits.specs.Ranges.{longest};
 ghost use Rattle.page_heap.specs.Table.{filled, flags_of};
 
 use crate::ranges;

@@ -1,6 +1,6 @@
 //! Free ranges of a row of places, each used (`true`) or free (`false`), by one pass from its end.
 ghost use Rattle.std.specs.Prelude.{◌≡◌, ◌<◌, length, nat_lt, option_map, IfSome};
-ghost use Rattle.page_heap.specs.Ranges.{free_from, longest, begins_range, first_of_two, best};
+ghost use Rattle.range_bits.specs.Ranges.{free_from, longest, begins_range, first_of_two, best};
 
 /// Free places that follow each other.
 #[derive(Clone, Copy, Debug, PartialEq, Eq)]

@@ -3,7 +3,7 @@ ghost use Rattle.std.specs.Prelude.{◌≡◌, ◌+◌, ◌-◌, ◌<◌, ◌≤
 ghost use Rattle.std.specs.List.{slice_index_or, slice_set};
 ghost use Rattle.std.specs.Ordering.{is_lt, nat_cmp, ordering_then};
 ghost use Rattle.page_heap.specs.Heap.{is_kind_filler};
-ghost use Rattle.page_heap.specs.Ranges.{first_of_two};
+ghost use Rattle.range_bits.specs.Ranges.{first_of_two};
 ghost use Rattle.page_heap.specs.Table.{choice_from, is_preferred, is_taken, is_unready, is_ready, joined, left, no_row, trimmed_rows};
 
 use tc_units::RowKind;

@@ -2,7 +2,7 @@
 ghost use Rattle.std.specs.Prelude.{◌≡◌, ◌+◌, ◌-◌, ◌*◌, ◌<◌, ◌≤◌, length, option_map};
 ghost use Rattle.tc_units.specs.Units.{huge_pages};
 ghost use Rattle.page_heap.specs.Choice.{first_of};
-ghost use Rattle.page_heap.specs.Ranges.{best};
+ghost use Rattle.range_bits.specs.Ranges.{best};
 ghost use Rattle.page_heap.specs.Table.{flags_of, spot_of};
 
 use crate::rows::{self, Row};

@@ -4,3 +4,5 @@ mod Existence
 mod Placing
 mod RowFacts
 mod Scan
+pub mod RangeFacts
+pub mod RangeLemmas

@@ -1,6 +1,6 @@
 use Rattle.std.proofs.Common.{◌+◌, ◌≤◌, length, arith}
-use Rattle.page_heap.specs.Ranges.{free_from}
-use Rattle.page_heap.proofs.RangeFacts.{one_more_is_inside}
+use Rattle.range_bits.specs.Ranges.{free_from}
+use Rattle.range_bits.proofs.RangeFacts.{one_more_is_inside}
 use Rattle.page_heap.proofs.ranges.best_fit.Goals as goal
 
 pub overflow_add-free : goal.overflow_add-free

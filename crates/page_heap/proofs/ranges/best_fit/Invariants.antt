@@ -1,6 +1,6 @@
 use Rattle.std.proofs.Common.{◌≡◌, option_map}
-use Rattle.page_heap.specs.Ranges.{free_from}
-use Rattle.page_heap.proofs.RangeFacts.{best_from}
+use Rattle.range_bits.specs.Ranges.{free_from}
+use Rattle.range_bits.proofs.RangeFacts.{best_from}
 use Rattle.page_heap.proofs.ranges.best_fit.Given as goal
 
 abbrev pub invariant-loop-start : goal.invariant-loop-start

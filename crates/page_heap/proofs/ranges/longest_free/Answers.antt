@@ -1,7 +1,7 @@
 use Rattle.std.proofs.Common.{◌≡◌, ◌+◌, ◌-◌, ◌≤◌, length, arith, sym, ◌∙◌}
 use Rattle.std.proofs.lemmas.Grind.{common_steps}
-use Rattle.page_heap.specs.Ranges.{free_from}
-use Rattle.page_heap.proofs.RangeFacts.{longest_from-step, free_from-used, free_from-free, one_more_is_inside}
+use Rattle.range_bits.specs.Ranges.{free_from}
+use Rattle.range_bits.proofs.RangeFacts.{longest_from-step, free_from-used, free_from-free, one_more_is_inside}
 use Rattle.page_heap.proofs.ranges.longest_free.Goals as goal
 use Rattle.page_heap.proofs.ranges.longest_free.Goals.{then-row-place, else-row-place}
 

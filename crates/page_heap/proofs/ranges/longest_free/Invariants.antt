@@ -1,6 +1,6 @@
 use Rattle.std.proofs.Common.{◌≡◌}
-use Rattle.page_heap.specs.Ranges.{free_from}
-use Rattle.page_heap.proofs.RangeFacts.{longest_from}
+use Rattle.range_bits.specs.Ranges.{free_from}
+use Rattle.range_bits.proofs.RangeFacts.{longest_from}
 use Rattle.page_heap.proofs.ranges.longest_free.Given as goal
 
 abbrev pub invariant-loop-place : goal.invariant-loop-place

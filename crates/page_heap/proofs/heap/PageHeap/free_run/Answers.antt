@@ -3,7 +3,7 @@ use Rattle.std.specs.Vec.{with_items}
 use Rattle.page_heap.specs.declared.rows.Row.{Row}
 use Rattle.page_heap.specs.Choice.{freed}
 use Rattle.page_heap.specs.Heap.{Heap, is_kind_filler, without_run}
-use Rattle.page_heap.specs.Ranges.{longest}
+use Rattle.range_bits.specs.Ranges.{longest}
 use Rattle.page_heap.specs.Table.{filled, flags_of, left, no_row, trimmed_rows, is_taken, is_unready, IsKept, IsRow}
 use Rattle.page_heap.proofs.Hugepages.{own_some, filler_some}
 use Rattle.page_heap.proofs.Kept.{IsGone, IsLive, live_of, left_is, pages_within}

@@ -1,7 +1,7 @@
 use Rattle.std.proofs.Common.{◌≡◌, ◌+◌, ◌*◌, ◌<◌, length, get_or, set, map, true, refl, sym, ap, subst, ◌∙◌, arith}
 use Rattle.std.specs.Vec.{with_items}
 use Rattle.std.proofs.lemmas.List.{length-map}
-use Rattle.page_heap.specs.Ranges.{longest}
+use Rattle.range_bits.specs.Ranges.{longest}
 use Rattle.page_heap.specs.Spots.{IsOpen, taken_at}
 use Rattle.page_heap.specs.Table.{heap_of, filled, flags_of, joined, no_row, is_taken, is_unready, IsKept}
 use Rattle.page_heap.proofs.Kept.{IsCame, few_allocs, came_is}

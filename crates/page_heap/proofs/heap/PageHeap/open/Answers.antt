@@ -1,5 +1,5 @@
 use Rattle.std.proofs.Common.{◌≡◌, ◌+◌, ◌*◌, true, false, replicate, sym, ap, subst, ◌∙◌}
-use Rattle.page_heap.specs.Ranges.{longest}
+use Rattle.range_bits.specs.Ranges.{longest}
 use Rattle.page_heap.specs.Table.{heap_of, flags_of, IsKept}
 use Rattle.page_heap.proofs.Opened.{first_row, opened_kept, opened_is}
 use Rattle.page_heap.proofs.Soundness.{sound}

@@ -6,8 +6,8 @@ use Rattle.std.proofs.lemmas.List.{length-drop, get_or-drop, get_or-map, nil_fro
 use Rattle.std.proofs.lemmas.List.FromFn.{length-range_with_len, get_or-range_with_len}
 use Rattle.std.proofs.lemmas.List.Sums.{prefix_len_passes, prefix_len-le-length, prefix_len-drop_yes, length-filter, get_or-le-sum_by, list_all-from_AllPass, AllPass-from_list_all}
 use Rattle.std.proofs.lemmas.List.Elements.{All-head, All-tail, All-from_get_or, All-filter, filter_passes}
-use Rattle.page_heap.specs.Ranges.{free_from, places, longest, begins_range, first_of_two, first_least, best}
-use Rattle.page_heap.proofs.Counts.{count_none}
+use Rattle.range_bits.specs.Ranges.{free_from, places, longest, begins_range, first_of_two, first_least, best}
+use Rattle.tc_units.proofs.Counts.{count_none}
 
 -- the numbers of a range lie in it
 pub range-within : (a n : ℕ) → All (λ h. (a ≤ h) × (h < a + n)) (range_with_len a n)

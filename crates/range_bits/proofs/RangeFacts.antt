@@ -5,7 +5,7 @@ use Rattle.std.proofs.lemmas.List.{get_or-drop, length-drop}
 use Rattle.std.proofs.lemmas.List.Sums.{prefix_len-drop_yes, prefix_len-drop_no, prefix_len-drop_all, prefix_len-le-length, prefix_len_passes}
 use Rattle.std.proofs.lemmas.Bool.{cond_both, not-true, cases_Bool, cases_lt, cases_eq, and_parts, and_from, or_right, leb-true, le-leb}
 use Rattle.std.proofs.lemmas.Option.{none-some, same_Some}
-use Rattle.page_heap.specs.Ranges.{free_from, longest, begins_range, first_of_two, first_least, best}
+use Rattle.range_bits.specs.Ranges.{free_from, longest, begins_range, first_of_two, first_least, best}
 
 -- the longest free range that begins at a place or after it
 abbrev pub longest_from : List Bool → ℕ → ℕ
