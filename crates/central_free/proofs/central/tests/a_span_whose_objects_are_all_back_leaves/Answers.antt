@@ -1,7 +1,7 @@
 use Rattle.std.proofs.Common.{◌≡◌, List, sym, subst, rules}
 use Rattle.std.specs.Prelude.{All}
 use Rattle.tc_units.specs.declared.units.Addr.{Addr}
-use Rattle.central_free.specs.Central.{opening, IsTakenIn, AreDifferent}
+use Rattle.central_free.specs.Central.{opening, IsTakenIn}
 use Rattle.central_free.proofs.central.tests.a_span_whose_objects_are_all_back_leaves.Goals as goal
 
 pub put-requires-clause-taken : goal.put-requires-clause-taken
