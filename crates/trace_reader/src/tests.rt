@@ -274,3 +274,20 @@ fn an_order_line_too_many(rt: HostRuntime) -> Result<(), Fail> {
     assert_eq!(rt; read, Err(OrderFault::BadLine { line, why }));
     Ok(())
 }
+
+/// Made to be tried with each of its allocations refused in turn: a trace or an order comes whole, or
+/// not at all.
+#[test]
+fn memory_that_runs_out(rt: HostRuntime) {
+    match read_trace(rt.alloc(), b"a 0 3 1\nf 0 3\nr 0 1", CLASSES) {
+        Ok(trace) => {
+            assert_eq!(rt; trace.labels, 4);
+            assert_eq!(rt; trace.turns.as_slice().len(), 3);
+        }
+        Err(fault) => assert_eq!(rt; fault, TraceFault::Memory),
+    }
+    match read_order(rt.alloc(), b"0 3\n1", 2) {
+        Ok(picks) => assert_eq!(rt; picks.as_slice(), [0, 0, 0, 1].as_slice()),
+        Err(fault) => assert_eq!(rt; fault, OrderFault::Memory),
+    }
+}
