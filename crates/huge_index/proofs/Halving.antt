@@ -1,0 +1,49 @@
+-- A search by halving: what a read key tells of all others, and how many reads are made.
+use Rattle.std.proofs.Common.{◌≡◌, ℕ, ◌+◌, ◌-◌, ◌*◌, ◌^◌, ◌<◌, ◌≤◌, Bool, true, false, List, length, get_or, sym, ap, ◌∙◌, inl, inr, arith, add-one}
+use Rattle.std.proofs.Math.Nat.{mul-le-mul_left, pow-succ'}
+use Rattle.std.proofs.lemmas.Bool.{cases_lt, cases_Bool}
+use Rattle.huge_index.specs.declared.key.Key.{Key}
+use Rattle.huge_index.specs.Order.{comes_before, IsInOrder}
+
+-- a test that an earlier key passes where a later one does
+abbrev pub IsClosed : (Key → Bool) → Type 0
+IsClosed p = (a b : Key) → comes_before b a ≡ false → p b ≡ true → p a ≡ true
+
+-- before a key that passes, all keys do
+pub all_before : (keys : List Key) (p : Key → Bool) (middle : ℕ) → IsClosed p → IsInOrder keys → middle < length keys → ((d : Key) → p (get_or keys middle d) ≡ true) → (i : ℕ) (d : Key) → i < middle + 1 → p (get_or keys i d) ≡ true
+all_before keys p middle closed order inside here i d l =
+    elim (cases_lt i middle) [
+      | inl earlier ↦ closed (get_or keys i d) (get_or keys middle d) (order i middle d earlier inside) (here d)
+      | inr at ↦ (let same : middle ≡ i = omega arith in ap (λ (j : ℕ). p (get_or keys j d)) (sym same) ∙ here d)
+    ]
+
+-- behind a key that doesn't, none does
+pub none_behind : (keys : List Key) (p : Key → Bool) (middle : ℕ) → IsClosed p → IsInOrder keys → ((d : Key) → p (get_or keys middle d) ≡ false) → (i : ℕ) (d : Key) → middle ≤ i → i < length keys → p (get_or keys i d) ≡ false
+none_behind keys p middle closed order here i d from inside =
+    elim (cases_lt middle i) [
+      | inl later ↦ elim (cases_Bool (p (get_or keys i d))) [
+        | inl passed ↦ absurd (let c : true ≡ false = sym (closed (get_or keys middle d) (get_or keys i d) (order middle i d later inside) passed) ∙ here d in cc)
+        | inr failed ↦ failed
+      ]
+      | inr at ↦ (let same : middle ≡ i = omega arith in ap (λ (j : ℕ). p (get_or keys j d)) (sym same) ∙ here d)
+    ]
+
+-- one read more halves what is left
+pub halved : (k size half n : ℕ) → 0 < size → half + half ≤ size → 2 ^ k * size ≤ n → (2 ^ (k + 1) * half ≤ n) × (2 ^ (k + 1) ≤ 2 * n + 1)
+halved k size half n some split most =
+    let p : ℕ = 2 ^ k in
+    let twice : 2 ^ (k + 1) ≡ 2 * p = ap (λ (e : ℕ). 2 ^ e) (add-one k) ∙ pow-succ' 2 k in
+    let both : 2 ^ (k + 1) * half ≡ 2 * p * half = ap (λ (t : ℕ). t * half) twice in
+    let less : p * (half + half) ≤ p * size = mul-le-mul_left p split in
+    let once : p * 1 ≤ p * size = mul-le-mul_left p some in
+    (omega arith, omega arith)
+
+-- the same for counters
+pub halved_steps : (before after start size half n : ℕ) → start ≤ before → after ≡ before + 1 → 0 < size → half + half ≤ size → 2 ^ (before - start) * size ≤ n → (2 ^ (after - start) * half ≤ n) × (2 ^ (after - start) ≤ 2 * n + 1)
+halved_steps before after start size half n order e some split most =
+    let k : ℕ = before - start in
+    let next : after - start ≡ k + 1 = omega arith in
+    let same : 2 ^ (after - start) ≡ 2 ^ (k + 1) = ap (λ (t : ℕ). 2 ^ t) next in
+    let got = halved k size half n some split most in
+    let product : 2 ^ (after - start) * half ≡ 2 ^ (k + 1) * half = ap (λ (t : ℕ). t * half) same in
+    (omega (arith, got.0), omega (arith, got.1))

@@ -1,0 +1,4 @@
+mod Changes
+mod First
+mod Halving
+mod Orders
