@@ -58,6 +58,7 @@ impl HugeIndex {
         ensures order { IsInOrder self.now.keys }
         ensures found { (place : ℕ) × IsPlace self.now.keys tier n place
             × (result ≡ slice_get self.now.keys place) }
+        ensures counted { steps.old ≤ steps.new }
         ensures cost { 2 ^ (steps.new - steps.old) ≤ 2 * length self.now.keys + 1 }
     {
         let mut low = 0;
@@ -82,6 +83,7 @@ impl HugeIndex {
         ensures found { IfSome result
             (λ huge. (key : Key) × (key.huge ≡ huge) × IsFirstOf self.now.keys tier n key) }
         ensures none { (result ≡ None) ↔ All (λ key. ¬ (Serves tier n key)) self.now.keys }
+        ensures counted { steps.old ≤ steps.new }
         ensures cost { 2 ^ (steps.new - steps.old) ≤ 2 * length self.now.keys + 1 }
     {
         match self.search(tier, n, steps) {
