@@ -33,7 +33,7 @@ free_from-free row p pos in_row free =
 pub free_from-end : (row : List Bool) → free_from row (length row) ≡ 0
 free_from-end row = prefix_len-drop_all not row (length row) (omega arith)
 
-fold_max : (a : ℕ) (xs : List ℕ) → fold max a xs ≡ max a (fold max 0 xs)
+pub fold_max : (a : ℕ) (xs : List ℕ) → fold max a xs ≡ max a (fold max 0 xs)
 fold_max a [] = omega arith
 fold_max a (x ∷ xs) =
     let left : fold max (max a x) xs ≡ max (max a x) (fold max 0 xs) = fold_max (max a x) xs in

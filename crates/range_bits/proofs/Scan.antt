@@ -6,6 +6,7 @@ use Rattle.std.proofs.lemmas.List.Sums.{fold-append, prefix_len-drop_yes, prefix
 use Rattle.std.proofs.lemmas.List.Elements.{filter-append}
 use Rattle.std.proofs.lemmas.Bool.{cases_lt, and_from, and_left, and_right, or_left, or_right, le-leb, lt-leb, lt-ltb, le-ltb, ne_eqb}
 use Rattle.std.proofs.lemmas.Bool.Decides.{nat_tests}
+use Rattle.range_bits.proofs.RangeFacts.{fits_at, fold_max}
 use Rattle.range_bits.specs.Ranges.{free_from, begins_range, first_of_two, first_least}
 use Rattle.range_bits.specs.Words.{IsNextRange}
 use Rattle.range_bits.specs.FreeRanges.{shorter_of}
@@ -37,13 +38,6 @@ free_run row (suc m) k inside free end =
 -- no free stretch begins at a used place
 pub free_from-used : (row : List Bool) (k : ℕ) → k < length row → get_or row k true ≡ true → free_from row k ≡ 0
 free_from-used row k inside used = prefix_len-drop_no not row k true inside (ap not used)
-
-fold_max : (a : ℕ) (xs : List ℕ) → fold max a xs ≡ max a (fold max 0 xs)
-fold_max a [] = omega arith
-fold_max a (x ∷ xs) =
-    let left : fold max (max a x) xs ≡ max (max a x) (fold max 0 xs) = fold_max (max a x) xs in
-    let right : fold max (max 0 x) xs ≡ max (max 0 x) (fold max 0 xs) = fold_max (max 0 x) xs in
-    omega arith
 
 -- the greatest value of a function over numbers in a row, from bounds at each
 greatest-le : (f : ℕ → ℕ) (most a n : ℕ) → ((k : ℕ) → a ≤ k → k < a + n → f k ≤ most) → fold max 0 (map f (range_with_len a n)) ≤ most
@@ -128,10 +122,6 @@ filter-none p a (suc n) no_one =
     let here : p a ≡ false = no_one a (omega arith) (omega arith) in
     ap (λ (b : Bool). cond b (a ∷ filter p (range_with_len (a + 1) n)) (filter p (range_with_len (a + 1) n))) here
     ∙ filter-none p (a + 1) n (λ k from to. no_one k (omega arith) (omega arith))
-
--- whether a place begins a maximal free range of at least n places
-abbrev pub fits_at : List Bool → ℕ → ℕ → Bool
-fits_at row n place = begins_range row place && nat_le n (free_from row place)
 
 -- the shortest of those that begin before a place
 abbrev pub best_before : List Bool → ℕ → ℕ → Option ℕ
