@@ -79,6 +79,7 @@ holds_after input valid order of =
       is = w.is;
       blocks = f.kept.run;
       decided = λ t l is. among input w.state w.inside t l is;
+      acts = w.holds.acts;
       heap = w.stands.sound;
       none = λ n some. none_exactly w.parts.heap n w.stands.sound (omega (arith, valid.region, ap (λ (c : HeapConfig). c.region) w.stands.config_is)) some;
       places = λ a. omega (arith, f.places a, starts_are a, ap (λ (ns : List NameState). sum_by (named_at a) ns) w.stands.names_are);

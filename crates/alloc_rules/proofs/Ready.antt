@@ -1,6 +1,9 @@
 -- Every pair that a pick takes fits.
-use Rattle.std.proofs.Common.{◌≡◌, ℕ, ◌<◌, List, length, Some, refl, sym, ap, ◌∙◌, subst, arith}
+use Rattle.std.proofs.Common.{◌≡◌, ℕ, ◌<◌, ◌≤◌, ◌==◌, List, length, Some, refl, sym, ap, ◌∙◌, subst, arith}
 use Rattle.std.specs.List.{slice_get}
+use Rattle.std.proofs.lemmas.List.Sums.{count_by-le-length}
+use Rattle.tc_model.specs.declared.machine.TheConstants.{MOST_PICKS}
+use Rattle.tc_model.specs.Calls.{picks_of}
 use Rattle.tc_model.specs.declared.machine.PartNo.{PartNo}
 use Rattle.tc_model.specs.Input.{Input}
 use Rattle.tc_model.specs.Run.{World, world_of, run}
@@ -18,7 +21,7 @@ use Rattle.alloc_rules.specs.State.{State, Setup, calls}
 use Rattle.alloc_rules.specs.Weights.{Holds}
 use Rattle.alloc_rules.specs.Machine.{Part, Parts, parts_of, number, place_of, rules, setup_of, heap_config}
 use Rattle.alloc_rules.specs.Machine as part
-use Rattle.alloc_rules.specs.Fits.{fits, fits_step}
+use Rattle.alloc_rules.specs.Fits.{Fits, fits_step}
 use Rattle.alloc_rules.specs.Valid.{IsValid}
 use Rattle.alloc_rules.proofs.Stands.{Stands, AreLimits, set_inside, set_apart, clear_there, give_there, lookup_there}
 use Rattle.alloc_rules.proofs.PublishAct as publishes
@@ -28,16 +31,20 @@ use Rattle.alloc_rules.proofs.Larges.{large_some}
 use Rattle.alloc_rules.proofs.Inputs.{valid_once}
 use Rattle.alloc_rules.proofs.Runs.{IsServed, served_runs}
 
-module _ (m : Setup) (config : HeapConfig) (p : Parts) (s : State) (order : List ℕ) (t : ℕ) (l : Local) (h : Holds m s order) (st : Stands m config p s.heap s.spans s.names) (limits : AreLimits m config) (local : slice_get s.locals t ≡ Some l) where
-  at_part : (i : ℕ) (place : PartNo) (q : Part) (step : Step) → l.step ≡ step → number i ≡ place → slice_get (parts_of p) i ≡ Some q → fits_step q step → FitsThere fits (world_of (parts_of p) s.locals) place.0 l
+-- a thread's picks are among all
+picks_few : (t : ℕ) (order : List ℕ) → picks_of t order ≤ length order
+picks_few t order = count_by-le-length (λ u. u == t) order
+
+module _ (m : Setup) (config : HeapConfig) (p : Parts) (s : State) (order : List ℕ) (t : ℕ) (l : Local) (h : Holds m s order) (st : Stands m config p s.heap s.spans s.names) (limits : AreLimits m config) (local : slice_get s.locals t ≡ Some l) (most : length order ≤ MOST_PICKS) where
+  at_part : (i : ℕ) (place : PartNo) (q : Part) (step : Step) → l.step ≡ step → number i ≡ place → slice_get (parts_of p) i ≡ Some q → fits_step q step → FitsThere Fits (world_of (parts_of p) s.locals) place.0 l
   at_part i place q step is at there fit =
       record {
         part = q;
         there = ap (λ (n : PartNo). slice_get (parts_of p) n.0) (sym at) ∙ there;
-        fit = subst (fits_step q) (sym is) fit;
+        fit = record { step = subst (fits_step q) (sym is) fit; few = omega (arith, h.acts t l local, picks_few t order, most) };
       }
 
-  ready_by : (step : Step) (place : PartNo) → l.step ≡ step → place_of step ≡ Some place → FitsThere fits (world_of (parts_of p) s.locals) place.0 l
+  ready_by : (step : Step) (place : PartNo) → l.step ≡ step → place_of step ≡ Some place → FitsThere Fits (world_of (parts_of p) s.locals) place.0 l
   ready_by (does.Heap (New label size)) place is want =
       let some : 0 < size = large_some m.rows size (news.large m s (calls s.locals order) t l label size h.facts local is) in
       at_part 0 place (part.Heap p.heap) (does.Heap (New label size)) is (cc) refl (omega arith)
@@ -60,9 +67,9 @@ limits_of input valid = record { huge = refl; few = valid.few; region = valid.re
 pub served_order : (input : Input) → IsValid input → (order : List ℕ) → IsOrder (rules input) order → IsServed (setup_of input) (heap_config input.asked.config) (run (rules input) order) order
 served_order input valid order of = served_runs input (valid_once input valid) valid.some valid.few (limits_of input valid) order of
 
-pub sound : (input : Input) → IsValid input → IsSound (rules input) fits
+pub sound : (input : Input) → IsValid input → IsSound (rules input) Fits
 sound input valid order t of l place local want =
     let w = served_order input valid order of in
     let local' : slice_get w.state.locals t ≡ Some l = ap (λ (v : World Part Local). slice_get v.locals t) (sym w.is) ∙ local in
-    let Q : World Part Local → Type 0 = λ v. FitsThere fits v place.0 l in
-    subst Q (sym w.is) (ready_by (setup_of input) (heap_config input.asked.config) w.parts w.state order t l w.holds w.stands (limits_of input valid) local' l.step place refl want)
+    let Q : World Part Local → Type 0 = λ v. FitsThere Fits v place.0 l in
+    subst Q (sym w.is) (ready_by (setup_of input) (heap_config input.asked.config) w.parts w.state order t l w.holds w.stands (limits_of input valid) local' of.few l.step place refl want)

@@ -1,4 +1,6 @@
--- The part is the one that the next act is on, and fits it.
+-- The part is the one that the next act is on, and fits it; and the thread has done few acts.
+use Rattle.std.specs.Prelude.{◌≤◌}
+use Rattle.tc_model.specs.declared.machine.TheConstants.{MOST_PICKS}
 use Rattle.call_steps.specs.declared.step.Step.{Step}
 use Rattle.call_steps.specs.declared.step.Step.TheVariants as does
 use Rattle.call_steps.specs.Local.{Local}
@@ -11,5 +13,6 @@ fits_step (Map map) (does.Map row) = FitsMap map row
 fits_step (Names names) (does.Names row) = FitsNames names row
 fits_step part step = ⊥
 
-abbrev pub fits : Part → Local → Type 0
-fits part l = fits_step part l.step
+pub record Fits (part : Part) (l : Local) : Type 0 where
+  pub step : fits_step part l.step
+  pub few : l.acts ≤ MOST_PICKS

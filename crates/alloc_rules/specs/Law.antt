@@ -8,6 +8,7 @@ use Rattle.tc_model.specs.declared.calls.Planned.{Planned}
 use Rattle.tc_model.specs.Input.{Input, script_of}
 use Rattle.tc_model.specs.Run.{world_of, run}
 use Rattle.tc_model.specs.Sound.{IsOrder, IsSound}
+use Rattle.tc_model.specs.Calls.{picks_of}
 use Rattle.tc_model.specs.Serial.{AreThreads, NeverWaits, Rises, Ends}
 use Rattle.page_map.specs.Spans.{IsWellFormed}
 use Rattle.name_table.specs.declared.table.NameState.TheVariants as name
@@ -20,7 +21,7 @@ use Rattle.alloc_rules.specs.State.{bit, runs_like, runs_at, calls}
 use Rattle.alloc_rules.specs.Weights.{owns_at, named_at, off_map, unpublished, untaken, is_out, is_taken}
 use Rattle.alloc_rules.specs.Machine.{Parts, parts_of, rules, turns}
 use Rattle.call_steps.specs.Kept.{call_at}
-use Rattle.alloc_rules.specs.Fits.{fits}
+use Rattle.alloc_rules.specs.Fits.{Fits}
 use Rattle.alloc_rules.specs.Valid.{IsValid}
 
 -- the decided calls of a local are the first ones of its script: those that ended, and the one under way once it is decided
@@ -37,6 +38,8 @@ pub record HoldsAfter (input : Input) (order : List ℕ) : Type 0 where
   pub blocks : IsBlockRun input.asked.config.huge (length_of input.rows) (calls locals order)
   -- each thread's decided calls are the first ones of its script, each once; a call that has ended was decided
   pub decided : (t : ℕ) (l : Local) → slice_get locals t ≡ Some l → IsAmong (script_of t input.asked.calls) l
+  -- each thread has done as many acts as it was picked
+  pub acts : (t : ℕ) (l : Local) → slice_get locals t ≡ Some l → l.acts ≡ picks_of t order
   -- live runs are disjoint, inside the arena and backed, and each hugepage serves what its runs say
   pub heap : heaps.IsSound parts.heap
   -- an allocation gets none exactly where no run of its pages fits
@@ -56,7 +59,7 @@ pub record HoldsAfter (input : Input) (order : List ℕ) : Type 0 where
 -- hasn't ended moves, and where each call has ended each script has; no pick lowers a number of ended calls; and all that
 -- holds between any two picks.
 pub record AreLawful (input : Input) : Type 0 where
-  pub sound : IsSound (rules input) fits
+  pub sound : IsSound (rules input) Fits
   pub threads : AreThreads (rules input) (turns input)
   pub never_waits : NeverWaits (rules input) (turns input)
   pub rises : Rises (rules input)
