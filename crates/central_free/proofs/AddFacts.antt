@@ -213,6 +213,17 @@ get_or-front zero b i d less = absurd (omega arith)
 get_or-front (suc a) b zero d less = refl
 get_or-front (suc a) b (suc i) d less = get_or-front a b i d (omega arith)
 
+-- and so can what was taken from the others
+pub kept-with_span : (spans : List SpanState) (s : SpanState) (a : Addr) → IsTakenIn spans a → IsTakenIn (with_span s spans) a
+kept-with_span spans s a there =
+    let k = prefix_len (λ t. nat_le (first_byte t.span) (first_byte s.span)) spans in
+    let within : k ≤ length spans = prefix_len-le-length (λ t. nat_le (first_byte t.span) (first_byte s.span)) spans in
+    let longer : length (insert spans k s) ≡ length spans + 1 = length-insert spans k s within in
+    elim (cases_lt there.0 k) [
+      | inl below ↦ (there.0, there.1, omega (arith, there.2), get_or-insert_below spans k s there.1 there.0 below within ∙ there.3, there.4)
+      | inr above ↦ (there.0 + 1, there.1, omega (arith, there.2), get_or-insert_above spans k s there.1 there.0 above within ∙ there.3, there.4)
+    ]
+
 opening-IsTaken : (span : SpanRef) (size n i : ℕ) → i < min n (objects_in span.pages size) → IsTaken (opened span size n) (address (opened span size n) i)
 opening-IsTaken span size n i less =
     let m = objects_in span.pages size in

@@ -21,6 +21,7 @@ pub record IsPutting (list : List Addr) (start now : Central) (before freed : Co
   pub few : length freed.items ≤ length before.items + done
   pub sound : IsSound now
   pub taken : (k : ℕ) (d : Addr) → done ≤ k → k < length list → IsTakenIn now.spans (get_or list k d)
+  pub kept : (a : Addr) → IsTakenIn start.spans a → All (λ b. a ≢ b) list → IsTakenIn now.spans a
   pub moves : (test : Addr → Bool) → count_by test (free_in now.spans) + count_by test (flat_map (objects_of start.row.size) freed.items) + count_by test (drop done list) ≡ count_by test (free_in start.spans) + count_by test (flat_map (objects_of start.row.size) before.items) + count_by test list
 
 pub IsPutting-none : (list : List Addr) (start : Central) (before : Contents SpanRef) → IsSound start → All (IsTakenIn start.spans) list → IsPutting list start start before before 0
@@ -33,6 +34,7 @@ IsPutting-none list start before sound taken =
       few = omega arith;
       sound = sound;
       taken = λ k d from within. taken k d within;
+      kept = λ a there differ. there;
       moves = λ test. refl;
     }
 
@@ -51,6 +53,7 @@ IsPutting-more list start now next before freed more done a gone so_far differen
       sound = sound;
       taken = λ k d from within.
           kept (get_or list k d) (so_far.taken k d (omega arith) within) (λ same. different done k d (omega arith) within (sym (get_or_read list done a less read d) ∙ sym same));
+      kept = λ b there differ. kept b (so_far.kept b there differ) (λ same. differ done a less (same ∙ read));
       moves = λ test. (
           let size : flat_map (objects_of now.row.size) gone ≡ flat_map (objects_of start.row.size) gone = ap (λ r. flat_map (objects_of r.size) gone) so_far.row in
           let sizes : count_by test (flat_map (objects_of now.row.size) gone) ≡ count_by test (flat_map (objects_of start.row.size) gone) = ap (count_by test) size in

@@ -1,5 +1,5 @@
 -- An object that is put back: the span that holds it, and what becomes of the spans.
-use Rattle.std.proofs.Common.{◌≡◌, ◌≢◌, ℕ, suc, ◌+◌, ◌-◌, ◌*◌, ◌/◌, ◌<◌, ◌≤◌, Bool, true, false, not, ◌==◌, nat_lt, nat_le, List, [], ◌∷◌, ◌++◌, length, get_or, set, take, drop, replicate, count_by, Some, cond, refl, sym, ◌∙◌, ap, subst, inl, inr, arith}
+use Rattle.std.proofs.Common.{◌≡◌, ◌≢◌, ℕ, suc, ◌+◌, ◌-◌, ◌*◌, ◌/◌, ◌<◌, ◌≤◌, Bool, true, false, not, ◌==◌, nat_lt, nat_le, List, [], ◌∷◌, ◌++◌, length, get_or, set, take, drop, replicate, count_by, Option, Some, None, IfSome, cond, refl, sym, ◌∙◌, ap, subst, inl, inr, arith}
 use Rattle.std.specs.List.{flat_map, prefix_len, position_or_len, slice_get, remove}
 use Rattle.std.proofs.lemmas.List.{get_or-set_same, get_or-set_other, length-set, get_or_default, drop-set-lt, take-set, append-nil}
 use Rattle.std.proofs.lemmas.List.Elements.{All-append, All-take, All-drop}
@@ -115,6 +115,12 @@ kept-set spans k s t b within read kept there =
           (k, t, omega (arith, length-set spans k t), get_or-set_same spans k t t within, kept (subst P same there.4)))
       | inr other ↦ (there.0, there.1, omega (arith, there.2, length-set spans k t), get_or-set_other spans k there.0 t there.1 other ∙ there.3, there.4)
     ]
+
+-- what was taken from a span is taken in the list with it
+pub given-set : (spans : List SpanState) (k : ℕ) (t : SpanState) (one : Option Addr) → k < length spans → IfSome one (IsTaken t) → IfSome one (IsTakenIn (set spans k t))
+given-set spans k t None within given = given
+given-set spans k t (Some a) within given =
+    (k, t, omega (arith, length-set spans k t), get_or-set_same spans k t t within, given)
 
 pub kept-remove : (spans : List SpanState) (k : ℕ) (s t : SpanState) (b : Addr) → k < length spans → s ≡ get_or spans k s → (IsTaken s b → IsTaken t b) → taken_count t ≡ 0 → IsTakenIn spans b → IsTakenIn (remove spans k) b
 kept-remove spans k s t b within read kept none there =

@@ -1,8 +1,8 @@
 -- Several takes, one by one: what stands after some of them.
-use Rattle.std.proofs.Common.{◌≡◌, ℕ, zero, suc, ◌+◌, ◌-◌, ◌<◌, ◌⊎◌, ◌↔◌, Bool, List, [], ◌∷◌, ◌++◌, length, get_or, set, count_by, Option, Some, None, cond, refl, sym, ◌∙◌, ap, inl, inr, arith}
+use Rattle.std.proofs.Common.{◌≡◌, ℕ, zero, suc, ◌+◌, ◌-◌, ◌<◌, ◌≤◌, ◌⊎◌, ◌↔◌, Bool, List, [], ◌∷◌, ◌++◌, length, get_or, set, count_by, Option, Some, None, cond, refl, sym, ◌∙◌, ap, subst, inl, inr, arith}
 use Rattle.std.specs.Prelude.{All}
 use Rattle.std.specs.Option.{option_map}
-use Rattle.std.proofs.lemmas.List.{append_assoc, append-nil, length-append}
+use Rattle.std.proofs.lemmas.List.{append_assoc, append-nil, length-append, get_or_append_left, get_or-append-add}
 use Rattle.std.proofs.lemmas.Option.{none-some}
 use Rattle.std.proofs.lemmas.Bool.{cases_lt, ltb-true, lt-ltb, le-ltb}
 use Rattle.std.proofs.lemmas.List.Sums.{sum_by-append}
@@ -11,7 +11,7 @@ use Rattle.tc_units.specs.declared.spans.ClassRow.{ClassRow}
 use Rattle.tc_units.specs.Bag.{Contents}
 use Rattle.span_list.specs.Span.{SpanState, free_count, least, address, taken_from, after_take}
 use Rattle.span_list.proofs.SpanFacts.{count_none}
-use Rattle.central_free.specs.Central.{Central, chosen, place_at, taken_one, taken_one_from, taken, and_then, IsSound, free_in}
+use Rattle.central_free.specs.Central.{Central, chosen, place_at, taken_one, taken_one_from, taken, and_then, IsSound, IsTakenIn, free_in}
 use Rattle.central_free.proofs.ChoiceFacts.{IsAmong, chosen_among, chosen_none, chosen_some}
 
 -- where nothing is taken, no span has a free object, and the other way round
@@ -58,6 +58,8 @@ pub record IsTaking (n : ℕ) (start now : Central) (before out : Contents Addr)
   pub spare : out.spare + came ≡ before.spare
   pub long : length out.items ≡ length before.items + came
   pub sound : IsSound now
+  pub given : (k : ℕ) (d : Addr) → length before.items ≤ k → k < length out.items → IsTakenIn now.spans (get_or out.items k d)
+  pub kept : (a : Addr) → IsTakenIn start.spans a → IsTakenIn now.spans a
   pub moves : (test : Addr → Bool) → count_by test (free_in now.spans) + count_by test out.items ≡ count_by test (free_in start.spans) + count_by test before.items
 
 pub IsTaking-none : (n : ℕ) (start : Central) (before : Contents Addr) → IsSound start → IsTaking n start start before before 0
@@ -70,12 +72,26 @@ IsTaking-none n start before sound =
       spare = omega arith;
       long = omega arith;
       sound = sound;
+      given = λ k d from within. absurd (omega arith);
+      kept = λ a there. there;
       moves = λ test. refl;
     }
 
+-- the object at a place of a list that has one more
+last_given : (P : Addr → Type 0) (xs ys : List Addr) (a : Addr) (k : ℕ) (d : Addr) → ys ≡ xs ++ a ∷ [] → k < length ys → (k < length xs → P (get_or xs k d)) → P a → P (get_or ys k d)
+last_given P xs ys a k d is within before last =
+    let read : get_or ys k d ≡ get_or (xs ++ a ∷ []) k d = ap (λ zs. get_or zs k d) is in
+    let long : length ys ≡ length xs + 1 = omega (arith, ap length is, length-append {A = Addr} xs (a ∷ [])) in
+    elim (cases_lt k (length xs)) [
+      | inl less ↦ subst P (sym (read ∙ get_or_append_left xs (a ∷ []) d k less)) (before less)
+      | inr above ↦
+          (let place : k ≡ length xs + 0 = omega arith in
+          subst P (sym (read ∙ ap (λ j. get_or (xs ++ a ∷ []) j d) place ∙ get_or-append-add xs (a ∷ []) 0 d)) last)
+    ]
+
 -- one more object
-pub IsTaking-more : (n : ℕ) (start now next : Central) (before out more : Contents Addr) (came : ℕ) (a : Addr) → IsTaking n start now before out came → came < n → taken_one now.spans ≡ Some (a, next.spans) → next.row ≡ now.row → more.items ≡ out.items ++ a ∷ [] → more.spare + 1 ≡ out.spare → IsSound next → ((test : Addr → Bool) → count_by test (free_in next.spans) + count_by test (a ∷ []) ≡ count_by test (free_in now.spans)) → IsTaking n start next before more (came + 1)
-IsTaking-more n start now next before out more came a so_far less one row items spare sound moves =
+pub IsTaking-more : (n : ℕ) (start now next : Central) (before out more : Contents Addr) (came : ℕ) (a : Addr) → IsTaking n start now before out came → came < n → taken_one now.spans ≡ Some (a, next.spans) → next.row ≡ now.row → more.items ≡ out.items ++ a ∷ [] → more.spare + 1 ≡ out.spare → IsSound next → IsTakenIn next.spans a → ((b : Addr) → IsTakenIn now.spans b → IsTakenIn next.spans b) → ((test : Addr → Bool) → count_by test (free_in next.spans) + count_by test (a ∷ []) ≡ count_by test (free_in now.spans)) → IsTaking n start next before more (came + 1)
+IsTaking-more n start now next before out more came a so_far less one row items spare sound given kept moves =
     let left : n - came ≡ suc (n - (came + 1)) = omega arith in
     let m = n - (came + 1) in
     let step : taken (n - came) now.spans ≡ and_then now.spans (taken m) (Some (a, next.spans)) = ap (λ k. taken k now.spans) left ∙ ap (λ o. and_then now.spans (taken m) o) one in
@@ -86,6 +102,9 @@ IsTaking-more n start now next before out more came a so_far less one row items 
       spare = omega (arith, so_far.spare);
       long = omega (arith, so_far.long, ap length items, length-append {A = Addr} out.items (a ∷ []));
       sound = sound;
+      given = λ k d from within.
+          last_given (IsTakenIn next.spans) out.items more.items a k d items within (λ below. kept (get_or out.items k d) (so_far.given k d from below)) given;
+      kept = λ b there. kept b (so_far.kept b there);
       moves = λ test. (let pushed : count_by test more.items ≡ count_by test out.items + count_by test (a ∷ []) = ap (count_by test) items ∙ sum_by-append (λ x. cond (test x) 1 0) out.items (a ∷ []) in
           omega (arith, pushed, moves test, so_far.moves test));
     }
@@ -96,6 +115,7 @@ pub record IsTook (n : ℕ) (start now : Central) (before out : Contents Addr) (
   pub none : (came ≡ 0) ↔ ((n ≡ 0) ⊎ All (λ s. free_count s ≡ 0) start.spans)
   pub spans : now ≡ record { row = start.row; spans = (taken n start.spans).spans }
   pub items : out.items ≡ before.items ++ (taken n start.spans).objects
+  pub given : All (IsTakenIn now.spans) (taken n start.spans).objects
 
 abbrev central_of : ClassRow → List SpanState → Central
 central_of row spans = record { row = row; spans = spans }
@@ -113,6 +133,9 @@ IsTook-end n start now before out came so_far last =
       none = (λ none. zero_case.0 (sym counted ∙ none), λ some. counted ∙ zero_case.1 some);
       spans = same_central now.row start.row now.spans (taken n start.spans).spans so_far.row (ap (λ t. t.spans) (sym last) ∙ so_far.spans);
       items = items;
+      given = λ k d within. (let P : Addr → Type 0 = IsTakenIn now.spans in
+          let read : get_or out.items (length before.items + k) d ≡ get_or (taken n start.spans).objects k d = ap (λ xs. get_or xs (length before.items + k) d) items ∙ get_or-append-add before.items (taken n start.spans).objects k d in
+          subst P read (so_far.given (length before.items + k) d (omega arith) (omega (arith, so_far.long, counted))));
     }
 
 -- where nothing is free, and where all that was asked for came

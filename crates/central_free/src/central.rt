@@ -1,5 +1,5 @@
 //! The spans of one size class in the order of their first pages, and which of them serves next.
-ghost use Rattle.std.specs.Prelude.{◌≡◌, ◌≢◌, ℕ, ◌+◌, ◌-◌, ◌*◌, ◌/◌, ◌<◌, ◌≤◌, ◌↔◌, ◌⊎◌, Bool, true, [], ◌∷◌, ◌++◌, All, IfOk, MatchOption, OnErr, OnOk, Some, None, count_by, drop, length, map, min, nat_le, replicate, slice_index, vec_len, vec_capacity, AllPairs};
+ghost use Rattle.std.specs.Prelude.{◌≡◌, ◌≢◌, ℕ, ◌+◌, ◌-◌, ◌*◌, ◌/◌, ◌<◌, ◌≤◌, ◌↔◌, ◌⊎◌, Bool, true, [], ◌∷◌, ◌++◌, All, IfOk, IfSome, MatchOption, OnErr, OnOk, Some, None, count_by, drop, length, map, min, nat_le, replicate, slice_index, vec_len, vec_capacity, AllPairs};
 ghost use Rattle.std.specs.List.{flat_map, prefix_len};
 ghost use Rattle.std.specs.Option.{option_to_list};
 ghost use Rattle.tc_units.specs.Units.{page_bytes};
@@ -118,6 +118,8 @@ impl CentralFree {
     /// Takes one object, if one is free.
     fn take_one(&mut self) -> Option<Addr>
         ensures one { MatchOption result ((taken_one self.old.spans ≡ None) × (self.new ≡ self.old)) (λ a. (taken_one self.old.spans ≡ Some (a, self.new.spans)) × (self.new.row ≡ self.old.row)) }
+        ensures given { IfSome result (IsTakenIn self.new.spans) }
+        ensures kept { (a : Addr) → IsTakenIn self.old.spans a → IsTakenIn self.new.spans a }
         ensures moves { (test : Addr → Bool) → count_by test (free_in self.new.spans) + count_by test (option_to_list result)
             ≡ count_by test (free_in self.old.spans) }
         ensures sound { IsSound self.new }
@@ -139,6 +141,10 @@ impl CentralFree {
         ensures out { out.new.items ≡ out.old.items ++ (taken n self.old.spans).objects }
         ensures spare { out.new.spare + result ≡ out.old.spare }
         ensures sound { IsSound self.new }
+
+        // What came can be put back, and so can what was taken before.
+        ensures given { All (IsTakenIn self.new.spans) (taken n self.old.spans).objects }
+        ensures kept { (a : Addr) → IsTakenIn self.old.spans a → IsTakenIn self.new.spans a }
 
         // Objects move from the spans to the list: none is lost, and none comes twice.
         ensures moves { (test : Addr → Bool) → count_by test (free_in self.new.spans) + count_by test out.new.items
@@ -174,9 +180,10 @@ impl CentralFree {
         ensures err { OnErr result ((self.new ≡ self.old) × (out.new ≡ out.old)) }
         ensures sound { IsSound self.new }
 
-        // What came can be put back.
+        // What came can be put back, and so can what was taken before.
         ensures given { OnOk result (All (IsTakenIn self.new.spans) (opening span self.old.row.size n)) }
         ensures different { OnOk result (AreDifferent (opening span self.old.row.size n)) }
+        ensures kept { OnOk result ((a : Addr) → IsTakenIn self.old.spans a → IsTakenIn self.new.spans a) }
 
         // The span's objects are in the spans and the list then, beside what was there.
         ensures moves { OnOk result ((test : Addr → Bool) → count_by test (free_in self.new.spans) + count_by test out.new.items
@@ -224,6 +231,9 @@ impl CentralFree {
         ensures freed { freed.new.items ≡ freed.old.items ++ (put_all list.now self.old.spans).freed }
         ensures spare { freed.new.spare + length (put_all list.now self.old.spans).freed ≡ freed.old.spare }
         ensures sound { IsSound self.new }
+
+        // Any other object that was taken still is.
+        ensures kept { (a : Addr) → IsTakenIn self.old.spans a → All (λ b. a ≢ b) list.now → IsTakenIn self.new.spans a }
 
         // Objects move from the list to the spans, those that stay and those that left.
         ensures moves { (test : Addr → Bool) → count_by test (free_in self.new.spans) + count_by test (flat_map (objects_of self.old.row.size) (put_all list.now self.old.spans).freed)

@@ -5,7 +5,7 @@ use Rattle.std.proofs.lemmas.List.Sums.{prefix_len-le-length}
 use Rattle.span_list.specs.Span.{SpanState, first_byte, objects_in, all_free, free_objects}
 use Rattle.tc_units.specs.declared.spans.ClassRow.{ClassRow}
 use Rattle.central_free.specs.Central.{Central, IsRanked, weight, opened, opening, with_span, IsSound, free_in, IsTakenIn}
-use Rattle.central_free.proofs.AddFacts.{length-opening, some_objects, IsOfRow-opened, IsSound-with_span, count-with_span, opening-taken, opening-different}
+use Rattle.central_free.proofs.AddFacts.{length-opening, some_objects, IsOfRow-opened, IsSound-with_span, count-with_span, opening-taken, opening-different, kept-with_span}
 use Rattle.std.specs.Prelude.{All}
 use Rattle.central_free.proofs.central.CentralFree.add_take.Goals as goal
 
@@ -70,3 +70,9 @@ pub returns-clause-different : goal.returns-clause-different
 returns-clause-different c =
     let before : IsSound c.args.self.now = subst IsSound c.self.view_is c.self.invariant.0 in
     opening-different c.args.span c.args.self.now.row.size c.args.n before.some
+
+pub returns-clause-kept : goal.returns-clause-kept
+returns-clause-kept c =
+    λ a there.
+    let P : Central → Type 0 = λ t. IsTakenIn t.spans a in
+    subst P (sym (added c)) (kept-with_span c.args.self.now.spans (opened c.args.span c.args.self.now.row.size c.args.n) a there)

@@ -54,5 +54,8 @@ returns-clause-spare c = (finished c).spare
 pub returns-clause-sound : goal.returns-clause-sound
 returns-clause-sound c = c.loop-object.invariant.sound
 
+pub returns-clause-kept : goal.returns-clause-kept
+returns-clause-kept c = c.loop-object.invariant.kept
+
 pub returns-clause-moves : goal.returns-clause-moves
 returns-clause-moves c = (finished c).moves

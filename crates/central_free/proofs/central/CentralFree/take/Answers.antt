@@ -12,7 +12,7 @@ push-requires c = omega (arith, c.loop-came.invariant.spare)
 
 pub loop-came-preserved : goal.loop-came-preserved
 loop-came-preserved c =
-    IsTaking-more c.args.n c.args.self.now c.loop-came.self c.take_one.new.self c.args.out.now c.loop-came.out c.push.new.self c.loop-came.came c.in-Some.object c.loop-came.invariant c.loop-came-test.true c.in-Some.ensures.one.0 c.in-Some.ensures.one.1 c.push.ensures.items c.push.ensures.spare c.in-Some.ensures.sound c.in-Some.ensures.moves
+    IsTaking-more c.args.n c.args.self.now c.loop-came.self c.take_one.new.self c.args.out.now c.loop-came.out c.push.new.self c.loop-came.came c.in-Some.object c.loop-came.invariant c.loop-came-test.true c.in-Some.ensures.one.0 c.in-Some.ensures.one.1 c.push.ensures.items c.push.ensures.spare c.in-Some.ensures.sound c.in-Some.ensures.given c.in-Some.ensures.kept c.in-Some.ensures.moves
 
 -- no object was left
 stopped : (c : goal.In-None) → IsTook c.args.n c.args.self.now c.take_one.new.self c.args.out.now c.loop-came.out c.loop-came.came
@@ -31,6 +31,12 @@ returns-in-None-clause-spans c = (stopped c).spans
 
 pub returns-in-None-clause-out : goal.returns-in-None-clause-out
 returns-in-None-clause-out c = (stopped c).items
+
+pub returns-in-None-clause-given : goal.returns-in-None-clause-given
+returns-in-None-clause-given c = (stopped c).given
+
+pub returns-in-None-clause-kept : goal.returns-in-None-clause-kept
+returns-in-None-clause-kept c = λ a there. c.in-None.ensures.kept a (c.loop-came.invariant.kept a there)
 
 pub returns-in-None-clause-moves : goal.returns-in-None-clause-moves
 returns-in-None-clause-moves c =
@@ -61,6 +67,12 @@ returns-clause-spare c = omega (arith, c.loop-came.invariant.spare)
 
 pub returns-clause-sound : goal.returns-clause-sound
 returns-clause-sound c = c.loop-came.invariant.sound
+
+pub returns-clause-given : goal.returns-clause-given
+returns-clause-given c = (finished c).given
+
+pub returns-clause-kept : goal.returns-clause-kept
+returns-clause-kept c = c.loop-came.invariant.kept
 
 pub returns-clause-moves : goal.returns-clause-moves
 returns-clause-moves c = c.loop-came.invariant.moves

@@ -2,10 +2,11 @@ use Rattle.std.proofs.Common.{◌≡◌, ◌<◌, ℕ, List, length, get_or, set
 use Rattle.std.proofs.lemmas.List.{length-map, length-set, get_or-map, get_or_read, get_or-set_same}
 use Rattle.tc_units.specs.declared.units.Addr.{Addr}
 use Rattle.span_list.specs.Span.{SpanState, least, after_take}
-use Rattle.central_free.specs.Central.{taken_one, taken_one_from, weight, IsBestPlace, IsSound, IsOfRow, IsRanked, free_in}
+use Rattle.central_free.specs.Central.{Central, taken_one, taken_one_from, weight, IsBestPlace, IsSound, IsOfRow, IsTakenIn, IsRanked, free_in}
 use Rattle.central_free.proofs.ChoiceFacts.{chosen_none, no_free-weight, best_within, taken_one-is}
 use Rattle.central_free.proofs.SoundFacts.{has_pages, IsOfRow-after_take, span-after_take, IsSound-set, count-set}
 use Rattle.central_free.proofs.RankedFacts.{best_of_spans, IsRanked-set}
+use Rattle.central_free.proofs.PutFacts.{kept-set, given-set}
 use Rattle.central_free.proofs.central.CentralFree.take_one.Goals as goal
 
 pub returns-in_err-place-clause-one : goal.returns-in_err-place-clause-one
@@ -73,3 +74,13 @@ returns-clause-moves c =
 
 pub returns-clause-sound : goal.returns-clause-sound
 returns-clause-sound c = (invariant_of-self c).0
+
+pub returns-clause-given : goal.returns-clause-given
+returns-clause-given c =
+    given-set c.self.inside.spans.items c.in_ok-place.place c.take-object.new.self c.take-object.result (within c) c.take-object.ensures.given
+
+pub returns-clause-kept : goal.returns-clause-kept
+returns-clause-kept c =
+    λ a there.
+    let P : Central → Type 0 = λ t. IsTakenIn t.spans a in
+    kept-set c.self.inside.spans.items c.in_ok-place.place c.index_mut.result.now c.take-object.new.self a (within c) c.index_mut.ensures.value (c.take-object.ensures.kept a) (subst P (sym c.self.view_is) there)
