@@ -73,6 +73,11 @@ impl ClassShard {
         ensures spare { out.new.spare + length (fetched n self.old) ≡ out.old.spare }
         ensures sound { IsSound self.new.central }
 
+        // What came can be given back where what the transfer cache held can, and so can what was taken
+        // before.
+        ensures given { All (IsTakenIn self.old.central.spans) self.old.transfer.objects → All (IsTakenIn self.new.central.spans) (fetched n self.old) }
+        ensures kept { (a : Addr) → IsTakenIn self.old.central.spans a → IsTakenIn self.new.central.spans a }
+
         // Objects move from the shard to the list: none is lost, and none comes twice.
         ensures moves { (test : Addr → Bool) → count_by test (places self.new) + count_by test out.new.items
             ≡ count_by test (places self.old) + count_by test out.old.items }
@@ -108,9 +113,10 @@ impl ClassShard {
         ensures err { OnErr result ((self.new ≡ self.old) × (out.new ≡ out.old)) }
         ensures sound { IsSound self.new.central }
 
-        // What came can be given back.
+        // What came can be given back, and so can what was taken before.
         ensures given { OnOk result (All (IsTakenIn self.new.central.spans) (opening span self.old.central.row.size n)) }
         ensures different { OnOk result (AreDifferent (opening span self.old.central.row.size n)) }
+        ensures kept { OnOk result ((a : Addr) → IsTakenIn self.old.central.spans a → IsTakenIn self.new.central.spans a) }
 
         // The span's objects are in the shard and the list then, beside what was there.
         ensures moves { OnOk result ((test : Addr → Bool) → count_by test (places self.new) + count_by test out.new.items
@@ -131,6 +137,9 @@ impl ClassShard {
         ensures freed { freed.new.items ≡ freed.old.items ++ freed_by list.now self.old }
         ensures spare { freed.new.spare + length (freed_by list.now self.old) ≡ freed.old.spare }
         ensures sound { IsSound self.new.central }
+
+        // Any other object that was taken still is.
+        ensures kept { (a : Addr) → IsTakenIn self.old.central.spans a → All (λ b. a ≢ b) list.now → IsTakenIn self.new.central.spans a }
 
         // Objects move from the list to the shard and the spans that left it.
         ensures moves { (test : Addr → Bool) → count_by test (places self.new) + count_by test (flat_map (objects_of self.old.central.row.size) (freed_by list.now self.old))

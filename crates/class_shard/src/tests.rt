@@ -83,3 +83,45 @@ fn a_list_that_is_too_long_goes_to_its_span(rt: HostRuntime) -> Result<(), Fail>
     assert_eq!(rt; shard.fetch(1, &mut out), Fetched::Miss);
     Ok(())
 }
+
+#[test]
+fn a_batch_of_128_from_one_page(rt: HostRuntime) -> Result<(), Fail> {
+    // 170 objects of 48 bytes fill 8160 of the 8192 bytes.
+    let row = ClassRow {
+        size: 48,
+        pages: 1,
+        batch: 128,
+    };
+    let mut out = Bag::open(rt.alloc(), 128)?;
+    let mut freed = Bag::open(rt.alloc(), 128)?;
+    let mut shard = ClassShard::open(rt.alloc(), Class(2), row, 128)?;
+    shard.add_fetch(span_at(256, 1), 128, &mut out)?;
+    assert_eq!(rt; out.as_slice().len(), 128);
+
+    // The transfer cache has room for exactly these, and gives the last one first.
+    shard.give(out.as_slice(), &mut freed);
+    assert_eq!(rt; freed.as_slice().len(), 0);
+    out.clear();
+    assert_eq!(rt; shard.fetch(128, &mut out), Fetched::Got);
+    assert_eq!(rt; out.as_slice().len(), 128);
+    assert_eq!(rt;
+        out.as_slice().first().copied(),
+        Some(Addr(2097152 + 48 * 127))
+    );
+    assert_eq!(rt; out.as_slice().last().copied(), Some(Addr(2097152)));
+    out.clear();
+
+    // The other 42 come from the span.
+    assert_eq!(rt; shard.fetch(128, &mut out), Fetched::Got);
+    assert_eq!(rt; out.as_slice().len(), 42);
+    assert_eq!(rt;
+        out.as_slice().first().copied(),
+        Some(Addr(2097152 + 48 * 128))
+    );
+    assert_eq!(rt;
+        out.as_slice().last().copied(),
+        Some(Addr(2097152 + 48 * 169))
+    );
+    assert_eq!(rt; shard.fetch(1, &mut out), Fetched::Miss);
+    Ok(())
+}
