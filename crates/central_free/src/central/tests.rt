@@ -1,7 +1,9 @@
 //! Each public function, with answers that were worked out by hand.
-ghost use Rattle.std.specs.Prelude.{◌≡◌, ◌<◌, ◌≤◌, All};
+ghost use Rattle.std.specs.Prelude.{◌≡◌, ◌≢◌, ℕ, ◌<◌, ◌≤◌, All, length};
 ghost use Rattle.std.specs.Bool.{OnTrue};
-ghost use Rattle.central_free.specs.Central.{IsApartFrom};
+ghost use Rattle.std.specs.List.{slice_index_or};
+ghost use Rattle.tc_units.specs.declared.units.Addr.{Addr};
+ghost use Rattle.central_free.specs.Central.{AreDifferent, IsApartFrom};
 
 use super::{CentralFree, weight};
 use std::test::Fail;
@@ -80,6 +82,67 @@ fn is_clear(central: &CentralFree, span: SpanRef) -> bool
         }
     }
     true
+}
+
+/// Whether the object at a place of a list stands nowhere else in it.
+fn stands_once(list: &[Addr], place: usize) -> bool
+    requires { place < length list.now }
+    ensures { OnTrue result ((k : ℕ) (d : Addr) → k < length list.now → k ≢ place → slice_index_or list.now k d ≢ slice_index_or list.now place d) }
+{
+    let object = list[place];
+    for (k, other) in list.iter().enumerate() {
+        if k != place && other.0 == object.0 {
+            return false;
+        }
+    }
+    true
+}
+
+/// Whether no object of a list stands in it twice.
+fn are_different(list: &[Addr]) -> bool
+    ensures { OnTrue result (AreDifferent list.now) }
+{
+    for place in 0..list.len() {
+        if !stands_once(list, place) {
+            return false;
+        }
+    }
+    true
+}
+
+#[test]
+fn spans_leave_in_the_order_of_their_last_objects(rt: HostRuntime) -> Result<(), Fail> {
+    // Two objects of 4 KiB in a span.
+    let row = ClassRow {
+        size: 4096,
+        pages: 1,
+        batch: 32,
+    };
+    let low = span_at(300, 1);
+    let high = span_at(310, 1);
+    let mut out = Bag::open(rt.alloc(), 4)?;
+    let mut freed = Bag::open(rt.alloc(), 4)?;
+    let mut central = CentralFree::new(rt.alloc(), row);
+    let one = central.add_take(low, 1, &mut out)?;
+    assert!(rt; is_clear(&central, high));
+    let two = central.add_take(high, 2, &mut out)?;
+    let last = central.take(1, &mut out);
+    let list = out.as_slice();
+    let listed = list.len();
+    let different = are_different(list);
+    assert!(rt; different && listed <= 4);
+    central.put(list, &mut freed);
+    assert_eq!(rt; (one, two, last), (1, 2, 1));
+    assert_eq!(rt;
+        list,
+        [Addr(2457600), Addr(2539520), Addr(2543616), Addr(2461696)].as_slice()
+    );
+
+    // The lower span's last object comes behind the higher one's.
+    assert_eq!(rt; freed.as_slice(), [high, low].as_slice());
+    out.clear();
+    assert_eq!(rt; central.take(1, &mut out), 0);
+    Ok(())
 }
 
 /// The place of the span that serves next, by looking at every span.
