@@ -9,7 +9,7 @@ use Rattle.tc_units.specs.Units.{pages_holding}
 use Rattle.tc_units.specs.declared.units.Label.{Label}
 use Rattle.tc_model.specs.declared.calls.Call.TheVariants.{Malloc}
 use Rattle.tc_model.specs.declared.calls.Planned.{Planned}
-use Rattle.page_heap.specs.Choice.{new_below_hugepage, NoneFits}
+use Rattle.plain_heap.specs.Choice.{new_below_hugepage, NoneFits}
 use Rattle.tcreplay.specs.declared.run.next.NextAct.{NextAct}
 use Rattle.tcreplay.specs.declared.run.next.NextAct.TheVariants as next
 use Rattle.tcreplay.specs.declared.run.runner.Runner.{Runner}

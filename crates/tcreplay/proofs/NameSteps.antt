@@ -12,8 +12,8 @@ use Rattle.tc_model.specs.declared.calls.Call.TheVariants.{Malloc, Free, Release
 use Rattle.tc_model.specs.declared.calls.Planned.{Planned}
 use Rattle.tc_model.specs.declared.answers.CallLine.{CallLine}
 use Rattle.tc_model.specs.Blocks.{allocates, frees}
-use Rattle.page_heap.specs.Heap.{Heap}
-use Rattle.page_heap.specs.Choice.{Placed, new_below_hugepage}
+use Rattle.plain_heap.specs.Heap.{Heap}
+use Rattle.plain_heap.specs.Choice.{Placed, new_below_hugepage}
 use Rattle.page_map.specs.Spans.{SpanMap, holds}
 use Rattle.name_table.specs.declared.table.NameState.{NameState}
 use Rattle.name_table.specs.declared.table.NameState.TheVariants.{Unpublished, Published, Taken}

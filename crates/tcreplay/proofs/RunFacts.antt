@@ -9,7 +9,7 @@ use Rattle.tc_units.specs.Units.{page_bytes}
 use Rattle.tc_units.specs.declared.spans.Run.{Run}
 use Rattle.tc_units.specs.declared.spans.SpanRef.{SpanRef}
 use Rattle.tc_model.specs.Blocks.{with_block, without_block, meets}
-use Rattle.page_heap.specs.Heap.{holds, is_used, with_run, without_run}
+use Rattle.plain_heap.specs.Heap.{holds, is_used, with_run, without_run}
 use Rattle.page_map.specs.Spans.{with_span, without_span, AreApart}
 use Rattle.tcreplay.specs.Machine.{large, run_of}
 use Rattle.tcreplay.specs.Facts.{block_of}

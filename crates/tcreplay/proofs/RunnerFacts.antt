@@ -15,9 +15,9 @@ use Rattle.tc_model.specs.declared.calls.Planned.{Planned}
 use Rattle.tc_model.specs.declared.answers.Answer.{Answer}
 use Rattle.tc_model.specs.Blocks.{answer_to, freed_in}
 use Rattle.tc_model.specs.declared.answers.CallLine.{CallLine}
-use Rattle.page_heap.specs.declared.config.HeapConfig.{HeapConfig}
-use Rattle.page_heap.specs.Heap.{Heap, holds}
-use Rattle.page_heap.specs.Sound.{IsInside}
+use Rattle.plain_heap.specs.declared.config.HeapConfig.{HeapConfig}
+use Rattle.plain_heap.specs.Heap.{Heap, holds}
+use Rattle.plain_heap.specs.Sound.{IsInside}
 use Rattle.page_map.specs.Spans as spans
 use Rattle.page_map.specs.Spans.{SpanMap}
 use Rattle.name_table.specs.declared.table.NameState.{NameState}

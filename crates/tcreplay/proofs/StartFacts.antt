@@ -3,8 +3,8 @@ use Rattle.std.proofs.Common.{◌≡◌, ℕ, List, [], length, map, replicate, 
 use Rattle.std.proofs.lemmas.List.{get_or-replicate, length-replicate}
 use Rattle.tc_model.specs.declared.calls.Planned.{Planned}
 use Rattle.tc_model.specs.declared.answers.CallLine.{CallLine}
-use Rattle.page_heap.specs.Heap.{Heap, opened}
-use Rattle.page_heap.specs.Sound.{IsSound}
+use Rattle.plain_heap.specs.Heap.{Heap, opened}
+use Rattle.plain_heap.specs.Sound.{IsSound}
 use Rattle.page_map.specs.Spans.{SpanMap, IsWellFormed}
 use Rattle.name_table.specs.declared.table.NameState.{NameState}
 use Rattle.name_table.specs.declared.table.NameState.TheVariants.{Unpublished}

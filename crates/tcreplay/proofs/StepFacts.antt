@@ -17,10 +17,10 @@ use Rattle.tc_model.specs.declared.answers.Answer.{Answer}
 use Rattle.tc_model.specs.declared.answers.Answer.TheVariants.{Block, NoBlock, Freed, FreedNull}
 use Rattle.tc_model.specs.declared.answers.CallLine.{CallLine}
 use Rattle.tc_model.specs.Blocks.{IsFreePlace, with_block, without_block, meets, blocks_after, answer_to, freed_in, allocates, frees}
-use Rattle.page_heap.specs.declared.config.HeapConfig.{HeapConfig}
-use Rattle.page_heap.specs.Heap.{Heap, holds, is_used, with_run, without_run}
-use Rattle.page_heap.specs.Sound as sound
-use Rattle.page_heap.specs.Sound.{IsSound}
+use Rattle.plain_heap.specs.declared.config.HeapConfig.{HeapConfig}
+use Rattle.plain_heap.specs.Heap.{Heap, holds, is_used, with_run, without_run}
+use Rattle.plain_heap.specs.Sound as sound
+use Rattle.plain_heap.specs.Sound.{IsSound}
 use Rattle.page_map.specs.Spans as spans
 use Rattle.page_map.specs.Spans.{SpanMap, IsWellFormed, with_span, without_span}
 use Rattle.name_table.specs.declared.table.NameState.{NameState}

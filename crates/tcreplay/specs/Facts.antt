@@ -8,9 +8,9 @@ use Rattle.tc_units.specs.declared.spans.Run.{Run}
 use Rattle.tc_model.specs.declared.calls.Call.TheVariants.{Malloc}
 use Rattle.tc_model.specs.declared.calls.Planned.{Planned}
 use Rattle.tc_model.specs.Blocks.{Extent, IsBlockRun, blocks_after}
-use Rattle.page_heap.specs.Heap.{without_run}
-use Rattle.page_heap.specs.Choice.{new_below_hugepage, NoneFits}
-use Rattle.page_heap.specs.Sound.{IsSound}
+use Rattle.plain_heap.specs.Heap.{without_run}
+use Rattle.plain_heap.specs.Choice.{new_below_hugepage, NoneFits}
+use Rattle.plain_heap.specs.Sound.{IsSound}
 use Rattle.name_table.specs.declared.table.NameState.{NameState}
 use Rattle.name_table.specs.declared.table.NameState.TheVariants as name
 use Rattle.name_table.specs.Names.{state_of}

@@ -11,7 +11,7 @@ use Rattle.tc_model.specs.declared.answers.Answer.{Answer}
 use Rattle.tc_model.specs.declared.answers.Answer.TheVariants.{Block, NoBlock, Freed, FreedNull, Released, Drained, Busy, CapSet, OverLimit, OverStatic}
 use Rattle.tc_model.specs.declared.answers.CallLine.{CallLine}
 use Rattle.tc_model.specs.Blocks.{IsBlockRun, blocks_after, answer_to, freed_in, allocates, frees}
-use Rattle.page_heap.specs.Heap.{with_run, without_run}
+use Rattle.plain_heap.specs.Heap.{with_run, without_run}
 use Rattle.page_map.specs.Spans.{IsWellFormed, IsInside, AreApart}
 use Rattle.name_table.specs.declared.table.NameState.{NameState}
 use Rattle.name_table.specs.declared.table.NameState.TheVariants as name

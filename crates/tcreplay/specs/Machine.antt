@@ -15,11 +15,11 @@ use Rattle.tc_model.specs.declared.calls.Planned.{Planned}
 use Rattle.tc_model.specs.declared.answers.Answer.{Answer}
 use Rattle.tc_model.specs.declared.answers.Answer.TheVariants.{Block, NoBlock, Freed, FreedNull}
 use Rattle.tc_model.specs.declared.answers.CallLine.{CallLine}
-use Rattle.page_heap.specs.declared.config.HeapConfig.{HeapConfig}
+use Rattle.plain_heap.specs.declared.config.HeapConfig.{HeapConfig}
 use Rattle.tc_model.specs.declared.answers.Finished.{Finished}
 use Rattle.tc_model.specs.Blocks.{live_count, live_bytes}
-use Rattle.page_heap.specs.Heap.{Heap, opened, used_pages, backed_pages, row_of}
-use Rattle.page_heap.specs.Choice.{Placed, new_below_hugepage, freed}
+use Rattle.plain_heap.specs.Heap.{Heap, opened, used_pages, backed_pages, row_of}
+use Rattle.plain_heap.specs.Choice.{Placed, new_below_hugepage, freed}
 use Rattle.page_map.specs.Spans.{SpanMap, holds, with_span, without_span}
 use Rattle.name_table.specs.declared.table.NameState.{NameState}
 use Rattle.name_table.specs.declared.table.NameState.TheVariants as name

@@ -2,8 +2,8 @@
 ghost use Rattle.std.specs.Prelude.{◌≡◌, ◌≢◌, true, Some, ◌+◌, ◌*◌, ◌/◌, ◌<◌, ◌≤◌, ◌↔◌, [], length, drop, IsTrue, OnOk, OnErr, IfOk, vec_len, vec_capacity, find, map, None};
 ghost use Rattle.std.specs.List.{range_with_len};
 ghost use Rattle.tc_units.specs.Units.{page_bytes, huge_pages, pages_holding};
-ghost use Rattle.page_heap.specs.Heap.{row_of};
-ghost use Rattle.page_heap.specs.Choice.{new_below_hugepage, NoneFits};
+ghost use Rattle.plain_heap.specs.Heap.{row_of};
+ghost use Rattle.plain_heap.specs.Choice.{new_below_hugepage, NoneFits};
 ghost use Rattle.page_map.specs.Spans.{holds};
 ghost use Rattle.name_table.specs.Names.{state_of as name_state};
 ghost use Rattle.name_table.specs.declared.table.NameState.TheVariants as names;
@@ -14,8 +14,8 @@ ghost use Rattle.tcreplay.specs.Runner.{state_of, asked_in, IsRunning, rest_of, 
 
 use crate::run::next::NextAct;
 use name_table::{NameTable, Taken};
-use page_heap::{HeapConfig, PageHeap};
 use page_map::PageMap;
+use plain_heap::{HeapConfig, PageHeap};
 use std::alloc::{AllocError, Global};
 use tc_model::{Answer, Call, CallLine, Finished, Planned, Script};
 use tc_units::{

@@ -2,7 +2,7 @@ use Rattle.std.proofs.Common.{◌∙◌, ◌+◌, ◌++◌, ◌∷◌, List, [],
 use Rattle.std.proofs.lemmas.List.FromFn.{map-range_with_len_more}
 use Rattle.std.specs.List.{range_with_len}
 use Rattle.tc_units.specs.declared.rows.RowView.{RowView}
-use Rattle.page_heap.specs.Heap.{row_of}
+use Rattle.plain_heap.specs.Heap.{row_of}
 use Rattle.tcreplay.proofs.run.runner.rows_of.Goals as goal
 
 pub loop-place-preserved : goal.loop-place-preserved

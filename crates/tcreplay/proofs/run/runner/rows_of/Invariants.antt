@@ -1,6 +1,6 @@
 use Rattle.std.proofs.Common.{◌≡◌, map}
 use Rattle.std.specs.List.{range_with_len}
-use Rattle.page_heap.specs.Heap.{row_of}
+use Rattle.plain_heap.specs.Heap.{row_of}
 use Rattle.tcreplay.proofs.run.runner.rows_of.Given as goal
 
 abbrev pub invariant-loop-place : goal.invariant-loop-place

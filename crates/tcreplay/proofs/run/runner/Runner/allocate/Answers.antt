@@ -4,7 +4,7 @@ use Rattle.tc_units.specs.declared.units.Addr.{Addr}
 use Rattle.tc_model.specs.declared.calls.Call.{Call}
 use Rattle.tc_model.specs.declared.calls.Call.TheVariants as call
 use Rattle.tc_model.specs.declared.answers.Answer.TheVariants.{Block, NoBlock}
-use Rattle.page_heap.specs.Heap.{Heap}
+use Rattle.plain_heap.specs.Heap.{Heap}
 use Rattle.tcreplay.specs.declared.run.next.NextAct.TheVariants as next
 use Rattle.tcreplay.specs.Machine.{decided, large, address_of}
 use Rattle.tcreplay.specs.Invariant.{Invariant}

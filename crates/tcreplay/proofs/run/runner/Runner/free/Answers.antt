@@ -7,9 +7,9 @@ use Rattle.tc_model.specs.declared.calls.Call.{Call}
 use Rattle.tc_model.specs.declared.calls.Call.TheVariants as call
 use Rattle.tc_model.specs.declared.answers.Answer.TheVariants.{Freed}
 use Rattle.tc_model.specs.declared.answers.CallLine.{CallLine}
-use Rattle.page_heap.specs.Heap.{Heap}
-use Rattle.page_heap.specs.Choice.{freed}
-use Rattle.page_heap.specs.Sound.{IsInside}
+use Rattle.plain_heap.specs.Heap.{Heap}
+use Rattle.plain_heap.specs.Choice.{freed}
+use Rattle.plain_heap.specs.Sound.{IsInside}
 use Rattle.tcreplay.specs.declared.run.next.NextAct.TheVariants as next
 use Rattle.tcreplay.specs.Machine.{decided, run_of, address_of}
 use Rattle.tcreplay.specs.Invariant.{Frees}

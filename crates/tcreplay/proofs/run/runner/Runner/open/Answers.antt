@@ -1,5 +1,5 @@
 use Rattle.std.proofs.Common.{◌∙◌, sym, ap, length, [], arith}
-use Rattle.page_heap.specs.Heap.{Heap, opened}
+use Rattle.plain_heap.specs.Heap.{Heap, opened}
 use Rattle.tcreplay.specs.Machine.{config_of}
 use Rattle.tcreplay.proofs.StartFacts.{start_at}
 use Rattle.tcreplay.proofs.run.runner.Runner.open.Goals as goal

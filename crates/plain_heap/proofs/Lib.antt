@@ -1,0 +1,13 @@
+pub mod Examples
+pub mod Runs
+pub mod Tables
+pub mod Hugepages
+pub mod Trims
+pub mod Kept
+pub mod Views
+pub mod Soundness
+pub mod Choices
+pub mod Chosen
+pub mod Measures
+pub mod Opened
+pub mod Options

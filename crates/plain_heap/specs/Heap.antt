@@ -1,0 +1,139 @@
+-- A page heap as a value: its live runs, its regions and its hugepages. All else is a function of these.
+use Rattle.std.specs.Prelude.{ℕ, ◌+◌, ◌-◌, ◌*◌, ◌/◌, ◌%◌, Bool, true, false, ◌==◌, ◌&&◌, not, nat_lt, nat_le, List, [], ◌∷◌, length, filter, map, count_by, replicate, if◌then◌else◌, sum_by}
+use Rattle.std.specs.List.{list_any, list_all, range_with_len, slice_index_or, slice_set}
+use Rattle.tc_units.specs.Units.{huge_pages}
+use Rattle.tc_units.specs.Sorted.{with_item, without_key}
+use Rattle.tc_units.specs.declared.spans.Run.{Run}
+use Rattle.tc_units.specs.declared.rows.RowKind.{RowKind}
+use Rattle.tc_units.specs.declared.rows.RowKind.TheVariants as kind
+use Rattle.tc_units.specs.declared.rows.RowView.{RowView}
+use Rattle.plain_heap.specs.declared.config.HeapConfig.{HeapConfig}
+use Rattle.range_bits.specs.Ranges.{longest}
+
+-- what a hugepage serves, whether it is the donated tail of a larger run, and which of its 256 pages are backed
+pub record Hugepage : Type 0 where
+  pub kind : RowKind
+  pub donated : Bool
+  pub backed : List Bool
+
+-- A heap, with the limits it was opened with. The live runs stand in the order of their first pages, a region is
+-- given by its first hugepage, and hugepage h, from 1 on, stands at place h - 1.
+pub record Heap : Type 0 where
+  pub config : HeapConfig
+  pub runs : List Run
+  pub regions : List ℕ
+  pub hugepages : List Hugepage
+
+-- a hugepage's 256 pages, all backed or none
+abbrev pub whole : Bool → List Bool
+whole backed = replicate huge_pages backed
+
+-- a hugepage that nothing uses and nothing backs
+abbrev pub untouched : Hugepage
+untouched = record { kind = kind.Free; donated = false; backed = whole false }
+
+-- a heap at its opening
+abbrev pub opened : HeapConfig → Heap
+opened config = record { config = config; runs = []; regions = []; hugepages = replicate config.huge untouched }
+
+-- the numbers of the hugepages
+abbrev pub numbers : Heap → List ℕ
+numbers heap = range_with_len 1 (length heap.hugepages)
+
+-- hugepage h
+abbrev pub hugepage : Heap → ℕ → Hugepage
+hugepage heap h = slice_index_or heap.hugepages (h - 1) untouched
+
+-- the heap with hugepage h as given
+abbrev pub with_hugepage : Heap → ℕ → Hugepage → Heap
+with_hugepage heap h x = record heap { hugepages = slice_set heap.hugepages (h - 1) x }
+
+-- Runs and pages.
+-- whether a run holds a page
+abbrev pub holds : ℕ → Run → Bool
+holds page run = nat_le run.first.0 page && nat_lt page (run.first.0 + run.pages)
+
+-- a page is used where a live run holds it
+abbrev pub is_used : List Run → ℕ → Bool
+is_used runs page = list_any (holds page) runs
+
+-- the runs with one more, and without the one that begins where the given one does
+abbrev pub with_run : Run → List Run → List Run
+with_run run runs = with_item (λ r. r.first.0) run runs
+
+abbrev pub without_run : Run → List Run → List Run
+without_run run runs = without_key (λ r. r.first.0) run.first.0 runs
+
+-- the numbers of the pages of hugepage h, and of the arena
+abbrev pub pages_of : ℕ → List ℕ
+pages_of h = range_with_len (huge_pages * h) huge_pages
+
+abbrev pub arena_pages : Heap → List ℕ
+arena_pages heap = range_with_len huge_pages (huge_pages * length heap.hugepages)
+
+-- Measures of hugepage h, by looking at its pages and at the runs.
+-- which of its pages are used
+abbrev pub used_row : List Run → ℕ → List Bool
+used_row runs h = map (is_used runs) (pages_of h)
+
+-- how many of its pages are used
+abbrev pub used_count : List Run → ℕ → ℕ
+used_count runs h = count_by (is_used runs) (pages_of h)
+
+-- whether a run has a page in it, and how many live runs have
+abbrev pub reaches : ℕ → Run → Bool
+reaches h run = nat_lt run.first.0 (huge_pages * (h + 1)) && nat_lt (huge_pages * h) (run.first.0 + run.pages)
+
+abbrev pub allocation_count : List Run → ℕ → ℕ
+allocation_count runs h = count_by (reaches h) runs
+
+-- its longest range of unused pages
+abbrev pub longest_range : List Run → ℕ → ℕ
+longest_range runs h = longest (used_row runs h)
+
+-- how many of its pages are backed
+abbrev pub backed_count : Hugepage → ℕ
+backed_count x = count_by (λ b. b) x.backed
+
+-- its tier: 2 where a page of it is unbacked, else 1 where it is donated, else 0
+abbrev pub tier : Hugepage → ℕ
+tier x = if list_all (λ b. b) x.backed then (if x.donated then 1 else 0) else 2
+
+-- whether a hugepage is free, and whether it is free and backed
+abbrev pub is_kind_free : RowKind → Bool
+is_kind_free kind.Free = true
+is_kind_free kind.Filler = false
+is_kind_free kind.Run = false
+is_kind_free kind.Region = false
+
+abbrev pub is_kind_filler : RowKind → Bool
+is_kind_filler kind.Free = false
+is_kind_filler kind.Filler = true
+is_kind_filler kind.Run = false
+is_kind_filler kind.Region = false
+
+abbrev pub is_free : Hugepage → Bool
+is_free x = is_kind_free x.kind
+
+abbrev pub is_filler : Hugepage → Bool
+is_filler x = is_kind_filler x.kind
+
+abbrev pub is_free_backed : Hugepage → Bool
+is_free_backed x = is_free x && list_all (λ b. b) x.backed
+
+-- Measures of a heap.
+-- whether a page is backed
+abbrev pub is_backed : Heap → ℕ → Bool
+is_backed heap page = slice_index_or (hugepage heap (page / huge_pages)).backed (page % huge_pages) false
+
+-- how many pages of the arena are used
+abbrev pub used_pages : Heap → ℕ
+used_pages heap = count_by (is_used heap.runs) (arena_pages heap)
+
+-- how many pages are backed
+abbrev pub backed_pages : Heap → ℕ
+backed_pages heap = sum_by backed_count heap.hugepages
+
+-- all measures of hugepage h
+abbrev pub row_of : Heap → ℕ → RowView
+row_of heap h = record { kind = (hugepage heap h).kind; used = used_count heap.runs h; allocs = allocation_count heap.runs h; backed = backed_count (hugepage heap h); longest = longest_range heap.runs h; donated = (hugepage heap h).donated }

@@ -1,0 +1,5 @@
+pub mod Heap
+pub mod Choice
+pub mod Sound
+pub mod Table
+pub mod Spots
