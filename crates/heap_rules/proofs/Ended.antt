@@ -9,7 +9,7 @@ use Rattle.tc_units.specs.declared.spans.Run.{Run}
 use Rattle.tc_units.specs.declared.rows.RowKind.{RowKind}
 use Rattle.tc_units.specs.declared.rows.RowKind.TheVariants as kind
 use Rattle.heap_rules.specs.Heap.{Heap, Hugepage, hugepage, is_used, is_region, is_kind_region, is_kind_filler, spans, used_from, region_row}
-use Rattle.heap_rules.specs.Free.{left, used_regions, without_unused_regions}
+use Rattle.heap_rules.specs.Free.{left, used_regions, without_unused_regions, given_back}
 use Rattle.heap_rules.specs.Sound.{IsHugepageOf, HasNoUsed, LiesInRegion, Serves, IsRegion, AreRunsSound, IsSound}
 use Rattle.heap_rules.specs.Laws.{FreeLeaves}
 use Rattle.heap_rules.proofs.Live.{count-filter_le, Contains-filter}
@@ -57,7 +57,7 @@ module _ (heap : Heap) (sound : AreRunsSound heap) (places : (r : ℕ) → Conta
   freed_page x = record x { kind = kind.Free }
 
   -- a hugepage of no region that is left has no used page
-  none_kept : (h : ℕ) → list_any (spans width h) kept ≡ false → LiesInRegion heap.regions width h → HasNoUsed heap.runs h
+  pub none_kept : (h : ℕ) → list_any (spans width h) kept ≡ false → LiesInRegion heap.regions width h → HasNoUsed heap.runs h
   none_kept h none lies p own =
       let r = lies.region in
       let parts = spans_parts width h r lies.spanned in
@@ -130,14 +130,13 @@ module _ (heap : Heap) (sound : AreRunsSound heap) (places : (r : ℕ) → Conta
     regions = kept_region;
   }
 
-pub free_leaves : FreeLeaves
-free_leaves heap run sound live =
+-- a heap that a run has left, before it settles
+pub given_back_sound : (heap : Heap) (run : Run) → IsSound heap → Contains heap.runs run → IsSound (given_back heap run)
+given_back_sound heap run sound live =
     let region : (r : ℕ) → Contains heap.regions r → IsRegion heap r = λ r known. All-contains (IsRegion heap) heap.regions r sound.regions known in
-    record {
-      runs = refl;
-      config = refl;
-      sound = settled_sound (without_unused_regions (left heap run))
-          (ended_sound (left heap run) (left_runs heap run sound live)
-          (λ r known. (let is = region r known in (is.from, is.to)))
-          (λ r known. left_kinds heap run sound live r (region r known)));
-    }
+    ended_sound (left heap run) (left_runs heap run sound live)
+    (λ r known. let is = region r known in (is.from, is.to))
+    (λ r known. left_kinds heap run sound live r (region r known))
+
+pub free_leaves : FreeLeaves
+free_leaves heap run sound live = record { runs = refl; config = refl; sound = settled_sound (given_back heap run) (given_back_sound heap run sound live) }

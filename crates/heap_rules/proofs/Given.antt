@@ -42,11 +42,12 @@ none_pass p xs e = list_all-from_AllPass (λ x. not (p x)) xs (λ k d l. elim (c
 pub record IsRegionWithRoom (heap : Heap) (n : ℕ) (row : RegionRow) : Type 0 where
   pub number : ℕ
   pub row_is : row ≡ region_row_of heap number
+  pub own : Contains heap.regions number
   pub region : IsRegion heap number
   pub room : regions.has_room n row ≡ true
   pub known : Contains (region_rows heap) row
 
-regions_fit : (heap : Heap) (n : ℕ) → IsSound heap → All (IsRegionWithRoom heap n) (filter (regions.has_room n) (region_rows heap))
+pub regions_fit : (heap : Heap) (n : ℕ) → IsSound heap → All (IsRegionWithRoom heap n) (filter (regions.has_room n) (region_rows heap))
 regions_fit heap n sound k d l =
     let row = get_or (filter (regions.has_room n) (region_rows heap)) k d in
     let known : Contains (region_rows heap) row = All-filter (regions.has_room n) (Contains (region_rows heap)) (region_rows heap) (λ i c j. Contains-get_or (region_rows heap) i c j) k d l in
@@ -55,6 +56,7 @@ regions_fit heap n sound k d l =
     record {
       number = get_or heap.regions known.0 0;
       row_is = sym known.2 ∙ get_or-map (region_row_of heap) heap.regions known.0 0 row short;
+      own = Contains-get_or heap.regions known.0 0 short;
       region = sound.regions known.0 0 short;
       room = filter_passes (regions.has_room n) (region_rows heap) k d l;
       known = known;

@@ -41,13 +41,13 @@ same_member p xs x y a b s t most =
     sym a.2 ∙ same_one p xs a.0 b.0 x a.1 b.1 s' t' most ∙ e ∙ b.2
 
 module _ (heap : Heap) (run : Run) (sound : IsSound heap) (live : Contains heap.runs run) where
-  abbrev rest : List Run
+  abbrev pub rest : List Run
   rest = without_run run heap.runs
 
   abbrev width : ℕ
   width = heap.config.region
 
-  live_inside : IsInside heap.config.huge run
+  pub live_inside : IsInside heap.config.huge run
   live_inside = All-contains (IsInside heap.config.huge) heap.runs run sound.runs.inside live
 
   -- a run begins at a page that it holds
@@ -75,13 +75,13 @@ module _ (heap : Heap) (run : Run) (sound : IsSound heap) (live : Contains heap.
   }
 
   -- a page that the run held is unused, and others stay used
-  unused_rest : (p : ℕ) → holds p run ≡ true → is_used rest p ≡ false
+  pub unused_rest : (p : ℕ) → holds p run ≡ true → is_used rest p ≡ false
   unused_rest p e = let a = count_rest (holds p) in let b = sound.runs.disjoint p in let one = one-true (holds p run) e in counts_unused rest p (omega arith)
 
-  used_rest : (p : ℕ) → holds p run ≡ false → is_used heap.runs p ≡ true → is_used rest p ≡ true
+  pub used_rest : (p : ℕ) → holds p run ≡ false → is_used heap.runs p ≡ true → is_used rest p ≡ true
   used_rest p f e = let a = count_rest (holds p) in let b = used_counts heap.runs p e in let none = one-false (holds p run) f in counts_used rest p (omega arith)
 
-  still_unused : (p : ℕ) → is_used heap.runs p ≡ false → is_used rest p ≡ false
+  pub still_unused : (p : ℕ) → is_used heap.runs p ≡ false → is_used rest p ≡ false
   still_unused p e = let a = count_rest (holds p) in let b = unused_counts heap.runs p e in counts_unused rest p (omega arith)
 
   none_rest : (h : ℕ) → HasNoUsed heap.runs h → HasNoUsed rest h
@@ -113,12 +113,12 @@ module _ (heap : Heap) (run : Run) (sound : IsSound heap) (live : Contains heap.
   serves_rest h x kind.Region e s = s
 
   -- The hugepages that it reaches, by what they serve.
-  none_reach : (h : ℕ) → allocation_count rest h ≡ 0 → HasNoUsed rest h
+  pub none_reach : (h : ℕ) → allocation_count rest h ≡ 0 → HasNoUsed rest h
   none_reach h e p own =
       let le = count_le (holds p) (reaches h) rest (λ k d l t. holds_reaches h p (get_or rest k d) own t) in
       counts_unused rest p (omega arith)
 
-  some_reach : (h : ℕ) → 0 < allocation_count rest h → HasUsed rest h
+  pub some_reach : (h : ℕ) → 0 < allocation_count rest h → HasUsed rest h
   some_reach h some =
       let any = Any-from_list_any (reaches h) rest (any_is_count (reaches h) rest ∙ lt-ltb 0 (count_by (reaches h) rest) some) in
       let r = any.1 in
@@ -134,7 +134,7 @@ module _ (heap : Heap) (run : Run) (sound : IsSound heap) (live : Contains heap.
       }
 
   -- a run that holds all pages of a hugepage is the one that reaches it
-  own_run : (h : ℕ) → reaches h run ≡ true → HasOneRun heap.runs h → HasNoUsed rest h
+  pub own_run : (h : ℕ) → reaches h run ≡ true → HasOneRun heap.runs h → HasNoUsed rest h
   own_run h e one p own =
       let parts = reaches_parts h run e in
       let q : ℕ = max run.first.0 (256 * h) in

@@ -15,7 +15,7 @@ fold_max-each a [] k h = absurd (omega arith)
 fold_max-each a (x ∷ xs) zero h = let rest = fold_max-from (max a x) xs in omega arith
 fold_max-each a (x ∷ xs) (suc k) h = fold_max-each (max a x) xs k (omega arith)
 
-prefix_long : {X : Type 0} (p : X → Bool) (xs : List X) (m : ℕ) (d : X) → m ≤ length xs → ((k : ℕ) → k < m → p (get_or xs k d) ≡ true) → m ≤ prefix_len p xs
+pub prefix_long : {X : Type 0} (p : X → Bool) (xs : List X) (m : ℕ) (d : X) → m ≤ length xs → ((k : ℕ) → k < m → p (get_or xs k d) ≡ true) → m ≤ prefix_len p xs
 prefix_long p xs zero d h pass = omega arith
 prefix_long p [] (suc m) d h pass = absurd (omega arith)
 prefix_long p (x ∷ xs) (suc m) d h pass =

@@ -58,10 +58,10 @@ serves_region_more runs r regions width h x kind.Run s = s
 serves_region_more runs r regions width h x kind.Region s = (lies_more r regions width h s.0, s.1)
 
 module _ (heap : Heap) (r : ℕ) (sound : IsSound heap) (are : AreFree heap r heap.config.region) where
-  abbrev width : ℕ
+  abbrev pub width : ℕ
   width = heap.config.region
 
-  abbrev with_it : Heap
+  abbrev pub with_it : Heap
   with_it = with_new_region heap r
 
   abbrev change : ℕ → Hugepage → Hugepage
@@ -102,7 +102,7 @@ module _ (heap : Heap) (r : ℕ) (sound : IsSound heap) (are : AreFree heap r he
   fit_outer : (h : ℕ) (x : Hugepage) → IsFit heap.runs heap.regions width h x → IsFit heap.runs (with_region r heap.regions) width h x
   fit_outer h x fit = record { size = fit.size; serves = serves_region_more heap.runs r heap.regions width h x x.kind fit.serves; donated = fit.donated }
 
-  runs_sound : AreRunsSound with_it
+  pub runs_sound : AreRunsSound with_it
   runs_sound = record {
     arena = length-each change heap.hugepages ∙ sound.runs.arena;
     disjoint = sound.runs.disjoint;
@@ -112,10 +112,10 @@ module _ (heap : Heap) (r : ℕ) (sound : IsSound heap) (are : AreFree heap r he
     apart = λ h. most_one (spans width h r) (count_by (spans width h) heap.regions) _ (sound.runs.apart h) (none_before h) (count-with_item (λ (k : ℕ). k) (spans width h) r heap.regions);
   }
 
-  kinds_inner : (h : ℕ) → IsHugepageOf heap.config.huge h → spans width h r ≡ true → is_region (hugepage with_it h) ≡ true
+  pub kinds_inner : (h : ℕ) → IsHugepageOf heap.config.huge h → spans width h r ≡ true → is_region (hugepage with_it h) ≡ true
   kinds_inner h is e = by_span (λ x. is_region x ≡ true) h is (λ t. refl) (λ f. absurd (false≢true (sym f ∙ e)))
 
-  kinds_more : (h : ℕ) → IsHugepageOf heap.config.huge h → is_region (hugepage heap h) ≡ true → is_region (hugepage with_it h) ≡ true
+  pub kinds_more : (h : ℕ) → IsHugepageOf heap.config.huge h → is_region (hugepage heap h) ≡ true → is_region (hugepage with_it h) ≡ true
   kinds_more h is e = by_span (λ x. is_region x ≡ true) h is (λ t. refl) (λ f. e)
 
   region_more : (s : ℕ) → IsRegion heap s → IsRegion with_it s

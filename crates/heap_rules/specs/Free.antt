@@ -34,6 +34,9 @@ without_unused_regions heap =
     let regions = used_regions heap in
     record heap { regions = regions; hugepages = each (λ h x. if is_region x && not (list_any (spans heap.config.region h) regions) then record x { kind = kind.Free } else x) heap.hugepages }
 
--- The heap after a live run is freed.
+-- The heap after a live run is given back, before it settles, and after the run is freed.
+abbrev pub given_back : Heap → Run → Heap
+given_back heap run = without_unused_regions (left heap run)
+
 abbrev pub freed : Heap → Run → Heap
-freed heap run = settled (without_unused_regions (left heap run))
+freed heap run = settled (given_back heap run)

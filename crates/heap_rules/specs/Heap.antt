@@ -6,6 +6,7 @@ use Rattle.tc_units.specs.Sorted.{with_item, without_key}
 use Rattle.tc_units.specs.declared.spans.Run.{Run}
 use Rattle.tc_units.specs.declared.rows.RowKind.{RowKind}
 use Rattle.tc_units.specs.declared.rows.RowKind.TheVariants as kind
+use Rattle.tc_units.specs.declared.rows.RowView.{RowView}
 use Rattle.heap_rules.specs.declared.config.HeapConfig.{HeapConfig}
 use Rattle.range_bits.specs.Ranges.{longest}
 
@@ -156,3 +157,7 @@ used_pages heap = sum_by (used_count heap.runs) (numbers heap)
 
 abbrev pub backed_pages : Heap → ℕ
 backed_pages heap = sum_by backed_count heap.hugepages
+
+-- all measures of hugepage h
+abbrev pub row_of : Heap → ℕ → RowView
+row_of heap h = record { kind = (hugepage heap h).kind; used = used_count heap.runs h; allocs = allocation_count heap.runs h; backed = backed_count (hugepage heap h); longest = longest_range heap.runs h; donated = (hugepage heap h).donated }

@@ -5,7 +5,18 @@ use Rattle.tc_units.specs.Arena.{IsInArena}
 use Rattle.tc_units.specs.declared.spans.Run.{Run}
 use Rattle.tc_units.specs.declared.rows.RowKind.{RowKind}
 use Rattle.tc_units.specs.declared.rows.RowKind.TheVariants as kind
+use Rattle.heap_rules.specs.declared.config.HeapConfig.{HeapConfig}
 use Rattle.heap_rules.specs.Heap.{Heap, Hugepage, hugepage, whole, holds, is_used, is_backed, is_filler, is_region, spans}
+
+-- the limits that a heap may be opened with
+pub record AreLimits (config : HeapConfig) : Type 0 where
+  pub huge_from : 1 ≤ config.huge
+  pub huge_to : config.huge ≤ 4096
+  pub cache : config.cache ≤ 4096
+  pub region_from : 2 ≤ config.region
+  pub region_to : config.region ≤ 512
+  pub slack : config.slack ≤ 1048576
+  pub window : config.window ≤ 65536
 
 -- a run has pages, and all of them lie in the arena
 abbrev pub IsInside : ℕ → Run → Type 0

@@ -1,4 +1,7 @@
 mod Changes
+mod Exchanged
 mod First
 mod Halving
-mod Orders
+pub mod Orders
+mod Rekeyed
+pub mod Rows

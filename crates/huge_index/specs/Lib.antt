@@ -1,3 +1,4 @@
 pub mod Contents
 pub mod Order
+pub mod Rows
 pub mod Search

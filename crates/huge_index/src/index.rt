@@ -1,5 +1,5 @@
 //! Keys in order, in room that is made at the opening.
-ghost use Rattle.std.specs.Prelude.{◌≡◌, ℕ, ◌+◌, ◌-◌, ◌*◌, ◌^◌, ◌<◌, ◌≤◌, ◌↔◌, true, false, None, [], ◌∷◌, length, slice_get, All, Contains, IsPermutation, IfOk, IfSome};
+ghost use Rattle.std.specs.Prelude.{◌≡◌, ℕ, ◌+◌, ◌-◌, ◌*◌, ◌^◌, ◌<◌, ◌≤◌, ◌↔◌, true, false, None, [], ◌∷◌, length, slice_get, All, Contains, IsPermutation, IfOk, IfSome, insert, remove, nat_le, if◌then◌else◌};
 
 use crate::key::Key;
 use crate::steps::Steps;
@@ -26,6 +26,22 @@ impl Model for HugeIndex {
     ghost view = { λ i. record { keys = i.keys.items; spare = i.room - vec_len i.keys } };
 
     ghost invariant = { λ i. (vec_len i.keys ≤ i.room) × (i.room ≤ vec_capacity i.keys) × IsInOrder i.keys.items };
+}
+
+/// Takes the key at a place out, and puts one in before a target: the keys between the two move by one.
+fn exchange(keys: &mut [Key], place: usize, target: usize, key: Key)
+    requires held { place < length keys.old }
+    requires within { target ≤ length keys.old }
+    ensures after { keys.new ≡ insert (remove keys.old place) (if nat_le target place then target else target - 1) key }
+    ensures len { length keys.new ≡ length keys.old }
+{
+    if target <= place {
+        keys[target..place + 1].rotate_right(1);
+        keys[target] = key;
+    } else {
+        keys[place..target].rotate_left(1);
+        keys[target - 1] = key;
+    }
 }
 
 impl HugeIndex {
@@ -137,5 +153,18 @@ impl HugeIndex {
         };
         let place = self.place(key);
         self.keys.remove(place);
+    }
+
+    /// Puts a hugepage's new measures in place of those that it has here: only the keys between the two
+    /// places move.
+    pub fn rekey(&mut self, from: Key, to: Key)
+        requires { Contains self.old.keys from }
+        ensures keys { IsPermutation (to ∷ self.old.keys) (from ∷ self.new.keys) }
+        ensures held { Contains self.new.keys to }
+        ensures spare { self.new.spare ≡ self.old.spare }
+    {
+        let place = self.place(from);
+        let target = self.place(to);
+        exchange(&mut self.keys, place, target, to);
     }
 }

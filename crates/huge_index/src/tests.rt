@@ -1,7 +1,7 @@
 //! Keys whose order was worked out by hand.
 ghost use Rattle.std.specs.Prelude.{◌≡◌, ◌<◌};
 
-use crate::{HugeIndex, Steps};
+use crate::{HugeIndex, Key, Steps};
 use std::marker::Brand;
 use std::sync::ledger::{Blank, Ledger};
 use std::test::Fail;
@@ -37,5 +37,28 @@ fn the_first_of_a_tier(rt: HostRuntime) -> Result<(), Fail> {
     assert_eq!(rt; first::<Brand>(&index, 2, 1, Blank::new(1)), None);
     index.remove(0, 10, 7, Huge(1));
     assert_eq!(rt; first::<Brand>(&index, 0, 5, Blank::new(1)), Some(Huge(2)));
+    Ok(())
+}
+
+#[test]
+fn new_measures_move_a_hugepage(rt: HostRuntime) -> Result<(), Fail> {
+    let mut index = HugeIndex::open(rt.alloc(), 3)?;
+    index.insert(0, 10, 1, Huge(1));
+    index.insert(0, 20, 1, Huge(2));
+    index.insert(0, 15, 1, Huge(3));
+    let third = |longest| Key {
+        tier: 0,
+        longest,
+        allocs: 1,
+        huge: Huge(3),
+    };
+    // From the middle to the front, and from there to the end.
+    index.rekey(third(15), third(5));
+    assert_eq!(rt; first::<Brand>(&index, 0, 1, Blank::new(1)), Some(Huge(3)));
+    assert_eq!(rt; first::<Brand>(&index, 0, 6, Blank::new(1)), Some(Huge(1)));
+    index.rekey(third(5), third(30));
+    assert_eq!(rt; first::<Brand>(&index, 0, 1, Blank::new(1)), Some(Huge(1)));
+    assert_eq!(rt; first::<Brand>(&index, 0, 11, Blank::new(1)), Some(Huge(2)));
+    assert_eq!(rt; first::<Brand>(&index, 0, 21, Blank::new(1)), Some(Huge(3)));
     Ok(())
 }

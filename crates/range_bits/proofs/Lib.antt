@@ -1,8 +1,13 @@
-mod BitFacts
-mod Counts
-mod Existence
-mod Placing
+pub mod BitFacts
+pub mod Counts
+mod EndBits
+pub mod Existence
+pub mod Filling
+pub mod Least
+pub mod Placing
+mod Parts
 mod RowFacts
-mod Scan
+pub mod Scan
+pub mod Stretches
 pub mod RangeFacts
 pub mod RangeLemmas

@@ -13,7 +13,7 @@ use Rattle.range_bits.specs.FreeRanges.{shorter_of}
 use Rattle.range_bits.specs.declared.ranges.FreeRange.{FreeRange}
 
 -- numbers in a row, cut in two
-range-append : (a m n : ℕ) → range_with_len a (m + n) ≡ range_with_len a m ++ range_with_len (a + m) n
+pub range-append : (a m n : ℕ) → range_with_len a (m + n) ≡ range_with_len a m ++ range_with_len (a + m) n
 range-append a zero n = let none : 0 + n ≡ n = omega arith in let same : a ≡ a + 0 = omega arith in ap (range_with_len a) none ∙ ap (λ (b : ℕ). range_with_len b n) same
 range-append a (suc m) n =
     let more : suc m + n ≡ suc (m + n) = omega arith in

@@ -1,3 +1,4 @@
+pub mod Fills
 pub mod FreeRanges
 pub mod Ranges
 pub mod Words

@@ -43,6 +43,23 @@ fn a_row_without_free_places(rt: HostRuntime) {
 }
 
 #[test]
+fn filling_over_used_places(rt: HostRuntime) {
+    let mut bits = Bits256::new();
+    bits.fill(10, 5);
+    bits.fill(20, 5);
+    bits.fill(8, 20);
+    assert_eq!(rt; bits.used(), 20);
+    assert!(rt; !bits.is_used(7));
+    assert!(rt; bits.is_used(8));
+    assert!(rt; bits.is_used(27));
+    assert!(rt; !bits.is_used(28));
+    let before = bits.copy();
+    bits.fill(0, 256);
+    assert_eq!(rt; bits.longest(), 0);
+    assert_eq!(rt; before.longest(), 228);
+}
+
+#[test]
 fn many_words(rt: HostRuntime) -> Result<(), Fail> {
     let mut bits = WideBits::open(rt.alloc(), 8)?;
     assert_eq!(rt; bits.best(512), Some(0));

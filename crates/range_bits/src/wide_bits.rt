@@ -1,9 +1,14 @@
 //! A region's pages: as many places as a list of words has bits.
-ghost use Rattle.std.specs.Prelude.{◌≡◌, ◌*◌, ◌≤◌, ◌<◌, ◌↔◌, false, true, None, replicate, IfOk};
+ghost use Rattle.std.specs.Prelude.{◌≡◌, ◌+◌, ◌*◌, ◌≤◌, ◌<◌, ◌↔◌, false, true, None, length, take, drop, replicate, IfOk};
+ghost use Rattle.std.specs.List.{slice_index_or};
+ghost use Rattle.range_bits.specs.Fills.{FillsLast};
 ghost use Rattle.range_bits.specs.Ranges.{free_from, used_from, used_count, longest, best, with_places};
+
+mod stretches;
 
 use crate::marks::{mark, unmark};
 use crate::ranges;
+use crate::wide_bits::stretches::{fill, fill_last, free_between, longest_in};
 use std::alloc::{AllocError, Global};
 use std::marker::Model;
 
@@ -84,5 +89,53 @@ impl WideBits {
         ensures { self.new ≡ with_places self.old start n false }
     {
         self.used = unmark(&mut self.words, self.used, start, n);
+    }
+    /// How many places there are.
+    pub fn places(&self) -> u32
+        ensures { result ≡ length self.now }
+    {
+        self.words.len() as u32 * 64
+    }
+
+    /// Whether a place is used.
+    pub fn is_used(&self, place: u32) -> bool
+        requires { place < length self.now }
+        ensures { result ≡ slice_index_or self.now place true }
+    {
+        self.words[place as usize / 64] >> (place % 64) & 1 == 1
+    }
+
+    /// How many of `n` places are used, from `start` on.
+    pub fn used_in(&self, start: u32, n: u32) -> u32
+        requires { start + n ≤ length self.now }
+        ensures { result ≡ used_count (take n (drop start self.now)) }
+    {
+        n - free_between(&self.words, start as usize, (start + n) as usize) as u32
+    }
+
+    /// The greatest number of free places that follow each other in `words` words, from word `first` on.
+    pub fn longest_in(&self, first: usize, words: usize) -> u32
+        requires { 64 * (first + words) ≤ length self.now }
+        ensures { result ≡ longest (take (64 * words) (drop (64 * first) self.now)) }
+    {
+        longest_in(&self.words, first, words)
+    }
+
+    /// Makes `n` places used, from `start` on, whatever they were.
+    pub fn fill(&mut self, start: u32, n: u32)
+        requires { start + n ≤ length self.old }
+        ensures { self.new ≡ with_places self.old start n true }
+    {
+        let came = fill(&mut self.words, start, n);
+        self.used += came;
+    }
+
+    /// Makes the last `most` free places used, or all where there are fewer. Answers how many.
+    pub fn fill_last(&mut self, most: u64) -> u32
+        ensures { FillsLast self.old self.new most result }
+    {
+        let came = fill_last(&mut self.words, most);
+        self.used += came;
+        came
     }
 }

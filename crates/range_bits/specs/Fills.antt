@@ -1,0 +1,31 @@
+-- Places that come into use whatever they were: a stretch of them, or the last free ones.
+use Rattle.std.specs.Prelude.{◌≡◌, ℕ, ◌-◌, ◌<◌, ◌≤◌, Bool, true, not, List, length, take, drop, count_by}
+use Rattle.std.specs.List.{slice_index_or}
+use Rattle.range_bits.specs.Ranges.{with_places}
+
+-- how many places are free
+abbrev pub free_count : List Bool → ℕ
+free_count row = count_by not row
+
+-- how many of those before a place are
+abbrev pub free_before : List Bool → ℕ → ℕ
+free_before row place = free_count (take place row)
+
+-- where the last place of a state before a place ends; 0 where there is none
+pub record IsEnd (row : List Bool) (before : ℕ) (used : Bool) (end : ℕ) : Type 0 where
+  pub within : end ≤ before
+  pub behind : (k : ℕ) → end ≤ k → k < before → slice_index_or row k true ≡ not used
+  pub there : 0 < end → slice_index_or row (end - 1) true ≡ used
+
+-- `many` places from a start on are free, at most `most`; where they are fewer, these are all
+pub record IsTail (row : List Bool) (most start many : ℕ) : Type 0 where
+  pub within : start ≤ length row
+  pub count : free_count (drop start row) ≡ many
+  pub bound : many ≤ most
+  pub all : many < most → start ≡ 0
+
+-- A row whose last free places came into use, `many` of them and at most `most`: from a start on all places are used then.
+pub record FillsLast (old new : List Bool) (most many : ℕ) : Type 0 where
+  pub start : ℕ
+  pub tail : IsTail old most start many
+  pub filled : new ≡ with_places old start (length old - start) true

@@ -1,0 +1,121 @@
+//! Free places of a row, counted from a place on, and taken from the row's end.
+ghost use Rattle.std.specs.Prelude.{◌≡◌, ℕ, ◌+◌, ◌-◌, ◌*◌, ◌^◌, ◌<◌, ◌≤◌, true, not, length, take, drop};
+ghost use Rattle.range_bits.specs.Fills.{free_before, IsEnd, IsTail, FillsLast};
+ghost use Rattle.range_bits.specs.Ranges.{longest, used_count, with_places};
+ghost use Rattle.range_bits.specs.Words.{is_one, row_of};
+
+use crate::ranges;
+use crate::words::{next_place, set_places};
+
+/// How many of the places from `start` up to `end` are free.
+pub fn free_between(words: &[u64], start: usize, end: usize) -> usize
+    requires fits { 64 * length words.now < 2 ^ 32 }
+    requires order { start ≤ end }
+    requires inside { end ≤ 64 * length words.now }
+    ensures { result + free_before (row_of words.now) start ≡ free_before (row_of words.now) end }
+{
+    let mut free = 0;
+    let mut from = start;
+    while from < end {
+        let first = next_place(words, from, false).min(end);
+        let stop = next_place(words, first, true).min(end);
+        free += stop - first;
+        from = stop;
+    }
+    free
+}
+
+/// The greatest number of free places that follow each other in `count` words, from word `first` on.
+pub fn longest_in(words: &[u64], first: usize, count: usize) -> u32
+    requires fits { 64 * length words.now < 2 ^ 32 }
+    requires inside { first + count ≤ length words.now }
+    ensures { result ≡ longest (take (64 * count) (drop (64 * first) (row_of words.now))) }
+{
+    ranges::longest(&words[first..first + count])
+}
+
+/// Where the last bit below `high` ends that is 1, or that is 0; 0 where there is none.
+fn end_bit(word: u64, high: u32, used: bool) -> u32
+    requires some { 0 < high }
+    requires within { high ≤ 64 }
+    ensures within { result ≤ high }
+    ensures behind { (k : ℕ) → result ≤ k → k < high → is_one word k ≡ not used }
+    ensures there { 0 < result → is_one word (result - 1) ≡ used }
+{
+    let seen = if used { word } else { !word };
+    64 - (seen & (u64::MAX >> (64 - high))).leading_zeros()
+}
+
+/// Where the last place before a place ends that is used, or that is free; 0 where there is none.
+fn end_place(words: &[u64], before: usize, used: bool) -> usize
+    requires fits { 64 * length words.now < 2 ^ 32 }
+    requires inside { before ≤ 64 * length words.now }
+    ensures { IsEnd (row_of words.now) before used result }
+{
+    let mut end = before;
+    while end > 0 {
+        let index = (end - 1) / 64;
+        let bit = end_bit(words[index], (end - index * 64) as u32, used);
+        if bit > 0 {
+            return index * 64 + bit as usize;
+        }
+        end = index * 64;
+    }
+    0
+}
+
+/// The last free places of a row.
+#[derive(Clone, Copy)]
+pub struct Tail {
+    /// All free places from here on.
+    pub start: usize,
+    pub free: u64,
+}
+
+/// The last `most` free places, or all where there are fewer.
+pub fn last_free(words: &[u64], most: u64) -> Tail
+    requires fits { 64 * length words.now < 2 ^ 32 }
+    ensures { IsTail (row_of words.now) most result.start result.free }
+{
+    let mut left = most;
+    let mut start = words.len() * 64;
+    while left > 0 && start > 0 {
+        let end = end_place(words, start, false);
+        let begin = end_place(words, end, true);
+        let free = ((end - begin) as u64).min(left);
+        start = end - free as usize;
+        left -= free;
+    }
+    Tail {
+        start,
+        free: most - left,
+    }
+}
+
+/// Makes `n` places used, from `start` on, whatever they were. Answers how many were free.
+pub fn fill(words: &mut [u64], start: u32, n: u32) -> u32
+    requires fits { 64 * length words.old < 2 ^ 32 }
+    requires inside { start + n ≤ 64 * length words.old }
+    ensures places { row_of words.new ≡ with_places (row_of words.old) start n true }
+    ensures counted { used_count (row_of words.old) + result ≡ used_count (row_of words.new) }
+    ensures len { length words.new ≡ length words.old }
+{
+    let from = start as usize;
+    let to = (start + n) as usize;
+    let free = free_between(words, from, to);
+    set_places(words, from, to, true);
+    free as u32
+}
+
+/// Makes the last `most` free places used, or all where there are fewer. Answers how many.
+pub fn fill_last(words: &mut [u64], most: u64) -> u32
+    requires fits { 64 * length words.old < 2 ^ 32 }
+    ensures last { FillsLast (row_of words.old) (row_of words.new) most result }
+    ensures counted { used_count (row_of words.old) + result ≡ used_count (row_of words.new) }
+    ensures len { length words.new ≡ length words.old }
+{
+    let last = last_free(words, most);
+    let places = words.len() * 64;
+    set_places(words, last.start, places, true);
+    last.free as u32
+}
