@@ -1,0 +1,10 @@
+pub mod Choosing
+pub mod Giving
+pub mod Keeping
+pub mod Leaving
+pub mod Living
+pub mod Numbered
+pub mod Pages
+pub mod Releasing
+pub mod Taking
+pub mod Walking
