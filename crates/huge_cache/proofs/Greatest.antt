@@ -1,0 +1,176 @@
+-- The greatest of the last counts: what a newer count and the oldest one's leaving make of them.
+use Rattle.std.proofs.Common.{◌≡◌, ℕ, zero, suc, ◌+◌, ◌-◌, ◌<◌, ◌≤◌, Bool, true, false, nat_le, nat_lt, eqb, cond, Option, Some, None, unwrap_or, is_some, List, [], ◌∷◌, ◌++◌, length, get_or, take, drop, filter, fold, max, All, refl, sym, ap, ◌∙◌, inl, inr, arith}
+use Rattle.std.specs.List.{last_or}
+use Rattle.std.specs.Option.{option_eq}
+use Rattle.std.proofs.lemmas.Bool.{cases_lt, le-leb, lt-leb, leb-true, lt-ltb, eqb-true, eqb-false, cond_both}
+use Rattle.std.proofs.lemmas.List.{take_all, length_push, append-nil}
+use Rattle.std.proofs.lemmas.List.Elements.{All-head, All-tail, All-take, All-filter, All-push, All-get_or, All-nil, All-from_get_or, filter_passes, filter_more}
+use Rattle.std.proofs.lemmas.List.Sums.{length-filter, count_by-le-length}
+use Rattle.range_bits.proofs.RangeFacts.{fold_max}
+use Rattle.huge_cache.specs.Uses.{with_newest, greatest_of, IsFalling}
+
+kept_first : (x y : ℕ) (l : List ℕ) → y ≤ x → with_newest (x ∷ l) y ≡ x ∷ with_newest l y
+kept_first x y l h = ap (λ (b : Bool). cond b (x ∷ filter (λ z. nat_le y z) l) (filter (λ z. nat_le y z) l) ++ y ∷ []) (le-leb y x h)
+
+lost_first : (x y : ℕ) (l : List ℕ) → x < y → with_newest (x ∷ l) y ≡ with_newest l y
+lost_first x y l h = ap (λ (b : Bool). cond b (x ∷ filter (λ z. nat_le y z) l) (filter (λ z. nat_le y z) l) ++ y ∷ []) (lt-leb y x h)
+
+same_test : (x y : ℕ) (ys : List ℕ) → y ≤ x → nat_le (fold max 0 ys) x ≡ nat_le (fold max 0 (y ∷ ys)) x
+same_test x y ys h =
+    let more = fold_max (max 0 y) ys in
+    elim (cases_lt x (fold max 0 ys)) [
+      | inl above ↦ lt-leb (fold max 0 ys) x above ∙ sym (lt-leb (fold max 0 (y ∷ ys)) x (omega arith))
+      | inr below ↦ le-leb (fold max 0 ys) x below ∙ sym (le-leb (fold max 0 (y ∷ ys)) x (omega arith))
+    ]
+
+-- an older count stays in front where no later one is greater
+older : (x : ℕ) (l xs : List ℕ) → fold with_newest (x ∷ l) xs ≡ cond (nat_le (fold max 0 xs) x) (x ∷ fold with_newest l xs) (fold with_newest l xs)
+older x l [] = sym (ap (λ (b : Bool). cond b (x ∷ l) l) (le-leb 0 x (omega arith)))
+older x l (y ∷ ys) =
+    let rest : List ℕ = fold with_newest (with_newest l y) ys in
+    elim (cases_lt x y) [
+      | inl less ↦
+          ap (λ (k : List ℕ). fold with_newest k ys) (lost_first x y l less)
+          ∙ sym (ap (λ (b : Bool). cond b (x ∷ rest) rest) (lt-leb (fold max 0 (y ∷ ys)) x (omega (arith, fold_max (max 0 y) ys))))
+      | inr more ↦
+          ap (λ (k : List ℕ). fold with_newest k ys) (kept_first x y l more)
+          ∙ older x (with_newest l y) ys
+          ∙ ap (λ (b : Bool). cond b (x ∷ rest) rest) (same_test x y ys more)
+    ]
+
+oldest : (x : ℕ) (xs : List ℕ) → greatest_of (x ∷ xs) ≡ cond (nat_le (fold max 0 xs) x) (x ∷ greatest_of xs) (greatest_of xs)
+oldest x xs = older x [] xs
+
+-- the first of them is the greatest of all
+pub first_greatest : (xs : List ℕ) → get_or (greatest_of xs) 0 0 ≡ fold max 0 xs
+first_greatest [] = refl
+first_greatest (x ∷ xs) =
+    let more = fold_max (max 0 x) xs in
+    elim (cases_lt x (fold max 0 xs)) [
+      | inl less ↦
+          (let rest : get_or (greatest_of (x ∷ xs)) 0 0 ≡ get_or (greatest_of xs) 0 0 = ap (λ (k : List ℕ). get_or k 0 0) (oldest x xs ∙ ap (λ (b : Bool). cond b (x ∷ greatest_of xs) (greatest_of xs)) (lt-leb (fold max 0 xs) x less)) in
+          let before = first_greatest xs in
+          omega arith)
+      | inr not_less ↦
+          (let here : get_or (greatest_of (x ∷ xs)) 0 0 ≡ x = ap (λ (k : List ℕ). get_or k 0 0) (oldest x xs ∙ ap (λ (b : Bool). cond b (x ∷ greatest_of xs) (greatest_of xs)) (le-leb (fold max 0 xs) x not_less)) in
+          omega arith)
+    ]
+
+-- the oldest count leaves: it is the first of the greatest ones, or none of them
+first_leaves : (counts : List ℕ) → 0 < length counts → get_or counts 0 0 ≡ get_or (greatest_of counts) 0 0 → drop 1 (greatest_of counts) ≡ greatest_of (drop 1 counts)
+first_leaves [] some same = absurd (omega arith)
+first_leaves (x ∷ xs) some same =
+    let first : x ≡ fold max 0 (x ∷ xs) = same ∙ first_greatest (x ∷ xs) in
+    let all : fold max 0 xs ≤ x = omega (arith, fold_max (max 0 x) xs) in
+    ap (drop 1) (oldest x xs ∙ ap (λ (b : Bool). cond b (x ∷ greatest_of xs) (greatest_of xs)) (le-leb (fold max 0 xs) x all))
+
+was_less : (counts : List ℕ) → 0 < length counts → ((l : List ℕ) → greatest_of counts ≡ get_or counts 0 0 ∷ l → ⊥) → greatest_of counts ≡ greatest_of (drop 1 counts)
+was_less [] some other = absurd (omega arith)
+was_less (x ∷ xs) some other =
+    elim (cases_lt x (fold max 0 xs)) [
+      | inl less ↦ oldest x xs ∙ ap (λ (b : Bool). cond b (x ∷ greatest_of xs) (greatest_of xs)) (lt-leb (fold max 0 xs) x less)
+      | inr not_less ↦ absurd (other (greatest_of xs) (oldest x xs ∙ ap (λ (b : Bool). cond b (x ∷ greatest_of xs) (greatest_of xs)) (le-leb (fold max 0 xs) x not_less)))
+    ]
+
+same_option : (x : ℕ) (f : Option ℕ) → option_eq eqb (Some x) f ≡ true → x ≡ unwrap_or f 0
+same_option x None h = cc
+same_option x (Some y) h = eqb-true x y h
+
+other_option : (x : ℕ) (f : Option ℕ) → option_eq eqb (Some x) f ≡ false → is_some f ≡ true → unwrap_or f 0 ≡ x → ⊥
+other_option x None h some e = cc
+other_option x (Some y) h some e = eqb-false x y h (sym e)
+
+pub oldest_is_first : (counts greatest : List ℕ) (o f : Option ℕ) → 0 < length counts → greatest ≡ greatest_of counts → o ≡ Some (get_or counts 0 0) → unwrap_or f 0 ≡ get_or greatest 0 0 → option_eq eqb o f ≡ true → drop 1 greatest ≡ greatest_of (drop 1 counts)
+oldest_is_first counts greatest o f some kept here first same =
+    let x : ℕ = get_or counts 0 0 in
+    let is : x ≡ unwrap_or f 0 = same_option x f (ap (λ (p : Option ℕ). option_eq eqb p f) (sym here) ∙ same) in
+    ap (drop 1) kept ∙ first_leaves counts some (is ∙ first ∙ ap (λ (l : List ℕ). get_or l 0 0) kept)
+
+pub oldest_is_other : (counts greatest : List ℕ) (o f : Option ℕ) → 0 < length counts → greatest ≡ greatest_of counts → o ≡ Some (get_or counts 0 0) → is_some f ≡ nat_lt 0 (length greatest) → unwrap_or f 0 ≡ get_or greatest 0 0 → option_eq eqb o f ≡ false → greatest ≡ greatest_of (drop 1 counts)
+oldest_is_other counts greatest o f some kept here there first other =
+    let x : ℕ = get_or counts 0 0 in
+    kept ∙ was_less counts some
+    (λ l e.
+    let begins : greatest ≡ x ∷ l = kept ∙ e in
+    other_option x f (ap (λ (p : Option ℕ). option_eq eqb p f) (sym here) ∙ other) (there ∙ ap (λ (g : List ℕ). nat_lt 0 (length g)) begins ∙ lt-ltb 0 (suc (length l)) (omega arith)) (first ∙ ap (λ (g : List ℕ). get_or g 0 0) begins))
+
+-- the newest count
+pub newest : (o : Option ℕ) (xs : List ℕ) → 0 < length xs → last_or o xs ≡ Some (get_or xs (length xs - 1) 0)
+newest o [] some = absurd (omega arith)
+newest o (x ∷ []) some = refl
+newest o (x ∷ (y ∷ xs)) some =
+    let rest = newest (Some x) (y ∷ xs) (omega arith) in
+    let e : suc (suc (length xs)) - 1 ≡ suc (length xs) = omega arith in
+    let f : suc (length xs) - 1 ≡ length xs = omega arith in
+    rest ∙ ap (λ (i : ℕ). Some (get_or (y ∷ xs) i 0)) f ∙ sym (ap (λ (i : ℕ). Some (get_or (x ∷ (y ∷ xs)) i 0)) e)
+
+-- the greatest counts fall
+falling-filter : (p : ℕ → Bool) (l : List ℕ) → IsFalling l → IsFalling (filter p l)
+falling-filter p [] h = h
+falling-filter p (x ∷ l) h =
+    cond_both (p x) (x ∷ filter p l) (filter p l) IsFalling
+    (λ _. (All-filter p (λ y. y ≤ x) l h.0, falling-filter p l h.1))
+    (λ _. falling-filter p l h.1)
+
+falling-push : (l : List ℕ) (y : ℕ) → IsFalling l → All (λ x. y ≤ x) l → IsFalling (l ++ y ∷ [])
+falling-push [] y h all = (All-nil (λ z. z ≤ y), tt)
+falling-push (x ∷ l) y h all = (All-push (λ z. z ≤ x) l y h.0 (All-head (λ z. y ≤ z) x l all), falling-push l y h.1 (All-tail (λ z. y ≤ z) x l all))
+
+all_passed : (y : ℕ) (l : List ℕ) → All (λ x. nat_le y x ≡ true) l → All (λ x. y ≤ x) l
+all_passed y l h i d in_l = leb-true y (get_or l i d) (h i d in_l)
+
+falling-newest : (l : List ℕ) (y : ℕ) → IsFalling l → IsFalling (with_newest l y)
+falling-newest l y h = falling-push (filter (λ x. nat_le y x) l) y (falling-filter (λ x. nat_le y x) l h) (all_passed y (filter (λ x. nat_le y x) l) (filter_passes (λ x. nat_le y x) l))
+
+falling-fold : (l xs : List ℕ) → IsFalling l → IsFalling (fold with_newest l xs)
+falling-fold l [] h = h
+falling-fold l (x ∷ xs) h = falling-fold (with_newest l x) xs (falling-newest l x h)
+
+pub greatest_fall : (xs : List ℕ) → IsFalling (greatest_of xs)
+greatest_fall xs = falling-fold [] xs tt
+
+pub falling-take : (n : ℕ) (l : List ℕ) → IsFalling l → IsFalling (take n l)
+falling-take zero l h = tt
+falling-take (suc n) [] h = tt
+falling-take (suc n) (x ∷ l) h = (All-take (λ y. y ≤ x) n l h.0, falling-take n l h.1)
+
+-- one that is below leaves from the end
+pub below_leaves : (y : ℕ) (l : List ℕ) → 0 < length l → get_or l (length l - 1) 0 < y → filter (λ x. nat_le y x) (take (length l - 1) l) ≡ filter (λ x. nat_le y x) l
+below_leaves y l some below =
+    let i : ℕ = length l - 1 in
+    let whole : take (i + 1) l ≡ l = take_all (i + 1) l (omega arith) in
+    sym (append-nil (filter (λ x. nat_le y x) (take i l)))
+    ∙ sym (filter_more (λ x. nat_le y x) l i 0 (omega arith) ∙ ap (λ (b : Bool). filter (λ x. nat_le y x) (take i l) ++ cond b (get_or l i 0 ∷ []) []) (lt-leb y (get_or l i 0) below))
+    ∙ ap (filter (λ x. nat_le y x)) whole
+
+keep_all : (p : ℕ → Bool) (l : List ℕ) → All (λ x. p x ≡ true) l → filter p l ≡ l
+keep_all p [] h = refl
+keep_all p (x ∷ l) h =
+    ap (λ (b : Bool). cond b (x ∷ filter p l) (filter p l)) (All-head (λ y. p y ≡ true) x l h) ∙ ap (λ (k : List ℕ). x ∷ k) (keep_all p l (All-tail (λ y. p y ≡ true) x l h))
+
+last_least : (l : List ℕ) (i : ℕ) → IsFalling l → i < length l → get_or l (length l - 1) 0 ≤ get_or l i 0
+last_least [] i h inside = absurd (omega arith)
+last_least (x ∷ []) zero h inside = omega arith
+last_least (x ∷ []) (suc i) h inside = absurd (omega arith)
+last_least (x ∷ (z ∷ l)) zero h inside = let rest = All-get_or (λ y. y ≤ x) (z ∷ l) (length l) 0 (omega arith) h.0 in let e : suc (suc (length l)) - 1 ≡ suc (length l) = omega arith in rw e rest
+last_least (x ∷ (z ∷ l)) (suc i) h inside =
+    let rest = last_least (z ∷ l) i h.1 (omega arith) in
+    let e : suc (suc (length l)) - 1 ≡ suc (length l) = omega arith in
+    let f : suc (length l) - 1 ≡ length l = omega arith in
+    let rest' : get_or (z ∷ l) (length l) 0 ≤ get_or (z ∷ l) i 0 = rw f at rest in
+    rw e rest'
+
+-- where the last isn't below, none is
+pub none_below : (y : ℕ) (l : List ℕ) → IsFalling l → y ≤ get_or l (length l - 1) 0 → filter (λ x. nat_le y x) l ≡ l
+none_below y l h last = keep_all (λ x. nat_le y x) l (All-from_get_or (λ x. nat_le y x ≡ true) l 0 (λ i inside. le-leb y (get_or l i 0) (omega (arith, last_least l i h inside))))
+
+-- there are no more of them than counts
+length-newest : (l : List ℕ) (y : ℕ) → length (with_newest l y) ≤ length l + 1
+length-newest l y = omega (arith, length_push (filter (λ x. nat_le y x) l) y, length-filter (λ x. nat_le y x) l, count_by-le-length (λ x. nat_le y x) l)
+
+length-fold : (l xs : List ℕ) → length (fold with_newest l xs) ≤ length l + length xs
+length-fold l [] = omega arith
+length-fold l (x ∷ xs) = omega (arith, length-fold (with_newest l x) xs, length-newest l x)
+
+pub length-greatest : (xs : List ℕ) → length (greatest_of xs) ≤ length xs
+length-greatest xs = omega (arith, length-fold [] xs)

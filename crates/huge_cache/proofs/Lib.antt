@@ -1,0 +1,7 @@
+mod Found
+mod Greatest
+mod Kept
+mod Opened
+mod Padded
+mod Placed
+mod Unbacked

@@ -1,0 +1,154 @@
+-- Rows with used places behind the arena's: what each question and change makes of the arena's part.
+use Rattle.std.proofs.Common.{◌≡◌, ℕ, zero, suc, ◌+◌, ◌-◌, ◌<◌, ◌≤◌, ◌==◌, ◌&&◌, ◌||◌, Bool, true, false, not, cond, nat_le, nat_lt, List, [], ◌∷◌, ◌++◌, length, get_or, set, take, drop, replicate, filter, All, refl, sym, ap, ◌∙◌, inl, inr, arith, add-one}
+use Rattle.std.specs.List.{prefix_len, range_with_len}
+use Rattle.std.proofs.lemmas.Bool.{cases_lt, and_left, not_from_true}
+use Rattle.std.proofs.lemmas.List.{append_assoc, append-nil, length-append, length-replicate, length-take-le, take-append-le, take_at, drop-append-le, get_or_append_left, get_or-append_right, get_or-replicate, get_or-take, set_split}
+use Rattle.std.proofs.lemmas.List.Sums.{prefix_len-drop_all, sum_by-append}
+use Rattle.std.proofs.lemmas.List.Folds.{sum_by-replicate}
+use Rattle.std.proofs.lemmas.List.Elements.{filter-append, All-weaker, All-filter}
+use Rattle.range_bits.specs.Fills.{free_count}
+use Rattle.range_bits.specs.Ranges.{free_from, used_from, used_count, places, begins_range, first_least, best, with_places}
+use Rattle.range_bits.proofs.RangeLemmas.{range-within, filter-agree, filter-none, first_least-agree}
+use Rattle.range_bits.proofs.Scan.{range-append}
+use Rattle.range_bits.proofs.Placing.{length-with_places}
+use Rattle.huge_cache.specs.Rows.{IsPadded}
+
+-- used places behind a row
+abbrev pub pad : ℕ → List Bool
+pad k = replicate k true
+
+pub padded_by : (huge : ℕ) (row v : List Bool) (k : ℕ) → length v ≡ huge → row ≡ v ++ pad k → IsPadded huge row × (take huge row ≡ v)
+padded_by huge row v k size is =
+    let front : take huge row ≡ v = ap (take huge) is ∙ take_at v (pad k) huge size in
+    let total : length row ≡ huge + k = omega (arith, ap (λ (r : List Bool). length r) is, length-append v (pad k), length-replicate k true) in
+    let rest : k ≡ length row - huge = omega arith in
+    (record { within = omega arith; padded = is ∙ ap (λ (w : List Bool). w ++ pad k) (sym front) ∙ ap (λ (m : ℕ). take huge row ++ pad m) rest }, front)
+
+pub front_length : (huge : ℕ) (row : List Bool) → IsPadded huge row → length (take huge row) ≡ huge
+front_length huge row h = length-take-le huge row h.within
+
+-- free stretches
+stretch_end : (k : ℕ) → prefix_len not (pad k) ≡ 0
+stretch_end zero = refl
+stretch_end (suc k) = refl
+
+stretch : (v : List Bool) (k : ℕ) → prefix_len not (v ++ pad k) ≡ prefix_len not v
+stretch [] k = stretch_end k
+stretch (true ∷ v) k = refl
+stretch (false ∷ v) k = ap (λ (n : ℕ). 1 + n) (stretch v k)
+
+pub free_from-padded : (v : List Bool) (k p : ℕ) → p ≤ length v → free_from (v ++ pad k) p ≡ free_from v p
+free_from-padded v k p inside = ap (prefix_len not) (drop-append-le p v (pad k) inside) ∙ stretch (drop p v) k
+
+used_stretch : (v w : List Bool) → prefix_len (λ used. used) v ≤ prefix_len (λ used. used) (v ++ w)
+used_stretch [] w = omega arith
+used_stretch (true ∷ v) w = omega (arith, used_stretch v w)
+used_stretch (false ∷ v) w = omega arith
+
+pub used_from-padded : (v : List Bool) (k p : ℕ) → used_from v p ≤ used_from (v ++ pad k) p
+used_from-padded v k p =
+    elim (cases_lt (length v) p) [
+      | inl past ↦ omega (arith, prefix_len-drop_all (λ used. used) v p (omega arith))
+      | inr inside ↦ (let e : used_from (v ++ pad k) p ≡ prefix_len (λ used. used) (drop p v ++ pad k) = ap (prefix_len (λ used. used)) (drop-append-le p v (pad k) inside) in omega (arith, used_stretch (drop p v) (pad k)))
+    ]
+
+-- counts
+pub used_count-padded : (v : List Bool) (k : ℕ) → used_count (v ++ pad k) ≡ used_count v + k
+used_count-padded v k = omega (arith, sum_by-append (λ (b : Bool). cond b 1 0) v (pad k), sum_by-replicate (λ (b : Bool). cond b 1 0) k true)
+
+pub free_count-padded : (v : List Bool) (k : ℕ) → free_count (v ++ pad k) ≡ free_count v
+free_count-padded v k = omega (arith, sum_by-append (λ (b : Bool). cond (not b) 1 0) v (pad k), sum_by-replicate (λ (b : Bool). cond (not b) 1 0) k true)
+
+-- the best range
+begins-padded : (v : List Bool) (k p : ℕ) → p < length v → begins_range (v ++ pad k) p ≡ begins_range v p
+begins-padded v k p inside =
+    let here = get_or_append_left v (pad k) true p inside in
+    let before = get_or_append_left v (pad k) true (p - 1) (omega arith) in
+    ap (λ (b : Bool). not b && (p == 0 || get_or (v ++ pad k) (p - 1) true)) here
+    ∙ ap (λ (b : Bool). not (get_or v p true) && (p == 0 || b)) before
+
+begins-behind : (v : List Bool) (k p : ℕ) → length v ≤ p → p < length v + k → begins_range (v ++ pad k) p ≡ false
+begins-behind v k p behind inside =
+    let used : get_or (v ++ pad k) p true ≡ true = get_or-append_right v (pad k) (length v) p true refl behind ∙ get_or-replicate k (p - length v) true true (omega arith) in
+    and_left _ _ (not_from_true _ used)
+
+abbrev fits : List Bool → ℕ → ℕ → Bool
+fits row n place = begins_range row place && nat_le n (free_from row place)
+
+abbrev nearer : List Bool → ℕ → ℕ → Bool
+nearer row a b = nat_lt (free_from row a) (free_from row b)
+
+found-padded : (v : List Bool) (k n : ℕ) → filter (fits (v ++ pad k) n) (places (v ++ pad k)) ≡ filter (fits v n) (places v)
+found-padded v k n =
+    let m : ℕ = length v in
+    let size : length (v ++ pad k) ≡ m + k = omega (arith, length-append v (pad k), length-replicate k true) in
+    let inside : All (λ p. fits (v ++ pad k) n p ≡ fits v n p) (range_with_len 0 m) =
+    All-weaker (λ p. (0 ≤ p) × (p < 0 + m)) (λ p. fits (v ++ pad k) n p ≡ fits v n p)
+    (λ p h. ap (λ (b : Bool). b && nat_le n (free_from (v ++ pad k) p)) (begins-padded v k p (omega (arith, h.1))) ∙ ap (λ (l : ℕ). begins_range v p && nat_le n l) (free_from-padded v k p (omega (arith, h.1))))
+    (range_with_len 0 m) (range-within 0 m) in
+    let behind : All (λ p. fits (v ++ pad k) n p ≡ false) (range_with_len m k) =
+    All-weaker (λ p. (m ≤ p) × (p < m + k)) (λ p. fits (v ++ pad k) n p ≡ false)
+    (λ p h. and_left _ _ (begins-behind v k p h.0 h.1))
+    (range_with_len m k) (range-within m k) in
+    ap (λ (l : ℕ). filter (fits (v ++ pad k) n) (range_with_len 0 l)) size
+    ∙ ap (filter (fits (v ++ pad k) n)) (range-append 0 m k)
+    ∙ filter-append (fits (v ++ pad k) n) (range_with_len 0 m) (range_with_len (0 + m) k)
+    ∙ ap (λ (a : ℕ). filter (fits (v ++ pad k) n) (range_with_len 0 m) ++ filter (fits (v ++ pad k) n) (range_with_len a k)) (omega arith)
+    ∙ ap (λ (l : List ℕ). filter (fits (v ++ pad k) n) (range_with_len 0 m) ++ l) (filter-none (fits (v ++ pad k) n) (range_with_len m k) behind)
+    ∙ append-nil (filter (fits (v ++ pad k) n) (range_with_len 0 m))
+    ∙ filter-agree (fits (v ++ pad k) n) (fits v n) (range_with_len 0 m) inside
+
+pub best-padded : (v : List Bool) (k n : ℕ) → best (v ++ pad k) n ≡ best v n
+best-padded v k n =
+    let within : All (λ p. p < length v) (filter (fits v n) (places v)) =
+    All-filter (fits v n) (λ p. p < length v) (places v) (All-weaker (λ p. (0 ≤ p) × (p < 0 + length v)) (λ p. p < length v) (λ p h. omega (arith, h.1)) (places v) (range-within 0 (length v))) in
+    ap (first_least (nearer (v ++ pad k))) (found-padded v k n)
+    ∙ first_least-agree (λ p. p < length v) (nearer (v ++ pad k)) (nearer v) (filter (fits v n) (places v))
+    (λ a b in_a in_b. ap (λ (l : ℕ). nat_lt l (free_from (v ++ pad k) b)) (free_from-padded v k a (omega arith)) ∙ ap (nat_lt (free_from v a)) (free_from-padded v k b (omega arith)))
+    within
+
+-- changes
+pub with_places-padded : (v : List Bool) (k start n : ℕ) (used : Bool) → start + n ≤ length v → with_places (v ++ pad k) start n used ≡ with_places v start n used ++ pad k
+with_places-padded v k start n used inside =
+    ap (λ (front : List Bool). front ++ replicate n used ++ drop (start + n) (v ++ pad k)) (take-append-le start v (pad k) (omega arith))
+    ∙ ap (λ (back : List Bool). take start v ++ replicate n used ++ back) (drop-append-le (start + n) v (pad k) inside)
+    ∙ sym (append_assoc (take start v ++ replicate n used) (drop (start + n) v) (pad k))
+
+pub one_place : (v : List Bool) (p : ℕ) (used : Bool) → p < length v → with_places v p 1 used ≡ set v p used
+one_place v p used inside =
+    append_assoc (take p v) (used ∷ []) (drop (p + 1) v)
+    ∙ ap (λ (i : ℕ). take p v ++ used ∷ drop i v) (add-one p)
+    ∙ sym (set_split v p used inside)
+
+-- a row that is padded, and what a change makes of it
+pub record Changed (huge : ℕ) (new part : List Bool) : Type 0 where
+  pub padded : IsPadded huge new
+  pub front : take huge new ≡ part
+
+pub changed : (huge : ℕ) (row new : List Bool) (start n : ℕ) (used : Bool) → IsPadded huge row → new ≡ with_places row start n used → start + n ≤ huge → Changed huge new (with_places (take huge row) start n used)
+changed huge row new start n used h is inside =
+    let v : List Bool = take huge row in
+    let k : ℕ = length row - huge in
+    let size = front_length huge row h in
+    let whole : new ≡ with_places v start n used ++ pad k = is ∙ ap (λ (r : List Bool). with_places r start n used) h.padded ∙ with_places-padded v k start n used (omega arith) in
+    let got = padded_by huge new (with_places v start n used) k (length-with_places v start n used (omega arith) ∙ size) whole in
+    record { padded = got.0; front = got.1 }
+
+-- the same questions of a padded row
+pub best-front : (huge : ℕ) (row : List Bool) (n : ℕ) → IsPadded huge row → best row n ≡ best (take huge row) n
+best-front huge row n h = ap (λ (r : List Bool). best r n) h.padded ∙ best-padded (take huge row) (length row - huge) n
+
+pub free_from-front : (huge : ℕ) (row : List Bool) (p : ℕ) → IsPadded huge row → p ≤ huge → free_from row p ≡ free_from (take huge row) p
+free_from-front huge row p h inside = ap (λ (r : List Bool). free_from r p) h.padded ∙ free_from-padded (take huge row) (length row - huge) p (omega (arith, front_length huge row h))
+
+pub used_from-front : (huge : ℕ) (row : List Bool) (p : ℕ) → IsPadded huge row → used_from (take huge row) p ≤ used_from row p
+used_from-front huge row p h = let e = ap (λ (r : List Bool). used_from r p) h.padded in omega (arith, used_from-padded (take huge row) (length row - huge) p)
+
+pub used_count-front : (huge : ℕ) (row : List Bool) → IsPadded huge row → used_count row ≡ used_count (take huge row) + (length row - huge)
+used_count-front huge row h = ap used_count h.padded ∙ used_count-padded (take huge row) (length row - huge)
+
+pub free_count-front : (huge : ℕ) (row : List Bool) → IsPadded huge row → free_count row ≡ free_count (take huge row)
+free_count-front huge row h = ap free_count h.padded ∙ free_count-padded (take huge row) (length row - huge)
+
+pub place-front : (huge : ℕ) (row : List Bool) (p : ℕ) (d : Bool) → IsPadded huge row → p < huge → get_or row p d ≡ get_or (take huge row) p d
+place-front huge row p d h inside = sym (get_or-take huge row p d inside)

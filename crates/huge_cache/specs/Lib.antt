@@ -1,0 +1,3 @@
+pub mod Cache
+pub mod Rows
+pub mod Uses

@@ -1,0 +1,9 @@
+//! The free hugepages: which adjacent ones serve a run, and how many stay backed.
+#![tactic(auto)]
+
+mod cache;
+#[cfg(test)]
+mod tests;
+mod uses;
+
+pub use cache::HugeCache;

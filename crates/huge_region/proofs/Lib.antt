@@ -1,0 +1,12 @@
+mod Changed
+mod Chosen
+mod Flagged
+mod Given
+mod Listed
+mod Live
+mod Looked
+mod Masking
+mod Opening
+mod Reached
+mod Standing
+mod Taken
