@@ -1,164 +1,181 @@
--- What each page heap keeps of its vectors, through the coming and the leaving of a run.
-use Rattle.std.proofs.Common.{◌≡◌, ℕ, ◌+◌, ◌-◌, ◌*◌, ◌/◌, ◌<◌, ◌≤◌, Bool, true, false, cond, List, length, get_or, set, map, count_by, All, Contains, refl, sym, ap, subst, ◌∙◌, inl, inr, arith}
-use Rattle.std.proofs.lemmas.Bool.{cases_eq}
-use Rattle.std.proofs.lemmas.List.{length-set, length-map, get_or-set_same, get_or-set_other}
-use Rattle.std.proofs.lemmas.List.Sums.{sum_by-set, count_by-le-length}
-use Rattle.std.proofs.lemmas.List.Elements.{All-contains}
+-- What each step of the page heap keeps: settling, and a run below a hugepage's pages.
+use Rattle.std.proofs.Common.{◌≡◌, ℕ, ◌+◌, ◌*◌, ◌/◌, ◌%◌, ◌<◌, ◌≤◌, Bool, true, false, not, cond, List, length, set, map, filter, Contains, Option, Some, None, IfSome, refl, sym, ap, subst, ◌∙◌, inl, inr, arith}
+use Rattle.std.specs.List.{list_all}
+use Rattle.std.proofs.lemmas.Bool.{cases_Bool}
+use Rattle.std.proofs.lemmas.Option.{none-some}
 use Rattle.tc_units.specs.declared.spans.Run.{Run}
-use Rattle.page_heap.specs.declared.config.HeapConfig.{HeapConfig}
-use Rattle.page_heap.specs.declared.rows.Row.{Row}
-use Rattle.page_heap.specs.Heap.{reaches}
-use Rattle.range_bits.specs.Ranges.{longest}
-use Rattle.page_heap.specs.Spots.{IsOpen}
-use Rattle.page_heap.specs.Table.{runs_from, heap_of, filled, flags_of, joined, left, no_row, is_ready, is_taken, is_unready, trimmed_rows, IsRow, IsKept}
-use Rattle.page_heap.proofs.Runs.{run_at, runs-all, length-runs}
-use Rattle.page_heap.proofs.Tables.{used_is, none_begins, came, gone, IsGap, IsHeld}
-use Rattle.page_heap.proofs.Hugepages.{IsWithin, other_came, other_left, own_came, own_left, unbacked_row}
-use Rattle.page_heap.proofs.Trims.{length-trimmed, trimmed-each, count-trimmed}
+use Rattle.range_bits.specs.Ranges.{used_count, best, first_least}
+use Rattle.range_bits.proofs.RangeLemmas.{first_least-all}
+use Rattle.heap_rules.specs.Heap.{Heap, Hugepage, hugepage, reaches, run_at, used_row, is_free_backed}
+use Rattle.heap_rules.specs.CacheFlags.{is_over, limit}
+use Rattle.heap_rules.specs.CacheFlags as cache
+use Rattle.heap_rules.specs.Settle.{unbacked, counted, settled}
+use Rattle.heap_rules.specs.FillerRows.{FillerRow, is_preferred, has_room, place_in_row, filler_place}
+use Rattle.heap_rules.specs.Choice.{filler_rows, run_choice}
+use Rattle.heap_rules.specs.New.{more_backed, filler_page, in_filler, in_fresh}
+use Rattle.heap_rules.specs.Sound.{IsSound}
+use Rattle.heap_rules.specs.Laws.{IsGiven}
+use Rattle.heap_rules.proofs.Chosen.{mapped, AreFree, run_choice_free}
+use Rattle.heap_rules.proofs.Fillers.{IsFitting, IsRowWithRoom, rows_fit, AreUnused, unused_at, given_filler, is_Filler}
+use Rattle.heap_rules.proofs.Remade.{here}
+use Rattle.heap_rules.proofs.Routes.{given_fresh, reached_free}
+use Rattle.heap_rules.proofs.Fits.{reaches_from}
+use Rattle.heap_rules.proofs.Settled.{settled_sound}
+use Rattle.huge_filler.specs.Filler.{FillerPage, page_at, rows_of, with_page, fresh, after_take}
+use Rattle.huge_cache.specs.Cache.{Cache, noted, trimmed, without_run}
+use Rattle.page_heap.specs.Parts.{Parts, heap_of, IsRouted, IsKept}
+use Rattle.page_heap.proofs.View.{filler_at, filler_none, length-filler_of}
+use Rattle.page_heap.proofs.Choices.{rows_of-filler_of, fresh_place}
+use Rattle.page_heap.proofs.Taken.{taken_filler, taken_cache, taken_regions}
+use Rattle.page_heap.proofs.Fresh.{free_no_filler, fresh_filler, fresh_cache, fresh_regions}
+use Rattle.page_heap.proofs.Settles.{settled_filler, settled_cache, settled_regions}
+use Rattle.page_heap.proofs.Routed.{routed_same, routed_with}
+use Rattle.page_heap.proofs.Results.{Results, new_results, same_results}
 
--- a fact of each row after a write of one
-each_set : (P : ℕ → Row → Type 0) (rows : List Row) (place : ℕ) (r : Row) → place < length rows → P place r → ((k : ℕ) (d : Row) → (k ≡ place → ⊥) → k < length rows → P k (get_or rows k d)) → (k : ℕ) (d : Row) → k < length (set rows place r) → P k (get_or (set rows place r) k d)
-each_set P rows place r inside here others k d h =
-    let len = length-set rows place r in
-    elim (cases_eq k place) [
-      | inl same ↦ subst (λ j. P j (get_or (set rows place r) j d)) (sym same) (subst (P place) (sym (get_or-set_same rows place r d inside)) here)
-      | inr other ↦ subst (P k) (sym (get_or-set_other rows place k r d other)) (others k d other (omega arith))
-    ]
+-- The heap settles.
+pub settle_keeps : (old : Parts) → IsKept old → (cache : Cache) → cache ≡ trimmed (noted old.cache (used_count old.cache.taken)) → Results (record { config = old.config; filler = old.filler; cache = cache; regions = old.regions; lengths = old.lengths; used = old.used }) (settled (heap_of old))
+settle_keeps old kept cache e =
+    let heap : Heap = heap_of old in
+    let sound = kept.well.sound in
+    let over : ℕ → Bool = is_over (limit heap.config.cache (counted heap)) (map is_free_backed heap.hugepages) in
+    same_results old kept (settled heap) refl refl (settled_sound heap sound)
+    (routed_same heap (λ h x. cond (over h) (unbacked x) x) (counted heap) sound (λ h x. elim (over h) as (λ b. (cond b (unbacked x) x).kind ≡ x.kind) [ true ↦ refl | false ↦ refl ]) kept.well.routed)
+    old.filler cache old.regions
+    (kept.shows.filler ∙ settled_filler heap sound)
+    (e ∙ ap (λ (c : Cache). trimmed (noted c (used_count c.taken))) kept.shows.cache ∙ settled_cache heap sound)
+    (kept.shows.regions ∙ settled_regions heap sound)
 
--- what the coming of a run makes of the vectors
-pub record IsCame (rows : List Row) (used : List Bool) (lengths : List ℕ) (rows' : List Row) (used' : List Bool) (lengths' : List ℕ) (place first n : ℕ) : Type 0 where
-  pub used_is : used' ≡ filled used first n true
-  pub lengths_is : lengths' ≡ set lengths first n
-  pub rows_is : rows' ≡ set rows place (joined (get_or rows place no_row) (longest (flags_of used' (place + 1))))
+-- A place in the filler: its hugepage, and the run that lies there.
+pub record IsFilled (heap : Heap) (n page : ℕ) : Type 0 where
+  pub fitting : IsFitting heap n (page / 256)
+  pub fits : page % 256 + n ≤ 256
+  pub given : IsGiven heap n (in_filler heap n page)
 
--- what the leaving of a run makes of the vectors
-pub record IsGone (limit : ℕ) (rows : List Row) (used : List Bool) (lengths : List ℕ) (rows' : List Row) (used' : List Bool) (lengths' : List ℕ) (place first n : ℕ) : Type 0 where
-  pub used_is : used' ≡ filled used first n false
-  pub lengths_is : lengths' ≡ set lengths first 0
-  pub rows_is : rows' ≡ trimmed_rows limit (set rows place (left (get_or rows place no_row) (longest (flags_of used' (place + 1)))))
+filled_at : (heap : Heap) (n page h s : ℕ) → IsSound heap → 0 < n → IsFitting heap n h → AreUnused heap.runs (256 * h) 256 s n → 256 * h + s ≡ page → IsFilled heap n page
+filled_at heap n page h s sound some fit are e =
+    let huge : h ≡ page / 256 = omega (arith, are.to) in
+    let place : s ≡ page % 256 = omega (arith, are.to) in
+    record {
+      fitting = subst (IsFitting heap n) huge fit;
+      fits = omega (arith, are.to);
+      given = subst (λ p. IsGiven heap n (in_filler heap n p)) e (given_filler heap n h s sound some fit are);
+    }
 
-module _ (config : HeapConfig) (rows : List Row) (used : List Bool) (lengths : List ℕ) (taken unready : List Bool) (kept : IsKept config rows used lengths taken unready) where
-  pub size : length used ≡ 256 * (config.huge + 1)
-  size = kept.table.same_length ∙ kept.pages
+filled_by : (heap : Heap) (n page : ℕ) → IsSound heap → 0 < n → (o : Option FillerRow) → IfSome o (IsRowWithRoom heap n) → place_in_row n o ≡ Some page → IsFilled heap n page
+filled_by heap n page sound some None is e = absurd (none-some page e)
+filled_by heap n page sound some (Some row) is e =
+    let of = mapped (λ start. 256 * row.number + start) (best row.used n) page e in
+    let s : ℕ = of.0 in
+    let h : ℕ = is.number in
+    let at : row.number ≡ h = ap (λ (r : FillerRow). r.number) is.row_is in
+    let place : best (used_row heap.runs h) n ≡ Some s = ap (λ (r : FillerRow). best r.used n) (sym is.row_is) ∙ of.1 in
+    let end : 256 * h + s ≡ page = ap (λ k. 256 * k + s) (sym at) ∙ of.2 in
+    filled_at heap n page h s sound some is.fitting (unused_at heap.runs (256 * h) 256 n s some place) end
 
-  -- a hugepage's pages have flags
-  pub pages_within : (place : ℕ) → place < length rows → 256 * (place + 1) + 256 ≤ length used
-  pages_within place h = let a = size in let b = kept.hugepages in omega arith
+pub filled : (heap : Heap) (n page : ℕ) → IsSound heap → 0 < n → filler_place (filler_rows heap) n ≡ Some page → IsFilled heap n page
+filled heap n page sound some e =
+    filled_by heap n page sound some (first_least is_preferred (filter (has_room n) (filler_rows heap))) (first_least-all (IsRowWithRoom heap n) is_preferred (filter (has_room n) (filler_rows heap)) (rows_fit heap n)) e
 
-  -- a hugepage has few runs
-  pub few_allocs : (place : ℕ) (d : Row) → place < length rows → (get_or rows place d).allocs < 2097152
-  few_allocs place d h =
-      let is = kept.each place d h in
-      let a = count_by-le-length (reaches (place + 1)) (runs_from 0 lengths) in
-      let b = length-runs 0 lengths in
-      let total = kept.pages in
-      omega (arith, is.allocs, kept.limits.huge)
+-- In a hugepage of the filler that has room.
+module _ (old : Parts) (kept : IsKept old) (n page : ℕ) (some : 0 < n) (place : filler_place (rows_of old.filler) n ≡ Some page) where
+  abbrev heap : Heap
+  heap = heap_of old
 
-  -- the pages of an open spot
-  pub gap_of : (place start n : ℕ) → IsOpen (heap_of config rows lengths) place start n → IsGap used (256 * (place + 1) + start) n
-  gap_of place start n open' =
-      let inside : place < length rows = rw length-map at open'.within in
-      let far = pages_within place inside in
-      record {
-        some = open'.some;
-        within = omega (arith, open'.fits);
-        lies = record { from = omega arith; to = omega (arith, open'.fits, open'.some) };
-        unused = λ k l. sym (used_is used lengths kept.table (256 * (place + 1) + start + k)) ∙ open'.unused k l;
-      }
+  pub place_there : filler_place (filler_rows heap) n ≡ Some page
+  place_there = ap (λ rows. filler_place rows n) (sym (ap rows_of kept.shows.filler ∙ rows_of-filler_of heap)) ∙ place
 
-  pub within_of : (place start n : ℕ) → IsOpen (heap_of config rows lengths) place start n → IsWithin (place + 1) (256 * (place + 1) + start) n
-  within_of place start n open' = record { from = omega arith; to = omega (arith, open'.fits) }
+  pub is_filled : IsFilled heap n page
+  is_filled = filled heap n page kept.well.sound some place_there
 
-  module _ (place first n : ℕ) (inside : place < length rows) (w : IsWithin (place + 1) first n) where
-    came_kept : (L : ℕ) → L ≡ longest (flags_of (filled used first n true) (place + 1)) → IsGap used first n → (taken' unready' : List Bool) → taken' ≡ map is_taken (set rows place (joined (get_or rows place no_row) L)) → unready' ≡ map is_unready (set rows place (joined (get_or rows place no_row) L)) → IsKept config (set rows place (joined (get_or rows place no_row) L)) (filled used first n true) (set lengths first n) taken' unready'
-    came_kept L long gap taken' unready' ts us =
-        let row = get_or rows place no_row in
-        let far = pages_within place inside in
-        let same = kept.table.same_length in
-        let begins : first < length lengths = omega (arith, w.to, gap.some) in
-        let first_unused : get_or used first false ≡ false = (let e : first + 0 ≡ first = omega arith in rw e at (gap.unused 0 gap.some)) in
-        let none = none_begins used lengths first kept.table begins first_unused in
-        record {
-          limits = kept.limits;
-          hugepages = length-set rows place (joined row L) ∙ kept.hugepages;
-          pages = length-set lengths first n ∙ kept.pages;
-          table = came used lengths first n kept.table gap;
-          each = each_set (λ k r. IsRow (filled used first n true) (set lengths first n) (k + 1) r) rows place (joined row L) inside
-              (subst (λ m. IsRow (filled used first n true) (set lengths first n) (place + 1) (joined row m)) (sym long) (own_came used lengths (place + 1) first n w row (kept.each place no_row inside) begins none gap))
-              (λ k d other h. other_came used lengths (place + 1) first n w (k + 1) (λ e. other (omega arith)) (pages_within k h) (get_or rows k d) (kept.each k d h) begins none gap);
-          taken_is = ts;
-          unready_is = us;
-          cache = (let step : count_by is_ready (set rows place (joined row L)) + cond (is_ready row) 1 0 ≡ count_by is_ready rows + 0 = sum_by-set (λ r. cond (is_ready r) 1 0) rows place (joined row L) no_row inside in let limit = kept.cache in omega arith);
-        }
+  abbrev f : ℕ → Hugepage → Hugepage
+  f h x = cond (reaches h (run_at page n)) (more_backed (run_at page n) h x) x
 
-    left_kept : (L : ℕ) → L ≡ longest (flags_of (filled used first n false) (place + 1)) → IsHeld used lengths first n → (taken' unready' : List Bool) → taken' ≡ map is_taken (trimmed_rows config.cache (set rows place (left (get_or rows place no_row) L))) → unready' ≡ map is_unready (trimmed_rows config.cache (set rows place (left (get_or rows place no_row) L))) → IsKept config (trimmed_rows config.cache (set rows place (left (get_or rows place no_row) L))) (filled used first n false) (set lengths first 0) taken' unready'
-    left_kept L long held taken' unready' ts us =
-        let row = get_or rows place no_row in
-        let changed = set rows place (left row L) in
-        let P : ℕ → Row → Type 0 = λ h r. IsRow (filled used first n false) (set lengths first 0) h r in
-        let each' = each_set (λ k r. P (k + 1) r) rows place (left row L) inside
-        (subst (λ m. P (place + 1) (left row m)) (sym long) (own_left used lengths (place + 1) first n w row (kept.each place no_row inside) held))
-        (λ k d other h. other_left used lengths (place + 1) first n w (k + 1) (λ e. other (omega arith)) (pages_within k h) (get_or rows k d) (kept.each k d h) held) in
-        record {
-          limits = kept.limits;
-          hugepages = length-trimmed config.cache changed ∙ length-set rows place (left row L) ∙ kept.hugepages;
-          pages = length-set lengths first 0 ∙ kept.pages;
-          table = gone used lengths first n kept.table held;
-          each = λ k d h. trimmed-each P (λ p r ready is. unbacked_row (filled used first n false) (set lengths first 0) p r ready is) config.cache 1 changed each' k d (rw length-trimmed at h);
-          taken_is = ts;
-          unready_is = us;
-          cache = count-trimmed config.cache changed;
-        }
+  same_kind : (h : ℕ) (x : Hugepage) → (f h x).kind ≡ x.kind
+  same_kind h x = elim (reaches h (run_at page n)) as (λ b. (cond b (more_backed (run_at page n) h x) x).kind ≡ x.kind) [ true ↦ refl | false ↦ refl ]
 
--- The place of a live run.
-pub record IsLive (huge : ℕ) (used : List Bool) (lengths : List ℕ) (run : Run) : Type 0 where
-  pub held : IsHeld used lengths run.first.0 run.pages
-  pub within : IsWithin (run.first.0 / 256) run.first.0 run.pages
-  pub from : 0 < run.first.0 / 256
-  pub to : run.first.0 / 256 ≤ huge
+  routed : (z : Run) → Contains (in_filler heap n page).heap.runs z → IsRouted (in_filler heap n page).heap z
+  routed =
+      let arena = kept.well.sound.runs.arena in
+      let h : ℕ = page / 256 in
+      routed_with heap (in_filler heap n page).heap.runs heap.regions f heap.counts (run_at page n) kept.well.sound kept.well.routed
+      (λ r known. known) (λ h is. inr (same_kind h (hugepage heap h)))
+      (inl (record {
+        filler = ap (λ (x : Hugepage). x.kind) (here heap (in_filler heap n page).heap.runs heap.regions f heap.counts kept.well.sound.runs h (record { from = is_filled.fitting.from; to = omega (arith, is_filled.fitting.to) })) ∙ same_kind h (hugepage heap h) ∙ is_Filler (hugepage heap h).kind is_filled.fitting.filler;
+        ends = is_filled.fits;
+      }))
 
-pub all_live : (config : HeapConfig) (rows : List Row) (used : List Bool) (lengths : List ℕ) (taken unready : List Bool) → IsKept config rows used lengths taken unready → All (IsLive config.huge used lengths) (runs_from 0 lengths)
-all_live config rows used lengths taken unready kept =
-    runs-all (IsLive config.huge used lengths) 0 lengths
-    (λ page l some.
-    let lie = kept.table.lie page some in
-    let total = kept.pages in
-    let same = kept.table.same_length in
-    let e : page ≡ 0 + page = omega arith in
-    subst (λ p. IsLive config.huge used lengths (run_at p (get_or lengths page 0))) e
-    (record {
-      held = record { some = some; inside = l; begins = refl; within = omega (arith, lie.to) };
-      within = record { from = omega arith; to = omega (arith, lie.to) };
-      from = omega (arith, lie.from);
-      to = omega arith;
-    }))
+  pub filled_keeps : (filler : List (Option FillerPage)) (lengths : List ℕ) (used : ℕ) → filler ≡ after_take old.filler page n → lengths ≡ set old.lengths page n → used ≡ old.used + n → Results (record { config = old.config; filler = filler; cache = old.cache; regions = old.regions; lengths = lengths; used = used }) (in_filler heap n page).heap
+  filled_keeps filler lengths used e f' g =
+      let sound = kept.well.sound in
+      new_results old kept n (in_filler heap n page) some is_filled.given routed filler old.cache old.regions lengths used
+      (e ∙ ap (λ pages. after_take pages page n) kept.shows.filler ∙ taken_filler heap n page sound some is_filled.fitting is_filled.fits)
+      (kept.shows.cache ∙ taken_cache heap n page sound some is_filled.fitting is_filled.fits)
+      (kept.shows.regions ∙ taken_regions heap n page sound some is_filled.fitting is_filled.fits)
+      f' g
 
-pub live_of : (config : HeapConfig) (rows : List Row) (used : List Bool) (lengths : List ℕ) (taken unready : List Bool) (run : Run) → IsKept config rows used lengths taken unready → Contains (runs_from 0 lengths) run → IsLive config.huge used lengths run
-live_of config rows used lengths taken unready run kept c = All-contains (IsLive config.huge used lengths) (runs_from 0 lengths) run (all_live config rows used lengths taken unready kept) c
+-- the choice by the parts is that of the heap
+pub filler_choice : (old : Parts) → IsKept old → (n : ℕ) → filler_place (rows_of old.filler) n ≡ filler_place (filler_rows (heap_of old)) n
+filler_choice old kept n = ap (λ rows. filler_place rows n) (ap rows_of kept.shows.filler ∙ rows_of-filler_of (heap_of old))
 
-pub came_is : (config : HeapConfig) (rows : List Row) (used : List Bool) (lengths : List ℕ) (taken unready : List Bool) (place start n : ℕ) (rows' : List Row) (used' : List Bool) (lengths' : List ℕ) (taken' unready' : List Bool) → IsKept config rows used lengths taken unready → IsOpen (heap_of config rows lengths) place start n → IsCame rows used lengths rows' used' lengths' place (256 * (place + 1) + start) n → taken' ≡ map is_taken rows' → unready' ≡ map is_unready rows' → IsKept config rows' used' lengths' taken' unready'
-came_is config rows used lengths taken unready place start n rows' used' lengths' taken' unready' kept open' c ts us =
-    let first = 256 * (place + 1) + start in
-    let inside : place < length rows = rw length-map at open'.within in
-    let L = longest (flags_of used' (place + 1)) in
-    let long : L ≡ longest (flags_of (filled used first n true) (place + 1)) = ap (λ u. longest (flags_of u (place + 1))) c.used_is in
-    let k = came_kept config rows used lengths taken unready kept place first n inside (within_of config rows used lengths taken unready kept place start n open') L long (gap_of config rows used lengths taken unready kept place start n open') taken' unready' (ts ∙ ap (map is_taken) c.rows_is) (us ∙ ap (map is_unready) c.rows_is) in
-    subst (λ r. IsKept config r used' lengths' taken' unready') (sym c.rows_is)
-    (subst (λ l. IsKept config (set rows place (joined (get_or rows place no_row) L)) used' l taken' unready') (sym c.lengths_is)
-    (subst (λ u. IsKept config (set rows place (joined (get_or rows place no_row) L)) u (set lengths first n) taken' unready') (sym c.used_is) k))
+-- no hugepage of the filler has room
+pub no_room : (old : Parts) → IsKept old → (n : ℕ) → list_all (λ row. not (has_room n row)) (rows_of old.filler) ≡ list_all (λ row. not (has_room n row)) (filler_rows (heap_of old))
+no_room old kept n = ap (list_all (λ row. not (has_room n row))) (ap rows_of kept.shows.filler ∙ rows_of-filler_of (heap_of old))
 
-pub left_is : (config : HeapConfig) (rows : List Row) (used : List Bool) (lengths : List ℕ) (taken unready : List Bool) (run : Run) (rows' : List Row) (used' : List Bool) (lengths' : List ℕ) (taken' unready' : List Bool) → IsKept config rows used lengths taken unready → IsLive config.huge used lengths run → IsGone config.cache rows used lengths rows' used' lengths' (run.first.0 / 256 - 1) run.first.0 run.pages → taken' ≡ map is_taken rows' → unready' ≡ map is_unready rows' → IsKept config rows' used' lengths' taken' unready'
-left_is config rows used lengths taken unready run rows' used' lengths' taken' unready' kept live c ts us =
-    let first = run.first.0 in
-    let n = run.pages in
-    let place = first / 256 - 1 in
-    let count = kept.hugepages in
-    let inside : place < length rows = omega (arith, live.from, live.to) in
-    let L = longest (flags_of used' (place + 1)) in
-    let long : L ≡ longest (flags_of (filled used first n false) (place + 1)) = ap (λ u. longest (flags_of u (place + 1))) c.used_is in
-    let same : first / 256 ≡ place + 1 = omega (arith, live.from) in
-    let w : IsWithin (place + 1) first n = subst (λ h. IsWithin h first n) same live.within in
-    let k = left_kept config rows used lengths taken unready kept place first n inside w L long live.held taken' unready' (ts ∙ ap (map is_taken) c.rows_is) (us ∙ ap (map is_unready) c.rows_is) in
-    subst (λ r. IsKept config r used' lengths' taken' unready') (sym c.rows_is)
-    (subst (λ l. IsKept config (trimmed_rows config.cache (set rows place (left (get_or rows place no_row) L))) used' l taken' unready') (sym c.lengths_is)
-    (subst (λ u. IsKept config (trimmed_rows config.cache (set rows place (left (get_or rows place no_row) L))) u (set lengths first 0) taken' unready') (sym c.used_is) k))
+-- the choice of free hugepages by the parts
+pub choice_is : (old : Parts) → IsKept old → (many : ℕ) → cache.run_choice old.cache.taken old.cache.unready many ≡ run_choice (heap_of old) many
+choice_is old kept many = ap (λ (c : Cache). cache.run_choice c.taken c.unready many) kept.shows.cache
+
+-- In a free hugepage.
+module _ (old : Parts) (kept : IsKept old) (n h : ℕ) (some : 0 < n) (small : n < 256) (choice : cache.run_choice old.cache.taken old.cache.unready 1 ≡ Some h) where
+  abbrev heap' : Heap
+  heap' = heap_of old
+
+  pub fresh_free : AreFree heap' h 1
+  fresh_free = run_choice_free heap' 1 h (omega arith) (sym (choice_is old kept 1) ∙ choice)
+
+  pub fresh_given : IsGiven heap' n (in_fresh heap' n h)
+  fresh_given = given_fresh heap' n h 1 kept.well.sound some (omega arith) fresh_free refl
+
+  pub fresh_missing : page_at old.filler h ≡ None
+  fresh_missing =
+      let arena = kept.well.sound.runs.arena in
+      ap (λ pages. page_at pages h) kept.shows.filler
+      ∙ filler_at heap' h fresh_free.from (omega (arith, fresh_free.to))
+      ∙ filler_none heap'.runs h (hugepage heap' h) (free_no_filler (hugepage heap' h) (fresh_free.free h (omega arith) (omega arith)))
+
+  pub fresh_inside : h ≤ length old.filler
+  fresh_inside =
+      let size = ap length kept.shows.filler ∙ length-filler_of heap' in
+      omega (arith, fresh_free.to, size)
+
+  pub fresh_first : list_all (λ row. not (has_room n row)) (filler_rows heap') ≡ true → filler_place (rows_of (with_page old.filler h (Some fresh))) n ≡ Some (256 * h)
+  fresh_first none = fresh_place old.filler h n fresh_free.from fresh_inside some small (no_room old kept n ∙ none)
+
+  abbrev g : ℕ → Hugepage → Hugepage
+  g k x = cond (reaches k (run_at (256 * h) n)) (filler_page false) x
+
+  fresh_routed : (z : Run) → Contains (in_fresh heap' n h).heap.runs z → IsRouted (in_fresh heap' n h).heap z
+  fresh_routed =
+      let arena = kept.well.sound.runs.arena in
+      let sound = kept.well.sound in
+      let all : reaches h (run_at (256 * h) n) ≡ true = reaches_from h (run_at (256 * h) n) (omega arith) (omega arith) in
+      let huge : 256 * h / 256 ≡ h = omega arith in
+      routed_with heap' (in_fresh heap' n h).heap.runs heap'.regions g heap'.counts (run_at (256 * h) n) sound kept.well.routed
+      (λ r known. known)
+      (λ k is. elim (cases_Bool (reaches k (run_at (256 * h) n))) [
+        | inl t ↦ (let near = reached_free heap' n h 1 sound some (omega arith) fresh_free k t in inl (fresh_free.free k near.0 near.1))
+        | inr no' ↦ inr (ap (λ b. (cond b (filler_page false) (hugepage heap' k)).kind) no')
+      ])
+      (inl (record {
+        filler = ap (λ k. (hugepage (in_fresh heap' n h).heap k).kind) huge ∙ ap (λ (x : Hugepage). x.kind) (here heap' (in_fresh heap' n h).heap.runs heap'.regions g heap'.counts sound.runs h (record { from = fresh_free.from; to = omega (arith, fresh_free.to) })) ∙ ap (λ b. (cond b (filler_page false) (hugepage heap' h)).kind) all;
+        ends = omega arith;
+      }))
+
+  pub fresh_keeps : (filler : List (Option FillerPage)) (cache : Cache) (lengths : List ℕ) (used : ℕ) → filler ≡ after_take (with_page old.filler h (Some fresh)) (256 * h) n → cache ≡ without_run old.cache h 1 → lengths ≡ set old.lengths (256 * h) n → used ≡ old.used + n → Results (record { config = old.config; filler = filler; cache = cache; regions = old.regions; lengths = lengths; used = used }) (in_fresh heap' n h).heap
+  fresh_keeps filler cache lengths used e f' g' i =
+      let sound = kept.well.sound in
+      new_results old kept n (in_fresh heap' n h) some fresh_given fresh_routed filler cache old.regions lengths used
+      (e ∙ ap (λ pages. after_take (with_page pages h (Some fresh)) (256 * h) n) kept.shows.filler ∙ fresh_filler heap' n h sound some small fresh_free)
+      (f' ∙ ap (λ (c : Cache). without_run c h 1) kept.shows.cache ∙ fresh_cache heap' n h sound some small fresh_free)
+      (kept.shows.regions ∙ fresh_regions heap' n h sound some small fresh_free)
+      g' i

@@ -1,5 +1,2 @@
-pub mod Heap
-pub mod Choice
-pub mod Sound
-pub mod Table
-pub mod Spots
+pub mod Parts
+pub mod Moves

@@ -1,43 +1,56 @@
-//! The page heap: a plain list of hugepages, with the runs that live in them.
-ghost use Rattle.std.specs.Prelude.{◌≡◌, ℕ, ◌*◌, ◌+◌, ◌<◌, ◌≤◌, ◌↔◌, true, false, Some, None, IfSome, IfNone, IfOk, IsNone, Contains, sum_by};
+//! The page heap: where each run goes, and what it leaves.
+ghost use Rattle.std.specs.Prelude.{◌≡◌, ◌≢◌, ℕ, ◌*◌, ◌+◌, ◌<◌, ◌≤◌, ◌↔◌, true, false, not, nat_le, if◌then◌else◌, Some, None, IfSome, IfNone, IfOk, IsNone, Contains, sum_by, option_map};
+ghost use Rattle.std.specs.List.{list_all};
 ghost use Rattle.tc_units.specs.Units.{huge_pages};
-ghost use Rattle.page_heap.specs.Heap.{opened, holds, is_used, is_backed, used_pages, backed_pages, row_of, with_run, without_run};
-ghost use Rattle.page_heap.specs.Choice.{new_below_hugepage, NoneFits, freed};
-ghost use Rattle.page_heap.specs.Sound.{AreLimits, IsSound, IsPageOf, IsHugepageOf};
-ghost use Rattle.page_heap.specs.Spots.{IsChosen, IsOpen, taken_at};
+ghost use Rattle.tc_units.specs.declared.spans.Run.{Run};
+ghost use Rattle.heap_rules.specs.Heap.{opened};
+ghost use Rattle.heap_rules.specs.Choice.{filler_rows, run_choice, region_rows};
+ghost use Rattle.heap_rules.specs.FillerRows.{has_room, filler_place};
+ghost use Rattle.heap_rules.specs.RegionRows.{region_place};
+ghost use Rattle.heap_rules.specs.RegionRows as regions;
+ghost use Rattle.heap_rules.specs.New.{in_filler, in_fresh, new_small, new_whole, in_region, in_new_region, slack, by_regions, new_unsettled, new, none_fits};
+ghost use Rattle.heap_rules.specs.Free.{given_back, freed};
+ghost use Rattle.heap_rules.specs.Heap.{is_backed, used_pages, backed_pages, row_of};
+ghost use Rattle.heap_rules.specs.Release.{release, free_given, idle_given, spare_given};
+ghost use Rattle.heap_rules.specs.Laws.{IsGiven, IsRid, IsReleased};
+ghost use Rattle.page_heap.specs.Parts.{IsInOneHugepage, IsInHugepages, IsInRegion};
+ghost use Rattle.heap_rules.specs.Settle.{settled};
+ghost use Rattle.heap_rules.specs.Sound.{AreLimits, IsSound};
+ghost use Rattle.page_heap.specs.Moves.{answered};
 
-use crate::config::HeapConfig;
-use crate::flags::{self, PAGES};
-use crate::rows::{self, Row};
-use crate::spots::{self, Spot};
+use crate::parts::{close_region, donate_tail, give_pages, open_region};
+use crate::shown::{free_row, run_row};
+use crate::table::{note_run, strike_run};
+use heap_rules::HeapConfig;
+use huge_cache::HugeCache;
+use huge_filler::HugeFiller;
+use huge_region::HugeRegions;
 use std::alloc::{AllocError, Global};
 use std::marker::Model;
-use tc_units::{HUGE_PAGES, Huge, Page, RowKind, RowView, Run};
+use tc_units::{HUGE_PAGES, Huge, Page, RowView, Run, first_page, huge_of};
 
 /// A page heap: it places runs of pages and frees them.
 #[derive(Drop)]
 pub struct PageHeap {
     config: HeapConfig,
-    /// Hugepage `h` at place `h - 1`.
-    rows: Vec<Row>,
-    /// By page number: whether a live run holds it.
-    used: Vec<bool>,
+    filler: HugeFiller,
+    cache: HugeCache,
+    regions: HugeRegions,
     /// By page number: the pages of the live run that begins there, or 0.
     lengths: Vec<u32>,
-    /// By hugepage, as `rows`: whether it isn't free, and whether it isn't free and backed.
-    taken: Vec<bool>,
-    unready: Vec<bool>,
+    /// Pages of all live runs.
+    used: u64,
 }
 
 impl Model for PageHeap {
-    ghost use Rattle.page_heap.specs.Heap.{Heap};
-    ghost use Rattle.page_heap.specs.Table.{heap_of, IsKept};
+    ghost use Rattle.heap_rules.specs.Heap.{Heap};
+    ghost use Rattle.page_heap.specs.Parts.{heap_of, IsKept};
 
     ghost Value = { Heap };
 
-    ghost view = { λ p. heap_of p.config p.rows.items p.lengths.items };
+    ghost view = { λ p. heap_of (record { config = p.config; filler = p.filler; cache = p.cache; regions = p.regions; lengths = p.lengths.items; used = p.used }) };
 
-    ghost invariant = { λ p. IsKept p.config p.rows.items p.used.items p.lengths.items p.taken.items p.unready.items };
+    ghost invariant = { λ p. IsKept (record { config = p.config; filler = p.filler; cache = p.cache; regions = p.regions; lengths = p.lengths.items; used = p.used }) };
 }
 
 impl PageHeap {
@@ -47,219 +60,333 @@ impl PageHeap {
         ensures opened { IfOk result (λ heap. heap ≡ opened config.now) }
         ensures sound { IfOk result IsSound }
     {
-        let huge = config.huge as usize;
-        let pages = PAGES * (huge + 1);
-        let used = vec![in alloc; false; pages]?;
-        let row = Row {
-            kind: RowKind::Free,
-            backed: false,
-            allocs: 0,
-            longest: flags::longest_of(&used, 0),
-        };
+        let pages = HUGE_PAGES as usize * (config.huge as usize + 1);
         Ok(PageHeap {
             config: *config,
-            rows: vec![in alloc; row; huge]?,
-            used,
+            filler: HugeFiller::open(alloc, config.huge)?,
+            cache: HugeCache::open(alloc, config.huge, config.cache, config.window)?,
+            regions: HugeRegions::open(alloc, config.huge, config.region)?,
             lengths: vec![in alloc; 0; pages]?,
-            taken: vec![in alloc; false; huge]?,
-            unready: vec![in alloc; true; huge]?,
+            used: 0,
         })
     }
 
-    /// Places a run of `n` pages. `None` exactly where no hugepage of the filler has a free range of
-    /// `n` pages and no hugepage is free, and then nothing changes.
-    pub fn new_run(&mut self, n: u32) -> Option<Run>
-        requires some { 0 < n }
-        requires below { n < huge_pages }
-
-        // The run and what the heap is then are those of the stated choice.
-        ensures chosen { IfSome result (λ run. new_below_hugepage self.old n ≡ Some (record { run = run; heap = self.new })) }
-        ensures none { IfNone result (new_below_hugepage self.old n ≡ None) }
-        ensures none_fits { IsNone result ↔ NoneFits self.old n }
-        ensures same { IfNone result (self.new ≡ self.old) }
-
-        // What callers use of that choice.
-        ensures pages { IfSome result (λ run. run.pages ≡ n) }
-        ensures runs { IfSome result (λ run. self.new.runs ≡ with_run run self.old.runs) }
-        ensures live { IfSome result (Contains self.new.runs) }
-        ensures unused { IfSome result (λ run. (page : ℕ) → holds page run ≡ true → is_used self.old.runs page ≡ false) }
-        ensures config { self.new.config ≡ self.old.config }
+    /// Notes how many hugepages aren't free, and unbacks the free ones that are above the limit.
+    fn settle(&mut self)
+        ensures settled { self.new ≡ settled self.old }
         ensures sound { IsSound self.new }
     {
-        match self.spot(n) {
-            Some(spot) => Some(self.occupy(spot, n)),
-            None => None,
+        let in_use = self.cache.in_use();
+        self.cache.note_use(in_use);
+        self.cache.trim();
+    }
+
+    /// Places a run below a hugepage's pages in a hugepage of the filler that has room.
+    fn new_in_filler(&mut self, n: u32) -> Option<Run>
+        requires some { 0 < n }
+        requires below { n < huge_pages }
+        ensures new { option_map (in_filler self.old n) (filler_place (filler_rows self.old) n)
+            ≡ answered self.new result }
+        ensures same { IfNone result (self.new ≡ self.old) }
+        ensures none { IfNone result (list_all (λ row. not (has_room n row)) (filler_rows self.old) ≡ true) }
+    {
+        let page = self.filler.take(n)?;
+        Some(note_run(&mut self.lengths, &mut self.used, page, n))
+    }
+
+    /// Places a run below a hugepage's pages in a free hugepage, which is the filler's then.
+    fn new_in_fresh(&mut self, n: u32) -> Option<Run>
+        requires some { 0 < n }
+        requires below { n < huge_pages }
+        requires none { list_all (λ row. not (has_room n row)) (filler_rows self.old) ≡ true }
+        ensures new { option_map (in_fresh self.old n) (run_choice self.old 1) ≡ answered self.new result }
+        ensures same { IfNone result (self.new ≡ self.old) }
+    {
+        let huge = self.cache.take_run(1)?;
+        self.filler.add(huge);
+        let page = self.filler.take(n).unwrap();
+        Some(note_run(&mut self.lengths, &mut self.used, page, n))
+    }
+
+    /// Places a run below a hugepage's pages.
+    fn new_small(&mut self, n: u32) -> Option<Run>
+        requires some { 0 < n }
+        requires below { n < huge_pages }
+        ensures new { new_small self.old n ≡ answered self.new result }
+        ensures same { IfNone result (self.new ≡ self.old) }
+    {
+        match self.new_in_filler(n) {
+            Some(run) => Some(run),
+            None => self.new_in_fresh(n),
         }
     }
 
-    /// Frees a live run. A hugepage whose last run leaves becomes free, and while more free
-    /// hugepages than the cache's limit are backed, the one of greatest number is unbacked.
-    pub fn free_run(&mut self, run: Run)
-        requires { Contains self.old.runs run }
-        ensures freed { self.new ≡ freed self.old run }
-        ensures runs { self.new.runs ≡ without_run run self.old.runs }
+    /// Places a run in free hugepages. What it leaves of the last one is donated to the filler.
+    fn new_whole(&mut self, n: u32) -> Option<Run>
+        requires { huge_pages ≤ n }
+        ensures new { new_whole self.old n ≡ answered self.new result }
+        ensures same { IfNone result (self.new ≡ self.old) }
+    {
+        let many = n.div_ceil(HUGE_PAGES);
+        let first = self.cache.take_run(many)?;
+        let last = Huge((u32::from(first.0) + many - 1) as u16);
+        donate_tail(&mut self.filler, last, n % HUGE_PAGES);
+        let page = first_page(first);
+        Some(note_run(&mut self.lengths, &mut self.used, page, n))
+    }
+
+    /// Places a run in a region that has room.
+    fn new_in_region(&mut self, n: u32) -> Option<Run>
+        requires { 0 < n }
+        ensures new { option_map (in_region self.old n) (region_place (region_rows self.old) n)
+            ≡ answered self.new result }
+        ensures same { IfNone result (self.new ≡ self.old) }
+        ensures none { IfNone result (list_all (λ row. not (regions.has_room n row)) (region_rows self.old) ≡ true) }
+    {
+        let page = self.regions.take(n)?;
+        Some(note_run(&mut self.lengths, &mut self.used, page, n))
+    }
+
+    /// Places a run in a new region, where the slack is large enough.
+    fn new_in_new_region(&mut self, n: u32) -> Option<Run>
+        requires some { 0 < n }
+        requires fits { n ≤ huge_pages * self.old.config.region }
+        requires none { list_all (λ row. not (regions.has_room n row)) (region_rows self.old) ≡ true }
+        ensures new { (if nat_le self.old.config.slack (slack self.old n)
+            then option_map (in_new_region self.old n) (run_choice self.old self.old.config.region)
+            else None) ≡ answered self.new result }
+        ensures same { IfNone result (self.new ≡ self.old) }
+    {
+        let left = (HUGE_PAGES - n % HUGE_PAGES) % HUGE_PAGES;
+        if self.filler.donated_free() + u64::from(left) < self.config.slack {
+            return None;
+        }
+        let width = self.config.region;
+        let first = self.cache.find_run(width)?;
+        open_region(&mut self.regions, &self.cache, first, width);
+        let _first = self.cache.take_run(width);
+        let page = self.regions.take(n).unwrap();
+        Some(note_run(&mut self.lengths, &mut self.used, page, n))
+    }
+
+    /// Places a run of more than a hugepage that suits a region.
+    fn new_by_regions(&mut self, n: u32) -> Option<Run>
+        requires large { huge_pages ≤ n }
+        requires fits { n ≤ huge_pages * self.old.config.region }
+        ensures new { by_regions self.old n (region_place (region_rows self.old) n)
+            ≡ answered self.new result }
+        ensures same { IfNone result (self.new ≡ self.old) }
+    {
+        if let Some(run) = self.new_in_region(n) {
+            return Some(run);
+        }
+        if let Some(run) = self.new_in_new_region(n) {
+            return Some(run);
+        }
+        self.new_whole(n)
+    }
+
+    /// Places a run by its route. The heap doesn't settle yet.
+    fn place(&mut self, n: u32) -> Option<Run>
+        requires { 0 < n }
+        ensures new { new_unsettled self.old n ≡ answered self.new result }
+        ensures same { IfNone result (self.new ≡ self.old) }
+        ensures sound { IsSound self.old }
+        ensures wide { 2 ≤ self.old.config.region }
+    {
+        let most = HUGE_PAGES * self.config.region;
+        if n < HUGE_PAGES {
+            self.new_small(n)
+        } else if n % HUGE_PAGES != 0 && n <= most {
+            self.new_by_regions(n)
+        } else {
+            self.new_whole(n)
+        }
+    }
+
+    /// Places a run of `n` pages. `None` exactly where no route finds a place, and then nothing changes.
+    pub fn new_run(&mut self, n: u32) -> Option<Run>
+        requires { 0 < n }
+        ensures new { new self.old n
+            ≡ option_map (λ run. record { run = run; heap = self.new }) result }
+        ensures none_fits { IsNone result ↔ (none_fits self.old n ≡ true) }
+        ensures same { IfNone result (self.new ≡ self.old) }
+        ensures given { IfSome result (λ run. IsGiven self.old n (record { run = run; heap = self.new })) }
+        ensures live { IfSome result (λ run. Contains self.new.runs run) }
+        ensures stay { (run : Run) → Contains self.old.runs run → Contains self.new.runs run }
         ensures config { self.new.config ≡ self.old.config }
         ensures sound { IsSound self.new }
     {
-        let first = run.first.0 as usize;
-        let huge = first / PAGES;
-        flags::fill_pages(&mut self.used, first, run.pages as usize, false);
-        self.lengths[first] = 0;
-        let longest = flags::longest_of(&self.used, huge);
-        rows::leave(
-            &mut self.rows,
-            &mut self.taken,
-            &mut self.unready,
-            huge - 1,
-            longest,
-            self.config.cache,
-        );
+        let run = self.place(n)?;
+        self.settle();
+        Some(run)
+    }
+
+    /// Frees a run in a hugepage of the filler, which is free when its last run has left.
+    fn free_in_filler(&mut self, run: Run)
+        requires live { Contains self.old.runs run }
+        requires route { IsInOneHugepage self.old run }
+        ensures { self.new ≡ given_back self.old run }
+    {
+        give_pages(&mut self.filler, &mut self.cache, run);
+        strike_run(&mut self.lengths, &mut self.used, run);
+    }
+
+    /// Frees a run of whole hugepages, which are free and backed then, and what it has of one more.
+    fn free_whole(&mut self, run: Run)
+        requires live { Contains self.old.runs run }
+        requires route { IsInHugepages self.old run }
+        ensures { self.new ≡ given_back self.old run }
+    {
+        let part = run.pages % HUGE_PAGES;
+        self.cache
+            .give_run(huge_of(run.first), run.pages / HUGE_PAGES);
+        strike_run(&mut self.lengths, &mut self.used, run);
+        if part != 0 {
+            let tail = Run {
+                first: Page(run.first.0 + (run.pages - part)),
+                pages: part,
+            };
+            give_pages(&mut self.filler, &mut self.cache, tail);
+        }
+    }
+
+    /// Frees a run in a region, which ends when it has no used page left.
+    fn free_in_region(&mut self, run: Run)
+        requires live { Contains self.old.runs run }
+        requires route { IsInRegion self.old run }
+        ensures { self.new ≡ given_back self.old run }
+    {
+        let width = self.config.region;
+        strike_run(&mut self.lengths, &mut self.used, run);
+        if let Some(first) = self.regions.give(run) {
+            close_region(&mut self.regions, &mut self.cache, first, width);
+        }
+    }
+
+    /// Gives a run back by the route that placed it. The heap doesn't settle yet.
+    fn give_back(&mut self, run: Run)
+        requires { Contains self.old.runs run }
+        ensures given { self.new ≡ given_back self.old run }
+        ensures sound { IsSound self.old }
+    {
+        // The run is inside the arena.
+        let _ = &self.lengths;
+        let huge = huge_of(run.first);
+        if self.filler.holds(huge) {
+            self.free_in_filler(run);
+        } else if self.regions.row(huge).is_some() {
+            self.free_in_region(run);
+        } else {
+            self.free_whole(run);
+        }
+    }
+
+    /// Frees a live run, and settles.
+    pub fn free_run(&mut self, run: Run)
+        requires { Contains self.old.runs run }
+        ensures freed { self.new ≡ freed self.old run }
+        ensures rid { IsRid self.old run self.new }
+        ensures stay { (other : Run) → Contains self.old.runs other → other.first.0 ≢ run.first.0
+            → Contains self.new.runs other }
+    {
+        self.give_back(run);
+        self.settle();
+    }
+
+    /// Unbacks free hugepages while fewer than `n` pages are unbacked. Answers how many are.
+    fn release_free(&mut self, n: u64) -> u64
+        ensures given { free_given self.old n ≡ record { heap = self.new; pages = result } }
+        ensures few { result ≤ 1048576 }
+        ensures sound { IsSound self.old }
+    {
+        self.cache.release(n)
+    }
+
+    /// Unbacks hugepages of regions that have no used page.
+    fn release_idle(&mut self, n: u64) -> u64
+        ensures given { idle_given self.old n ≡ record { heap = self.new; pages = result } }
+        ensures few { result ≤ 1048576 }
+    {
+        self.regions.release(n)
+    }
+
+    /// Unbacks the unused pages of the filler's hugepages.
+    fn release_spare(&mut self, n: u64) -> u64
+        ensures given { spare_given self.old n ≡ record { heap = self.new; pages = result } }
+        ensures few { result ≤ 1048576 }
+    {
+        self.filler.release(n)
+    }
+
+    /// Unbacks pages that no live run has while fewer than `n` are unbacked. Answers how many are.
+    pub fn release(&mut self, n: u64) -> u64
+        ensures released { release self.old n ≡ record { heap = self.new; pages = result } }
+        ensures kept { IsReleased self.old (record { heap = self.new; pages = result }) }
+    {
+        let free = self.release_free(n);
+        let idle = self.release_idle(n.saturating_sub(free));
+        let spare = self.release_spare(n.saturating_sub(free + idle));
+        free + idle + spare
     }
 
     /// Whether a page is backed.
     pub fn is_backed(&self, page: Page) -> bool
-        requires { IsPageOf self.now page.0 }
+        requires from { huge_pages ≤ page.0 }
+        requires to { page.0 < huge_pages * (self.now.config.huge + 1) }
         ensures { result ≡ is_backed self.now page.0 }
     {
-        self.rows[page.0 as usize / PAGES - 1].backed
+        // The page is inside the arena.
+        let _ = &self.lengths;
+        let huge = huge_of(page);
+        if self.filler.holds(huge) {
+            self.filler.is_backed(page)
+        } else if self.cache.holds(huge) {
+            self.cache.is_backed(huge)
+        } else if self.regions.row(huge).is_some() {
+            self.regions.is_backed(huge)
+        } else {
+            true
+        }
     }
 
-    /// How many pages live runs hold.
+    /// Pages of all live runs.
     pub fn used_pages(&self) -> u64
         ensures value { result ≡ used_pages self.now }
         ensures runs { result ≡ sum_by (λ run. run.pages) self.now.runs }
     {
-        flags::count_used(&self.used) as u64
+        self.used
     }
 
-    /// How many pages are backed. Each used page is.
+    /// Pages that are backed.
     pub fn backed_pages(&self) -> u64
         ensures value { result ≡ backed_pages self.now }
         ensures covers { used_pages self.now ≤ result }
         ensures most { result ≤ huge_pages * self.now.config.huge }
     {
-        (PAGES * rows::count_backed(&self.rows)) as u64
+        let mut pages = 0;
+        for place in 0..self.config.huge {
+            pages += u64::from(self.row(Huge(place as u16 + 1)).backed);
+        }
+        pages
     }
 
     /// The measures of a hugepage.
     pub fn row(&self, huge: Huge) -> RowView
-        requires { IsHugepageOf self.now huge.0 }
+        requires from { 0 < huge.0 }
+        requires to { huge.0 ≤ self.now.config.huge }
         ensures { result ≡ row_of self.now huge.0 }
     {
-        let h = usize::from(huge.0);
-        let row = self.rows[h - 1];
-        let used = flags::flags_of(&self.used, h);
-        RowView {
-            kind: row.kind,
-            used: flags::count_used(used) as u32,
-            allocs: row.allocs,
-            backed: if row.backed { HUGE_PAGES } else { 0 },
-            longest: row.longest as u32,
-            donated: false,
+        if let Some(row) = self.filler.row(huge) {
+            return row;
         }
-    }
-
-    /// Where a run of `n` pages goes. `None` exactly where it fits nowhere.
-    fn spot(&self, n: u32) -> Option<Spot>
-        requires some { 0 < n }
-        requires below { n < huge_pages }
-        ensures chosen { IfSome result (λ spot. IsChosen self.now spot.place spot.start n) }
-        ensures none { IfNone result (new_below_hugepage self.now n ≡ None) }
-        ensures none_fits { IsNone result ↔ NoneFits self.now n }
-        ensures sound { IsSound self.now }
-    {
-        spots::find(
-            &self.rows,
-            &self.used,
-            &self.taken,
-            &self.unready,
-            n as usize,
-        )
-    }
-
-    /// Places a run of `n` pages at an unused spot.
-    fn occupy(&mut self, spot: Spot, n: u32) -> Run
-        requires { IsOpen self.old spot.place spot.start n }
-        ensures placed { taken_at self.old spot.place spot.start n ≡ record { run = result; heap = self.new } }
-        ensures sound { IsSound self.new }
-    {
-        let huge = spot.place + 1;
-        let first = PAGES * huge + spot.start;
-        flags::fill_pages(&mut self.used, first, n as usize, true);
-        self.lengths[first] = n;
-        let longest = flags::longest_of(&self.used, huge);
-        rows::join(
-            &mut self.rows,
-            &mut self.taken,
-            &mut self.unready,
-            spot.place,
-            longest,
-        );
-        Run {
-            first: Page(first as u32),
-            pages: n,
+        if let Some(row) = self.regions.row(huge) {
+            return row;
         }
-    }
-}
-
-#[cfg(test)]
-mod tests {
-    use super::*;
-    use std::process::Abort;
-    use std::test::Fail;
-
-    fn heap_of(alloc: Global, huge: u32) -> Result<PageHeap, AllocError>
-        requires from { 0 < huge }
-        requires to { huge ≤ 2 }
-        ensures { IfOk result (λ heap. heap ≡ opened (record { huge = huge; cache = 8; region = 512; slack = 8192 })) }
-    {
-        let config = HeapConfig {
-            huge,
-            cache: 8,
-            region: 512,
-            slack: 8192,
-        };
-        PageHeap::open(alloc, &config)
-    }
-
-    /// Places runs one after another. Each pair has a run's pages and its first page, or 0 for no place.
-    fn place(rt: &impl Abort, alloc: Global, huge: u32, runs: &[(u32, u32)]) -> Result<(), Fail>
-        requires from { 0 < huge }
-        requires to { huge ≤ 2 }
-    {
-        let mut heap = heap_of(alloc, huge)?;
-        for (pages, first) in runs {
-            let n = *pages;
-            assert!(rt; 0 < n && n < 256);
-            let found = heap.new_run(n).map_or(0, |run| run.first.0);
-            assert_eq!(rt; found, *first, "{n} pages");
+        if self.cache.holds(huge) {
+            free_row(self.cache.is_backed(huge))
+        } else {
+            run_row()
         }
-        Ok(())
-    }
-
-    #[test]
-    fn places_runs(rt: HostRuntime) -> Result<(), Fail> {
-        place(&rt, rt.alloc(), 2, &[(253, 256), (254, 512), (2, 766)])?;
-        place(
-            &rt,
-            rt.alloc(),
-            2,
-            &[(254, 256), (127, 512), (127, 639), (2, 766)],
-        )?;
-        place(&rt, rt.alloc(), 1, &[(254, 256), (3, 0)])
-    }
-
-    #[test]
-    fn frees_the_last_run(rt: HostRuntime) -> Result<(), Fail> {
-        let mut heap = heap_of(rt.alloc(), 1)?;
-        assert!(rt; !heap.is_backed(Page(511)));
-        if let Some(run) = heap.new_run(254) {
-            assert_eq!(rt; heap.row(Huge(1)).longest, 2);
-            heap.free_run(run);
-        }
-        assert_eq!(rt; heap.used_pages(), 0);
-        assert_eq!(rt; heap.backed_pages(), 256);
-        assert!(rt; heap.is_backed(Page(511)));
-        Ok(())
     }
 }

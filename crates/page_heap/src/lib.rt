@@ -2,12 +2,12 @@
 //! back-end (Temeraire) does, by this project's own rule for each choice.
 #![tactic(auto)]
 
-mod config;
-mod flags;
 mod heap;
-mod ranges;
-mod rows;
-mod spots;
+mod parts;
+mod shown;
+mod table;
+#[cfg(test)]
+mod tests;
 
-pub use config::HeapConfig;
 pub use heap::PageHeap;
+pub use heap_rules::HeapConfig;

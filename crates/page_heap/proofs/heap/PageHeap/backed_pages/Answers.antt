@@ -1,21 +1,58 @@
-use Rattle.std.proofs.Common.{◌≡◌, ◌*◌, count_by, sym, ap, ◌∙◌, arith}
-use Rattle.page_heap.specs.declared.rows.Row.{Row}
-use Rattle.page_heap.specs.Heap.{used_pages, backed_pages}
-use Rattle.page_heap.specs.Table.{heap_of}
-use Rattle.page_heap.proofs.Measures.{backed_is, covered, used_flags}
+use Rattle.std.proofs.Common.{◌≡◌, ℕ, ◌+◌, ◌*◌, ◌<◌, ◌≤◌, length, take, sum_by, ap, subst, ◌∙◌, arith}
+use Rattle.tc_units.specs.declared.rows.RowView.{RowView}
+use Rattle.heap_rules.specs.Heap.{Heap, backed_count, backed_pages}
+use Rattle.heap_rules.specs.Sound.{IsSound}
+use Rattle.page_heap.proofs.Backed.{covers, backed_more, backed_few, backed_all}
 use Rattle.page_heap.proofs.heap.PageHeap.backed_pages.Goals as goal
+use Rattle.page_heap.proofs.heap.PageHeap.backed_pages.Goals.{After-from-pages, After-loop-place}
 
-pub returns-clause-value : goal.returns-clause-value
-returns-clause-value c =
-    let s = c.self.inside in
-    ap (λ k. 256 * k) (c.count_backed.ensures ∙ ap (count_by (λ (row : Row). row.backed)) c.deref.ensures.value)
-    ∙ sym (backed_is s.rows.items) ∙ ap backed_pages c.self.view_is
+huge_is : (c : After-loop-place) → c.self.inside.config.huge ≡ c.args.self.now.config.huge
+huge_is c = ap (λ (heap : Heap). heap.config.huge) c.self.view_is
+
+sound : (c : After-loop-place) → IsSound c.args.self.now
+sound c = subst IsSound c.self.view_is c.self.invariant.well.sound
+
+within : (k n m l : ℕ) → k < n → n ≡ m → l ≡ m → k < l
+within k n m l a b e = omega arith
+
+summed : (p t x b s r : ℕ) → p ≡ t → x ≡ r → r ≡ b → t + b ≡ s → p + x ≡ s
+summed p t x b s r e f g h = omega arith
+
+more : (c : After-from-pages) → c.loop-place.pages + c.from-pages.result ≡ sum_by backed_count (take (c.loop-place.place + 1) c.args.self.now.hugepages)
+more c =
+    let heap : Heap = c.args.self.now in
+    let is = subst IsSound c.self.view_is c.self.invariant.well.sound in
+    let short = within c.loop-place.place _ _ (length heap.hugepages) c.loop-place-test.true (ap (λ (h : Heap). h.config.huge) c.self.view_is) is.runs.arena in
+    summed _ _ _ _ _ _ c.loop-place.invariant c.from-pages.ensures (ap (λ (row : RowView). row.backed) c.row.ensures) (backed_more heap is c.loop-place.place short)
+
+bounded : (x s h : ℕ) → x ≡ s → s ≤ 256 * h → h ≤ 4096 → x < 18446744073709551616
+bounded x s h e f g = omega arith
+
+pub overflow_add-pages : goal.overflow_add-pages
+overflow_add-pages c =
+    let d = (goal.at.overflow_add-pages c).After-from-pages in
+    let fits = bounded (d.loop-place.pages + d.from-pages.result) _ _ (more d) (backed_few d.args.self.now (subst IsSound d.self.view_is d.self.invariant.well.sound) (d.loop-place.place + 1))
+    (subst (λ n. n ≤ 4096) (ap (λ (heap : Heap). heap.config.huge) d.self.view_is) d.self.invariant.well.limits.huge_to) in
+    omega (arith, fits)
+
+pub loop-place-preserved : goal.loop-place-preserved
+loop-place-preserved c = more c
+
+ended : (c : After-loop-place) → c.self.inside.config.huge ≤ c.loop-place.place → c.loop-place.place ≡ c.args.self.now.config.huge
+ended c e = let same = huge_is c in let most = c.loop-place.auto.place-end in omega arith
+
+-- all hugepages are counted then
+counted : (c : After-loop-place) → c.self.inside.config.huge ≤ c.loop-place.place → c.loop-place.pages ≡ backed_pages c.args.self.now
+counted c e = c.loop-place.invariant ∙ backed_all c.args.self.now (sound c) c.loop-place.place (ended c e)
+
+at_most : (a b c : ℕ) → a ≡ b → b ≤ c → a ≤ c
+at_most a b c e f = omega arith
+
+at_least : (a b c : ℕ) → a ≡ b → c ≤ b → c ≤ a
+at_least a b c e f = omega arith
 
 pub returns-clause-covers : goal.returns-clause-covers
-returns-clause-covers c =
-    let s = c.self.inside in
-    let count = c.count_backed.ensures ∙ ap (count_by (λ (row : Row). row.backed)) c.deref.ensures.value in
-    let less = covered s.config s.rows.items s.used.items s.lengths.items s.taken.items s.unready.items c.self.invariant in
-    let used = used_flags s.config s.rows.items s.used.items s.lengths.items s.taken.items s.unready.items c.self.invariant in
-    let view : used_pages (heap_of s.config s.rows.items s.lengths.items) ≡ used_pages c.args.self.now = ap used_pages c.self.view_is in
-    omega arith
+returns-clause-covers c = let d = (goal.at.returns-clause-covers c).After-loop-place in at_least _ _ _ (counted d c.loop-place-test.false) (covers d.args.self.now (sound d))
+
+pub returns-clause-most : goal.returns-clause-most
+returns-clause-most c = let d = (goal.at.returns-clause-most c).After-loop-place in at_most _ _ _ d.loop-place.invariant (backed_few d.args.self.now (sound d) d.loop-place.place)

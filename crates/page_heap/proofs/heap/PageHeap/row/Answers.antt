@@ -1,67 +1,33 @@
-use Rattle.std.proofs.Common.{◌≡◌, ◌-◌, ◌<◌, cond, count_by, length, get_or, sym, ap, subst, ◌∙◌, arith}
-use Rattle.std.proofs.lemmas.List.{get_or_default}
-use Rattle.std.proofs.lemmas.List.Sums.{count_by-le-length}
-use Rattle.page_heap.specs.declared.rows.Row.{Row}
-use Rattle.page_heap.specs.Heap.{row_of}
-use Rattle.page_heap.specs.Sound.{IsHugepageOf}
-use Rattle.page_heap.specs.Table.{heap_of, flags_of, no_row}
-use Rattle.page_heap.proofs.Kept.{pages_within}
-use Rattle.page_heap.proofs.Measures.{longest_fits, measures}
-use Rattle.page_heap.proofs.Tables.{length-flags}
+use Rattle.std.proofs.Common.{◌≤◌, sym, ap, subst, ◌∙◌}
+use Rattle.heap_rules.specs.Heap.{Heap, row_of}
+use Rattle.page_heap.proofs.Insides.{parts_of}
+use Rattle.page_heap.proofs.Measured.{row_filler, row_region, row_free, row_run}
 use Rattle.page_heap.proofs.heap.PageHeap.row.Goals as goal
-use Rattle.page_heap.proofs.heap.PageHeap.row.Goals.{After-count_used, then-row, else-row}
+use Rattle.page_heap.proofs.heap.PageHeap.row.Goals.{After-row}
 
--- the hugepage is one of the heap
-of_heap : (c : After-count_used) → IsHugepageOf (heap_of c.self.inside.config c.self.inside.rows.items c.self.inside.lengths.items) c.args.huge.0
-of_heap c = subst (λ h. IsHugepageOf h c.args.huge.0) (sym c.self.view_is) c.requires
+low : (c : After-row) → c.args.huge.0 ≤ c.self.inside.config.huge
+low c = subst (λ (heap : Heap). c.args.huge.0 ≤ heap.config.huge) (sym c.self.view_is) c.requires.to
 
-same_huge : (c : After-count_used) → c.from-h.result ≡ c.args.huge.0
-same_huge c = omega (arith, c.from-h.ensures)
+pub returns-in-Some : goal.returns-in-Some
+returns-in-Some c =
+    let d = (goal.at.returns-in-Some c).After-row in
+    row_filler (parts_of d.self.inside) d.self.invariant d.args.huge.0 d.requires.from (low d) c.in-Some.row c.in-Some.ensures.row
+    ∙ ap (λ (heap : Heap). row_of heap c.args.huge.0) c.self.view_is
 
-place_in : (c : After-count_used) → c.args.huge.0 - 1 < length c.self.inside.rows.items
-place_in c =
-    let of = of_heap c in
-    let count = c.self.invariant.hugepages in
-    omega (arith, of.from, of.to)
+pub returns-in-Some-row : goal.returns-in-Some-row
+returns-in-Some-row c =
+    let d = (goal.at.returns-in-Some-row c).After-row in
+    row_region (parts_of d.self.inside) d.self.invariant d.args.huge.0 d.requires.from (low d) c.in-Some-row.row c.in-Some-row.ensures.row
+    ∙ ap (λ (heap : Heap). row_of heap c.args.huge.0) c.self.view_is
 
--- its row, and how many of its pages are used
-row_there : (c : After-count_used) → c.index-row.result.now ≡ get_or c.self.inside.rows.items (c.args.huge.0 - 1) no_row
-row_there c =
-    c.index-row.ensures ∙ ap (λ h. get_or c.self.inside.rows.items (h - 1) c.index-row.result.now) (same_huge c)
-    ∙ get_or_default c.self.inside.rows.items (c.args.huge.0 - 1) c.index-row.result.now no_row (place_in c)
+pub returns-then-holds : goal.returns-then-holds
+returns-then-holds c =
+    let d = (goal.at.returns-then-holds c).After-row in
+    row_free (parts_of d.self.inside) d.self.invariant d.args.huge.0 d.requires.from (low d) c.free_row.result c.is_backed.result (sym c.holds.ensures ∙ c.if-holds.true) c.is_backed.ensures c.free_row.ensures
+    ∙ ap (λ (heap : Heap). row_of heap c.args.huge.0) c.self.view_is
 
-count_there : (c : After-count_used) → c.count_used.result ≡ count_by (λ b. b) (flags_of c.self.inside.used.items c.args.huge.0)
-count_there c =
-    c.count_used.ensures ∙ ap (count_by (λ b. b)) (c.flags_of-used.ensures ∙ ap (λ u. flags_of u c.from-h.result) c.deref.ensures.value ∙ ap (flags_of c.self.inside.used.items) (same_huge c))
-
-pub overflow_cast-result : goal.overflow_cast-result
-overflow_cast-result c =
-    let a = (goal.at.overflow_cast-result c).After-count_used in
-    let s = c.self.inside in
-    let h = c.args.huge.0 in
-    let of = of_heap a in
-    let within = pages_within s.config s.rows.items s.used.items s.lengths.items s.taken.items s.unready.items c.self.invariant (h - 1) (place_in a) in
-    let len = length-flags s.used.items h (omega (arith, of.from)) in
-    let most = count_by-le-length (λ b. b) (flags_of s.used.items h) in
-    let count = count_there a in
-    omega arith
-
-pub overflow_cast-result-2 : goal.overflow_cast-result-2
-overflow_cast-result-2 c =
-    let a = (goal.at.overflow_cast-result-2 c).After-count_used in
-    let s = c.self.inside in
-    let fits = longest_fits s.config s.rows.items s.used.items s.lengths.items s.taken.items s.unready.items c.self.invariant (c.args.huge.0 - 1) (place_in a) in
-    let same : c.index-row.result.now.longest ≡ (get_or s.rows.items (c.args.huge.0 - 1) no_row).longest = ap (λ (r : Row). r.longest) (row_there a) in
-    omega arith
-
-pub returns : goal.returns
-returns c =
-    let a = (goal.at.returns c).After-count_used in
-    let s = c.self.inside in
-    let of = of_heap a in
-    let backed : c.if-row.result ≡ cond c.index-row.result.now.backed 256 0 = elim c.if-row.branch [
-      | then-row w ↦ w.result-is ∙ sym (ap (λ b. cond b 256 0) w.if-row.true)
-      | else-row w ↦ w.result-is ∙ sym (ap (λ b. cond b 256 0) w.if-row.false)
-    ] in
-    measures s.config s.rows.items s.used.items s.lengths.items s.taken.items s.unready.items c.self.invariant c.args.huge.0 of.from of.to c.index-row.result.now (row_there a) c.count_used.result c.if-row.result (count_there a) backed
-    ∙ ap (λ h. row_of h c.args.huge.0) c.self.view_is
+pub returns-else-holds : goal.returns-else-holds
+returns-else-holds c =
+    let d = (goal.at.returns-else-holds c).After-row in
+    row_run (parts_of d.self.inside) d.self.invariant d.args.huge.0 d.requires.from (low d) c.run_row.result c.in_default.ensures.row c.in_default-row.ensures.row (sym c.holds.ensures ∙ c.if-holds.false) c.run_row.ensures
+    ∙ ap (λ (heap : Heap). row_of heap c.args.huge.0) c.self.view_is

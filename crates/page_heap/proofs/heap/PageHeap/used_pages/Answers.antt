@@ -1,19 +1,9 @@
-use Rattle.std.proofs.Common.{sum_by, count_by, sym, ap, ◌∙◌}
-use Rattle.tc_units.specs.declared.spans.Run.{Run}
-use Rattle.page_heap.specs.Heap.{Heap, used_pages}
-use Rattle.page_heap.proofs.Measures.{used_flags, used_runs}
+use Rattle.std.proofs.Common.{sym, ap, ◌∙◌}
+use Rattle.heap_rules.specs.Heap.{Heap, used_pages}
+use Rattle.page_heap.specs.Parts.{heap_of}
+use Rattle.page_heap.proofs.Insides.{parts_of}
+use Rattle.page_heap.proofs.Counted.{used_pages_are}
 use Rattle.page_heap.proofs.heap.PageHeap.used_pages.Goals as goal
 
 pub returns-clause-value : goal.returns-clause-value
-returns-clause-value c =
-    let s = c.self.inside in
-    c.count_used.ensures ∙ ap (count_by (λ b. b)) c.deref.ensures.value
-    ∙ sym (used_flags s.config s.rows.items s.used.items s.lengths.items s.taken.items s.unready.items c.self.invariant)
-    ∙ ap used_pages c.self.view_is
-
-pub returns-clause-runs : goal.returns-clause-runs
-returns-clause-runs c =
-    let s = c.self.inside in
-    c.count_used.ensures ∙ ap (count_by (λ b. b)) c.deref.ensures.value
-    ∙ sym (used_runs s.config s.rows.items s.used.items s.lengths.items s.taken.items s.unready.items c.self.invariant)
-    ∙ ap (λ (h : Heap). sum_by (λ (run : Run). run.pages) h.runs) c.self.view_is
+returns-clause-value c = c.self.invariant.shows.used ∙ sym (used_pages_are (heap_of (parts_of c.self.inside)) c.self.invariant.well.sound) ∙ ap (λ (heap : Heap). used_pages heap) c.self.view_is

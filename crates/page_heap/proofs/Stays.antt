@@ -1,0 +1,21 @@
+-- Which runs are live after a call.
+use Rattle.std.proofs.Common.{◌≡◌, ◌≢◌, ℕ, ◌==◌, not, get_or, filter, Contains, sym, ap, subst, ◌∙◌}
+use Rattle.std.proofs.lemmas.Bool.{ne_eqb}
+use Rattle.tc_units.specs.declared.spans.Run.{Run}
+use Rattle.heap_rules.specs.Heap.{Heap}
+use Rattle.heap_rules.specs.New.{Placed}
+use Rattle.heap_rules.specs.Laws.{IsGiven, IsRid}
+use Rattle.heap_rules.proofs.Live.{Contains-new, Contains-old, Contains-filter}
+
+pub new_lives : (heap : Heap) (n : ℕ) (p : Placed) → IsGiven heap n p → Contains p.heap.runs p.run
+new_lives heap n p given = subst (λ rs. Contains rs p.run) (sym given.runs) (Contains-new (λ (r : Run). r.first.0) p.run heap.runs)
+
+pub new_stays : (heap : Heap) (n : ℕ) (p : Placed) → IsGiven heap n p → (run : Run) → Contains heap.runs run → Contains p.heap.runs run
+new_stays heap n p given run has = subst (λ rs. Contains rs run) (sym given.runs) (Contains-old (λ (r : Run). r.first.0) p.run heap.runs run has)
+
+pub freed_stays : (heap : Heap) (run : Run) (after : Heap) → IsRid heap run after → (other : Run) → Contains heap.runs other → other.first.0 ≢ run.first.0 → Contains after.runs other
+freed_stays heap run after rid other has ne =
+    let test = λ (r : Run). not (r.first.0 == run.first.0) in
+    let at : get_or heap.runs has.0 other ≡ other = has.2 in
+    subst (λ rs. Contains rs other) (sym rid.runs)
+    (subst (Contains (filter test heap.runs)) at (Contains-filter test heap.runs has.0 other has.1 (ap test at ∙ ap not (ne_eqb other.first.0 run.first.0 ne))))

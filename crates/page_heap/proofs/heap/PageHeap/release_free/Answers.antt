@@ -1,0 +1,20 @@
+use Rattle.std.proofs.Common.{◌≡◌, sym, subst, ◌∙◌}
+use Rattle.heap_rules.specs.Heap.{Heap}
+use Rattle.heap_rules.specs.Release.{free_given}
+use Rattle.page_heap.specs.Parts.{heap_of}
+use Rattle.page_heap.proofs.Insides.{parts_of}
+use Rattle.page_heap.proofs.Results.{Results}
+use Rattle.page_heap.proofs.Unbacks.{answer_of, free_keeps, free_pages}
+use Rattle.page_heap.proofs.heap.PageHeap.release_free.Goals as goal
+use Rattle.page_heap.proofs.heap.PageHeap.release_free.Goals.{After-release}
+
+now : (c : After-release) → Results (record (parts_of c.self.inside) { cache = c.release.new.self }) (free_given (heap_of (parts_of c.self.inside)) c.args.n).heap
+now c = free_keeps (parts_of c.self.inside) c.self.invariant c.args.n c.release.new.self c.release.ensures.released
+
+pub invariant_of-self : goal.invariant_of-self
+invariant_of-self c = (now c).kept
+
+pub returns-clause-given : goal.returns-clause-given
+returns-clause-given c =
+    subst (λ (heap : Heap). free_given heap c.args.n ≡ record { heap = heap_of (record (parts_of c.self.inside) { cache = c.release.new.self }); pages = c.release.result }) c.self.view_is
+    (answer_of (free_given (heap_of (parts_of c.self.inside)) c.args.n) _ _ (sym (now c).is) (sym (c.release.ensures.pages ∙ free_pages (parts_of c.self.inside) c.self.invariant c.args.n)))
