@@ -1,18 +1,26 @@
 -- What holds at the start.
-use Rattle.std.proofs.Common.{◌≡◌, ℕ, zero, suc, ◌+◌, ◌≤◌, List, [], ◌∷◌, map, Some, refl, ap, sym, arith}
+use Rattle.std.proofs.Common.{◌≡◌, ℕ, zero, suc, ◌+◌, ◌<◌, ◌≤◌, get_or, List, [], ◌∷◌, map, Some, refl, ap, sym, subst, ◌∙◌, arith}
 use Rattle.std.specs.Prelude.{sum_by, replicate}
-use Rattle.std.specs.List.{slice_get}
+use Rattle.std.specs.List.{slice_get, range_with_len}
+use Rattle.std.proofs.lemmas.Option.{slice_get-get_or}
+use Rattle.std.proofs.lemmas.List.FromFn.{length-range_with_len, get_or-range_with_len}
 use Rattle.std.proofs.lemmas.List.{length-replicate}
 use Rattle.std.proofs.lemmas.List.Sums.{sum_by-cons}
 use Rattle.std.proofs.lemmas.List.Folds.{sum_by-replicate}
 use Rattle.tc_model.specs.declared.calls.Planned.{Planned}
-use Rattle.tc_model.specs.Calls.{answers_at, AreBelow}
+use Rattle.tc_model.specs.Calls.{answers_at, AreBelow, AreRising}
 use Rattle.name_table.specs.declared.table.NameState.TheVariants as name
 use Rattle.name_table.specs.Names.{state_of}
 use Rattle.call_steps.specs.Local.{Local, Decided}
 use Rattle.alloc_rules.specs.State.{Setup, Thread, first_of, bit}
 use Rattle.alloc_rules.specs.Weights.{gets, puts, unbuilt_in, unbuilt_of, pending, unpublished, untaken, mentions, holding, owns_at, off_map, clearing, named_at, is_out, is_taken, means, Facts}
 use Rattle.alloc_rules.proofs.NextCalls.{next_new, next_take, next_none, next_unbuilt}
+
+-- the numbers from 0 on, by their places
+pub number_at : (n t : ℕ) → t < n → slice_get (range_with_len 0 n) t ≡ Some t
+number_at n t below =
+    let e : get_or (range_with_len 0 n) t 0 ≡ t = get_or-range_with_len 0 n t 0 below ∙ (let z : 0 + t ≡ t = omega arith in z) in
+    slice_get-get_or (range_with_len 0 n) t 0 (omega (arith, length-range_with_len 0 n, below)) ∙ ap (λ k. Some k) e
 
 -- a number over all scripts
 abbrev pub in_scripts : (List Planned → ℕ) → List Thread → ℕ
@@ -93,3 +101,11 @@ pub nothing_acted : (threads : List Thread) (t : ℕ) (l : Local) → slice_get 
 nothing_acted [] t l is = absurd (cc)
 nothing_acted (x ∷ xs) zero l is = let e : first_of x ≡ l = cc in ap (λ (k : Local). k.acts) (sym e)
 nothing_acted (x ∷ xs) (suc t) l is = nothing_acted xs t l is
+
+pub nothing_rises : (threads : List Thread) (t : ℕ) (l : Local) → slice_get (map first_of threads) t ≡ Some l → AreRising (λ (d : Decided). d.act) 0 l.answers
+nothing_rises [] t l is = absurd (cc)
+nothing_rises (th ∷ ths) zero l is =
+    let e : first_of th ≡ l = cc in
+    let Q : Local → Type 0 = λ k. AreRising (λ (d : Decided). d.act) 0 k.answers in
+    subst Q e tt
+nothing_rises (th ∷ ths) (suc t) l is = nothing_rises ths t l is

@@ -28,7 +28,11 @@ use Rattle.alloc_rules.specs.Law.{IsAmong, HoldsAfter, InEveryOrder}
 use Rattle.alloc_rules.proofs.Sums.{less_like, less_at, same_run_refl}
 use Rattle.alloc_rules.proofs.Bags.{AreSame, at_counted}
 use Rattle.alloc_rules.proofs.Ends.{named_live}
-use Rattle.alloc_rules.proofs.SerialGoes.{number_at}
+use Rattle.std.proofs.lemmas.List.Sums.{sum_by-cons}
+use Rattle.tc_units.specs.Classes.{length_of}
+use Rattle.tc_model.specs.Blocks.{blocks_after}
+use Rattle.alloc_rules.proofs.BlockFacts.{all_apart, bytes_within, sum_less}
+use Rattle.alloc_rules.proofs.First.{number_at}
 use Rattle.alloc_rules.proofs.SerialLaws.{are_threads, never_waits, rises, ends}
 use Rattle.alloc_rules.proofs.Ready.{served_order, sound}
 
@@ -68,6 +72,14 @@ among input s inside t l local =
     let h = inside.each t l (thread_of input t) local th in
     record { count = h.count; each = h.decided }
 
+-- and as many pages
+pages_same : (xs ys : List Run) → AreSame xs ys → sum_by (λ (r : Run). r.pages) xs ≡ sum_by (λ (r : Run). r.pages) ys
+pages_same [] ys same = ap (sum_by (λ (r : Run). r.pages)) (sym (empty_like ys (λ r. sym (same.like r))))
+pages_same (x ∷ xs) ys same =
+    let e : bit (same_run x x) ≡ 1 = ap bit (same_run_refl x) in
+    let some : 0 < runs_like x ys = omega (arith, same.like x, e) in
+    omega (arith, sum_by-cons (λ (r : Run). r.pages) x xs, sum_less x ys some, pages_same xs (less x ys) (record { like = λ r. omega (arith, same.like r, less_like x ys some r) }))
+
 pub holds_after : (input : Input) → IsValid input → (order : List ℕ) → IsOrder (rules input) order → HoldsAfter input order
 holds_after input valid order of =
     let w = served_order input valid order of in
@@ -78,9 +90,13 @@ holds_after input valid order of =
       locals = w.state.locals;
       is = w.is;
       blocks = f.kept.run;
+      covered = (let h = bytes_within (blocks_after (calls w.state.locals order)) w.state.heap (all_apart input.asked.config.huge (length_of input.rows) (calls w.state.locals order) f.kept.run) f.live in omega (arith, h, pages_same w.state.heap w.parts.heap.runs w.stands.runs));
       decided = λ t l is. among input w.state w.inside t l is;
+      threads = w.holds.threads;
       acts = w.holds.acts;
+      rising = w.holds.rising;
       heap = w.stands.sound;
+      config = w.stands.config_is;
       none = λ n some. none_exactly w.parts.heap n w.stands.sound (omega (arith, valid.region, ap (λ (c : HeapConfig). c.region) w.stands.config_is)) some;
       places = λ a. omega (arith, f.places a, starts_are a, ap (λ (ns : List NameState). sum_by (named_at a) ns) w.stands.names_are);
       starts = λ a. omega (arith, f.starts a, starts_are a);

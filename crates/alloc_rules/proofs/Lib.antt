@@ -19,6 +19,7 @@ pub mod Stands
 pub mod RowOf
 pub mod Held
 pub mod First
+pub mod BlockFacts
 pub mod Runs
 pub mod Inputs
 pub mod Ends
@@ -27,3 +28,4 @@ pub mod Laws
 pub mod InScripts
 pub mod SerialGoes
 pub mod SerialLaws
+pub mod ValidProp

@@ -19,15 +19,16 @@ use Rattle.call_steps.specs.Local.{Local}
 use Rattle.call_steps.specs.Acts.{large}
 use Rattle.alloc_rules.specs.State.{State, Setup, calls}
 use Rattle.alloc_rules.specs.Weights.{Holds}
-use Rattle.alloc_rules.specs.Machine.{Part, Parts, parts_of, number, place_of, rules, setup_of, heap_config}
-use Rattle.alloc_rules.specs.Machine as part
+use Rattle.alloc_rules.specs.declared.part.Part.{Part}
+use Rattle.alloc_rules.specs.Machine.{Parts, parts_of, number, place_of, rules, setup_of, heap_config}
+use Rattle.alloc_rules.specs.declared.part.Part.TheVariants as part
 use Rattle.alloc_rules.specs.Fits.{Fits, fits_step}
 use Rattle.alloc_rules.specs.Valid.{IsValid}
 use Rattle.alloc_rules.proofs.Stands.{Stands, AreLimits, set_inside, set_apart, clear_there, give_there, lookup_there}
 use Rattle.alloc_rules.proofs.PublishAct as publishes
 use Rattle.alloc_rules.proofs.TakeActs as takes
 use Rattle.alloc_rules.proofs.NewActs as news
-use Rattle.alloc_rules.proofs.Larges.{large_some}
+use Rattle.alloc_rules.proofs.Larges.{large_some, large_most}
 use Rattle.alloc_rules.proofs.Inputs.{valid_once}
 use Rattle.alloc_rules.proofs.Runs.{IsServed, served_runs}
 
@@ -46,8 +47,9 @@ module _ (m : Setup) (config : HeapConfig) (p : Parts) (s : State) (order : List
 
   ready_by : (step : Step) (place : PartNo) → l.step ≡ step → place_of step ≡ Some place → FitsThere Fits (world_of (parts_of p) s.locals) place.0 l
   ready_by (does.Heap (New label size)) place is want =
-      let some : 0 < size = large_some m.rows size (news.large m s (calls s.locals order) t l label size h.facts local is) in
-      at_part 0 place (part.Heap p.heap) (does.Heap (New label size)) is (cc) refl (omega arith)
+      let block = news.large m s (calls s.locals order) t l label size h.facts local is in
+      let some : 0 < size = large_some m.rows size block in
+      at_part 0 place (part.Heap p.heap) (does.Heap (New label size)) is (cc) refl (omega arith, large_most m.rows size block)
   ready_by (does.Heap (GiveBack label r)) place is want = at_part 0 place (part.Heap p.heap) (does.Heap (GiveBack label r)) is (cc) refl (give_there m config p s (calls s.locals order) t l h.facts st limits local label r is)
   ready_by (does.Map (Set label r)) place is want = at_part 1 place (part.Map p.map) (does.Map (Set label r)) is (cc) refl (set_inside m config p s (calls s.locals order) t l h.facts st limits local label r is, set_apart m config p s (calls s.locals order) t l h.facts st limits local label r is)
   ready_by (does.Map (Lookup label a)) place is want = let found = lookup_there m config p s (calls s.locals order) t l h.facts st limits local label a is in at_part 1 place (part.Map p.map) (does.Map (Lookup label a)) is (cc) refl (large found.run, found.is, found.small)

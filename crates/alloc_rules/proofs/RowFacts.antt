@@ -1,5 +1,5 @@
 -- Each row keeps what holds between any two acts.
-use Rattle.std.proofs.Common.{◌≡◌, ℕ, ◌+◌, List, [], ◌++◌, map, Some, refl, sym, subst}
+use Rattle.std.proofs.Common.{◌≡◌, ℕ, ◌+◌, ◌≤◌, length, arith, List, [], ◌++◌, map, Some, refl, sym, subst}
 use Rattle.std.specs.List.{slice_get, slice_set}
 use Rattle.tc_units.specs.declared.spans.Run.{Run}
 use Rattle.tc_model.specs.declared.answers.CallLine.{CallLine}
@@ -37,14 +37,16 @@ pub record Counted (l l' : Local) (new : List Decided) : Type 0 where
   pub acts : l'.acts ≡ l.acts + 1
   pub pushed : l'.answers ≡ l.answers ++ new
   pub at : (n : ℕ) → l.acts ≡ n → AreAt (λ (d : Decided). d.act) n new
+  pub one : length new ≤ 1
+  pub thread : l'.thread ≡ l.thread
 
 pub row_counted : (m : Setup) (s : State) (l : Local) {heap spans : List Run} {names : List NameState} {l' : Local} {new : List Decided} → Row m s l heap spans names l' new → Counted l l' new
-row_counted m s l (NewNone label size is) = record { acts = refl; pushed = refl; at = λ n e. (e, tt) }
-row_counted m s l (NewRun label size r is placed) = record { acts = refl; pushed = refl; at = λ n e. (e, tt) }
-row_counted m s l (SetSpan label r is) = record { acts = refl; pushed = refl; at = λ n e. tt }
-row_counted m s l (PublishName label value is) = record { acts = refl; pushed = refl; at = λ n e. tt }
-row_counted m s l (TakeNull label is state) = record { acts = refl; pushed = refl; at = λ n e. (e, tt) }
-row_counted m s l (TakeSome label a is state) = record { acts = refl; pushed = refl; at = λ n e. tt }
-row_counted m s l (LookupSpan label a r is at there) = record { acts = refl; pushed = refl; at = λ n e. tt }
-row_counted m s l (ClearSpan label r is) = record { acts = refl; pushed = refl; at = λ n e. tt }
-row_counted m s l (FreeRun label r is) = record { acts = refl; pushed = refl; at = λ n e. (e, tt) }
+row_counted m s l (NewNone label size is) = record { acts = refl; pushed = refl; at = λ n e. (e, tt); one = omega arith; thread = refl }
+row_counted m s l (NewRun label size r is placed) = record { acts = refl; pushed = refl; at = λ n e. (e, tt); one = omega arith; thread = refl }
+row_counted m s l (SetSpan label r is) = record { acts = refl; pushed = refl; at = λ n e. tt; one = omega arith; thread = refl }
+row_counted m s l (PublishName label value is) = record { acts = refl; pushed = refl; at = λ n e. tt; one = omega arith; thread = refl }
+row_counted m s l (TakeNull label is state) = record { acts = refl; pushed = refl; at = λ n e. (e, tt); one = omega arith; thread = refl }
+row_counted m s l (TakeSome label a is state) = record { acts = refl; pushed = refl; at = λ n e. tt; one = omega arith; thread = refl }
+row_counted m s l (LookupSpan label a r is at there) = record { acts = refl; pushed = refl; at = λ n e. tt; one = omega arith; thread = refl }
+row_counted m s l (ClearSpan label r is) = record { acts = refl; pushed = refl; at = λ n e. tt; one = omega arith; thread = refl }
+row_counted m s l (FreeRun label r is) = record { acts = refl; pushed = refl; at = λ n e. (e, tt); one = omega arith; thread = refl }

@@ -41,8 +41,9 @@ use Rattle.call_steps.specs.Acts.{large, run_of, address_of, is_unpublished, hea
 use Rattle.alloc_rules.specs.State.{State, Setup, runs_like, runs_at, less, block_of, IsPlaced}
 use Rattle.alloc_rules.specs.Weights.{Facts}
 use Rattle.alloc_rules.specs.Rows.{Row, NewNone, NewRun, SetSpan, PublishName, TakeNull, TakeSome, LookupSpan, ClearSpan, FreeRun}
-use Rattle.alloc_rules.specs.Machine.{Part, Parts, parts_of, number, place_of, after, waits}
-use Rattle.alloc_rules.specs.Machine as part
+use Rattle.alloc_rules.specs.declared.part.Part.{Part}
+use Rattle.alloc_rules.specs.Machine.{Parts, parts_of, number, place_of, after, waits}
+use Rattle.alloc_rules.specs.declared.part.Part.TheVariants as part
 use Rattle.alloc_rules.proofs.Sums.{less_like, begins}
 use Rattle.alloc_rules.proofs.Bags.{counted_there, there_counted, like-with_run, like-without_run, like-with_item, like-without_key}
 use Rattle.alloc_rules.proofs.Stands.{Stands, AreLimits, mapped, to_mapped, one_first, one_run, set_inside, set_apart, clear_there, give_there, lookup_there, All-contains}

@@ -1,7 +1,8 @@
 -- Every run.
-use Rattle.std.proofs.Common.{◌≡◌, ℕ, ◌+◌, ◌<◌, ◌≤◌, false, List, [], ◌∷◌, ◌++◌, map, Some, refl, sym, ap, ◌∙◌, subst, arith}
+use Rattle.std.proofs.Common.{◌≡◌, ℕ, ◌+◌, ◌<◌, ◌≤◌, false, List, [], ◌∷◌, ◌++◌, map, length, Some, refl, sym, ap, ◌∙◌, subst, arith}
 use Rattle.std.specs.Prelude.{replicate, option_map}
-use Rattle.std.specs.List.{slice_get, slice_set}
+use Rattle.std.specs.List.{slice_get, slice_set, range_with_len}
+use Rattle.std.proofs.lemmas.List.FromFn.{length-range_with_len}
 use Rattle.tc_model.specs.declared.machine.PartNo.{PartNo}
 use Rattle.tc_model.specs.declared.machine.TheConstants.{MOST_PICKS}
 use Rattle.tc_model.specs.Run.{World, world_of, with_pair, start, run}
@@ -16,16 +17,17 @@ use Rattle.call_steps.specs.Local.{Local}
 use Rattle.alloc_rules.specs.State.{State, Setup, Thread, first_of, calls}
 use Rattle.alloc_rules.specs.Weights.{unbuilt_in, Holds}
 use Rattle.alloc_rules.specs.Scripts.{IsIn, AreIn}
-use Rattle.alloc_rules.specs.Machine.{Part, Parts, parts_of, place_of, after, waits, rules, setup_of, heap_config, first_parts}
+use Rattle.alloc_rules.specs.declared.part.Part.{Part}
+use Rattle.alloc_rules.specs.Machine.{Parts, parts_of, place_of, after, waits, rules, setup_of, thread_of, heap_config, first_parts}
 use Rattle.alloc_rules.proofs.Stands.{Stands, AreLimits}
 use Rattle.alloc_rules.proofs.RowOf.{Acted, row_step}
 use Rattle.alloc_rules.proofs.RowFacts.{row_facts, row_counted}
 use Rattle.alloc_rules.proofs.Held.{holds_by}
 use Rattle.std.proofs.lemmas.List.{length-map}
-use Rattle.std.proofs.lemmas.Option.{slice_get-map}
+use Rattle.std.proofs.lemmas.Option.{slice_get-map, slice_get_within}
 use Rattle.alloc_rules.proofs.Sums.{least}
 use Rattle.alloc_rules.proofs.InScripts.{first_call, others_at, none_under, are_in}
-use Rattle.alloc_rules.proofs.First.{IsOnce, first_facts, nothing_answered, nothing_acted}
+use Rattle.alloc_rules.proofs.First.{IsOnce, number_at, first_facts, nothing_answered, nothing_acted, nothing_rises}
 
 -- a world is that of parts and a state in which all this holds
 pub record IsServed (m : Setup) (config : HeapConfig) (w : World Part Local) (order : List ℕ) : Type 0 where
@@ -46,7 +48,7 @@ served m config p s order t l place q limits st h inside local want there goes =
       state = s';
       is = a.is;
       stands = a.stands;
-      holds = holds_by m s order t l a.local h local c.acts s' a.new refl c.pushed (c.at (picks_of t order) (h.acts t l local)) (row_facts m s (calls s.locals order) t l h.facts local a.row);
+      holds = holds_by m s order t l a.local h local c.acts s' a.new refl c.pushed (c.at (picks_of t order) (h.acts t l local)) c.one c.thread (row_facts m s (calls s.locals order) t l h.facts local a.row);
       inside = are_in m s (calls s.locals order) t l a.heap a.held a.names a.local a.new h.facts local a.row inside;
     }
 
@@ -75,6 +77,16 @@ first_in m once =
           });
     }
 
+own_number : (input : Input) (t : ℕ) (l : Local) → slice_get (map first_of (setup_of input).threads) t ≡ Some l → l.thread.0 ≡ t
+own_number input t l is =
+    let n : ℕ = input.asked.config.threads in
+    let within : t < length (map first_of (setup_of input).threads) = slice_get_within (map first_of (setup_of input).threads) t l is in
+    let below : t < n = omega (arith, within, length-map (setup_of input).threads first_of, length-map (range_with_len 0 n) (thread_of input), length-range_with_len 0 n) in
+    let th : slice_get (setup_of input).threads t ≡ Some (thread_of input t) = slice_get-map (thread_of input) (range_with_len 0 n) t ∙ ap (option_map (thread_of input)) (number_at n t below) in
+    let e : Some (first_of (thread_of input t)) ≡ Some l = sym (slice_get-map first_of (setup_of input).threads t ∙ ap (option_map first_of) th) ∙ is in
+    let d : first_of (thread_of input t) ≡ l = cc in
+    ap (λ (k : Local). k.thread.0) (sym d)
+
 pub served_first : (input : Input) → IsOnce (setup_of input) → 0 < input.asked.config.huge → input.asked.config.huge ≤ 4096 → IsServed (setup_of input) (heap_config input.asked.config) (start (rules input)) []
 served_first input once some few =
     let m = setup_of input in
@@ -92,7 +104,7 @@ served_first input once some few =
         span_runs = record { like = λ r. refl };
         names_are = refl;
       };
-      holds = record { acts = λ t l is. nothing_acted m.threads t l is; of = λ t. nothing_answered m.threads t; facts = first_facts m once };
+      holds = record { threads = λ t l is. own_number input t l is; acts = λ t l is. nothing_acted m.threads t l is; of = λ t. nothing_answered m.threads t; rising = λ t l is. nothing_rises m.threads t l is; facts = first_facts m once };
       inside = first_in m once;
     }
 

@@ -4,7 +4,7 @@ use Rattle.std.specs.Prelude.{option_map}
 use Rattle.std.specs.List.{slice_get, range_with_len}
 use Rattle.std.proofs.lemmas.Bool.{cases_lt, cases_eq, eq-eqb, ltb-true, ltb-false, eqb-true}
 use Rattle.std.proofs.lemmas.List.{length-map}
-use Rattle.std.proofs.lemmas.List.FromFn.{length-range_with_len, get_or-range_with_len}
+use Rattle.std.proofs.lemmas.List.FromFn.{length-range_with_len}
 use Rattle.std.proofs.lemmas.Option.{slice_get-map, slice_get-get_or}
 use Rattle.tc_units.specs.declared.units.Label.{Label}
 use Rattle.tc_model.specs.declared.calls.Call.{Call}
@@ -33,19 +33,15 @@ use Rattle.alloc_rules.specs.State.{State, first_of}
 use Rattle.alloc_rules.specs.Weights.{got, is_out}
 use Rattle.alloc_rules.specs.Scripts.{IsOfCall, IsIn, AreIn}
 use Rattle.call_steps.specs.Kept.{call_at}
-use Rattle.alloc_rules.specs.Machine.{Part, Parts, parts_of, rules, thread_of, setup_of, turns}
+use Rattle.alloc_rules.specs.declared.part.Part.{Part}
+use Rattle.alloc_rules.specs.Machine.{Parts, parts_of, rules, thread_of, setup_of, turns}
 use Rattle.alloc_rules.specs.Valid.{got_in, IsInOrder, IsValid}
 use Rattle.alloc_rules.proofs.Standing.{bit_is}
+use Rattle.alloc_rules.proofs.First.{number_at}
 use Rattle.alloc_rules.proofs.Inputs.{got_push}
 
--- the numbers from 0 on, by their places
-pub number_at : (n t : ℕ) → t < n → slice_get (range_with_len 0 n) t ≡ Some t
-number_at n t below =
-    let e : get_or (range_with_len 0 n) t 0 ≡ t = get_or-range_with_len 0 n t 0 below ∙ (let z : 0 + t ≡ t = omega arith in z) in
-    slice_get-get_or (range_with_len 0 n) t 0 (omega (arith, length-range_with_len 0 n, below)) ∙ ap (λ k. Some k) e
-
 -- a script, call by call
-script-cons : (t : ℕ) (c : ThreadCall) (cs : List ThreadCall) → script_of t (c ∷ cs) ≡ cond (eqb c.thread.0 t) (c.planned ∷ script_of t cs) (script_of t cs)
+pub script-cons : (t : ℕ) (c : ThreadCall) (cs : List ThreadCall) → script_of t (c ∷ cs) ≡ cond (eqb c.thread.0 t) (c.planned ∷ script_of t cs) (script_of t cs)
 script-cons t c cs =
     let f : ThreadCall → Planned = λ (d : ThreadCall). d.planned in
     let ys : List ThreadCall = filter (λ (d : ThreadCall). eqb d.thread.0 t) cs in

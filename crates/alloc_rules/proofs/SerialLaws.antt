@@ -34,10 +34,12 @@ use Rattle.call_steps.specs.Acts.{heap_after, map_after, names_after, after_new,
 use Rattle.alloc_rules.specs.State.{State, first_of}
 use Rattle.alloc_rules.specs.Scripts.{IsOfCall, AreIn}
 use Rattle.call_steps.specs.Kept.{call_at}
-use Rattle.alloc_rules.specs.Machine.{Part, Parts, parts_of, place_of, after, rules, turns, thread_of, setup_of}
-use Rattle.alloc_rules.specs.Machine as part
+use Rattle.alloc_rules.specs.declared.part.Part.{Part}
+use Rattle.alloc_rules.specs.Machine.{Parts, parts_of, place_of, after, rules, turns, thread_of, setup_of}
+use Rattle.alloc_rules.specs.declared.part.Part.TheVariants as part
 use Rattle.alloc_rules.specs.Valid.{IsValid}
-use Rattle.alloc_rules.proofs.SerialGoes.{number_at, script_length, serial_goes}
+use Rattle.alloc_rules.proofs.First.{number_at}
+use Rattle.alloc_rules.proofs.SerialGoes.{script_length, serial_goes}
 use Rattle.alloc_rules.proofs.Ready.{served_order}
 
 -- calls are made by threads that there are

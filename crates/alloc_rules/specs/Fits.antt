@@ -5,7 +5,8 @@ use Rattle.call_steps.specs.declared.step.Step.{Step}
 use Rattle.call_steps.specs.declared.step.Step.TheVariants as does
 use Rattle.call_steps.specs.Local.{Local}
 use Rattle.call_steps.specs.Fits.{FitsHeap, FitsMap, FitsNames}
-use Rattle.alloc_rules.specs.Machine.{Part, Heap, Map, Names}
+use Rattle.alloc_rules.specs.declared.part.Part.{Part}
+use Rattle.alloc_rules.specs.declared.part.Part.TheVariants.{Heap, Map, Names}
 
 abbrev pub fits_step : Part → Step → Type 0
 fits_step (Heap heap) (does.Heap row) = FitsHeap heap row

@@ -1,3 +1,4 @@
+pub mod Apart
 pub mod Fits
 pub mod Kept
 pub mod Law

@@ -14,13 +14,9 @@ use Rattle.call_steps.specs.declared.step.Step.{Step}
 use Rattle.call_steps.specs.declared.step.Step.TheVariants as does
 use Rattle.call_steps.specs.Local.{Local}
 use Rattle.call_steps.specs.Acts.{heap_after, map_after, names_after, waits_for}
+use Rattle.alloc_rules.specs.declared.part.Part.{Part}
+use Rattle.alloc_rules.specs.declared.part.Part.TheVariants.{Heap, Map, Names}
 use Rattle.alloc_rules.specs.State.{Thread, Setup, first_of}
-
--- a part of the allocator
-pub data Part : Type 0 where
-  Heap : (heap : heaps.Heap) → Part
-  Map : (map : SpanMap) → Part
-  Names : (names : List NameState) → Part
 
 -- all parts by their types, and in the order of their numbers
 pub record Parts : Type 0 where

@@ -1,5 +1,5 @@
 -- What locals and names hold, as numbers, and what holds between any two acts.
-use Rattle.std.specs.Prelude.{◌≡◌, ℕ, ◌+◌, ◌*◌, ◌<◌, ◌≤◌, Bool, true, false, ◌==◌, ◌&&◌, not, is_some, nat_lt, List, [], ◌∷◌, length, Option, Some, None, if◌then◌else◌, slice_get, sum_by, All}
+use Rattle.std.specs.Prelude.{◌≡◌, ℕ, ◌+◌, ◌*◌, ◌^◌, ◌<◌, ◌≤◌, Bool, true, false, ◌==◌, ◌&&◌, not, is_some, nat_lt, nat_le, List, [], ◌∷◌, length, Option, Some, None, if◌then◌else◌, slice_get, sum_by, All}
 use Rattle.tc_units.specs.Units.{page_bytes}
 use Rattle.tc_units.specs.Classes.{class_of, length_of}
 use Rattle.tc_units.specs.declared.spans.ClassRow.{ClassRow}
@@ -12,7 +12,7 @@ use Rattle.tc_model.specs.declared.answers.CallLine.{CallLine}
 use Rattle.tc_model.specs.Blocks.{Extent, blocks_after, answer_to, freed_in}
 use Rattle.name_table.specs.declared.table.NameState.{NameState}
 use Rattle.name_table.specs.declared.table.NameState.TheVariants as name
-use Rattle.tc_model.specs.Calls.{picks_of, AreOfPicks}
+use Rattle.tc_model.specs.Calls.{picks_of, AreOfPicks, AreRising}
 use Rattle.alloc_rules.specs.Kept.{AreKept, value_of}
 use Rattle.call_steps.specs.declared.step.Step.TheVariants as does
 use Rattle.alloc_rules.specs.State.{State, Setup, calls, bit, same_run, runs_like, runs_at, block_of}
@@ -48,9 +48,11 @@ abbrev pub puts : ℕ → List Planned → ℕ
 puts x [] = 0
 puts x (p ∷ rest) = put x p.call + puts x rest
 
--- whether a request is for a large block, and how many calls of a script, or of a local from its New on, aren't built yet
+-- whether a request is for a large block: it has no class, and asks for 1 to 2^40 bytes
 abbrev pub is_large : List ClassRow → ℕ → Bool
-is_large rows size = not (is_some (class_of rows size)) && nat_lt 0 size
+is_large rows size = not (is_some (class_of rows size)) && nat_lt 0 size && nat_le size (2 ^ 40)
+
+-- how many calls of a script, or of a local from its New on, aren't built yet
 
 abbrev pub unbuilt : List ClassRow → Call → ℕ
 unbuilt rows (Malloc label size) = bit (not (is_large rows size))
@@ -212,8 +214,10 @@ pub record Facts (m : Setup) (s : State) (calls : List CallLine) : Type 0 where
   -- each live run is counted once among hands and names
   pub places : (a : ℕ) → sum_by (owns_at a) s.locals + sum_by (named_at a) s.names ≡ runs_at a s.heap
 
--- And after these picks: each thread's acts are its picks, and its answers were decided by these.
+-- And after these picks: each local is its thread's, the thread's acts are its picks, and its answers were decided by these, each by a later one.
 pub record Holds (m : Setup) (s : State) (order : List ℕ) : Type 0 where
+  pub threads : (t : ℕ) (l : Local) → slice_get s.locals t ≡ Some l → l.thread.0 ≡ t
   pub acts : (t : ℕ) (l : Local) → slice_get s.locals t ≡ Some l → l.acts ≡ picks_of t order
   pub of : AreOfPicks (λ (l : Local). l.answers) (λ (d : Decided). d.act) s.locals order
+  pub rising : (t : ℕ) (l : Local) → slice_get s.locals t ≡ Some l → AreRising (λ (d : Decided). d.act) 0 l.answers
   pub facts : Facts m s (calls s.locals order)

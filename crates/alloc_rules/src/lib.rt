@@ -3,6 +3,10 @@
 
 ghost use Rattle.alloc_rules.specs.Law.{InEveryOrder};
 
+mod part;
+
+pub use part::Part;
+
 /// For every class table, every valid trace of large blocks and their frees by any threads, and every
 /// order of their picks: each pick finds a part that fits, and after it the decided calls are a run on
 /// disjoint blocks, each live run stands in one place, and an allocation gets none exactly where no run

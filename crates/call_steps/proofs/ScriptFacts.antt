@@ -1,6 +1,6 @@
 -- How a script goes on behind a call, and which calls its answers decide.
 use Rattle.std.proofs.Common.{◌≡◌, refl, ℕ, zero, suc, List, [], ◌∷◌, ◌++◌, length, drop, ap, sym, subst, arith, map, ◌+◌, ◌<◌, ◌≤◌, ◌∙◌, true}
-use Rattle.std.specs.Prelude.{Option, Some, is_some, slice_get}
+use Rattle.std.specs.Prelude.{Option, Some, is_some, slice_get, unwrap_or}
 use Rattle.tc_units.specs.Bag.{Contents}
 use Rattle.tc_model.specs.declared.answers.Answered.{Answered}
 use Rattle.tc_model.specs.declared.calls.Call.{Call}
@@ -9,7 +9,7 @@ use Rattle.tc_model.specs.declared.calls.Planned.{Planned}
 use Rattle.tc_units.specs.declared.units.ThreadNo.{ThreadNo}
 use Rattle.tc_units.specs.declared.units.CpuNo.{CpuNo}
 use Rattle.tc_units.specs.declared.units.Label.{Label}
-use Rattle.call_steps.specs.Local.{Local, Decided, first_of_call, first_step, others, under, freed_by, ends}
+use Rattle.call_steps.specs.Local.{Local, Decided, first_of_call, first_step, others, under, asked_by, freed_by, ends}
 use Rattle.call_steps.specs.declared.step.HeapStep.TheVariants.{New, GiveBack}
 use Rattle.call_steps.specs.declared.step.MapStep.TheVariants.{Set, Lookup, Clear}
 use Rattle.call_steps.specs.declared.step.NamesStep.TheVariants.{Publish, Take}
@@ -74,6 +74,23 @@ ended_is thread cpu script place now next acts answers after new is decided =
     ap (λ s. made s (drop (place + 1 + 1) script) (decided_by script after)) is
     ∙ (ap (λ r. made (first_step (drop (place + 1) script)) r (decided_by script after)) rest
     ∙ ap (λ ds. made (first_step (drop (place + 1) script)) (others (drop (place + 1) script)) ds) decided)
+
+-- a step that asks is of the allocation that it decides, which isn't decided yet
+pub asked_call : (s : Step) (label : Label) (size : ℕ) (call : Option Call) → asked_by s ≡ Some (label, size) → IsOf s call → call ≡ Some (Malloc label size)
+asked_call (does.Heap (New l n)) label size call is of =
+    let same : l ≡ label = ap (λ (o : Option (Label × ℕ)). (unwrap_or {T = Label × ℕ} o (label, size)).0) is in
+    let bytes : n ≡ size = ap (λ (o : Option (Label × ℕ)). (unwrap_or {T = Label × ℕ} o (label, size)).1) is in
+    cc
+asked_call (does.Heap (GiveBack l run)) label size call is of = absurd (cc)
+asked_call (does.Map row) label size call is of = absurd (cc)
+asked_call (does.Names row) label size call is of = absurd (cc)
+asked_call does.Ended label size call is of = absurd (cc)
+
+pub asked_under : (s : Step) (label : Label) (size : ℕ) → asked_by s ≡ Some (label, size) → under s ≡ 0
+asked_under (does.Heap row) label size is = refl
+asked_under (does.Map row) label size is = absurd (cc)
+asked_under (does.Names row) label size is = absurd (cc)
+asked_under does.Ended label size is = refl
 
 -- a step of a free is of the free of that label, which isn't decided yet
 pub free_call : (s : Step) (label : Label) (call : Option Call) → freed_by s ≡ Some label → IsOf s call → call ≡ Some (Free label)

@@ -1,5 +1,5 @@
 -- What an act needs of its part: each condition of a lower call, by the row.
-use Rattle.std.specs.Prelude.{◌≡◌, ◌≢◌, ◌<◌, ◌*◌, ◌/◌, List, length, find, All, Contains, Some}
+use Rattle.std.specs.Prelude.{◌≡◌, ◌≢◌, ◌<◌, ◌≤◌, ◌*◌, ◌/◌, ◌^◌, List, length, find, All, Contains, Some}
 use Rattle.tc_units.specs.Units.{page_bytes, huge_bytes, pages_holding}
 use Rattle.tc_units.specs.declared.spans.SpanRef.{SpanRef}
 use Rattle.page_map.specs.Spans.{SpanMap, holds, IsInside, AreApart}
@@ -17,9 +17,9 @@ use Rattle.call_steps.specs.declared.step.Step.{Step}
 use Rattle.call_steps.specs.declared.step.Step.TheVariants as step
 use Rattle.call_steps.specs.Acts.{large}
 
--- New asks for pages, and a run that is given back lives
+-- New asks for pages of 1 to 2^40 bytes, and a run that is given back lives
 abbrev pub FitsHeap : heaps.Heap → HeapStep → Type 0
-FitsHeap heap (New label size) = 0 < pages_holding size
+FitsHeap heap (New label size) = (0 < pages_holding size) × (size ≤ 2 ^ 40)
 FitsHeap heap (GiveBack label run) = Contains heap.runs run
 
 -- A span that is set lies in the arena and meets no span, one that is looked up is there, and so is one that is cleared.
@@ -33,7 +33,11 @@ abbrev pub FitsNames : List NameState → NamesStep → Type 0
 FitsNames names (Publish label value) = (label.0 < length names) × (state_of names label.0 ≡ name.Unpublished)
 FitsNames names (Take label) = (label.0 < length names) × (state_of names label.0 ≢ name.Taken)
 
--- the step is on the page map and fits it, and the same for the names
+-- the step is on the page heap and fits it, and the same for the page map and the names
+abbrev pub FitsHeapStep : heaps.Heap → Step → Type 0
+FitsHeapStep heap (step.Heap row) = FitsHeap heap row
+FitsHeapStep heap other = ⊥
+
 abbrev pub FitsMapStep : SpanMap → Step → Type 0
 FitsMapStep map (step.Map row) = FitsMap map row
 FitsMapStep map other = ⊥

@@ -58,6 +58,11 @@ under (step.Map (Set label run)) = 1
 under (step.Names (Publish label value)) = 1
 under other = 0
 
+-- the request of an allocation that its next act decides
+abbrev pub asked_by : Step → Option (Label × ℕ)
+asked_by (step.Heap (New label size)) = Some (label, size)
+asked_by other = None
+
 -- the label of a free under way
 abbrev pub freed_by : Step → Option Label
 freed_by (step.Heap (GiveBack label run)) = Some label

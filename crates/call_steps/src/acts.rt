@@ -1,16 +1,20 @@
-//! The acts of large blocks at the page map and at the names: each is one row of the call programs.
-ghost use Rattle.std.specs.Prelude.{◌≡◌, ◌<◌, ◌-◌, ◌^◌, OnOk, OnErr};
+//! The acts of large blocks at the page heap, at the page map and at the names: each is one row of the
+//! call programs.
+ghost use Rattle.std.specs.Prelude.{◌≡◌, ◌<◌, ◌-◌, ◌*◌, ◌^◌, OnOk, OnErr};
+ghost use Rattle.tc_units.specs.Units.{page_bytes};
+ghost use Rattle.tc_model.specs.declared.answers.Answer.TheVariants.{Block};
 ghost use Rattle.tc_model.specs.Steps.{acted};
-ghost use Rattle.call_steps.specs.Acts.{large, map_after, names_after, waits_for};
-ghost use Rattle.call_steps.specs.Fits.{FitsMapStep, FitsNamesStep};
+ghost use Rattle.call_steps.specs.Acts.{large, address_of, heap_after, map_after, names_after, waits_for};
+ghost use Rattle.call_steps.specs.Fits.{FitsHeapStep, FitsMapStep, FitsNamesStep};
 
 use crate::local::Local;
 use crate::step::{HeapStep, MapStep, NamesStep, Step};
 use name_table::{NameTable, Taken};
+use page_heap::PageHeap;
 use page_map::PageMap;
 use std::alloc::AllocError;
 use tc_model::{Acted, Answer};
-use tc_units::{Run, SpanKind, SpanRef, addr_of, page_of};
+use tc_units::{PAGE_BYTES, Run, SpanKind, SpanRef, addr_of, page_of, pages_for};
 
 /// A run as the span of a large block.
 fn large(run: Run) -> SpanRef
@@ -20,6 +24,44 @@ fn large(run: Run) -> SpanRef
         first: run.first,
         pages: run.pages,
         kind: SpanKind::Large,
+    }
+}
+
+/// The act at the page heap that the thread does next: New decides an allocation, whose block is the new
+/// run, or there is none; GiveBack frees a run, which decides a free and ends it.
+pub fn act_heap(heap: &mut PageHeap, local: &mut Local)
+    requires fits { FitsHeapStep heap.old local.old.step }
+    requires acts { local.old.acts < 2 ^ 64 - 1 }
+    ensures heap { heap.new ≡ (heap_after heap.old local.old local.old.step).0 }
+    ensures local { local.new ≡ (heap_after heap.old local.old local.old.step).1 }
+{
+    match local.step() {
+        Step::Heap(HeapStep::New { label, size }) => match heap.new_run(pages_for(size)) {
+            Some(run) => local.go_on_with(Step::Map(MapStep::Set { label, run }), block_of(run)),
+            None => {
+                let value = None;
+                local.go_on_with(
+                    Step::Names(NamesStep::Publish { label, value }),
+                    Answer::NoBlock,
+                );
+            }
+        },
+        Step::Heap(HeapStep::GiveBack { run, .. }) => {
+            heap.free_run(run);
+            let addr = addr_of(run.first);
+            local.end_free(Answer::Freed { addr });
+        }
+        _ => unreachable!(),
+    }
+}
+
+/// The answer of an allocation that got a run: the block of all its bytes.
+fn block_of(run: Run) -> Answer
+    ensures { result ≡ Block (address_of run) (run.pages * page_bytes) }
+{
+    Answer::Block {
+        addr: addr_of(run.first),
+        len: u64::from(run.pages) * PAGE_BYTES,
     }
 }
 

@@ -8,6 +8,6 @@ mod step;
 #[cfg(test)]
 mod tests;
 
-pub use acts::{act_map, act_names, waits};
+pub use acts::{act_heap, act_map, act_names, waits};
 pub use local::Local;
 pub use step::{HeapStep, MapStep, NamesStep, Step, Target};

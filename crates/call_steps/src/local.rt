@@ -1,9 +1,9 @@
 //! What one thread has: its script, the next act of its call under way, and its answers.
-ghost use Rattle.std.specs.Prelude.{◌≡◌, ◌-◌, ◌<◌, ◌^◌, [], length, drop, map, option_map, slice_get, Option, Some, IfOk, is_some, true};
+ghost use Rattle.std.specs.Prelude.{◌≡◌, ℕ, ◌-◌, ◌<◌, ◌^◌, [], length, drop, map, option_map, slice_get, Option, Some, IfOk, is_some, true};
 ghost use Rattle.tc_units.specs.declared.units.Label.{Label};
 ghost use Rattle.tc_model.specs.declared.calls.Call as call;
-ghost use Rattle.tc_model.specs.declared.calls.Call.TheVariants.{Free};
-ghost use Rattle.call_steps.specs.Local.{first_of_call, first_step, first_local, under, freed_by, goes_on, ends, decides, told};
+ghost use Rattle.tc_model.specs.declared.calls.Call.TheVariants.{Free, Malloc};
+ghost use Rattle.call_steps.specs.Local.{first_of_call, first_step, first_local, under, asked_by, freed_by, goes_on, ends, decides, told};
 ghost use Rattle.call_steps.specs.Kept.{target_of, IsOf};
 
 use crate::step::{HeapStep, NamesStep, Step, Target};
@@ -122,6 +122,23 @@ impl Local {
         requires call { (c : Option call.Call) → IsOf self.old.step c → IsOf next c }
         ensures { self.new ≡ goes_on self.old next [] }
     {
+        self.step = next;
+        self.acts += 1;
+    }
+
+    /// The act is done: it answers the allocation under way, which goes on with `next`.
+    pub(crate) fn go_on_with(&mut self, next: Step, answer: Answer)
+        requires acts { self.old.acts < 2 ^ 64 - 1 }
+        requires asked { is_some (asked_by self.old.step) ≡ true }
+        requires decided { under next ≡ 1 }
+        ensures { (label : Label) (size : ℕ) → asked_by self.old.step ≡ Some (label, size) → self.new ≡ goes_on self.old next (decides self.old (Malloc label size) answer) }
+    {
+        let line = self.script.as_slice()[self.place].line;
+        self.answers.push(Answered {
+            line,
+            act: self.acts,
+            answer,
+        });
         self.step = next;
         self.acts += 1;
     }
