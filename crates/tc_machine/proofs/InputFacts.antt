@@ -1,0 +1,119 @@
+-- A trace that was read gives back what it asks for, and its threads are those of the rules.
+use Rattle.std.proofs.Common.{◌≡◌, ℕ, zero, suc, ◌+◌, ◌<◌, ◌%◌, true, false, cond, eqb, List, [], ◌∷◌, ◌++◌, drop, map, length, refl, sym, ap, ◌∙◌, subst, inl, inr, arith, eq-eqb, append_assoc}
+use Rattle.std.specs.List.{range_with_len}
+use Rattle.std.proofs.lemmas.Bool.{cases_eq, ne_eqb}
+use Rattle.std.proofs.lemmas.List.{length-map}
+use Rattle.std.proofs.lemmas.List.FromFn.{length-range_with_len, get_or-map-range_with_len, map-range_with_len_more}
+use Rattle.tc_units.specs.declared.units.ThreadNo.{ThreadNo}
+use Rattle.tc_units.specs.declared.spans.ClassRow.{ClassRow}
+use Rattle.tc_model.specs.declared.calls.Planned.{Planned}
+use Rattle.tc_model.specs.declared.calls.Script.{Script}
+use Rattle.tc_model.specs.declared.config.Config.{Config}
+use Rattle.tc_model.specs.Input.{Input, Asked, ThreadCall, script_of, scripts_of, labels_of}
+use Rattle.trace_reader.specs.declared.trace.Trace.{Trace}
+use Rattle.trace_reader.specs.Traces.{trace_of}
+use Rattle.trace_reader.specs.Valid.{IsAsked, AreCalls}
+use Rattle.call_steps.specs.Local.{Local, first_local}
+use Rattle.tc_model.specs.Run.{world_of, start}
+use Rattle.alloc_rules.specs.Machine.{setup_of, thread_of, parts_of}
+use Rattle.alloc_rules.specs.Machine as allocator
+use Rattle.alloc_rules.specs.State.{first_of}
+use Rattle.alloc_rules.proofs.SerialGoes.{script-cons}
+use Rattle.tc_machine.specs.Inputs.{script_at, next_call, calls_by, asked_of, input_of}
+use Rattle.tc_machine.specs.Built.{IsRead}
+use Rattle.tc_machine.specs.Opening.{local_at, locals_at, parts_at}
+
+-- the script of a thread, by its place
+pub script_at_is : (n : ℕ) (calls : List ThreadCall) (t : ℕ) → t < n → script_at (map (λ u. let s : Script = record { calls = script_of u calls } in s) (range_with_len 0 n)) t ≡ script_of t calls
+script_at_is n calls t below = ap (λ (s : Script). s.calls) (get_or-map-range_with_len (λ u. let s : Script = record { calls = script_of u calls } in s) 0 n t t (record { calls = [] }) below (omega arith))
+
+-- all calls are made by threads below n
+abbrev pub AreBelow : ℕ → List ThreadCall → Type 0
+AreBelow n [] = Unit {0}
+AreBelow n (c ∷ cs) = (c.thread.0 < n) × AreBelow n cs
+
+below_from : (classes : ℕ) (config : Config) (all earlier calls : List ThreadCall) → AreCalls classes config all → earlier ++ calls ≡ all → AreBelow config.threads calls
+below_from classes config all earlier [] valid is = tt
+below_from classes config all earlier (c ∷ cs) valid is =
+    ((valid earlier c cs is).thread, below_from classes config all (earlier ++ c ∷ []) cs valid (append_assoc earlier (c ∷ []) cs ∙ is))
+
+pub below_read : (classes : ℕ) (asked : Asked) → IsAsked classes asked → AreBelow asked.config.threads asked.calls
+below_read classes asked valid = below_from classes asked.config asked.calls [] asked.calls valid.calls refl
+
+-- the calls in trace order, from the scripts
+calls_are : (n : ℕ) (calls : List ThreadCall) (left : ℕ → List Planned) → ((u : ℕ) → u < n → left u ≡ script_of u calls) → AreBelow n calls → calls_by (map (λ (c : ThreadCall). c.thread) calls) left ≡ calls
+calls_are n [] left same below = refl
+calls_are n (c ∷ cs) left same below =
+    let t : ℕ = c.thread.0 in
+    let own : script_of t (c ∷ cs) ≡ c.planned ∷ script_of t cs = script-cons t c cs ∙ ap (λ b. cond b (c.planned ∷ script_of t cs) (script_of t cs)) (eq-eqb t t refl) in
+    let here : left t ≡ c.planned ∷ script_of t cs = same t below.0 ∙ own in
+    let next : ℕ → List Planned = λ u. cond (eqb u t) (drop 1 (left u)) (left u) in
+    let rest : (u : ℕ) → u < n → next u ≡ script_of u cs = λ u in_range. elim (cases_eq u t) [
+      | inl is ↦
+          let e : eqb u t ≡ true = eq-eqb u t is in
+          ap (λ b. cond b (drop 1 (left u)) (left u)) e ∙ (ap (λ v. drop 1 (left v)) is ∙ ap (drop 1) here ∙ sym (ap (λ v. script_of v cs) is))
+      | inr apart ↦
+          let e : eqb u t ≡ false = ne_eqb u t apart in
+          let f : eqb t u ≡ false = ne_eqb t u (λ is. apart (sym is)) in
+          ap (λ b. cond b (drop 1 (left u)) (left u)) e ∙ (same u in_range ∙ (script-cons u c cs ∙ ap (λ b. cond b (c.planned ∷ script_of u cs) (script_of u cs)) f))
+    ] in
+    ap (λ ps. next_call c.thread ps ++ calls_by (map (λ (d : ThreadCall). d.thread) cs) next) here
+    ∙ ap (λ ds. c ∷ ds) (calls_are n cs next rest below.1)
+
+asked_again : (classes : ℕ) (asked : Asked) → IsAsked classes asked → asked_of (trace_of asked) ≡ asked
+asked_again classes asked valid =
+    ap (λ cs. let a : Asked = record { config = asked.config; calls = cs } in a) (calls_are asked.config.threads asked.calls (script_at (scripts_of asked)) (λ u below. script_at_is asked.config.threads asked.calls u below) (below_read classes asked valid))
+
+pub asked_is : (classes : ℕ) (trace : Trace) (asked : Asked) → IsRead classes trace asked → asked_of trace ≡ asked
+asked_is classes trace asked read = ap asked_of read.is ∙ asked_again classes asked read.valid
+
+pub input_is : (rows : List ClassRow) (classes : ℕ) (trace : Trace) (asked : Asked) → IsRead classes trace asked → input_of rows trace ≡ record { rows = rows; asked = asked }
+input_is rows classes trace asked read = ap (λ a. let i : Input = record { rows = rows; asked = a } in i) (asked_is classes trace asked read)
+
+-- Two functions that agree below n give the same list there.
+pub same_below : {X : Type 0} (f g : ℕ → X) (n : ℕ) → ((t : ℕ) → t < n → f t ≡ g t) → map f (range_with_len 0 n) ≡ map g (range_with_len 0 n)
+same_below f g zero same = refl
+same_below {X} f g (suc n) same =
+    let e : suc n ≡ n + 1 = omega arith in
+    let P : ℕ → Type 0 = λ k. map f (range_with_len 0 k) ≡ map g (range_with_len 0 k) in
+    subst P (sym e)
+    (map-range_with_len_more f 0 n n (omega arith)
+    ∙ (ap (λ xs. xs ++ f n ∷ []) (same_below f g n (λ t below. same t (omega arith)))
+    ∙ (ap (λ x. map g (range_with_len 0 n) ++ x ∷ []) (same n (omega arith))
+    ∙ sym (map-range_with_len_more g 0 n n (omega arith)))))
+
+map_twice : {X Y Z : Type 0} (f : X → Y) (g : Y → Z) (xs : List X) → map g (map f xs) ≡ map (λ x. g (f x)) xs
+map_twice f g [] = refl
+map_twice f g (x ∷ xs) = ap (λ ys. g (f x) ∷ ys) (map_twice f g xs)
+
+scripts_count : (asked : Asked) → length (scripts_of asked) ≡ asked.config.threads
+scripts_count asked = length-map (range_with_len 0 asked.config.threads) (λ t. let s : Script = record { calls = script_of t asked.calls } in s) ∙ length-range_with_len 0 asked.config.threads
+
+pub threads_are : (classes : ℕ) (trace : Trace) (asked : Asked) → IsRead classes trace asked → length trace.scripts ≡ trace.config.threads
+threads_are classes trace asked read =
+    ap (λ (t : Trace). length t.scripts) read.is ∙ (scripts_count asked ∙ sym (ap (λ (t : Trace). t.config.threads) read.is))
+
+-- the turns of the rules are those of the trace
+pub turns_are : (rows : List ClassRow) (classes : ℕ) (trace : Trace) (asked : Asked) → IsRead classes trace asked → map (λ (t : ThreadNo). t.0) trace.turns ≡ allocator.turns (input_of rows trace)
+turns_are rows classes trace asked read =
+    ap (λ (t : Trace). map (λ (u : ThreadNo). u.0) t.turns) read.is
+    ∙ (map_twice (λ (c : ThreadCall). c.thread) (λ (u : ThreadNo). u.0) asked.calls
+    ∙ sym (ap allocator.turns (input_is rows classes trace asked read)))
+
+-- the threads at the start, and the whole start
+locals_are : (rows : List ClassRow) (asked : Asked) → locals_at asked.config.cpus (scripts_of asked) ≡ map first_of (setup_of (record { rows = rows; asked = asked })).threads
+locals_are rows asked =
+    let input : Input = record { rows = rows; asked = asked } in
+    let n : ℕ = asked.config.threads in
+    let local : ℕ → List Planned → Local = λ t ps. first_local (record { 0 = t }) (record { 0 = t % asked.config.cpus }) ps in
+    ap (λ k. map (local_at asked.config.cpus (scripts_of asked)) (range_with_len 0 k)) (scripts_count asked)
+    ∙ (same_below (local_at asked.config.cpus (scripts_of asked)) (λ t. first_of (thread_of input t)) n (λ t below. ap (local t) (script_at_is n asked.calls t below))
+    ∙ sym (map_twice (thread_of input) first_of (range_with_len 0 n)))
+
+start_again : (rows : List ClassRow) (asked : Asked) → world_of (parts_of (parts_at asked.config (labels_of asked))) (locals_at asked.config.cpus (scripts_of asked)) ≡ start (allocator.rules (record { rows = rows; asked = asked }))
+start_again rows asked = ap (λ ls. world_of (parts_of (parts_at asked.config (labels_of asked))) ls) (locals_are rows asked)
+
+pub start_is : (rows : List ClassRow) (classes : ℕ) (trace : Trace) (asked : Asked) → IsRead classes trace asked → world_of (parts_of (parts_at trace.config trace.labels)) (locals_at trace.config.cpus trace.scripts) ≡ start (allocator.rules (input_of rows trace))
+start_is rows classes trace asked read =
+    ap (λ (t : Trace). world_of (parts_of (parts_at t.config t.labels)) (locals_at t.config.cpus t.scripts)) read.is
+    ∙ (start_again rows asked ∙ sym (ap (λ i. start (allocator.rules i)) (input_is rows classes trace asked read)))

@@ -1,0 +1,71 @@
+-- What a state's clauses need of the machine's run that it keeps.
+use Rattle.std.proofs.Common.{◌≡◌, ℕ, ◌≤◌, ◌<◌, List, [], ◌∷◌, length, refl, ap, sym, subst, ◌∙◌, arith}
+use Rattle.std.specs.Prelude.{All}
+use Rattle.std.proofs.lemmas.List.{length-set}
+use Rattle.std.proofs.lemmas.List.Elements.{All-append, All-cons, All-nil}
+use Rattle.std.proofs.lemmas.Option.{slice_get_within}
+use Rattle.std.specs.List.{range_with_len}
+use Rattle.std.proofs.lemmas.List.{length-map}
+use Rattle.std.proofs.lemmas.List.FromFn.{length-range_with_len}
+use Rattle.tc_model.specs.declared.config.Config.{Config}
+use Rattle.tc_model.specs.Input.{Input}
+use Rattle.tc_model.specs.Run.{Rules, World, world_of, start, run}
+use Rattle.tc_model.specs.Steps.{moving}
+use Rattle.tc_model.proofs.MovingFacts.{IsKeptWith, run_keeps_with, move_all}
+use Rattle.call_steps.specs.Local.{Local}
+use Rattle.alloc_rules.specs.declared.part.Part.{Part}
+use Rattle.alloc_rules.specs.Law.{HoldsAfter}
+use Rattle.alloc_rules.specs.Machine.{thread_of, setup_of}
+use Rattle.alloc_rules.specs.Machine as allocator
+use Rattle.alloc_rules.specs.State.{first_of}
+use Rattle.alloc_rules.proofs.Laws.{holds_after}
+use Rattle.tc_machine.specs.declared.machine.AllocMachine.{AllocMachine}
+use Rattle.tc_machine.specs.Held.{input_in}
+
+-- there is a local for each thread
+pub locals_count : (input : Input) → length (allocator.rules input).locals ≡ input.asked.config.threads
+locals_count input = length-map (setup_of input).threads first_of ∙ (length-map (range_with_len 0 input.asked.config.threads) (thread_of input) ∙ length-range_with_len 0 input.asked.config.threads)
+
+pub below_locals : (input : Input) (t : ℕ) → t < input.asked.config.threads → t < length (allocator.rules input).locals
+below_locals input t below = omega (arith, below, locals_count input)
+
+-- the most picks that may move
+pub limit_is : (m : AllocMachine) (limit : ℕ) → limit ≡ m.config.events → limit ≡ (input_in m).asked.config.events
+limit_is m limit is = is ∙ ap (λ (config : Config). config.events) m.same_config
+
+-- what holds between any two picks
+pub holds_in : (m : AllocMachine) (order : List ℕ) (limit : ℕ) → moving (allocator.rules (input_in m)) (start (allocator.rules (input_in m))) order ≡ order → length order ≤ limit → limit ≤ 40000000 → HoldsAfter (input_in m) order
+holds_in m order limit moves few most = holds_after (input_in m) m.valid order (record { moves = move_all (allocator.rules (input_in m)) order moves; few = omega (arith, few, most) })
+
+-- The picks of an order are of threads that there are.
+pub record HasThreads (n : ℕ) (w : World Part Local) (order : List ℕ) : Type 0 where
+  pub count : length w.locals ≡ n
+  pub below : All (λ t. t < n) order
+
+threads_kept : (r : Rules Part Local) (n : ℕ) → IsKeptWith 40000000 r (HasThreads n)
+threads_kept r n w order t l place q few good local want there goes =
+    let within : t < n = omega (arith, slice_get_within w.locals t l local, good.count) in
+    record { count = length-set w.locals t (r.after q l).1 ∙ good.count; below = All-append (λ u. u < n) order (t ∷ []) good.below (All-cons (λ u. u < n) t [] within (All-nil (λ u. u < n))) }
+
+pub threads_below : (r : Rules Part Local) (order : List ℕ) → length order ≤ 40000000 → moving r (start r) order ≡ order → HasThreads (length r.locals) (run r order) order
+threads_below r order few moves = run_keeps_with 40000000 r (HasThreads (length r.locals)) (threads_kept r (length r.locals)) (record { count = refl; below = All-nil (λ u. u < length r.locals) }) order few (move_all r order moves)
+
+-- What is kept of a run tells its parts and its locals.
+pub record IsTold (input : Input) (order : List ℕ) (parts : List Part) (locals : List Local) : Type 0 where
+  pub holds : HoldsAfter input order
+  pub parts_are : parts ≡ allocator.parts_of holds.parts
+  pub locals_are : locals ≡ holds.locals
+  pub threads : All (λ t. t < length locals) order
+
+pub told_of : (m : AllocMachine) (parts : List Part) (locals : List Local) (order : List ℕ) (limit : ℕ) → world_of parts locals ≡ run (allocator.rules (input_in m)) order → moving (allocator.rules (input_in m)) (start (allocator.rules (input_in m))) order ≡ order → length order ≤ limit → limit ≤ 40000000 → IsTold (input_in m) order parts locals
+told_of m parts locals order limit is moves few most =
+    let h = holds_in m order limit moves few most in
+    let same : world_of parts locals ≡ world_of (allocator.parts_of h.parts) h.locals = is ∙ h.is in
+    let t = threads_below (allocator.rules (input_in m)) order (omega (arith, few, most)) moves in
+    let count : length locals ≡ length (allocator.rules (input_in m)).locals = ap (λ (w : World Part Local). length w.locals) is ∙ t.count in
+    record {
+      holds = h;
+      parts_are = ap (λ (w : World Part Local). w.parts) same;
+      locals_are = ap (λ (w : World Part Local). w.locals) same;
+      threads = subst (λ n. All (λ u. u < n) order) (sym count) t.below;
+    }

@@ -1,0 +1,148 @@
+-- How the mark of a thread goes on.
+use Rattle.std.proofs.Common.{◌≡◌, ℕ, zero, suc, ◌+◌, ◌<◌, ◌≤◌, true, false, eqb, eq-eqb, get_or, List, [], ◌∷◌, ◌++◌, length, drop, map, Option, None, Some, refl, sym, ap, ◌∙◌, subst, arith, inl, inr}
+use Rattle.std.specs.Prelude.{option_map, replicate}
+use Rattle.std.specs.List.{slice_get, slice_set}
+use Rattle.std.proofs.lemmas.List.{length-replicate, length-set}
+use Rattle.std.proofs.lemmas.Option.{slice_get_within, slice_get-get_or}
+use Rattle.tc_model.proofs.Lists.{set_here, set_elsewhere}
+use Rattle.tc_model.proofs.CallSteps.{picks-push_same, picks-push_other, calls_from-push}
+use Rattle.std.proofs.lemmas.Bool.{cases_eq, false≢true, eqb-true, ne_eqb, cond-true, cond-false}
+use Rattle.tc_model.specs.declared.answers.CallLine.{CallLine}
+use Rattle.tc_model.specs.Calls.{AreRising, first_at, picks_of, answers_at, calls_from, decided_by}
+use Rattle.tc_model.proofs.Rising.{rising_first}
+use Rattle.call_steps.specs.Local.{Local as Thread, Decided, told}
+use Rattle.tc_machine.specs.declared.telling.Mark.{Mark}
+use Rattle.tc_machine.specs.Telling.{decided_at, is_of, IsMark}
+
+abbrev pub act_of : Decided → ℕ
+act_of d = d.act
+
+-- whether an answer is of a pick, by its act alone
+pub some_is_of : (n a : ℕ) (o : Option Decided) → option_map act_of o ≡ Some a → is_of n o ≡ eqb a n
+some_is_of n a None is = absurd (cc)
+some_is_of n a (Some d) is = let same : d.act ≡ a = cc in ap (λ k. eqb k n) same
+
+pub none_is_of : (n : ℕ) (o : Option Decided) → option_map act_of o ≡ None → is_of n o ≡ false
+none_is_of n None is = refl
+none_is_of n (Some d) is = absurd (cc)
+
+-- what stands at a place stands first behind it
+split_at : {X : Type 0} (xs : List X) (i : ℕ) (x : X) → slice_get xs i ≡ Some x → drop i xs ≡ x ∷ drop (i + 1) xs
+split_at [] i x is = absurd (cc)
+split_at (y ∷ ys) zero x is = let e : y ≡ x = cc in ap (λ z. z ∷ ys) e
+split_at (y ∷ ys) (suc i) x is = split_at ys i x is ∙ ap (λ n. x ∷ drop n (y ∷ ys)) (let e : suc (i + 1) ≡ suc i + 1 = omega arith in e)
+
+past_all : {X : Type 0} (xs : List X) (i : ℕ) → slice_get xs i ≡ None → drop i xs ≡ []
+past_all [] zero is = refl
+past_all [] (suc i) is = refl
+past_all (y ∷ ys) zero is = absurd (cc)
+past_all (y ∷ ys) (suc i) is = past_all ys i is
+
+within_at : {X : Type 0} (xs : List X) (i : ℕ) (x : X) → slice_get xs i ≡ Some x → i + 1 ≤ length xs
+within_at [] i x is = absurd (cc)
+within_at (y ∷ ys) zero x is = omega arith
+within_at (y ∷ ys) (suc i) x is = omega (arith, within_at ys i x is)
+
+-- The next pick decided the answer at the place.
+module _ (answers : List Decided) (m : Mark) (mark : IsMark answers m) where
+  here : decided_at m.picks answers ≡ first_at act_of m.picks (drop m.told answers)
+  here = mark.later m.picks (omega arith) ∙ rising_first act_of m.picks (drop m.told answers) mark.behind
+
+  decides : (o : Option Decided) → slice_get answers m.told ≡ o → is_of m.picks o ≡ true → (d : Decided) × (slice_get answers m.told ≡ Some d) × (d.act ≡ m.picks)
+  decides None at is = absurd (cc)
+  decides (Some d) at is = (d, at, eqb-true d.act m.picks is)
+
+  pub line_told : (thread : ℕ) (line : CallLine) → Some line ≡ option_map (told thread) (slice_get answers m.told) → is_of m.picks (slice_get answers m.told) ≡ true → line ∷ [] ≡ map (told thread) (decided_at m.picks answers)
+  line_told thread line is decided =
+      let d = decides (slice_get answers m.told) refl decided in
+      let same : Some line ≡ Some (told thread d.0) = is ∙ ap (option_map (told thread)) d.1 in
+      let e : line ≡ told thread d.0 = cc in
+      let first : first_at act_of m.picks (drop m.told answers) ≡ d.0 ∷ [] = ap (first_at act_of m.picks) (split_at answers m.told d.0 d.1) ∙ cond-true (eqb d.0.act m.picks) (d.0 ∷ []) [] (eq-eqb d.0.act m.picks d.2) in
+      ap (λ x. x ∷ []) e ∙ sym (ap (map (told thread)) (here ∙ first))
+
+  pub mark_told : is_of m.picks (slice_get answers m.told) ≡ true → IsMark answers (record { picks = m.picks + 1; told = m.told + 1 })
+  mark_told decided =
+      let d = decides (slice_get answers m.told) refl decided in
+      let rest : drop m.told answers ≡ d.0 ∷ drop (m.told + 1) answers = split_at answers m.told d.0 d.1 in
+      let rising : AreRising act_of m.picks (d.0 ∷ drop (m.told + 1) answers) = subst (AreRising act_of m.picks) rest mark.behind in
+      record {
+        within = within_at answers m.told d.0 d.1;
+        behind = subst (λ n. AreRising act_of (n + 1) (drop (m.told + 1) answers)) d.2 rising.1;
+        later = λ n from.
+            let other : eqb d.0.act n ≡ false = ne_eqb d.0.act n (λ same. absurd (omega (arith, from, same, d.2))) in
+            mark.later n (omega (arith, from)) ∙ (ap (decided_at n) rest ∙ cond-false (eqb d.0.act n) (d.0 ∷ decided_at n (drop (m.told + 1) answers)) (decided_at n (drop (m.told + 1) answers)) other);
+      }
+
+  -- the next pick decided nothing
+  first_behind : (o : Option Decided) → slice_get answers m.told ≡ o → is_of m.picks o ≡ false → (first_at act_of m.picks (drop m.told answers) ≡ []) × AreRising act_of (m.picks + 1) (drop m.told answers)
+  first_behind None at is =
+      let none = past_all answers m.told at in
+      (ap (first_at act_of m.picks) none, subst (AreRising act_of (m.picks + 1)) (sym none) tt)
+  first_behind (Some d) at is =
+      let rest : drop m.told answers ≡ d ∷ drop (m.told + 1) answers = split_at answers m.told d at in
+      let rising : AreRising act_of m.picks (d ∷ drop (m.told + 1) answers) = subst (AreRising act_of m.picks) rest mark.behind in
+      let above : m.picks + 1 ≤ d.act = elim (cases_eq d.act m.picks) [
+        | inl same ↦ absurd (false≢true (sym is ∙ eq-eqb d.act m.picks same))
+        | inr other ↦ (let low = rising.0 in omega (arith, low, other))
+      ] in
+      (ap (first_at act_of m.picks) rest ∙ cond-false (eqb d.act m.picks) (d ∷ []) [] is, subst (AreRising act_of (m.picks + 1)) (sym rest) (above, rising.1))
+
+  pub nothing_told : (thread : ℕ) → is_of m.picks (slice_get answers m.told) ≡ false → [] ≡ map (told thread) (decided_at m.picks answers)
+  nothing_told thread undecided = sym (ap (map (told thread)) (here ∙ (first_behind (slice_get answers m.told) refl undecided).0))
+
+  pub mark_passed : is_of m.picks (slice_get answers m.told) ≡ false → IsMark answers (record { picks = m.picks + 1; told = m.told })
+  mark_passed undecided = record { within = mark.within; behind = (first_behind (slice_get answers m.told) refl undecided).1; later = λ n from. mark.later n (omega (arith, from)) }
+
+slice_get-replicate : {X : Type 0} (n : ℕ) (x : X) (i : ℕ) → i < n → slice_get (replicate n x) i ≡ Some x
+slice_get-replicate zero x i below = absurd (omega (arith, below))
+slice_get-replicate (suc n) x zero below = refl
+slice_get-replicate (suc n) x (suc i) below = slice_get-replicate n x i (omega (arith, below))
+
+-- The marks of all threads, after some picks.
+pub record AreMarks (locals : List Thread) (marks : List Mark) (past : List ℕ) : Type 0 where
+  pub count : length marks ≡ length locals
+  pub each : (u : ℕ) (k : Thread) (m : Mark) → slice_get locals u ≡ Some k → slice_get marks u ≡ Some m → (m.picks ≡ picks_of u past) × IsMark k.answers m
+
+pub first_marks : (locals : List Thread) (marks : List Mark) → marks ≡ replicate (length locals) (record { picks = 0; told = 0 }) → ((t : ℕ) (l : Thread) → slice_get locals t ≡ Some l → AreRising act_of 0 l.answers) → AreMarks locals marks []
+first_marks locals marks is rising =
+    let none : Mark = record { picks = 0; told = 0 } in
+    record {
+      count = ap length is ∙ length-replicate (length locals) none;
+      each = λ u k m local mark.
+          let within : u < length locals = slice_get_within locals u k local in
+          let there : slice_get (replicate (length locals) none) u ≡ Some none = slice_get-replicate (length locals) none u within in
+          let same : Some none ≡ Some m = sym there ∙ (ap (λ xs. slice_get xs u) (sym is) ∙ mark) in
+          let e : none ≡ m = cc in
+          subst (λ (x : Mark). (x.picks ≡ 0) × IsMark k.answers x) e (refl, record { within = omega arith; behind = rising u k local; later = λ n from. refl });
+    }
+
+-- one pick more
+pub next_marks : (locals : List Thread) (marks : List Mark) (past : List ℕ) (t : ℕ) (k : Thread) (m m' : Mark) → AreMarks locals marks past → slice_get locals t ≡ Some k → slice_get marks t ≡ Some m → m'.picks ≡ m.picks + 1 → IsMark k.answers m' → AreMarks locals (slice_set marks t m') (past ++ t ∷ [])
+next_marks locals marks past t k m m' are local mark picks next =
+    record {
+      count = length-set marks t m' ∙ are.count;
+      each = λ u l x there at. elim (cases_eq t u) [
+        | inl same ↦
+            let e : Some m' ≡ Some x = sym (set_here marks t m' m mark) ∙ (ap (λ v. slice_get (slice_set marks t m') v) same ∙ at) in
+            let d : m' ≡ x = cc in
+            let f : Some k ≡ Some l = sym local ∙ (ap (slice_get locals) same ∙ there) in
+            let g : k ≡ l = cc in
+            let n : picks_of u (past ++ t ∷ []) ≡ picks_of t past + 1 = ap (λ v. picks_of v (past ++ t ∷ [])) (sym same) ∙ picks-push_same t past in
+            (omega (arith, ap (λ (y : Mark). y.picks) d, picks, (are.each t k m local mark).0, n), subst (λ (y : Mark). IsMark l.answers y) d (subst (λ (y : Thread). IsMark y.answers m') g next))
+        | inr apart ↦
+            let old = are.each u l x there (sym (set_elsewhere marks t u m' apart) ∙ at) in
+            (old.0 ∙ sym (picks-push_other u t past apart), old.1)
+      ];
+    }
+
+pub here_is : {X : Type 0} (xs : List X) (t : ℕ) (x : X) → t < length xs → x ≡ get_or xs t x → slice_get xs t ≡ Some x
+here_is xs t x below is = slice_get-get_or xs t x below ∙ ap (λ y. Some y) (sym is)
+
+-- what the next pick of thread t adds to the calls
+pub told_next : (locals : List Thread) (past : List ℕ) (t n : ℕ) (k : Thread) (added : List CallLine) → slice_get locals t ≡ Some k → k.thread.0 ≡ t → n ≡ picks_of t past → added ≡ map (told k.thread.0) (decided_at n k.answers) →
+    calls_from (decided_by (λ (l : Thread). l.answers) act_of told locals) [] (past ++ t ∷ []) ≡ calls_from (decided_by (λ (l : Thread). l.answers) act_of told locals) [] past ++ added
+told_next locals past t n k added local own picks is =
+    let decided = decided_by (λ (l : Thread). l.answers) act_of told locals in
+    let number : picks_of t [] + picks_of t past ≡ n = omega (arith, picks) in
+    let same : decided t n ≡ added = ap (λ o. map (told t) (decided_at n (answers_at (λ (l : Thread). l.answers) o))) local ∙ (ap (λ u. map (told u) (decided_at n k.answers)) (sym own) ∙ sym is) in
+    calls_from-push decided [] past t ∙ ap (λ xs. calls_from decided [] past ++ xs) (ap (decided t) number ∙ same)

@@ -1,0 +1,7 @@
+use Rattle.std.proofs.Common.{◌≡◌, map, length}
+use Rattle.std.specs.List.{range_with_len}
+use Rattle.tc_machine.specs.Opening.{local_at}
+use Rattle.tc_machine.proofs.opening.locals_of.Given as goal
+
+abbrev pub invariant-loop-script : goal.invariant-loop-script
+invariant-loop-script l = l.locals.items ≡ map (local_at l.cpus l.fn.scripts.items) (range_with_len 0 (length l.yielded))

@@ -1,0 +1,26 @@
+use Rattle.std.proofs.Common.{ap, subst, arith}
+use Rattle.std.specs.Result.{IfErr}
+use Rattle.std.specs.List.{slice_index_or}
+use Rattle.tc_model.specs.Serial.{completed, followed, IsCutShort}
+use Rattle.alloc_rules.specs.Machine as allocator
+use Rattle.tc_machine.specs.Played.{Played}
+use Rattle.tc_machine.specs.Held.{input_in}
+use Rattle.tc_machine.proofs.StateFacts.{below_locals, limit_is, holds_in}
+use Rattle.tc_machine.proofs.state.State.run_order.Goals as goal
+
+pub run_order-requires : goal.run_order-requires
+run_order-requires c k d within =
+    below_locals (input_in c.self.inside.replay.machine) (slice_index_or c.args.picks.now k d) (omega (arith, c.requires k d within, ap (λ (p : Played). p.input.asked.config.threads) c.self.view_is))
+
+pub returns-clause-fault : goal.returns-clause-fault
+returns-clause-fault c =
+    let r = c.self.inside.replay in
+    let i = input_in r.machine in
+    let picks = c.args.picks.now in
+    let fault = subst (λ n. IfErr c.run_order.result (IsCutShort (allocator.rules i) n (completed (allocator.rules i) (allocator.turns i) n (followed (allocator.rules i) n r.order.items picks)) c.run_order.new.self.order.items)) (limit_is r.machine r.limit c.self.invariant) c.run_order.ensures.err in
+    subst (λ (p : Played). IfErr c.run_order.result (IsCutShort (allocator.rules p.input) p.input.asked.config.events (completed (allocator.rules p.input) (allocator.turns p.input) p.input.asked.config.events (followed (allocator.rules p.input) p.input.asked.config.events p.order picks)) c.run_order.new.self.order.items)) c.self.view_is fault
+
+pub returns-clause-holds : goal.returns-clause-holds
+returns-clause-holds c =
+    let r = c.run_order.new.self in
+    holds_in r.machine r.order.items r.limit r.moves r.few r.most

@@ -1,0 +1,20 @@
+use Rattle.std.proofs.Common.{subst}
+use Rattle.std.specs.Result.{IfErr}
+use Rattle.tc_model.specs.Serial.{completed, IsCutShort}
+use Rattle.alloc_rules.specs.Machine as allocator
+use Rattle.tc_machine.specs.Played.{Played}
+use Rattle.tc_machine.specs.Held.{input_in}
+use Rattle.tc_machine.proofs.StateFacts.{limit_is, holds_in}
+use Rattle.tc_machine.proofs.state.State.run_serial.Goals as goal
+
+pub returns-clause-fault : goal.returns-clause-fault
+returns-clause-fault c =
+    let r = c.self.inside.replay in
+    let i = input_in r.machine in
+    let fault = subst (λ n. IfErr c.run_serial.result (IsCutShort (allocator.rules i) n (completed (allocator.rules i) (allocator.turns i) n r.order.items) c.run_serial.new.self.order.items)) (limit_is r.machine r.limit c.self.invariant) c.run_serial.ensures.err in
+    subst (λ (p : Played). IfErr c.run_serial.result (IsCutShort (allocator.rules p.input) p.input.asked.config.events (completed (allocator.rules p.input) (allocator.turns p.input) p.input.asked.config.events p.order) c.run_serial.new.self.order.items)) c.self.view_is fault
+
+pub returns-clause-holds : goal.returns-clause-holds
+returns-clause-holds c =
+    let r = c.run_serial.new.self in
+    holds_in r.machine r.order.items r.limit r.moves r.few r.most

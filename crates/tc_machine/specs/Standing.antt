@@ -1,0 +1,25 @@
+-- The blocks that stand after some calls, as code keeps them: by address, with their number and bytes.
+use Rattle.std.specs.Prelude.{◌≡◌, ℕ, ◌*◌, ◌^◌, ◌<◌, ◌≤◌, ◌==◌, nat_eq, List, length, find, option_map}
+use Rattle.std.specs.HashMap.{get}
+use Rattle.tc_model.specs.declared.answers.CallLine.{CallLine}
+use Rattle.tc_model.specs.Blocks.{Extent, blocks_after, live_count, live_bytes, IsAllowed}
+use Rattle.alloc_rules.specs.Apart.{AreApart}
+use Rattle.tc_machine.specs.declared.standing.Standing.{Standing}
+
+pub record AreStanding (earlier : List CallLine) (s : Standing) : Type 0 where
+  pub lens : (a : ℕ) → get nat_eq s.lens a ≡ option_map (λ (b : Extent). b.len) (find (λ (b : Extent). b.addr == a) (blocks_after earlier))
+  pub count : s.count ≡ live_count earlier
+  pub bytes : s.bytes ≡ live_bytes earlier
+  pub few : s.count ≤ length earlier
+  pub small : s.bytes ≤ length earlier * 2 ^ 34
+
+-- a call that comes behind some calls whose blocks stand: its answer is one that they allow
+pub record IsNext (s : Standing) (line : CallLine) : Type 0 where
+  pub huge : ℕ
+  pub round : ℕ → ℕ
+  pub earlier : List CallLine
+  pub arena : huge ≤ 4096
+  pub few : length earlier < 2 ^ 29
+  pub standing : AreStanding earlier s
+  pub apart : AreApart (blocks_after earlier)
+  pub allowed : IsAllowed huge round earlier line.call line.answer

@@ -1,0 +1,20 @@
+-- How far a thread has come in telling the calls that its picks decided.
+use Rattle.std.specs.Prelude.{◌≡◌, ℕ, ◌≤◌, ◌==◌, Bool, false, List, length, drop, filter, Option, None, Some}
+use Rattle.tc_model.specs.Calls.{AreRising}
+use Rattle.call_steps.specs.Local.{Decided}
+use Rattle.tc_machine.specs.declared.telling.Mark.{Mark}
+
+-- the answers that a pick decided, by its number among the thread's picks
+abbrev pub decided_at : ℕ → List Decided → List Decided
+decided_at n answers = filter (λ (d : Decided). d.act == n) answers
+
+-- whether an answer was decided by a pick
+abbrev pub is_of : ℕ → Option Decided → Bool
+is_of n None = false
+is_of n (Some d) = d.act == n
+
+-- all answers that later picks decided stand behind the place, in their order
+pub record IsMark (answers : List Decided) (m : Mark) : Type 0 where
+  pub within : m.told ≤ length answers
+  pub behind : AreRising (λ (d : Decided). d.act) m.picks (drop m.told answers)
+  pub later : (n : ℕ) → m.picks ≤ n → decided_at n answers ≡ decided_at n (drop m.told answers)

@@ -1,0 +1,51 @@
+//! What a run has to tell: its blocks, and the measures of its hugepages.
+ghost use Rattle.std.specs.Prelude.{◌≡◌, ℕ, ◌^◌, ◌<◌, ◌≤◌, length, map, IfOk, Some, slice_get};
+ghost use Rattle.heap_rules.specs.Heap.{Heap, row_of};
+ghost use Rattle.alloc_rules.specs.declared.part.Part.TheVariants as part;
+ghost use Rattle.std.specs.List.{range_with_len};
+ghost use Rattle.tc_model.specs.Blocks.{IsBlockRun};
+ghost use Rattle.tc_machine.specs.Standing.{AreStanding};
+
+use crate::standing::Standing;
+use alloc_rules::Part;
+use page_heap::PageHeap;
+use std::alloc::{AllocError, Global};
+use tc_model::CallLine;
+use tc_units::{Huge, RowView};
+
+/// The page heap, which is the part with number 0.
+pub fn heap_of(parts: &[Part]) -> &PageHeap
+    requires { (heap : Heap) × (slice_get parts.now 0 ≡ Some (part.Heap heap)) }
+    ensures { slice_get parts.now 0 ≡ Some (part.Heap result.now) }
+{
+    match &parts[0] {
+        Part::Heap(heap) => heap,
+        _ => unreachable!(),
+    }
+}
+
+/// The measures of each hugepage, in order.
+pub fn rows_of(alloc: Global, heap: &PageHeap, huge: u32) -> Result<Vec<RowView>, AllocError>
+    requires all { huge ≡ heap.now.config.huge }
+    requires few { huge ≤ 4096 }
+    ensures { IfOk result (λ rows. rows.items ≡ map (row_of heap.now) (range_with_len 1 huge)) }
+{
+    let mut rows = Vec::new(alloc);
+    for place in 0..huge {
+        rows.push(heap.row(Huge(place as u16 + 1)))?;
+    }
+    Ok(rows)
+}
+
+/// The blocks that stand after calls that are a run on disjoint blocks.
+pub(crate) fn standing_after(alloc: Global, calls: &[CallLine]) -> Result<Standing, AllocError>
+    requires run { (huge : ℕ) × (round : ℕ → ℕ) × IsBlockRun huge round calls.now × (huge ≤ 4096) }
+    requires few { length calls.now < 2 ^ 29 }
+    ensures { IfOk result (AreStanding calls.now) }
+{
+    let mut standing = Standing::new(alloc);
+    for line in calls {
+        standing.tell(line)?;
+    }
+    Ok(standing)
+}

@@ -1,0 +1,18 @@
+//! The allocator as a machine: any number of threads, whose picks come in any order. Today it serves
+//! large blocks.
+#![tactic(auto)]
+
+mod built;
+mod finish;
+mod machine;
+mod opening;
+mod standing;
+mod state;
+mod telling;
+#[cfg(test)]
+mod tests;
+
+pub use alloc_rules::Part;
+pub use built::first_unbuilt;
+pub use machine::AllocMachine;
+pub use state::State;
