@@ -1,0 +1,14 @@
+pub mod Asked
+pub mod Carried
+pub mod Drawing
+pub mod Ends
+pub mod Facts
+pub mod Giving
+pub mod Halting
+pub mod Hands
+pub mod Later
+pub mod Opening
+pub mod Numbers
+pub mod Seating
+pub mod Steps
+pub mod Taking

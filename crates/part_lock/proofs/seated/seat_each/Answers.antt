@@ -1,0 +1,84 @@
+use Rattle.std.proofs.Common.{◌≡◌, ◌++◌, All, length, map, reverse, refl, sym, ap, ◌∙◌, subst, arith, Some, add-one}
+use Rattle.std.specs.List.{slice_get}
+use Rattle.std.proofs.lemmas.List.{length-reverse, reverse-reverse, append-nil, length-map}
+use Rattle.std.proofs.lemmas.List.Elements.{All-nil, All-push}
+use Rattle.replay_workers.specs.Runs.{IsReady as IsWorkerReady}
+use Rattle.part_lock.specs.Lock.{IsMain}
+use Rattle.part_lock.specs.Joins.{Fit, lead_of, numbers}
+use Rattle.part_lock.proofs.Carried.{turned_end, move_step, none_left}
+use Rattle.part_lock.proofs.Numbers.{number_new, numbers_more, at_seam}
+use Rattle.part_lock.proofs.seated.seat_each.Goals as goal
+
+pub loop-local-init : goal.loop-local-init
+loop-local-init g c =
+    let long = ap length c.turned-locals.ensures ∙ length-reverse c.args.locals.items in record {
+      room = omega (arith, c.requires.room, c.args.locals.ok.0, c.turned-locals.result.ok.0, long);
+      counted = c.args.workers.ok.0 ∙ ap length c.requires.bare;
+      few = omega (arith, c.turned-locals.result.ok.0);
+      table = refl;
+      main = c.requires.main;
+      ready = subst (All (IsWorkerReady (Fit c.args.parts.now.table.shared.table_id c.args.parts.now.key))) (sym c.requires.bare) (All-nil (IsWorkerReady (Fit c.args.parts.now.table.shared.table_id c.args.parts.now.key)));
+      so_far = ap (λ l. map (λ w. w.hand.local) l ++ reverse c.turned-locals.result.items) c.requires.bare ∙ (ap reverse c.turned-locals.ensures ∙ (reverse-reverse c.args.locals.items ∙ c.requires.start));
+      threads = ap (map (λ w. w.hand.thread.0)) c.requires.bare;
+    }
+
+pub overflow_cast-thread : goal.overflow_cast-thread
+overflow_cast-thread g c =
+    let long = ap length c.turned-locals.ensures ∙ length-reverse c.args.locals.items in
+    omega (arith, c.requires.few, c.args.locals.ok.0, c.loop-local.invariant.few, c.in-Some.ensures.len, long)
+
+pub worker_for-requires-clause-seat : goal.worker_for-requires-clause-seat
+worker_for-requires-clause-seat g c κs within = c.loop-local.invariant.table ∙ c.requires.seat
+
+pub worker_for-requires-clause-main : goal.worker_for-requires-clause-main
+worker_for-requires-clause-main g c κs within = (lead_of c.args.parts.now.key (numbers c.loop-local.thread), c.loop-local.invariant.main, number_new c.loop-local.thread)
+
+pub worker_for-requires-clause-start : goal.worker_for-requires-clause-start
+worker_for-requires-clause-start g c κs within =
+    let v = c.loop-local.invariant in
+    let turn = turned_end c.loop-local.locals.items c.pop.new.self.items c.in-Some.local c.in-Some.ensures.items in
+    let whole = ap (λ l. map (λ w. w.hand.local) c.loop-local.workers.items ++ l) (sym turn) ∙ v.so_far in
+    let long = length-map c.loop-local.workers.items (λ w. w.hand.local) ∙ (sym c.loop-local.workers.ok.0 ∙ v.counted) in
+    subst (λ l. slice_get l c.loop-local.thread ≡ Some c.in-Some.local) whole (at_seam (map (λ w. w.hand.local) c.loop-local.workers.items) (reverse c.pop.new.self.items) c.in-Some.local c.loop-local.thread long)
+
+pub push_reserved-requires : goal.push_reserved-requires
+push_reserved-requires g c = omega (arith, c.loop-local.invariant.room, c.loop-local.invariant.counted, c.in-Some.ensures.len)
+
+pub loop-local-preserved : goal.loop-local-preserved
+loop-local-preserved g c =
+    let v = c.loop-local.invariant in
+    let turn = turned_end c.loop-local.locals.items c.pop.new.self.items c.in-Some.local c.in-Some.ensures.items in record {
+      room = omega (arith, v.room, c.in-Some.ensures.len, c.push_reserved.ensures.capacity);
+      counted = omega (arith, v.counted, c.push_reserved.ensures.len);
+      few = omega (arith, v.few, c.in-Some.ensures.len);
+      table = c.worker_for.ensures.seat ∙ v.table;
+      main = rw add-one (c.worker_for.ensures.main (lead_of c.args.parts.now.key (numbers c.loop-local.thread)) v.main);
+      ready = subst (All (IsWorkerReady (Fit c.args.parts.now.table.shared.table_id c.args.parts.now.key))) (sym c.push_reserved.ensures.items) (All-push (IsWorkerReady (Fit c.args.parts.now.table.shared.table_id c.args.parts.now.key)) c.loop-local.workers.items c.worker_for.result v.ready c.worker_for.ensures.ready);
+      so_far = move_step (λ w. w.hand.local) c.loop-local.workers.items c.push_reserved.new.self.items c.worker_for.result c.in-Some.local c.loop-local.locals.items c.pop.new.self.items _ c.push_reserved.ensures.items c.worker_for.ensures.hand.0 turn v.so_far;
+      threads = numbers_more (λ w. w.hand.thread.0) c.loop-local.workers.items c.push_reserved.new.self.items c.worker_for.result c.loop-local.thread c.push_reserved.ensures.items (ap (λ t. t.0) c.worker_for.ensures.hand.1) v.threads;
+    }
+
+pub returns-clause-seat : goal.returns-clause-seat
+returns-clause-seat g c = c.loop-local.invariant.table
+
+pub returns-clause-main : goal.returns-clause-main
+returns-clause-main g c =
+    let cases = rw c.in_default.is at c.pop.ensures.cases in let long = ap length c.turned-locals.ensures ∙ length-reverse c.args.locals.items in
+    let count : c.loop-local.thread ≡ length c.args.locals.items = omega (arith, c.loop-local.invariant.few, cases.0, long) in
+    subst (λ n. IsMain c.args.parts.now.key (lead_of c.args.parts.now.key (numbers n)) c.loop-local.main.me) count c.loop-local.invariant.main
+
+pub returns-clause-ready : goal.returns-clause-ready
+returns-clause-ready g c = c.loop-local.invariant.ready
+
+pub returns-clause-locals : goal.returns-clause-locals
+returns-clause-locals g c =
+    let cases = rw c.in_default.is at c.pop.ensures.cases in
+    let none = none_left c.loop-local.locals.items (sym c.loop-local.locals.ok.0 ∙ cases.0) in
+    let bare = ap (λ l. map (λ w. w.hand.local) c.loop-local.workers.items ++ reverse l) none ∙ append-nil (map (λ w. w.hand.local) c.loop-local.workers.items) in
+    sym bare ∙ (c.loop-local.invariant.so_far ∙ sym c.requires.start)
+
+pub returns-clause-threads : goal.returns-clause-threads
+returns-clause-threads g c =
+    let cases = rw c.in_default.is at c.pop.ensures.cases in let long = ap length c.turned-locals.ensures ∙ length-reverse c.args.locals.items in
+    let count : c.loop-local.thread ≡ length c.args.locals.items = omega (arith, c.loop-local.invariant.few, cases.0, long) in
+    c.loop-local.invariant.threads ∙ ap numbers count

@@ -1,0 +1,4 @@
+pub mod Closes
+pub mod Joins
+pub mod Lock
+pub mod Turns

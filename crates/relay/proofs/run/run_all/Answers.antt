@@ -1,0 +1,51 @@
+use Rattle.std.proofs.Common.{◌≡◌, ℕ, map, length, sym, ap, ◌∙◌, subst}
+use Rattle.std.proofs.lemmas.List.{length-map}
+use Rattle.tc_model.specs.Rises.{AreApart, IsMerge}
+use Rattle.part_lock.specs.Joins.{numbers, lead_of, all_joined, Turned, Fit}
+use Rattle.relay.proofs.Wholes.{all_there, length_numbers, threads_stay, map_both, whole}
+use Rattle.relay.specs.Ends.{IsRun}
+use Rattle.relay.proofs.run.run_all.Goals as goal
+
+pub run_in-workers-requires-after_bounds : goal.run_in-workers-requires-after_bounds
+run_in-workers-requires-after_bounds g c κs within = c.in-Ok-seat_all.ensures.ready
+
+pub join_all-requires-clause-main : goal.join_all-requires-clause-main
+join_all-requires-clause-main g c κs within = (lead_of c.in-Ok.parts.key (numbers (length c.args.locals.items)), c.in-Ok-seat_all.ensures.main)
+
+pub join_all-requires-clause-ran : goal.join_all-requires-clause-ran
+join_all-requires-clause-ran g c κs within = (c.in-Ok-seat_all.workers.items, c.run_in-workers.ensures.long, c.in-Ok-seat_all.ensures.ready, c.run_in-workers.ensures.each)
+
+pub close-requires-clause-main : goal.close-requires-clause-main
+close-requires-clause-main g c =
+    let n : ℕ = length c.args.locals.items in let m = lead_of c.in-Ok.parts.key (numbers n) in
+    let before = c.in-Ok-seat_all.workers.items in let after = c.run_in-workers.result.items in
+    let j = c.in-Ok-join_all.ensures.main m c.in-Ok-seat_all.ensures.main in
+    let count : length before ≡ n = sym (length-map before (λ w. w.hand.thread.0)) ∙ (ap length c.in-Ok-seat_all.ensures.threads ∙ length_numbers n) in
+    (all_joined m j.0, j.1, all_there c.in-Ok.parts.key n (map (λ w. w.hand) after) j.0 j.2 (length-map after (λ w. w.hand) ∙ (sym c.run_in-workers.ensures.long ∙ count)))
+
+pub merge-requires : goal.merge-requires
+merge-requires g c =
+    let m = lead_of c.in-Ok.parts.key (numbers (length c.args.locals.items)) in
+    let j = c.in-Ok-join_all.ensures.main m c.in-Ok-seat_all.ensures.main in
+    let closed = c.in-Ok-close.ensures.closed (all_joined m j.0) j.1 in
+    record { apart = subst (λ l. AreApart (map (λ v. v.items) l)) (sym c.as_slice-2.ensures.value) closed.apart }
+
+pub returns-clause-run : goal.returns-clause-run
+returns-clause-run g c =
+    let rules = g.M.Machine.rules in let key = c.in-Ok.parts.key in
+    let n : ℕ = length c.args.locals.items in let m = lead_of key (numbers n) in
+    let before = c.in-Ok-seat_all.workers.items in let after = c.run_in-workers.result.items in
+    let j = c.in-Ok-join_all.ensures.main m c.in-Ok-seat_all.ensures.main in
+    let closed = c.in-Ok-close.ensures.closed (all_joined m j.0) j.1 in
+    let long = ap (λ x. length (rules x).locals) c.in-Ok.ensures.key.0 ∙ ap length (sym c.requires.locals) in
+    let threads = j.2 ∙ (sym (threads_stay (Turned rules key) (Fit c.in-Ok.parts.table.shared.table_id key) before after c.run_in-workers.ensures.long c.run_in-workers.ensures.each) ∙ c.in-Ok-seat_all.ensures.threads) in
+    let locals = c.in-Ok-join_all.ensures.locals ∙ (sym (map_both (λ w. w.hand) (λ h. h.local) after) ∙ sym j.3) in
+    let merged = subst (λ l. IsMerge (map (λ v. v.items) l) c.in-Ok-merge.order.items) c.as_slice-2.ensures.value c.in-Ok-merge.ensures in
+    subst (λ x. IsRun (rules x) c.in-Ok-close.closed.parts.items c.in-Ok-join_all.locals.items c.in-Ok-merge.order.items) c.in-Ok.ensures.key.0
+    (whole rules key n j.0 c.in-Ok-close.closed.parts.items c.in-Ok-join_all.locals.items _ c.in-Ok-merge.order.items long threads locals closed merged)
+
+pub returns-clause-apart : goal.returns-clause-apart
+returns-clause-apart g c =
+    let m = lead_of c.in-Ok.parts.key (numbers (length c.args.locals.items)) in
+    let j = c.in-Ok-join_all.ensures.main m c.in-Ok-seat_all.ensures.main in
+    (c.in-Ok-close.ensures.closed (all_joined m j.0) j.1).apart

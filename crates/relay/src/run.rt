@@ -1,0 +1,104 @@
+//! A whole run of a machine by threads: opened, seated, run, joined, closed and merged.
+ghost use Rattle.std.specs.Prelude.{◌≡◌, ◌≤◌, All, length, map, IfSome, vec_len};
+ghost use Rattle.replay_workers.specs.Runs.{RanBelow, IsReady, Done};
+ghost use Rattle.tc_model.specs.Rises.{AreApart};
+ghost use Rattle.relay.specs.Ends.{IsRun};
+
+use merge_journal::merge;
+use part_lock::{Closed, PartBoard, Parts, join_all, seat_all};
+use replay_workers::{Worker, run_workers};
+use std::alloc::Global;
+use std::sync::Wait;
+use std::thread::Threads;
+use tc_model::{Board, Entry, Halt, Machine, Turn};
+use tc_ports::Gate;
+
+/// What threads left of a machine: its parts, the locals by their threads, the one order of all acts, and
+/// why a worker was halted, if one was.
+#[derive(Drop)]
+pub struct Finish<M: Machine> {
+    pub closed: Closed<M>,
+    pub locals: Vec<M::Local>,
+    pub order: Vec<Entry>,
+    pub halt: Option<Halt>,
+}
+
+/// Why a worker was halted: for want of memory where any was.
+fn halt_of<B: Board>(workers: &[Worker<B>]) -> Option<Halt> {
+    let mut halt = None;
+    for worker in workers {
+        match worker.last {
+            Turn::Halted {
+                cause: Halt::Memory,
+            } => return Some(Halt::Memory),
+            Turn::Halted { cause } => halt = Some(cause),
+            _ => {}
+        }
+    }
+    halt
+}
+
+/// Runs workers, and gives them back.
+fn run_in<R: Threads + Wait + Sync, B: Board + Sync, G: Gate + Sync>(
+    rt: &R,
+    alloc: Global,
+    board: &B,
+    gate: &G,
+    mut workers: Vec<Worker<B>>,
+) -> Vec<Worker<B>>
+    requires { All (IsReady (B.fits board.now)) workers.items }
+    ensures long { length workers.items ≡ length result.items }
+    ensures each { RanBelow (B.turns board.now) (B.thread_of board.now) (B.fits board.now) (length workers.items) workers.items result.items }
+    ensures done { Done result.items }
+{
+    run_workers(rt, alloc, board, gate, workers.as_mut_slice());
+    workers
+}
+
+/// Runs a machine from its start, a thread for each local. The order is a run of polite picks that move,
+/// and the parts and locals are that run's. `None` where memory ran out beside the acts.
+pub fn run_all<R: Threads + Wait + Sync, M: Machine + Drop + Sync, G: Gate + Sync>(
+    rt: &R,
+    alloc: Global,
+    gate: &G,
+    machine: M,
+    parts: Vec<M::Part>,
+    locals: Vec<M::Local>,
+    events: u64,
+) -> Option<Finish<M>>
+where
+    M::Part: Send,
+    M::Local: Send,
+    requires events { events ≤ 40000000 }
+    requires parts { parts.items ≡ (M.rules machine).parts }
+    requires locals { locals.items ≡ (M.rules machine).locals }
+    requires few { vec_len locals ≤ 256 }
+    ensures run { IfSome result (λ e. IsRun (M.rules machine) e.closed.parts.items e.locals.items e.order.items) }
+    ensures apart { IfSome result (λ e. AreApart (map (λ v. v.items) e.closed.entries.items)) }
+{
+    let Ok((parts, mut main)) = Parts::open(alloc, machine, parts, events) else {
+        return None;
+    };
+    let Ok(workers) = seat_all(alloc, &parts, &mut main, locals) else {
+        return None;
+    };
+    let board = PartBoard { parts };
+    let workers = run_in(rt, alloc, &board, gate, workers);
+    let PartBoard { parts } = board;
+    let halt = halt_of(workers.as_slice());
+    let Ok(locals) = join_all(alloc, &parts, &mut main, workers) else {
+        return None;
+    };
+    let Ok(closed) = parts.close(main) else {
+        return None;
+    };
+    let Ok(order) = merge(alloc, closed.entries.as_slice()) else {
+        return None;
+    };
+    Some(Finish {
+        closed,
+        locals,
+        order,
+        halt,
+    })
+}

@@ -1,0 +1,57 @@
+-- What a worker did: turns of the board, one after another.
+use Rattle.std.specs.Prelude.{◌≡◌, ℕ, zero, suc, ◌+◌, ◌⊎◌, ◌<◌, ◌≤◌, min, Bool, true, false, List, length, slice_index_or}
+use Rattle.tc_model.specs.declared.board.Turn.{Turn}
+use Rattle.tc_model.specs.declared.board.Turn.TheVariants.{Moved, NotYet, Held, Ended, Halted}
+use Rattle.tc_model.specs.Turns.{is_halted}
+use Rattle.tc_units.specs.declared.units.ThreadNo.{ThreadNo}
+use Rattle.replay_workers.specs.declared.worker.Worker.{Worker}
+
+-- whether a worker whose last turn had this answer takes no more
+abbrev pub is_over : Turn → Bool
+is_over Moved = false
+is_over NotYet = false
+is_over Held = false
+is_over Ended = true
+is_over (Halted cause) = true
+
+-- n more, up to the greatest number
+abbrev pub more : ℕ → ℕ → ℕ
+more t zero = t
+more t (suc n) = min (more t n + 1) 18446744073709551615
+
+module _ {H : Type 0} (turns : H → Turn → H → Type 0) where
+  -- n turns lead from a hand and an answer to a hand and an answer, and none comes after the end
+  abbrev pub Turns : ℕ → H → Turn → H → Turn → Type 0
+  Turns zero h l k m = (h ≡ k) × (l ≡ m)
+  Turns (suc n) h l k m = (j : H) × (i : Turn) × Turns n h l j i × (is_over i ≡ false) × turns j m k
+
+module _ {B H : Type 0} (turns : H → Turn → H → Type 0) (thread_of : H → ThreadNo) where
+  -- a worker came from one state to another by turns for its own thread, each of them counted
+  pub record Ran (a b : Worker B H) : Type 0 where
+    pub count : ℕ
+    pub by_turns : Turns turns count a.hand a.last b.hand b.last
+    pub counted : b.turns ≡ more a.turns count
+    pub thread : thread_of b.hand ≡ thread_of a.hand
+
+module _ {B H : Type 0} (fits : H → Type 0) where
+  -- unless it is halted, it may take a turn
+  abbrev pub Stands : Worker B H → Type 0
+  Stands w = is_halted w.last ≡ false → fits w.hand
+
+  -- it took no turn yet, and may take one
+  abbrev pub IsReady : Worker B H → Type 0
+  IsReady w = (w.last ≡ NotYet) × fits w.hand
+
+module _ {B H : Type 0} (turns : H → Turn → H → Type 0) (thread_of : H → ThreadNo) (fits : H → Type 0) where
+  -- at each place below n, the second list's worker came from the first's
+  abbrev pub RanBelow : ℕ → List (Worker B H) → List (Worker B H) → Type 0
+  RanBelow n xs ys = (i : ℕ) (d : Worker B H) → i < n → Ran turns thread_of (slice_index_or xs i d) (slice_index_or ys i d) × Stands fits (slice_index_or ys i d)
+
+module _ {B H : Type 0} where
+  -- from the place n on, both are the same
+  abbrev pub SameFrom : ℕ → List (Worker B H) → List (Worker B H) → Type 0
+  SameFrom n xs ys = (i : ℕ) (d : Worker B H) → n ≤ i → slice_index_or xs i d ≡ slice_index_or ys i d
+
+  -- each has ended, or one is halted
+  abbrev pub Done : List (Worker B H) → Type 0
+  Done xs = ((i : ℕ) (d : Worker B H) → i < length xs → (slice_index_or xs i d).last ≡ Ended) ⊎ ((i : ℕ) × (i < length xs) × ((d : Worker B H) → is_halted (slice_index_or xs i d).last ≡ true))

@@ -1,0 +1,153 @@
+//! Each worker takes turns in a thread of its own, and the calling thread ends what they left.
+ghost use Rattle.std.specs.Prelude.{◌≡◌, ℕ, ◌<◌, length, slice_index_or, All, true, false};
+ghost use Rattle.replay_workers.specs.Runs.{is_over, Done, Ran, RanBelow, IsReady, Stands};
+
+use crate::worker::Worker;
+use std::alloc::Global;
+use std::sync::Wait;
+use std::thread;
+use std::thread::Threads;
+use tc_model::{Board, Turn};
+use tc_ports::Gate;
+
+/// How many turns in a row may move nothing before a worker's thread ends (this project's own rule).
+const PATIENCE: u64 = 1_000_000;
+
+/// Passes the gate and takes one turn.
+fn turn_once<R: Wait, B: Board, G: Gate>(
+    rt: &R,
+    alloc: Global,
+    board: &B,
+    gate: &G,
+    worker: &mut Worker<B>,
+)
+    requires fits { B.fits board.now worker.old.hand }
+    requires goes { is_over worker.old.last ≡ false }
+    ensures ran { Ran (B.turns board.now) (B.thread_of board.now) worker.old worker.new }
+    ensures kept { Stands (B.fits board.now) worker.new }
+{
+    gate.pass(
+        board.thread(&worker.hand),
+        worker.turns,
+        board.done(&worker.hand),
+    );
+    worker.last = board.turn(rt, alloc, &mut worker.hand);
+    worker.turns = worker.turns.saturating_add(1);
+}
+
+fn has_ended(last: Turn) -> bool
+    ensures { result ≡ is_over last }
+{
+    matches!(last, Turn::Ended | Turn::Halted { cause: _ })
+}
+
+/// Takes turns until the worker ended, was halted, or moved nothing for long.
+fn run_alone<R: Wait, B: Board, G: Gate>(
+    rt: &R,
+    alloc: Global,
+    board: &B,
+    gate: &G,
+    worker: &mut Worker<B>,
+)
+    requires { IsReady (B.fits board.now) worker.old }
+    ensures ran { Ran (B.turns board.now) (B.thread_of board.now) worker.old worker.new }
+    ensures kept { Stands (B.fits board.now) worker.new }
+{
+    let mut idle = 0;
+    for _ in rt.forever() {
+        if has_ended(worker.last) || idle >= PATIENCE {
+            return;
+        }
+        turn_once(rt, alloc, board, gate, worker);
+        if let Turn::Moved = worker.last {
+            idle = 0;
+        } else {
+            idle += 1;
+        }
+    }
+    unreachable!()
+}
+
+/// Runs each worker in a thread of its own.
+fn run_beside<R: Threads + Wait + Sync, B: Board + Sync, G: Gate + Sync>(
+    rt: &R,
+    alloc: Global,
+    board: &B,
+    gate: &G,
+    workers: &mut [Worker<B>],
+)
+    requires { All (IsReady (B.fits board.now)) workers.old }
+    ensures each { RanBelow (B.turns board.now) (B.thread_of board.now) (B.fits board.now) (length workers.old) workers.old workers.new }
+{
+    let count = workers.len();
+    if count == 0 {
+        return;
+    }
+    thread::for_each_mut(
+        rt,
+        workers,
+        count,
+        &|_, worker: &mut Worker<B>|
+            requires { IsReady (B.fits board.now) worker.now }
+            ensures { Ran (B.turns board.entry.now) (B.thread_of board.entry.now) worker.entry.now worker.exit.now × Stands (B.fits board.entry.now) worker.exit.now }
+        { run_alone(rt, alloc, board, gate, worker) },
+    );
+}
+
+/// Gives a turn to each that hasn't ended.
+fn give_round<R: Wait, B: Board, G: Gate>(
+    rt: &R,
+    alloc: Global,
+    board: &B,
+    gate: &G,
+    workers: &mut [Worker<B>],
+)
+    requires { (i : ℕ) (d : _) → i < length workers.old → Stands (B.fits board.now) (slice_index_or workers.old i d) }
+    ensures each { RanBelow (B.turns board.now) (B.thread_of board.now) (B.fits board.now) (length workers.old) workers.old workers.new }
+{
+    for i in 0..workers.len() {
+        if !has_ended(workers[i].last) {
+            turn_once(rt, alloc, board, gate, &mut workers[i]);
+        }
+    }
+}
+
+/// Whether each has ended or one is halted.
+fn is_done<B: Board>(workers: &[Worker<B>]) -> bool
+    ensures { result ≡ true → Done workers.now }
+{
+    let mut all = true;
+    for i in 0..workers.len() {
+        match workers[i].last {
+            Turn::Halted { cause: _ } => return true,
+            Turn::Ended => {}
+            _ => all = false,
+        }
+    }
+    all
+}
+
+/// Runs each worker's loop in a thread of its own, or in the calling one where no thread can be made: it
+/// passes the gate and takes a turn of the board, until it has ended, is halted, or took a million turns
+/// in a row that moved nothing. Then the calling thread gives turns to all that haven't ended, one after
+/// another, until each has ended or one is halted. Want of memory stands in `last`.
+pub fn run_workers<R: Threads + Wait + Sync, B: Board + Sync, G: Gate + Sync>(
+    rt: &R,
+    alloc: Global,
+    board: &B,
+    gate: &G,
+    workers: &mut [Worker<B>],
+)
+    requires ready { All (IsReady (B.fits board.now)) workers.old }
+    ensures each { RanBelow (B.turns board.now) (B.thread_of board.now) (B.fits board.now) (length workers.old) workers.old workers.new }
+    ensures done { Done workers.new }
+{
+    run_beside(rt, alloc, board, gate, workers);
+    for _ in rt.forever() {
+        if is_done(workers) {
+            return;
+        }
+        give_round(rt, alloc, board, gate, workers);
+    }
+    unreachable!()
+}
