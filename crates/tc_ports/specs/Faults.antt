@@ -5,9 +5,9 @@ use Rattle.std.specs.Prelude.{ℕ, ◌+◌, ◌-◌, ◌^◌, ◌<◌, ◌≤◌
 abbrev pub last_count : ℕ
 last_count = 2 ^ 64 - 1
 
--- a count after one more, which stays at its last value
-abbrev pub next_count : ℕ → ℕ
-next_count n = min (n + 1) last_count
+-- a count after one more call, which stays at its last value
+abbrev pub one_more : ℕ → ℕ
+one_more n = min (n + 1) last_count
 
 -- a count of faults rose: it is greater, unless it stands at its last value
 abbrev pub Rose : ℕ → ℕ → Type 0

@@ -1,4 +1,5 @@
 pub mod Faults
+pub mod Counts
 pub mod Told
 pub mod Shelves
 pub mod Whole

@@ -2,14 +2,15 @@
 use Rattle.std.specs.Prelude.{ℕ, ◌-◌, ◌/◌, List, ◌++◌, length, take, drop, Contains, refl}
 use Rattle.std.specs.Coded.{Coded, code_by, coded×, coded_list, coded_ℕ}
 use Rattle.std.specs.FinMap as map
-use Rattle.tc_ports.specs.Faults.{next_count}
+use Rattle.tc_ports.specs.Faults.{one_more}
 use Rattle.tc_ports.specs.Shelves.{Files}
 use Rattle.tc_ports.specs.declared.shelf.LoadFault.{LoadFault}
 use Rattle.tc_ports.specs.declared.shelf.LoadFault.TheVariants.{Failed, Missing, TooLong, Memory}
 
--- the bytes that are left, the calls that fail, and the counts of calls and of faults
+-- the bytes that are left, how many a read gives at most, the calls that fail, and the counts of calls and of faults
 pub record SourceState : Type 0 where
   pub left : List ℕ
+  pub piece : ℕ
   pub fails : List ℕ
   pub calls : ℕ
   pub faults : ℕ
@@ -41,15 +42,15 @@ shelf_code =
 
 -- the number of the next call is among those that fail
 abbrev pub FailsNext : List ℕ → ℕ → Type 0
-FailsNext fails calls = Contains fails (next_count calls)
+FailsNext fails calls = Contains fails (one_more calls)
 
 -- a source after a read that gave n bytes
 abbrev pub after_read : SourceState → ℕ → SourceState
-after_read s n = record s { left = drop n s.left; calls = next_count s.calls }
+after_read s n = record s { left = drop n s.left; calls = one_more s.calls }
 
 -- a source after a read that failed
 abbrev pub after_failed_read : SourceState → SourceState
-after_failed_read s = record s { calls = next_count s.calls; faults = next_count s.faults }
+after_failed_read s = record s { calls = one_more s.calls; faults = one_more s.faults }
 
 -- the first half of a piece, rounded down
 abbrev pub half_of : List ℕ → List ℕ
@@ -60,7 +61,7 @@ abbrev pub after_put : SinkState → List ℕ → SinkState
 after_put s bytes = record s {
   taken = s.taken ++ bytes;
   room = s.room - length bytes;
-  calls = next_count s.calls;
+  calls = one_more s.calls;
 }
 
 -- a sink after a put that failed and appended some bytes
@@ -68,17 +69,17 @@ abbrev pub after_failed_put : SinkState → List ℕ → SinkState
 after_failed_put s bytes = record s {
   taken = s.taken ++ bytes;
   room = s.room - length bytes;
-  calls = next_count s.calls;
-  faults = next_count s.faults;
+  calls = one_more s.calls;
+  faults = one_more s.faults;
 }
 
 -- a shelf after a load that did not fail
 abbrev pub after_load : ShelfState → ShelfState
-after_load s = record s { calls = next_count s.calls }
+after_load s = record s { calls = one_more s.calls }
 
 -- a shelf after a load that did not give the file
 abbrev pub after_load_fault : ShelfState → LoadFault → ShelfState
-after_load_fault s Failed = record s { calls = next_count s.calls; faults = next_count s.faults }
+after_load_fault s Failed = record s { calls = one_more s.calls; faults = one_more s.faults }
 after_load_fault s Missing = after_load s
 after_load_fault s TooLong = after_load s
 after_load_fault s Memory = after_load s

@@ -1,4 +1,5 @@
 -- What an end tells of its bytes, before a call and after. `None` tells nothing, and stays so.
+use Rattle.std.specs.Io.KnownBytes.{Appends}
 use Rattle.std.specs.Prelude.{◌≡◌, ℕ, ◌≤◌, List, Option, ◌++◌, length, take, drop, None, Some}
 
 -- the front of a buffer has the first n bytes of what was left, and the rest of that is left then
@@ -20,3 +21,7 @@ TookPart old new piece = (k : ℕ) × (k ≤ length piece) × Took old new (take
 abbrev pub LostAtMost : Option (List ℕ) → Option (List ℕ) → ℕ → Type 0
 LostAtMost None new most = new ≡ None
 LostAtMost (Some bytes) new most = (k : ℕ) × (k ≤ most) × (new ≡ Some (drop k bytes))
+
+-- the bytes of a writer, where they are known, grew by a prefix of a piece
+abbrev pub AppendsPart : Option (List ℕ) → Option (List ℕ) → List ℕ → Type 0
+AppendsPart old new piece = (k : ℕ) × (k ≤ length piece) × Appends old new (take k piece)

@@ -1,7 +1,8 @@
-//! Ends over std's readers, writers and files, which tell nothing of their bytes. Contracts see
-//! each of them as its count of faults.
-ghost use Rattle.std.specs.Prelude.{◌≡◌, ◌≤◌, length, None, IfOk, OnOk};
-ghost use Rattle.std.specs.Io.KnownBytes.{Appends};
+//! Ends over std's readers, writers and files.
+ghost use Rattle.std.specs.Prelude.{◌≡◌, ◌≤◌, ◌<◌, ◌^◌, length, take, None, IfOk, OnOk, OnErr, IfErr};
+ghost use Rattle.std.specs.Io.KnownBytes.{Appends, Consumes, IsAtEnd, Keeps};
+ghost use Rattle.tc_ports.specs.Faults.{Rose, one_more};
+ghost use Rattle.tc_ports.specs.Told.{AppendsPart};
 
 use crate::fault::Failed;
 use crate::shelf::{LoadFault, Shelf};
@@ -11,41 +12,57 @@ use crate::whole::{ReadAllFault, read_all};
 use std::alloc::Global;
 use std::fs;
 use std::io::{Read, Write};
-use std::marker::Model;
 use std::rt::Files;
 
 /// A source over a reader. Each error of the reader is a fault.
 #[derive(Drop)]
 pub struct ReaderSource<R> {
     reader: R,
+    reads: u64,
     faults: u64,
-}
-
-impl<R> Model for ReaderSource<R> {
-    ghost use Rattle.std.specs.Prelude.{ℕ, ◌<◌, ◌^◌};
-
-    ghost Value = { ℕ };
-
-    ghost view = { λ s. s.faults };
-
-    ghost invariant = { λ s. s.faults < 2 ^ 64 };
+    ghost small: { faults < 2 ^ 64 },
 }
 
 impl<R: Read> ReaderSource<R> {
-    /// A source over a reader, with no fault yet.
+    /// A source over a reader, with no read yet.
     pub fn new(reader: R) -> Self
-        ensures { result ≡ 0 }
+        ensures reader { result.reader ≡ reader }
+        ensures reads { result.reads ≡ 0 }
+        ensures faults { result.faults ≡ 0 }
     {
-        ReaderSource { reader, faults: 0 }
+        ReaderSource {
+            reader,
+            reads: 0,
+            faults: 0,
+        }
     }
 }
 
 impl<R: Read> Source for ReaderSource<R> {
-    ghost faults = { λ s. s };
+    ghost reads = { λ s. s.reads };
+
+    ghost faults = { λ s. s.faults };
 
     ghost left = { λ _. None };
 
-    fn read(&mut self, buf: &mut [u8]) -> Result<usize, Failed> {
+    /// Gives what one read of the reader gives.
+    fn read(&mut self, buf: &mut [u8]) -> Result<usize, Failed>
+        // What is known of the reader's bytes.
+        ensures consumes { IfOk result (λ n. Consumes (R.remaining self.old.reader)
+            (R.remaining self.new.reader) (take n buf.new)) }
+        ensures reader_end { IfOk result (λ n. n ≡ 0 → 0 < length buf.new →
+            IsAtEnd (R.remaining self.new.reader)) }
+        ensures keeps { OnErr result (Keeps (R.remaining self.old.reader)
+            (R.remaining self.new.reader)) }
+
+        // What every source keeps.
+        ensures within { IfOk result (λ n. n ≤ length buf.new) }
+        ensures counted { self.new.reads ≡ one_more self.old.reads }
+        ensures cause { OnErr result (Rose self.old.faults self.new.faults) }
+        ensures count { OnOk result (self.new.faults ≡ self.old.faults) }
+        ensures small { self.new.faults < 2 ^ 64 }
+    {
+        self.reads = self.reads.saturating_add(1);
         match self.reader.read(buf) {
             Ok(n) => Ok(n),
             Err(_) => {
@@ -61,34 +78,48 @@ impl<R: Read> Source for ReaderSource<R> {
 #[derive(Drop)]
 pub struct WriterSink<W> {
     writer: W,
+    puts: u64,
     faults: u64,
-}
-
-impl<W> Model for WriterSink<W> {
-    ghost use Rattle.std.specs.Prelude.{ℕ, ◌<◌, ◌^◌};
-
-    ghost Value = { ℕ };
-
-    ghost view = { λ s. s.faults };
-
-    ghost invariant = { λ s. s.faults < 2 ^ 64 };
+    ghost small: { faults < 2 ^ 64 },
 }
 
 impl<W: Write> WriterSink<W> {
-    /// A sink over a writer, with no fault yet.
+    /// A sink over a writer, with no put yet.
     pub fn new(writer: W) -> Self
-        ensures { result ≡ 0 }
+        ensures writer { result.writer ≡ writer }
+        ensures puts { result.puts ≡ 0 }
+        ensures faults { result.faults ≡ 0 }
     {
-        WriterSink { writer, faults: 0 }
+        WriterSink {
+            writer,
+            puts: 0,
+            faults: 0,
+        }
     }
 }
 
 impl<W: Write> Sink for WriterSink<W> {
-    ghost faults = { λ s. s };
+    ghost puts = { λ s. s.puts };
+
+    ghost faults = { λ s. s.faults };
 
     ghost taken = { λ _. None };
 
-    fn put(&mut self, piece: &[u8]) -> Result<(), Failed> {
+    /// Writes the piece, and flushes.
+    fn put(&mut self, piece: &[u8]) -> Result<(), Failed>
+        // What is known of the writer's bytes.
+        ensures appends { OnOk result
+            (Appends (W.contents self.old.writer) (W.contents self.new.writer) piece.now) }
+        ensures appends_part { OnErr result
+            (AppendsPart (W.contents self.old.writer) (W.contents self.new.writer) piece.now) }
+
+        // What every sink keeps.
+        ensures counted { self.new.puts ≡ one_more self.old.puts }
+        ensures cause { OnErr result (Rose self.old.faults self.new.faults) }
+        ensures count { OnOk result (self.new.faults ≡ self.old.faults) }
+        ensures small { self.new.faults < 2 ^ 64 }
+    {
+        self.puts = self.puts.saturating_add(1);
         let written = write_piece(&mut self.writer, piece);
         if written.is_err() {
             self.faults = self.faults.saturating_add(1);
@@ -99,7 +130,10 @@ impl<W: Write> Sink for WriterSink<W> {
 
 // Writes until the whole piece is taken, and flushes.
 fn write_piece<W: Write>(writer: &mut W, piece: &[u8]) -> Result<(), Failed>
-    ensures { OnOk result (Appends (W.contents writer.old) (W.contents writer.new) piece.now) }
+    ensures appends { OnOk result
+        (Appends (W.contents writer.old) (W.contents writer.new) piece.now) }
+    ensures appends_part { OnErr result
+        (AppendsPart (W.contents writer.old) (W.contents writer.new) piece.now) }
 {
     let mut rest = piece;
     while !rest.is_empty() {
@@ -119,34 +153,34 @@ fn write_piece<W: Write>(writer: &mut W, piece: &[u8]) -> Result<(), Failed>
 #[derive(Drop)]
 pub struct FileShelf<'a, R> {
     rt: &'a R,
+    loads: u64,
     faults: u64,
-}
-
-impl<'a, R> Model for FileShelf<'a, R> {
-    ghost use Rattle.std.specs.Prelude.{ℕ, ◌<◌, ◌^◌};
-
-    ghost Value = { ℕ };
-
-    ghost view = { λ s. s.faults };
-
-    ghost invariant = { λ s. s.faults < 2 ^ 64 };
+    ghost small: { faults < 2 ^ 64 },
 }
 
 impl<'a, R: Files> FileShelf<'a, R> {
-    /// A shelf over the files of a runtime, with no fault yet.
+    /// A shelf over the files of a runtime, with no load yet.
     pub fn new(rt: &'a R) -> Self
-        ensures { result ≡ 0 }
+        ensures loads { result.loads ≡ 0 }
+        ensures faults { result.faults ≡ 0 }
     {
-        FileShelf { rt, faults: 0 }
+        FileShelf {
+            rt,
+            loads: 0,
+            faults: 0,
+        }
     }
 }
 
 impl<'a, R: Files> Shelf for FileShelf<'a, R> {
-    ghost faults = { λ s. s };
+    ghost loads = { λ s. s.loads };
+
+    ghost faults = { λ s. s.faults };
 
     ghost files = { λ _. None };
 
     fn load(&mut self, alloc: Global, name: &str, limit: u64) -> Result<Vec<u8>, LoadFault> {
+        self.loads = self.loads.saturating_add(1);
         let loaded = load_file(alloc, self.rt, name, limit);
         if let Err(LoadFault::Failed) = &loaded {
             self.faults = self.faults.saturating_add(1);

@@ -4,6 +4,7 @@ ghost use Rattle.std.specs.Ordering.{nat_cmp};
 ghost use Rattle.std.specs.Cmp.Lexicographic.{slice_cmp};
 ghost use Rattle.std.specs.FinMap as map;
 ghost use Rattle.std.specs.Option.{option_copied};
+ghost use Rattle.tc_ports.specs.Faults.{one_more};
 ghost use Rattle.tc_ports.specs.Shelves.{Refused, LoadCounted};
 ghost use Rattle.tc_ports.specs.Mem.{FailsNext, after_load, after_load_fault};
 ghost use Rattle.tc_ports.specs.Shelved.{entry_of};
@@ -72,6 +73,8 @@ impl MemShelf {
 }
 
 impl Shelf for MemShelf {
+    ghost loads = { λ s. s.calls };
+
     ghost faults = { λ s. s.faults };
 
     ghost files = { λ s. Some s.files };
@@ -90,6 +93,7 @@ impl Shelf for MemShelf {
         ensures refused { IfErr result
             (λ fault. Refused (map.get self.old.files name.now) limit fault) }
         ensures same_files { self.new.files ≡ self.old.files }
+        ensures counted { self.new.calls ≡ one_more self.old.calls }
         ensures cause { IfErr result (λ fault. LoadCounted fault self.old.faults self.new.faults) }
         ensures count { OnOk result (self.new.faults ≡ self.old.faults) }
         ensures small { self.new.faults < 2 ^ 64 }

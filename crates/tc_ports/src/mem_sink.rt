@@ -1,6 +1,6 @@
 //! A sink over memory with a room that is made at its opening, of which chosen puts fail.
 ghost use Rattle.std.specs.Prelude.{◌≡◌, ◌<◌, ◌≤◌, ◌^◌, [], ◌++◌, length, Some, IfOk, OnOk, OnErr, IsErr};
-ghost use Rattle.tc_ports.specs.Faults.{Rose};
+ghost use Rattle.tc_ports.specs.Faults.{Rose, one_more};
 ghost use Rattle.tc_ports.specs.Told.{Took, TookPart};
 ghost use Rattle.tc_ports.specs.Mem.{FailsNext, half_of, after_put, after_failed_put};
 
@@ -59,6 +59,8 @@ impl MemSink {
 }
 
 impl Sink for MemSink {
+    ghost puts = { λ s. s.calls };
+
     ghost faults = { λ s. s.faults };
 
     ghost taken = { λ s. Some s.taken };
@@ -80,6 +82,7 @@ impl Sink for MemSink {
         // What every sink keeps.
         ensures whole { OnOk result (Took (Some self.old.taken) (Some self.new.taken) piece.now) }
         ensures part { OnErr result (TookPart (Some self.old.taken) (Some self.new.taken) piece.now) }
+        ensures counted { self.new.calls ≡ one_more self.old.calls }
         ensures cause { OnErr result (Rose self.old.faults self.new.faults) }
         ensures count { OnOk result (self.new.faults ≡ self.old.faults) }
         ensures small { self.new.faults < 2 ^ 64 }

@@ -1,6 +1,6 @@
 //! A source over bytes in memory, of which chosen reads fail.
-ghost use Rattle.std.specs.Prelude.{◌≡◌, ◌<◌, ◌≤◌, ◌^◌, ◌↔◌, min, [], length, take, drop, Some, IfOk, OnOk, OnErr, IsErr};
-ghost use Rattle.tc_ports.specs.Faults.{Rose};
+ghost use Rattle.std.specs.Prelude.{◌≡◌, ◌<◌, ◌≤◌, ◌-◌, ◌^◌, ◌↔◌, min, [], length, take, drop, Some, IfOk, OnOk, OnErr, IsErr};
+ghost use Rattle.tc_ports.specs.Faults.{Rose, one_more};
 ghost use Rattle.tc_ports.specs.Told.{Gave};
 ghost use Rattle.tc_ports.specs.Mem.{FailsNext, after_read, after_failed_read};
 
@@ -13,6 +13,7 @@ use std::marker::Model;
 pub struct MemSource {
     bytes: Vec<u8>,
     at: usize,
+    piece: usize,
     fails: Vec<u64>,
     calls: u64,
     faults: u64,
@@ -24,15 +25,29 @@ impl Model for MemSource {
 
     ghost Value = { SourceState };
 
-    ghost view = { λ s. record { left = drop s.at s.bytes.items; fails = s.fails.items; calls = s.calls; faults = s.faults } };
+    ghost view = { λ s. record { left = drop s.at s.bytes.items; piece = s.piece; fails = s.fails.items; calls = s.calls; faults = s.faults } };
 
-    ghost invariant = { λ s. (s.at ≤ vec_len s.bytes) × (s.faults < 2 ^ 64) };
+    ghost invariant = { λ s. (s.at ≤ vec_len s.bytes) × (0 < s.piece) × (s.faults < 2 ^ 64) };
 }
 
 impl MemSource {
-    /// A source of these bytes. The reads with the numbers in `fails`, from 1, will fail.
+    /// A source of these bytes, of which a read gives as many as fit. The reads with the numbers in `fails`, from 1, will fail.
     pub fn new(bytes: Vec<u8>, fails: Vec<u64>) -> Self
         ensures left { result.left ≡ bytes.items }
+        ensures piece { result.piece ≡ 2 ^ 64 - 1 }
+        ensures fails { result.fails ≡ fails.items }
+        ensures calls { result.calls ≡ 0 }
+        ensures faults { result.faults ≡ 0 }
+    {
+        Self::in_pieces(bytes, usize::MAX, fails)
+    }
+
+    /// A source of these bytes that gives at most `piece` of them in a read. The reads with the
+    /// numbers in `fails`, from 1, will fail.
+    pub fn in_pieces(bytes: Vec<u8>, piece: usize, fails: Vec<u64>) -> Self
+        requires { 0 < piece }
+        ensures left { result.left ≡ bytes.items }
+        ensures piece { result.piece ≡ piece }
         ensures fails { result.fails ≡ fails.items }
         ensures calls { result.calls ≡ 0 }
         ensures faults { result.faults ≡ 0 }
@@ -40,6 +55,7 @@ impl MemSource {
         MemSource {
             bytes,
             at: 0,
+            piece,
             fails,
             calls: 0,
             faults: 0,
@@ -48,15 +64,18 @@ impl MemSource {
 }
 
 impl Source for MemSource {
+    ghost reads = { λ s. s.calls };
+
     ghost faults = { λ s. s.faults };
 
     ghost left = { λ s. Some s.left };
 
-    /// Gives as many bytes as the buffer holds and are left, unless its number is one that fails.
+    /// Gives as many bytes as the buffer holds and are left, and at most a piece, unless its
+    /// number is one that fails.
     fn read(&mut self, buf: &mut [u8]) -> Result<usize, Failed>
         // The exact step.
         ensures fails { IsErr result ↔ FailsNext self.old.fails self.old.calls }
-        ensures number { IfOk result (λ n. n ≡ min (length buf.new) (length self.old.left)) }
+        ensures number { IfOk result (λ n. n ≡ min self.old.piece (min (length buf.new) (length self.old.left))) }
         ensures bytes { IfOk result (λ n. take n buf.new ≡ take n self.old.left) }
         ensures after { IfOk result (λ n. self.new ≡ after_read self.old n) }
         ensures after_failure { OnErr result (self.new ≡ after_failed_read self.old) }
@@ -66,6 +85,7 @@ impl Source for MemSource {
         ensures given { IfOk result (λ n. Gave (Some self.old.left) (Some self.new.left) n buf.new) }
         ensures end { IfOk result (λ n. n ≡ 0 → 0 < length buf.new → self.old.left ≡ []) }
         ensures nothing_lost { OnErr result (self.new.left ≡ self.old.left) }
+        ensures counted { self.new.calls ≡ one_more self.old.calls }
         ensures cause { OnErr result (Rose self.old.faults self.new.faults) }
         ensures count { OnOk result (self.new.faults ≡ self.old.faults) }
         ensures small { self.new.faults < 2 ^ 64 }
@@ -76,7 +96,7 @@ impl Source for MemSource {
             return Err(Failed);
         }
         let rest = &self.bytes[self.at..];
-        let n = rest.len().min(buf.len());
+        let n = rest.len().min(buf.len()).min(self.piece);
         buf[..n].copy_from_slice(&rest[..n]);
         self.at += n;
         Ok(n)

@@ -1,6 +1,7 @@
 //! Where a program loads its files from.
 ghost use Rattle.std.specs.Prelude.{◌≡◌, ◌<◌, ◌≤◌, ◌^◌, ℕ, Option, length, None, Some, IfOk, OnOk, IfErr, IfSome, IsNone};
 ghost use Rattle.std.specs.FinMap as map;
+ghost use Rattle.tc_ports.specs.Faults.{one_more};
 ghost use Rattle.tc_ports.specs.Shelves.{Files, Refused, LoadCounted};
 
 use std::alloc::Global;
@@ -20,6 +21,9 @@ pub enum LoadFault {
 
 /// A shelf of files by name.
 pub trait Shelf {
+    // How many loads there were, as far as a u64 counts.
+    ghost loads: { Self → ℕ };
+
     // How many loads have failed, as far as a u64 counts.
     ghost faults: { Self → ℕ };
 
@@ -35,6 +39,7 @@ pub trait Shelf {
             (λ all. Refused (map.get all name.now) limit fault)) }
         ensures untold { IsNone (files self.old) → result ≡ Err LoadFault.Missing → ⊥ }
         ensures same_files { files self.new ≡ files self.old }
+        ensures counted { loads self.new ≡ one_more (loads self.old) }
 
         // A failed load raised the count of faults, and no other load changes it.
         ensures cause { IfErr result (λ fault. LoadCounted fault (faults self.old) (faults self.new)) }

@@ -1,12 +1,15 @@
 //! What a program reads its input from.
 ghost use Rattle.std.specs.Prelude.{◌≡◌, ◌<◌, ◌≤◌, ◌^◌, ℕ, List, Option, [], length, IfOk, OnOk, OnErr, IfSome};
-ghost use Rattle.tc_ports.specs.Faults.{Rose};
+ghost use Rattle.tc_ports.specs.Faults.{Rose, one_more};
 ghost use Rattle.tc_ports.specs.Told.{Gave};
 
 use crate::fault::Failed;
 
 /// A source of bytes.
 pub trait Source {
+    // How many reads there were, as far as a u64 counts.
+    ghost reads: { Self → ℕ };
+
     // How many reads have failed, as far as a u64 counts.
     ghost faults: { Self → ℕ };
 
@@ -21,6 +24,7 @@ pub trait Source {
         ensures end { IfOk result (λ n. n ≡ 0 → 0 < length buf.new →
             IfSome (left self.old) (λ bytes. bytes ≡ [])) }
         ensures nothing_lost { OnErr result (left self.new ≡ left self.old) }
+        ensures counted { reads self.new ≡ one_more (reads self.old) }
 
         // A failed read raised the count of faults, and no other read changes it.
         ensures cause { OnErr result (Rose (faults self.old) (faults self.new)) }

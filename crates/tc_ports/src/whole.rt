@@ -21,8 +21,8 @@ pub enum ReadAllFault {
 /// Bytes that are read at a time.
 const CHUNK: usize = 16384;
 
-/// All the bytes of a source that has at most `limit` of them. It never reads more than one byte
-/// past the limit, and after a refusal the source has lost what was read and no more.
+/// All the bytes of a source that has at most `limit` of them. Each read but the last gives a byte
+/// at least. It never reads more than one byte past the limit, and after a refusal the source has lost what was read and no more.
 pub fn read_all<S: Source>(
     alloc: Global,
     source: &mut S,
@@ -34,6 +34,9 @@ pub fn read_all<S: Source>(
     ensures too_long { IfErr result
         (λ fault. LimitRefused fault (S.left source.old) (S.left source.new) limit) }
     ensures lost { OnErr result (LostAtMost (S.left source.old) (S.left source.new) (limit + 1)) }
+    ensures reads { S.reads source.new ≤ S.reads source.old + limit + 1 }
+    ensures each_gives { IfOk result
+        (λ all. S.reads source.new ≤ S.reads source.old + length all.items + 1) }
     ensures tells { IsNone (S.left source.new) ↔ IsNone (S.left source.old) }
 
     // Only a read that failed raises the count of faults.

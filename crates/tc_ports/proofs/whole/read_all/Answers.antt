@@ -13,6 +13,7 @@ loop-all-preserved g c = record {
   so_far =
       let same : c.extend_from_slice.new.self.items ≡ c.loop-all.all.items ++ take c.in-Ok-2.n c.read.new.buf = grind (arith, common_steps) in
       rw same (so_far-more _ _ _ _ _ _ c.in-Ok-2.ensures.within c.loop-all.invariant.so_far c.in-Ok-2.ensures.given);
+  reads = grind (arith, common_steps);
   within = grind (arith, common_steps);
   count = grind (arith, common_steps);
 }

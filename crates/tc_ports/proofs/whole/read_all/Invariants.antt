@@ -6,6 +6,7 @@ use Rattle.tc_ports.proofs.whole.read_all.Given as goal
 abbrev pub invariant-loop-all : goal.invariant-loop-all
 invariant-loop-all g l = record {
   so_far : SoFar (g.S.Source.left l.initial.source) (g.S.Source.left l.source) l.all.items;
+  reads : g.S.Source.reads l.source ≤ g.S.Source.reads l.initial.source + vec_len l.all;
   within : vec_len l.all ≤ l.limit;
   count : g.S.Source.faults l.source ≡ g.S.Source.faults l.initial.source;
 }
