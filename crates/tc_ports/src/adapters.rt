@@ -3,8 +3,11 @@ ghost use Rattle.std.specs.Prelude.{◌≡◌, ◌≤◌, ◌<◌, ◌^◌, leng
 ghost use Rattle.std.specs.Io.KnownBytes.{Appends, Consumes, IsAtEnd, Keeps};
 ghost use Rattle.tc_ports.specs.Faults.{Rose, one_more};
 ghost use Rattle.tc_ports.specs.Told.{AppendsPart};
+ghost use Rattle.tc_ports.specs.Shelves.{LoadCounted};
+ghost use Rattle.tc_ports.specs.Loads.{Loads, load_fault};
 
 use crate::fault::Failed;
+use crate::known_source::KnownSource;
 use crate::shelf::{LoadFault, Shelf};
 use crate::sink::Sink;
 use crate::source::Source;
@@ -179,7 +182,18 @@ impl<'a, R: Files> Shelf for FileShelf<'a, R> {
 
     ghost files = { λ _. None };
 
-    fn load(&mut self, alloc: Global, name: &str, limit: u64) -> Result<Vec<u8>, LoadFault> {
+    fn load(&mut self, alloc: Global, name: &str, limit: u64) -> Result<Vec<u8>, LoadFault>
+        // What is known of a file that was opened.
+        ensures opened { Loads R.File.remaining limit result }
+
+        // What every shelf keeps.
+        ensures within { IfOk result (λ bytes. length bytes.items ≤ limit) }
+        ensures untold { result ≡ Err LoadFault.Missing → ⊥ }
+        ensures counted { self.new.loads ≡ one_more self.old.loads }
+        ensures cause { IfErr result (λ fault. LoadCounted fault self.old.faults self.new.faults) }
+        ensures count { OnOk result (self.new.faults ≡ self.old.faults) }
+        ensures small { self.new.faults < 2 ^ 64 }
+    {
         self.loads = self.loads.saturating_add(1);
         let loaded = load_file(alloc, self.rt, name, limit);
         if let Err(LoadFault::Failed) = &loaded {
@@ -191,13 +205,22 @@ impl<'a, R: Files> Shelf for FileShelf<'a, R> {
 
 // The bytes of a file of at most `limit` bytes. It reads at most one byte more.
 fn load_file<R: Files>(alloc: Global, rt: &R, name: &str, limit: u64) -> Result<Vec<u8>, LoadFault>
+    ensures opened { Loads R.File.remaining limit result }
     ensures within { IfOk result (λ bytes. length bytes.items ≤ limit) }
     ensures told { result ≡ Err LoadFault.Missing → ⊥ }
 {
-    let Ok(file) = fs::open(rt, name) else {
-        return Err(LoadFault::Failed);
-    };
-    match read_all(alloc, &mut ReaderSource::new(file), limit) {
+    match fs::open(rt, name) {
+        Ok(file) => answer_of(read_all(alloc, &mut KnownSource::new(file), limit)),
+        Err(_) => Err(LoadFault::Failed),
+    }
+}
+
+// What a load answers for what reading the file gave.
+fn answer_of(whole: Result<Vec<u8>, ReadAllFault>) -> Result<Vec<u8>, LoadFault>
+    ensures ok { IfOk whole (λ bytes. result ≡ Ok bytes) }
+    ensures err { IfErr whole (λ fault. result ≡ Err (load_fault fault)) }
+{
+    match whole {
         Ok(bytes) => Ok(bytes),
         Err(ReadAllFault::ReadFault) => Err(LoadFault::Failed),
         Err(ReadAllFault::TooLong) => Err(LoadFault::TooLong),

@@ -5,6 +5,7 @@
 mod adapters;
 mod fault;
 mod gate;
+mod known_source;
 mod mem_shelf;
 mod mem_sink;
 mod mem_source;
