@@ -23,7 +23,7 @@ abbrev pub known_since : Option (List ℕ) → Option (List ℕ) → Option (Lis
 known_since None now = None
 known_since (Some bytes) now = now
 
--- what is answered over bytes that are known: just these, which are at most the limit, or that there are more
+-- what is answered over a file whose bytes are known: just these, or that there are more than the limit
 abbrev pub IsLoadOf : Option (List ℕ) → ℕ → Result (Vec ℕ Global) LoadFault → Type 0
 IsLoadOf known limit (Ok loaded) = IfSome known (λ bytes. loaded.items ≡ bytes)
 IsLoadOf known limit (Err Failed) = ⊤

@@ -31,7 +31,8 @@ impl Model for MemSource {
 }
 
 impl MemSource {
-    /// A source of these bytes, of which a read gives as many as fit. The reads with the numbers in `fails`, from 1, will fail.
+    /// A source of these bytes, of which a read gives as many as fit. The reads with the numbers
+    /// in `fails`, from 1, will fail.
     pub fn new(bytes: Vec<u8>, fails: Vec<u64>) -> Self
         ensures left { result.left ≡ bytes.items }
         ensures piece { result.piece ≡ 2 ^ 64 - 1 }
