@@ -1,33 +1,17 @@
 -- What spans in the order of their first pages give: the one that holds a page, one more, and one less.
-use Rattle.std.proofs.Common.{◌≡◌, ℕ, zero, suc, ◌+◌, ◌-◌, ◌<◌, ◌≤◌, ◌≢◌, Bool, true, false, ◌==◌, not, nat_lt, nat_le, List, [], ◌∷◌, length, get_or, filter, find, All, AllPairs, Contains, IsTrue, Option, Some, None, cond, refl, sym, ◌∙◌, ap, subst, inl, inr, arith}
-use Rattle.std.specs.List.{prefix_len, position_or_len, insert, remove, slice_get}
-use Rattle.std.specs.List.Sorted.{IsNonDecreasingBy, IsPartitionPoint}
+use Rattle.std.proofs.Common.{◌≡◌, ℕ, zero, suc, ◌+◌, ◌<◌, ◌≤◌, ◌≢◌, Bool, true, false, ◌==◌, not, nat_lt, nat_le, List, [], ◌∷◌, length, get_or, find, All, AllPairs, Contains, IsTrue, IfSome, IsNone, Option, Some, None, cond, refl, sym, ◌∙◌, ap, subst, inl, inr, arith}
 use Rattle.std.proofs.lemmas.List.Elements.{All-cons, All-nil, All-head, All-tail, All-filter}
 use Rattle.std.proofs.lemmas.List.Kept.{AllPairs-cons, AllPairs-filter}
-use Rattle.std.proofs.lemmas.List.Sums.{prefix_len_is, prefix_len_passes, prefix_len_stops, prefix_len-le-length, position_or_len_is}
 use Rattle.std.proofs.lemmas.List.{get_or_default}
-use Rattle.std.proofs.lemmas.List.Folds.{find_at}
-use Rattle.std.proofs.lemmas.Option.{none-some, same_Some, slice_get-get_or}
-use Rattle.std.proofs.lemmas.Bool.{cond_both, cases_Bool, cases_lt, cases_eq, and_from, and_parts, and_left, and_right, leb-true, leb-false, le-leb, lt-leb, lt-ltb, le-ltb, ltb-true, ltb-false, true≢false, eq-eqb, ne_eqb, eqb-true, eqb-false}
+use Rattle.std.proofs.lemmas.Option.{none-some, same_Some}
+use Rattle.std.proofs.lemmas.Bool.{cond_both, cases_Bool, cases_lt, cases_eq, and_parts, and_left, and_right, leb-true, lt-leb, le-ltb, ltb-true, ltb-false, true≢false, eqb-true, eqb-false}
 use Rattle.tc_units.specs.declared.spans.SpanRef.{SpanRef}
-use Rattle.tc_units.specs.declared.spans.SpanKind.TheVariants.{Large}
-use Rattle.page_map.specs.Spans.{SpanMap, holds, begins_by, with_span, without_span, IsInside, IsBefore, AreApart, IsWellFormed}
+use Rattle.page_map.specs.Spans.{holds, with_span, without_span, IsInside, IsBefore, AreApart, IsWellFormed}
 
--- a span that no map holds, for reads past the end
-abbrev nowhere : SpanRef
-nowhere = record { first = record { 0 = 0 }; pages = 0; kind = Large }
-
--- two maps are the same where their parts are
-abbrev pub map_of : ℕ → List SpanRef → SpanMap
-map_of huge spans = record { huge = huge; spans = spans }
-
-pub same_map : (g h : ℕ) (xs ys : List SpanRef) → g ≡ h → xs ≡ ys → map_of g xs ≡ map_of h ys
-same_map g h xs ys same_huge same_spans = ap (λ k. map_of k xs) same_huge ∙ ap (λ zs. map_of h zs) same_spans
-
-AllPairs-head : {X : Type 0} (R : X → X → Type 0) (x : X) (xs : List X) → AllPairs R (x ∷ xs) → All (R x) xs
+pub AllPairs-head : {X : Type 0} (R : X → X → Type 0) (x : X) (xs : List X) → AllPairs R (x ∷ xs) → All (R x) xs
 AllPairs-head R x xs h = λ k d within. h zero (suc k) d (omega arith) (omega arith)
 
-AllPairs-tail : {X : Type 0} (R : X → X → Type 0) (x : X) (xs : List X) → AllPairs R (x ∷ xs) → AllPairs R xs
+pub AllPairs-tail : {X : Type 0} (R : X → X → Type 0) (x : X) (xs : List X) → AllPairs R (x ∷ xs) → AllPairs R xs
 AllPairs-tail R x xs h = λ i j d less within. h (suc i) (suc j) d (omega arith) (omega arith)
 
 -- what `find` gives is in the list, and passes
@@ -60,98 +44,21 @@ pub find_none : {X : Type 0} (p : X → Bool) (xs : List X) → All (λ x. p x �
 find_none p [] all = refl
 find_none p (y ∷ ys) all = rw (All-head (λ x. p x ≡ false) y ys all) (find_none p ys (All-tail (λ x. p x ≡ false) y ys all))
 
+-- what `find` gives, as a contract says it
+pub found : {X : Type 0} (p : X → Bool) (xs : List X) (o : Option X) → o ≡ find p xs → IfSome o (λ x. Contains xs x × IsTrue (p x))
+found p xs None is = tt
+found p xs (Some x) is = find_there p xs x is
+
+pub found_none : {X : Type 0} (p : X → Bool) (xs : List X) (o : Option X) → o ≡ find p xs → (IsNone o → All (λ x. p x ≡ false) xs) × (All (λ x. p x ≡ false) xs → IsNone o)
+found_none p xs None is = (λ _. find_nowhere p xs is, λ _. refl)
+found_none p xs (Some x) is = (λ clash. absurd (true≢false clash), λ all. absurd (none-some x (find_none p xs all ∙ sym is)))
+
 -- a page behind a span's last one, or before its first one, is not held by it
-ends_before : (page : ℕ) (s : SpanRef) → s.first.0 + s.pages ≤ page → holds page s ≡ false
+pub ends_before : (page : ℕ) (s : SpanRef) → s.first.0 + s.pages ≤ page → holds page s ≡ false
 ends_before page s le = and_right (nat_le s.first.0 page) (nat_lt page (s.first.0 + s.pages)) (le-ltb page (s.first.0 + s.pages) le)
 
-begins_behind : (page : ℕ) (s : SpanRef) → page < s.first.0 → holds page s ≡ false
+pub begins_behind : (page : ℕ) (s : SpanRef) → page < s.first.0 → holds page s ≡ false
 begins_behind page s lt = and_left (nat_le s.first.0 page) (nat_lt page (s.first.0 + s.pages)) (lt-leb s.first.0 page lt)
-
--- spans in order begin in order
-pub first_pages_rise : (xs : List SpanRef) → AllPairs IsBefore xs → IsNonDecreasingBy (λ s. s.first.0) xs
-first_pages_rise xs apart = λ i j d le within.
-    elim (cases_lt i j) [
-      | inl less ↦ (let before : IsBefore (get_or xs i d) (get_or xs j d) = apart i j d less within in omega arith)
-      | inr above ↦ (let same : i ≡ j = omega arith in rw same (omega arith))
-    ]
-
--- the place where the spans that begin by a page end
-pub point_is_count : (page : ℕ) (xs : List SpanRef) (i : ℕ) → i ≤ length xs → IsPartitionPoint (λ s. begins_by page s ≡ true) (λ s. begins_by page s ≡ false) xs i → i ≡ prefix_len (begins_by page) xs
-point_is_count page xs i within point =
-    sym (prefix_len_is (begins_by page) xs i nowhere within (λ k below. point.0 k nowhere (omega arith) below) (λ more. point.1 i nowhere (omega arith) more))
-
--- the last span that begins by a page
-pub last_begins : (page : ℕ) (xs : List SpanRef) (d : SpanRef) (n : ℕ) → 0 < n → n ≡ prefix_len (begins_by page) xs → (get_or xs (n - 1) d).first.0 ≤ page
-last_begins page xs d n pos count =
-    leb-true (get_or xs (n - 1) d).first.0 page (prefix_len_passes (begins_by page) xs (n - 1) d (omega arith))
-
-pub last_begins_read : (page : ℕ) (xs : List SpanRef) (s : SpanRef) (n : ℕ) → 0 < n → n ≡ prefix_len (begins_by page) xs → s ≡ get_or xs (n - 1) s → s.first.0 ≤ page
-last_begins_read page xs s n pos count read =
-    let same : s.first.0 ≡ (get_or xs (n - 1) s).first.0 = ap (λ t. t.first.0) read in
-    let begins : (get_or xs (n - 1) s).first.0 ≤ page = last_begins page xs s n pos count in
-    omega arith
-
--- each span before it ends by the page
-earlier_end : (page : ℕ) (xs : List SpanRef) (d : SpanRef) (n k : ℕ) → AllPairs IsBefore xs → n ≡ prefix_len (begins_by page) xs → k + 1 < n → holds page (get_or xs k d) ≡ false
-earlier_end page xs d n k apart count less =
-    let within : prefix_len (begins_by page) xs ≤ length xs = prefix_len-le-length (begins_by page) xs in
-    let before : IsBefore (get_or xs k d) (get_or xs (n - 1) d) = apart k (n - 1) d (omega arith) (omega arith) in
-    let begins : (get_or xs (n - 1) d).first.0 ≤ page = last_begins page xs d n (omega arith) count in
-    ends_before page (get_or xs k d) (omega arith)
-
--- and each span behind it begins behind the page
-later_begin : (page : ℕ) (xs : List SpanRef) (d : SpanRef) (n k : ℕ) → AllPairs IsBefore xs → n ≡ prefix_len (begins_by page) xs → n ≤ k → k < length xs → holds page (get_or xs k d) ≡ false
-later_begin page xs d n k apart count above within =
-    let stop : begins_by page (get_or xs (prefix_len (begins_by page) xs) d) ≡ false = prefix_len_stops (begins_by page) xs d (omega arith) in
-    let stop' : begins_by page (get_or xs n d) ≡ false = rw count stop in
-    let behind : page < (get_or xs n d).first.0 = leb-false (get_or xs n d).first.0 page stop' in
-    let rises : (get_or xs n d).first.0 ≤ (get_or xs k d).first.0 = first_pages_rise xs apart n k d above within in
-    begins_behind page (get_or xs k d) (omega arith)
-
--- no span begins by the page
-pub none_begun : (page : ℕ) (xs : List SpanRef) → AllPairs IsBefore xs → 0 ≡ prefix_len (begins_by page) xs → None ≡ find (holds page) xs
-none_begun page xs apart count =
-    find_none (holds page) xs (λ k d within. later_begin page xs d 0 k apart count (omega arith) within)
-
--- the last one that does holds the page
-pub last_holds : (page : ℕ) (xs : List SpanRef) (s : SpanRef) (n : ℕ) → AllPairs IsBefore xs → 0 < n → n ≡ prefix_len (begins_by page) xs → s ≡ get_or xs (n - 1) s → page < s.first.0 + s.pages → Some s ≡ find (holds page) xs
-last_holds page xs s n apart pos count read below =
-    let within : prefix_len (begins_by page) xs ≤ length xs = prefix_len-le-length (begins_by page) xs in
-    let begins : s.first.0 ≤ page = last_begins_read page xs s n pos count read in
-    let here : holds page s ≡ true = and_from (nat_le s.first.0 page) (nat_lt page (s.first.0 + s.pages)) (le-leb s.first.0 page begins) (lt-ltb page (s.first.0 + s.pages) below) in
-    let H : SpanRef → Type 0 = λ t. holds page t ≡ true in
-    let place : position_or_len (holds page) xs ≡ n - 1 =
-    position_or_len_is (holds page) xs (n - 1) s (omega arith) (λ k less. earlier_end page xs s n k apart count (omega arith)) (λ _. subst H read here) in
-    sym (find_at (holds page) xs ∙ ap (λ i. slice_get xs i) place ∙ slice_get-get_or xs (n - 1) s (omega arith) ∙ ap (λ t. Some t) (sym read))
-
--- the last one that does ends by the page
-pub last_ends : (page : ℕ) (xs : List SpanRef) (s : SpanRef) (n : ℕ) → AllPairs IsBefore xs → 0 < n → n ≡ prefix_len (begins_by page) xs → s ≡ get_or xs (n - 1) s → s.first.0 + s.pages ≤ page → None ≡ find (holds page) xs
-last_ends page xs s n apart pos count read above =
-    let bound : prefix_len (begins_by page) xs ≤ length xs = prefix_len-le-length (begins_by page) xs in
-    let H : SpanRef → Type 0 = λ t. holds page t ≡ false in
-    let here : holds page (get_or xs (n - 1) s) ≡ false = subst H read (ends_before page s above) in
-    let each : (k : ℕ) → k < length xs → holds page (get_or xs k s) ≡ false =
-    λ k within.
-    elim (cases_lt (k + 1) n) [
-      | inl less ↦ earlier_end page xs s n k apart count less
-      | inr not_less ↦
-          (elim (cases_eq k (n - 1)) [
-            | inl same ↦ rw same here
-            | inr other ↦ later_begin page xs s n k apart count (omega arith) within
-          ])
-    ] in
-    find_none (holds page) xs (λ k d within. (let G : SpanRef → Type 0 = λ t. holds page t ≡ false in subst G (get_or_default xs k s d within) (each k within)))
-
--- one more span stands where those that begin by its first page end
-pub with_span_is : (span : SpanRef) (xs : List SpanRef) → with_span span xs ≡ insert xs (prefix_len (begins_by span.first.0) xs) span
-with_span_is span [] = refl
-with_span_is span (x ∷ xs) =
-    elim (cases_lt span.first.0 x.first.0) [
-      | inl behind ↦ rw (lt-ltb span.first.0 x.first.0 behind, lt-leb x.first.0 span.first.0 behind) refl
-      | inr by_it ↦
-          (let one_more : 1 + prefix_len (begins_by span.first.0) xs ≡ suc (prefix_len (begins_by span.first.0) xs) = omega arith in
-          rw (le-ltb span.first.0 x.first.0 by_it, le-leb x.first.0 span.first.0 by_it, one_more) (ap (λ t. x ∷ t) (with_span_is span xs)))
-    ]
 
 pub with_span-All : (P : SpanRef → Type 0) (span : SpanRef) (xs : List SpanRef) → P span → All P xs → All P (with_span span xs)
 with_span-All P span [] one all = All-cons P span [] one all
@@ -195,21 +102,6 @@ without_span-well_formed huge span xs well =
       apart = AllPairs-filter IsBefore (λ s. not (s.first.0 == span.first.0)) xs well.apart;
     }
 
--- what passes whole is kept whole
-filter_whole : {X : Type 0} (p : X → Bool) (xs : List X) (d : X) → ((k : ℕ) → k < length xs → p (get_or xs k d) ≡ true) → filter p xs ≡ xs
-filter_whole p [] d each = refl
-filter_whole p (x ∷ xs) d each =
-    rw (each 0 (omega arith)) (ap (λ t. x ∷ t) (filter_whole p xs d (λ k within. each (suc k) (omega arith))))
-
--- where only the element at i fails, a filter leaves it out alone
-filter_one : {X : Type 0} (p : X → Bool) (xs : List X) (i : ℕ) (d : X) → i < length xs → p (get_or xs i d) ≡ false → ((k : ℕ) → k < length xs → k ≢ i → p (get_or xs k d) ≡ true) → filter p xs ≡ remove xs i
-filter_one p [] i d within fails others = absurd (omega arith)
-filter_one p (x ∷ xs) zero d within fails others =
-    rw fails (filter_whole p xs d (λ k k_within. others (suc k) (omega arith) (omega arith)))
-filter_one p (x ∷ xs) (suc i) d within fails others =
-    let first : p x ≡ true = others 0 (omega arith) (omega arith) in
-    rw first (ap (λ t. x ∷ t) (filter_one p xs i d (omega arith) fails (λ k k_within k_other. others (suc k) (omega arith) (omega arith))))
-
 -- no two spans begin at one page
 first_pages_differ : (huge : ℕ) (xs : List SpanRef) (d : SpanRef) (i j : ℕ) → IsWellFormed (record { huge = huge; spans = xs }) → i < length xs → j < length xs → i ≢ j → (get_or xs i d).first.0 ≡ (get_or xs j d).first.0 → ⊥
 first_pages_differ huge xs d i j well i_in j_in other same =
@@ -220,41 +112,8 @@ first_pages_differ huge xs d i j well i_in j_in other same =
       | inr above ↦ (let before : IsBefore (get_or xs j d) (get_or xs i d) = well.apart j i d (omega arith) i_in in omega arith)
     ]
 
--- where a span stands that is set
-pub place_of_span : (huge : ℕ) (span : SpanRef) (xs : List SpanRef) → IsWellFormed (record { huge = huge; spans = xs }) → Contains xs span → (i : ℕ) × (i < length xs) × (get_or xs i span ≡ span) × (prefix_len (begins_by span.first.0) xs ≡ i + 1)
-place_of_span huge span xs well there =
-    let i = there.0 in
-    let here : get_or xs there.0 span ≡ span = there.2 in
-    let inside : IsInside huge (get_or xs there.0 span) = well.inside there.0 span there.1 in
-    let S : SpanRef → Type 0 = λ t. 0 < t.pages in
-    let some : 0 < span.pages = subst S here inside.some in (
-      there.0,
-      there.1,
-      here,
-      prefix_len_is (begins_by span.first.0) xs (there.0 + 1) span (omega arith)
-          (λ k below.
-          let rises : (get_or xs k span).first.0 ≤ (get_or xs there.0 span).first.0 = first_pages_rise xs well.apart k there.0 span (omega arith) there.1 in
-          let same : (get_or xs there.0 span).first.0 ≡ span.first.0 = ap (λ t. t.first.0) here in
-          le-leb (get_or xs k span).first.0 span.first.0 (omega arith))
-          (λ more.
-          let before : IsBefore (get_or xs there.0 span) (get_or xs (there.0 + 1) span) = well.apart there.0 (there.0 + 1) span (omega arith) more in
-          let B : SpanRef → Type 0 = λ t. t.first.0 + t.pages ≤ (get_or xs (there.0 + 1) span).first.0 in
-          let before' : span.first.0 + span.pages ≤ (get_or xs (there.0 + 1) span).first.0 = subst B here before in
-          lt-leb (get_or xs (there.0 + 1) span).first.0 span.first.0 (omega arith)),
-    )
-
--- the spans without one that is set are those with its place left out
-pub without_span_is : (huge : ℕ) (span : SpanRef) (xs : List SpanRef) → IsWellFormed (record { huge = huge; spans = xs }) → Contains xs span → without_span span xs ≡ remove xs (prefix_len (begins_by span.first.0) xs - 1)
-without_span_is huge span xs well there =
-    let at = place_of_span huge span xs well there in
-    let place : prefix_len (begins_by span.first.0) xs - 1 ≡ at.0 = omega arith in
-    let same : (get_or xs at.0 span).first.0 ≡ span.first.0 = ap (λ t. t.first.0) at.2 in
-    rw place
-    (filter_one (λ s. not (s.first.0 == span.first.0)) xs at.0 span at.1 (ap not (eq-eqb (get_or xs at.0 span).first.0 span.first.0 same))
-    (λ k within other. ap not (ne_eqb (get_or xs k span).first.0 span.first.0 (λ clash. first_pages_differ huge xs span k at.0 well within at.1 other (clash ∙ sym same)))))
-
 -- spans apart hold no page together
-apart_holds : (page : ℕ) (s t : SpanRef) → AreApart s t → holds page t ≡ true → holds page s ≡ false
+pub apart_holds : (page : ℕ) (s t : SpanRef) → AreApart s t → holds page t ≡ true → holds page s ≡ false
 apart_holds page s t apart held =
     let parts = and_parts (nat_le t.first.0 page) (nat_lt page (t.first.0 + t.pages)) held in
     let low : t.first.0 ≤ page = leb-true t.first.0 page parts.0 in
@@ -312,7 +171,7 @@ find_left page span (x ∷ xs) all =
 -- the spans apart from a set one are the others
 relates : (huge : ℕ) (page : ℕ) (span : SpanRef) (xs : List SpanRef) → IsWellFormed (record { huge = huge; spans = xs }) → Contains xs span → All (Relates page span) xs
 relates huge page span xs well there = λ k d within.
-    let at = place_of_span huge span xs well there in
+    let at = there in
     let here : get_or xs at.0 d ≡ span = get_or_default xs at.0 d span at.1 ∙ at.2 in
     let same_first : (get_or xs at.0 d).first.0 ≡ span.first.0 = ap (λ t. t.first.0) here in
     elim (cases_eq k at.0) [

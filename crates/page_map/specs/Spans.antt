@@ -1,5 +1,5 @@
 -- The spans of an arena, in the order of their first pages, and the pages that they hold.
-use Rattle.std.specs.Prelude.{ℕ, ◌+◌, ◌*◌, ◌<◌, ◌≤◌, ◌⊎◌, Bool, ◌==◌, ◌&&◌, not, nat_lt, nat_le, List, [], ◌∷◌, filter, All, AllPairs, if◌then◌else◌}
+use Rattle.std.specs.Prelude.{ℕ, ◌+◌, ◌<◌, ◌≤◌, ◌⊎◌, Bool, ◌&&◌, nat_lt, nat_le, List, All, AllPairs}
 use Rattle.tc_units.specs.Units.{huge_pages}
 use Rattle.tc_units.specs.Arena.{IsInArena}
 use Rattle.tc_units.specs.Sorted.{with_item, without_key}
@@ -14,10 +14,6 @@ pub record SpanMap : Type 0 where
 -- whether a span holds a page
 abbrev pub holds : ℕ → SpanRef → Bool
 holds page span = nat_le span.first.0 page && nat_lt page (span.first.0 + span.pages)
-
--- whether a span begins at a page or before it
-abbrev pub begins_by : ℕ → SpanRef → Bool
-begins_by page span = nat_le span.first.0 page
 
 -- the spans with one more, which stands before the first span that begins behind it
 abbrev pub with_span : SpanRef → List SpanRef → List SpanRef

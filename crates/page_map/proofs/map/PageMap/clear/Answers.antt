@@ -1,34 +1,28 @@
-use Rattle.std.proofs.Common.{◌≡◌, ◌-◌, length, sym, ◌∙◌, ap, subst, arith, find}
-use Rattle.std.specs.List.{remove}
-use Rattle.page_map.specs.Spans.{holds, IsWellFormed}
-use Rattle.page_map.proofs.SpanFacts.{same_map, place_of_span, without_span_is, without_span-well_formed, find-without_span}
+use Rattle.std.proofs.Common.{◌∙◌, ap, find, subst}
+use Rattle.page_map.specs.Spans.{holds, without_span, IsWellFormed}
+use Rattle.page_map.proofs.SpanFacts.{find-without_span}
+use Rattle.page_map.proofs.Meaning.{Means, means_without, set_is_ready}
 use Rattle.page_map.proofs.map.PageMap.clear.Goals as goal
+use Rattle.page_map.proofs.map.PageMap.clear.Goals.{After-hold}
 
-pub overflow_sub-place : goal.overflow_sub-place
-overflow_sub-place c =
-    let at = place_of_span c.args.self.now.huge c.args.span c.args.self.now.spans c.begun_by-place.ensures.well_formed c.requires in
-    omega (arith, at.3, c.begun_by-place.ensures.count)
+pub hold-requires-clause-ready : goal.hold-requires-clause-ready
+hold-requires-clause-ready c = set_is_ready c.self.inside.tree.nodes.items c.args.span c.args.self.now c.self.view_is c.self.invariant c.requires
 
-pub remove-requires : goal.remove-requires
-remove-requires c =
-    let at = place_of_span c.args.self.now.huge c.args.span c.args.self.now.spans c.begun_by-place.ensures.well_formed c.requires in
-    let same : length c.self.inside.spans.items ≡ length c.args.self.now.spans = ap (λ m. length m.spans) c.self.view_is in
-    omega (arith, at.1, at.3, same, c.begun_by-place.ensures.count)
-
-pub returns-clause-spans : goal.returns-clause-spans
-returns-clause-spans c =
-    let left = without_span_is c.args.self.now.huge c.args.span c.args.self.now.spans c.begun_by-place.ensures.well_formed c.requires in
-    let same_spans : c.self.inside.spans.items ≡ c.args.self.now.spans = ap (λ m. m.spans) c.self.view_is in
-    let same_huge : c.self.inside.huge ≡ c.args.self.now.huge = ap (λ m. m.huge) c.self.view_is in
-    same_map _ _ _ _ same_huge (c.remove.ensures.items ∙ ap (λ xs. remove xs (c.begun_by-place.result - 1)) same_spans ∙ ap (λ n. remove c.args.self.now.spans (n - 1)) c.begun_by-place.ensures.count ∙ sym left)
+meaning : (c : After-hold) → Means c.hold.new.self.nodes.items (record c.args.self.now { spans = without_span c.args.span c.args.self.now.spans })
+meaning c =
+    means_without c.self.inside.tree.nodes.items c.hold.new.self.nodes.items c.args.span c.args.self.now c.self.view_is c.self.invariant c.hold.ensures.size c.requires c.hold.ensures.holders
 
 pub invariant_of-self : goal.invariant_of-self
-invariant_of-self c = subst IsWellFormed (sym (returns-clause-spans c)) (without_span-well_formed c.args.self.now.huge c.args.span c.args.self.now.spans c.begun_by-place.ensures.well_formed)
+invariant_of-self c = (meaning c).kept
+
+pub returns-clause-spans : goal.returns-clause-spans
+returns-clause-spans c = (meaning c).is
 
 pub returns-clause-well_formed : goal.returns-clause-well_formed
-returns-clause-well_formed c = invariant_of-self c
+returns-clause-well_formed c = (meaning c).kept.well_formed
 
 pub returns-clause-reads : goal.returns-clause-reads
 returns-clause-reads c =
     λ page.
-    ap (λ m. find (holds page) m.spans) (returns-clause-spans c) ∙ find-without_span c.args.self.now.huge page c.args.span c.args.self.now.spans c.begun_by-place.ensures.well_formed c.requires
+    ap (λ m. find (holds page) m.spans) (meaning c).is
+    ∙ find-without_span c.args.self.now.huge page c.args.span c.args.self.now.spans (subst IsWellFormed c.self.view_is c.self.invariant.well_formed) c.requires

@@ -1,29 +1,24 @@
-use Rattle.std.proofs.Common.{◌≡◌, length, sym, ◌∙◌, ap, subst, arith, find}
-use Rattle.std.specs.List.{insert}
-use Rattle.std.proofs.lemmas.List.Sums.{prefix_len-le-length}
-use Rattle.page_map.specs.Spans.{holds, begins_by, IsWellFormed}
-use Rattle.page_map.proofs.SpanFacts.{same_map, with_span_is, with_span-well_formed, find-with_span}
+use Rattle.std.proofs.Common.{Some, ◌∙◌, ap, cond, find}
+use Rattle.page_map.specs.Spans.{holds, with_span}
+use Rattle.page_map.proofs.SpanFacts.{find-with_span}
+use Rattle.page_map.proofs.Meaning.{Means, means_with}
 use Rattle.page_map.proofs.map.PageMap.set.Goals as goal
+use Rattle.page_map.proofs.map.PageMap.set.Goals.{After-hold}
 
-pub insert-requires : goal.insert-requires
-insert-requires c =
-    let same : length c.self.inside.spans.items ≡ length c.args.self.now.spans = ap (λ m. length m.spans) c.self.view_is in
-    omega (arith, prefix_len-le-length (begins_by c.args.span.first.0) c.args.self.now.spans, same, c.begun_by-place.ensures.count)
-
-pub returns-clause-ok : goal.returns-clause-ok
-returns-clause-ok c =
-    let more = with_span_is c.args.span c.args.self.now.spans in
-    let same_spans : c.self.inside.spans.items ≡ c.args.self.now.spans = ap (λ m. m.spans) c.self.view_is in
-    let same_huge : c.self.inside.huge ≡ c.args.self.now.huge = ap (λ m. m.huge) c.self.view_is in
-    same_map _ _ _ _ same_huge (c.in_ok-insert.ensures.items ∙ ap (λ xs. insert xs c.begun_by-place.result c.args.span) same_spans ∙ ap (λ n. insert c.args.self.now.spans n c.args.span) c.begun_by-place.ensures.count ∙ sym more)
+meaning : (c : After-hold) → Means c.hold.new.self.nodes.items (record c.args.self.now { spans = with_span c.args.span c.args.self.now.spans })
+meaning c =
+    means_with c.self.inside.tree.nodes.items c.hold.new.self.nodes.items c.args.span c.args.self.now c.self.view_is c.self.invariant (c.hold.ensures.size ∙ c.in_ok-make_leaves.ensures.size) c.requires.inside c.requires.apart
+    (λ page. c.hold.ensures.holders page ∙ ap (λ h. cond (holds page c.args.span) (Some c.args.span) h) (c.in_ok-make_leaves.ensures.same page))
 
 pub invariant_of-self-2 : goal.invariant_of-self-2
-invariant_of-self-2 c = subst IsWellFormed (sym (returns-clause-ok c)) (with_span-well_formed c.args.self.now.huge c.args.span c.args.self.now.spans c.requires.inside c.requires.apart c.begun_by-place.ensures.well_formed)
+invariant_of-self-2 c = (meaning c).kept
+
+pub returns-clause-ok : goal.returns-clause-ok
+returns-clause-ok c = (meaning c).is
 
 pub returns-clause-well_formed : goal.returns-clause-well_formed
-returns-clause-well_formed c = invariant_of-self-2 c
+returns-clause-well_formed c = (meaning c).kept.well_formed
 
 pub returns-clause-reads : goal.returns-clause-reads
 returns-clause-reads c =
-    λ page.
-    ap (λ m. find (holds page) m.spans) (returns-clause-ok c) ∙ find-with_span page c.args.span c.args.self.now.spans c.requires.apart
+    λ page. ap (λ m. find (holds page) m.spans) (meaning c).is ∙ find-with_span page c.args.span c.args.self.now.spans c.requires.apart
