@@ -15,7 +15,7 @@ use Rattle.tc_units.proofs.Counts.{one-true}
 use Rattle.heap_rules.proofs.Places.{at}
 
 -- a sum over the elements that pass
-sum-filter : {X : Type 0} (f : X → ℕ) (p : X → Bool) (xs : List X) → sum_by f (filter p xs) ≡ sum_by (λ x. cond (p x) (f x) 0) xs
+pub sum-filter : {X : Type 0} (f : X → ℕ) (p : X → Bool) (xs : List X) → sum_by f (filter p xs) ≡ sum_by (λ x. cond (p x) (f x) 0) xs
 sum-filter f p [] = refl
 sum-filter f p (x ∷ xs) =
     let rest = sum-filter f p xs in
@@ -27,7 +27,7 @@ sum-filter f p (x ∷ xs) =
     ]) ∙ sym b
 
 -- sums that agree place by place, as two that add up to a third
-sum-adds : {X : Type 0} (f g k : X → ℕ) (xs : List X) → All (λ x. f x + g x ≡ k x) xs → sum_by f xs + sum_by g xs ≡ sum_by k xs
+pub sum-adds : {X : Type 0} (f g k : X → ℕ) (xs : List X) → All (λ x. f x + g x ≡ k x) xs → sum_by f xs + sum_by g xs ≡ sum_by k xs
 sum-adds f g k [] h = refl
 sum-adds f g k (x ∷ xs) h =
     let head : f x + g x ≡ k x = All-head (λ y. f y + g y ≡ k y) x xs h in
@@ -37,7 +37,7 @@ sum-adds f g k (x ∷ xs) h =
     let c = sum_by-cons k x xs in
     omega arith
 
-sum-map' : {X Y : Type 0} (f : Y → ℕ) (v : X → Y) (xs : List X) → sum_by f (map v xs) ≡ sum_by (λ x. f (v x)) xs
+pub sum-map' : {X Y : Type 0} (f : Y → ℕ) (v : X → Y) (xs : List X) → sum_by f (map v xs) ≡ sum_by (λ x. f (v x)) xs
 sum-map' f v [] = refl
 sum-map' f v (x ∷ xs) = let a = sum_by-cons f (v x) (map v xs) in let b = sum_by-cons (λ y. f (v y)) x xs in let rest = sum-map' f v xs in omega arith
 
@@ -57,14 +57,14 @@ by_numbers f xs =
     ∙ ap (λ i. f (1 + k) (get_or xs i untouched)) (sym e)
     ∙ sym (get_or-map-range_with_len g 1 (length xs) k (1 + k) d short refl))
 
-self : (xs : List Hugepage) → xs ≡ map (at xs) (range_with_len 1 (length xs))
+pub self : (xs : List Hugepage) → xs ≡ map (at xs) (range_with_len 1 (length xs))
 self xs =
     let count = length-map-range_with_len (at xs) 1 (length xs) in
     same_lists _ _ (sym count)
     (λ k d l. let e : k ≡ 1 + k - 1 = omega arith in get_or_default xs k d untouched l ∙ ap (λ i. get_or xs i untouched) e ∙ sym (get_or-map-range_with_len (at xs) 1 (length xs) k (1 + k) d l refl))
 
 -- the backed pages of a hugepage, over the numbers of its pages
-own_backs : (h : ℕ) (x : Hugepage) → length x.backed ≡ 256 → x.backed ≡ map (backs x) (pages_of h)
+pub own_backs : (h : ℕ) (x : Hugepage) → length x.backed ≡ 256 → x.backed ≡ map (backs x) (pages_of h)
 own_backs h x e =
     let count = length-map-range_with_len (backs x) (256 * h) 256 in
     same_lists _ _ (e ∙ sym count)
@@ -81,7 +81,7 @@ one_more true true = refl
 one_more true false = refl
 one_more false b = refl
 
-both : (backed : List Bool) (used : ℕ → Bool) (ps : List ℕ) (b : ℕ → Bool) → backed ≡ map b ps → count_by (λ x. x) (map (λ p. b p && used p) ps) + count_by (λ p. b p && not (used p)) ps ≡ count_by (λ x. x) backed
+pub both : (backed : List Bool) (used : ℕ → Bool) (ps : List ℕ) (b : ℕ → Bool) → backed ≡ map b ps → count_by (λ x. x) (map (λ p. b p && used p) ps) + count_by (λ p. b p && not (used p)) ps ≡ count_by (λ x. x) backed
 both backed used ps b e =
     let one = sum-map' (λ x. cond x 1 0) (λ p. b p && used p) ps in
     let two = sum-map' (λ x. cond x 1 0) b ps in
@@ -103,9 +103,9 @@ one_row m true false h = elim (cases_lt 0 m) [ inl some ↦ absurd (false≢true
 one_row m false true h = absurd (false≢true (h.1 refl))
 one_row m false false h = refl
 
-same_sums : (f g : SpareRow → ℕ) (rows : List SpareRow) → All (λ r. f r ≡ g r) rows → sum_by f rows ≡ sum_by g rows
+pub same_sums : {X : Type 0} (f g : X → ℕ) (xs : List X) → All (λ x. f x ≡ g x) xs → sum_by f xs ≡ sum_by g xs
 same_sums f g [] h = refl
-same_sums f g (x ∷ xs) h = let a = sum_by-cons f x xs in let b = sum_by-cons g x xs in let rest = same_sums f g xs (All-tail (λ r. f r ≡ g r) x xs h) in let head : f x ≡ g x = All-head (λ r. f r ≡ g r) x xs h in omega arith
+same_sums f g (x ∷ xs) h = let a = sum_by-cons f x xs in let b = sum_by-cons g x xs in let rest = same_sums f g xs (All-tail (λ y. f y ≡ g y) x xs h) in let head : f x ≡ g x = All-head (λ y. f y ≡ g y) x xs h in omega arith
 
 -- Sums over the rows that pass one test or another, which differ only at rows that add nothing.
 pub sum_agrees : (f : SpareRow → ℕ) (p q : SpareRow → Bool) (rows : List SpareRow) → All (λ r. (0 < f r → p r ≡ true → q r ≡ true) × (q r ≡ true → p r ≡ true)) rows → sum_by f (filter p rows) ≡ sum_by f (filter q rows)
@@ -116,7 +116,7 @@ pub candidate_gives : (rows : List SpareRow) (n : ℕ) (gone : SpareRow → Bool
 candidate_gives rows n gone c h = ap (λ i. nat_lt i n) (sum_agrees (λ r. r.spare) (gives_before c) gone rows h)
 
 -- The pages of each step of a release.
-scaled : {X : Type 0} (p : X → Bool) (xs : List X) → sum_by (λ x. cond (p x) 256 0) xs ≡ 256 * count_by p xs
+pub scaled : {X : Type 0} (p : X → Bool) (xs : List X) → sum_by (λ x. cond (p x) 256 0) xs ≡ 256 * count_by p xs
 scaled p [] = refl
 scaled p (x ∷ xs) =
     let a = sum_by-cons (λ y. cond (p y) 256 0) x xs in

@@ -18,5 +18,9 @@ pub mod Opened
 pub mod Trims
 pub mod GiveUps
 pub mod Accounts
+pub mod NoneBacked
+pub mod Orders
+pub mod Spared
+pub mod Enough
 mod Placing
 mod Unbacking

@@ -137,3 +137,7 @@ Contains-filter q (x ∷ xs) (suc k) d h t =
       | true ↦ Contains-cons x (filter q xs) (get_or xs k d) rest
       | false ↦ rest
     ]
+
+-- what a list has and a test passes is in what passes
+pub filter_holds : {X : Type 0} (p : X → Bool) (xs : List X) (x : X) → Contains xs x → p x ≡ true → Contains (filter p xs) x
+filter_holds p xs x held pass = subst (Contains (filter p xs)) held.2 (Contains-filter p xs held.0 x held.1 (ap p held.2 ∙ pass))

@@ -1,10 +1,10 @@
 -- What a new run, a free and a release do to a sound heap.
-use Rattle.std.specs.Prelude.{◌≡◌, ℕ, ◌+◌, ◌<◌, ◌≤◌, true, false, MatchOption, Contains}
+use Rattle.std.specs.Prelude.{◌≡◌, ℕ, ◌+◌, ◌<◌, ◌≤◌, ◌↔◌, true, false, MatchOption, Contains}
 use Rattle.tc_units.specs.declared.spans.Run.{Run}
 use Rattle.heap_rules.specs.Heap.{Heap, holds, is_used, is_backed, backed_pages, with_run, without_run}
 use Rattle.heap_rules.specs.New.{Placed, new, none_fits}
 use Rattle.heap_rules.specs.Free.{freed}
-use Rattle.heap_rules.specs.Release.{Released, release}
+use Rattle.heap_rules.specs.Release.{Released, release, givable_pages}
 use Rattle.heap_rules.specs.Sound.{IsInside, IsSound}
 
 -- a run of n pages that were unused and lie in the arena, and the heap with it
@@ -38,3 +38,16 @@ pub record IsReleased (heap : Heap) (r : Released) : Type 0 where
 
 abbrev pub ReleaseKeeps : Type 0
 ReleaseKeeps = (heap : Heap) (n : ℕ) → IsSound heap → IsReleased heap (release heap n)
+
+-- each page that is backed afterwards was backed before
+abbrev pub BacksNone : Heap → Heap → Type 0
+BacksNone heap after = (page : ℕ) → is_backed after page ≡ true → is_backed heap page ≡ true
+
+-- neither a free nor a release backs a page
+pub record NoneIsBacked : Type 0 where
+  pub by_free : (heap : Heap) (run : Run) → IsSound heap → Contains heap.runs run → BacksNone heap (freed heap run)
+  pub by_release : (heap : Heap) (n : ℕ) → BacksNone heap (release heap n).heap
+
+-- a release answers at least n exactly where so many pages may be given
+abbrev pub ReleaseIsEnough : Type 0
+ReleaseIsEnough = (heap : Heap) (n : ℕ) → IsSound heap → n ≤ (release heap n).pages ↔ n ≤ givable_pages heap

@@ -1,9 +1,9 @@
 -- Release: free hugepages give first, then unused ones of regions, then the filler's, each while fewer than n pages were unbacked.
-use Rattle.std.specs.Prelude.{ℕ, ◌+◌, ◌-◌, ◌*◌, Bool, ◌==◌, ◌&&◌, not, List, filter, map, count_by, sum_by, if◌then◌else◌}
+use Rattle.std.specs.Prelude.{ℕ, ◌+◌, ◌-◌, ◌*◌, Bool, ◌==◌, ◌&&◌, ◌||◌, not, List, filter, map, count_by, sum_by, if◌then◌else◌}
 use Rattle.std.specs.List.{list_all}
 use Rattle.tc_units.specs.Units.{huge_pages}
 use Rattle.tc_units.specs.declared.spans.Run.{Run}
-use Rattle.heap_rules.specs.Heap.{Heap, Hugepage, hugepage, numbers, each, is_used, pages_of, used_count, backs, is_free_backed, is_region, is_filler}
+use Rattle.heap_rules.specs.Heap.{Heap, Hugepage, hugepage, numbers, each, is_used, pages_of, used_count, backs, is_free, is_free_backed, is_region, is_filler}
 use Rattle.heap_rules.specs.Settle.{unbacked}
 use Rattle.heap_rules.specs.GiveUp.{gives_whole, SpareRow, gives_spare}
 
@@ -28,8 +28,11 @@ abbrev pub idle_given : Heap → ℕ → Released
 idle_given heap n = whole_given (map (is_idle heap) (numbers heap)) heap n
 
 -- Then the filler's, which back their used pages alone.
+abbrev pub spare_pages : Heap → ℕ → ℕ
+spare_pages heap h = count_by (λ page. backs (hugepage heap h) page && not (is_used heap.runs page)) (pages_of h)
+
 abbrev pub spare_row : Heap → ℕ → SpareRow
-spare_row heap h = record { number = h; used = used_count heap.runs h; spare = count_by (λ page. backs (hugepage heap h) page && not (is_used heap.runs page)) (pages_of h) }
+spare_row heap h = record { number = h; used = used_count heap.runs h; spare = spare_pages heap h }
 
 abbrev pub spare_rows : Heap → List SpareRow
 spare_rows heap = map (spare_row heap) (filter (λ h. is_filler (hugepage heap h)) (numbers heap))
@@ -49,3 +52,11 @@ after_free n a = let b = idle_given a.heap (n - a.pages) in after_regions n (rec
 
 abbrev pub release : Heap → ℕ → Released
 release heap n = after_free n (free_given heap n)
+
+-- What there is to unback: the backed pages without a live run, of hugepages that are free, of the filler, or of a
+-- region and without a used page.
+abbrev pub may_give : Heap → ℕ → Bool
+may_give heap h = is_free (hugepage heap h) || is_filler (hugepage heap h) || (is_region (hugepage heap h) && used_count heap.runs h == 0)
+
+abbrev pub givable_pages : Heap → ℕ
+givable_pages heap = sum_by (spare_pages heap) (filter (may_give heap) (numbers heap))

@@ -1,7 +1,7 @@
 //! The laws of a page heap, over values alone.
 #![tactic(auto)]
 
-ghost use Rattle.heap_rules.specs.Laws.{NewGives, FreeLeaves, ReleaseKeeps};
+ghost use Rattle.heap_rules.specs.Laws.{NewGives, FreeLeaves, ReleaseKeeps, NoneIsBacked, ReleaseIsEnough};
 
 mod config;
 
@@ -20,4 +20,14 @@ pub fn free_leaves()
 /// A release keeps the runs and their backing.
 pub fn release_keeps()
     ensures { ReleaseKeeps }
+{}
+
+/// A free and a release back no page.
+pub fn none_is_backed()
+    ensures { NoneIsBacked }
+{}
+
+/// A release answers at least what is asked exactly where so many pages may be given.
+pub fn release_is_enough()
+    ensures { ReleaseIsEnough }
 {}

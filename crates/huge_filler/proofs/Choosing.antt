@@ -12,6 +12,8 @@ use Rattle.range_bits.specs.Ranges.{longest, best, first_least}
 use Rattle.range_bits.proofs.RangeLemmas.{filter-none}
 use Rattle.range_bits.proofs.Least.{IsBehind, least_is_first}
 use Rattle.heap_rules.specs.FillerRows.{FillerRow, is_preferred, has_room, place_in_row, filler_place}
+use Rattle.heap_rules.proofs.Orders.{by_first, last_is}
+use Rattle.heap_rules.proofs.Live.{filter_holds}
 use Rattle.huge_index.specs.declared.key.Key.{Key}
 use Rattle.huge_index.specs.Order.{first_by, comes_before, Serves, IsFirstOf}
 use Rattle.huge_index.specs.Rows.{IsIndexOf}
@@ -23,24 +25,11 @@ use Rattle.huge_filler.specs.Preferred.{IsPreferred}
 use Rattle.huge_filler.proofs.Numbered.{IsRowAt, rows_at}
 
 -- The two orders are one.
-pub then_is : (l e : Bool) (rest : Ordering) → is_lt (ordering_then (cond l Less (cond e Equal Greater)) rest) ≡ (l || (e && is_lt rest))
-then_is true e rest = refl
-then_is false true rest = refl
-then_is false false rest = refl
-
-pub last_is : (l e : Bool) → is_lt (cond l Less (cond e Equal Greater)) ≡ l
-last_is true e = refl
-last_is false true = refl
-last_is false false = refl
-
-by : (x y : ℕ) (rest : Ordering) (b : Bool) → is_lt rest ≡ b → is_lt (ordering_then (nat_cmp x y) rest) ≡ first_by x y b
-by x y rest b e = then_is (nat_lt x y) (nat_eq x y) rest ∙ ap (λ (t : Bool). nat_lt x y || (nat_eq x y && t)) e
-
 pub preferred_is : (a b : FillerRow) → is_preferred a b ≡ comes_before (key_of a) (key_of b)
 preferred_is a b =
-    by a.tier b.tier _ _
-    (by (longest a.used) (longest b.used) _ _
-    (by b.allocs a.allocs _ _ (last_is (nat_lt a.number b.number) (nat_eq a.number b.number))))
+    by_first a.tier b.tier _ _
+    (by_first (longest a.used) (longest b.used) _ _
+    (by_first b.allocs a.allocs _ _ (last_is (nat_lt a.number b.number) (nat_eq a.number b.number))))
 
 -- each row is that of a hugepage
 abbrev IsRowOf : List (Option FillerPage) → FillerRow → Type 0
@@ -61,18 +50,6 @@ one_row pages a b x y same =
     let pages_same : Some x.page ≡ Some y.page = sym x.at ∙ ap (page_at pages) same ∙ y.at in
     let page_same : x.page ≡ y.page = cc in
     x.is ∙ ap (λ (h : ℕ). row_of h x.page) same ∙ ap (row_of b.number) page_same ∙ sym y.is
-
-pub filter_holds : {X : Type 0} (p : X → Bool) (xs : List X) (x : X) → Contains xs x → p x ≡ true → Contains (filter p xs) x
-filter_holds p [] x held pass = absurd (omega (arith, held.1))
-filter_holds p (y ∷ ys) x (zero, l, e) pass =
-    let here : p y ≡ true = ap p e ∙ pass in
-    subst (λ b. Contains (cond b (y ∷ filter p ys) (filter p ys)) x) (sym here) (0, omega arith, e)
-filter_holds p (y ∷ ys) x (suc k, l, e) pass =
-    let rest = filter_holds p ys x (k, omega arith, e) pass in
-    elim (cases_Bool (p y)) [
-      | inl here ↦ subst (λ b. Contains (cond b (y ∷ filter p ys) (filter p ys)) x) (sym here) (suc rest.0, omega (arith, rest.1), rest.2)
-      | inr not_here ↦ subst (λ b. Contains (cond b (y ∷ filter p ys) (filter p ys)) x) (sym not_here) rest
-    ]
 
 module _ (pages : List (Option FillerPage)) (keys : List Key) (n : ℕ) (index : IsIndexOf key_of (rows_of pages) keys) where
   -- no lower tier serves

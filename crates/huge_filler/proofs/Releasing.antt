@@ -13,7 +13,8 @@ use Rattle.range_bits.proofs.Least.{none_less}
 use Rattle.heap_rules.specs.GiveUp.{SpareRow, gives_before, gives_spare}
 use Rattle.huge_filler.specs.Filler.{FillerPage, IsFillerPage, AreFillerPages, place_of, spare_row, spare_rows, spare_count, only_used, candidate, released, released_page, released_count}
 use Rattle.huge_filler.proofs.Numbered.{numbered-all, numbered-held}
-use Rattle.huge_filler.proofs.Choosing.{filter_holds, last_is, then_is}
+use Rattle.heap_rules.proofs.Orders.{by_first, last_is}
+use Rattle.heap_rules.proofs.Live.{filter_holds}
 use Rattle.huge_filler.proofs.Pages.{spare_and_used, used_stays, only_used_sound}
 use Rattle.huge_filler.proofs.Giving.{has_spare}
 
@@ -23,7 +24,7 @@ by_used u h v k = nat_lt u v || (nat_eq u v && nat_lt k h)
 
 -- whether a gives before b
 before_is : (b a : SpareRow) → gives_before b a ≡ by_used a.used a.number b.used b.number
-before_is b a = then_is (nat_lt a.used b.used) (nat_eq a.used b.used) _ ∙ ap (λ (t : Bool). nat_lt a.used b.used || (nat_eq a.used b.used && t)) (last_is (nat_lt b.number a.number) (nat_eq b.number a.number))
+before_is b a = by_first a.used b.used _ _ (last_is (nat_lt b.number a.number) (nat_eq b.number a.number))
 
 used_one_way : (u h v k : ℕ) → by_used u h v k ≡ true → by_used v k u h ≡ false
 used_one_way u h v k e = grind (arith, nat_tests)

@@ -15,6 +15,8 @@ use Rattle.range_bits.proofs.RangeFacts.{best_is_fit}
 use Rattle.range_bits.proofs.Counts.{free_inside}
 use Rattle.range_bits.proofs.Least.{IsBehind, least_is_first}
 use Rattle.heap_rules.specs.RegionRows.{RegionRow, is_preferred, has_room, region_place, place_in_region}
+use Rattle.heap_rules.proofs.Orders.{by_first, last_is}
+use Rattle.heap_rules.proofs.Live.{filter_holds}
 use Rattle.huge_index.specs.declared.key.Key.{Key}
 use Rattle.huge_index.specs.Order.{first_by, comes_before, Serves, IsFirstOf}
 use Rattle.huge_index.specs.Rows.{IsIndexOf}
@@ -25,33 +27,8 @@ use Rattle.huge_region.specs.Regions.{Region, Regions, region_with, row_of, star
 use Rattle.huge_region.proofs.Looked.{held_has, one_region, HasHuge, has_huge}
 
 -- The two orders are one.
-then_is : (l e : Bool) (rest : Ordering) → is_lt (ordering_then (cond l Less (cond e Equal Greater)) rest) ≡ (l || (e && is_lt rest))
-then_is true e rest = refl
-then_is false true rest = refl
-then_is false false rest = refl
-
-last_is : (l e : Bool) → is_lt (cond l Less (cond e Equal Greater)) ≡ l
-last_is true e = refl
-last_is false true = refl
-last_is false false = refl
-
-by : (x y : ℕ) (rest : Ordering) (b : Bool) → is_lt rest ≡ b → is_lt (ordering_then (nat_cmp x y) rest) ≡ first_by x y b
-by x y rest b e = then_is (nat_lt x y) (nat_eq x y) rest ∙ ap (λ (t : Bool). nat_lt x y || (nat_eq x y && t)) e
-
 preferred_is : (a b : Region) → is_preferred (row_of a) (row_of b) ≡ comes_before (key_of a) (key_of b)
-preferred_is a b = by (longest a.used) (longest b.used) _ _ (last_is (nat_lt a.first b.first) (nat_eq a.first b.first))
-
-filter_holds : {X : Type 0} (p : X → Bool) (xs : List X) (x : X) → Contains xs x → p x ≡ true → Contains (filter p xs) x
-filter_holds p [] x held pass = absurd (omega (arith, held.1))
-filter_holds p (y ∷ ys) x (zero, l, e) pass =
-    let here : p y ≡ true = ap p e ∙ pass in
-    subst (λ b. Contains (cond b (y ∷ filter p ys) (filter p ys)) x) (sym here) (0, omega arith, e)
-filter_holds p (y ∷ ys) x (suc k, l, e) pass =
-    let rest = filter_holds p ys x (k, omega arith, e) pass in
-    elim (cases_Bool (p y)) [
-      | inl here ↦ subst (λ b. Contains (cond b (y ∷ filter p ys) (filter p ys)) x) (sym here) (suc rest.0, omega (arith, rest.1), rest.2)
-      | inr not_here ↦ subst (λ b. Contains (cond b (y ∷ filter p ys) (filter p ys)) x) (sym not_here) rest
-    ]
+preferred_is a b = by_first (longest a.used) (longest b.used) _ _ (last_is (nat_lt a.first b.first) (nat_eq a.first b.first))
 
 map_holds : (rs : List Region) (r : Region) → Contains rs r → Contains (map row_of rs) (row_of r)
 map_holds rs r held = (held.0, omega (arith, held.1, length-map rs row_of), get_or-map row_of rs held.0 r (row_of r) held.1 ∙ ap row_of held.2)

@@ -11,8 +11,8 @@ ghost use Rattle.heap_rules.specs.RegionRows as regions;
 ghost use Rattle.heap_rules.specs.New.{in_filler, in_fresh, new_small, new_whole, in_region, in_new_region, slack, by_regions, new_unsettled, new, none_fits};
 ghost use Rattle.heap_rules.specs.Free.{given_back, freed};
 ghost use Rattle.heap_rules.specs.Heap.{is_backed, used_pages, backed_pages, row_of};
-ghost use Rattle.heap_rules.specs.Release.{release, free_given, idle_given, spare_given};
-ghost use Rattle.heap_rules.specs.Laws.{IsGiven, IsRid, IsReleased};
+ghost use Rattle.heap_rules.specs.Release.{release, free_given, idle_given, spare_given, givable_pages};
+ghost use Rattle.heap_rules.specs.Laws.{IsGiven, IsRid, IsReleased, BacksNone};
 ghost use Rattle.page_heap.specs.Parts.{IsInOneHugepage, IsInHugepages, IsInRegion};
 ghost use Rattle.heap_rules.specs.Settle.{settled};
 ghost use Rattle.heap_rules.specs.Sound.{AreLimits, IsSound};
@@ -270,10 +270,9 @@ impl PageHeap {
         ensures given { self.new ≡ given_back self.old run }
         ensures sound { IsSound self.old }
     {
-        // The run is inside the arena.
-        let _ = &self.lengths;
+        let filler = &self.filler;
         let huge = huge_of(run.first);
-        if self.filler.holds(huge) {
+        if filler.holds(huge) {
             self.free_in_filler(run);
         } else if self.regions.row(huge).is_some() {
             self.free_in_region(run);
@@ -287,6 +286,7 @@ impl PageHeap {
         requires { Contains self.old.runs run }
         ensures freed { self.new ≡ freed self.old run }
         ensures rid { IsRid self.old run self.new }
+        ensures backs_none { BacksNone self.old self.new }
         ensures stay { (other : Run) → Contains self.old.runs other → other.first.0 ≢ run.first.0
             → Contains self.new.runs other }
     {
@@ -319,10 +319,13 @@ impl PageHeap {
         self.filler.release(n)
     }
 
-    /// Unbacks pages that no live run has while fewer than `n` are unbacked. Answers how many are.
+    /// Unbacks pages that no live run has while fewer than `n` are unbacked. Answers how many are: `n` or more
+    /// exactly where there are so many to unback.
     pub fn release(&mut self, n: u64) -> u64
         ensures released { release self.old n ≡ record { heap = self.new; pages = result } }
         ensures kept { IsReleased self.old (record { heap = self.new; pages = result }) }
+        ensures backs_none { BacksNone self.old self.new }
+        ensures enough { n ≤ result ↔ n ≤ givable_pages self.old }
     {
         let free = self.release_free(n);
         let idle = self.release_idle(n.saturating_sub(free));
@@ -336,11 +339,10 @@ impl PageHeap {
         requires to { page.0 < huge_pages * (self.now.config.huge + 1) }
         ensures { result ≡ is_backed self.now page.0 }
     {
-        // The page is inside the arena.
-        let _ = &self.lengths;
+        let filler = &self.filler;
         let huge = huge_of(page);
-        if self.filler.holds(huge) {
-            self.filler.is_backed(page)
+        if filler.holds(huge) {
+            filler.is_backed(page)
         } else if self.cache.holds(huge) {
             self.cache.is_backed(huge)
         } else if self.regions.row(huge).is_some() {

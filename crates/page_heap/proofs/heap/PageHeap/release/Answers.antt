@@ -1,7 +1,9 @@
-use Rattle.std.proofs.Common.{◌≡◌, ◌+◌, subst}
-use Rattle.heap_rules.specs.Release.{release}
-use Rattle.heap_rules.specs.Laws.{IsReleased}
+use Rattle.std.proofs.Common.{◌≡◌, ◌+◌, ◌≤◌, subst}
+use Rattle.heap_rules.specs.Release.{Released, release, givable_pages}
+use Rattle.heap_rules.specs.Laws.{IsReleased, BacksNone}
 use Rattle.heap_rules.proofs.Released.{release_keeps}
+use Rattle.heap_rules.proofs.NoneBacked.{release_backs_none}
+use Rattle.heap_rules.proofs.Enough.{release_is_enough}
 use Rattle.page_heap.proofs.Unbacks.{released_by}
 use Rattle.page_heap.proofs.heap.PageHeap.release.Goals as goal
 use Rattle.page_heap.proofs.heap.PageHeap.release.Goals.{After-release_spare-spare}
@@ -18,3 +20,11 @@ returns-clause-released c = all c
 
 pub returns-clause-kept : goal.returns-clause-kept
 returns-clause-kept c = subst (IsReleased c.args.self.now) (all c) (release_keeps c.args.self.now c.args.n c.release_free-free.ensures.sound)
+
+pub returns-clause-backs_none : goal.returns-clause-backs_none
+returns-clause-backs_none c = subst (λ (r : Released). BacksNone c.args.self.now r.heap) (all c) (release_backs_none c.args.self.now c.args.n)
+
+pub returns-clause-enough : goal.returns-clause-enough
+returns-clause-enough c =
+    subst (λ (r : Released). (c.args.n ≤ r.pages → c.args.n ≤ givable_pages c.args.self.now) × (c.args.n ≤ givable_pages c.args.self.now → c.args.n ≤ r.pages)) (all c)
+    (release_is_enough c.args.self.now c.args.n c.release_free-free.ensures.sound)

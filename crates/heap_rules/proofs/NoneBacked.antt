@@ -1,0 +1,125 @@
+-- What a free and a release make of each hugepage backs no page of it.
+use Rattle.std.proofs.Common.{◌≡◌, ℕ, ◌+◌, ◌-◌, ◌*◌, ◌/◌, ◌%◌, ◌<◌, ◌≤◌, Bool, true, false, not, ◌&&◌, ◌==◌, cond, List, length, get_or, map, Contains, refl, sym, ap, subst, ◌∙◌, inl, inr, arith}
+use Rattle.std.specs.List.{list_all, list_any}
+use Rattle.std.proofs.lemmas.Bool.{cases_Bool, cases_lt, and_parts, false≢true}
+use Rattle.std.proofs.lemmas.List.{get_or_past}
+use Rattle.std.proofs.lemmas.List.Folds.{list_all_at}
+use Rattle.std.proofs.lemmas.List.FromFn.{get_or-map-range_with_len}
+use Rattle.tc_units.specs.declared.spans.Run.{Run}
+use Rattle.tc_units.specs.declared.rows.RowKind.{RowKind}
+use Rattle.tc_units.specs.declared.rows.RowKind.TheVariants as kind
+use Rattle.heap_rules.specs.Heap.{Heap, Hugepage, hugepage, untouched, each, whole, backs, is_used, is_filler, is_region, is_free_backed, is_backed, reaches, allocation_count, spans, numbers, pages_of}
+use Rattle.heap_rules.specs.CacheFlags.{is_over, limit}
+use Rattle.heap_rules.specs.Settle.{unbacked, counted, settled}
+use Rattle.heap_rules.specs.GiveUp.{gives_whole, gives_spare}
+use Rattle.heap_rules.specs.Free.{emptied, left_by, left, used_regions, without_unused_regions, freed}
+use Rattle.heap_rules.specs.Release.{Released, whole_given, free_given, is_idle, idle_given, spare_row, spare_rows, only_used, spare_given, release}
+use Rattle.heap_rules.specs.Sound.{Serves, IsSound}
+use Rattle.heap_rules.specs.Laws.{BacksNone}
+use Rattle.heap_rules.proofs.Places.{at, length-each, at-each, backs-whole}
+
+-- a hugepage that backs no page more than another
+abbrev Unbacks : Hugepage → Hugepage → Type 0
+Unbacks x y = (page : ℕ) → backs y page ≡ true → backs x page ≡ true
+
+-- of two changes that unback, the one that a test says
+unbacks_if : (b : Bool) (x y z : Hugepage) → (b ≡ true → Unbacks x y) → (b ≡ false → Unbacks x z) → Unbacks x (cond b y z)
+unbacks_if true x y z one other = one refl
+unbacks_if false x y z one other = other refl
+
+unbacks_unbacked : (x : Hugepage) → Unbacks x (unbacked x)
+unbacks_unbacked x page e = absurd (false≢true (sym (backs-whole false page) ∙ e))
+
+unbacks_same : (x : Hugepage) → Unbacks x x
+unbacks_same x page e = e
+
+-- a change of each hugepage that unbacks
+each_unbacks : (f : ℕ → Hugepage → Hugepage) (xs : List Hugepage) → ((h : ℕ) → 0 < h → h ≤ length xs → Unbacks (at xs h) (f h (at xs h))) → (h page : ℕ) → backs (at (each f xs) h) page ≡ true → backs (at xs h) page ≡ true
+each_unbacks f xs unbacks h page e =
+    let same : h - 1 + 1 - 1 ≡ h - 1 = omega arith in
+    let now : (ys : List Hugepage) → at ys (h - 1 + 1) ≡ at ys h = λ ys. ap (λ k. get_or ys k untouched) same in
+    elim (cases_lt (h - 1) (length xs)) [
+      | inl within ↦
+          (let changed = at-each f xs (h - 1 + 1) (omega arith) (omega arith) in
+          let after : backs (f (h - 1 + 1) (at xs (h - 1 + 1))) page ≡ true = ap (λ x. backs x page) (sym changed ∙ now (each f xs)) ∙ e in
+          ap (λ x. backs x page) (sym (now xs)) ∙ unbacks (h - 1 + 1) (omega arith) (omega arith) page after)
+      | inr past ↦
+          (let none : at (each f xs) h ≡ untouched = get_or_past (each f xs) (h - 1) untouched (omega (arith, length-each f xs, past)) in
+          absurd (false≢true (sym (backs-whole false page) ∙ ap (λ x. backs x page) (sym none) ∙ e)))
+    ]
+
+-- what a run leaves of a hugepage
+all_backed : (x : Hugepage) (page : ℕ) → length x.backed ≡ 256 → list_all (λ b. b) x.backed ≡ true → backs x page ≡ true
+all_backed x page size all =
+    elim (cases_Bool (backs x page)) [
+      | inl t ↦ t
+      | inr f ↦ absurd (false≢true (sym (list_all_at (λ b. b) x.backed (page % 256) false (omega (arith, size)) f) ∙ all))
+    ]
+
+left_unbacks : (runs rest : List Run) (regions : List ℕ) (width h : ℕ) (x : Hugepage) (k : RowKind) → length x.backed ≡ 256 → Serves runs regions width h x k → Unbacks x (left_by k rest h x)
+left_unbacks runs rest regions width h x kind.Free size serves = unbacks_same x
+left_unbacks runs rest regions width h x kind.Region size serves = unbacks_same x
+left_unbacks runs rest regions width h x kind.Run size serves = λ page e. ap (λ bs. get_or bs (page % 256) false) serves.1 ∙ backs-whole true page
+left_unbacks runs rest regions width h x kind.Filler size serves =
+    unbacks_if (allocation_count rest h == 0) x (emptied x) x
+    (λ _ page e. all_backed x page size (sym (backs-whole (list_all (λ b. b) x.backed) page) ∙ e))
+    (λ _. unbacks_same x)
+
+left_backs_none : (heap : Heap) (run : Run) → IsSound heap → BacksNone heap (left heap run)
+left_backs_none heap run sound page =
+    let runs = (left heap run).runs in
+    each_unbacks (λ h x. cond (reaches h run) (left_by x.kind runs h x) x) heap.hugepages
+    (λ h from to.
+    let x = hugepage heap h in
+    let fit = sound.runs.fit h (record { from = from; to = omega (arith, to, sound.runs.arena) }) in
+    unbacks_if (reaches h run) x (left_by x.kind runs h x) x (λ _. left_unbacks heap.runs runs heap.regions heap.config.region h x x.kind fit.size fit.serves) (λ _. unbacks_same x))
+    (page / 256) page
+
+ended_backs_none : (heap : Heap) → BacksNone heap (without_unused_regions heap)
+ended_backs_none heap page =
+    let ends : ℕ → Hugepage → Bool = λ h x. is_region x && not (list_any (spans heap.config.region h) (used_regions heap)) in
+    each_unbacks (λ h x. cond (ends h x) (record x { kind = kind.Free }) x) heap.hugepages
+    (λ h from to. let x = hugepage heap h in unbacks_if (ends h x) x (record x { kind = kind.Free }) x (λ _ p e. e) (λ _. unbacks_same x))
+    (page / 256) page
+
+settled_backs_none : (heap : Heap) → BacksNone heap (settled heap)
+settled_backs_none heap page =
+    let over : ℕ → Bool = is_over (limit heap.config.cache (counted heap)) (map is_free_backed heap.hugepages) in
+    each_unbacks (λ h x. cond (over h) (unbacked x) x) heap.hugepages
+    (λ h from to. let x = hugepage heap h in unbacks_if (over h) x (unbacked x) x (λ _. unbacks_unbacked x) (λ _. unbacks_same x))
+    (page / 256) page
+
+pub freed_backs_none : (heap : Heap) (run : Run) → IsSound heap → Contains heap.runs run → BacksNone heap (freed heap run)
+freed_backs_none heap run sound live page e =
+    let gone = left heap run in
+    left_backs_none heap run sound page (ended_backs_none gone page (settled_backs_none (without_unused_regions gone) page e))
+
+-- what a step of a release leaves
+whole_backs_none : (flags : List Bool) (heap : Heap) (n : ℕ) → BacksNone heap (whole_given flags heap n).heap
+whole_backs_none flags heap n page =
+    each_unbacks (λ h x. cond (gives_whole flags n h) (unbacked x) x) heap.hugepages
+    (λ h from to. let x = hugepage heap h in unbacks_if (gives_whole flags n h) x (unbacked x) x (λ _. unbacks_unbacked x) (λ _. unbacks_same x))
+    (page / 256) page
+
+only_used_unbacks : (runs : List Run) (h : ℕ) (x : Hugepage) → Unbacks x (only_used runs h x)
+only_used_unbacks runs h x page e =
+    let test : ℕ → Bool = λ p. backs x p && is_used runs p in
+    let own : ℕ = 256 * h + page % 256 in
+    let place : own % 256 ≡ page % 256 = omega arith in
+    let read = get_or-map-range_with_len test (256 * h) 256 (page % 256) own false (omega arith) refl in
+    ap (λ k. get_or x.backed k false) (sym place) ∙ (and_parts _ _ (sym read ∙ e)).0
+
+spare_backs_none : (heap : Heap) (n : ℕ) → BacksNone heap (spare_given heap n).heap
+spare_backs_none heap n page =
+    let asked : ℕ → Hugepage → Bool = λ h x. is_filler x && gives_spare (spare_rows heap) n (spare_row heap h) in
+    each_unbacks (λ h x. cond (asked h x) (only_used heap.runs h x) x) heap.hugepages
+    (λ h from to. let x = hugepage heap h in unbacks_if (asked h x) x (only_used heap.runs h x) x (λ _. only_used_unbacks heap.runs h x) (λ _. unbacks_same x))
+    (page / 256) page
+
+pub release_backs_none : (heap : Heap) (n : ℕ) → BacksNone heap (release heap n).heap
+release_backs_none heap n page e =
+    let a : Released = free_given heap n in
+    let b : Released = idle_given a.heap (n - a.pages) in
+    whole_backs_none (map is_free_backed heap.hugepages) heap n page
+    (whole_backs_none (map (is_idle a.heap) (numbers a.heap)) a.heap (n - a.pages) page
+    (spare_backs_none b.heap (n - (a.pages + b.pages)) page e))
