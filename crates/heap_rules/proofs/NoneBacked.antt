@@ -1,5 +1,5 @@
 -- What a free and a release make of each hugepage backs no page of it.
-use Rattle.std.proofs.Common.{◌≡◌, ℕ, ◌+◌, ◌-◌, ◌*◌, ◌/◌, ◌%◌, ◌<◌, ◌≤◌, Bool, true, false, not, ◌&&◌, ◌==◌, cond, List, length, get_or, map, Contains, refl, sym, ap, subst, ◌∙◌, inl, inr, arith}
+use Rattle.std.proofs.Common.{◌≡◌, ℕ, ◌+◌, ◌-◌, ◌*◌, ◌/◌, ◌%◌, ◌<◌, ◌≤◌, Bool, true, false, not, ◌&&◌, ◌==◌, cond, List, length, get_or, map, Contains, refl, sym, ap, ◌∙◌, inl, inr, arith}
 use Rattle.std.specs.List.{list_all, list_any}
 use Rattle.std.proofs.lemmas.Bool.{cases_Bool, cases_lt, and_parts, false≢true}
 use Rattle.std.proofs.lemmas.List.{get_or_past}
@@ -8,7 +8,7 @@ use Rattle.std.proofs.lemmas.List.FromFn.{get_or-map-range_with_len}
 use Rattle.tc_units.specs.declared.spans.Run.{Run}
 use Rattle.tc_units.specs.declared.rows.RowKind.{RowKind}
 use Rattle.tc_units.specs.declared.rows.RowKind.TheVariants as kind
-use Rattle.heap_rules.specs.Heap.{Heap, Hugepage, hugepage, untouched, each, whole, backs, is_used, is_filler, is_region, is_free_backed, is_backed, reaches, allocation_count, spans, numbers, pages_of}
+use Rattle.heap_rules.specs.Heap.{Heap, Hugepage, hugepage, untouched, each, backs, is_used, is_filler, is_region, is_free_backed, reaches, allocation_count, spans, numbers}
 use Rattle.heap_rules.specs.CacheFlags.{is_over, limit}
 use Rattle.heap_rules.specs.Settle.{unbacked, counted, settled}
 use Rattle.heap_rules.specs.GiveUp.{gives_whole, gives_spare}

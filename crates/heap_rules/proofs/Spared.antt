@@ -1,13 +1,13 @@
 -- The filler's rows give all their spare pages, or as many as are wanted.
-use Rattle.std.proofs.Common.{◌≡◌, ℕ, zero, suc, ◌+◌, ◌<◌, ◌≤◌, ◌⊎◌, Bool, true, false, not, ◌&&◌, ◌||◌, cond, nat_lt, nat_eq, List, [], ◌∷◌, length, get_or, filter, count_by, sum_by, All, refl, sym, ap, ◌∙◌, inl, inr, arith}
+use Rattle.std.proofs.Common.{◌≡◌, ℕ, zero, suc, ◌<◌, ◌≤◌, ◌⊎◌, Bool, true, false, not, ◌&&◌, ◌||◌, cond, nat_lt, nat_eq, List, [], ◌∷◌, length, get_or, filter, count_by, sum_by, All, refl, sym, ap, ◌∙◌, inl, inr, arith}
 use Rattle.std.specs.List.{list_any}
-use Rattle.std.proofs.lemmas.Bool.{cases_Bool, and_parts, and_from, ltb-false, not-true, not-false, false≢true}
+use Rattle.std.proofs.lemmas.Bool.{cases_Bool, and_parts, ltb-false, not-true, not-false, false≢true}
 use Rattle.std.proofs.lemmas.Bool.Decides.{nat_tests}
 use Rattle.std.proofs.lemmas.List.Elements.{All-head, All-tail}
 use Rattle.std.proofs.lemmas.List.Folds.{Any-from_list_any, list_any_at}
 use Rattle.std.proofs.lemmas.List.Sums.{sum_by-cons, sum_by-le-sum_by}
 use Rattle.heap_rules.specs.GiveUp.{SpareRow, gives_before, gives_spare}
-use Rattle.tc_units.proofs.Counts.{count-cons, count_le, count_some, one-true, one-false}
+use Rattle.tc_units.proofs.Counts.{count-cons, count_le, one-true, one-false}
 use Rattle.heap_rules.proofs.Accounts.{sum-filter, same_sums}
 use Rattle.heap_rules.proofs.Orders.{by_first, last_is}
 

@@ -1,5 +1,5 @@
 -- A page heap as a value: its live runs, its regions, its hugepages and its use counts. All else is a function of these.
-use Rattle.std.specs.Prelude.{ℕ, ◌+◌, ◌-◌, ◌*◌, ◌/◌, ◌%◌, Bool, true, false, ◌==◌, ◌&&◌, not, nat_lt, nat_le, List, [], ◌∷◌, length, filter, map, count_by, replicate, if◌then◌else◌, sum_by}
+use Rattle.std.specs.Prelude.{ℕ, ◌+◌, ◌-◌, ◌*◌, ◌/◌, ◌%◌, Bool, true, false, ◌&&◌, nat_lt, nat_le, List, [], length, map, count_by, replicate, if◌then◌else◌, sum_by}
 use Rattle.std.specs.List.{list_any, list_all, range_with_len, enumerate_from, slice_index_or}
 use Rattle.tc_units.specs.Units.{huge_pages}
 use Rattle.tc_units.specs.Sorted.{with_item, without_key}

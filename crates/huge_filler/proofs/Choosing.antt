@@ -1,8 +1,6 @@
 -- The first key that serves is that of the preferred row.
-use Rattle.std.proofs.Common.{◌≡◌, ℕ, zero, suc, ◌+◌, ◌*◌, ◌<◌, ◌≤◌, Bool, true, false, not, cond, ◌&&◌, ◌||◌, nat_lt, nat_eq, List, [], ◌∷◌, get_or, filter, Option, Some, None, option_map, All, Contains, Ordering, refl, sym, ap, subst, ◌∙◌, inl, inr, arith}
+use Rattle.std.proofs.Common.{◌≡◌, ℕ, ◌+◌, ◌*◌, ◌<◌, ◌≤◌, true, false, not, cond, nat_lt, nat_eq, List, get_or, filter, Option, Some, None, option_map, All, refl, sym, ap, subst, ◌∙◌, inl, inr, arith}
 use Rattle.std.specs.List.{list_all}
-use Rattle.std.specs.Ordering.{nat_cmp, ordering_then, is_lt}
-use Rattle.std.specs.declared.cmp.Ordering.TheVariants.{Less, Equal, Greater}
 use Rattle.std.proofs.lemmas.Bool.{cases_Bool, cases_lt, le-leb, lt-leb, leb-true, not_from_false, not-true}
 use Rattle.std.proofs.lemmas.List.Elements.{All-filter, filter_passes}
 use Rattle.std.proofs.lemmas.List.Sums.{list_all-from_AllPass, AllPass-from_list_all}
@@ -15,7 +13,7 @@ use Rattle.heap_rules.specs.FillerRows.{FillerRow, is_preferred, has_room, place
 use Rattle.heap_rules.proofs.Orders.{by_first, last_is}
 use Rattle.heap_rules.proofs.Live.{filter_holds}
 use Rattle.huge_index.specs.declared.key.Key.{Key}
-use Rattle.huge_index.specs.Order.{first_by, comes_before, Serves, IsFirstOf}
+use Rattle.huge_index.specs.Order.{comes_before, Serves, IsFirstOf}
 use Rattle.huge_index.specs.Rows.{IsIndexOf}
 use Rattle.huge_index.proofs.Orders.{told_apart, more}
 use Rattle.huge_index.proofs.Rows.{IsFirstRow, first_row, no_row_serves}

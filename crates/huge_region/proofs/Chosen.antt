@@ -1,8 +1,6 @@
 -- The region that the index answers is the preferred one, and the place in it.
-use Rattle.std.proofs.Common.{◌≡◌, ℕ, zero, suc, ◌+◌, ◌*◌, ◌/◌, ◌<◌, ◌≤◌, Bool, true, false, not, cond, ◌&&◌, ◌||◌, nat_lt, nat_eq, List, [], ◌∷◌, length, get_or, map, filter, Some, None, option_map, All, Contains, Ordering, refl, sym, ap, subst, ◌∙◌, inl, inr, arith}
+use Rattle.std.proofs.Common.{◌≡◌, ℕ, ◌+◌, ◌*◌, ◌/◌, ◌<◌, ◌≤◌, true, false, not, nat_lt, nat_eq, List, [], length, get_or, map, filter, Some, None, option_map, All, Contains, refl, sym, ap, ◌∙◌, inl, inr, arith}
 use Rattle.std.specs.List.{list_all}
-use Rattle.std.specs.Ordering.{nat_cmp, ordering_then, is_lt}
-use Rattle.std.specs.declared.cmp.Ordering.TheVariants.{Less, Equal, Greater}
 use Rattle.std.proofs.lemmas.Bool.{cases_Bool, cases_lt, le-leb, lt-leb, leb-true, not_from_false, not-true}
 use Rattle.std.proofs.lemmas.List.{length-map, get_or-map}
 use Rattle.std.proofs.lemmas.List.Elements.{All-filter, All-map, filter_passes, Contains-get_or}
@@ -18,7 +16,7 @@ use Rattle.heap_rules.specs.RegionRows.{RegionRow, is_preferred, has_room, regio
 use Rattle.heap_rules.proofs.Orders.{by_first, last_is}
 use Rattle.heap_rules.proofs.Live.{filter_holds}
 use Rattle.huge_index.specs.declared.key.Key.{Key}
-use Rattle.huge_index.specs.Order.{first_by, comes_before, Serves, IsFirstOf}
+use Rattle.huge_index.specs.Order.{comes_before, Serves, IsFirstOf}
 use Rattle.huge_index.specs.Rows.{IsIndexOf}
 use Rattle.huge_index.proofs.Orders.{told_apart}
 use Rattle.huge_index.proofs.Rows.{first_row, IsFirstRow, no_row_serves}

@@ -1,5 +1,6 @@
 //! Runs and measures that were worked out by hand, as steps of a heap.
 ghost use Rattle.std.specs.Prelude.{◌≡◌, ◌<◌, ◌≤◌, None, IfSome, Contains};
+ghost use Rattle.tc_units.specs.declared.spans.Run.{Run};
 
 use crate::{HeapConfig, PageHeap};
 use std::process::Abort;
@@ -99,6 +100,22 @@ fn started(heap: PageHeap) -> Play
     ensures { result.held ≡ None }
 {
     Play { heap, held: None }
+}
+
+/// A run of so many pages, which has to begin at this page.
+fn placed(rt: &impl Abort, heap: &mut PageHeap, pages: u32, page: u32) -> Run
+    requires { 0 < pages }
+    ensures at { result.first.0 ≡ page }
+    ensures live { Contains heap.new.runs result }
+    ensures stay { (run : Run) → Contains heap.old.runs run → Contains heap.new.runs run }
+{
+    match heap.new_run(pages) {
+        Some(run) => {
+            assert_eq!(rt; run.first.0, page);
+            run
+        }
+        None => panic!(rt; "there is no room"),
+    }
 }
 
 #[test]
@@ -274,6 +291,66 @@ fn a_freed_hugepage_is_kept_to_the_limit(rt: HostRuntime) -> Result<(), Fail> {
         &rt,
         started(heap),
         &[Step::Hold(256, 256), Step::Free, Step::Pages(0, 0)],
+    );
+    Ok(())
+}
+
+#[test]
+fn the_limit_follows_the_window(rt: HostRuntime) -> Result<(), Fail> {
+    // Two hugepages come and go. With a window of 1 the newest count is the greatest one, so none stays backed;
+    // with 2 the greatest is 1 above the newest.
+    for (window, backed) in [(0, 512), (1, 0), (2, 256)] {
+        let config = HeapConfig {
+            window,
+            ..limits(1024, 512, 1_048_576)
+        };
+        let mut heap = PageHeap::open(rt.alloc(), &config)?;
+        let first = placed(&rt, &mut heap, 256, 256);
+        let second = placed(&rt, &mut heap, 256, 512);
+        heap.free_run(first);
+        heap.free_run(second);
+        assert_eq!(rt; heap.used_pages(), 0);
+        assert_eq!(rt; heap.backed_pages(), backed);
+    }
+    Ok(())
+}
+
+#[test]
+fn a_run_settles_at_the_peak_of_the_window(rt: HostRuntime) -> Result<(), Fail> {
+    let config = HeapConfig {
+        window: 2,
+        ..limits(1024, 512, 1_048_576)
+    };
+    let mut heap = PageHeap::open(rt.alloc(), &config)?;
+    let first = placed(&rt, &mut heap, 256, 256);
+    let _second = placed(&rt, &mut heap, 256, 512);
+    let third = placed(&rt, &mut heap, 256, 768);
+    heap.free_run(first);
+    heap.free_run(third);
+    // It takes hugepages 3 and 4. The use is at its peak again, so hugepage 1 loses its backing.
+    let _last = placed(&rt, &mut heap, 512, 768);
+    assert_eq!(rt; heap.used_pages(), 768);
+    assert_eq!(rt; heap.backed_pages(), 768);
+    assert_eq!(rt; heap.is_backed(Page(256)), false);
+    Ok(())
+}
+
+#[test]
+fn a_release_takes_an_idle_hugepage_of_a_region(rt: HostRuntime) -> Result<(), Fail> {
+    let heap = PageHeap::open(rt.alloc(), &limits(8, 3, 0))?;
+    all_done(
+        &rt,
+        started(heap),
+        &[
+            // Pages 256 to 555 and 556 to 955 of a region from hugepage 1 to 3: hugepage 1 is idle after the free.
+            Step::Hold(300, 256),
+            Step::New(400, 556),
+            Step::Free,
+            Step::Pages(400, 768),
+            Step::Release(1, 256),
+            Step::Pages(400, 512),
+            Step::Release(1, 0),
+        ],
     );
     Ok(())
 }
