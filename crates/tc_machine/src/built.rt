@@ -45,6 +45,7 @@ pub fn first_unbuilt(
     requires { (asked : Asked) × IsRead (length table.now) trace.now asked }
     ensures first { IfOk result (λ line. line ≡ first_unbuilt table.now (asked_of trace.now).calls) }
     ensures none { IfOk result (λ line. (line ≡ None) ↔ AreBuilt table.now (asked_of trace.now).calls) }
+    ensures asked { (asked : Asked) → IsRead (length table.now) trace.now asked → asked_of trace.now ≡ asked }
 {
     let scripts = trace.scripts.as_slice();
     let mut next = vec![in alloc; 0usize; scripts.len()]?;

@@ -145,7 +145,10 @@ impl State {
 
     /// The order, without the rest.
     pub fn into_order(self) -> Vec<u16>
-        ensures { result.items ≡ self.order }
+        ensures order { result.items ≡ self.order }
+        ensures moves { moving (allocator.rules self.input) (start (allocator.rules self.input)) self.order ≡ self.order }
+        ensures few { length self.order ≤ self.input.asked.config.events }
+        ensures holds { HoldsAfter self.input self.order }
     {
         let State { replay, alloc: _ } = self;
         replay.into_order()

@@ -10,7 +10,7 @@ use Rattle.tc_ports.specs.declared.shelf.LoadFault.TheVariants.{Failed, Missing,
 -- the bytes that are left, how many a read gives at most, the calls that fail, and the counts of calls and of faults
 pub record SourceState : Type 0 where
   pub left : List ℕ
-  pub piece : ℕ
+  pub most : ℕ
   pub fails : List ℕ
   pub calls : ℕ
   pub faults : ℕ

@@ -13,7 +13,7 @@ use std::marker::Model;
 pub struct MemSource {
     bytes: Vec<u8>,
     at: usize,
-    piece: usize,
+    most: usize,
     fails: Vec<u64>,
     calls: u64,
     faults: u64,
@@ -25,9 +25,9 @@ impl Model for MemSource {
 
     ghost Value = { SourceState };
 
-    ghost view = { λ s. record { left = drop s.at s.bytes.items; piece = s.piece; fails = s.fails.items; calls = s.calls; faults = s.faults } };
+    ghost view = { λ s. record { left = drop s.at s.bytes.items; most = s.most; fails = s.fails.items; calls = s.calls; faults = s.faults } };
 
-    ghost invariant = { λ s. (s.at ≤ vec_len s.bytes) × (0 < s.piece) × (s.faults < 2 ^ 64) };
+    ghost invariant = { λ s. (s.at ≤ vec_len s.bytes) × (0 < s.most) × (s.faults < 2 ^ 64) };
 }
 
 impl MemSource {
@@ -35,20 +35,20 @@ impl MemSource {
     /// in `fails`, from 1, will fail.
     pub fn new(bytes: Vec<u8>, fails: Vec<u64>) -> Self
         ensures left { result.left ≡ bytes.items }
-        ensures piece { result.piece ≡ 2 ^ 64 - 1 }
+        ensures most { result.most ≡ 2 ^ 64 - 1 }
         ensures fails { result.fails ≡ fails.items }
         ensures calls { result.calls ≡ 0 }
         ensures faults { result.faults ≡ 0 }
     {
-        Self::in_pieces(bytes, usize::MAX, fails)
+        Self::in_pieces(bytes, fails, usize::MAX)
     }
 
-    /// A source of these bytes that gives at most `piece` of them in a read. The reads with the
+    /// A source of these bytes that gives at most `most` of them in a read. The reads with the
     /// numbers in `fails`, from 1, will fail.
-    pub fn in_pieces(bytes: Vec<u8>, piece: usize, fails: Vec<u64>) -> Self
-        requires { 0 < piece }
+    pub fn in_pieces(bytes: Vec<u8>, fails: Vec<u64>, most: usize) -> Self
+        requires { 0 < most }
         ensures left { result.left ≡ bytes.items }
-        ensures piece { result.piece ≡ piece }
+        ensures most { result.most ≡ most }
         ensures fails { result.fails ≡ fails.items }
         ensures calls { result.calls ≡ 0 }
         ensures faults { result.faults ≡ 0 }
@@ -56,7 +56,7 @@ impl MemSource {
         MemSource {
             bytes,
             at: 0,
-            piece,
+            most,
             fails,
             calls: 0,
             faults: 0,
@@ -71,12 +71,12 @@ impl Source for MemSource {
 
     ghost left = { λ s. Some s.left };
 
-    /// Gives as many bytes as the buffer holds and are left, and at most a piece, unless its
+    /// Gives as many bytes as the buffer holds and are left, and at most `most`, unless its
     /// number is one that fails.
     fn read(&mut self, buf: &mut [u8]) -> Result<usize, Failed>
         // The exact step.
         ensures fails { IsErr result ↔ FailsNext self.old.fails self.old.calls }
-        ensures number { IfOk result (λ n. n ≡ min self.old.piece (min (length buf.new) (length self.old.left))) }
+        ensures number { IfOk result (λ n. n ≡ min self.old.most (min (length buf.new) (length self.old.left))) }
         ensures bytes { IfOk result (λ n. take n buf.new ≡ take n self.old.left) }
         ensures after { IfOk result (λ n. self.new ≡ after_read self.old n) }
         ensures after_failure { OnErr result (self.new ≡ after_failed_read self.old) }
@@ -97,7 +97,7 @@ impl Source for MemSource {
             return Err(Failed);
         }
         let rest = &self.bytes[self.at..];
-        let n = rest.len().min(buf.len()).min(self.piece);
+        let n = rest.len().min(buf.len()).min(self.most);
         buf[..n].copy_from_slice(&rest[..n]);
         self.at += n;
         Ok(n)

@@ -73,7 +73,7 @@ fn one_to_five_in(alloc: Global, piece: usize, fails: &[u64]) -> Result<MemSourc
     requires { 0 < piece }
 {
     let bytes = vec![in alloc; 1u8, 2, 3, 4, 5]?;
-    Ok(MemSource::in_pieces(bytes, piece, Vec::from_slice(alloc, fails)?))
+    Ok(MemSource::in_pieces(bytes, Vec::from_slice(alloc, fails)?, piece))
 }
 
 #[test]

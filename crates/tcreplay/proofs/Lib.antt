@@ -1,15 +1,12 @@
-pub mod LineFacts
-pub mod ReaderFacts
-pub mod CallFacts
-pub mod KeptFacts
+pub mod Ended
+pub mod Answerable
+pub mod LoadFacts
+pub mod TraceFacts
+pub mod JobFacts
+pub mod OptionFacts
 pub mod RunFacts
-pub mod ScriptFacts
-pub mod NameFacts
-pub mod StepFacts
-pub mod RunnerFacts
-mod StartFacts
-mod ActFacts
-mod FinishFacts
-mod EndFacts
-mod NameSteps
-mod EndNames
+pub mod BuiltFacts
+pub mod NoteFacts
+pub mod EndFacts
+pub mod TriedFacts
+pub mod CompleteFacts

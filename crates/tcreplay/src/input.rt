@@ -1,40 +1,67 @@
-//! Reading what a run works on: the class table that the words name, and the trace.
-ghost use Rattle.std.specs.Prelude.{◌≡◌, ◌≤◌, length, map, [], IfOk, IfErr, IfSome, OnOk, string_bytes};
-ghost use Rattle.tc_ports.specs.Told.{LostAtMost};
-ghost use Rattle.tcreplay.specs.Reading.{IsScript};
-ghost use Rattle.tcreplay.specs.Reader.{asks};
-ghost use Rattle.tcreplay.specs.Inputs.{IsTableOf, IsTraceOf, TableRefused, TraceRefused, IsInput, InputRefused};
+//! Reading what a replay works on, each input once and in its turn: the class table, the trace, and the
+//! order file.
+ghost use Rattle.std.specs.Prelude.{◌≡◌, ◌<◌, All, IfOk, List, ℕ, Vec, length, option_map};
+ghost use Rattle.std.specs.Global.{Global as Memory};
+ghost use Rattle.tc_units.specs.declared.spans.ClassRow.{ClassRow};
+ghost use Rattle.tc_machine.specs.Inputs.{asked_of};
+ghost use Rattle.tc_machine.specs.Built.{IsRead, AreBuilt};
+ghost use Rattle.tcreplay.specs.Seen.{seen_replay};
+ghost use Rattle.tcreplay.specs.Verdict.{file_within, rows_in, asked_of_text, picks_in};
+ghost use Rattle.tcreplay.specs.Reads.{load_end, IsLoad, ArePicks, IsPure, IsTraceRead, IsRunnable, IsJobRead};
 
 use crate::outcome::End;
-use crate::trace::{Trace, TraceFault, read_trace};
-use crate::words::class_file;
+use crate::words::Replay;
 use size_classes::{ClassTable, TableFault};
 use std::alloc::Global;
+use tc_machine::first_unbuilt;
 use tc_ports::{LoadFault, ReadAllFault, Shelf, Source, read_all};
+use trace_reader::{LineWhy, OrderFault, Trace, TraceFault, read_order, read_trace};
 
 /// The most bytes of a class table (this project's own limit).
 const MOST_TABLE_BYTES: u64 = 65_536;
 
-/// The most bytes of a trace (this project's own limit).
+/// The most bytes of a trace or an order file (this project's own limit).
 const MOST_TRACE_BYTES: u64 = 67_108_864;
+
+/// What is run, and whether a line for each hugepage is printed.
+#[derive(Drop)]
+pub struct Job {
+    pub table: ClassTable,
+    pub trace: Trace,
+    /// The threads that the order file picks; none where no order is named.
+    pub picks: Vec<u16>,
+}
+
+/// The end that a fault of a load is.
+fn load_end(fault: LoadFault, limit: u64) -> End
+    ensures { result ≡ load_end limit fault }
+{
+    match fault {
+        LoadFault::Failed | LoadFault::Missing => End::FileFault,
+        LoadFault::TooLong => End::TooLong { limit },
+        LoadFault::Memory => End::Memory,
+    }
+}
+
+/// The bytes of a file of at most so many.
+fn load_file<F: Shelf>(alloc: Global, name: &str, limit: u64, files: &mut F) -> Result<Vec<u8>, End>
+    ensures { IsLoad (λ (v : Vec ℕ Memory). v.items) (file_within limit) name.now
+        (record { files = F.files files.old; faults = F.faults files.old; loads = F.loads files.old })
+        (record { files = F.files files.new; faults = F.faults files.new; loads = F.loads files.new }) result }
+{
+    match files.load(alloc, name, limit) {
+        Ok(bytes) => Ok(bytes),
+        Err(fault) => Err(load_end(fault, limit)),
+    }
+}
 
 /// The class table of a file.
 fn load_table<F: Shelf>(alloc: Global, name: &str, files: &mut F) -> Result<ClassTable, End>
-    ensures table { IfOk result (λ table. IsTableOf (F.files files.old) name.now table) }
-    ensures refused { IfErr result (λ end. TableRefused (F.files files.old) name.now (F.faults files.old) (F.faults files.new) end) }
-    ensures same_files { F.files files.new ≡ F.files files.old }
-    ensures count { OnOk result (F.faults files.new ≡ F.faults files.old) }
+    ensures { IsLoad (λ (rows : List ClassRow). rows) rows_in name.now
+        (record { files = F.files files.old; faults = F.faults files.old; loads = F.loads files.old })
+        (record { files = F.files files.new; faults = F.faults files.new; loads = F.loads files.new }) result }
 {
-    let bytes = match files.load(alloc, name, MOST_TABLE_BYTES) {
-        Ok(bytes) => bytes,
-        Err(LoadFault::Failed | LoadFault::Missing) => return Err(End::FileFault),
-        Err(LoadFault::TooLong) => {
-            return Err(End::TooLong {
-                limit: MOST_TABLE_BYTES,
-            });
-        }
-        Err(LoadFault::Memory) => return Err(End::Memory),
-    };
+    let bytes = load_file(alloc, name, MOST_TABLE_BYTES, files)?;
     match ClassTable::read(alloc, &bytes) {
         Ok(table) => Ok(table),
         Err(TableFault::BadRow { row, why }) => Err(End::BadTable { row, why }),
@@ -42,57 +69,104 @@ fn load_table<F: Shelf>(alloc: Global, name: &str, files: &mut F) -> Result<Clas
     }
 }
 
-/// What the rest of a source asks for, as a trace under these size classes.
-fn load_trace<S: Source>(alloc: Global, classes: &ClassTable, source: &mut S) -> Result<Trace, End>
-    ensures trace { IfOk result (λ trace. IsTraceOf classes.now (S.left source.old) (asks trace)) }
-    ensures script { IfOk result (λ trace. IsScript (asks trace)) }
-    ensures short { IfOk result (λ trace. length trace.script.calls ≤ 1000000) }
-    ensures refused { IfErr result (λ end. TraceRefused classes.now (S.left source.old) (S.faults source.old) (S.faults source.new) end) }
-    ensures count { OnOk result (S.faults source.new ≡ S.faults source.old) }
-    ensures drained { OnOk result (IfSome (S.left source.new) (λ rest. rest ≡ [])) }
-    ensures lost { LostAtMost (S.left source.old) (S.left source.new) 67108865 }
+/// What a text asks for under a class table, where all of its calls are built.
+fn trace_of(alloc: Global, table: &ClassTable, text: &[u8]) -> Result<Trace, End>
+    ensures asked { IsPure asked_of (asked_of_text table.now text.now) result }
+    ensures read { IfOk result (λ trace. IsRead (length table.now) trace (asked_of trace)) }
+    ensures built { IfOk result (λ trace. AreBuilt table.now (asked_of trace).calls) }
 {
-    let text = match read_all(alloc, source, MOST_TRACE_BYTES) {
-        Ok(text) => text,
-        Err(ReadAllFault::ReadFault) => return Err(End::ReadFault),
-        Err(ReadAllFault::TooLong) => {
-            return Err(End::TooLong {
-                limit: MOST_TRACE_BYTES,
-            });
-        }
-        Err(ReadAllFault::Memory) => return Err(End::Memory),
+    let trace = match read_trace(alloc, text, table.len()) {
+        Ok(trace) => trace,
+        Err(TraceFault::BadLine { line, why }) => return Err(End::BadTrace { line, why }),
+        Err(TraceFault::Memory) => return Err(End::Memory),
     };
-    match read_trace(alloc, classes, &text) {
-        Ok(trace) => Ok(trace),
-        Err(TraceFault::BadLine { line, why }) => Err(End::BadTrace { line, why }),
-        Err(TraceFault::Memory) => Err(End::Memory),
+    match first_unbuilt(alloc, table, &trace) {
+        Ok(None) => Ok(trace),
+        Ok(Some(line)) => {
+            let why = LineWhy::NotBuilt;
+            Err(End::BadTrace { line, why })
+        }
+        Err(_) => Err(End::Memory),
     }
 }
 
-/// What a run works on. Each step is taken only where no earlier one refused.
-pub fn read_input<S: Source, F: Shelf>(
+/// What the rest of a source asks for under a class table.
+fn load_trace<S: Source>(alloc: Global, table: &ClassTable, source: &mut S) -> Result<Trace, End>
+    ensures asked { IsTraceRead table.now
+        (record { left = S.left source.old; faults = S.faults source.old; reads = S.reads source.old })
+        (record { left = S.left source.new; faults = S.faults source.new; reads = S.reads source.new }) result }
+    ensures read { IfOk result (λ trace. IsRead (length table.now) trace (asked_of trace)) }
+    ensures built { IfOk result (λ trace. AreBuilt table.now (asked_of trace).calls) }
+{
+    match read_all(alloc, source, MOST_TRACE_BYTES) {
+        Ok(text) => trace_of(alloc, table, &text),
+        Err(ReadAllFault::ReadFault) => Err(End::ReadFault),
+        Err(ReadAllFault::TooLong) => {
+            let limit = MOST_TRACE_BYTES;
+            Err(End::TooLong { limit })
+        }
+        Err(ReadAllFault::Memory) => Err(End::Memory),
+    }
+}
+
+/// The picks of an order file.
+fn load_order<F: Shelf>(
     alloc: Global,
-    words: &[String],
+    name: &str,
+    threads: u8,
+    files: &mut F,
+) -> Result<Vec<u16>, End>
+    ensures picks { IsLoad (λ (v : Vec ℕ Memory). v.items) (picks_in threads) name.now
+        (record { files = F.files files.old; faults = F.faults files.old; loads = F.loads files.old })
+        (record { files = F.files files.new; faults = F.faults files.new; loads = F.loads files.new }) result }
+    ensures threads { IfOk result (λ picks. All (λ thread. thread < threads) picks.items) }
+{
+    let bytes = load_file(alloc, name, MOST_TRACE_BYTES, files)?;
+    match read_order(alloc, &bytes, threads) {
+        Ok(picks) => Ok(picks),
+        Err(OrderFault::BadLine { line, why }) => Err(End::BadOrder { line, why }),
+        Err(OrderFault::Memory) => Err(End::Memory),
+    }
+}
+
+/// The picks of the order file, where one is named; else there are none.
+fn load_picks<F: Shelf>(
+    alloc: Global,
+    order: Option<&str>,
+    threads: u8,
+    files: &mut F,
+) -> Result<Vec<u16>, End>
+    ensures picks { ArePicks (option_map (λ name. name.now) order.entry) threads
+        (record { files = F.files files.old; faults = F.faults files.old; loads = F.loads files.old })
+        (record { files = F.files files.new; faults = F.faults files.new; loads = F.loads files.new }) result }
+    ensures threads { IfOk result (λ picks. All (λ thread. thread < threads) picks.items) }
+{
+    match order {
+        None => Ok(Vec::new(alloc)),
+        Some(name) => load_order(alloc, name, threads, files),
+    }
+}
+
+/// What a replay works on. Each step is taken only where no earlier one refused.
+pub fn read_job<S: Source, F: Shelf>(
+    alloc: Global,
+    replay: Replay,
     source: &mut S,
     files: &mut F,
-) -> Result<Trace, End>
-    ensures input { IfOk result (λ trace. IsInput (map string_bytes words.now)
-        (record { left = S.left source.old; files = F.files files.old; read_faults = S.faults source.old; file_faults = F.faults files.old })
-        (asks trace)) }
-    ensures script { IfOk result (λ trace. IsScript (asks trace)) }
-    ensures short { IfOk result (λ trace. length trace.script.calls ≤ 1000000) }
-    ensures refused { IfErr result (InputRefused (map string_bytes words.now)
-        (record { left = S.left source.old; files = F.files files.old; read_faults = S.faults source.old; file_faults = F.faults files.old })
-        (record { left = S.left source.new; files = F.files files.new; read_faults = S.faults source.new; file_faults = F.faults files.new })) }
-    ensures same_files { F.files files.new ≡ F.files files.old }
-    ensures count { OnOk result (S.faults source.new ≡ S.faults source.old) }
-    ensures file_count { OnOk result (F.faults files.new ≡ F.faults files.old) }
-    ensures drained { OnOk result (IfSome (S.left source.new) (λ rest. rest ≡ [])) }
-    ensures lost { OnOk result (LostAtMost (S.left source.old) (S.left source.new) 67108865) }
+) -> Result<Job, End>
+    ensures read { IsJobRead (seen_replay replay.entry)
+        (record { left = S.left source.old; faults = S.faults source.old; reads = S.reads source.old })
+        (record { left = S.left source.new; faults = S.faults source.new; reads = S.reads source.new })
+        (record { files = F.files files.old; faults = F.faults files.old; loads = F.loads files.old })
+        (record { files = F.files files.new; faults = F.faults files.new; loads = F.loads files.new }) result }
+    ensures runnable { IfOk result IsRunnable }
 {
-    let Some(name) = class_file(words) else {
-        return Err(End::Usage);
-    };
-    let classes = load_table(alloc, name, files)?;
-    load_trace(alloc, &classes, source)
+    let table = load_table(alloc, replay.classes, files)?;
+    let trace = load_trace(alloc, &table, source)?;
+    let picks = load_picks(alloc, replay.order, trace.config.threads, files)?;
+    Ok(Job {
+        table,
+        trace,
+        picks,
+    })
 }

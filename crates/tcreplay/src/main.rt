@@ -2,16 +2,15 @@
 #![tactic(auto)]
 
 mod input;
+mod notes;
 mod outcome;
 mod replay;
 mod run;
-mod serve;
 #[cfg(test)]
 mod tests;
-mod text;
-mod trace;
 mod words;
 
+use crate::notes::note;
 use crate::outcome::End;
 use crate::replay::tcreplay;
 use std::process::ExitCode;
@@ -30,14 +29,17 @@ fn words_of(rt: &HostRuntime) -> Result<Vec<String>, End> {
 
 /// Standard input is the trace, standard output takes the text, and standard error is for notes.
 fn main(rt: HostRuntime) -> ExitCode {
+    let mut notes = WriterSink::new(rt.stderr());
     let words = match words_of(&rt) {
         Ok(words) => words,
-        Err(end) => return ExitCode::from(end.status()),
+        Err(end) => {
+            note(&mut notes, end);
+            return ExitCode::from(end.status());
+        }
     };
     let mut trace = ReaderSource::new(rt.reader());
     let mut files = FileShelf::new(&rt);
     let mut out = WriterSink::new(io::writer(&rt));
-    let mut notes = WriterSink::new(rt.stderr());
     let outcome = tcreplay(
         &rt,
         rt.alloc(),

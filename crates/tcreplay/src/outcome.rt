@@ -2,32 +2,17 @@
 ghost use Rattle.std.specs.Prelude.{◌≡◌, []};
 ghost use Rattle.tcreplay.specs.Status.{status_of};
 
-use crate::trace::LineWhy;
 use size_classes::RowWhy;
 use std::alloc::Global;
 use tc_units::Listed;
-
-/// The first rule that a line of an order file fails.
-#[derive(Clone, Copy, Debug, PartialEq, Eq)]
-pub enum OrderWhy {
-    /// It is line 1,000,001.
-    Lines,
-    /// It has another number of fields.
-    Fields,
-    /// A field is no canonical decimal in its range.
-    Number,
-    /// There is no such thread.
-    Thread,
-    /// There are too many picks.
-    Picks,
-}
+use trace_reader::{LineWhy, OrderWhy};
 
 /// The end of a call, with its cause.
 #[derive(Clone, Copy, Debug, PartialEq, Eq)]
 pub enum End {
     /// The run ended and its text was written.
     Done,
-    /// The words are not in the grammar.
+    /// The words are not in the grammar, or ask for what isn't built.
     Usage,
     /// The class table isn't valid: its first bad record, from 1, with its first failing rule.
     BadTable { row: u32, why: RowWhy },
@@ -35,13 +20,13 @@ pub enum End {
     BadTrace { line: u32, why: LineWhy },
     /// A read of the trace failed.
     ReadFault,
-    /// A write failed.
+    /// A write of the text failed.
     WriteFault,
     /// Memory ran out.
     Memory,
     /// An input has more bytes than its limit.
     TooLong { limit: u64 },
-    /// A pick would move behind the last ticket.
+    /// One pick more would move, and as many have moved as may.
     Full { ticket: u64 },
     /// The order file isn't valid: its first bad line, from 1, with its first failing rule.
     BadOrder { line: u32, why: OrderWhy },
@@ -76,7 +61,8 @@ pub struct Outcome {
     /// The number of its end.
     pub status: u8,
     pub end: End,
-    /// The threads whose picks moved, in order, where a run was written or its writing failed.
+    /// The threads whose picks moved, in order, where there was a run: it ended, its text could not be
+    /// written, or it stands at its limit.
     pub order: Listed<u16>,
 }
 

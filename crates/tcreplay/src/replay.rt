@@ -1,39 +1,99 @@
-//! The top call: from words, files and a trace to bytes, a status and an order.
+//! The top calls: from words, files and a trace to bytes, a status and an order.
 ghost use Rattle.std.specs.Prelude.{◌≡◌, ◌↔◌, None, map, IfSome, IsSome, string_bytes};
 ghost use Rattle.tcreplay.specs.Status.{status_of};
-ghost use Rattle.tcreplay.specs.Words.{class_file};
-ghost use Rattle.tcreplay.specs.Ends.{TextTaken, Ended, IsExact};
+ghost use Rattle.tcreplay.specs.Words.{replay_by};
+ghost use Rattle.tcreplay.specs.Seen.{seen_replay};
+ghost use Rattle.tcreplay.specs.Replayed.{IsWritten, IsRunEnd, IsLastEnd, HasTried, IsAnswered, IsOutcome, IsComplete};
 ghost use Rattle.tcreplay.specs.declared.outcome.End.TheVariants as end;
 
-use crate::input::read_input;
+use crate::input::read_job;
+use crate::notes::note;
 use crate::outcome::{End, Outcome};
-use crate::serve::{Served, serve};
+use crate::run::{Ran, run};
+use crate::words::{Replay, replay_by};
 use std::alloc::Global;
 use std::sync::Wait;
 use std::thread::Threads;
 use tc_ports::{Failed, Gate, Shelf, Sink, Source};
 
-/// Writes the text of a run.
-fn write<K: Sink>(out: &mut K, served: Served) -> Outcome
-    ensures order { result.order ≡ served.order.items }
+/// Writes the text of a run that has ended.
+fn write<K: Sink>(out: &mut K, ran: Ran) -> Outcome
+    requires { IsRunEnd ran.end }
     ensures status { result.status ≡ status_of result.end }
-    ensures written { TextTaken
-        (record { taken = K.taken out.old; faults = K.faults out.old })
-        (record { taken = K.taken out.new; faults = K.faults out.new })
-        served.text.items result.end }
+    ensures order { result.order ≡ ran.order.items }
+    ensures end { IsLastEnd ran.end result.end }
+    ensures written { IsWritten result.end ran.text.items
+        (record { taken = K.taken out.old; faults = K.faults out.old; puts = K.puts out.old })
+        (record { taken = K.taken out.new; faults = K.faults out.new; puts = K.puts out.new }) }
 {
-    let Served { order, text } = served;
+    let Ran { end, order, text } = ran;
+    if end != End::Done {
+        return Outcome::new(end, order);
+    }
     match out.put(&text) {
         Ok(()) => Outcome::new(End::Done, order),
         Err(Failed) => Outcome::new(End::WriteFault, order),
     }
 }
 
+/// Tries a replay: its inputs are read, what they ask for is run, and the text is written.
+fn try_replay<S: Source, F: Shelf, K: Sink>(
+    alloc: Global,
+    replay: Replay,
+    trace: &mut S,
+    files: &mut F,
+    out: &mut K,
+) -> Outcome
+    ensures status { result.status ≡ status_of result.end }
+    ensures tried { HasTried (seen_replay replay.entry)
+        (record { left = S.left trace.old; faults = S.faults trace.old; reads = S.reads trace.old })
+        (record { left = S.left trace.new; faults = S.faults trace.new; reads = S.reads trace.new })
+        (record { files = F.files files.old; faults = F.faults files.old; loads = F.loads files.old })
+        (record { files = F.files files.new; faults = F.faults files.new; loads = F.loads files.new })
+        (record { taken = K.taken out.old; faults = K.faults out.old; puts = K.puts out.old })
+        (record { taken = K.taken out.new; faults = K.faults out.new; puts = K.puts out.new })
+        result.end result.order }
+{
+    let job = match read_job(alloc, replay, trace, files) {
+        Ok(job) => job,
+        Err(end) => return Outcome::without_run(alloc, end),
+    };
+    match run(alloc, job, replay.rows) {
+        Ok(ran) => write(out, ran),
+        Err(_) => Outcome::without_run(alloc, End::Memory),
+    }
+}
+
+/// Answers the words: a replay is tried where they ask for one.
+fn answer<S: Source, F: Shelf, K: Sink>(
+    alloc: Global,
+    words: &[String],
+    trace: &mut S,
+    files: &mut F,
+    out: &mut K,
+) -> Outcome
+    ensures status { result.status ≡ status_of result.end }
+    ensures answered { IsAnswered (replay_by (map string_bytes words.now))
+        (record { left = S.left trace.old; faults = S.faults trace.old; reads = S.reads trace.old })
+        (record { left = S.left trace.new; faults = S.faults trace.new; reads = S.reads trace.new })
+        (record { files = F.files files.old; faults = F.faults files.old; loads = F.loads files.old })
+        (record { files = F.files files.new; faults = F.faults files.new; loads = F.loads files.new })
+        (record { taken = K.taken out.old; faults = K.faults out.old; puts = K.puts out.old })
+        (record { taken = K.taken out.new; faults = K.faults out.new; puts = K.puts out.new })
+        result.end result.order }
+{
+    match replay_by(words) {
+        Some(replay) => try_replay(alloc, replay, trace, files, out),
+        None => Outcome::without_run(alloc, End::Usage),
+    }
+}
+
 /// Replays a trace without worker threads. `None` exactly where the words ask for such threads, which
 /// no words do yet.
 ///
-/// The steps are taken in order: words, class table, trace, run, writing. The whole text is built
-/// before its first byte is written, by one `put`; at every status but 0 and 6 `out` is untouched.
+/// The steps are taken in order: words, class table, trace, order file, run, writing. The whole text is
+/// built before its first byte is written, by one `put`; at every status but 0 and 6 `out` is untouched.
+/// At every status but 0 one line goes to `notes`, by one `put`.
 pub fn replay_alone<S: Source, F: Shelf, K: Sink, N: Sink>(
     alloc: Global,
     words: &[String],
@@ -44,30 +104,39 @@ pub fn replay_alone<S: Source, F: Shelf, K: Sink, N: Sink>(
 ) -> Option<Outcome>
     ensures alone { IsSome result }
     ensures status { IfSome result (λ outcome. outcome.status ≡ status_of outcome.end) }
-    ensures usage { IfSome result (λ outcome. (outcome.end ≡ end.Usage) ↔ (class_file (map string_bytes words.now) ≡ None)) }
-    ensures ended { IfSome result (λ outcome. Ended (map string_bytes words.now)
-        (record { left = S.left trace.old; files = F.files files.old; read_faults = S.faults trace.old; file_faults = F.faults files.old })
-        (record { left = S.left trace.new; files = F.files files.new; read_faults = S.faults trace.new; file_faults = F.faults files.new })
-        (record { taken = K.taken out.old; faults = K.faults out.old })
-        (record { taken = K.taken out.new; faults = K.faults out.new })
-        outcome.order outcome.end) }
-    ensures exact { IfSome result (λ outcome. IsExact (map string_bytes words.now)
-        (record { left = S.left trace.old; files = F.files files.old; read_faults = S.faults trace.old; file_faults = F.faults files.old })
-        (record { left = S.left trace.new; files = F.files files.new; read_faults = S.faults trace.new; file_faults = F.faults files.new })
-        (record { taken = K.taken out.old; faults = K.faults out.old })
-        (record { taken = K.taken out.new; faults = K.faults out.new })
-        outcome.end) }
-    ensures notes { N.taken notes.new ≡ N.taken notes.old }
-    ensures notes_faults { N.faults notes.new ≡ N.faults notes.old }
+    ensures usage { IfSome result (λ outcome. (outcome.end ≡ end.Usage) ↔ (replay_by (map string_bytes words.now) ≡ None)) }
+    ensures outcome { IfSome result (λ outcome. IsOutcome (replay_by (map string_bytes words.now))
+        (record {
+          trace = record { left = S.left trace.old; faults = S.faults trace.old; reads = S.reads trace.old };
+          files = record { files = F.files files.old; faults = F.faults files.old; loads = F.loads files.old };
+          out = record { taken = K.taken out.old; faults = K.faults out.old; puts = K.puts out.old };
+          notes = record { taken = N.taken notes.old; faults = N.faults notes.old; puts = N.puts notes.old };
+        })
+        (record {
+          trace = record { left = S.left trace.new; faults = S.faults trace.new; reads = S.reads trace.new };
+          files = record { files = F.files files.new; faults = F.faults files.new; loads = F.loads files.new };
+          out = record { taken = K.taken out.new; faults = K.faults out.new; puts = K.puts out.new };
+          notes = record { taken = N.taken notes.new; faults = N.faults notes.new; puts = N.puts notes.new };
+        })
+        outcome.end outcome.order) }
+    ensures complete { IfSome result (λ outcome. IsComplete (replay_by (map string_bytes words.now))
+        (record {
+          trace = record { left = S.left trace.old; faults = S.faults trace.old; reads = S.reads trace.old };
+          files = record { files = F.files files.old; faults = F.faults files.old; loads = F.loads files.old };
+          out = record { taken = K.taken out.old; faults = K.faults out.old; puts = K.puts out.old };
+          notes = record { taken = N.taken notes.old; faults = N.faults notes.old; puts = N.puts notes.old };
+        })
+        (record {
+          trace = record { left = S.left trace.new; faults = S.faults trace.new; reads = S.reads trace.new };
+          files = record { files = F.files files.new; faults = F.faults files.new; loads = F.loads files.new };
+          out = record { taken = K.taken out.new; faults = K.faults out.new; puts = K.puts out.new };
+          notes = record { taken = N.taken notes.new; faults = N.faults notes.new; puts = N.puts notes.new };
+        })
+        outcome.end outcome.order) }
 {
-    let input = match read_input(alloc, words, trace, files) {
-        Ok(input) => input,
-        Err(end) => return Some(Outcome::without_run(alloc, end)),
-    };
-    let Ok(served) = serve(alloc, input) else {
-        return Some(Outcome::without_run(alloc, End::Memory));
-    };
-    Some(write(out, served))
+    let outcome = answer(alloc, words, trace, files, out);
+    note(notes, outcome.end);
+    Some(outcome)
 }
 
 /// Replays a trace, alone where the words ask for no worker threads. `gate` is passed by such threads.
@@ -82,21 +151,35 @@ pub fn tcreplay<R: Threads + Wait + Sync, S: Source, F: Shelf, K: Sink, N: Sink,
     _gate: &G,
 ) -> Outcome
     ensures status { result.status ≡ status_of result.end }
-    ensures usage { (result.end ≡ end.Usage) ↔ (class_file (map string_bytes words.now) ≡ None) }
-    ensures ended { Ended (map string_bytes words.now)
-        (record { left = S.left trace.old; files = F.files files.old; read_faults = S.faults trace.old; file_faults = F.faults files.old })
-        (record { left = S.left trace.new; files = F.files files.new; read_faults = S.faults trace.new; file_faults = F.faults files.new })
-        (record { taken = K.taken out.old; faults = K.faults out.old })
-        (record { taken = K.taken out.new; faults = K.faults out.new })
-        result.order result.end }
-    ensures exact { IsExact (map string_bytes words.now)
-        (record { left = S.left trace.old; files = F.files files.old; read_faults = S.faults trace.old; file_faults = F.faults files.old })
-        (record { left = S.left trace.new; files = F.files files.new; read_faults = S.faults trace.new; file_faults = F.faults files.new })
-        (record { taken = K.taken out.old; faults = K.faults out.old })
-        (record { taken = K.taken out.new; faults = K.faults out.new })
-        result.end }
-    ensures notes { N.taken notes.new ≡ N.taken notes.old }
-    ensures notes_faults { N.faults notes.new ≡ N.faults notes.old }
+    ensures usage { (result.end ≡ end.Usage) ↔ (replay_by (map string_bytes words.now) ≡ None) }
+    ensures outcome { IsOutcome (replay_by (map string_bytes words.now))
+        (record {
+          trace = record { left = S.left trace.old; faults = S.faults trace.old; reads = S.reads trace.old };
+          files = record { files = F.files files.old; faults = F.faults files.old; loads = F.loads files.old };
+          out = record { taken = K.taken out.old; faults = K.faults out.old; puts = K.puts out.old };
+          notes = record { taken = N.taken notes.old; faults = N.faults notes.old; puts = N.puts notes.old };
+        })
+        (record {
+          trace = record { left = S.left trace.new; faults = S.faults trace.new; reads = S.reads trace.new };
+          files = record { files = F.files files.new; faults = F.faults files.new; loads = F.loads files.new };
+          out = record { taken = K.taken out.new; faults = K.faults out.new; puts = K.puts out.new };
+          notes = record { taken = N.taken notes.new; faults = N.faults notes.new; puts = N.puts notes.new };
+        })
+        result.end result.order }
+    ensures complete { IsComplete (replay_by (map string_bytes words.now))
+        (record {
+          trace = record { left = S.left trace.old; faults = S.faults trace.old; reads = S.reads trace.old };
+          files = record { files = F.files files.old; faults = F.faults files.old; loads = F.loads files.old };
+          out = record { taken = K.taken out.old; faults = K.faults out.old; puts = K.puts out.old };
+          notes = record { taken = N.taken notes.old; faults = N.faults notes.old; puts = N.puts notes.old };
+        })
+        (record {
+          trace = record { left = S.left trace.new; faults = S.faults trace.new; reads = S.reads trace.new };
+          files = record { files = F.files files.new; faults = F.faults files.new; loads = F.loads files.new };
+          out = record { taken = K.taken out.new; faults = K.faults out.new; puts = K.puts out.new };
+          notes = record { taken = N.taken notes.new; faults = N.faults notes.new; puts = N.puts notes.new };
+        })
+        result.end result.order }
 {
     let Some(outcome) = replay_alone(alloc, words, trace, files, out, notes) else {
         unreachable!()

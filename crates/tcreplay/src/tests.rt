@@ -1,29 +1,46 @@
 //! The top calls over ends in memory, with answers that were worked out by hand.
 use crate::outcome::{End, Outcome};
 use crate::replay::{replay_alone, tcreplay};
-use crate::trace::LineWhy;
 use size_classes::RowWhy;
 use std::alloc::{AllocError, Global};
 use std::process::Abort;
 use std::test::Fail;
 use tc_ports::{MemShelf, MemSink, MemSource, OpenGate};
+use trace_reader::{LineWhy, OrderWhy};
 
-/// A class table, which stands on the shelf as `T0.csv`.
+/// A class table, which stands on the shelf as `T0`.
 const TABLE: &[u8] = b"16,1,4\n64,1,2\n8192,1,2\n";
 
-/// A command line whose words are in the grammar.
-const COMMAND: &str = "tcreplay serial --classes T0.csv";
+/// Command lines whose words are in the grammar. The order file stands on the shelf as `O`.
+const SERIAL: &str = "tcreplay serial --classes T0";
 
-/// Requests of 253, 254 and 2 pages of 8192 bytes. The third fits both hugepages, and the second
-/// one exactly.
-const THREE: &[u8] = b"a 0 0 2072576\na 0 1 2080768\na 0 2 16384\n";
+const ORDER: &str = "tcreplay order --order O --classes T0";
 
-/// What comes of them: 509 of 512 pages are used, and 3 of 512 are 5.8 thousandths.
-const THREE_TEXT: &[u8] =
-    b"a 0 0 2097152 2072576\na 0 1 4194304 2080768\na 0 2 6275072 16384\ncalls 3\nlive 3 4169728\nused 509\nresident 512\nfrag 5\n";
+/// 37 pages of 8192 bytes, at the start of the first hugepage.
+const ONE: &[u8] = b"a 0 0 300000\n";
 
-/// The first 58 of its 116 bytes.
-const THREE_HALF: &[u8] = b"a 0 0 2097152 2072576\na 0 1 4194304 2080768\na 0 2 6275072 ";
+/// What comes of it: of 256 pages 219 hold no block, which is 855.4 thousandths.
+const ONE_TEXT: &[u8] =
+    b"a 0 0 2097152 303104\ncalls 1\nlive 1 303104\nused 37\nresident 256\nfrag 855\n";
+
+/// The first 36 of its 73 bytes.
+const ONE_HALF: &[u8] = b"a 0 0 2097152 303104\ncalls 1\nlive 1 ";
+
+/// Three threads, of which the last one frees what the first one allocates.
+const THREADS: &[u8] = b"threads 3\na 0 0 300000\na 1 1 300000\nf 2 0\n";
+
+/// A call, and what comes of it.
+#[derive(Clone, Copy)]
+struct Case<'a> {
+    command: &'a str,
+    trace: &'a [u8],
+    order: &'a [u8],
+    status: u8,
+    end: End,
+    text: &'a [u8],
+    note: &'a [u8],
+    picks: &'a [u16],
+}
 
 /// The ends of a call.
 #[derive(Drop)]
@@ -34,21 +51,24 @@ struct Ends {
     notes: MemSink,
 }
 
-/// A shelf with one file, of which the loads with the numbers in `fails` will fail.
-fn shelf(alloc: Global, table: &[u8], fails: &[u64]) -> Result<MemShelf, AllocError> {
+/// A shelf with a class table and an order file, of which the loads with the numbers in `fails` will
+/// fail.
+fn shelf(alloc: Global, table: &[u8], order: &[u8], fails: &[u64]) -> Result<MemShelf, AllocError> {
     let mut files = MemShelf::new(alloc, Vec::from_slice(alloc, fails)?);
-    let name = String::from_str(alloc, "T0.csv")?;
+    let name = String::from_str(alloc, "T0")?;
     files.add(name, Vec::from_slice(alloc, table)?)?;
+    let name = String::from_str(alloc, "O")?;
+    files.add(name, Vec::from_slice(alloc, order)?)?;
     Ok(files)
 }
 
-/// Ends over a trace, none of which fails.
-fn open(alloc: Global, trace: &[u8]) -> Result<Ends, AllocError> {
+/// Ends over a trace and an order file, none of which fails.
+fn open(alloc: Global, trace: &[u8], order: &[u8]) -> Result<Ends, AllocError> {
     Ok(Ends {
         trace: MemSource::new(Vec::from_slice(alloc, trace)?, Vec::new(alloc)),
-        files: shelf(alloc, TABLE, &[])?,
+        files: shelf(alloc, TABLE, order, &[])?,
         out: MemSink::new(alloc, 1000, Vec::new(alloc))?,
-        notes: MemSink::new(alloc, 1000, Vec::new(alloc))?,
+        notes: MemSink::new(alloc, 100, Vec::new(alloc))?,
     })
 }
 
@@ -76,198 +96,270 @@ fn replay(alloc: Global, command: &str, ends: &mut Ends) -> Result<Outcome, Allo
     Ok(outcome)
 }
 
-/// Asserts how a call ended, what it wrote, and that its order is this many picks of thread 0.
-fn assert_ended(
-    rt: &impl Abort,
-    (status, end): (u8, End),
-    text: &[u8],
-    picks: usize,
-    outcome: &Outcome,
-    ends: &Ends,
-) {
-    assert_eq!(rt; outcome.status, status, "at {end:?}");
-    assert_eq!(rt; outcome.end, end);
-    assert_eq!(rt; ends.out.taken(), text, "at {end:?}");
-    assert_eq!(rt; ends.notes.taken(), [].as_slice());
-    assert_eq!(rt; outcome.order.as_slice().len(), picks, "at {end:?}");
-    assert!(rt; outcome.order.as_slice().iter().all(|thread| *thread == 0));
+/// Asserts how a call ended, what it wrote and noted, and its order.
+fn assert_case(rt: &impl Abort, case: &Case, outcome: &Outcome, ends: &Ends) {
+    assert_eq!(rt; outcome.end, case.end);
+    assert_eq!(rt; outcome.status, case.status, "at {:?}", case.end);
+    assert_eq!(rt; ends.out.taken(), case.text, "at {:?}", case.end);
+    assert_eq!(rt; ends.notes.taken(), case.note, "at {:?}", case.end);
+    assert_eq!(rt; outcome.order.as_slice(), case.picks, "at {:?}", case.end);
 }
 
-/// Asserts that a call was refused, with nothing written and no order.
-fn assert_refused(rt: &impl Abort, ended: (u8, End), outcome: &Outcome, ends: &Ends) {
-    assert_ended(rt, ended, b"", 0, outcome, ends);
-}
-
-#[test]
-fn three_requests(rt: HostRuntime) -> Result<(), Fail> {
-    let alloc = rt.alloc();
-    let mut ends = open(alloc, THREE)?;
-    let outcome = replay(alloc, COMMAND, &mut ends)?;
-    assert_ended(&rt, (0, End::Done), THREE_TEXT, 9, &outcome, &ends);
-
-    let mut ends = open(alloc, THREE)?;
-    let words = words_of(alloc, COMMAND)?;
-    let outcome = tcreplay(
-        &rt,
-        alloc,
-        &words,
-        &mut ends.trace,
-        &mut ends.files,
-        &mut ends.out,
-        &mut ends.notes,
-        &OpenGate,
-    );
-    assert_ended(&rt, (0, End::Done), THREE_TEXT, 9, &outcome, &ends);
+/// Runs a case over ends that don't fail.
+fn check(rt: &impl Abort, alloc: Global, case: &Case) -> Result<(), AllocError> {
+    let mut ends = open(alloc, case.trace, case.order)?;
+    let outcome = replay(alloc, case.command, &mut ends)?;
+    assert_case(rt, case, &outcome, &ends);
     Ok(())
 }
 
-#[test]
-fn other_runs(rt: HostRuntime) -> Result<(), Fail> {
-    let alloc = rt.alloc();
-    for (trace, text, picks) in [
-        // No call.
-        (
-            b"".as_slice(),
-            b"calls 0\nlive 0 0\nused 0\nresident 0\nfrag 0\n".as_slice(),
-            0,
-        ),
-        // One byte more than 32 pages, freed again. The hugepage stays backed.
-        (
-            b"a 0 0 262145\nf 0 0\n".as_slice(),
-            b"a 0 0 2097152 270336\nf 0 0 2097152\ncalls 2\nlive 0 0\nused 0\nresident 256\nfrag 1000\n".as_slice(),
-            7,
-        ),
-        // The one hugepage has one page left, too few for 33. The free of nothing is one pick.
-        (
-            b"huge 1\na 0 0 2088960\na 0 1 270336\nf 0 1\n".as_slice(),
-            b"a 0 0 2097152 2088960\na 0 1 none\nf 0 1 none\ncalls 3\nlive 1 2088960\nused 255\nresident 256\nfrag 3\n".as_slice(),
-            6,
-        ),
-    ] {
-        let mut ends = open(alloc, trace)?;
-        let outcome = replay(alloc, COMMAND, &mut ends)?;
-        assert_ended(&rt, (0, End::Done), text, picks, &outcome, &ends);
+/// A call that is refused at an end, with its status and its note.
+fn refused<'a>(command: &'a str, status: u8, end: End, note: &'a [u8]) -> Case<'a> {
+    Case {
+        command,
+        trace: ONE,
+        order: b"",
+        status,
+        end,
+        text: b"",
+        note,
+        picks: &[],
     }
-    Ok(())
 }
 
 #[test]
-fn failing_ends(rt: HostRuntime) -> Result<(), Fail> {
+fn runs(rt: HostRuntime) -> Result<(), Fail> {
     let alloc = rt.alloc();
-    let mut ends = open(alloc, b"")?;
-    ends.trace = MemSource::new(Vec::from_slice(alloc, THREE)?, vec![in alloc; 2u64]?);
-    let outcome = replay(alloc, COMMAND, &mut ends)?;
-    assert_refused(&rt, (5, End::ReadFault), &outcome, &ends);
+    let done = Case {
+        command: SERIAL,
+        trace: ONE,
+        order: b"",
+        status: 0,
+        end: End::Done,
+        text: ONE_TEXT,
+        note: b"",
+        picks: &[0, 0, 0],
+    };
+    check(&rt, alloc, &done)?;
 
-    // The whole text is one put, of which half is taken. The run has ended by then.
-    let mut ends = open(alloc, THREE)?;
-    ends.out = MemSink::new(alloc, 1000, vec![in alloc; 1u64]?)?;
-    let outcome = replay(alloc, COMMAND, &mut ends)?;
-    assert_ended(&rt, (6, End::WriteFault), THREE_HALF, 9, &outcome, &ends);
+    // The last thread waits at first. The second one takes the first place, and then the first one takes
+    // the place behind it, which is free again in the end.
+    let threads = Case {
+        command: ORDER,
+        trace: THREADS,
+        order: b"1\n2\n0 3\n1 2\n",
+        text: b"a 1 1 2097152 303104\na 0 0 2400256 303104\nf 2 0 2400256\ncalls 3\nlive 1 303104\nused 37\nresident 256\nfrag 855\n",
+        picks: &[1, 0, 0, 0, 1, 1, 2, 2, 2, 2],
+        ..done
+    };
+    check(&rt, alloc, &threads)?;
+
+    // Without picks the calls run in the order of the trace, and the rows come behind the summary.
+    let rows = Case {
+        command: "tcreplay order --rows --classes T0 --order O",
+        trace: b"huge 2\nthreads 2\na 1 0 300000\na 0 1 2000000\nf 1 1\n",
+        order: b"",
+        text: b"a 1 0 2097152 303104\na 0 1 4194304 2007040\nf 1 1 4194304\ncalls 3\nlive 1 303104\nused 37\nresident 512\nfrag 927\nh 1 filler 37 1 256 219 0\nh 2 free 0 0 256 256 0\n",
+        picks: &[1, 1, 1, 0, 0, 0, 1, 1, 1, 1],
+        ..done
+    };
+    check(&rt, alloc, &rows)?;
+
+    // Two acts may be done: the text is never written.
+    let full = Case {
+        trace: b"events 2\na 0 0 300000\n",
+        status: 9,
+        end: End::Full { ticket: 2 },
+        text: b"",
+        note: b"tcreplay: events limit 2\n",
+        picks: &[0, 0],
+        ..done
+    };
+    check(&rt, alloc, &full)?;
     Ok(())
 }
 
 #[test]
 fn words_that_are_refused(rt: HostRuntime) -> Result<(), Fail> {
     let alloc = rt.alloc();
-    let mut ends = open(alloc, THREE)?;
     for command in [
         "tcreplay",
         "tcreplay serial",
         "tcreplay serial --classes",
         "tcreplay serial --classes -x",
-        "tcreplay serial --classes ",
-        "tcreplay serial --classes T0.csv T0.csv",
-        "tcreplay other --classes T0.csv",
-        "tcreplay serial --table T0.csv",
+        "tcreplay serial --classes T0 T0",
+        "tcreplay serial --classes T0 --classes T0",
+        "tcreplay serial --classes T0 --order O",
+        "tcreplay serial --rows --classes T0 --rows",
+        "tcreplay order --classes T0",
+        "tcreplay workers --classes T0 --locks one",
+        "tcreplay gen --classes T0 --seed 1 --calls 1 --threads 1",
     ] {
-        let outcome = replay(alloc, command, &mut ends)?;
-        assert_refused(&rt, (2, End::Usage), &outcome, &ends);
+        check(
+            &rt,
+            alloc,
+            &refused(command, 2, End::Usage, b"tcreplay: usage\n"),
+        )?;
     }
 
-    // None of them read or wrote anything.
-    let outcome = replay(alloc, COMMAND, &mut ends)?;
-    assert_ended(&rt, (0, End::Done), THREE_TEXT, 9, &outcome, &ends);
+    // The put of the note fails, and takes its half.
+    let mut ends = open(alloc, ONE, b"")?;
+    ends.notes = MemSink::new(alloc, 100, vec![in alloc; 1u64]?)?;
+    let outcome = replay(alloc, "tcreplay serial", &mut ends)?;
+    let usage = refused("tcreplay serial", 2, End::Usage, b"tcreplay");
+    assert_case(&rt, &usage, &outcome, &ends);
     Ok(())
 }
 
 #[test]
-fn tables_that_are_refused(rt: HostRuntime) -> Result<(), Fail> {
+fn inputs_that_are_refused(rt: HostRuntime) -> Result<(), Fail> {
     let alloc = rt.alloc();
-    let mut ends = open(alloc, THREE)?;
-    let outcome = replay(alloc, "tcreplay serial --classes T1.csv", &mut ends)?;
-    assert_refused(&rt, (11, End::FileFault), &outcome, &ends);
+    let missing = refused(
+        "tcreplay serial --classes T1",
+        11,
+        End::FileFault,
+        b"tcreplay: file fault\n",
+    );
+    check(&rt, alloc, &missing)?;
 
-    ends.files = shelf(alloc, TABLE, &[1])?;
-    let outcome = replay(alloc, COMMAND, &mut ends)?;
-    assert_refused(&rt, (11, End::FileFault), &outcome, &ends);
-
-    ends.files = shelf(alloc, b"16,1,4\n12,1,4\n", &[])?;
-    let outcome = replay(alloc, COMMAND, &mut ends)?;
+    let mut ends = open(alloc, ONE, b"")?;
+    ends.files = shelf(alloc, b"16,1,4\n12,1,4\n", b"", &[])?;
+    let outcome = replay(alloc, SERIAL, &mut ends)?;
     let why = RowWhy::Size;
-    assert_refused(&rt, (3, End::BadTable { row: 2, why }), &outcome, &ends);
+    let bad = End::BadTable { row: 2, why };
+    let size = refused(SERIAL, 3, bad, b"tcreplay: table row 2: size\n");
+    assert_case(&rt, &size, &outcome, &ends);
 
-    // Line ends alone are no record, and one byte more of them is not read.
-    let mut lines = vec![in alloc; b'\n'; 65536]?;
-    ends.files = shelf(alloc, &lines, &[])?;
-    let outcome = replay(alloc, COMMAND, &mut ends)?;
-    let why = RowWhy::Empty;
-    assert_refused(&rt, (3, End::BadTable { row: 1, why }), &outcome, &ends);
-    lines.push(b'\n')?;
-    ends.files = shelf(alloc, &lines, &[])?;
-    let outcome = replay(alloc, COMMAND, &mut ends)?;
+    // Line ends alone are no record, and of one byte more than the limit nothing is read.
+    let lines = vec![in alloc; b'\n'; 65537]?;
+    let mut ends = open(alloc, ONE, b"")?;
+    ends.files = shelf(alloc, &lines, b"", &[])?;
+    let outcome = replay(alloc, SERIAL, &mut ends)?;
     let limit = 65536;
-    assert_refused(&rt, (8, End::TooLong { limit }), &outcome, &ends);
+    let note = b"tcreplay: longer than 65536 bytes\n";
+    let long = refused(SERIAL, 8, End::TooLong { limit }, note);
+    assert_case(&rt, &long, &outcome, &ends);
 
-    // All this left the trace unread and nothing written.
-    ends.files = shelf(alloc, TABLE, &[])?;
-    let outcome = replay(alloc, COMMAND, &mut ends)?;
-    assert_ended(&rt, (0, End::Done), THREE_TEXT, 9, &outcome, &ends);
-    Ok(())
-}
-
-#[test]
-fn traces_that_are_refused(rt: HostRuntime) -> Result<(), Fail> {
-    let alloc = rt.alloc();
-    for (trace, line, why) in [
+    for (trace, line, why, note) in [
         (
-            b"a 0 0 262145\na 0 0 262145\n".as_slice(),
+            b"a 0 0 300000\na 0 0 300000\n".as_slice(),
             2,
             LineWhy::LabelUsed,
+            b"tcreplay: trace line 2: labelused\n".as_slice(),
         ),
-        (b"f 0 3\n".as_slice(), 1, LineWhy::LabelUnknown),
         (
-            b"a 0 0 262145\nf 0 0\nf 0 0\n".as_slice(),
-            3,
-            LineWhy::LabelFreed,
+            b"f 0 3\n".as_slice(),
+            1,
+            LineWhy::LabelUnknown,
+            b"tcreplay: trace line 1: labelunknown\n".as_slice(),
         ),
-        // A size that has a class.
-        (b"a 0 0 10\n".as_slice(), 1, LineWhy::NotBuilt),
-        // A head behind a call.
-        (b"a 0 0 262145\nhuge 4\n".as_slice(), 2, LineWhy::NotBuilt),
+        // A size that has a class, in a trace that is valid to its end.
+        (
+            b"a 0 0 300000\na 0 1 10\nr 0 1\n".as_slice(),
+            2,
+            LineWhy::NotBuilt,
+            b"tcreplay: trace line 2: notbuilt\n".as_slice(),
+        ),
+        (
+            b"r 0 1\nd 0 1\n".as_slice(),
+            2,
+            LineWhy::Cpu,
+            b"tcreplay: trace line 2: cpu\n".as_slice(),
+        ),
     ] {
-        let mut ends = open(alloc, trace)?;
-        let outcome = replay(alloc, COMMAND, &mut ends)?;
-        assert_refused(&rt, (4, End::BadTrace { line, why }), &outcome, &ends);
+        // The order file is bad too, but the trace comes first.
+        let case = Case {
+            trace,
+            order: b"9\n",
+            ..refused(ORDER, 4, End::BadTrace { line, why }, note)
+        };
+        check(&rt, alloc, &case)?;
+    }
+
+    let why = OrderWhy::Thread;
+    let order = Case {
+        order: b"0\n9\n",
+        ..refused(
+            ORDER,
+            10,
+            End::BadOrder { line: 2, why },
+            b"tcreplay: order line 2: thread\n",
+        )
+    };
+    check(&rt, alloc, &order)?;
+    Ok(())
+}
+
+#[test]
+fn failing_ends(rt: HostRuntime) -> Result<(), Fail> {
+    let alloc = rt.alloc();
+    let mut ends = open(alloc, b"", b"")?;
+    ends.trace = MemSource::new(Vec::from_slice(alloc, ONE)?, vec![in alloc; 2u64]?);
+    let outcome = replay(alloc, SERIAL, &mut ends)?;
+    let fault = refused(SERIAL, 5, End::ReadFault, b"tcreplay: read fault\n");
+    assert_case(&rt, &fault, &outcome, &ends);
+
+    // The second load is that of the order file.
+    let mut ends = open(alloc, ONE, b"")?;
+    ends.files = shelf(alloc, TABLE, b"", &[2])?;
+    let outcome = replay(alloc, ORDER, &mut ends)?;
+    let fault = refused(ORDER, 11, End::FileFault, b"tcreplay: file fault\n");
+    assert_case(&rt, &fault, &outcome, &ends);
+
+    // The whole text is one put, of which half is taken. The run has ended by then.
+    let mut ends = open(alloc, ONE, b"")?;
+    ends.out = MemSink::new(alloc, 1000, vec![in alloc; 1u64]?)?;
+    let outcome = replay(alloc, SERIAL, &mut ends)?;
+    let fault = Case {
+        text: ONE_HALF,
+        picks: &[0, 0, 0],
+        ..refused(SERIAL, 6, End::WriteFault, b"tcreplay: write fault\n")
+    };
+    assert_case(&rt, &fault, &outcome, &ends);
+    Ok(())
+}
+
+#[test]
+fn pieces(rt: HostRuntime) -> Result<(), Fail> {
+    let alloc = rt.alloc();
+    let words = words_of(alloc, SERIAL)?;
+    for most in 1..6usize {
+        let mut ends = open(alloc, b"", b"")?;
+        ends.trace = MemSource::in_pieces(Vec::from_slice(alloc, ONE)?, Vec::new(alloc), most);
+        let outcome = tcreplay(
+            &rt,
+            alloc,
+            &words,
+            &mut ends.trace,
+            &mut ends.files,
+            &mut ends.out,
+            &mut ends.notes,
+            &OpenGate,
+        );
+        assert_eq!(rt; outcome.end, End::Done);
+        assert_eq!(rt; ends.out.taken(), ONE_TEXT);
     }
     Ok(())
 }
 
-/// Made to be tried with each of its allocations refused in turn: either nothing was written, or
-/// all. A refusal before the call ends the test.
+/// Made to be tried with each of its allocations refused in turn: either the whole text was written, or
+/// nothing was, and the note tells it. A refusal before the call ends the test.
 #[test]
 fn memory_that_runs_out(rt: HostRuntime) -> Result<(), Fail> {
     let alloc = rt.alloc();
-    let Ok(mut ends) = open(alloc, THREE) else {
+    let order = b"0 2\n";
+    let Ok(mut ends) = open(alloc, ONE, order) else {
         return Ok(());
     };
-    let Ok(outcome) = replay(alloc, COMMAND, &mut ends) else {
+    let Ok(outcome) = replay(alloc, ORDER, &mut ends) else {
         return Ok(());
     };
+    let memory = refused(ORDER, 7, End::Memory, b"tcreplay: out of memory\n");
     if outcome.end == End::Memory {
-        assert_refused(&rt, (7, End::Memory), &outcome, &ends);
+        assert_case(&rt, &memory, &outcome, &ends);
     } else {
-        assert_ended(&rt, (0, End::Done), THREE_TEXT, 9, &outcome, &ends);
+        assert_eq!(rt; outcome.end, End::Done);
+        assert_eq!(rt; ends.out.taken(), ONE_TEXT);
     }
     Ok(())
 }

@@ -2,3 +2,4 @@ pub mod Joins
 pub mod Verdicts
 pub mod Keeps
 pub mod Valids
+pub mod Picked

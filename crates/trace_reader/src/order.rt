@@ -1,5 +1,5 @@
 //! Reading an order file.
-ghost use Rattle.std.specs.Prelude.{◌≡◌, ◌+◌, ◌≤◌, ◌++◌, [], length, Ok, Some, None, OnOk, IfOk, IfErr, MatchResult};
+ghost use Rattle.std.specs.Prelude.{◌≡◌, ◌+◌, ◌≤◌, ◌++◌, [], length, Ok, Some, None, OnOk, IfOk, IfErr, MatchResult, All, ◌<◌};
 ghost use Rattle.trace_reader.specs.Orders.{line_turns, order_verdict, read_order_line, picks_by, IsOrderFault};
 ghost use Rattle.trace_reader.specs.Turning.{picks_of, order_line_at, IsOrderLineFault};
 
@@ -83,8 +83,10 @@ fn picks(alloc: Global, turns: &[Turns], count: usize) -> Result<Vec<u16>, Alloc
 
 /// The thread of each pick that an order file asks for, for so many threads. Unless memory runs out, a
 /// refusal is the first bad line with the first rule that it fails.
+#[tactic(auto, using(crate::proofs::Picked::picked_below))]
 pub fn read_order(alloc: Global, bytes: &[u8], threads: u8) -> Result<Vec<u16>, OrderFault>
     ensures picks { IfOk result (λ picks. picks_by threads bytes.now ≡ Ok picks.items) }
+    ensures threads { IfOk result (λ picks. All (λ thread. thread < threads) picks.items) }
     ensures fault { IfErr result (IsOrderFault threads bytes.now) }
 {
     let mut picked = Picked {

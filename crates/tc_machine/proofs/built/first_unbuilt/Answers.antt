@@ -5,6 +5,7 @@ use Rattle.std.proofs.lemmas.Option.{slice_get_within}
 use Rattle.tc_model.specs.declared.calls.Planned.{Planned}
 use Rattle.tc_machine.specs.Inputs.{asked_of}
 use Rattle.tc_machine.specs.Built.{is_built, is_built_planned}
+use Rattle.tc_machine.proofs.InputFacts.{asked_is}
 use Rattle.tc_machine.proofs.BuiltFacts.{AreBuiltSoFar, at_turn, thread_is, few_passed, next_passed, line_is, all_passed, find_none_of}
 use Rattle.tc_machine.proofs.built.first_unbuilt.Goals as goal
 
@@ -82,3 +83,12 @@ pub returns-clause-none : goal.returns-clause-none
 returns-clause-none c =
     let all = all_passed c.args.table.now c.args.trace.now c.loop-turn.next.items c.loop-turn.turn-index c.requires c.loop-turn.invariant (omega (arith, c.loop-turn-test.false, ap length c.as_slice-turn-items.ensures)) in
     (λ is. all, λ built. refl)
+
+pub returns-in_err-next-clause-asked : goal.returns-in_err-next-clause-asked
+returns-in_err-next-clause-asked c asked read = asked_is (length c.args.table.now) c.args.trace.now asked read
+
+pub returns-then-not-is_built-clause-asked : goal.returns-then-not-is_built-clause-asked
+returns-then-not-is_built-clause-asked c asked read = asked_is (length c.args.table.now) c.args.trace.now asked read
+
+pub returns-clause-asked : goal.returns-clause-asked
+returns-clause-asked c asked read = asked_is (length c.args.table.now) c.args.trace.now asked read

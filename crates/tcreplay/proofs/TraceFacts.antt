@@ -1,0 +1,37 @@
+-- What reading the trace gives.
+use Rattle.std.proofs.Common.{◌≡◌, ℕ, ◌+◌, ◌<◌, ◌≤◌, ◌⊎◌, inl, inr, Bool, true, false, List, [], length, Option, Some, None, Result, Ok, Err, refl, sym, ap, subst, ◌∙◌, arith, drop}
+use Rattle.std.specs.Prelude.{IsNone, IfSome, ◌↔◌}
+use Rattle.std.proofs.lemmas.List.{drop_all}
+use Rattle.tc_ports.specs.Told.{LostAtMost}
+use Rattle.tc_ports.specs.Whole.{PassedLimit}
+use Rattle.tcreplay.specs.declared.outcome.End.{End}
+use Rattle.tcreplay.specs.declared.outcome.End.TheVariants.{TooLong}
+use Rattle.tcreplay.specs.Verdict.{within}
+use Rattle.tcreplay.proofs.LoadFacts.{too_many, too_many_long, within_long}
+
+-- the text that is told, or else an empty one
+abbrev pub some_text : Option (List ℕ) → List ℕ
+some_text None = []
+some_text (Some text) = text
+
+pub some_text_is : (left : Option (List ℕ)) → IfSome left (λ bytes. some_text left ≡ bytes)
+some_text_is None = tt
+some_text_is (Some text) = refl
+
+-- a text that is too long
+pub long_text : (left rest : Option (List ℕ)) (limit : ℕ) → PassedLimit left rest limit → (text : List ℕ) × IfSome left (λ bytes. text ≡ bytes) × (within limit text ≡ Err (TooLong limit))
+long_text None rest limit passed = (too_many limit, tt, within_long limit (too_many limit) (too_many_long limit))
+long_text (Some bytes) rest limit passed = (bytes, refl, within_long limit bytes passed.0)
+
+-- nothing is lost where nothing was read
+pub lost_none : (left : Option (List ℕ)) (most : ℕ) → LostAtMost left left most
+lost_none None most = refl
+lost_none (Some bytes) most = (0, omega arith, refl)
+
+-- what was read to its end has lost no more than it had
+pub lost_all : (left rest : Option (List ℕ)) (text : List ℕ) (limit : ℕ) → length text ≤ limit → IfSome left (λ bytes. text ≡ bytes) → IfSome rest (λ bytes. bytes ≡ []) → (IsNone rest ↔ IsNone left) → LostAtMost left rest (limit + 1)
+lost_all None None text limit short told end tells = refl
+lost_all None (Some bytes) text limit short told end tells = absurd (let e = tells.1 refl in cc)
+lost_all (Some bytes) None text limit short told end tells = absurd (let e = tells.0 refl in cc)
+lost_all (Some bytes) (Some rest) text limit short told end tells =
+    (length bytes, omega (arith, ap length told, short), ap Some (end ∙ sym (drop_all (length bytes) bytes (omega arith))))

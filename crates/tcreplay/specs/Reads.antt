@@ -1,0 +1,151 @@
+-- What reading the inputs makes of the ends, and what it gives: that is what the definitions say of what the inputs gave,
+-- or a call of an end failed, or memory ran out.
+use Rattle.std.specs.Prelude.{◌≡◌, ℕ, ◌+◌, ◌<◌, ◌≤◌, ◌⊎◌, Bool, true, false, List, [], length, All, Option, Some, None, Result, Ok, Err, IsOk, IsErr, IsSome, IfSome, IfOk, MatchResult, Vec}
+use Rattle.std.specs.Global.{Global}
+use Rattle.std.specs.FinMap.{get}
+use Rattle.tc_units.specs.declared.spans.ClassRow.{ClassRow}
+use Rattle.tc_model.specs.Input.{Asked}
+use Rattle.tc_ports.specs.Faults.{one_more, Rose}
+use Rattle.tc_ports.specs.Told.{LostAtMost}
+use Rattle.tc_ports.specs.declared.shelf.LoadFault.{LoadFault}
+use Rattle.tc_ports.specs.declared.shelf.LoadFault.TheVariants as load
+use Rattle.tc_ports.specs.Shelves.{Files}
+use Rattle.trace_reader.specs.declared.trace.Trace.{Trace}
+use Rattle.tc_machine.specs.Inputs.{asked_of, input_of}
+use Rattle.tc_machine.specs.Built.{IsRead, AreBuilt}
+use Rattle.tcreplay.specs.declared.outcome.End.{End}
+use Rattle.tcreplay.specs.declared.outcome.End.TheVariants.{Done, BadTrace, ReadFault, WriteFault, Memory, TooLong, Full, BadOrder, FileFault}
+use Rattle.tcreplay.specs.declared.input.Job.{Job}
+use Rattle.tcreplay.specs.Words.{Replay}
+use Rattle.tcreplay.specs.Verdict.{Given, trace_limit, rows_in, asked_in, picks_in, job_of, and_then}
+use Rattle.tcreplay.specs.Verdict as verdict
+
+-- what a source and a shelf show at a moment: what they tell, the faults so far, and the calls so far
+pub record Reading : Type 0 where
+  pub left : Option (List ℕ)
+  pub faults : ℕ
+  pub reads : ℕ
+
+pub record Shelving : Type 0 where
+  pub files : Option Files
+  pub faults : ℕ
+  pub loads : ℕ
+
+-- the bytes of a file that a shelf tells; where it tells none, there is some file
+abbrev pub IsFile : Option Files → List ℕ → Option (List ℕ) → Type 0
+IsFile None name file = IsSome file
+IsFile (Some all) name file = file ≡ get all name
+
+-- the end that a fault of a load is
+abbrev pub load_end : ℕ → LoadFault → End
+load_end limit load.Failed = FileFault
+load_end limit load.Missing = FileFault
+load_end limit load.TooLong = TooLong limit
+load_end limit load.Memory = Memory
+
+-- A step with this verdict, with the count of faults of its end before and after: it went as the verdict says, or memory
+-- ran out, or its end failed.
+abbrev pub IsStep : {A B : Type 0} → (B → A) → Result A End → End → ℕ → ℕ → Result B End → Type 0
+IsStep seen verdict fault old new (Ok gave) = (verdict ≡ Ok (seen gave)) × (new ≡ old)
+IsStep seen verdict fault old new (Err end) = ((verdict ≡ Err end) × (new ≡ old)) ⊎ (((end ≡ Memory) × (new ≡ old)) ⊎ ((end ≡ fault) × Rose old new))
+
+-- a step that needs no end: it went as the verdict says, or memory ran out
+abbrev pub IsPure : {A B : Type 0} → (B → A) → Result A End → Result B End → Type 0
+IsPure seen verdict (Ok gave) = verdict ≡ Ok (seen gave)
+IsPure seen verdict (Err end) = (verdict ≡ Err end) ⊎ (end ≡ Memory)
+
+-- by one load, a file gave what this verdict on it says
+pub record IsLoad {A B : Type 0} (seen : B → A) (verdict : Option (List ℕ) → Result A End) (name : List ℕ) (before after : Shelving) (result : Result B End) : Type 0 where
+  pub file : Option (List ℕ)
+  pub told : IsFile before.files name file
+  pub step : IsStep seen (verdict file) FileFault before.faults after.faults result
+  pub files : after.files ≡ before.files
+  pub once : after.loads ≡ one_more before.loads
+
+-- the picks that an order file gave, where one is named; else there are none, and no file is touched
+abbrev pub ArePicks : Option (List ℕ) → ℕ → Shelving → Shelving → Result (Vec ℕ Global) End → Type 0
+ArePicks None threads before after result = (after ≡ before) × MatchResult result (λ v. v.items ≡ []) (λ _. ⊥)
+ArePicks (Some name) threads before after result = IsLoad (λ (v : Vec ℕ Global). v.items) (picks_in threads) name before after result
+
+-- the end that a step came to, where it is the last one
+abbrev pub end_of : {A : Type 0} → Result A End → End
+end_of (Ok gave) = Done
+end_of (Err end) = end
+
+-- whether an end comes behind the last byte of the trace
+abbrev pub is_behind_trace : End → Bool
+is_behind_trace Done = true
+is_behind_trace WriteFault = true
+is_behind_trace (Full ticket) = true
+is_behind_trace (BadTrace line why) = true
+is_behind_trace (BadOrder line why) = true
+is_behind_trace end = false
+
+-- the trace that was left gave what it asks for under these rows
+pub record IsTraceRead (rows : List ClassRow) (before after : Reading) (result : Result Trace End) : Type 0 where
+  pub text : List ℕ
+  pub told : IfSome before.left (λ bytes. text ≡ bytes)
+  pub step : IsStep asked_of (asked_in rows text) ReadFault before.faults after.faults result
+  pub lost : LostAtMost before.left after.left (trace_limit + 1)
+  pub reads : after.reads ≤ before.reads + trace_limit + 1
+  pub drained : is_behind_trace (end_of result) ≡ true → IfSome after.left (λ rest. rest ≡ [])
+
+-- what the inputs gave is what they tell, where they tell it
+pub record AreGiven (replay : Replay) (files : Option Files) (left : Option (List ℕ)) (given : Given) : Type 0 where
+  pub table : IsFile files replay.classes given.table
+  pub trace : IfSome left (λ bytes. given.trace ≡ bytes)
+  pub order : IfSome replay.order (λ name. IsFile files name given.order)
+
+-- what the trace asks for, where the class table and the trace give it
+abbrev pub asked_by : Given → Result Asked End
+asked_by given = and_then (λ rows. asked_in rows given.trace) (rows_in given.table)
+
+-- What may come in place of the definitions' end: memory ran out, or a call of an end failed, so that its count of
+-- faults rose, behind steps that gave what it needs. The first load of a replay is that of the class table; the order
+-- file is loaded behind a good table and a good trace.
+abbrev pub CutOff : Replay → Given → Reading → Reading → Shelving → Shelving → End → Type 0
+CutOff replay given t u f g Memory = Unit {0}
+CutOff replay given t u f g ReadFault = Rose t.faults u.faults × IsOk (rows_in given.table)
+CutOff replay given t u f g FileFault = Rose f.faults g.faults × (((g.loads ≡ one_more f.loads) × (u ≡ t)) ⊎ IsOk (asked_by given))
+CutOff replay given t u f g end = ⊥
+
+-- how many files are loaded at most: the class table, and the order file behind a good trace where one is named
+abbrev pub order_loads : Option (List ℕ) → Result Asked End → ℕ
+order_loads (Some name) (Ok asked) = 1
+order_loads name asked = 0
+
+abbrev pub most_loads : Replay → Given → ℕ
+most_loads replay given = 1 + order_loads replay.order (asked_by given)
+
+-- What was read at an end: each input once, up to its limit, and not before its step. A count of faults rose only where
+-- that is the end.
+pub record HasRead (replay : Replay) (given : Given) (t u : Reading) (f g : Shelving) (end : End) : Type 0 where
+  pub files : g.files ≡ f.files
+  pub loads : g.loads ≤ f.loads + most_loads replay given
+  pub file_count : (end ≡ FileFault → ⊥) → g.faults ≡ f.faults
+  pub untouched : IsErr (rows_in given.table) → u ≡ t
+  pub lost : LostAtMost t.left u.left (trace_limit + 1)
+  pub reads : u.reads ≤ t.reads + trace_limit + 1
+  pub drained : is_behind_trace end ≡ true → IfSome u.left (λ rest. rest ≡ [])
+  pub trace_count : (end ≡ ReadFault → ⊥) → u.faults ≡ t.faults
+
+-- a job, as the definitions have it
+abbrev pub seen_job : Job → verdict.Job
+seen_job job = record { input = input_of job.table job.trace; picks = job.picks.items }
+
+-- what the machine asks of a job: its trace was read, all calls are built, and the picks are of threads that there are
+pub record IsRunnable (job : Job) : Type 0 where
+  pub read : IsRead (length job.table) job.trace (asked_of job.trace)
+  pub built : AreBuilt job.table (asked_of job.trace).calls
+  pub picks : All (λ thread. thread < job.trace.config.threads) job.picks.items
+
+-- the job that the inputs give, or why there is none
+abbrev pub IsJobOf : Replay → Given → Reading → Reading → Shelving → Shelving → Result Job End → Type 0
+IsJobOf replay given t u f g (Ok job) = job_of replay given ≡ Ok (seen_job job)
+IsJobOf replay given t u f g (Err end) = (job_of replay given ≡ Err end) ⊎ CutOff replay given t u f g end
+
+pub record IsJobRead (replay : Replay) (t u : Reading) (f g : Shelving) (result : Result Job End) : Type 0 where
+  pub given : Given
+  pub told : AreGiven replay f.files t.left given
+  pub answer : IsJobOf replay given t u f g result
+  pub read : HasRead replay given t u f g (end_of result)

@@ -1,0 +1,150 @@
+-- What words and inputs come to, step by step: the words, the class table, the trace, the order file, the run. Each step
+-- either ends the work or gives what the next one needs.
+use Rattle.std.specs.Prelude.{ℕ, Bool, true, false, nat_lt, List, [], length, map, is_none, Option, Some, None, Result, Ok, Err, if◌then◌else◌}
+use Rattle.std.specs.List.{list_all}
+use Rattle.std.specs.FinMap.{get}
+use Rattle.tc_units.specs.declared.spans.ClassRow.{ClassRow}
+use Rattle.tc_units.specs.declared.rows.RowView.{RowView}
+use Rattle.tc_model.specs.declared.answers.Finished.{Finished}
+use Rattle.tc_model.specs.Input.{Input, Asked}
+use Rattle.tc_model.specs.Run.{Rules, World, run}
+use Rattle.tc_model.specs.Serial.{order_of}
+use Rattle.size_classes.specs.declared.fault.TableFault.{TableFault}
+use Rattle.size_classes.specs.declared.fault.TableFault.TheVariants as table
+use Rattle.size_classes.specs.Table.{table_of}
+use Rattle.trace_reader.specs.declared.why.LineWhy.{LineWhy}
+use Rattle.trace_reader.specs.declared.why.OrderWhy.{OrderWhy}
+use Rattle.trace_reader.specs.declared.why.LineWhy.TheVariants as why
+use Rattle.trace_reader.specs.Reading.{BadLine, asked_by}
+use Rattle.trace_reader.specs.Orders.{picks_by}
+use Rattle.alloc_rules.specs.Machine as allocator
+use Rattle.tc_machine.specs.Built.{first_unbuilt}
+use Rattle.tc_machine.specs.Finish.{finished_in}
+use Rattle.usage_report.specs.Report.{text_of}
+use Rattle.tcreplay.specs.declared.outcome.End.{End}
+use Rattle.tcreplay.specs.declared.outcome.End.TheVariants.{Done, Usage, BadTable, BadTrace, Memory, TooLong, Full, BadOrder, FileFault}
+use Rattle.tcreplay.specs.Words.{Replay, replay_by}
+
+-- a step behind one that gave what it needs
+abbrev pub and_then : {A B : Type 0} → (A → Result B End) → Result A End → Result B End
+and_then next (Ok given) = next given
+and_then next (Err end) = Err end
+
+-- what a reader gave, or the end that its fault is
+abbrev pub or_end : {A F : Type 0} → (F → End) → Result A F → Result A End
+or_end end_of (Ok given) = Ok given
+or_end end_of (Err fault) = Err (end_of fault)
+
+-- the most bytes of a class table, and of a trace or an order file
+abbrev pub table_limit : ℕ
+table_limit = 65536
+
+abbrev pub trace_limit : ℕ
+trace_limit = 67108864
+
+-- bytes, where they aren't too many
+abbrev pub within : ℕ → List ℕ → Result (List ℕ) End
+within limit bytes = if nat_lt limit (length bytes) then Err (TooLong limit) else Ok bytes
+
+-- the bytes of a file, where it is there
+abbrev pub file_within : ℕ → Option (List ℕ) → Result (List ℕ) End
+file_within limit None = Err FileFault
+file_within limit (Some bytes) = within limit bytes
+
+-- the class table: its rows, or its first bad row
+abbrev pub table_end : TableFault → End
+table_end (table.BadRow row why) = BadTable row why
+table_end table.Memory = Memory
+
+abbrev pub rows_in : Option (List ℕ) → Result (List ClassRow) End
+rows_in file = and_then (λ bytes. or_end table_end (table_of bytes)) (file_within table_limit file)
+
+-- what the calls of a trace ask for, where all of them are built
+abbrev pub built_or : Option ℕ → Asked → Result Asked End
+built_or None asked = Ok asked
+built_or (Some line) asked = Err (BadTrace line why.NotBuilt)
+
+abbrev pub built : List ClassRow → Asked → Result Asked End
+built rows asked = built_or (first_unbuilt rows asked.calls) asked
+
+-- the trace: what it asks for, or its first bad line
+abbrev pub trace_end : BadLine LineWhy → End
+trace_end bad = BadTrace bad.line bad.why
+
+abbrev pub asked_of_text : List ClassRow → List ℕ → Result Asked End
+asked_of_text rows text = and_then (built rows) (or_end trace_end (asked_by (length rows) text))
+
+abbrev pub asked_in : List ClassRow → List ℕ → Result Asked End
+asked_in rows bytes = and_then (asked_of_text rows) (within trace_limit bytes)
+
+-- the order file: the thread of each of its picks, or its first bad line
+abbrev pub order_end : BadLine OrderWhy → End
+order_end bad = BadOrder bad.line bad.why
+
+abbrev pub picks_in : ℕ → Option (List ℕ) → Result (List ℕ) End
+picks_in threads file = and_then (λ bytes. or_end order_end (picks_by threads bytes)) (file_within trace_limit file)
+
+-- what the inputs gave: the class table, the trace, and the order file; a file that isn't there is None
+pub record Given : Type 0 where
+  pub table : Option (List ℕ)
+  pub trace : List ℕ
+  pub order : Option (List ℕ)
+
+-- what is run: the picks of the order file are none where no order is named
+pub record Job : Type 0 where
+  pub input : Input
+  pub picks : List ℕ
+
+abbrev pub picks_or_none : Option (List ℕ) → ℕ → Option (List ℕ) → Result (List ℕ) End
+picks_or_none None threads file = Ok []
+picks_or_none (Some name) threads file = picks_in threads file
+
+abbrev pub job_with : Replay → Given → List ClassRow → Asked → Result Job End
+job_with replay given rows asked = and_then (λ picks. Ok (record { input = record { rows = rows; asked = asked }; picks = picks })) (picks_or_none replay.order asked.config.threads given.order)
+
+abbrev pub job_of : Replay → Given → Result Job End
+job_of replay given = and_then (λ rows. and_then (job_with replay given rows) (asked_in rows given.trace)) (rows_in given.table)
+
+-- how the work ends where no call of an end fails and memory suffices, the order of the picks that moved, and the text
+pub record Verdict : Type 0 where
+  pub end : End
+  pub order : List ℕ
+  pub text : List ℕ
+
+-- an end before the run
+abbrev pub refused : End → Verdict
+refused end = record { end = end; order = []; text = [] }
+
+-- the text of a run that has ended, with or without a line for each hugepage
+abbrev pub rows_if : Bool → List RowView → List RowView
+rows_if told rows = if told then rows else []
+
+abbrev pub text_with : Bool → Finished → List ℕ
+text_with told f = text_of f.calls f.live f.live_bytes f.used f.resident (rows_if told f.rows)
+
+-- whether all scripts have ended
+abbrev pub have_ended : {P L : Type 0} → Rules P L → World P L → Bool
+have_ended r w = list_all (λ l. is_none (r.want l)) w.locals
+
+-- the order of a job: the picks of the file, and then the rest in trace order, up to the limit
+abbrev pub order_of_job : Job → List ℕ
+order_of_job job = order_of (allocator.rules job.input) (allocator.turns job.input) job.input.asked.config.events job.picks
+
+-- the verdict on an order: the run has ended, or it stands at the limit
+abbrev pub judged : Bool → Input → List ℕ → Verdict
+judged told input order =
+    if have_ended (allocator.rules input) (run (allocator.rules input) order)
+    then record { end = Done; order = order; text = text_with told (finished_in input order) }
+    else record { end = Full input.asked.config.events; order = order; text = [] }
+
+abbrev pub run_verdict : Bool → Result Job End → Verdict
+run_verdict told (Err end) = refused end
+run_verdict told (Ok job) = judged told job.input (order_of_job job)
+
+abbrev pub replay_verdict : Option Replay → Given → Verdict
+replay_verdict None given = refused Usage
+replay_verdict (Some replay) given = run_verdict replay.rows (job_of replay given)
+
+-- what words and inputs come to
+abbrev pub verdict : List (List ℕ) → Given → Verdict
+verdict words given = replay_verdict (replay_by words) given
