@@ -10,6 +10,7 @@ use Rattle.page_map.specs.declared.node.Node.TheVariants.{Alike}
 use Rattle.page_map.specs.declared.places.Places.{Places}
 use Rattle.page_map.specs.Spans.{holds}
 use Rattle.page_map.specs.Parts.{is_within, with_range, covers}
+use Rattle.page_map.proofs.SpanFacts.{begins_behind, ends_before}
 use Rattle.page_map.specs.Holders.{holder_in, holder_at, is_split, is_ready_at}
 
 -- whether a number is one of those from one up to another
@@ -63,10 +64,10 @@ part_holds span page places from_is to_is =
     let at = page_is page in
     let low = place_below page in
     elim (cases_lt page span.first.0) [
-      | inl before ↦ before_range places.from places.to (page % 256) (omega arith) ∙ sym (before_range span.first.0 (span.first.0 + span.pages) page before)
+      | inl before ↦ before_range places.from places.to (page % 256) (omega arith) ∙ sym (begins_behind page span before)
       | inr from ↦ elim (cases_lt page (span.first.0 + span.pages)) [
         | inl to ↦ in_range places.from places.to (page % 256) (omega arith) (omega arith) ∙ sym (in_range span.first.0 (span.first.0 + span.pages) page from to)
-        | inr past ↦ behind_range places.from places.to (page % 256) (omega arith) ∙ sym (behind_range span.first.0 (span.first.0 + span.pages) page past)
+        | inr past ↦ behind_range places.from places.to (page % 256) (omega arith) ∙ sym (ends_before page span past)
       ]
     ]
 
@@ -111,7 +112,7 @@ held_none span holder old huge low =
       below = λ page less.
           let at = page_is page in
           let place = place_below page in
-          sym (ap (λ b. cond b holder (holder_at old page)) (before_range span.first.0 (span.first.0 + span.pages) page (omega arith)));
+          sym (ap (λ b. cond b holder (holder_at old page)) (begins_behind page span (omega arith)));
     }
 
 pub held_more : (span : SpanRef) (holder : Option SpanRef) (old nodes : List Node) (huge : ℕ) (node : Node) (places : Places) → IsHeldBelow span holder old nodes huge → huge < length nodes → places.from ≡ span.first.0 - 256 * huge → places.to ≡ min (span.first.0 + span.pages - 256 * huge) 256
@@ -143,5 +144,5 @@ held_all span holder old nodes huge past held page =
       | inr from ↦
           (let at = page_is page in
           ap (λ n. holder_in n (page % 256)) (held.rest (page / 256) from)
-          ∙ sym (ap (λ b. cond b holder (holder_at old page)) (behind_range span.first.0 (span.first.0 + span.pages) page (omega arith))))
+          ∙ sym (ap (λ b. cond b holder (holder_at old page)) (ends_before page span (omega arith))))
     ]
