@@ -1,9 +1,10 @@
 -- A span that is added: its first objects, and where it stands.
-use Rattle.std.proofs.Common.{◌≡◌, ℕ, zero, suc, ◌+◌, ◌-◌, ◌*◌, ◌^◌, ◌<◌, ◌≤◌, Bool, true, false, not, nat_le, min, List, [], ◌∷◌, ◌++◌, length, get_or, set, map, take, drop, replicate, count_by, position, Option, Some, cond, refl, sym, ◌∙◌, ap, inl, inr, arith, subst}
+use Rattle.std.proofs.Common.{◌≡◌, ℕ, zero, suc, ◌+◌, ◌-◌, ◌*◌, ◌^◌, ◌<◌, ◌≤◌, Bool, true, false, not, nat_le, min, List, [], ◌∷◌, ◌++◌, length, get_or, set, map, take, drop, replicate, count_by, position, Some, cond, refl, sym, ◌∙◌, ap, inl, inr, arith, subst}
 use Rattle.std.specs.Prelude.{AllPairs, All}
+use Rattle.std.specs.Option.{option_to_list}
 use Rattle.std.specs.List.{prefix_len, position_or_len, range_with_len, insert}
-use Rattle.std.proofs.lemmas.List.{length-append, length-replicate, append_assoc, append-nil}
-use Rattle.std.proofs.lemmas.Option.{same_Some, slice_get-get_or}
+use Rattle.std.proofs.lemmas.List.{length-append, length-replicate}
+use Rattle.std.proofs.lemmas.Option.{slice_get-get_or}
 use Rattle.std.proofs.lemmas.List.Elements.{All-append, All-cons, All-take, All-drop}
 use Rattle.std.proofs.lemmas.List.Edits.{length-insert, get_or-insert_below, get_or-insert_at, get_or-insert_above}
 use Rattle.std.proofs.lemmas.List.FromFn.{map-range_with_len_more, length-map-range_with_len, get_or-map-range_with_len}
@@ -15,8 +16,8 @@ use Rattle.std.proofs.lemmas.Bool.{cases_lt, cases_order, leb-true, leb-false}
 use Rattle.tc_units.specs.declared.units.Addr.{Addr}
 use Rattle.tc_units.specs.declared.spans.SpanRef.{SpanRef}
 use Rattle.tc_units.specs.declared.spans.ClassRow.{ClassRow}
-use Rattle.tc_units.specs.Bag.{Contents}
-use Rattle.span_list.specs.Span.{SpanState, address, first_byte, objects_in, all_free, least, taken_from, after_take, free_objects, taken_count, IsTaken}
+use Rattle.span_list.specs.Span.{SpanState, address, first_byte, objects_in, all_free, least, taken_from, after_take, free_objects, free_count, taken_count, IsTaken}
+use Rattle.central_free.specs.Runs.{span_after, given_by}
 use Rattle.span_list.proofs.BitFacts.{first_is}
 use Rattle.central_free.specs.Central.{opened, opening, with_span, IsApartFrom, IsBefore, IsOfRow, IsSound, free_in, IsTakenIn, AreDifferent}
 use Rattle.central_free.proofs.SoundFacts.{count-flat_map}
@@ -66,40 +67,20 @@ opened-none span size =
     let none : min 0 m ≡ 0 = min-eq_left (omega arith) in
     ap (λ i. state_of span size (front i (m - 0))) none ∙ ap (λ i. state_of span size (front 0 i)) all
 
--- what stands after `came` takes from a new span
-pub record IsOpening (span : SpanState) (before : Contents Addr) (now : SpanState) (out : Contents Addr) (came : ℕ) : Type 0 where
-  pub span_is : now ≡ opened span.span span.size came
-  pub items : out.items ≡ before.items ++ map (address span) (range_with_len 0 came)
-  pub spare : out.spare + came ≡ before.spare
-  pub moves : (test : Addr → Bool) → count_by test (free_objects now) + count_by test out.items ≡ count_by test (free_objects span) + count_by test before.items
-
 -- how many objects a new span has
 pub free-all : (n : ℕ) → count_by (λ b. b) (replicate n true) ≡ n
 free-all n = sum_by-replicate (λ (b : Bool). cond {A = ℕ} b 1 0) n true ∙ omega arith
 
-pub opening-gives : (span : SpanState) (before : Contents Addr) (now : SpanState) (out : Contents Addr) (came : ℕ) (result : Option Addr) → IsOpening span before now out came → came < objects_in span.span.pages span.size → result ≡ taken_from now (least now) → result ≡ Some (address span came)
-opening-gives span before now out came result so_far less gives =
-    gives ∙ ap (λ s. taken_from s (least s)) so_far.span_is ∙ ap (taken_from (opened span.span span.size came)) (least-opened span.span span.size came less)
-
-pub IsOpening-more : (span : SpanState) (before : Contents Addr) (now next : SpanState) (out more : Contents Addr) (came : ℕ) (a : Addr) → IsOpening span before now out came → came < objects_in span.span.pages span.size → Some a ≡ taken_from now (least now) → next ≡ after_take now (least now) → more.items ≡ out.items ++ a ∷ [] → more.spare + 1 ≡ out.spare → ((test : Addr → Bool) → count_by test (free_objects next) + count_by test (a ∷ []) ≡ count_by test (free_objects now)) → IsOpening span before next more (came + 1)
-IsOpening-more span before now next out more came a so_far less gives after items spare moves =
-    let is : a ≡ address span came = same_Some a (address span came) (opening-gives span before now out came (Some a) so_far less gives) in
-    record {
-      span_is = after ∙ ap (λ s. after_take s (least s)) so_far.span_is ∙ ap (after_take (opened span.span span.size came)) (least-opened span.span span.size came less) ∙ opened-more span.span span.size came less;
-      items = items ∙ ap (λ x. out.items ++ x ∷ []) is ∙ ap (λ xs. xs ++ address span came ∷ []) so_far.items ∙ append_assoc before.items (map (address span) (range_with_len 0 came)) (address span came ∷ []) ∙ ap (λ xs. before.items ++ xs) (sym (map-range_with_len_more (address span) 0 came came (omega arith)));
-      spare = omega (arith, so_far.spare);
-      moves = λ test. (let pushed : count_by test more.items ≡ count_by test out.items + count_by test (a ∷ []) = ap (count_by test) items ∙ sum_by-append (λ x. cond {A = ℕ} (test x) 1 0) out.items (a ∷ []) in
-          omega (arith, pushed, moves test, so_far.moves test));
-    }
-
-pub IsOpening-none : (span : SpanState) (before : Contents Addr) → span ≡ all_free span.span span.size → IsOpening span before span before 0
-IsOpening-none span before fresh =
-    record {
-      span_is = fresh ∙ sym (opened-none span.span span.size);
-      items = sym (append-nil before.items);
-      spare = omega arith;
-      moves = λ test. refl;
-    }
+-- several takes from a new span
+pub opened-run : (span : SpanRef) (size k : ℕ) → k ≤ objects_in span.pages size → (span_after k (all_free span size) ≡ opened span size k) × (given_by k (all_free span size) ≡ map (address (all_free span size)) (range_with_len 0 k))
+opened-run span size zero few = (sym (opened-none span size), refl)
+opened-run span size (suc k) few =
+    let before = opened-run span size k (omega arith) in
+    let next : k + 1 ≡ suc k = omega arith in
+    let last : least (opened span size k) ≡ Some k = least-opened span size k (omega arith) in (
+      ap (λ s. after_take s (least s)) before.0 ∙ ap (after_take (opened span size k)) last ∙ opened-more span size k (omega arith) ∙ ap (opened span size) next,
+      ap (λ s. given_by k (all_free span size) ++ option_to_list (taken_from s (least s))) before.0 ∙ ap (λ o. given_by k (all_free span size) ++ option_to_list (taken_from (opened span size k) o)) last ∙ ap (λ xs. xs ++ address (all_free span size) k ∷ []) before.1 ∙ sym (map-range_with_len_more (address (all_free span size)) 0 k k (omega arith)) ∙ ap (λ n. map (address (all_free span size)) (range_with_len 0 n)) next,
+    )
 
 -- the limit, cut to how many there are
 pub opened-min : (span : SpanRef) (size n : ℕ) → opened span size (min n (objects_in span.pages size)) ≡ opened span size n
@@ -111,6 +92,17 @@ opened-min span size n =
 
 pub length-opening : (span : SpanRef) (size n : ℕ) → length (opening span size n) ≡ min n (objects_in span.pages size)
 length-opening span size n = length-map-range_with_len (address (opened span size n)) 0 (min n (objects_in span.pages size))
+
+-- what a new span gives of n
+pub opened-all : (span : SpanRef) (size n came : ℕ) (s : SpanState) → s ≡ all_free span size → came ≡ min n (free_count s) → (came ≡ length (opening span size n)) × (span_after came s ≡ opened span size n) × (given_by came s ≡ opening span size n)
+opened-all span size n came s new count =
+    let m = objects_in span.pages size in
+    let all : came ≡ min n m = count ∙ ap (min n) (ap free_count new ∙ free-all m) in
+    let run = opened-run span size came (omega arith) in (
+      all ∙ sym (length-opening span size n),
+      ap (span_after came) new ∙ run.0 ∙ ap (opened span size) all ∙ opened-min span size n,
+      ap (given_by came) new ∙ run.1 ∙ ap (λ k. map (address (all_free span size)) (range_with_len 0 k)) all,
+    )
 
 -- a span of which some are taken is one of its row
 length-opened : (span : SpanRef) (size n : ℕ) → length (opened span size n).free ≡ objects_in span.pages size
@@ -230,16 +222,21 @@ opening-IsTaken span size n i less =
     let within : i < length (front (min n m) (m - n)) = omega (arith, length-front (min n m) (m - n)) in
     record { index = i; at = refl; taken = slice_get-get_or (front (min n m) (m - n)) i true within ∙ ap (λ v. Some v) (get_or-front (min n m) (m - n) i true less) }
 
+pub opening-is_taken : (span : SpanRef) (size n : ℕ) → All (IsTaken (opened span size n)) (opening span size n)
+opening-is_taken span size n = λ i d within.
+    (let s = opened span size n in
+    let count = min n (objects_in span.pages size) in
+    let less : i < count = omega (arith, length-opening span size n) in
+    let read : get_or (opening span size n) i d ≡ address s i = get_or-map-range_with_len (address s) 0 count i i d less (omega arith) in
+    let P : Addr → Type 0 = IsTaken s in
+    subst P (sym read) (opening-IsTaken span size n i less))
+
 pub opening-taken : (spans : List SpanState) (span : SpanRef) (size n : ℕ) → All (IsTakenIn (with_span (opened span size n) spans)) (opening span size n)
 opening-taken spans span size n = λ i d within.
     (let s = opened span size n in
-    let count = min n (objects_in span.pages size) in
     let k = prefix_len (λ t. nat_le (first_byte t.span) (first_byte s.span)) spans in
-    let less : i < count = omega (arith, length-opening span size n) in
     let within_spans : k ≤ length spans = prefix_len-le-length (λ t. nat_le (first_byte t.span) (first_byte s.span)) spans in
-    let read : get_or (opening span size n) i d ≡ address s i = get_or-map-range_with_len (address s) 0 count i i d less (omega arith) in
-    let P : Addr → Type 0 = IsTakenIn (with_span s spans) in
-    subst P (sym read) (k, s, omega (arith, length-insert spans k s within_spans), get_or-insert_at spans k s s within_spans, opening-IsTaken span size n i less))
+    (k, s, omega (arith, length-insert spans k s within_spans), get_or-insert_at spans k s s within_spans, opening-is_taken span size n i d within))
 
 pub opening-different : (span : SpanRef) (size n : ℕ) → 0 < size → AreDifferent (opening span size n)
 opening-different span size n some = λ i j d less within.

@@ -2,14 +2,15 @@
 use Rattle.std.proofs.Common.{◌≡◌, ℕ, zero, suc, ◌<◌, ◌≤◌, ◌⊎◌, true, false, ◌==◌, ◌&&◌, nat_lt, nat_le, List, [], ◌∷◌, length, get_or, set, map, MatchOption, Option, Some, None, refl, sym, ◌∙◌, ap, subst, inl, inr, arith}
 use Rattle.std.specs.Prelude.{AllPairs, All}
 use Rattle.std.specs.Option.{option_map}
-use Rattle.std.proofs.lemmas.List.{get_or-map, get_or_past}
+use Rattle.std.proofs.lemmas.List.{get_or-map}
 use Rattle.std.proofs.lemmas.List.Sums.{position_or_len_is}
 use Rattle.std.proofs.lemmas.Option.{none-some, same_Some}
 use Rattle.std.proofs.lemmas.Bool.{cases_Bool, cases_lt, cases_eq, cond-true, cond-false, or_left, or_right, or_from, and_from, and_left, ltb-true, lt-ltb, le-ltb, le-leb, eq-eqb, ne_eqb}
 use Rattle.tc_units.specs.declared.units.Addr.{Addr}
 use Rattle.span_list.specs.Span.{SpanState, free_count, taken_count, least, address, taken_from, after_take}
 use Rattle.span_list.proofs.SpanFacts.{count_none}
-use Rattle.central_free.specs.Central.{has_free, goes_before, preferred, chosen, place_at, taken_one, taken_one_from, weight, IsBestPlace, IsBefore}
+use Rattle.central_free.specs.Central.{has_free, goes_before, preferred, chosen, place_at, taken_one, taken_one_from, IsBefore}
+use Rattle.central_free.specs.Slots.{weight}
 
 -- the preferred one is the span or the best of the others
 preferred_cases : (s : SpanState) (o : Option SpanState) (c : SpanState) → preferred s o ≡ c → (s ≡ c) ⊎ (o ≡ Some c)
@@ -89,6 +90,11 @@ chosen_some (s ∷ others) (suc k) d within free none =
       | inr full ↦ chosen_some others k d (omega arith) free (sym (cond-false (has_free s) (Some (preferred s (chosen others))) (chosen others) full) ∙ none)
     ]
 
+-- a place has the first of the greatest weights
+abbrev pub IsBestPlace : List ℕ → ℕ → Type 0
+IsBestPlace weights place =
+    (0 < get_or weights place 0) × ((k : ℕ) → get_or weights k 0 ≤ get_or weights place 0) × ((k : ℕ) → k < place → get_or weights k 0 < get_or weights place 0)
+
 -- what a weight says
 weight-free : (s : SpanState) → has_free s ≡ true → weight s ≡ taken_count s
 weight-free s free =
@@ -122,7 +128,7 @@ behind_by_taken s t less =
     or_from (nat_lt (taken_count t) (taken_count s)) (taken_count s == taken_count t && nat_le s.span.first.0 t.span.first.0) (le-ltb (taken_count t) (taken_count s) (omega arith)) (and_left (taken_count s == taken_count t) (nat_le s.span.first.0 t.span.first.0) (ne_eqb (taken_count s) (taken_count t) (λ same. omega arith)))
 
 -- the first of the greatest weights, where spans stand in the order of first pages, is the choice
-pub GoesFirst-from_best : (spans : List SpanState) (k : ℕ) → k < length spans → AllPairs IsBefore spans → IsBestPlace (map weight spans) (Some k) → GoesFirst spans k
+pub GoesFirst-from_best : (spans : List SpanState) (k : ℕ) → k < length spans → AllPairs IsBefore spans → IsBestPlace (map weight spans) k → GoesFirst spans k
 GoesFirst-from_best spans k within apart best =
     let read : (j : ℕ) (d : SpanState) → j < length spans → get_or (map weight spans) j 0 ≡ weight (get_or spans j d) = λ j d less. get_or-map weight spans j d 0 less in
     let free : (d : SpanState) → has_free (get_or spans k d) ≡ true = λ d. has_free-weight (get_or spans k d) (omega (arith, best.0, read k d within)) in
@@ -134,14 +140,6 @@ GoesFirst-from_best spans k within apart best =
           let before : IsBefore (get_or spans k d) (get_or spans j d) = apart k j d more inside in
           before_by_taken (get_or spans k d) (get_or spans j d) (omega (arith, best.1 j, read j d inside, read k d within, weight-free (get_or spans j d) open_too, weight-free (get_or spans k d) (free d))) (omega arith);
     }
-
--- a place of a greatest weight is one of the list's
-pub best_within : (weights : List ℕ) (k : ℕ) → IsBestPlace weights (Some k) → k < length weights
-best_within weights k best =
-    elim (cases_lt k (length weights)) [
-      | inl less ↦ less
-      | inr past ↦ absurd (omega (arith, best.0, get_or_past weights k 0 past))
-    ]
 
 -- where a span stands, by its first page
 pub place_at-is : (spans : List SpanState) (k : ℕ) (d : SpanState) → k < length spans → AllPairs IsBefore spans → All (λ s. 0 < s.span.pages) spans → place_at (get_or spans k d).span.first.0 spans ≡ k
@@ -161,7 +159,7 @@ took_one A R also spans k s t result (Some i) is free gives after pick place =
     let what : option_map (λ a. (a, set spans k (after_take s (least s)))) (taken_from s (least s)) ≡ Some (address s i, set spans k (after_take s (Some i))) = ap (λ o. option_map (λ a. (a, set spans k (after_take s o))) (taken_from s o)) is in
     subst F (sym gives) (one ∙ where_is ∙ what ∙ ap (λ u. Some (address s i, set spans k u)) (sym after), also)
 
-pub taken_one-is : (A R : Type 0) → R → (spans : List SpanState) (k : ℕ) (s t : SpanState) (result : Option Addr) → AllPairs IsBefore spans → All (λ u. 0 < u.span.pages) spans → IsBestPlace (map weight spans) (Some k) → k < length spans → s ≡ get_or spans k s → result ≡ taken_from s (least s) → t ≡ after_take s (least s) → MatchOption result A (λ a. (taken_one spans ≡ Some (a, set spans k t)) × R)
+pub taken_one-is : (A R : Type 0) → R → (spans : List SpanState) (k : ℕ) (s t : SpanState) (result : Option Addr) → AllPairs IsBefore spans → All (λ u. 0 < u.span.pages) spans → IsBestPlace (map weight spans) k → k < length spans → s ≡ get_or spans k s → result ≡ taken_from s (least s) → t ≡ after_take s (least s) → MatchOption result A (λ a. (taken_one spans ≡ Some (a, set spans k t)) × R)
 taken_one-is A R also spans k s t result apart pages best within read gives after =
     let first : GoesFirst spans k = GoesFirst-from_best spans k within apart best in
     let free : 0 < free_count s = ltb-true 0 (free_count s) (ap has_free read ∙ first.free s) in

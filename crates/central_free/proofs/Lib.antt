@@ -1,9 +1,12 @@
-pub mod RankedFacts
+pub mod SlotFacts
 pub mod ChoiceFacts
 pub mod SoundFacts
+pub mod Differ
 pub mod TookFacts
+pub mod TakeRuns
 pub mod PutFacts
 pub mod AddFacts
 pub mod PutAllFacts
 pub mod RankFacts
 pub mod RankWrites
+pub mod RunFacts

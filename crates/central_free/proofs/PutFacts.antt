@@ -1,22 +1,26 @@
 -- An object that is put back: the span that holds it, and what becomes of the spans.
-use Rattle.std.proofs.Common.{◌≡◌, ◌≢◌, ℕ, suc, ◌+◌, ◌-◌, ◌*◌, ◌/◌, ◌<◌, ◌≤◌, Bool, true, false, not, ◌==◌, nat_lt, nat_le, List, [], ◌∷◌, ◌++◌, length, get_or, set, take, drop, replicate, count_by, Option, Some, None, IfSome, cond, refl, sym, ◌∙◌, ap, subst, inl, inr, arith}
-use Rattle.std.specs.List.{flat_map, prefix_len, position_or_len, slice_get, remove}
-use Rattle.std.proofs.lemmas.List.{get_or-set_same, get_or-set_other, length-set, get_or_default, drop-set-lt, take-set, append-nil}
+use Rattle.std.proofs.Common.{◌≡◌, ◌≢◌, ℕ, suc, ◌+◌, ◌-◌, ◌*◌, ◌/◌, ◌<◌, ◌≤◌, Bool, true, false, not, ◌==◌, nat_lt, nat_le, List, [], ◌∷◌, ◌++◌, length, get_or, set, take, drop, replicate, count_by, Option, Some, cond, refl, sym, ◌∙◌, ap, subst, inl, inr, arith}
+use Rattle.std.specs.Prelude.{All, Any}
+use Rattle.std.specs.List.{flat_map, position_or_len, slice_get, remove}
+use Rattle.std.proofs.lemmas.List.{get_or-set_same, get_or-set_other, length-set, get_or_default, length-map, drop-set-lt, take-set, append-nil}
 use Rattle.std.proofs.lemmas.List.Elements.{All-append, All-take, All-drop}
 use Rattle.std.proofs.lemmas.List.Edits.{length-remove, get_or-remove_below, get_or-remove_above}
 use Rattle.std.proofs.lemmas.List.Quantifiers.{all_pairs_remove}
-use Rattle.std.proofs.lemmas.List.Sums.{sum_by-cons, sum_by-remove, prefix_len_is, position_or_len_is}
-use Rattle.std.proofs.lemmas.Option.{slice_get-get_or, slice_get_within}
+use Rattle.std.proofs.lemmas.List.Sums.{sum_by-cons, sum_by-remove, position_or_len_is}
+use Rattle.std.proofs.lemmas.Option.{same_Some, slice_get-get_or, slice_get_within}
 use Rattle.std.proofs.lemmas.Nat.{mul-le}
 use Rattle.std.proofs.Math.Nat.{div-mul-le_self}
-use Rattle.std.proofs.lemmas.Bool.{cases_lt, cases_eq, cond-true, cond-false, and_from, and_right, lt-ltb, le-ltb, le-leb, lt-leb, eq-eqb, ne_eqb}
+use Rattle.std.proofs.lemmas.Bool.{cases_lt, cases_eq, cases_order, cond-true, cond-false, and_from, and_right, lt-ltb, le-ltb, le-leb, eq-eqb, ne_eqb}
 use Rattle.tc_units.specs.declared.units.Addr.{Addr}
 use Rattle.tc_units.specs.declared.spans.SpanRef.{SpanRef}
 use Rattle.tc_units.specs.declared.spans.ClassRow.{ClassRow}
 use Rattle.span_list.specs.Span.{SpanState, IsCut, IsTaken, first_byte, taken_count, after_put, free_objects, objects_of}
 use Rattle.span_list.proofs.SpanFacts.{put_counts}
-use Rattle.central_free.specs.Central.{Put, holds, put_at, put_one, IsTakenIn, IsBefore, IsOfRow, IsSound, free_in}
-use Rattle.central_free.proofs.SoundFacts.{IsCut-with_object, IsSound-set, count-flat_map, count-set}
+use Rattle.central_free.specs.Central.{Put, holds, put_at, put_one, IsTakenIn, IsApartFrom, IsBefore, IsOfRow, IsSound, free_in}
+use Rattle.central_free.specs.declared.ranking.Standing.{Standing}
+use Rattle.central_free.specs.Slots.{slot_at, span_at, spans_of, IsKept, IsLastBegun}
+use Rattle.central_free.proofs.SlotFacts.{StandsAt, stands_at, key_of_place, nobody}
+use Rattle.central_free.proofs.SoundFacts.{has_pages, IsCut-with_object, IsSound-set, count-flat_map, count-set}
 
 -- an object that is taken lies in its span's pages
 pub record IsInside (s : SpanState) (a : Addr) : Type 0 where
@@ -33,10 +37,9 @@ IsInside-taken s a cut taken =
     let at : a.0 ≡ first_byte s.span + i * s.size = ap (λ t. t.0) taken.at in
     record { low = omega arith; high = omega (arith, cut.some) }
 
--- where the span of a taken object stands, by either way to look for it
+-- where the span of a taken object stands
 pub record IsPlace (spans : List SpanState) (a : Addr) (k : ℕ) : Type 0 where
   pub within : k < length spans
-  pub begun : prefix_len (λ s. nat_le (first_byte s.span) a.0) spans ≡ k + 1
   pub held : position_or_len (holds a) spans ≡ k
   pub taken : (d : SpanState) → IsTaken (get_or spans k d) a
 
@@ -51,13 +54,6 @@ IsPlace-taken row spans a sound t =
     let pages : (get_or spans k x).span.pages ≡ x.span.pages = ap (λ s. s.span.pages) here in
     record {
       within = within;
-      begun = prefix_len_is (λ s. nat_le (first_byte s.span) a.0) spans (k + 1) x (omega arith) (λ j below.
-          le-leb (first_byte (get_or spans j x).span) a.0 (elim (cases_lt j k) [
-            | inl less ↦ (let before : IsBefore (get_or spans j x) (get_or spans k x) = sound.apart j k x less within in omega (arith, in_pages.low))
-            | inr above ↦ (let same : j ≡ k = omega arith in rw same (omega (arith, in_pages.low)))
-          ])) (λ more.
-          let before : IsBefore (get_or spans k x) (get_or spans (k + 1) x) = sound.apart k (k + 1) x (omega arith) more in
-          lt-leb (first_byte (get_or spans (k + 1) x).span) a.0 (omega (arith, in_pages.high)));
       held = position_or_len_is (holds a) spans k x (omega arith) (λ j less.
           let before : IsBefore (get_or spans j x) (get_or spans k x) = sound.apart j k x less within in
           and_right (nat_le (first_byte (get_or spans j x).span) a.0) (nat_lt a.0 (first_byte (get_or spans j x).span + (get_or spans j x).span.pages * 8192)) (le-ltb a.0 (first_byte (get_or spans j x).span + (get_or spans j x).span.pages * 8192) (omega (arith, in_pages.low)))) (λ _.
@@ -116,11 +112,44 @@ kept-set spans k s t b within read kept there =
       | inr other ↦ (there.0, there.1, omega (arith, there.2, length-set spans k t), get_or-set_other spans k there.0 t there.1 other ∙ there.3, there.4)
     ]
 
--- what was taken from a span is taken in the list with it
-pub given-set : (spans : List SpanState) (k : ℕ) (t : SpanState) (one : Option Addr) → k < length spans → IfSome one (IsTaken t) → IfSome one (IsTakenIn (set spans k t))
-given-set spans k t None within given = given
-given-set spans k t (Some a) within given =
-    (k, t, omega (arith, length-set spans k t), get_or-set_same spans k t t within, given)
+-- what is taken in a span now and wasn't before was taken in none of the spans
+pub fresh-set : (row : ClassRow) (spans : List SpanState) (j : ℕ) (s t : SpanState) (a : Addr) → IsSound (record { row = row; spans = spans }) → j < length spans → ((d : SpanState) → get_or spans j d ≡ s) → t.span ≡ s.span → IsCut t → IsTaken t a → (IsTaken s a → ⊥) → IsTakenIn spans a → ⊥
+fresh-set row spans j s t a sound within here same cut taken fresh there =
+    let i = there.0 in
+    let x = there.1 in
+    let P : SpanState → Type 0 = λ u. IsTaken u a in
+    let in_t : IsInside t a = IsInside-taken t a cut taken in
+    let in_x : IsInside x a = (let Q : SpanState → Type 0 = IsCut in IsInside-taken x a (subst Q there.3 (sound.of_row i x there.2).cut) there.4) in
+    let first_x : (get_or spans i x).span ≡ x.span = ap (λ u. u.span) there.3 in
+    let first_t : (get_or spans j x).span ≡ t.span = ap (λ u. u.span) (here x) ∙ sym same in
+    elim (cases_order i j) [
+      | inl equal ↦ fresh (subst P (sym there.3 ∙ ap (λ k. get_or spans k x) equal ∙ here x) there.4)
+      | inr other ↦
+          elim other [
+            | inl less ↦
+                (let before : IsBefore (get_or spans i x) (get_or spans j x) = sound.apart i j x less within in
+                omega (arith, before, in_x.high, in_t.low, ap (λ u. u.first.0) first_x, ap (λ u. u.pages) first_x, ap (λ u. u.first.0) first_t))
+            | inr more ↦
+                (let before : IsBefore (get_or spans j x) (get_or spans i x) = sound.apart j i x more there.2 in
+                omega (arith, before, in_t.high, in_x.low, ap (λ u. u.first.0) first_x, ap (λ u. u.first.0) first_t, ap (λ u. u.pages) first_t))
+          ]
+    ]
+
+-- what is taken in a span that has no page of the others is taken in none of them
+pub fresh-apart : (row : ClassRow) (spans : List SpanState) (s : SpanState) (a : Addr) → IsSound (record { row = row; spans = spans }) → IsCut s → IsTaken s a → All (IsApartFrom s.span) spans → IsTakenIn spans a → ⊥
+fresh-apart row spans s a sound cut taken apart there =
+    let x = there.1 in
+    let in_s : IsInside s a = IsInside-taken s a cut taken in
+    let in_x : IsInside x a = (let Q : SpanState → Type 0 = IsCut in IsInside-taken x a (subst Q there.3 (sound.of_row there.0 x there.2).cut) there.4) in
+    let same : (get_or spans there.0 x).span ≡ x.span = ap (λ u. u.span) there.3 in
+    elim (apart there.0 x there.2) [
+      | inl before ↦ omega (arith, before, in_s.high, in_x.low, ap (λ u. u.first.0) same)
+      | inr behind ↦ omega (arith, behind, in_x.high, in_s.low, ap (λ u. u.first.0) same, ap (λ u. u.pages) same)
+    ]
+
+-- what is taken in a span is taken in the list with it
+pub taken-set : (spans : List SpanState) (j : ℕ) (t : SpanState) (a : Addr) → j < length spans → IsTaken t a → IsTakenIn (set spans j t) a
+taken-set spans j t a within taken = (j, t, omega (arith, length-set spans j t), get_or-set_same spans j t t within, taken)
 
 pub kept-remove : (spans : List SpanState) (k : ℕ) (s t : SpanState) (b : Addr) → k < length spans → s ≡ get_or spans k s → (IsTaken s b → IsTaken t b) → taken_count t ≡ 0 → IsTakenIn spans b → IsTakenIn (remove spans k) b
 kept-remove spans k s t b within read kept none there =
@@ -167,16 +196,61 @@ count_leaves test row spans k s t a within read of_row after none moved =
     let old : count_by test (free_objects s) ≡ count_by test (free_objects (get_or spans k s)) = ap (λ u. count_by test (free_objects u)) read in
     omega (arith, count-flat_map test free_objects (remove spans k), count-flat_map test free_objects spans, sum_by-remove (λ u. count_by test (free_objects u)) spans k s within, old, left, gone, moved)
 
--- the place that the code finds
-pub place_found : (row : ClassRow) (spans now : List SpanState) (a : Addr) (begun : ℕ) → IsSound (record { row = row; spans = spans }) → spans ≡ now → IsTakenIn now a → begun ≡ prefix_len (λ s. nat_le (first_byte s.span) a.0) now → (begun ≡ begun - 1 + 1) × IsPlace spans a (begun - 1)
-place_found row spans now a begun sound same there count =
+-- some span begins by a taken object
+pub some_begun : (row : ClassRow) (slots : List (Option SpanState)) (entries : List (ℕ × ℕ)) (ts : List Standing) (now : List SpanState) (a : Addr) → IsSound (record { row = row; spans = spans_of slots entries }) → IsKept slots entries ts → spans_of slots entries ≡ now → IsTakenIn now a → Any (λ (e : ℕ × ℕ). e.0 ≤ a.0) entries
+some_begun row slots entries ts now a sound kept same there =
+    let spans = spans_of slots entries in
+    let long : length spans ≡ length entries = length-map entries (λ (x : ℕ × ℕ). span_at slots x.1) in
     let P : List SpanState → Type 0 = λ xs. IsTakenIn xs a in
-    let here : IsTakenIn spans a = subst P (sym same) there in
-    let place : IsPlace spans a here.0 = IsPlace-taken row spans a sound here in
-    let begins : begun ≡ here.0 + 1 = count ∙ ap (prefix_len (λ s. nat_le (first_byte s.span) a.0)) (sym same) ∙ place.begun in
-    let is : here.0 ≡ begun - 1 = omega arith in
-    let Q : ℕ → Type 0 = IsPlace spans a in
-    (omega arith, subst Q is place)
+    let t : IsTakenIn spans a = subst P (sym same) there in
+    let e = get_or entries t.0 nobody in
+    let in_pages : IsInside t.1 a = (let Q : SpanState → Type 0 = IsCut in IsInside-taken t.1 a (subst Q t.3 (sound.of_row t.0 t.1 t.2).cut) t.4) in
+    let key : e.0 ≡ first_byte t.1.span = key_of_place slots entries ts t.0 nobody t.1 kept (omega (arith, t.2)) ∙ ap (λ s. first_byte s.span) t.3 in
+    (t.0, e, omega (arith, t.2), get_or_default entries t.0 e nobody (omega (arith, t.2)), omega (arith, in_pages.low))
+
+-- and the last one that does holds it
+pub record IsFound (slots : List (Option SpanState)) (entries : List (ℕ × ℕ)) (a : Addr) (slot : ℕ) (s : SpanState) : Type 0 where
+  pub at : ℕ
+  pub stands : StandsAt slots entries slot s at
+  pub place : IsPlace (spans_of slots entries) a at
+  pub taken : IsTaken s a
+
+pub slot_found : (row : ClassRow) (slots : List (Option SpanState)) (entries : List (ℕ × ℕ)) (ts : List Standing) (now : List SpanState) (a : Addr) (slot : ℕ) (s : SpanState) → IsSound (record { row = row; spans = spans_of slots entries }) → IsKept slots entries ts → spans_of slots entries ≡ now → IsTakenIn now a → IsLastBegun entries a.0 slot → slot_at slots slot ≡ Some s → IsFound slots entries a slot s
+slot_found row slots entries ts now a slot s sound kept same there last has =
+    let spans = spans_of slots entries in
+    let long : length spans ≡ length entries = length-map entries (λ (x : ℕ × ℕ). span_at slots x.1) in
+    let P : List SpanState → Type 0 = λ xs. IsTakenIn xs a in
+    let t : IsTakenIn spans a = subst P (sym same) there in
+    let x = t.1 in
+    let in_pages : IsInside x a = (let Q : SpanState → Type 0 = IsCut in IsInside-taken x a (subst Q t.3 (sound.of_row t.0 x t.2).cut) t.4) in
+    let i = last.0 in
+    let key : (m : ℕ) (d : ℕ × ℕ) → m < length entries → (get_or entries m d).0 ≡ first_byte (get_or spans m x).span = λ m d less. key_of_place slots entries ts m d x kept less in
+    let mine : (get_or entries i last.1).0 ≡ last.1.0 = ap (λ e. e.0) last.3 in
+    let first : first_byte (get_or spans t.0 x).span ≡ first_byte x.span = ap (λ s. first_byte s.span) t.3 in
+    let pages : (get_or spans t.0 x).span.pages ≡ x.span.pages = ap (λ s. s.span.pages) t.3 in
+    let is : t.0 ≡ i = (
+    elim (cases_order t.0 i) [
+      | inl equal ↦ equal
+      | inr other ↦
+          elim other [
+            | inl less ↦
+                (let before : IsBefore (get_or spans t.0 x) (get_or spans i x) = sound.apart t.0 i x less (omega (arith, last.2)) in
+                absurd (omega (arith, before, key i last.1 last.2, mine, last.4.1, in_pages.high, first, pages)))
+            | inr more ↦
+                (let before : IsBefore (get_or spans i x) (get_or spans t.0 x) = sound.apart i t.0 x more t.2 in
+                let some : 0 < (get_or spans i x).span.pages = has_pages (record { row = row; spans = spans }) sound i x (omega (arith, last.2)) in
+                let there_key : (get_or entries t.0 last.1).0 ≡ first_byte (get_or spans t.0 x).span = key t.0 last.1 (omega (arith, t.2)) in
+                let below : (get_or entries t.0 last.1).0 ≤ last.1.0 = last.4.2 t.0 last.1 (omega (arith, t.2)) (omega (arith, there_key, first, in_pages.low)) in
+                absurd (omega (arith, before, some, there_key, below, key i last.1 last.2, mine)))
+          ]
+    ]) in
+    let R : ℕ → Type 0 = IsPlace spans a in
+    let place : IsPlace spans a i = subst R is (IsPlace-taken row spans a sound t) in
+    let here : StandsAt slots entries slot (span_at slots slot) i = stands_at row slots entries ts slot i last.1 sound kept last.2 (ap (λ e. e.1) last.3 ∙ last.4.0) in
+    let S : SpanState → Type 0 = λ u. StandsAt slots entries slot u i in
+    let stands : StandsAt slots entries slot s i = subst S (same_Some (span_at slots slot) s (sym here.has ∙ has)) here in
+    let T : SpanState → Type 0 = λ u. IsTaken u a in
+    record { at = i; stands = stands; place = place; taken = subst T (stands.span s) (place.taken s) }
 
 -- all that is said of one put
 pub record IsPutOne (row : ClassRow) (spans : List SpanState) (a : Addr) (left : List SpanState) (gone : List SpanRef) : Type 0 where

@@ -1,15 +1,15 @@
--- A tournament: the root has the first of the greatest weights, and a write changes only what stands above it.
+-- A tournament: the root has the best standing, and a write changes only what stands above it.
 use Rattle.std.proofs.Common.{◌≡◌, ℕ, zero, suc, ◌+◌, ◌-◌, ◌*◌, ◌/◌, ◌<◌, ◌≤◌, ◌⊎◌, true, false, ◌==◌, ◌&&◌, nat_lt, List, length, get_or, Some, None, refl, sym, ◌∙◌, ap, subst, inl, inr, arith}
 use Rattle.std.proofs.lemmas.List.{get_or_past}
 use Rattle.std.proofs.lemmas.List.FromFn.{length-map-range_with_len, get_or-map-range_with_len}
 use Rattle.std.proofs.lemmas.Bool.{cases_lt, cases_eq, cases_Bool, cond-true, cond-false, or_cases, or_parts, and_parts, and_cases, ltb-true, ltb-false, eqb-true, eqb-false}
 use Rattle.central_free.specs.declared.ranking.Rank.{Rank}
-use Rattle.central_free.specs.Central.{IsBestPlace}
-use Rattle.central_free.specs.Ranking.{goes_behind, better, node_at, weights_of, HasLeaves, IsJoined}
+use Rattle.central_free.specs.declared.ranking.Standing.{Standing}
+use Rattle.central_free.specs.Ranking.{goes_behind, better, no_standing, node_at, standings_of, HasLeaves, IsJoined, IsAsGood, IsBestSlot}
 
 -- one rank is as good as another, or better
 abbrev Beats : Rank → Rank → Type 0
-Beats a b = (b.weight < a.weight) ⊎ ((a.weight ≡ b.weight) × (a.place ≤ b.place))
+Beats a b = IsAsGood a.standing b.standing
 
 Beats-self : (a : Rank) → Beats a a
 Beats-self a = inr (refl, omega arith)
@@ -22,25 +22,25 @@ Beats-along a b c first second =
     ]
 
 -- where the second goes behind it is as good, and else the first is
-Beats-behind : (a b : Rank) → goes_behind a b ≡ true → Beats b a
-Beats-behind a b behind =
-    elim (or_cases (nat_lt a.weight b.weight) (a.weight == b.weight && nat_lt b.place a.place) behind) [
+good_behind : (a b : Standing) → goes_behind a b ≡ true → IsAsGood b a
+good_behind a b behind =
+    elim (or_cases (nat_lt a.weight b.weight) (a.weight == b.weight && nat_lt b.first.0 a.first.0) behind) [
       | inl more ↦ inl (ltb-true a.weight b.weight more)
       | inr tie ↦
-          (let parts = and_parts (a.weight == b.weight) (nat_lt b.place a.place) tie in
-          let low : b.place < a.place = ltb-true b.place a.place parts.1 in
+          (let parts = and_parts (a.weight == b.weight) (nat_lt b.first.0 a.first.0) tie in
+          let low : b.first.0 < a.first.0 = ltb-true b.first.0 a.first.0 parts.1 in
           inr (sym (eqb-true a.weight b.weight parts.0), omega arith))
     ]
 
-Beats-front : (a b : Rank) → goes_behind a b ≡ false → Beats a b
-Beats-front a b front =
-    (let parts = or_parts (nat_lt a.weight b.weight) (a.weight == b.weight && nat_lt b.place a.place) front in
+good_front : (a b : Standing) → goes_behind a b ≡ false → IsAsGood a b
+good_front a b front =
+    (let parts = or_parts (nat_lt a.weight b.weight) (a.weight == b.weight && nat_lt b.first.0 a.first.0) front in
     let most : b.weight ≤ a.weight = ltb-false a.weight b.weight parts.0 in
     elim (cases_eq a.weight b.weight) [
       | inl same ↦
-          elim (and_cases (a.weight == b.weight) (nat_lt b.place a.place) parts.1) [
+          elim (and_cases (a.weight == b.weight) (nat_lt b.first.0 a.first.0) parts.1) [
             | inl differ ↦ absurd (eqb-false a.weight b.weight differ same)
-            | inr low ↦ inr (same, ltb-false b.place a.place low)
+            | inr low ↦ inr (same, ltb-false b.first.0 a.first.0 low)
           ]
       | inr differ ↦ inl (omega arith)
     ])
@@ -52,25 +52,25 @@ record Best (a b c : Rank) : Type 0 where
 
 better-best : (a b : Rank) → Best a b (better a b)
 better-best a b =
-    elim (cases_Bool (goes_behind a b)) [
+    elim (cases_Bool (goes_behind a.standing b.standing)) [
       | inl behind ↦
           (let P : Rank → Type 0 = Best a b in
-          subst P (sym (cond-true (goes_behind a b) b a behind)) (record { first = Beats-behind a b behind; second = Beats-self b; one = inr refl }))
+          subst P (sym (cond-true (goes_behind a.standing b.standing) b a behind)) (record { first = good_behind a.standing b.standing behind; second = Beats-self b; one = inr refl }))
       | inr front ↦
           (let P : Rank → Type 0 = Best a b in
-          subst P (sym (cond-false (goes_behind a b) b a front)) (record { first = Beats-self a; second = Beats-front a b front; one = inl refl }))
+          subst P (sym (cond-false (goes_behind a.standing b.standing) b a front)) (record { first = Beats-self a; second = good_front a.standing b.standing front; one = inl refl }))
     ]
 
 -- the root is as good as each node
-root_beats : (places : ℕ) (nodes : List Rank) → IsJoined places nodes → (fuel i : ℕ) → 0 < i → i < 2 * places → i ≤ fuel → Beats (node_at nodes 1) (node_at nodes i)
-root_beats places nodes joined zero i some within enough = absurd (omega arith)
-root_beats places nodes joined (suc fuel) i some within enough =
+root_beats : (slots : ℕ) (nodes : List Rank) → IsJoined slots nodes → (fuel i : ℕ) → 0 < i → i < 2 * slots → i ≤ fuel → Beats (node_at nodes 1) (node_at nodes i)
+root_beats slots nodes joined zero i some within enough = absurd (omega arith)
+root_beats slots nodes joined (suc fuel) i some within enough =
     elim (cases_eq i 1) [
       | inl one ↦ (let P : ℕ → Type 0 = λ j. Beats (node_at nodes 1) (node_at nodes j) in subst P (sym one) (Beats-self (node_at nodes 1)))
       | inr more ↦
           (let p = i / 2 in
           let join : node_at nodes p ≡ better (node_at nodes (2 * p)) (node_at nodes (2 * p + 1)) = joined p (omega arith) (omega arith) in
-          let above : Beats (node_at nodes 1) (node_at nodes p) = root_beats places nodes joined fuel p (omega arith) (omega arith) (omega arith) in
+          let above : Beats (node_at nodes 1) (node_at nodes p) = root_beats slots nodes joined fuel p (omega arith) (omega arith) (omega arith) in
           let best : Best (node_at nodes (2 * p)) (node_at nodes (2 * p + 1)) (node_at nodes p) = (let P : Rank → Type 0 = Best (node_at nodes (2 * p)) (node_at nodes (2 * p + 1)) in subst P (sym join) (better-best (node_at nodes (2 * p)) (node_at nodes (2 * p + 1)))) in
           let Q : ℕ → Type 0 = λ j. Beats (node_at nodes 1) (node_at nodes j) in
           elim (cases_eq i (2 * p)) [
@@ -80,64 +80,63 @@ root_beats places nodes joined (suc fuel) i some within enough =
     ]
 
 -- each node is one of the leaves
-record IsLeaf (places : ℕ) (nodes : List Rank) (r : Rank) : Type 0 where
+record IsLeaf (slots : ℕ) (nodes : List Rank) (r : Rank) : Type 0 where
   at : ℕ
-  within : at < places
-  is : r ≡ node_at nodes (places + at)
+  within : at < slots
+  is : r ≡ node_at nodes (slots + at)
 
-node_leaf : (places : ℕ) (nodes : List Rank) → IsJoined places nodes → (fuel i : ℕ) → 0 < i → i < 2 * places → 2 * places ≤ i + fuel → IsLeaf places nodes (node_at nodes i)
-node_leaf places nodes joined zero i some within enough = absurd (omega arith)
-node_leaf places nodes joined (suc fuel) i some within enough =
-    elim (cases_lt i places) [
+node_leaf : (slots : ℕ) (nodes : List Rank) → IsJoined slots nodes → (fuel i : ℕ) → 0 < i → i < 2 * slots → 2 * slots ≤ i + fuel → IsLeaf slots nodes (node_at nodes i)
+node_leaf slots nodes joined zero i some within enough = absurd (omega arith)
+node_leaf slots nodes joined (suc fuel) i some within enough =
+    elim (cases_lt i slots) [
       | inl inner ↦
           (let join : node_at nodes i ≡ better (node_at nodes (2 * i)) (node_at nodes (2 * i + 1)) = joined i some inner in
-          let P : Rank → Type 0 = IsLeaf places nodes in
+          let P : Rank → Type 0 = IsLeaf slots nodes in
           elim (better-best (node_at nodes (2 * i)) (node_at nodes (2 * i + 1))).one [
-            | inl left ↦ subst P (sym (join ∙ left)) (node_leaf places nodes joined fuel (2 * i) (omega arith) (omega arith) (omega arith))
-            | inr right ↦ subst P (sym (join ∙ right)) (node_leaf places nodes joined fuel (2 * i + 1) (omega arith) (omega arith) (omega arith))
+            | inl left ↦ subst P (sym (join ∙ left)) (node_leaf slots nodes joined fuel (2 * i) (omega arith) (omega arith) (omega arith))
+            | inr right ↦ subst P (sym (join ∙ right)) (node_leaf slots nodes joined fuel (2 * i + 1) (omega arith) (omega arith) (omega arith))
           ])
-      | inr leaf ↦ record { at = i - places; within = omega arith; is = ap (node_at nodes) (omega arith) }
+      | inr leaf ↦ record { at = i - slots; within = omega arith; is = ap (node_at nodes) (omega arith) }
     ]
 
-pub length-weights_of : (places : ℕ) (nodes : List Rank) → length (weights_of places nodes) ≡ places
-length-weights_of places nodes = length-map-range_with_len (λ k. (node_at nodes (places + k)).weight) 0 places
+pub length-standings_of : (slots : ℕ) (nodes : List Rank) → length (standings_of slots nodes) ≡ slots
+length-standings_of slots nodes = length-map-range_with_len (λ k. (node_at nodes (slots + k)).standing) 0 slots
 
-pub get_or-weights_of : (places : ℕ) (nodes : List Rank) (k : ℕ) → k < places → get_or (weights_of places nodes) k 0 ≡ (node_at nodes (places + k)).weight
-get_or-weights_of places nodes k less = get_or-map-range_with_len (λ j. (node_at nodes (places + j)).weight) 0 places k k 0 less (omega arith)
+pub get_or-standings_of : (slots : ℕ) (nodes : List Rank) (k : ℕ) → k < slots → get_or (standings_of slots nodes) k no_standing ≡ (node_at nodes (slots + k)).standing
+get_or-standings_of slots nodes k less = get_or-map-range_with_len (λ j. (node_at nodes (slots + j)).standing) 0 slots k k no_standing less (omega arith)
 
--- the root has the first of the greatest weights
-root_best : (places : ℕ) (nodes : List Rank) → 0 < places → HasLeaves places nodes → IsJoined places nodes → (k : ℕ) → k < places → Beats (node_at nodes 1) (node_at nodes (places + k))
-root_best places nodes some leaves joined k less = root_beats places nodes joined (places + k) (places + k) (omega arith) (omega arith) (omega arith)
+-- the root has the best standing
+root_best : (slots : ℕ) (nodes : List Rank) → 0 < slots → IsJoined slots nodes → (k : ℕ) → k < slots → IsAsGood (node_at nodes 1).standing (get_or (standings_of slots nodes) k no_standing)
+root_best slots nodes some joined k less =
+    let P : Standing → Type 0 = IsAsGood (node_at nodes 1).standing in
+    subst P (sym (get_or-standings_of slots nodes k less)) (root_beats slots nodes joined (slots + k) (slots + k) (omega arith) (omega arith) (omega arith))
 
-pub best_none : (places : ℕ) (nodes : List Rank) → HasLeaves places nodes → IsJoined places nodes → (0 < places → (node_at nodes 1).weight ≡ 0) → IsBestPlace (weights_of places nodes) None
-best_none places nodes leaves joined no_weight = λ k.
-    (elim (cases_lt k places) [
+past_end : (slots : ℕ) (nodes : List Rank) (k : ℕ) → slots ≤ k → (get_or (standings_of slots nodes) k no_standing).weight ≡ 0
+past_end slots nodes k past =
+    ap (λ t. t.weight) (get_or_past (standings_of slots nodes) k no_standing (omega (arith, length-standings_of slots nodes)))
+
+pub best_none : (slots : ℕ) (nodes : List Rank) → IsJoined slots nodes → (0 < slots → (node_at nodes 1).standing.weight ≡ 0) → IsBestSlot (standings_of slots nodes) None
+best_none slots nodes joined no_weight = λ k.
+    (elim (cases_lt k slots) [
       | inl less ↦
-          elim (root_best places nodes (omega arith) leaves joined k less) [
+          elim (root_best slots nodes (omega arith) joined k less) [
             | inl more ↦ absurd (omega (arith, no_weight (omega arith)))
-            | inr same ↦ omega (arith, no_weight (omega arith), same.0, get_or-weights_of places nodes k less)
+            | inr same ↦ sym same.0 ∙ no_weight (omega arith)
           ]
-      | inr past ↦ get_or_past (weights_of places nodes) k 0 (omega (arith, length-weights_of places nodes))
+      | inr past ↦ past_end slots nodes k past
     ])
 
-pub best_some : (places : ℕ) (nodes : List Rank) → HasLeaves places nodes → IsJoined places nodes → 0 < places → 0 < (node_at nodes 1).weight → IsBestPlace (weights_of places nodes) (Some (node_at nodes 1).place)
-best_some places nodes leaves joined some heavy =
+pub best_some : (slots : ℕ) (nodes : List Rank) → HasLeaves slots nodes → IsJoined slots nodes → 0 < slots → 0 < (node_at nodes 1).standing.weight → IsBestSlot (standings_of slots nodes) (Some (node_at nodes 1).slot)
+best_some slots nodes leaves joined some heavy =
     let root = node_at nodes 1 in
-    let leaf : IsLeaf places nodes root = node_leaf places nodes joined (2 * places) 1 (omega arith) (omega arith) (omega arith) in
-    let place : root.place ≡ leaf.at = ap (λ r. r.place) leaf.is ∙ leaves leaf.at leaf.within in
-    let weight : get_or (weights_of places nodes) root.place 0 ≡ root.weight = ap (λ j. get_or (weights_of places nodes) j 0) place ∙ get_or-weights_of places nodes leaf.at leaf.within ∙ ap (λ r. r.weight) (sym leaf.is) in (
-      omega (arith, weight),
-      λ k. elim (cases_lt k places) [
-        | inl less ↦
-            elim (root_best places nodes some leaves joined k less) [
-              | inl more ↦ omega (arith, weight, get_or-weights_of places nodes k less)
-              | inr same ↦ omega (arith, weight, same.0, get_or-weights_of places nodes k less)
-            ]
-        | inr past ↦ omega (arith, get_or_past (weights_of places nodes) k 0 (omega (arith, length-weights_of places nodes)))
+    let leaf : IsLeaf slots nodes root = node_leaf slots nodes joined (2 * slots) 1 (omega arith) (omega arith) (omega arith) in
+    let slot : root.slot ≡ leaf.at = ap (λ r. r.slot) leaf.is ∙ leaves leaf.at leaf.within in
+    let here : get_or (standings_of slots nodes) root.slot no_standing ≡ root.standing = ap (λ j. get_or (standings_of slots nodes) j no_standing) slot ∙ get_or-standings_of slots nodes leaf.at leaf.within ∙ ap (λ r. r.standing) (sym leaf.is) in
+    let P : Standing → Type 0 = λ t. (0 < t.weight) × ((k : ℕ) → IsAsGood t (get_or (standings_of slots nodes) k no_standing)) in
+    subst P (sym here) (
+      heavy,
+      λ k. elim (cases_lt k slots) [
+        | inl less ↦ root_best slots nodes some joined k less
+        | inr past ↦ inl (omega (arith, past_end slots nodes k past))
       ],
-      λ k early. (let less : k < places = omega (arith, place, leaf.within) in
-          elim (root_best places nodes some leaves joined k less) [
-            | inl more ↦ omega (arith, weight, get_or-weights_of places nodes k less)
-            | inr same ↦ absurd (omega (arith, same.1, leaves k less))
-          ]),
     )

@@ -1,48 +1,49 @@
 -- Writes to the nodes of a tournament, and what they leave as it was.
 use Rattle.std.proofs.Common.{◌≡◌, ◌≢◌, ℕ, ◌+◌, ◌-◌, ◌*◌, ◌/◌, ◌<◌, ◌≤◌, List, ◌++◌, length, get_or, set, take, drop, sym, ◌∙◌, ap, subst, inl, inr, arith}
-use Rattle.std.proofs.lemmas.List.{get_or-set_same, get_or-set_other, length-set, get_or_past, drop_all, take_all, append-nil, length-take}
+use Rattle.std.proofs.lemmas.List.{get_or-set_same, get_or-set_other, length-set, get_or_past, get_or-drop, length-drop, drop_all, take_all, append-nil, length-take}
 use Rattle.std.proofs.lemmas.List.FromFn.{fill_by_all}
 use Rattle.std.proofs.lemmas.Bool.{cases_lt, cases_eq}
 use Rattle.central_free.specs.declared.ranking.Rank.{Rank}
-use Rattle.central_free.specs.Ranking.{better, no_rank, node_at, weights_of, HasLeaves, JoinsAt, IsJoined, IsJoinedBut}
-use Rattle.central_free.proofs.RankFacts.{length-weights_of, get_or-weights_of}
+use Rattle.central_free.specs.declared.ranking.Standing.{Standing}
+use Rattle.central_free.specs.Ranking.{better, no_rank, no_standing, node_at, standings_of, HasLeaves, JoinsAt, IsJoined, IsJoinedBut}
+use Rattle.central_free.proofs.RankFacts.{length-standings_of, get_or-standings_of}
 
-abbrev pub rank : ℕ → ℕ → Rank
-rank weight place = record { weight = weight; place = place }
+abbrev pub rank : Standing → ℕ → Rank
+rank standing slot = record { standing = standing; slot = slot }
 
--- the first i leaves have these weights
-abbrev pub HasWritten : ℕ → List Rank → List ℕ → ℕ → Type 0
-HasWritten places nodes weights i = (k : ℕ) → k < i → node_at nodes (places + k) ≡ rank (get_or weights k 0) k
+-- the first i leaves have the standings of these ranks
+abbrev pub HasWritten : ℕ → List Rank → List Rank → ℕ → Type 0
+HasWritten slots nodes old i = (k : ℕ) → k < i → node_at nodes (slots + k) ≡ rank (node_at old k).standing k
 
-pub HasWritten-more : (places : ℕ) (nodes : List Rank) (weights : List ℕ) (i w : ℕ) → length nodes ≡ 2 * places → i < places → w ≡ get_or weights i 0 → HasWritten places nodes weights i → HasWritten places (set nodes (places + i) (rank w i)) weights (i + 1)
-HasWritten-more places nodes weights i w size less is so_far = λ k below.
+pub HasWritten-more : (slots : ℕ) (nodes old : List Rank) (i : ℕ) (t : Standing) → length nodes ≡ 2 * slots → i < slots → t ≡ (node_at old i).standing → HasWritten slots nodes old i → HasWritten slots (set nodes (slots + i) (rank t i)) old (i + 1)
+HasWritten-more slots nodes old i t size less is so_far = λ k below.
     (elim (cases_eq k i) [
       | inl here ↦
-          (let P : ℕ → Type 0 = λ j. node_at (set nodes (places + i) (rank w i)) (places + j) ≡ rank (get_or weights j 0) j in
-          subst P (sym here) (get_or-set_same nodes (places + i) (rank w i) no_rank (omega arith) ∙ ap (λ v. rank v i) is))
-      | inr other ↦ get_or-set_other nodes (places + i) (places + k) (rank w i) no_rank (λ same. other (omega arith)) ∙ so_far k (omega arith)
+          (let P : ℕ → Type 0 = λ j. node_at (set nodes (slots + i) (rank t i)) (slots + j) ≡ rank (node_at old j).standing j in
+          subst P (sym here) (get_or-set_same nodes (slots + i) (rank t i) no_rank (omega arith) ∙ ap (λ v. rank v i) is))
+      | inr other ↦ get_or-set_other nodes (slots + i) (slots + k) (rank t i) no_rank (λ same. other (omega arith)) ∙ so_far k (omega arith)
     ])
 
-pub HasLeaves-written : (places : ℕ) (nodes : List Rank) (weights : List ℕ) (i : ℕ) → places ≤ i → HasWritten places nodes weights i → HasLeaves places nodes
-HasLeaves-written places nodes weights i all written = λ k less. ap (λ r. r.place) (written k (omega arith))
+pub HasLeaves-written : (slots : ℕ) (nodes old : List Rank) (i : ℕ) → slots ≤ i → HasWritten slots nodes old i → HasLeaves slots nodes
+HasLeaves-written slots nodes old i all written = λ k less. ap (λ r. r.slot) (written k (omega arith))
 
-pub weights-written : (places : ℕ) (nodes : List Rank) (weights : List ℕ) (i : ℕ) → places ≤ i → HasWritten places nodes weights i → (k : ℕ) → k < places → get_or (weights_of places nodes) k 0 ≡ get_or weights k 0
-weights-written places nodes weights i all written k less =
-    get_or-weights_of places nodes k less ∙ ap (λ r. r.weight) (written k (omega arith))
+pub standings-written : (slots : ℕ) (nodes old : List Rank) (i : ℕ) → slots ≤ i → HasWritten slots nodes old i → (k : ℕ) → k < slots → get_or (standings_of slots nodes) k no_standing ≡ (node_at old k).standing
+standings-written slots nodes old i all written k less =
+    get_or-standings_of slots nodes k less ∙ ap (λ r. r.standing) (written k (omega arith))
 
 -- the leaves are as they were
 abbrev pub HasSameLeaves : ℕ → List Rank → List Rank → Type 0
-HasSameLeaves places old new = (k : ℕ) → k < places → node_at new (places + k) ≡ node_at old (places + k)
+HasSameLeaves slots old new = (k : ℕ) → k < slots → node_at new (slots + k) ≡ node_at old (slots + k)
 
-pub HasSameLeaves-more : (places : ℕ) (old nodes : List Rank) (m : ℕ) (r : Rank) → m < places → HasSameLeaves places old nodes → HasSameLeaves places old (set nodes m r)
-HasSameLeaves-more places old nodes m r inner same = λ k less. get_or-set_other nodes m (places + k) r no_rank (λ clash. omega arith) ∙ same k less
+pub HasSameLeaves-more : (slots : ℕ) (old nodes : List Rank) (m : ℕ) (r : Rank) → m < slots → HasSameLeaves slots old nodes → HasSameLeaves slots old (set nodes m r)
+HasSameLeaves-more slots old nodes m r inner same = λ k less. get_or-set_other nodes m (slots + k) r no_rank (λ clash. omega arith) ∙ same k less
 
-pub HasLeaves-same : (places : ℕ) (old nodes : List Rank) → HasLeaves places old → HasSameLeaves places old nodes → HasLeaves places nodes
-HasLeaves-same places old nodes leaves same = λ k less. ap (λ r. r.place) (same k less) ∙ leaves k less
+pub HasLeaves-same : (slots : ℕ) (old nodes : List Rank) → HasLeaves slots old → HasSameLeaves slots old nodes → HasLeaves slots nodes
+HasLeaves-same slots old nodes leaves same = λ k less. ap (λ r. r.slot) (same k less) ∙ leaves k less
 
-pub weights_of-same : (places : ℕ) (old nodes : List Rank) → HasSameLeaves places old nodes → weights_of places nodes ≡ weights_of places old
-weights_of-same places old nodes same =
-    fill_by_all (λ k. (node_at old (places + k)).weight) (weights_of places nodes) places 0 (length-weights_of places nodes) (λ k less. get_or-weights_of places nodes k less ∙ ap (λ r. r.weight) (same k less))
+pub standings_of-same : (slots : ℕ) (old nodes : List Rank) → HasSameLeaves slots old nodes → standings_of slots nodes ≡ standings_of slots old
+standings_of-same slots old nodes same =
+    fill_by_all (λ k. (node_at old (slots + k)).standing) (standings_of slots nodes) slots no_standing (length-standings_of slots nodes) (λ k less. get_or-standings_of slots nodes k less ∙ ap (λ r. r.standing) (same k less))
 
 -- one node is joined
 joined_here : (nodes : List Rank) (m : ℕ) → 0 < m → m < length nodes → JoinsAt (set nodes m (better (node_at nodes (2 * m)) (node_at nodes (2 * m + 1)))) m
@@ -58,8 +59,8 @@ joined_there nodes m i r self left right join =
     get_or-set_other nodes m i r no_rank self ∙ join ∙ ap (λ x. better x (node_at nodes (2 * i + 1))) (sym (get_or-set_other nodes m (2 * i) r no_rank left)) ∙ ap (better (node_at (set nodes m r) (2 * i))) (sym (get_or-set_other nodes m (2 * i + 1) r no_rank right))
 
 -- joining upwards
-pub IsJoinedBut-up : (places : ℕ) (nodes : List Rank) (m : ℕ) → 0 < m → m < places → length nodes ≡ 2 * places → IsJoinedBut places nodes m → IsJoinedBut places (set nodes m (better (node_at nodes (2 * m)) (node_at nodes (2 * m + 1)))) (m / 2)
-IsJoinedBut-up places nodes m some inner size joined = λ i more less other.
+pub IsJoinedBut-up : (slots : ℕ) (nodes : List Rank) (m : ℕ) → 0 < m → m < slots → length nodes ≡ 2 * slots → IsJoinedBut slots nodes m → IsJoinedBut slots (set nodes m (better (node_at nodes (2 * m)) (node_at nodes (2 * m + 1)))) (m / 2)
+IsJoinedBut-up slots nodes m some inner size joined = λ i more less other.
     (elim (cases_eq i m) [
       | inl here ↦
           (let P : ℕ → Type 0 = JoinsAt (set nodes m (better (node_at nodes (2 * m)) (node_at nodes (2 * m + 1)))) in
@@ -67,19 +68,19 @@ IsJoinedBut-up places nodes m some inner size joined = λ i more less other.
       | inr differ ↦ joined_there nodes m i (better (node_at nodes (2 * m)) (node_at nodes (2 * m + 1))) differ (λ same. other (omega arith)) (λ same. other (omega arith)) (joined i more less differ)
     ])
 
-pub IsJoinedBut-leaf : (places : ℕ) (nodes : List Rank) (place : ℕ) (r : Rank) → IsJoined places nodes → IsJoinedBut places (set nodes (places + place) r) ((places + place) / 2)
-IsJoinedBut-leaf places nodes place r joined = λ i more less other.
-    joined_there nodes (places + place) i r (λ same. omega arith) (λ same. other (omega arith)) (λ same. other (omega arith)) (joined i more less)
+pub IsJoinedBut-leaf : (slots : ℕ) (nodes : List Rank) (slot : ℕ) (r : Rank) → IsJoined slots nodes → IsJoinedBut slots (set nodes (slots + slot) r) ((slots + slot) / 2)
+IsJoinedBut-leaf slots nodes slot r joined = λ i more less other.
+    joined_there nodes (slots + slot) i r (λ same. omega arith) (λ same. other (omega arith)) (λ same. other (omega arith)) (joined i more less)
 
-pub IsJoined-all : (places : ℕ) (nodes : List Rank) (node : ℕ) → node ≤ 1 → IsJoinedBut places nodes (node / 2) → IsJoined places nodes
-IsJoined-all places nodes node low joined = λ i more less. joined i more less (λ same. omega arith)
+pub IsJoined-all : (slots : ℕ) (nodes : List Rank) (node : ℕ) → node ≤ 1 → IsJoinedBut slots nodes (node / 2) → IsJoined slots nodes
+IsJoined-all slots nodes node low joined = λ i more less. joined i more less (λ same. omega arith)
 
 -- joining downwards: those behind m are joined
 abbrev pub IsJoinedBehind : ℕ → List Rank → ℕ → Type 0
-IsJoinedBehind places nodes m = (i : ℕ) → 0 < i → i < places → m < i → JoinsAt nodes i
+IsJoinedBehind slots nodes m = (i : ℕ) → 0 < i → i < slots → m < i → JoinsAt nodes i
 
-pub IsJoinedBehind-more : (places : ℕ) (nodes : List Rank) (m : ℕ) → 0 < m → m < places → length nodes ≡ 2 * places → IsJoinedBehind places nodes m → IsJoinedBehind places (set nodes m (better (node_at nodes (2 * m)) (node_at nodes (2 * m + 1)))) (m - 1)
-IsJoinedBehind-more places nodes m some inner size joined = λ i more less behind.
+pub IsJoinedBehind-more : (slots : ℕ) (nodes : List Rank) (m : ℕ) → 0 < m → m < slots → length nodes ≡ 2 * slots → IsJoinedBehind slots nodes m → IsJoinedBehind slots (set nodes m (better (node_at nodes (2 * m)) (node_at nodes (2 * m + 1)))) (m - 1)
+IsJoinedBehind-more slots nodes m some inner size joined = λ i more less behind.
     (elim (cases_eq i m) [
       | inl here ↦
           (let P : ℕ → Type 0 = JoinsAt (set nodes m (better (node_at nodes (2 * m)) (node_at nodes (2 * m + 1)))) in
@@ -87,33 +88,38 @@ IsJoinedBehind-more places nodes m some inner size joined = λ i more less behin
       | inr differ ↦ joined_there nodes m i (better (node_at nodes (2 * m)) (node_at nodes (2 * m + 1))) differ (λ same. omega arith) (λ same. omega arith) (joined i more less (omega arith))
     ])
 
--- a leaf that is written: its place and its weight
-pub HasLeaves-set : (places : ℕ) (nodes : List Rank) (place weight : ℕ) → length nodes ≡ 2 * places → place < places → HasLeaves places nodes → HasLeaves places (set nodes (places + place) (rank weight place))
-HasLeaves-set places nodes place weight size within leaves = λ k less.
-    (elim (cases_eq k place) [
+-- a leaf that is written: its slot and its standing
+pub HasLeaves-set : (slots : ℕ) (nodes : List Rank) (slot : ℕ) (t : Standing) → length nodes ≡ 2 * slots → slot < slots → HasLeaves slots nodes → HasLeaves slots (set nodes (slots + slot) (rank t slot))
+HasLeaves-set slots nodes slot t size within leaves = λ k less.
+    (elim (cases_eq k slot) [
       | inl here ↦
-          (let P : ℕ → Type 0 = λ j. (node_at (set nodes (places + place) (rank weight place)) (places + j)).place ≡ j in
-          subst P (sym here) (ap (λ r. r.place) (get_or-set_same nodes (places + place) (rank weight place) no_rank (omega arith))))
-      | inr other ↦ ap (λ r. r.place) (get_or-set_other nodes (places + place) (places + k) (rank weight place) no_rank (λ same. other (omega arith))) ∙ leaves k less
+          (let P : ℕ → Type 0 = λ j. (node_at (set nodes (slots + slot) (rank t slot)) (slots + j)).slot ≡ j in
+          subst P (sym here) (ap (λ r. r.slot) (get_or-set_same nodes (slots + slot) (rank t slot) no_rank (omega arith))))
+      | inr other ↦ ap (λ r. r.slot) (get_or-set_other nodes (slots + slot) (slots + k) (rank t slot) no_rank (λ same. other (omega arith))) ∙ leaves k less
     ])
 
-pub weights_of-set : (places : ℕ) (nodes : List Rank) (place weight : ℕ) → length nodes ≡ 2 * places → place < places → weights_of places (set nodes (places + place) (rank weight place)) ≡ set (weights_of places nodes) place weight
-weights_of-set places nodes place weight size within =
-    sym (fill_by_all (λ k. (node_at (set nodes (places + place) (rank weight place)) (places + k)).weight) (set (weights_of places nodes) place weight) places 0 (length-set (weights_of places nodes) place weight ∙ length-weights_of places nodes) (λ k less.
-    elim (cases_eq k place) [
+pub standings_of-set : (slots : ℕ) (nodes : List Rank) (slot : ℕ) (t : Standing) → length nodes ≡ 2 * slots → slot < slots → standings_of slots (set nodes (slots + slot) (rank t slot)) ≡ set (standings_of slots nodes) slot t
+standings_of-set slots nodes slot t size within =
+    sym (fill_by_all (λ k. (node_at (set nodes (slots + slot) (rank t slot)) (slots + k)).standing) (set (standings_of slots nodes) slot t) slots no_standing (length-set (standings_of slots nodes) slot t ∙ length-standings_of slots nodes) (λ k less.
+    elim (cases_eq k slot) [
       | inl here ↦
-          (let P : ℕ → Type 0 = λ j. get_or (set (weights_of places nodes) place weight) j 0 ≡ (node_at (set nodes (places + place) (rank weight place)) (places + j)).weight in
-          subst P (sym here) (get_or-set_same (weights_of places nodes) place weight 0 (omega (arith, length-weights_of places nodes)) ∙ sym (ap (λ r. r.weight) (get_or-set_same nodes (places + place) (rank weight place) no_rank (omega arith)))))
+          (let P : ℕ → Type 0 = λ j. get_or (set (standings_of slots nodes) slot t) j no_standing ≡ (node_at (set nodes (slots + slot) (rank t slot)) (slots + j)).standing in
+          subst P (sym here) (get_or-set_same (standings_of slots nodes) slot t no_standing (omega (arith, length-standings_of slots nodes)) ∙ sym (ap (λ r. r.standing) (get_or-set_same nodes (slots + slot) (rank t slot) no_rank (omega arith)))))
       | inr other ↦
-          get_or-set_other (weights_of places nodes) place k weight 0 other ∙ get_or-weights_of places nodes k less ∙ sym (ap (λ r. r.weight) (get_or-set_other nodes (places + place) (places + k) (rank weight place) no_rank (λ same. other (omega arith))))
+          get_or-set_other (standings_of slots nodes) slot k t no_standing other ∙ get_or-standings_of slots nodes k less ∙ sym (ap (λ r. r.standing) (get_or-set_other nodes (slots + slot) (slots + k) (rank t slot) no_rank (λ same. other (omega arith))))
     ]))
 
--- weights that are as these at each place are so everywhere
-pub weights-all : (places : ℕ) (nodes : List Rank) (weights : List ℕ) → length weights ≤ places → ((k : ℕ) → k < places → get_or (weights_of places nodes) k 0 ≡ get_or weights k 0) → (k : ℕ) → get_or (weights_of places nodes) k 0 ≡ get_or weights k 0
-weights-all places nodes weights room same k =
-    elim (cases_lt k places) [
-      | inl less ↦ same k less
-      | inr past ↦ get_or_past (weights_of places nodes) k 0 (omega (arith, length-weights_of places nodes)) ∙ sym (get_or_past weights k 0 (omega arith))
+-- the leaves of the ranking before stand behind its inner nodes
+pub standings-grown : (few slots : ℕ) (old nodes : List Rank) → length old ≡ 2 * few → few ≤ slots → ((k : ℕ) → k < slots → get_or (standings_of slots nodes) k no_standing ≡ (node_at (drop few old) k).standing) → (k : ℕ) → get_or (standings_of slots nodes) k no_standing ≡ get_or (standings_of few old) k no_standing
+standings-grown few slots old nodes size room same k =
+    elim (cases_lt k few) [
+      | inl less ↦ same k (omega arith) ∙ ap (λ r. r.standing) (get_or-drop few old k no_rank) ∙ sym (get_or-standings_of few old k less)
+      | inr past ↦
+          (let none : get_or (standings_of few old) k no_standing ≡ no_standing = get_or_past (standings_of few old) k no_standing (omega (arith, length-standings_of few old)) in
+          elim (cases_lt k slots) [
+            | inl inner ↦ same k inner ∙ ap (λ r. r.standing) (get_or_past (drop few old) k no_rank (omega (arith, length-drop few old))) ∙ sym none
+            | inr outer ↦ get_or_past (standings_of slots nodes) k no_standing (omega (arith, length-standings_of slots nodes)) ∙ sym none
+          ])
     ]
 
 -- elements that are written back whole

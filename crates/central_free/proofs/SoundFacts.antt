@@ -1,16 +1,14 @@
 -- A sound list of spans stays so where one of them gives or takes an object.
-use Rattle.std.proofs.Common.{◌≡◌, ℕ, ◌+◌, ◌<◌, ◌≤◌, Bool, true, false, nat_le, List, [], ◌∷◌, length, get_or, set, count_by, Option, Some, None, cond, refl, sym, ◌∙◌, ap, subst, inl, inr, arith}
-use Rattle.std.specs.Prelude.{AllPairs, All}
-use Rattle.std.specs.List.{flat_map, sum_by, prefix_len}
-use Rattle.std.specs.List.Sorted.{IsNonDecreasingBy, IsPartitionPoint}
-use Rattle.tc_units.specs.declared.spans.SpanKind.TheVariants.{Large}
+use Rattle.std.proofs.Common.{◌≡◌, ℕ, ◌+◌, ◌<◌, Bool, false, List, [], ◌∷◌, length, get_or, set, count_by, Option, Some, None, cond, refl, sym, ◌∙◌, ap, subst, inl, inr, arith}
+use Rattle.std.specs.Prelude.{All}
+use Rattle.std.specs.List.{flat_map, sum_by}
 use Rattle.std.proofs.lemmas.List.{get_or-set_same, get_or-set_other, length-set, get_or_default}
 use Rattle.std.proofs.lemmas.List.Elements.{All-set}
-use Rattle.std.proofs.lemmas.List.Sums.{sum_by-cons, sum_by-append, sum_by-set, prefix_len_is}
-use Rattle.std.proofs.lemmas.Bool.{cases_eq, cases_lt}
+use Rattle.std.proofs.lemmas.List.Sums.{sum_by-cons, sum_by-append, sum_by-set}
+use Rattle.std.proofs.lemmas.Bool.{cases_eq}
 use Rattle.tc_units.specs.declared.units.Addr.{Addr}
 use Rattle.tc_units.specs.declared.spans.ClassRow.{ClassRow}
-use Rattle.span_list.specs.Span.{SpanState, IsCut, first_byte, least, with_object, after_take, free_objects}
+use Rattle.span_list.specs.Span.{SpanState, IsCut, least, with_object, after_take, free_objects}
 use Rattle.span_list.proofs.SpanFacts.{take_counts}
 use Rattle.central_free.specs.Central.{Central, IsBefore, IsOfRow, IsSound, free_in}
 
@@ -87,19 +85,3 @@ pub count-set : (test : Addr → Bool) (spans : List SpanState) (k : ℕ) (s t :
 count-set test spans k s t within read =
     let old : count_by test (free_objects s) ≡ count_by test (free_objects (get_or spans k s)) = ap (λ u. count_by test (free_objects u)) read in
     omega (arith, count-flat_map test free_objects (set spans k t), count-flat_map test free_objects spans, sum_by-set (λ u. count_by test (free_objects u)) spans k t s within, old)
-
--- spans in order begin in order
-pub first_bytes_rise : (spans : List SpanState) → AllPairs IsBefore spans → IsNonDecreasingBy (λ s. first_byte s.span) spans
-first_bytes_rise spans apart = λ i j d le within.
-    elim (cases_lt i j) [
-      | inl less ↦ (let before : IsBefore (get_or spans i d) (get_or spans j d) = apart i j d less within in omega arith)
-      | inr above ↦ (let same : i ≡ j = omega arith in rw same (omega arith))
-    ]
-
--- the place where the spans that begin by an address end
-nowhere : SpanState
-nowhere = record { span = record { first = record { 0 = 0 }; pages = 0; kind = Large }; size = 0; free = [] }
-
-pub point_is_count : (at : ℕ) (spans : List SpanState) (i : ℕ) → i ≤ length spans → IsPartitionPoint (λ s. nat_le (first_byte s.span) at ≡ true) (λ s. nat_le (first_byte s.span) at ≡ false) spans i → i ≡ prefix_len (λ s. nat_le (first_byte s.span) at) spans
-point_is_count at spans i within point =
-    sym (prefix_len_is (λ s. nat_le (first_byte s.span) at) spans i nowhere within (λ k below. point.0 k nowhere (omega arith) below) (λ more. point.1 i nowhere (omega arith) more))

@@ -1,5 +1,5 @@
 -- A central free list: which span an object is taken from, what a new span adds, and where an object that is put back goes.
-use Rattle.std.specs.Prelude.{◌≡◌, ◌≢◌, ℕ, zero, suc, ◌+◌, ◌-◌, ◌*◌, ◌<◌, ◌≤◌, ◌⊎◌, Bool, true, false, ◌==◌, ◌&&◌, ◌||◌, nat_lt, nat_le, min, List, [], ◌∷◌, ◌++◌, map, replicate, All, AllPairs, Any, Option, Some, None, slice_get, slice_index, slice_set, if◌then◌else◌, length}
+use Rattle.std.specs.Prelude.{◌≡◌, ◌≢◌, ℕ, zero, suc, ◌+◌, ◌-◌, ◌*◌, ◌<◌, ◌≤◌, ◌⊎◌, Bool, true, false, ◌==◌, ◌&&◌, ◌||◌, nat_lt, nat_le, min, List, [], ◌∷◌, ◌++◌, map, replicate, All, AllPairs, Any, Option, Some, None, slice_get, slice_set, if◌then◌else◌}
 use Rattle.std.specs.List.{prefix_len, position_or_len, range_with_len, insert, remove, flat_map}
 use Rattle.std.specs.Option.{option_map}
 use Rattle.tc_units.specs.Units.{page_bytes}
@@ -137,18 +137,3 @@ pub record IsSound (central : Central) : Type 0 where
 -- the free objects of all spans
 abbrev pub free_in : List SpanState → List Addr
 free_in spans = flat_map free_objects spans
-
--- how much a span is to be emptied: its taken objects, and 0 where none is free
-abbrev pub weight : SpanState → ℕ
-weight s = if free_count s == 0 then 0 else taken_count s
-
--- a place has the first of the greatest weights, and there is none where all are 0
-abbrev pub IsBestPlace : List ℕ → Option ℕ → Type 0
-IsBestPlace weights None = (k : ℕ) → slice_index weights k ≡ 0
-IsBestPlace weights (Some place) =
-    (0 < slice_index weights place) × ((k : ℕ) → slice_index weights k ≤ slice_index weights place) × ((k : ℕ) → k < place → slice_index weights k < slice_index weights place)
-
--- a ranking has a place for each span, with its weight, and no weight behind them
-pub record IsRanked (spans : List SpanState) (ranking : List ℕ) : Type 0 where
-  pub room : length spans ≤ length ranking
-  pub weights : (k : ℕ) → slice_index ranking k ≡ slice_index (map weight spans) k

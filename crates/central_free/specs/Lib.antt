@@ -1,2 +1,4 @@
 pub mod Central
 pub mod Ranking
+pub mod Slots
+pub mod Runs

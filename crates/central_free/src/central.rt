@@ -1,37 +1,50 @@
 //! The spans of one size class in the order of their first pages, and which of them serves next.
-ghost use Rattle.std.specs.Prelude.{◌≡◌, ◌≢◌, ℕ, ◌+◌, ◌-◌, ◌*◌, ◌/◌, ◌<◌, ◌≤◌, ◌↔◌, ◌⊎◌, Bool, true, [], ◌∷◌, ◌++◌, All, IfOk, IfSome, MatchOption, OnErr, OnOk, Some, None, count_by, drop, length, map, min, nat_le, replicate, slice_index, vec_len, vec_capacity, AllPairs};
+ghost use Rattle.std.specs.Prelude.{◌≡◌, ◌≢◌, ℕ, ◌+◌, ◌-◌, ◌*◌, ◌^◌, ◌/◌, ◌<◌, ◌≤◌, ◌↔◌, ◌⊎◌, Bool, true, [], ◌∷◌, ◌++◌, All, Any, IfOk, IfSome, MatchOption, OnErr, OnOk, Some, None, count_by, drop, length, map, min, nat_le, replicate, slice_index, vec_len, vec_capacity, AllPairs};
 ghost use Rattle.std.specs.List.{flat_map, prefix_len};
 ghost use Rattle.std.specs.Option.{option_to_list};
+ghost use Rattle.slab.specs.Slab.{HasRoomFor};
 ghost use Rattle.tc_units.specs.Units.{page_bytes};
 ghost use Rattle.tc_units.specs.declared.units.Addr.{Addr};
 ghost use Rattle.span_list.specs.Span.{all_free, objects_of, free_objects, free_count, first_byte};
-ghost use Rattle.central_free.specs.Central.{taken_one, taken, has_free, weight, IsBestPlace, opened, opening, with_span, put_one, put_all, IsTakenIn, AreDifferent, IsApartFrom, IsBefore, IsRanked, IsSound, free_in};
+ghost use Rattle.central_free.specs.Central.{taken_one, taken, has_free, opened, opening, with_span, put_one, put_all, IsTakenIn, AreDifferent, IsApartFrom, IsBefore, IsSound, free_in};
+ghost use Rattle.central_free.specs.Ranking.{standing_at};
+ghost use Rattle.central_free.specs.Slots.{weight, standing_of, slot_at, spans_of, IsKept, IsLastBegun};
 
-use crate::ranking::Ranking;
+use crate::ranking::{Ranking, Standing};
+use crate::runs::take_some;
+use slab::Slab;
 use span_list::Span;
 use std::alloc::{AllocError, Global};
+use std::collections::BTreeMap;
 use std::marker::Model;
 use tc_units::{Addr, Bag, ClassRow, SpanRef, addr_of};
+
+/// The least number of slots by which their room grows.
+const LEAST_ROOM: usize = 4;
 
 /// The spans of one size class that have a taken object: the central free list of TCMalloc's design
 /// document. The order in which spans serve is this project's own rule.
 #[derive(Drop)]
 pub struct CentralFree {
+    alloc: Global,
     row: ClassRow,
-    /// In the order of first pages.
-    spans: Vec<Span>,
-    /// How much each of them is to be emptied.
+    /// Each span in a slot, which it keeps.
+    slots: Slab<Span>,
+    /// The slot of each span by its first byte.
+    order: BTreeMap<u64, u32>,
+    /// How each slot stands.
     ranking: Ranking,
 }
 
 impl Model for CentralFree {
-    ghost use Rattle.central_free.specs.Central.{Central, IsSound, IsRanked};
+    ghost use Rattle.central_free.specs.Central.{Central, IsSound};
+    ghost use Rattle.central_free.specs.Slots.{spans_of, IsKept};
 
     ghost Value = { Central };
 
-    ghost view = { λ c. record { row = c.row; spans = c.spans.items } };
+    ghost view = { λ c. record { row = c.row; spans = spans_of c.slots.slots c.order.entries } };
 
-    ghost invariant = { λ c. IsSound (record { row = c.row; spans = c.spans.items }) × IsRanked c.spans.items c.ranking };
+    ghost invariant = { λ c. IsSound (record { row = c.row; spans = spans_of c.slots.slots c.order.entries }) × IsKept c.slots.slots c.order.entries c.ranking };
 }
 
 /// How much a span is to be emptied: its taken objects, and 0 where none is free.
@@ -41,63 +54,45 @@ pub fn weight(span: &Span) -> u32
     if span.free() == 0 { 0 } else { span.taken() }
 }
 
-/// How many spans begin by an address.
-fn begun_by(spans: &[Span], address: u64) -> usize
-    requires { AllPairs IsBefore spans.now }
-    ensures { result ≡ prefix_len (λ s. nat_le (first_byte s.span) address) spans.now }
+/// How a span stands among the others.
+fn standing_of(span: &Span) -> Standing
+    ensures { result ≡ standing_of span.now }
 {
-    spans.partition_point(|span| addr_of(span.span().first).0 <= address)
-}
-
-/// Ranks spans anew once one was added at a place: behind the others it takes few steps.
-fn rank_added(ranking: &mut Ranking, spans: &[Span], place: usize)
-    requires inside { place < length spans.now }
-    requires room { length spans.now ≤ length ranking.old }
-    requires before { (k : ℕ) → k < place → slice_index ranking.old k ≡ slice_index (map weight spans.now) k }
-    requires behind { (k : ℕ) → length spans.now ≤ k → slice_index ranking.old k ≡ 0 }
-    ensures { IsRanked spans.now ranking.new }
-{
-    if place == spans.len() - 1 {
-        ranking.set(place, weight(&spans[place]));
-    } else {
-        ranking.fill(spans);
+    Standing {
+        weight: weight(span),
+        first: span.span().first,
     }
 }
 
-/// Makes room for one more span, and for its place in the ranking.
-fn make_room(spans: &mut Vec<Span>, ranking: &mut Ranking) -> Result<(), AllocError>
-    requires { IsRanked spans.old.items ranking.old }
-    ensures spans { spans.new.items ≡ spans.old.items }
-    ensures room { OnOk result (vec_len spans.new < vec_capacity spans.new) }
-    ensures place { OnOk result (length spans.new.items < length ranking.new) }
-    ensures ranked { IsRanked spans.new.items ranking.new }
+/// The slot of the last span that begins by an address.
+fn last_begun(order: &BTreeMap<u64, u32>, address: u64) -> usize
+    requires { Any (λ e. e.0 ≤ address) order.now.entries }
+    ensures { IsLastBegun order.now.entries address result }
 {
-    spans.reserve(1)?;
-    if spans.len() == ranking.len() {
-        let places = 2 * spans.len() + 1;
-        *ranking = Ranking::open(*spans.allocator(), places, spans)?;
+    match order.range(..=address).next_back() {
+        Some((_, slot)) => *slot as usize,
+        None => unreachable!(),
+    }
+}
+
+/// Makes room for one more span, and for its standing: an eighth more where there is none.
+fn make_room(slots: &mut Slab<Span>, ranking: &mut Ranking) -> Result<(), AllocError>
+    ensures slots { slots.new.slots ≡ slots.old.slots }
+    ensures room { OnOk result (HasRoomFor slots.new 1) }
+    ensures slot { OnOk result (slots.new.vacant_key < length ranking.new) }
+    ensures few { OnOk result (slots.new.vacant_key < 2 ^ 32) }
+    ensures longer { length ranking.old ≤ length ranking.new }
+    ensures standings { (k : ℕ) → standing_at ranking.new k ≡ standing_at ranking.old k }
+{
+    if slots.len() == slots.capacity() {
+        slots.reserve_exact(slots.len() / 8 + LEAST_ROOM)?;
+    }
+    let slot = slots.vacant_key();
+    if slot >= ranking.len() {
+        let more = slot / 8 + LEAST_ROOM;
+        ranking.grow(slot.checked_add(more).ok_or(AllocError)?)?;
     }
     Ok(())
-}
-
-/// Takes the first `n` objects of a span all of which are free, or all where it has fewer.
-fn take_first(span: &mut Span, n: u32, out: &mut Bag<Addr>) -> u32
-    requires fresh { span.old ≡ all_free span.old.span span.old.size }
-    requires room { n ≤ out.old.spare }
-    ensures count { result ≡ length (opening span.old.span span.old.size n) }
-    ensures span { span.new ≡ opened span.old.span span.old.size n }
-    ensures out { out.new.items ≡ out.old.items ++ opening span.old.span span.old.size n }
-    ensures spare { out.new.spare + result ≡ out.old.spare }
-    ensures moves { (test : Addr → Bool) → count_by test (free_objects span.new) + count_by test out.new.items
-        ≡ count_by test (free_objects span.old) + count_by test out.old.items }
-{
-    let count = n.min(span.free());
-    for _came in 0..count {
-        if let Some(object) = span.take() {
-            out.push(object);
-        }
-    }
-    count
 }
 
 impl CentralFree {
@@ -109,25 +104,38 @@ impl CentralFree {
         ensures sound { IsSound result }
     {
         CentralFree {
+            alloc,
             row,
-            spans: Vec::new(alloc),
+            slots: Slab::new(alloc),
+            order: BTreeMap::new(alloc),
             ranking: Ranking::empty(alloc),
         }
     }
 
-    /// Takes one object, if one is free.
-    fn take_one(&mut self) -> Option<Addr>
-        ensures one { MatchOption result ((taken_one self.old.spans ≡ None) × (self.new ≡ self.old)) (λ a. (taken_one self.old.spans ≡ Some (a, self.new.spans)) × (self.new.row ≡ self.old.row)) }
-        ensures given { IfSome result (IsTakenIn self.new.spans) }
-        ensures kept { (a : Addr) → IsTakenIn self.old.spans a → IsTakenIn self.new.spans a }
-        ensures moves { (test : Addr → Bool) → count_by test (free_in self.new.spans) + count_by test (option_to_list result)
-            ≡ count_by test (free_in self.old.spans) }
+    /// Takes up to `n` objects of the span that serves first, and says how many came.
+    fn take_run(&mut self, n: u32, out: &mut Bag<Addr>) -> u32
+        requires some { 0 < n }
+        requires room { n ≤ out.old.spare }
+        ensures few { result ≤ n }
+        ensures none { result ≡ 0 → taken_one self.old.spans ≡ None }
+        ensures spans { self.new ≡ record self.old { spans = (taken result self.old.spans).spans } }
+        ensures out { out.new.items ≡ out.old.items ++ (taken result self.old.spans).objects }
+        ensures count { length (taken result self.old.spans).objects ≡ result }
+        ensures spare { out.new.spare + result ≡ out.old.spare }
         ensures sound { IsSound self.new }
+        ensures given { All (IsTakenIn self.new.spans) (taken result self.old.spans).objects }
+        ensures fresh { All (λ a. ¬ (IsTakenIn self.old.spans a)) (taken result self.old.spans).objects }
+        ensures different { AreDifferent (taken result self.old.spans).objects }
+        ensures kept { (a : Addr) → IsTakenIn self.old.spans a → IsTakenIn self.new.spans a }
+        ensures moves { (test : Addr → Bool) → count_by test (free_in self.new.spans) + count_by test out.new.items
+            ≡ count_by test (free_in self.old.spans) + count_by test out.old.items }
     {
-        let place = self.ranking.best()?;
-        let object = self.spans[place].take();
-        self.ranking.set(place, weight(&self.spans[place]));
-        object
+        let Some(slot) = self.ranking.best() else {
+            return 0;
+        };
+        let came = take_some(&mut self.slots[slot], n, out);
+        self.ranking.set(slot, standing_of(&self.slots[slot]));
+        came
     }
 
     /// Takes up to `n` objects one by one, each the first free one of the span with most taken objects
@@ -142,22 +150,26 @@ impl CentralFree {
         ensures spare { out.new.spare + result ≡ out.old.spare }
         ensures sound { IsSound self.new }
 
-        // What came can be put back, and so can what was taken before.
+        // What came can be put back, and so can what was taken before. They are all different.
         ensures given { All (IsTakenIn self.new.spans) (taken n self.old.spans).objects }
         ensures kept { (a : Addr) → IsTakenIn self.old.spans a → IsTakenIn self.new.spans a }
+        ensures fresh { All (λ a. ¬ (IsTakenIn self.old.spans a)) (taken n self.old.spans).objects }
+        ensures different { AreDifferent (taken n self.old.spans).objects }
 
         // Objects move from the spans to the list: none is lost, and none comes twice.
         ensures moves { (test : Addr → Bool) → count_by test (free_in self.new.spans) + count_by test out.new.items
             ≡ count_by test (free_in self.old.spans) + count_by test out.old.items }
     {
         let _ = &self.row;
-        for came in 0..n {
-            match self.take_one() {
-                Some(object) => out.push(object),
-                None => return came,
+        let mut came = 0;
+        while came < n {
+            let more = self.take_run(n - came, out);
+            if more == 0 {
+                return came;
             }
+            came += more;
         }
-        n
+        came
     }
 
     /// Adds a span of the row's pages, and takes its first `n` objects, or all where it has fewer. Appends
@@ -180,8 +192,9 @@ impl CentralFree {
         ensures err { OnErr result ((self.new ≡ self.old) × (out.new ≡ out.old)) }
         ensures sound { IsSound self.new }
 
-        // What came can be put back, and so can what was taken before.
+        // What came can be put back, and so can what was taken before. They are all different.
         ensures given { OnOk result (All (IsTakenIn self.new.spans) (opening span self.old.row.size n)) }
+        ensures fresh { OnOk result (All (λ a. ¬ (IsTakenIn self.old.spans a)) (opening span self.old.row.size n)) }
         ensures different { OnOk result (AreDifferent (opening span self.old.row.size n)) }
         ensures kept { OnOk result ((a : Addr) → IsTakenIn self.old.spans a → IsTakenIn self.new.spans a) }
 
@@ -189,14 +202,13 @@ impl CentralFree {
         ensures moves { OnOk result ((test : Addr → Bool) → count_by test (free_in self.new.spans) + count_by test out.new.items
             ≡ count_by test (free_in self.old.spans) + count_by test out.old.items + count_by test (objects_of self.old.row.size span)) }
     {
-        make_room(&mut self.spans, &mut self.ranking)?;
-        let mut added = Span::new(*self.spans.allocator(), span, self.row.size)?;
-        let came = take_first(&mut added, n, out);
-        let place = begun_by(&self.spans, addr_of(span.first).0);
-
-        // It fits: the room was made above.
-        let _ = self.spans.insert(place, added);
-        rank_added(&mut self.ranking, &self.spans, place);
+        make_room(&mut self.slots, &mut self.ranking)?;
+        let mut added = Span::new(self.alloc, span, self.row.size)?;
+        let slot = self.slots.vacant_key();
+        self.order.insert(addr_of(span.first).0, slot as u32)?;
+        let came = take_some(&mut added, n, out);
+        self.ranking.set(slot, standing_of(&added));
+        self.slots.insert_reserved(added);
         Ok(came)
     }
 
@@ -210,13 +222,14 @@ impl CentralFree {
         ensures moves { (test : Addr → Bool) → count_by test (free_in self.new.spans) + count_by test (flat_map (objects_of self.old.row.size) (option_to_list result))
             ≡ count_by test (free_in self.old.spans) + count_by test (object ∷ []) }
     {
-        let place = begun_by(&self.spans, object.0) - 1;
-        if self.spans[place].put(object) {
-            let left = self.spans.remove(place).span();
-            self.ranking.fill(&self.spans);
+        let slot = last_begun(&self.order, object.0);
+        if self.slots[slot].put(object) {
+            let left = self.slots.remove(slot).span();
+            self.order.remove(&addr_of(left.first).0);
+            self.ranking.set(slot, Standing::none());
             Some(left)
         } else {
-            self.ranking.set(place, weight(&self.spans[place]));
+            self.ranking.set(slot, standing_of(&self.slots[slot]));
             None
         }
     }

@@ -4,5 +4,6 @@
 
 mod central;
 mod ranking;
+mod runs;
 
 pub use central::CentralFree;

@@ -1,91 +1,122 @@
-//! Which place has the greatest weight, asked and changed in the logarithm of the places.
-ghost use Rattle.std.specs.Prelude.{◌≡◌, ℕ, ◌+◌, ◌*◌, ◌<◌, ◌≤◌, ◌/◌, ◌^◌, [], IfOk, length, map, slice_index, slice_set};
-ghost use Rattle.central_free.specs.Central.{weight, IsBestPlace};
-ghost use Rattle.central_free.specs.Ranking.{better, HasLeaves, IsJoined, IsJoinedBut, weights_of};
+//! Which slot has the best standing, asked and changed in the logarithm of the slots.
+ghost use Rattle.std.specs.Prelude.{◌≡◌, ℕ, ◌+◌, ◌*◌, ◌^◌, ◌<◌, ◌≤◌, ◌/◌, [], OnErr, OnOk, length, slice_set};
+ghost use Rattle.std.specs.List.{slice_index_or};
+ghost use Rattle.central_free.specs.Ranking.{better, no_rank, no_standing, standing_at, standings_of, HasLeaves, IsBestSlot, IsJoined, IsJoinedBut};
 
-use crate::central::weight;
-use span_list::Span;
 use std::alloc::{AllocError, Global};
 use std::marker::Model;
+use tc_units::Page;
 
-/// A place with its weight.
+/// What decides which span serves: the greater weight is better, and of two equal ones the lower first
+/// page.
 #[derive(Clone, Copy)]
-pub struct Rank {
-    weight: u32,
-    place: usize,
+pub struct Standing {
+    /// How much the span is to be emptied.
+    pub weight: u32,
+    pub first: Page,
 }
 
-/// A tournament of places: each inner node has the better of its two children, so the root has the place
-/// of greatest weight, and of several the first. The children of node `i` are `2 i` and `2 i + 1`, and the
-/// leaves stand behind the inner nodes.
+impl Standing {
+    /// That of a slot without a span.
+    pub fn none() -> Self
+        ensures { result ≡ no_standing }
+    {
+        Standing {
+            weight: 0,
+            first: Page(0),
+        }
+    }
+}
+
+/// A slot with its standing.
+#[derive(Clone, Copy)]
+pub struct Rank {
+    standing: Standing,
+    slot: u32,
+}
+
+/// So many slots have numbers of 32 bits.
+const MOST_SLOTS: usize = 1 << 32;
+
+/// A tournament of slots: each inner node has the better of its two children, so the root has the slot of
+/// the best standing. The children of node `i` are `2 i` and `2 i + 1`, and the leaves stand behind the
+/// inner nodes.
 #[derive(Drop)]
 pub struct Ranking {
     nodes: Vec<Rank>,
-    places: usize,
+    slots: usize,
 }
 
 impl Model for Ranking {
-    ghost use Rattle.std.specs.Prelude.{◌≡◌, ◌*◌, ℕ, List, vec_len};
-    ghost use Rattle.central_free.specs.Ranking.{HasLeaves, IsJoined, weights_of};
+    ghost use Rattle.std.specs.Prelude.{◌≡◌, ◌*◌, ◌^◌, ◌≤◌, List, vec_len};
+    ghost use Rattle.central_free.specs.declared.ranking.Standing.{Standing};
+    ghost use Rattle.central_free.specs.Ranking.{HasLeaves, IsJoined, standings_of};
 
-    ghost Value = { List ℕ };
+    ghost Value = { List Standing };
 
-    ghost view = { λ r. weights_of r.places r.nodes.items };
+    ghost view = { λ r. standings_of r.slots r.nodes.items };
 
-    ghost invariant = { λ r. (vec_len r.nodes ≡ 2 * r.places) × HasLeaves r.places r.nodes.items × IsJoined r.places r.nodes.items };
+    ghost invariant = { λ r. (vec_len r.nodes ≡ 2 * r.slots) × HasLeaves r.slots r.nodes.items × IsJoined r.slots r.nodes.items × (r.slots ≤ 2 ^ 32) };
 }
 
-/// The one of greater weight, and of two equal ones the one that stands first.
+/// The one of greater weight, and of two equal ones the one of the lower first page.
 fn better(a: Rank, b: Rank) -> Rank
     ensures { result ≡ better a b }
 {
-    if a.weight < b.weight || (a.weight == b.weight && b.place < a.place) {
+    let (first, second) = (a.standing, b.standing);
+    if first.weight < second.weight
+        || (first.weight == second.weight && second.first.0 < first.first.0)
+    {
         b
     } else {
         a
     }
 }
 
-/// Writes the weights of spans into the leaves, and 0 into those behind them.
-fn write_leaves(nodes: &mut [Rank], places: usize, spans: &[Span])
-    requires size { length nodes.old ≡ 2 * places }
-    requires room { length spans.now ≤ places }
-    ensures leaves { HasLeaves places nodes.new }
-    ensures weights { (k : ℕ) → k < places → slice_index (weights_of places nodes.new) k ≡ slice_index (map weight spans.now) k }
+/// Writes standings into the leaves, and that of no span into those behind them.
+fn write_leaves(nodes: &mut [Rank], slots: usize, old: &[Rank])
+    requires size { length nodes.old ≡ 2 * slots }
+    requires room { length old.now ≤ slots }
+    requires few { slots ≤ 2 ^ 32 }
+    ensures leaves { HasLeaves slots nodes.new }
+    ensures standings { (k : ℕ) → k < slots → standing_at (standings_of slots nodes.new) k ≡ (slice_index_or old.now k no_rank).standing }
 {
-    for place in 0..places {
-        let weight = if place < spans.len() {
-            weight(&spans[place])
+    for slot in 0..slots {
+        let standing = if slot < old.len() {
+            old[slot].standing
         } else {
-            0
+            Standing::none()
         };
-        nodes[places + place] = Rank { weight, place };
+        nodes[slots + slot] = Rank {
+            standing,
+            slot: slot as u32,
+        };
     }
 }
 
 /// Joins all inner nodes, the last first.
-fn join_all(nodes: &mut [Rank], places: usize)
-    requires size { length nodes.old ≡ 2 * places }
-    requires leaves { HasLeaves places nodes.old }
-    ensures leaves { HasLeaves places nodes.new }
-    ensures joined { IsJoined places nodes.new }
-    ensures weights { weights_of places nodes.new ≡ weights_of places nodes.old }
+fn join_all(nodes: &mut [Rank], slots: usize)
+    requires size { length nodes.old ≡ 2 * slots }
+    requires leaves { HasLeaves slots nodes.old }
+    ensures leaves { HasLeaves slots nodes.new }
+    ensures joined { IsJoined slots nodes.new }
+    ensures standings { standings_of slots nodes.new ≡ standings_of slots nodes.old }
 {
-    for above in 1..places {
-        let node = places - above;
+    for above in 1..slots {
+        let node = slots - above;
         nodes[node] = better(nodes[2 * node], nodes[2 * node + 1]);
     }
 }
 
 /// Joins the inner nodes above one that was written.
-fn join_up(nodes: &mut [Rank], places: usize, written: usize)
-    requires size { length nodes.old ≡ 2 * places }
-    requires inside { written < 2 * places }
-    requires leaves { HasLeaves places nodes.old }
-    requires others { IsJoinedBut places nodes.old (written / 2) }
-    ensures leaves { HasLeaves places nodes.new }
-    ensures joined { IsJoined places nodes.new }
-    ensures weights { weights_of places nodes.new ≡ weights_of places nodes.old }
+fn join_up(nodes: &mut [Rank], slots: usize, written: usize)
+    requires size { length nodes.old ≡ 2 * slots }
+    requires inside { written < 2 * slots }
+    requires leaves { HasLeaves slots nodes.old }
+    requires others { IsJoinedBut slots nodes.old (written / 2) }
+    ensures leaves { HasLeaves slots nodes.new }
+    ensures joined { IsJoined slots nodes.new }
+    ensures standings { standings_of slots nodes.new ≡ standings_of slots nodes.old }
 {
     let mut node = written;
     while node > 1 {
@@ -95,72 +126,72 @@ fn join_up(nodes: &mut [Rank], places: usize, written: usize)
 }
 
 impl Ranking {
-    /// A ranking without places.
+    /// A ranking without slots.
     pub fn empty(alloc: Global) -> Self
         ensures { result ≡ [] }
     {
         Ranking {
             nodes: Vec::new(alloc),
-            places: 0,
+            slots: 0,
         }
     }
 
-    /// The weights of spans, with room for `places` of them.
-    pub fn open(alloc: Global, places: usize, spans: &[Span]) -> Result<Self, AllocError>
-        requires few { 2 * places < 2 ^ 64 }
-        requires room { length spans.now ≤ places }
-        ensures places { IfOk result (λ ranking. length ranking ≡ places) }
-        ensures weights { IfOk result (λ ranking. (k : ℕ) → slice_index ranking k ≡ slice_index (map weight spans.now) k) }
+    /// How many slots there are.
+    pub fn len(&self) -> usize
+        ensures len { result ≡ length self.now }
+        ensures few { result ≤ 2 ^ 32 }
+    {
+        self.slots
+    }
+
+    /// Makes it `slots` slots, of which the new ones have no span. Where memory is wanting, and for more
+    /// than it can number, all is as before.
+    pub fn grow(&mut self, slots: usize) -> Result<(), AllocError>
+        requires { length self.old ≤ slots }
+        ensures slots { OnOk result (length self.new ≡ slots) }
+        ensures few { OnOk result (slots ≤ 2 ^ 32) }
+        ensures standings { OnOk result ((k : ℕ) → standing_at self.new k ≡ standing_at self.old k) }
+        ensures err { OnErr result (self.new ≡ self.old) }
     {
         let nothing = Rank {
-            weight: 0,
-            place: 0,
+            standing: Standing::none(),
+            slot: 0,
         };
-        let mut nodes = vec![in alloc; nothing; 2 * places]?;
-        write_leaves(&mut nodes, places, spans);
-        join_all(&mut nodes, places);
-        Ok(Ranking { nodes, places })
+        if slots > MOST_SLOTS {
+            return Err(AllocError);
+        }
+        let mut nodes = vec![in *self.nodes.allocator(); nothing; 2 * slots]?;
+        write_leaves(&mut nodes, slots, &self.nodes[self.slots..]);
+        join_all(&mut nodes, slots);
+        *self = Ranking { nodes, slots };
+        Ok(())
     }
 
-    /// How many places there are.
-    pub fn len(&self) -> usize
-        ensures { result ≡ length self.now }
+    /// Gives a slot another standing.
+    pub fn set(&mut self, slot: usize, standing: Standing)
+        requires { slot < length self.old }
+        ensures { self.new ≡ slice_set self.old slot standing }
     {
-        self.places
+        let leaf = self.slots + slot;
+        self.nodes[leaf] = Rank {
+            standing,
+            slot: slot as u32,
+        };
+        join_up(&mut self.nodes, self.slots, leaf);
     }
 
-    /// Ranks spans anew.
-    pub fn fill(&mut self, spans: &[Span])
-        requires { length spans.now ≤ length self.old }
-        ensures places { length self.new ≡ length self.old }
-        ensures weights { (k : ℕ) → slice_index self.new k ≡ slice_index (map weight spans.now) k }
-    {
-        write_leaves(&mut self.nodes, self.places, spans);
-        join_all(&mut self.nodes, self.places);
-    }
-
-    /// Gives a place another weight.
-    pub fn set(&mut self, place: usize, weight: u32)
-        requires { place < length self.old }
-        ensures { self.new ≡ slice_set self.old place weight }
-    {
-        let leaf = self.places + place;
-        self.nodes[leaf] = Rank { weight, place };
-        join_up(&mut self.nodes, self.places, leaf);
-    }
-
-    /// The first place of the greatest weight, if one has a weight.
+    /// The slot of the best standing, if one has a weight.
     pub fn best(&self) -> Option<usize>
-        ensures { IsBestPlace self.now result }
+        ensures { IsBestSlot self.now result }
     {
-        if self.places == 0 {
+        if self.slots == 0 {
             return None;
         }
         let root = self.nodes[1];
-        if root.weight == 0 {
+        if root.standing.weight == 0 {
             None
         } else {
-            Some(root.place)
+            Some(root.slot as usize)
         }
     }
 }

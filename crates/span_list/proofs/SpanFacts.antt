@@ -5,10 +5,10 @@ use Rattle.std.proofs.lemmas.List.Sums.{sum_by-cons, sum_by-set, get_or-le-sum_b
 use Rattle.std.proofs.lemmas.List.Quantifiers.{position-Some}
 use Rattle.std.proofs.lemmas.Option.{none-some, slice_get_within, slice_get-get_or, get_or_from_slice_get}
 use Rattle.std.proofs.lemmas.List.{length-set, get_or-set_same, get_or-set_other}
-use Rattle.std.proofs.lemmas.Bool.{cases_lt, cases_eq, lt-ltb}
+use Rattle.std.proofs.lemmas.Bool.{cases_lt, cases_eq, lt-ltb, both_ways}
 use Rattle.std.proofs.lemmas.Nat.{div-mul-add}
 use Rattle.tc_units.specs.declared.units.Addr.{Addr}
-use Rattle.span_list.specs.Span.{SpanState, address, free_from, least, with_object, IsTaken}
+use Rattle.span_list.specs.Span.{SpanState, address, first_byte, free_from, least, with_object, IsTaken}
 
 -- each object is free or taken
 pub count_both : (xs : List Bool) → count_by (λ b. b) xs + count_by not xs ≡ length xs
@@ -132,6 +132,14 @@ IsTaken-after_take s i a less t =
         | inr differ ↦ still_taken s.free i t.index false differ t.taken
       ];
     }
+
+-- what a take gave wasn't taken before it
+pub IsTaken-fresh : (s : SpanState) (i : ℕ) → 0 < s.size → least s ≡ Some i → IsTaken s (address s i) → ⊥
+IsTaken-fresh s i some at t =
+    let first = position-Some (λ (b : Bool). b) s.free i true at in
+    let there = taken_place s.free t.index true t.taken in
+    let same : i ≡ t.index = sym (index_found s (address s i) i (first_byte s.span) s.size some refl refl refl) ∙ index_found s (address s i) t.index (first_byte s.span) s.size some t.at refl refl in
+    both_ways (get_or s.free i true) (ap (λ k. get_or s.free k true) same ∙ there.1) first.1
 
 -- a put leaves the other objects taken
 pub IsTaken-after_put : (s : SpanState) (a b : Addr) (i : ℕ) → a ≡ address s i → IsTaken s b → b ≢ a → IsTaken (with_object s i true) b

@@ -64,9 +64,10 @@ impl Span {
         ensures after { self.new ≡ after_take self.old (least self.old) }
         ensures none { IsNone result ↔ (free_count self.old ≡ 0) }
 
-        // It can be put back, and so can what was taken before.
+        // It can be put back, and so can what was taken before. It wasn't taken then.
         ensures given { IfSome result (IsTaken self.new) }
         ensures kept { (a : Addr) → IsTaken self.old a → IsTaken self.new a }
+        ensures fresh { IfSome result (λ a. ¬ (IsTaken self.old a)) }
 
         // The object isn't free any more, and the others are as before.
         ensures moves { (test : Addr → Bool) → count_by test (free_objects self.new) + count_by test (option_to_list result)

@@ -1,5 +1,5 @@
 //! Each public function, with answers that were worked out by hand.
-ghost use Rattle.std.specs.Prelude.{◌≡◌, ◌≢◌, ℕ, ◌<◌, ◌≤◌, All, length};
+ghost use Rattle.std.specs.Prelude.{◌≡◌, ◌≢◌, ℕ, ◌+◌, ◌<◌, ◌≤◌, ◌⊎◌, All, length};
 ghost use Rattle.std.specs.Bool.{OnTrue};
 ghost use Rattle.std.specs.List.{slice_index_or};
 ghost use Rattle.tc_units.specs.declared.units.Addr.{Addr};
@@ -67,18 +67,23 @@ fn a_span_whose_objects_are_all_back_leaves(rt: HostRuntime) -> Result<(), Fail>
     Ok(())
 }
 
+/// Whether two spans have no page in common.
+fn are_apart(span: SpanRef, other: SpanRef) -> bool
+    ensures { OnTrue result ((span.first.0 + span.pages ≤ other.first.0) ⊎ (other.first.0 + other.pages ≤ span.first.0)) }
+{
+    let (first, other_first) = (u64::from(span.first.0), u64::from(other.first.0));
+    first + u64::from(span.pages) <= other_first || other_first + u64::from(other.pages) <= first
+}
+
 /// Whether a span has no page of those of the list.
 fn is_clear(central: &CentralFree, span: SpanRef) -> bool
     ensures { OnTrue result (All (IsApartFrom span) central.now.spans) }
 {
-    let first = u64::from(span.first.0);
-    for other in &central.spans {
-        let held = other.span();
-        let other_first = u64::from(held.first.0);
-        if first + u64::from(span.pages) > other_first
-            && other_first + u64::from(held.pages) > first
-        {
-            return false;
+    for slot in 0..central.ranking.len() {
+        if let Some(other) = central.slots.get(slot) {
+            if !are_apart(span, other.span()) {
+                return false;
+            }
         }
     }
     true
@@ -145,15 +150,18 @@ fn spans_leave_in_the_order_of_their_last_objects(rt: HostRuntime) -> Result<(),
     Ok(())
 }
 
-/// The place of the span that serves next, by looking at every span.
+/// The slot of the span that serves next, by looking at every span in the order of first bytes.
 fn scanned(central: &CentralFree) -> Option<usize> {
     let mut best = None;
     let mut most = 0;
-    for (place, span) in central.spans.iter().enumerate() {
-        let heavy = weight(span);
-        if heavy > most {
-            most = heavy;
-            best = Some(place);
+    for (_, slot) in &central.order {
+        let slot = *slot as usize;
+        if let Some(span) = central.slots.get(slot) {
+            let heavy = weight(span);
+            if heavy > most {
+                most = heavy;
+                best = Some(slot);
+            }
         }
     }
     best
@@ -178,13 +186,16 @@ fn the_most_taken_span_serves_and_the_lowest_of_equals(rt: HostRuntime) -> Resul
 
     // Of the spans with two taken objects the one at 305 begins first; then it has three and goes on.
     for page in [305, 305, 310, 310, 330, 330, 300, 300, 300, 340, 340, 340] {
+        let mut out = Bag::open(rt.alloc(), 1)?;
         assert_eq!(rt; central.ranking.best(), scanned(&central));
+        assert_eq!(rt; central.take(1, &mut out), 1);
         assert_eq!(rt;
-            central.take_one().map(|object| object.0 / 8192),
+            out.as_slice().first().map(|object| object.0 / 8192),
             Some(page)
         );
     }
+    let mut out = Bag::open(rt.alloc(), 1)?;
     assert_eq!(rt; central.ranking.best(), None);
-    assert_eq!(rt; central.take_one(), None);
+    assert_eq!(rt; central.take(1, &mut out), 0);
     Ok(())
 }

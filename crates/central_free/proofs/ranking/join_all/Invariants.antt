@@ -4,4 +4,4 @@ use Rattle.central_free.proofs.ranking.join_all.Given as goal
 
 abbrev pub invariant-loop-above : goal.invariant-loop-above
 invariant-loop-above l =
-    HasSameLeaves l.places l.initial.nodes l.nodes × IsJoinedBehind l.places l.nodes (l.places - l.above)
+    HasSameLeaves l.slots l.initial.nodes l.nodes × IsJoinedBehind l.slots l.nodes (l.slots - l.above)

@@ -1,7 +1,7 @@
 use Rattle.std.proofs.Common.{◌≡◌, ◌*◌, ◌/◌, List, length, set, refl, sym, subst, arith}
 use Rattle.central_free.specs.declared.ranking.Rank.{Rank}
 use Rattle.central_free.specs.Ranking.{IsJoinedBut}
-use Rattle.central_free.proofs.RankWrites.{HasSameLeaves-more, HasLeaves-same, weights_of-same, IsJoinedBut-up, IsJoined-all}
+use Rattle.central_free.proofs.RankWrites.{HasSameLeaves-more, HasLeaves-same, standings_of-same, IsJoinedBut-up, IsJoined-all}
 use Rattle.central_free.proofs.ranking.join_up.Goals as goal
 
 pub loop-node-init : goal.loop-node-init
@@ -11,19 +11,19 @@ pub loop-node-preserved : goal.loop-node-preserved
 loop-node-preserved c =
     let m = c.loop-node.node / 2 in
     let nodes : List Rank = c.loop-node.nodes in
-    let size : length nodes ≡ 2 * c.args.places = omega (arith, c.requires.size) in
-    let P : Rank → Type 0 = λ r. IsJoinedBut c.args.places (set nodes m r) (m / 2) in (
+    let size : length nodes ≡ 2 * c.args.slots = omega (arith, c.requires.size) in
+    let P : Rank → Type 0 = λ r. IsJoinedBut c.args.slots (set nodes m r) (m / 2) in (
       omega (arith, c.loop-node.invariant.0),
-      HasSameLeaves-more c.args.places c.args.nodes.now nodes m c.better.result (omega (arith, c.loop-node.invariant.0)) c.loop-node.invariant.1,
-      subst P (sym c.better.ensures) (IsJoinedBut-up c.args.places nodes m (omega arith) (omega (arith, c.loop-node.invariant.0)) size c.loop-node.invariant.2),
+      HasSameLeaves-more c.args.slots c.args.nodes.now nodes m c.better.result (omega (arith, c.loop-node.invariant.0)) c.loop-node.invariant.1,
+      subst P (sym c.better.ensures) (IsJoinedBut-up c.args.slots nodes m (omega arith) (omega (arith, c.loop-node.invariant.0)) size c.loop-node.invariant.2),
     )
 
 pub returns-clause-leaves : goal.returns-clause-leaves
 returns-clause-leaves c =
-    HasLeaves-same c.args.places c.args.nodes.now c.loop-node.nodes c.requires.leaves c.loop-node.invariant.1
+    HasLeaves-same c.args.slots c.args.nodes.now c.loop-node.nodes c.requires.leaves c.loop-node.invariant.1
 
 pub returns-clause-joined : goal.returns-clause-joined
-returns-clause-joined c = IsJoined-all c.args.places c.loop-node.nodes c.loop-node.node (omega arith) c.loop-node.invariant.2
+returns-clause-joined c = IsJoined-all c.args.slots c.loop-node.nodes c.loop-node.node (omega arith) c.loop-node.invariant.2
 
-pub returns-clause-weights : goal.returns-clause-weights
-returns-clause-weights c = weights_of-same c.args.places c.args.nodes.now c.loop-node.nodes c.loop-node.invariant.1
+pub returns-clause-standings : goal.returns-clause-standings
+returns-clause-standings c = standings_of-same c.args.slots c.args.nodes.now c.loop-node.nodes c.loop-node.invariant.1

@@ -1,26 +1,26 @@
-use Rattle.std.proofs.Common.{◌≡◌, get_or, map, sym, ◌∙◌, ap, arith}
-use Rattle.std.proofs.lemmas.List.{get_or-map, get_or_past, length-map}
-use Rattle.central_free.specs.Central.{weight}
-use Rattle.central_free.proofs.RankWrites.{HasWritten-more, HasLeaves-written, weights-written}
+use Rattle.std.proofs.Common.{◌≡◌, sym, ◌∙◌, ap, arith}
+use Rattle.std.proofs.lemmas.List.{get_or_past}
+use Rattle.central_free.specs.Ranking.{no_rank, node_at}
+use Rattle.central_free.proofs.RankWrites.{HasWritten-more, HasLeaves-written, standings-written}
 use Rattle.central_free.proofs.ranking.write_leaves.Goals as goal
-use Rattle.central_free.proofs.ranking.write_leaves.Goals.{then-place-spans, else-place-spans}
+use Rattle.central_free.proofs.ranking.write_leaves.Goals.{then-slot-old, else-slot-old}
 
--- what is written is the span's weight, or 0 behind the spans
-read : (c : goal.Joined-place-spans) → c.if-place-spans.weight ≡ get_or (map weight c.args.spans.now) c.loop-place.place 0
+-- what is written is the rank's standing, or that of no span behind the ranks
+read : (c : goal.Joined-slot-old) → c.if-slot-old.standing ≡ (node_at c.args.old.now c.loop-slot.slot).standing
 read c =
-    elim c.if-place-spans.branch [
-      | then-place-spans w ↦ w.weight-is ∙ w.weight-weight.ensures ∙ ap weight (w.index-spans-place.is) ∙ sym (get_or-map weight c.args.spans.now c.loop-place.place w.index-spans-place.result 0 w.if-place-spans.true)
-      | else-place-spans w ↦ w.weight-is ∙ sym (get_or_past (map weight c.args.spans.now) c.loop-place.place 0 (omega (arith, length-map c.args.spans.now weight, w.if-place-spans.false)))
+    elim c.if-slot-old.branch [
+      | then-slot-old w ↦ w.standing-is
+      | else-slot-old w ↦ w.standing-is ∙ w.none-standing.ensures ∙ sym (ap (λ r. r.standing) (get_or_past c.args.old.now c.loop-slot.slot no_rank w.if-slot-old.false))
     ]
 
-pub loop-place-preserved : goal.loop-place-preserved
-loop-place-preserved c =
-    HasWritten-more c.args.places c.loop-place.nodes (map weight c.args.spans.now) c.loop-place.place c.if-place-spans.weight (omega (arith, c.requires.size)) c.loop-place-test.true (read c) c.loop-place.invariant
+pub loop-slot-preserved : goal.loop-slot-preserved
+loop-slot-preserved c =
+    HasWritten-more c.args.slots c.loop-slot.nodes c.args.old.now c.loop-slot.slot c.if-slot-old.standing (omega (arith, c.requires.size)) c.loop-slot-test.true (read c) c.loop-slot.invariant
 
 pub returns-clause-leaves : goal.returns-clause-leaves
 returns-clause-leaves c =
-    HasLeaves-written c.args.places c.loop-place.nodes (map weight c.args.spans.now) c.loop-place.place c.loop-place-test.false c.loop-place.invariant
+    HasLeaves-written c.args.slots c.loop-slot.nodes c.args.old.now c.loop-slot.slot c.loop-slot-test.false c.loop-slot.invariant
 
-pub returns-clause-weights : goal.returns-clause-weights
-returns-clause-weights c =
-    weights-written c.args.places c.loop-place.nodes (map weight c.args.spans.now) c.loop-place.place c.loop-place-test.false c.loop-place.invariant
+pub returns-clause-standings : goal.returns-clause-standings
+returns-clause-standings c =
+    standings-written c.args.slots c.loop-slot.nodes c.args.old.now c.loop-slot.slot c.loop-slot-test.false c.loop-slot.invariant

@@ -1,112 +1,54 @@
-use Rattle.std.proofs.Common.{◌≡◌, ◌+◌, ◌-◌, ◌<◌, ℕ, nat_le, map, List, [], ◌∷◌, length, get_or, set, count_by, sym, ◌∙◌, ap, subst, arith}
-use Rattle.std.proofs.lemmas.List.{get_or_read, get_or-set_same, length-set}
-use Rattle.std.proofs.lemmas.List.Edits.{length-remove}
+use Rattle.std.proofs.Common.{◌≡◌, ◌+◌, ℕ, List, Option, Some, None, [], ◌∷◌, set, count_by, sym, ◌∙◌, ap, subst}
+use Rattle.std.proofs.lemmas.Option.{same_Some}
+use Rattle.std.proofs.lemmas.List.{set-set}
 use Rattle.std.proofs.lemmas.Bool.{both_ways}
-use Rattle.std.specs.List.{flat_map, prefix_len}
-use Rattle.span_list.specs.Span.{SpanState, IsTaken, taken_count, objects_of, first_byte}
+use Rattle.std.specs.List.{flat_map, remove}
+use Rattle.std.specs.Map.{remove_entry}
+use Rattle.std.specs.BTreeMap.{is_at}
+use Rattle.std.specs.Ordering.{nat_cmp}
+use Rattle.span_list.specs.Span.{SpanState, taken_count, objects_of, first_byte}
 use Rattle.tc_units.specs.declared.spans.ClassRow.{ClassRow}
-use Rattle.central_free.specs.Central.{Central, put_one, weight, IsTakenIn, IsRanked, free_in}
-use Rattle.central_free.proofs.RankedFacts.{IsRanked-set}
-use Rattle.central_free.proofs.PutFacts.{place_found, IsPutOne, IsPutOne-stays, IsPutOne-leaves}
+use Rattle.central_free.specs.declared.ranking.Standing.{Standing}
+use Rattle.central_free.specs.Central.{Central, put_one, IsTakenIn, free_in}
+use Rattle.central_free.specs.Ranking.{no_standing}
+use Rattle.central_free.specs.Slots.{spans_of, standing_of, IsKept}
+use Rattle.central_free.proofs.SlotFacts.{slot_at-set, spans_of-set, IsKept-set, entry_gone, spans_of-remove, IsKept-remove}
+use Rattle.central_free.proofs.PutFacts.{IsFound, some_begun, slot_found, remove-set, IsPutOne, IsPutOne-stays, IsPutOne-leaves}
 use Rattle.central_free.proofs.central.CentralFree.put_one.Goals as goal
 
 abbrev central_of : ClassRow → List SpanState → Central
 central_of row spans = record { row = row; spans = spans }
 
-pub overflow_sub-place : goal.overflow_sub-place
-overflow_sub-place c =
-    let at = place_found c.self.inside.row c.self.inside.spans.items c.args.self.now.spans c.args.object c.begun_by-place.result c.self.invariant.0 (ap (λ t. t.spans) c.self.view_is) c.requires (c.begun_by-place.ensures ∙ ap (prefix_len (λ s. nat_le (first_byte s.span) c.args.object.0)) (c.deref.ensures.value ∙ ap (λ t. t.spans) c.self.view_is)) in
-    omega (arith, at.0)
-
-pub index_mut-requires : goal.index_mut-requires
-index_mut-requires c =
-    let at = place_found c.self.inside.row c.self.inside.spans.items c.args.self.now.spans c.args.object c.begun_by-place.result c.self.invariant.0 (ap (λ t. t.spans) c.self.view_is) c.requires (c.begun_by-place.ensures ∙ ap (prefix_len (λ s. nat_le (first_byte s.span) c.args.object.0)) (c.deref.ensures.value ∙ ap (λ t. t.spans) c.self.view_is)) in
-    omega (arith, at.1.within)
+pub last_begun-slot-requires : goal.last_begun-slot-requires
+last_begun-slot-requires c =
+    some_begun c.self.inside.row c.self.inside.slots.slots c.self.inside.order.entries c.self.inside.ranking c.args.self.now.spans c.args.object c.self.invariant.0 c.self.invariant.1 (ap (λ t. t.spans) c.self.view_is) c.requires
 
 pub put-requires : goal.put-requires
 put-requires c =
-    let at = place_found c.self.inside.row c.self.inside.spans.items c.args.self.now.spans c.args.object c.begun_by-place.result c.self.invariant.0 (ap (λ t. t.spans) c.self.view_is) c.requires (c.begun_by-place.ensures ∙ ap (prefix_len (λ s. nat_le (first_byte s.span) c.args.object.0)) (c.deref.ensures.value ∙ ap (λ t. t.spans) c.self.view_is)) in
-    let P : SpanState → Type 0 = λ s. IsTaken s c.args.object in
-    subst P (sym c.index_mut.ensures.value) (at.1.taken c.index_mut.result.now)
-
-pub remove-requires : goal.remove-requires
-remove-requires c =
-    let at = place_found c.self.inside.row c.self.inside.spans.items c.args.self.now.spans c.args.object c.begun_by-place.result c.self.invariant.0 (ap (λ t. t.spans) c.self.view_is) c.requires (c.begun_by-place.ensures ∙ ap (prefix_len (λ s. nat_le (first_byte s.span) c.args.object.0)) (c.deref.ensures.value ∙ ap (λ t. t.spans) c.self.view_is)) in
-    omega (arith, at.1.within)
-
--- a span leaves
-left : (c : goal.After-fill) → IsPutOne c.self.inside.row c.self.inside.spans.items c.args.object c.remove.new.self.items (c.span-left.result ∷ [])
-left c =
-    let k = c.begun_by-place.result - 1 in
-    let spans = c.self.inside.spans.items in
-    let at = place_found c.self.inside.row c.self.inside.spans.items c.args.self.now.spans c.args.object c.begun_by-place.result c.self.invariant.0 (ap (λ t. t.spans) c.self.view_is) c.requires (c.begun_by-place.ensures ∙ ap (prefix_len (λ s. nat_le (first_byte s.span) c.args.object.0)) (c.deref.ensures.value ∙ ap (λ t. t.spans) c.self.view_is)) in
-    let none : taken_count c.put.new.self ≡ 0 = c.put.ensures.all.0 c.if-put.true in
-    let gone : c.remove.result ≡ c.put.new.self = get_or_read (set spans k c.put.new.self) k c.remove.result (omega (arith, at.1.within, length-set spans k c.put.new.self)) c.remove.ensures.value c.put.new.self ∙ get_or-set_same spans k c.put.new.self c.put.new.self at.1.within in
-    let span : c.span-left.result ≡ c.index_mut.result.now.span = c.span-left.ensures ∙ ap (λ s. s.span) gone ∙ ap (λ s. s.span) c.put.ensures.after in
-    IsPutOne-leaves c.self.inside.row spans c.args.object k c.index_mut.result.now c.put.new.self c.remove.new.self.items c.span-left.result c.self.invariant.0 at.1 c.index_mut.ensures.value c.put.ensures.after none c.put.ensures.kept c.put.ensures.moves c.remove.ensures.items span
-
-pub invariant_of-self : goal.invariant_of-self
-invariant_of-self c =
-    let k = c.begun_by-place.result - 1 in
-    let spans = c.self.inside.spans.items in
-    let at = place_found c.self.inside.row c.self.inside.spans.items c.args.self.now.spans c.args.object c.begun_by-place.result c.self.invariant.0 (ap (λ t. t.spans) c.self.view_is) c.requires (c.begun_by-place.ensures ∙ ap (prefix_len (λ s. nat_le (first_byte s.span) c.args.object.0)) (c.deref.ensures.value ∙ ap (λ t. t.spans) c.self.view_is)) in
-    let shorter = length-remove (set spans k c.put.new.self) k (omega (arith, at.1.within, length-set spans k c.put.new.self)) in
-    let filled : c.deref-then-put.result.now ≡ c.remove.new.self.items = c.deref-then-put.ensures.value in (
-      (left c).sound,
-      record {
-        room = omega (arith, shorter, ap length c.remove.ensures.items, length-set spans k c.put.new.self, c.fill.ensures.places, c.self.invariant.1.room);
-        weights = λ k. c.fill.ensures.weights k ∙ ap (λ xs. get_or (map weight xs) k 0) filled;
-      },
-    )
-
-pub returns-then-put-clause-spans : goal.returns-then-put-clause-spans
-returns-then-put-clause-spans c =
-    ap (λ xs. central_of c.self.inside.row xs) ((left c).spans_are) ∙ ap (λ t. central_of t.row (put_one c.args.object t.spans).spans) c.self.view_is
-
-pub returns-then-put-clause-freed : goal.returns-then-put-clause-freed
-returns-then-put-clause-freed c = (left c).freed_are ∙ ap (λ t. (put_one c.args.object t.spans).freed) c.self.view_is
-
-pub returns-then-put-clause-sound : goal.returns-then-put-clause-sound
-returns-then-put-clause-sound c = (left c).sound
-
-pub returns-then-put-clause-kept : goal.returns-then-put-clause-kept
-returns-then-put-clause-kept c =
-    λ b there differ.
-    let P : Central → Type 0 = λ t. IsTakenIn t.spans b in
-    (left c).kept b (subst P (sym c.self.view_is) there) differ
-
-pub returns-then-put-clause-moves : goal.returns-then-put-clause-moves
-returns-then-put-clause-moves c =
-    λ test.
-    ap (λ t. count_by test (free_in c.remove.new.self.items) + count_by test (flat_map (objects_of t.row.size) (c.span-left.result ∷ []))) (sym c.self.view_is) ∙ (left c).moves test ∙ ap (λ t. count_by test (free_in t.spans) + count_by test (c.args.object ∷ [])) c.self.view_is
+    (slot_found c.self.inside.row c.self.inside.slots.slots c.self.inside.order.entries c.self.inside.ranking c.args.self.now.spans c.args.object c.last_begun-slot.result c.index_mut.result.now c.self.invariant.0 c.self.invariant.1 (ap (λ t. t.spans) c.self.view_is) c.requires c.last_begun-slot.ensures c.index_mut.ensures.value).taken
 
 -- the span stays
-stayed : (c : goal.After-set) → IsPutOne c.self.inside.row c.self.inside.spans.items c.args.object (set c.self.inside.spans.items (c.begun_by-place.result - 1) c.put.new.self) []
+found : (c : goal.After-set-else-put) → IsFound c.self.inside.slots.slots c.self.inside.order.entries c.args.object c.last_begun-slot.result c.index_mut.result.now
+found c =
+    slot_found c.self.inside.row c.self.inside.slots.slots c.self.inside.order.entries c.self.inside.ranking c.args.self.now.spans c.args.object c.last_begun-slot.result c.index_mut.result.now c.self.invariant.0 c.self.invariant.1 (ap (λ t. t.spans) c.self.view_is) c.requires c.last_begun-slot.ensures c.index_mut.ensures.value
+
+stayed : (c : goal.After-set-else-put) → IsPutOne c.self.inside.row (spans_of c.self.inside.slots.slots c.self.inside.order.entries) c.args.object (spans_of (set c.self.inside.slots.slots c.last_begun-slot.result (Some c.put.new.self)) c.self.inside.order.entries) []
 stayed c =
-    let k = c.begun_by-place.result - 1 in
-    let at = place_found c.self.inside.row c.self.inside.spans.items c.args.self.now.spans c.args.object c.begun_by-place.result c.self.invariant.0 (ap (λ t. t.spans) c.self.view_is) c.requires (c.begun_by-place.ensures ∙ ap (prefix_len (λ s. nat_le (first_byte s.span) c.args.object.0)) (c.deref.ensures.value ∙ ap (λ t. t.spans) c.self.view_is)) in
+    let spans = spans_of c.self.inside.slots.slots c.self.inside.order.entries in
+    let at = found c in
+    let s : SpanState = c.index_mut.result.now in
     let some : taken_count c.put.new.self ≡ 0 → ⊥ = λ none. both_ways c.put.result c.if-put.false (c.put.ensures.all.1 none) in
-    IsPutOne-stays c.self.inside.row c.self.inside.spans.items c.args.object k c.index_mut.result.now c.put.new.self c.self.invariant.0 at.1 c.index_mut.ensures.value c.put.ensures.after some c.put.ensures.kept c.put.ensures.moves
+    let P : List SpanState → Type 0 = λ xs. IsPutOne c.self.inside.row spans c.args.object xs [] in
+    subst P (sym (spans_of-set c.self.inside.slots.slots c.self.inside.order.entries c.last_begun-slot.result s c.put.new.self at.at at.stands)) (IsPutOne-stays c.self.inside.row spans c.args.object at.at s c.put.new.self c.self.invariant.0 at.place (sym (at.stands.span s)) c.put.ensures.after some c.put.ensures.kept c.put.ensures.moves)
 
 pub invariant_of-self-else-put : goal.invariant_of-self-else-put
 invariant_of-self-else-put c =
-    let k = c.begun_by-place.result - 1 in
-    let spans = c.self.inside.spans.items in
-    let at = place_found c.self.inside.row c.self.inside.spans.items c.args.self.now.spans c.args.object c.begun_by-place.result c.self.invariant.0 (ap (λ t. t.spans) c.self.view_is) c.requires (c.begun_by-place.ensures ∙ ap (prefix_len (λ s. nat_le (first_byte s.span) c.args.object.0)) (c.deref.ensures.value ∙ ap (λ t. t.spans) c.self.view_is)) in
-    let within : k < length spans = at.1.within in
-    let read : c.index.result.now ≡ c.put.new.self = get_or_read (set spans k c.put.new.self) k c.index.result.now (omega (arith, within, length-set spans k c.put.new.self)) c.index.ensures c.put.new.self ∙ get_or-set_same spans k c.put.new.self c.put.new.self within in
-    let Q : List ℕ → Type 0 = λ r. IsRanked (set spans k c.put.new.self) r in
-    ((stayed c).sound, subst Q (sym c.set.ensures) (IsRanked-set spans c.self.inside.ranking k c.weight.result c.put.new.self c.self.invariant.1 within (c.weight.ensures ∙ ap weight read)))
-
-pub index-requires : goal.index-requires
-index-requires c =
-    let at = place_found c.self.inside.row c.self.inside.spans.items c.args.self.now.spans c.args.object c.begun_by-place.result c.self.invariant.0 (ap (λ t. t.spans) c.self.view_is) c.requires (c.begun_by-place.ensures ∙ ap (prefix_len (λ s. nat_le (first_byte s.span) c.args.object.0)) (c.deref.ensures.value ∙ ap (λ t. t.spans) c.self.view_is)) in
-    omega (arith, at.1.within)
-
-pub set-requires : goal.set-requires
-set-requires c =
-    let at = place_found c.self.inside.row c.self.inside.spans.items c.args.self.now.spans c.args.object c.begun_by-place.result c.self.invariant.0 (ap (λ t. t.spans) c.self.view_is) c.requires (c.begun_by-place.ensures ∙ ap (prefix_len (λ s. nat_le (first_byte s.span) c.args.object.0)) (c.deref.ensures.value ∙ ap (λ t. t.spans) c.self.view_is)) in
-    omega (arith, at.1.within, c.self.invariant.1.room)
+    let slots : List (Option SpanState) = c.self.inside.slots.slots in
+    let k = c.last_begun-slot.result in
+    let t : SpanState = c.put.new.self in
+    let read : c.index.result.now ≡ t = same_Some c.index.result.now t (sym c.index.ensures ∙ slot_at-set slots k c.index_mut.result.now t c.index_mut.ensures.value) in
+    let Q : List Standing → Type 0 = λ r. IsKept (set slots k (Some t)) c.self.inside.order.entries r in
+    ((stayed c).sound, subst Q (sym (c.set-else-put.ensures ∙ ap (set c.self.inside.ranking k) (c.standing_of.ensures ∙ ap standing_of read))) (IsKept-set slots c.self.inside.order.entries c.self.inside.ranking k c.index_mut.result.now t c.self.invariant.1 c.index_mut.ensures.value (ap (λ u. u.span) c.put.ensures.after)))
 
 pub returns-else-put-clause-spans : goal.returns-else-put-clause-spans
 returns-else-put-clause-spans c =
@@ -128,3 +70,63 @@ pub returns-else-put-clause-moves : goal.returns-else-put-clause-moves
 returns-else-put-clause-moves c =
     λ test.
     (stayed c).moves test ∙ ap (λ t. count_by test (free_in t.spans) + count_by test (c.args.object ∷ [])) c.self.view_is
+
+-- the span leaves
+gone : (c : goal.After-set) → IsFound c.self.inside.slots.slots c.self.inside.order.entries c.args.object c.last_begun-slot.result c.index_mut.result.now
+gone c =
+    slot_found c.self.inside.row c.self.inside.slots.slots c.self.inside.order.entries c.self.inside.ranking c.args.self.now.spans c.args.object c.last_begun-slot.result c.index_mut.result.now c.self.invariant.0 c.self.invariant.1 (ap (λ t. t.spans) c.self.view_is) c.requires c.last_begun-slot.ensures c.index_mut.ensures.value
+
+-- its pages, and what is kept of it no more
+pages : (c : goal.After-set) → c.span-left.result ≡ c.index_mut.result.now.span
+pages c =
+    let t : SpanState = c.put.new.self in
+    let same : c.remove.result ≡ t = same_Some c.remove.result t (sym c.remove.ensures.value ∙ slot_at-set c.self.inside.slots.slots c.last_begun-slot.result c.index_mut.result.now t c.index_mut.ensures.value) in
+    c.span-left.ensures ∙ ap (λ s. s.span) same ∙ ap (λ s. s.span) c.put.ensures.after
+
+entries_left : (c : goal.After-set) → c.remove-then-put.new.self.entries ≡ remove c.self.inside.order.entries (gone c).at
+entries_left c =
+    let key : c.addr_of.result.0 ≡ first_byte c.index_mut.result.now.span = c.addr_of.ensures ∙ ap first_byte (pages c) in
+    c.remove-then-put.ensures.entries ∙ ap (λ q. remove_entry (is_at (nat_cmp q)) c.self.inside.order.entries) key ∙ entry_gone c.self.inside.row c.self.inside.slots.slots c.self.inside.order.entries c.self.inside.ranking c.last_begun-slot.result c.index_mut.result.now (gone c).at c.self.invariant.0 c.self.invariant.1 (gone c).stands
+
+slots_left : (c : goal.After-set) → c.remove.new.self.slots ≡ set c.self.inside.slots.slots c.last_begun-slot.result None
+slots_left c = c.remove.ensures.slots ∙ set-set c.self.inside.slots.slots c.last_begun-slot.result (Some c.put.new.self) None
+
+left : (c : goal.After-set) → IsPutOne c.self.inside.row (spans_of c.self.inside.slots.slots c.self.inside.order.entries) c.args.object (spans_of c.remove.new.self.slots c.remove-then-put.new.self.entries) (c.span-left.result ∷ [])
+left c =
+    let spans = spans_of c.self.inside.slots.slots c.self.inside.order.entries in
+    let at = gone c in
+    let s : SpanState = c.index_mut.result.now in
+    let t : SpanState = c.put.new.self in
+    let none : taken_count t ≡ 0 = c.put.ensures.all.0 c.if-put.true in
+    let is : spans_of c.remove.new.self.slots c.remove-then-put.new.self.entries ≡ remove (set spans at.at t) at.at = ap (λ xs. spans_of xs c.remove-then-put.new.self.entries) (slots_left c) ∙ ap (spans_of (set c.self.inside.slots.slots c.last_begun-slot.result None)) (entries_left c) ∙ spans_of-remove c.self.inside.slots.slots c.self.inside.order.entries c.last_begun-slot.result s at.at at.stands ∙ sym (remove-set spans at.at t) in
+    IsPutOne-leaves c.self.inside.row spans c.args.object at.at s t (spans_of c.remove.new.self.slots c.remove-then-put.new.self.entries) c.span-left.result c.self.invariant.0 at.place (sym (at.stands.span s)) c.put.ensures.after none c.put.ensures.kept c.put.ensures.moves is (pages c)
+
+pub invariant_of-self : goal.invariant_of-self
+invariant_of-self c =
+    let k = c.last_begun-slot.result in
+    let P : List (Option SpanState) → Type 0 = λ xs. IsKept xs c.remove-then-put.new.self.entries c.set.new.self in
+    let Q : List (ℕ × ℕ) → Type 0 = λ es. IsKept (set c.self.inside.slots.slots k None) es c.set.new.self in
+    let R : List Standing → Type 0 = IsKept (set c.self.inside.slots.slots k None) (remove c.self.inside.order.entries (gone c).at) in
+    let kept : R (set c.self.inside.ranking k no_standing) = IsKept-remove c.self.inside.slots.slots c.self.inside.order.entries c.self.inside.ranking k c.index_mut.result.now (gone c).at c.self.invariant.1 (gone c).stands in
+    ((left c).sound, subst P (sym (slots_left c)) (subst Q (sym (entries_left c)) (subst R (sym (c.set.ensures ∙ ap (set c.self.inside.ranking k) c.none.ensures)) kept)))
+
+pub returns-then-put-clause-spans : goal.returns-then-put-clause-spans
+returns-then-put-clause-spans c =
+    ap (λ xs. central_of c.self.inside.row xs) ((left c).spans_are) ∙ ap (λ t. central_of t.row (put_one c.args.object t.spans).spans) c.self.view_is
+
+pub returns-then-put-clause-freed : goal.returns-then-put-clause-freed
+returns-then-put-clause-freed c = (left c).freed_are ∙ ap (λ t. (put_one c.args.object t.spans).freed) c.self.view_is
+
+pub returns-then-put-clause-sound : goal.returns-then-put-clause-sound
+returns-then-put-clause-sound c = (left c).sound
+
+pub returns-then-put-clause-kept : goal.returns-then-put-clause-kept
+returns-then-put-clause-kept c =
+    λ b there differ.
+    let P : Central → Type 0 = λ t. IsTakenIn t.spans b in
+    (left c).kept b (subst P (sym c.self.view_is) there) differ
+
+pub returns-then-put-clause-moves : goal.returns-then-put-clause-moves
+returns-then-put-clause-moves c =
+    λ test.
+    ap (λ t. count_by test (free_in (spans_of c.remove.new.self.slots c.remove-then-put.new.self.entries)) + count_by test (flat_map (objects_of t.row.size) (c.span-left.result ∷ []))) (sym c.self.view_is) ∙ (left c).moves test ∙ ap (λ t. count_by test (free_in t.spans) + count_by test (c.args.object ∷ [])) c.self.view_is

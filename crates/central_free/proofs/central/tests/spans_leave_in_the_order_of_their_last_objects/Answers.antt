@@ -1,4 +1,4 @@
-use Rattle.std.proofs.Common.{◌≡◌, List, get_or, sym, ◌∙◌, subst, rules}
+use Rattle.std.proofs.Common.{◌≡◌, List, get_or, sym, subst, rules}
 use Rattle.std.specs.Prelude.{All}
 use Rattle.std.proofs.lemmas.List.Elements.{All-nil, All-append}
 use Rattle.tc_units.specs.declared.units.Addr.{Addr}

@@ -1,40 +1,44 @@
 use Rattle.std.proofs.Common.{◌≡◌, ◌+◌, ◌/◌, ◌^◌, ◌<◌, List, ◌++◌, take, drop, length, set, sym, ◌∙◌, ap, subst, arith, rules}
 use Rattle.std.proofs.lemmas.List.{length-set}
 use Rattle.central_free.specs.declared.ranking.Rank.{Rank}
-use Rattle.central_free.proofs.RankFacts.{length-weights_of}
-use Rattle.central_free.proofs.RankWrites.{rank, refill, HasLeaves-set, IsJoinedBut-leaf, weights_of-set}
-use Rattle.central_free.specs.Ranking.{HasLeaves, IsJoinedBut, weights_of}
+use Rattle.central_free.proofs.RankFacts.{length-standings_of}
+use Rattle.central_free.proofs.RankWrites.{rank, refill, HasLeaves-set, IsJoinedBut-leaf, standings_of-set}
+use Rattle.central_free.specs.Ranking.{HasLeaves, IsJoinedBut, standings_of}
 use Rattle.central_free.proofs.ranking.Ranking.set.Goals as goal
 
 pub index_mut-requires : goal.index_mut-requires
 index_mut-requires c =
-    omega (arith, c.self.invariant.0, c.requires, ap length c.self.view_is, length-weights_of c.self.inside.places c.self.inside.nodes.items)
+    omega (arith, c.self.invariant.0, c.requires, ap length c.self.view_is, length-standings_of c.self.inside.slots c.self.inside.nodes.items)
 
 pub overflow_add-leaf : goal.overflow_add-leaf
 overflow_add-leaf c =
     let small : c.self.inside.nodes.len < 2 ^ 64 = search rules in
-    omega (arith, small, c.self.invariant.0, c.requires, ap length c.self.view_is, length-weights_of c.self.inside.places c.self.inside.nodes.items)
+    omega (arith, small, c.self.invariant.0, c.requires, ap length c.self.view_is, length-standings_of c.self.inside.slots c.self.inside.nodes.items)
 
 pub join_up-requires-clause-inside : goal.join_up-requires-clause-inside
 join_up-requires-clause-inside c =
-    omega (arith, c.requires, ap length c.self.view_is, length-weights_of c.self.inside.places c.self.inside.nodes.items)
+    omega (arith, c.requires, ap length c.self.view_is, length-standings_of c.self.inside.slots c.self.inside.nodes.items)
 
 pub join_up-requires-clause-leaves : goal.join_up-requires-clause-leaves
 join_up-requires-clause-leaves c =
-    let P : List Rank → Type 0 = HasLeaves c.self.inside.places in
-    subst P (sym c.deref_mut.ensures.value) (HasLeaves-set c.self.inside.places c.self.inside.nodes.items c.args.place c.args.weight (omega (arith, c.self.invariant.0)) (omega (arith, c.requires, ap length c.self.view_is, length-weights_of c.self.inside.places c.self.inside.nodes.items)) c.self.invariant.1)
+    let P : List Rank → Type 0 = HasLeaves c.self.inside.slots in
+    subst P (sym c.deref_mut.ensures.value) (HasLeaves-set c.self.inside.slots c.self.inside.nodes.items c.args.slot c.args.standing (omega (arith, c.self.invariant.0)) (omega (arith, c.requires, ap length c.self.view_is, length-standings_of c.self.inside.slots c.self.inside.nodes.items)) c.self.invariant.1)
 
 pub join_up-requires-clause-others : goal.join_up-requires-clause-others
 join_up-requires-clause-others c =
-    let P : List Rank → Type 0 = λ ns. IsJoinedBut c.self.inside.places ns ((c.self.inside.places + c.args.place) / 2) in
-    subst P (sym c.deref_mut.ensures.value) (IsJoinedBut-leaf c.self.inside.places c.self.inside.nodes.items c.args.place (rank c.args.weight c.args.place) c.self.invariant.2)
+    let P : List Rank → Type 0 = λ ns. IsJoinedBut c.self.inside.slots ns ((c.self.inside.slots + c.args.slot) / 2) in
+    subst P (sym c.deref_mut.ensures.value) (IsJoinedBut-leaf c.self.inside.slots c.self.inside.nodes.items c.args.slot (rank c.args.standing c.args.slot) c.self.invariant.2)
 
 pub returns : goal.returns
 returns c =
     let nodes = c.self.inside.nodes in
-    let leaf = set nodes.items (c.self.inside.places + c.args.place) (rank c.args.weight c.args.place) in
+    let leaf = set nodes.items (c.self.inside.slots + c.args.slot) (rank c.args.standing c.args.slot) in
     let long : length nodes.items ≡ nodes.len = omega (arith, nodes.ok.0) in
-    let as_long : length leaf ≡ nodes.len = length-set nodes.items (c.self.inside.places + c.args.place) (rank c.args.weight c.args.place) ∙ long in
+    let as_long : length leaf ≡ nodes.len = length-set nodes.items (c.self.inside.slots + c.args.slot) (rank c.args.standing c.args.slot) ∙ long in
     let size : length c.join_up.new.nodes ≡ nodes.len = omega (arith, c.join_up.auto.nodes, c.deref_mut.ensures.len) in
     let written : take nodes.len (c.join_up.new.nodes ++ drop (length c.join_up.new.nodes) leaf) ≡ c.join_up.new.nodes = refill nodes.len c.join_up.new.nodes leaf size (omega arith) in
-    ap (weights_of c.self.inside.places) written ∙ c.join_up.ensures.weights ∙ ap (weights_of c.self.inside.places) c.deref_mut.ensures.value ∙ weights_of-set c.self.inside.places c.self.inside.nodes.items c.args.place c.args.weight (omega (arith, c.self.invariant.0)) (omega (arith, c.requires, ap length c.self.view_is, length-weights_of c.self.inside.places c.self.inside.nodes.items)) ∙ ap (λ ws. set ws c.args.place c.args.weight) c.self.view_is
+    ap (standings_of c.self.inside.slots) written ∙ c.join_up.ensures.standings ∙ ap (standings_of c.self.inside.slots) c.deref_mut.ensures.value ∙ standings_of-set c.self.inside.slots c.self.inside.nodes.items c.args.slot c.args.standing (omega (arith, c.self.invariant.0)) (omega (arith, c.requires, ap length c.self.view_is, length-standings_of c.self.inside.slots c.self.inside.nodes.items)) ∙ ap (λ ws. set ws c.args.slot c.args.standing) c.self.view_is
+
+pub overflow_cast-slot : goal.overflow_cast-slot
+overflow_cast-slot c =
+    omega (arith, c.requires, c.self.invariant.3, ap length c.self.view_is, length-standings_of c.self.inside.slots c.self.inside.nodes.items)

@@ -3,7 +3,7 @@ use Rattle.std.proofs.lemmas.List.{length-set}
 use Rattle.span_list.specs.Span.{SpanState, address, free_from, free_objects, with_object, IsTaken}
 use Rattle.tc_units.specs.declared.units.Addr.{Addr}
 use Rattle.std.proofs.lemmas.List.Quantifiers.{position-Some}
-use Rattle.span_list.proofs.SpanFacts.{count_none, count_some, take_counts, take_moves, IsTaken-given, IsTaken-after_take}
+use Rattle.span_list.proofs.SpanFacts.{count_none, count_some, take_counts, take_moves, IsTaken-given, IsTaken-after_take, IsTaken-fresh}
 use Rattle.span_list.proofs.span.Span.take.Goals as goal
 
 pub returns-in_err-index-clause-none : goal.returns-in_err-index-clause-none
@@ -54,3 +54,12 @@ returns-clause-kept c =
     let P : List Bool → Type 0 = λ xs. IsTaken (record { span = c.self.inside.span; size = c.self.inside.size; free = xs }) a in
     let Q : SpanState → Type 0 = λ t. IsTaken t a in
     subst P (sym c.take.ensures) (IsTaken-after_take s c.in_ok-index.index a (position-Some (λ (b : Bool). b) c.self.inside.free c.in_ok-index.index true first).0 (subst Q (sym c.self.view_is) taken))
+
+pub returns-clause-fresh : goal.returns-clause-fresh
+returns-clause-fresh c =
+    let first : position (λ b. b) c.self.inside.free ≡ Some c.in_ok-index.index = sym c.first.ensures ∙ c.in_ok-index.was in
+    let s : SpanState = record { span = c.self.inside.span; size = c.self.inside.size; free = c.self.inside.free } in
+    λ taken.
+    let P : SpanState → Type 0 = λ t. IsTaken t (address s c.in_ok-index.index) in
+    let Q : Addr → Type 0 = IsTaken c.args.self.now in
+    IsTaken-fresh s c.in_ok-index.index c.self.invariant.0.some first (subst P (sym c.self.view_is) (subst Q c.address.ensures taken))
