@@ -4,7 +4,7 @@ use Rattle.tc_units.specs.declared.units.Addr.{Addr}
 use Rattle.tc_units.specs.declared.units.Class.{Class}
 use Rattle.tc_units.specs.declared.spans.SpanRef.{SpanRef}
 use Rattle.span_list.specs.Span.{SpanState, free_count}
-use Rattle.central_free.specs.Central.{Central, taken, put_all, free_in}
+use Rattle.central_free.specs.Central.{Central, taken, put_all, IsTakenIn, AreDifferent, free_in}
 use Rattle.transfer_cache.specs.Transfer.{Transfer, last_first, without_last}
 
 -- a shard as contracts see it: its class, its transfer cache, and its spans
@@ -54,3 +54,8 @@ freed_by list s = if fits_in s list then [] else (put_all list s.central.spans).
 -- the objects that a shard has: those of its transfer cache and the free ones of its spans
 abbrev pub places : Shard → List Addr
 places s = s.transfer.objects ++ free_in s.central.spans
+
+-- objects are out of a shard: with those of its transfer cache they are taken objects of its spans, all different
+pub record IsOut (s : Shard) (objects : List Addr) : Type 0 where
+  pub taken : All (IsTakenIn s.central.spans) (s.transfer.objects ++ objects)
+  pub different : AreDifferent (s.transfer.objects ++ objects)

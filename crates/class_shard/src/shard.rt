@@ -1,11 +1,11 @@
 //! One class's objects that no cache holds: the transfer cache serves first, then the spans.
-ghost use Rattle.std.specs.Prelude.{◌≡◌, ◌≢◌, ◌+◌, ◌*◌, ◌<◌, ◌≤◌, ◌↔◌, Bool, [], ◌++◌, All, IfOk, OnErr, OnOk, count_by, length};
+ghost use Rattle.std.specs.Prelude.{◌≡◌, ◌≢◌, List, ◌+◌, ◌*◌, ◌<◌, ◌≤◌, ◌↔◌, Bool, [], ◌++◌, All, IfOk, OnErr, OnOk, count_by, length};
 ghost use Rattle.std.specs.List.{flat_map};
 ghost use Rattle.tc_units.specs.Units.{page_bytes};
 ghost use Rattle.tc_units.specs.declared.units.Addr.{Addr};
 ghost use Rattle.span_list.specs.Span.{objects_of};
 ghost use Rattle.central_free.specs.Central.{opened, opening, with_span, IsTakenIn, AreDifferent, IsApartFrom, IsSound};
-ghost use Rattle.class_shard.specs.Shard.{with_spans, fetched, after_fetch, after_give, freed_by, places, IsEmpty};
+ghost use Rattle.class_shard.specs.Shard.{with_spans, fetched, after_fetch, after_give, freed_by, places, IsEmpty, IsOut};
 
 use central_free::CentralFree;
 use std::alloc::{AllocError, Global};
@@ -78,6 +78,9 @@ impl ClassShard {
         ensures given { All (IsTakenIn self.old.central.spans) self.old.transfer.objects → All (IsTakenIn self.new.central.spans) (fetched n self.old) }
         ensures kept { (a : Addr) → IsTakenIn self.old.central.spans a → IsTakenIn self.new.central.spans a }
 
+        // They are different from each other and from all that is out already.
+        ensures owned { (others : List Addr) → IsOut self.old others → IsOut self.new (fetched n self.old ++ others) }
+
         // Objects move from the shard to the list: none is lost, and none comes twice.
         ensures moves { (test : Addr → Bool) → count_by test (places self.new) + count_by test out.new.items
             ≡ count_by test (places self.old) + count_by test out.old.items }
@@ -117,6 +120,7 @@ impl ClassShard {
         ensures given { OnOk result (All (IsTakenIn self.new.central.spans) (opening span self.old.central.row.size n)) }
         ensures different { OnOk result (AreDifferent (opening span self.old.central.row.size n)) }
         ensures kept { OnOk result ((a : Addr) → IsTakenIn self.old.central.spans a → IsTakenIn self.new.central.spans a) }
+        ensures owned { OnOk result ((others : List Addr) → IsOut self.old others → IsOut self.new (opening span self.old.central.row.size n ++ others)) }
 
         // The span's objects are in the shard and the list then, beside what was there.
         ensures moves { OnOk result ((test : Addr → Bool) → count_by test (places self.new) + count_by test out.new.items
@@ -140,6 +144,9 @@ impl ClassShard {
 
         // Any other object that was taken still is.
         ensures kept { (a : Addr) → IsTakenIn self.old.central.spans a → All (λ b. a ≢ b) list.now → IsTakenIn self.new.central.spans a }
+
+        // What else is out stays so.
+        ensures owned { (others : List Addr) → IsOut self.old (list.now ++ others) → IsOut self.new others }
 
         // Objects move from the list to the shard and the spans that left it.
         ensures moves { (test : Addr → Bool) → count_by test (places self.new) + count_by test (flat_map (objects_of self.old.central.row.size) (freed_by list.now self.old))

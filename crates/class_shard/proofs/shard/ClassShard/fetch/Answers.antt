@@ -1,22 +1,14 @@
-use Rattle.std.proofs.Common.{◌≡◌, ◌-◌, ◌==◌, List, [], ◌∷◌, ◌++◌, length, reverse, drop, sym, ◌∙◌, ap, subst, inr, arith}
+use Rattle.std.proofs.Common.{◌-◌, ◌==◌, List, ◌++◌, length, drop, sym, ◌∙◌, ap, subst, inr}
 use Rattle.std.specs.Prelude.{All}
 use Rattle.std.proofs.lemmas.Bool.{cond-true, cond-false, eq-eqb, ne_eqb}
-use Rattle.std.proofs.lemmas.Grind.{reverse_onto}
-use Rattle.std.proofs.lemmas.List.Elements.{All-nil, All-cons, All-head, All-tail, All-append, All-drop}
+use Rattle.std.proofs.lemmas.List.Elements.{All-drop}
 use Rattle.tc_units.specs.declared.units.Addr.{Addr}
-use Rattle.span_list.specs.Span.{free_count}
 use Rattle.central_free.specs.Central.{taken, IsTakenIn}
 use Rattle.transfer_cache.specs.Transfer.{last_first}
-use Rattle.class_shard.specs.Shard.{Shard, IsEmpty, fetched}
+use Rattle.class_shard.specs.Shard.{Shard, IsEmpty, IsOut, fetched}
+use Rattle.class_shard.proofs.OutFacts.{All-reverse, IsOut-spans, IsOut-cached}
 use Rattle.class_shard.proofs.shard.ClassShard.fetch.Goals as goal
 use Rattle.class_shard.proofs.shard.ClassShard.fetch.Goals.{then-held-eq0, else-held-eq0}
-
--- a fact of each element, in the list turned round
-All-reverse : (P : Addr → Type 0) (xs : List Addr) → All P xs → All P (reverse xs)
-All-reverse P [] all = all
-All-reverse P (x ∷ xs) all =
-    subst (All P) (sym (reverse_onto xs x []))
-    (All-append P (reverse xs) (x ∷ []) (All-reverse P xs (All-tail P x xs all)) (All-cons P x [] (All-head P x xs all) (All-nil P)))
 
 pub returns-then-came-eq0-clause-kept : goal.returns-then-came-eq0-clause-kept
 returns-then-came-eq0-clause-kept c =
@@ -63,4 +55,28 @@ returns-else-came-eq0-clause-given c =
       | else-held-eq0 w ↦
           (let G : Shard → Type 0 = λ t. Q t cached in
           subst F (sym (cond-false (length s.transfer.objects == 0) spans cached (ne_eqb (length s.transfer.objects) 0 (λ none. w.if-held-eq0.false (c.held.ensures.held ∙ none))))) (subst G (sym w.self-is) (All-reverse (IsTakenIn s.central.spans) (drop early s.transfer.objects) (All-drop (IsTakenIn s.central.spans) early s.transfer.objects all))))
+    ])
+
+pub returns-then-came-eq0-clause-owned : goal.returns-then-came-eq0-clause-owned
+returns-then-came-eq0-clause-owned c =
+    λ others.
+    let s : Shard = record { class = c.self.inside.class; transfer = c.self.inside.transfer; central = c.self.inside.central } in
+    let P : Shard → Type 0 = λ t. IsOut t others → IsOut c.if-held-eq0.self (fetched c.args.n t ++ others) in
+    let Q : Shard → Type 0 = λ t. IsOut t (fetched c.args.n s ++ others) in
+    subst P c.self.view_is (λ out. elim c.if-held-eq0.branch [
+      | then-held-eq0 w ↦ (let came = w.take-came.ensures in
+          subst Q (sym w.self-is) (IsOut-spans s w.take-came.new.self c.args.n others (sym c.held.ensures.held ∙ w.if-held-eq0.true) came.given came.fresh came.different came.kept out))
+      | else-held-eq0 w ↦ subst Q (sym w.self-is) (IsOut-cached s w.take-came-else-held-eq0.new.self c.args.n others (λ none. w.if-held-eq0.false (c.held.ensures.held ∙ none)) (ap (λ t. t.objects) w.take-came-else-held-eq0.ensures.objects) out)
+    ])
+
+pub returns-else-came-eq0-clause-owned : goal.returns-else-came-eq0-clause-owned
+returns-else-came-eq0-clause-owned c =
+    λ others.
+    let s : Shard = record { class = c.self.inside.class; transfer = c.self.inside.transfer; central = c.self.inside.central } in
+    let P : Shard → Type 0 = λ t. IsOut t others → IsOut c.if-held-eq0.self (fetched c.args.n t ++ others) in
+    let Q : Shard → Type 0 = λ t. IsOut t (fetched c.args.n s ++ others) in
+    subst P c.self.view_is (λ out. elim c.if-held-eq0.branch [
+      | then-held-eq0 w ↦ (let came = w.take-came.ensures in
+          subst Q (sym w.self-is) (IsOut-spans s w.take-came.new.self c.args.n others (sym c.held.ensures.held ∙ w.if-held-eq0.true) came.given came.fresh came.different came.kept out))
+      | else-held-eq0 w ↦ subst Q (sym w.self-is) (IsOut-cached s w.take-came-else-held-eq0.new.self c.args.n others (λ none. w.if-held-eq0.false (c.held.ensures.held ∙ none)) (ap (λ t. t.objects) w.take-came-else-held-eq0.ensures.objects) out)
     ])
