@@ -17,7 +17,7 @@ use Rattle.tc_model.proofs.Lists.{set_here, set_elsewhere}
 use Rattle.name_table.specs.declared.table.NameState.{NameState}
 use Rattle.name_table.specs.declared.table.NameState.TheVariants as name
 use Rattle.name_table.specs.Names.{state_of}
-use Rattle.call_steps.specs.declared.step.HeapStep.TheVariants.{New, GiveBack}
+use Rattle.call_steps.specs.declared.step.HeapStep.TheVariants.{New, GiveBack, Unback}
 use Rattle.call_steps.specs.declared.step.MapStep.TheVariants.{Set, Lookup, Clear}
 use Rattle.call_steps.specs.declared.step.NamesStep.TheVariants.{Publish, Take}
 use Rattle.call_steps.specs.declared.step.Step.{Step}
@@ -25,7 +25,7 @@ use Rattle.call_steps.specs.declared.step.Step.TheVariants as does
 use Rattle.call_steps.specs.Local.{Local, Decided, first_of_call, first_step, others, under, goes_on, ends}
 use Rattle.alloc_rules.specs.State.{State, Setup, bit}
 use Rattle.alloc_rules.specs.Weights.{publishing, unbuilt, unbuilt_in, unbuilt_of, is_out, Facts}
-use Rattle.alloc_rules.specs.Rows.{Row, NewNone, NewRun, SetSpan, PublishName, TakeNull, TakeSome, LookupSpan, ClearSpan, FreeRun}
+use Rattle.alloc_rules.specs.Rows.{Row, NewNone, NewRun, SetSpan, PublishName, TakeNull, TakeSome, LookupSpan, ClearSpan, FreeRun, ReleasePages}
 use Rattle.alloc_rules.specs.Scripts.{IsOfCall, IsIn, AreIn}
 use Rattle.call_steps.specs.Kept.{call_at}
 use Rattle.alloc_rules.proofs.Sums.{least, name_cases}
@@ -35,7 +35,7 @@ use Rattle.alloc_rules.proofs.Named.{within_by}
 of_call : (rows : List ClassRow) (c : Call) → unbuilt rows c ≡ 0 → IsOfCall (first_of_call c) (Some c)
 of_call rows (Malloc label size) built = refl
 of_call rows (Free label) built = refl
-of_call rows (Release pages) built = absurd (omega arith)
+of_call rows (Release pages) built = refl
 of_call rows (Drain cpu) built = absurd (omega arith)
 of_call rows (Resize cpu class cap) built = absurd (omega arith)
 
@@ -116,6 +116,7 @@ row_out m s l (TakeSome label a is state) = written_out s.names label.0 name.Tak
 row_out m s l (LookupSpan label a r is at there) = λ x out. out
 row_out m s l (ClearSpan label r is) = λ x out. out
 row_out m s l (FreeRun label r is) = λ x out. out
+row_out m s l (ReleasePages pages unbacked is) = λ x out. out
 
 -- A local that goes on within its call stays in its script, and one that ends a call comes to the next.
 stays_in : (names names' : List NameState) (script : List Planned) (l : Local) (step : Step) (new : List Decided) → StayOut names names' → IsIn names script l → IsOfCall step (call_at script l.ended) → Decides script l (l.ended + under step) new → IsIn names' script (goes_on l step new)
@@ -146,6 +147,9 @@ comes_to_next rows names names' script l new built stay inside last decides =
 -- a call is not two
 not_put : (label other : Label) (size : ℕ) (o : Option Call) → o ≡ Some (Free label) → o ≡ Some (Malloc other size) → ⊥
 not_put label other size o put get = let e : Some (Free label) ≡ Some (Malloc other size) = sym put ∙ get in absurd (cc)
+
+not_release : (pages : ℕ) (other : Label) (size : ℕ) (o : Option Call) → o ≡ Some (Release pages) → o ≡ Some (Malloc other size) → ⊥
+not_release pages other size o release get = let e : Some (Release pages) ≡ Some (Malloc other size) = sym release ∙ get in absurd (cc)
 
 same_label : (label other : Label) (size size' : ℕ) (o : Option Call) → o ≡ Some (Malloc label size) → o ≡ Some (Malloc other size') → label ≡ other
 same_label label other size size' o one two = let e : Some (Malloc label size) ≡ Some (Malloc other size') = sym one ∙ two in cc
@@ -198,6 +202,11 @@ row_in m s cs t l script f local (FreeRun label r is) inside =
     let u = ap under is in
     let built : unbuilt_in m.rows l.rest ≡ 0 = omega (arith, f.large, least (unbuilt_of m.rows) s.locals t l local) in
     comes_to_next m.rows s.names s.names script l _ built (λ x out. out) inside (λ other size at. absurd (not_put label other size (call_at script l.ended) call at)) (refl, u, call)
+row_in m s cs t l script f local (ReleasePages pages unbacked is) inside =
+    let call : IsOfCall (does.Heap (Unback pages)) (call_at script l.ended) = subst (λ x. IsOfCall x (call_at script l.ended)) is inside.call in
+    let u = ap under is in
+    let built : unbuilt_in m.rows l.rest ≡ 0 = omega (arith, f.large, least (unbuilt_of m.rows) s.locals t l local) in
+    comes_to_next m.rows s.names s.names script l _ built (λ x out. out) inside (λ other size at. absurd (not_release pages other size (call_at script l.ended) call at)) (refl, u, call)
 
 -- all locals
 pub are_in : (m : Setup) (s : State) (cs : List CallLine) (t : ℕ) (l : Local) (heap spans : List Run) (names : List NameState) (l' : Local) (new : List Decided) → Facts m s cs → slice_get s.locals t ≡ Some l → Row m s l heap spans names l' new → AreIn m s → AreIn m (record { heap = heap; spans = spans; names = names; locals = slice_set s.locals t l' })

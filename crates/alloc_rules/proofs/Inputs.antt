@@ -121,7 +121,7 @@ adds rows x earlier (Free label) order =
         | inr other ↦ (let e : bit (eqb label.0 x) ≡ 0 = ap bit (ne_eqb label.0 x other) in absurd (omega (arith, some, e)))
       ];
     }
-adds rows x earlier (Release pages) order = absurd order
+adds rows x earlier (Release pages) order = record { got_once = λ most. omega arith; put_once = λ most. omega arith; got_first = λ some. absurd (omega arith) }
 adds rows x earlier (Drain cpu) order = absurd order
 adds rows x earlier (Resize cpu class cap) order = absurd order
 
@@ -181,7 +181,7 @@ got_below x most (c ∷ cs) some =
 built : (rows : List ClassRow) (earlier : List ThreadCall) (call : Call) → IsInOrder rows earlier call → unbuilt rows call ≡ 0
 built rows earlier (Malloc label size) order = ap (λ b. bit (not b)) order.0
 built rows earlier (Free label) order = refl
-built rows earlier (Release pages) order = absurd order
+built rows earlier (Release pages) order = refl
 built rows earlier (Drain cpu) order = absurd order
 built rows earlier (Resize cpu class cap) order = absurd order
 

@@ -6,9 +6,9 @@ use Rattle.std.proofs.lemmas.List.Elements.{All-filter}
 use Rattle.tc_units.specs.declared.units.Addr.{Addr}
 use Rattle.tc_units.specs.declared.units.Label.{Label}
 use Rattle.tc_units.specs.declared.units.ThreadNo.{ThreadNo}
-use Rattle.tc_model.specs.declared.calls.Call.TheVariants.{Malloc, Free}
+use Rattle.tc_model.specs.declared.calls.Call.TheVariants.{Malloc, Free, Release}
 use Rattle.tc_model.specs.declared.answers.Answer.{Answer}
-use Rattle.tc_model.specs.declared.answers.Answer.TheVariants.{Block, NoBlock, Freed, FreedNull}
+use Rattle.tc_model.specs.declared.answers.Answer.TheVariants.{Block, NoBlock, Freed, FreedNull, Released}
 use Rattle.tc_model.specs.declared.answers.CallLine.{CallLine}
 use Rattle.tc_model.specs.Blocks.{Extent, with_block, meets, blocks_after, allocates, frees, answer_to, freed_in, IsFreePlace}
 use Rattle.alloc_rules.specs.Kept.{HasBlock, IsOfMalloc, AreKept}
@@ -139,6 +139,19 @@ module _ (round : ℕ → ℕ) (huge : ℕ) (calls : List CallLine) (thread : Th
         answers = λ l answer h. elim (answer_before calls line l answer h) [ inl before ↦ kept.answers l answer before | inr mine ↦ subst IsOfMalloc mine.1 tt ];
         known = known_after calls line kept.known (λ l h. absurd (false≢true h));
       }
+
+-- a release
+pub kept_released : (round : ℕ → ℕ) (huge : ℕ) (calls : List CallLine) (thread : ThreadNo) (pages unbacked : ℕ) → AreKept round huge calls → AreKept round huge (calls ++ record { thread = thread; call = Release pages; answer = Released unbacked } ∷ [])
+kept_released round huge calls thread pages unbacked kept =
+    let c : CallLine = record { thread = thread; call = Release pages; answer = Released unbacked } in
+    record {
+      run = IsBlockRun-push round huge calls c kept.run tt;
+      some = subst (All (λ b. 0 < b.len)) (sym (blocks_after-push calls c)) kept.some;
+      stands = λ l addr len has. ap (find (λ b. b.addr == addr.0)) (blocks_after-push calls c) ∙ kept.stands l addr len (has_block_before calls c l addr len refl has);
+      distinct = λ l m addr n k has hasm. kept.distinct l m addr n k (has_block_before calls c l addr n refl has) (has_block_before calls c m addr k refl hasm);
+      answers = λ l answer h. elim (answer_before calls c l answer h) [ inl before ↦ kept.answers l answer before | inr new ↦ absurd (false≢true new.0) ];
+      known = known_after calls c kept.known (λ l h. absurd (false≢true h));
+    }
 
 -- a free of null
 pub kept_freed_null : (round : ℕ → ℕ) (huge : ℕ) (calls : List CallLine) (thread : ThreadNo) (label : Label) → AreKept round huge calls → answer_to label.0 calls ≡ Some NoBlock → AreKept round huge (calls ++ record { thread = thread; call = Free label; answer = FreedNull } ∷ [])

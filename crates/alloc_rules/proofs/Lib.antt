@@ -12,6 +12,7 @@ pub mod SetAct
 pub mod LookupAct
 pub mod ClearAct
 pub mod FreeAct
+pub mod ReleaseAct
 pub mod RowFacts
 pub mod Owned
 pub mod Bags

@@ -12,7 +12,7 @@ use Rattle.call_steps.specs.declared.step.Step.TheVariants as does
 use Rattle.alloc_rules.specs.State.{State, Setup, bit, same_run, runs_like}
 use Rattle.call_steps.specs.Acts.{address_of}
 use Rattle.call_steps.specs.Local.{Local, goes_on}
-use Rattle.call_steps.specs.declared.step.HeapStep.TheVariants.{New, GiveBack}
+use Rattle.call_steps.specs.declared.step.HeapStep.TheVariants.{New, GiveBack, Unback}
 use Rattle.call_steps.specs.declared.step.MapStep.TheVariants.{Set, Lookup, Clear}
 use Rattle.call_steps.specs.declared.step.NamesStep.TheVariants.{Publish, Take}
 use Rattle.call_steps.specs.declared.step.Step.{Step}
@@ -29,6 +29,7 @@ unmapped_held r (does.Names (Take label)) = omega arith
 unmapped_held r (does.Map (Lookup label a)) = omega arith
 unmapped_held r (does.Map (Clear label x)) = omega arith
 unmapped_held r (does.Heap (GiveBack label x)) = same_run_start x r
+unmapped_held r (does.Heap (Unback pages)) = omega arith
 unmapped_held r does.Ended = omega arith
 
 clears_held : (r : Run) (step : Step) → clears r step ≤ has_at (r.first.0 * page_bytes) step
@@ -39,6 +40,7 @@ clears_held r (does.Names (Take label)) = omega arith
 clears_held r (does.Map (Lookup label a)) = omega arith
 clears_held r (does.Map (Clear label x)) = same_run_start x r
 clears_held r (does.Heap (GiveBack label x)) = omega arith
+clears_held r (does.Heap (Unback pages)) = omega arith
 clears_held r does.Ended = omega arith
 
 module _ (m : Setup) (s : State) (cs : List CallLine) (t : ℕ) (l : Local) (label : Label) (a : Addr) (f : Facts m s cs) (local : slice_get s.locals t ≡ Some l) (is : l.step ≡ does.Map (Lookup label a)) where

@@ -18,7 +18,7 @@ use Rattle.name_table.specs.declared.table.NameState.TheVariants as name
 use Rattle.alloc_rules.specs.Kept.{HasBlock}
 use Rattle.call_steps.specs.declared.step.Step.TheVariants as does
 use Rattle.alloc_rules.specs.State.{State, Setup, bit}
-use Rattle.call_steps.specs.declared.step.HeapStep.TheVariants.{New, GiveBack}
+use Rattle.call_steps.specs.declared.step.HeapStep.TheVariants.{New, GiveBack, Unback}
 use Rattle.call_steps.specs.declared.step.MapStep.TheVariants.{Set, Lookup, Clear}
 use Rattle.call_steps.specs.declared.step.NamesStep.TheVariants.{Publish, Take}
 use Rattle.call_steps.specs.declared.step.Step.{Step}
@@ -89,6 +89,7 @@ holds_at x a (does.Names (Publish label (Some b))) = bit_and (eqb label.0 x) (eq
 holds_at x a (does.Names (Take label)) = omega arith
 holds_at x a (does.Map (Lookup label b)) = bit_and (eqb label.0 x) (eqb b.0 a.0)
 holds_at x a (does.Map (Clear label r)) = bit_and (eqb label.0 x) (eqb (r.first.0 * page_bytes) a.0)
+holds_at x a (does.Heap (Unback pages)) = omega arith
 holds_at x a (does.Heap (GiveBack label r)) = bit_and (eqb label.0 x) (eqb (r.first.0 * page_bytes) a.0)
 holds_at x a does.Ended = omega arith
 

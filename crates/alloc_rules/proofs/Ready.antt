@@ -10,7 +10,7 @@ use Rattle.tc_model.specs.Run.{World, world_of, run}
 use Rattle.tc_model.specs.Sound.{FitsThere, IsSound, IsOrder}
 use Rattle.name_table.specs.Names.{state_of}
 use Rattle.heap_rules.specs.declared.config.HeapConfig.{HeapConfig}
-use Rattle.call_steps.specs.declared.step.HeapStep.TheVariants.{New, GiveBack}
+use Rattle.call_steps.specs.declared.step.HeapStep.TheVariants.{New, GiveBack, Unback}
 use Rattle.call_steps.specs.declared.step.MapStep.TheVariants.{Set, Lookup, Clear}
 use Rattle.call_steps.specs.declared.step.NamesStep.TheVariants.{Publish, Take}
 use Rattle.call_steps.specs.declared.step.Step.{Step}
@@ -51,6 +51,7 @@ module _ (m : Setup) (config : HeapConfig) (p : Parts) (s : State) (order : List
       let some : 0 < size = large_some m.rows size block in
       at_part 0 place (part.Heap p.heap) (does.Heap (New label size)) is (cc) refl (omega arith, large_most m.rows size block)
   ready_by (does.Heap (GiveBack label r)) place is want = at_part 0 place (part.Heap p.heap) (does.Heap (GiveBack label r)) is (cc) refl (give_there m config p s (calls s.locals order) t l h.facts st limits local label r is)
+  ready_by (does.Heap (Unback pages)) place is want = at_part 0 place (part.Heap p.heap) (does.Heap (Unback pages)) is (cc) refl tt
   ready_by (does.Map (Set label r)) place is want = at_part 1 place (part.Map p.map) (does.Map (Set label r)) is (cc) refl (set_inside m config p s (calls s.locals order) t l h.facts st limits local label r is, set_apart m config p s (calls s.locals order) t l h.facts st limits local label r is)
   ready_by (does.Map (Lookup label a)) place is want = let found = lookup_there m config p s (calls s.locals order) t l h.facts st limits local label a is in at_part 1 place (part.Map p.map) (does.Map (Lookup label a)) is (cc) refl (large found.run, found.is, found.small)
   ready_by (does.Map (Clear label r)) place is want = at_part 1 place (part.Map p.map) (does.Map (Clear label r)) is (cc) refl (clear_there m config p s (calls s.locals order) t l h.facts st limits local label r is)

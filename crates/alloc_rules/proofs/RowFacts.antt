@@ -8,7 +8,7 @@ use Rattle.name_table.specs.declared.table.NameState.{NameState}
 use Rattle.alloc_rules.specs.State.{State, Setup}
 use Rattle.call_steps.specs.Local.{Local, Decided, told}
 use Rattle.alloc_rules.specs.Weights.{Facts}
-use Rattle.alloc_rules.specs.Rows.{Row, NewNone, NewRun, SetSpan, PublishName, TakeNull, TakeSome, LookupSpan, ClearSpan, FreeRun}
+use Rattle.alloc_rules.specs.Rows.{Row, NewNone, NewRun, SetSpan, PublishName, TakeNull, TakeSome, LookupSpan, ClearSpan, FreeRun, ReleasePages}
 use Rattle.alloc_rules.proofs.NewActs.{new_none, new_run}
 use Rattle.alloc_rules.proofs.PublishAct.{publish}
 use Rattle.alloc_rules.proofs.TakeActs.{take_some, take_null}
@@ -16,6 +16,7 @@ use Rattle.alloc_rules.proofs.SetAct.{set_span}
 use Rattle.alloc_rules.proofs.LookupAct.{lookup}
 use Rattle.alloc_rules.proofs.ClearAct.{clear_span}
 use Rattle.alloc_rules.proofs.FreeAct.{give_back}
+use Rattle.alloc_rules.proofs.ReleaseAct.{unback}
 use Rattle.std.proofs.lemmas.List.{append-nil}
 
 quiet : (m : Setup) (s : State) (cs : List CallLine) → Facts m s cs → Facts m s (cs ++ [])
@@ -31,6 +32,7 @@ row_facts m s cs t l f local (TakeSome label a is state) = quiet m _ cs (take_so
 row_facts m s cs t l f local (LookupSpan label a r is at there) = quiet m _ cs (lookup m s cs t l label a f local is r at there)
 row_facts m s cs t l f local (ClearSpan label r is) = quiet m _ cs (clear_span m s cs t l label r f local is)
 row_facts m s cs t l f local (FreeRun label r is) = give_back m s cs t l label r f local is
+row_facts m s cs t l f local (ReleasePages pages unbacked is) = unback m s cs t l pages unbacked f local is
 
 -- each row is one act, and what it decides has that act's number
 pub record Counted (l l' : Local) (new : List Decided) : Type 0 where
@@ -50,3 +52,4 @@ row_counted m s l (TakeSome label a is state) = record { acts = refl; pushed = r
 row_counted m s l (LookupSpan label a r is at there) = record { acts = refl; pushed = refl; at = λ n e. tt; one = omega arith; thread = refl }
 row_counted m s l (ClearSpan label r is) = record { acts = refl; pushed = refl; at = λ n e. tt; one = omega arith; thread = refl }
 row_counted m s l (FreeRun label r is) = record { acts = refl; pushed = refl; at = λ n e. (e, tt); one = omega arith; thread = refl }
+row_counted m s l (ReleasePages pages unbacked is) = record { acts = refl; pushed = refl; at = λ n e. (e, tt); one = omega arith; thread = refl }

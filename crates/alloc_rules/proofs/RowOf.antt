@@ -8,8 +8,8 @@ use Rattle.tc_units.specs.declared.units.Addr.{Addr}
 use Rattle.tc_units.specs.declared.units.Label.{Label}
 use Rattle.tc_units.specs.declared.spans.Run.{Run}
 use Rattle.tc_units.specs.declared.spans.SpanRef.{SpanRef}
-use Rattle.tc_model.specs.declared.calls.Call.TheVariants.{Malloc, Free}
-use Rattle.tc_model.specs.declared.answers.Answer.TheVariants.{Block, NoBlock, Freed, FreedNull}
+use Rattle.tc_model.specs.declared.calls.Call.TheVariants.{Malloc, Free, Release}
+use Rattle.tc_model.specs.declared.answers.Answer.TheVariants.{Block, NoBlock, Freed, FreedNull, Released}
 use Rattle.tc_model.specs.declared.answers.CallLine.{CallLine}
 use Rattle.tc_model.specs.declared.machine.PartNo.{PartNo}
 use Rattle.tc_model.specs.Blocks.{meets}
@@ -24,14 +24,16 @@ use Rattle.heap_rules.specs.declared.config.HeapConfig.{HeapConfig}
 use Rattle.heap_rules.specs.Heap as heaps
 use Rattle.heap_rules.specs.New.{Placed, new, none_fits}
 use Rattle.heap_rules.specs.Free.{freed}
+use Rattle.heap_rules.specs.Release.{release}
 use Rattle.heap_rules.specs.Sound.{IsSound, IsInside}
 use Rattle.heap_rules.specs.Laws.{IsGiven}
 use Rattle.heap_rules.proofs.Given.{new_gives}
 use Rattle.heap_rules.proofs.Ended.{free_leaves}
+use Rattle.heap_rules.proofs.Released.{release_keeps}
 use Rattle.heap_rules.proofs.Live.{unused_counts}
 use Rattle.tc_units.proofs.Counts.{count_some}
 use Rattle.heap_rules.proofs.Fits.{holds_from}
-use Rattle.call_steps.specs.declared.step.HeapStep.TheVariants.{New, GiveBack}
+use Rattle.call_steps.specs.declared.step.HeapStep.TheVariants.{New, GiveBack, Unback}
 use Rattle.call_steps.specs.declared.step.MapStep.TheVariants.{Set, Lookup, Clear}
 use Rattle.call_steps.specs.declared.step.NamesStep.TheVariants.{Publish, Take}
 use Rattle.call_steps.specs.declared.step.Step.{Step}
@@ -40,7 +42,7 @@ use Rattle.call_steps.specs.Local.{Local, Decided, goes_on, ends, decides}
 use Rattle.call_steps.specs.Acts.{large, run_of, address_of, is_unpublished, heap_after, map_after, names_after, after_new, after_lookup, after_take, waits_for}
 use Rattle.alloc_rules.specs.State.{State, Setup, runs_like, runs_at, less, block_of, IsPlaced}
 use Rattle.alloc_rules.specs.Weights.{Facts}
-use Rattle.alloc_rules.specs.Rows.{Row, NewNone, NewRun, SetSpan, PublishName, TakeNull, TakeSome, LookupSpan, ClearSpan, FreeRun}
+use Rattle.alloc_rules.specs.Rows.{Row, NewNone, NewRun, SetSpan, PublishName, TakeNull, TakeSome, LookupSpan, ClearSpan, FreeRun, ReleasePages}
 use Rattle.alloc_rules.specs.declared.part.Part.{Part}
 use Rattle.alloc_rules.specs.Machine.{Parts, parts_of, number, place_of, after, waits}
 use Rattle.alloc_rules.specs.declared.part.Part.TheVariants as part
@@ -234,6 +236,26 @@ module _ (m : Setup) (config : HeapConfig) (p : Parts) (s : State) (cs : List Ca
         names_are = st.names_are;
       })
 
+  -- Unback: the runs are as before
+  row_unback : (pages : ℕ) (place : PartNo) (q : Part) → l.step ≡ does.Heap (Unback pages) → number 0 ≡ place → q ≡ part.Heap p.heap → Acted m config p s t l place q
+  row_unback pages place q step at is =
+      let heap' : heaps.Heap = (release p.heap pages).heap in
+      let unbacked : ℕ = (release p.heap pages).pages in
+      let l' : Local = ends l (decides l (Release pages) (Released unbacked)) in
+      let e : after q l ≡ (part.Heap heap', l') = ap (λ x. after x l) is ∙ ap (λ x. (part.Heap (heap_after p.heap l x).0, (heap_after p.heap l x).1)) step in
+      let kept = release_keeps p.heap pages st.sound in
+      finish_heap place q heap' s.heap l' (decides l (Release pages) (Released unbacked)) at e (ReleasePages pages unbacked step)
+      (record {
+        sound = kept.sound;
+        config_is = kept.config ∙ st.config_is;
+        well = st.well;
+        arena = st.arena;
+        kinds = st.kinds;
+        runs = record { like = λ b. omega (arith, st.runs.like b, ap (runs_like b) kept.runs) };
+        span_runs = st.span_runs;
+        names_are = st.names_are;
+      })
+
   -- Take
   row_take : (label : Label) (place : PartNo) (q : Part) → l.step ≡ does.Names (Take label) → number 2 ≡ place → q ≡ part.Names s.names → waits q l ≡ false → (n : NameState) → state_of s.names label.0 ≡ n → Acted m config p s t l place q
   row_take label place q step at is goes name.Unpublished state =
@@ -265,6 +287,9 @@ module _ (m : Setup) (config : HeapConfig) (p : Parts) (s : State) (cs : List Ca
   row_step (does.Heap (GiveBack label r)) place q step want there goes =
       let at : number 0 ≡ place = (cc) in
       row_give label r place q step at (at_place 0 place q (part.Heap p.heap) at there refl)
+  row_step (does.Heap (Unback pages)) place q step want there goes =
+      let at : number 0 ≡ place = (cc) in
+      row_unback pages place q step at (at_place 0 place q (part.Heap p.heap) at there refl)
   row_step (does.Map (Set label r)) place q step want there goes =
       let at : number 1 ≡ place = (cc) in
       row_set label r place q step at (at_place 1 place q (part.Map p.map) at there refl)

@@ -22,7 +22,7 @@ use Rattle.tc_model.proofs.CallSteps.{picks-cons, picks-push_same, picks-push_ot
 use Rattle.name_table.specs.declared.table.NameState.{NameState}
 use Rattle.name_table.specs.declared.table.NameState.TheVariants as name
 use Rattle.name_table.specs.Names.{state_of}
-use Rattle.call_steps.specs.declared.step.HeapStep.TheVariants.{New, GiveBack}
+use Rattle.call_steps.specs.declared.step.HeapStep.TheVariants.{New, GiveBack, Unback}
 use Rattle.call_steps.specs.declared.step.MapStep.TheVariants.{Set, Lookup, Clear}
 use Rattle.call_steps.specs.declared.step.NamesStep.TheVariants.{Publish, Take}
 use Rattle.call_steps.specs.declared.step.Step.{Step}
@@ -107,6 +107,7 @@ goes_by names (does.Names (Take label)) c o call is out =
 goes_by names (does.Map (Lookup label a)) c o call is out = (λ e. absurd (cc), refl)
 goes_by names (does.Map (Clear label r)) c o call is out = (λ e. absurd (cc), refl)
 goes_by names (does.Heap (GiveBack label r)) c o call is out = (λ e. absurd (cc), refl)
+goes_by names (does.Heap (Unback pages)) c o call is out = (λ e. absurd (cc), refl)
 goes_by names does.Ended c o call is out = let e : Some c ≡ None = sym is ∙ call in absurd (cc)
 
 -- a free keeps the rules behind the calls before it: its label was allocated

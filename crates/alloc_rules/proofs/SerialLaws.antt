@@ -9,7 +9,7 @@ use Rattle.tc_units.specs.Units.{pages_holding}
 use Rattle.tc_units.specs.declared.units.Label.{Label}
 use Rattle.tc_units.specs.declared.spans.SpanRef.{SpanRef}
 use Rattle.tc_model.specs.declared.calls.Call.{Call}
-use Rattle.tc_model.specs.declared.calls.Call.TheVariants.{Malloc, Free}
+use Rattle.tc_model.specs.declared.calls.Call.TheVariants.{Malloc, Free, Release}
 use Rattle.tc_model.specs.declared.calls.Planned.{Planned}
 use Rattle.tc_model.specs.declared.steps.Stepped.TheVariants as step
 use Rattle.tc_model.specs.Input.{Input, ThreadCall, script_of}
@@ -24,7 +24,7 @@ use Rattle.name_table.specs.declared.table.NameState.TheVariants as name
 use Rattle.name_table.specs.Names.{state_of}
 use Rattle.heap_rules.specs.Heap as heaps
 use Rattle.heap_rules.specs.New.{Placed, new}
-use Rattle.call_steps.specs.declared.step.HeapStep.TheVariants.{New, GiveBack}
+use Rattle.call_steps.specs.declared.step.HeapStep.TheVariants.{New, GiveBack, Unback}
 use Rattle.call_steps.specs.declared.step.MapStep.TheVariants.{Set, Lookup, Clear}
 use Rattle.call_steps.specs.declared.step.NamesStep.TheVariants.{Publish, Take}
 use Rattle.call_steps.specs.declared.step.Step.{Step}
@@ -74,6 +74,7 @@ lookup_rises m l label (Some r) = omega arith
 heap_rises : (heap : heaps.Heap) (l : Local) (act : Step) → l.ended ≤ (heap_after heap l act).1.ended
 heap_rises heap l (does.Heap (New label size)) = new_rises heap l label size (new heap (pages_holding size))
 heap_rises heap l (does.Heap (GiveBack label r)) = omega arith
+heap_rises heap l (does.Heap (Unback pages)) = omega arith
 heap_rises heap l (does.Map row) = omega arith
 heap_rises heap l (does.Names row) = omega arith
 heap_rises heap l does.Ended = omega arith
@@ -112,6 +113,7 @@ never_waits input valid order t of =
 ended_by : (act : Step) (o : Option Call) → o ≡ None → IsOfCall act o → place_of act ≡ None
 ended_by (does.Heap (New label size)) o none call = let e : None ≡ Some (Malloc label size) = sym none ∙ call in absurd (cc)
 ended_by (does.Heap (GiveBack label r)) o none call = let e : None ≡ Some (Free label) = sym none ∙ call in absurd (cc)
+ended_by (does.Heap (Unback pages)) o none call = let e : None ≡ Some (Release pages) = sym none ∙ call in absurd (cc)
 ended_by (does.Map (Set label r)) o none call = let e : None ≡ Some (Malloc label call.0) = sym none ∙ call.1 in absurd (cc)
 ended_by (does.Map (Lookup label a)) o none call = let e : None ≡ Some (Free label) = sym none ∙ call in absurd (cc)
 ended_by (does.Map (Clear label r)) o none call = let e : None ≡ Some (Free label) = sym none ∙ call in absurd (cc)

@@ -33,7 +33,7 @@ answer_same calls c x other =
 pub freed_same : (calls : List CallLine) (c : CallLine) (x : ℕ) → frees x c.call ≡ false → freed_in x (calls ++ c ∷ []) ≡ freed_in x calls
 freed_same calls c x other = freed_in-push x calls c ∙ (ap (λ b. freed_in x calls || b) other ∙ or_false (freed_in x calls))
 
-value_same : (calls : List CallLine) (c : CallLine) (x : ℕ) → allocates x c.call ≡ false → frees x c.call ≡ false → value_after (calls ++ c ∷ []) x ≡ value_after calls x
+pub value_same : (calls : List CallLine) (c : CallLine) (x : ℕ) → allocates x c.call ≡ false → frees x c.call ≡ false → value_after (calls ++ c ∷ []) x ≡ value_after calls x
 value_same calls c x a f = rw (answer_same calls c x a, freed_same calls c x f) refl
 
 -- an allocation gives its label a value

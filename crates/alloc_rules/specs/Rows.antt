@@ -4,15 +4,15 @@ use Rattle.tc_units.specs.Units.{page_bytes, pages_holding}
 use Rattle.tc_units.specs.declared.units.Addr.{Addr}
 use Rattle.tc_units.specs.declared.units.Label.{Label}
 use Rattle.tc_units.specs.declared.spans.Run.{Run}
-use Rattle.tc_model.specs.declared.calls.Call.TheVariants.{Malloc, Free}
-use Rattle.tc_model.specs.declared.answers.Answer.TheVariants.{Block, NoBlock, Freed, FreedNull}
+use Rattle.tc_model.specs.declared.calls.Call.TheVariants.{Malloc, Free, Release}
+use Rattle.tc_model.specs.declared.answers.Answer.TheVariants.{Block, NoBlock, Freed, FreedNull, Released}
 use Rattle.name_table.specs.declared.table.NameState.{NameState}
 use Rattle.name_table.specs.declared.table.NameState.TheVariants as name
 use Rattle.call_steps.specs.declared.step.Step.TheVariants as does
 use Rattle.alloc_rules.specs.State.{State, Setup, IsPlaced, runs_like, less}
 use Rattle.call_steps.specs.Acts.{address_of}
 use Rattle.call_steps.specs.Local.{Local, Decided, goes_on, ends, decides}
-use Rattle.call_steps.specs.declared.step.HeapStep.TheVariants.{New, GiveBack}
+use Rattle.call_steps.specs.declared.step.HeapStep.TheVariants.{New, GiveBack, Unback}
 use Rattle.call_steps.specs.declared.step.MapStep.TheVariants.{Set, Lookup, Clear}
 use Rattle.call_steps.specs.declared.step.NamesStep.TheVariants.{Publish, Take}
 use Rattle.name_table.specs.Names.{state_of}
@@ -27,3 +27,4 @@ pub data Row (m : Setup) (s : State) (l : Local) : List Run → List Run → Lis
   LookupSpan : (label : Label) (a : Addr) (r : Run) → l.step ≡ does.Map (Lookup label a) → (address_of r).0 ≡ a.0 → 0 < runs_like r s.spans → Row m s l s.heap s.spans s.names (goes_on l (does.Map (Clear label r)) []) []
   ClearSpan : (label : Label) (r : Run) → l.step ≡ does.Map (Clear label r) → Row m s l s.heap (less r s.spans) s.names (goes_on l (does.Heap (GiveBack label r)) []) []
   FreeRun : (label : Label) (r : Run) → l.step ≡ does.Heap (GiveBack label r) → Row m s l (less r s.heap) s.spans s.names (ends l (decides l (Free label) (Freed (address_of r)))) (decides l (Free label) (Freed (address_of r)))
+  ReleasePages : (pages unbacked : ℕ) → l.step ≡ does.Heap (Unback pages) → Row m s l s.heap s.spans s.names (ends l (decides l (Release pages) (Released unbacked))) (decides l (Release pages) (Released unbacked))

@@ -2,11 +2,11 @@
 use Rattle.std.specs.Prelude.{◌≡◌, ℕ, ◌+◌, ◌<◌, true, List, length, Option, Some, None, slice_get}
 use Rattle.tc_units.specs.declared.units.Label.{Label}
 use Rattle.tc_model.specs.declared.calls.Call.{Call}
-use Rattle.tc_model.specs.declared.calls.Call.TheVariants.{Malloc, Free}
+use Rattle.tc_model.specs.declared.calls.Call.TheVariants.{Malloc, Free, Release}
 use Rattle.tc_model.specs.declared.calls.Planned.{Planned}
 use Rattle.name_table.specs.declared.table.NameState.{NameState}
 use Rattle.name_table.specs.Names.{state_of}
-use Rattle.call_steps.specs.declared.step.HeapStep.TheVariants.{New, GiveBack}
+use Rattle.call_steps.specs.declared.step.HeapStep.TheVariants.{New, GiveBack, Unback}
 use Rattle.call_steps.specs.declared.step.MapStep.TheVariants.{Set, Lookup, Clear}
 use Rattle.call_steps.specs.declared.step.NamesStep.TheVariants.{Publish, Take}
 use Rattle.call_steps.specs.declared.step.Step.{Step}
@@ -25,6 +25,7 @@ IsOfCall (does.Names (Take label)) call = call ≡ Some (Free label)
 IsOfCall (does.Map (Lookup label a)) call = call ≡ Some (Free label)
 IsOfCall (does.Map (Clear label r)) call = call ≡ Some (Free label)
 IsOfCall (does.Heap (GiveBack label r)) call = call ≡ Some (Free label)
+IsOfCall (does.Heap (Unback pages)) call = call ≡ Some (Release pages)
 IsOfCall does.Ended call = call ≡ None
 
 -- A local is at the call of its script that its number of ended calls says; the labels that ended calls allocated are

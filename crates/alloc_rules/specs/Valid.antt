@@ -1,4 +1,4 @@
--- The inputs that the rules serve today: large blocks and their frees, by any threads.
+-- The inputs that the rules serve today: large blocks, their frees and releases, by any threads.
 use Rattle.std.specs.Prelude.{◌≡◌, ℕ, ◌<◌, ◌≤◌, true, List, ◌∷◌, ◌++◌, None, sum_by}
 use Rattle.tc_units.specs.declared.spans.ClassRow.{ClassRow}
 use Rattle.tc_model.specs.declared.calls.Call.{Call}
@@ -14,11 +14,11 @@ abbrev pub put_in : ℕ → List ThreadCall → ℕ
 put_in x calls = sum_by (λ c. put x c.planned.call) calls
 
 -- A call keeps the rules behind the calls before it: a label is allocated once, and freed once after that. Requests are
--- for large blocks; the other kinds of calls aren't built yet.
+-- for large blocks, a release is of any number of pages, and the other kinds of calls aren't built yet.
 abbrev pub IsInOrder : List ClassRow → List ThreadCall → Call → Type 0
 IsInOrder rows earlier (Malloc label size) = (is_large rows size ≡ true) × (got_in label.0 earlier ≡ 0)
 IsInOrder rows earlier (Free label) = (0 < got_in label.0 earlier) × (put_in label.0 earlier ≡ 0)
-IsInOrder rows earlier (Release pages) = ⊥
+IsInOrder rows earlier (Release pages) = Unit {0}
 IsInOrder rows earlier (Drain cpu) = ⊥
 IsInOrder rows earlier (Resize cpu class cap) = ⊥
 

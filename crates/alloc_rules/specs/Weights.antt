@@ -53,11 +53,10 @@ abbrev pub is_large : List ClassRow → ℕ → Bool
 is_large rows size = not (is_some (class_of rows size)) && nat_lt 0 size && nat_le size (2 ^ 40)
 
 -- how many calls of a script, or of a local from its New on, aren't built yet
-
 abbrev pub unbuilt : List ClassRow → Call → ℕ
 unbuilt rows (Malloc label size) = bit (not (is_large rows size))
 unbuilt rows (Free label) = 0
-unbuilt rows (Release pages) = 1
+unbuilt rows (Release pages) = 0
 unbuilt rows (Drain cpu) = 1
 unbuilt rows (Resize cpu class cap) = 1
 

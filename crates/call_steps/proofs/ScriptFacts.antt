@@ -9,8 +9,8 @@ use Rattle.tc_model.specs.declared.calls.Planned.{Planned}
 use Rattle.tc_units.specs.declared.units.ThreadNo.{ThreadNo}
 use Rattle.tc_units.specs.declared.units.CpuNo.{CpuNo}
 use Rattle.tc_units.specs.declared.units.Label.{Label}
-use Rattle.call_steps.specs.Local.{Local, Decided, first_of_call, first_step, others, under, asked_by, freed_by, ends}
-use Rattle.call_steps.specs.declared.step.HeapStep.TheVariants.{New, GiveBack}
+use Rattle.call_steps.specs.Local.{Local, Decided, first_of_call, first_step, others, under, asked_by, ended_by, ends}
+use Rattle.call_steps.specs.declared.step.HeapStep.TheVariants.{New, GiveBack, Unback}
 use Rattle.call_steps.specs.declared.step.MapStep.TheVariants.{Set, Lookup, Clear}
 use Rattle.call_steps.specs.declared.step.NamesStep.TheVariants.{Publish, Take}
 use Rattle.call_steps.specs.declared.step.Step.{Step}
@@ -27,7 +27,7 @@ others_drop (p ∷ ps) (suc n) = others_drop ps n
 of_call : (c : Call) → IsOf (first_of_call c) (Some c)
 of_call (Malloc label size) = refl
 of_call (Free label) = refl
-of_call (Release pages) = tt
+of_call (Release pages) = refl
 of_call (Drain cpu) = tt
 of_call (Resize cpu class n) = tt
 
@@ -82,6 +82,7 @@ asked_call (does.Heap (New l n)) label size call is of =
     let bytes : n ≡ size = ap (λ (o : Option (Label × ℕ)). (unwrap_or {T = Label × ℕ} o (label, size)).1) is in
     cc
 asked_call (does.Heap (GiveBack l run)) label size call is of = absurd (cc)
+asked_call (does.Heap (Unback pages)) label size call is of = absurd (cc)
 asked_call (does.Map row) label size call is of = absurd (cc)
 asked_call (does.Names row) label size call is of = absurd (cc)
 asked_call does.Ended label size call is of = absurd (cc)
@@ -92,25 +93,26 @@ asked_under (does.Map row) label size is = absurd (cc)
 asked_under (does.Names row) label size is = absurd (cc)
 asked_under does.Ended label size is = refl
 
--- a step of a free is of the free of that label, which isn't decided yet
-pub free_call : (s : Step) (label : Label) (call : Option Call) → freed_by s ≡ Some label → IsOf s call → call ≡ Some (Free label)
-free_call (does.Heap (New l size)) label call is of = absurd (cc)
-free_call (does.Heap (GiveBack l run)) label call is of = cc
-free_call (does.Map (Set l run)) label call is of = absurd (cc)
-free_call (does.Map (Lookup l addr)) label call is of = cc
-free_call (does.Map (Clear l run)) label call is of = cc
-free_call (does.Names (Publish l value)) label call is of = absurd (cc)
-free_call (does.Names (Take l)) label call is of = cc
-free_call does.Ended label call is of = absurd (cc)
+-- a step of a free or a release is of that call, which isn't decided yet
+pub ended_call : (s : Step) (c : Call) (call : Option Call) → ended_by s ≡ Some c → IsOf s call → call ≡ Some c
+ended_call (does.Heap (New l size)) c call is of = absurd (cc)
+ended_call (does.Heap (GiveBack l run)) c call is of = of ∙ is
+ended_call (does.Heap (Unback pages)) c call is of = of ∙ is
+ended_call (does.Map (Set l run)) c call is of = absurd (cc)
+ended_call (does.Map (Lookup l addr)) c call is of = of ∙ is
+ended_call (does.Map (Clear l run)) c call is of = of ∙ is
+ended_call (does.Names (Publish l value)) c call is of = absurd (cc)
+ended_call (does.Names (Take l)) c call is of = of ∙ is
+ended_call does.Ended c call is of = absurd (cc)
 
-pub free_under : (s : Step) → is_some (freed_by s) ≡ true → under s ≡ 0
-free_under (does.Heap row) is = refl
-free_under (does.Map (Set l run)) is = absurd (cc)
-free_under (does.Map (Lookup l addr)) is = refl
-free_under (does.Map (Clear l run)) is = refl
-free_under (does.Names (Publish l value)) is = absurd (cc)
-free_under (does.Names (Take l)) is = refl
-free_under does.Ended is = refl
+pub ended_under : (s : Step) → is_some (ended_by s) ≡ true → under s ≡ 0
+ended_under (does.Heap row) is = refl
+ended_under (does.Map (Set l run)) is = absurd (cc)
+ended_under (does.Map (Lookup l addr)) is = refl
+ended_under (does.Map (Clear l run)) is = refl
+ended_under (does.Names (Publish l value)) is = absurd (cc)
+ended_under (does.Names (Take l)) is = refl
+ended_under does.Ended is = refl
 
 -- the decided calls are told by the answers and the script
 pub acts_told : (script : List Planned) (answers : List Answered) → length answers ≤ length script → map (λ (a : Answered). a.act) answers ≡ map (λ (d : Decided). d.act) (decided_by script answers)

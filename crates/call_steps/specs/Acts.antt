@@ -1,4 +1,4 @@
--- The acts of large blocks, each on one part and one thread's local: the rows of the call programs.
+-- The acts of large blocks and releases, each on one part and one thread's local: the rows of the call programs.
 use Rattle.std.specs.Prelude.{ℕ, ◌*◌, ◌/◌, Bool, true, false, List, [], find, Option, Some, None, slice_set}
 use Rattle.tc_units.specs.Units.{page_bytes, pages_holding}
 use Rattle.tc_units.specs.declared.units.Addr.{Addr}
@@ -6,8 +6,8 @@ use Rattle.tc_units.specs.declared.units.Label.{Label}
 use Rattle.tc_units.specs.declared.spans.Run.{Run}
 use Rattle.tc_units.specs.declared.spans.SpanRef.{SpanRef}
 use Rattle.tc_units.specs.declared.spans.SpanKind.TheVariants.{Large}
-use Rattle.tc_model.specs.declared.calls.Call.TheVariants.{Malloc, Free}
-use Rattle.tc_model.specs.declared.answers.Answer.TheVariants.{Block, NoBlock, Freed, FreedNull}
+use Rattle.tc_model.specs.declared.calls.Call.TheVariants.{Malloc, Free, Release}
+use Rattle.tc_model.specs.declared.answers.Answer.TheVariants.{Block, NoBlock, Freed, FreedNull, Released}
 use Rattle.page_map.specs.Spans.{SpanMap, holds, with_span, without_span}
 use Rattle.name_table.specs.declared.table.NameState.{NameState}
 use Rattle.name_table.specs.declared.table.NameState.TheVariants as name
@@ -15,10 +15,11 @@ use Rattle.name_table.specs.Names.{state_of}
 use Rattle.heap_rules.specs.Heap as heaps
 use Rattle.heap_rules.specs.New.{Placed, new}
 use Rattle.heap_rules.specs.Free.{freed}
+use Rattle.heap_rules.specs.Release.{release}
 use Rattle.call_steps.specs.declared.step.Step.{Step}
 use Rattle.call_steps.specs.declared.step.Step.TheVariants as step
 use Rattle.call_steps.specs.declared.step.HeapStep.{HeapStep}
-use Rattle.call_steps.specs.declared.step.HeapStep.TheVariants.{New, GiveBack}
+use Rattle.call_steps.specs.declared.step.HeapStep.TheVariants.{New, GiveBack, Unback}
 use Rattle.call_steps.specs.declared.step.MapStep.{MapStep}
 use Rattle.call_steps.specs.declared.step.MapStep.TheVariants.{Set, Lookup, Clear}
 use Rattle.call_steps.specs.declared.step.NamesStep.{NamesStep}
@@ -44,6 +45,7 @@ after_new heap l label size (Some p) = (p.heap, goes_on l (step.Map (Set label p
 abbrev pub heap_row : heaps.Heap → Local → HeapStep → heaps.Heap × Local
 heap_row heap l (New label size) = after_new heap l label size (new heap (pages_holding size))
 heap_row heap l (GiveBack label run) = (freed heap run, ends l (decides l (Free label) (Freed (address_of run))))
+heap_row heap l (Unback pages) = ((release heap pages).heap, ends l (decides l (Release pages) (Released (release heap pages).pages)))
 
 -- Lookup finds the span that holds the address.
 abbrev pub after_lookup : SpanMap → Local → Label → Option SpanRef → SpanMap × Local

@@ -8,7 +8,7 @@ use Rattle.name_table.specs.declared.table.NameState.TheVariants as name
 use Rattle.name_table.specs.Names.{state_of}
 use Rattle.heap_rules.specs.Heap as heaps
 use Rattle.call_steps.specs.declared.step.HeapStep.{HeapStep}
-use Rattle.call_steps.specs.declared.step.HeapStep.TheVariants.{New, GiveBack}
+use Rattle.call_steps.specs.declared.step.HeapStep.TheVariants.{New, GiveBack, Unback}
 use Rattle.call_steps.specs.declared.step.MapStep.{MapStep}
 use Rattle.call_steps.specs.declared.step.MapStep.TheVariants.{Set, Lookup, Clear}
 use Rattle.call_steps.specs.declared.step.NamesStep.{NamesStep}
@@ -17,10 +17,11 @@ use Rattle.call_steps.specs.declared.step.Step.{Step}
 use Rattle.call_steps.specs.declared.step.Step.TheVariants as step
 use Rattle.call_steps.specs.Acts.{large}
 
--- New asks for pages of 1 to 2^40 bytes, and a run that is given back lives
+-- New asks for pages of 1 to 2^40 bytes, a run that is given back lives, and any number of pages may be unbacked
 abbrev pub FitsHeap : heaps.Heap → HeapStep → Type 0
 FitsHeap heap (New label size) = (0 < pages_holding size) × (size ≤ 2 ^ 40)
 FitsHeap heap (GiveBack label run) = Contains heap.runs run
+FitsHeap heap (Unback pages) = Unit {0}
 
 -- A span that is set lies in the arena and meets no span, one that is looked up is there, and so is one that is cleared.
 abbrev pub FitsMap : SpanMap → MapStep → Type 0

@@ -5,11 +5,11 @@ use Rattle.tc_units.specs.declared.units.ThreadNo.{ThreadNo}
 use Rattle.tc_units.specs.declared.units.CpuNo.{CpuNo}
 use Rattle.tc_model.specs.declared.answers.Answered.{Answered}
 use Rattle.tc_model.specs.declared.calls.Call.{Call}
-use Rattle.tc_model.specs.declared.calls.Call.TheVariants.{Malloc, Free}
+use Rattle.tc_model.specs.declared.calls.Call.TheVariants.{Malloc, Free, Release}
 use Rattle.tc_model.specs.declared.calls.Planned.{Planned}
 use Rattle.call_steps.specs.declared.step.Target.{Target}
 use Rattle.call_steps.specs.declared.step.Target.TheVariants as target
-use Rattle.call_steps.specs.declared.step.HeapStep.TheVariants.{New, GiveBack}
+use Rattle.call_steps.specs.declared.step.HeapStep.TheVariants.{New, GiveBack, Unback}
 use Rattle.call_steps.specs.declared.step.MapStep.TheVariants.{Lookup, Clear}
 use Rattle.call_steps.specs.declared.step.NamesStep.TheVariants.{Take}
 use Rattle.call_steps.specs.declared.step.Step.{Step}
@@ -37,6 +37,7 @@ call_at script j = option_map (λ p. p.call) (slice_get script j)
 abbrev pub IsOf : Step → Option Call → Type 0
 IsOf (step.Heap (New label size)) call = call ≡ Some (Malloc label size)
 IsOf (step.Heap (GiveBack label run)) call = call ≡ Some (Free label)
+IsOf (step.Heap (Unback pages)) call = call ≡ Some (Release pages)
 IsOf (step.Map (Lookup label addr)) call = call ≡ Some (Free label)
 IsOf (step.Map (Clear label run)) call = call ≡ Some (Free label)
 IsOf (step.Names (Take label)) call = call ≡ Some (Free label)

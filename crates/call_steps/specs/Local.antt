@@ -10,7 +10,7 @@ use Rattle.tc_model.specs.declared.answers.Answer.{Answer}
 use Rattle.tc_model.specs.declared.answers.CallLine.{CallLine}
 use Rattle.call_steps.specs.declared.step.Step.{Step}
 use Rattle.call_steps.specs.declared.step.Step.TheVariants as step
-use Rattle.call_steps.specs.declared.step.HeapStep.TheVariants.{New, GiveBack}
+use Rattle.call_steps.specs.declared.step.HeapStep.TheVariants.{New, GiveBack, Unback}
 use Rattle.call_steps.specs.declared.step.MapStep.TheVariants.{Set, Lookup, Clear}
 use Rattle.call_steps.specs.declared.step.NamesStep.TheVariants.{Publish, Take}
 
@@ -35,7 +35,7 @@ pub record Local : Type 0 where
 abbrev pub first_of_call : Call → Step
 first_of_call (Malloc label size) = step.Heap (New label size)
 first_of_call (Free label) = step.Names (Take label)
-first_of_call (Release pages) = step.Ended
+first_of_call (Release pages) = step.Heap (Unback pages)
 first_of_call (Drain cpu) = step.Ended
 first_of_call (Resize cpu class cap) = step.Ended
 
@@ -63,13 +63,14 @@ abbrev pub asked_by : Step → Option (Label × ℕ)
 asked_by (step.Heap (New label size)) = Some (label, size)
 asked_by other = None
 
--- the label of a free under way
-abbrev pub freed_by : Step → Option Label
-freed_by (step.Heap (GiveBack label run)) = Some label
-freed_by (step.Map (Lookup label addr)) = Some label
-freed_by (step.Map (Clear label run)) = Some label
-freed_by (step.Names (Take label)) = Some label
-freed_by other = None
+-- the free or the release under way, whose answer ends it
+abbrev pub ended_by : Step → Option Call
+ended_by (step.Heap (GiveBack label run)) = Some (Free label)
+ended_by (step.Heap (Unback pages)) = Some (Release pages)
+ended_by (step.Map (Lookup label addr)) = Some (Free label)
+ended_by (step.Map (Clear label run)) = Some (Free label)
+ended_by (step.Names (Take label)) = Some (Free label)
+ended_by other = None
 
 -- an answer that the next act decides
 abbrev pub decides : Local → Call → Answer → List Decided

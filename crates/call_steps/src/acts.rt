@@ -1,5 +1,5 @@
-//! The acts of large blocks at the page heap, at the page map and at the names: each is one row of the
-//! call programs.
+//! The acts of large blocks and releases at the page heap, at the page map and at the names: each is one
+//! row of the call programs.
 ghost use Rattle.std.specs.Prelude.{◌≡◌, ◌<◌, ◌-◌, ◌*◌, ◌^◌, OnOk, OnErr};
 ghost use Rattle.tc_units.specs.Units.{page_bytes};
 ghost use Rattle.tc_model.specs.declared.answers.Answer.TheVariants.{Block};
@@ -28,7 +28,8 @@ fn large(run: Run) -> SpanRef
 }
 
 /// The act at the page heap that the thread does next: New decides an allocation, whose block is the new
-/// run, or there is none; GiveBack frees a run, which decides a free and ends it.
+/// run, or there is none; GiveBack frees a run, which decides a free and ends it; Unback decides a release
+/// and ends it, whose answer is how many pages lost their backing.
 pub fn act_heap(heap: &mut PageHeap, local: &mut Local)
     requires fits { FitsHeapStep heap.old local.old.step }
     requires acts { local.old.acts < 2 ^ 64 - 1 }
@@ -49,7 +50,11 @@ pub fn act_heap(heap: &mut PageHeap, local: &mut Local)
         Step::Heap(HeapStep::GiveBack { run, .. }) => {
             heap.free_run(run);
             let addr = addr_of(run.first);
-            local.end_free(Answer::Freed { addr });
+            local.end_with(Answer::Freed { addr });
+        }
+        Step::Heap(HeapStep::Unback { pages }) => {
+            let pages = heap.release(pages);
+            local.end_with(Answer::Released { pages });
         }
         _ => unreachable!(),
     }
@@ -115,7 +120,7 @@ pub fn act_names(names: &mut NameTable, local: &mut Local) -> Acted
         }
         Step::Names(NamesStep::Take { label }) => match names.take(label) {
             Taken::Set(None) => {
-                local.end_free(Answer::FreedNull);
+                local.end_with(Answer::FreedNull);
                 Acted::Moved
             }
             Taken::Set(Some(addr)) => {

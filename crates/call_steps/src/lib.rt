@@ -1,5 +1,5 @@
 //! What a thread does for its calls, one act at a time: each act is one row of the call programs, on one
-//! part. Today these are the rows of large blocks.
+//! part. Today these are the rows of large blocks and of releases.
 #![tactic(auto)]
 
 mod acts;

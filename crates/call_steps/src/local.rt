@@ -2,8 +2,8 @@
 ghost use Rattle.std.specs.Prelude.{◌≡◌, ℕ, ◌-◌, ◌<◌, ◌^◌, [], length, drop, map, option_map, slice_get, Option, Some, IfOk, is_some, true};
 ghost use Rattle.tc_units.specs.declared.units.Label.{Label};
 ghost use Rattle.tc_model.specs.declared.calls.Call as call;
-ghost use Rattle.tc_model.specs.declared.calls.Call.TheVariants.{Free, Malloc};
-ghost use Rattle.call_steps.specs.Local.{first_of_call, first_step, first_local, under, asked_by, freed_by, goes_on, ends, decides, told};
+ghost use Rattle.tc_model.specs.declared.calls.Call.TheVariants.{Malloc};
+ghost use Rattle.call_steps.specs.Local.{first_of_call, first_step, first_local, under, asked_by, ended_by, goes_on, ends, decides, told};
 ghost use Rattle.call_steps.specs.Kept.{target_of, IsOf};
 
 use crate::step::{HeapStep, NamesStep, Step, Target};
@@ -154,11 +154,11 @@ impl Local {
         self.acts += 1;
     }
 
-    /// The act is done: it answers the free under way and ends it.
-    pub(crate) fn end_free(&mut self, answer: Answer)
+    /// The act is done: it answers the free or the release under way and ends it.
+    pub(crate) fn end_with(&mut self, answer: Answer)
         requires acts { self.old.acts < 2 ^ 64 - 1 }
-        requires free { is_some (freed_by self.old.step) ≡ true }
-        ensures { (label : Label) → freed_by self.old.step ≡ Some label → self.new ≡ ends self.old (decides self.old (Free label) answer) }
+        requires undecided { is_some (ended_by self.old.step) ≡ true }
+        ensures { (call : call.Call) → ended_by self.old.step ≡ Some call → self.new ≡ ends self.old (decides self.old call answer) }
     {
         let line = self.script.as_slice()[self.place].line;
         self.answers.push(Answered {
@@ -189,6 +189,7 @@ fn first_act(call: Call) -> Step
     match call {
         Call::Malloc { label, size } => Step::Heap(HeapStep::New { label, size }),
         Call::Free { label } => Step::Names(NamesStep::Take { label }),
+        Call::Release { pages } => Step::Heap(HeapStep::Unback { pages }),
         _ => Step::Ended,
     }
 }

@@ -16,6 +16,8 @@ pub enum HeapStep {
     New { label: Label, size: u64 },
     /// A free gives the run of its block back. This decides and ends it.
     GiveBack { label: Label, run: Run },
+    /// A release unbacks `pages` pages, where there are so many. This decides and ends it.
+    Unback { pages: u64 },
 }
 
 /// A row of the call programs at the page map.

@@ -31,6 +31,9 @@ fn a_call_begins_at_its_part(rt: HostRuntime) -> Result<(), Fail> {
         malloc.step(),
         Step::Heap(HeapStep::New { label, size: 8193 })
     );
+    let release = local_of(rt, [Call::Release { pages: 300 }].as_slice())?;
+    assert_eq!(rt; release.want(), Some(Target::Heap));
+    assert_eq!(rt; release.step(), Step::Heap(HeapStep::Unback { pages: 300 }));
     assert_eq!(rt; malloc.done(), 0);
     assert_eq!(rt; malloc.acts(), 0);
     assert_eq!(rt; malloc.answers().len(), 0);

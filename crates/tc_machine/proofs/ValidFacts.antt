@@ -60,7 +60,7 @@ order_of rows classes config earlier (Free label) read built = (
   some_counted (λ c. allocates label.0 c.planned.call) (λ c. got label.0 c.planned.call) (λ c. got_is label.0 c.planned.call) earlier read.1,
   none_counted (λ c. frees label.0 c.planned.call) (λ c. put label.0 c.planned.call) (λ c. put_is label.0 c.planned.call) earlier read.2,
 )
-order_of rows classes config earlier (Release pages) read built = absurd (cc)
+order_of rows classes config earlier (Release pages) read built = tt
 order_of rows classes config earlier (Drain cpu) read built = absurd (cc)
 order_of rows classes config earlier (Resize cpu class n) read built = absurd (cc)
 

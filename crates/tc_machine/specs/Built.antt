@@ -15,11 +15,11 @@ pub record IsRead (classes : ℕ) (trace : Trace) (asked : Asked) : Type 0 where
   pub is : trace ≡ trace_of asked
   pub valid : IsAsked classes asked
 
--- whether a call is built: an allocation of a large block, or a free, without a move
+-- whether a call is built: an allocation of a large block, a free or a release, without a move
 abbrev pub is_built_call : List ClassRow → Call → Bool
 is_built_call rows (Malloc label size) = is_large rows size
 is_built_call rows (Free label) = true
-is_built_call rows (Release pages) = false
+is_built_call rows (Release pages) = true
 is_built_call rows (Drain cpu) = false
 is_built_call rows (Resize cpu class cap) = false
 

@@ -1,4 +1,5 @@
-//! Which calls of a trace are built: today allocations of large blocks and their frees, without a move.
+//! Which calls of a trace are built: today allocations of large blocks, their frees and releases, without
+//! a move.
 ghost use Rattle.std.specs.Prelude.{◌≡◌, ℕ, length, None, Some, IfOk, ◌↔◌, slice_get};
 ghost use Rattle.tc_model.specs.declared.calls.Planned.{Planned as Plan};
 ghost use Rattle.tc_model.specs.declared.calls.Script.{Script as Calls};
@@ -23,8 +24,8 @@ fn is_built(table: &ClassTable, planned: &Planned) -> bool
             Call::Malloc { size, .. } => {
                 table.class_of(size).is_none() && 0 < size && size <= MOST_REQUEST
             }
-            Call::Free { .. } => true,
-            _ => false,
+            Call::Free { .. } | Call::Release { .. } => true,
+            Call::Drain { .. } | Call::Resize { .. } => false,
         }
 }
 

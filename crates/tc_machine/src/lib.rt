@@ -1,5 +1,5 @@
 //! The allocator as a machine: any number of threads, whose picks come in any order. Today it serves
-//! large blocks.
+//! large blocks and releases.
 #![tactic(auto)]
 
 mod built;

@@ -53,7 +53,7 @@ impl Model for State {
 
 impl State {
     /// The start of a run. Its condition is that the reader answers this trace for some text, and that
-    /// each of its calls is built: an allocation of a large block or a free, without a move.
+    /// each of its calls is built: an allocation of a large block, a free or a release, without a move.
     pub fn open(alloc: Global, table: ClassTable, trace: Trace) -> Result<State, AllocError>
         requires read { (asked : Asked) × IsRead (length table) trace asked }
         requires built { AreBuilt table (asked_of trace).calls }

@@ -1,7 +1,7 @@
 //! Runs of two threads over large blocks, in orders whose acts were worked out by hand: an allocation is
 //! New, Set and Publish, of which New decides it; a free is Take, Lookup, Clear and GiveBack, of which the
-//! last decides it. A block of 254 pages leaves room for none other in its hugepage: the first stands at
-//! address 2,097,152, and one beside it at 4,194,304.
+//! last decides it; a release is one act. A block of 254 pages leaves room for none other in its hugepage:
+//! the first stands at address 2,097,152, and one beside it at 4,194,304.
 ghost use Rattle.std.specs.Prelude.{◌≡◌, [], IfOk};
 
 use crate::{State, first_unbuilt};
@@ -21,6 +21,12 @@ const GOT_FIRST: Answer = Answer::Block {
 
 const FREED_FIRST: Answer = Answer::Freed {
     addr: Addr(2_097_152),
+};
+
+/// A block of all pages of hugepage 1.
+const GOT_WHOLE: Answer = Answer::Block {
+    addr: Addr(2_097_152),
+    len: 2_097_152,
 };
 
 /// A block of 254 pages at the start of hugepage 2, got and freed.
@@ -207,6 +213,88 @@ fn nothing_fits(rt: HostRuntime) -> Result<(), Fail> {
     )
 }
 
+/// A run with releases: the picks of an order file, the order of the picks that move, each call's thread
+/// and answer in the order of their deciding acts, and the backed pages that are left.
+#[derive(Clone, Copy)]
+struct Releases<'a> {
+    text: &'a [u8],
+    picks: &'a [u16],
+    order: &'a [u16],
+    answers: &'a [(u8, Answer)],
+    resident: u64,
+}
+
+/// Asserts what comes of a run with releases.
+fn assert_releases(rt: &impl Abort, alloc: Global, run: &Releases) -> Result<(), Fail> {
+    let mut state = opened(rt, alloc, run.text)?;
+    assert!(rt; run.picks.iter().all(|thread| *thread < 2));
+    assert_eq!(rt; state.run_order(run.picks), Ok(()));
+    assert_eq!(rt; state.order(), run.order);
+    assert!(rt; state.ended());
+    let finished = state.finish()?;
+    let told = finished.calls.as_slice();
+    assert_eq!(rt; told.len(), run.answers.len());
+    for ((thread, answer), line) in run.answers.iter().zip(told) {
+        assert_eq!(rt; line.thread, ThreadNo(*thread));
+        assert_eq!(rt; line.answer, *answer);
+    }
+    assert_eq!(rt; finished.resident, run.resident);
+    Ok(())
+}
+
+#[test]
+fn a_release_unbacks_what_no_run_holds(rt: HostRuntime) -> Result<(), Fail> {
+    let text = b"threads 2\na 0 0 2080768\nf 0 0\nr 1 300\n".as_slice();
+    let released = |pages: u64| (1, Answer::Released { pages });
+    let got = (0, GOT_FIRST);
+    let freed = (0, FREED_FIRST);
+    for run in [
+        // Before anything is backed, and it waits for nobody. The hugepage stays backed in the end.
+        Releases {
+            text,
+            picks: &[1],
+            order: &[1, 0, 0, 0, 0, 0, 0, 0],
+            answers: &[released(0), got, freed],
+            resident: 256,
+        },
+        // Behind New, and before the run is given back: the two pages beside it. A hugepage that isn't
+        // backed whole loses its backing when its last run leaves.
+        Releases {
+            text,
+            picks: &[0, 1],
+            order: &[0, 1, 0, 0, 0, 0, 0, 0],
+            answers: &[got, released(2), freed],
+            resident: 0,
+        },
+        Releases {
+            text,
+            picks: &[0, 0, 0, 0, 0, 0, 1],
+            order: &[0, 0, 0, 0, 0, 0, 1, 0],
+            answers: &[got, released(2), freed],
+            resident: 0,
+        },
+        // Behind the free there is one hugepage to give, though more is asked for.
+        Releases {
+            text,
+            picks: &[],
+            order: &[0, 0, 0, 0, 0, 0, 0, 1],
+            answers: &[got, freed, released(256)],
+            resident: 0,
+        },
+        // A free hugepage is given whole, though one page is asked for.
+        Releases {
+            text: b"threads 2\nhuge 4\na 0 0 2097152\nf 0 0\nr 0 1\n",
+            picks: &[],
+            order: &[0, 0, 0, 0, 0, 0, 0, 0],
+            answers: &[(0, GOT_WHOLE), freed, (0, Answer::Released { pages: 256 })],
+            resident: 0,
+        },
+    ] {
+        assert_releases(&rt, rt.alloc(), &run)?;
+    }
+    Ok(())
+}
+
 /// Asserts that a run of seven picks, of which so many may move, ends so.
 fn assert_limited(
     rt: &impl Abort,
@@ -295,10 +383,11 @@ fn the_first_call_that_is_not_built_is_named(rt: HostRuntime) -> Result<(), Fail
         (b"a 0 0 8193\nf 0 0\n".as_slice(), None),
         (b"a 0 0 8192\n".as_slice(), Some(1)),
         (b"a 0 0 0\n".as_slice(), Some(1)),
-        // In trace order it is thread 1's release, though thread 0's script has a small request.
+        // A release is built. In trace order it is thread 1's drain, though thread 0's script has a small
+        // request.
         (
-            b"threads 2\na 0 0 8193\nr 1 7\na 0 1 8\n".as_slice(),
-            Some(3),
+            b"threads 2\na 0 0 8193\nr 1 7\nd 1 0\na 0 1 8\n".as_slice(),
+            Some(4),
         ),
         // A move belongs to the thread's next call.
         (b"cpus 2\np 0 1 1\na 0 0 8193\n".as_slice(), Some(3)),

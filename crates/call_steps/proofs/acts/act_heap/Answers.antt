@@ -3,7 +3,7 @@ use Rattle.tc_units.specs.declared.units.Addr.{Addr}
 use Rattle.tc_model.specs.declared.calls.Call.TheVariants.{Free}
 use Rattle.tc_model.specs.declared.answers.Answer.TheVariants.{Freed}
 use Rattle.call_steps.specs.Acts.{address_of, heap_after}
-use Rattle.call_steps.specs.Local.{freed_by, ends, decides}
+use Rattle.call_steps.specs.Local.{ended_by, ends, decides}
 use Rattle.call_steps.specs.declared.step.Step.TheVariants as does
 use Rattle.call_steps.specs.declared.step.HeapStep.TheVariants.{GiveBack}
 use Rattle.call_steps.proofs.acts.act_heap.Goals as goal
@@ -15,6 +15,6 @@ returns-in-Heap-GiveBack-clause-local c =
     let run = c.in-Heap-GiveBack.run' in
     let is : l.step ≡ does.Heap (GiveBack label run) = sym c.step.ensures ∙ c.in-Heap-GiveBack.is ∙ ap does.Heap c.in-Heap-GiveBack.field-0-is in
     let at : c.addr_of-addr.result ≡ address_of run = ap (λ n. let a : Addr = record { 0 = n } in a) c.addr_of-addr.ensures in
-    c.end_free.ensures label (ap freed_by is)
+    c.end_with.ensures (Free label) (ap ended_by is)
     ∙ ap (λ a. ends l (decides l (Free label) (Freed a))) at
     ∙ sym (ap (λ s. (heap_after c.args.heap.now l s).1) is)
