@@ -50,7 +50,7 @@ waits (Names names) l = waits_for names l.step
 
 -- the limits of the heap of a trace
 abbrev pub heap_config : Config → HeapConfig
-heap_config config = record { huge = config.huge; cache = config.cache; region = config.region; slack = config.slack; window = 0 }
+heap_config config = record { huge = config.huge; cache = config.cache; region = config.region; slack = config.slack; window = config.window }
 
 -- a thread of an input: thread t starts at CPU t mod cpus
 abbrev pub thread_of : Input → ℕ → Thread

@@ -22,7 +22,7 @@ fn heap_limits(config: &Config) -> HeapConfig
         cache: config.cache,
         region: config.region,
         slack: config.slack,
-        window: 0,
+        window: config.window,
     }
 }
 

@@ -295,6 +295,33 @@ fn a_release_unbacks_what_no_run_holds(rt: HostRuntime) -> Result<(), Fail> {
     Ok(())
 }
 
+#[test]
+fn backing_follows_the_use_of_hugepages(rt: HostRuntime) -> Result<(), Fail> {
+    // Two hugepages are used and then none, in four heap calls.
+    for (text, resident) in [
+        (
+            b"threads 2\na 0 0 2097152\na 0 1 2097152\nf 0 0\nf 0 1\n".as_slice(),
+            512,
+        ),
+        // The last two calls left one hugepage in use, and then none.
+        (
+            b"threads 2\nwindow 2\na 0 0 2097152\na 0 1 2097152\nf 0 0\nf 0 1\n".as_slice(),
+            256,
+        ),
+        // The last call left none in use.
+        (
+            b"threads 2\nwindow 1\na 0 0 2097152\na 0 1 2097152\nf 0 0\nf 0 1\n".as_slice(),
+            0,
+        ),
+    ] {
+        let mut state = opened(&rt, rt.alloc(), text)?;
+        assert_eq!(rt; state.run_serial(), Ok(()));
+        assert!(rt; state.ended());
+        assert_eq!(rt; state.finish()?.resident, resident);
+    }
+    Ok(())
+}
+
 /// Asserts that a run of seven picks, of which so many may move, ends so.
 fn assert_limited(
     rt: &impl Abort,

@@ -27,7 +27,7 @@ pub record Input : Type 0 where
 
 -- the limits of a trace that sets none
 abbrev pub default_config : Config
-default_config = record { cpus = 1; threads = 1; huge = 64; cache = 8; region = 512; slack = 8192; transfer = 64; slab = 2048; percpu = 1572864; events = 40000000 }
+default_config = record { cpus = 1; threads = 1; huge = 64; cache = 8; region = 512; slack = 8192; transfer = 64; slab = 2048; percpu = 1572864; events = 40000000; window = 0 }
 
 -- a thread's script: its calls, in trace order
 abbrev pub script_of : ℕ → List ThreadCall → List Planned

@@ -24,4 +24,7 @@ pub struct Config {
     pub percpu: u64,
     /// The most picks that may move.
     pub events: u64,
+    /// Heap calls over which the most free hugepages that stay backed follow the use of hugepages, 0 to
+    /// 65,536. With 0 they are `cache`.
+    pub window: u32,
 }

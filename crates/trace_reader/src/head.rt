@@ -20,6 +20,7 @@ pub fn range_of(head: Head) -> (u64, u64)
         Head::Slab => (1, 2048),
         Head::Percpu => (0, 268_435_456),
         Head::Events => (1, 40_000_000),
+        Head::Window => (0, 65_536),
     }
 }
 
@@ -39,5 +40,6 @@ pub fn set_limit(config: &mut Config, head: Head, value: u64)
         Head::Slab => config.slab = value as u32,
         Head::Percpu => config.percpu = value,
         Head::Events => config.events = value,
+        Head::Window => config.window = value as u32,
     }
 }

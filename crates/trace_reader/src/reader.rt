@@ -36,6 +36,7 @@ const DEFAULTS: Config = Config {
     slab: 2048,
     percpu: 1_572_864,
     events: 40_000_000,
+    window: 0,
 };
 
 /// What the lines so far say.

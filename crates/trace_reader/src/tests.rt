@@ -34,6 +34,7 @@ fn a_trace(rt: HostRuntime) -> Result<(), Fail> {
         slab: 2048,
         percpu: 1572864,
         events: 40000000,
+        window: 0,
     };
     assert_eq!(rt; trace.config, config);
     assert_eq!(rt; trace.labels, 1000000);
@@ -101,7 +102,7 @@ fn a_trace(rt: HostRuntime) -> Result<(), Fail> {
 #[test]
 fn heads(rt: HostRuntime) -> Result<(), Fail> {
     let text = b"cpus 64\nthreads 64\nhuge 4096\ncache 0\nregion 2\nslack 1048576\n\
-        transfer 4096\nslab 1\npercpu 0\nevents 1\n";
+        transfer 4096\nslab 1\npercpu 0\nevents 1\nwindow 65536\n";
     let trace = read_trace(rt.alloc(), text, CLASSES)?;
     let config = Config {
         cpus: 64,
@@ -114,6 +115,7 @@ fn heads(rt: HostRuntime) -> Result<(), Fail> {
         slab: 1,
         percpu: 0,
         events: 1,
+        window: 65536,
     };
     assert_eq!(rt; trace.config, config);
     assert_eq!(rt; trace.scripts.as_slice().len(), 64);
@@ -128,6 +130,7 @@ fn bad_lines(rt: HostRuntime) {
         (b"a  0 0 10".as_slice(), 1, LineWhy::Fields),
         (b"a 0 0 10 ".as_slice(), 1, LineWhy::Fields),
         (b"a 0 0 1099511627777".as_slice(), 1, LineWhy::Number),
+        (b"window 65537".as_slice(), 1, LineWhy::Number),
         (b"a 0 0 01".as_slice(), 1, LineWhy::Number),
         (b"a 0 1000000 1".as_slice(), 1, LineWhy::Number),
         (b"huge 18446744073709551616".as_slice(), 1, LineWhy::Number),

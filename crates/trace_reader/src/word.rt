@@ -15,6 +15,7 @@ pub enum Head {
     Slab,
     Percpu,
     Events,
+    Window,
 }
 
 /// What the first field of a line names.
@@ -53,6 +54,8 @@ fn read_head(field: &[u8]) -> Option<Head>
         Some(Head::Percpu)
     } else if field == b"events".as_slice() {
         Some(Head::Events)
+    } else if field == b"window".as_slice() {
+        Some(Head::Window)
     } else {
         None
     }
