@@ -1,6 +1,6 @@
 -- The picks of an order file are of threads that are there.
-use Rattle.std.proofs.Common.{◌≡◌, ℕ, ◌+◌, ◌<◌, leb, subst, Bool, true, false, List, [], ◌∷◌, ◌++◌, Option, Some, None, Result, Ok, Err, refl, sym, ap, ◌∙◌, cond, option_map, inl, inr}
-use Rattle.std.specs.Prelude.{replicate, nat_le, nat_lt}
+use Rattle.std.proofs.Common.{◌≡◌, ℕ, ◌+◌, ◌<◌, subst, false, List, [], ◌∷◌, Option, Some, None, Result, Ok, refl, sym, ap, ◌∙◌, cond, option_map, inl, inr}
+use Rattle.std.specs.Prelude.{replicate, nat_le}
 use Rattle.std.specs.List.{All, find}
 use Rattle.std.specs.Option.{option_map_or}
 use Rattle.std.proofs.lemmas.Bool.{cases_Bool, leb-false}
@@ -8,7 +8,7 @@ use Rattle.std.proofs.lemmas.List.Elements.{All-append, All-replicate, All-nil}
 use Rattle.trace_reader.specs.declared.why.OrderWhy.{OrderWhy}
 use Rattle.trace_reader.specs.declared.turn.Turns.{Turns}
 use Rattle.trace_reader.specs.Reading.{BadLine}
-use Rattle.trace_reader.specs.Orders.{OrderLine, OrderRule, order_rules, line_turns, has_turns, order_verdict, with_turns, with_order_line, order_judged, read_order_line, order_and_then, read_order_lines, picks_by}
+use Rattle.trace_reader.specs.Orders.{OrderLine, OrderRule, order_rules, line_turns, has_turns, order_verdict, with_order_line, order_judged, order_and_then, read_order_lines, picks_by}
 use Rattle.trace_text.specs.Lines.{lines_of}
 
 -- each pick is of a thread below a bound
