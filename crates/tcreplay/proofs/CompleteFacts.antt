@@ -15,6 +15,7 @@ use Rattle.tcreplay.specs.Verdict.{Given, Job, and_then, rows_in, asked_in, pick
 use Rattle.tcreplay.specs.Reads.{Reading, Shelving, IsFile, AreGiven, CutOff}
 use Rattle.tcreplay.specs.Replayed.{Writing, Ends, IsWritten, HasTried, IsAnswered, IsOutcome, SomeRose, IsComplete, order_file, given_by, verdict_on}
 use Rattle.tcreplay.proofs.EndFacts.{FailsJob, job_fails}
+use Rattle.tcreplay.proofs.RunFacts.{verdict_if}
 
 -- the same step behind a step, and steps that answer alike
 then_same : {A B : Type 0} (f g : A → Result B End) (r : Result A End) → ((a : A) → f a ≡ g a) → and_then f r ≡ and_then g r
@@ -68,11 +69,11 @@ not_usage = record {
 
 run_usage : (told : Bool) (replay : Replay) (given : Given) (r : Result Job End) → job_of replay given ≡ r → is_usage (run_verdict told r).end ≡ false
 run_usage told replay given (Err end) is = job_fails is_usage replay given end not_usage is
-run_usage told replay given (Ok job) is = by_end told job (have_ended (rules job.input) (run (rules job.input) (order_of_job job)))
+run_usage told replay given (Ok job) is = by_end (have_ended (rules job.input) (run (rules job.input) (order_of_job job))) told job
   where
-    by_end : (told : Bool) (job : Job) (b : Bool) → is_usage (cond b (let v : Verdict = record { end = Done; order = order_of_job job; text = text_with told (finished_in job.input (order_of_job job)) } in v) (let v : Verdict = record { end = Full job.input.asked.config.events; order = order_of_job job; text = [] } in v)).end ≡ false
-    by_end told job true = refl
-    by_end told job false = refl
+    by_end : (ended told : Bool) (job : Job) → is_usage (verdict_if ended told job.input (order_of_job job)).end ≡ false
+    by_end true told job = refl
+    by_end false told job = refl
 
 cut_usage : (replay : Replay) (given : Given) (t u : Reading) (f g : Shelving) (end : End) → CutOff replay given t u f g end → is_usage end ≡ false
 cut_usage replay given t u f g Usage cut = absurd cut

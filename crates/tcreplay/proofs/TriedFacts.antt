@@ -19,6 +19,7 @@ use Rattle.tcreplay.specs.Ran.{seen_ran}
 use Rattle.tcreplay.specs.Replayed.{Writing, TookText, IsWritten, IsLastEnd, IsAnswer, is_behind_run, IsLawful, IsHeadline, HasTried, verdict_on}
 use Rattle.tcreplay.proofs.Ended.{ended_from}
 use Rattle.tcreplay.proofs.EndFacts.{FailsJob, job_fails}
+use Rattle.tcreplay.proofs.RunFacts.{verdict_if, its_order, its_end}
 
 -- what was read without a refusal was read for any end
 read_for : (replay : Replay) (given : Given) (t u : Reading) (f g : Shelving) (end : End) → HasRead replay given t u f g Done → HasRead replay given t u f g end
@@ -89,18 +90,6 @@ tried_memory replay t u f g out job order none read = record {
   headline = λ done. absurd (cc);
 }
 
--- the verdict on an order answers with that order, and is `Done` only where the run has ended
-judged_order : (told : Bool) (input : Input) (order : List ℕ) (b : Bool) → (cond b (let v : Verdict = record { end = Done; order = order; text = text_with told (finished_in input order) } in v) (let v : Verdict = record { end = Full input.asked.config.events; order = order; text = [] } in v)).order ≡ order
-judged_order told input order true = refl
-judged_order told input order false = refl
-
-judged_ended : (told : Bool) (input : Input) (order : List ℕ) (b : Bool) → (cond b (let v : Verdict = record { end = Done; order = order; text = text_with told (finished_in input order) } in v) (let v : Verdict = record { end = Full input.asked.config.events; order = order; text = [] } in v)).end ≡ Done → b ≡ true
-judged_ended told input order true done = refl
-judged_ended told input order false done = absurd (cc)
-
-judged_text : (told : Bool) (input : Input) (order : List ℕ) (b : Bool) → b ≡ true → (cond b (let v : Verdict = record { end = Done; order = order; text = text_with told (finished_in input order) } in v) (let v : Verdict = record { end = Full input.asked.config.events; order = order; text = [] } in v)).text ≡ text_with told (finished_in input order)
-judged_text told input order b ended = ap (λ b. (cond b (let v : Verdict = record { end = Done; order = order; text = text_with told (finished_in input order) } in v) (let v : Verdict = record { end = Full input.asked.config.events; order = order; text = [] } in v)).text) ended
-
 -- an end that is `Done` was the run's
 done_before : (ran end : End) → IsLastEnd ran end → end ≡ Done → ran ≡ Done
 done_before ran end (inl same) done = sym same ∙ done
@@ -113,8 +102,15 @@ took end text before after done written = (subst (λ e. IsWritten e text before 
 module _ (replay : Replay) (t u : Reading) (f g : Shelving) (before after : Writing) (job : Job) (ran : Ran) (end : End) (order : List ℕ)
     (read : IsJobRead replay t u f g (Ok job)) (is : seen_ran ran ≡ judged replay.rows (seen_job job).input (order_of_job (seen_job job))) (law : IsLawful (seen_job job).input ran.order.items)
     (last : IsLastEnd ran.end end) (given : order ≡ ran.order.items) (written : IsWritten end ran.text.items before after) where
-  here : verdict.Job
-  here = seen_job job
+  -- the job's input, its order, and whether the run of that has ended
+  abbrev input : Input
+  input = (seen_job job).input
+
+  abbrev whole : List ℕ
+  whole = order_of_job (seen_job job)
+
+  abbrev ended : Bool
+  ended = have_ended (rules input) (run (rules input) whole)
 
   verdict_is : verdict_on replay read.given ≡ seen_ran ran
   verdict_is = ap (run_verdict replay.rows) read.answer ∙ sym is
@@ -123,24 +119,24 @@ module _ (replay : Replay) (t u : Reading) (f g : Shelving) (before after : Writ
   answered (inl same) = inl (same ∙ sym (ap (λ (v : Verdict). v.end) verdict_is), given ∙ sym (ap (λ (v : Verdict). v.order) verdict_is))
   answered (inr failed) = inr (inr (failed.0, given ∙ sym (ap (λ (v : Verdict). v.order) verdict_is), ap (λ (v : Verdict). v.end) verdict_is ∙ failed.1))
 
-  lawful : IsLawful (seen_job job).input order
-  lawful = subst (IsLawful (seen_job job).input) (sym given) law
+  lawful : IsLawful input order
+  lawful = subst (IsLawful input) (sym given) law
 
-  order_is : order ≡ order_of_job (seen_job job)
-  order_is = given ∙ (ap (λ (v : Verdict). v.order) is ∙ judged_order replay.rows (seen_job job).input (order_of_job (seen_job job)) (have_ended (rules (seen_job job).input) (run (rules (seen_job job).input) (order_of_job (seen_job job)))))
+  order_is : order ≡ whole
+  order_is = given ∙ (ap (λ (v : Verdict). v.order) is ∙ its_order ended replay.rows input whole)
 
-  all_ended : end ≡ Done → have_ended (rules (seen_job job).input) (run (rules (seen_job job).input) (order_of_job (seen_job job))) ≡ true
-  all_ended done = judged_ended replay.rows (seen_job job).input (order_of_job (seen_job job)) (have_ended (rules (seen_job job).input) (run (rules (seen_job job).input) (order_of_job (seen_job job)))) (sym (ap (λ (v : Verdict). v.end) is) ∙ done_before ran.end end last done)
+  all_ended : end ≡ Done → ended ≡ true
+  all_ended done = its_end ended replay.rows input whole (sym (ap (λ (v : Verdict). v.end) is) ∙ done_before ran.end end last done)
 
-  text_is : end ≡ Done → ran.text.items ≡ text_with replay.rows (finished_in (seen_job job).input order)
-  text_is done = ap (λ (v : Verdict). v.text) is ∙ (judged_text replay.rows (seen_job job).input (order_of_job (seen_job job)) (have_ended (rules (seen_job job).input) (run (rules (seen_job job).input) (order_of_job (seen_job job)))) (all_ended done) ∙ ap (λ o. text_with replay.rows (finished_in (seen_job job).input o)) (sym order_is))
+  text_is : end ≡ Done → ran.text.items ≡ text_with replay.rows (finished_in input order)
+  text_is done = ap (λ (v : Verdict). v.text) is ∙ (ap (λ b. (verdict_if b replay.rows input whole).text) (all_ended done) ∙ ap (λ o. text_with replay.rows (finished_in input o)) (sym order_is))
 
   headline : end ≡ Done → IsHeadline replay read.given before after order
   headline done = record {
     job = seen_job job;
     asked = read.answer;
     order_is = order_is;
-    ended = ended_from (rules (seen_job job).input) (run (rules (seen_job job).input) order) (ap (λ o. have_ended (rules (seen_job job).input) (run (rules (seen_job job).input) o)) order_is ∙ all_ended done);
+    ended = ended_from (rules input) (run (rules input) order) (ap (λ o. have_ended (rules input) (run (rules input) o)) order_is ∙ all_ended done);
     text = subst (Took before.taken after.taken) (text_is done) (took end ran.text.items before after done written);
     law = lawful;
   }
