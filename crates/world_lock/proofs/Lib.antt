@@ -1,0 +1,3 @@
+mod Polite
+pub mod Sent
+mod Turning
