@@ -1,5 +1,4 @@
 pub mod Faults
-pub mod Counts
 pub mod Told
 pub mod Shelves
 pub mod Whole

@@ -22,8 +22,8 @@ use Rattle.tc_machine.specs.Built.{first_unbuilt}
 use Rattle.tc_machine.specs.Finish.{finished_in}
 use Rattle.usage_report.specs.Report.{text_of}
 use Rattle.tcreplay.specs.declared.outcome.End.{End}
-use Rattle.tcreplay.specs.declared.outcome.End.TheVariants.{Done, Usage, BadTable, BadTrace, Memory, TooLong, Full, BadOrder, FileFault}
-use Rattle.tcreplay.specs.Words.{Replay, replay_by}
+use Rattle.tcreplay.specs.declared.outcome.End.TheVariants.{Done, BadTable, BadTrace, Memory, TooLong, Full, BadOrder, FileFault}
+use Rattle.tcreplay.specs.Words.{Replay}
 
 -- a step behind one that gave what it needs
 abbrev pub and_then : {A B : Type 0} → (A → Result B End) → Result A End → Result B End
@@ -140,11 +140,3 @@ judged told input order =
 abbrev pub run_verdict : Bool → Result Job End → Verdict
 run_verdict told (Err end) = refused end
 run_verdict told (Ok job) = judged told job.input (order_of_job job)
-
-abbrev pub replay_verdict : Option Replay → Given → Verdict
-replay_verdict None given = refused Usage
-replay_verdict (Some replay) given = run_verdict replay.rows (job_of replay given)
-
--- what words and inputs come to
-abbrev pub verdict : List (List ℕ) → Given → Verdict
-verdict words given = replay_verdict (replay_by words) given

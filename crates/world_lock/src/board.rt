@@ -24,6 +24,8 @@ pub struct WorldHand<N: Named> {
 }
 
 impl<N: Named> WorldBoard<N> {
+    /// A state under the lock. Of what is under a lock no contract tells more than its type, which says
+    /// what the state is a run of.
     pub fn new(world: World<N>) -> WorldBoard<N> {
         WorldBoard {
             world: Mutex::new(world),
@@ -42,7 +44,7 @@ impl<N: Named> WorldBoard<N> {
         }
     }
 
-    /// The state, once no thread takes turns.
+    /// The state, once no thread takes turns. As of `new`, its type is all that is known of it.
     pub fn into_world(self) -> World<N> {
         let WorldBoard { world } = self;
         world.into_inner()
