@@ -25,7 +25,7 @@
 #define PATH_BYTES 4096
 #define NAME_BYTES 256
 #define EARLY_BYTES 65536
-#define USUAL_CAPACITY 4194304
+#define USUAL_PLACES 4194304
 #define MOST_LOGS 100000
 #define EXPORTED __attribute__((visibility("default")))
 
@@ -75,8 +75,14 @@ struct process {
 static struct process *_Atomic own_page;
 static int is_wiped_at_fork;
 static _Atomic uint64_t early_calls;
-static char folder[PATH_BYTES];
 static uint32_t openings;
+
+/* Where the logs go, and how many places one has. It is kept when the environment has been read once, so that a
+   program may change its environment, and its children have logs too. */
+static struct {
+    char folder[PATH_BYTES];
+    uint64_t places;
+} wish;
 
 /* The number of this thread in the log that was opened as the `opening`-th. */
 static __thread struct {
@@ -222,7 +228,7 @@ static int new_file(void)
 {
     char path[PATH_BYTES + 64];
     char *end = path + sizeof path - 1;
-    char *at = put_text(path, end, folder);
+    char *at = put_text(path, end, wish.folder);
     at = put_number(put_text(at, end, "/"), end, (unsigned long)getpid());
     at = put_text(at, end, ".");
     for (unsigned long number = 0; number < MOST_LOGS; number++) {
@@ -234,21 +240,28 @@ static int new_file(void)
     return -1;
 }
 
-/* As many places as are wanted, but no more than fill half of the disk's room, or the file's limit. */
-static uint64_t capacity_of(int file, uint64_t wanted)
+/* So many places, or no more than fill a part of what a limit of the process allows. */
+static uint64_t within(uint64_t most, int resource, uint64_t part)
 {
-    uint64_t most = wanted ? wanted : USUAL_CAPACITY;
+    struct rlimit limit;
+    if (getrlimit(resource, &limit) != 0 || limit.rlim_cur == RLIM_INFINITY)
+        return most;
+    uint64_t bytes = limit.rlim_cur / part;
+    uint64_t places = bytes > PAGE_BYTES ? (bytes - PAGE_BYTES) / sizeof(struct note) : 0;
+    return places < most ? places : most;
+}
+
+/* As many places as are wished for, but no more than fill half of the disk's room, a file of the greatest size, or
+   a quarter of the addresses. */
+static uint64_t capacity_of(int file)
+{
+    uint64_t most = wish.places;
     struct statvfs disk;
     if (fstatvfs(file, &disk) == 0) {
         uint64_t room = (uint64_t)disk.f_bavail * disk.f_frsize / 2 / sizeof(struct note);
         most = room < most ? room : most;
     }
-    struct rlimit limit;
-    if (getrlimit(RLIMIT_FSIZE, &limit) == 0 && limit.rlim_cur != RLIM_INFINITY) {
-        uint64_t bytes = limit.rlim_cur > PAGE_BYTES ? limit.rlim_cur - PAGE_BYTES : 0;
-        most = bytes / sizeof(struct note) < most ? bytes / sizeof(struct note) : most;
-    }
-    return most;
+    return within(within(most, RLIMIT_FSIZE, 1), RLIMIT_AS, 4);
 }
 
 static struct log *mapped(int file, uint64_t capacity)
@@ -270,12 +283,12 @@ static void write_head(struct log *log, uint64_t capacity)
     memcpy(log->magic, "tcrecord", 8);
 }
 
-static struct log *new_log(uint64_t wanted)
+static struct log *new_log(void)
 {
     int file = new_file();
     if (file < 0)
         return NULL;
-    uint64_t capacity = capacity_of(file, wanted);
+    uint64_t capacity = capacity_of(file);
     struct log *log = mapped(file, capacity);
     close(file);
     if (log)
@@ -283,35 +296,38 @@ static struct log *new_log(uint64_t wanted)
     return log;
 }
 
-/* Notes where the logs go. A child goes by what was noted, also where it has dropped its environment. */
-static int find_folder(void)
+/* Whether it is known where the logs go. The environment isn't there yet at the very first calls. */
+static int has_wish(void)
 {
-    const char *into = folder[0] ? folder : getenv("TCREPLAY_RECORD_INTO");
-    if (!into || !*into || strlen(into) >= sizeof folder)
+    if (wish.folder[0])
+        return 1;
+    const char *folder = environ ? getenv("TCREPLAY_RECORD_INTO") : NULL;
+    if (!folder || strlen(folder) >= PATH_BYTES)
         return 0;
-    if (into != folder)
-        strcpy(folder, into);
+    unsigned long places = number_of(getenv("TCREPLAY_RECORD_CALLS"));
+    wish.places = places ? places : USUAL_PLACES;
+    strcpy(wish.folder, folder);
     return 1;
 }
 
 static int open_own(struct process *own)
 {
     int saved = errno;
-    own->log = find_folder() ? new_log(number_of(getenv("TCREPLAY_RECORD_CALLS"))) : NULL;
+    own->log = new_log();
     openings++;
     errno = saved;
     return own->log ? OPEN : OFF;
 }
 
-/* The log of this process, or none. It is opened at the first call, but not before the environment is there.
-   Another call that comes while it is being opened doesn't wait, since it may be a signal's in this thread. */
+/* The log of this process, or none. It is opened at the first call at which it is known where logs go. Another
+   call that comes while it is being opened doesn't wait, since it may be a signal's in this thread. */
 static struct log *own_log(void)
 {
     struct process *own = own_process();
-    if (!own || !environ)
+    if (!own)
         return NULL;
     int phase = atomic_load_explicit(&own->phase, memory_order_acquire);
-    if (phase == NONE && atomic_compare_exchange_strong(&own->phase, &phase, OPENING)) {
+    if (phase == NONE && has_wish() && atomic_compare_exchange_strong(&own->phase, &phase, OPENING)) {
         phase = open_own(own);
         atomic_store_explicit(&own->phase, phase, memory_order_release);
     }

@@ -2,6 +2,7 @@
    has a size that no other has, so that they are told from those of the C library. With a word it is the
    program that the first one becomes at its end. */
 #define _GNU_SOURCE
+#include <fcntl.h>
 #include <malloc.h>
 #include <pthread.h>
 #include <stdint.h>
@@ -26,9 +27,11 @@ static void *block_of(void *size)
     return malloc((uintptr_t)size);
 }
 
-/* A child frees a block that its parent allocated, has two threads of its own, and goes on without a descriptor. */
+/* A child drops its environment, frees a block that its parent allocated, has two threads of its own, and goes on
+   without a descriptor. */
 static void be_child(void)
 {
+    clearenv();
     void *own = malloc(10067);
     free(first);
     result_of(block_of, (void *)10071);
@@ -65,6 +68,8 @@ int main(int count, char **words)
         return 0;
     }
     first = malloc(10007);
+    if (open("/dev/null", O_RDONLY) != 3)   /* the log keeps no descriptor */
+        return 5;
     void *zeros = calloc(3, 10009);
     void *aligned = NULL;
     first = realloc(first, 20011);
