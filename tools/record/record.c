@@ -172,12 +172,12 @@ static struct process *new_page(void)
     struct process *page = mmap(NULL, PAGE_BYTES, PROT_READ | PROT_WRITE, MAP_PRIVATE | MAP_ANONYMOUS, -1, 0);
     if (page == MAP_FAILED)
         return NULL;
+    is_wiped_at_fork = madvise(page, PAGE_BYTES, MADV_WIPEONFORK) == 0;
     struct process *other = NULL;
     if (!atomic_compare_exchange_strong(&own_page, &other, page)) {
         munmap(page, PAGE_BYTES);
-        return other;
+        page = other;
     }
-    is_wiped_at_fork = madvise(page, PAGE_BYTES, MADV_WIPEONFORK) == 0;
     errno = saved;
     return page;
 }
@@ -264,6 +264,7 @@ static uint64_t capacity_of(int file)
     return within(within(most, RLIMIT_FSIZE, 1), RLIMIT_AS, 4);
 }
 
+/* A new log in memory, all zeros: the mapping outlasts the descriptor. */
 static struct log *mapped(int file, uint64_t capacity)
 {
     size_t bytes = PAGE_BYTES + capacity * sizeof(struct note);
@@ -310,6 +311,7 @@ static int has_wish(void)
     return 1;
 }
 
+/* Opens the log of a process that has none yet, and gives the phase that it is in then. */
 static int open_own(struct process *own)
 {
     int saved = errno;
@@ -334,6 +336,7 @@ static struct log *own_log(void)
     return phase == OPEN ? own->log : NULL;
 }
 
+/* A thread gets its number at its first note, and another one in a child of fork. */
 static uint32_t thread_number(struct log *log)
 {
     if (this_thread.opening != openings) {
