@@ -32,20 +32,22 @@ IsConfig-default = record {
   percpu = lit≤ tt;
   events = (lit≤ tt, lit≤ tt);
   window = lit≤ tt;
+  domains = lit≤ tt;
 }
 
 IsConfig-with : (h : heads.Head) (value : ℕ) (config : Config) → IsConfig config → (head_range h).least ≤ value → value ≤ (head_range h).most → IsConfig (with_limit h value config)
-IsConfig-with head.Cpus value config k least most = record { cpus = (least, most); threads = k.threads; huge = k.huge; cache = k.cache; region = k.region; slack = k.slack; transfer = k.transfer; slab = k.slab; percpu = k.percpu; events = k.events; window = k.window }
-IsConfig-with head.Threads value config k least most = record { cpus = k.cpus; threads = (least, most); huge = k.huge; cache = k.cache; region = k.region; slack = k.slack; transfer = k.transfer; slab = k.slab; percpu = k.percpu; events = k.events; window = k.window }
-IsConfig-with head.Huge value config k least most = record { cpus = k.cpus; threads = k.threads; huge = (least, most); cache = k.cache; region = k.region; slack = k.slack; transfer = k.transfer; slab = k.slab; percpu = k.percpu; events = k.events; window = k.window }
-IsConfig-with head.Cache value config k least most = record { cpus = k.cpus; threads = k.threads; huge = k.huge; cache = most; region = k.region; slack = k.slack; transfer = k.transfer; slab = k.slab; percpu = k.percpu; events = k.events; window = k.window }
-IsConfig-with head.Region value config k least most = record { cpus = k.cpus; threads = k.threads; huge = k.huge; cache = k.cache; region = (least, most); slack = k.slack; transfer = k.transfer; slab = k.slab; percpu = k.percpu; events = k.events; window = k.window }
-IsConfig-with head.Slack value config k least most = record { cpus = k.cpus; threads = k.threads; huge = k.huge; cache = k.cache; region = k.region; slack = most; transfer = k.transfer; slab = k.slab; percpu = k.percpu; events = k.events; window = k.window }
-IsConfig-with head.Transfer value config k least most = record { cpus = k.cpus; threads = k.threads; huge = k.huge; cache = k.cache; region = k.region; slack = k.slack; transfer = most; slab = k.slab; percpu = k.percpu; events = k.events; window = k.window }
-IsConfig-with head.Slab value config k least most = record { cpus = k.cpus; threads = k.threads; huge = k.huge; cache = k.cache; region = k.region; slack = k.slack; transfer = k.transfer; slab = (least, most); percpu = k.percpu; events = k.events; window = k.window }
-IsConfig-with head.Percpu value config k least most = record { cpus = k.cpus; threads = k.threads; huge = k.huge; cache = k.cache; region = k.region; slack = k.slack; transfer = k.transfer; slab = k.slab; percpu = most; events = k.events; window = k.window }
-IsConfig-with head.Events value config k least most = record { cpus = k.cpus; threads = k.threads; huge = k.huge; cache = k.cache; region = k.region; slack = k.slack; transfer = k.transfer; slab = k.slab; percpu = k.percpu; events = (least, most); window = k.window }
-IsConfig-with head.Window value config k least most = record { cpus = k.cpus; threads = k.threads; huge = k.huge; cache = k.cache; region = k.region; slack = k.slack; transfer = k.transfer; slab = k.slab; percpu = k.percpu; events = k.events; window = most }
+IsConfig-with head.Cpus value config k least most = record { cpus = (least, most); threads = k.threads; huge = k.huge; cache = k.cache; region = k.region; slack = k.slack; transfer = k.transfer; slab = k.slab; percpu = k.percpu; events = k.events; window = k.window; domains = k.domains }
+IsConfig-with head.Threads value config k least most = record { cpus = k.cpus; threads = (least, most); huge = k.huge; cache = k.cache; region = k.region; slack = k.slack; transfer = k.transfer; slab = k.slab; percpu = k.percpu; events = k.events; window = k.window; domains = k.domains }
+IsConfig-with head.Huge value config k least most = record { cpus = k.cpus; threads = k.threads; huge = (least, most); cache = k.cache; region = k.region; slack = k.slack; transfer = k.transfer; slab = k.slab; percpu = k.percpu; events = k.events; window = k.window; domains = k.domains }
+IsConfig-with head.Cache value config k least most = record { cpus = k.cpus; threads = k.threads; huge = k.huge; cache = most; region = k.region; slack = k.slack; transfer = k.transfer; slab = k.slab; percpu = k.percpu; events = k.events; window = k.window; domains = k.domains }
+IsConfig-with head.Region value config k least most = record { cpus = k.cpus; threads = k.threads; huge = k.huge; cache = k.cache; region = (least, most); slack = k.slack; transfer = k.transfer; slab = k.slab; percpu = k.percpu; events = k.events; window = k.window; domains = k.domains }
+IsConfig-with head.Slack value config k least most = record { cpus = k.cpus; threads = k.threads; huge = k.huge; cache = k.cache; region = k.region; slack = most; transfer = k.transfer; slab = k.slab; percpu = k.percpu; events = k.events; window = k.window; domains = k.domains }
+IsConfig-with head.Transfer value config k least most = record { cpus = k.cpus; threads = k.threads; huge = k.huge; cache = k.cache; region = k.region; slack = k.slack; transfer = most; slab = k.slab; percpu = k.percpu; events = k.events; window = k.window; domains = k.domains }
+IsConfig-with head.Slab value config k least most = record { cpus = k.cpus; threads = k.threads; huge = k.huge; cache = k.cache; region = k.region; slack = k.slack; transfer = k.transfer; slab = (least, most); percpu = k.percpu; events = k.events; window = k.window; domains = k.domains }
+IsConfig-with head.Percpu value config k least most = record { cpus = k.cpus; threads = k.threads; huge = k.huge; cache = k.cache; region = k.region; slack = k.slack; transfer = k.transfer; slab = k.slab; percpu = most; events = k.events; window = k.window; domains = k.domains }
+IsConfig-with head.Events value config k least most = record { cpus = k.cpus; threads = k.threads; huge = k.huge; cache = k.cache; region = k.region; slack = k.slack; transfer = k.transfer; slab = k.slab; percpu = k.percpu; events = (least, most); window = k.window; domains = k.domains }
+IsConfig-with head.Window value config k least most = record { cpus = k.cpus; threads = k.threads; huge = k.huge; cache = k.cache; region = k.region; slack = k.slack; transfer = k.transfer; slab = k.slab; percpu = k.percpu; events = k.events; window = most; domains = k.domains }
+IsConfig-with head.Domains value config k least most = record { cpus = k.cpus; threads = k.threads; huge = k.huge; cache = k.cache; region = k.region; slack = k.slack; transfer = k.transfer; slab = k.slab; percpu = k.percpu; events = k.events; window = k.window; domains = most }
 
 -- a place in a list with one item more: the new item's, or one of the list before
 record IsLast (calls earlier later : List ThreadCall) (c x : ThreadCall) : Type 0 where

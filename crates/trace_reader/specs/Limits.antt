@@ -2,7 +2,7 @@
 use Rattle.std.specs.Prelude.{ℕ}
 use Rattle.tc_model.specs.declared.config.Config.{Config}
 use Rattle.trace_reader.specs.declared.word.Head.{Head}
-use Rattle.trace_reader.specs.declared.word.Head.TheVariants.{Cpus, Threads, Huge, Cache, Region, Slack, Transfer, Slab, Percpu, Events, Window}
+use Rattle.trace_reader.specs.declared.word.Head.TheVariants.{Cpus, Threads, Huge, Cache, Region, Slack, Transfer, Slab, Percpu, Events, Window, Domains}
 
 -- the limits with one of them set anew
 abbrev pub with_limit : Head → ℕ → Config → Config
@@ -17,3 +17,4 @@ with_limit Slab value config = record config { slab = value }
 with_limit Percpu value config = record config { percpu = value }
 with_limit Events value config = record config { events = value }
 with_limit Window value config = record config { window = value }
+with_limit Domains value config = record config { domains = value }

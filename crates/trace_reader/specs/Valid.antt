@@ -20,6 +20,7 @@ pub record IsConfig (config : Config) : Type 0 where
   pub percpu : config.percpu ≤ 268435456
   pub events : (1 ≤ config.events) × (config.events ≤ 40000000)
   pub window : config.window ≤ 65536
+  pub domains : config.domains ≤ 64
 
 -- a move is before an instruction that is numbered, to a CPU that is there
 pub record IsMove (config : Config) (moved : MoveTo) : Type 0 where

@@ -3,7 +3,7 @@ use Rattle.std.specs.Prelude.{ℕ, Bool, false, true, List, [], ◌∷◌, Optio
 use Rattle.std.specs.Option.{option_or}
 use Rattle.std.specs.Str.{bytes_eq}
 use Rattle.trace_reader.specs.declared.word.Head.{Head}
-use Rattle.trace_reader.specs.declared.word.Head.TheVariants.{Cpus, Threads, Huge, Cache, Region, Slack, Transfer, Slab, Percpu, Events, Window}
+use Rattle.trace_reader.specs.declared.word.Head.TheVariants.{Cpus, Threads, Huge, Cache, Region, Slack, Transfer, Slab, Percpu, Events, Window, Domains}
 use Rattle.trace_reader.specs.declared.word.Word.{Word}
 use Rattle.trace_reader.specs.declared.word.Word.TheVariants as word
 
@@ -20,7 +20,8 @@ head_of field =
     else (if bytes_eq field (codes "slab") then Some Slab
     else (if bytes_eq field (codes "percpu") then Some Percpu
     else (if bytes_eq field (codes "events") then Some Events
-    else (if bytes_eq field (codes "window") then Some Window else None))))))))))
+    else (if bytes_eq field (codes "window") then Some Window
+    else (if bytes_eq field (codes "domains") then Some Domains else None)))))))))))
 
 -- the call or the preemption that a field names
 abbrev pub call_word_of : List ℕ → Option Word
@@ -66,6 +67,7 @@ head_range Slab = from_to 1 2048
 head_range Percpu = from_to 0 268435456
 head_range Events = from_to 1 40000000
 head_range Window = from_to 0 65536
+head_range Domains = from_to 0 64
 
 -- a thread, a CPU or a class: whether there is such a one is a later rule
 abbrev pub place : Range

@@ -21,6 +21,7 @@ pub fn range_of(head: Head) -> (u64, u64)
         Head::Percpu => (0, 268_435_456),
         Head::Events => (1, 40_000_000),
         Head::Window => (0, 65_536),
+        Head::Domains => (0, 64),
     }
 }
 
@@ -41,5 +42,6 @@ pub fn set_limit(config: &mut Config, head: Head, value: u64)
         Head::Percpu => config.percpu = value,
         Head::Events => config.events = value,
         Head::Window => config.window = value as u32,
+        Head::Domains => config.domains = value as u8,
     }
 }

@@ -37,6 +37,7 @@ const DEFAULTS: Config = Config {
     percpu: 1_572_864,
     events: 40_000_000,
     window: 0,
+    domains: 0,
 };
 
 /// What the lines so far say.

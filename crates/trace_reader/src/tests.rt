@@ -35,6 +35,7 @@ fn a_trace(rt: HostRuntime) -> Result<(), Fail> {
         percpu: 1572864,
         events: 40000000,
         window: 0,
+        domains: 0,
     };
     assert_eq!(rt; trace.config, config);
     assert_eq!(rt; trace.labels, 1000000);
@@ -102,7 +103,7 @@ fn a_trace(rt: HostRuntime) -> Result<(), Fail> {
 #[test]
 fn heads(rt: HostRuntime) -> Result<(), Fail> {
     let text = b"cpus 64\nthreads 64\nhuge 4096\ncache 0\nregion 2\nslack 1048576\n\
-        transfer 4096\nslab 1\npercpu 0\nevents 1\nwindow 65536\n";
+        transfer 4096\nslab 1\npercpu 0\nevents 1\nwindow 65536\ndomains 64\n";
     let trace = read_trace(rt.alloc(), text, CLASSES)?;
     let config = Config {
         cpus: 64,
@@ -116,10 +117,29 @@ fn heads(rt: HostRuntime) -> Result<(), Fail> {
         percpu: 0,
         events: 1,
         window: 65536,
+        domains: 64,
     };
     assert_eq!(rt; trace.config, config);
     assert_eq!(rt; trace.scripts.as_slice().len(), 64);
     assert_eq!(rt; trace.labels, 0);
+    Ok(())
+}
+
+#[test]
+fn domains(rt: HostRuntime) -> Result<(), Fail> {
+    for (text, domains) in [
+        (b"".as_slice(), 0),
+        (b"cpus 64\na 0 0 1\n".as_slice(), 0),
+        (b"domains 0\n".as_slice(), 0),
+        (b"domains 64".as_slice(), 64),
+
+        // The last one counts.
+        (b"domains 64\ndomains 0\n".as_slice(), 0),
+        (b"domains 2\ncpus 4\ndomains 3\na 0 0 1\n".as_slice(), 3),
+    ] {
+        let trace = read_trace(rt.alloc(), text, CLASSES)?;
+        assert_eq!(rt; trace.config.domains, domains, "at {text:?}");
+    }
     Ok(())
 }
 
@@ -131,6 +151,7 @@ fn bad_lines(rt: HostRuntime) {
         (b"a 0 0 10 ".as_slice(), 1, LineWhy::Fields),
         (b"a 0 0 1099511627777".as_slice(), 1, LineWhy::Number),
         (b"window 65537".as_slice(), 1, LineWhy::Number),
+        (b"domains 65".as_slice(), 1, LineWhy::Number),
         (b"a 0 0 01".as_slice(), 1, LineWhy::Number),
         (b"a 0 1000000 1".as_slice(), 1, LineWhy::Number),
         (b"huge 18446744073709551616".as_slice(), 1, LineWhy::Number),

@@ -16,6 +16,7 @@ pub enum Head {
     Percpu,
     Events,
     Window,
+    Domains,
 }
 
 /// What the first field of a line names.
@@ -56,6 +57,8 @@ fn read_head(field: &[u8]) -> Option<Head>
         Some(Head::Events)
     } else if field == b"window".as_slice() {
         Some(Head::Window)
+    } else if field == b"domains".as_slice() {
+        Some(Head::Domains)
     } else {
         None
     }

@@ -146,6 +146,23 @@ fn assert_same(rt: &impl Abort, told: &[CallLine], others: &[CallLine]) {
     }
 }
 
+/// Asserts that an order of a trace replays to itself and to these calls.
+fn assert_replays(
+    rt: &impl Abort,
+    alloc: Global,
+    text: &[u8],
+    order: &[u16],
+    told: &[CallLine],
+) -> Result<(), Fail> {
+    let mut again = opened(rt, alloc, text)?;
+    assert!(rt; order.iter().all(|thread| *thread < 2));
+    assert_eq!(rt; again.run_order(order), Ok(()));
+    assert_eq!(rt; again.order(), order);
+    assert!(rt; again.ended());
+    assert_same(rt, told, again.finish()?.calls.as_slice());
+    Ok(())
+}
+
 #[test]
 fn picks_of_large_calls_are_never_held(rt: HostRuntime) -> Result<(), Fail> {
     let alloc = rt.alloc();
@@ -206,14 +223,7 @@ fn the_order_of_two_workers_replays_to_their_calls(rt: HostRuntime) -> Result<()
     let told = left.state.finish()?;
     assert_eq!(rt; told.live, 0);
     assert_eq!(rt; told.used, 0);
-
-    let mut again = opened(&rt, alloc, CROSSED)?;
-    assert!(rt; order.iter().all(|thread| *thread < 2));
-    assert_eq!(rt; again.run_order(order), Ok(()));
-    assert_eq!(rt; again.order(), order);
-    assert!(rt; again.ended());
-    assert_same(&rt, told.calls.as_slice(), again.finish()?.calls.as_slice());
-    Ok(())
+    assert_replays(&rt, alloc, CROSSED, order, told.calls.as_slice())
 }
 
 #[test]
