@@ -1,1 +1,3 @@
 pub mod OutFacts
+pub mod CountedOnceDiffer
+pub mod FetchesMove

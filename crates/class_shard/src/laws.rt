@@ -1,0 +1,12 @@
+//! The laws of a shard as a value: what a fetch, a new span and a giving leave, and how its spans are cut.
+ghost use Rattle.class_shard.specs.Laws.{FetchMoves, DifferByCount};
+
+/// A fetch moves objects out of the shard, no more than are asked for, and keeps the spans.
+pub fn fetches_move()
+    ensures { FetchMoves }
+{}
+
+/// A list in which each address stands at most once has different objects.
+pub fn counted_once_differ()
+    ensures { DifferByCount }
+{}
