@@ -1,12 +1,11 @@
 -- What a fetch leaves: the spans keep their pages, and objects only move.
-use Rattle.std.proofs.Common.{◌≡◌, ℕ, zero, suc, ◌+◌, ◌-◌, ◌<◌, ◌≤◌, Bool, true, false, List, [], ◌∷◌, length, get_or, set, map, take, drop, count_by, Option, Some, None, cond, refl, sym, ◌∙◌, ap, subst, inl, inr, arith}
+use Rattle.std.proofs.Common.{◌≡◌, ℕ, zero, suc, ◌+◌, ◌-◌, ◌<◌, ◌≤◌, Bool, true, false, List, [], ◌∷◌, length, get_or, set, take, drop, count_by, Option, Some, None, cond, refl, sym, ◌∙◌, ap, subst, inl, inr, arith}
 use Rattle.std.specs.Option.{option_map}
-use Rattle.std.proofs.lemmas.List.{get_or-map, map-set, set-get_or, length-reverse, length-drop}
+use Rattle.std.proofs.lemmas.List.{length-reverse, length-drop}
 use Rattle.std.proofs.lemmas.List.Sums.{sum_by-cons, sum_by-append, sum_by-take-drop}
 use Rattle.std.proofs.lemmas.Option.{none-some, same_Some}
 use Rattle.std.proofs.lemmas.Bool.{cases_Bool, cond-true, cond-false}
 use Rattle.tc_units.specs.declared.units.Addr.{Addr}
-use Rattle.tc_units.specs.declared.spans.SpanRef.{SpanRef}
 use Rattle.tc_units.specs.declared.spans.ClassRow.{ClassRow}
 use Rattle.span_list.specs.Span.{SpanState, address, least, with_object, taken_from, after_take, free_objects}
 use Rattle.span_list.proofs.SpanFacts.{take_moves}
@@ -16,19 +15,11 @@ use Rattle.central_free.proofs.SoundFacts.{has_pages, IsOfRow-after_take, IsSoun
 use Rattle.transfer_cache.specs.Transfer.{last_first, without_last}
 use Rattle.transfer_cache.proofs.TransferFacts.{sum_by-reverse}
 use Rattle.class_shard.specs.Shard.{Shard, with_objects, with_spans, is_idle, fetched, after_fetch, places}
+use Rattle.class_shard.proofs.SpanSums.{pages_of, pages-set}
 use Rattle.class_shard.specs.Laws.{spans_in, IsSame, IsFetched, FetchMoves}
 
 abbrev central_of : ClassRow → List SpanState → Central
 central_of row spans = record { row = row; spans = spans }
-
-abbrev pub pages_of : List SpanState → List SpanRef
-pages_of spans = map (λ (x : SpanState). x.span) spans
-
--- another state of a span in its place
-pub pages-set : (spans : List SpanState) (k : ℕ) (s t : SpanState) → k < length spans → ((d : SpanState) → get_or spans k d ≡ s) → t.span ≡ s.span → pages_of (set spans k t) ≡ pages_of spans
-pages-set spans k s t within here same =
-    let there : get_or (pages_of spans) k s.span ≡ s.span = get_or-map (λ (x : SpanState). x.span) spans k s s.span within ∙ ap (λ x. x.span) (here s) in
-    map-set (λ (x : SpanState). x.span) spans k t ∙ ap (set (pages_of spans) k) (same ∙ sym there) ∙ set-get_or (pages_of spans) k s.span
 
 -- what some takes leave
 record IsMoved (row : ClassRow) (old new : List SpanState) (objects : List Addr) (n : ℕ) : Type 0 where

@@ -1,3 +1,5 @@
 pub mod OutFacts
 pub mod CountedOnceDiffer
+pub mod SpanSums
 pub mod FetchesMove
+pub mod AddsMove

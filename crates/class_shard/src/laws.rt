@@ -1,9 +1,14 @@
 //! The laws of a shard as a value: what a fetch, a new span and a giving leave, and how its spans are cut.
-ghost use Rattle.class_shard.specs.Laws.{FetchMoves, DifferByCount};
+ghost use Rattle.class_shard.specs.Laws.{FetchMoves, AddMoves, DifferByCount};
 
 /// A fetch moves objects out of the shard, no more than are asked for, and keeps the spans.
 pub fn fetches_move()
     ensures { FetchMoves }
+{}
+
+/// A new span brings its objects, the first of which leave the shard.
+pub fn adds_move()
+    ensures { AddMoves }
 {}
 
 /// A list in which each address stands at most once has different objects.
