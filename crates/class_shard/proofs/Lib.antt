@@ -3,3 +3,4 @@ pub mod CountedOnceDiffer
 pub mod SpanSums
 pub mod FetchesMove
 pub mod AddsMove
+pub mod GivesMove
