@@ -4,3 +4,4 @@ pub mod SpanSums
 pub mod FetchesMove
 pub mod AddsMove
 pub mod GivesMove
+pub mod SpansAreCut

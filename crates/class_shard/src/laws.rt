@@ -1,5 +1,5 @@
 //! The laws of a shard as a value: what a fetch, a new span and a giving leave, and how its spans are cut.
-ghost use Rattle.class_shard.specs.Laws.{FetchMoves, AddMoves, GiveMoves, DifferByCount};
+ghost use Rattle.class_shard.specs.Laws.{FetchMoves, AddMoves, GiveMoves, SpansAreCut, DifferByCount};
 
 /// A fetch moves objects out of the shard, no more than are asked for, and keeps the spans.
 pub fn fetches_move()
@@ -14,6 +14,11 @@ pub fn adds_move()
 /// A giving moves objects into the shard, and spans that are all free then leave with all their objects.
 pub fn gives_move()
     ensures { GiveMoves }
+{}
+
+/// The objects of the spans don't meet, each lies in its span, and each that is in no place is taken.
+pub fn spans_are_cut()
+    ensures { SpansAreCut }
 {}
 
 /// A list in which each address stands at most once has different objects.

@@ -6,5 +6,5 @@ mod shard;
 #[cfg(test)]
 mod tests;
 
-pub use laws::{adds_move, counted_once_differ, fetches_move, gives_move};
+pub use laws::{adds_move, counted_once_differ, fetches_move, gives_move, spans_are_cut};
 pub use shard::{ClassShard, Fetched};
