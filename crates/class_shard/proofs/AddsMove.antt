@@ -1,5 +1,5 @@
 -- What a new span leaves: its objects, of which the first ones are gone.
-use Rattle.std.proofs.Common.{◌≡◌, ℕ, zero, suc, ◌+◌, ◌-◌, ◌<◌, Bool, true, false, nat_le, min, List, [], ◌++◌, map, replicate, count_by, cond, refl, ◌∙◌, ap, arith}
+use Rattle.std.proofs.Common.{◌≡◌, ℕ, zero, suc, ◌+◌, ◌-◌, Bool, true, false, nat_le, min, List, [], ◌++◌, map, replicate, count_by, cond, refl, ◌∙◌, ap, arith}
 use Rattle.std.specs.List.{prefix_len, range_with_len, insert, sum_by}
 use Rattle.std.proofs.lemmas.List.Sums.{sum_by-cons, sum_by-append, sum_by-insert}
 use Rattle.tc_units.specs.declared.units.Addr.{Addr}
@@ -39,10 +39,9 @@ add_moves n s span some sound pages first sizes few apart =
     let row = s.central.row in
     let new = opened span row.size n in
     let of_row : IsOfRow row new = IsOfRow-opened row span n sound.some sizes sound.fits first (omega (arith, pages, few)) pages some in
-    let fits : 0 < objects_in span.pages row.size = some_objects span.pages row.size sound.some (omega (arith, sound.fits, pages)) in
     record {
       same = record { class = refl; row = refl; room = refl; sound = IsSound-with_span row s.central.spans new sound of_row apart };
-      some = omega (arith, length-opening span row.size n, some, fits);
+      some = omega (arith, length-opening span row.size n, some, some_objects span.pages row.size sound.some (omega (arith, sound.fits, pages)));
       few = omega (arith, length-opening span row.size n);
       spans = λ test.
           let w : SpanRef → ℕ = λ x. cond {A = ℕ} (test x) 1 0 in

@@ -7,19 +7,16 @@ use Rattle.std.proofs.lemmas.Option.{none-some, same_Some}
 use Rattle.std.proofs.lemmas.Bool.{cases_Bool, cond-true, cond-false}
 use Rattle.tc_units.specs.declared.units.Addr.{Addr}
 use Rattle.tc_units.specs.declared.spans.ClassRow.{ClassRow}
-use Rattle.span_list.specs.Span.{SpanState, address, least, with_object, taken_from, after_take, free_objects}
+use Rattle.span_list.specs.Span.{SpanState, address, least, with_object, taken_from, after_take}
 use Rattle.span_list.proofs.SpanFacts.{take_moves}
-use Rattle.central_free.specs.Central.{Central, chosen, place_at, taken_one, taken_one_from, taken, and_then, IsOfRow, IsSound, free_in}
+use Rattle.central_free.specs.Central.{chosen, place_at, taken_one, taken_one_from, taken, and_then, IsOfRow, IsSound, free_in}
 use Rattle.central_free.proofs.ChoiceFacts.{IsAmong, chosen_among, place_at-is}
 use Rattle.central_free.proofs.SoundFacts.{has_pages, IsOfRow-after_take, IsSound-set, count-set}
 use Rattle.transfer_cache.specs.Transfer.{last_first, without_last}
 use Rattle.transfer_cache.proofs.TransferFacts.{sum_by-reverse}
 use Rattle.class_shard.specs.Shard.{Shard, with_objects, with_spans, is_idle, fetched, after_fetch, places}
-use Rattle.class_shard.proofs.SpanSums.{pages_of, pages-set}
+use Rattle.class_shard.proofs.SpanSums.{central_of, pages_of, pages-set}
 use Rattle.class_shard.specs.Laws.{spans_in, IsSame, IsFetched, FetchMoves}
-
-abbrev central_of : ClassRow → List SpanState → Central
-central_of row spans = record { row = row; spans = spans }
 
 -- what some takes leave
 record IsMoved (row : ClassRow) (old new : List SpanState) (objects : List Addr) (n : ℕ) : Type 0 where
@@ -32,16 +29,13 @@ record IsMoved (row : ClassRow) (old new : List SpanState) (objects : List Addr)
 moved_at : (row : ClassRow) (spans : List SpanState) (k : ℕ) (s : SpanState) (i : ℕ) → IsSound (central_of row spans) → k < length spans → ((d : SpanState) → get_or spans k d ≡ s) → least s ≡ Some i → IsMoved row spans (set spans k (with_object s i false)) (address s i ∷ []) 1
 moved_at row spans k s i sound within here first =
     let t = with_object s i false in
-    let P : SpanState → Type 0 = IsOfRow row in
     let Q : Option ℕ → Type 0 = λ o. IsOfRow row (after_take s o) in
-    let of_row : IsOfRow row t = subst Q first (IsOfRow-after_take row s (subst P (here s) (sound.of_row k s within))) in
+    let of_row : IsOfRow row t = subst Q first (IsOfRow-after_take row s (subst (IsOfRow row) (here s) (sound.of_row k s within))) in
     record {
       sound = IsSound-set row spans k s t sound within (sym (here s)) refl of_row;
       few = omega arith;
       spans = pages-set spans k s t within here refl;
-      moves = λ test. (
-          let gone : count_by test (free_objects t) + count_by test (address s i ∷ []) ≡ count_by test (free_objects s) = take_moves test (address s) s.free i (address s i) first refl in
-          omega (arith, gone, count-set test spans k s t within (sym (here s))));
+      moves = λ test. omega (arith, take_moves test (address s) s.free i (address s i) first refl, count-set test spans k s t within (sym (here s)));
     }
 
 moved_from : (row : ClassRow) (spans : List SpanState) (k : ℕ) (s : SpanState) (at : Option ℕ) (one : Addr × List SpanState) → IsSound (central_of row spans) → k < length spans → ((d : SpanState) → get_or spans k d ≡ s) → least s ≡ at → option_map {U = Addr × List SpanState} (λ a. (a, set spans k (after_take s at))) (taken_from s at) ≡ Some one → IsMoved row spans one.1 (one.0 ∷ []) 1
@@ -86,9 +80,8 @@ all_moved (suc n) row spans sound =
 -- what a fetch gives and leaves, under other names
 fetched_as : (n : ℕ) (s after : Shard) (objects : List Addr) → after_fetch n s ≡ after → fetched n s ≡ objects → IsSame s after → length objects ≤ n → spans_in after ≡ spans_in s → ((test : Addr → Bool) → count_by test (places after) + count_by test objects ≡ count_by test (places s)) → IsFetched n s
 fetched_as n s after objects left gave same few spans moves =
-    let P : Shard → Type 0 = IsSame s in
     record {
-      same = subst P (sym left) same;
+      same = subst (IsSame s) (sym left) same;
       few = omega (arith, ap length gave, few);
       spans = ap spans_in left ∙ spans;
       moves = λ test. omega (arith, ap (λ t. count_by test (places t)) left, ap (count_by test) gave, moves test);

@@ -1,5 +1,5 @@
 -- What a giving leaves: objects only move, and spans that are all free leave with all of theirs.
-use Rattle.std.proofs.Common.{◌≡◌, ◌≢◌, ℕ, suc, ◌+◌, ◌<◌, ◌≤◌, Bool, true, false, List, [], ◌∷◌, ◌++◌, length, get_or, set, count_by, cond, refl, sym, ◌∙◌, ap, subst, inl, inr, arith}
+use Rattle.std.proofs.Common.{◌≡◌, ◌≢◌, ℕ, suc, ◌+◌, ◌<◌, ◌≤◌, Bool, true, false, List, [], ◌∷◌, ◌++◌, length, get_or, count_by, cond, refl, sym, ◌∙◌, ap, subst, inl, inr, arith}
 use Rattle.std.specs.Prelude.{All}
 use Rattle.std.specs.List.{flat_map, sum_by, remove}
 use Rattle.std.proofs.lemmas.List.{length-append, get_or_default}
@@ -11,25 +11,17 @@ use Rattle.tc_units.specs.declared.spans.SpanRef.{SpanRef}
 use Rattle.tc_units.specs.declared.spans.ClassRow.{ClassRow}
 use Rattle.span_list.specs.Span.{SpanState, IsCut, IsTaken, first_byte, address, taken_count, with_object, after_put, free_objects, objects_of}
 use Rattle.span_list.proofs.SpanFacts.{index_found, put_moves, IsTaken-after_put}
-use Rattle.central_free.specs.Central.{Central, Put, put_one, put_all, IsTakenIn, AreDifferent, IsOfRow, IsSound, free_in}
+use Rattle.central_free.specs.Central.{Put, put_one, put_all, IsTakenIn, AreDifferent, IsOfRow, IsSound, free_in}
 use Rattle.central_free.proofs.PutFacts.{IsPlace, IsPlace-taken, put_stays, put_leaves, remove-set, IsPutOne, IsPutOne-stays, IsPutOne-leaves}
 use Rattle.class_shard.specs.Shard.{Shard, with_objects, with_spans, fits_in, after_give, freed_by, places}
 use Rattle.class_shard.specs.Laws.{spans_in, objects_in_spans, IsSame, IsGiven, GiveMoves}
-use Rattle.class_shard.proofs.SpanSums.{pages_of, pages-set, sum_by-map, objects_passing, count-objects}
-
-abbrev central_of : ClassRow → List SpanState → Central
-central_of row spans = record { row = row; spans = spans }
-
-abbrev put_of : List SpanState → List SpanRef → Put
-put_of spans freed = record { spans = spans; freed = freed }
+use Rattle.class_shard.proofs.SpanSums.{central_of, pages_of, pages-set, sum_by-map, objects_passing, count-objects}
 
 -- what one put leaves
 record IsBack (row : ClassRow) (old : List SpanState) (a : Addr) (put : Put) : Type 0 where
-  sound : IsSound (central_of row put.spans)
+  one : IsPutOne row old a put.spans put.freed
   few : length put.freed ≤ 1
-  kept : (b : Addr) → IsTakenIn old b → b ≢ a → IsTakenIn put.spans b
   spans : (w : SpanRef → ℕ) → sum_by w (pages_of put.spans) + sum_by w put.freed ≡ sum_by w (pages_of old)
-  moves : (test : Addr → Bool) → count_by test (free_in put.spans) + count_by test (flat_map (objects_of row.size) put.freed) ≡ count_by test (free_in old) + count_by test (a ∷ [])
 
 -- the span once a taken object is back
 record IsPutBack (s : SpanState) (a : Addr) (t : SpanState) : Type 0 where
@@ -40,8 +32,7 @@ put_back : (s : SpanState) (a : Addr) → IsCut s → IsTaken s a → IsPutBack 
 put_back s a cut taken =
     let i = taken.index in
     let is : after_put s a ≡ with_object s i true = ap (λ j. with_object s j true) (index_found s a i (first_byte s.span) s.size cut.some taken.at refl refl) in
-    let P : SpanState → Type 0 = IsPutBack s a in
-    subst P (sym is) (record {
+    subst (IsPutBack s a) (sym is) (record {
       kept = λ b there differ. IsTaken-after_put s a b i taken.at there differ;
       moves = λ test. put_moves test (address s) s.free i a taken.taken taken.at;
     })
@@ -50,35 +41,24 @@ put_back s a cut taken =
 sum-remove : (w : SpanRef → ℕ) (spans : List SpanState) (k : ℕ) (s : SpanState) → k < length spans → ((d : SpanState) → get_or spans k d ≡ s) → sum_by w (pages_of (remove spans k)) + w s.span ≡ sum_by w (pages_of spans)
 sum-remove w spans k s within here =
     let span : SpanState → SpanRef = λ x. x.span in
-    let mine : w (span (get_or spans k s)) ≡ w s.span = ap (λ x. w (span x)) (here s) in
-    omega (arith, sum_by-map w span (remove spans k), sum_by-map w span spans, sum_by-remove (λ x. w (span x)) spans k s within, mine)
+    omega (arith, sum_by-map w span (remove spans k), sum_by-map w span spans, sum_by-remove (λ x. w (span x)) spans k s within, ap (λ x. w (span x)) (here s))
 
 stays_back : (row : ClassRow) (spans : List SpanState) (a : Addr) (k : ℕ) (s : SpanState) → IsSound (central_of row spans) → IsPlace spans a k → ((d : SpanState) → get_or spans k d ≡ s) → IsPutBack s a (after_put s a) → (taken_count (after_put s a) ≡ 0 → ⊥) → IsBack row spans a (put_one a spans)
 stays_back row spans a k s sound place here back some =
     let t = after_put s a in
-    let is : put_one a spans ≡ put_of (set spans k t) [] = put_stays spans a k s t place (sym (here s)) refl some in
-    let one : IsPutOne row spans a (set spans k t) [] = IsPutOne-stays row spans a k s t sound place (sym (here s)) refl some back.kept back.moves in
-    let P : Put → Type 0 = IsBack row spans a in
-    subst P (sym is) (record {
-      sound = one.sound;
+    subst (IsBack row spans a) (sym (put_stays spans a k s t place (sym (here s)) refl some)) (record {
+      one = IsPutOne-stays row spans a k s t sound place (sym (here s)) refl some back.kept back.moves;
       few = omega arith;
-      kept = one.kept;
       spans = λ w. omega (arith, ap (sum_by w) (pages-set spans k s t place.within here refl));
-      moves = one.moves;
     })
 
 leaves_back : (row : ClassRow) (spans : List SpanState) (a : Addr) (k : ℕ) (s : SpanState) → IsSound (central_of row spans) → IsPlace spans a k → ((d : SpanState) → get_or spans k d ≡ s) → IsPutBack s a (after_put s a) → taken_count (after_put s a) ≡ 0 → IsBack row spans a (put_one a spans)
 leaves_back row spans a k s sound place here back none =
     let t = after_put s a in
-    let is : put_one a spans ≡ put_of (remove spans k) (s.span ∷ []) = put_leaves spans a k s t place (sym (here s)) refl none in
-    let one : IsPutOne row spans a (remove spans k) (s.span ∷ []) = IsPutOne-leaves row spans a k s t (remove spans k) s.span sound place (sym (here s)) refl none back.kept back.moves (sym (remove-set spans k t)) refl in
-    let P : Put → Type 0 = IsBack row spans a in
-    subst P (sym is) (record {
-      sound = one.sound;
+    subst (IsBack row spans a) (sym (put_leaves spans a k s t place (sym (here s)) refl none)) (record {
+      one = IsPutOne-leaves row spans a k s t (remove spans k) s.span sound place (sym (here s)) refl none back.kept back.moves (sym (remove-set spans k t)) refl;
       few = omega arith;
-      kept = one.kept;
       spans = λ w. omega (arith, sum-remove w spans k s place.within here, sum_by-cons w s.span []);
-      moves = one.moves;
     })
 
 one_back : (row : ClassRow) (spans : List SpanState) (a : Addr) → IsSound (central_of row spans) → IsTakenIn spans a → IsBack row spans a (put_one a spans)
@@ -87,8 +67,7 @@ one_back row spans a sound there =
     let s = there.1 in
     let place : IsPlace spans a k = IsPlace-taken row spans a sound there in
     let here : (d : SpanState) → get_or spans k d ≡ s = λ d. get_or_default spans k d s place.within ∙ there.3 in
-    let P : SpanState → Type 0 = IsOfRow row in
-    let of_row : IsOfRow row s = subst P there.3 (sound.of_row k s place.within) in
+    let of_row : IsOfRow row s = subst (IsOfRow row) there.3 (sound.of_row k s place.within) in
     let back : IsPutBack s a (after_put s a) = put_back s a of_row.cut there.4 in
     elim (cases_eq (taken_count (after_put s a)) 0) [
       | inl none ↦ leaves_back row spans a k s sound place here back none
@@ -108,8 +87,8 @@ all_back [] row spans sound taken different =
 all_back (a ∷ others) row spans sound taken different =
     let one = put_one a spans in
     let first : IsBack row spans a one = one_back row spans a sound (All-head (IsTakenIn spans) a others taken) in
-    let still : All (IsTakenIn one.spans) others = λ k d less. first.kept (get_or others k d) (taken (suc k) d (omega arith)) (λ same. different 0 (suc k) d (omega arith) (omega arith) (sym same)) in
-    let rest : AreBack row one.spans others (put_all others one.spans) = all_back others row one.spans first.sound still (λ i j d less within. different (suc i) (suc j) d (omega arith) (omega arith)) in
+    let still : All (IsTakenIn one.spans) others = λ k d less. first.one.kept (get_or others k d) (taken (suc k) d (omega arith)) (λ same. different 0 (suc k) d (omega arith) (omega arith) (sym same)) in
+    let rest : AreBack row one.spans others (put_all others one.spans) = all_back others row one.spans first.one.sound still (λ i j d less within. different (suc i) (suc j) d (omega arith) (omega arith)) in
     let gone = (put_all others one.spans).freed in
     record {
       sound = rest.sound;
@@ -117,16 +96,15 @@ all_back (a ∷ others) row spans sound taken different =
       spans = λ w. omega (arith, first.spans w, rest.spans w, sum_by-append w one.freed gone);
       moves = λ test. (
           let f : Addr → ℕ = λ x. cond {A = ℕ} (test x) 1 0 in
-          omega (arith, first.moves test, rest.moves test, count-objects test row.size (one.freed ++ gone), count-objects test row.size one.freed, count-objects test row.size gone, sum_by-append (objects_passing test row.size) one.freed gone, sum_by-cons f a others, sum_by-cons f a []));
+          omega (arith, first.one.moves test, rest.moves test, count-objects test row.size (one.freed ++ gone), count-objects test row.size one.freed, count-objects test row.size gone, sum_by-append (objects_passing test row.size) one.freed gone, sum_by-cons f a others, sum_by-cons f a []));
     }
 
 -- what a giving leaves, under other names
 given_as : (list : List Addr) (s after : Shard) (freed : List SpanRef) → after_give list s ≡ after → freed_by list s ≡ freed → IsSame s after → length freed ≤ length list → ((w : SpanRef → ℕ) → sum_by w (spans_in after) + sum_by w freed ≡ sum_by w (spans_in s)) → ((test : Addr → Bool) → count_by test (places after) + count_by test (flat_map (objects_of s.central.row.size) freed) ≡ count_by test (places s) + count_by test list) → IsGiven list s
 given_as list s after freed left gone same few spans moves =
-    let P : Shard → Type 0 = IsSame s in
     let size = s.central.row.size in
     record {
-      same = subst P (sym left) same;
+      same = subst (IsSame s) (sym left) same;
       few = omega (arith, ap length gone, few);
       spans = λ test.
           let w : SpanRef → ℕ = λ x. cond {A = ℕ} (test x) 1 0 in
@@ -134,8 +112,7 @@ given_as list s after freed left gone same few spans moves =
       moves = λ test.
           omega (arith, ap (λ t. count_by test (places t)) left, ap (λ xs. count_by test (flat_map (objects_of size) xs)) gone, moves test);
       objects = λ test.
-          let row : after.central.row.size ≡ size = ap (λ r. r.size) same.row in
-          omega (arith, ap (λ t. count_by test (objects_in_spans t)) left, ap (λ n. count_by test (flat_map (objects_of n) (spans_in after))) row, ap (λ xs. count_by test (flat_map (objects_of size) xs)) gone, count-objects test size (spans_in after), count-objects test size freed, count-objects test size (spans_in s), spans (objects_passing test size));
+          omega (arith, ap (λ t. count_by test (objects_in_spans t)) left, ap (λ n. count_by test (flat_map (objects_of n) (spans_in after))) (ap (λ r. r.size) same.row), ap (λ xs. count_by test (flat_map (objects_of size) xs)) gone, count-objects test size (spans_in after), count-objects test size freed, count-objects test size (spans_in s), spans (objects_passing test size));
     }
 
 given_cached : (list : List Addr) (s : Shard) → IsSound s.central → fits_in s list ≡ true → IsGiven list s

@@ -5,8 +5,13 @@ use Rattle.std.proofs.lemmas.List.{get_or-map, map-set, set-get_or}
 use Rattle.std.proofs.lemmas.List.Sums.{sum_by-cons}
 use Rattle.tc_units.specs.declared.units.Addr.{Addr}
 use Rattle.tc_units.specs.declared.spans.SpanRef.{SpanRef}
+use Rattle.tc_units.specs.declared.spans.ClassRow.{ClassRow}
 use Rattle.span_list.specs.Span.{SpanState, objects_of}
+use Rattle.central_free.specs.Central.{Central}
 use Rattle.central_free.proofs.SoundFacts.{count-flat_map}
+
+abbrev pub central_of : ClassRow → List SpanState → Central
+central_of row spans = record { row = row; spans = spans }
 
 abbrev pub pages_of : List SpanState → List SpanRef
 pages_of spans = map (λ (x : SpanState). x.span) spans

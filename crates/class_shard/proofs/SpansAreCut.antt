@@ -7,22 +7,20 @@ use Rattle.std.proofs.lemmas.List.Sums.{sum_by-cons, sum_by-append, get_or-le-su
 use Rattle.std.proofs.lemmas.Option.{slice_get-get_or}
 use Rattle.std.proofs.lemmas.Nat.{mul-le}
 use Rattle.std.proofs.Math.Nat.{div-mul-le_self}
-use Rattle.std.proofs.lemmas.Bool.{cases_Bool, cases_lt, cases_eq, cases_order, cond-true, cond-false, eq-eqb, ne_eqb}
+use Rattle.std.proofs.lemmas.Bool.Decides.{nat_tests}
+use Rattle.std.proofs.lemmas.Bool.{cases_Bool, cases_lt, cases_order, eq-eqb}
 use Rattle.tc_units.specs.declared.units.Addr.{Addr}
 use Rattle.tc_units.specs.declared.spans.SpanRef.{SpanRef}
 use Rattle.tc_units.specs.declared.spans.ClassRow.{ClassRow}
 use Rattle.span_list.specs.Span.{SpanState, address, first_byte, objects_in, all_free, free_from, free_objects, objects_of}
 use Rattle.span_list.proofs.SpanFacts.{weight, free_from-set}
-use Rattle.central_free.specs.Central.{Central, IsBefore, IsOfRow, IsSound, IsTakenIn, free_in}
+use Rattle.central_free.specs.Central.{IsBefore, IsOfRow, IsSound, IsTakenIn, free_in}
 use Rattle.central_free.specs.Slots.{no_span}
 use Rattle.central_free.proofs.AddFacts.{some_objects}
 use Rattle.central_free.proofs.SoundFacts.{count-flat_map}
 use Rattle.class_shard.specs.Shard.{Shard}
 use Rattle.class_shard.specs.Laws.{spans_in, found_at, LiesInSpan, SpansAreCut}
-use Rattle.class_shard.proofs.SpanSums.{pages_of, sum_by-map, objects_passing, count-objects}
-
-abbrev central_of : ClassRow → List SpanState → Central
-central_of row spans = record { row = row; spans = spans }
+use Rattle.class_shard.proofs.SpanSums.{central_of, pages_of, sum_by-map, objects_passing, count-objects}
 
 abbrev addr_of : ℕ → Addr
 addr_of a = record { 0 = a }
@@ -32,21 +30,13 @@ abbrev at : ℕ → ℕ → ℕ
 at a n = cond {A = ℕ} (n == a) 1 0
 
 at-same : (a n : ℕ) → n ≡ a → at a n ≡ 1
-at-same a n same = cond-true (n == a) 1 0 (eq-eqb n a same)
+at-same a n same = grind (arith, nat_tests)
 
 at-few : (a n : ℕ) → at a n ≤ 1
-at-few a n =
-    elim (cases_eq n a) [
-      | inl same ↦ omega (arith, at-same a n same)
-      | inr differ ↦ omega (arith, cond-false {A = ℕ} (n == a) 1 0 (ne_eqb n a differ))
-    ]
+at-few a n = grind (arith, nat_tests)
 
 from_at : (a n : ℕ) → 0 < at a n → n ≡ a
-from_at a n some =
-    elim (cases_eq n a) [
-      | inl same ↦ same
-      | inr differ ↦ absurd (omega (arith, cond-false {A = ℕ} (n == a) 1 0 (ne_eqb n a differ)))
-    ]
+from_at a n some = grind (arith, nat_tests)
 
 -- a term of a sum that isn't 0
 record StandsIn {X : Type 0} (w : X → ℕ) (xs : List X) : Type 0 where
@@ -115,16 +105,13 @@ object_counts size span a object =
     let w : Addr → ℕ = λ x. at a x.0 in
     let i = object.index in
     let here : w (get_or (objects_of size span) i (addr_of 0)) ≡ at a (first_byte span + i * size) = ap w (get_or-objects size span i (addr_of 0) object.within) in
-    let one : at a (first_byte span + i * size) ≡ 1 = at-same a (first_byte span + i * size) (sym object.is) in
-    let part : w (get_or (objects_of size span) i (addr_of 0)) ≤ sum_by w (objects_of size span) = get_or-le-sum_by w (objects_of size span) i (addr_of 0) (omega (arith, length-objects size span, object.within)) in
-    omega (arith, here, one, part)
+    omega (arith, here, at-same a (first_byte span + i * size) (sym object.is), get_or-le-sum_by w (objects_of size span) i (addr_of 0) (omega (arith, length-objects size span, object.within)))
 
 -- the next object begins where one ends
 steps_apart : (size i j : ℕ) → i < j → i * size + size ≤ j * size
 steps_apart size i j less =
-    let above : (i + 1) * size ≤ j * size = mul-le (i + 1) size j size (omega arith) (omega arith) in
     let one : (i + 1) * size ≡ i * size + size = omega arith in
-    omega arith
+    omega (arith, one, mul-le (i + 1) size j size (omega arith) (omega arith))
 
 object_once : (size : ℕ) (span : SpanRef) (a : ℕ) → 0 < size → found_in a size span ≤ 1
 object_once size span a pos =
@@ -162,19 +149,15 @@ found_sum : (size a : ℕ) (spans : List SpanState) → found_at a (flat_map (ob
 found_sum size a spans =
     count-objects (λ (x : Addr). x.0 == a) size (pages_of spans) ∙ sum_by-map (found_in a size) (λ (x : SpanState). x.span) spans
 
+placed_at : (row : ClassRow) (spans : List SpanState) (a k : ℕ) → IsSound (central_of row spans) → k < length spans → IsObject row.size (get_or spans k no_span).span a → IsPlaced row spans a
+placed_at row spans a k sound within object =
+    record { place = k; state = get_or spans k no_span; within = within; here = λ d. get_or_default spans k d no_span within; of_row = sound.of_row k no_span within; object = object }
+
 placed : (row : ClassRow) (spans : List SpanState) (a : ℕ) → IsSound (central_of row spans) → 0 < found_at a (flat_map (objects_of row.size) (pages_of spans)) → IsPlaced row spans a
 placed row spans a sound found =
     let w : SpanState → ℕ = λ x. found_in a row.size x.span in
     let m : StandsIn w spans = stands_in w spans (omega (arith, found_sum row.size a spans)) in
-    let s : SpanState = get_or spans m.place no_span in
-    record {
-      place = m.place;
-      state = s;
-      within = m.within;
-      here = λ d. get_or_default spans m.place d no_span m.within;
-      of_row = sound.of_row m.place no_span m.within;
-      object = is_object row.size s.span a (m.some no_span);
-    }
+    placed_at row spans a m.place sound m.within (is_object row.size (get_or spans m.place no_span).span a (m.some no_span))
 
 placed_counts : (row : ClassRow) (spans : List SpanState) (a : ℕ) → IsPlaced row spans a → 0 < found_at a (flat_map (objects_of row.size) (pages_of spans))
 placed_counts row spans a p =
@@ -188,9 +171,7 @@ ends_before row spans i j s t a b sound less within first second object other =
     let before : IsBefore (get_or spans i s) (get_or spans j s) = sound.apart i j s less within in
     let from : (get_or spans i s).span.first.0 + (get_or spans i s).span.pages ≡ s.span.first.0 + s.span.pages = ap (λ u. u.span.first.0 + u.span.pages) first in
     let to : (get_or spans j s).span.first.0 ≡ t.span.first.0 = ap (λ u. u.span.first.0) second in
-    let one : IsInPages row.size s.span a = in_pages row.size s.span a object in
-    let two : IsInPages row.size t.span b = in_pages row.size t.span b other in
-    omega (arith, before, from, to, one.high, two.low)
+    omega (arith, before, from, to, (in_pages row.size s.span a object).high, (in_pages row.size t.span b other).low)
 
 -- nor do two of one
 same_span_apart : (size : ℕ) (s t : SpanRef) (a b : ℕ) → s ≡ t → IsObject size s a → IsObject size t b → a < b → a + size ≤ b
@@ -220,8 +201,7 @@ cut_once row spans a sound =
     let once : sum_by w spans ≤ 1 = sum_once w spans (λ i d less. object_once row.size (get_or spans i d).span a sound.some) (λ i j d less within some_i some_j.
     let s : SpanState = get_or spans i d in
     let t : SpanState = get_or spans j d in
-    let meet : a + row.size ≤ a = ends_before row spans i j s t a a sound less within (get_or_default spans i s d (omega arith)) (get_or_default spans j s d within) (is_object row.size s.span a some_i) (is_object row.size t.span a some_j) in
-    omega (arith, meet, sound.some)) in
+    omega (arith, sound.some, ends_before row spans i j s t a a sound less within (get_or_default spans i s d (omega arith)) (get_or_default spans j s d within) (is_object row.size s.span a some_i) (is_object row.size t.span a some_j))) in
     omega (arith, found_sum row.size a spans, once)
 
 -- a span of a list is counted among its spans
@@ -229,8 +209,7 @@ span_counts : (test : SpanRef → Bool) (spans : List SpanState) (k : ℕ) (s : 
 span_counts test spans k s within here passes =
     let w : SpanRef → ℕ = λ x. cond {A = ℕ} (test x) 1 0 in
     let span : SpanState → SpanRef = λ x. x.span in
-    let one : w s.span ≡ 1 = ap (λ b. cond {A = ℕ} b 1 0) passes in
-    omega (arith, sum_by-map w span spans, get_or-le-sum_by (λ x. w (span x)) spans k s within, ap (λ x. w (span x)) here, one)
+    omega (arith, sum_by-map w span spans, get_or-le-sum_by (λ x. w (span x)) spans k s within, ap (λ x. w (span x)) here, ap (λ b. cond {A = ℕ} b 1 0) passes)
 
 -- a span begins with an object
 begun_placed : (row : ClassRow) (spans : List SpanState) (a : ℕ) → IsSound (central_of row spans) → 0 < count_by (λ (x : SpanRef). first_byte x == a) (pages_of spans) → IsPlaced row spans a
@@ -240,18 +219,8 @@ begun_placed row spans a sound begun =
     let m : StandsIn (λ x. w (span x)) spans = stands_in (λ x. w (span x)) spans (omega (arith, sum_by-map w span spans)) in
     let s : SpanState = get_or spans m.place no_span in
     let of_row : IsOfRow row s = sound.of_row m.place no_span m.within in
-    record {
-      place = m.place;
-      state = s;
-      within = m.within;
-      here = λ d. get_or_default spans m.place d no_span m.within;
-      of_row = of_row;
-      object = record {
-        index = 0;
-        within = some_objects s.span.pages row.size sound.some (omega (arith, sound.fits, of_row.pages));
-        is = omega (arith, from_at a (first_byte s.span) (m.some no_span));
-      };
-    }
+    let some : 0 < objects_in s.span.pages row.size = some_objects s.span.pages row.size sound.some (omega (arith, sound.fits, of_row.pages)) in
+    placed_at row spans a m.place sound m.within (record { index = 0; within = some; is = omega (arith, from_at a (first_byte s.span) (m.some no_span)) })
 
 -- an object that is free is among the free ones
 free_counts : (test : Addr → Bool) (addr : ℕ → Addr) (xs : List Bool) (i : ℕ) → i < length xs → get_or xs i true ≡ true → test (addr i) ≡ true → 0 < count_by test (free_from addr 0 xs)
@@ -301,7 +270,5 @@ spans_cut s sound =
       apart = λ a b there other less. cut_apart row spans a b sound (placed row spans a sound there) (placed row spans b sound other) less;
       lies = λ a there. lies_in_span s a (placed row spans a sound there);
       begun = λ a begun. placed_counts row spans a (begun_placed row spans a sound begun);
-      taken = λ a there none.
-          let f : Addr → ℕ = λ x. at a.0 x.0 in
-          placed_taken row spans a (placed row spans a.0 sound there) (omega (arith, none, sum_by-append f s.transfer.objects (free_in spans)));
+      taken = λ a there none. placed_taken row spans a (placed row spans a.0 sound there) (omega (arith, none, sum_by-append (λ (x : Addr). at a.0 x.0) s.transfer.objects (free_in spans)));
     }
