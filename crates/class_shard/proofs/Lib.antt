@@ -1,1 +1,7 @@
 pub mod OutFacts
+pub mod CountedOnceDiffer
+pub mod SpanSums
+pub mod FetchesMove
+pub mod AddsMove
+pub mod GivesMove
+pub mod SpansAreCut
