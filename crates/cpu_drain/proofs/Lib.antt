@@ -2,3 +2,4 @@ pub mod Steps
 pub mod Seated
 pub mod Lawful
 pub mod Moved
+pub mod Does

@@ -1,15 +1,21 @@
 -- The laws of CPUs and threads: each act keeps what holds between them, and only moves objects.
-use Rattle.std.specs.Prelude.{◌≡◌, ℕ, ◌+◌, ◌<◌, Bool, true, false, None, Some, sum_by}
+use Rattle.std.specs.Prelude.{◌≡◌, ℕ, ◌+◌, ◌<◌, ◌≤◌, Bool, true, false, List, [], ◌++◌, length, take, drop, reverse, None, Some, sum_by}
 use Rattle.tc_units.specs.declared.units.Addr.{Addr}
 use Rattle.tc_units.specs.declared.units.ThreadNo.{ThreadNo}
 use Rattle.tc_units.specs.Bag.{Contents}
-use Rattle.cpu_slab.specs.Slots.{row_at}
+use Rattle.cpu_slab.specs.Slots.{SlabRow, row_at, held}
 use Rattle.rseq_core.specs.declared.sequence.Pc.TheVariants.{Begin}
+use Rattle.rseq_core.specs.declared.sequence.Reply.{Reply}
+use Rattle.rseq_core.specs.declared.sequence.Reply.TheVariants as reply
+use Rattle.rseq_core.specs.declared.answers.Instructed.{Instructed}
+use Rattle.rseq_core.specs.declared.answers.Instructed.TheVariants as answer
+use Rattle.rseq_core.specs.declared.answers.Grew.{Grew}
 use Rattle.rseq_core.specs.declared.regs.Regs.{Regs}
+use Rattle.rseq_core.specs.Bags.{room}
 use Rattle.rseq_core.specs.declared.cpu_part.CpuPart.{CpuPart}
-use Rattle.rseq_core.specs.Tables.{is_pop}
+use Rattle.rseq_core.specs.Tables.{is_pop, wanted}
 use Rattle.rseq_core.specs.Agrees.{Agrees}
-use Rattle.rseq_core.specs.Acts.{IsCurrent, dropped, left, entered, entering, backed, backing, instructed, grew_here}
+use Rattle.rseq_core.specs.Acts.{Acted, IsCurrent, dropped, left, entered, entering, backed, backing, instructed, grew_here}
 use Rattle.cpu_drain.specs.Drains.{stopped, fenced, taken, taken_to, capped, started}
 use Rattle.cpu_drain.specs.Seats.{objects_of, Standing, Seat, CpuOk, SeatOk, SeatKeeps, with_regs, standing_at, IsFencing, AreSet}
 
@@ -81,3 +87,106 @@ TakeMoves = (f : Addr → ℕ) (m k : ℕ) (p : CpuPart) (out : Contents Addr) �
 -- the other acts of a stopper move none
 abbrev pub RemoteMoves : Type 0
 RemoteMoves = (m k n : ℕ) (t : ThreadNo) (p : CpuPart) → CpuOk m p → k < m → (row_at p.slab k).top ≡ 0 → ((stopped p t).slab ≡ p.slab) × ((fenced p).slab ≡ p.slab) × ((started p).slab ≡ p.slab) × (objects_of (capped p k n).slab ≡ objects_of p.slab)
+
+-- from an old row to a new one, and from registers to those after it, no object moves
+pub record MovesNone (old new : SlabRow) (r after : Regs) : Type 0 where
+  pub row : held new ≡ held old
+  pub hand : after.hand.items ≡ r.hand.items
+
+-- a sequence that pops: objects come to the hand, last first, and one at least where one is wanted
+pub record MovesUp (old new : SlabRow) (r after : Regs) : Type 0 where
+  pub pops : is_pop r.seq ≡ true
+  pub got : List Addr
+  pub some : 0 < wanted r.seq r.hand.items → 0 < length got
+  pub few : length got ≤ wanted r.seq r.hand.items
+  pub row : held old ≡ held new ++ reverse got
+  pub hand : after.hand.items ≡ r.hand.items ++ got
+
+-- one that pushes: so many objects go from the front of the hand, and one at least where one is wanted
+pub record MovesDown (n : ℕ) (old new : SlabRow) (r after : Regs) : Type 0 where
+  pub pushes : is_pop r.seq ≡ false
+  pub some : 0 < wanted r.seq r.hand.items → 0 < n
+  pub few : n ≤ length r.hand.items
+  pub row : held new ≡ held old ++ take n r.hand.items
+  pub hand : after.hand.items ≡ drop n r.hand.items
+
+-- what moves with a sequence's reply
+abbrev pub ReplyMoves : Reply → SlabRow → SlabRow → Regs → Regs → Type 0
+ReplyMoves reply.Stopped old new r after = MovesNone old new r after
+ReplyMoves reply.Empty old new r after = MovesNone old new r after
+ReplyMoves reply.Full old new r after = MovesNone old new r after
+ReplyMoves reply.Popped old new r after = MovesUp old new r after
+ReplyMoves (reply.Pushed n) old new r after = MovesDown n old new r after
+
+-- what moves with an answer
+abbrev pub AnswerMoves : Instructed → SlabRow → SlabRow → Regs → Regs → Type 0
+AnswerMoves answer.In old new r after = MovesNone old new r after
+AnswerMoves answer.Back old new r after = MovesNone old new r after
+AnswerMoves answer.Ran old new r after = MovesNone old new r after
+AnswerMoves (answer.Done reply) old new r after = ReplyMoves reply old new r after
+
+-- registers at their begin, with nothing loaded
+pub record AreAtBegin (r : Regs) : Type 0 where
+  pub pc : r.pc ≡ Begin
+  pub nothing : r.loaded.items ≡ []
+
+-- registers are at their begin, but where an instruction was executed that didn't end its sequence
+abbrev pub BeginsAfter : Instructed → Regs → Type 0
+BeginsAfter answer.In r = AreAtBegin r
+BeginsAfter answer.Back r = AreAtBegin r
+BeginsAfter answer.Ran r = Unit {0}
+BeginsAfter (answer.Done reply) r = AreAtBegin r
+
+-- a pop has room for all that it wants
+pub record HasRoom (r : Regs) : Type 0 where
+  pub loaded : wanted r.seq r.hand.items ≤ room r.loaded
+  pub hand : wanted r.seq r.hand.items ≤ r.hand.spare
+
+-- registers of the same thread, class and sequence, with the same room
+pub record AreOfSame (r after : Regs) : Type 0 where
+  pub thread : after.thread ≡ r.thread
+  pub class : after.class ≡ r.class
+  pub seq : after.seq ≡ r.seq
+  pub hand_room : room after.hand ≡ room r.hand
+  pub loaded_room : room after.loaded ≡ room r.loaded
+
+-- What an act of a thread with a sequence does to objects, by its answer, and what it keeps: thread, class and sequence, and all room where a pop has room.
+pub record Instructs (p : CpuPart) (r : Regs) (x : Acted Instructed) : Type 0 where
+  pub others : (k : ℕ) → (k ≡ r.class.0 → ⊥) → row_at x.cpu.slab k ≡ row_at p.slab k
+  pub moves : AnswerMoves x.answer (row_at p.slab r.class.0) (row_at x.cpu.slab r.class.0) r x.regs
+  pub thread : x.regs.thread ≡ r.thread
+  pub class : x.regs.class ≡ r.class
+  pub seq : x.regs.seq ≡ r.seq
+  pub same : (is_pop r.seq ≡ true → HasRoom r) → AreOfSame r x.regs
+  pub begins : BeginsAfter x.answer x.regs
+  pub ran : x.regs.ran ≤ r.ran + 1
+  pub epoch : x.cpu.epoch ≤ p.epoch + 1
+
+-- so does a thread with registers of a class that is there, which agree with the row where the thread is current
+abbrev pub InstructDoes : Type 0
+InstructDoes = (m : ℕ) (p : CpuPart) (r : Regs) → CpuOk m p → r.class.0 < m → (IsCurrent r.thread p r → Agrees (is_pop r.seq) (row_at p.slab r.class.0) r r.pc) → Instructs p r (instructed p r)
+
+-- what an act of a thread with a growth does: no object moves, and all else is kept
+pub record Grows (p : CpuPart) (r : Regs) (x : Acted Grew) : Type 0 where
+  pub rows : (k : ℕ) → held (row_at x.cpu.slab k) ≡ held (row_at p.slab k)
+  pub hand : x.regs.hand.items ≡ r.hand.items
+  pub same : AreOfSame r x.regs
+  pub begins : AreAtBegin r → AreAtBegin x.regs
+  pub ran : x.regs.ran ≡ r.ran
+  pub epoch : x.cpu.epoch ≤ p.epoch + 1
+
+-- so does a thread with registers of a class that is there
+abbrev pub GrowDoes : Type 0
+GrowDoes = (m : ℕ) (p : CpuPart) (r : Regs) → CpuOk m p → r.class.0 < m → Grows p r (grew_here p r)
+
+-- what taking a class does: its objects, so many at most, come to the bag, top first
+pub record Takes (p : CpuPart) (k : ℕ) (out : Contents Addr) : Type 0 where
+  pub others : (j : ℕ) → (j ≡ k → ⊥) → row_at (taken p k).slab j ≡ row_at p.slab j
+  pub row : held (row_at (taken p k).slab k) ≡ []
+  pub items : (taken_to p k out).items ≡ out.items ++ reverse (held (row_at p.slab k))
+  pub all : length (held (row_at p.slab k)) ≡ (row_at p.slab k).top
+  pub few : length (held (row_at p.slab k)) ≤ 2048
+
+-- so does taking any class that is there
+abbrev pub TakeDoes : Type 0
+TakeDoes = (m k : ℕ) (p : CpuPart) (out : Contents Addr) → CpuOk m p → k < m → Takes p k out

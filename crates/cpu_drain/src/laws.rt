@@ -1,5 +1,5 @@
 //! What holds of CPUs and threads at every act, as definitions.
-ghost use Rattle.cpu_drain.specs.Laws.{LeaveKeeps, InstructKeeps, GrowKeeps, StopKeeps, FenceKeeps, TakeKeeps, SetCapKeeps, StartKeeps, SetKeeps, InstructMoves, GrowMoves, AbortMoves, TakeMoves, RemoteMoves};
+ghost use Rattle.cpu_drain.specs.Laws.{LeaveKeeps, InstructKeeps, GrowKeeps, StopKeeps, FenceKeeps, TakeKeeps, SetCapKeeps, StartKeeps, SetKeeps, InstructMoves, GrowMoves, AbortMoves, TakeMoves, RemoteMoves, InstructDoes, GrowDoes, TakeDoes};
 
 /// Each act keeps what holds of its CPU and its thread, and leaves every other thread there not
 /// current, or as it was.
@@ -22,4 +22,9 @@ pub fn acts_only_move()
     ensures abort { AbortMoves }
     ensures take { TakeMoves }
     ensures remote { RemoteMoves }
+
+    // Which objects those are, by the answer, and what else an act keeps.
+    ensures does { InstructDoes }
+    ensures grow_does { GrowDoes }
+    ensures take_does { TakeDoes }
 {}

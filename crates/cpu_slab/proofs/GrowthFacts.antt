@@ -5,10 +5,11 @@ use Rattle.std.specs.Int.{div_ceil}
 use Rattle.std.proofs.lemmas.Bool.{cond_both, leb-true, eqb-false}
 use Rattle.std.proofs.lemmas.List.{length-set, length-map}
 use Rattle.cpu_slab.specs.declared.marks.Unused.{Unused}
-use Rattle.cpu_slab.specs.Slots.{SlabRow, CpuSlab, no_row, row_at, held, with_cap}
+use Rattle.cpu_slab.specs.Slots.{SlabRow, CpuSlab, no_row, row_at, with_cap}
+use Rattle.cpu_slab.specs.Slots as slots
 use Rattle.cpu_slab.specs.Growth.{used, rise, wider, narrower, unused, preferred, victim, given_up, taken_from, widened, roomy, grown}
 use Rattle.cpu_slab.specs.Sound.{IsSoundRow, IsSoundSlab}
-use Rattle.cpu_slab.proofs.SlabFacts.{row_other, row_sound, row_slots, used_set, sound_cap, flat_map-set_same, tops_same}
+use Rattle.cpu_slab.proofs.SlabFacts.{row_other, row_sound, row_slots, used_set, sound_cap, flat_map-set_same, field_same, tops_same}
 
 -- The victim is another class that is there.
 abbrev pub IsOther : ℕ → ℕ → Option Unused → Type 0
@@ -55,10 +56,11 @@ pub record KeepsObjects (slab new : CpuSlab) : Type 0 where
   pub most : new.most ≡ slab.most
   pub limit : new.limit ≡ slab.limit
   pub tops : (j : ℕ) → (row_at new j).top ≡ (row_at slab j).top
-  pub objects : flat_map held new.rows ≡ flat_map held slab.rows
+  pub held : (j : ℕ) → slots.held (row_at new j) ≡ slots.held (row_at slab j)
+  pub objects : flat_map slots.held new.rows ≡ flat_map slots.held slab.rows
 
 pub keeps_same : (slab : CpuSlab) → IsSoundSlab slab → KeepsObjects slab slab
-keeps_same slab sound = record { sound = sound; classes = refl; most = refl; limit = refl; tops = λ j. refl; objects = refl }
+keeps_same slab sound = record { sound = sound; classes = refl; most = refl; limit = refl; tops = λ j. refl; held = λ j. refl; objects = refl }
 
 pub keeps_cap : (slab : CpuSlab) (k n : ℕ) → k < length slab.rows → (row_at slab k).top ≤ n → n ≤ slab.most → used (with_cap slab k n).rows ≤ slab.limit → IsSoundSlab slab → KeepsObjects slab (with_cap slab k n)
 keeps_cap slab k n low above below budget sound =
@@ -68,11 +70,12 @@ keeps_cap slab k n low above below budget sound =
       most = refl;
       limit = refl;
       tops = tops_same slab.rows k (record (row_at slab k) { cap = n }) low refl;
-      objects = flat_map-set_same held slab.rows k (record (row_at slab k) { cap = n }) refl;
+      held = field_same slots.held slab.rows k (record (row_at slab k) { cap = n }) low refl;
+      objects = flat_map-set_same slots.held slab.rows k (record (row_at slab k) { cap = n }) refl;
     }
 
 keeps_then : (slab mid new : CpuSlab) → KeepsObjects slab mid → KeepsObjects mid new → KeepsObjects slab new
-keeps_then slab mid new a b = record { sound = b.sound; classes = b.classes ∙ a.classes; most = b.most ∙ a.most; limit = b.limit ∙ a.limit; tops = λ j. b.tops j ∙ a.tops j; objects = b.objects ∙ a.objects }
+keeps_then slab mid new a b = record { sound = b.sound; classes = b.classes ∙ a.classes; most = b.most ∙ a.most; limit = b.limit ∙ a.limit; tops = λ j. b.tops j ∙ a.tops j; held = λ j. b.held j ∙ a.held j; objects = b.objects ∙ a.objects }
 
 -- there is room for the growth of class k, and class k is as it was
 pub record IsRoomy (slab : CpuSlab) (k need : ℕ) (rows : List SlabRow) : Type 0 where

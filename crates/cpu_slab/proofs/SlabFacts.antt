@@ -69,10 +69,14 @@ flat_map-set_same f [] k row same = refl
 flat_map-set_same f (r ∷ rs) zero row same = ap (λ xs. xs ++ flat_map f rs) same
 flat_map-set_same f (r ∷ rs) (suc k) row same = ap (λ xs. f r ++ xs) (flat_map-set_same f rs k row same)
 
--- tops stay where the row written has the same top
-tops_by : (rows : List SlabRow) (k : ℕ) (row : SlabRow) → k < length rows → row.top ≡ (get_or rows k no_row).top → (j : ℕ) → (j ≡ k) ⊎ (j ≡ k → ⊥) → (get_or (slice_set rows k row) j no_row).top ≡ (get_or rows j no_row).top
-tops_by rows k row low top j (inl is) = rw is (ap (λ (r : SlabRow). r.top) (row_same rows k row low) ∙ top)
-tops_by rows k row low top j (inr apart) = ap (λ (r : SlabRow). r.top) (row_other rows k j row apart)
+-- what is said of each row stays where it is said of the row written
+field_by : {A : Type 0} (f : SlabRow → A) (rows : List SlabRow) (k : ℕ) (row : SlabRow) → k < length rows → f row ≡ f (get_or rows k no_row) → (j : ℕ) → (j ≡ k) ⊎ (j ≡ k → ⊥) → f (get_or (slice_set rows k row) j no_row) ≡ f (get_or rows j no_row)
+field_by f rows k row low same j (inl is) = rw is (ap f (row_same rows k row low) ∙ same)
+field_by f rows k row low same j (inr apart) = ap f (row_other rows k j row apart)
 
+pub field_same : {A : Type 0} (f : SlabRow → A) (rows : List SlabRow) (k : ℕ) (row : SlabRow) → k < length rows → f row ≡ f (get_or rows k no_row) → (j : ℕ) → f (get_or (slice_set rows k row) j no_row) ≡ f (get_or rows j no_row)
+field_same f rows k row low same j = field_by f rows k row low same j (cases_eq j k)
+
+-- tops among them
 pub tops_same : (rows : List SlabRow) (k : ℕ) (row : SlabRow) → k < length rows → row.top ≡ (get_or rows k no_row).top → (j : ℕ) → (get_or (slice_set rows k row) j no_row).top ≡ (get_or rows j no_row).top
-tops_same rows k row low top j = tops_by rows k row low top j (cases_eq j k)
+tops_same rows k row low top j = field_same (λ (r : SlabRow). r.top) rows k row low top j

@@ -2,6 +2,7 @@
 use Rattle.std.proofs.Common.{◌≡◌, ℕ, ◌+◌, ◌-◌, ◌<◌, ◌≤◌, Bool, true, false, cond, eqb, ltb, List, [], ◌∷◌, ◌++◌, length, take, get_or, reverse, min, sum_by, Option, Some, None, refl, sym, ap, ◌∙◌, subst, arith, append_assoc}
 use Rattle.std.specs.List.{slice_set}
 use Rattle.std.proofs.lemmas.Bool.{cond_both, eqb-true, ltb-true, ltb-false}
+use Rattle.std.proofs.lemmas.Bool.Decides.{nat_tests}
 use Rattle.std.proofs.lemmas.List.{append-nil, reverse-append, take_more, take_more_set, take-set-le, length-set, length-append, length-take, length-reverse}
 use Rattle.std.proofs.lemmas.List.Sums.{sum_by-append, sum_by-take-drop}
 use Rattle.tc_units.specs.declared.units.Addr.{Addr}
@@ -38,8 +39,8 @@ sum_by-reverse f (y ∷ ys) = omega (arith, ap (sum_by f) (reverse-append (y ∷
 
 -- the next copy, or the commit
 pub copied_at : (pops : Bool) (row : SlabRow) (r : Regs) (n : ℕ) (pc : Pc) → HasCopied pops row r n → HasCopied pops row (record r { pc = pc; ran = r.ran + 1 }) n
-copied_at true row r n pc has = record { top = has.top; count = has.count; done = has.done; loaded = has.loaded }
-copied_at false row r n pc has = record { top = has.top; count = has.count; some = has.some; done = has.done; nothing = has.nothing; stored = has.stored }
+copied_at true row r n pc has = record { top = has.top; filled = has.filled; count = has.count; done = has.done; loaded = has.loaded }
+copied_at false row r n pc has = record { top = has.top; free = has.free; count = has.count; some = has.some; done = has.done; nothing = has.nothing; stored = has.stored }
 
 all_copied : (pops : Bool) (row : SlabRow) (r : Regs) (n : ℕ) → HasCopied pops row r n → r.count ≤ n → HasCopied pops row r r.count
 all_copied true row r n has all = let e : n ≡ r.count = omega (arith, has.done) in subst (λ k. HasLoaded row r k) e has
@@ -85,19 +86,21 @@ wanted_some (PopBatch n) hand is = absurd (cc)
 wanted_some Push hand is = omega arith
 wanted_some PushBatch hand is = omega arith
 
-pub first_loaded : (row : SlabRow) (r : Regs) → r.top ≡ row.top → r.loaded.items ≡ [] → HasLoaded row (record r { count = min (wanted r.seq r.hand.items) r.top }) 0
-first_loaded row r top nothing =
+pub first_loaded : (row : SlabRow) (r : Regs) → r.top ≡ row.top → 0 < r.top → r.loaded.items ≡ [] → HasLoaded row (record r { count = min (wanted r.seq r.hand.items) r.top }) 0
+first_loaded row r top filled nothing =
     record {
       top = top;
+      filled = filled;
       count = refl;
       done = omega arith;
       loaded = let z : r.top - 0 ≡ r.top = omega arith in rw (nothing, z) (append-nil (take r.top row.slots));
     }
 
-pub first_stored : (row : SlabRow) (r : Regs) → r.top ≡ row.top → r.loaded.items ≡ [] → wanted r.seq r.hand.items ≤ length r.hand.items → HasStored row (record r { count = min (wanted r.seq r.hand.items) (row.cap - r.top) }) 0
-first_stored row r top nothing some =
+pub first_stored : (row : SlabRow) (r : Regs) → r.top ≡ row.top → r.top < row.cap → r.loaded.items ≡ [] → wanted r.seq r.hand.items ≤ length r.hand.items → HasStored row (record r { count = min (wanted r.seq r.hand.items) (row.cap - r.top) }) 0
+first_stored row r top free nothing some =
     record {
       top = top;
+      free = free;
       count = refl;
       some = omega arith;
       done = omega arith;
@@ -105,28 +108,31 @@ first_stored row r top nothing some =
       stored = let z : r.top + 0 ≡ r.top = omega arith in rw z (sym (append-nil (take r.top row.slots)));
     }
 
+below : (a b : ℕ) → a ≤ b → eqb a b ≡ false → a < b
+below a b most apart = grind (arith, nat_tests)
+
 test_ok : (stopped pops : Bool) (row : SlabRow) (r : Regs) → IsSoundRow row → pops ≡ is_pop r.seq → r.top ≡ row.top → r.loaded.items ≡ [] → CellOk stopped pops row r (test pops row r)
 test_ok stopped true row r ok way top nothing =
     cond_both (eqb r.top 0) _ _ (CellOk stopped true row r)
     (λ e. closes_ok stopped true row r Empty ok (record { row = refl; hand = refl }, (let z : row.top ≡ 0 = omega (arith, eqb-true r.top 0 e) in rw z refl)))
-    (λ e. counted_ok stopped true row r (min (wanted r.seq r.hand.items) r.top) ok (first_loaded row r top nothing))
+    (λ e. counted_ok stopped true row r (min (wanted r.seq r.hand.items) r.top) ok (first_loaded row r top (let some : 0 < r.top = grind (arith, nat_tests) in some) nothing))
 test_ok stopped false row r ok way top nothing =
     cond_both (eqb r.top row.cap) _ _ (CellOk stopped false row r)
     (λ e. closes_ok stopped false row r Full ok (record { row = refl; hand = refl }, sym top ∙ eqb-true r.top row.cap e))
-    (λ e. counted_ok stopped false row r (min (wanted r.seq r.hand.items) (row.cap - r.top)) ok (first_stored row r top nothing (wanted_some r.seq r.hand.items (sym way))))
+    (λ e. counted_ok stopped false row r (min (wanted r.seq r.hand.items) (row.cap - r.top)) ok (first_stored row r top (below r.top row.cap (omega (arith, top, ok.top)) e) nothing (wanted_some r.seq r.hand.items (sym way))))
 
 pub copy_ok : (stopped pops : Bool) (row : SlabRow) (r : Regs) (done : ℕ) → IsSoundRow row → HasCopied pops row r done → done < r.count → CellOk stopped pops row r (copy pops row r done)
 copy_ok stopped true row r done ok has more =
     let top : r.top ≡ row.top = has.top in
     let r' : Regs = record r { loaded = appended r.loaded (slot_of row (r.top - (done + 1)) ∷ []) } in
-    let has' : HasLoaded row r' (done + 1) = record { top = has.top; count = has.count; done = omega arith; loaded = load_at row.slots r.loaded.items (take r.top row.slots) (r.top - (done + 1)) (r.top - done) (omega (arith, has.count)) (omega (arith, has.count, ok.top, ok.cap)) has.loaded } in
+    let has' : HasLoaded row r' (done + 1) = record { top = has.top; filled = has.filled; count = has.count; done = omega arith; loaded = load_at row.slots r.loaded.items (take r.top row.slots) (r.top - (done + 1)) (r.top - done) (omega (arith, has.count)) (omega (arith, has.count, ok.top, ok.cap)) has.loaded } in
     record { row = ok; cap = refl; slots = refl; size = refl; batch = refl; agrees = next_agrees true row r' (done + 1) has' (ltb (done + 1) r.count) refl; thread = refl; class = refl; seq = refl; epoch = refl; does = record { row = refl; hand = refl } }
 copy_ok stopped false row r done ok has more =
     let x : Addr = object r.hand.items done in
     let row' : SlabRow = stored row (r.top + done) x in
     let same : length (slice_set row.slots (r.top + done) x) ≡ length row.slots = length-set row.slots (r.top + done) x in
     let here : r.top + (done + 1) ≡ (r.top + done) + 1 = omega arith in
-    let has' : HasStored row' r (done + 1) = record { top = has.top; count = has.count; some = has.some; done = omega arith; nothing = has.nothing; stored = rw here (store_at row.slots r.hand.items r.top done (r.top + done) refl (omega (arith, has.count, ok.cap)) (omega (arith, has.some)) has.stored) } in
+    let has' : HasStored row' r (done + 1) = record { top = has.top; free = has.free; count = has.count; some = has.some; done = omega arith; nothing = has.nothing; stored = rw here (store_at row.slots r.hand.items r.top done (r.top + done) refl (omega (arith, has.count, ok.cap)) (omega (arith, has.some)) has.stored) } in
     record {
       row = record { top = ok.top; cap = omega (arith, same, ok.cap); size = ok.size };
       cap = refl;
@@ -162,7 +168,7 @@ commit_ok stopped true row r ok has =
       class = refl;
       seq = refl;
       epoch = refl;
-      does = record { got = r.loaded.items; some = size ∙ (has.count ∙ n); row = whole ∙ sym has.loaded; hand = refl };
+      does = record { got = r.loaded.items; filled = omega (arith, has.filled, has.top); some = size ∙ (has.count ∙ n); row = whole ∙ sym has.loaded; hand = refl };
     }
 commit_ok stopped false row r ok has =
     let top : r.top ≡ row.top = has.top in
@@ -179,7 +185,7 @@ commit_ok stopped false row r ok has =
       class = refl;
       seq = refl;
       epoch = refl;
-      does = record { some = has.count ∙ n; row = has.stored ∙ ap (λ xs. xs ++ take r.count r.hand.items) whole; hand = refl };
+      does = record { free = omega (arith, has.free, has.top); some = has.count ∙ n; few = has.some; row = has.stored ∙ ap (λ xs. xs ++ take r.count r.hand.items) whole; hand = refl };
     }
 
 pub cell_ok : (stopped pops : Bool) (row : SlabRow) (r : Regs) (pc : Pc) → IsSoundRow row → pops ≡ is_pop r.seq → Agrees pops row r pc → CellOk stopped pops row r (cell stopped pops row r pc)

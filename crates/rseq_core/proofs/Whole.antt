@@ -1,5 +1,5 @@
 -- A sequence whose instructions all run with no act between them does its whole work.
-use Rattle.std.proofs.Common.{◌≡◌, ℕ, zero, suc, ◌+◌, ◌-◌, ◌<◌, ◌≤◌, Bool, true, false, cond, eqb, ltb, [], ◌++◌, take, drop, min, Some, refl, sym, ap, ◌∙◌, subst, arith}
+use Rattle.std.proofs.Common.{◌≡◌, ℕ, zero, suc, ◌+◌, ◌-◌, ◌<◌, ◌≤◌, Bool, true, false, cond, eqb, ltb, [], ◌++◌, length, take, drop, min, Some, refl, sym, ap, ◌∙◌, subst, arith}
 use Rattle.std.proofs.lemmas.Bool.{lt-ltb, ltb-false, le-ltb}
 use Rattle.std.proofs.lemmas.Bool.Decides.{nat_tests}
 use Rattle.cpu_slab.specs.Slots.{SlabRow, held}
@@ -37,6 +37,7 @@ ends_after true row r row' r' c quiet ends = (
   ends.0,
   record {
     got = ends.1.got;
+    filled = omega (arith, ends.1.filled, quiet.top);
     some = ends.1.some ∙ (ap (λ n. min n row'.top) (wants_same row r row' r' quiet) ∙ ap (λ n. min (wanted r.seq r.hand.items) n) quiet.top);
     row = sym quiet.objects ∙ ends.1.row;
     hand = ends.1.hand ∙ ap (λ h. h.items ++ ends.1.got) quiet.hand;
@@ -46,7 +47,9 @@ ends_after false row r row' r' c quiet ends =
     let same : pushed row' r' ≡ pushed row r = ap (λ n. min n (row'.cap - row'.top)) (wants_same row r row' r' quiet) ∙ (ap (λ n. min (wanted r.seq r.hand.items) (n - row'.top)) quiet.cap ∙ ap (λ n. min (wanted r.seq r.hand.items) (row.cap - n)) quiet.top) in (
       ends.0 ∙ ap (λ n. Some (Pushed n)) same,
       record {
+        free = omega (arith, ends.1.free, quiet.top, quiet.cap);
         some = refl;
+        few = omega (arith, ends.1.few, same, ap (λ h. length h.items) quiet.hand);
         row = ends.1.row ∙ (ap (λ xs. xs ++ take (pushed row' r') r'.hand.items) quiet.objects ∙ (ap (λ h. held row ++ take (pushed row' r') h.items) quiet.hand ∙ ap (λ n. held row ++ take n r.hand.items) same));
         hand = ends.1.hand ∙ (ap (λ h. drop (pushed row' r') h.items) quiet.hand ∙ ap (λ n. drop n r.hand.items) same);
       },
@@ -103,7 +106,7 @@ test_pops m row r ok top nothing some left =
     let count : m ≡ k = left ∙ ap (λ n. min (wanted r.seq r.hand.items) n) (sym top) in
     let filled : eqb r.top 0 ≡ false = grind (arith, nat_tests) in
     let P : Cell → Type 0 = λ c. Ends true row r (unless_replied c.reply c (alone m false true c.row c.regs c.regs.pc)) in
-    subst (λ b. P (cond b (closes row r Empty) (counted row r k))) (sym filled) (counted_ends m true row r k ok (first_loaded row r top nothing) count)
+    subst (λ b. P (cond b (closes row r Empty) (counted row r k))) (sym filled) (counted_ends m true row r k ok (first_loaded row r top (omega (arith, top, some)) nothing) count)
 
 test_pushes : (m : ℕ) (row : SlabRow) (r : Regs) → IsSoundRow row → is_pop r.seq ≡ false → r.top ≡ row.top → r.loaded.items ≡ [] → row.top < row.cap → m ≡ pushed row r → Ends false row r (alone (suc m) false false row r Test)
 test_pushes m row r ok way top nothing some left =
@@ -111,7 +114,7 @@ test_pushes m row r ok way top nothing some left =
     let count : m ≡ k = left ∙ ap (λ n. min (wanted r.seq r.hand.items) (row.cap - n)) (sym top) in
     let open' : eqb r.top row.cap ≡ false = not_equal r.top row.cap (omega arith) in
     let P : Cell → Type 0 = λ c. Ends false row r (unless_replied c.reply c (alone m false false c.row c.regs c.regs.pc)) in
-    subst (λ b. P (cond b (closes row r Full) (counted row r k))) (sym open') (counted_ends m false row r k ok (first_stored row r top nothing (wanted_some r.seq r.hand.items way)) count)
+    subst (λ b. P (cond b (closes row r Full) (counted row r k))) (sym open') (counted_ends m false row r k ok (first_stored row r top (omega (arith, top, some)) nothing (wanted_some r.seq r.hand.items way)) count)
 
 pub pops_whole : PopsWhole
 pops_whole row r ok nothing way want some zero is = absurd (omega arith)

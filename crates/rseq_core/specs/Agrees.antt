@@ -9,16 +9,18 @@ use Rattle.rseq_core.specs.declared.sequence.Reply.TheVariants.{Popped, Pushed, 
 use Rattle.rseq_core.specs.declared.regs.Regs.{Regs}
 use Rattle.rseq_core.specs.Tables.{Cell, wanted}
 
--- So many are loaded: with what is below them, they are the objects.
+-- So many are loaded, where there are objects: with what is below them, they are the objects.
 pub record HasLoaded (row : SlabRow) (r : Regs) (n : ℕ) : Type 0 where
   pub top : r.top ≡ row.top
+  pub filled : 0 < r.top
   pub count : r.count ≡ min (wanted r.seq r.hand.items) r.top
   pub done : n ≤ r.count
   pub loaded : take (r.top - n) row.slots ++ reverse r.loaded.items ≡ take r.top row.slots
 
--- So many are stored above the objects: the first of the hand.
+-- So many are stored above the objects, where there is capacity: the first of the hand.
 pub record HasStored (row : SlabRow) (r : Regs) (n : ℕ) : Type 0 where
   pub top : r.top ≡ row.top
+  pub free : r.top < row.cap
   pub count : r.count ≡ min (wanted r.seq r.hand.items) (row.cap - r.top)
   pub some : r.count ≤ length r.hand.items
   pub done : n ≤ r.count
@@ -69,16 +71,19 @@ pub record IsSilent (old : SlabRow) (r : Regs) (c : Cell) : Type 0 where
   pub row : held c.row ≡ held old
   pub hand : c.regs.hand.items ≡ r.hand.items
 
--- As many objects as are wanted, or all, come to the hand, last first.
+-- There are objects, and as many as are wanted, or all, come to the hand, last first.
 pub record IsPop (old : SlabRow) (r : Regs) (c : Cell) : Type 0 where
   pub got : List Addr
+  pub filled : 0 < old.top
   pub some : length got ≡ min (wanted r.seq r.hand.items) old.top
   pub row : held old ≡ held c.row ++ reverse got
   pub hand : c.regs.hand.items ≡ r.hand.items ++ got
 
--- As many objects as are wanted, or as there is capacity for, go from the front of the hand.
+-- There is capacity, and as many objects as are wanted, or as there is capacity for, go from the front of the hand.
 pub record IsPush (old : SlabRow) (r : Regs) (c : Cell) (n : ℕ) : Type 0 where
+  pub free : old.top < old.cap
   pub some : n ≡ min (wanted r.seq r.hand.items) (old.cap - old.top)
+  pub few : n ≤ length r.hand.items
   pub row : held c.row ≡ held old ++ take n r.hand.items
   pub hand : c.regs.hand.items ≡ drop n r.hand.items
 
