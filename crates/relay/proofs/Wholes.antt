@@ -1,5 +1,5 @@
 -- What a whole run left, put together.
-use Rattle.std.proofs.Common.{◌≡◌, ℕ, zero, suc, ◌%◌, ◌<◌, false, List, map, [], ◌∷◌, ◌++◌, length, Some, refl, sym, ap, ◌∙◌, subst, arith}
+use Rattle.std.proofs.Common.{◌≡◌, ℕ, zero, suc, ◌%◌, ◌<◌, ◌≤◌, false, List, map, [], ◌∷◌, ◌++◌, length, Some, refl, sym, ap, ◌∙◌, subst, arith}
 use Rattle.std.specs.List.{slice_get}
 use Rattle.std.specs.Option.{option_map}
 use Rattle.std.proofs.lemmas.List.{length-map, length-append}
@@ -45,7 +45,7 @@ number_at (suc n) i less = dite (dec_lt i n)
     (λ low. at_longer (numbers n) (n ∷ []) i i (number_at n i low))
     (λ high. let e : length (numbers n) ≡ i = (let l = length_numbers n in omega arith) in let same : n ≡ i = omega arith in subst (λ (k : ℕ). slice_get (numbers n ++ k ∷ []) i ≡ Some i) (sym same) (at_seam (numbers n) [] i i e))
 
-there_is : {A : Type 0} (xs : List A) (i : ℕ) → i < length xs → (a : A) × (slice_get xs i ≡ Some a)
+pub there_is : {A : Type 0} (xs : List A) (i : ℕ) → i < length xs → (a : A) × (slice_get xs i ≡ Some a)
 there_is [] i h = absurd (omega arith)
 there_is (x ∷ xs) zero h = (x, refl)
 there_is (x ∷ xs) (suc i) h = there_is xs i (omega arith)
@@ -53,6 +53,10 @@ there_is (x ∷ xs) (suc i) h = there_is xs i (omega arith)
 pub map_both : {A B C : Type 0} (f : A → B) (g : B → C) (xs : List A) → map g (map f xs) ≡ map (λ (x : A). g (f x)) xs
 map_both f g [] = refl
 map_both f g (x ∷ xs) = ap (λ (l : List _). g (f x) ∷ l) (map_both f g xs)
+
+-- as many entries as acts
+pub few_of : {P L : Type 0} (most events : ℕ) (acts : List (Act P L)) (es : List Entry) → es ≡ map entry_of acts → length acts ≤ most → most ≡ events → length es ≤ events
+few_of most events acts es is few same = let n = ap length is ∙ length-map acts entry_of in omega (arith, n, few, same)
 
 module _ {X P L : Type 0} where
   -- the seats that were joined are as many as have a seat

@@ -1,16 +1,16 @@
 //! A whole run of a machine by threads: opened, seated, run, joined, closed and merged.
-ghost use Rattle.std.specs.Prelude.{◌≡◌, ◌≤◌, All, length, map, IfSome, vec_len};
+ghost use Rattle.std.specs.Prelude.{◌≡◌, ◌≤◌, All, length, map, None, IfSome, vec_len};
 ghost use Rattle.replay_workers.specs.Runs.{RanBelow, IsReady, Done};
 ghost use Rattle.tc_model.specs.Rises.{AreApart};
 ghost use Rattle.relay.specs.Ends.{IsRun};
 
 use merge_journal::merge;
 use part_lock::{Closed, PartBoard, Parts, join_all, seat_all};
-use replay_workers::{Worker, run_workers};
+use replay_workers::{Worker, halt_of, run_workers};
 use std::alloc::Global;
 use std::sync::Wait;
 use std::thread::Threads;
-use tc_model::{Board, Entry, Halt, Machine, Turn};
+use tc_model::{Board, Entry, Halt, Machine};
 use tc_ports::Gate;
 
 /// What threads left of a machine: its parts, the locals by their threads, the one order of all acts, and
@@ -21,21 +21,6 @@ pub struct Finish<M: Machine> {
     pub locals: Vec<M::Local>,
     pub order: Vec<Entry>,
     pub halt: Option<Halt>,
-}
-
-/// Why a worker was halted: for want of memory where any was.
-fn halt_of<B: Board>(workers: &[Worker<B>]) -> Option<Halt> {
-    let mut halt = None;
-    for worker in workers {
-        match worker.last {
-            Turn::Halted {
-                cause: Halt::Memory,
-            } => return Some(Halt::Memory),
-            Turn::Halted { cause } => halt = Some(cause),
-            _ => {}
-        }
-    }
-    halt
 }
 
 /// Runs workers, and gives them back.
@@ -55,8 +40,9 @@ fn run_in<R: Threads + Wait + Sync, B: Board + Sync, G: Gate + Sync>(
     workers
 }
 
-/// Runs a machine from its start, a thread for each local. The order is a run of polite picks that move,
-/// and the parts and locals are that run's. `None` where memory ran out beside the acts.
+/// Runs a machine from its start, a thread for each local. The order is a run of at most `events` polite
+/// picks that move, and the parts and locals are that run's. Where no worker was halted each script has
+/// ended. `None` where memory ran out beside the acts.
 pub fn run_all<R: Threads + Wait + Sync, M: Machine + Drop + Sync, G: Gate + Sync>(
     rt: &R,
     alloc: Global,
@@ -74,6 +60,9 @@ where
     requires locals { locals.items ≡ (M.rules machine).locals }
     requires few { vec_len locals ≤ 256 }
     ensures run { IfSome result (λ e. IsRun (M.rules machine) e.closed.parts.items e.locals.items e.order.items) }
+    ensures machine { IfSome result (λ e. e.closed.machine ≡ machine) }
+    ensures few { IfSome result (λ e. length e.order.items ≤ events) }
+    ensures ended { IfSome result (λ e. e.halt ≡ None → All (λ l. (M.rules machine).want l ≡ None) e.locals.items) }
     ensures apart { IfSome result (λ e. AreApart (map (λ v. v.items) e.closed.entries.items)) }
 {
     let Ok((parts, mut main)) = Parts::open(alloc, machine, parts, events) else {

@@ -1,5 +1,8 @@
 -- What a worker did: turns of the board, one after another.
-use Rattle.std.specs.Prelude.{◌≡◌, ℕ, zero, suc, ◌+◌, ◌⊎◌, ◌<◌, ◌≤◌, min, Bool, true, false, List, length, slice_index_or}
+use Rattle.std.specs.Prelude.{◌≡◌, ℕ, zero, suc, ◌+◌, ◌⊎◌, ◌<◌, ◌≤◌, min, Bool, true, false, List, length, slice_index_or, Option, Some, None, if◌then◌else◌}
+use Rattle.std.specs.List.{list_any}
+use Rattle.tc_model.specs.declared.board.Halt.{Halt}
+use Rattle.tc_model.specs.declared.board.Halt.TheVariants.{Memory, Full}
 use Rattle.tc_model.specs.declared.board.Turn.{Turn}
 use Rattle.tc_model.specs.declared.board.Turn.TheVariants.{Moved, NotYet, Held, Ended, Halted}
 use Rattle.tc_model.specs.Turns.{is_halted}
@@ -55,3 +58,18 @@ module _ {B H : Type 0} where
   -- each has ended, or one is halted
   abbrev pub Done : List (Worker B H) → Type 0
   Done xs = ((i : ℕ) (d : Worker B H) → i < length xs → (slice_index_or xs i d).last ≡ Ended) ⊎ ((i : ℕ) × (i < length xs) × ((d : Worker B H) → is_halted (slice_index_or xs i d).last ≡ true))
+
+-- whether a turn was halted for a cause
+abbrev pub is_halt_for : Halt → Turn → Bool
+is_halt_for Memory (Halted Memory) = true
+is_halt_for Full (Halted Full) = true
+is_halt_for cause answer = false
+
+module _ {B H : Type 0} where
+  -- whether a worker was halted for a cause
+  abbrev pub is_any_halted : Halt → List (Worker B H) → Bool
+  is_any_halted cause workers = list_any (λ (w : Worker B H). is_halt_for cause w.last) workers
+
+  -- why workers were halted, where one was: want of memory comes before the limit
+  abbrev pub halt_of : List (Worker B H) → Option Halt
+  halt_of workers = if is_any_halted Memory workers then Some Memory else (if is_any_halted Full workers then Some Full else None)

@@ -1,10 +1,12 @@
 //! Workers over a board that they share, each in a thread of its own.
 #![tactic(auto)]
 
+mod halt;
 mod run;
 #[cfg(test)]
 mod tests;
 mod worker;
 
+pub use halt::halt_of;
 pub use run::run_workers;
 pub use worker::Worker;

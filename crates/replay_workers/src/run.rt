@@ -13,6 +13,10 @@ use tc_ports::Gate;
 /// How many turns in a row may move nothing before a worker's thread ends (this project's own rule).
 const PATIENCE: u64 = 1_000_000;
 
+/// How often a worker leaves the processor to others, at most, between two turns of which the first moved
+/// nothing (this project's own rule).
+const MOST_YIELDS: u64 = 8;
+
 /// Passes the gate and takes one turn.
 fn turn_once<R: Wait, B: Board, G: Gate>(
     rt: &R,
@@ -33,6 +37,14 @@ fn turn_once<R: Wait, B: Board, G: Gate>(
     );
     worker.last = board.turn(rt, alloc, &mut worker.hand);
     worker.turns = worker.turns.saturating_add(1);
+}
+
+/// Leaves the processor to other threads, more often the longer nothing moved: what this worker waits for is
+/// theirs to do, under the same locks.
+fn give_way(idle: u64) {
+    for _ in 0..idle.min(MOST_YIELDS) {
+        thread::yield_now();
+    }
 }
 
 fn has_ended(last: Turn) -> bool
@@ -63,6 +75,7 @@ fn run_alone<R: Wait, B: Board, G: Gate>(
             idle = 0;
         } else {
             idle += 1;
+            give_way(idle);
         }
     }
     unreachable!()

@@ -1,8 +1,11 @@
-use Rattle.std.proofs.Common.{◌≡◌, ℕ, map, length, sym, ap, ◌∙◌, subst}
+use Rattle.std.proofs.Common.{◌≡◌, ℕ, All, None, map, length, sym, ap, ◌∙◌, subst}
+use Rattle.std.proofs.lemmas.List.Elements.{All-map}
+use Rattle.replay_workers.specs.Runs.{halt_of}
+use Rattle.relay.proofs.Overs.{all_ended}
 use Rattle.std.proofs.lemmas.List.{length-map}
 use Rattle.tc_model.specs.Rises.{AreApart, IsMerge}
 use Rattle.part_lock.specs.Joins.{numbers, lead_of, all_joined, Turned, Fit}
-use Rattle.relay.proofs.Wholes.{all_there, length_numbers, threads_stay, map_both, whole}
+use Rattle.relay.proofs.Wholes.{few_of, all_there, length_numbers, threads_stay, map_both, whole}
 use Rattle.relay.specs.Ends.{IsRun}
 use Rattle.relay.proofs.run.run_all.Goals as goal
 
@@ -43,6 +46,24 @@ returns-clause-run g c =
     let merged = subst (λ l. IsMerge (map (λ v. v.items) l) c.in-Ok-merge.order.items) c.as_slice-2.ensures.value c.in-Ok-merge.ensures in
     subst (λ x. IsRun (rules x) c.in-Ok-close.closed.parts.items c.in-Ok-join_all.locals.items c.in-Ok-merge.order.items) c.in-Ok.ensures.key.0
     (whole rules key n j.0 c.in-Ok-close.closed.parts.items c.in-Ok-join_all.locals.items _ c.in-Ok-merge.order.items long threads locals closed merged)
+
+pub returns-clause-few : goal.returns-clause-few
+returns-clause-few g c =
+    let key = c.in-Ok.parts.key in
+    let m = lead_of key (numbers (length c.args.locals.items)) in
+    let j = c.in-Ok-join_all.ensures.main m c.in-Ok-seat_all.ensures.main in
+    let closed = c.in-Ok-close.ensures.closed (all_joined m j.0) j.1 in
+    let merged = subst (λ l. IsMerge (map (λ v. v.items) l) c.in-Ok-merge.order.items) c.as_slice-2.ensures.value c.in-Ok-merge.ensures in
+    few_of key.events c.args.events closed.acts c.in-Ok-merge.order.items (closed.merged c.in-Ok-merge.order.items merged) closed.few c.in-Ok.ensures.key.1
+
+pub returns-clause-ended : goal.returns-clause-ended
+returns-clause-ended g c none =
+    let rules = g.M.Machine.rules in let key = c.in-Ok.parts.key in
+    let before = c.in-Ok-seat_all.workers.items in let after = c.run_in-workers.result.items in
+    let halt = sym (c.halt_of-halt.ensures ∙ ap halt_of c.as_slice.ensures.value) ∙ none in
+    let ended = all_ended rules c.in-Ok.parts.table.shared.table_id key before after c.run_in-workers.ensures.long c.in-Ok-seat_all.ensures.ready c.run_in-workers.ensures.each c.run_in-workers.ensures.done halt in
+    let locals = subst (All (λ l. (rules key.machine).want l ≡ None)) (sym c.in-Ok-join_all.ensures.locals) (All-map (λ l. (rules key.machine).want l ≡ None) (λ w. w.hand.local) after ended) in
+    subst (λ x. All (λ l. (rules x).want l ≡ None) c.in-Ok-join_all.locals.items) c.in-Ok.ensures.key.0 locals
 
 pub returns-clause-apart : goal.returns-clause-apart
 returns-clause-apart g c =
