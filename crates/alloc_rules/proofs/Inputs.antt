@@ -1,21 +1,20 @@
--- What a valid input gives its threads: each label is allocated once and freed once, by one of them.
-use Rattle.std.proofs.Common.{◌≡◌, ℕ, zero, suc, ◌+◌, ◌<◌, ◌≤◌, Bool, true, false, not, cond, eqb, List, [], ◌∷◌, ◌++◌, map, fold, max, refl, sym, ap, ◌∙◌, subst, arith, inl, inr}
-use Rattle.std.specs.Prelude.{sum_by}
+-- What a valid input gives its threads: each label is allocated once and freed once, by one of them, and each planned call is there.
+use Rattle.std.proofs.Common.{◌≡◌, ℕ, zero, suc, ◌+◌, ◌<◌, ◌≤◌, Bool, true, false, cond, eqb, List, [], ◌∷◌, ◌++◌, map, fold, max, refl, sym, ap, ◌∙◌, subst, arith, inl, inr}
+use Rattle.std.specs.Prelude.{sum_by, All}
 use Rattle.std.specs.List.{range_with_len}
 use Rattle.std.proofs.lemmas.Bool.{cases_eq, eq-eqb, ne_eqb}
+use Rattle.std.proofs.lemmas.List.{append-nil}
+use Rattle.std.proofs.lemmas.List.Elements.{All-nil, All-cons}
 use Rattle.std.proofs.lemmas.List.Sums.{sum_by-cons, sum_by-append}
-use Rattle.tc_units.specs.declared.spans.ClassRow.{ClassRow}
+use Rattle.std.proofs.Math.Seq.{append_snoc}
 use Rattle.tc_model.specs.declared.calls.Call.{Call}
 use Rattle.tc_model.specs.declared.calls.Call.TheVariants.{Malloc, Free, Release, Drain, Resize}
 use Rattle.tc_model.specs.declared.calls.Planned.{Planned}
-use Rattle.tc_model.specs.Input.{Input, ThreadCall, script_of, label_end}
-use Rattle.std.proofs.lemmas.List.{append-nil}
-use Rattle.std.proofs.Math.Seq.{append_snoc}
-use Rattle.alloc_rules.specs.State.{Thread, bit}
-use Rattle.alloc_rules.specs.Weights.{got, put, gets, puts, unbuilt, unbuilt_in}
-use Rattle.alloc_rules.specs.Machine.{thread_of, setup_of}
-use Rattle.alloc_rules.specs.Valid.{got_in, put_in, IsInOrder, IsValid}
-use Rattle.alloc_rules.proofs.First.{in_scripts, IsOnce}
+use Rattle.tc_model.specs.Input.{Input, ThreadCall, script_of, label_end, labels_of}
+use Rattle.holdings.specs.Runs.{bit}
+use Rattle.holdings.specs.Accounts.{got, put, gets, puts}
+use Rattle.call_steps.specs.Shapes.{IsPlanned}
+use Rattle.alloc_rules.specs.Valid.{got_in, put_in, limits_in, IsInOrder, IsValid}
 
 -- the one number that passes among numbers in order
 none_in : (k v a n : ℕ) → k < a → sum_by (λ t. cond (eqb k t) v 0) (range_with_len a n) ≡ 0
@@ -39,15 +38,15 @@ sum-plus : {X : Type 0} (f g : X → ℕ) (xs : List X) → sum_by (λ x. f x + 
 sum-plus f g [] = refl
 sum-plus f g (x ∷ xs) = omega (arith, sum-plus f g xs, sum_by-cons (λ y. f y + g y) x xs, sum_by-cons f x xs, sum_by-cons g x xs)
 
-sum-zero : {X : Type 0} (f : X → ℕ) (xs : List X) → ((x : X) → f x ≡ 0) → sum_by f xs ≡ 0
+pub sum-zero : {X : Type 0} (f : X → ℕ) (xs : List X) → ((x : X) → f x ≡ 0) → sum_by f xs ≡ 0
 sum-zero f [] none = refl
 sum-zero f (x ∷ xs) none = omega (arith, none x, sum-zero f xs none, sum_by-cons f x xs)
 
-sum-same : {X : Type 0} (f g : X → ℕ) (xs : List X) → ((x : X) → f x ≡ g x) → sum_by f xs ≡ sum_by g xs
+pub sum-same : {X : Type 0} (f g : X → ℕ) (xs : List X) → ((x : X) → f x ≡ g x) → sum_by f xs ≡ sum_by g xs
 sum-same f g [] same = refl
 sum-same f g (x ∷ xs) same = omega (arith, same x, sum-same f g xs same, sum_by-cons f x xs, sum_by-cons g x xs)
 
-sum-map : {X Y : Type 0} (f : X → Y) (g : Y → ℕ) (xs : List X) → sum_by g (map f xs) ≡ sum_by (λ x. g (f x)) xs
+pub sum-map : {X Y : Type 0} (f : X → Y) (g : Y → ℕ) (xs : List X) → sum_by g (map f xs) ≡ sum_by (λ x. g (f x)) xs
 sum-map f g [] = refl
 sum-map f g (x ∷ xs) = omega (arith, sum-map f g xs, sum_by-cons g (f x) (map f xs), sum_by-cons (λ y. g (f y)) x xs)
 
@@ -60,7 +59,7 @@ module _ (f : List Planned → ℕ) (w : Planned → ℕ) (nothing : f [] ≡ 0)
         | inr other ↦ (let e = ne_eqb c.thread.0 t other in rw e (omega arith))
       ]
 
-  pub over_threads : (n : ℕ) (cs : List ThreadCall) → ((earlier : List ThreadCall) (c : ThreadCall) (later : List ThreadCall) → earlier ++ c ∷ later ≡ cs → c.thread.0 < n) → sum_by (λ t. f (script_of t cs)) (range_with_len 0 n) ≡ sum_by (λ (c : ThreadCall). w c.planned) cs
+  over_threads : (n : ℕ) (cs : List ThreadCall) → ((earlier : List ThreadCall) (c : ThreadCall) (later : List ThreadCall) → earlier ++ c ∷ later ≡ cs → c.thread.0 < n) → sum_by (λ t. f (script_of t cs)) (range_with_len 0 n) ≡ sum_by (λ (c : ThreadCall). w c.planned) cs
   over_threads n [] below = sum-zero (λ t. f []) (range_with_len 0 n) (λ t. nothing)
   over_threads n (c ∷ cs) below =
       let rest = over_threads n cs (λ earlier d later is. below (c ∷ earlier) d later (ap (λ xs. c ∷ xs) is)) in
@@ -69,28 +68,30 @@ module _ (f : List Planned → ℕ) (w : Planned → ℕ) (nothing : f [] ≡ 0)
       let one = one_in c.thread.0 (w c.planned) 0 n (omega arith) (omega (arith, below [] c cs refl)) in
       omega (arith, rest, split, plus, one, sum_by-cons (λ (d : ThreadCall). w d.planned) c cs)
 
-pub in_threads : (input : Input) (f : List Planned → ℕ) (w : Planned → ℕ) → f [] ≡ 0 → ((p : Planned) (ps : List Planned) → f (p ∷ ps) ≡ w p + f ps) → IsValid input → in_scripts f (setup_of input).threads ≡ sum_by (λ (c : ThreadCall). w c.planned) input.asked.calls
-in_threads input f w nothing adds valid =
-    sum-map (thread_of input) (λ (th : Thread). f th.script) (range_with_len 0 input.asked.config.threads)
-    ∙ over_threads f w nothing adds input.asked.config.threads input.asked.calls (λ earlier c later is. (valid.calls earlier c later is).thread)
+-- a number over the scripts of all threads
+abbrev pub in_scripts : (List Planned → ℕ) → Input → ℕ
+in_scripts f input = sum_by (λ t. f (script_of t input.asked.calls)) (range_with_len 0 input.asked.config.threads)
+
+in_threads : (input : Input) (f : List Planned → ℕ) (w : Planned → ℕ) → f [] ≡ 0 → ((p : Planned) (ps : List Planned) → f (p ∷ ps) ≡ w p + f ps) → IsValid input → in_scripts f input ≡ sum_by (λ (c : ThreadCall). w c.planned) input.asked.calls
+in_threads input f w nothing adds valid = over_threads f w nothing adds input.asked.config.threads input.asked.calls (λ earlier c later is. (valid.calls earlier c later is).thread)
 
 -- Each rule in turn over all calls, from the first on.
-abbrev InOrder : List ClassRow → List ThreadCall → List ThreadCall → Type 0
-InOrder rows earlier [] = Unit {0}
-InOrder rows earlier (c ∷ cs) = IsInOrder rows earlier c.planned.call × InOrder rows (earlier ++ c ∷ []) cs
+abbrev InOrder : List ThreadCall → List ThreadCall → Type 0
+InOrder earlier [] = Unit {0}
+InOrder earlier (c ∷ cs) = IsInOrder earlier c.planned.call × InOrder (earlier ++ c ∷ []) cs
 
-in_order : (input : Input) (earlier cs : List ThreadCall) → earlier ++ cs ≡ input.asked.calls → IsValid input → InOrder input.rows earlier cs
+in_order : (input : Input) (earlier cs : List ThreadCall) → earlier ++ cs ≡ input.asked.calls → IsValid input → InOrder earlier cs
 in_order input earlier [] is valid = tt
 in_order input earlier (c ∷ cs) is valid = ((valid.calls earlier c cs is).order, in_order input (earlier ++ c ∷ []) cs (append_snoc earlier c cs ∙ is) valid)
 
-pub got_push : (x : ℕ) (earlier : List ThreadCall) (c : ThreadCall) → got_in x (earlier ++ c ∷ []) ≡ got_in x earlier + got x c.planned.call
+got_push : (x : ℕ) (earlier : List ThreadCall) (c : ThreadCall) → got_in x (earlier ++ c ∷ []) ≡ got_in x earlier + got x c.planned.call
 got_push x earlier c = omega (arith, sum_by-append (λ (d : ThreadCall). got x d.planned.call) earlier (c ∷ []), sum_by-cons (λ (d : ThreadCall). got x d.planned.call) c [])
 
 put_push : (x : ℕ) (earlier : List ThreadCall) (c : ThreadCall) → put_in x (earlier ++ c ∷ []) ≡ put_in x earlier + put x c.planned.call
 put_push x earlier c = omega (arith, sum_by-append (λ (d : ThreadCall). put x d.planned.call) earlier (c ∷ []), sum_by-cons (λ (d : ThreadCall). put x d.planned.call) c [])
 
 -- what one call in order adds
-pub record Adds (x : ℕ) (earlier : List ThreadCall) (call : Call) : Type 0 where
+record Adds (x : ℕ) (earlier : List ThreadCall) (call : Call) : Type 0 where
   pub got_once : got_in x earlier ≤ 1 → got_in x earlier + got x call ≤ 1
   pub put_once : put_in x earlier ≤ 1 → put_in x earlier + put x call ≤ 1
   pub got_first : 0 < put x call → 0 < got_in x earlier
@@ -99,8 +100,8 @@ bit_one : (b : Bool) → bit b ≤ 1
 bit_one true = omega arith
 bit_one false = omega arith
 
-adds : (rows : List ClassRow) (x : ℕ) (earlier : List ThreadCall) (call : Call) → IsInOrder rows earlier call → Adds x earlier call
-adds rows x earlier (Malloc label size) order =
+adds : (x : ℕ) (earlier : List ThreadCall) (call : Call) → IsInOrder earlier call → Adds x earlier call
+adds x earlier (Malloc label size) order =
     record {
       got_once = λ most. elim (cases_eq label.0 x) [
         | inl same ↦ (let e : got_in x earlier ≡ 0 = subst (λ y. got_in y earlier ≡ 0) same order.1 in omega (arith, e, bit_one (eqb label.0 x)))
@@ -109,7 +110,7 @@ adds rows x earlier (Malloc label size) order =
       put_once = λ most. omega arith;
       got_first = λ some. absurd (omega arith);
     }
-adds rows x earlier (Free label) order =
+adds x earlier (Free label) order =
     record {
       got_once = λ most. omega arith;
       put_once = λ most. elim (cases_eq label.0 x) [
@@ -121,24 +122,24 @@ adds rows x earlier (Free label) order =
         | inr other ↦ (let e : bit (eqb label.0 x) ≡ 0 = ap bit (ne_eqb label.0 x other) in absurd (omega (arith, some, e)))
       ];
     }
-adds rows x earlier (Release pages) order = record { got_once = λ most. omega arith; put_once = λ most. omega arith; got_first = λ some. absurd (omega arith) }
-adds rows x earlier (Drain cpu) order = absurd order
-adds rows x earlier (Resize cpu class cap) order = absurd order
+adds x earlier (Release pages) order = record { got_once = λ most. omega arith; put_once = λ most. omega arith; got_first = λ some. absurd (omega arith) }
+adds x earlier (Drain cpu) order = record { got_once = λ most. omega arith; put_once = λ most. omega arith; got_first = λ some. absurd (omega arith) }
+adds x earlier (Resize cpu class cap) order = record { got_once = λ most. omega arith; put_once = λ most. omega arith; got_first = λ some. absurd (omega arith) }
 
 first_of_either : (a b : ℕ) {Q : Type 0} → 0 < a + b → (0 < a → Q) → (0 < b → Q) → Q
 first_of_either zero b some one two = two (omega arith)
 first_of_either (suc a) b some one two = one (omega arith)
 
 -- and over all calls
-pub record Counts (x : ℕ) (calls : List ThreadCall) : Type 0 where
+record Counts (x : ℕ) (calls : List ThreadCall) : Type 0 where
   pub got_once : got_in x calls ≤ 1
   pub put_once : put_in x calls ≤ 1
   pub got_first : 0 < put_in x calls → 0 < got_in x calls
 
-counts : (rows : List ClassRow) (x : ℕ) (earlier cs : List ThreadCall) → InOrder rows earlier cs → Counts x earlier → Counts x (earlier ++ cs)
-counts rows x earlier [] order so_far = subst (Counts x) (sym (append-nil earlier)) so_far
-counts rows x earlier (c ∷ cs) order so_far =
-    let a = adds rows x earlier c.planned.call order.0 in
+counts : (x : ℕ) (earlier cs : List ThreadCall) → InOrder earlier cs → Counts x earlier → Counts x (earlier ++ cs)
+counts x earlier [] order so_far = subst (Counts x) (sym (append-nil earlier)) so_far
+counts x earlier (c ∷ cs) order so_far =
+    let a = adds x earlier c.planned.call order.0 in
     let g = got_push x earlier c in
     let p = put_push x earlier c in
     let next : Counts x (earlier ++ c ∷ []) = record {
@@ -146,10 +147,10 @@ counts rows x earlier (c ∷ cs) order so_far =
       put_once = omega (arith, p, a.put_once so_far.put_once);
       got_first = λ some. first_of_either (put_in x earlier) (put x c.planned.call) (omega (arith, some, p)) (λ old. omega (arith, g, so_far.got_first old)) (λ own. omega (arith, g, a.got_first own));
     } in
-    subst (Counts x) (append_snoc earlier c cs) (counts rows x (earlier ++ c ∷ []) cs order.1 next)
+    subst (Counts x) (append_snoc earlier c cs) (counts x (earlier ++ c ∷ []) cs order.1 next)
 
-pub counted : (input : Input) (x : ℕ) → IsValid input → Counts x input.asked.calls
-counted input x valid = counts input.rows x [] input.asked.calls (in_order input [] input.asked.calls refl valid) (record { got_once = omega arith; put_once = omega arith; got_first = λ some. absurd (omega arith) })
+counted : (input : Input) (x : ℕ) → IsValid input → Counts x input.asked.calls
+counted input x valid = counts x [] input.asked.calls (in_order input [] input.asked.calls refl valid) (record { got_once = omega arith; put_once = omega arith; got_first = λ some. absurd (omega arith) })
 
 zero_or : (n : ℕ) → (0 < n → ⊥) → n ≡ 0
 zero_or zero no_more = refl
@@ -177,23 +178,19 @@ got_below x most (c ∷ cs) some =
     (λ own. omega (arith, got_end x c.planned.call own, fold_least (max most (label_end c.planned.call)) cs))
     (λ later. got_below x (max most (label_end c.planned.call)) cs later)
 
--- all calls are built
-built : (rows : List ClassRow) (earlier : List ThreadCall) (call : Call) → IsInOrder rows earlier call → unbuilt rows call ≡ 0
-built rows earlier (Malloc label size) order = ap (λ b. bit (not b)) order.0
-built rows earlier (Free label) order = refl
-built rows earlier (Release pages) order = refl
-built rows earlier (Drain cpu) order = absurd order
-built rows earlier (Resize cpu class cap) order = absurd order
+-- each label is allocated once and freed once, and is one of the names
+pub record IsOnce (input : Input) : Type 0 where
+  pub allocated : (x : ℕ) → in_scripts (gets x) input ≤ 1
+  pub freed : (x : ℕ) → in_scripts (puts x) input ≤ 1
+  pub below : (x : ℕ) → labels_of input.asked ≤ x → (in_scripts (gets x) input ≡ 0) × (in_scripts (puts x) input ≡ 0)
 
-all_built : (rows : List ClassRow) (earlier cs : List ThreadCall) → InOrder rows earlier cs → sum_by (λ (c : ThreadCall). unbuilt rows c.planned.call) cs ≡ 0
-all_built rows earlier [] order = refl
-all_built rows earlier (c ∷ cs) order = omega (arith, built rows earlier c.planned.call order.0, all_built rows (earlier ++ c ∷ []) cs order.1, sum_by-cons (λ (d : ThreadCall). unbuilt rows d.planned.call) c cs)
+pub both_in : (input : Input) (x : ℕ) → in_scripts (λ script. gets x script + puts x script) input ≡ in_scripts (gets x) input + in_scripts (puts x) input
+both_in input x = sum-plus (λ t. gets x (script_of t input.asked.calls)) (λ t. puts x (script_of t input.asked.calls)) (range_with_len 0 input.asked.config.threads)
 
-pub valid_once : (input : Input) → IsValid input → IsOnce (setup_of input)
+pub valid_once : (input : Input) → IsValid input → IsOnce input
 valid_once input valid =
     let gets_are = λ (x : ℕ). in_threads input (gets x) (λ p. got x p.call) refl (λ p ps. refl) valid in
     let puts_are = λ (x : ℕ). in_threads input (puts x) (λ p. put x p.call) refl (λ p ps. refl) valid in
-    let built_are = in_threads input (unbuilt_in input.rows) (λ p. unbuilt input.rows p.call) refl (λ p ps. refl) valid in
     record {
       allocated = λ x. omega (arith, gets_are x, (counted input x valid).got_once);
       freed = λ x. omega (arith, puts_are x, (counted input x valid).put_once);
@@ -201,5 +198,17 @@ valid_once input valid =
           let none : got_in x input.asked.calls ≡ 0 = zero_or (got_in x input.asked.calls) (λ some. let h = got_below x 0 input.asked.calls some in absurd (omega (arith, h, past))) in
           let none_put : put_in x input.asked.calls ≡ 0 = zero_or (put_in x input.asked.calls) (λ some. let h = (counted input x valid).got_first some in absurd (omega (arith, h, none))) in
           (omega (arith, gets_are x, none), omega (arith, puts_are x, none_put));
-      built = omega (arith, built_are, all_built input.rows [] input.asked.calls (in_order input [] input.asked.calls refl valid));
     }
+
+-- the calls of a thread's script are there
+planned_in : (input : Input) (t : ℕ) (cs : List ThreadCall) → ((earlier : List ThreadCall) (c : ThreadCall) (later : List ThreadCall) → earlier ++ c ∷ later ≡ cs → IsPlanned (limits_in input) c.planned) → All (IsPlanned (limits_in input)) (script_of t cs)
+planned_in input t [] each = All-nil (IsPlanned (limits_in input))
+planned_in input t (c ∷ cs) each =
+    let rest = planned_in input t cs (λ earlier d later is. each (c ∷ earlier) d later (ap (λ xs. c ∷ xs) is)) in
+    elim (cases_eq c.thread.0 t) [
+      | inl same ↦ (let e = eq-eqb c.thread.0 t same in rw e (All-cons (IsPlanned (limits_in input)) c.planned (script_of t cs) (each [] c cs refl) rest))
+      | inr other ↦ (let e = ne_eqb c.thread.0 t other in rw e rest)
+    ]
+
+pub valid_planned : (input : Input) (t : ℕ) → IsValid input → All (IsPlanned (limits_in input)) (script_of t input.asked.calls)
+valid_planned input t valid = planned_in input t input.asked.calls (λ earlier c later is. (valid.calls earlier c later is).planned)

@@ -1,44 +1,44 @@
--- The thread of the earliest call that hasn't ended never waits, and where each call has ended each script has.
+-- The thread of the earliest call that hasn't ended never waits.
 use Rattle.std.proofs.Common.{◌≡◌, ℕ, suc, ◌+◌, ◌<◌, ◌≤◌, Bool, true, false, eqb, ltb, cond, List, [], ◌∷◌, ◌++◌, length, get_or, map, filter, Option, Some, None, refl, sym, ap, ◌∙◌, subst, arith, inl, inr}
-use Rattle.std.specs.Prelude.{option_map}
-use Rattle.std.specs.List.{slice_get, range_with_len}
+use Rattle.std.specs.Prelude.{option_map, slice_get}
 use Rattle.std.proofs.lemmas.Bool.{cases_lt, cases_eq, eq-eqb, ltb-true, ltb-false, eqb-true}
-use Rattle.std.proofs.lemmas.List.{length-map}
-use Rattle.std.proofs.lemmas.List.FromFn.{length-range_with_len}
-use Rattle.std.proofs.lemmas.Option.{slice_get-map, slice_get-get_or}
+use Rattle.std.proofs.lemmas.List.Sums.{sum_by-cons, sum_by-append}
+use Rattle.std.proofs.lemmas.Option.{slice_get-get_or}
+use Rattle.std.proofs.Math.Seq.{append_snoc}
 use Rattle.tc_units.specs.declared.units.Label.{Label}
+use Rattle.tc_model.specs.declared.machine.PartNo.{PartNo}
 use Rattle.tc_model.specs.declared.calls.Call.{Call}
 use Rattle.tc_model.specs.declared.calls.Call.TheVariants.{Malloc, Free, Release, Drain, Resize}
 use Rattle.tc_model.specs.declared.calls.Planned.{Planned}
 use Rattle.tc_model.specs.declared.steps.Stepped.TheVariants as step
 use Rattle.tc_model.specs.Input.{Input, ThreadCall, script_of}
-use Rattle.tc_model.specs.Run.{World, world_of}
-use Rattle.tc_model.specs.Steps.{stepped}
+use Rattle.tc_model.specs.Run.{Rules, World, world_of}
+use Rattle.tc_model.specs.Sound.{FitsThere, IsReady}
+use Rattle.tc_model.specs.Steps.{stepped, stepped_on, stepped_at, stepped_by}
 use Rattle.tc_model.specs.Replays.{done_by, done_in}
 use Rattle.tc_model.specs.Calls.{picks_of}
 use Rattle.tc_model.specs.Serial.{next_turn}
-use Rattle.std.proofs.Math.Seq.{append_snoc}
 use Rattle.tc_model.proofs.CallSteps.{picks-cons, picks-push_same, picks-push_other}
 use Rattle.name_table.specs.declared.table.NameState.{NameState}
 use Rattle.name_table.specs.declared.table.NameState.TheVariants as name
 use Rattle.name_table.specs.Names.{state_of}
-use Rattle.call_steps.specs.declared.step.HeapStep.TheVariants.{New, GiveBack, Unback}
-use Rattle.call_steps.specs.declared.step.MapStep.TheVariants.{Set, Lookup, Clear}
-use Rattle.call_steps.specs.declared.step.NamesStep.TheVariants.{Publish, Take}
+use Rattle.holdings.specs.Accounts.{got, is_out, is_unpublished}
+use Rattle.holdings.proofs.Sums.{bit_is}
 use Rattle.call_steps.specs.declared.step.Step.{Step}
 use Rattle.call_steps.specs.declared.step.Step.TheVariants as does
+use Rattle.call_steps.specs.declared.step.NamesStep.TheVariants as names
 use Rattle.call_steps.specs.Local.{Local}
-use Rattle.call_steps.specs.Acts.{is_unpublished, waits_for}
-use Rattle.alloc_rules.specs.State.{State, first_of}
-use Rattle.alloc_rules.specs.Weights.{got, is_out}
-use Rattle.alloc_rules.specs.Scripts.{IsOfCall, IsIn, AreIn}
-use Rattle.call_steps.specs.Kept.{call_at}
+use Rattle.call_steps.specs.Calls.{undecided}
+use Rattle.call_steps.specs.Kept.{call_at, target_at}
+use Rattle.call_steps.specs.Acts.{waits_for}
 use Rattle.alloc_rules.specs.declared.part.Part.{Part}
-use Rattle.alloc_rules.specs.Machine.{Parts, parts_of, rules, thread_of, setup_of, turns}
+use Rattle.alloc_rules.specs.declared.part.Part.TheVariants.{Cpu, Shard, Heap, Map, Names, Domain}
+use Rattle.alloc_rules.specs.Machine.{Parts, parts_of, number, number_of, waits, first_of, rules, turns}
+use Rattle.alloc_rules.specs.Fits.{Fits}
+use Rattle.alloc_rules.specs.Scripts.{IsIn, is_under_way}
 use Rattle.alloc_rules.specs.Valid.{got_in, IsInOrder, IsValid}
-use Rattle.alloc_rules.proofs.Standing.{bit_is}
-use Rattle.alloc_rules.proofs.First.{number_at}
-use Rattle.alloc_rules.proofs.Inputs.{got_push}
+use Rattle.alloc_rules.proofs.Numbers.{get_names}
+use Rattle.alloc_rules.proofs.Serving.{ArePlaced, IsAtWork}
 
 -- a script, call by call
 pub script-cons : (t : ℕ) (c : ThreadCall) (cs : List ThreadCall) → script_of t (c ∷ cs) ≡ cond (eqb c.thread.0 t) (c.planned ∷ script_of t cs) (script_of t cs)
@@ -83,40 +83,80 @@ turns-push : (before : List ThreadCall) (c : ThreadCall) → turns_of (before ++
 turns-push [] c = refl
 turns-push (b ∷ bs) c = ap (λ r. b.thread.0 ∷ r) (turns-push bs c)
 
--- a pick moves at each step that doesn't wait
-moved_by : (input : Input) (p : Parts) (locals : List Local) (t : ℕ) (l : Local) → slice_get locals t ≡ Some l → (act : Step) → l.step ≡ act → (act ≡ does.Ended → ⊥) → waits_for p.names act ≡ false → stepped (rules input) (world_of (parts_of p) locals) t ≡ step.Moved
-moved_by input p locals t l local (does.Heap row) is not_ended goes = rw (local, is) refl
-moved_by input p locals t l local (does.Map row) is not_ended goes = rw (local, is) refl
-moved_by input p locals t l local (does.Names row) is not_ended goes = rw (local, is, goes) refl
-moved_by input p locals t l local does.Ended is not_ended goes = absurd (not_ended refl)
+got-push : (x : ℕ) (before : List ThreadCall) (c : ThreadCall) → got_in x (before ++ c ∷ []) ≡ got_in x before + got x c.planned.call
+got-push x before c =
+    let f : ThreadCall → ℕ = λ (d : ThreadCall). got x d.planned.call in
+    omega (arith, sum_by-append f before (c ∷ []), sum_by-cons f c [])
+
+-- a pick moves where the part that is wanted is there, and isn't waited for
+moves_there : {P L : Type 0} (r : Rules P L) (w : World P L) (t : ℕ) (l : L) (n : PartNo) (part : P) → slice_get w.locals t ≡ Some l → r.want l ≡ Some n → slice_get w.parts n.0 ≡ Some part → r.waits part l ≡ false → stepped r w t ≡ step.Moved
+moves_there r w t l n part local wants there goes = ap (stepped_by r w) local ∙ (ap (stepped_at r w l) wants ∙ (ap (stepped_on r l) there ∙ ap (λ b. cond b step.NotYet step.Moved) goes))
+
+-- a call under way wants a part
+wants_by : (cpus classes : ℕ) (l : Local) (s : Step) → is_under_way s ≡ true → (n : PartNo) × (option_map (number_of cpus classes) (target_at l s) ≡ Some n)
+wants_by cpus classes l (does.Cpu row) way = (_, refl)
+wants_by cpus classes l (does.Shard row) way = (_, refl)
+wants_by cpus classes l (does.Heap row) way = (_, refl)
+wants_by cpus classes l (does.Map row) way = (_, refl)
+wants_by cpus classes l (does.Names row) way = (_, refl)
+wants_by cpus classes l (does.Domain row) way = (_, refl)
+wants_by cpus classes l does.Ended way = absurd (cc)
+
+-- only names are waited for
+waits_at : (l : Local) (part : Part) → ((ns : List NameState) → part ≡ Names ns → waits_for ns l.step ≡ false) → waits part l ≡ false
+waits_at l (Cpu q) goes = refl
+waits_at l (Shard x) goes = refl
+waits_at l (Heap heap) goes = refl
+waits_at l (Map m) goes = refl
+waits_at l (Names ns) goes = goes ns refl
+waits_at l (Domain x) goes = refl
 
 not_waits : (n : NameState) → is_out n ≡ true → is_unpublished n ≡ false
 not_waits name.Unpublished out = absurd (cc)
 not_waits (name.Published value) out = refl
 not_waits name.Taken out = refl
 
+-- the names that a step on names finds are those of the parts
+names_there : (p : Parts) (cpus classes : ℕ) (n : PartNo) (ns : List NameState) → length p.cpus ≡ cpus → length p.shards ≡ classes → Some (number (cpus + classes + 2)) ≡ Some n → slice_get (parts_of p) n.0 ≡ Some (Names ns) → p.names ≡ ns
+names_there p cpus classes n ns c k is there =
+    let m : number (cpus + classes + 2) ≡ n = cc in
+    let i : length p.cpus + length p.shards + 2 ≡ n.0 = omega (arith, c, k, ap (λ (x : PartNo). x.0) m) in
+    let e : Some (Names p.names) ≡ Some (Names ns) = sym (get_names p) ∙ (ap (λ j. slice_get (parts_of p) j) i ∙ there) in
+    cc
+
 -- a step of a call whose label is out doesn't wait
-goes_by : (names : List NameState) (act : Step) (c : Call) (o : Option Call) → IsOfCall act o → o ≡ Some c → ((label : Label) → c ≡ Free label → is_out (state_of names label.0) ≡ true) → (act ≡ does.Ended → ⊥) × (waits_for names act ≡ false)
-goes_by names (does.Heap (New label size)) c o call is out = (λ e. absurd (cc), refl)
-goes_by names (does.Map (Set label r)) c o call is out = (λ e. absurd (cc), refl)
-goes_by names (does.Names (Publish label value)) c o call is out = (λ e. absurd (cc), refl)
-goes_by names (does.Names (Take label)) c o call is out =
-    let e : Some c ≡ Some (Free label) = sym is ∙ call in
+goes_by : (p : Parts) (cpus classes : ℕ) (l : Local) (n : PartNo) (ns : List NameState) (s : Step) (c : Call) (o : Option Call) → length p.cpus ≡ cpus → length p.shards ≡ classes → option_map (number_of cpus classes) (target_at l s) ≡ Some n → slice_get (parts_of p) n.0 ≡ Some (Names ns) → ((d : Call) → undecided s ≡ Some d → o ≡ Some d) → o ≡ Some c → ((label : Label) → c ≡ Free label → is_out (state_of p.names label.0) ≡ true) → waits_for ns s ≡ false
+goes_by p cpus classes l n ns (does.Cpu row) c o few many wants there call is out = refl
+goes_by p cpus classes l n ns (does.Shard row) c o few many wants there call is out = refl
+goes_by p cpus classes l n ns (does.Heap row) c o few many wants there call is out = refl
+goes_by p cpus classes l n ns (does.Map row) c o few many wants there call is out = refl
+goes_by p cpus classes l n ns (does.Domain row) c o few many wants there call is out = refl
+goes_by p cpus classes l n ns does.Ended c o few many wants there call is out = refl
+goes_by p cpus classes l n ns (does.Names (names.Publish label value)) c o few many wants there call is out = refl
+goes_by p cpus classes l n ns (does.Names (names.Take label)) c o few many wants there call is out =
+    let e : Some c ≡ Some (Free label) = sym is ∙ call (Free label) refl in
     let d : c ≡ Free label = cc in
-    (λ e. absurd (cc), not_waits (state_of names label.0) (out label d))
-goes_by names (does.Map (Lookup label a)) c o call is out = (λ e. absurd (cc), refl)
-goes_by names (does.Map (Clear label r)) c o call is out = (λ e. absurd (cc), refl)
-goes_by names (does.Heap (GiveBack label r)) c o call is out = (λ e. absurd (cc), refl)
-goes_by names (does.Heap (Unback pages)) c o call is out = (λ e. absurd (cc), refl)
-goes_by names does.Ended c o call is out = let e : Some c ≡ None = sym is ∙ call in absurd (cc)
+    let same : p.names ≡ ns = names_there p cpus classes n ns few many wants there in
+    not_waits (state_of ns label.0) (subst (λ xs. is_out (state_of xs label.0) ≡ true) same (out label d))
+
+-- a step is of a call, or its script has ended
+way_by : (s : Step) (o : Option Call) (c : Call) → o ≡ Some c → (is_under_way s ≡ false → o ≡ None) → is_under_way s ≡ true
+way_by s o c is ended =
+    let both : (b : Bool) → is_under_way s ≡ b → b ≡ true =
+    λ b. elim b as (λ k. is_under_way s ≡ k → k ≡ true) [
+      | true ↦ λ e. refl
+      | false ↦ λ e. let wrong : Some c ≡ None = sym is ∙ ended e in absurd (cc)
+    ]
+    in
+    both (is_under_way s) refl
 
 -- a free keeps the rules behind the calls before it: its label was allocated
-free_after : (input : Input) (earlier : List ThreadCall) (call : Call) (label : Label) → IsInOrder input.rows earlier call → call ≡ Free label → 0 < got_in label.0 earlier
-free_after input earlier call label order is = (subst (IsInOrder input.rows earlier) is order).0
+free_after : (earlier : List ThreadCall) (call : Call) (label : Label) → IsInOrder earlier call → call ≡ Free label → 0 < got_in label.0 earlier
+free_after earlier call label order is = (subst (IsInOrder earlier) is order).0
 
-module _ (input : Input) (valid : IsValid input) (p : Parts) (s : State) (names : p.names ≡ s.names) (inside : AreIn (setup_of input) s) where
+module _ (input : Input) (valid : IsValid input) (p : Parts) (locals : List Local) (order : List ℕ) (placed : ArePlaced input p (length order)) (count : length locals ≡ input.asked.config.threads) (works : (t : ℕ) (l : Local) → slice_get locals t ≡ Some l → IsAtWork input p.names order t l) where
   abbrev w : World Part Local
-  w = world_of (parts_of p) s.locals
+  w = world_of (parts_of p) locals
 
   abbrev done : ℕ → ℕ
   done u = done_in (rules input) w u
@@ -124,75 +164,83 @@ module _ (input : Input) (valid : IsValid input) (p : Parts) (s : State) (names 
   -- a thread of the trace has a local and a script
   record Finds (before : List ThreadCall) (c : ThreadCall) : Type 0 where
     local : Local
-    there : slice_get s.locals c.thread.0 ≡ Some local
-    in_script : IsIn s.names (script_of c.thread.0 input.asked.calls) local
+    there : slice_get locals c.thread.0 ≡ Some local
+    in_script : IsIn p.names (script_of c.thread.0 input.asked.calls) local
     at : call_at (script_of c.thread.0 input.asked.calls) (picks_of c.thread.0 (turns_of before)) ≡ Some c.planned.call
     ended : done c.thread.0 ≡ local.ended
 
   finds : (before : List ThreadCall) (c : ThreadCall) (after : List ThreadCall) → input.asked.calls ≡ before ++ c ∷ after → Finds before c
   finds before c after is =
       let t : ℕ = c.thread.0 in
-      let n : ℕ = input.asked.config.threads in
-      let below : t < n = (valid.calls before c after (sym is)).thread in
-      let count : length s.locals ≡ n = inside.count ∙ (length-map (range_with_len 0 n) (thread_of input) ∙ length-range_with_len 0 n) in
-      let nobody : Local = first_of (thread_of input 0) in
-      let l : Local = get_or s.locals t nobody in
-      let there : slice_get s.locals t ≡ Some l = slice_get-get_or s.locals t nobody (omega arith) in
-      let th : slice_get (setup_of input).threads t ≡ Some (thread_of input t) = slice_get-map (thread_of input) (range_with_len 0 n) t ∙ ap (option_map (thread_of input)) (number_at n t below) in
+      let below : t < input.asked.config.threads = (valid.calls before c after (sym is)).thread in
+      let nobody : Local = first_of input 0 in
+      let l : Local = get_or locals t nobody in
+      let there : slice_get locals t ≡ Some l = slice_get-get_or locals t nobody (omega (arith, below, count)) in
       record {
         local = l;
         there = there;
-        in_script = inside.each t l (thread_of input t) there th;
+        in_script = (works t l there).inside;
         at = ap (λ cs. call_at (script_of t cs) (picks_of t (turns_of before))) is ∙ ap (option_map (λ (q : Planned). q.call)) (script_at before c after);
         ended = ap (done_by (rules input)) there;
       }
 
-  -- the call that comes next goes
-  here : (before : List ThreadCall) (c : ThreadCall) (after : List ThreadCall) → input.asked.calls ≡ before ++ c ∷ after → ((u : ℕ) → picks_of u (turns_of before) ≤ done u) → ((x : ℕ) → 0 < got_in x before → is_out (state_of s.names x) ≡ true) → done c.thread.0 ≤ picks_of c.thread.0 (turns_of before) → stepped (rules input) w c.thread.0 ≡ step.Moved
-  here before c after is ended out late =
-      let h = finds before c after is in
-      let script : List Planned = script_of c.thread.0 input.asked.calls in
-      let now : picks_of c.thread.0 (turns_of before) ≡ h.local.ended = omega (arith, ended c.thread.0, late, h.ended) in
-      let at : call_at script h.local.ended ≡ Some c.planned.call = ap (λ n. call_at script n) (sym now) ∙ h.at in
-      let goes = goes_by s.names h.local.step c.planned.call (call_at script h.local.ended) h.in_script.call at (λ label e. out label.0 (free_after input before c.planned.call label (valid.calls before c after (sym is)).order e)) in
-      moved_by input p s.locals c.thread.0 h.local h.there h.local.step refl goes.0 (ap (λ ns. waits_for ns h.local.step) names ∙ goes.1)
+  module _ (ready : (t : ℕ) → IsReady (rules input) (Fits input.rows) w t) where
+    -- the act of a local whose call is that of the trace
+    goes : (t : ℕ) (l : Local) (c : Call) → slice_get locals t ≡ Some l → IsIn p.names (script_of t input.asked.calls) l → call_at (script_of t input.asked.calls) l.ended ≡ Some c → ((label : Label) → c ≡ Free label → is_out (state_of p.names label.0) ≡ true) → stepped (rules input) w t ≡ step.Moved
+    goes t l c local inside at out =
+        let cpus : ℕ = input.asked.config.cpus in
+        let classes : ℕ = length input.rows in
+        let way : is_under_way l.step ≡ true = way_by l.step (call_at (script_of t input.asked.calls) l.ended) c at inside.none in
+        let wants = wants_by cpus classes l l.step way in
+        let h : FitsThere (Fits input.rows) w wants.0.0 l = ready t l wants.0 local wants.1 in
+        moves_there (rules input) w t l wants.0 h.part local wants.1 h.there
+        (waits_at l h.part (λ ns is. goes_by p cpus classes l wants.0 ns l.step c (call_at (script_of t input.asked.calls) l.ended) placed.cpus placed.ok.classes wants.1 (h.there ∙ ap (λ x. Some x) is) inside.call at out))
 
-  -- the labels that an ended call allocated are out
-  out_more : (before : List ThreadCall) (c : ThreadCall) (after : List ThreadCall) → input.asked.calls ≡ before ++ c ∷ after → picks_of c.thread.0 (turns_of before) < done c.thread.0 → (x : ℕ) → (call : Call) → c.planned.call ≡ call → 0 < got x call → is_out (state_of s.names x) ≡ true
-  out_more before c after is early x (Malloc label size) call some =
-      let h = finds before c after is in
-      let e : label.0 ≡ x = eqb-true label.0 x (bit_is (eqb label.0 x) (omega arith)) in
-      subst (λ y. is_out (state_of s.names y) ≡ true) e (h.in_script.out (picks_of c.thread.0 (turns_of before)) label size (omega (arith, early, h.ended)) (h.at ∙ ap (λ k. Some k) call))
-  out_more before c after is early x (Free label) call some = absurd (omega arith)
-  out_more before c after is early x (Release pages) call some = absurd (omega arith)
-  out_more before c after is early x (Drain cpu) call some = absurd (omega arith)
-  out_more before c after is early x (Resize cpu class cap) call some = absurd (omega arith)
+    -- the call that comes next goes
+    here : (before : List ThreadCall) (c : ThreadCall) (after : List ThreadCall) → input.asked.calls ≡ before ++ c ∷ after → ((u : ℕ) → picks_of u (turns_of before) ≤ done u) → ((x : ℕ) → 0 < got_in x before → is_out (state_of p.names x) ≡ true) → done c.thread.0 ≤ picks_of c.thread.0 (turns_of before) → stepped (rules input) w c.thread.0 ≡ step.Moved
+    here before c after is ended out late =
+        let h = finds before c after is in
+        let script : List Planned = script_of c.thread.0 input.asked.calls in
+        let now : picks_of c.thread.0 (turns_of before) ≡ h.local.ended = omega (arith, ended c.thread.0, late, h.ended) in
+        let at : call_at script h.local.ended ≡ Some c.planned.call = ap (λ n. call_at script n) (sym now) ∙ h.at in
+        goes c.thread.0 h.local c.planned.call h.there h.in_script at (λ label e. out label.0 (free_after before c.planned.call label (valid.calls before c after (sym is)).order e))
 
-  walk : (before cs : List ThreadCall) → input.asked.calls ≡ before ++ cs → ((u : ℕ) → picks_of u (turns_of before) ≤ done u) → ((x : ℕ) → 0 < got_in x before → is_out (state_of s.names x) ≡ true) → (t : ℕ) → next_turn done (turns_of before) (turns_of cs) ≡ Some t → stepped (rules input) w t ≡ step.Moved
-  walk before [] is ended out t next = absurd (cc)
-  walk before (c ∷ cs) is ended out t next =
-      let both : (k : Bool) → ltb (picks_of c.thread.0 (turns_of before)) (done c.thread.0) ≡ k → cond k (next_turn done (turns_of before ++ c.thread.0 ∷ []) (turns_of cs)) (Some c.thread.0) ≡ Some t → stepped (rules input) w t ≡ step.Moved =
-      λ k. elim k as (λ b. ltb (picks_of c.thread.0 (turns_of before)) (done c.thread.0) ≡ b → cond b (next_turn done (turns_of before ++ c.thread.0 ∷ []) (turns_of cs)) (Some c.thread.0) ≡ Some t → stepped (rules input) w t ≡ step.Moved) [
-        | true ↦ λ test go.
-            let early : picks_of c.thread.0 (turns_of before) < done c.thread.0 = ltb-true (picks_of c.thread.0 (turns_of before)) (done c.thread.0) test in
-            walk (before ++ c ∷ []) cs (is ∙ sym (append_snoc before c cs))
-            (λ u. subst (λ us. picks_of u us ≤ done u) (sym (turns-push before c))
-            (elim (cases_eq c.thread.0 u) [
-              | inl same ↦ subst (λ v. picks_of v (turns_of before ++ c.thread.0 ∷ []) ≤ done v) same (omega (arith, picks-push_same c.thread.0 (turns_of before), early))
-              | inr apart ↦ omega (arith, picks-push_other u c.thread.0 (turns_of before) apart, ended u)
-            ]))
-            (λ x some. elim (cases_lt 0 (got_in x before)) [
-              | inl old ↦ out x old
-              | inr none ↦ out_more before c cs is early x c.planned.call refl (omega (arith, some, none, got_push x before c))
-            ])
-            t (ap (λ us. next_turn done us (turns_of cs)) (turns-push before c) ∙ go)
-        | false ↦ λ test go.
-            let e : c.thread.0 ≡ t = cc in
-            subst (λ u. stepped (rules input) w u ≡ step.Moved) e (here before c cs is ended out (ltb-false (picks_of c.thread.0 (turns_of before)) (done c.thread.0) test))
-      ]
-      in
-      both (ltb (picks_of c.thread.0 (turns_of before)) (done c.thread.0)) refl next
+    -- the labels that an ended call allocated are out
+    out_more : (before : List ThreadCall) (c : ThreadCall) (after : List ThreadCall) → input.asked.calls ≡ before ++ c ∷ after → picks_of c.thread.0 (turns_of before) < done c.thread.0 → (x : ℕ) → (call : Call) → c.planned.call ≡ call → 0 < got x call → is_out (state_of p.names x) ≡ true
+    out_more before c after is early x (Malloc label size) call some =
+        let h = finds before c after is in
+        let e : label.0 ≡ x = eqb-true label.0 x (bit_is (eqb label.0 x) (omega arith)) in
+        subst (λ y. is_out (state_of p.names y) ≡ true) e (h.in_script.out (picks_of c.thread.0 (turns_of before)) label size (omega (arith, early, h.ended)) (h.at ∙ ap (λ k. Some k) call))
+    out_more before c after is early x (Free label) call some = absurd (omega arith)
+    out_more before c after is early x (Release pages) call some = absurd (omega arith)
+    out_more before c after is early x (Drain cpu) call some = absurd (omega arith)
+    out_more before c after is early x (Resize cpu class cap) call some = absurd (omega arith)
 
-  -- In every such state the thread of the earliest call that hasn't ended moves.
-  pub serial_goes : (t : ℕ) → next_turn done [] (turns input) ≡ Some t → stepped (rules input) w t ≡ step.Moved
-  serial_goes t next = walk [] input.asked.calls refl (λ u. omega arith) (λ x some. absurd (omega arith)) t next
+    walk : (before cs : List ThreadCall) → input.asked.calls ≡ before ++ cs → ((u : ℕ) → picks_of u (turns_of before) ≤ done u) → ((x : ℕ) → 0 < got_in x before → is_out (state_of p.names x) ≡ true) → (t : ℕ) → next_turn done (turns_of before) (turns_of cs) ≡ Some t → stepped (rules input) w t ≡ step.Moved
+    walk before [] is ended out t next = absurd (cc)
+    walk before (c ∷ cs) is ended out t next =
+        let both : (k : Bool) → ltb (picks_of c.thread.0 (turns_of before)) (done c.thread.0) ≡ k → cond k (next_turn done (turns_of before ++ c.thread.0 ∷ []) (turns_of cs)) (Some c.thread.0) ≡ Some t → stepped (rules input) w t ≡ step.Moved =
+        λ k. elim k as (λ b. ltb (picks_of c.thread.0 (turns_of before)) (done c.thread.0) ≡ b → cond b (next_turn done (turns_of before ++ c.thread.0 ∷ []) (turns_of cs)) (Some c.thread.0) ≡ Some t → stepped (rules input) w t ≡ step.Moved) [
+          | true ↦ λ test go.
+              let early : picks_of c.thread.0 (turns_of before) < done c.thread.0 = ltb-true (picks_of c.thread.0 (turns_of before)) (done c.thread.0) test in
+              walk (before ++ c ∷ []) cs (is ∙ sym (append_snoc before c cs))
+              (λ u. subst (λ us. picks_of u us ≤ done u) (sym (turns-push before c))
+              (elim (cases_eq c.thread.0 u) [
+                | inl same ↦ subst (λ v. picks_of v (turns_of before ++ c.thread.0 ∷ []) ≤ done v) same (omega (arith, picks-push_same c.thread.0 (turns_of before), early))
+                | inr apart ↦ omega (arith, picks-push_other u c.thread.0 (turns_of before) apart, ended u)
+              ]))
+              (λ x some. elim (cases_lt 0 (got_in x before)) [
+                | inl old ↦ out x old
+                | inr none ↦ out_more before c cs is early x c.planned.call refl (omega (arith, some, none, got-push x before c))
+              ])
+              t (ap (λ us. next_turn done us (turns_of cs)) (turns-push before c) ∙ go)
+          | false ↦ λ test go.
+              let e : c.thread.0 ≡ t = cc in
+              subst (λ u. stepped (rules input) w u ≡ step.Moved) e (here before c cs is ended out (ltb-false (picks_of c.thread.0 (turns_of before)) (done c.thread.0) test))
+        ]
+        in
+        both (ltb (picks_of c.thread.0 (turns_of before)) (done c.thread.0)) refl next
+
+    -- In every such world the thread of the earliest call that hasn't ended moves.
+    pub serial_goes : (t : ℕ) → next_turn done [] (turns input) ≡ Some t → stepped (rules input) w t ≡ step.Moved
+    serial_goes t next = walk [] input.asked.calls refl (λ u. omega arith) (λ x some. absurd (omega arith)) t next

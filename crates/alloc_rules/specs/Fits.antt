@@ -1,19 +1,21 @@
 -- The part is the one that the next act is on, and fits it; and the thread has done few acts.
-use Rattle.std.specs.Prelude.{◌≤◌}
+use Rattle.std.specs.Prelude.{◌≤◌, List}
+use Rattle.tc_units.specs.declared.spans.ClassRow.{ClassRow}
 use Rattle.tc_model.specs.declared.machine.TheConstants.{MOST_PICKS}
-use Rattle.call_steps.specs.declared.step.Step.{Step}
-use Rattle.call_steps.specs.declared.step.Step.TheVariants as does
 use Rattle.call_steps.specs.Local.{Local}
-use Rattle.call_steps.specs.Fits.{FitsHeap, FitsMap, FitsNames}
+use Rattle.call_steps.specs.Fits.{FitsCpuStep, FitsShardStep, FitsHeapStep, FitsMapStep, FitsNamesStep, FitsDomainStep}
 use Rattle.alloc_rules.specs.declared.part.Part.{Part}
-use Rattle.alloc_rules.specs.declared.part.Part.TheVariants.{Heap, Map, Names}
+use Rattle.alloc_rules.specs.declared.part.Part.TheVariants.{Cpu, Shard, Heap, Map, Names, Domain}
 
-abbrev pub fits_step : Part → Step → Type 0
-fits_step (Heap heap) (does.Heap row) = FitsHeap heap row
-fits_step (Map map) (does.Map row) = FitsMap map row
-fits_step (Names names) (does.Names row) = FitsNames names row
-fits_step part step = ⊥
+abbrev pub fits_step : List ClassRow → Part → Local → Type 0
+fits_step rows (Cpu p) l = FitsCpuStep rows p l l.step
+fits_step rows (Shard s) l = FitsShardStep rows s l l.step
+fits_step rows (Heap heap) l = FitsHeapStep rows heap l l.step
+fits_step rows (Map map) l = FitsMapStep map l l.step
+fits_step rows (Names names) l = FitsNamesStep names l.step
+fits_step rows (Domain t) l = FitsDomainStep rows t l l.step
 
-pub record Fits (part : Part) (l : Local) : Type 0 where
-  pub step : fits_step part l.step
+pub record Fits (rows : List ClassRow) (part : Part) (l : Local) : Type 0 where
+  pub step : fits_step rows part l
   pub few : l.acts ≤ MOST_PICKS
+  pub ran : l.regs.ran ≤ MOST_PICKS

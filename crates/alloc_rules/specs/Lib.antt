@@ -1,10 +1,8 @@
-pub mod Apart
-pub mod Fits
-pub mod Kept
-pub mod Law
 pub mod Machine
-pub mod Rows
-pub mod Scripts
-pub mod State
+pub mod Fits
+pub mod Accounts
+pub mod Stocks
+pub mod Acts
 pub mod Valid
-pub mod Weights
+pub mod Law
+pub mod Scripts

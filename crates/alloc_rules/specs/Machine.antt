@@ -1,6 +1,7 @@
 -- The allocator as a machine: its parts by their numbers, its start, and its acts.
-use Rattle.std.specs.Prelude.{ℕ, ◌%◌, Bool, true, false, List, [], ◌∷◌, map, replicate, Option, Some, None}
-use Rattle.std.specs.List.{range_with_len}
+use Rattle.std.specs.Prelude.{ℕ, ◌+◌, ◌*◌, ◌%◌, Bool, true, false, List, [], ◌∷◌, ◌++◌, length, map, replicate, Option, None, option_map}
+use Rattle.std.specs.List.{range_with_len, flat_map}
+use Rattle.tc_units.specs.declared.spans.ClassRow.{ClassRow}
 use Rattle.tc_model.specs.declared.config.Config.{Config}
 use Rattle.tc_model.specs.declared.machine.PartNo.{PartNo}
 use Rattle.tc_model.specs.Input.{Input, ThreadCall, script_of, labels_of}
@@ -10,70 +11,124 @@ use Rattle.name_table.specs.declared.table.NameState.{NameState}
 use Rattle.name_table.specs.declared.table.NameState.TheVariants as name
 use Rattle.heap_rules.specs.declared.config.HeapConfig.{HeapConfig}
 use Rattle.heap_rules.specs.Heap as heaps
-use Rattle.call_steps.specs.declared.step.Step.{Step}
-use Rattle.call_steps.specs.declared.step.Step.TheVariants as does
-use Rattle.call_steps.specs.Local.{Local}
-use Rattle.call_steps.specs.Acts.{heap_after, map_after, names_after, waits_for}
+use Rattle.cpu_slab.specs.Slots as slots
+use Rattle.rseq_core.specs.declared.cpu_part.CpuPart.{CpuPart}
+use Rattle.transfer_cache.specs.Transfer.{Transfer}
+use Rattle.class_shard.specs.Shard.{Shard}
+use Rattle.call_steps.specs.declared.step.Target.{Target}
+use Rattle.call_steps.specs.declared.step.Target.TheVariants as target
+use Rattle.call_steps.specs.Local.{Local, first_local}
+use Rattle.call_steps.specs.Kept.{target_of}
+use Rattle.call_steps.specs.CpuActs.{yields_for}
+use Rattle.call_steps.specs.Acts.{cpu_after, shard_after, heap_after, map_after, names_after, domain_after, waits_for}
 use Rattle.alloc_rules.specs.declared.part.Part.{Part}
-use Rattle.alloc_rules.specs.declared.part.Part.TheVariants.{Heap, Map, Names}
-use Rattle.alloc_rules.specs.State.{Thread, Setup, first_of}
+use Rattle.alloc_rules.specs.declared.part.Part.TheVariants.{Cpu, Shard as OfClass, Heap, Map, Names, Domain}
 
--- all parts by their types, and in the order of their numbers
+-- all parts by their types: the CPUs, the shards by classes, the heap, the map, the names, and for each domain its caches by classes
 pub record Parts : Type 0 where
+  pub cpus : List CpuPart
+  pub shards : List Shard
   pub heap : heaps.Heap
   pub map : SpanMap
   pub names : List NameState
+  pub domains : List (List Transfer)
+
+-- in the order of their numbers
+abbrev pub middle_of : Parts → List Part
+middle_of p = Heap p.heap ∷ Map p.map ∷ Names p.names ∷ []
+
+abbrev pub caches_of : List (List Transfer) → List Part
+caches_of domains = flat_map (map Domain) domains
 
 abbrev pub parts_of : Parts → List Part
-parts_of p = Heap p.heap ∷ Map p.map ∷ Names p.names ∷ []
+parts_of p = map Cpu p.cpus ++ (map OfClass p.shards ++ (middle_of p ++ caches_of p.domains))
 
+-- the number of a part that an act is on, where there are so many CPUs and classes
 abbrev pub number : ℕ → PartNo
 number i = record { 0 = i }
 
--- the part that an act is on
-abbrev pub place_of : Step → Option PartNo
-place_of (does.Heap row) = Some (number 0)
-place_of (does.Map row) = Some (number 1)
-place_of (does.Names row) = Some (number 2)
-place_of does.Ended = None
+abbrev pub number_of : ℕ → ℕ → Target → PartNo
+number_of cpus classes (target.Cpu c) = number c.0
+number_of cpus classes (target.Shard k) = number (cpus + k.0)
+number_of cpus classes target.Heap = number (cpus + classes)
+number_of cpus classes target.Map = number (cpus + classes + 1)
+number_of cpus classes target.Names = number (cpus + classes + 2)
+number_of cpus classes (target.Domain d k) = number (cpus + classes + 3 + d * classes + k.0)
 
--- the pair that an act leaves, and whether it waits
-abbrev pub after : Part → Local → Part × Local
-after (Heap heap) l = (Heap (heap_after heap l l.step).0, (heap_after heap l l.step).1)
-after (Map map) l = (Map (map_after map l l.step).0, (map_after map l l.step).1)
-after (Names names) l = (Names (names_after names l l.step).0, (names_after names l l.step).1)
+abbrev pub place_of : ℕ → ℕ → Local → Option PartNo
+place_of cpus classes l = option_map (number_of cpus classes) (target_of l)
+
+-- the pair that an act leaves, whether it waits, and whether it is polite
+abbrev pub after : List ClassRow → Part → Local → Part × Local
+after rows (Cpu p) l = (Cpu (cpu_after rows p l l.step).0, (cpu_after rows p l l.step).1)
+after rows (OfClass s) l = (OfClass (shard_after rows s l l.step).0, (shard_after rows s l l.step).1)
+after rows (Heap heap) l = (Heap (heap_after rows heap l l.step).0, (heap_after rows heap l l.step).1)
+after rows (Map m) l = (Map (map_after m l l.step).0, (map_after m l l.step).1)
+after rows (Names names) l = (Names (names_after rows names l l.step).0, (names_after rows names l l.step).1)
+after rows (Domain t) l = (Domain (domain_after rows t l l.step).0, (domain_after rows t l l.step).1)
 
 abbrev pub waits : Part → Local → Bool
-waits (Heap heap) l = false
-waits (Map map) l = false
 waits (Names names) l = waits_for names l.step
+waits other l = false
+
+abbrev pub yields : Part → Local → Bool
+yields (Cpu p) l = yields_for p l l.step
+yields other l = true
 
 -- the limits of the heap of a trace
 abbrev pub heap_config : Config → HeapConfig
 heap_config config = record { huge = config.huge; cache = config.cache; region = config.region; slack = config.slack; window = config.window }
 
 -- a thread of an input: thread t starts at CPU t mod cpus
-abbrev pub thread_of : Input → ℕ → Thread
-thread_of input t = record { number = record { 0 = t }; cpu = record { 0 = t % input.asked.config.cpus }; script = script_of t input.asked.calls }
-
-abbrev pub setup_of : Input → Setup
-setup_of input = record { huge = input.asked.config.huge; labels = labels_of input.asked; rows = input.rows; threads = map (thread_of input) (range_with_len 0 input.asked.config.threads) }
+abbrev pub first_of : Input → ℕ → Local
+first_of input t = first_local input.rows (record { 0 = t }) (record { 0 = t % input.asked.config.cpus }) (script_of t input.asked.calls) input.asked.config.domains
 
 -- the parts at the start
+abbrev pub first_cpu : Input → CpuPart
+first_cpu input =
+    record {
+      running = None;
+      epoch = 0;
+      is_open = false;
+      ran = 0;
+      stopper = None;
+      fenced = false;
+      slab = slots.opened input.rows input.asked.config.slab input.asked.config.percpu;
+    }
+
+abbrev pub first_shard : ℕ → ℕ → ClassRow → Shard
+first_shard room k row = record { class = record { 0 = k }; transfer = record { objects = []; room = room }; central = record { row = row; spans = [] } }
+
+-- the shards of these rows, which are those of classes from k on
+abbrev pub first_shards : ℕ → ℕ → List ClassRow → List Shard
+first_shards room k [] = []
+first_shards room k (row ∷ rows) = first_shard room k row ∷ first_shards room (k + 1) rows
+
+abbrev pub first_caches : Input → List Transfer
+first_caches input = replicate (length input.rows) (record { objects = []; room = input.asked.config.transfer })
+
 abbrev pub first_parts : Input → Parts
-first_parts input = record { heap = heaps.opened (heap_config input.asked.config); map = record { huge = input.asked.config.huge; spans = [] }; names = replicate (labels_of input.asked) name.Unpublished }
+first_parts input =
+    record {
+      cpus = replicate input.asked.config.cpus (first_cpu input);
+      shards = first_shards input.asked.config.transfer 0 input.rows;
+      heap = heaps.opened (heap_config input.asked.config);
+      map = record { huge = input.asked.config.huge; spans = [] };
+      names = replicate (labels_of input.asked) name.Unpublished;
+      domains = replicate input.asked.config.domains (first_caches input);
+    }
 
 -- the allocator's rules
 abbrev pub rules : Input → Rules Part Local
 rules input =
     record {
       parts = parts_of (first_parts input);
-      locals = map first_of (setup_of input).threads;
-      want = λ l. place_of l.step;
+      locals = map (first_of input) (range_with_len 0 input.asked.config.threads);
+      want = place_of input.asked.config.cpus (length input.rows);
       done = λ l. l.ended;
       waits = waits;
-      yields = λ p l. true;
-      after = after;
+      yields = yields;
+      after = after input.rows;
     }
 
 -- the threads of the calls, in trace order

@@ -1,42 +1,49 @@
--- Where a local is in its script, and that its decided calls are the first ones of it.
-use Rattle.std.specs.Prelude.{◌≡◌, ℕ, ◌+◌, ◌<◌, true, List, length, Option, Some, None, slice_get}
+-- Where a local is in its script, that its decided calls are the first ones of it, and how an act goes on in it.
+use Rattle.std.specs.Prelude.{◌≡◌, ℕ, ◌+◌, ◌<◌, ◌⊎◌, Bool, true, false, List, [], ◌∷◌, ◌++◌, length, drop, Some, None, is_some, slice_get}
 use Rattle.tc_units.specs.declared.units.Label.{Label}
+use Rattle.tc_units.specs.declared.spans.ClassRow.{ClassRow}
 use Rattle.tc_model.specs.declared.calls.Call.{Call}
-use Rattle.tc_model.specs.declared.calls.Call.TheVariants.{Malloc, Free, Release}
+use Rattle.tc_model.specs.declared.calls.Call.TheVariants.{Malloc}
 use Rattle.tc_model.specs.declared.calls.Planned.{Planned}
 use Rattle.name_table.specs.declared.table.NameState.{NameState}
 use Rattle.name_table.specs.Names.{state_of}
-use Rattle.call_steps.specs.declared.step.HeapStep.TheVariants.{New, GiveBack, Unback}
-use Rattle.call_steps.specs.declared.step.MapStep.TheVariants.{Set, Lookup, Clear}
-use Rattle.call_steps.specs.declared.step.NamesStep.TheVariants.{Publish, Take}
+use Rattle.holdings.specs.Accounts.{asking, publishing, is_out}
 use Rattle.call_steps.specs.declared.step.Step.{Step}
 use Rattle.call_steps.specs.declared.step.Step.TheVariants as does
-use Rattle.call_steps.specs.Local.{Local, Decided, under}
-use Rattle.call_steps.specs.Kept.{call_at}
-use Rattle.alloc_rules.specs.State.{State, Setup, Thread}
-use Rattle.alloc_rules.specs.Weights.{is_out}
+use Rattle.call_steps.specs.Local.{Local, Decided, first_act}
+use Rattle.call_steps.specs.Calls.{undecided, under}
+use Rattle.call_steps.specs.Kept.{call_at, HasDomain}
+use Rattle.alloc_rules.specs.Accounts.{doing_of}
 
--- the step is one of this call, or the script has ended
-abbrev pub IsOfCall : Step → Option Call → Type 0
-IsOfCall (does.Heap (New label size)) call = call ≡ Some (Malloc label size)
-IsOfCall (does.Map (Set label r)) call = (size : ℕ) × (call ≡ Some (Malloc label size))
-IsOfCall (does.Names (Publish label value)) call = (size : ℕ) × (call ≡ Some (Malloc label size))
-IsOfCall (does.Names (Take label)) call = call ≡ Some (Free label)
-IsOfCall (does.Map (Lookup label a)) call = call ≡ Some (Free label)
-IsOfCall (does.Map (Clear label r)) call = call ≡ Some (Free label)
-IsOfCall (does.Heap (GiveBack label r)) call = call ≡ Some (Free label)
-IsOfCall (does.Heap (Unback pages)) call = call ≡ Some (Release pages)
-IsOfCall does.Ended call = call ≡ None
+-- whether a call is under way
+abbrev pub is_under_way : Step → Bool
+is_under_way does.Ended = false
+is_under_way other = true
 
--- A local is at the call of its script that its number of ended calls says; the labels that ended calls allocated are
--- out; and each call is decided once, in the script's order.
+-- A local is at the call of its script that its number of ended calls says; the labels that ended calls allocated are out,
+-- and so is that of the allocation under way, unless it is still to be published; and each call is decided once, in the
+-- script's order.
 pub record IsIn (names : List NameState) (script : List Planned) (l : Local) : Type 0 where
   pub rest : (j : ℕ) → slice_get l.rest j ≡ slice_get script (l.ended + 1 + j)
-  pub call : IsOfCall l.step (call_at script l.ended)
+  pub call : (c : Call) → undecided l.step ≡ Some c → call_at script l.ended ≡ Some c
+  pub some : is_under_way l.step ≡ true → is_some (call_at script l.ended) ≡ true
+  pub none : is_under_way l.step ≡ false → call_at script l.ended ≡ None
   pub out : (j : ℕ) (label : Label) (size : ℕ) → j < l.ended → call_at script j ≡ Some (Malloc label size) → is_out (state_of names label.0) ≡ true
+  pub now : (label : Label) (size : ℕ) → call_at script l.ended ≡ Some (Malloc label size) → (is_out (state_of names label.0) ≡ true) ⊎ (0 < asking label.0 (doing_of l.step) + publishing label.0 (doing_of l.step))
   pub count : length l.answers ≡ l.ended + under l.step
   pub decided : (j : ℕ) (d : Decided) → slice_get l.answers j ≡ Some d → call_at script j ≡ Some d.call
 
-pub record AreIn (m : Setup) (s : State) : Type 0 where
-  pub count : length s.locals ≡ length m.threads
-  pub each : (t : ℕ) (l : Local) (th : Thread) → slice_get s.locals t ≡ Some l → slice_get m.threads t ≡ Some th → IsIn s.names th.script l
+-- An act within a call decides nothing, or the call under way; one that ends it does so too, or it was decided before.
+abbrev pub GoesOn : Step → Step → List Decided → Type 0
+GoesOn s next [] = (undecided next ≡ undecided s) × (under next ≡ under s)
+GoesOn s next (d ∷ []) = (undecided s ≡ Some d.call) × (undecided next ≡ None) × (under next ≡ 1)
+GoesOn s next (d ∷ e ∷ more) = ⊥
+
+abbrev pub Closes : Step → List Decided → Type 0
+Closes s [] = (under s ≡ 1) × (undecided s ≡ None)
+Closes s (d ∷ []) = undecided s ≡ Some d.call
+Closes s (d ∷ e ∷ more) = ⊥
+
+pub data Path (rows : List ClassRow) (l after : Local) : Type 0 where
+  Stays : (new : List Decided) → after.answers ≡ l.answers ++ new → after.domains ≡ l.domains → after.ended ≡ l.ended → after.rest ≡ l.rest → is_under_way after.step ≡ true → HasDomain after.step after.domains → GoesOn l.step after.step new → Path rows l after
+  Comes : (new : List Decided) → after.answers ≡ l.answers ++ new → after.domains ≡ l.domains → after.ended ≡ l.ended + 1 → after.rest ≡ drop 1 l.rest → after.step ≡ first_act rows (slice_get l.rest 0) → Closes l.step new → Path rows l after

@@ -1,52 +1,70 @@
 -- How a script goes on behind a call, and which calls its answers decide.
-use Rattle.std.proofs.Common.{◌≡◌, refl, ℕ, zero, suc, List, [], ◌∷◌, ◌++◌, length, drop, ap, sym, subst, arith, map, ◌+◌, ◌<◌, ◌≤◌, ◌∙◌, true}
-use Rattle.std.specs.Prelude.{Option, Some, is_some, slice_get, unwrap_or}
+use Rattle.std.proofs.Common.{◌≡◌, refl, ℕ, zero, suc, List, [], ◌∷◌, ◌++◌, length, drop, ap, sym, subst, arith, map, ◌+◌, ◌<◌, ◌≤◌, ◌^◌, ◌∙◌, true}
+use Rattle.std.specs.Prelude.{Option, Some, None, is_some, option_map, slice_get}
+use Rattle.std.proofs.lemmas.List.{drop_all}
 use Rattle.tc_units.specs.Bag.{Contents}
+use Rattle.tc_units.specs.Classes.{class_of}
+use Rattle.tc_units.specs.declared.units.Class.{Class}
+use Rattle.tc_units.specs.declared.units.Label.{Label}
+use Rattle.tc_units.specs.declared.spans.ClassRow.{ClassRow}
 use Rattle.tc_model.specs.declared.answers.Answered.{Answered}
 use Rattle.tc_model.specs.declared.calls.Call.{Call}
 use Rattle.tc_model.specs.declared.calls.Call.TheVariants.{Malloc, Free, Release, Drain, Resize}
 use Rattle.tc_model.specs.declared.calls.Planned.{Planned}
-use Rattle.tc_units.specs.declared.units.ThreadNo.{ThreadNo}
-use Rattle.tc_units.specs.declared.units.CpuNo.{CpuNo}
-use Rattle.tc_units.specs.declared.units.Label.{Label}
-use Rattle.call_steps.specs.Local.{Local, Decided, first_of_call, first_step, others, under, asked_by, ended_by, ends}
-use Rattle.call_steps.specs.declared.step.HeapStep.TheVariants.{New, GiveBack, Unback}
-use Rattle.call_steps.specs.declared.step.MapStep.TheVariants.{Set, Lookup, Clear}
-use Rattle.call_steps.specs.declared.step.NamesStep.TheVariants.{Publish, Take}
+use Rattle.call_steps.specs.Local.{Local, Decided, first_of_malloc, first_of_call, first_act}
+use Rattle.call_steps.specs.Calls.{undecided, under, without_call, IsOf}
 use Rattle.call_steps.specs.declared.step.Step.{Step}
 use Rattle.call_steps.specs.declared.step.Step.TheVariants as does
-use Rattle.call_steps.specs.Kept.{decided_by, call_at, IsOf, IsKept, local_of}
+use Rattle.call_steps.specs.Kept.{decided_by, call_at, HasDomain, IsKept}
 
-pub others_drop : (script : List Planned) (n : ℕ) → others (drop n script) ≡ drop (suc n) script
-others_drop [] zero = refl
-others_drop [] (suc n) = refl
-others_drop (p ∷ ps) zero = refl
-others_drop (p ∷ ps) (suc n) = others_drop ps n
+without : (o : Option Call) → is_some o ≡ true → without_call o ≡ 0
+without None is = absurd (cc)
+without (Some call) is = refl
+
+-- a call that isn't decided isn't counted as one that is
+pub undecided_under : (s : Step) → is_some (undecided s) ≡ true → under s ≡ 0
+undecided_under (does.Cpu row) is = without (undecided (does.Cpu row)) is
+undecided_under (does.Shard row) is = without (undecided (does.Shard row)) is
+undecided_under (does.Heap row) is = without (undecided (does.Heap row)) is
+undecided_under (does.Map row) is = without (undecided (does.Map row)) is
+undecided_under (does.Names row) is = without (undecided (does.Names row)) is
+undecided_under (does.Domain row) is = without (undecided (does.Domain row)) is
+undecided_under does.Ended is = absurd (cc)
 
 -- the first act of a call is of that call, and decides nothing before it is done
-of_call : (c : Call) → IsOf (first_of_call c) (Some c)
-of_call (Malloc label size) = refl
-of_call (Free label) = refl
-of_call (Release pages) = refl
-of_call (Drain cpu) = tt
-of_call (Resize cpu class n) = tt
+of_malloc : (k : Option Class) (label : Label) (size : ℕ) → undecided (first_of_malloc k label size) ≡ Some (Malloc label size)
+of_malloc None label size = refl
+of_malloc (Some k) label size = refl
 
-call_under : (c : Call) → under (first_of_call c) ≡ 0
-call_under (Malloc label size) = refl
-call_under (Free label) = refl
-call_under (Release pages) = refl
-call_under (Drain cpu) = refl
-call_under (Resize cpu class n) = refl
+of_call : (rows : List ClassRow) (c : Call) → undecided (first_of_call rows c) ≡ Some c
+of_call rows (Malloc label size) = of_malloc (class_of rows size) label size
+of_call rows (Free label) = refl
+of_call rows (Release pages) = refl
+of_call rows (Drain cpu) = refl
+of_call rows (Resize cpu class cap) = refl
 
-pub first_is_of : (script : List Planned) (n : ℕ) → IsOf (first_step (drop n script)) (call_at script n)
-first_is_of [] zero = tt
-first_is_of [] (suc n) = tt
-first_is_of (p ∷ ps) zero = of_call p.call
-first_is_of (p ∷ ps) (suc n) = first_is_of ps n
+pub first_is_of : (rows : List ClassRow) (o : Option Planned) → IsOf (first_act rows o) (option_map (λ (p : Planned). p.call) o)
+first_is_of rows None = λ c is. absurd (cc)
+first_is_of rows (Some p) = λ c is. sym (of_call rows p.call) ∙ is
 
-pub first_under : (script : List Planned) → under (first_step script) ≡ 0
-first_under [] = refl
-first_under (p ∷ ps) = call_under p.call
+pub first_under : (rows : List ClassRow) (o : Option Planned) → under (first_act rows o) ≡ 0
+first_under rows None = refl
+first_under rows (Some p) = undecided_under (first_of_call rows p.call) (ap is_some (of_call rows p.call))
+
+domain_malloc : (k : Option Class) (label : Label) (size n : ℕ) → HasDomain (first_of_malloc k label size) n
+domain_malloc None label size n = tt
+domain_malloc (Some k) label size n = tt
+
+domain_call : (rows : List ClassRow) (c : Call) (n : ℕ) → HasDomain (first_of_call rows c) n
+domain_call rows (Malloc label size) n = domain_malloc (class_of rows size) label size n
+domain_call rows (Free label) n = tt
+domain_call rows (Release pages) n = tt
+domain_call rows (Drain cpu) n = tt
+domain_call rows (Resize cpu class cap) n = tt
+
+pub first_domain : (rows : List ClassRow) (o : Option Planned) (n : ℕ) → HasDomain (first_act rows o) n
+first_domain rows None n = tt
+first_domain rows (Some p) n = domain_call rows p.call n
 
 -- one answer more decides the call behind those that were answered
 pub decided_more : (script : List Planned) (answers : List Answered) (a : Answered) (call : Call) → call_at script (length answers) ≡ Some call → decided_by script (answers ++ a ∷ []) ≡ decided_by script answers ++ record { act = a.act; call = call; answer = a.answer } ∷ []
@@ -55,64 +73,17 @@ decided_more [] (b ∷ bs) a call at = absurd (cc)
 decided_more (p ∷ ps) [] a call at = cc
 decided_more (p ∷ ps) (b ∷ bs) a call at = ap (λ ds. record { act = b.act; call = p.call; answer = b.answer } ∷ ds) (decided_more ps bs a call at)
 
--- what the code keeps, once the call under way has ended with its answer
-pub kept_behind : (script : List Planned) (place : ℕ) (now next : Step) (answers after : Contents Answered) → IsKept script place now answers → length after.items ≡ place + 1 → length after.items + after.spare ≡ length script → next ≡ first_step (drop (place + 1) script) → IsKept script (place + 1) next after
-kept_behind script place now next answers after kept count room is =
+-- what the code keeps, once the thread has come to a call
+pub kept_at : (rows : List ClassRow) (script : List Planned) (place : ℕ) (next : Step) (answers : Contents Answered) (domains : ℕ) → place ≤ length script → length script < 2 ^ 64 → length answers.items ≡ place → length answers.items + answers.spare ≡ length script → next ≡ first_act rows (slice_get script place) → IsKept script place next answers domains
+kept_at rows script place next answers domains within few count room is =
     record {
-      within = omega (arith, count, room);
-      few = kept.few;
-      count = omega (arith, count, ap under is, first_under (drop (place + 1) script));
+      within = within;
+      few = few;
+      count = omega (arith, count, ap under is, first_under rows (slice_get script place));
       room = room;
-      call = subst (λ s. IsOf s (call_at script (place + 1))) (sym is) (first_is_of script (place + 1));
+      call = subst (λ s. IsOf s (call_at script place)) (sym is) (first_is_of rows (slice_get script place));
+      domain = subst (λ s. HasDomain s domains) (sym is) (first_domain rows (slice_get script place) domains);
     }
-
--- the local that is meant then
-pub ended_is : (thread : ThreadNo) (cpu : CpuNo) (script : List Planned) (place : ℕ) (now next : Step) (acts : ℕ) (answers after : List Answered) (new : List Decided) → next ≡ first_step (drop (place + 1) script) → decided_by script after ≡ decided_by script answers ++ new → local_of thread cpu script (place + 1) next (acts + 1) after ≡ ends (local_of thread cpu script place now acts answers) new
-ended_is thread cpu script place now next acts answers after new is decided =
-    let made : Step → List Planned → List Decided → Local = λ s rest ds. record { thread = thread; cpu = cpu; step = s; rest = rest; ended = place + 1; acts = acts + 1; answers = ds } in
-    let rest : drop (place + 1 + 1) script ≡ others (drop (place + 1) script) = ap (λ n. drop n script) (let e : place + 1 + 1 ≡ suc (place + 1) = omega arith in e) ∙ sym (others_drop script (place + 1)) in
-    ap (λ s. made s (drop (place + 1 + 1) script) (decided_by script after)) is
-    ∙ (ap (λ r. made (first_step (drop (place + 1) script)) r (decided_by script after)) rest
-    ∙ ap (λ ds. made (first_step (drop (place + 1) script)) (others (drop (place + 1) script)) ds) decided)
-
--- a step that asks is of the allocation that it decides, which isn't decided yet
-pub asked_call : (s : Step) (label : Label) (size : ℕ) (call : Option Call) → asked_by s ≡ Some (label, size) → IsOf s call → call ≡ Some (Malloc label size)
-asked_call (does.Heap (New l n)) label size call is of =
-    let same : l ≡ label = ap (λ (o : Option (Label × ℕ)). (unwrap_or {T = Label × ℕ} o (label, size)).0) is in
-    let bytes : n ≡ size = ap (λ (o : Option (Label × ℕ)). (unwrap_or {T = Label × ℕ} o (label, size)).1) is in
-    cc
-asked_call (does.Heap (GiveBack l run)) label size call is of = absurd (cc)
-asked_call (does.Heap (Unback pages)) label size call is of = absurd (cc)
-asked_call (does.Map row) label size call is of = absurd (cc)
-asked_call (does.Names row) label size call is of = absurd (cc)
-asked_call does.Ended label size call is of = absurd (cc)
-
-pub asked_under : (s : Step) (label : Label) (size : ℕ) → asked_by s ≡ Some (label, size) → under s ≡ 0
-asked_under (does.Heap row) label size is = refl
-asked_under (does.Map row) label size is = absurd (cc)
-asked_under (does.Names row) label size is = absurd (cc)
-asked_under does.Ended label size is = refl
-
--- a step of a free or a release is of that call, which isn't decided yet
-pub ended_call : (s : Step) (c : Call) (call : Option Call) → ended_by s ≡ Some c → IsOf s call → call ≡ Some c
-ended_call (does.Heap (New l size)) c call is of = absurd (cc)
-ended_call (does.Heap (GiveBack l run)) c call is of = of ∙ is
-ended_call (does.Heap (Unback pages)) c call is of = of ∙ is
-ended_call (does.Map (Set l run)) c call is of = absurd (cc)
-ended_call (does.Map (Lookup l addr)) c call is of = of ∙ is
-ended_call (does.Map (Clear l run)) c call is of = of ∙ is
-ended_call (does.Names (Publish l value)) c call is of = absurd (cc)
-ended_call (does.Names (Take l)) c call is of = of ∙ is
-ended_call does.Ended c call is of = absurd (cc)
-
-pub ended_under : (s : Step) → is_some (ended_by s) ≡ true → under s ≡ 0
-ended_under (does.Heap row) is = refl
-ended_under (does.Map (Set l run)) is = absurd (cc)
-ended_under (does.Map (Lookup l addr)) is = refl
-ended_under (does.Map (Clear l run)) is = refl
-ended_under (does.Names (Publish l value)) is = absurd (cc)
-ended_under (does.Names (Take l)) is = refl
-ended_under does.Ended is = refl
 
 -- the decided calls are told by the answers and the script
 pub acts_told : (script : List Planned) (answers : List Answered) → length answers ≤ length script → map (λ (a : Answered). a.act) answers ≡ map (λ (d : Decided). d.act) (decided_by script answers)
@@ -138,3 +109,15 @@ decided_length (p ∷ ps) (a ∷ as') few = ap (λ n. suc n) (decided_length ps 
 
 pub answered_within : (script : List Planned) (answers : List Answered) (meant : List Decided) (i : ℕ) → length answers ≤ length script → decided_by script answers ≡ meant → i < length meant → i < length answers
 answered_within script answers meant i few is within = omega (arith, within, ap length is, decided_length script answers few)
+
+-- the first of what is left behind n calls, and what is left behind that
+pub first_left : (script : List Planned) (n : ℕ) → slice_get script n ≡ slice_get (drop n script) 0
+first_left [] zero = refl
+first_left [] (suc n) = refl
+first_left (p ∷ ps) zero = refl
+first_left (p ∷ ps) (suc n) = first_left ps n
+
+pub left_behind : (script : List Planned) (n : ℕ) → drop (n + 1) script ≡ drop 1 (drop n script)
+left_behind [] n = drop_all (n + 1) [] (omega arith) ∙ sym (ap (drop 1) (drop_all n [] (omega arith)))
+left_behind (p ∷ ps) zero = refl
+left_behind (p ∷ ps) (suc n) = ap (λ k. drop k (p ∷ ps)) (let e : suc n + 1 ≡ suc (n + 1) = omega arith in e) ∙ left_behind ps n

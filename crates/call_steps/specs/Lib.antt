@@ -1,4 +1,10 @@
 pub mod Local
+pub mod Calls
+pub mod Hands
+pub mod CpuActs
+pub mod ShardActs
 pub mod Acts
 pub mod Fits
 pub mod Kept
+pub mod Shapes
+pub mod Laws

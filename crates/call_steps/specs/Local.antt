@@ -1,18 +1,32 @@
--- What one thread has: the state of its call under way, the calls behind it, and its answers.
-use Rattle.std.specs.Prelude.{ℕ, ◌+◌, List, [], ◌∷◌, ◌++◌, Option, Some, None}
+-- What one thread has: the state of its call under way, what that has in hand, the calls behind it, and its answers.
+use Rattle.std.specs.Prelude.{ℕ, ◌+◌, List, [], ◌∷◌, ◌++◌, drop, Option, Some, None, slice_get}
+use Rattle.std.specs.List.{slice_index_or}
+use Rattle.tc_units.specs.Bag.{Contents}
+use Rattle.tc_units.specs.Classes.{class_of}
+use Rattle.tc_units.specs.declared.units.Addr.{Addr}
+use Rattle.tc_units.specs.declared.units.Class.{Class}
 use Rattle.tc_units.specs.declared.units.ThreadNo.{ThreadNo}
 use Rattle.tc_units.specs.declared.units.CpuNo.{CpuNo}
 use Rattle.tc_units.specs.declared.units.Label.{Label}
+use Rattle.tc_units.specs.declared.spans.SpanRef.{SpanRef}
+use Rattle.tc_units.specs.declared.spans.ClassRow.{ClassRow}
 use Rattle.tc_model.specs.declared.calls.Call.{Call}
 use Rattle.tc_model.specs.declared.calls.Call.TheVariants.{Malloc, Free, Release, Drain, Resize}
+use Rattle.tc_model.specs.declared.calls.MoveTo.{MoveTo}
 use Rattle.tc_model.specs.declared.calls.Planned.{Planned}
 use Rattle.tc_model.specs.declared.answers.Answer.{Answer}
 use Rattle.tc_model.specs.declared.answers.CallLine.{CallLine}
+use Rattle.rseq_core.specs.declared.sequence.Seq.{Seq}
+use Rattle.rseq_core.specs.declared.sequence.Seq.TheVariants as seq
+use Rattle.rseq_core.specs.declared.sequence.Pc.TheVariants.{Begin}
+use Rattle.rseq_core.specs.declared.regs.Regs.{Regs}
+use Rattle.rseq_core.specs.declared.regs.TheConstants.{HAND_ROOM, LOADED_ROOM}
 use Rattle.call_steps.specs.declared.step.Step.{Step}
 use Rattle.call_steps.specs.declared.step.Step.TheVariants as step
-use Rattle.call_steps.specs.declared.step.HeapStep.TheVariants.{New, GiveBack, Unback}
-use Rattle.call_steps.specs.declared.step.MapStep.TheVariants.{Set, Lookup, Clear}
-use Rattle.call_steps.specs.declared.step.NamesStep.TheVariants.{Publish, Take}
+use Rattle.call_steps.specs.declared.step.CpuStep.TheVariants.{Pop, Stop, Leave}
+use Rattle.call_steps.specs.declared.step.HeapStep.TheVariants.{New, Unback}
+use Rattle.call_steps.specs.declared.step.NamesStep.TheVariants.{Take}
+use Rattle.call_steps.specs.declared.step.Stopping.TheVariants as stopping
 
 -- a call that was decided, with its answer and the number of the act that decided it among the thread's own acts
 pub record Decided : Type 0 where
@@ -20,68 +34,134 @@ pub record Decided : Type 0 where
   pub call : Call
   pub answer : Answer
 
--- A thread's local: the next act of its call under way, the calls behind that one, how many calls have ended, how many
--- acts it has done, and its decided calls, in their order.
+-- A thread's local: its CPU, the next act of its call under way, its registers with the objects in hand, the spans that it
+-- has to give back, its pending move, the calls behind that call, how many calls have ended, how many acts it has done,
+-- its decided calls in their order, and in how many domains the CPUs are.
 pub record Local : Type 0 where
-  pub thread : ThreadNo
   pub cpu : CpuNo
   pub step : Step
+  pub regs : Regs
+  pub freed : Contents SpanRef
+  pub moved : Option MoveTo
   pub rest : List Planned
   pub ended : ℕ
   pub acts : ℕ
   pub answers : List Decided
+  pub domains : ℕ
 
--- the first act of a call; of the kinds of calls that aren't built yet there is none
-abbrev pub first_of_call : Call → Step
-first_of_call (Malloc label size) = step.Heap (New label size)
-first_of_call (Free label) = step.Names (Take label)
-first_of_call (Release pages) = step.Heap (Unback pages)
-first_of_call (Drain cpu) = step.Ended
-first_of_call (Resize cpu class cap) = step.Ended
+-- registers that are set for a sequence of a class
+abbrev pub set_for : Class → Seq → Regs → Regs
+set_for class s r = record r { class = class; seq = s; pc = Begin }
 
--- the first act of the first of these calls, and the others
-abbrev pub first_step : List Planned → Step
-first_step [] = step.Ended
-first_step (p ∷ rest) = first_of_call p.call
+-- the first act of a call
+abbrev pub first_of_malloc : Option Class → Label → ℕ → Step
+first_of_malloc None label size = step.Heap (New label size)
+first_of_malloc (Some k) label size = step.Cpu (Pop (record { label = label; size = size }))
 
-abbrev pub others : List Planned → List Planned
-others [] = []
-others (p ∷ rest) = rest
+abbrev pub first_of_call : List ClassRow → Call → Step
+first_of_call rows (Malloc label size) = first_of_malloc (class_of rows size) label size
+first_of_call rows (Free label) = step.Names (Take label)
+first_of_call rows (Release pages) = step.Heap (Unback pages)
+first_of_call rows (Drain cpu) = step.Cpu (Stop (stopping.Drain (record { cpu = cpu; taken = 0 })))
+first_of_call rows (Resize cpu class cap) = step.Cpu (Stop (stopping.Resize (record { cpu = cpu; class = class; cap = cap })))
+
+-- the registers at the begin of a call: it has executed no instruction, and they are set for its class where it has one
+abbrev pub regs_of_malloc : Option Class → Regs → Regs
+regs_of_malloc None r = r
+regs_of_malloc (Some k) r = set_for k seq.Pop r
+
+abbrev pub regs_of_call : List ClassRow → Call → Regs → Regs
+regs_of_call rows (Malloc label size) r = regs_of_malloc (class_of rows size) r
+regs_of_call rows (Free label) r = r
+regs_of_call rows (Release pages) r = r
+regs_of_call rows (Drain cpu) r = set_for (record { 0 = 0 }) seq.Pop r
+regs_of_call rows (Resize cpu class cap) r = set_for class seq.Pop r
+
+abbrev pub fresh_regs : List ClassRow → Call → Regs → Regs
+fresh_regs rows call r = record (regs_of_call rows call r) { ran = 0 }
+
+-- the first act, the registers and the move of the call that is planned next, or none where the script has ended
+abbrev pub first_act : List ClassRow → Option Planned → Step
+first_act rows None = step.Ended
+first_act rows (Some p) = first_of_call rows p.call
+
+abbrev pub regs_by : List ClassRow → Option Planned → Regs → Regs
+regs_by rows None r = r
+regs_by rows (Some p) r = fresh_regs rows p.call r
+
+abbrev pub move_of : Option Planned → Option MoveTo
+move_of None = None
+move_of (Some p) = p.moved
+
+-- the thread comes to the first of these calls, or its script has ended
+abbrev pub next_call : List ClassRow → Local → List Planned → Local
+next_call rows l calls =
+    record l {
+      step = first_act rows (slice_get calls 0);
+      regs = regs_by rows (slice_get calls 0) l.regs;
+      moved = move_of (slice_get calls 0);
+      rest = drop 1 calls;
+    }
+
+-- the registers of a thread before its first act
+abbrev pub first_regs : ThreadNo → Regs
+first_regs thread =
+    record {
+      thread = thread;
+      class = record { 0 = 0 };
+      seq = seq.Pop;
+      pc = Begin;
+      epoch = 0;
+      top = 0;
+      count = 0;
+      ran = 0;
+      hand = record { items = []; spare = HAND_ROOM };
+      loaded = record { items = []; spare = LOADED_ROOM };
+    }
+
+-- a thread without a call
+abbrev pub idle_local : ThreadNo → CpuNo → ℕ → Local
+idle_local thread cpu domains =
+    record {
+      cpu = cpu;
+      step = step.Ended;
+      regs = first_regs thread;
+      freed = record { items = []; spare = HAND_ROOM };
+      moved = None;
+      rest = [];
+      ended = 0;
+      acts = 0;
+      answers = [];
+      domains = domains;
+    }
 
 -- a thread before its first act
-abbrev pub first_local : ThreadNo → CpuNo → List Planned → Local
-first_local thread cpu script = record { thread = thread; cpu = cpu; step = first_step script; rest = others script; ended = 0; acts = 0; answers = [] }
+abbrev pub first_local : List ClassRow → ThreadNo → CpuNo → List Planned → ℕ → Local
+first_local rows thread cpu script domains = next_call rows (idle_local thread cpu domains) script
 
--- whether the call under way is decided: an allocation is, once New has answered
-abbrev pub under : Step → ℕ
-under (step.Map (Set label run)) = 1
-under (step.Names (Publish label value)) = 1
-under other = 0
+-- the next act decides the call
+abbrev pub decided : Local → Call → Answer → Local
+decided l call answer = record l { answers = l.answers ++ record { act = l.acts; call = call; answer = answer } ∷ [] }
 
--- the request of an allocation that its next act decides
-abbrev pub asked_by : Step → Option (Label × ℕ)
-asked_by (step.Heap (New label size)) = Some (label, size)
-asked_by other = None
+-- an act after which the call goes on
+abbrev pub goes : Local → Step → Local
+goes l next = record l { step = next; acts = l.acts + 1 }
 
--- the free or the release under way, whose answer ends it
-abbrev pub ended_by : Step → Option Call
-ended_by (step.Heap (GiveBack label run)) = Some (Free label)
-ended_by (step.Heap (Unback pages)) = Some (Release pages)
-ended_by (step.Map (Lookup label addr)) = Some (Free label)
-ended_by (step.Map (Clear label run)) = Some (Free label)
-ended_by (step.Names (Take label)) = Some (Free label)
-ended_by other = None
+-- an act that ends the call: with a move pending the thread is to leave before it comes to the next one
+abbrev pub closes : List ClassRow → Local → Option MoveTo → Local
+closes rows l None = next_call rows (record l { ended = l.ended + 1 }) l.rest
+closes rows l (Some move) = record l { step = step.Cpu Leave }
 
--- an answer that the next act decides
-abbrev pub decides : Local → Call → Answer → List Decided
-decides l call answer = record { act = l.acts; call = call; answer = answer } ∷ []
+abbrev pub ends : List ClassRow → Local → Local
+ends rows l = closes rows (record l { acts = l.acts + 1 }) l.moved
 
--- an act after which the call goes on, and one that ends it
-abbrev pub goes_on : Local → Step → List Decided → Local
-goes_on l next new = record { thread = l.thread; cpu = l.cpu; step = next; rest = l.rest; ended = l.ended; acts = l.acts + 1; answers = l.answers ++ new }
+-- a row without objects, for a class that isn't there
+abbrev pub no_class : ClassRow
+no_class = record { size = 0; pages = 0; batch = 0 }
 
-abbrev pub ends : Local → List Decided → Local
-ends l new = record { thread = l.thread; cpu = l.cpu; step = first_step l.rest; rest = others l.rest; ended = l.ended + 1; acts = l.acts + 1; answers = l.answers ++ new }
+-- the row of the thread's class
+abbrev pub class_row : List ClassRow → Local → ClassRow
+class_row rows l = slice_index_or rows l.regs.class.0 no_class
 
 -- how a decided call of a thread is told
 abbrev pub told : ℕ → Decided → CallLine

@@ -1,13 +1,27 @@
 //! What a thread does for its calls, one act at a time: each act is one row of the call programs, on one
-//! part. Today these are the rows of large blocks and of releases.
+//! part.
 #![tactic(auto)]
 
-mod acts;
+mod cpu;
+mod hands;
+mod heap;
+mod laws;
 mod local;
+mod map;
+mod names;
+mod shard;
 mod step;
 #[cfg(test)]
 mod tests;
 
-pub use acts::{act_heap, act_map, act_names, waits};
+pub use cpu::{act_cpu, yields};
+pub use heap::act_heap;
+pub use laws::{acts_keep_shapes, cpu_acts_keep};
 pub use local::Local;
-pub use step::{HeapStep, MapStep, NamesStep, Step, Target};
+pub use map::act_map;
+pub use names::{act_names, waits};
+pub use shard::{act_domain, act_shard};
+pub use step::{
+    Asking, CpuStep, DomainStep, Draining, Freeing, Giving, HeapStep, MapStep, NamesStep, Onward,
+    Resizing, Serving, ShardStep, Step, Stopping, Target,
+};

@@ -1,12 +1,132 @@
-//! The state of a call: its next act, with all that the call has in hand.
-use tc_units::{Addr, Label, Run};
+//! The state of a call: its next act, with what the call has in hand beside the thread's registers.
+use tc_units::{Addr, Class, CpuNo, Label, Run};
 
 /// The part that an act is on.
 #[derive(Clone, Copy, Debug, PartialEq, Eq)]
 pub enum Target {
+    /// A CPU with its slab.
+    Cpu(CpuNo),
+    /// The shard of a size class.
+    Shard(Class),
     Heap,
     Map,
     Names,
+    /// The transfer cache of a size class in a domain of CPUs.
+    Domain { domain: u8, class: Class },
+}
+
+/// An allocation of a small object that isn't decided yet.
+#[derive(Clone, Copy, Debug, PartialEq, Eq)]
+pub struct Asking {
+    pub label: Label,
+    pub size: u64,
+}
+
+/// An allocation that got an object, which is still to be published.
+#[derive(Clone, Copy, Debug, PartialEq, Eq)]
+pub struct Serving {
+    pub label: Label,
+    pub addr: Addr,
+}
+
+/// A free of a small object that isn't decided yet.
+#[derive(Clone, Copy, Debug, PartialEq, Eq)]
+pub struct Freeing {
+    pub label: Label,
+    pub addr: Addr,
+}
+
+/// A drain of a CPU, and how many objects it has taken.
+#[derive(Clone, Copy, Debug, PartialEq, Eq)]
+pub struct Draining {
+    pub cpu: CpuNo,
+    pub taken: u64,
+}
+
+/// A resize of a class at a CPU to a capacity of `cap` objects.
+#[derive(Clone, Copy, Debug, PartialEq, Eq)]
+pub struct Resizing {
+    pub cpu: CpuNo,
+    pub class: Class,
+    pub cap: u32,
+}
+
+/// A call that stops a CPU.
+#[derive(Clone, Copy, Debug, PartialEq, Eq)]
+pub enum Stopping {
+    Drain(Draining),
+    Resize(Resizing),
+}
+
+/// Whose objects a hand gives away.
+#[derive(Clone, Copy, Debug, PartialEq, Eq)]
+pub enum Giving {
+    /// What an allocation fetched beside its own object.
+    Rest(Serving),
+    /// The object of a free, and what the free popped.
+    Freed(Freeing),
+    /// What a drain took of one class.
+    Drained(Draining),
+    /// What a resize took. The call was decided before.
+    Resized,
+}
+
+/// What comes once the spans that left a shard are given back.
+#[derive(Clone, Copy, Debug, PartialEq, Eq)]
+pub enum Onward {
+    /// An allocation publishes its object.
+    Publish(Serving),
+    /// A drain goes on with the next class.
+    Drain(Draining),
+    /// The call ends, which was decided before.
+    End,
+}
+
+/// A row of the call programs at a CPU.
+#[derive(Clone, Copy, Debug, PartialEq, Eq)]
+pub enum CpuStep {
+    /// An allocation pops an object of its class.
+    Pop(Asking),
+    /// An allocation that found none lets its class grow.
+    Grow(Asking),
+    /// An allocation pushes what it fetched beside its own object.
+    Stock(Serving),
+    /// A free pushes its object.
+    Push(Freeing),
+    /// A free that found no capacity pops a batch, to give it away with its object.
+    PopBatch(Freeing),
+    /// A drain or a resize stops the CPU. Where another thread has, that decides and ends it.
+    Stop(Stopping),
+    /// It sends back the sequences that were begun.
+    Fence(Stopping),
+    /// It takes all objects of a class.
+    Take(Stopping),
+    /// A resize sets the capacity, or that is refused. This decides it.
+    SetCap(Resizing),
+    /// It starts the CPU again. This decides a drain.
+    Start(Stopping),
+    /// The thread leaves for the CPU of its pending move, and its call ends.
+    Leave,
+}
+
+/// A row of the call programs at the shard of the thread's class.
+#[derive(Clone, Copy, Debug, PartialEq, Eq)]
+pub enum ShardStep {
+    /// An allocation fetches a batch.
+    Fetch(Asking),
+    /// An allocation adds its new span and takes a batch of it.
+    AddFetch { asking: Asking, run: Run },
+    /// The hand is given to the shard.
+    Give(Giving),
+}
+
+/// A row of the call programs at the transfer cache of the thread's class and domain.
+#[derive(Clone, Copy, Debug, PartialEq, Eq)]
+pub enum DomainStep {
+    /// An allocation takes a batch.
+    Take(Asking),
+    /// The hand is put there, where it fits.
+    Put(Giving),
 }
 
 /// A row of the call programs at the page heap.
@@ -14,8 +134,12 @@ pub enum Target {
 pub enum HeapStep {
     /// An allocation asks for a run that holds `size` bytes. This decides it.
     New { label: Label, size: u64 },
+    /// An allocation of a small object asks for the run of a span. Where there is none, that decides it.
+    NewSpan(Asking),
     /// A free gives the run of its block back. This decides and ends it.
     GiveBack { label: Label, run: Run },
+    /// The run of the first span that left a shard is given back.
+    FreeSpan(Onward),
     /// A release unbacks `pages` pages, where there are so many. This decides and ends it.
     Unback { pages: u64 },
 }
@@ -25,10 +149,14 @@ pub enum HeapStep {
 pub enum MapStep {
     /// An allocation sets the span of its run.
     Set { label: Label, run: Run },
+    /// An allocation of a small object sets its new span.
+    SetSpan { asking: Asking, run: Run },
     /// A free looks for the span of its block.
     Lookup { label: Label, addr: Addr },
-    /// A free clears that span.
+    /// A free clears the span of its large block.
     Clear { label: Label, run: Run },
+    /// The first span that left a shard is cleared.
+    ClearSpan(Onward),
 }
 
 /// A row of the call programs at the names.
@@ -43,9 +171,12 @@ pub enum NamesStep {
 /// The next act of a thread, by the part that it is on.
 #[derive(Clone, Copy, Debug, PartialEq, Eq)]
 pub enum Step {
+    Cpu(CpuStep),
+    Shard(ShardStep),
     Heap(HeapStep),
     Map(MapStep),
     Names(NamesStep),
+    Domain(DomainStep),
     /// The script has ended.
     Ended,
 }

@@ -1,50 +1,94 @@
-//! A thread before its first act, with answers that were worked out by hand.
-use crate::{HeapStep, Local, NamesStep, Step, Target};
+//! How calls begin, with steps that were worked out by hand.
+use crate::{
+    Asking, CpuStep, Draining, HeapStep, Local, NamesStep, Resizing, Step, Stopping, Target,
+};
+use size_classes::ClassTable;
+use std::alloc::{AllocError, Global};
+use std::process::Abort;
 use std::test::Fail;
 use tc_model::{Call, Planned, Script};
-use tc_units::{CpuNo, Label, Listed, ThreadNo};
+use tc_units::{Class, CpuNo, Label, Listed, ThreadNo};
 
-fn local_of(rt: HostRuntime, calls: &[Call]) -> Result<Local, Fail> {
-    let mut planned = Vec::new(rt.alloc());
-    for call in calls {
-        planned.push(Planned {
-            line: 5,
-            call: *call,
-            moved: None,
-        })?;
-    }
+/// A table of 16, 64 and 8192 bytes.
+fn table_of(rt: &impl Abort, alloc: Global) -> ClassTable {
+    ClassTable::read(alloc, b"16,1,4\n64,1,2\n8192,1,2\n").expect(rt, "a table")
+}
+
+/// A thread at CPU 3, which is in domain 1 of 2, with one call.
+fn local_of(alloc: Global, table: &ClassTable, call: Call) -> Result<Local, AllocError> {
+    let planned = vec![in alloc; Planned {
+        line: 5,
+        call,
+        moved: None
+    }; 1]?;
     let script = Script {
         calls: Listed::new(planned),
     };
-    Ok(Local::new(rt.alloc(), ThreadNo(3), CpuNo(1), script)?)
+    Local::new(alloc, table, ThreadNo(0), CpuNo(3), script, 2)
 }
 
 #[test]
 fn a_call_begins_at_its_part(rt: HostRuntime) -> Result<(), Fail> {
+    let table = table_of(&rt, rt.alloc());
     let label = Label(7);
-    let free = local_of(rt, [Call::Free { label }, Call::Free { label }].as_slice())?;
-    assert_eq!(rt; free.want(), Some(Target::Names));
-    assert_eq!(rt; free.step(), Step::Names(NamesStep::Take { label }));
-    let malloc = local_of(rt, [Call::Malloc { label, size: 8193 }].as_slice())?;
-    assert_eq!(rt; malloc.want(), Some(Target::Heap));
-    assert_eq!(rt;
-        malloc.step(),
-        Step::Heap(HeapStep::New { label, size: 8193 })
-    );
-    let release = local_of(rt, [Call::Release { pages: 300 }].as_slice())?;
-    assert_eq!(rt; release.want(), Some(Target::Heap));
-    assert_eq!(rt; release.step(), Step::Heap(HeapStep::Unback { pages: 300 }));
-    assert_eq!(rt; malloc.done(), 0);
-    assert_eq!(rt; malloc.acts(), 0);
-    assert_eq!(rt; malloc.answers().len(), 0);
+    let class = Class(1);
+    let cpu = CpuNo(2);
+    let drain = Stopping::Drain(Draining { cpu, taken: 0 });
+    let resize = Stopping::Resize(Resizing { cpu, class, cap: 9 });
+    let cases = [
+        (
+            Call::Malloc { label, size: 17 },
+            Target::Cpu(CpuNo(3)),
+            Step::Cpu(CpuStep::Pop(Asking { label, size: 17 })),
+        ),
+        (
+            Call::Malloc { label, size: 8193 },
+            Target::Heap,
+            Step::Heap(HeapStep::New { label, size: 8193 }),
+        ),
+        (
+            Call::Free { label },
+            Target::Names,
+            Step::Names(NamesStep::Take { label }),
+        ),
+        (
+            Call::Release { pages: 300 },
+            Target::Heap,
+            Step::Heap(HeapStep::Unback { pages: 300 }),
+        ),
+        (
+            Call::Drain { cpu },
+            Target::Cpu(cpu),
+            Step::Cpu(CpuStep::Stop(drain)),
+        ),
+        (
+            Call::Resize { cpu, class, cap: 9 },
+            Target::Cpu(cpu),
+            Step::Cpu(CpuStep::Stop(resize)),
+        ),
+    ];
+    for (call, target, step) in cases {
+        let local = local_of(rt.alloc(), &table, call)?;
+        assert_eq!(rt; local.want(), Some(target), "{call:?}");
+        assert_eq!(rt; local.step(), step, "{call:?}");
+        assert_eq!(rt;
+            (local.done(), local.acts(), local.answers().len()),
+            (0, 0, 0)
+        );
+    }
     Ok(())
 }
 
+/// Made to be tried with each of its allocations refused in turn: a thread begins with all its room, or
+/// there is none.
 #[test]
-fn an_empty_script_has_ended(rt: HostRuntime) -> Result<(), Fail> {
-    let local = local_of(rt, [].as_slice())?;
-    assert_eq!(rt; local.want(), None);
-    assert_eq!(rt; local.step(), Step::Ended);
-    assert_eq!(rt; local.done(), 0);
+fn memory_that_runs_out(rt: HostRuntime) -> Result<(), Fail> {
+    let Ok(table) = ClassTable::read(rt.alloc(), b"64,1,2\n") else {
+        return Ok(());
+    };
+    let label = Label(0);
+    if let Ok(local) = local_of(rt.alloc(), &table, Call::Free { label }) {
+        assert_eq!(rt; local.step(), Step::Names(NamesStep::Take { label }));
+    }
     Ok(())
 }

@@ -1,5 +1,5 @@
 -- A trace that was read gives back what it asks for, and its threads are those of the rules.
-use Rattle.std.proofs.Common.{◌≡◌, ℕ, zero, suc, ◌+◌, ◌<◌, ◌%◌, true, false, cond, eqb, List, [], ◌∷◌, ◌++◌, drop, map, length, refl, sym, ap, ◌∙◌, subst, inl, inr, arith, eq-eqb, append_assoc}
+use Rattle.std.proofs.Common.{◌≡◌, ℕ, zero, suc, ◌+◌, ◌<◌, ◌%◌, true, false, cond, eqb, List, [], ◌∷◌, ◌++◌, drop, map, filter, length, refl, sym, ap, ◌∙◌, subst, inl, inr, arith, eq-eqb, append_assoc}
 use Rattle.std.specs.List.{range_with_len}
 use Rattle.std.proofs.lemmas.Bool.{cases_eq, ne_eqb}
 use Rattle.std.proofs.lemmas.List.{length-map}
@@ -15,17 +15,24 @@ use Rattle.trace_reader.specs.Traces.{trace_of}
 use Rattle.trace_reader.specs.Valid.{IsAsked, AreCalls}
 use Rattle.call_steps.specs.Local.{Local, first_local}
 use Rattle.tc_model.specs.Run.{world_of, start}
-use Rattle.alloc_rules.specs.Machine.{setup_of, thread_of, parts_of}
+use Rattle.alloc_rules.specs.Machine.{first_of, parts_of}
 use Rattle.alloc_rules.specs.Machine as allocator
-use Rattle.alloc_rules.specs.State.{first_of}
-use Rattle.alloc_rules.proofs.SerialGoes.{script-cons}
-use Rattle.tc_machine.specs.Inputs.{script_at, next_call, calls_by, asked_of, input_of}
-use Rattle.tc_machine.specs.Built.{IsRead}
+use Rattle.tc_machine.specs.Inputs.{IsRead, script_at, next_call, calls_by, asked_of, input_of}
 use Rattle.tc_machine.specs.Opening.{local_at, locals_at, parts_at}
 
 -- the script of a thread, by its place
 pub script_at_is : (n : ℕ) (calls : List ThreadCall) (t : ℕ) → t < n → script_at (map (λ u. let s : Script = record { calls = script_of u calls } in s) (range_with_len 0 n)) t ≡ script_of t calls
 script_at_is n calls t below = ap (λ (s : Script). s.calls) (get_or-map-range_with_len (λ u. let s : Script = record { calls = script_of u calls } in s) 0 n t t (record { calls = [] }) below (omega arith))
+
+-- a script, call by call
+script-cons : (t : ℕ) (c : ThreadCall) (cs : List ThreadCall) → script_of t (c ∷ cs) ≡ cond (eqb c.thread.0 t) (c.planned ∷ script_of t cs) (script_of t cs)
+script-cons t c cs =
+    let f : ThreadCall → Planned = λ (d : ThreadCall). d.planned in
+    let ys : List ThreadCall = filter (λ (d : ThreadCall). eqb d.thread.0 t) cs in
+    elim (eqb c.thread.0 t) as (λ b. map f (cond b (c ∷ ys) ys) ≡ cond b (c.planned ∷ map f ys) (map f ys)) [
+      | true ↦ refl
+      | false ↦ refl
+    ]
 
 -- all calls are made by threads below n
 abbrev pub AreBelow : ℕ → List ThreadCall → Type 0
@@ -101,19 +108,18 @@ turns_are rows classes trace asked read =
     ∙ sym (ap allocator.turns (input_is rows classes trace asked read)))
 
 -- the threads at the start, and the whole start
-locals_are : (rows : List ClassRow) (asked : Asked) → locals_at asked.config.cpus (scripts_of asked) ≡ map first_of (setup_of (record { rows = rows; asked = asked })).threads
+locals_are : (rows : List ClassRow) (asked : Asked) → locals_at rows asked.config (scripts_of asked) ≡ (allocator.rules (record { rows = rows; asked = asked })).locals
 locals_are rows asked =
     let input : Input = record { rows = rows; asked = asked } in
     let n : ℕ = asked.config.threads in
-    let local : ℕ → List Planned → Local = λ t ps. first_local (record { 0 = t }) (record { 0 = t % asked.config.cpus }) ps in
-    ap (λ k. map (local_at asked.config.cpus (scripts_of asked)) (range_with_len 0 k)) (scripts_count asked)
-    ∙ (same_below (local_at asked.config.cpus (scripts_of asked)) (λ t. first_of (thread_of input t)) n (λ t below. ap (local t) (script_at_is n asked.calls t below))
-    ∙ sym (map_twice (thread_of input) first_of (range_with_len 0 n)))
+    let local : ℕ → List Planned → Local = λ t ps. first_local rows (record { 0 = t }) (record { 0 = t % asked.config.cpus }) ps asked.config.domains in
+    ap (λ k. map (local_at rows asked.config (scripts_of asked)) (range_with_len 0 k)) (scripts_count asked)
+    ∙ same_below (local_at rows asked.config (scripts_of asked)) (first_of input) n (λ t below. ap (local t) (script_at_is n asked.calls t below))
 
-start_again : (rows : List ClassRow) (asked : Asked) → world_of (parts_of (parts_at asked.config (labels_of asked))) (locals_at asked.config.cpus (scripts_of asked)) ≡ start (allocator.rules (record { rows = rows; asked = asked }))
-start_again rows asked = ap (λ ls. world_of (parts_of (parts_at asked.config (labels_of asked))) ls) (locals_are rows asked)
+start_again : (rows : List ClassRow) (asked : Asked) → world_of (parts_of (parts_at rows asked.config (labels_of asked))) (locals_at rows asked.config (scripts_of asked)) ≡ start (allocator.rules (record { rows = rows; asked = asked }))
+start_again rows asked = ap (λ ls. world_of (parts_of (parts_at rows asked.config (labels_of asked))) ls) (locals_are rows asked)
 
-pub start_is : (rows : List ClassRow) (classes : ℕ) (trace : Trace) (asked : Asked) → IsRead classes trace asked → world_of (parts_of (parts_at trace.config trace.labels)) (locals_at trace.config.cpus trace.scripts) ≡ start (allocator.rules (input_of rows trace))
+pub start_is : (rows : List ClassRow) (classes : ℕ) (trace : Trace) (asked : Asked) → IsRead classes trace asked → world_of (parts_of (parts_at rows trace.config trace.labels)) (locals_at rows trace.config trace.scripts) ≡ start (allocator.rules (input_of rows trace))
 start_is rows classes trace asked read =
-    ap (λ (t : Trace). world_of (parts_of (parts_at t.config t.labels)) (locals_at t.config.cpus t.scripts)) read.is
+    ap (λ (t : Trace). world_of (parts_of (parts_at rows t.config t.labels)) (locals_at rows t.config t.scripts)) read.is
     ∙ (start_again rows asked ∙ sym (ap (λ i. start (allocator.rules i)) (input_is rows classes trace asked read)))

@@ -13,9 +13,9 @@ use Rattle.tc_model.specs.declared.calls.Call.TheVariants.{Malloc, Free, Release
 use Rattle.tc_model.specs.declared.answers.Answer.TheVariants.{Block, Freed}
 use Rattle.tc_model.specs.declared.answers.CallLine.{CallLine}
 use Rattle.tc_model.specs.Blocks.{Extent, blocks_after, blocks_with, with_block, without_block, IsAllowed}
-use Rattle.alloc_rules.specs.Apart.{AreApart}
-use Rattle.alloc_rules.proofs.CallFacts.{blocks_after-push, find-with_block_same, find-with_block_other, find-without_block}
-use Rattle.alloc_rules.proofs.BlockFacts.{none_begins, place_of}
+use Rattle.holdings.specs.Apart.{AreApart}
+use Rattle.holdings.proofs.CallFacts.{blocks_after-push, find-with_block_same, find-with_block_other, find-without_block}
+use Rattle.holdings.proofs.Blocks.{none_begins, place_of}
 use Rattle.tc_machine.specs.declared.standing.Standing.{Standing}
 use Rattle.tc_machine.specs.Standing.{AreStanding}
 

@@ -1,10 +1,10 @@
 -- What a state's clauses need of the machine's run that it keeps.
-use Rattle.std.proofs.Common.{◌≡◌, ℕ, ◌≤◌, ◌<◌, List, [], ◌∷◌, length, refl, ap, sym, subst, ◌∙◌, arith}
+use Rattle.std.proofs.Common.{◌≡◌, ℕ, ◌≤◌, ◌<◌, List, [], ◌∷◌, length, Some, refl, ap, sym, subst, ◌∙◌, arith}
 use Rattle.std.specs.Prelude.{All}
 use Rattle.std.proofs.lemmas.List.{length-set}
 use Rattle.std.proofs.lemmas.List.Elements.{All-append, All-cons, All-nil}
 use Rattle.std.proofs.lemmas.Option.{slice_get_within}
-use Rattle.std.specs.List.{range_with_len}
+use Rattle.std.specs.List.{range_with_len, slice_get}
 use Rattle.std.proofs.lemmas.List.{length-map}
 use Rattle.std.proofs.lemmas.List.FromFn.{length-range_with_len}
 use Rattle.tc_model.specs.declared.config.Config.{Config}
@@ -13,18 +13,21 @@ use Rattle.tc_model.specs.Run.{Rules, World, world_of, start, run}
 use Rattle.tc_model.specs.Steps.{moving}
 use Rattle.tc_model.proofs.MovingFacts.{IsKeptWith, run_keeps_with, move_all}
 use Rattle.call_steps.specs.Local.{Local}
+use Rattle.heap_rules.specs.Heap.{Heap}
 use Rattle.alloc_rules.specs.declared.part.Part.{Part}
+use Rattle.alloc_rules.specs.declared.part.Part.TheVariants as part
 use Rattle.alloc_rules.specs.Law.{HoldsAfter}
-use Rattle.alloc_rules.specs.Machine.{thread_of, setup_of}
+use Rattle.alloc_rules.specs.Machine.{first_of}
 use Rattle.alloc_rules.specs.Machine as allocator
-use Rattle.alloc_rules.specs.State.{first_of}
-use Rattle.alloc_rules.proofs.Laws.{holds_after}
 use Rattle.tc_machine.specs.declared.machine.AllocMachine.{AllocMachine}
 use Rattle.tc_machine.specs.Held.{input_in}
+use Rattle.tc_machine.specs.Finish.{heap_place}
+use Rattle.alloc_rules.proofs.Laws.{in_every_order}
+use Rattle.tc_machine.proofs.HeapFacts.{heap_kept, heap_only}
 
 -- there is a local for each thread
 pub locals_count : (input : Input) → length (allocator.rules input).locals ≡ input.asked.config.threads
-locals_count input = length-map (setup_of input).threads first_of ∙ (length-map (range_with_len 0 input.asked.config.threads) (thread_of input) ∙ length-range_with_len 0 input.asked.config.threads)
+locals_count input = length-map (range_with_len 0 input.asked.config.threads) (first_of input) ∙ length-range_with_len 0 input.asked.config.threads
 
 pub below_locals : (input : Input) (t : ℕ) → t < input.asked.config.threads → t < length (allocator.rules input).locals
 below_locals input t below = omega (arith, below, locals_count input)
@@ -35,7 +38,7 @@ limit_is m limit is = is ∙ ap (λ (config : Config). config.events) m.same_con
 
 -- what holds between any two picks
 pub holds_in : (m : AllocMachine) (order : List ℕ) (limit : ℕ) → moving (allocator.rules (input_in m)) (start (allocator.rules (input_in m))) order ≡ order → length order ≤ limit → limit ≤ 40000000 → HoldsAfter (input_in m) order
-holds_in m order limit moves few most = holds_after (input_in m) m.valid order (record { moves = move_all (allocator.rules (input_in m)) order moves; few = omega (arith, few, most) })
+holds_in m order limit moves few most = (in_every_order (input_in m) m.valid).holds order (record { moves = move_all (allocator.rules (input_in m)) order moves; few = omega (arith, few, most) })
 
 -- The picks of an order are of threads that there are.
 pub record HasThreads (n : ℕ) (w : World Part Local) (order : List ℕ) : Type 0 where
@@ -55,6 +58,7 @@ pub record IsTold (input : Input) (order : List ℕ) (parts : List Part) (locals
   pub holds : HoldsAfter input order
   pub parts_are : parts ≡ allocator.parts_of holds.parts
   pub locals_are : locals ≡ holds.locals
+  pub heap_at : slice_get parts (heap_place input) ≡ Some (part.Heap holds.parts.heap)
   pub threads : All (λ t. t < length locals) order
 
 pub told_of : (m : AllocMachine) (parts : List Part) (locals : List Local) (order : List ℕ) (limit : ℕ) → world_of parts locals ≡ run (allocator.rules (input_in m)) order → moving (allocator.rules (input_in m)) (start (allocator.rules (input_in m))) order ≡ order → length order ≤ limit → limit ≤ 40000000 → IsTold (input_in m) order parts locals
@@ -62,10 +66,15 @@ told_of m parts locals order limit is moves few most =
     let h = holds_in m order limit moves few most in
     let same : world_of parts locals ≡ world_of (allocator.parts_of h.parts) h.locals = is ∙ h.is in
     let t = threads_below (allocator.rules (input_in m)) order (omega (arith, few, most)) moves in
+    let parts_are : parts ≡ allocator.parts_of h.parts = ap (λ (w : World Part Local). w.parts) same in
+    let heap = heap_kept (input_in m) order (omega (arith, few, most)) moves in
+    let there : slice_get parts (heap_place (input_in m)) ≡ Some (part.Heap heap.0) = ap (λ (w : World Part Local). slice_get w.parts (heap_place (input_in m))) is ∙ heap.1 in
+    let only : heap.0 ≡ h.parts.heap = heap_only h.parts (heap_place (input_in m)) heap.0 (ap (λ ps. slice_get ps (heap_place (input_in m))) (sym parts_are) ∙ there) in
     let count : length locals ≡ length (allocator.rules (input_in m)).locals = ap (λ (w : World Part Local). length w.locals) is ∙ t.count in
     record {
       holds = h;
-      parts_are = ap (λ (w : World Part Local). w.parts) same;
+      parts_are = parts_are;
       locals_are = ap (λ (w : World Part Local). w.locals) same;
+      heap_at = there ∙ ap (λ (x : Heap). Some (part.Heap x)) only;
       threads = subst (λ n. All (λ u. u < n) order) (sym count) t.below;
     }

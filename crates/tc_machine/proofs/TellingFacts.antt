@@ -139,7 +139,7 @@ pub here_is : {X : Type 0} (xs : List X) (t : ℕ) (x : X) → t < length xs →
 here_is xs t x below is = slice_get-get_or xs t x below ∙ ap (λ y. Some y) (sym is)
 
 -- what the next pick of thread t adds to the calls
-pub told_next : (locals : List Thread) (past : List ℕ) (t n : ℕ) (k : Thread) (added : List CallLine) → slice_get locals t ≡ Some k → k.thread.0 ≡ t → n ≡ picks_of t past → added ≡ map (told k.thread.0) (decided_at n k.answers) →
+pub told_next : (locals : List Thread) (past : List ℕ) (t n : ℕ) (k : Thread) (added : List CallLine) → slice_get locals t ≡ Some k → k.regs.thread.0 ≡ t → n ≡ picks_of t past → added ≡ map (told k.regs.thread.0) (decided_at n k.answers) →
     calls_from (decided_by (λ (l : Thread). l.answers) act_of told locals) [] (past ++ t ∷ []) ≡ calls_from (decided_by (λ (l : Thread). l.answers) act_of told locals) [] past ++ added
 told_next locals past t n k added local own picks is =
     let decided = decided_by (λ (l : Thread). l.answers) act_of told locals in

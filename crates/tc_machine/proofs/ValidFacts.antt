@@ -1,10 +1,10 @@
--- What is read and built is valid for the allocator's rules.
-use Rattle.std.proofs.Common.{◌≡◌, ℕ, ◌<◌, true, false, List, [], ◌∷◌, ◌++◌, length, Option, Some, None, refl, sym, ap, ◌∙◌, subst, arith, inl, inr}
-use Rattle.std.specs.Prelude.{Bool, is_none, sum_by, All}
-use Rattle.std.specs.List.{list_any, slice_index_or}
-use Rattle.std.proofs.Math.Seq.{get_or-append_seam}
-use Rattle.std.proofs.lemmas.Bool.{and_parts, cases_Bool}
-use Rattle.std.proofs.lemmas.List.{length-append}
+-- What is read is valid for the allocator's rules.
+use Rattle.std.proofs.Common.{◌≡◌, ℕ, ◌<◌, ◌≤◌, true, false, min, List, [], ◌∷◌, length, Option, Some, None, refl, sym, ap, ◌∙◌, subst, arith, inl, inr}
+use Rattle.std.specs.Prelude.{Bool, IfSome, sum_by, All}
+use Rattle.std.specs.List.{list_any}
+use Rattle.std.proofs.Math.Nat.{min-le_left}
+use Rattle.std.proofs.lemmas.Bool.{cases_Bool}
+use Rattle.std.proofs.lemmas.List.Elements.{All-cons, All-nil}
 use Rattle.std.proofs.lemmas.List.Sums.{sum_by-cons}
 use Rattle.tc_units.specs.declared.spans.ClassRow.{ClassRow}
 use Rattle.tc_model.specs.declared.calls.Call.{Call}
@@ -13,14 +13,15 @@ use Rattle.tc_model.specs.declared.calls.MoveTo.{MoveTo}
 use Rattle.tc_model.specs.declared.config.Config.{Config}
 use Rattle.tc_model.specs.Blocks.{allocates, frees}
 use Rattle.tc_model.specs.Input.{Asked, ThreadCall}
+use Rattle.size_classes.specs.Rows as table
 use Rattle.trace_reader.specs.declared.trace.Trace.{Trace}
 use Rattle.trace_reader.specs.Valid as reads
-use Rattle.alloc_rules.specs.State.{bit}
-use Rattle.alloc_rules.specs.Weights.{got, put}
-use Rattle.alloc_rules.specs.Valid.{IsInOrder, IsValid}
-use Rattle.tc_machine.specs.Inputs.{asked_of, input_of}
-use Rattle.tc_machine.specs.Built.{IsRead, is_built, is_built_call, AreBuilt}
-use Rattle.tc_machine.proofs.InputFacts.{asked_is, input_is}
+use Rattle.holdings.specs.Runs.{bit}
+use Rattle.holdings.specs.Accounts.{got, put}
+use Rattle.call_steps.specs.Shapes.{Limits, IsClassRow, AreRows, IsMove, IsCallThere}
+use Rattle.alloc_rules.specs.Valid.{IsInOrder, IsValid, AreLimits}
+use Rattle.tc_machine.specs.Inputs.{IsRead, input_of}
+use Rattle.tc_machine.proofs.InputFacts.{input_is}
 
 -- a count of calls that pass a test is 0 exactly where none does
 module _ (p : ThreadCall → Bool) (f : ThreadCall → ℕ) (same : (c : ThreadCall) → f c ≡ bit (p c)) where
@@ -54,38 +55,74 @@ put_is x (Release pages) = refl
 put_is x (Drain cpu) = refl
 put_is x (Resize cpu class n) = refl
 
-order_of : (rows : List ClassRow) (classes : ℕ) (config : Config) (earlier : List ThreadCall) (call : Call) → reads.IsCall classes config earlier call → is_built_call rows call ≡ true → IsInOrder rows earlier call
-order_of rows classes config earlier (Malloc label size) read built = (built, none_counted (λ c. allocates label.0 c.planned.call) (λ c. got label.0 c.planned.call) (λ c. got_is label.0 c.planned.call) earlier read.2)
-order_of rows classes config earlier (Free label) read built = (
+order_of : (classes : ℕ) (config : Config) (earlier : List ThreadCall) (call : Call) → reads.IsCall classes config earlier call → IsInOrder earlier call
+order_of classes config earlier (Malloc label size) read = (read.1, none_counted (λ c. allocates label.0 c.planned.call) (λ c. got label.0 c.planned.call) (λ c. got_is label.0 c.planned.call) earlier read.2)
+order_of classes config earlier (Free label) read = (
   some_counted (λ c. allocates label.0 c.planned.call) (λ c. got label.0 c.planned.call) (λ c. got_is label.0 c.planned.call) earlier read.1,
   none_counted (λ c. frees label.0 c.planned.call) (λ c. put label.0 c.planned.call) (λ c. put_is label.0 c.planned.call) earlier read.2,
 )
-order_of rows classes config earlier (Release pages) read built = tt
-order_of rows classes config earlier (Drain cpu) read built = absurd (cc)
-order_of rows classes config earlier (Resize cpu class n) read built = absurd (cc)
+order_of classes config earlier (Release pages) read = tt
+order_of classes config earlier (Drain cpu) read = tt
+order_of classes config earlier (Resize cpu class n) read = tt
 
-none_is : (o : Option MoveTo) → is_none o ≡ true → o ≡ None
-none_is None is = refl
-none_is (Some m) is = absurd (cc)
+-- the CPU and the class of a call are there, and so is the CPU of a move
+there_of : (m : Limits) (config : Config) (earlier : List ThreadCall) (call : Call) → m.cpus ≡ config.cpus → reads.IsCall (length m.rows) config earlier call → IsCallThere m call
+there_of m config earlier (Malloc label size) same read = tt
+there_of m config earlier (Free label) same read = tt
+there_of m config earlier (Release pages) same read = tt
+there_of m config earlier (Drain cpu) same read = omega (arith, same, read)
+there_of m config earlier (Resize cpu class n) same read = (omega (arith, same, read.0), omega (arith, read.1, min-le_left (length m.rows) 256))
 
--- a fact of each element, at one of them
-each_of : {X : Type 0} (P : X → Type 0) (all earlier : List X) (x : X) (later : List X) → earlier ++ x ∷ later ≡ all → All P all → P x
-each_of P all earlier x later is each =
-    let within : length earlier < length all = omega (arith, length-append earlier (x ∷ later), ap length is) in
-    subst P (ap (λ xs. slice_index_or xs (length earlier) x) (sym is) ∙ get_or-append_seam earlier x later x) (each (length earlier) x within)
+move_of : (m : Limits) (config : Config) (moved : Option MoveTo) → m.cpus ≡ config.cpus → IfSome moved (reads.IsMove config) → IsMove m moved
+move_of m config None same read = tt
+move_of m config (Some move) same read = omega (arith, same, read.cpu)
 
-valid_asked : (rows : List ClassRow) (classes : ℕ) (asked : Asked) → reads.IsAsked classes asked → AreBuilt rows asked.calls → IsValid (record { rows = rows; asked = asked })
-valid_asked rows classes asked valid built =
+-- the rows of a table
+row_of : (row : ClassRow) → table.IsRow row → IsClassRow row
+row_of row is =
     record {
-      some = omega (arith, valid.config.huge.0);
-      few = valid.config.huge.1;
-      region = valid.config.region.0;
-      calls = λ earlier c later is.
-          let read = valid.calls earlier c later is in
-          let parts = and_parts (is_none c.planned.moved) (is_built_call rows c.planned.call) (each_of (λ d. is_built rows d ≡ true) asked.calls earlier c later is built) in
-          record { thread = read.thread; unmoved = none_is c.planned.moved parts.0; order = order_of rows classes asked.config earlier c.planned.call read.call parts.1 };
+      size = omega (arith, is.least_size);
+      small = is.most_size;
+      pages = omega (arith, is.least_pages);
+      most = is.most_pages;
+      fits = is.fits;
+      batch = omega (arith, is.least_batch);
+      few = is.most_batch;
     }
 
-pub valid_read : (rows : List ClassRow) (classes : ℕ) (trace : Trace) (asked : Asked) → IsRead classes trace asked → AreBuilt rows (asked_of trace).calls → IsValid (input_of rows trace)
-valid_read rows classes trace asked read built =
-    subst IsValid (sym (input_is rows classes trace asked read)) (valid_asked rows classes asked read.valid (subst (λ (a : Asked). AreBuilt rows a.calls) (asked_is classes trace asked read) built))
+all_rows : (above : ℕ) (rows : List ClassRow) → table.AreRows above rows → All IsClassRow rows
+all_rows above [] are = All-nil IsClassRow
+all_rows above (row ∷ rows) are = All-cons IsClassRow row rows (row_of row are.0) (all_rows row.size rows are.2)
+
+rows_of : (rows : List ClassRow) → table.IsTable rows → AreRows rows
+rows_of rows is = record { some = omega (arith, is.some); few = is.most; each = all_rows 0 rows is.rows_rise }
+
+limits_of : (config : Config) → reads.IsConfig config → AreLimits config
+limits_of config is =
+    record {
+      cpus = omega (arith, is.cpus.0);
+      some = omega (arith, is.huge.0);
+      few = is.huge.1;
+      region = is.region.0;
+      slab = omega (arith, is.slab.0);
+      slots = is.slab.1;
+      percpu = is.percpu;
+    }
+
+valid_asked : (rows : List ClassRow) (asked : Asked) → table.IsTable rows → reads.IsAsked (length rows) asked → IsValid (record { rows = rows; asked = asked })
+valid_asked rows asked is valid =
+    let m : Limits = record { rows = rows; cpus = asked.config.cpus } in
+    record {
+      rows = rows_of rows is;
+      limits = limits_of asked.config valid.config;
+      calls = λ earlier c later there.
+          let read = valid.calls earlier c later there in
+          record {
+            thread = read.thread;
+            planned = record { call = there_of m asked.config earlier c.planned.call refl read.call; move = move_of m asked.config c.planned.moved refl read.moved };
+            order = order_of (length rows) asked.config earlier c.planned.call read.call;
+          };
+    }
+
+pub valid_read : (rows : List ClassRow) (trace : Trace) (asked : Asked) → table.IsTable rows → IsRead (length rows) trace asked → IsValid (input_of rows trace)
+valid_read rows trace asked is read = subst IsValid (sym (input_is rows (length rows) trace asked read)) (valid_asked rows asked is read.valid)

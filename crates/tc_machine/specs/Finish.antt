@@ -1,5 +1,5 @@
 -- What a run has to tell.
-use Rattle.std.specs.Prelude.{ℕ, List, map}
+use Rattle.std.specs.Prelude.{ℕ, ◌+◌, List, length, map}
 use Rattle.std.specs.List.{range_with_len, slice_index_or}
 use Rattle.tc_model.specs.declared.answers.CallLine.{CallLine}
 use Rattle.tc_model.specs.declared.answers.Finished.{Finished}
@@ -10,21 +10,23 @@ use Rattle.heap_rules.specs.Heap.{Heap, opened, used_pages, backed_pages, row_of
 use Rattle.alloc_rules.specs.declared.part.Part.{Part}
 use Rattle.alloc_rules.specs.declared.part.Part.TheVariants as part
 use Rattle.alloc_rules.specs.Machine.{rules, heap_config}
-use Rattle.alloc_rules.specs.State as allocator
+use Rattle.alloc_rules.specs.Law.{calls}
 
--- the heap among parts, which is the part with number 0
+-- the heap among parts, which is behind the CPUs and the shards
 abbrev pub heap_by : Heap → Part → Heap
 heap_by other (part.Heap heap) = heap
-heap_by other (part.Map spans) = other
-heap_by other (part.Names names) = other
+heap_by other part = other
+
+abbrev pub heap_place : Input → ℕ
+heap_place input = input.asked.config.cpus + length input.rows
 
 abbrev pub heap_in : Input → List Part → Heap
-heap_in input parts = let first = opened (heap_config input.asked.config) in heap_by first (slice_index_or parts 0 (part.Heap first))
+heap_in input parts = let first = opened (heap_config input.asked.config) in heap_by first (slice_index_or parts (heap_place input) (part.Heap first))
 
 -- these calls, in the order in which they were decided, the blocks that they leave, and the pages of the heap
 abbrev pub finished : List CallLine → Heap → Finished
-finished calls heap = record { calls = calls; live = live_count calls; live_bytes = live_bytes calls; used = used_pages heap; resident = backed_pages heap; rows = map (row_of heap) (range_with_len 1 heap.config.huge) }
+finished lines heap = record { calls = lines; live = live_count lines; live_bytes = live_bytes lines; used = used_pages heap; resident = backed_pages heap; rows = map (row_of heap) (range_with_len 1 heap.config.huge) }
 
 -- after the picks of an order
 abbrev pub finished_in : Input → List ℕ → Finished
-finished_in input order = let w = run (rules input) order in finished (allocator.calls w.locals order) (heap_in input w.parts)
+finished_in input order = let w = run (rules input) order in finished (calls w.locals order) (heap_in input w.parts)

@@ -1,5 +1,5 @@
 -- The input of a run, from a class table and a trace that was read.
-use Rattle.std.specs.Prelude.{ℕ, ◌==◌, List, [], ◌∷◌, ◌++◌, drop, if◌then◌else◌}
+use Rattle.std.specs.Prelude.{◌≡◌, ℕ, ◌==◌, List, [], ◌∷◌, ◌++◌, drop, if◌then◌else◌}
 use Rattle.std.specs.List.{slice_index_or}
 use Rattle.tc_units.specs.declared.units.ThreadNo.{ThreadNo}
 use Rattle.tc_units.specs.declared.spans.ClassRow.{ClassRow}
@@ -7,6 +7,13 @@ use Rattle.tc_model.specs.declared.calls.Planned.{Planned}
 use Rattle.tc_model.specs.declared.calls.Script.{Script}
 use Rattle.tc_model.specs.Input.{Input, Asked, ThreadCall}
 use Rattle.trace_reader.specs.declared.trace.Trace.{Trace}
+use Rattle.trace_reader.specs.Traces.{trace_of}
+use Rattle.trace_reader.specs.Valid.{IsAsked}
+
+-- a trace is what the reader answers for what this asks, where there are so many size classes
+pub record IsRead (classes : ℕ) (trace : Trace) (asked : Asked) : Type 0 where
+  pub is : trace ≡ trace_of asked
+  pub valid : IsAsked classes asked
 
 -- the calls of a thread
 abbrev pub script_at : List Script → ℕ → List Planned

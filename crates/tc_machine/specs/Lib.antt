@@ -1,8 +1,6 @@
 pub mod Inputs
-pub mod Built
 pub mod Played
 pub mod Finish
-pub mod Places
 pub mod Held
 pub mod Opening
 pub mod Standing

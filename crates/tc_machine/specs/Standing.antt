@@ -3,7 +3,7 @@ use Rattle.std.specs.Prelude.{◌≡◌, ℕ, ◌*◌, ◌^◌, ◌<◌, ◌≤�
 use Rattle.std.specs.HashMap.{get}
 use Rattle.tc_model.specs.declared.answers.CallLine.{CallLine}
 use Rattle.tc_model.specs.Blocks.{Extent, blocks_after, live_count, live_bytes, IsAllowed}
-use Rattle.alloc_rules.specs.Apart.{AreApart}
+use Rattle.holdings.specs.Apart.{AreApart}
 use Rattle.tc_machine.specs.declared.standing.Standing.{Standing}
 
 pub record AreStanding (earlier : List CallLine) (s : Standing) : Type 0 where

@@ -13,12 +13,12 @@ use std::alloc::{AllocError, Global};
 use tc_model::CallLine;
 use tc_units::{Huge, RowView};
 
-/// The page heap, which is the part with number 0.
-pub fn heap_of(parts: &[Part]) -> &PageHeap
-    requires { (heap : Heap) × (slice_get parts.now 0 ≡ Some (part.Heap heap)) }
-    ensures { slice_get parts.now 0 ≡ Some (part.Heap result.now) }
+/// The page heap, which is the part with this number.
+pub fn heap_of(parts: &[Part], place: usize) -> &PageHeap
+    requires { (heap : Heap) × (slice_get parts.now place ≡ Some (part.Heap heap)) }
+    ensures { slice_get parts.now place ≡ Some (part.Heap result.now) }
 {
-    match &parts[0] {
+    match &parts[place] {
         Part::Heap(heap) => heap,
         _ => unreachable!(),
     }

@@ -1,8 +1,6 @@
-//! The allocator as a machine: any number of threads, whose picks come in any order. Today it serves
-//! large blocks and releases.
+//! The allocator as a machine: any number of threads, whose picks come in any order.
 #![tactic(auto)]
 
-mod built;
 mod finish;
 mod machine;
 mod opening;
@@ -13,6 +11,5 @@ mod telling;
 mod tests;
 
 pub use alloc_rules::Part;
-pub use built::first_unbuilt;
 pub use machine::AllocMachine;
 pub use state::State;

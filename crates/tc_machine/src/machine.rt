@@ -1,14 +1,15 @@
 //! The allocator as a machine of parts and locals.
-ghost use Rattle.std.specs.Prelude.{◌≡◌, ◌≤◌, map};
+ghost use Rattle.std.specs.Prelude.{◌≡◌, ◌+◌, ◌≤◌, length, map};
 ghost use Rattle.tc_units.specs.declared.units.ThreadNo.{ThreadNo};
-ghost use Rattle.alloc_rules.specs.Machine.{turns as turns_of_input};
+ghost use Rattle.alloc_rules.specs.Machine.{number_of, turns as turns_of_input};
 ghost use Rattle.alloc_rules.specs.Valid.{IsValid};
 ghost use Rattle.alloc_rules.proofs.ValidProp.{valid_prop};
 ghost use Rattle.tc_machine.specs.Inputs.{input_of};
-ghost use Rattle.tc_machine.specs.Places.{number_of};
 
 use alloc_rules::Part;
-use call_steps::{Local, Target, act_heap, act_map, act_names, waits};
+use call_steps::{
+    Local, Target, act_cpu, act_domain, act_heap, act_map, act_names, act_shard, waits, yields,
+};
 use size_classes::ClassTable;
 use std::alloc::{AllocError, Global};
 use std::snapshot::Snapshot;
@@ -31,14 +32,32 @@ pub struct AllocMachine {
     pub(crate) ghost valid: { IsValid (input_of table trace.value) } by { valid_prop (input_of table trace.value) },
 }
 
-/// The number of a part.
-fn number_of(target: Target) -> PartNo
-    ensures { result ≡ number_of target }
+/// The number of a part, where there are so many CPUs and classes.
+fn number_of(cpus: u8, classes: u32, target: Target) -> PartNo
+    requires { classes ≤ 120 }
+    ensures { result ≡ number_of cpus classes target }
 {
+    let shards = u16::from(cpus);
+    let classes = classes as u16;
+    let heap = shards + classes;
     match target {
-        Target::Heap => PartNo(0),
-        Target::Map => PartNo(1),
-        Target::Names => PartNo(2),
+        Target::Cpu(cpu) => PartNo(u16::from(cpu.0)),
+        Target::Shard(class) => PartNo(shards + u16::from(class.0)),
+        Target::Heap => PartNo(heap),
+        Target::Map => PartNo(heap + 1),
+        Target::Names => PartNo(heap + 2),
+        Target::Domain { domain, class } => {
+            PartNo(heap + 3 + u16::from(domain) * classes + u16::from(class.0))
+        }
+    }
+}
+
+impl AllocMachine {
+    /// The number of the page heap among the parts.
+    pub(crate) fn heap_place(&self) -> usize
+        ensures { result ≡ self.now.config.cpus + length self.now.table }
+    {
+        usize::from(self.config.cpus) + self.table.len() as usize
     }
 }
 
@@ -54,11 +73,11 @@ impl Machine for AllocMachine {
 
     ghost rules = { λ m. rules (input_of m.table m.trace.value) };
 
-    ghost fits = { λ m. Fits };
+    ghost fits = { λ m. Fits m.table };
 
     fn want(&self, local: &Local) -> Option<PartNo> {
         match local.want() {
-            Some(target) => Some(number_of(target)),
+            Some(target) => Some(number_of(self.config.cpus, self.table.len(), target)),
             None => None,
         }
     }
@@ -74,15 +93,21 @@ impl Machine for AllocMachine {
         }
     }
 
-    fn yields(&self, _part: &Part, _local: &Local) -> bool {
-        true
+    fn yields(&self, part: &Part, local: &Local) -> bool {
+        match part {
+            Part::Cpu(cpu) => yields(cpu, local),
+            _ => true,
+        }
     }
 
     fn act(&self, _alloc: Global, part: &mut Part, local: &mut Local) -> Result<Acted, AllocError> {
         match part {
-            Part::Heap(heap) => act_heap(heap, local),
+            Part::Cpu(cpu) => act_cpu(&self.table, cpu, local),
+            Part::Shard(shard) => act_shard(&self.table, shard, local)?,
+            Part::Heap(heap) => act_heap(&self.table, heap, local),
             Part::Map(map) => act_map(map, local)?,
-            Part::Names(names) => return Ok(act_names(names, local)),
+            Part::Names(names) => return Ok(act_names(&self.table, names, local)),
+            Part::Domain(cache) => act_domain(&self.table, cache, local),
         }
         Ok(Acted::Moved)
     }

@@ -2,7 +2,7 @@
 ghost use Rattle.std.specs.Prelude.{ℕ, ◌≤◌, ◌∷◌, [], ◌++◌, List, OnOk};
 ghost use Rattle.tc_model.specs.Blocks.{IsAllowed, blocks_after};
 ghost use Rattle.tc_model.specs.declared.answers.CallLine.{CallLine as Line};
-ghost use Rattle.alloc_rules.specs.Apart.{AreApart};
+ghost use Rattle.holdings.specs.Apart.{AreApart};
 ghost use Rattle.tc_machine.specs.Standing.{AreStanding, IsNext};
 
 use std::alloc::{AllocError, Global};

@@ -8,8 +8,7 @@ ghost use Rattle.tc_model.specs.Serial.{completed, followed, IsCutShort};
 ghost use Rattle.tc_model.specs.declared.steps.Stepped.TheVariants as step;
 ghost use Rattle.alloc_rules.specs.Machine as allocator;
 ghost use Rattle.alloc_rules.specs.Law.{HoldsAfter};
-ghost use Rattle.tc_machine.specs.Inputs.{asked_of, input_of};
-ghost use Rattle.tc_machine.specs.Built.{IsRead, AreBuilt};
+ghost use Rattle.tc_machine.specs.Inputs.{IsRead, input_of};
 ghost use Rattle.tc_machine.specs.Played.{world};
 ghost use Rattle.tc_machine.specs.Held.{input_in};
 ghost use Rattle.tc_machine.specs.Finish.{finished_in};
@@ -52,16 +51,14 @@ impl Model for State {
 }
 
 impl State {
-    /// The start of a run. Its condition is that the reader answers this trace for some text, and that
-    /// each of its calls is built: an allocation of a large block, a free or a release, without a move.
+    /// The start of a run. Its condition is that the reader answers this trace for some text.
     pub fn open(alloc: Global, table: ClassTable, trace: Trace) -> Result<State, AllocError>
         requires read { (asked : Asked) × IsRead (length table) trace asked }
-        requires built { AreBuilt table (asked_of trace).calls }
         ensures input { IfOk result (λ s. s.input ≡ input_of table trace) }
         ensures asked { IfOk result (λ s. (asked : Asked) → IsRead (length table) trace asked → s.input ≡ record { rows = table; asked = asked }) }
         ensures order { IfOk result (λ s. s.order ≡ []) }
     {
-        let parts = parts_of(alloc, &trace.config, trace.labels)?;
+        let parts = parts_of(alloc, &table, &trace.config, trace.labels)?;
         let seen = Snapshot::of(&trace);
         let Trace {
             config,
@@ -69,7 +66,7 @@ impl State {
             turns,
             labels: _,
         } = trace;
-        let locals = locals_of(alloc, config.cpus, scripts.into_vec())?;
+        let locals = locals_of(alloc, &table, &config, scripts.into_vec())?;
         let machine = AllocMachine {
             table,
             config,
@@ -220,7 +217,7 @@ impl State {
         let replay = &self.replay;
         let calls = told_calls(self.alloc, &replay.locals, &replay.order)?;
         let standing = standing_after(self.alloc, &calls)?;
-        let heap = heap_of(&replay.parts);
+        let heap = heap_of(&replay.parts, replay.machine.heap_place());
         let rows = rows_of(self.alloc, heap, replay.machine.config.huge)?;
         Ok(Finished {
             calls: Listed::new(calls),

@@ -3,7 +3,7 @@ ghost use Rattle.std.specs.Prelude.{◌≡◌, ℕ, ◌+◌, ◌-◌, ◌^◌, �
 ghost use Rattle.std.specs.Option.{option_to_list};
 ghost use Rattle.tc_model.specs.Calls.{AreRising};
 ghost use Rattle.call_steps.specs.Local.{Local as Thread, Decided, told};
-ghost use Rattle.alloc_rules.specs.State.{calls};
+ghost use Rattle.alloc_rules.specs.Law.{calls};
 ghost use Rattle.tc_machine.specs.Telling.{decided_at, is_of, IsMark};
 
 use call_steps::Local;
@@ -32,7 +32,7 @@ fn is_decided(local: &Local, mark: &Mark) -> bool
 fn next_line(local: &Local, mark: &mut Mark) -> Option<CallLine>
     requires mark { IsMark local.now.answers mark.old }
     requires few { mark.old.picks < 2 ^ 64 - 1 }
-    ensures line { option_to_list result ≡ map (told local.now.thread.0) (decided_at mark.old.picks local.now.answers) }
+    ensures line { option_to_list result ≡ map (told local.now.regs.thread.0) (decided_at mark.old.picks local.now.answers) }
     ensures mark { IsMark local.now.answers mark.new }
     ensures picks { mark.new.picks ≡ mark.old.picks + 1 }
 {
@@ -55,7 +55,7 @@ pub fn told_calls(
 ) -> Result<Vec<CallLine>, AllocError>
     requires threads { All (λ t. t < length locals.now) order.now }
     requires few { length order.now ≤ 40000000 }
-    requires own { (t : ℕ) (l : Thread) → slice_get locals.now t ≡ Some l → l.thread.0 ≡ t }
+    requires own { (t : ℕ) (l : Thread) → slice_get locals.now t ≡ Some l → l.regs.thread.0 ≡ t }
     requires rising { (t : ℕ) (l : Thread) → slice_get locals.now t ≡ Some l → AreRising (λ (d : Decided). d.act) 0 l.answers }
     ensures calls { IfOk result (λ lines. lines.items ≡ calls locals.now order.now) }
     ensures few { IfOk result (λ lines. length lines.items ≤ length order.now) }

@@ -1,328 +1,548 @@
-//! Runs of two threads over large blocks, in orders whose acts were worked out by hand: an allocation is
-//! New, Set and Publish, of which New decides it; a free is Take, Lookup, Clear and GiveBack, of which the
-//! last decides it; a release is one act. A block of 254 pages leaves room for none other in its hugepage:
-//! the first stands at address 2,097,152, and one beside it at 4,194,304.
+//! Runs under a table of three classes, whose answers, addresses and measures were worked out by hand.
 ghost use Rattle.std.specs.Prelude.{◌≡◌, [], IfOk};
 
-use crate::{State, first_unbuilt};
+use crate::State;
 use size_classes::ClassTable;
-use std::alloc::Global;
+use std::alloc::{AllocError, Global};
 use std::process::Abort;
 use std::test::Fail;
-use tc_model::{Answer, Call, CallLine, StepFault, Stepped};
-use tc_units::{Addr, Label, RowKind, RowView, ThreadNo};
+use tc_model::{Answer, CallLine, StepFault, Stepped};
+use tc_units::{Addr, RowKind, RowView, ThreadNo};
 use trace_reader::read_trace;
 
-/// A block of 254 pages at the start of hugepage 1, got and freed.
-const GOT_FIRST: Answer = Answer::Block {
-    addr: Addr(2_097_152),
-    len: 2_080_768,
-};
-
-const FREED_FIRST: Answer = Answer::Freed {
-    addr: Addr(2_097_152),
-};
-
-/// A block of all pages of hugepage 1.
-const GOT_WHOLE: Answer = Answer::Block {
-    addr: Addr(2_097_152),
-    len: 2_097_152,
-};
-
-/// A block of 254 pages at the start of hugepage 2, got and freed.
-const GOT_SECOND: Answer = Answer::Block {
-    addr: Addr(4_194_304),
-    len: 2_080_768,
-};
-
-const FREED_SECOND: Answer = Answer::Freed {
-    addr: Addr(4_194_304),
-};
-
-/// The state of two threads at the start of a trace.
-fn opened(rt: &impl Abort, alloc: Global, text: &[u8]) -> Result<State, Fail>
-    ensures threads { IfOk result (λ s. s.input.asked.config.threads ≡ 2) }
+/// The state of so many threads at the start of a trace.
+fn opened(rt: &impl Abort, alloc: Global, text: &[u8], threads: u8) -> Result<State, Fail>
+    ensures threads { IfOk result (λ s. s.input.asked.config.threads ≡ threads) }
     ensures start { IfOk result (λ s. s.order ≡ []) }
 {
     let table = ClassTable::read(alloc, b"16,1,4\n64,1,2\n8192,1,2\n").expect(rt, "a table");
     let trace = read_trace(alloc, text, table.len()).expect(rt, "a trace");
-    let unbuilt = first_unbuilt(alloc, &table, &trace)?;
-    assert!(rt; unbuilt.is_none());
     let state = State::open(alloc, table, trace)?;
-    assert_eq!(rt; state.threads(), 2);
+    assert_eq!(rt; state.threads(), threads);
     Ok(state)
 }
 
-/// A call with its thread, its label and its answer.
-type Line = (u8, u32, Answer);
-
-fn label_of(call: Call) -> Option<Label> {
-    match call {
-        Call::Malloc { label, .. } => Some(label),
-        Call::Free { label } => Some(label),
-        _ => None,
+fn got(addr: u64, len: u64) -> Answer {
+    Answer::Block {
+        addr: Addr(addr),
+        len,
     }
 }
 
-/// A run: the picks of an order file, the order of the picks that move, and the calls in the order of
-/// their deciding acts.
+fn freed(addr: u64) -> Answer {
+    Answer::Freed { addr: Addr(addr) }
+}
+
+fn released(pages: u64) -> Answer {
+    Answer::Released { pages }
+}
+
+fn drained(objects: u64) -> Answer {
+    Answer::Drained { objects }
+}
+
+/// A run: its trace with the number of its threads, the picks of an order file as threads with how often
+/// each is picked, and each call's thread and answer in the order of their deciding acts.
 #[derive(Clone, Copy)]
 struct Run<'a> {
-    picks: &'a [u16],
-    order: &'a [u16],
-    lines: &'a [Line],
+    text: &'a [u8],
+    threads: u8,
+    picks: &'a [(u16, usize)],
+    lines: &'a [(u8, Answer)],
+}
+
+/// What a run leaves: live blocks and their bytes, used pages, and backed pages.
+type Left = (u64, u64, u64, u64);
+
+/// The picks one by one.
+fn picks_of(alloc: Global, runs: &[(u16, usize)]) -> Result<Vec<u16>, AllocError> {
+    let mut picks = Vec::new(alloc);
+    for (thread, count) in runs {
+        for _ in 0..*count {
+            picks.push(*thread)?;
+        }
+    }
+    Ok(picks)
 }
 
 /// Asserts that calls are these.
-fn assert_told(rt: &impl Abort, told: &[CallLine], lines: &[Line]) {
+fn assert_told(rt: &impl Abort, told: &[CallLine], lines: &[(u8, Answer)]) {
     assert_eq!(rt; told.len(), lines.len());
-    for ((thread, label, answer), line) in lines.iter().zip(told) {
+    for ((thread, answer), line) in lines.iter().zip(told) {
         assert_eq!(rt; line.thread, ThreadNo(*thread));
-        assert_eq!(rt; label_of(line.call), Some(Label(*label)));
         assert_eq!(rt; line.answer, *answer);
     }
 }
 
-/// Asserts what comes of an order file.
-fn assert_run(rt: &impl Abort, alloc: Global, text: &[u8], run: &Run) -> Result<(), Fail> {
-    let mut state = opened(rt, alloc, text)?;
-    assert!(rt; run.picks.iter().all(|thread| *thread < 2));
-    assert_eq!(rt; state.run_order(run.picks), Ok(()));
-    assert_eq!(rt; state.order(), run.order);
+/// Asserts what comes of a run, and how many picks moved.
+fn assert_run(rt: &impl Abort, alloc: Global, run: &Run, left: Left) -> Result<usize, Fail> {
+    let threads = u16::from(run.threads);
+    let mut state = opened(rt, alloc, run.text, run.threads)?;
+    let picks = picks_of(alloc, run.picks)?;
+    assert!(rt; picks.iter().all(|thread| *thread < threads));
+    assert_eq!(rt; state.run_order(&picks), Ok(()));
     assert!(rt; state.ended());
     let finished = state.finish()?;
     assert_told(rt, finished.calls.as_slice(), run.lines);
-    Ok(())
+    let found = (
+        finished.live,
+        finished.live_bytes,
+        finished.used,
+        finished.resident,
+    );
+    assert_eq!(rt; found, left);
+    Ok(state.order().len())
 }
 
 #[test]
-fn a_free_waits_for_its_allocation(rt: HostRuntime) -> Result<(), Fail> {
-    let text = b"threads 2\na 0 0 2080768\nf 1 0\n";
-    let mut state = opened(&rt, rt.alloc(), text)?;
-    assert_eq!(rt; state.step(ThreadNo(1)), Ok(Stepped::NotYet));
-    assert_eq!(rt; state.order().len(), 0);
-    assert!(rt; state.yields(ThreadNo(1)));
-    assert_eq!(rt; state.step(ThreadNo(0)), Ok(Stepped::Moved));
-    assert_eq!(rt; state.done(ThreadNo(0)), 0);
-    assert_eq!(rt; state.run_serial(), Ok(()));
-    assert_eq!(rt; state.step(ThreadNo(0)), Ok(Stepped::Ended));
-    assert_eq!(rt; state.done(ThreadNo(0)), 1);
-
-    // Five picks of the thread that waits change nothing.
-    assert_run(
-        &rt,
-        rt.alloc(),
-        text,
-        &Run {
-            picks: &[1, 1, 1, 1, 1],
-            order: &[0, 0, 0, 1, 1, 1, 1],
-            lines: &[(0, 0, GOT_FIRST), (1, 0, FREED_FIRST)],
-        },
-    )
-}
-
-#[test]
-fn calls_are_told_in_the_order_of_their_deciding_acts(rt: HostRuntime) -> Result<(), Fail> {
-    let text = b"threads 2\na 0 0 2080768\na 1 1 2080768\nf 0 1\nf 1 0\n";
-    for run in [
-        // One call after another.
-        Run {
-            picks: &[],
-            order: &[0, 0, 0, 1, 1, 1, 0, 0, 0, 0, 1, 1, 1, 1],
-            lines: &[
-                (0, 0, GOT_FIRST),
-                (1, 1, GOT_SECOND),
-                (0, 1, FREED_SECOND),
-                (1, 0, FREED_FIRST),
-            ],
-        },
-        // Thread 1 asks first, and then waits behind its New.
-        Run {
-            picks: &[1],
-            order: &[1, 0, 0, 0, 1, 1, 0, 0, 0, 0, 1, 1, 1, 1],
-            lines: &[
-                (1, 1, GOT_FIRST),
-                (0, 0, GOT_SECOND),
-                (0, 1, FREED_FIRST),
-                (1, 0, FREED_SECOND),
-            ],
-        },
-        // In turn: thread 0 waits at its free, since thread 1 publishes one pick later.
-        Run {
-            picks: &[1, 0, 1, 0, 0, 0, 1, 0, 1],
-            order: &[1, 0, 1, 0, 0, 1, 0, 1, 0, 0, 0, 1, 1, 1],
-            lines: &[
-                (1, 1, GOT_FIRST),
-                (0, 0, GOT_SECOND),
-                (0, 1, FREED_FIRST),
-                (1, 0, FREED_SECOND),
-            ],
-        },
-        // Thread 1 frees first.
-        Run {
-            picks: &[0, 0, 0, 1, 1, 1, 0, 1, 1, 1, 1],
-            order: &[0, 0, 0, 1, 1, 1, 0, 1, 1, 1, 1, 0, 0, 0],
-            lines: &[
-                (0, 0, GOT_FIRST),
-                (1, 1, GOT_SECOND),
-                (1, 0, FREED_FIRST),
-                (0, 1, FREED_SECOND),
-            ],
-        },
+fn small_objects_go_through_every_part(rt: HostRuntime) -> Result<(), Fail> {
+    for (run, left) in [
+        // Of no size, and an object that comes back through the transfer list: CPU 1 has no capacity.
+        (
+            Run {
+                text: b"a 0 0 0\n",
+                threads: 1,
+                picks: &[],
+                lines: &[(0, got(2_097_152, 16))],
+            },
+            (1, 16, 1, 256),
+        ),
+        (
+            Run {
+                text: b"cpus 2\nthreads 2\na 0 0 10\nf 1 0\na 1 1 10\n",
+                threads: 2,
+                picks: &[],
+                lines: &[
+                    (0, got(2_097_152, 16)),
+                    (1, freed(2_097_152)),
+                    (1, got(2_097_152, 16)),
+                ],
+            },
+            (1, 16, 1, 256),
+        ),
+        (
+            Run {
+                text: b"cpus 2\nthreads 2\na 0 0 10\na 1 1 10\nf 1 0\nf 0 1\n",
+                threads: 2,
+                picks: &[],
+                lines: &[
+                    (0, got(2_097_152, 16)),
+                    (1, got(2_097_216, 16)),
+                    (1, freed(2_097_152)),
+                    (0, freed(2_097_216)),
+                ],
+            },
+            (0, 0, 1, 256),
+        ),
+        // Nothing fits.
+        (
+            Run {
+                text: b"huge 1\na 0 0 2097152\na 0 1 10\nf 0 1\n",
+                threads: 1,
+                picks: &[],
+                lines: &[
+                    (0, got(2_097_152, 2_097_152)),
+                    (0, Answer::NoBlock),
+                    (0, Answer::FreedNull),
+                ],
+            },
+            (1, 2_097_152, 256, 256),
+        ),
+        // The second class can't grow.
+        (
+            Run {
+                text: b"percpu 64\na 0 0 10\na 0 1 64\nd 0 0\n",
+                threads: 1,
+                picks: &[],
+                lines: &[
+                    (0, got(2_097_152, 16)),
+                    (0, got(2_105_344, 64)),
+                    (0, drained(3)),
+                ],
+            },
+            (2, 80, 2, 256),
+        ),
+        // A pop is aborted before its commit, and then the move comes behind it.
+        (
+            Run {
+                text: b"cpus 2\na 0 0 10\np 0 5 1\na 0 1 10\nd 0 0\nd 0 1\n",
+                threads: 1,
+                picks: &[],
+                lines: &[
+                    (0, got(2_097_152, 16)),
+                    (0, got(2_097_216, 16)),
+                    (0, drained(3)),
+                    (0, drained(3)),
+                ],
+            },
+            (2, 32, 1, 256),
+        ),
+        (
+            Run {
+                text: b"cpus 2\na 0 0 10\np 0 6 1\na 0 1 10\nd 0 0\nd 0 1\n",
+                threads: 1,
+                picks: &[],
+                lines: &[
+                    (0, got(2_097_152, 16)),
+                    (0, got(2_097_200, 16)),
+                    (0, drained(2)),
+                    (0, drained(0)),
+                ],
+            },
+            (2, 32, 1, 256),
+        ),
+        // The span goes back to the page heap, and with domains to the cache of its own domain.
+        (
+            Run {
+                text: b"transfer 0\npercpu 0\na 0 0 8192\nf 0 0\n",
+                threads: 1,
+                picks: &[],
+                lines: &[(0, got(2_097_152, 8_192)), (0, freed(2_097_152))],
+            },
+            (0, 0, 0, 256),
+        ),
+        (
+            Run {
+                text: b"cpus 2\nthreads 2\ndomains 2\npercpu 0\na 0 0 8192\nf 1 0\na 0 1 8192\n",
+                threads: 2,
+                picks: &[],
+                lines: &[
+                    (0, got(2_097_152, 8_192)),
+                    (1, freed(2_097_152)),
+                    (0, got(2_105_344, 8_192)),
+                ],
+            },
+            (1, 8_192, 2, 256),
+        ),
+        // Capacities.
+        (
+            Run {
+                text: b"z 0 0 1 3000\n",
+                threads: 1,
+                picks: &[],
+                lines: &[(0, Answer::OverStatic { cap: 2048 })],
+            },
+            (0, 0, 0, 0),
+        ),
+        (
+            Run {
+                text: b"percpu 64\nz 0 0 0 5\n",
+                threads: 1,
+                picks: &[],
+                lines: &[(0, Answer::OverLimit { sum: 80 })],
+            },
+            (0, 0, 0, 0),
+        ),
+        (
+            Run {
+                text: b"percpu 64\nz 0 0 0 4\n",
+                threads: 1,
+                picks: &[],
+                lines: &[(0, Answer::CapSet)],
+            },
+            (0, 0, 0, 0),
+        ),
     ] {
-        assert_run(&rt, rt.alloc(), text, &run)?;
+        assert_run(&rt, rt.alloc(), &run, left)?;
     }
     Ok(())
 }
 
 #[test]
-fn pages_are_taken_until_they_are_given_back(rt: HostRuntime) -> Result<(), Fail> {
-    // The second block is asked for when the first one's span is cleared, and its pages aren't given back.
-    assert_run(
-        &rt,
-        rt.alloc(),
-        b"threads 2\na 0 0 2080768\nf 0 0\na 1 1 2080768\nf 1 1\n",
-        &Run {
-            picks: &[0, 0, 0, 0, 0, 0, 1, 0, 1],
-            order: &[0, 0, 0, 0, 0, 0, 1, 0, 1, 1, 1, 1, 1, 1],
-            lines: &[
-                (0, 0, GOT_FIRST),
-                (1, 1, GOT_SECOND),
-                (0, 0, FREED_FIRST),
-                (1, 1, FREED_SECOND),
-            ],
-        },
-    )
-}
-
-#[test]
-fn nothing_fits(rt: HostRuntime) -> Result<(), Fail> {
-    assert_run(
-        &rt,
-        rt.alloc(),
-        b"threads 2\nhuge 1\na 0 0 2080768\na 1 1 2080768\nf 0 1\n",
-        &Run {
-            picks: &[1, 0],
-            order: &[1, 0, 0, 1, 1, 0, 0, 0, 0],
-            lines: &[
-                (1, 1, GOT_FIRST),
-                (0, 0, Answer::NoBlock),
-                (0, 1, FREED_FIRST),
-            ],
-        },
-    )
-}
-
-/// A run with releases: the picks of an order file, the order of the picks that move, each call's thread
-/// and answer in the order of their deciding acts, and the backed pages that are left.
-#[derive(Clone, Copy)]
-struct Releases<'a> {
-    text: &'a [u8],
-    picks: &'a [u16],
-    order: &'a [u16],
-    answers: &'a [(u8, Answer)],
-    resident: u64,
-}
-
-/// Asserts what comes of a run with releases.
-fn assert_releases(rt: &impl Abort, alloc: Global, run: &Releases) -> Result<(), Fail> {
-    let mut state = opened(rt, alloc, run.text)?;
-    assert!(rt; run.picks.iter().all(|thread| *thread < 2));
-    assert_eq!(rt; state.run_order(run.picks), Ok(()));
-    assert_eq!(rt; state.order(), run.order);
-    assert!(rt; state.ended());
-    let finished = state.finish()?;
-    let told = finished.calls.as_slice();
-    assert_eq!(rt; told.len(), run.answers.len());
-    for ((thread, answer), line) in run.answers.iter().zip(told) {
-        assert_eq!(rt; line.thread, ThreadNo(*thread));
-        assert_eq!(rt; line.answer, *answer);
+fn orders_decide_what_calls_answer(rt: HostRuntime) -> Result<(), Fail> {
+    for (run, left) in [
+        // Thread 0 has loaded an object when thread 1 pops two and pushes them back in the other order.
+        (
+            Run {
+                text: b"threads 2\na 0 0 10\na 0 1 10\na 1 2 10\na 1 3 10\nf 1 2\nf 1 3\n",
+                threads: 2,
+                picks: &[(0, 21), (1, 27)],
+                lines: &[
+                    (0, got(2_097_152, 16)),
+                    (1, got(2_097_200, 16)),
+                    (1, got(2_097_184, 16)),
+                    (1, freed(2_097_200)),
+                    (1, freed(2_097_184)),
+                    (0, got(2_097_184, 16)),
+                ],
+            },
+            (2, 32, 1, 256),
+        ),
+        // A stop comes before a commit, which still is executed, and a fence before it sends the thread back.
+        (
+            Run {
+                text: b"cpus 2\nthreads 2\na 0 0 10\na 0 1 10\nd 1 0\n",
+                threads: 2,
+                picks: &[(0, 21), (1, 1), (0, 1)],
+                lines: &[
+                    (0, got(2_097_152, 16)),
+                    (0, got(2_097_200, 16)),
+                    (1, drained(2)),
+                ],
+            },
+            (2, 32, 1, 256),
+        ),
+        (
+            Run {
+                text: b"cpus 2\nthreads 2\na 0 0 10\na 0 1 10\nd 1 0\n",
+                threads: 2,
+                picks: &[(0, 21), (1, 2), (0, 4)],
+                lines: &[
+                    (0, got(2_097_152, 16)),
+                    (0, got(2_097_216, 16)),
+                    (1, drained(3)),
+                ],
+            },
+            (2, 32, 1, 256),
+        ),
+        // Of two stoppers the second gives up.
+        (
+            Run {
+                text: b"threads 2\nd 0 0\nd 1 0\n",
+                threads: 2,
+                picks: &[(0, 1), (1, 1)],
+                lines: &[(1, Answer::Busy { owner: ThreadNo(0) }), (0, drained(0))],
+            },
+            (0, 0, 0, 0),
+        ),
+        // Large blocks of 254 pages: a free waits for its allocation.
+        (
+            Run {
+                text: b"threads 2\na 0 0 2080768\nf 1 0\n",
+                threads: 2,
+                picks: &[(1, 5)],
+                lines: &[(0, got(2_097_152, 2_080_768)), (1, freed(2_097_152))],
+            },
+            (0, 0, 0, 256),
+        ),
+        // One call after another; thread 1 asks first, and then waits behind its New; in turn; thread 1 frees first.
+        (
+            Run {
+                text: b"threads 2\na 0 0 2080768\na 1 1 2080768\nf 0 1\nf 1 0\n",
+                threads: 2,
+                picks: &[],
+                lines: &[
+                    (0, got(2_097_152, 2_080_768)),
+                    (1, got(4_194_304, 2_080_768)),
+                    (0, freed(4_194_304)),
+                    (1, freed(2_097_152)),
+                ],
+            },
+            (0, 0, 0, 512),
+        ),
+        (
+            Run {
+                text: b"threads 2\na 0 0 2080768\na 1 1 2080768\nf 0 1\nf 1 0\n",
+                threads: 2,
+                picks: &[(1, 1)],
+                lines: &[
+                    (1, got(2_097_152, 2_080_768)),
+                    (0, got(4_194_304, 2_080_768)),
+                    (0, freed(2_097_152)),
+                    (1, freed(4_194_304)),
+                ],
+            },
+            (0, 0, 0, 512),
+        ),
+        (
+            Run {
+                text: b"threads 2\na 0 0 2080768\na 1 1 2080768\nf 0 1\nf 1 0\n",
+                threads: 2,
+                picks: &[(1, 1), (0, 1), (1, 1), (0, 3), (1, 1), (0, 1), (1, 1)],
+                lines: &[
+                    (1, got(2_097_152, 2_080_768)),
+                    (0, got(4_194_304, 2_080_768)),
+                    (0, freed(2_097_152)),
+                    (1, freed(4_194_304)),
+                ],
+            },
+            (0, 0, 0, 512),
+        ),
+        (
+            Run {
+                text: b"threads 2\na 0 0 2080768\na 1 1 2080768\nf 0 1\nf 1 0\n",
+                threads: 2,
+                picks: &[(0, 3), (1, 3), (0, 1), (1, 4)],
+                lines: &[
+                    (0, got(2_097_152, 2_080_768)),
+                    (1, got(4_194_304, 2_080_768)),
+                    (1, freed(2_097_152)),
+                    (0, freed(4_194_304)),
+                ],
+            },
+            (0, 0, 0, 512),
+        ),
+        // The second block is asked for when the first one's span is cleared, and its pages aren't given back.
+        (
+            Run {
+                text: b"threads 2\na 0 0 2080768\nf 0 0\na 1 1 2080768\nf 1 1\n",
+                threads: 2,
+                picks: &[(0, 6), (1, 1), (0, 1)],
+                lines: &[
+                    (0, got(2_097_152, 2_080_768)),
+                    (1, got(4_194_304, 2_080_768)),
+                    (0, freed(2_097_152)),
+                    (1, freed(4_194_304)),
+                ],
+            },
+            (0, 0, 0, 512),
+        ),
+        (
+            Run {
+                text: b"threads 2\nhuge 1\na 0 0 2080768\na 1 1 2080768\nf 0 1\n",
+                threads: 2,
+                picks: &[(1, 1), (0, 1)],
+                lines: &[
+                    (1, got(2_097_152, 2_080_768)),
+                    (0, Answer::NoBlock),
+                    (0, freed(2_097_152)),
+                ],
+            },
+            (0, 0, 0, 256),
+        ),
+    ] {
+        assert_run(&rt, rt.alloc(), &run, left)?;
     }
-    assert_eq!(rt; finished.resident, run.resident);
     Ok(())
 }
 
 #[test]
-fn a_release_unbacks_what_no_run_holds(rt: HostRuntime) -> Result<(), Fail> {
-    let text = b"threads 2\na 0 0 2080768\nf 0 0\nr 1 300\n".as_slice();
-    let released = |pages: u64| (1, Answer::Released { pages });
-    let got = (0, GOT_FIRST);
-    let freed = (0, FREED_FIRST);
-    for run in [
-        // Before anything is backed, and it waits for nobody. The hugepage stays backed in the end.
-        Releases {
-            text,
-            picks: &[1],
-            order: &[1, 0, 0, 0, 0, 0, 0, 0],
-            answers: &[released(0), got, freed],
-            resident: 256,
-        },
-        // Behind New, and before the run is given back: the two pages beside it. A hugepage that isn't
-        // backed whole loses its backing when its last run leaves.
-        Releases {
-            text,
-            picks: &[0, 1],
-            order: &[0, 1, 0, 0, 0, 0, 0, 0],
-            answers: &[got, released(2), freed],
-            resident: 0,
-        },
-        Releases {
-            text,
-            picks: &[0, 0, 0, 0, 0, 0, 1],
-            order: &[0, 0, 0, 0, 0, 0, 1, 0],
-            answers: &[got, released(2), freed],
-            resident: 0,
-        },
-        // Behind the free there is one hugepage to give, though more is asked for.
-        Releases {
-            text,
-            picks: &[],
-            order: &[0, 0, 0, 0, 0, 0, 0, 1],
-            answers: &[got, freed, released(256)],
-            resident: 0,
-        },
+fn backing_follows_frees_and_releases(rt: HostRuntime) -> Result<(), Fail> {
+    for (run, left) in [
+        // Before anything is backed; behind New, where two pages are beside the run; before that is given back; and behind the free.
+        (
+            Run {
+                text: b"threads 2\na 0 0 2080768\nf 0 0\nr 1 300\n",
+                threads: 2,
+                picks: &[(1, 1)],
+                lines: &[
+                    (1, released(0)),
+                    (0, got(2_097_152, 2_080_768)),
+                    (0, freed(2_097_152)),
+                ],
+            },
+            (0, 0, 0, 256),
+        ),
+        (
+            Run {
+                text: b"threads 2\na 0 0 2080768\nf 0 0\nr 1 300\n",
+                threads: 2,
+                picks: &[(0, 1), (1, 1)],
+                lines: &[
+                    (0, got(2_097_152, 2_080_768)),
+                    (1, released(2)),
+                    (0, freed(2_097_152)),
+                ],
+            },
+            (0, 0, 0, 0),
+        ),
+        (
+            Run {
+                text: b"threads 2\na 0 0 2080768\nf 0 0\nr 1 300\n",
+                threads: 2,
+                picks: &[(0, 6), (1, 1)],
+                lines: &[
+                    (0, got(2_097_152, 2_080_768)),
+                    (1, released(2)),
+                    (0, freed(2_097_152)),
+                ],
+            },
+            (0, 0, 0, 0),
+        ),
+        (
+            Run {
+                text: b"threads 2\na 0 0 2080768\nf 0 0\nr 1 300\n",
+                threads: 2,
+                picks: &[],
+                lines: &[
+                    (0, got(2_097_152, 2_080_768)),
+                    (0, freed(2_097_152)),
+                    (1, released(256)),
+                ],
+            },
+            (0, 0, 0, 0),
+        ),
         // A free hugepage is given whole, though one page is asked for.
-        Releases {
-            text: b"threads 2\nhuge 4\na 0 0 2097152\nf 0 0\nr 0 1\n",
-            picks: &[],
-            order: &[0, 0, 0, 0, 0, 0, 0, 0],
-            answers: &[(0, GOT_WHOLE), freed, (0, Answer::Released { pages: 256 })],
-            resident: 0,
-        },
+        (
+            Run {
+                text: b"huge 4\na 0 0 2097152\nf 0 0\nr 0 1\n",
+                threads: 1,
+                picks: &[],
+                lines: &[
+                    (0, got(2_097_152, 2_097_152)),
+                    (0, freed(2_097_152)),
+                    (0, released(256)),
+                ],
+            },
+            (0, 0, 0, 0),
+        ),
+        // An intact hugepage is preferred to a broken one with the better range.
+        (
+            Run {
+                text: b"a 0 0 16384\na 0 1 2080768\nf 0 0\nr 0 100\na 0 2 24576\na 0 3 16384\n",
+                threads: 1,
+                picks: &[],
+                lines: &[
+                    (0, got(2_097_152, 16_384)),
+                    (0, got(2_113_536, 2_080_768)),
+                    (0, freed(2_097_152)),
+                    (0, released(2)),
+                    (0, got(4_194_304, 24_576)),
+                    (0, got(4_218_880, 16_384)),
+                ],
+            },
+            (3, 2_121_728, 259, 510),
+        ),
+        // Two hugepages are used and then none, in four heap calls; the last two calls left one in use, and the last one none.
+        (
+            Run {
+                text: b"a 0 0 2097152\na 0 1 2097152\nf 0 0\nf 0 1\n",
+                threads: 1,
+                picks: &[],
+                lines: &[
+                    (0, got(2_097_152, 2_097_152)),
+                    (0, got(4_194_304, 2_097_152)),
+                    (0, freed(2_097_152)),
+                    (0, freed(4_194_304)),
+                ],
+            },
+            (0, 0, 0, 512),
+        ),
+        (
+            Run {
+                text: b"window 2\na 0 0 2097152\na 0 1 2097152\nf 0 0\nf 0 1\n",
+                threads: 1,
+                picks: &[],
+                lines: &[
+                    (0, got(2_097_152, 2_097_152)),
+                    (0, got(4_194_304, 2_097_152)),
+                    (0, freed(2_097_152)),
+                    (0, freed(4_194_304)),
+                ],
+            },
+            (0, 0, 0, 256),
+        ),
+        (
+            Run {
+                text: b"window 1\na 0 0 2097152\na 0 1 2097152\nf 0 0\nf 0 1\n",
+                threads: 1,
+                picks: &[],
+                lines: &[
+                    (0, got(2_097_152, 2_097_152)),
+                    (0, got(4_194_304, 2_097_152)),
+                    (0, freed(2_097_152)),
+                    (0, freed(4_194_304)),
+                ],
+            },
+            (0, 0, 0, 0),
+        ),
     ] {
-        assert_releases(&rt, rt.alloc(), &run)?;
+        assert_run(&rt, rt.alloc(), &run, left)?;
     }
     Ok(())
 }
 
-#[test]
-fn backing_follows_the_use_of_hugepages(rt: HostRuntime) -> Result<(), Fail> {
-    // Two hugepages are used and then none, in four heap calls.
-    for (text, resident) in [
-        (
-            b"threads 2\na 0 0 2097152\na 0 1 2097152\nf 0 0\nf 0 1\n".as_slice(),
-            512,
-        ),
-        // The last two calls left one hugepage in use, and then none.
-        (
-            b"threads 2\nwindow 2\na 0 0 2097152\na 0 1 2097152\nf 0 0\nf 0 1\n".as_slice(),
-            256,
-        ),
-        // The last call left none in use.
-        (
-            b"threads 2\nwindow 1\na 0 0 2097152\na 0 1 2097152\nf 0 0\nf 0 1\n".as_slice(),
-            0,
-        ),
-    ] {
-        let mut state = opened(&rt, rt.alloc(), text)?;
-        assert_eq!(rt; state.run_serial(), Ok(()));
-        assert!(rt; state.ended());
-        assert_eq!(rt; state.finish()?.resident, resident);
-    }
-    Ok(())
-}
-
-/// Asserts that a run of seven picks, of which so many may move, ends so.
+/// Asserts that a run of these calls, of which so many picks may move, ends so.
 fn assert_limited(
     rt: &impl Abort,
     alloc: Global,
@@ -330,7 +550,7 @@ fn assert_limited(
     ended: Result<(), StepFault>,
     picks: usize,
 ) -> Result<(), Fail> {
-    let mut state = opened(rt, alloc, text)?;
+    let mut state = opened(rt, alloc, text, 1)?;
     assert_eq!(rt; state.run_serial(), ended);
     assert_eq!(rt; state.order().len(), picks);
     Ok(())
@@ -338,90 +558,76 @@ fn assert_limited(
 
 #[test]
 fn picks_end_at_the_limit(rt: HostRuntime) -> Result<(), Fail> {
-    for (text, ticket) in [
-        (b"threads 2\nevents 1\na 0 0 2080768\nf 1 0\n", 1),
-        (b"threads 2\nevents 2\na 0 0 2080768\nf 1 0\n", 2),
-        (b"threads 2\nevents 3\na 0 0 2080768\nf 1 0\n", 3),
-        (b"threads 2\nevents 4\na 0 0 2080768\nf 1 0\n", 4),
-        (b"threads 2\nevents 5\na 0 0 2080768\nf 1 0\n", 5),
-        (b"threads 2\nevents 6\na 0 0 2080768\nf 1 0\n", 6),
-    ] {
-        let full = Err(StepFault::Full { ticket });
-        assert_limited(&rt, rt.alloc(), text, full, ticket as usize)?;
+    let full = Err(StepFault::Full { ticket: 5 });
+    assert_limited(&rt, rt.alloc(), b"events 5\na 0 0 10\n", full, 5)?;
+    // The span is of one page: the batch of four leaves three in the slab, and a second object comes from there.
+    assert_limited(&rt, rt.alloc(), b"events 17\na 0 0 10\n", Ok(()), 17)?;
+    assert_limited(&rt, rt.alloc(), b"a 0 0 10\na 0 1 10\n", Ok(()), 23)?;
+    let full = Err(StepFault::Full { ticket: 6 });
+    assert_limited(
+        &rt,
+        rt.alloc(),
+        b"events 6\na 0 0 2080768\nf 0 0\n",
+        full,
+        6,
+    )?;
+    assert_limited(
+        &rt,
+        rt.alloc(),
+        b"events 7\na 0 0 2080768\nf 0 0\n",
+        Ok(()),
+        7,
+    )
+}
+
+/// A hugepage of a region.
+fn in_region(used: u32, allocs: u32, backed: u32, longest: u32) -> RowView {
+    RowView {
+        kind: RowKind::Region,
+        used,
+        allocs,
+        backed,
+        longest,
+        donated: false,
     }
-    let all = b"threads 2\nevents 7\na 0 0 2080768\nf 1 0\n";
-    assert_limited(&rt, rt.alloc(), all, Ok(()), 7)
 }
 
-#[test]
-fn a_state_is_split_and_gathered(rt: HostRuntime) -> Result<(), Fail> {
-    let state = opened(&rt, rt.alloc(), b"threads 2\na 1 0 2080768\n")?;
-    let (machine, parts, locals) = state.split();
-    assert_eq!(rt; parts.len(), 3);
-    assert_eq!(rt; locals.len(), 2);
-    let order = Vec::new(rt.alloc());
-    let mut state = State::gather(rt.alloc(), machine, parts, locals, order);
-    assert_eq!(rt; state.run_serial(), Ok(()));
-    let order = state.into_order();
-    assert_eq!(rt; order.as_slice(), [1u16, 1, 1].as_slice());
-    Ok(())
-}
-
-#[test]
-fn what_a_run_leaves_is_told(rt: HostRuntime) -> Result<(), Fail> {
-    let mut state = opened(&rt, rt.alloc(), b"threads 2\nhuge 2\na 1 0 2080768\n")?;
+/// Asserts what a run of one thread leaves of each hugepage.
+fn assert_rows(rt: &impl Abort, alloc: Global, text: &[u8], rows: &[RowView]) -> Result<(), Fail> {
+    let mut state = opened(rt, alloc, text, 1)?;
     assert_eq!(rt; state.run_serial(), Ok(()));
     assert!(rt; state.ended());
     let told = state.finish()?;
-    assert_eq!(rt; told.live, 1);
-    assert_eq!(rt; told.live_bytes, 2_080_768);
-    assert_eq!(rt; told.used, 254);
-    assert_eq!(rt; told.resident, 256);
-    let first = RowView {
-        kind: RowKind::Filler,
-        used: 254,
-        allocs: 1,
-        backed: 256,
-        longest: 2,
-        donated: false,
-    };
-    let second = RowView {
-        kind: RowKind::Free,
-        used: 0,
-        allocs: 0,
-        backed: 0,
-        longest: 256,
-        donated: false,
-    };
-    assert_eq!(rt; told.rows.as_slice(), [first, second].as_slice());
+    assert_eq!(rt; told.rows.as_slice(), rows);
     Ok(())
-}
-
-/// The line of the first call of a trace that isn't built.
-fn unbuilt(rt: &impl Abort, alloc: Global, text: &[u8]) -> Result<Option<u32>, Fail> {
-    let table = ClassTable::read(alloc, b"16,1,4\n64,1,2\n8192,1,2\n").expect(rt, "a table");
-    let trace = read_trace(alloc, text, table.len()).expect(rt, "a trace");
-    Ok(first_unbuilt(alloc, &table, &trace)?)
 }
 
 #[test]
-fn the_first_call_that_is_not_built_is_named(rt: HostRuntime) -> Result<(), Fail> {
-    for (text, line) in [
-        (b"a 0 0 8193\nf 0 0\n".as_slice(), None),
-        (b"a 0 0 8192\n".as_slice(), Some(1)),
-        (b"a 0 0 0\n".as_slice(), Some(1)),
-        // A release is built. In trace order it is thread 1's drain, though thread 0's script has a small
-        // request.
-        (
-            b"threads 2\na 0 0 8193\nr 1 7\nd 1 0\na 0 1 8\n".as_slice(),
-            Some(4),
-        ),
-        // A move belongs to the thread's next call.
-        (b"cpus 2\np 0 1 1\na 0 0 8193\n".as_slice(), Some(3)),
-        (b"d 0 0\n".as_slice(), Some(1)),
-        (b"z 0 0 1 5\n".as_slice(), Some(1)),
-    ] {
-        assert_eq!(rt; unbuilt(&rt, rt.alloc(), text)?, line);
-    }
-    Ok(())
+fn a_state_is_split_gathered_and_stepped(rt: HostRuntime) -> Result<(), Fail> {
+    let text = b"threads 2\na 0 0 2080768\nf 1 0\n";
+    let state = opened(&rt, rt.alloc(), text, 2)?;
+    let (machine, parts, locals) = state.split();
+    assert_eq!(rt; parts.len(), 7);
+    assert_eq!(rt; locals.len(), 2);
+    let order = Vec::new(rt.alloc());
+    let mut state = State::gather(rt.alloc(), machine, parts, locals, order);
+    assert_eq!(rt; state.step(ThreadNo(1)), Ok(Stepped::NotYet));
+    assert!(rt; state.yields(ThreadNo(1)));
+    assert_eq!(rt; state.order().len(), 0);
+    assert_eq!(rt; state.step(ThreadNo(0)), Ok(Stepped::Moved));
+    assert_eq!(rt; state.done(ThreadNo(0)), 0);
+    assert_eq!(rt; state.run_serial(), Ok(()));
+    assert_eq!(rt; state.step(ThreadNo(0)), Ok(Stepped::Ended));
+    assert_eq!(rt; state.done(ThreadNo(0)), 1);
+    let order = state.into_order();
+    assert_eq!(rt; order.as_slice(), [0u16, 0, 0, 1, 1, 1, 1].as_slice());
+
+    let text = b"huge 4\nregion 4\nslack 0\na 0 0 2457600\na 0 1 2457600\n";
+    let rows = [
+        in_region(256, 1, 256, 0),
+        in_region(256, 2, 256, 0),
+        in_region(88, 1, 256, 168),
+        in_region(0, 0, 0, 256),
+    ];
+    assert_rows(&rt, rt.alloc(), text, &rows)
 }

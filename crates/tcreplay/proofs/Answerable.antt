@@ -1,6 +1,6 @@
 -- Each answer that a set of blocks allows is of a kind that its call can get.
 use Rattle.std.proofs.Common.{◌≡◌, ℕ, true, List, refl}
-use Rattle.std.specs.Prelude.{length, take, slice_index_or}
+use Rattle.std.specs.Prelude.{take, slice_index_or}
 use Rattle.std.specs.List.{list_all}
 use Rattle.std.proofs.lemmas.List.Sums.{list_all-from_AllPass}
 use Rattle.tc_model.specs.declared.calls.Call.{Call}

@@ -1,18 +1,15 @@
 -- Where the ends tell what they have, what a replay comes to is the verdict on that.
-use Rattle.std.proofs.Common.{◌≡◌, ◌⊎◌, ℕ, Bool, true, false, cond, List, [], Option, Some, None, Result, Ok, Err, refl, sym, ap, subst, ◌∙◌, inl, inr}
+use Rattle.std.proofs.Common.{◌≡◌, ◌⊎◌, ℕ, Bool, true, false, List, Option, Some, None, Result, Ok, Err, refl, sym, ap, subst, ◌∙◌, inl, inr}
 use Rattle.std.specs.Prelude.{IfSome, ◌↔◌}
 use Rattle.std.specs.FinMap.{get}
-use Rattle.tc_model.specs.Input.{Asked}
-use Rattle.tc_units.specs.declared.spans.ClassRow.{ClassRow}
 use Rattle.tc_ports.specs.Shelves.{Files}
 use Rattle.tcreplay.specs.declared.outcome.End.{End}
-use Rattle.tcreplay.specs.declared.outcome.End.TheVariants.{Done, Usage, ReadFault, WriteFault, Memory, Full, FileFault}
-use Rattle.tcreplay.specs.Words.{Replay}
+use Rattle.tcreplay.specs.declared.outcome.End.TheVariants.{Usage, ReadFault, Memory, FileFault}
+use Rattle.tcreplay.specs.Words.{Replay, file_of}
 use Rattle.alloc_rules.specs.Machine.{rules}
 use Rattle.tc_model.specs.Run.{run}
-use Rattle.tc_machine.specs.Finish.{finished_in}
-use Rattle.tcreplay.specs.Verdict.{Given, Job, and_then, rows_in, asked_in, picks_or_none, job_with, job_of, judged, run_verdict, have_ended, order_of_job, text_with, Verdict}
-use Rattle.tcreplay.specs.Reads.{Reading, Shelving, IsFile, AreGiven, CutOff}
+use Rattle.tcreplay.specs.Verdict.{Given, Job, and_then, rows_in, asked_in, picks_or, job_with, job_of, run_verdict, have_ended, order_of_job, Verdict}
+use Rattle.tcreplay.specs.Reads.{Reading, Shelving, HaveCome, AreGiven, CutOff}
 use Rattle.tcreplay.specs.Replayed.{Writing, Ends, IsWritten, HasTried, IsAnswered, IsOutcome, SomeRose, IsComplete, order_file, given_by, verdict_on}
 use Rattle.tcreplay.proofs.EndFacts.{FailsJob, job_fails}
 use Rattle.tcreplay.proofs.RunFacts.{verdict_if}
@@ -22,18 +19,18 @@ then_same : {A B : Type 0} (f g : A → Result B End) (r : Result A End) → ((a
 then_same f g (Ok a) same = same a
 then_same f g (Err end) same = refl
 
-picks_same : (all : Files) (order : Option (List ℕ)) (file : Option (List ℕ)) (threads : ℕ) → IfSome order (λ name. file ≡ get all name) → picks_or_none order threads file ≡ picks_or_none order threads (order_file all order)
-picks_same all None file threads told = refl
-picks_same all (Some name) file threads told = ap (picks_or_none (Some name) threads) told
+picks_same : (all : Files) (order : Option (List ℕ)) (file : Option (List ℕ)) (threads : ℕ) (came : List ℕ) → IfSome order (λ name. file ≡ get all name) → picks_or order threads file came ≡ picks_or order threads (order_file all order) came
+picks_same all None file threads came told = refl
+picks_same all (Some name) file threads came told = ap (λ f. picks_or (Some name) threads f came) told
 
 -- what is told is what was given
-job_same : (replay : Replay) (given : Given) (all : Files) (text : List ℕ) → AreGiven replay (Some all) (Some text) given → job_of replay given ≡ job_of replay (given_by replay all text)
+job_same : (replay : Replay) (given : Given) (all : Files) (text : List ℕ) → AreGiven replay (Some all) (Some text) given → job_of replay given ≡ job_of replay (given_by replay all text given.came)
 job_same replay given all text told =
     ap (λ file. and_then (λ rows. and_then (job_with replay given rows) (asked_in rows given.trace)) (rows_in file)) told.table
     ∙ (ap (λ bytes. and_then (λ rows. and_then (job_with replay given rows) (asked_in rows bytes)) (rows_in (get all replay.classes))) told.trace
-    ∙ then_same (λ rows. and_then (job_with replay given rows) (asked_in rows text)) (λ rows. and_then (job_with replay (given_by replay all text) rows) (asked_in rows text)) (rows_in (get all replay.classes))
-    (λ rows. then_same (job_with replay given rows) (job_with replay (given_by replay all text) rows) (asked_in rows text)
-    (λ asked. ap (and_then (λ picks. Ok (record { input = record { rows = rows; asked = asked }; picks = picks }))) (picks_same all replay.order given.order asked.config.threads told.order))))
+    ∙ then_same (λ rows. and_then (job_with replay given rows) (asked_in rows text)) (λ rows. and_then (job_with replay (given_by replay all text given.came) rows) (asked_in rows text)) (rows_in (get all replay.classes))
+    (λ rows. then_same (job_with replay given rows) (job_with replay (given_by replay all text given.came) rows) (asked_in rows text)
+    (λ asked. ap (and_then (λ picks. Ok (record { input = record { rows = rows; asked = asked }; picks = picks }))) (picks_same all (file_of replay.schedule) given.order asked.config.threads given.came told.order))))
 
 -- what came between is want of memory, or a count that rose
 cut_by : (replay : Replay) (given : Given) (before after : Ends) (end : End) → CutOff replay given before.trace after.trace before.files after.files end → (end ≡ Memory) ⊎ SomeRose before after
@@ -48,9 +45,15 @@ told_in replay given before all text files left told = subst (λ l. AreGiven rep
 complete_tried : (replay : Replay) (before after : Ends) (end : End) (order : List ℕ) → HasTried replay before.trace after.trace before.files after.files before.out after.out end order → IsComplete (Some replay) before after end order
 complete_tried replay before after end order tried all text files left =
     let told = told_in replay tried.given before all text files left tried.told in
-    let same : verdict_on replay tried.given ≡ verdict_on replay (given_by replay all text) = ap (run_verdict replay.rows) (job_same replay tried.given all text told) in
+    let job = job_same replay tried.given all text told in
+    let same : verdict_on replay tried.given ≡ verdict_on replay (given_by replay all text tried.given.came) = ap (run_verdict replay.rows) job in
     elim tried.answer [
-      | inl is ↦ inl (is.0 ∙ ap (λ (v : Verdict). v.end) same, is.1 ∙ ap (λ (v : Verdict). v.order) same)
+      | inl is ↦ inl (record {
+        came = tried.given.came;
+        made = subst (λ j. HaveCome replay.schedule j tried.given.came) job tried.told.came;
+        end_is = is.0 ∙ ap (λ (v : Verdict). v.end) same;
+        order_is = is.1 ∙ ap (λ (v : Verdict). v.order) same;
+      })
       | inr (inl cut) ↦ inr (cut_by replay tried.given before after end cut.1)
       | inr (inr failed) ↦ inr (inr (inr (inr (subst (λ e. IsWritten e (verdict_on replay tried.given).text before.out after.out) failed.0 tried.out).rose)))
     ]

@@ -1,5 +1,5 @@
 -- Which ends a step can have.
-use Rattle.std.proofs.Common.{◌≡◌, ℕ, Bool, true, false, cond, List, [], length, Option, Some, None, Result, Ok, Err, refl, subst, nat_lt}
+use Rattle.std.proofs.Common.{◌≡◌, ℕ, Bool, true, false, cond, List, length, Option, Some, None, Result, Ok, Err, subst, nat_lt}
 use Rattle.size_classes.specs.declared.fault.RowWhy.{RowWhy}
 use Rattle.tc_units.specs.declared.spans.ClassRow.{ClassRow}
 use Rattle.tc_model.specs.Input.{Asked}
@@ -7,15 +7,13 @@ use Rattle.size_classes.specs.declared.fault.TableFault.{TableFault}
 use Rattle.size_classes.specs.declared.fault.TableFault.TheVariants as table
 use Rattle.size_classes.specs.Table.{table_of}
 use Rattle.trace_reader.specs.declared.why.LineWhy.{LineWhy}
-use Rattle.trace_reader.specs.declared.why.LineWhy.TheVariants as why
 use Rattle.trace_reader.specs.declared.why.OrderWhy.{OrderWhy}
-use Rattle.trace_reader.specs.Reading.{BadLine, asked_by}
+use Rattle.trace_reader.specs.Reading.{asked_by}
 use Rattle.trace_reader.specs.Orders.{picks_by}
-use Rattle.tc_machine.specs.Built.{first_unbuilt}
 use Rattle.tcreplay.specs.declared.outcome.End.{End}
 use Rattle.tcreplay.specs.declared.outcome.End.TheVariants.{BadTable, BadTrace, Memory, TooLong, BadOrder, FileFault}
-use Rattle.tcreplay.specs.Words.{Replay}
-use Rattle.tcreplay.specs.Verdict.{Given, Job, and_then, or_end, within, file_within, table_limit, trace_limit, table_end, trace_end, order_end, rows_in, built_or, built, asked_of_text, asked_in, picks_in, picks_or_none, job_with, job_of}
+use Rattle.tcreplay.specs.Words.{Replay, file_of}
+use Rattle.tcreplay.specs.Verdict.{Given, and_then, or_end, within, file_within, table_limit, trace_limit, table_end, trace_end, order_end, rows_in, asked_of_text, asked_in, picks_or, job_with, job_of}
 
 -- a test that no end of the reading passes
 pub record Fails (p : End → Bool) : Type 0 where
@@ -64,25 +62,21 @@ table_end_is p fails table.Memory = fails.all.memory
 rows_ends : (p : End → Bool) (file : Option (List ℕ)) → FailsTable p → Ends p (rows_in file)
 rows_ends p file fails = then_ends p (λ bytes. or_end table_end (table_of bytes)) (file_within table_limit file) (file_ends p table_limit file fails.all) (λ bytes. or_ends p table_end (table_of bytes) (table_end_is p fails))
 
-built_ends : (p : End → Bool) (first : Option ℕ) (asked : Asked) → FailsJob p → Ends p (built_or first asked)
-built_ends p None asked fails = tt
-built_ends p (Some line) asked fails = fails.trace line why.NotBuilt
-
 asked_ends : (p : End → Bool) (rows : List ClassRow) (bytes : List ℕ) → FailsJob p → Ends p (asked_in rows bytes)
 asked_ends p rows bytes fails =
     then_ends p (asked_of_text rows) (within trace_limit bytes) (within_ends p trace_limit bytes (fails.table.all.long trace_limit))
-    (λ text. then_ends p (built rows) (or_end trace_end (asked_by (length rows) text)) (or_ends p trace_end (asked_by (length rows) text) (λ bad. fails.trace bad.line bad.why)) (λ asked. built_ends p (first_unbuilt rows asked.calls) asked fails))
+    (λ text. or_ends p trace_end (asked_by (length rows) text) (λ bad. fails.trace bad.line bad.why))
 
-picks_ends : (p : End → Bool) (order : Option (List ℕ)) (threads : ℕ) (file : Option (List ℕ)) → FailsJob p → Ends p (picks_or_none order threads file)
-picks_ends p None threads file fails = tt
-picks_ends p (Some name) threads file fails =
+picks_ends : (p : End → Bool) (order : Option (List ℕ)) (threads : ℕ) (file : Option (List ℕ)) (came : List ℕ) → FailsJob p → Ends p (picks_or order threads file came)
+picks_ends p None threads file came fails = tt
+picks_ends p (Some name) threads file came fails =
     then_ends p (λ bytes. or_end order_end (picks_by threads bytes)) (file_within trace_limit file) (file_ends p trace_limit file fails.table.all) (λ bytes. or_ends p order_end (picks_by threads bytes) (λ bad. fails.order bad.line bad.why))
 
 job_ends : (p : End → Bool) (replay : Replay) (given : Given) → FailsJob p → Ends p (job_of replay given)
 job_ends p replay given fails =
     then_ends p (λ rows. and_then (job_with replay given rows) (asked_in rows given.trace)) (rows_in given.table) (rows_ends p given.table fails.table)
     (λ rows. then_ends p (job_with replay given rows) (asked_in rows given.trace) (asked_ends p rows given.trace fails)
-    (λ asked. then_ends p (λ picks. Ok (record { input = record { rows = rows; asked = asked }; picks = picks })) (picks_or_none replay.order asked.config.threads given.order) (picks_ends p replay.order asked.config.threads given.order fails) (λ picks. tt)))
+    (λ asked. then_ends p (λ picks. Ok (record { input = record { rows = rows; asked = asked }; picks = picks })) (picks_or (file_of replay.schedule) asked.config.threads given.order given.came) (picks_ends p (file_of replay.schedule) asked.config.threads given.order given.came fails) (λ picks. tt)))
 
 -- an end that a class table, or the reading, came to fails the test
 pub table_fails : (p : End → Bool) (file : Option (List ℕ)) (end : End) → FailsTable p → rows_in file ≡ Err end → p end ≡ false

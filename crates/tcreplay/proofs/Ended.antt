@@ -1,12 +1,10 @@
 -- Whether all scripts have ended, as a test and as a fact.
-use Rattle.std.proofs.Common.{◌≡◌, true, false, List, Option, None, Some, refl, sym, ap, ◌∙◌, inl, inr}
-use Rattle.std.specs.Prelude.{ℕ, is_none, slice_get, All}
+use Rattle.std.proofs.Common.{◌≡◌, true, false, Option, None, Some, refl, sym, ap, ◌∙◌, inl, inr}
+use Rattle.std.specs.Prelude.{ℕ, is_none, slice_get}
 use Rattle.std.proofs.lemmas.Bool.{cases_Bool}
 use Rattle.std.proofs.lemmas.List.Sums.{AllPass-from_list_all, list_all-from_AllPass}
-use Rattle.std.proofs.lemmas.List.Elements.{All-weaker, All-get_or}
+use Rattle.std.proofs.lemmas.List.Elements.{All-weaker}
 use Rattle.std.proofs.lemmas.Option.{slice_get_within, get_or_from_slice_get}
-use Rattle.tc_model.specs.declared.machine.PartNo.{PartNo}
-use Rattle.tc_model.specs.declared.steps.Stepped.{Stepped}
 use Rattle.tc_model.specs.declared.steps.Stepped.TheVariants as step
 use Rattle.tc_model.specs.Run.{Rules, World}
 use Rattle.tc_model.specs.Steps.{stepped, stepped_by, stepped_at}

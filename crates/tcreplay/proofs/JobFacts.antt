@@ -1,6 +1,6 @@
 -- What the steps of reading come to together.
-use Rattle.std.proofs.Common.{◌≡◌, ℕ, ◌+◌, ◌<◌, ◌≤◌, ◌⊎◌, inl, inr, Bool, true, false, cond, List, [], length, Option, Some, None, Result, Ok, Err, refl, sym, ap, subst, ◌∙◌, arith, nat_lt, min}
-use Rattle.std.specs.Prelude.{IfSome, IsOk, IsErr, IsErrAnd, is_ok, is_err, Vec, ◌^◌, ◌-◌}
+use Rattle.std.proofs.Common.{◌≡◌, ℕ, ◌+◌, ◌≤◌, inl, inr, true, false, List, [], Option, Some, None, Result, Ok, Err, refl, sym, ap, subst, ◌∙◌, arith}
+use Rattle.std.specs.Prelude.{IfSome, IsErr, IsErrAnd, is_ok, is_err, Vec, ◌^◌, ◌-◌}
 use Rattle.std.specs.Global.{Global}
 use Rattle.std.proofs.Math.Nat.{min-le_left}
 use Rattle.tc_units.specs.declared.spans.ClassRow.{ClassRow}
@@ -10,11 +10,12 @@ use Rattle.tc_ports.specs.Shelves.{Files}
 use Rattle.trace_reader.specs.declared.trace.Trace.{Trace}
 use Rattle.tc_machine.specs.Inputs.{asked_of}
 use Rattle.tcreplay.specs.declared.outcome.End.{End}
-use Rattle.tcreplay.specs.declared.outcome.End.TheVariants.{Done, Usage, BadTable, BadTrace, ReadFault, WriteFault, Memory, TooLong, Full, BadOrder, FileFault}
+use Rattle.tcreplay.specs.declared.outcome.End.TheVariants.{Done, ReadFault, FileFault}
 use Rattle.tcreplay.specs.declared.input.Job.{Job}
-use Rattle.tcreplay.specs.Words.{Replay}
-use Rattle.tcreplay.specs.Verdict.{Given, and_then, or_end, within, file_within, table_limit, trace_limit, table_end, rows_in, asked_in, picks_in, picks_or_none, job_with, job_of}
-use Rattle.tcreplay.specs.Reads.{Reading, Shelving, IsFile, IsStep, IsLoad, ArePicks, IsTraceRead, AreGiven, CutOff, HasRead, IsJobOf, IsJobRead, asked_by, most_loads, order_loads, end_of, is_behind_trace, seen_job}
+use Rattle.tcreplay.specs.Words.{Replay, Schedule, InTurn, ByFile, ByThreads, file_of}
+use Rattle.tcreplay.specs.Verdict as verdict
+use Rattle.tcreplay.specs.Verdict.{Given, and_then, or_end, within, file_within, table_limit, trace_limit, table_end, rows_in, asked_in, picks_in, picks_or, job_with, job_of}
+use Rattle.tcreplay.specs.Reads.{Reading, Shelving, IsFile, IsStep, IsLoad, ArePicks, IsTraceRead, HaveCome, CutOff, HasRead, IsJobOf, IsJobRead, asked_by, order_loads, is_behind_trace}
 use Rattle.tcreplay.proofs.EndFacts.{FailsTable, table_fails}
 use Rattle.tcreplay.proofs.LoadFacts.{some_file, some_file_is}
 use Rattle.tcreplay.proofs.TraceFacts.{some_text, some_text_is, lost_none}
@@ -32,6 +33,13 @@ step_count : {A B : Type 0} (seen : B → A) (verdict : Result A End) (fault end
 step_count seen verdict fault end old new (inl e) other = e.1
 step_count seen verdict fault end old new (inr (inl memory)) other = memory.1
 step_count seen verdict fault end old new (inr (inr failed)) other = absurd (other failed.0)
+
+-- before a run no picks came
+none_came : (schedule : Schedule) (job : Result verdict.Job End) → HaveCome schedule job []
+none_came InTurn job = refl
+none_came (ByFile order) job = refl
+none_came (ByThreads locks) (Ok job) = record { polite = tt; few = omega arith }
+none_came (ByThreads locks) (Err end) = refl
 
 -- one load and two loads, of at most so many
 one_load : (loads old new : ℕ) → new ≡ one_more old → new ≤ old + (1 + loads)
@@ -58,7 +66,7 @@ some_order_is files (Some name) = some_file_is files name
 -- the class table ends the work
 table_stops : (replay : Replay) (t : Reading) (f g : Shelving) (end : End) → IsLoad (λ (rows : List ClassRow). rows) rows_in replay.classes f g (Err end) → IsJobRead replay t t f g (Err end)
 table_stops replay t f g end load =
-    let given : Given = record { table = load.file; trace = some_text t.left; order = some_order f.files replay.order } in
+    let given : Given = record { table = load.file; trace = some_text t.left; order = some_order f.files (file_of replay.schedule); came = [] } in
     let answer : IsJobOf replay given t t f g (Err end) = elim load.step [
       | inl e ↦ inl (ap (λ r. and_then (λ rows. and_then (job_with replay given rows) (asked_in rows given.trace)) r) e.0)
       | inr (inl memory) ↦ inr (subst (CutOff replay given t t f g) (sym memory.0) tt)
@@ -71,11 +79,11 @@ table_stops replay t f g end load =
     ] in
     record {
       given = given;
-      told = record { table = load.told; trace = some_text_is t.left; order = some_order_is f.files replay.order };
+      told = record { table = load.told; trace = some_text_is t.left; order = some_order_is f.files (file_of replay.schedule); came = none_came replay.schedule (job_of replay given) };
       answer = answer;
       read = record {
         files = load.files;
-        loads = one_load (order_loads replay.order (asked_by given)) f.loads g.loads load.once;
+        loads = one_load (order_loads (file_of replay.schedule) (asked_by given)) f.loads g.loads load.once;
         file_count = step_count (λ (rows : List ClassRow). rows) (rows_in load.file) FileFault end f.faults g.faults load.step;
         untouched = λ _. refl;
         lost = lost_none t.left (trace_limit + 1);
@@ -88,7 +96,7 @@ table_stops replay t f g end load =
 -- the trace ends the work
 trace_stops : (replay : Replay) (t u : Reading) (f g : Shelving) (rows : List ClassRow) (end : End) → IsLoad (λ (rows : List ClassRow). rows) rows_in replay.classes f g (Ok rows) → IsTraceRead rows t u (Err end) → IsJobRead replay t u f g (Err end)
 trace_stops replay t u f g rows end load trace =
-    let given : Given = record { table = load.file; trace = trace.text; order = some_order f.files replay.order } in
+    let given : Given = record { table = load.file; trace = trace.text; order = some_order f.files (file_of replay.schedule); came = [] } in
     let answer : IsJobOf replay given t u f g (Err end) = elim trace.step [
       | inl e ↦ inl (ap (λ r. and_then (λ rows. and_then (job_with replay given rows) (asked_in rows given.trace)) r) load.step.0 ∙ ap (and_then (job_with replay given rows)) e.0)
       | inr (inl memory) ↦ inr (subst (CutOff replay given t u f g) (sym memory.0) tt)
@@ -96,11 +104,11 @@ trace_stops replay t u f g rows end load trace =
     ] in
     record {
       given = given;
-      told = record { table = load.told; trace = trace.told; order = some_order_is f.files replay.order };
+      told = record { table = load.told; trace = trace.told; order = some_order_is f.files (file_of replay.schedule); came = none_came replay.schedule (job_of replay given) };
       answer = answer;
       read = record {
         files = load.files;
-        loads = one_load (order_loads replay.order (asked_by given)) f.loads g.loads load.once;
+        loads = one_load (order_loads (file_of replay.schedule) (asked_by given)) f.loads g.loads load.once;
         file_count = λ _. load.step.1;
         untouched = λ err. absurd (not_err (rows_in load.file) rows load.step.0 err);
         lost = trace.lost;
@@ -126,13 +134,13 @@ loads_two : (order : Option (List ℕ)) (asked : Result Asked End) (name : List 
 loads_two order asked name a named is = ap (λ o. 1 + order_loads o asked) named ∙ ap (λ r. 1 + order_loads (Some name) r) is
 
 -- the picks of a named order
-named_picks : (replay : Replay) (name : List ℕ) (threads : ℕ) (file : Option (List ℕ)) → replay.order ≡ Some name → picks_or_none replay.order threads file ≡ picks_in threads file
-named_picks replay name threads file named = ap (λ o. picks_or_none o threads file) named
+named_picks : (replay : Replay) (name : List ℕ) (threads : ℕ) (file : Option (List ℕ)) → file_of replay.schedule ≡ Some name → picks_or (file_of replay.schedule) threads file [] ≡ picks_in threads file
+named_picks replay name threads file named = ap (λ o. picks_or o threads file []) named
 
 -- what was read behind a good trace, with the order file or without
-behind_order : (replay : Replay) (name : List ℕ) (t u : Reading) (f g h : Shelving) (rows : List ClassRow) (trace : Trace) (given : Given) (end : End) → replay.order ≡ Some name → rows_in given.table ≡ Ok rows → asked_in rows given.trace ≡ Ok (asked_of trace) → g.files ≡ f.files → h.files ≡ g.files → g.loads ≡ one_more f.loads → h.loads ≡ one_more g.loads → ((end ≡ FileFault → ⊥) → h.faults ≡ f.faults) → IsTraceRead rows t u (Ok trace) → HasRead replay given t u f h end
+behind_order : (replay : Replay) (name : List ℕ) (t u : Reading) (f g h : Shelving) (rows : List ClassRow) (trace : Trace) (given : Given) (end : End) → file_of replay.schedule ≡ Some name → rows_in given.table ≡ Ok rows → asked_in rows given.trace ≡ Ok (asked_of trace) → g.files ≡ f.files → h.files ≡ g.files → g.loads ≡ one_more f.loads → h.loads ≡ one_more g.loads → ((end ≡ FileFault → ⊥) → h.faults ≡ f.faults) → IsTraceRead rows t u (Ok trace) → HasRead replay given t u f h end
 behind_order replay name t u f g h rows trace given end named good asked first second one two count read =
-    let both : 1 + order_loads replay.order (asked_by given) ≡ 2 = loads_two replay.order (asked_by given) name (asked_of trace) named (asked_is given.table given.trace rows trace good asked) in
+    let both : 1 + order_loads (file_of replay.schedule) (asked_by given) ≡ 2 = loads_two (file_of replay.schedule) (asked_by given) name (asked_of trace) named (asked_is given.table given.trace rows trace good asked) in
     record {
       files = second ∙ first;
       loads = subst (λ n. h.loads ≤ f.loads + n) (sym both) (two_loads f.loads g.loads h.loads one two);
@@ -145,9 +153,9 @@ behind_order replay name t u f g h rows trace given end named good asked first s
     }
 
 -- the order file ends the work
-order_stops : (replay : Replay) (name : List ℕ) (t u : Reading) (f g h : Shelving) (rows : List ClassRow) (trace : Trace) (end : End) → replay.order ≡ Some name → IsLoad (λ (rows : List ClassRow). rows) rows_in replay.classes f g (Ok rows) → IsTraceRead rows t u (Ok trace) → IsLoad (λ (v : Vec ℕ Global). v.items) (picks_in trace.config.threads) name g h (Err end) → IsJobRead replay t u f h (Err end)
+order_stops : (replay : Replay) (name : List ℕ) (t u : Reading) (f g h : Shelving) (rows : List ClassRow) (trace : Trace) (end : End) → file_of replay.schedule ≡ Some name → IsLoad (λ (rows : List ClassRow). rows) rows_in replay.classes f g (Ok rows) → IsTraceRead rows t u (Ok trace) → IsLoad (λ (v : Vec ℕ Global). v.items) (picks_in trace.config.threads) name g h (Err end) → IsJobRead replay t u f h (Err end)
 order_stops replay name t u f g h rows trace end named load read order =
-    let given : Given = record { table = load.file; trace = read.text; order = order.file } in
+    let given : Given = record { table = load.file; trace = read.text; order = order.file; came = [] } in
     let threads : ℕ = trace.config.threads in
     let answer : IsJobOf replay given t u f h (Err end) = elim order.step [
       | inl e ↦ inl (job_is replay given rows trace load.step.0 read.step.0 ∙ ap (and_then (λ picks. Ok (record { input = record { rows = rows; asked = asked_of trace }; picks = picks }))) (named_picks replay name threads order.file named ∙ e.0))
@@ -156,24 +164,24 @@ order_stops replay name t u f g h rows trace end named load read order =
     ] in
     record {
       given = given;
-      told = record { table = load.told; trace = read.told; order = order_told replay.order name f.files g.files order.file named load.files order.told };
+      told = record { table = load.told; trace = read.told; order = order_told (file_of replay.schedule) name f.files g.files order.file named load.files order.told; came = none_came replay.schedule (job_of replay given) };
       answer = answer;
       read = behind_order replay name t u f g h rows trace given end named load.step.0 read.step.0 load.files order.files load.once order.once (λ other. step_count (λ (v : Vec ℕ Global). v.items) (picks_in threads order.file) FileFault end g.faults h.faults order.step other ∙ load.step.1) read;
     }
 
 -- all is there, without an order file
-reads_without : (replay : Replay) (t u : Reading) (f g : Shelving) (rows : List ClassRow) (trace : Trace) (picks : Vec ℕ Global) → replay.order ≡ None → IsLoad (λ (rows : List ClassRow). rows) rows_in replay.classes f g (Ok rows) → IsTraceRead rows t u (Ok trace) → picks.items ≡ [] → IsJobRead replay t u f g (Ok (record { table = rows; trace = trace; picks = picks }))
+reads_without : (replay : Replay) (t u : Reading) (f g : Shelving) (rows : List ClassRow) (trace : Trace) (picks : Vec ℕ Global) → file_of replay.schedule ≡ None → IsLoad (λ (rows : List ClassRow). rows) rows_in replay.classes f g (Ok rows) → IsTraceRead rows t u (Ok trace) → picks.items ≡ [] → IsJobRead replay t u f g (Ok (record { table = rows; trace = trace; picks = picks }))
 reads_without replay t u f g rows trace picks unnamed load read none =
-    let given : Given = record { table = load.file; trace = read.text; order = None } in
+    let given : Given = record { table = load.file; trace = read.text; order = None; came = [] } in
     record {
       given = given;
-      told = record { table = load.told; trace = read.told; order = subst (λ (o : Option (List ℕ)). IfSome o (λ name. IsFile f.files name None)) (sym unnamed) tt };
+      told = record { table = load.told; trace = read.told; order = subst (λ (o : Option (List ℕ)). IfSome o (λ name. IsFile f.files name None)) (sym unnamed) tt; came = none_came replay.schedule (job_of replay given) };
       answer = job_is replay given rows trace load.step.0 read.step.0
-          ∙ ap (λ o. and_then (λ picks. Ok (record { input = record { rows = rows; asked = asked_of trace }; picks = picks })) (picks_or_none o trace.config.threads None)) unnamed
+          ∙ ap (λ o. and_then (λ picks. Ok (record { input = record { rows = rows; asked = asked_of trace }; picks = picks })) (picks_or o trace.config.threads None [])) unnamed
           ∙ ap (λ picks. Ok (record { input = record { rows = rows; asked = asked_of trace }; picks = picks })) (sym none);
       read = record {
         files = load.files;
-        loads = one_load (order_loads replay.order (asked_by given)) f.loads g.loads load.once;
+        loads = one_load (order_loads (file_of replay.schedule) (asked_by given)) f.loads g.loads load.once;
         file_count = λ _. load.step.1;
         untouched = λ err. absurd (not_err (rows_in load.file) rows load.step.0 err);
         lost = read.lost;
@@ -184,27 +192,27 @@ reads_without replay t u f g rows trace picks unnamed load read none =
     }
 
 -- all is there, with an order file
-reads_with : (replay : Replay) (name : List ℕ) (t u : Reading) (f g h : Shelving) (rows : List ClassRow) (trace : Trace) (picks : Vec ℕ Global) → replay.order ≡ Some name → IsLoad (λ (rows : List ClassRow). rows) rows_in replay.classes f g (Ok rows) → IsTraceRead rows t u (Ok trace) → IsLoad (λ (v : Vec ℕ Global). v.items) (picks_in trace.config.threads) name g h (Ok picks) → IsJobRead replay t u f h (Ok (record { table = rows; trace = trace; picks = picks }))
+reads_with : (replay : Replay) (name : List ℕ) (t u : Reading) (f g h : Shelving) (rows : List ClassRow) (trace : Trace) (picks : Vec ℕ Global) → file_of replay.schedule ≡ Some name → IsLoad (λ (rows : List ClassRow). rows) rows_in replay.classes f g (Ok rows) → IsTraceRead rows t u (Ok trace) → IsLoad (λ (v : Vec ℕ Global). v.items) (picks_in trace.config.threads) name g h (Ok picks) → IsJobRead replay t u f h (Ok (record { table = rows; trace = trace; picks = picks }))
 reads_with replay name t u f g h rows trace picks named load read order =
-    let given : Given = record { table = load.file; trace = read.text; order = order.file } in
+    let given : Given = record { table = load.file; trace = read.text; order = order.file; came = [] } in
     record {
       given = given;
-      told = record { table = load.told; trace = read.told; order = order_told replay.order name f.files g.files order.file named load.files order.told };
+      told = record { table = load.told; trace = read.told; order = order_told (file_of replay.schedule) name f.files g.files order.file named load.files order.told; came = none_came replay.schedule (job_of replay given) };
       answer = job_is replay given rows trace load.step.0 read.step.0
           ∙ ap (and_then (λ picks. Ok (record { input = record { rows = rows; asked = asked_of trace }; picks = picks }))) (named_picks replay name trace.config.threads order.file named ∙ order.step.0);
       read = behind_order replay name t u f g h rows trace given Done named load.step.0 read.step.0 load.files order.files load.once order.once (λ _. order.step.1 ∙ load.step.1) read;
     }
 
 -- with or without an order file
-picks_none : (replay : Replay) (t u : Reading) (f g h : Shelving) (rows : List ClassRow) (trace : Trace) (picks : Vec ℕ Global) → replay.order ≡ None → IsLoad (λ (rows : List ClassRow). rows) rows_in replay.classes f g (Ok rows) → IsTraceRead rows t u (Ok trace) → h ≡ g → picks.items ≡ [] → IsJobRead replay t u f h (Ok (record { table = rows; trace = trace; picks = picks }))
+picks_none : (replay : Replay) (t u : Reading) (f g h : Shelving) (rows : List ClassRow) (trace : Trace) (picks : Vec ℕ Global) → file_of replay.schedule ≡ None → IsLoad (λ (rows : List ClassRow). rows) rows_in replay.classes f g (Ok rows) → IsTraceRead rows t u (Ok trace) → h ≡ g → picks.items ≡ [] → IsJobRead replay t u f h (Ok (record { table = rows; trace = trace; picks = picks }))
 picks_none replay t u f g h rows trace picks unnamed load read same none =
     subst (λ (s : Shelving). IsJobRead replay t u f s (Ok (record { table = rows; trace = trace; picks = picks }))) (sym same) (reads_without replay t u f g rows trace picks unnamed load read none)
 
-pub picks_ok : (replay : Replay) (order : Option (List ℕ)) (t u : Reading) (f g h : Shelving) (rows : List ClassRow) (trace : Trace) (picks : Vec ℕ Global) → replay.order ≡ order → IsLoad (λ (rows : List ClassRow). rows) rows_in replay.classes f g (Ok rows) → IsTraceRead rows t u (Ok trace) → ArePicks order trace.config.threads g h (Ok picks) → IsJobRead replay t u f h (Ok (record { table = rows; trace = trace; picks = picks }))
+pub picks_ok : (replay : Replay) (order : Option (List ℕ)) (t u : Reading) (f g h : Shelving) (rows : List ClassRow) (trace : Trace) (picks : Vec ℕ Global) → file_of replay.schedule ≡ order → IsLoad (λ (rows : List ClassRow). rows) rows_in replay.classes f g (Ok rows) → IsTraceRead rows t u (Ok trace) → ArePicks order trace.config.threads g h (Ok picks) → IsJobRead replay t u f h (Ok (record { table = rows; trace = trace; picks = picks }))
 picks_ok replay None t u f g h rows trace picks named load read are = picks_none replay t u f g h rows trace picks named load read are.0 are.1
 picks_ok replay (Some name) t u f g h rows trace picks named load read are = reads_with replay name t u f g h rows trace picks named load read are
 
-picks_fail : (replay : Replay) (order : Option (List ℕ)) (t u : Reading) (f g h : Shelving) (rows : List ClassRow) (trace : Trace) (end : End) → replay.order ≡ order → IsLoad (λ (rows : List ClassRow). rows) rows_in replay.classes f g (Ok rows) → IsTraceRead rows t u (Ok trace) → ArePicks order trace.config.threads g h (Err end) → IsJobRead replay t u f h (Err end)
+picks_fail : (replay : Replay) (order : Option (List ℕ)) (t u : Reading) (f g h : Shelving) (rows : List ClassRow) (trace : Trace) (end : End) → file_of replay.schedule ≡ order → IsLoad (λ (rows : List ClassRow). rows) rows_in replay.classes f g (Ok rows) → IsTraceRead rows t u (Ok trace) → ArePicks order trace.config.threads g h (Err end) → IsJobRead replay t u f h (Err end)
 picks_fail replay None t u f g h rows trace end named load read are = absurd are.1
 picks_fail replay (Some name) t u f g h rows trace end named load read are = order_stops replay name t u f g h rows trace end named load read are
 
@@ -219,5 +227,5 @@ table_err replay t f g end result is load = subst (IsJobRead replay t t f g) (sy
 pub trace_err : (replay : Replay) (t u : Reading) (f g : Shelving) (rows : List ClassRow) (end : End) (result : Result Job End) → IsErrAnd result (λ e. e ≡ end) → IsLoad (λ (rows : List ClassRow). rows) rows_in replay.classes f g (Ok rows) → IsTraceRead rows t u (Err end) → IsJobRead replay t u f g result
 trace_err replay t u f g rows end result is load read = subst (IsJobRead replay t u f g) (sym (handed_on result end is)) (trace_stops replay t u f g rows end load read)
 
-pub picks_err : (replay : Replay) (t u : Reading) (f g h : Shelving) (rows : List ClassRow) (trace : Trace) (end : End) (result : Result Job End) → IsErrAnd result (λ e. e ≡ end) → IsLoad (λ (rows : List ClassRow). rows) rows_in replay.classes f g (Ok rows) → IsTraceRead rows t u (Ok trace) → ArePicks replay.order trace.config.threads g h (Err end) → IsJobRead replay t u f h result
-picks_err replay t u f g h rows trace end result is load read are = subst (IsJobRead replay t u f h) (sym (handed_on result end is)) (picks_fail replay replay.order t u f g h rows trace end refl load read are)
+pub picks_err : (replay : Replay) (order : Option (List ℕ)) (t u : Reading) (f g h : Shelving) (rows : List ClassRow) (trace : Trace) (end : End) (result : Result Job End) → file_of replay.schedule ≡ order → IsErrAnd result (λ e. e ≡ end) → IsLoad (λ (rows : List ClassRow). rows) rows_in replay.classes f g (Ok rows) → IsTraceRead rows t u (Ok trace) → ArePicks order trace.config.threads g h (Err end) → IsJobRead replay t u f h result
+picks_err replay order t u f g h rows trace end result named is load read are = subst (IsJobRead replay t u f h) (sym (handed_on result end is)) (picks_fail replay order t u f g h rows trace end named load read are)

@@ -5,8 +5,9 @@ pub mod TraceFacts
 pub mod JobFacts
 pub mod OptionFacts
 pub mod RunFacts
-pub mod BuiltFacts
+pub mod AskedFacts
 pub mod NoteFacts
 pub mod EndFacts
 pub mod TriedFacts
 pub mod CompleteFacts
+pub mod WorkerFacts

@@ -1,17 +1,17 @@
 -- What a load of a file gives, and what is made of it.
-use Rattle.std.proofs.Common.{◌≡◌, ℕ, ◌+◌, ◌<◌, ◌≤◌, ◌⊎◌, inl, inr, Bool, true, false, cond, List, [], length, Option, Some, None, Result, Ok, Err, refl, sym, ap, subst, ◌∙◌, arith, nat_lt}
-use Rattle.std.specs.Prelude.{IsNone, IsSome, IfSome, IsSomeAnd, replicate}
+use Rattle.std.proofs.Common.{◌≡◌, ℕ, ◌+◌, ◌<◌, ◌≤◌, inl, inr, cond, List, [], length, Option, Some, None, Result, Ok, Err, refl, sym, ap, subst, ◌∙◌, arith}
+use Rattle.std.specs.Prelude.{IsNone, IfSome, IsSomeAnd, replicate}
 use Rattle.std.specs.FinMap.{get}
 use Rattle.std.proofs.lemmas.Bool.{lt-ltb, le-ltb}
 use Rattle.std.proofs.lemmas.List.{length-replicate}
-use Rattle.tc_ports.specs.Faults.{one_more, Rose}
+use Rattle.tc_ports.specs.Faults.{one_more}
 use Rattle.std.specs.Prelude.{Vec}
 use Rattle.std.specs.Global.{Global}
 use Rattle.tc_ports.specs.declared.shelf.LoadFault.{LoadFault}
 use Rattle.tc_ports.specs.declared.shelf.LoadFault.TheVariants as load
 use Rattle.tc_ports.specs.Shelves.{Files, Refused, LoadCounted}
 use Rattle.tcreplay.specs.declared.outcome.End.{End}
-use Rattle.tcreplay.specs.declared.outcome.End.TheVariants.{TooLong, Memory, FileFault}
+use Rattle.tcreplay.specs.declared.outcome.End.TheVariants.{TooLong, FileFault}
 use Rattle.tcreplay.specs.Verdict.{and_then, within, file_within}
 use Rattle.tcreplay.specs.Reads.{Shelving, load_end, IsFile, IsStep, IsPure, IsLoad}
 

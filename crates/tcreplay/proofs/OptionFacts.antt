@@ -1,5 +1,5 @@
 -- One option more, of those that are left.
-use Rattle.std.proofs.Common.{◌≡◌, ℕ, true, false, cond, List, [], ◌∷◌, Option, Some, None, refl, ap, ◌∙◌, option_and_then}
+use Rattle.std.proofs.Common.{◌≡◌, ℕ, true, false, cond, List, [], ◌∷◌, Some, None, ap, ◌∙◌, option_and_then}
 use Rattle.tcreplay.specs.declared.words.Kind.{Kind}
 use Rattle.tcreplay.specs.declared.words.Flag.{Flag}
 use Rattle.tcreplay.specs.Words.{Options, is_rows, taken_flag, with_rows, with_value, options_of}

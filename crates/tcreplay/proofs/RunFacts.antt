@@ -1,14 +1,26 @@
 -- What a run comes to, from what the machine says of it.
-use Rattle.std.proofs.Common.{◌≡◌, ℕ, Bool, true, false, cond, List, [], length, refl, sym, ap, subst, ◌∙◌}
+use Rattle.std.proofs.Common.{◌≡◌, ℕ, ◌+◌, ◌≤◌, Bool, true, false, cond, List, [], ◌∷◌, ◌++◌, length, Result, Ok, Err, refl, sym, ap, subst, ◌∙◌, arith, nat_lt}
+use Rattle.std.specs.Prelude.{IfOk}
+use Rattle.std.specs.declared.alloc.AllocError.{AllocError}
+use Rattle.std.proofs.lemmas.Bool.Decides.{nat_tests}
+use Rattle.std.proofs.lemmas.List.{append-nil, append_assoc, length-append}
+use Rattle.std.proofs.lemmas.List.Sums.{fold-append}
 use Rattle.tc_model.specs.declared.answers.Finished.{Finished}
 use Rattle.tc_model.specs.Input.{Input}
-use Rattle.tc_model.specs.Run.{run}
+use Rattle.tc_model.specs.Run.{Rules, start, run, pick}
+use Rattle.tc_model.specs.Steps.{stepped, order_with}
+use Rattle.tc_model.specs.Chains.{IsPolite}
 use Rattle.tc_model.specs.Replays.{HaveEnded}
-use Rattle.tc_model.specs.Serial.{completed, followed, IsAtLimit}
+use Rattle.tc_model.specs.Serial.{completed, order_to, followed, IsAtLimit}
+use Rattle.tc_model.proofs.Longer.{polite_moves}
 use Rattle.alloc_rules.specs.Machine.{rules, turns}
 use Rattle.tc_machine.specs.Finish.{finished_in}
 use Rattle.tcreplay.specs.declared.outcome.End.TheVariants.{Done, Full}
+use Rattle.tcreplay.specs.declared.run.Ran.{Ran}
 use Rattle.tcreplay.specs.Verdict.{Job, Verdict, have_ended, judged, order_of_job, text_with}
+use Rattle.tcreplay.specs.Reads.{IsMadeOf}
+use Rattle.tcreplay.specs.Replayed.{IsFilled}
+use Rattle.tcreplay.specs.Ran.{IsRan}
 use Rattle.tcreplay.proofs.Ended.{ended_true, not_ended}
 
 -- the order of an input's run: picks behind an order, completed
@@ -37,18 +49,43 @@ pub its_end : (ended told : Bool) (input : Input) (order : List ℕ) → (verdic
 its_end true told input order done = refl
 its_end false told input order done = absurd (cc)
 
-pub run_done : (told : Bool) (job : Job) (input : Input) (order items text : List ℕ) (f : Finished) → input ≡ job.input → order ≡ order_of_job job → HaveEnded (rules input) (run (rules input) order) → f ≡ finished_in input order → items ≡ order → text ≡ text_with told f → record { end = Done; order = items; text = text } ≡ judged told job.input (order_of_job job)
-run_done told job input order items text f same is ended finished given printed =
-    let done : have_ended (rules job.input) (run (rules job.input) order) ≡ true = ended_true (rules job.input) (run (rules job.input) order) (subst (λ (i : Input). HaveEnded (rules i) (run (rules i) order)) same ended) in
-    let words : text ≡ text_with told (finished_in job.input order) = printed ∙ (ap (text_with told) finished ∙ ap (λ (i : Input). text_with told (finished_in i order)) same) in
+-- the verdict on a run that has ended, and on one that stands at the limit
+pub told_done : (told : Bool) (input : Input) (order items text : List ℕ) (f : Finished) → HaveEnded (rules input) (run (rules input) order) → f ≡ finished_in input order → items ≡ order → text ≡ text_with told f → record { end = Done; order = items; text = text } ≡ judged told input order
+told_done told input order items text f ended finished given printed =
+    let done : have_ended (rules input) (run (rules input) order) ≡ true = ended_true (rules input) (run (rules input) order) ended in
+    let words : text ≡ text_with told (finished_in input order) = printed ∙ ap (text_with told) finished in
     let seen : Verdict = record { end = Done; order = items; text = text } in
-    let here : seen ≡ at_end told job.input order = ap (λ o. let v : Verdict = record { end = Done; order = o; text = text } in v) given ∙ ap (λ t. let v : Verdict = record { end = Done; order = order; text = t } in v) words in
-    here ∙ (sym (ap (λ b. verdict_if b told job.input order) done) ∙ ap (judged told job.input) is)
+    let here : seen ≡ at_end told input order = ap (λ o. let v : Verdict = record { end = Done; order = o; text = text } in v) given ∙ ap (λ t. let v : Verdict = record { end = Done; order = order; text = t } in v) words in
+    here ∙ sym (ap (λ b. verdict_if b told input order) done)
 
-pub run_full : (told : Bool) (job : Job) (input : Input) (all order items text : List ℕ) (ticket : ℕ) → input ≡ job.input → all ≡ order_of_job job → IsAtLimit (rules input) input.asked.config.events all order ticket → items ≡ order → text ≡ [] → record { end = Full ticket; order = items; text = text } ≡ judged told job.input (order_of_job job)
-run_full told job input all order items text ticket same is limit given empty =
-    let going : have_ended (rules job.input) (run (rules job.input) order) ≡ false = subst (λ (i : Input). have_ended (rules i) (run (rules i) order) ≡ false) same (not_ended (rules input) (run (rules input) order) limit.thread limit.would_move) in
-    let number : ticket ≡ job.input.asked.config.events = limit.ticket_is ∙ ap (λ (i : Input). i.asked.config.events) same in
+pub told_full : (told : Bool) (input : Input) (whole order items text : List ℕ) (ticket : ℕ) → IsAtLimit (rules input) input.asked.config.events whole order ticket → items ≡ order → text ≡ [] → record { end = Full ticket; order = items; text = text } ≡ judged told input order
+told_full told input whole order items text ticket limit given empty =
+    let going : have_ended (rules input) (run (rules input) order) ≡ false = not_ended (rules input) (run (rules input) order) limit.thread limit.would_move in
     let seen : Verdict = record { end = Full ticket; order = items; text = text } in
-    let here : seen ≡ at_limit job.input order = ap (λ n. let v : Verdict = record { end = Full n; order = items; text = text } in v) number ∙ (ap (λ o. let v : Verdict = record { end = Full job.input.asked.config.events; order = o; text = text } in v) given ∙ ap (λ t. let v : Verdict = record { end = Full job.input.asked.config.events; order = order; text = t } in v) empty) in
-    here ∙ (sym (ap (λ b. verdict_if b told job.input order) going) ∙ ap (judged told job.input) (limit.all ∙ is))
+    let here : seen ≡ at_limit input order = ap (λ n. let v : Verdict = record { end = Full n; order = items; text = text } in v) limit.ticket_is ∙ (ap (λ o. let v : Verdict = record { end = Full input.asked.config.events; order = o; text = text } in v) given ∙ ap (λ t. let v : Verdict = record { end = Full input.asked.config.events; order = order; text = t } in v) empty) in
+    here ∙ sym (ap (λ b. verdict_if b told input order) going)
+
+-- at the limit an order has as many picks as may move
+pub filled_at : (input : Input) (whole order : List ℕ) (ticket : ℕ) → IsAtLimit (rules input) input.asked.config.events whole order ticket → IsFilled input (Full ticket) order
+filled_at input whole order ticket limit = (limit.ticket_is, limit.full ∙ sym limit.ticket_is)
+
+-- what an input's run came to, for what is the same input and order
+pub same_run : (rows : Bool) (input other : Input) (order whole : List ℕ) (ran : Ran) → input ≡ other → order ≡ whole → IsRan rows input order ran → IsRan rows other whole ran
+same_run rows input other order whole ran same is ran_so = subst (λ (o : List ℕ). IsRan rows other o ran) is (subst (λ (i : Input). IsRan rows i order ran) same ran_so)
+
+pub same_result : (rows : Bool) (input other : Input) (order whole : List ℕ) (result : Result Ran AllocError) → input ≡ other → order ≡ whole → IfOk result (IsRan rows input order) → IfOk result (IsRan rows other whole)
+same_result rows input other order whole (Ok ran) same is ran_so = same_run rows input other order whole ran same is ran_so
+same_result rows input other order whole (Err e) same is ran_so = tt
+
+-- picks that are polite and no more than may move are followed one by one
+followed_each : {P L : Type 0} (r : Rules P L) (limit : ℕ) (past picks : List ℕ) → IsPolite r (run r past) picks → length past + length picks ≤ limit → followed r limit past picks ≡ past ++ picks
+followed_each r limit past [] polite few = sym (append-nil past)
+followed_each r limit past (t ∷ ts) polite few =
+    let room : nat_lt (length past) limit ≡ true = grind (arith, nat_tests) in
+    let step : order_to r limit past t ≡ past ++ t ∷ [] = ap (λ b. cond b (order_with past t (stepped r (run r past) t)) past) room ∙ ap (order_with past t) (polite_moves r (run r past) (t ∷ ts) polite).0 in
+    let next : IsPolite r (run r (past ++ t ∷ [])) ts = subst (λ w. IsPolite r w ts) (sym (fold-append (pick r) (start r) past (t ∷ []))) polite.1 in
+    ap (λ o. followed r limit o ts) step ∙ (followed_each r limit (past ++ t ∷ []) ts next (let l = length-append past (t ∷ []) in omega (arith, l)) ∙ append_assoc past (t ∷ []) ts)
+
+-- the order of a job whose picks threads made is these picks, completed
+pub completed_is : (input : Input) (came : List ℕ) → IsMadeOf input came → completed (rules input) (turns input) input.asked.config.events came ≡ order_of_job (record { input = input; picks = came })
+completed_is input came made = sym (ap (completed (rules input) (turns input) input.asked.config.events) (followed_each (rules input) input.asked.config.events [] came made.polite (let few = made.few in omega arith)))

@@ -1,10 +1,9 @@
 -- What reading the trace gives.
-use Rattle.std.proofs.Common.{◌≡◌, ℕ, ◌+◌, ◌<◌, ◌≤◌, ◌⊎◌, inl, inr, Bool, true, false, List, [], length, Option, Some, None, Result, Ok, Err, refl, sym, ap, subst, ◌∙◌, arith, drop}
+use Rattle.std.proofs.Common.{◌≡◌, ℕ, ◌+◌, ◌≤◌, List, [], length, Option, Some, None, Err, refl, sym, ap, ◌∙◌, arith}
 use Rattle.std.specs.Prelude.{IsNone, IfSome, ◌↔◌}
 use Rattle.std.proofs.lemmas.List.{drop_all}
 use Rattle.tc_ports.specs.Told.{LostAtMost}
 use Rattle.tc_ports.specs.Whole.{PassedLimit}
-use Rattle.tcreplay.specs.declared.outcome.End.{End}
 use Rattle.tcreplay.specs.declared.outcome.End.TheVariants.{TooLong}
 use Rattle.tcreplay.specs.Verdict.{within}
 use Rattle.tcreplay.proofs.LoadFacts.{too_many, too_many_long, within_long}

@@ -1,9 +1,8 @@
 -- What a try at a replay comes to, from what its steps come to.
-use Rattle.std.proofs.Common.{◌≡◌, ◌⊎◌, ℕ, Bool, true, false, cond, List, [], Option, Result, Ok, Err, refl, sym, ap, subst, ◌∙◌, inl, inr}
-use Rattle.std.proofs.lemmas.Bool.{cases_Bool}
-use Rattle.tc_model.specs.Input.{Input}
+use Rattle.std.proofs.Common.{◌≡◌, ℕ, Bool, true, false, List, [], Option, Some, None, Result, Ok, Err, refl, sym, ap, subst, ◌∙◌, inl, inr}
+use Rattle.tc_units.specs.declared.spans.ClassRow.{ClassRow}
+use Rattle.tc_model.specs.Input.{Asked, Input}
 use Rattle.tc_model.specs.Run.{run}
-use Rattle.tc_model.specs.Replays.{HaveEnded}
 use Rattle.tc_ports.specs.Told.{Took}
 use Rattle.alloc_rules.specs.Machine.{rules}
 use Rattle.tc_machine.specs.Finish.{finished_in}
@@ -11,15 +10,16 @@ use Rattle.tcreplay.specs.declared.outcome.End.{End}
 use Rattle.tcreplay.specs.declared.outcome.End.TheVariants.{Done, WriteFault, Memory, Full}
 use Rattle.tcreplay.specs.declared.input.Job.{Job}
 use Rattle.tcreplay.specs.declared.run.Ran.{Ran}
-use Rattle.tcreplay.specs.Words.{Replay}
+use Rattle.tcreplay.specs.declared.words.Locks.{Locks}
+use Rattle.tcreplay.specs.Words.{Replay, Schedule, InTurn, ByFile, ByThreads, file_of, locks_in}
 use Rattle.tcreplay.specs.Verdict as verdict
-use Rattle.tcreplay.specs.Verdict.{Given, Verdict, have_ended, judged, run_verdict, order_of_job, job_of, text_with}
-use Rattle.tcreplay.specs.Reads.{Reading, Shelving, HasRead, IsJobRead, CutOff, seen_job}
-use Rattle.tcreplay.specs.Ran.{seen_ran}
-use Rattle.tcreplay.specs.Replayed.{Writing, TookText, IsWritten, IsLastEnd, IsAnswer, is_behind_run, IsLawful, IsHeadline, HasTried, verdict_on}
+use Rattle.tcreplay.specs.Verdict.{Given, Verdict, and_then, rows_in, asked_in, picks_or, job_with, have_ended, run_verdict, order_of_job, job_of, text_with}
+use Rattle.tcreplay.specs.Reads.{Reading, Shelving, IsMadeOf, HaveCome, AreGiven, HasRead, IsJobRead, CutOff, seen_job}
+use Rattle.tcreplay.specs.Ran.{seen_ran, IsRan, IsRanByThreads}
+use Rattle.tcreplay.specs.Replayed.{Writing, IsWritten, IsRunEnd, IsLastEnd, IsAnswer, is_behind_run, IsLawful, IsCompleted, IsFilled, IsOrderOf, IsHeadline, HasTried, verdict_on}
 use Rattle.tcreplay.proofs.Ended.{ended_from}
 use Rattle.tcreplay.proofs.EndFacts.{FailsJob, job_fails}
-use Rattle.tcreplay.proofs.RunFacts.{verdict_if, its_order, its_end}
+use Rattle.tcreplay.proofs.RunFacts.{verdict_if, its_order, its_end, completed_is}
 
 -- what was read without a refusal was read for any end
 read_for : (replay : Replay) (given : Given) (t u : Reading) (f g : Shelving) (end : End) → HasRead replay given t u f g Done → HasRead replay given t u f g end
@@ -75,6 +75,7 @@ tried_stopped replay t u f g out end order none read =
       read = read.read;
       out = untouched end (verdict_on replay read.given).text out early;
       law = λ later. absurd (not_later end early later);
+      run = λ later. absurd (not_later end early later);
       headline = λ done. absurd (not_later end early (ap is_behind_run done));
     }
 
@@ -87,6 +88,7 @@ tried_memory replay t u f g out job order none read = record {
   read = read_for replay read.given t u f g Memory read.read;
   out = refl;
   law = λ later. absurd (cc);
+  run = λ later. absurd (cc);
   headline = λ done. absurd (cc);
 }
 
@@ -99,61 +101,136 @@ done_before ran end (inr failed) done = let e : WriteFault ≡ Done = sym failed
 took : (end : End) (text : List ℕ) (before after : Writing) → end ≡ Done → IsWritten end text before after → Took before.taken after.taken text
 took end text before after done written = (subst (λ e. IsWritten e text before after) done written).taken
 
-module _ (replay : Replay) (t u : Reading) (f g : Shelving) (before after : Writing) (job : Job) (ran : Ran) (end : End) (order : List ℕ)
-    (read : IsJobRead replay t u f g (Ok job)) (is : seen_ran ran ≡ judged replay.rows (seen_job job).input (order_of_job (seen_job job))) (law : IsLawful (seen_job job).input ran.order.items)
-    (last : IsLastEnd ran.end end) (given : order ≡ ran.order.items) (written : IsWritten end ran.text.items before after) where
-  -- the job's input, its order, and whether the run of that has ended
-  abbrev input : Input
-  input = (seen_job job).input
-
+module _ (replay : Replay) (given : Given) (t u : Reading) (f g : Shelving) (before after : Writing) (job : verdict.Job) (ran : Ran) (end : End) (order : List ℕ)
+    (told : AreGiven replay f.files t.left given) (asked : job_of replay given ≡ Ok job) (read : HasRead replay given t u f g Done) (is : IsRan replay.rows job.input (order_of_job job) ran) (made : IsCompleted replay.schedule job (order_of_job job))
+    (last : IsLastEnd ran.end end) (same : order ≡ ran.order.items) (written : IsWritten end ran.text.items before after) where
+  -- the job's order, and whether the run of that has ended
   abbrev whole : List ℕ
-  whole = order_of_job (seen_job job)
+  whole = order_of_job job
 
   abbrev ended : Bool
-  ended = have_ended (rules input) (run (rules input) whole)
+  ended = have_ended (rules job.input) (run (rules job.input) whole)
 
-  verdict_is : verdict_on replay read.given ≡ seen_ran ran
-  verdict_is = ap (run_verdict replay.rows) read.answer ∙ sym is
+  verdict_is : verdict_on replay given ≡ seen_ran ran
+  verdict_is = ap (run_verdict replay.rows) asked ∙ sym is.is
 
-  answered : IsLastEnd ran.end end → IsAnswer replay read.given t u f g end order
-  answered (inl same) = inl (same ∙ sym (ap (λ (v : Verdict). v.end) verdict_is), given ∙ sym (ap (λ (v : Verdict). v.order) verdict_is))
-  answered (inr failed) = inr (inr (failed.0, given ∙ sym (ap (λ (v : Verdict). v.order) verdict_is), ap (λ (v : Verdict). v.end) verdict_is ∙ failed.1))
-
-  lawful : IsLawful input order
-  lawful = subst (IsLawful input) (sym given) law
+  answered : IsLastEnd ran.end end → IsAnswer replay given t u f g end order
+  answered (inl e) = inl (e ∙ sym (ap (λ (v : Verdict). v.end) verdict_is), same ∙ sym (ap (λ (v : Verdict). v.order) verdict_is))
+  answered (inr failed) = inr (inr (failed.0, same ∙ sym (ap (λ (v : Verdict). v.order) verdict_is), ap (λ (v : Verdict). v.end) verdict_is ∙ failed.1))
 
   order_is : order ≡ whole
-  order_is = given ∙ (ap (λ (v : Verdict). v.order) is ∙ its_order ended replay.rows input whole)
+  order_is = same ∙ (ap (λ (v : Verdict). v.order) is.is ∙ its_order ended replay.rows job.input whole)
+
+  lawful : IsLawful job.input order
+  lawful = subst (IsLawful job.input) (sym order_is) is.law
+
+  filled : IsLastEnd ran.end end → IsFilled job.input end order
+  filled (inl e) = subst (λ o. IsFilled job.input end o) (sym order_is) (subst (λ e. IsFilled job.input e whole) (sym e) is.filled)
+  filled (inr failed) = subst (λ e. IsFilled job.input e order) (sym failed.0) tt
 
   all_ended : end ≡ Done → ended ≡ true
-  all_ended done = its_end ended replay.rows input whole (sym (ap (λ (v : Verdict). v.end) is) ∙ done_before ran.end end last done)
+  all_ended done = its_end ended replay.rows job.input whole (sym (ap (λ (v : Verdict). v.end) is.is) ∙ done_before ran.end end last done)
 
-  text_is : end ≡ Done → ran.text.items ≡ text_with replay.rows (finished_in input order)
-  text_is done = ap (λ (v : Verdict). v.text) is ∙ (ap (λ b. (verdict_if b replay.rows input whole).text) (all_ended done) ∙ ap (λ o. text_with replay.rows (finished_in input o)) (sym order_is))
+  text_is : end ≡ Done → ran.text.items ≡ text_with replay.rows (finished_in job.input order)
+  text_is done = ap (λ (v : Verdict). v.text) is.is ∙ (ap (λ b. (verdict_if b replay.rows job.input whole).text) (all_ended done) ∙ ap (λ o. text_with replay.rows (finished_in job.input o)) (sym order_is))
 
-  headline : end ≡ Done → IsHeadline replay read.given before after order
+  headline : end ≡ Done → IsHeadline replay given before after order
   headline done = record {
-    job = seen_job job;
-    asked = read.answer;
+    job = job;
+    asked = asked;
     order_is = order_is;
-    ended = ended_from (rules input) (run (rules input) order) (ap (λ o. have_ended (rules input) (run (rules input) o)) order_is ∙ all_ended done);
+    ended = ended_from (rules job.input) (run (rules job.input) order) (ap (λ o. have_ended (rules job.input) (run (rules job.input) o)) order_is ∙ all_ended done);
     text = subst (Took before.taken after.taken) (text_is done) (took end ran.text.items before after done written);
     law = lawful;
   }
 
-  its_law : (other : verdict.Job) → job_of replay read.given ≡ Ok other → IsLawful other.input order
-  its_law other same =
-      let e : seen_job job ≡ other = cc in
-      subst (λ (j : verdict.Job). IsLawful j.input order) e lawful
+  its_run : IsOrderOf replay.schedule job end order
+  its_run = record { whole = order_is; completed = subst (IsCompleted replay.schedule job) (sym order_is) made; filled = filled last }
+
+  -- of the one job that was given
+  of_job : (p : verdict.Job → Type 0) → p job → (other : verdict.Job) → job_of replay given ≡ Ok other → p other
+  of_job p holds other is_other =
+      let e : job ≡ other = cc in
+      subst p e holds
 
   -- the run was made
-  pub tried_ran : HasTried replay t u f g before after end order
-  tried_ran = record {
-    given = read.given;
-    told = read.told;
+  pub tried_by : HasTried replay t u f g before after end order
+  tried_by = record {
+    given = given;
+    told = told;
     answer = answered last;
-    read = read_for replay read.given t u f g end read.read;
+    read = read_for replay given t u f g end read;
     out = subst (λ (v : Verdict). IsWritten end v.text before after) (sym verdict_is) written;
-    law = λ _. its_law;
+    law = λ _. of_job (λ (j : verdict.Job). IsLawful j.input order) lawful;
+    run = λ _. of_job (λ (j : verdict.Job). IsOrderOf replay.schedule j end order) its_run;
     headline = headline;
   }
+
+-- without worker threads
+alone_is : (schedule : Schedule) (job : verdict.Job) (order : List ℕ) → locks_in schedule ≡ None → IsCompleted schedule job order
+alone_is InTurn job order alone = tt
+alone_is (ByFile file) job order alone = tt
+alone_is (ByThreads locks) job order alone = absurd (cc)
+
+pub tried_ran : (replay : Replay) (t u : Reading) (f g : Shelving) (before after : Writing) (job : Job) (ran : Ran) (end : End) (order : List ℕ) → locks_in replay.schedule ≡ None → IsJobRead replay t u f g (Ok job) → IsRan replay.rows (seen_job job).input (order_of_job (seen_job job)) ran → IsLastEnd ran.end end → order ≡ ran.order.items → IsWritten end ran.text.items before after → HasTried replay t u f g before after end order
+tried_ran replay t u f g before after job ran end order alone read is last same written = tried_by replay read.given t u f g before after (seen_job job) ran end order read.told read.answer read.read is (alone_is replay.schedule (seen_job job) (order_of_job (seen_job job)) alone) last same written
+
+-- what was given, with the picks that came
+abbrev given_with : Given → List ℕ → Given
+given_with given came = record { table = given.table; trace = given.trace; order = given.order; came = came }
+
+abbrev job_behind : verdict.Job → List ℕ → verdict.Job
+job_behind job came = record { input = job.input; picks = came }
+
+no_file : (schedule : Schedule) (locks : Locks) → locks_in schedule ≡ Some locks → file_of schedule ≡ None
+no_file InTurn locks threads = refl
+no_file (ByFile file) locks threads = absurd (cc)
+no_file (ByThreads other) locks threads = refl
+
+abbrev job_made : List ClassRow → Asked → List ℕ → verdict.Job
+job_made rows asked picks = record { input = record { rows = rows; asked = asked }; picks = picks }
+
+-- without an order file, a job's picks are those that came
+job_came : (rows : List ClassRow) (asked : Asked) (order file : Option (List ℕ)) (came : List ℕ) → order ≡ None → and_then (λ picks. Ok (job_made rows asked picks)) (picks_or order asked.config.threads file came) ≡ Ok (job_made rows asked came)
+job_came rows asked None file came none = refl
+job_came rows asked (Some name) file came none = absurd (cc)
+
+behind_asked : (replay : Replay) (given : Given) (came : List ℕ) (job : verdict.Job) (rows : List ClassRow) → file_of replay.schedule ≡ None → (asked : Result Asked End) → and_then (job_with replay given rows) asked ≡ Ok job → and_then (job_with replay (given_with given came) rows) asked ≡ Ok (job_behind job came)
+behind_asked replay given came job rows none (Err end) is = absurd (cc)
+behind_asked replay given came job rows none (Ok asked) is =
+    let plain : Ok (job_made rows asked given.came) ≡ Ok job = sym (job_came rows asked (file_of replay.schedule) given.order given.came none) ∙ is in
+    let same : job_made rows asked given.came ≡ job = cc in
+    subst (λ (j : verdict.Job). and_then (job_with replay (given_with given came) rows) (Ok asked) ≡ Ok (job_behind j came)) same (job_came rows asked (file_of replay.schedule) given.order came none)
+
+behind_rows : (replay : Replay) (given : Given) (came : List ℕ) (job : verdict.Job) → file_of replay.schedule ≡ None → (rows : Result (List ClassRow) End) → and_then (λ rows. and_then (job_with replay given rows) (asked_in rows given.trace)) rows ≡ Ok job → and_then (λ rows. and_then (job_with replay (given_with given came) rows) (asked_in rows given.trace)) rows ≡ Ok (job_behind job came)
+behind_rows replay given came job none (Err end) is = absurd (cc)
+behind_rows replay given came job none (Ok rows) is = behind_asked replay given came job rows none (asked_in rows given.trace) is
+
+came_is : (schedule : Schedule) (locks : Locks) (job : verdict.Job) (came : List ℕ) → locks_in schedule ≡ Some locks → IsMadeOf job.input came → HaveCome schedule (Ok (job_behind job came)) came
+came_is InTurn locks job came threads made = absurd (cc)
+came_is (ByFile file) locks job came threads made = absurd (cc)
+came_is (ByThreads other) locks job came threads made = made
+
+completed_by : (schedule : Schedule) (locks : Locks) (job : verdict.Job) (came : List ℕ) → locks_in schedule ≡ Some locks → IsMadeOf job.input came → IsCompleted schedule (job_behind job came) (order_of_job (job_behind job came))
+completed_by InTurn locks job came threads made = tt
+completed_by (ByFile file) locks job came threads made = tt
+completed_by (ByThreads other) locks job came threads made = sym (completed_is job.input came made)
+
+-- with worker threads
+pub tried_threads : (replay : Replay) (locks : Locks) (t u : Reading) (f g : Shelving) (before after : Writing) (job : Job) (ran : Ran) (end : End) (order : List ℕ) → locks_in replay.schedule ≡ Some locks → IsJobRead replay t u f g (Ok job) → IsRanByThreads replay.rows (seen_job job).input ran → IsLastEnd ran.end end → order ≡ ran.order.items → IsWritten end ran.text.items before after → HasTried replay t u f g before after end order
+tried_threads replay locks t u f g before after job ran end order threads read by_threads last same written =
+    let came : List ℕ = by_threads.came in
+    let given : Given = given_with read.given came in
+    let none : file_of replay.schedule ≡ None = no_file replay.schedule locks threads in
+    let asked : job_of replay given ≡ Ok (job_behind (seen_job job) came) = behind_rows replay read.given came (seen_job job) none (rows_in read.given.table) read.answer in
+    let told : AreGiven replay f.files t.left given = record { table = read.told.table; trace = read.told.trace; order = read.told.order; came = subst (λ j. HaveCome replay.schedule j came) (sym asked) (came_is replay.schedule locks (seen_job job) came threads by_threads.made) } in
+    let had : HasRead replay given t u f g Done = record { files = read.read.files; loads = read.read.loads; file_count = read.read.file_count; untouched = read.read.untouched; lost = read.read.lost; reads = read.read.reads; drained = read.read.drained; trace_count = read.read.trace_count } in
+    tried_by replay given t u f g before after (job_behind (seen_job job) came) ran end order told asked had by_threads.whole (completed_by replay.schedule locks (seen_job job) came threads by_threads.made) last same written
+
+-- a run that was made ends as a run does
+run_end_if : (ended told : Bool) (input : Input) (order : List ℕ) → IsRunEnd (verdict_if ended told input order).end
+run_end_if true told input order = tt
+run_end_if false told input order = tt
+
+pub run_end : (rows : Bool) (input : Input) (order : List ℕ) (ran : Ran) → IsRan rows input order ran → IsRunEnd ran.end
+run_end rows input order ran is = subst IsRunEnd (sym (ap (λ (v : Verdict). v.end) is.is)) (run_end_if (have_ended (rules input) (run (rules input) order)) rows input order)

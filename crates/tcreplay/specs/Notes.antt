@@ -34,7 +34,6 @@ line_word line.Class = codes "class"
 line_word line.LabelUsed = codes "labelused"
 line_word line.LabelUnknown = codes "labelunknown"
 line_word line.LabelFreed = codes "labelfreed"
-line_word line.NotBuilt = codes "notbuilt"
 
 -- the rule that a line of an order file fails
 abbrev pub order_word : OrderWhy → List ℕ

@@ -1,22 +1,24 @@
 -- What reading the inputs makes of the ends, and what it gives: that is what the definitions say of what the inputs gave,
 -- or a call of an end failed, or memory ran out.
-use Rattle.std.specs.Prelude.{◌≡◌, ℕ, ◌+◌, ◌<◌, ◌≤◌, ◌⊎◌, Bool, true, false, List, [], length, All, Option, Some, None, Result, Ok, Err, IsOk, IsErr, IsSome, IfSome, IfOk, MatchResult, Vec}
+use Rattle.std.specs.Prelude.{◌≡◌, ℕ, ◌+◌, ◌<◌, ◌≤◌, ◌⊎◌, Bool, true, false, List, [], length, All, Option, Some, None, Result, Ok, Err, IsOk, IsErr, IsSome, IfSome, MatchResult, Vec}
 use Rattle.std.specs.Global.{Global}
 use Rattle.std.specs.FinMap.{get}
 use Rattle.tc_units.specs.declared.spans.ClassRow.{ClassRow}
-use Rattle.tc_model.specs.Input.{Asked}
+use Rattle.tc_model.specs.Input.{Asked, Input}
+use Rattle.tc_model.specs.Run.{start}
+use Rattle.tc_model.specs.Chains.{IsPolite}
 use Rattle.tc_ports.specs.Faults.{one_more, Rose}
 use Rattle.tc_ports.specs.Told.{LostAtMost}
 use Rattle.tc_ports.specs.declared.shelf.LoadFault.{LoadFault}
 use Rattle.tc_ports.specs.declared.shelf.LoadFault.TheVariants as load
 use Rattle.tc_ports.specs.Shelves.{Files}
 use Rattle.trace_reader.specs.declared.trace.Trace.{Trace}
-use Rattle.tc_machine.specs.Inputs.{asked_of, input_of}
-use Rattle.tc_machine.specs.Built.{IsRead, AreBuilt}
+use Rattle.alloc_rules.specs.Machine as allocator
+use Rattle.tc_machine.specs.Inputs.{IsRead, asked_of, input_of}
 use Rattle.tcreplay.specs.declared.outcome.End.{End}
 use Rattle.tcreplay.specs.declared.outcome.End.TheVariants.{Done, BadTrace, ReadFault, WriteFault, Memory, TooLong, Full, BadOrder, FileFault}
 use Rattle.tcreplay.specs.declared.input.Job.{Job}
-use Rattle.tcreplay.specs.Words.{Replay}
+use Rattle.tcreplay.specs.Words.{Replay, Schedule, InTurn, ByFile, ByThreads, file_of}
 use Rattle.tcreplay.specs.Verdict.{Given, trace_limit, rows_in, asked_in, picks_in, job_of, and_then}
 use Rattle.tcreplay.specs.Verdict as verdict
 
@@ -90,11 +92,24 @@ pub record IsTraceRead (rows : List ClassRow) (before after : Reading) (result :
   pub reads : after.reads ≤ before.reads + trace_limit + 1
   pub drained : is_behind_trace (end_of result) ≡ true → IfSome after.left (λ rest. rest ≡ [])
 
--- what the inputs gave is what they tell, where they tell it
+-- Picks that threads made under locks: each of them moved and was polite, and they are no more than may move.
+pub record IsMadeOf (input : Input) (picks : List ℕ) : Type 0 where
+  pub polite : IsPolite (allocator.rules input) (start (allocator.rules input)) picks
+  pub few : length picks ≤ input.asked.config.events
+
+-- the picks that came from worker threads; where none are asked for, there are none
+abbrev pub HaveCome : Schedule → Result verdict.Job End → List ℕ → Type 0
+HaveCome InTurn job picks = picks ≡ []
+HaveCome (ByFile order) job picks = picks ≡ []
+HaveCome (ByThreads locks) (Ok job) picks = IsMadeOf job.input picks
+HaveCome (ByThreads locks) (Err end) picks = picks ≡ []
+
+-- what the inputs gave is what they tell, where they tell it, and what came is what worker threads made
 pub record AreGiven (replay : Replay) (files : Option Files) (left : Option (List ℕ)) (given : Given) : Type 0 where
   pub table : IsFile files replay.classes given.table
   pub trace : IfSome left (λ bytes. given.trace ≡ bytes)
-  pub order : IfSome replay.order (λ name. IsFile files name given.order)
+  pub order : IfSome (file_of replay.schedule) (λ name. IsFile files name given.order)
+  pub came : HaveCome replay.schedule (job_of replay given) given.came
 
 -- what the trace asks for, where the class table and the trace give it
 abbrev pub asked_by : Given → Result Asked End
@@ -115,7 +130,7 @@ order_loads (Some name) (Ok asked) = 1
 order_loads name asked = 0
 
 abbrev pub most_loads : Replay → Given → ℕ
-most_loads replay given = 1 + order_loads replay.order (asked_by given)
+most_loads replay given = 1 + order_loads (file_of replay.schedule) (asked_by given)
 
 -- What was read at an end: each input once, up to its limit, and not before its step. A count of faults rose only where
 -- that is the end.
@@ -133,10 +148,9 @@ pub record HasRead (replay : Replay) (given : Given) (t u : Reading) (f g : Shel
 abbrev pub seen_job : Job → verdict.Job
 seen_job job = record { input = input_of job.table job.trace; picks = job.picks.items }
 
--- what the machine asks of a job: its trace was read, all calls are built, and the picks are of threads that there are
+-- what the machine asks of a job: its trace was read, and the picks are of threads that there are
 pub record IsRunnable (job : Job) : Type 0 where
   pub read : IsRead (length job.table) job.trace (asked_of job.trace)
-  pub built : AreBuilt job.table (asked_of job.trace).calls
   pub picks : All (λ thread. thread < job.trace.config.threads) job.picks.items
 
 -- the job that the inputs give, or why there is none

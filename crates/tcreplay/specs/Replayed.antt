@@ -1,10 +1,11 @@
 -- What a replay makes of its ends, and what it answers: that is its verdict, or something came between.
-use Rattle.std.specs.Prelude.{◌≡◌, ℕ, ◌+◌, ◌≤◌, ◌⊎◌, Bool, true, false, List, [], length, Option, Some, None, Ok}
+use Rattle.std.specs.Prelude.{◌≡◌, ℕ, ◌≤◌, ◌⊎◌, Bool, true, false, List, [], length, Option, Some, None, Ok}
 use Rattle.std.specs.FinMap.{get}
 use Rattle.tc_model.specs.Input.{Input}
 use Rattle.tc_model.specs.Run.{start, run}
 use Rattle.tc_model.specs.Steps.{moving}
 use Rattle.tc_model.specs.Replays.{HaveEnded}
+use Rattle.tc_model.specs.Serial.{completed}
 use Rattle.tc_ports.specs.Faults.{one_more, Rose}
 use Rattle.tc_ports.specs.Told.{Took, TookPart}
 use Rattle.tc_ports.specs.Shelves.{Files}
@@ -14,9 +15,9 @@ use Rattle.tc_machine.specs.Finish.{finished_in}
 use Rattle.tcreplay.specs.declared.outcome.End.{End}
 use Rattle.tcreplay.specs.declared.outcome.End.TheVariants.{Done, Usage, WriteFault, Memory, Full}
 use Rattle.tcreplay.specs.Notes.{note_of}
-use Rattle.tcreplay.specs.Words.{Replay}
+use Rattle.tcreplay.specs.Words.{Replay, Schedule, InTurn, ByFile, ByThreads, file_of}
 use Rattle.tcreplay.specs.Verdict.{Given, Job, Verdict, job_of, order_of_job, run_verdict, text_with}
-use Rattle.tcreplay.specs.Reads.{Reading, Shelving, AreGiven, CutOff, HasRead}
+use Rattle.tcreplay.specs.Reads.{Reading, Shelving, HaveCome, AreGiven, CutOff, HasRead}
 
 -- what a sink shows at a moment: what it took, where it tells it, the faults so far, and the puts so far
 pub record Writing : Type 0 where
@@ -81,8 +82,24 @@ pub record IsLawful (input : Input) (order : List ℕ) : Type 0 where
   pub few : length order ≤ input.asked.config.events
   pub holds : HoldsAfter input order
 
--- The headline. What is printed is the text of the order that is answered with it; that order is the order file's,
--- completed; in it every call has returned; and the machine's law holds for it.
+-- The order of a run whose first picks are those of worker threads is these, completed: behind them the thread of the
+-- earliest call in trace order that hasn't ended is picked. At the limit an order has as many picks as may move.
+abbrev pub IsCompleted : Schedule → Job → List ℕ → Type 0
+IsCompleted InTurn job order = Unit {0}
+IsCompleted (ByFile file) job order = Unit {0}
+IsCompleted (ByThreads locks) job order = order ≡ completed (allocator.rules job.input) (allocator.turns job.input) job.input.asked.config.events job.picks
+
+abbrev pub IsFilled : Input → End → List ℕ → Type 0
+IsFilled input (Full ticket) order = (ticket ≡ input.asked.config.events) × (length order ≡ ticket)
+IsFilled input end order = Unit {0}
+
+pub record IsOrderOf (schedule : Schedule) (job : Job) (end : End) (order : List ℕ) : Type 0 where
+  pub whole : order ≡ order_of_job job
+  pub completed : IsCompleted schedule job order
+  pub filled : IsFilled job.input end order
+
+-- The headline. What is printed is the text of the order that is answered with it; that order is the order file's, or the
+-- worker threads', completed; in it every call has returned; and the machine's law holds for it.
 pub record IsHeadline (replay : Replay) (given : Given) (before after : Writing) (order : List ℕ) : Type 0 where
   pub job : Job
   pub asked : job_of replay given ≡ Ok job
@@ -99,6 +116,7 @@ pub record HasTried (replay : Replay) (t u : Reading) (f g : Shelving) (before a
   pub read : HasRead replay given t u f g end
   pub out : IsWritten end (verdict_on replay given).text before after
   pub law : is_behind_run end ≡ true → (job : Job) → job_of replay given ≡ Ok job → IsLawful job.input order
+  pub run : is_behind_run end ≡ true → (job : Job) → job_of replay given ≡ Ok job → IsOrderOf replay.schedule job end order
   pub headline : end ≡ Done → IsHeadline replay given before after order
 
 -- the words ask for no replay: nothing was read or written
@@ -130,9 +148,17 @@ abbrev pub order_file : Files → Option (List ℕ) → Option (List ℕ)
 order_file all None = None
 order_file all (Some name) = get all name
 
--- what ends that tell their bytes give
-abbrev pub given_by : Replay → Files → List ℕ → Given
-given_by replay all text = record { table = get all replay.classes; trace = text; order = order_file all replay.order }
+-- what ends that tell their bytes give, where these picks came
+abbrev pub given_by : Replay → Files → List ℕ → List ℕ → Given
+given_by replay all text came = record { table = get all replay.classes; trace = text; order = order_file all (file_of replay.schedule); came = came }
+
+-- the end and the order are those of the verdict on what these ends tell; of worker threads there are picks with which it
+-- is so
+pub record IsToldBy (replay : Replay) (all : Files) (text : List ℕ) (end : End) (order : List ℕ) : Type 0 where
+  pub came : List ℕ
+  pub made : HaveCome replay.schedule (job_of replay (given_by replay all text came)) came
+  pub end_is : end ≡ (verdict_on replay (given_by replay all text came)).end
+  pub order_is : order ≡ (verdict_on replay (given_by replay all text came)).order
 
 -- a count of faults rose at one of the ends that a replay can't do without
 abbrev pub SomeRose : Ends → Ends → Type 0
@@ -144,5 +170,4 @@ abbrev pub IsComplete : Option Replay → Ends → Ends → End → List ℕ →
 IsComplete None before after end order = end ≡ Usage
 IsComplete (Some replay) before after end order =
     (all : Files) (text : List ℕ) → before.files.files ≡ Some all → before.trace.left ≡ Some text →
-    ((end ≡ (verdict_on replay (given_by replay all text)).end) × (order ≡ (verdict_on replay (given_by replay all text)).order))
-    ⊎ ((end ≡ Memory) ⊎ SomeRose before after)
+    IsToldBy replay all text end order ⊎ ((end ≡ Memory) ⊎ SomeRose before after)

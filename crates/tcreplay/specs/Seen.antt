@@ -1,8 +1,10 @@
 -- Options, commands and replays as the grammar has them: names are bytes.
-use Rattle.std.specs.Prelude.{ℕ, List, Option, option_map}
+use Rattle.std.specs.Prelude.{option_map}
 use Rattle.tcreplay.specs.Words as words
 use Rattle.tcreplay.specs.declared.words.Options.{Options}
 use Rattle.tcreplay.specs.declared.words.Replay.{Replay}
+use Rattle.tcreplay.specs.declared.words.Schedule.{Schedule}
+use Rattle.tcreplay.specs.declared.words.Schedule.TheVariants.{InTurn, ByFile, ByThreads}
 use Rattle.tcreplay.specs.declared.words.Command.{Command}
 use Rattle.tcreplay.specs.declared.words.Command.TheVariants.{Serial, Order, Workers, Gen}
 
@@ -23,5 +25,10 @@ seen_command (Order classes order rows) = words.Order classes.now order.now rows
 seen_command (Workers classes locks rows) = words.Workers classes.now locks rows
 seen_command (Gen classes seed calls threads) = words.Gen classes.now seed calls threads
 
+abbrev pub seen_schedule : Schedule → words.Schedule
+seen_schedule InTurn = words.InTurn
+seen_schedule (ByFile order) = words.ByFile order.now
+seen_schedule (ByThreads locks) = words.ByThreads locks
+
 abbrev pub seen_replay : Replay → words.Replay
-seen_replay r = record { classes = r.classes.now; order = option_map (λ name. name.now) r.order; rows = r.rows }
+seen_replay r = record { classes = r.classes.now; schedule = seen_schedule r.schedule; rows = r.rows }

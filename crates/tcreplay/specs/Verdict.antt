@@ -1,8 +1,7 @@
 -- What words and inputs come to, step by step: the words, the class table, the trace, the order file, the run. Each step
 -- either ends the work or gives what the next one needs.
-use Rattle.std.specs.Prelude.{ℕ, Bool, true, false, nat_lt, List, [], length, map, is_none, Option, Some, None, Result, Ok, Err, if◌then◌else◌}
+use Rattle.std.specs.Prelude.{ℕ, Bool, nat_lt, List, [], length, is_none, Option, Some, None, Result, Ok, Err, if◌then◌else◌}
 use Rattle.std.specs.List.{list_all}
-use Rattle.std.specs.FinMap.{get}
 use Rattle.tc_units.specs.declared.spans.ClassRow.{ClassRow}
 use Rattle.tc_units.specs.declared.rows.RowView.{RowView}
 use Rattle.tc_model.specs.declared.answers.Finished.{Finished}
@@ -14,16 +13,14 @@ use Rattle.size_classes.specs.declared.fault.TableFault.TheVariants as table
 use Rattle.size_classes.specs.Table.{table_of}
 use Rattle.trace_reader.specs.declared.why.LineWhy.{LineWhy}
 use Rattle.trace_reader.specs.declared.why.OrderWhy.{OrderWhy}
-use Rattle.trace_reader.specs.declared.why.LineWhy.TheVariants as why
 use Rattle.trace_reader.specs.Reading.{BadLine, asked_by}
 use Rattle.trace_reader.specs.Orders.{picks_by}
 use Rattle.alloc_rules.specs.Machine as allocator
-use Rattle.tc_machine.specs.Built.{first_unbuilt}
 use Rattle.tc_machine.specs.Finish.{finished_in}
 use Rattle.usage_report.specs.Report.{text_of}
 use Rattle.tcreplay.specs.declared.outcome.End.{End}
 use Rattle.tcreplay.specs.declared.outcome.End.TheVariants.{Done, BadTable, BadTrace, Memory, TooLong, Full, BadOrder, FileFault}
-use Rattle.tcreplay.specs.Words.{Replay}
+use Rattle.tcreplay.specs.Words.{Replay, file_of}
 
 -- a step behind one that gave what it needs
 abbrev pub and_then : {A B : Type 0} → (A → Result B End) → Result A End → Result B End
@@ -59,20 +56,12 @@ table_end table.Memory = Memory
 abbrev pub rows_in : Option (List ℕ) → Result (List ClassRow) End
 rows_in file = and_then (λ bytes. or_end table_end (table_of bytes)) (file_within table_limit file)
 
--- what the calls of a trace ask for, where all of them are built
-abbrev pub built_or : Option ℕ → Asked → Result Asked End
-built_or None asked = Ok asked
-built_or (Some line) asked = Err (BadTrace line why.NotBuilt)
-
-abbrev pub built : List ClassRow → Asked → Result Asked End
-built rows asked = built_or (first_unbuilt rows asked.calls) asked
-
 -- the trace: what it asks for, or its first bad line
 abbrev pub trace_end : BadLine LineWhy → End
 trace_end bad = BadTrace bad.line bad.why
 
 abbrev pub asked_of_text : List ClassRow → List ℕ → Result Asked End
-asked_of_text rows text = and_then (built rows) (or_end trace_end (asked_by (length rows) text))
+asked_of_text rows text = or_end trace_end (asked_by (length rows) text)
 
 abbrev pub asked_in : List ClassRow → List ℕ → Result Asked End
 asked_in rows bytes = and_then (asked_of_text rows) (within trace_limit bytes)
@@ -84,23 +73,25 @@ order_end bad = BadOrder bad.line bad.why
 abbrev pub picks_in : ℕ → Option (List ℕ) → Result (List ℕ) End
 picks_in threads file = and_then (λ bytes. or_end order_end (picks_by threads bytes)) (file_within trace_limit file)
 
--- what the inputs gave: the class table, the trace, and the order file; a file that isn't there is None
+-- what was given: the class table, the trace, the order file, and the picks that worker threads made; a file that isn't
+-- there is None
 pub record Given : Type 0 where
   pub table : Option (List ℕ)
   pub trace : List ℕ
   pub order : Option (List ℕ)
+  pub came : List ℕ
 
--- what is run: the picks of the order file are none where no order is named
+-- what is run, and the picks that come first: those of the order file, where one is named, and else those that came
 pub record Job : Type 0 where
   pub input : Input
   pub picks : List ℕ
 
-abbrev pub picks_or_none : Option (List ℕ) → ℕ → Option (List ℕ) → Result (List ℕ) End
-picks_or_none None threads file = Ok []
-picks_or_none (Some name) threads file = picks_in threads file
+abbrev pub picks_or : Option (List ℕ) → ℕ → Option (List ℕ) → List ℕ → Result (List ℕ) End
+picks_or None threads file came = Ok came
+picks_or (Some name) threads file came = picks_in threads file
 
 abbrev pub job_with : Replay → Given → List ClassRow → Asked → Result Job End
-job_with replay given rows asked = and_then (λ picks. Ok (record { input = record { rows = rows; asked = asked }; picks = picks })) (picks_or_none replay.order asked.config.threads given.order)
+job_with replay given rows asked = and_then (λ picks. Ok (record { input = record { rows = rows; asked = asked }; picks = picks })) (picks_or (file_of replay.schedule) asked.config.threads given.order given.came)
 
 abbrev pub job_of : Replay → Given → Result Job End
 job_of replay given = and_then (λ rows. and_then (job_with replay given rows) (asked_in rows given.trace)) (rows_in given.table)
@@ -126,7 +117,7 @@ text_with told f = text_of f.calls f.live f.live_bytes f.used f.resident (rows_i
 abbrev pub have_ended : {P L : Type 0} → Rules P L → World P L → Bool
 have_ended r w = list_all (λ l. is_none (r.want l)) w.locals
 
--- the order of a job: the picks of the file, and then the rest in trace order, up to the limit
+-- the order of a job: its picks, and then the rest in trace order, up to the limit
 abbrev pub order_of_job : Job → List ℕ
 order_of_job job = order_of (allocator.rules job.input) (allocator.turns job.input) job.input.asked.config.events job.picks
 

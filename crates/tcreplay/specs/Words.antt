@@ -1,7 +1,6 @@
 -- The grammar of the command line.
-use Rattle.std.specs.Prelude.{ℕ, Bool, true, false, ◌==◌, ◌&&◌, not, nat_le, List, [], ◌∷◌, Option, Some, None, if◌then◌else◌, option_map, option_and_then, codes}
+use Rattle.std.specs.Prelude.{ℕ, Bool, true, false, ◌==◌, not, nat_le, List, [], ◌∷◌, Option, Some, None, if◌then◌else◌, option_map, option_and_then, codes}
 use Rattle.std.specs.Str.{bytes_eq}
-use Rattle.std.specs.Option.{option_map_or}
 use Rattle.tc_units.specs.Decimal.{number_of}
 use Rattle.tcreplay.specs.declared.words.Locks.{Locks}
 use Rattle.tcreplay.specs.declared.words.Locks.TheVariants.{One, Parts}
@@ -133,19 +132,40 @@ abbrev pub command_of : List (List ℕ) → Option Command
 command_of [] = None
 command_of (word ∷ words) = option_and_then (λ kind. option_and_then (command_with kind) (options_of kind no_options words)) (kind_of word)
 
--- A replay that is built: the file of the class table, the file of the order where there is one, and whether the rows
--- are printed. Workers and the generator aren't built yet.
+-- Which picks a replay makes before it goes on in trace order: none, those of an order file, or those of a running thread
+-- for each thread of the trace, under such locks.
+pub data Schedule : Type 0 where
+  InTurn : Schedule
+  ByFile : List ℕ → Schedule
+  ByThreads : Locks → Schedule
+
+abbrev pub file_of : Schedule → Option (List ℕ)
+file_of InTurn = None
+file_of (ByFile order) = Some order
+file_of (ByThreads locks) = None
+
+abbrev pub locks_in : Schedule → Option Locks
+locks_in InTurn = None
+locks_in (ByFile order) = None
+locks_in (ByThreads locks) = Some locks
+
+-- A replay that is built: the file of the class table, which picks come first, and whether the rows are printed. The
+-- generator isn't built yet.
 pub record Replay : Type 0 where
   pub classes : List ℕ
-  pub order : Option (List ℕ)
+  pub schedule : Schedule
   pub rows : Bool
 
 abbrev pub replay_of : Command → Option Replay
-replay_of (Serial classes rows) = Some (record { classes = classes; order = None; rows = rows })
-replay_of (Order classes order rows) = Some (record { classes = classes; order = Some order; rows = rows })
-replay_of (Workers classes locks rows) = None
+replay_of (Serial classes rows) = Some (record { classes = classes; schedule = InTurn; rows = rows })
+replay_of (Order classes order rows) = Some (record { classes = classes; schedule = ByFile order; rows = rows })
+replay_of (Workers classes locks rows) = Some (record { classes = classes; schedule = ByThreads locks; rows = rows })
 replay_of (Gen classes seed calls threads) = None
 
 -- what the words ask for, where that is built
 abbrev pub replay_by : List (List ℕ) → Option Replay
 replay_by words = option_and_then replay_of (command_of words)
+
+-- the locks of the worker threads that a replay asks for, where it asks for any
+abbrev pub threads_in : Option Replay → Option Locks
+threads_in asked = option_and_then (λ (r : Replay). locks_in r.schedule) asked

@@ -3,8 +3,7 @@
 ghost use Rattle.std.specs.Prelude.{◌≡◌, ◌<◌, All, IfOk, List, ℕ, Vec, length, option_map};
 ghost use Rattle.std.specs.Global.{Global as Memory};
 ghost use Rattle.tc_units.specs.declared.spans.ClassRow.{ClassRow};
-ghost use Rattle.tc_machine.specs.Inputs.{asked_of};
-ghost use Rattle.tc_machine.specs.Built.{IsRead, AreBuilt};
+ghost use Rattle.tc_machine.specs.Inputs.{IsRead, asked_of};
 ghost use Rattle.tcreplay.specs.Seen.{seen_replay};
 ghost use Rattle.tcreplay.specs.Verdict.{file_within, rows_in, asked_of_text, picks_in};
 ghost use Rattle.tcreplay.specs.Reads.{load_end, IsLoad, ArePicks, IsPure, IsTraceRead, IsRunnable, IsJobRead};
@@ -13,9 +12,8 @@ use crate::outcome::End;
 use crate::words::Replay;
 use size_classes::{ClassTable, TableFault};
 use std::alloc::Global;
-use tc_machine::first_unbuilt;
 use tc_ports::{LoadFault, ReadAllFault, Shelf, Source, read_all};
-use trace_reader::{LineWhy, OrderFault, Trace, TraceFault, read_order, read_trace};
+use trace_reader::{OrderFault, Trace, TraceFault, read_order, read_trace};
 
 /// The most bytes of a class table (this project's own limit).
 const MOST_TABLE_BYTES: u64 = 65_536;
@@ -69,24 +67,15 @@ fn load_table<F: Shelf>(alloc: Global, name: &str, files: &mut F) -> Result<Clas
     }
 }
 
-/// What a text asks for under a class table, where all of its calls are built.
+/// What a text asks for under a class table.
 fn trace_of(alloc: Global, table: &ClassTable, text: &[u8]) -> Result<Trace, End>
     ensures asked { IsPure asked_of (asked_of_text table.now text.now) result }
     ensures read { IfOk result (λ trace. IsRead (length table.now) trace (asked_of trace)) }
-    ensures built { IfOk result (λ trace. AreBuilt table.now (asked_of trace).calls) }
 {
-    let trace = match read_trace(alloc, text, table.len()) {
-        Ok(trace) => trace,
-        Err(TraceFault::BadLine { line, why }) => return Err(End::BadTrace { line, why }),
-        Err(TraceFault::Memory) => return Err(End::Memory),
-    };
-    match first_unbuilt(alloc, table, &trace) {
-        Ok(None) => Ok(trace),
-        Ok(Some(line)) => {
-            let why = LineWhy::NotBuilt;
-            Err(End::BadTrace { line, why })
-        }
-        Err(_) => Err(End::Memory),
+    match read_trace(alloc, text, table.len()) {
+        Ok(trace) => Ok(trace),
+        Err(TraceFault::BadLine { line, why }) => Err(End::BadTrace { line, why }),
+        Err(TraceFault::Memory) => Err(End::Memory),
     }
 }
 
@@ -96,7 +85,6 @@ fn load_trace<S: Source>(alloc: Global, table: &ClassTable, source: &mut S) -> R
         (record { left = S.left source.old; faults = S.faults source.old; reads = S.reads source.old })
         (record { left = S.left source.new; faults = S.faults source.new; reads = S.reads source.new }) result }
     ensures read { IfOk result (λ trace. IsRead (length table.now) trace (asked_of trace)) }
-    ensures built { IfOk result (λ trace. AreBuilt table.now (asked_of trace).calls) }
 {
     match read_all(alloc, source, MOST_TRACE_BYTES) {
         Ok(text) => trace_of(alloc, table, &text),
@@ -163,7 +151,7 @@ pub fn read_job<S: Source, F: Shelf>(
 {
     let table = load_table(alloc, replay.classes, files)?;
     let trace = load_trace(alloc, &table, source)?;
-    let picks = load_picks(alloc, replay.order, trace.config.threads, files)?;
+    let picks = load_picks(alloc, replay.schedule.file(), trace.config.threads, files)?;
     Ok(Job {
         table,
         trace,

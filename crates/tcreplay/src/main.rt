@@ -9,6 +9,9 @@ mod run;
 #[cfg(test)]
 mod tests;
 mod words;
+#[cfg(test)]
+mod worker_tests;
+mod workers;
 
 use crate::notes::note;
 use crate::outcome::End;

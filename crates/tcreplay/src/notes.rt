@@ -50,7 +50,6 @@ fn line_word(why: LineWhy) -> &'static str
         LineWhy::LabelUsed => "labelused",
         LineWhy::LabelUnknown => "labelunknown",
         LineWhy::LabelFreed => "labelfreed",
-        LineWhy::NotBuilt => "notbuilt",
     }
 }
 

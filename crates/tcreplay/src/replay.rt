@@ -1,8 +1,8 @@
 //! The top calls: from words, files and a trace to bytes, a status and an order.
-ghost use Rattle.std.specs.Prelude.{◌≡◌, ◌↔◌, None, map, IfSome, IsSome, string_bytes};
+ghost use Rattle.std.specs.Prelude.{◌≡◌, ◌↔◌, None, Some, map, IfSome, IfNone, IsSome, string_bytes};
 ghost use Rattle.tcreplay.specs.Status.{status_of};
-ghost use Rattle.tcreplay.specs.Words.{replay_by};
-ghost use Rattle.tcreplay.specs.Seen.{seen_replay};
+ghost use Rattle.tcreplay.specs.Words.{replay_by, locks_in, threads_in};
+ghost use Rattle.tcreplay.specs.Seen.{seen_schedule, seen_replay};
 ghost use Rattle.tcreplay.specs.Replayed.{IsWritten, IsRunEnd, IsLastEnd, HasTried, IsAnswered, IsOutcome, IsComplete};
 ghost use Rattle.tcreplay.specs.declared.outcome.End.TheVariants as end;
 
@@ -10,7 +10,8 @@ use crate::input::read_job;
 use crate::notes::note;
 use crate::outcome::{End, Outcome};
 use crate::run::{Ran, run};
-use crate::words::{Replay, replay_by};
+use crate::words::{Locks, Replay, Schedule, replay_by};
+use crate::workers::run_by_threads;
 use std::alloc::Global;
 use std::sync::Wait;
 use std::thread::Threads;
@@ -36,7 +37,8 @@ fn write<K: Sink>(out: &mut K, ran: Ran) -> Outcome
     }
 }
 
-/// Tries a replay: its inputs are read, what they ask for is run, and the text is written.
+/// Tries a replay that asks for no worker threads: its inputs are read, what they ask for is run, and the
+/// text is written.
 fn try_replay<S: Source, F: Shelf, K: Sink>(
     alloc: Global,
     replay: Replay,
@@ -44,6 +46,7 @@ fn try_replay<S: Source, F: Shelf, K: Sink>(
     files: &mut F,
     out: &mut K,
 ) -> Outcome
+    requires alone { locks_in (seen_schedule replay.schedule) ≡ None }
     ensures status { result.status ≡ status_of result.end }
     ensures tried { HasTried (seen_replay replay.entry)
         (record { left = S.left trace.old; faults = S.faults trace.old; reads = S.reads trace.old })
@@ -64,14 +67,80 @@ fn try_replay<S: Source, F: Shelf, K: Sink>(
     }
 }
 
-/// Answers the words: a replay is tried where they ask for one.
+/// Tries a replay by worker threads under these locks.
+fn try_threads<R: Threads + Wait + Sync, S: Source, F: Shelf, K: Sink, G: Gate + Sync>(
+    rt: &R,
+    alloc: Global,
+    replay: Replay,
+    locks: Locks,
+    trace: &mut S,
+    files: &mut F,
+    out: &mut K,
+    gate: &G,
+) -> Outcome
+    requires threads { locks_in (seen_schedule replay.schedule) ≡ Some locks }
+    ensures status { result.status ≡ status_of result.end }
+    ensures tried { HasTried (seen_replay replay.entry)
+        (record { left = S.left trace.old; faults = S.faults trace.old; reads = S.reads trace.old })
+        (record { left = S.left trace.new; faults = S.faults trace.new; reads = S.reads trace.new })
+        (record { files = F.files files.old; faults = F.faults files.old; loads = F.loads files.old })
+        (record { files = F.files files.new; faults = F.faults files.new; loads = F.loads files.new })
+        (record { taken = K.taken out.old; faults = K.faults out.old; puts = K.puts out.old })
+        (record { taken = K.taken out.new; faults = K.faults out.new; puts = K.puts out.new })
+        result.end result.order }
+{
+    let job = match read_job(alloc, replay, trace, files) {
+        Ok(job) => job,
+        Err(end) => return Outcome::without_run(alloc, end),
+    };
+    let Ok(ran) = run_by_threads(rt, alloc, gate, job, locks, replay.rows) else {
+        return Outcome::without_run(alloc, End::Memory);
+    };
+    write(out, ran)
+}
+
+/// Answers words that ask for no worker threads: a replay is tried where they ask for one.
 fn answer<S: Source, F: Shelf, K: Sink>(
     alloc: Global,
     words: &[String],
     trace: &mut S,
     files: &mut F,
     out: &mut K,
+) -> Option<Outcome>
+    ensures alone { (result ≡ None) ↔ IsSome (threads_in (replay_by (map string_bytes words.now))) }
+    ensures untouched { IfNone result ((trace.new ≡ trace.old) × (files.new ≡ files.old) × (out.new ≡ out.old)) }
+    ensures status { IfSome result (λ outcome. outcome.status ≡ status_of outcome.end) }
+    ensures answered { IfSome result (λ outcome. IsAnswered (replay_by (map string_bytes words.now))
+        (record { left = S.left trace.old; faults = S.faults trace.old; reads = S.reads trace.old })
+        (record { left = S.left trace.new; faults = S.faults trace.new; reads = S.reads trace.new })
+        (record { files = F.files files.old; faults = F.faults files.old; loads = F.loads files.old })
+        (record { files = F.files files.new; faults = F.faults files.new; loads = F.loads files.new })
+        (record { taken = K.taken out.old; faults = K.faults out.old; puts = K.puts out.old })
+        (record { taken = K.taken out.new; faults = K.faults out.new; puts = K.puts out.new })
+        outcome.end outcome.order) }
+{
+    let Some(replay) = replay_by(words) else {
+        return Some(Outcome::without_run(alloc, End::Usage));
+    };
+    match replay.schedule {
+        Schedule::ByThreads { .. } => None,
+        Schedule::InTurn | Schedule::ByFile { .. } => {
+            Some(try_replay(alloc, replay, trace, files, out))
+        }
+    }
+}
+
+/// Answers words that ask for worker threads.
+fn answer_by_threads<R: Threads + Wait + Sync, S: Source, F: Shelf, K: Sink, G: Gate + Sync>(
+    rt: &R,
+    alloc: Global,
+    words: &[String],
+    trace: &mut S,
+    files: &mut F,
+    out: &mut K,
+    gate: &G,
 ) -> Outcome
+    requires threads { IsSome (threads_in (replay_by (map string_bytes words.now))) }
     ensures status { result.status ≡ status_of result.end }
     ensures answered { IsAnswered (replay_by (map string_bytes words.now))
         (record { left = S.left trace.old; faults = S.faults trace.old; reads = S.reads trace.old })
@@ -82,14 +151,17 @@ fn answer<S: Source, F: Shelf, K: Sink>(
         (record { taken = K.taken out.new; faults = K.faults out.new; puts = K.puts out.new })
         result.end result.order }
 {
-    match replay_by(words) {
-        Some(replay) => try_replay(alloc, replay, trace, files, out),
-        None => Outcome::without_run(alloc, End::Usage),
-    }
+    let Some(replay) = replay_by(words) else {
+        unreachable!()
+    };
+    let Schedule::ByThreads { locks } = replay.schedule else {
+        unreachable!()
+    };
+    try_threads(rt, alloc, replay, locks, trace, files, out, gate)
 }
 
-/// Replays a trace without worker threads. `None` exactly where the words ask for such threads, which
-/// no words do yet.
+/// Replays a trace without worker threads. `None` exactly where the words ask for such threads, and then
+/// nothing was read or written.
 ///
 /// The steps are taken in order: words, class table, trace, order file, run, writing. The whole text is
 /// built before its first byte is written, by one `put`; at every status but 0 and 6 `out` is untouched.
@@ -102,7 +174,8 @@ pub fn replay_alone<S: Source, F: Shelf, K: Sink, N: Sink>(
     out: &mut K,
     notes: &mut N,
 ) -> Option<Outcome>
-    ensures alone { IsSome result }
+    ensures alone { (result ≡ None) ↔ IsSome (threads_in (replay_by (map string_bytes words.now))) }
+    ensures untouched { IfNone result ((trace.new ≡ trace.old) × (files.new ≡ files.old) × (out.new ≡ out.old) × (notes.new ≡ notes.old)) }
     ensures status { IfSome result (λ outcome. outcome.status ≡ status_of outcome.end) }
     ensures usage { IfSome result (λ outcome. (outcome.end ≡ end.Usage) ↔ (replay_by (map string_bytes words.now) ≡ None)) }
     ensures outcome { IfSome result (λ outcome. IsOutcome (replay_by (map string_bytes words.now))
@@ -134,21 +207,22 @@ pub fn replay_alone<S: Source, F: Shelf, K: Sink, N: Sink>(
         })
         outcome.end outcome.order) }
 {
-    let outcome = answer(alloc, words, trace, files, out);
+    let outcome = answer(alloc, words, trace, files, out)?;
     note(notes, outcome.end);
     Some(outcome)
 }
 
-/// Replays a trace, alone where the words ask for no worker threads. `gate` is passed by such threads.
+/// Replays a trace, alone where the words ask for no worker threads. Such threads pass `gate` before each
+/// of their turns. With them this may wait, and what it promises holds if it returns.
 pub fn tcreplay<R: Threads + Wait + Sync, S: Source, F: Shelf, K: Sink, N: Sink, G: Gate + Sync>(
-    _rt: &R,
+    rt: &R,
     alloc: Global,
     words: &[String],
     trace: &mut S,
     files: &mut F,
     out: &mut K,
     notes: &mut N,
-    _gate: &G,
+    gate: &G,
 ) -> Outcome
     ensures status { result.status ≡ status_of result.end }
     ensures usage { (result.end ≡ end.Usage) ↔ (replay_by (map string_bytes words.now) ≡ None) }
@@ -181,8 +255,10 @@ pub fn tcreplay<R: Threads + Wait + Sync, S: Source, F: Shelf, K: Sink, N: Sink,
         })
         result.end result.order }
 {
-    let Some(outcome) = replay_alone(alloc, words, trace, files, out, notes) else {
-        unreachable!()
-    };
+    if let Some(outcome) = replay_alone(alloc, words, trace, files, out, notes) {
+        return outcome;
+    }
+    let outcome = answer_by_threads(rt, alloc, words, trace, files, out, gate);
+    note(notes, outcome.end);
     outcome
 }

@@ -9,7 +9,7 @@ use tc_ports::{MemShelf, MemSink, MemSource, OpenGate};
 use trace_reader::{LineWhy, OrderWhy};
 
 /// A class table, which stands on the shelf as `T0`.
-const TABLE: &[u8] = b"16,1,4\n64,1,2\n8192,1,2\n";
+pub(crate) const TABLE: &[u8] = b"16,1,4\n64,1,2\n8192,1,2\n";
 
 /// Command lines whose words are in the grammar. The order file stands on the shelf as `O`.
 const SERIAL: &str = "tcreplay serial --classes T0";
@@ -17,43 +17,48 @@ const SERIAL: &str = "tcreplay serial --classes T0";
 const ORDER: &str = "tcreplay order --order O --classes T0";
 
 /// 37 pages of 8192 bytes, at the start of the first hugepage.
-const ONE: &[u8] = b"a 0 0 300000\n";
+pub(crate) const ONE: &[u8] = b"a 0 0 300000\n";
 
 /// What comes of it: of 256 pages 219 hold no block, which is 855.4 thousandths.
-const ONE_TEXT: &[u8] =
+pub(crate) const ONE_TEXT: &[u8] =
     b"a 0 0 2097152 303104\ncalls 1\nlive 1 303104\nused 37\nresident 256\nfrag 855\n";
 
 /// The first 36 of its 73 bytes.
-const ONE_HALF: &[u8] = b"a 0 0 2097152 303104\ncalls 1\nlive 1 ";
+pub(crate) const ONE_HALF: &[u8] = b"a 0 0 2097152 303104\ncalls 1\nlive 1 ";
 
 /// Three threads, of which the last one frees what the first one allocates.
 const THREADS: &[u8] = b"threads 3\na 0 0 300000\na 1 1 300000\nf 2 0\n";
 
 /// A call, and what comes of it.
 #[derive(Clone, Copy)]
-struct Case<'a> {
-    command: &'a str,
-    trace: &'a [u8],
-    order: &'a [u8],
-    status: u8,
-    end: End,
-    text: &'a [u8],
-    note: &'a [u8],
-    picks: &'a [u16],
+pub(crate) struct Case<'a> {
+    pub command: &'a str,
+    pub trace: &'a [u8],
+    pub order: &'a [u8],
+    pub status: u8,
+    pub end: End,
+    pub text: &'a [u8],
+    pub note: &'a [u8],
+    pub picks: &'a [u16],
 }
 
 /// The ends of a call.
 #[derive(Drop)]
-struct Ends {
-    trace: MemSource,
-    files: MemShelf,
-    out: MemSink,
-    notes: MemSink,
+pub(crate) struct Ends {
+    pub trace: MemSource,
+    pub files: MemShelf,
+    pub out: MemSink,
+    pub notes: MemSink,
 }
 
 /// A shelf with a class table and an order file, of which the loads with the numbers in `fails` will
 /// fail.
-fn shelf(alloc: Global, table: &[u8], order: &[u8], fails: &[u64]) -> Result<MemShelf, AllocError> {
+pub(crate) fn shelf(
+    alloc: Global,
+    table: &[u8],
+    order: &[u8],
+    fails: &[u64],
+) -> Result<MemShelf, AllocError> {
     let mut files = MemShelf::new(alloc, Vec::from_slice(alloc, fails)?);
     let name = String::from_str(alloc, "T0")?;
     files.add(name, Vec::from_slice(alloc, table)?)?;
@@ -63,7 +68,7 @@ fn shelf(alloc: Global, table: &[u8], order: &[u8], fails: &[u64]) -> Result<Mem
 }
 
 /// Ends over a trace and an order file, none of which fails.
-fn open(alloc: Global, trace: &[u8], order: &[u8]) -> Result<Ends, AllocError> {
+pub(crate) fn open(alloc: Global, trace: &[u8], order: &[u8]) -> Result<Ends, AllocError> {
     Ok(Ends {
         trace: MemSource::new(Vec::from_slice(alloc, trace)?, Vec::new(alloc)),
         files: shelf(alloc, TABLE, order, &[])?,
@@ -73,7 +78,7 @@ fn open(alloc: Global, trace: &[u8], order: &[u8]) -> Result<Ends, AllocError> {
 }
 
 /// The words of a command line behind the program's name.
-fn words_of(alloc: Global, command: &str) -> Result<Vec<String>, AllocError> {
+pub(crate) fn words_of(alloc: Global, command: &str) -> Result<Vec<String>, AllocError> {
     let mut words = Vec::new(alloc);
     for word in command.split(' ').skip(1) {
         words.push(String::from_str(alloc, word)?)?;
@@ -81,23 +86,27 @@ fn words_of(alloc: Global, command: &str) -> Result<Vec<String>, AllocError> {
     Ok(words)
 }
 
-fn replay(alloc: Global, command: &str, ends: &mut Ends) -> Result<Outcome, AllocError> {
+/// Runs a command line that asks for no worker threads.
+fn replay(
+    rt: &impl Abort,
+    alloc: Global,
+    command: &str,
+    ends: &mut Ends,
+) -> Result<Outcome, AllocError> {
     let words = words_of(alloc, command)?;
-    let Some(outcome) = replay_alone(
+    let outcome = replay_alone(
         alloc,
         &words,
         &mut ends.trace,
         &mut ends.files,
         &mut ends.out,
         &mut ends.notes,
-    ) else {
-        unreachable!()
-    };
-    Ok(outcome)
+    );
+    Ok(outcome.expect(rt, "no threads"))
 }
 
 /// Asserts how a call ended, what it wrote and noted, and its order.
-fn assert_case(rt: &impl Abort, case: &Case, outcome: &Outcome, ends: &Ends) {
+pub(crate) fn assert_case(rt: &impl Abort, case: &Case, outcome: &Outcome, ends: &Ends) {
     assert_eq!(rt; outcome.end, case.end);
     assert_eq!(rt; outcome.status, case.status, "at {:?}", case.end);
     assert_eq!(rt; ends.out.taken(), case.text, "at {:?}", case.end);
@@ -108,13 +117,13 @@ fn assert_case(rt: &impl Abort, case: &Case, outcome: &Outcome, ends: &Ends) {
 /// Runs a case over ends that don't fail.
 fn check(rt: &impl Abort, alloc: Global, case: &Case) -> Result<(), AllocError> {
     let mut ends = open(alloc, case.trace, case.order)?;
-    let outcome = replay(alloc, case.command, &mut ends)?;
+    let outcome = replay(rt, alloc, case.command, &mut ends)?;
     assert_case(rt, case, &outcome, &ends);
     Ok(())
 }
 
 /// A call that is refused at an end, with its status and its note.
-fn refused<'a>(command: &'a str, status: u8, end: End, note: &'a [u8]) -> Case<'a> {
+pub(crate) fn refused<'a>(command: &'a str, status: u8, end: End, note: &'a [u8]) -> Case<'a> {
     Case {
         command,
         trace: ONE,
@@ -192,7 +201,11 @@ fn words_that_are_refused(rt: HostRuntime) -> Result<(), Fail> {
         "tcreplay serial --classes T0 --order O",
         "tcreplay serial --rows --classes T0 --rows",
         "tcreplay order --classes T0",
-        "tcreplay workers --classes T0 --locks one",
+        "tcreplay workers --locks one",
+        "tcreplay workers --classes T0 --locks two",
+        "tcreplay workers --classes T0 --locks",
+        "tcreplay workers --classes T0 --order O",
+        "tcreplay serial --classes T0 --locks one",
         "tcreplay gen --classes T0 --seed 1 --calls 1 --threads 1",
     ] {
         check(
@@ -205,7 +218,7 @@ fn words_that_are_refused(rt: HostRuntime) -> Result<(), Fail> {
     // The put of the note fails, and takes its half.
     let mut ends = open(alloc, ONE, b"")?;
     ends.notes = MemSink::new(alloc, 100, vec![in alloc; 1u64]?)?;
-    let outcome = replay(alloc, "tcreplay serial", &mut ends)?;
+    let outcome = replay(&rt, alloc, "tcreplay serial", &mut ends)?;
     let usage = refused("tcreplay serial", 2, End::Usage, b"tcreplay");
     assert_case(&rt, &usage, &outcome, &ends);
     Ok(())
@@ -224,7 +237,7 @@ fn inputs_that_are_refused(rt: HostRuntime) -> Result<(), Fail> {
 
     let mut ends = open(alloc, ONE, b"")?;
     ends.files = shelf(alloc, b"16,1,4\n12,1,4\n", b"", &[])?;
-    let outcome = replay(alloc, SERIAL, &mut ends)?;
+    let outcome = replay(&rt, alloc, SERIAL, &mut ends)?;
     let why = RowWhy::Size;
     let bad = End::BadTable { row: 2, why };
     let size = refused(SERIAL, 3, bad, b"tcreplay: table row 2: size\n");
@@ -234,7 +247,7 @@ fn inputs_that_are_refused(rt: HostRuntime) -> Result<(), Fail> {
     let lines = vec![in alloc; b'\n'; 65537]?;
     let mut ends = open(alloc, ONE, b"")?;
     ends.files = shelf(alloc, &lines, b"", &[])?;
-    let outcome = replay(alloc, SERIAL, &mut ends)?;
+    let outcome = replay(&rt, alloc, SERIAL, &mut ends)?;
     let limit = 65536;
     let note = b"tcreplay: longer than 65536 bytes\n";
     let long = refused(SERIAL, 8, End::TooLong { limit }, note);
@@ -252,13 +265,6 @@ fn inputs_that_are_refused(rt: HostRuntime) -> Result<(), Fail> {
             1,
             LineWhy::LabelUnknown,
             b"tcreplay: trace line 1: labelunknown\n".as_slice(),
-        ),
-        // A size that has a class, in a trace that is valid to its end.
-        (
-            b"a 0 0 300000\na 0 1 10\nr 0 1\n".as_slice(),
-            2,
-            LineWhy::NotBuilt,
-            b"tcreplay: trace line 2: notbuilt\n".as_slice(),
         ),
         (
             b"r 0 1\nd 0 1\n".as_slice(),
@@ -295,21 +301,21 @@ fn failing_ends(rt: HostRuntime) -> Result<(), Fail> {
     let alloc = rt.alloc();
     let mut ends = open(alloc, b"", b"")?;
     ends.trace = MemSource::new(Vec::from_slice(alloc, ONE)?, vec![in alloc; 2u64]?);
-    let outcome = replay(alloc, SERIAL, &mut ends)?;
+    let outcome = replay(&rt, alloc, SERIAL, &mut ends)?;
     let fault = refused(SERIAL, 5, End::ReadFault, b"tcreplay: read fault\n");
     assert_case(&rt, &fault, &outcome, &ends);
 
     // The second load is that of the order file.
     let mut ends = open(alloc, ONE, b"")?;
     ends.files = shelf(alloc, TABLE, b"", &[2])?;
-    let outcome = replay(alloc, ORDER, &mut ends)?;
+    let outcome = replay(&rt, alloc, ORDER, &mut ends)?;
     let fault = refused(ORDER, 11, End::FileFault, b"tcreplay: file fault\n");
     assert_case(&rt, &fault, &outcome, &ends);
 
     // The whole text is one put, of which half is taken. The run has ended by then.
     let mut ends = open(alloc, ONE, b"")?;
     ends.out = MemSink::new(alloc, 1000, vec![in alloc; 1u64]?)?;
-    let outcome = replay(alloc, SERIAL, &mut ends)?;
+    let outcome = replay(&rt, alloc, SERIAL, &mut ends)?;
     let fault = Case {
         text: ONE_HALF,
         picks: &[0, 0, 0],
@@ -351,7 +357,7 @@ fn memory_that_runs_out(rt: HostRuntime) -> Result<(), Fail> {
     let Ok(mut ends) = open(alloc, ONE, order) else {
         return Ok(());
     };
-    let Ok(outcome) = replay(alloc, ORDER, &mut ends) else {
+    let Ok(outcome) = replay(&rt, alloc, ORDER, &mut ends) else {
         return Ok(());
     };
     let memory = refused(ORDER, 7, End::Memory, b"tcreplay: out of memory\n");

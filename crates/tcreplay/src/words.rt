@@ -1,7 +1,7 @@
 //! The grammar of the command line: this project's own rule.
 ghost use Rattle.std.specs.Prelude.{◌≡◌, Some, None, map, option_map, option_and_then, string_bytes};
-ghost use Rattle.tcreplay.specs.Words.{name_of, locks_of, number_in, kind_of, flag_of, takes, taken_flag, is_rows, no_options, once, with_value, with_rows, options_of, command_with, command_of, replay_by};
-ghost use Rattle.tcreplay.specs.Seen.{seen, seen_command, seen_replay};
+ghost use Rattle.tcreplay.specs.Words.{name_of, locks_of, number_in, kind_of, flag_of, takes, taken_flag, is_rows, no_options, once, with_value, with_rows, options_of, command_with, command_of, replay_by, file_of};
+ghost use Rattle.tcreplay.specs.Seen.{seen, seen_command, seen_schedule, seen_replay};
 
 use tc_units::number;
 
@@ -71,12 +71,35 @@ const MOST_CALLS: u64 = 500_000;
 /// The most threads.
 const MOST_THREADS: u64 = 64;
 
-/// A replay: the files of the class table and of the order, where one is named, and whether a line for
-/// each hugepage is printed.
+/// Which picks a replay makes before it goes on in trace order.
+#[derive(Clone, Copy, Debug)]
+pub enum Schedule<'a> {
+    /// None.
+    InTurn,
+    /// Those of an order file.
+    ByFile { order: &'a str },
+    /// Those of a running thread for each thread of the trace.
+    ByThreads { locks: Locks },
+}
+
+impl<'a> Schedule<'a> {
+    /// The order file, where one is named.
+    pub fn file(self) -> Option<&'a str>
+        ensures { option_map (λ name. name.now) result ≡ file_of (seen_schedule self.entry) }
+    {
+        match self {
+            Schedule::ByFile { order } => Some(order),
+            Schedule::InTurn | Schedule::ByThreads { .. } => None,
+        }
+    }
+}
+
+/// A replay: the file of the class table, which picks come first, and whether a line for each hugepage is
+/// printed.
 #[derive(Clone, Copy, Debug)]
 pub struct Replay<'a> {
     pub classes: &'a str,
-    pub order: Option<&'a str>,
+    pub schedule: Schedule<'a>,
     pub rows: bool,
 }
 
@@ -307,23 +330,38 @@ pub fn replay_by(words: &[String]) -> Option<Replay<'_>>
     ensures { option_map seen_replay result ≡ replay_by (map string_bytes words.now) }
 {
     match command_of(words)? {
-        Command::Serial { classes, rows } => Some(Replay {
-            classes,
-            order: None,
-            rows,
-        }),
+        Command::Serial { classes, rows } => {
+            let schedule = Schedule::InTurn;
+            Some(Replay {
+                classes,
+                schedule,
+                rows,
+            })
+        }
         Command::Order {
             classes,
             order,
             rows,
         } => {
-            let order = Some(order);
+            let schedule = Schedule::ByFile { order };
             Some(Replay {
                 classes,
-                order,
+                schedule,
                 rows,
             })
         }
-        Command::Workers { .. } | Command::Gen { .. } => None,
+        Command::Workers {
+            classes,
+            locks,
+            rows,
+        } => {
+            let schedule = Schedule::ByThreads { locks };
+            Some(Replay {
+                classes,
+                schedule,
+                rows,
+            })
+        }
+        Command::Gen { .. } => None,
     }
 }

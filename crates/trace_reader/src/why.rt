@@ -26,9 +26,6 @@ pub enum LineWhy {
     LabelUnknown,
     #[error("an earlier free has the label")]
     LabelFreed,
-    /// What isn't built yet. No rule of this crate answers it.
-    #[error("it is not built yet")]
-    NotBuilt,
 }
 
 /// Why a trace was not read.

@@ -4,6 +4,8 @@ use Rattle.tc_model.specs.declared.board.Halt.{Halt}
 use Rattle.tc_model.specs.declared.board.Halt.TheVariants.{Memory, Full}
 use Rattle.tc_model.specs.declared.board.Turn.{Turn}
 use Rattle.tc_model.specs.declared.board.Turn.TheVariants.{Moved, NotYet, Held, Ended, Halted}
+use Rattle.tc_model.specs.declared.steps.StepFault.{StepFault}
+use Rattle.tc_model.specs.declared.steps.StepFault.TheVariants as fault
 use Rattle.tc_model.specs.declared.steps.Stepped.{Stepped}
 use Rattle.tc_model.specs.declared.steps.Stepped.TheVariants as step
 use Rattle.tc_model.specs.Run.{Rules, run}
@@ -15,6 +17,11 @@ abbrev pub turn_of : Stepped → Turn
 turn_of step.Moved = Moved
 turn_of step.NotYet = NotYet
 turn_of step.Ended = Ended
+
+-- the cause of the halt behind a fault
+abbrev pub halt_of : StepFault → Halt
+halt_of (fault.Full ticket) = Full
+halt_of fault.Memory = Memory
 
 -- the order after a turn of a thread
 abbrev pub order_after : List ℕ → ℕ → Turn → List ℕ

@@ -1,10 +1,8 @@
 //! Threads at large blocks under one lock. The numbers were worked out by hand: an allocation has three
 //! acts and a free has four. A block of 254 pages leaves room for none other in its hugepage.
 ghost use Rattle.std.specs.Prelude.{◌≡◌, ◌<◌, [], All, IfOk};
-ghost use Rattle.tc_model.specs.declared.board.Turn.TheVariants as turn;
 
-use crate::{Named, World, WorldBoard};
-use replay_workers::{Worker, run_workers};
+use crate::{Left, Named, World, run_all};
 use size_classes::ClassTable;
 use std::alloc::{AllocError, Global};
 use std::marker::Brand;
@@ -12,7 +10,7 @@ use std::process::Abort;
 use std::sync::Wait;
 use std::test::Fail;
 use std::thread::Threads;
-use tc_machine::{State, first_unbuilt};
+use tc_machine::State;
 use tc_model::{CallLine, Halt, StepFault, Turn};
 use tc_ports::OpenGate;
 use tc_units::ThreadNo;
@@ -37,8 +35,6 @@ fn opened(rt: &impl Abort, alloc: Global, text: &[u8]) -> Result<State, Fail>
 {
     let table = ClassTable::read(alloc, b"16,1,4\n64,1,2\n8192,1,2\n").expect(rt, "a table");
     let trace = read_trace(alloc, text, table.len()).expect(rt, "a trace");
-    let unbuilt = first_unbuilt(alloc, &table, &trace)?;
-    assert!(rt; unbuilt.is_none());
     let state = State::open(alloc, table, trace)?;
     assert_eq!(rt; state.threads(), 2);
     Ok(state)
@@ -87,52 +83,11 @@ fn stepped(rt: &impl Abort, alloc: Global, text: &[u8], picks: &[u8]) -> Result<
     Ok(steps)
 }
 
-/// A worker before its first turn.
-fn worker<N: Named + Send>(board: &WorldBoard<N>, thread: u8) -> Worker<WorldBoard<N>>
-    ensures thread { result.hand.thread.0 ≡ thread }
-    ensures last { result.last ≡ turn.NotYet }
-{
-    Worker {
-        hand: board.hand(ThreadNo(thread)),
-        turns: 0,
-        last: Turn::NotYet,
-    }
-}
-
-/// What two workers left: their state, their last turns, and how many calls each has ended.
-#[derive(Drop)]
-struct Left {
-    state: State,
-    last: (Turn, Turn),
-    done: (u64, u64),
-}
-
-/// Runs two workers under the name of the state's input.
-fn run_in<N: Named + Send + Sync, R: Threads + Wait + Sync>(
-    rt: &R,
-    alloc: Global,
-    state: State,
-) -> Left
-    requires input { state.input ≡ N.input }
-    requires start { state.order ≡ [] }
-    requires threads { state.input.asked.config.threads ≡ 2 }
-    ensures input { result.state.input ≡ N.input }
-{
-    let board = WorldBoard::<N>::new(World::new(state));
-    let mut workers = [worker(&board, 0), worker(&board, 1)];
-    run_workers(rt, alloc, &board, &OpenGate, workers.as_mut_slice());
-    Left {
-        last: (workers[0].last, workers[1].last),
-        done: (workers[0].hand.done, workers[1].hand.done),
-        state: board.into_world().into_state(),
-    }
-}
-
 /// Runs two workers from the start of a trace.
 fn run<R: Threads + Wait + Sync + Abort>(rt: &R, alloc: Global, text: &[u8]) -> Result<Left, Fail> {
     let state = opened(rt, alloc, text)?;
-    let left = run_in::<Brand, R>(rt, alloc, state);
-    if left.last.0 == NO_MEMORY || left.last.1 == NO_MEMORY {
+    let left = run_all(rt, alloc, &OpenGate, state)?;
+    if left.halt == Some(Halt::Memory) {
         return Err(AllocError.into());
     }
     Ok(left)
@@ -215,8 +170,7 @@ fn a_halt_stays_for_its_cause(rt: HostRuntime) -> Result<(), Fail> {
 fn the_order_of_two_workers_replays_to_their_calls(rt: HostRuntime) -> Result<(), Fail> {
     let alloc = rt.alloc();
     let left = run(&rt, alloc, CROSSED)?;
-    assert_eq!(rt; left.last, (Turn::Ended, Turn::Ended));
-    assert_eq!(rt; left.done, (2, 2));
+    assert_eq!(rt; left.halt, None);
     assert!(rt; left.state.ended());
     let order = left.state.order();
     assert_eq!(rt; order.len(), 14);
@@ -230,7 +184,7 @@ fn the_order_of_two_workers_replays_to_their_calls(rt: HostRuntime) -> Result<()
 fn workers_end_at_the_limit(rt: HostRuntime) -> Result<(), Fail> {
     let text = b"threads 2\nevents 5\na 0 0 2080768\na 1 1 2080768\n";
     let mut left = run(&rt, rt.alloc(), text)?;
-    assert!(rt; left.last.0 == FULL || left.last.1 == FULL);
+    assert_eq!(rt; left.halt, Some(Halt::Full));
     assert_eq!(rt; left.state.order().len(), 5);
     assert_eq!(rt; left.state.run_serial(), Err(StepFault::Full { ticket: 5 }));
     Ok(())

@@ -5,7 +5,7 @@ ghost use Rattle.tc_model.specs.Run.{start, run};
 ghost use Rattle.tc_model.specs.Chains.{IsPolite};
 ghost use Rattle.tc_model.specs.Replays.{is_polite, done_in};
 ghost use Rattle.alloc_rules.specs.Machine as allocator;
-ghost use Rattle.world_lock.specs.Stepping.{IsTurnAt, order_after, halt_after, turn_of};
+ghost use Rattle.world_lock.specs.Stepping.{IsTurnAt, order_after, halt_after, halt_of, turn_of};
 
 use crate::named::Named;
 use std::marker::{Model, PhantomData};
@@ -47,6 +47,16 @@ fn turn_of(stepped: Stepped) -> Turn
     }
 }
 
+/// Why no further pick moves, after a fault of a step.
+fn halt_of(fault: StepFault) -> Halt
+    ensures { result ≡ halt_of fault }
+{
+    match fault {
+        StepFault::Full { ticket: _ } => Halt::Full,
+        StepFault::Memory => Halt::Memory,
+    }
+}
+
 impl<N: Named> World<N> {
     /// A state under the lock. Its condition is that the state is a run of what N names, by polite picks,
     /// as it is where no pick was made yet.
@@ -82,13 +92,14 @@ impl<N: Named> World<N> {
         if !self.state.yields(thread) {
             return Turn::Held;
         }
-        let cause = match self.state.step(thread) {
-            Ok(stepped) => return turn_of(stepped),
-            Err(StepFault::Full { ticket: _ }) => Halt::Full,
-            Err(StepFault::Memory) => Halt::Memory,
-        };
-        self.halt = Some(cause);
-        Turn::Halted { cause }
+        match self.state.step(thread) {
+            Ok(stepped) => turn_of(stepped),
+            Err(fault) => {
+                let cause = halt_of(fault);
+                self.halt = Some(cause);
+                Turn::Halted { cause }
+            }
+        }
     }
 
     /// How many calls of a thread have ended.

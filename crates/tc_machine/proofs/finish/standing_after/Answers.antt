@@ -1,7 +1,7 @@
 use Rattle.std.proofs.Common.{List, take, sym, subst, arith}
 use Rattle.std.proofs.lemmas.List.{take_more, length-take}
 use Rattle.tc_model.specs.declared.answers.CallLine.{CallLine}
-use Rattle.alloc_rules.proofs.BlockFacts.{apart_after}
+use Rattle.holdings.proofs.Blocks.{apart_after}
 use Rattle.tc_machine.specs.Standing.{AreStanding}
 use Rattle.tc_machine.proofs.finish.standing_after.Goals as goal
 

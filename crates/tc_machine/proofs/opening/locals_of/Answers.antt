@@ -12,7 +12,7 @@ use Rattle.tc_machine.proofs.opening.locals_of.Goals as goal
 pub overflow_cast-thread : goal.overflow_cast-thread
 overflow_cast-thread c =
     let t = YieldsList-turn (YieldsList-from_vec c.args.scripts.items (cc) (cc)) c.loop-script.yielded c.loop-script.script-iterator c.loop-script.yielded_by c.next.result c.next.new.self c.in-Some.script c.in-Some.is c.next.ensures.steps in
-    let count : length c.loop-script.locals.items ≡ length c.loop-script.yielded = ap length c.loop-script.invariant ∙ length-map-range_with_len (local_at c.args.cpus c.args.scripts.items) 0 (length c.loop-script.yielded) in
+    let count : length c.loop-script.locals.items ≡ length c.loop-script.yielded = ap length c.loop-script.invariant ∙ length-map-range_with_len (local_at c.args.table.now c.args.config.now c.args.scripts.items) 0 (length c.loop-script.yielded) in
     omega (arith, t.0, count, c.requires.few)
 
 pub loop-script-preserved : goal.loop-script-preserved
@@ -20,19 +20,19 @@ loop-script-preserved c =
     let n : ℕ = length c.loop-script.yielded in
     let scripts = c.args.scripts.items in
     let t = YieldsList-turn (YieldsList-from_vec scripts (cc) (cc)) c.loop-script.yielded c.loop-script.script-iterator c.loop-script.yielded_by c.next.result c.next.new.self c.in-Some.script c.in-Some.is c.next.ensures.steps in
-    let count : length c.loop-script.locals.items ≡ n = ap length c.loop-script.invariant ∙ length-map-range_with_len (local_at c.args.cpus scripts) 0 n in
+    let count : length c.loop-script.locals.items ≡ n = ap length c.loop-script.invariant ∙ length-map-range_with_len (local_at c.args.table.now c.args.config.now scripts) 0 n in
     let none : Script = record { calls = [] } in
     let script : c.in-Some.script ≡ slice_index_or scripts n none = t.1 ∙ get_or_default scripts n c.in-Some.script none t.0 in
     let thread : c.len-thread.result ≡ n = omega (arith, c.len-thread.ensures, count, c.loop-script.locals.ok) in
-    let made : ℕ → Script → Local = λ k s. first_local (record { 0 = k }) (record { 0 = k % c.args.cpus }) s.calls in
-    let new : c.in_ok-new.field-0 ≡ local_at c.args.cpus scripts n = c.in_ok-new.ensures ∙ ap (λ k. made k c.in-Some.script) thread ∙ ap (made n) script in
+    let made : ℕ → Script → Local = λ k s. first_local c.args.table.now (record { 0 = k }) (record { 0 = k % c.args.config.now.cpus }) s.calls c.args.config.now.domains in
+    let new : c.in_ok-local.local ≡ local_at c.args.table.now c.args.config.now scripts n = c.in_ok-local.ensures ∙ ap (λ k. made k c.in-Some.script) thread ∙ ap (made n) script in
     c.in_ok-push.ensures.items
     ∙ ap (λ l. c.loop-script.locals.items ++ l ∷ []) new
-    ∙ ap (λ ls. ls ++ local_at c.args.cpus scripts n ∷ []) c.loop-script.invariant
-    ∙ sym (map-range_with_len_more (local_at c.args.cpus scripts) 0 n n (omega arith))
-    ∙ ap (λ k. map (local_at c.args.cpus scripts) (range_with_len 0 k)) (sym (length_push c.loop-script.yielded c.in-Some.script))
+    ∙ ap (λ ls. ls ++ local_at c.args.table.now c.args.config.now scripts n ∷ []) c.loop-script.invariant
+    ∙ sym (map-range_with_len_more (local_at c.args.table.now c.args.config.now scripts) 0 n n (omega arith))
+    ∙ ap (λ k. map (local_at c.args.table.now c.args.config.now scripts) (range_with_len 0 k)) (sym (length_push c.loop-script.yielded c.in-Some.script))
 
 pub returns : goal.returns
 returns c =
     let t = YieldsList-end (YieldsList-from_vec c.args.scripts.items (cc) (cc)) c.loop-script.yielded c.loop-script.script-iterator c.loop-script.yielded_by c.next.result c.next.new.self c.in-None.is c.next.ensures.steps in
-    c.loop-script.invariant ∙ ap (λ n. map (local_at c.args.cpus c.args.scripts.items) (range_with_len 0 n)) t.1
+    c.loop-script.invariant ∙ ap (λ n. map (local_at c.args.table.now c.args.config.now c.args.scripts.items) (range_with_len 0 n)) t.1

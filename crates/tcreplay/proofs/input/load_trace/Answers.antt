@@ -1,4 +1,4 @@
-use Rattle.std.proofs.Common.{◌≡◌, inl, inr, refl, ap, subst}
+use Rattle.std.proofs.Common.{inl, inr, refl, ap, subst}
 use Rattle.tc_ports.specs.Whole.{ReadAllCounted, LimitRefused}
 use Rattle.tcreplay.specs.Verdict.{and_then, asked_of_text}
 use Rattle.tcreplay.proofs.TraceFacts.{some_text, some_text_is, long_text}

@@ -35,5 +35,5 @@ returns c =
     let answer : i < length c.as_slice-2.result.now = omega (arith, within, ap length c.as_slice-2.ensures) in
     let at : slice_get l.script i ≡ Some (get_or c.as_slice.result.now i _) = ap (λ xs. slice_get xs i) (sym c.as_slice.ensures) ∙ slice_get-get_or c.as_slice.result.now i _ planned in
     let there : slice_get l.answers.items i ≡ Some (get_or c.as_slice-2.result.now i _) = ap (λ xs. slice_get xs i) (sym c.as_slice-2.ensures) ∙ slice_get-get_or c.as_slice-2.result.now i _ answer in
-    sym (ap (option_map (told l.thread.0)) (decided_at l.script l.answers.items i _ _ at there))
-    ∙ ap (λ (m : Local). option_map (told m.thread.0) (slice_get m.answers i)) c.self.view_is
+    sym (ap (option_map (told l.regs.thread.0)) (decided_at l.script l.answers.items i _ _ at there))
+    ∙ ap (λ (m : Local). option_map (told m.regs.thread.0) (slice_get m.answers i)) c.self.view_is

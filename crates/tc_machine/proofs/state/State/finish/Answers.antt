@@ -9,14 +9,14 @@ use Rattle.tc_model.specs.declared.answers.CallLine.{CallLine}
 use Rattle.tc_model.specs.declared.config.Config.{Config}
 use Rattle.tc_model.specs.Blocks.{IsBlockRun}
 use Rattle.alloc_rules.specs.declared.part.Part.TheVariants as part
-use Rattle.alloc_rules.specs.State.{calls}
+use Rattle.alloc_rules.specs.Law.{calls}
 use Rattle.call_steps.specs.Local.{Local}
 use Rattle.tc_machine.specs.Held.{input_in}
 use Rattle.tc_machine.specs.Played.{Played}
-use Rattle.tc_machine.specs.Finish.{finished_in}
+use Rattle.tc_machine.specs.Finish.{finished_in, heap_place}
 use Rattle.tc_machine.specs.Standing.{AreStanding}
 use Rattle.tc_machine.proofs.StateFacts.{told_of}
-use Rattle.tc_machine.proofs.FinishFacts.{heap_there, huge_is, calls_are, finished_is, covered_is}
+use Rattle.tc_machine.proofs.FinishFacts.{read_at, place_at, heap_there, huge_is, calls_are, finished_is, covered_is}
 use Rattle.tc_machine.proofs.state.State.finish.Goals as goal
 
 pub told_calls-requires-clause-threads : goal.told_calls-requires-clause-threads
@@ -44,30 +44,30 @@ standing_after-requires-clause-run c =
     let told = told_of r.machine r.parts.items r.locals.items r.order.items r.limit r.is_run r.moves r.few r.most in
     let lines : c.in_ok-calls.calls.items ≡ calls r.locals.items r.order.items = c.in_ok-calls.ensures.calls ∙ (ap (λ ls. calls ls c.deref-2.result.now) c.deref.ensures.value ∙ ap (calls r.locals.items) c.deref-2.ensures.value) in
     let same : c.deref-3.result.now ≡ calls told.holds.locals r.order.items = c.deref-3.ensures.value ∙ calls_are i r.order.items r.parts.items r.locals.items told c.in_ok-calls.calls.items lines in
-    (i.asked.config.huge, length_of i.rows, subst (λ (ds : List CallLine). IsBlockRun i.asked.config.huge (length_of i.rows) ds) (sym same) told.holds.blocks, r.machine.valid.few)
+    (i.asked.config.huge, length_of i.rows, subst (λ (ds : List CallLine). IsBlockRun i.asked.config.huge (length_of i.rows) ds) (sym same) told.holds.blocks, r.machine.valid.limits.few)
 
 pub heap_of-heap-requires : goal.heap_of-heap-requires
 heap_of-heap-requires c =
     let r = c.self.inside.replay in
     let told = told_of r.machine r.parts.items r.locals.items r.order.items r.limit r.is_run r.moves r.few r.most in
-    (told.holds.parts.heap, ap (λ ps. slice_get ps 0) c.deref-4.ensures.value ∙ heap_there (input_in r.machine) r.order.items r.parts.items r.locals.items told)
+    (told.holds.parts.heap, place_at r.machine r.parts.items c.deref-4.result.now c.heap_place.result told.holds.parts.heap c.deref-4.ensures.value c.heap_place.ensures (heap_there (input_in r.machine) r.order.items r.parts.items r.locals.items told))
 
 pub rows_of-requires-clause-all : goal.rows_of-requires-clause-all
 rows_of-requires-clause-all c =
     let r = c.self.inside.replay in
     let told = told_of r.machine r.parts.items r.locals.items r.order.items r.limit r.is_run r.moves r.few r.most in
-    let there : slice_get r.parts.items 0 ≡ Some (part.Heap c.heap_of-heap.result.now) = ap (λ ps. slice_get ps 0) (sym c.deref-4.ensures.value) ∙ c.heap_of-heap.ensures in
+    let there : slice_get r.parts.items (heap_place (input_in r.machine)) ≡ Some (part.Heap c.heap_of-heap.result.now) = read_at r.machine r.parts.items c.deref-4.result.now c.heap_place.result c.heap_of-heap.result.now c.deref-4.ensures.value c.heap_place.ensures c.heap_of-heap.ensures in
     ap (λ (config : Config). config.huge) r.machine.same_config ∙ sym (huge_is (input_in r.machine) r.order.items r.parts.items r.locals.items told c.heap_of-heap.result.now there)
 
 pub rows_of-requires-clause-few : goal.rows_of-requires-clause-few
-rows_of-requires-clause-few c = let r = c.self.inside.replay in omega (arith, r.machine.valid.few, ap (λ (config : Config). config.huge) r.machine.same_config)
+rows_of-requires-clause-few c = let r = c.self.inside.replay in omega (arith, r.machine.valid.limits.few, ap (λ (config : Config). config.huge) r.machine.same_config)
 
 pub returns-clause-value : goal.returns-clause-value
 returns-clause-value c =
     let r = c.self.inside.replay in
     let i = input_in r.machine in
     let told = told_of r.machine r.parts.items r.locals.items r.order.items r.limit r.is_run r.moves r.few r.most in
-    let there : slice_get r.parts.items 0 ≡ Some (part.Heap c.heap_of-heap.result.now) = ap (λ ps. slice_get ps 0) (sym c.deref-4.ensures.value) ∙ c.heap_of-heap.ensures in
+    let there : slice_get r.parts.items (heap_place (input_in r.machine)) ≡ Some (part.Heap c.heap_of-heap.result.now) = read_at r.machine r.parts.items c.deref-4.result.now c.heap_place.result c.heap_of-heap.result.now c.deref-4.ensures.value c.heap_place.ensures c.heap_of-heap.ensures in
     let lines : c.in_ok-calls.calls.items ≡ calls r.locals.items r.order.items = c.in_ok-calls.ensures.calls ∙ (ap (λ ls. calls ls c.deref-2.result.now) c.deref.ensures.value ∙ ap (calls r.locals.items) c.deref-2.ensures.value) in
     let stand : AreStanding c.in_ok-calls.calls.items c.in_ok-standing.standing = subst (λ (ds : List CallLine). AreStanding ds c.in_ok-standing.standing) c.deref-3.ensures.value c.in_ok-standing.ensures in
     let heap = c.heap_of-heap.result.now in
@@ -94,7 +94,7 @@ returns-clause-covered c =
     let r = c.self.inside.replay in
     let i = input_in r.machine in
     let told = told_of r.machine r.parts.items r.locals.items r.order.items r.limit r.is_run r.moves r.few r.most in
-    let there : slice_get r.parts.items 0 ≡ Some (part.Heap c.heap_of-heap.result.now) = ap (λ ps. slice_get ps 0) (sym c.deref-4.ensures.value) ∙ c.heap_of-heap.ensures in
+    let there : slice_get r.parts.items (heap_place (input_in r.machine)) ≡ Some (part.Heap c.heap_of-heap.result.now) = read_at r.machine r.parts.items c.deref-4.result.now c.heap_place.result c.heap_of-heap.result.now c.deref-4.ensures.value c.heap_place.ensures c.heap_of-heap.ensures in
     let lines : c.in_ok-calls.calls.items ≡ calls r.locals.items r.order.items = c.in_ok-calls.ensures.calls ∙ (ap (λ ls. calls ls c.deref-2.result.now) c.deref.ensures.value ∙ ap (calls r.locals.items) c.deref-2.ensures.value) in
     let stand : AreStanding c.in_ok-calls.calls.items c.in_ok-standing.standing = subst (λ (ds : List CallLine). AreStanding ds c.in_ok-standing.standing) c.deref-3.ensures.value c.in_ok-standing.ensures in
     covered_is i r.order.items r.parts.items r.locals.items told c.in_ok-calls.calls.items c.heap_of-heap.result.now c.in_ok-standing.standing c.used_pages.result c.backed_pages.result lines there stand c.used_pages.ensures.value c.used_pages.ensures.runs c.backed_pages.ensures.covers
@@ -104,5 +104,5 @@ returns-clause-most c =
     let r = c.self.inside.replay in
     let i = input_in r.machine in
     let told = told_of r.machine r.parts.items r.locals.items r.order.items r.limit r.is_run r.moves r.few r.most in
-    let there : slice_get r.parts.items 0 ≡ Some (part.Heap c.heap_of-heap.result.now) = ap (λ ps. slice_get ps 0) (sym c.deref-4.ensures.value) ∙ c.heap_of-heap.ensures in
+    let there : slice_get r.parts.items (heap_place (input_in r.machine)) ≡ Some (part.Heap c.heap_of-heap.result.now) = read_at r.machine r.parts.items c.deref-4.result.now c.heap_place.result c.heap_of-heap.result.now c.deref-4.ensures.value c.heap_place.ensures c.heap_of-heap.ensures in
     omega (arith, c.backed_pages.ensures.most, huge_is i r.order.items r.parts.items r.locals.items told c.heap_of-heap.result.now there, ap (λ (p : Played). p.input.asked.config.huge) c.self.view_is)

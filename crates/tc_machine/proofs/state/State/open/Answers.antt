@@ -35,16 +35,16 @@ invariant_of-machine c =
       same_config = ap (λ (t : Trace). t.config) seen;
       few = config.events.1;
       same_turns = turns_are rows (length rows) c.args.trace asked read ∙ ap (λ (t : Trace). allocator.turns (input_of rows t)) seen;
-      valid = subst (λ (t : Trace). IsValid (input_of rows t)) seen (valid_read rows (length rows) c.args.trace asked read c.requires.built);
+      valid = subst (λ (t : Trace). IsValid (input_of rows t)) seen (valid_read rows c.args.trace asked c.in_ok-parts.ensures.table read);
     }
 
 pub gather-replay-requires-clause-run : goal.gather-replay-requires-clause-run
 gather-replay-requires-clause-run c =
     let rows = c.args.table in
     let trace = c.args.trace in
-    let locals : c.in_ok-locals.locals.items ≡ locals_at trace.config.cpus trace.scripts = c.in_ok-locals.ensures ∙ ap (locals_at trace.config.cpus) c.into_vec.ensures in
-    ap (λ ps. world_of ps c.in_ok-locals.locals.items) c.in_ok-parts.ensures
-    ∙ ap (λ ls. world_of (allocator.parts_of (parts_at trace.config trace.labels)) ls) locals
+    let locals : c.in_ok-locals.locals.items ≡ locals_at rows trace.config trace.scripts = c.in_ok-locals.ensures ∙ ap (locals_at rows trace.config) c.into_vec.ensures in
+    ap (λ ps. world_of ps c.in_ok-locals.locals.items) c.in_ok-parts.ensures.parts
+    ∙ ap (λ ls. world_of (allocator.parts_of (parts_at rows trace.config trace.labels)) ls) locals
     ∙ start_is rows (length rows) trace c.requires.read.0 c.requires.read.1
     ∙ ap (λ o. run (allocator.rules (input_of rows trace)) o) (sym c.new-order.ensures.items)
     ∙ ap (λ (t : Trace). run (allocator.rules (input_of rows t)) c.new-order.result.items) (sym c.of-seen.ensures)

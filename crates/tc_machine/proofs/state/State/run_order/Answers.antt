@@ -1,5 +1,8 @@
-use Rattle.std.proofs.Common.{ap, subst, arith}
-use Rattle.std.specs.Result.{IfErr}
+use Rattle.std.proofs.Common.{◌≡◌, ap, sym, subst, arith}
+use Rattle.std.specs.Result.{IfErr, OnOk}
+use Rattle.tc_model.specs.Run.{run}
+use Rattle.tc_model.specs.Replays.{HaveEnded}
+use Rattle.tc_machine.specs.declared.machine.AllocMachine.{AllocMachine}
 use Rattle.std.specs.List.{slice_index_or}
 use Rattle.tc_model.specs.Serial.{completed, followed, IsCutShort}
 use Rattle.alloc_rules.specs.Machine as allocator
@@ -11,6 +14,20 @@ use Rattle.tc_machine.proofs.state.State.run_order.Goals as goal
 pub run_order-requires : goal.run_order-requires
 run_order-requires c k d within =
     below_locals (input_in c.self.inside.replay.machine) (slice_index_or c.args.picks.now k d) (omega (arith, c.requires k d within, ap (λ (p : Played). p.input.asked.config.threads) c.self.view_is))
+
+pub returns-clause-ok : goal.returns-clause-ok
+returns-clause-ok c =
+    let r = c.self.inside.replay in
+    let i = input_in r.machine in
+    let picks = c.args.picks.now in
+    let new = c.run_order.new.self.order.items in
+    let ok = subst (λ n. OnOk c.run_order.result (new ≡ completed (allocator.rules i) (allocator.turns i) n (followed (allocator.rules i) n r.order.items picks))) (limit_is r.machine r.limit c.self.invariant) c.run_order.ensures.ok in
+    subst (λ (p : Played). OnOk c.run_order.result (new ≡ completed (allocator.rules p.input) (allocator.turns p.input) p.input.asked.config.events (followed (allocator.rules p.input) p.input.asked.config.events p.order picks))) c.self.view_is ok
+
+pub returns-clause-ended : goal.returns-clause-ended
+returns-clause-ended c =
+    let new = c.run_order.new.self.order.items in
+    subst (λ (m : AllocMachine). OnOk c.run_order.result (HaveEnded (allocator.rules (input_in m)) (run (allocator.rules (input_in m)) new))) (sym c.run_order.ensures.machine) c.run_order.ensures.ended
 
 pub returns-clause-fault : goal.returns-clause-fault
 returns-clause-fault c =

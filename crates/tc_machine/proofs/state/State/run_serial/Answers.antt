@@ -1,11 +1,19 @@
-use Rattle.std.proofs.Common.{subst}
-use Rattle.std.specs.Result.{IfErr}
+use Rattle.std.proofs.Common.{sym, subst}
+use Rattle.std.specs.Result.{IfErr, OnOk}
+use Rattle.tc_model.specs.Run.{run}
+use Rattle.tc_model.specs.Replays.{HaveEnded}
+use Rattle.tc_machine.specs.declared.machine.AllocMachine.{AllocMachine}
 use Rattle.tc_model.specs.Serial.{completed, IsCutShort}
 use Rattle.alloc_rules.specs.Machine as allocator
 use Rattle.tc_machine.specs.Played.{Played}
 use Rattle.tc_machine.specs.Held.{input_in}
 use Rattle.tc_machine.proofs.StateFacts.{limit_is, holds_in}
 use Rattle.tc_machine.proofs.state.State.run_serial.Goals as goal
+
+pub returns-clause-ended : goal.returns-clause-ended
+returns-clause-ended c =
+    let new = c.run_serial.new.self.order.items in
+    subst (λ (m : AllocMachine). OnOk c.run_serial.result (HaveEnded (allocator.rules (input_in m)) (run (allocator.rules (input_in m)) new))) (sym c.run_serial.ensures.machine) c.run_serial.ensures.ended
 
 pub returns-clause-fault : goal.returns-clause-fault
 returns-clause-fault c =

@@ -1,4 +1,4 @@
-use Rattle.std.proofs.Common.{◌≡◌, ℕ, true, false, List, ◌∷◌, Some, map, string_bytes, refl, sym, ap, ◌∙◌}
+use Rattle.std.proofs.Common.{◌≡◌, true, false, ◌∷◌, Some, map, string_bytes, sym, ap, ◌∙◌}
 use Rattle.tcreplay.specs.Words.{is_rows, taken_flag, with_rows, with_value, options_of}
 use Rattle.tcreplay.specs.Seen.{seen}
 use Rattle.tcreplay.proofs.OptionFacts.{rows_step, value_step}

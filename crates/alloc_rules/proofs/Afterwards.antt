@@ -1,0 +1,128 @@
+-- What holds after every order, from the books of its parts and locals.
+use Rattle.std.proofs.Common.{◌≡◌, ℕ, ◌+◌, ◌*◌, ◌<◌, ◌≤◌, ◌⊎◌, ◌↔◌, true, false, eqb, List, map, Option, Some, None, refl, sym, ap, ◌∙◌, subst, inl, inr, arith}
+use Rattle.std.specs.Prelude.{sum_by, MatchOption}
+use Rattle.std.proofs.lemmas.Bool.{cond-true, eq-eqb, false≢true}
+use Rattle.tc_units.specs.declared.units.Addr.{Addr}
+use Rattle.tc_units.specs.declared.spans.Run.{Run}
+use Rattle.tc_model.specs.Input.{Input}
+use Rattle.tc_model.specs.Run.{run}
+use Rattle.tc_model.specs.Blocks.{live_bytes}
+use Rattle.tc_model.specs.declared.answers.CallLine.{CallLine}
+use Rattle.tc_units.specs.Units.{page_bytes}
+use Rattle.name_table.specs.declared.table.NameState.{NameState}
+use Rattle.name_table.specs.declared.table.NameState.TheVariants as name
+use Rattle.name_table.specs.Names.{state_of}
+use Rattle.heap_rules.specs.declared.config.HeapConfig.{HeapConfig}
+use Rattle.heap_rules.specs.Heap as heaps
+use Rattle.heap_rules.specs.New.{Placed, new, none_fits}
+use Rattle.heap_rules.specs.Laws.{IsGiven}
+use Rattle.heap_rules.specs.Sound.{IsSound}
+use Rattle.heap_rules.proofs.Given.{new_gives}
+use Rattle.holdings.specs.Runs.{runs_at, spans_at, objects_at}
+use Rattle.holdings.specs.Accounts.{Account, loose, in_hand, named_at}
+use Rattle.holdings.specs.Books.{Setup, Stock, Books}
+use Rattle.holdings.specs.Facts.{Facts}
+use Rattle.holdings.proofs.Sums.{least, none_counts, sum_of_both, class_zero}
+use Rattle.holdings.proofs.Held.{objects_are_once, names_are_live}
+use Rattle.holdings.proofs.Blocks.{bytes_are_within}
+use Rattle.call_steps.specs.Local.{Local}
+use Rattle.alloc_rules.specs.Machine.{Parts, rules}
+use Rattle.alloc_rules.specs.Accounts.{account_of}
+use Rattle.alloc_rules.specs.Stocks.{stock_of, AreBooksOf}
+use Rattle.alloc_rules.specs.Valid.{IsValid}
+use Rattle.alloc_rules.specs.Law.{calls, setup_of, HoldsAfter}
+use Rattle.alloc_rules.proofs.Serving.{IsServed}
+use Rattle.alloc_rules.proofs.Same.{same_starts, same_pages, same_spans}
+
+-- an allocation gets none exactly where none fits
+none_by : (heap : heaps.Heap) (n : ℕ) (o : Option Placed) → MatchOption o (none_fits heap n ≡ true) (λ x. IsGiven heap n x × (none_fits heap n ≡ false)) → (o ≡ None) ↔ (none_fits heap n ≡ true)
+none_by heap n None law = (λ is. law, λ fits. refl)
+none_by heap n (Some x) law = (λ is. absurd (cc), λ fits. absurd (false≢true (sym law.1 ∙ fits)))
+
+pub none_exactly : (heap : heaps.Heap) (n : ℕ) → IsSound heap → 2 ≤ heap.config.region → 0 < n → (new heap n ≡ None) ↔ (none_fits heap n ≡ true)
+none_exactly heap n is wide some = none_by heap n (new heap n) (new_gives heap n is wide some)
+
+-- Where no object is, none is in a hand or in the stock: all that is there is at live runs.
+module _ (m : Setup) (b : Books) (lines : List CallLine) (f : Facts m b lines) (n : ℕ) (none : (k : ℕ) → b.stock.objects k n ≡ 0) where
+  no_hand : sum_by (λ (a : Account). objects_at n a.hand) b.accounts ≡ 0
+  no_hand = none_counts (λ (a : Account). objects_at n a.hand) b.accounts (λ i a at.
+      let own : in_hand a.class n a ≡ objects_at n a.hand = cond-true (eqb a.class a.class) (objects_at n a.hand) 0 (eq-eqb a.class a.class refl) in
+      omega (arith, own, least (in_hand a.class n) b.accounts i a at, f.classes a.class n, none a.class))
+
+  runs_alone : sum_by (λ (a : Account). loose n a.doing + spans_at n a.apart) b.accounts + sum_by (named_at n) b.names + b.stock.begins n ≡ runs_at n b.heap
+  runs_alone =
+      let all = sum_of_both (λ (a : Account). loose n a.doing + objects_at n a.hand) (λ (a : Account). spans_at n a.apart) b.accounts in
+      let hands = sum_of_both (λ (a : Account). loose n a.doing) (λ (a : Account). objects_at n a.hand) b.accounts in
+      let spans = sum_of_both (λ (a : Account). loose n a.doing) (λ (a : Account). spans_at n a.apart) b.accounts in
+      let objects = class_zero m.rows (λ k. b.stock.objects k n) none in
+      let stored = class_zero m.rows (λ k. b.stock.stored k n) (λ k. omega (arith, f.classes k n, none k)) in
+      omega (arith, f.places n, all, hands, spans, objects, stored, no_hand)
+
+-- the books with the parts' own stock and names, and the locals' accounts
+abbrev own_books : Parts → List Local → Books → Books
+own_books p locals b = record { stock = stock_of p; heap = b.heap; spans = b.spans; names = p.names; accounts = map account_of locals }
+
+own_are : (p : Parts) (locals : List Local) (b : Books) → AreBooksOf p locals b → b ≡ own_books p locals b
+own_are p locals b are =
+    ap (λ (s : Stock). let x : Books = record { stock = s; heap = b.heap; spans = b.spans; names = b.names; accounts = b.accounts } in x) are.stock
+    ∙ (ap (λ (ns : List NameState). let x : Books = record { stock = stock_of p; heap = b.heap; spans = b.spans; names = ns; accounts = b.accounts } in x) are.names
+    ∙ ap (λ (as' : List Account). let x : Books = record { stock = stock_of p; heap = b.heap; spans = b.spans; names = p.names; accounts = as' } in x) are.accounts)
+
+module _ (input : Input) (valid : IsValid input) (order : List ℕ) (served : IsServed input (run (rules input) order) order) where
+  abbrev p : Parts
+  p = served.parts
+
+  abbrev locals : List Local
+  locals = served.locals
+
+  abbrev b : Books
+  b = own_books p locals served.books
+
+  f : Facts (setup_of input) b (calls locals order)
+  f = subst (λ (x : Books). Facts (setup_of input) x (calls locals order)) (own_are p locals served.books served.books_of) served.facts
+
+  starts_are : (n : ℕ) → runs_at n b.heap ≡ runs_at n p.heap.runs
+  starts_are n = same_starts b.heap p.heap.runs served.books_of.heap n
+
+  bytes : live_bytes (calls locals order) ≤ sum_by (λ (r : Run). r.pages) p.heap.runs * page_bytes
+  bytes = omega (arith, bytes_are_within (setup_of input) b (calls locals order) f, same_pages b.heap p.heap.runs served.books_of.heap)
+
+  wide : 2 ≤ p.heap.config.region
+  wide = omega (arith, valid.limits.region, ap (λ (c : HeapConfig). c.region) served.placed.ok.config)
+
+  names_live : (label : ℕ) (addr : Addr) → state_of p.names label ≡ name.Published (Some addr) → ((k : ℕ) × (0 < (stock_of p).objects k addr.0)) ⊎ (runs_at addr.0 p.heap.runs ≡ 1)
+  names_live label addr is =
+      elim (names_are_live (setup_of input) b (calls locals order) label addr f is) [
+        | inl object ↦ inl object
+        | inr live ↦ inr (sym (starts_are addr.0) ∙ live)
+      ]
+
+  pub holds_after : HoldsAfter input order
+  holds_after =
+      record {
+        parts = p;
+        locals = locals;
+        is = served.is;
+        blocks = f.kept.run;
+        covered = bytes;
+        decided = λ t l at. let inside = (served.works t l at).inside in record { count = inside.count; each = inside.decided };
+        threads = λ t l at. (served.works t l at).shaped.thread;
+        acts = λ t l at. (served.works t l at).acts;
+        rising = λ t l at. (served.works t l at).rising;
+        objects = λ k n some. objects_are_once (setup_of input) b (calls locals order) k n f some;
+        places = f.classes;
+        shards = served.placed.ok.shards;
+        heap = served.placed.ok.heap;
+        config = served.placed.ok.config;
+        none = λ n some. none_exactly p.heap n served.placed.ok.heap wide some;
+        spans = λ n. omega (arith, f.begins n, starts_are n);
+        runs = λ n none. runs_alone (setup_of input) b (calls locals order) f n none ∙ starts_are n;
+        starts = λ n. omega (arith, f.starts n, starts_are n);
+        spans_apart = served.placed.ok.map;
+        mapped = λ r. omega (arith, f.map r, served.books_of.heap r, same_spans b.spans p.map.spans served.books_of.spans r);
+        named = names_live;
+        published = f.published;
+        taken = f.taken;
+        cpus = served.placed.ok.cpus;
+        seats = served.seated;
+      }

@@ -1,0 +1,112 @@
+-- The acts at the cache of a class in a domain move objects between it and the hand.
+use Rattle.std.proofs.Common.{◌≡◌, ℕ, ◌+◌, List, [], ◌∷◌, ◌++◌, length, Some, refl, sym, ap, subst, arith}
+use Rattle.std.specs.List.{slice_get, slice_set}
+use Rattle.std.proofs.lemmas.Bool.{cond_both}
+use Rattle.std.proofs.lemmas.List.{get_or-set_same, get_or-set_other}
+use Rattle.tc_units.specs.Classes.{class_of}
+use Rattle.tc_units.specs.declared.units.Addr.{Addr}
+use Rattle.tc_model.specs.declared.answers.CallLine.{CallLine}
+use Rattle.heap_rules.specs.declared.config.HeapConfig.{HeapConfig}
+use Rattle.rseq_core.specs.Bags.{appended}
+use Rattle.transfer_cache.specs.Transfer.{Transfer, last_first, without_last}
+use Rattle.holdings.specs.Runs.{objects_at}
+use Rattle.holdings.specs.Accounts.{Asks}
+use Rattle.holdings.specs.Books.{Setup, Books, IsCut}
+use Rattle.holdings.specs.Moves.{MoveObjects}
+use Rattle.call_steps.specs.declared.step.Asking.{Asking}
+use Rattle.call_steps.specs.declared.step.Giving.{Giving}
+use Rattle.call_steps.specs.declared.step.Giving.TheVariants as giving
+use Rattle.call_steps.specs.declared.step.Step.{Step}
+use Rattle.call_steps.specs.declared.step.Step.TheVariants as does
+use Rattle.call_steps.specs.declared.step.ShardStep.TheVariants as shard
+use Rattle.call_steps.specs.declared.step.DomainStep.{DomainStep}
+use Rattle.call_steps.specs.declared.step.DomainStep.TheVariants.{Take, Put}
+use Rattle.call_steps.specs.Local.{Local, goes, class_row}
+use Rattle.call_steps.specs.Hands.{given}
+use Rattle.call_steps.specs.ShardActs.{takes, fits_into, put_in, domain_row}
+use Rattle.call_steps.specs.Shapes.{StepShape, DomainShape}
+use Rattle.holdings.proofs.Sums.{of_all}
+use Rattle.alloc_rules.specs.Machine.{Parts}
+use Rattle.alloc_rules.specs.Accounts.{giving_doing}
+use Rattle.alloc_rules.specs.Stocks.{no_cache, cache_at, in_caches, stock_of, Does}
+use Rattle.alloc_rules.specs.Acts.{limits_of, IsBefore, DomainActsMove}
+use Rattle.alloc_rules.proofs.Weighing.{bare}
+use Rattle.alloc_rules.proofs.Counting.{objects_append, objects_last}
+use Rattle.alloc_rules.proofs.Stored.{with_stores, domain_stored, stores_move}
+use Rattle.alloc_rules.proofs.CutOf.{cut_of}
+use Rattle.alloc_rules.proofs.Freeing.{freeing}
+use Rattle.alloc_rules.proofs.Goings.{carries_as, gets_object, gives_hand}
+
+module _ (m : Setup) (limits : HeapConfig) (cpus : ℕ) (p : Parts) (locals : List Local) (b : Books) (calls : List CallLine) (t : ℕ) (l : Local) (d : ℕ) (caches : List Transfer) (before : IsBefore m limits cpus p locals b calls t l) (at : slice_get p.domains d ≡ Some caches) where
+  abbrev at_step : DomainStep → Local
+  at_step row = record l { step = does.Domain row }
+
+  abbrev here : Transfer
+  here = cache_at caches l.regs.class.0
+
+  abbrev domains_with : Transfer → List (List Transfer)
+  domains_with new = slice_set p.domains d (slice_set caches l.regs.class.0 new)
+
+  abbrev with_cache : Transfer → Parts
+  with_cache new = with_stores p p.cpus p.shards (domains_with new)
+
+  cut : (new : Transfer) → IsCut m.rows (stock_of (with_cache new))
+  cut new = cut_of m.rows (with_cache new) before.parts.classes before.parts.shards
+
+  objects : (new : Transfer) (hand came : List Addr) → ((n : ℕ) → objects_at n new.objects + objects_at n came ≡ objects_at n here.objects + objects_at n hand) → MoveObjects (stock_of p) (stock_of (with_cache new)) l.regs.class.0 hand came []
+  objects new hand came own =
+      let classes = of_all (λ (xs : List Transfer). length xs ≡ length m.rows) p.domains d caches before.parts.domains at in
+      let changed = slice_set caches l.regs.class.0 new in
+      let same : cache_at changed l.regs.class.0 ≡ new = get_or-set_same caches l.regs.class.0 new no_cache (omega (arith, classes, before.shaped.class)) in
+      stores_move p p.cpus (domains_with new) l.regs.class.0 hand came
+      (λ k n other.
+      let e = domain_stored p d caches changed at k n in
+      let o : cache_at changed k ≡ cache_at caches k = get_or-set_other caches l.regs.class.0 k new no_cache other in
+      let i : in_caches k n changed ≡ in_caches k n caches = ap (λ (x : Transfer). objects_at n x.objects) o in
+      omega (arith, e, i))
+      (λ n.
+      let e = domain_stored p d caches changed at l.regs.class.0 n in
+      let i : in_caches l.regs.class.0 n changed ≡ objects_at n new.objects = ap (λ (x : Transfer). objects_at n x.objects) same in
+      omega (arith, e, i, own n))
+
+  -- a take gives the last objects of the cache
+  takes_does : (asking : Asking) → l.regs.hand.items ≡ [] → class_of m.rows asking.size ≡ Some l.regs.class → (kept list : List Addr) → ((n : ℕ) → objects_at n kept + objects_at n list ≡ objects_at n here.objects)
+      → Does m (with_cache (record { objects = kept; room = here.room })) b (at_step (Take asking)) (takes m.rows (at_step (Take asking)) asking list)
+  takes_does asking none asked kept [] moves =
+      let new : Transfer = record { objects = kept; room = here.room } in
+      carries_as m p locals b before.books p.cpus p.shards (domains_with new) (cut new) (at_step (Take asking)) (goes (at_step (Take asking)) (does.Shard (shard.Fetch asking))) (Asks asking.label asking.size) l.regs.class.0 l.regs.hand.items l.regs.hand.items l.rest refl
+      (objects new l.regs.hand.items l.regs.hand.items (λ n. omega (arith, moves n))) (λ label o doing. cc) (record { account = refl; acts = refl; answers = refl })
+  takes_does asking none asked kept (a ∷ others) moves =
+      let new : Transfer = record { objects = kept; room = here.room } in
+      gets_object m p locals b before.books p.cpus p.shards (domains_with new) (cut new) (at_step (Take asking)) (record l.regs { hand = appended l.regs.hand (a ∷ others) }) asking a others
+      (ap (λ (h : List Addr). bare (Asks asking.label asking.size) l.regs.class.0 h l.rest) none) refl (ap (λ (h : List Addr). h ++ (a ∷ others)) none) asked (objects new [] (a ∷ others) (λ n. omega (arith, moves n)))
+
+  -- the hand is put there
+  abbrev put_here : Transfer
+  put_here = put_in here l.regs.hand.items
+
+  puts_does : (g : Giving) → Does m (with_cache put_here) b (at_step (Put g)) (given m.rows (at_step (Put g)) g)
+  puts_does g =
+      let move = objects put_here l.regs.hand.items [] (λ n. omega (arith, objects_append n here.objects l.regs.hand.items)) in
+      by g move where
+        by : (g : Giving) → MoveObjects (stock_of p) (stock_of (with_cache put_here)) l.regs.class.0 l.regs.hand.items [] [] → Does m (with_cache put_here) b (at_step (Put g)) (given m.rows (at_step (Put g)) g)
+        by (giving.Rest s) move = gives_hand m p locals b before.books p.cpus p.shards (domains_with put_here) (cut put_here) (at_step (Put (giving.Rest s))) (giving.Rest s) l.freed l.regs.class.0 l.regs.hand.items refl refl move
+        by (giving.Freed f) move = gives_hand m p locals b before.books p.cpus p.shards (domains_with put_here) (cut put_here) (at_step (Put (giving.Freed f))) (giving.Freed f) l.freed l.regs.class.0 l.regs.hand.items refl refl move
+        by (giving.Drained x) move = gives_hand m p locals b before.books p.cpus p.shards (domains_with put_here) (cut put_here) (at_step (Put (giving.Drained x))) (giving.Drained x) l.freed l.regs.class.0 l.regs.hand.items refl refl move
+        by giving.Resized move = gives_hand m p locals b before.books p.cpus p.shards (domains_with put_here) (cut put_here) (at_step (Put giving.Resized)) giving.Resized l.freed l.regs.class.0 l.regs.hand.items refl refl move
+
+  -- or the shard is to get it
+  passes_does : (g : Giving) → l.step ≡ does.Domain (Put g) → Does m (with_cache here) b (at_step (Put g)) (goes (at_step (Put g)) (does.Shard (shard.Give g)))
+  passes_does g is =
+      carries_as m p locals b before.books p.cpus p.shards (domains_with here) (cut here) (at_step (Put g)) (goes (at_step (Put g)) (does.Shard (shard.Give g))) (giving_doing g) l.regs.class.0 l.regs.hand.items l.regs.hand.items l.rest refl
+      (objects here l.regs.hand.items l.regs.hand.items (λ n. refl)) (λ label o doing. freeing m limits cpus p locals b calls t l before (does.Domain (Put g)) is label o doing) (record { account = refl; acts = refl; answers = refl })
+
+  domain_does : (row : DomainStep) → l.step ≡ does.Domain row → DomainShape (limits_of m cpus) l row → Does m (with_cache (domain_row m.rows here (at_step row) row).0) b (at_step row) (domain_row m.rows here (at_step row) row).1
+  domain_does (Take asking) is shape = takes_does asking shape.0.hand shape.1 (without_last (class_row m.rows l).batch here.objects) (last_first (class_row m.rows l).batch here.objects) (λ n. objects_last n (class_row m.rows l).batch here.objects)
+  domain_does (Put g) is shape =
+      cond_both (fits_into here l.regs.hand.items) (put_here, given m.rows (at_step (Put g)) g) (here, goes (at_step (Put g)) (does.Shard (shard.Give g))) (λ (x : Transfer × Local). Does m (with_cache x.0) b (at_step (Put g)) x.1) (λ e. puts_does g) (λ e. passes_does g is)
+
+pub domain_acts_move : DomainActsMove
+domain_acts_move m limits cpus p locals b calls t l d caches row before is at =
+    subst (λ (s : Step). Does m (with_stores p p.cpus p.shards (slice_set p.domains d (slice_set caches l.regs.class.0 (domain_row m.rows (cache_at caches l.regs.class.0) (record l { step = s }) row).0))) b (record l { step = s }) (domain_row m.rows (cache_at caches l.regs.class.0) (record l { step = s }) row).1) (sym is)
+    (domain_does m limits cpus p locals b calls t l d caches before at row is (subst (λ (s : Step). StepShape (limits_of m cpus) l s) is before.shaped.step))

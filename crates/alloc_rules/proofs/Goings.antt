@@ -1,0 +1,206 @@
+-- Where a call goes on with its hand: the account that it has then, its acts and its answers; and an allocation that gets an object.
+use Rattle.std.proofs.Common.{◌≡◌, ℕ, ◌+◌, ◌<◌, Bool, true, false, cond, eqb, ltb, List, [], ◌∷◌, ◌++◌, length, drop, Some, refl, sym, ap, ◌∙◌, subst}
+use Rattle.std.proofs.lemmas.Bool.{cond_both}
+use Rattle.std.proofs.lemmas.List.{append-nil}
+use Rattle.tc_units.specs.Bag.{Contents}
+use Rattle.tc_units.specs.Classes.{class_of}
+use Rattle.tc_units.specs.declared.units.Addr.{Addr}
+use Rattle.tc_units.specs.declared.units.Class.{Class}
+use Rattle.tc_units.specs.declared.units.Label.{Label}
+use Rattle.tc_units.specs.declared.spans.ClassRow.{ClassRow}
+use Rattle.tc_units.specs.declared.spans.Run.{Run}
+use Rattle.tc_units.specs.declared.spans.SpanRef.{SpanRef}
+use Rattle.tc_model.specs.declared.calls.Call.TheVariants.{Malloc, Free}
+use Rattle.tc_model.specs.declared.calls.Planned.{Planned}
+use Rattle.tc_model.specs.declared.answers.Answer.TheVariants.{Block, Freed}
+use Rattle.rseq_core.specs.declared.regs.Regs.{Regs}
+use Rattle.rseq_core.specs.Bags.{without_first, emptied}
+use Rattle.rseq_core.specs.declared.cpu_part.CpuPart.{CpuPart}
+use Rattle.transfer_cache.specs.Transfer.{Transfer}
+use Rattle.class_shard.specs.Shard.{Shard}
+use Rattle.holdings.specs.Runs.{objects_at, small}
+use Rattle.holdings.specs.Accounts.{Account, Doing, Asks, Publishes, Frees, Other, WeighSame}
+use Rattle.holdings.specs.Books.{Setup, Stock, Books, IsCut, size_of}
+use Rattle.holdings.specs.Moves.{Said, SaysOther, Move, MovesHand, FreesObject, GetsObject, GetsFirst, Rests, MoveObjects, AddSpan, with_hand}
+use Rattle.call_steps.specs.declared.step.Asking.{Asking}
+use Rattle.call_steps.specs.declared.step.Serving.{Serving}
+use Rattle.call_steps.specs.declared.step.Freeing.{Freeing}
+use Rattle.call_steps.specs.declared.step.Draining.{Draining}
+use Rattle.call_steps.specs.declared.step.Stopping.TheVariants as stopping
+use Rattle.call_steps.specs.declared.step.CpuStep.TheVariants as cpu
+use Rattle.call_steps.specs.declared.step.Giving.{Giving}
+use Rattle.call_steps.specs.declared.step.Giving.TheVariants as giving
+use Rattle.call_steps.specs.declared.step.MapStep.TheVariants as map
+use Rattle.call_steps.specs.declared.step.Step.TheVariants as step
+use Rattle.call_steps.specs.declared.step.ShardStep.TheVariants as shard
+use Rattle.call_steps.specs.declared.step.DomainStep.TheVariants as domain
+use Rattle.call_steps.specs.Local.{Local, Decided, decided, goes, ends, class_row}
+use Rattle.call_steps.specs.Hands.{with_hand as to_hand, with_freed, decides_free, behind, goes_onward, publishes, drains_on, stocks, serves, serves_first, looks_on, gives}
+use Rattle.call_steps.specs.CpuActs.{with_regs}
+use Rattle.alloc_rules.specs.Machine.{Parts}
+use Rattle.alloc_rules.specs.Accounts.{account_of, giving_doing}
+use Rattle.alloc_rules.specs.Stocks.{stock_of, AreBooksOf, decided_at, Does}
+use Rattle.alloc_rules.proofs.Weighing.{bare, quiet, weighs_is, weighs_quiet, weighs_next, ends_counts}
+use Rattle.alloc_rules.proofs.Stored.{with_stores, settled, does_by}
+
+-- a local after its act: its account, with so many acts and these answers
+pub record Goes (after : Local) (a : Account) (count : ℕ) (told : List Decided) : Type 0 where
+  pub account : account_of after ≡ a
+  pub acts : after.acts ≡ count
+  pub answers : after.answers ≡ told
+
+looks_by : (l : Local) (asking : Asking) (b : Bool) → Goes (goes l (cond b (step.Shard (shard.Fetch asking)) (step.Domain (domain.Take asking)))) (bare (Asks asking.label asking.size) l.regs.class.0 l.regs.hand.items l.rest) (l.acts + 1) l.answers
+looks_by l asking true = record { account = refl; acts = refl; answers = refl }
+looks_by l asking false = record { account = refl; acts = refl; answers = refl }
+
+pub looks_as : (l : Local) (asking : Asking) → Goes (looks_on l asking) (bare (Asks asking.label asking.size) l.regs.class.0 l.regs.hand.items l.rest) (l.acts + 1) l.answers
+looks_as l asking = looks_by l asking (eqb l.domains 0)
+
+gives_by : (l : Local) (g : Giving) (b : Bool) → Goes (goes l (cond b (step.Shard (shard.Give g)) (step.Domain (domain.Put g)))) (bare (giving_doing g) l.regs.class.0 l.regs.hand.items l.rest) (l.acts + 1) l.answers
+gives_by l g true = record { account = refl; acts = refl; answers = refl }
+gives_by l g false = record { account = refl; acts = refl; answers = refl }
+
+pub gives_as : (l : Local) (g : Giving) → Goes (gives l g) (bare (giving_doing g) l.regs.class.0 l.regs.hand.items l.rest) (l.acts + 1) l.answers
+gives_as l g = gives_by l g (eqb l.domains 0)
+
+stocks_as : (l : Local) (s : Serving) (others : List Addr) → Goes (stocks l s others) (bare (Publishes s.label (Some s.addr)) l.regs.class.0 l.regs.hand.items l.rest) (l.acts + 1) l.answers
+stocks_as l s [] = record { account = refl; acts = refl; answers = refl }
+stocks_as l s (a ∷ others) = record { account = refl; acts = refl; answers = refl }
+
+-- the first object in hand is an allocation's answer, and the others stay in hand
+pub serves_as : (rows : List ClassRow) (l : Local) (asking : Asking) (o : Addr) (others : List Addr) → l.regs.hand.items ≡ o ∷ others
+    → Goes (serves rows l asking) (bare (Publishes asking.label (Some o)) l.regs.class.0 others l.rest) (l.acts + 1) (l.answers ++ record { act = l.acts; call = Malloc asking.label asking.size; answer = Block o (class_row rows l).size } ∷ [])
+serves_as rows l asking o others is =
+    let hand : Contents Addr = without_first 1 l.regs.hand in
+    let then : Local = decided (with_regs l (record l.regs { hand = hand })) (Malloc asking.label asking.size) (Block o (class_row rows l).size) in
+    let s : Serving = record { label = asking.label; addr = o } in
+    let at = stocks_as then s others in
+    let first : serves rows l asking ≡ stocks then s others = ap (serves_first rows l asking) is in
+    let rest : drop 1 l.regs.hand.items ≡ others = ap (drop 1) is in
+    record {
+      account = ap account_of first ∙ (at.account ∙ ap (λ (xs : List Addr). bare (Publishes asking.label (Some o)) l.regs.class.0 xs l.rest) rest);
+      acts = ap (λ (x : Local). x.acts) first ∙ at.acts;
+      answers = ap (λ (x : Local). x.answers) first ∙ at.answers;
+    }
+
+-- a call ends, or a drain goes on, with nothing in hand: the account that it has then weighs as one about nothing
+pub record Closes (after : Local) (k : ℕ) (todo : List Planned) (count : ℕ) (told : List Decided) : Type 0 where
+  pub weighs : WeighSame (quiet k todo) (account_of after)
+  pub acts : after.acts ≡ count
+  pub answers : after.answers ≡ told
+
+pub ends_as : (rows : List ClassRow) (l : Local) (k : ℕ) → l.regs.hand.items ≡ [] → Closes (ends rows l) k l.rest (l.acts + 1) l.answers
+ends_as rows l k none = let counts = ends_counts rows l in record { weighs = weighs_next rows l k none; acts = counts.0; answers = counts.1 }
+
+pub drains_as : (rows : List ClassRow) (l : Local) (d : Draining) (k : ℕ) → l.regs.hand.items ≡ [] → Closes (drains_on rows l d) k l.rest (l.acts + 1) l.answers
+drains_as rows l d k none =
+    cond_both (ltb (l.regs.class.0 + 1) (length rows)) (goes (record l { regs = record l.regs { class = record { 0 = l.regs.class.0 + 1 } } }) (step.Cpu (cpu.Take (stopping.Drain d)))) (goes l (step.Cpu (cpu.Start (stopping.Drain d)))) (λ (x : Local). Closes x k l.rest (l.acts + 1) l.answers)
+    (λ e. record { weighs = weighs_quiet k (l.regs.class.0 + 1) l.regs.hand.items l.rest none; acts = refl; answers = refl })
+    (λ e. record { weighs = weighs_quiet k l.regs.class.0 l.regs.hand.items l.rest none; acts = refl; answers = refl })
+
+-- an allocation with a new span that is to be added to its shard
+abbrev pub adding : Local → Asking → Run → List Addr → Account
+adding l asking run hand = record { doing = Asks asking.label asking.size; class = l.regs.class.0; hand = hand; off = []; apart = small l.regs.class run ∷ []; mapped = small l.regs.class run ∷ []; clears = []; todo = l.rest }
+
+module _ (m : Setup) (p : Parts) (locals : List Local) (b : Books) (books : AreBooksOf p locals b) (cpus : List CpuPart) (shards : List Shard) (domains : List (List Transfer)) (cut : IsCut m.rows (stock_of (with_stores p cpus shards domains))) where
+  abbrev new : Parts
+  new = with_stores p cpus shards domains
+
+  -- objects move between the stock and the hand, spans may come to it, and nothing is decided
+  pub carries_spans : (l after : Local) (d : Doing) (k : ℕ) (hand came : List Addr) (freed : List SpanRef) (todo : List Planned) → account_of l ≡ bare d k hand todo → MoveObjects (stock_of p) (stock_of new) k hand came freed → ((label : Label) (o : Addr) → d ≡ Frees label o → 0 < objects_at o.0 came)
+      → WeighSame (with_hand (bare d k hand todo) came freed) (account_of after) → after.acts ≡ l.acts + 1 → after.answers ≡ l.answers → Does m new b l after
+  carries_spans l after d k hand came freed todo is move frees weighs acts answers =
+      does_by m p locals b books cpus shards domains l after (bare d k hand todo) [] is
+      (MovesHand (stock_of new) came freed (account_of after) move cut frees refl weighs) acts (answers ∙ sym (append-nil l.answers))
+
+  pub carries : (l after : Local) (d : Doing) (k : ℕ) (hand came : List Addr) (todo : List Planned) → account_of l ≡ bare d k hand todo → MoveObjects (stock_of p) (stock_of new) k hand came [] → ((label : Label) (o : Addr) → d ≡ Frees label o → 0 < objects_at o.0 came)
+      → WeighSame (bare d k came todo) (account_of after) → after.acts ≡ l.acts + 1 → after.answers ≡ l.answers → Does m new b l after
+  carries l after d k hand came todo is move frees weighs acts answers = carries_spans l after d k hand came [] todo is move frees weighs acts answers
+
+  pub carries_as : (l after : Local) (d : Doing) (k : ℕ) (hand came : List Addr) (todo : List Planned) → account_of l ≡ bare d k hand todo → MoveObjects (stock_of p) (stock_of new) k hand came [] → ((label : Label) (o : Addr) → d ≡ Frees label o → 0 < objects_at o.0 came)
+      → Goes after (bare d k came todo) (l.acts + 1) l.answers → Does m new b l after
+  carries_as l after d k hand came todo is move frees goes = carries l after d k hand came todo is move frees (weighs_is (bare d k came todo) (account_of after) goes.account) goes.acts goes.answers
+
+  -- an allocation gets the first of the objects that came to its hand
+  abbrev got_it : Local → Asking → Addr → Said
+  got_it l asking o = record { call = Malloc asking.label asking.size; answer = Block o (size_of m.rows l.regs.class.0) }
+
+  gets_by : (l : Local) (regs : Regs) (asking : Asking) (o : Addr) (others : List Addr) (a : Account) → account_of l ≡ a → regs.class ≡ l.regs.class → regs.hand.items ≡ o ∷ others
+      → (WeighSame (bare (Publishes asking.label (Some o)) l.regs.class.0 others l.rest) (account_of (serves m.rows (with_regs l regs) asking)) → Move m (settled b p) a (stock_of new) b.heap b.spans p.names (account_of (serves m.rows (with_regs l regs) asking)) (got_it l asking o ∷ []))
+      → Does m new b l (serves m.rows (with_regs l regs) asking)
+  gets_by l regs asking o others a is class hand move =
+      let at = serves_as m.rows (with_regs l regs) asking o others hand in
+      let after : Local = serves m.rows (with_regs l regs) asking in
+      let wanted : Account = bare (Publishes asking.label (Some o)) l.regs.class.0 others l.rest in
+      let account : account_of after ≡ wanted = at.account ∙ ap (λ (c : Class). bare (Publishes asking.label (Some o)) c.0 others l.rest) class in
+      let answers : after.answers ≡ l.answers ++ record { act = l.acts; call = Malloc asking.label asking.size; answer = Block o (size_of m.rows l.regs.class.0) } ∷ [] =
+      at.answers ∙ ap (λ (c : Class). l.answers ++ record { act = l.acts; call = Malloc asking.label asking.size; answer = Block o (size_of m.rows c.0) } ∷ []) class in
+      does_by m p locals b books cpus shards domains l after a (got_it l asking o ∷ []) is (move (weighs_is wanted (account_of after) account)) at.acts answers
+
+  pub gets_object : (l : Local) (regs : Regs) (asking : Asking) (o : Addr) (others : List Addr) → account_of l ≡ bare (Asks asking.label asking.size) l.regs.class.0 [] l.rest → regs.class ≡ l.regs.class → regs.hand.items ≡ o ∷ others → class_of m.rows asking.size ≡ Some l.regs.class
+      → MoveObjects (stock_of p) (stock_of new) l.regs.class.0 [] (o ∷ others) [] → Does m new b l (serves m.rows (with_regs l regs) asking)
+  gets_object l regs asking o others is class hand asked move =
+      gets_by l regs asking o others (bare (Asks asking.label asking.size) l.regs.class.0 [] l.rest) is class hand
+      (λ weighs. GetsObject asking.label asking.size (stock_of new) o others (account_of (serves m.rows (with_regs l regs) asking)) refl asked refl move cut weighs)
+
+  -- with the first objects of a span that it added
+  pub gets_first : (l : Local) (regs : Regs) (asking : Asking) (run : Run) (o : Addr) (others : List Addr) → account_of l ≡ adding l asking run [] → regs.class ≡ l.regs.class → regs.hand.items ≡ o ∷ others → class_of m.rows asking.size ≡ Some l.regs.class
+      → AddSpan (stock_of p) (stock_of new) l.regs.class.0 (small l.regs.class run) (o ∷ others) → Does m new b l (serves m.rows (with_regs l regs) asking)
+  gets_first l regs asking run o others is class hand asked add =
+      gets_by l regs asking o others (adding l asking run []) is class hand
+      (λ weighs. GetsFirst asking.label asking.size (stock_of new) run o others [] [] (account_of (serves m.rows (with_regs l regs) asking)) refl refl asked refl refl refl add cut weighs)
+
+  -- a free is decided, with an empty hand then
+  pub frees_spans : (l after : Local) (f : Freeing) (k : ℕ) (hand : List Addr) (freed : List SpanRef) (todo : List Planned) → account_of l ≡ bare (Frees f.label f.addr) k hand todo → MoveObjects (stock_of p) (stock_of new) k hand [] freed → WeighSame (with_hand (bare Other k hand todo) [] freed) (account_of after)
+      → after.acts ≡ l.acts + 1 → after.answers ≡ l.answers ++ record { act = l.acts; call = Free f.label; answer = Freed f.addr } ∷ [] → Does m new b l after
+  frees_spans l after f k hand freed todo is move weighs acts answers =
+      let said : Said = record { call = Free f.label; answer = Freed f.addr } in
+      does_by m p locals b books cpus shards domains l after (bare (Frees f.label f.addr) k hand todo) (said ∷ []) is
+      (FreesObject f.label f.addr (stock_of new) freed (account_of after) refl move cut refl weighs) acts answers
+
+  pub frees_object : (l : Local) (regs : Regs) (freed : Contents SpanRef) (f : Freeing) (k : ℕ) (hand : List Addr) → account_of l ≡ bare (Frees f.label f.addr) k hand l.rest → regs.hand.items ≡ []
+      → MoveObjects (stock_of p) (stock_of new) k hand [] [] → Does m new b l (ends m.rows (decided (record l { regs = regs; freed = freed }) (Free f.label) (Freed f.addr)))
+  frees_object l regs freed f k hand is none move =
+      let then : Local = decided (record l { regs = regs; freed = freed }) (Free f.label) (Freed f.addr) in
+      let closes = ends_as m.rows then k none in
+      frees_spans l (ends m.rows then) f k hand [] l.rest is move closes.weighs closes.acts closes.answers
+
+  -- a hand is given away: no span leaves, and the call ends or goes on
+  pub gives_hand : (l : Local) (g : Giving) (bag : Contents SpanRef) (k : ℕ) (hand : List Addr) → l.regs.class.0 ≡ k → account_of l ≡ bare (giving_doing g) k hand l.rest → MoveObjects (stock_of p) (stock_of new) k hand [] [] → Does m new b l (goes_onward m.rows (with_freed (decides_free (to_hand l (emptied l.regs.hand)) g) bag) (behind g))
+  gives_hand l (giving.Rest s) bag k hand class is move =
+      carries l (publishes (with_freed (to_hand l (emptied l.regs.hand)) bag) s) (Publishes s.label (Some s.addr)) k hand [] l.rest is move (λ label o doing. cc)
+      (weighs_is (bare (Publishes s.label (Some s.addr)) k [] l.rest) (bare (Publishes s.label (Some s.addr)) l.regs.class.0 [] l.rest) (ap (λ (j : ℕ). bare (Publishes s.label (Some s.addr)) j [] l.rest) class)) refl refl
+  gives_hand l (giving.Freed f) bag k hand class is move = frees_object l (record l.regs { hand = emptied l.regs.hand }) bag f k hand is refl move
+  gives_hand l (giving.Drained d) bag k hand class is move =
+      let closes = drains_as m.rows (with_freed (to_hand l (emptied l.regs.hand)) bag) d k refl in
+      carries l (drains_on m.rows (with_freed (to_hand l (emptied l.regs.hand)) bag) d) Other k hand [] l.rest is move (λ label o doing. cc) closes.weighs closes.acts closes.answers
+  gives_hand l giving.Resized bag k hand class is move =
+      let closes = ends_as m.rows (with_freed (to_hand l (emptied l.regs.hand)) bag) k refl in
+      carries l (ends m.rows (with_freed (to_hand l (emptied l.regs.hand)) bag)) Other k hand [] l.rest is move (λ label o doing. cc) closes.weighs closes.acts closes.answers
+
+  -- spans leave with that: they are to be cleared
+  abbrev clearing_it : Local → Giving → Contents SpanRef → Local
+  clearing_it l g bag = goes (with_freed (decides_free (to_hand l (emptied l.regs.hand)) g) bag) (step.Map (map.ClearSpan (behind g)))
+
+  pub spans_weigh : (d : Doing) (k j : ℕ) (hand : List Addr) (freed items : List SpanRef) (todo : List Planned) → j ≡ k → items ≡ freed → WeighSame (with_hand (bare d k hand todo) [] freed) (record { doing = d; class = j; hand = []; off = []; apart = items; mapped = items; clears = []; todo = todo })
+  spans_weigh d k j hand freed items todo class are =
+      let more : items ≡ freed ++ [] = are ∙ sym (append-nil freed) in
+      weighs_is (with_hand (bare d k hand todo) [] freed) (record { doing = d; class = j; hand = []; off = []; apart = items; mapped = items; clears = []; todo = todo })
+      (ap (λ (i : ℕ). let x : Account = record { doing = d; class = i; hand = []; off = []; apart = items; mapped = items; clears = []; todo = todo } in x) class
+      ∙ ap (λ (xs : List SpanRef). let x : Account = record { doing = d; class = k; hand = []; off = []; apart = xs; mapped = xs; clears = []; todo = todo } in x) more)
+
+  pub gives_spans : (l : Local) (g : Giving) (bag : Contents SpanRef) (k : ℕ) (hand : List Addr) (freed : List SpanRef) → l.regs.class.0 ≡ k → bag.items ≡ freed → account_of l ≡ bare (giving_doing g) k hand l.rest → MoveObjects (stock_of p) (stock_of new) k hand [] freed → Does m new b l (clearing_it l g bag)
+  gives_spans l (giving.Rest s) bag k hand freed class are is move =
+      carries_spans l (clearing_it l (giving.Rest s) bag) (Publishes s.label (Some s.addr)) k hand [] freed l.rest is move (λ label o doing. cc) (spans_weigh (Publishes s.label (Some s.addr)) k l.regs.class.0 hand freed bag.items l.rest class are) refl refl
+  gives_spans l (giving.Freed f) bag k hand freed class are is move =
+      frees_spans l (clearing_it l (giving.Freed f) bag) f k hand freed l.rest is move (spans_weigh Other k l.regs.class.0 hand freed bag.items l.rest class are) refl refl
+  gives_spans l (giving.Drained d) bag k hand freed class are is move =
+      carries_spans l (clearing_it l (giving.Drained d) bag) Other k hand [] freed l.rest is move (λ label o doing. cc) (spans_weigh Other k l.regs.class.0 hand freed bag.items l.rest class are) refl refl
+  gives_spans l giving.Resized bag k hand freed class are is move =
+      carries_spans l (clearing_it l giving.Resized bag) Other k hand [] freed l.rest is move (λ label o doing. cc) (spans_weigh Other k l.regs.class.0 hand freed bag.items l.rest class are) refl refl
+
+  -- no object moves, and something may be decided that is of no label
+  pub says_other : (l after : Local) (a : Account) (said : List Said) → account_of l ≡ a → stock_of p ≡ stock_of new → SaysOther said → WeighSame a (account_of after) → after.acts ≡ l.acts + 1 → after.answers ≡ l.answers ++ decided_at l.acts said → Does m new b l after
+  says_other l after a said is same other weighs acts answers =
+      does_by m p locals b books cpus shards domains l after a said is
+      (subst (λ (g : Stock). Move m (settled b p) a g b.heap b.spans p.names (account_of after) said) same (Rests (account_of after) said weighs other)) acts answers

@@ -1,0 +1,181 @@
+-- What the acts at the page map do to the books.
+use Rattle.std.proofs.Common.{◌≡◌, ℕ, ◌/◌, ◌<◌, true, List, [], ◌∷◌, ◌++◌, drop, Contains, Option, Some, None, refl, sym, ap, ◌∙◌, subst, inl, inr, arith}
+use Rattle.std.specs.Prelude.{find, option_map}
+use Rattle.std.specs.List.{slice_get}
+use Rattle.std.proofs.lemmas.List.{append-nil}
+use Rattle.std.proofs.lemmas.Option.{slice_get-map}
+use Rattle.tc_units.specs.Units.{page_bytes}
+use Rattle.tc_units.specs.declared.units.Addr.{Addr}
+use Rattle.tc_units.specs.declared.units.Label.{Label}
+use Rattle.tc_units.specs.declared.spans.Run.{Run}
+use Rattle.tc_units.specs.declared.spans.SpanRef.{SpanRef}
+use Rattle.tc_units.specs.declared.spans.SpanKind.{SpanKind}
+use Rattle.tc_units.specs.declared.spans.SpanKind.TheVariants.{Small, Large}
+use Rattle.tc_model.specs.declared.answers.CallLine.{CallLine}
+use Rattle.page_map.specs.Spans.{SpanMap, holds, without_span}
+use Rattle.heap_rules.specs.declared.config.HeapConfig.{HeapConfig}
+use Rattle.page_map.proofs.SpanFacts.{find_there}
+use Rattle.holdings.specs.Runs.{address_of, run_of, large, small, spans_like, without}
+use Rattle.holdings.specs.Accounts.{Account, Holds, Frees, WeighSame}
+use Rattle.holdings.specs.Books.{Setup, Books, class_number}
+use Rattle.holdings.specs.Laws.{Found}
+use Rattle.holdings.specs.Moves.{SetsRun, SetsSpan, FindsObject, FindsRun, ClearsRun, ClearsSpan}
+use Rattle.holdings.proofs.Sums.{like_span, without_counts}
+use Rattle.holdings.proofs.MapFacts.{is_large}
+use Rattle.holdings.proofs.Finding.{frees_find}
+use Rattle.call_steps.specs.declared.step.Asking.{Asking}
+use Rattle.call_steps.specs.declared.step.Onward.{Onward}
+use Rattle.call_steps.specs.declared.step.MapStep.{MapStep}
+use Rattle.call_steps.specs.declared.step.MapStep.TheVariants.{Set, SetSpan, Lookup, Clear, ClearSpan}
+use Rattle.call_steps.specs.declared.step.Step.TheVariants as does
+use Rattle.call_steps.specs.Local.{Local}
+use Rattle.call_steps.specs.Acts.{map_row, after_lookup, found, clears_span}
+use Rattle.call_steps.specs.Fits.{FitsMap, FirstIsThere}
+use Rattle.alloc_rules.specs.Machine.{Parts}
+use Rattle.alloc_rules.specs.Accounts.{account_of, first_run, onward_doing}
+use Rattle.alloc_rules.specs.Stocks.{AreBooksOf, Does}
+use Rattle.alloc_rules.specs.Acts.{IsBefore, MapActsMove}
+use Rattle.alloc_rules.proofs.Weighing.{bare, weighs_same, weighs_is}
+use Rattle.alloc_rules.proofs.Moved.{moved_by}
+use Rattle.alloc_rules.proofs.Likes.{like-with_span, like-without_span, span_counted, span_there}
+use Rattle.alloc_rules.proofs.Lists.{one_first, only_holder}
+
+-- the account of a thread among all
+pub account_at : (p : Parts) (locals : List Local) (b : Books) (t : ℕ) (l : Local) → AreBooksOf p locals b → slice_get locals t ≡ Some l → slice_get b.accounts t ≡ Some (account_of l)
+account_at p locals b t l books local = ap (λ (xs : List Account). slice_get xs t) books.accounts ∙ (slice_get-map account_of locals t ∙ ap (option_map account_of) local)
+
+module _ (m : Setup) (limits : HeapConfig) (cpus : ℕ) (p : Parts) (locals : List Local) (b : Books) (calls : List CallLine) (t : ℕ) (l : Local) where
+  abbrev at : MapStep → Local
+  at row = record l { step = does.Map row }
+
+  abbrev Before : MapStep → Type 0
+  Before row = IsBefore m limits cpus p locals b calls t (at row)
+
+  abbrev Goal : MapStep → SpanMap × Local → Type 0
+  Goal row x = Does m (record p { map = x.0 }) b (at row) x.1
+
+  sets : (label : Label) (run : Run) → Before (Set label run) → Goal (Set label run) (map_row p.map (at (Set label run)) (Set label run))
+  sets label run before =
+      let books = before.books in
+      record {
+        heap = b.heap;
+        spans = large run ∷ b.spans;
+        said = [];
+        move = moved_by m p locals b books _ _ b.heap (large run ∷ b.spans) _ (SetsRun run _ refl refl (weighs_same _));
+        like_heap = books.heap;
+        like_spans = λ s. omega (arith, like-with_span (large run) p.map.spans s, books.spans s);
+        acts = refl;
+        answers = sym (append-nil l.answers);
+      }
+
+  sets_span : (a : Asking) (run : Run) → Before (SetSpan a run) → Goal (SetSpan a run) (map_row p.map (at (SetSpan a run)) (SetSpan a run))
+  sets_span a run before =
+      let books = before.books in
+      record {
+        heap = b.heap;
+        spans = small l.regs.class run ∷ b.spans;
+        said = [];
+        move = moved_by m p locals b books _ _ b.heap (small l.regs.class run ∷ b.spans) _ (SetsSpan run [] _ refl refl refl (weighs_same _));
+        like_heap = books.heap;
+        like_spans = λ s. omega (arith, like-with_span (small l.regs.class run) p.map.spans s, books.spans s);
+        acts = refl;
+        answers = sym (append-nil l.answers);
+      }
+
+  -- a span that leaves the map
+  left_like : (s : SpanRef) (row : MapStep) → Before row → Contains p.map.spans s → (x : SpanRef) → spans_like x (without s b.spans) ≡ spans_like x (without_span s p.map.spans)
+  left_like s row before there x =
+      let some : 0 < spans_like s b.spans = omega (arith, span_counted s p.map.spans there, before.books.spans s) in
+      omega (arith, like-without_span s p.map.spans x there (one_first p.map.huge p.map.spans s.first.0 before.parts.map), without_counts s b.spans some (like_span x), before.books.spans x)
+
+  clears_run : (label : Label) (run : Run) → Before (Clear label run) → Contains p.map.spans (large run) → Goal (Clear label run) (map_row p.map (at (Clear label run)) (Clear label run))
+  clears_run label run before there =
+      let books = before.books in
+      record {
+        heap = b.heap;
+        spans = without (large run) b.spans;
+        said = [];
+        move = moved_by m p locals b books _ _ b.heap (without (large run) b.spans) _ (ClearsRun label run _ refl refl refl (weighs_same _));
+        like_heap = books.heap;
+        like_spans = left_like (large run) (Clear label run) before there;
+        acts = refl;
+        answers = sym (append-nil l.answers);
+      }
+
+  -- the first of the spans that left a shard is cleared
+  abbrev with_spans : Onward → List SpanRef → Account
+  with_spans next xs = record (bare (onward_doing next) l.regs.class.0 l.regs.hand.items l.rest) { off = first_run xs; apart = xs; mapped = drop 1 xs }
+
+  clears_first : (next : Onward) → Before (ClearSpan next) → (xs : List SpanRef) → l.freed.items ≡ xs → FirstIsThere p.map xs → Goal (ClearSpan next) (clears_span p.map (at (ClearSpan next)) next xs)
+  clears_first next before [] is there = absurd there
+  clears_first next before (s ∷ others) is there =
+      let books = before.books in
+      record {
+        heap = b.heap;
+        spans = without s b.spans;
+        said = [];
+        move = moved_by m p locals b books _ _ b.heap (without s b.spans) _ (ClearsSpan s others _ is refl (subst (λ (xs : List SpanRef). WeighSame (record (account_of (at (ClearSpan next))) { mapped = others; off = run_of s ∷ [] }) (with_spans next xs)) (sym is) (subst (λ (xs : List SpanRef). WeighSame (record (bare (onward_doing next) l.regs.class.0 l.regs.hand.items l.rest) { off = run_of s ∷ []; apart = xs; mapped = others }) (with_spans next (s ∷ others))) (sym is) (weighs_same _))));
+        like_heap = books.heap;
+        like_spans = left_like s (ClearSpan next) before there;
+        acts = refl;
+        answers = sym (append-nil l.answers);
+      }
+
+  -- Lookup: an object's span, and a large block's, which begins at the address
+  starts : (label : Label) (addr : Addr) (span : SpanRef) → Before (Lookup label addr) → Contains p.map.spans span → holds (addr.0 / page_bytes) span ≡ true → span.kind ≡ Large → addr ≡ address_of (run_of span)
+  starts label addr span before there held kind =
+      let f : Found m b addr = frees_find m b calls t (account_of (at (Lookup label addr))) label addr before.facts (account_at p locals b t (at (Lookup label addr)) before.books before.local) refl refl in
+      let at_map : Contains p.map.spans f.span = span_there f.span p.map.spans (omega (arith, f.there, before.books.spans f.span)) in
+      let same : f.span ≡ span = only_holder (addr.0 / page_bytes) p.map.spans span f.span before.parts.map.apart there at_map held f.holds in
+      elim f.is [
+        | inl object ↦ (let wrong : Small (class_number object.0) ≡ Large = sym object.1 ∙ (ap (λ (s : SpanRef). s.kind) same ∙ kind) in absurd (cc))
+        | inr run ↦ run.2 ∙ ap (λ (s : SpanRef). address_of (run_of s)) (sym run.1 ∙ same)
+      ]
+
+  finds : (label : Label) (addr : Addr) (span : SpanRef) → Before (Lookup label addr) → Contains p.map.spans span → holds (addr.0 / page_bytes) span ≡ true → (kind : SpanKind) → span.kind ≡ kind → Goal (Lookup label addr) (p.map, found (at (Lookup label addr)) label addr span kind)
+  finds label addr span before there held (Small k) is =
+      let books = before.books in
+      let none : l.regs.hand.items ≡ [] = before.shaped.step.hand in
+      let after : List Addr → Account = λ h. bare (Frees label addr) k.0 (h ++ addr ∷ []) l.rest in
+      record {
+        heap = b.heap;
+        spans = b.spans;
+        said = [];
+        move = moved_by m p locals b books _ _ b.heap b.spans _ (FindsObject label addr span k.0 _ refl none refl refl (omega (arith, span_counted span p.map.spans there, books.spans span)) held is (subst (λ (h : List Addr). WeighSame (bare (Frees label addr) k.0 (addr ∷ []) l.rest) (after h)) (sym none) (weighs_same _)));
+        like_heap = books.heap;
+        like_spans = books.spans;
+        acts = refl;
+        answers = sym (append-nil l.answers);
+      }
+  finds label addr span before there held Large is =
+      let books = before.books in
+      let r : Run = run_of span in
+      let begins : addr ≡ address_of r = starts label addr span before there held is in
+      let counted : 0 < spans_like (large r) b.spans = omega (arith, ap (λ (s : SpanRef). spans_like s b.spans) (is_large span is), span_counted span p.map.spans there, books.spans span) in
+      let after : Addr → Account = λ o. record (bare (Holds label o) l.regs.class.0 l.regs.hand.items l.rest) { clears = large r ∷ [] } in
+      record {
+        heap = b.heap;
+        spans = b.spans;
+        said = [];
+        move = moved_by m p locals b books _ _ b.heap b.spans _ (FindsRun label r _ (ap (Holds label) begins) counted refl (weighs_is (after addr) (after (address_of r)) (ap after (sym begins))));
+        like_heap = books.heap;
+        like_spans = books.spans;
+        acts = refl;
+        answers = sym (append-nil l.answers);
+      }
+
+  looks_up : (label : Label) (addr : Addr) → Before (Lookup label addr) → (o : Option SpanRef) → find (holds (addr.0 / page_bytes)) p.map.spans ≡ o → FitsMap p.map (at (Lookup label addr)) (Lookup label addr) → Goal (Lookup label addr) (p.map, after_lookup (at (Lookup label addr)) label addr o)
+  looks_up label addr before None is fits = let wrong : None ≡ Some fits.0 = sym is ∙ fits.1 in absurd (cc)
+  looks_up label addr before (Some span) is fits = let there = find_there (holds (addr.0 / page_bytes)) p.map.spans span (sym is) in finds label addr span before there.0 there.1 span.kind refl
+
+  by_row : (row : MapStep) → Before row → FitsMap p.map (at row) row → Goal row (map_row p.map (at row) row)
+  by_row (Set label run) before fits = sets label run before
+  by_row (SetSpan a run) before fits = sets_span a run before
+  by_row (Lookup label addr) before fits = looks_up label addr before (find (holds (addr.0 / page_bytes)) p.map.spans) refl fits
+  by_row (Clear label run) before fits = clears_run label run before fits
+  by_row (ClearSpan next) before fits = clears_first next before l.freed.items refl fits
+
+pub map_acts_move : MapActsMove
+map_acts_move m limits cpus p locals b calls t l row before step fits =
+    let is : record l { step = does.Map row } ≡ l = ap (λ s. record l { step = s }) (sym step) in
+    subst (λ (x : Local). IsBefore m limits cpus p locals b calls t x → FitsMap p.map x row → Does m (record p { map = (map_row p.map x row).0 }) b x (map_row p.map x row).1) is (by_row m limits cpus p locals b calls t l row) before fits

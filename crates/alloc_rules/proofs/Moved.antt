@@ -1,0 +1,39 @@
+-- A move over the books of the parts, and the length of a block without a class.
+use Rattle.std.proofs.Common.{◌≡◌, ℕ, ◌*◌, true, false, List, length, None, refl, sym, ap, ◌∙◌, subst, inl, inr}
+use Rattle.std.specs.Prelude.{find, is_some}
+use Rattle.std.specs.List.{position_or_len}
+use Rattle.std.proofs.lemmas.Bool.{cases_lt, lt-ltb}
+use Rattle.std.proofs.lemmas.List.Folds.{find_at}
+use Rattle.std.proofs.lemmas.Option.{slice_get_past}
+use Rattle.tc_units.specs.Units.{page_bytes, pages_holding}
+use Rattle.tc_units.specs.Classes.{serves, class_of, length_by, length_of}
+use Rattle.tc_units.specs.declared.spans.Run.{Run}
+use Rattle.tc_units.specs.declared.spans.SpanRef.{SpanRef}
+use Rattle.tc_units.specs.declared.spans.ClassRow.{ClassRow}
+use Rattle.name_table.specs.declared.table.NameState.{NameState}
+use Rattle.holdings.specs.Accounts.{Account}
+use Rattle.holdings.specs.Books.{Setup, Stock, Books}
+use Rattle.holdings.specs.Moves.{Said, Move}
+use Rattle.call_steps.specs.Local.{Local}
+use Rattle.alloc_rules.specs.Machine.{Parts}
+use Rattle.alloc_rules.specs.Stocks.{stock_of, AreBooksOf}
+
+-- where the stock stays, and names are changed so
+pub moved_names : (m : Setup) (p : Parts) (locals : List Local) (b : Books) → AreBooksOf p locals b → (f : List NameState → List NameState) (a after : Account) (heap : List Run) (spans : List SpanRef) (said : List Said) → Move m b a b.stock heap spans (f b.names) after said → Move m b a (stock_of p) heap spans (f p.names) after said
+moved_names m p locals b books f a after heap spans said move =
+    subst (λ (g : Stock). Move m b a g heap spans (f p.names) after said) books.stock (subst (λ (ns : List NameState). Move m b a b.stock heap spans (f ns) after said) books.names move)
+
+-- where the names stay too
+pub moved_by : (m : Setup) (p : Parts) (locals : List Local) (b : Books) → AreBooksOf p locals b → (a after : Account) (heap : List Run) (spans : List SpanRef) (said : List Said) → Move m b a b.stock heap spans b.names after said → Move m b a (stock_of p) heap spans p.names after said
+moved_by m p locals b books a after heap spans said move = moved_names m p locals b books (λ ns. ns) a after heap spans said move
+
+-- no row serves a request without a class, so its block has whole pages
+pub no_row : (rows : List ClassRow) (size : ℕ) → is_some (class_of rows size) ≡ false → find (serves size) rows ≡ None
+no_row rows size none =
+    elim (cases_lt (position_or_len (serves size) rows) (length rows)) [
+      | inl there ↦ absurd (let e : is_some (class_of rows size) ≡ true = rw (lt-ltb (position_or_len (serves size) rows) (length rows) there) refl in let wrong : true ≡ false = sym e ∙ none in cc)
+      | inr past ↦ find_at (serves size) rows ∙ slice_get_past rows (position_or_len (serves size) rows) past
+    ]
+
+pub no_row_length : (rows : List ClassRow) (size : ℕ) → class_of rows size ≡ None → length_of rows size ≡ pages_holding size * page_bytes
+no_row_length rows size none = ap (λ row. length_by row size) (no_row rows size (ap is_some none))

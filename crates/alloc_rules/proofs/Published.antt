@@ -1,0 +1,114 @@
+-- What a move of the books makes of labels that are to be published, or are out.
+use Rattle.std.proofs.Common.{◌≡◌, ℕ, ◌+◌, ◌<◌, ◌≤◌, ◌⊎◌, true, eqb, List, length, Some, refl, ap, ◌∙◌, inl, inr, arith}
+use Rattle.std.specs.Prelude.{slice_get, slice_set}
+use Rattle.std.proofs.lemmas.Bool.{cases_lt, eq-eqb}
+use Rattle.tc_units.specs.declared.units.Label.{Label}
+use Rattle.tc_units.specs.declared.spans.Run.{Run}
+use Rattle.tc_units.specs.declared.spans.SpanRef.{SpanRef}
+use Rattle.tc_model.specs.declared.answers.CallLine.{CallLine}
+use Rattle.name_table.specs.declared.table.NameState.{NameState}
+use Rattle.name_table.specs.declared.table.NameState.TheVariants as name
+use Rattle.name_table.specs.Names.{state_of}
+use Rattle.holdings.specs.Runs.{bit}
+use Rattle.holdings.specs.Accounts.{Account, Doing, asking, publishing, taking, unpublished, mentions, is_out}
+use Rattle.holdings.specs.Books.{Setup, Stock, Books}
+use Rattle.holdings.specs.Facts.{Facts}
+use Rattle.holdings.specs.Moves.{Said, SaysOther, Nothing, One, Move, Rests, GetsNone, GetsRun, GetsObject, GetsFirst, GetsSpan, SetsRun, SetsSpan, FindsObject, FindsRun, ClearsRun, ClearsSpan, FreesRun, FreesSpan, MovesHand, FreesObject, Names, TakesNull, TakesAddr}
+use Rattle.holdings.proofs.Sums.{least, name_cases}
+
+-- a label that an account has something to do with is one of the names
+pub within : (m : Setup) (b : Books) (calls : List CallLine) (t : ℕ) (a : Account) (label : ℕ) → Facts m b calls → slice_get b.accounts t ≡ Some a → 0 < mentions label a → label < length b.names
+within m b calls t a label f at some =
+    elim (cases_lt label m.labels) [
+      | inl below ↦ omega (arith, f.names, below)
+      | inr past ↦ absurd (omega (arith, f.labels label past, least (mentions label) b.accounts t a at, some))
+    ]
+
+abbrev Kept : List NameState → ℕ → Account → Account → Type 0
+Kept names x a after = (unpublished x after ≡ unpublished x a) ⊎ (is_out (state_of names x) ≡ true)
+
+module _ (m : Setup) (b : Books) (calls : List CallLine) (t : ℕ) (a : Account) (f : Facts m b calls) (at : slice_get b.accounts t ≡ Some a) where
+  -- about which the account is
+  own : (label : Label) (d : Doing) → a.doing ≡ d → 0 < asking label.0 d + publishing label.0 d + taking label.0 d → label.0 < length b.names
+  own label d is some = within m b calls t a label.0 f at (omega (arith, some, ap (asking label.0) is, ap (publishing label.0) is, ap (taking label.0) is))
+
+  written_out : (label : Label) (new : NameState) → is_out new ≡ true → label.0 < length b.names → (x : ℕ) → is_out (state_of b.names x) ≡ true → is_out (state_of (slice_set b.names label.0 new) x) ≡ true
+  written_out label new out low x was = elim (name_cases b.names label.0 new low x) [
+    | inl c ↦ ap is_out c.1 ∙ out
+    | inr c ↦ ap is_out c.1 ∙ was
+  ]
+
+  one_here : (label : Label) → bit (eqb label.0 label.0) ≡ 1
+  one_here label = ap bit (eq-eqb label.0 label.0 refl)
+
+  pub stays_out : {stock : Stock} {heap : List Run} {spans : List SpanRef} {names : List NameState} {after : Account} {said : List Said} → Move m b a stock heap spans names after said → (x : ℕ) → is_out (state_of b.names x) ≡ true → is_out (state_of names x) ≡ true
+  stays_out (Rests a' new w says) x out = out
+  stays_out (GetsNone label size a' is w) x out = out
+  stays_out (GetsRun label size r a' is off placed len w) x out = out
+  stays_out (GetsObject label size g o rest a' is class hand moves cut w) x out = out
+  stays_out (GetsFirst label size g r o rest apart mapped a' is off class hand one two adds cut w) x out = out
+  stays_out (GetsSpan r a' class off placed w) x out = out
+  stays_out (SetsRun r a' off none w) x out = out
+  stays_out (SetsSpan r apart a' off one two w) x out = out
+  stays_out (FindsObject label o span k a' is hand off clears there holds kind w) x out = out
+  stays_out (FindsRun label r a' is there clears w) x out = out
+  stays_out (ClearsRun label r a' is clears off w) x out = out
+  stays_out (ClearsSpan s mapped a' is off w) x out = out
+  stays_out (FreesRun label r a' is off apart clears w) x out = out
+  stays_out (FreesSpan s apart a' off one two w) x out = out
+  stays_out (MovesHand g hand freed a' moves cut keeps same w) x out = out
+  stays_out (FreesObject label o g freed a' is moves cut same w) x out = out
+  stays_out (Names label value a' is off clears state w) x out = written_out label (name.Published value) refl (own label _ is (omega (arith, one_here label))) x out
+  stays_out (TakesNull label a' is state w) x out = written_out label name.Taken refl (own label _ is (omega (arith, one_here label))) x out
+  stays_out (TakesAddr label o a' is state w) x out = written_out label name.Taken refl (own label _ is (omega (arith, one_here label))) x out
+
+  -- what is to be published stays so, or is out
+  pub keeps_unpublished : {stock : Stock} {heap : List Run} {spans : List SpanRef} {names : List NameState} {after : Account} {said : List Said} → Move m b a stock heap spans names after said → (x : ℕ) → Kept names x a after
+  keeps_unpublished (Rests a' new w says) x = inl (w.publishes x)
+  keeps_unpublished (GetsNone label size a' is w) x = inl (omega (arith, w.publishes x, ap (asking x) is, ap (publishing x) is))
+  keeps_unpublished (GetsRun label size r a' is off placed len w) x = inl (omega (arith, w.publishes x, ap (asking x) is, ap (publishing x) is))
+  keeps_unpublished (GetsObject label size g o rest a' is class hand moves cut w) x = inl (omega (arith, w.publishes x, ap (asking x) is, ap (publishing x) is))
+  keeps_unpublished (GetsFirst label size g r o rest apart mapped a' is off class hand one two adds cut w) x = inl (omega (arith, w.publishes x, ap (asking x) is, ap (publishing x) is))
+  keeps_unpublished (GetsSpan r a' class off placed w) x = inl (w.publishes x)
+  keeps_unpublished (SetsRun r a' off none w) x = inl (w.publishes x)
+  keeps_unpublished (SetsSpan r apart a' off one two w) x = inl (w.publishes x)
+  keeps_unpublished (FindsObject label o span k a' is hand off clears there holds kind w) x = inl (omega (arith, w.publishes x, ap (asking x) is, ap (publishing x) is))
+  keeps_unpublished (FindsRun label r a' is there clears w) x = inl (w.publishes x)
+  keeps_unpublished (ClearsRun label r a' is clears off w) x = inl (w.publishes x)
+  keeps_unpublished (ClearsSpan s mapped a' is off w) x = inl (w.publishes x)
+  keeps_unpublished (FreesRun label r a' is off apart clears w) x = inl (omega (arith, w.publishes x, ap (asking x) is, ap (publishing x) is))
+  keeps_unpublished (FreesSpan s apart a' off one two w) x = inl (w.publishes x)
+  keeps_unpublished (MovesHand g hand freed a' moves cut keeps same w) x = inl (w.publishes x)
+  keeps_unpublished (FreesObject label o g freed a' is moves cut same w) x = inl (omega (arith, w.publishes x, ap (asking x) is, ap (publishing x) is))
+  keeps_unpublished (Names label value a' is off clears state w) x = elim (name_cases b.names label.0 (name.Published value) (own label _ is (omega (arith, one_here label))) x) [
+    | inl c ↦ inr (ap is_out c.1)
+    | inr c ↦ inl (omega (arith, w.publishes x, ap (asking x) is, ap (publishing x) is, ap bit c.0))
+  ]
+  keeps_unpublished (TakesNull label a' is state w) x = inl (omega (arith, w.publishes x, ap (asking x) is, ap (publishing x) is))
+  keeps_unpublished (TakesAddr label o a' is state w) x = inl (omega (arith, w.publishes x, ap (asking x) is, ap (publishing x) is))
+
+-- at most one call is decided
+others_few : (said : List Said) → SaysOther said → length said ≤ 1
+others_few said Nothing = omega arith
+others_few said (One x is) = omega arith
+
+pub said_few : (m : Setup) (b : Books) (a : Account) {stock : Stock} {heap : List Run} {spans : List SpanRef} {names : List NameState} {after : Account} {said : List Said} → Move m b a stock heap spans names after said → length said ≤ 1
+said_few m b a (Rests a' new w says) = others_few new says
+said_few m b a (GetsNone label size a' is w) = omega arith
+said_few m b a (GetsRun label size r a' is off placed len w) = omega arith
+said_few m b a (GetsObject label size g o rest a' is class hand moves cut w) = omega arith
+said_few m b a (GetsFirst label size g r o rest apart mapped a' is off class hand one two adds cut w) = omega arith
+said_few m b a (GetsSpan r a' class off placed w) = omega arith
+said_few m b a (SetsRun r a' off none w) = omega arith
+said_few m b a (SetsSpan r apart a' off one two w) = omega arith
+said_few m b a (FindsObject label o span k a' is hand off clears there holds kind w) = omega arith
+said_few m b a (FindsRun label r a' is there clears w) = omega arith
+said_few m b a (ClearsRun label r a' is clears off w) = omega arith
+said_few m b a (ClearsSpan s mapped a' is off w) = omega arith
+said_few m b a (FreesRun label r a' is off apart clears w) = omega arith
+said_few m b a (FreesSpan s apart a' off one two w) = omega arith
+said_few m b a (MovesHand g hand freed a' moves cut keeps same w) = omega arith
+said_few m b a (FreesObject label o g freed a' is moves cut same w) = omega arith
+said_few m b a (Names label value a' is off clears state w) = omega arith
+said_few m b a (TakesNull label a' is state w) = omega arith
+said_few m b a (TakesAddr label o a' is state w) = omega arith

@@ -1,0 +1,257 @@
+-- What the steps of a call do to its local's shape, whichever act they follow.
+use Rattle.std.proofs.Common.{◌≡◌, refl, ℕ, ◌+◌, ◌*◌, ◌<◌, ◌≤◌, Bool, true, false, cond, eqb, ltb, List, [], ◌∷◌, length, drop, Option, Some, None, ap, sym, ◌∙◌, subst, arith}
+use Rattle.std.specs.Prelude.{All, is_some, option_map}
+use Rattle.std.proofs.lemmas.Bool.{cond_both, ltb-true}
+use Rattle.std.proofs.lemmas.List.{length-drop}
+use Rattle.std.proofs.lemmas.List.Elements.{All-head, All-tail}
+use Rattle.std.specs.List.{position_or_len}
+use Rattle.tc_units.specs.Bag.{Contents}
+use Rattle.tc_units.specs.Classes as classes
+use Rattle.tc_units.specs.declared.units.Addr.{Addr}
+use Rattle.tc_units.specs.declared.units.Class.{Class}
+use Rattle.tc_units.specs.declared.units.CpuNo.{CpuNo}
+use Rattle.tc_units.specs.declared.units.Label.{Label}
+use Rattle.tc_units.specs.declared.spans.ClassRow.{ClassRow}
+use Rattle.tc_units.specs.declared.spans.SpanRef.{SpanRef}
+use Rattle.tc_model.specs.declared.calls.Call.{Call}
+use Rattle.tc_model.specs.declared.calls.Call.TheVariants.{Malloc, Free, Release, Drain, Resize}
+use Rattle.tc_model.specs.declared.calls.MoveTo.{MoveTo}
+use Rattle.tc_model.specs.declared.calls.Planned.{Planned}
+use Rattle.tc_model.specs.declared.answers.Answer.TheVariants.{Block}
+use Rattle.rseq_core.specs.declared.sequence.Seq.{Seq}
+use Rattle.rseq_core.specs.declared.sequence.Seq.TheVariants as seq
+use Rattle.rseq_core.specs.declared.sequence.Pc.{Pc}
+use Rattle.rseq_core.specs.declared.sequence.Pc.TheVariants.{Begin}
+use Rattle.rseq_core.specs.declared.regs.TheConstants.{HAND_ROOM, LOADED_ROOM}
+use Rattle.rseq_core.specs.Bags.{room, without_first, emptied}
+use Rattle.cpu_drain.specs.Seats.{Standing, Seat}
+use Rattle.call_steps.specs.declared.step.Asking.{Asking}
+use Rattle.call_steps.specs.declared.step.Serving.{Serving}
+use Rattle.call_steps.specs.declared.step.Draining.{Draining}
+use Rattle.call_steps.specs.declared.step.Stopping.{Stopping}
+use Rattle.call_steps.specs.declared.step.Stopping.TheVariants as stopping
+use Rattle.call_steps.specs.declared.step.Giving.{Giving}
+use Rattle.call_steps.specs.declared.step.Giving.TheVariants as giving
+use Rattle.call_steps.specs.declared.step.Onward.{Onward}
+use Rattle.call_steps.specs.declared.step.Onward.TheVariants as onward
+use Rattle.call_steps.specs.declared.step.Step.{Step}
+use Rattle.call_steps.specs.declared.step.Step.TheVariants as does
+use Rattle.call_steps.specs.declared.step.CpuStep.TheVariants as cpu
+use Rattle.call_steps.specs.declared.step.ShardStep.TheVariants as shard
+use Rattle.call_steps.specs.declared.step.DomainStep.TheVariants as domain
+use Rattle.call_steps.specs.declared.step.HeapStep.TheVariants as heap
+use Rattle.call_steps.specs.declared.step.MapStep.TheVariants as map
+use Rattle.call_steps.specs.declared.step.NamesStep.TheVariants as names
+use Rattle.call_steps.specs.Local.{Local, no_class, class_row, first_of_malloc, regs_of_malloc, first_of_call, fresh_regs, next_call, decided, goes, closes, ends}
+use Rattle.call_steps.specs.Hands.{with_hand, publishes, stocks, serves_first, looks_on, gives, drains_on, goes_onward, behind, decides_free, given, clears, with_freed, given_back}
+use Rattle.call_steps.specs.Shapes.{IsClassRow, seat_of, stands, no_class_empty, giving_standing, onward_standing, standing_of, AreRows, Limits, IsMove, IsCallThere, IsPlanned, IsAtBegin, most_slots, IsStop, IsAsked, IsGiving, IsOnward, HasHand, HasNone, HasSpans, StepShape, IsShaped}
+
+-- all of a shape but the step's, within an act
+pub record IsCommon (m : Limits) (t : ℕ) (l : Local) : Type 0 where
+  pub thread : l.regs.thread.0 ≡ t
+  pub class : l.regs.class.0 < length m.rows
+  pub home : l.cpu.0 < m.cpus
+  pub hand : room l.regs.hand ≡ HAND_ROOM
+  pub loaded : room l.regs.loaded ≡ LOADED_ROOM
+  pub freed : length l.freed.items + l.freed.spare ≡ HAND_ROOM
+  pub ran : l.regs.ran ≤ l.acts + 1
+  pub move : IsMove m l.moved
+  pub rest : All (IsPlanned m) l.rest
+
+pub common_of : (m : Limits) (t : ℕ) (l : Local) → IsShaped m t l → IsCommon m t l
+common_of m t l s = record { thread = s.thread; class = s.class; home = s.home; hand = s.hand; loaded = s.loaded; freed = s.freed; ran = omega (arith, s.ran); move = s.move; rest = s.rest }
+
+-- A local behind an act: it has its shape, its registers are set, and it is at this CPU, with this epoch and this standing.
+pub record IsNext (m : Limits) (t : ℕ) (cpu : CpuNo) (epoch : ℕ) (o : Option Standing) (new : Local) : Type 0 where
+  pub shaped : IsShaped m t new
+  pub home : new.cpu ≡ cpu
+  pub begin : IsAtBegin new.regs
+  pub same : new.regs.epoch ≡ epoch
+  pub standing : standing_of new.step ≡ o
+
+-- the call goes on
+pub goes_next : (m : Limits) (t : ℕ) (l : Local) (next : Step) → IsCommon m t l → IsAtBegin l.regs → StepShape m (goes l next) next → IsNext m t l.cpu l.regs.epoch (standing_of next) (goes l next)
+goes_next m t l next c begin shape =
+    record {
+      shaped = record { thread = c.thread; class = c.class; home = c.home; hand = c.hand; loaded = c.loaded; freed = c.freed; ran = c.ran; move = c.move; rest = c.rest; step = shape };
+      home = refl;
+      begin = begin;
+      same = refl;
+      standing = refl;
+    }
+
+pub none_still : (l : Local) (next : Step) → HasNone l → HasNone (goes l next)
+none_still l next n = record { begin = n.begin; hand = n.hand; freed = n.freed }
+
+pub hand_still : (l : Local) (next : Step) → HasHand most_slots l → HasHand most_slots (goes l next)
+hand_still l next n = record { begin = n.begin; few = n.few; freed = n.freed }
+
+pub spans_still : (l : Local) (next : Step) → HasSpans l → HasSpans (goes l next)
+spans_still l next n = record { begin = n.begin; hand = n.hand; some = n.some }
+
+pub stop_still : (m : Limits) (l : Local) (next : Step) (s : Stopping) → IsStop m l s → IsStop m (goes l next) s
+stop_still m l next (stopping.Drain d) is = is
+stop_still m l next (stopping.Resize r) is = is
+
+pub giving_still : (m : Limits) (l : Local) (next : Step) (g : Giving) → IsGiving m l g → IsGiving m (goes l next) g
+giving_still m l next (giving.Rest s) is = is
+giving_still m l next (giving.Freed f) is = is
+giving_still m l next (giving.Drained d) is = is
+giving_still m l next giving.Resized is = is
+
+pub onward_still : (m : Limits) (l : Local) (next : Step) (o : Onward) → IsOnward m l o → IsOnward m (goes l next) o
+onward_still m l next (onward.Publish s) is = is
+onward_still m l next (onward.Drain d) is = is
+onward_still m l next onward.End is = is
+
+pub publishes_next : (m : Limits) (t : ℕ) (l : Local) (s : Serving) → IsCommon m t l → HasNone l → IsNext m t l.cpu l.regs.epoch None (publishes l s)
+publishes_next m t l s c n = goes_next m t l (does.Names (names.Publish s.label (Some s.addr))) c n.begin (none_still l (does.Names (names.Publish s.label (Some s.addr))) n)
+
+pub looks_next : (m : Limits) (t : ℕ) (l : Local) (a : Asking) → IsCommon m t l → HasNone l → IsAsked m l a → IsNext m t l.cpu l.regs.epoch None (looks_on l a)
+looks_next m t l a c n asked =
+    cond_both (eqb l.domains 0) (does.Shard (shard.Fetch a)) (does.Domain (domain.Take a)) (λ (next : Step). IsNext m t l.cpu l.regs.epoch None (goes l next))
+    (λ e. goes_next m t l (does.Shard (shard.Fetch a)) c n.begin (none_still l (does.Shard (shard.Fetch a)) n, asked))
+    (λ e. goes_next m t l (does.Domain (domain.Take a)) c n.begin (none_still l (does.Domain (domain.Take a)) n, asked))
+
+pub gives_next : (m : Limits) (t : ℕ) (l : Local) (g : Giving) → IsCommon m t l → HasHand most_slots l → IsGiving m l g → IsNext m t l.cpu l.regs.epoch (giving_standing g) (gives l g)
+gives_next m t l g c n is =
+    cond_both (eqb l.domains 0) (does.Shard (shard.Give g)) (does.Domain (domain.Put g)) (λ (next : Step). IsNext m t l.cpu l.regs.epoch (giving_standing g) (goes l next))
+    (λ e. goes_next m t l (does.Shard (shard.Give g)) c n.begin (hand_still l (does.Shard (shard.Give g)) n, giving_still m l (does.Shard (shard.Give g)) g is))
+    (λ e. goes_next m t l (does.Domain (domain.Put g)) c n.begin (hand_still l (does.Domain (domain.Put g)) n, giving_still m l (does.Domain (domain.Put g)) g is))
+
+pub drains_next : (m : Limits) (t : ℕ) (l : Local) (d : Draining) → IsCommon m t l → HasNone l → d.cpu.0 < m.cpus → d.taken ≤ (l.regs.class.0 + 1) * most_slots → IsNext m t l.cpu l.regs.epoch (stands d.cpu true no_class_empty) (drains_on m.rows l d)
+drains_next m t l d c n there few =
+    let k : Class = record { 0 = l.regs.class.0 + 1 } in
+    let l' : Local = record l { regs = record l.regs { class = k } } in
+    let next : Step = does.Cpu (cpu.Take (stopping.Drain d)) in
+    let start : Step = does.Cpu (cpu.Start (stopping.Drain d)) in
+    cond_both (ltb (l.regs.class.0 + 1) (length m.rows)) (goes l' next) (goes l start) (IsNext m t l.cpu l.regs.epoch (stands d.cpu true no_class_empty))
+    (λ e.
+    (let c' : IsCommon m t l' = record { thread = c.thread; class = ltb-true (l.regs.class.0 + 1) (length m.rows) e; home = c.home; hand = c.hand; loaded = c.loaded; freed = c.freed; ran = c.ran; move = c.move; rest = c.rest } in
+    goes_next m t l' next c' (record { pc = n.begin.pc; nothing = n.begin.nothing }) (record { begin = record { pc = n.begin.pc; nothing = n.begin.nothing }; hand = n.hand; freed = n.freed }, (there, few))))
+    (λ e. goes_next m t l start c n.begin (none_still l start n, there))
+
+-- The first step of a call, with its registers.
+pub fresh_next : (m : Limits) (t : ℕ) (l : Local) (next : Step) (k : Class) (s : Seq) (pc : Pc) (ran : ℕ) (moved : Option MoveTo) (rest : List Planned) (ended : ℕ) → IsCommon m t l → HasNone l → k.0 < length m.rows → pc ≡ Begin → ran ≤ l.acts + 1 → IsMove m moved → All (IsPlanned m) rest
+    → (let new : Local = record l { step = next; regs = record l.regs { class = k; seq = s; pc = pc; ran = ran }; moved = moved; rest = rest; ended = ended; acts = l.acts + 1 } in (HasNone new → StepShape m new next) → IsNext m t l.cpu l.regs.epoch (standing_of next) new)
+fresh_next m t l next k s pc ran moved rest ended c n low begin few move planned shape =
+    record {
+      shaped = record { thread = c.thread; class = low; home = c.home; hand = c.hand; loaded = c.loaded; freed = c.freed; ran = few; move = move; rest = planned; step = shape (record { begin = record { pc = begin; nothing = n.begin.nothing }; hand = n.hand; freed = n.freed }) };
+      home = refl;
+      begin = record { pc = begin; nothing = n.begin.nothing };
+      same = refl;
+      standing = refl;
+    }
+
+-- the class of a request is in the table
+class_low_by : (n len : ℕ) (k : Class) (b : Bool) → ltb n len ≡ b → option_map (λ (j : ℕ). let c : Class = record { 0 = j } in c) (cond b (Some n) None) ≡ Some k → k.0 < len
+class_low_by n len k true low is = let c : Class = record { 0 = n } in let same : c ≡ k = (cc) in let e : n ≡ k.0 = ap (λ (j : Class). j.0) same in omega (arith, ltb-true n len low)
+class_low_by n len k false low is = absurd (cc)
+
+pub class_low : (rows : List ClassRow) (size : ℕ) (k : Class) → classes.class_of rows size ≡ Some k → k.0 < length rows
+class_low rows size k is = let n : ℕ = position_or_len (classes.serves size) rows in class_low_by n (length rows) k (ltb n (length rows)) refl is
+
+malloc_next : (m : Limits) (t : ℕ) (l : Local) (label : Label) (size : ℕ) (o : Option Class) (moved : Option MoveTo) (rest : List Planned) (ended : ℕ) → classes.class_of m.rows size ≡ o → IsCommon m t l → HasNone l → IsMove m moved → All (IsPlanned m) rest
+    → IsNext m t l.cpu l.regs.epoch None (record l { step = first_of_malloc o label size; regs = record (regs_of_malloc o l.regs) { ran = 0 }; moved = moved; rest = rest; ended = ended; acts = l.acts + 1 })
+malloc_next m t l label size None moved rest ended of c n move planned = fresh_next m t l (does.Heap (heap.New label size)) l.regs.class l.regs.seq l.regs.pc 0 moved rest ended c n c.class n.begin.pc (omega arith) move planned (λ none. (none, of))
+malloc_next m t l label size (Some k) moved rest ended of c n move planned =
+    fresh_next m t l (does.Cpu (cpu.Pop (record { label = label; size = size }))) k seq.Pop Begin 0 moved rest ended c n (class_low m.rows size k of) refl (omega arith) move planned (λ none. (record { seq = refl; freed = none.freed }, none.hand, of))
+
+call_next : (m : Limits) (t : ℕ) (l : Local) (call : Call) (moved : Option MoveTo) (rest : List Planned) (ended : ℕ) → AreRows m.rows → IsCommon m t l → HasNone l → IsCallThere m call → IsMove m moved → All (IsPlanned m) rest
+    → IsNext m t l.cpu l.regs.epoch None (record l { step = first_of_call m.rows call; regs = fresh_regs m.rows call l.regs; moved = moved; rest = rest; ended = ended; acts = l.acts + 1 })
+call_next m t l (Malloc label size) moved rest ended rows c n there move planned = malloc_next m t l label size (classes.class_of m.rows size) moved rest ended refl c n move planned
+call_next m t l (Free label) moved rest ended rows c n there move planned = fresh_next m t l (does.Names (names.Take label)) l.regs.class l.regs.seq l.regs.pc 0 moved rest ended c n c.class n.begin.pc (omega arith) move planned (λ none. none)
+call_next m t l (Release pages) moved rest ended rows c n there move planned = fresh_next m t l (does.Heap (heap.Unback pages)) l.regs.class l.regs.seq l.regs.pc 0 moved rest ended c n c.class n.begin.pc (omega arith) move planned (λ none. none)
+call_next m t l (Drain c) moved rest ended rows common n there move planned =
+    fresh_next m t l (does.Cpu (cpu.Stop (stopping.Drain (record { cpu = c; taken = 0 })))) (record { 0 = 0 }) seq.Pop Begin 0 moved rest ended common n rows.some refl (omega arith) move planned (λ none. (none, (there, omega arith)))
+call_next m t l (Resize c class cap) moved rest ended rows common n there move planned =
+    fresh_next m t l (does.Cpu (cpu.Stop (stopping.Resize (record { cpu = c; class = class; cap = cap })))) class seq.Pop Begin 0 moved rest ended common n there.1 refl (omega arith) move planned (λ none. (none, (there.0, refl)))
+
+-- the thread comes to the first of these calls
+come_next : (m : Limits) (t : ℕ) (l : Local) (calls : List Planned) (ended : ℕ) → AreRows m.rows → IsCommon m t l → HasNone l → All (IsPlanned m) calls → IsNext m t l.cpu l.regs.epoch None (next_call m.rows (record l { ended = ended; acts = l.acts + 1 }) calls)
+come_next m t l [] ended rows c n planned = fresh_next m t l does.Ended l.regs.class l.regs.seq l.regs.pc l.regs.ran None [] ended c n c.class n.begin.pc c.ran tt planned (λ none. none)
+come_next m t l (p ∷ ps) ended rows c n planned =
+    let first : IsPlanned m p = All-head (IsPlanned m) p ps planned in
+    call_next m t l p.call p.moved ps ended rows c n first.call first.move (All-tail (IsPlanned m) p ps planned)
+
+-- the call ends, or its thread is to leave first
+closes_next : (m : Limits) (t : ℕ) (l : Local) (o : Option MoveTo) → l.moved ≡ o → AreRows m.rows → IsCommon m t l → HasNone l → IsNext m t l.cpu l.regs.epoch None (closes m.rows (record l { acts = l.acts + 1 }) o)
+closes_next m t l None is rows c n = come_next m t l l.rest (l.ended + 1) rows c n c.rest
+closes_next m t l (Some move) is rows c n = goes_next m t l (does.Cpu cpu.Leave) c n.begin (none_still l (does.Cpu cpu.Leave) n, ap (λ (o : Option MoveTo). is_some o) is)
+
+pub ends_next : (m : Limits) (t : ℕ) (l : Local) → AreRows m.rows → IsCommon m t l → HasNone l → IsNext m t l.cpu l.regs.epoch None (ends m.rows l)
+ends_next m t l rows c n = closes_next m t l l.moved refl rows c n
+
+-- an allocation goes on with what came to its hand
+stocks_next : (m : Limits) (t : ℕ) (l : Local) (s : Serving) (others : List Addr) → l.regs.hand.items ≡ others → length others ≤ LOADED_ROOM → IsCommon m t l → IsAtBegin l.regs → l.freed.items ≡ [] → IsNext m t l.cpu l.regs.epoch None (stocks l s others)
+stocks_next m t l s [] is few c begin none = publishes_next m t l s c (record { begin = begin; hand = is; freed = none })
+stocks_next m t l s (a ∷ others) is few c begin none =
+    let l' : Local = record l { regs = record l.regs { seq = seq.PushBatch; pc = Begin } } in
+    let c' : IsCommon m t l' = record { thread = c.thread; class = c.class; home = c.home; hand = c.hand; loaded = c.loaded; freed = c.freed; ran = c.ran; move = c.move; rest = c.rest } in
+    goes_next m t l' (does.Cpu (cpu.Stock s)) c' (record { pc = refl; nothing = begin.nothing }) (record { seq = refl; freed = none }, (let e = ap length is in omega arith), (let e = ap length is in omega (arith, few)))
+
+pub serves_next : (m : Limits) (t : ℕ) (l : Local) (a : Asking) (xs : List Addr) → l.regs.hand.items ≡ xs → 0 < length xs → length xs ≤ LOADED_ROOM → IsCommon m t l → IsAtBegin l.regs → l.freed.items ≡ [] → IsNext m t l.cpu l.regs.epoch None (serves_first m.rows l a xs)
+serves_next m t l a [] is some few c begin none = absurd (omega arith)
+serves_next m t l a (x ∷ others) is some few c begin none =
+    let l' : Local = decided (with_hand l (without_first 1 l.regs.hand)) (Malloc a.label a.size) (Block x (class_row m.rows l).size) in
+    let size : length l.regs.hand.items ≡ length (x ∷ others) = ap length is in
+    let c' : IsCommon m t l' = record { thread = c.thread; class = c.class; home = c.home; hand = omega (arith, c.hand, length-drop 1 l.regs.hand.items); loaded = c.loaded; freed = c.freed; ran = c.ran; move = c.move; rest = c.rest } in
+    stocks_next m t l' (record { label = a.label; addr = x }) others (ap (drop 1) is) (omega (arith, few)) c' (record { pc = begin.pc; nothing = begin.nothing }) none
+
+-- what comes once no span is left to give back
+pub onward_next : (m : Limits) (t : ℕ) (l : Local) (o : Onward) → AreRows m.rows → IsCommon m t l → HasNone l → IsOnward m l o → IsNext m t l.cpu l.regs.epoch (onward_standing o) (goes_onward m.rows l o)
+onward_next m t l (onward.Publish s) rows c n is = publishes_next m t l s c n
+onward_next m t l (onward.Drain d) rows c n is = drains_next m t l d c n is.0 is.1
+onward_next m t l onward.End rows c n is = ends_next m t l rows c n
+
+pub clears_next : (m : Limits) (t : ℕ) (l : Local) (o : Onward) (spans : List SpanRef) → l.freed.items ≡ spans → AreRows m.rows → IsCommon m t l → IsAtBegin l.regs → l.regs.hand.items ≡ [] → IsOnward m l o → IsNext m t l.cpu l.regs.epoch (onward_standing o) (clears m.rows l o spans)
+clears_next m t l o [] freed rows c begin hand is = onward_next m t l o rows c (record { begin = begin; hand = hand; freed = freed }) is
+clears_next m t l o (s ∷ others) freed rows c begin hand is = goes_next m t l (does.Map (map.ClearSpan o)) c begin (record { begin = begin; hand = hand; some = (let e = ap length freed in omega arith) }, onward_still m l (does.Map (map.ClearSpan o)) o is)
+
+-- the hand is given, which frees these spans
+abbrev gave : Local → Giving → Contents SpanRef → Local
+gave l g freed = with_freed (decides_free (with_hand l (emptied l.regs.hand)) g) freed
+
+gave_common : (m : Limits) (t : ℕ) (l : Local) (g : Giving) (freed : Contents SpanRef) → IsCommon m t l → length freed.items + freed.spare ≡ HAND_ROOM → IsCommon m t (gave l g freed)
+gave_common m t l (giving.Rest s) freed c size = record { thread = c.thread; class = c.class; home = c.home; hand = omega (arith, c.hand); loaded = c.loaded; freed = size; ran = c.ran; move = c.move; rest = c.rest }
+gave_common m t l (giving.Freed f) freed c size = record { thread = c.thread; class = c.class; home = c.home; hand = omega (arith, c.hand); loaded = c.loaded; freed = size; ran = c.ran; move = c.move; rest = c.rest }
+gave_common m t l (giving.Drained d) freed c size = record { thread = c.thread; class = c.class; home = c.home; hand = omega (arith, c.hand); loaded = c.loaded; freed = size; ran = c.ran; move = c.move; rest = c.rest }
+gave_common m t l giving.Resized freed c size = record { thread = c.thread; class = c.class; home = c.home; hand = omega (arith, c.hand); loaded = c.loaded; freed = size; ran = c.ran; move = c.move; rest = c.rest }
+
+pub given_back_next : (m : Limits) (t : ℕ) (l : Local) (g : Giving) (freed : Contents SpanRef) → AreRows m.rows → IsCommon m t l → IsAtBegin l.regs → length freed.items + freed.spare ≡ HAND_ROOM → IsGiving m l g → IsNext m t l.cpu l.regs.epoch (giving_standing g) (given_back m.rows l g freed)
+given_back_next m t l (giving.Rest s) freed rows c begin size is = clears_next m t (gave l (giving.Rest s) freed) (onward.Publish s) freed.items refl rows (gave_common m t l (giving.Rest s) freed c size) (record { pc = begin.pc; nothing = begin.nothing }) refl tt
+given_back_next m t l (giving.Freed f) freed rows c begin size is = clears_next m t (gave l (giving.Freed f) freed) onward.End freed.items refl rows (gave_common m t l (giving.Freed f) freed c size) (record { pc = begin.pc; nothing = begin.nothing }) refl tt
+given_back_next m t l (giving.Drained d) freed rows c begin size is = clears_next m t (gave l (giving.Drained d) freed) (onward.Drain d) freed.items refl rows (gave_common m t l (giving.Drained d) freed c size) (record { pc = begin.pc; nothing = begin.nothing }) refl is
+given_back_next m t l giving.Resized freed rows c begin size is = clears_next m t (gave l giving.Resized freed) onward.End freed.items refl rows (gave_common m t l giving.Resized freed c size) (record { pc = begin.pc; nothing = begin.nothing }) refl tt
+
+given_keeps : (m : Limits) (t : ℕ) (l : Local) (g : Giving) → AreRows m.rows → IsCommon m t l → IsAtBegin l.regs → IsGiving m l g → IsNext m t l.cpu l.regs.epoch (giving_standing g) (clears m.rows (decides_free (with_hand l (emptied l.regs.hand)) g) (behind g) l.freed.items)
+given_keeps m t l (giving.Rest s) rows c begin is = given_back_next m t l (giving.Rest s) l.freed rows c begin c.freed is
+given_keeps m t l (giving.Freed f) rows c begin is = given_back_next m t l (giving.Freed f) l.freed rows c begin c.freed is
+given_keeps m t l (giving.Drained d) rows c begin is = given_back_next m t l (giving.Drained d) l.freed rows c begin c.freed is
+given_keeps m t l giving.Resized rows c begin is = given_back_next m t l giving.Resized l.freed rows c begin c.freed is
+
+-- the hand is given to the cache of a domain
+pub given_next : (m : Limits) (t : ℕ) (l : Local) (g : Giving) → AreRows m.rows → IsCommon m t l → HasHand most_slots l → IsGiving m l g → IsNext m t l.cpu l.regs.epoch (giving_standing g) (given m.rows l g)
+given_next m t l g rows c n is =
+    let l' : Local = decides_free (with_hand l (emptied l.regs.hand)) g in
+    subst (λ (xs : List SpanRef). IsNext m t l.cpu l.regs.epoch (giving_standing g) (clears m.rows l' (behind g) xs)) n.freed (given_keeps m t l g rows c n.begin is)
+
+-- the seat of the next local
+pub seat_is : (m : Limits) (t : ℕ) (home : CpuNo) (epoch : ℕ) (o : Option Standing) (after : Local) → IsNext m t home epoch o after → (let v : Seat = record { regs = after.regs; cpu = home.0; standing = o } in v) ≡ seat_of after
+seat_is m t home epoch o after n =
+    ap (λ (c : ℕ). let v : Seat = record { regs = after.regs; cpu = c; standing = o } in v) (sym (ap (λ (c : CpuNo). c.0) n.home))
+    ∙ ap (λ (x : Option Standing). let v : Seat = record { regs = after.regs; cpu = after.cpu.0; standing = x } in v) (sym n.standing)
+
+-- the shape of a step
+pub shape_at : (m : Limits) (t : ℕ) (l : Local) (s : Step) → IsShaped m t l → l.step ≡ s → StepShape m l s
+shape_at m t l s shaped is = subst (λ (x : Step). StepShape m l x) is shaped.step
+
+-- the class of a thread is one of the table
+pub row_there : (m : Limits) (t : ℕ) (l : Local) → AreRows m.rows → IsCommon m t l → IsClassRow (class_row m.rows l)
+row_there m t l rows c = rows.each l.regs.class.0 no_class c.class
+
+-- the call is decided, and ends
+pub decided_ends : (m : Limits) (t : ℕ) (l l' : Local) → AreRows m.rows → IsCommon m t l → HasNone l → l' ≡ record l { answers = l'.answers } → IsNext m t l.cpu l.regs.epoch None (ends m.rows l')
+decided_ends m t l l' rows c n is =
+    let l'' : Local = record l { answers = l'.answers } in
+    subst (λ (x : Local). IsNext m t l.cpu l.regs.epoch None (ends m.rows x)) (sym is) (ends_next m t l'' rows (record { thread = c.thread; class = c.class; home = c.home; hand = c.hand; loaded = c.loaded; freed = c.freed; ran = c.ran; move = c.move; rest = c.rest }) (record { begin = n.begin; hand = n.hand; freed = n.freed }))

@@ -1,0 +1,106 @@
+-- How a call goes on with the objects that it has in hand.
+use Rattle.std.specs.Prelude.{ℕ, ◌+◌, Bool, ◌==◌, nat_lt, List, [], ◌∷◌, length, Option, Some, None, if◌then◌else◌}
+use Rattle.tc_units.specs.Bag.{Contents}
+use Rattle.tc_units.specs.declared.units.Addr.{Addr}
+use Rattle.tc_units.specs.declared.units.Class.{Class}
+use Rattle.tc_units.specs.declared.spans.ClassRow.{ClassRow}
+use Rattle.tc_units.specs.declared.spans.SpanRef.{SpanRef}
+use Rattle.tc_model.specs.declared.calls.Call.TheVariants.{Malloc, Free, Drain, Resize}
+use Rattle.tc_model.specs.declared.answers.Answer.TheVariants.{Block, Freed}
+use Rattle.rseq_core.specs.declared.sequence.Seq.{Seq}
+use Rattle.rseq_core.specs.declared.sequence.Seq.TheVariants as seq
+use Rattle.rseq_core.specs.declared.regs.Regs.{Regs}
+use Rattle.rseq_core.specs.Bags.{emptied, without_first}
+use Rattle.call_steps.specs.declared.step.Asking.{Asking}
+use Rattle.call_steps.specs.declared.step.Serving.{Serving}
+use Rattle.call_steps.specs.declared.step.Freeing.{Freeing}
+use Rattle.call_steps.specs.declared.step.Draining.{Draining}
+use Rattle.call_steps.specs.declared.step.Resizing.{Resizing}
+use Rattle.call_steps.specs.declared.step.Stopping.{Stopping}
+use Rattle.call_steps.specs.declared.step.Stopping.TheVariants as stopping
+use Rattle.call_steps.specs.declared.step.Giving.{Giving}
+use Rattle.call_steps.specs.declared.step.Giving.TheVariants.{Rest, Freed as Back, Drained, Resized}
+use Rattle.call_steps.specs.declared.step.Onward.{Onward}
+use Rattle.call_steps.specs.declared.step.Onward.TheVariants as onward
+use Rattle.call_steps.specs.declared.step.Step.{Step}
+use Rattle.call_steps.specs.declared.step.Step.TheVariants as step
+use Rattle.call_steps.specs.declared.step.CpuStep.TheVariants as cpu
+use Rattle.call_steps.specs.declared.step.ShardStep.TheVariants as shard
+use Rattle.call_steps.specs.declared.step.DomainStep.TheVariants as domain
+use Rattle.call_steps.specs.declared.step.MapStep.TheVariants as map
+use Rattle.call_steps.specs.declared.step.NamesStep.TheVariants as names
+use Rattle.call_steps.specs.Local.{Local, set_for, decided, goes, ends, class_row}
+
+-- a local with another hand, and one whose registers are set for a sequence of its class
+abbrev pub with_hand : Local → Contents Addr → Local
+with_hand l hand = record l { regs = record l.regs { hand = hand } }
+
+abbrev pub starts : Local → Seq → Local
+starts l s = record l { regs = set_for l.regs.class s l.regs }
+
+-- an allocation publishes its object
+abbrev pub publishes : Local → Serving → Local
+publishes l s = goes l (step.Names (names.Publish s.label (Some s.addr)))
+
+-- with what it fetched besides it stocks its CPU first
+abbrev pub stocks : Local → Serving → List Addr → Local
+stocks l s [] = publishes l s
+stocks l s (a ∷ others) = goes (starts l seq.PushBatch) (step.Cpu (cpu.Stock s))
+
+-- An allocation is decided by the objects that came to its hand: the first is its answer, and the others are left in hand.
+abbrev pub serves_first : List ClassRow → Local → Asking → List Addr → Local
+serves_first rows l asking [] = l
+serves_first rows l asking (a ∷ others) =
+    stocks (decided (with_hand l (without_first 1 l.regs.hand)) (Malloc asking.label asking.size) (Block a (class_row rows l).size)) (record { label = asking.label; addr = a }) others
+
+abbrev pub serves : List ClassRow → Local → Asking → Local
+serves rows l asking = serves_first rows l asking l.regs.hand.items
+
+-- an allocation that found nothing at its CPU looks in the cache of its domain, where there are domains, and else in the shard
+abbrev pub looks_on : Local → Asking → Local
+looks_on l asking = goes l (if l.domains == 0 then step.Shard (shard.Fetch asking) else step.Domain (domain.Take asking))
+
+-- the hand is given away: to the cache of the domain, where there are domains, and else to the shard
+abbrev pub gives : Local → Giving → Local
+gives l giving = goes l (if l.domains == 0 then step.Shard (shard.Give giving) else step.Domain (domain.Put giving))
+
+-- a drain takes the next class, and starts the CPU again behind the last one
+abbrev pub drains_on : List ClassRow → Local → Draining → Local
+drains_on rows l d =
+    if nat_lt (l.regs.class.0 + 1) (length rows) then goes (record l { regs = record l.regs { class = record { 0 = l.regs.class.0 + 1 } } }) (step.Cpu (cpu.Take (stopping.Drain d)))
+    else goes l (step.Cpu (cpu.Start (stopping.Drain d)))
+
+-- what comes once no span is left to give back
+abbrev pub goes_onward : List ClassRow → Local → Onward → Local
+goes_onward rows l (onward.Publish s) = publishes l s
+goes_onward rows l (onward.Drain d) = drains_on rows l d
+goes_onward rows l onward.End = ends rows l
+
+-- what a call goes on with behind a giving, which decides a free
+abbrev pub behind : Giving → Onward
+behind (Rest s) = onward.Publish s
+behind (Back f) = onward.End
+behind (Drained d) = onward.Drain d
+behind Resized = onward.End
+
+abbrev pub decides_free : Local → Giving → Local
+decides_free l (Rest s) = l
+decides_free l (Back f) = decided l (Free f.label) (Freed f.addr)
+decides_free l (Drained d) = l
+decides_free l Resized = l
+
+-- the hand was given to the cache of the domain
+abbrev pub given : List ClassRow → Local → Giving → Local
+given rows l giving = goes_onward rows (decides_free (with_hand l (emptied l.regs.hand)) giving) (behind giving)
+
+-- spans are left to give back, or not
+abbrev pub clears : List ClassRow → Local → Onward → List SpanRef → Local
+clears rows l next [] = goes_onward rows l next
+clears rows l next (s ∷ others) = goes l (step.Map (map.ClearSpan next))
+
+-- the hand was given to the shard, which these spans left
+abbrev pub with_freed : Local → Contents SpanRef → Local
+with_freed l freed = record l { freed = freed }
+
+abbrev pub given_back : List ClassRow → Local → Giving → Contents SpanRef → Local
+given_back rows l giving freed = clears rows (with_freed (decides_free (with_hand l (emptied l.regs.hand)) giving) freed) (behind giving) freed.items

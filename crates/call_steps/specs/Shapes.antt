@@ -1,0 +1,245 @@
+-- What holds of each local by its step: its registers, its hand, the spans that it has to give back, and its seat at the CPUs.
+use Rattle.std.specs.Prelude.{◌≡◌, ℕ, ◌+◌, ◌*◌, ◌<◌, ◌≤◌, Bool, true, false, ◌==◌, List, [], ◌∷◌, length, All, Option, Some, None, is_some}
+use Rattle.tc_units.specs.Units.{page_bytes}
+use Rattle.tc_units.specs.Classes.{class_of}
+use Rattle.tc_units.specs.declared.units.Class.{Class}
+use Rattle.tc_units.specs.declared.units.CpuNo.{CpuNo}
+use Rattle.tc_units.specs.declared.units.Addr.{Addr}
+use Rattle.tc_units.specs.declared.spans.ClassRow.{ClassRow}
+use Rattle.tc_model.specs.declared.calls.Call.{Call}
+use Rattle.tc_model.specs.declared.calls.Call.TheVariants.{Malloc, Free, Release, Drain, Resize}
+use Rattle.tc_model.specs.declared.calls.MoveTo.{MoveTo}
+use Rattle.tc_model.specs.declared.calls.Planned.{Planned}
+use Rattle.rseq_core.specs.declared.sequence.Seq.{Seq}
+use Rattle.rseq_core.specs.declared.sequence.Seq.TheVariants as seq
+use Rattle.rseq_core.specs.declared.sequence.Pc.TheVariants.{Begin}
+use Rattle.rseq_core.specs.declared.regs.Regs.{Regs}
+use Rattle.rseq_core.specs.declared.regs.TheConstants.{HAND_ROOM, LOADED_ROOM}
+use Rattle.rseq_core.specs.Bags.{room}
+use Rattle.cpu_drain.specs.Seats.{Standing, Seat}
+use Rattle.call_steps.specs.declared.step.Asking.{Asking}
+use Rattle.call_steps.specs.declared.step.Draining.{Draining}
+use Rattle.call_steps.specs.declared.step.Resizing.{Resizing}
+use Rattle.call_steps.specs.declared.step.Stopping.{Stopping}
+use Rattle.call_steps.specs.declared.step.Stopping.TheVariants as stopping
+use Rattle.call_steps.specs.declared.step.Giving.{Giving}
+use Rattle.call_steps.specs.declared.step.Giving.TheVariants as giving
+use Rattle.call_steps.specs.declared.step.Onward.{Onward}
+use Rattle.call_steps.specs.declared.step.Onward.TheVariants as onward
+use Rattle.call_steps.specs.declared.step.Step.{Step}
+use Rattle.call_steps.specs.declared.step.Step.TheVariants as does
+use Rattle.call_steps.specs.declared.step.CpuStep.{CpuStep}
+use Rattle.call_steps.specs.declared.step.CpuStep.TheVariants as cpu
+use Rattle.call_steps.specs.declared.step.ShardStep.{ShardStep}
+use Rattle.call_steps.specs.declared.step.ShardStep.TheVariants as shard
+use Rattle.call_steps.specs.declared.step.DomainStep.{DomainStep}
+use Rattle.call_steps.specs.declared.step.DomainStep.TheVariants as domain
+use Rattle.call_steps.specs.declared.step.HeapStep.{HeapStep}
+use Rattle.call_steps.specs.declared.step.HeapStep.TheVariants as heap
+use Rattle.call_steps.specs.declared.step.MapStep.{MapStep}
+use Rattle.call_steps.specs.declared.step.MapStep.TheVariants as map
+use Rattle.call_steps.specs.Local.{Local, class_row}
+use Rattle.call_steps.specs.Kept.{cpu_of}
+
+-- What a call has done to the CPU that it stopped: behind its fence a resize knows that its class is empty.
+abbrev pub stands : CpuNo → Bool → (ℕ → Bool) → Option Standing
+stands c fenced empty = Some (record { cpu = c.0; fenced = fenced; empty = empty })
+
+abbrev pub no_class_empty : ℕ → Bool
+no_class_empty j = false
+
+abbrev pub giving_standing : Giving → Option Standing
+giving_standing (giving.Drained d) = stands d.cpu true no_class_empty
+giving_standing other = None
+
+abbrev pub onward_standing : Onward → Option Standing
+onward_standing (onward.Drain d) = stands d.cpu true no_class_empty
+onward_standing other = None
+
+abbrev pub cpu_standing : CpuStep → Option Standing
+cpu_standing (cpu.Fence s) = stands (cpu_of s) false no_class_empty
+cpu_standing (cpu.Take s) = stands (cpu_of s) true no_class_empty
+cpu_standing (cpu.SetCap r) = stands r.cpu true (λ j. j == r.class.0)
+cpu_standing (cpu.Start s) = stands (cpu_of s) true no_class_empty
+cpu_standing other = None
+
+abbrev pub shard_standing : ShardStep → Option Standing
+shard_standing (shard.Give g) = giving_standing g
+shard_standing other = None
+
+abbrev pub domain_standing : DomainStep → Option Standing
+domain_standing (domain.Put g) = giving_standing g
+domain_standing other = None
+
+abbrev pub heap_standing : HeapStep → Option Standing
+heap_standing (heap.FreeSpan next) = onward_standing next
+heap_standing other = None
+
+abbrev pub map_standing : MapStep → Option Standing
+map_standing (map.ClearSpan next) = onward_standing next
+map_standing other = None
+
+abbrev pub standing_of : Step → Option Standing
+standing_of (does.Cpu row) = cpu_standing row
+standing_of (does.Shard row) = shard_standing row
+standing_of (does.Domain row) = domain_standing row
+standing_of (does.Heap row) = heap_standing row
+standing_of (does.Map row) = map_standing row
+standing_of other = None
+
+-- the seat of a local at the CPUs
+abbrev pub seat_of : Local → Seat
+seat_of l = record { regs = l.regs; cpu = l.cpu.0; standing = standing_of l.step }
+
+-- the rows of a class table, as far as the call programs go
+pub record IsClassRow (row : ClassRow) : Type 0 where
+  pub size : 0 < row.size
+  pub small : row.size ≤ 262144
+  pub pages : 0 < row.pages
+  pub most : row.pages ≤ 255
+  pub fits : row.size ≤ row.pages * page_bytes
+  pub batch : 0 < row.batch
+  pub few : row.batch ≤ LOADED_ROOM
+
+pub record AreRows (rows : List ClassRow) : Type 0 where
+  pub some : 0 < length rows
+  pub few : length rows ≤ 120
+  pub each : All IsClassRow rows
+
+-- The limits that locals are within: the table's rows and so many CPUs.
+pub record Limits : Type 0 where
+  pub rows : List ClassRow
+  pub cpus : ℕ
+
+-- the CPU of a move is there, and so are the CPU and the class of a call
+abbrev pub IsMove : Limits → Option MoveTo → Type 0
+IsMove m None = Unit {0}
+IsMove m (Some move) = move.cpu.0 < m.cpus
+
+abbrev pub IsCallThere : Limits → Call → Type 0
+IsCallThere m (Malloc label size) = Unit {0}
+IsCallThere m (Free label) = Unit {0}
+IsCallThere m (Release pages) = Unit {0}
+IsCallThere m (Drain c) = c.0 < m.cpus
+IsCallThere m (Resize c class cap) = (c.0 < m.cpus) × (class.0 < length m.rows)
+
+pub record IsPlanned (m : Limits) (p : Planned) : Type 0 where
+  pub call : IsCallThere m p.call
+  pub move : IsMove m p.moved
+
+-- the thread is in no sequence, has nothing in hand, and has no span to give back
+pub record IsAtBegin (r : Regs) : Type 0 where
+  pub pc : r.pc ≡ Begin
+  pub nothing : r.loaded.items ≡ []
+
+-- how many objects of one class are in hand at most, and how many a drain has taken behind so many classes
+abbrev pub most_slots : ℕ
+most_slots = 2048
+
+abbrev pub IsStop : Limits → Local → Stopping → Type 0
+IsStop m l (stopping.Drain d) = (d.cpu.0 < m.cpus) × (d.taken ≤ l.regs.class.0 * most_slots)
+IsStop m l (stopping.Resize r) = (r.cpu.0 < m.cpus) × (l.regs.class ≡ r.class)
+
+-- what an allocation asks for has the registers' class
+abbrev pub IsAsked : Limits → Local → Asking → Type 0
+IsAsked m l a = class_of m.rows a.size ≡ Some l.regs.class
+
+-- an object that is to be freed comes first in the hand
+abbrev pub BeginsWith : Addr → List Addr → Type 0
+BeginsWith a [] = ⊥
+BeginsWith a (x ∷ others) = x ≡ a
+
+abbrev pub IsGiving : Limits → Local → Giving → Type 0
+IsGiving m l (giving.Rest s) = Unit {0}
+IsGiving m l (giving.Freed f) = BeginsWith f.addr l.regs.hand.items
+IsGiving m l (giving.Drained d) = (d.cpu.0 < m.cpus) × (d.taken ≤ (l.regs.class.0 + 1) * most_slots)
+IsGiving m l giving.Resized = Unit {0}
+
+abbrev pub IsOnward : Limits → Local → Onward → Type 0
+IsOnward m l (onward.Publish s) = Unit {0}
+IsOnward m l (onward.Drain d) = (d.cpu.0 < m.cpus) × (d.taken ≤ (l.regs.class.0 + 1) * most_slots)
+IsOnward m l onward.End = Unit {0}
+
+-- at most so many objects are in hand, with no span to give back, and no sequence under way
+pub record HasHand (most : ℕ) (l : Local) : Type 0 where
+  pub begin : IsAtBegin l.regs
+  pub few : length l.regs.hand.items ≤ most
+  pub freed : l.freed.items ≡ []
+
+-- nothing is in hand
+pub record HasNone (l : Local) : Type 0 where
+  pub begin : IsAtBegin l.regs
+  pub hand : l.regs.hand.items ≡ []
+  pub freed : l.freed.items ≡ []
+
+-- spans are to be given back, and nothing else is in hand
+pub record HasSpans (l : Local) : Type 0 where
+  pub begin : IsAtBegin l.regs
+  pub hand : l.regs.hand.items ≡ []
+  pub some : 0 < length l.freed.items
+
+-- a sequence is under way, with these objects in hand
+pub record InSequence (s : Seq) (l : Local) : Type 0 where
+  pub seq : l.regs.seq ≡ s
+  pub freed : l.freed.items ≡ []
+
+-- by the step
+abbrev pub CpuShape : Limits → Local → CpuStep → Type 0
+CpuShape m l (cpu.Pop a) = InSequence seq.Pop l × (l.regs.hand.items ≡ []) × IsAsked m l a
+CpuShape m l (cpu.Grow a) = HasNone l × IsAsked m l a
+CpuShape m l (cpu.Stock s) = InSequence seq.PushBatch l × (0 < length l.regs.hand.items) × (length l.regs.hand.items ≤ LOADED_ROOM)
+CpuShape m l (cpu.Push f) = InSequence seq.Push l × (l.regs.hand.items ≡ f.addr ∷ [])
+CpuShape m l (cpu.PopBatch f) = InSequence (seq.PopBatch (class_row m.rows l).batch) l × (l.regs.hand.items ≡ f.addr ∷ [])
+CpuShape m l (cpu.Stop s) = HasNone l × IsStop m l s
+CpuShape m l (cpu.Fence s) = HasNone l × IsStop m l s
+CpuShape m l (cpu.Take s) = HasNone l × IsStop m l s
+CpuShape m l (cpu.SetCap r) = HasHand most_slots l × (r.cpu.0 < m.cpus) × (l.regs.class ≡ r.class)
+CpuShape m l (cpu.Start (stopping.Drain d)) = HasNone l × (d.cpu.0 < m.cpus)
+CpuShape m l (cpu.Start (stopping.Resize r)) = HasHand most_slots l × (r.cpu.0 < m.cpus)
+CpuShape m l cpu.Leave = HasNone l × (is_some l.moved ≡ true)
+
+abbrev pub ShardShape : Limits → Local → ShardStep → Type 0
+ShardShape m l (shard.Fetch a) = HasNone l × IsAsked m l a
+ShardShape m l (shard.AddFetch a run) = HasNone l × IsAsked m l a
+ShardShape m l (shard.Give g) = HasHand most_slots l × IsGiving m l g
+
+abbrev pub DomainShape : Limits → Local → DomainStep → Type 0
+DomainShape m l (domain.Take a) = HasNone l × IsAsked m l a
+DomainShape m l (domain.Put g) = HasHand most_slots l × IsGiving m l g
+
+abbrev pub HeapShape : Limits → Local → HeapStep → Type 0
+HeapShape m l (heap.New label size) = HasNone l × (class_of m.rows size ≡ None)
+HeapShape m l (heap.NewSpan a) = HasNone l × IsAsked m l a
+HeapShape m l (heap.GiveBack label run) = HasNone l
+HeapShape m l (heap.FreeSpan next) = HasSpans l × IsOnward m l next
+HeapShape m l (heap.Unback pages) = HasNone l
+
+abbrev pub MapShape : Limits → Local → MapStep → Type 0
+MapShape m l (map.Set label run) = HasNone l
+MapShape m l (map.SetSpan a run) = HasNone l × IsAsked m l a
+MapShape m l (map.Lookup label addr) = HasNone l
+MapShape m l (map.Clear label run) = HasNone l
+MapShape m l (map.ClearSpan next) = HasSpans l × IsOnward m l next
+
+abbrev pub StepShape : Limits → Local → Step → Type 0
+StepShape m l (does.Cpu row) = CpuShape m l row
+StepShape m l (does.Shard row) = ShardShape m l row
+StepShape m l (does.Domain row) = DomainShape m l row
+StepShape m l (does.Heap row) = HeapShape m l row
+StepShape m l (does.Map row) = MapShape m l row
+StepShape m l (does.Names row) = HasNone l
+StepShape m l does.Ended = HasNone l
+
+-- A local of thread t: its registers are the thread's, its class and CPU are there, its bags have their room, it has
+-- executed no more instructions than it did acts, and its step has its shape.
+pub record IsShaped (m : Limits) (t : ℕ) (l : Local) : Type 0 where
+  pub thread : l.regs.thread.0 ≡ t
+  pub class : l.regs.class.0 < length m.rows
+  pub home : l.cpu.0 < m.cpus
+  pub hand : room l.regs.hand ≡ HAND_ROOM
+  pub loaded : room l.regs.loaded ≡ LOADED_ROOM
+  pub freed : length l.freed.items + l.freed.spare ≡ HAND_ROOM
+  pub ran : l.regs.ran ≤ l.acts
+  pub move : IsMove m l.moved
+  pub rest : All (IsPlanned m) l.rest
+  pub step : StepShape m l l.step

@@ -1,0 +1,146 @@
+//! How a call goes on with the objects that it has in hand.
+ghost use Rattle.std.specs.Prelude.{◌≡◌, ◌-◌, ◌<◌, ◌^◌, length, Some};
+ghost use Rattle.call_steps.specs.declared.step.Step.TheVariants as does;
+ghost use Rattle.call_steps.specs.declared.step.NamesStep.TheVariants as named;
+ghost use Rattle.call_steps.specs.Calls.{undecided, under, asks, drains, of_giving, of_onward, without_call};
+ghost use Rattle.call_steps.specs.Hands.{serves, looks_on, gives, drains_on, goes_onward, clears, decides_free, behind};
+
+use crate::local::Local;
+use crate::step::{
+    Asking, CpuStep, DomainStep, Draining, Giving, MapStep, NamesStep, Onward, Serving, ShardStep,
+    Step, Stopping,
+};
+use rseq_core::Seq;
+use size_classes::ClassTable;
+use tc_model::Answer;
+use tc_units::Class;
+
+impl Local {
+    /// An allocation is decided by the objects that came to its hand: the first is its answer, and with the
+    /// others it is to stock its CPU.
+    pub(crate) fn serve(&mut self, table: &ClassTable, asking: Asking)
+        requires acts { self.old.acts < 2 ^ 64 - 1 }
+        requires class { self.old.regs.class.0 < length table.now }
+        requires some { 0 < length self.old.regs.hand.items }
+        requires asks { undecided self.old.step ≡ Some (asks asking) }
+        ensures { self.new ≡ serves table.now self.old asking }
+    {
+        let Some(addr) = self.regs.hand.take_first() else {
+            unreachable!()
+        };
+        let serving = Serving {
+            label: asking.label,
+            addr,
+        };
+        let class = self.regs.class;
+        let len = u64::from(table.row(class).size);
+        let answer = Answer::Block { addr, len };
+        if self.regs.hand.as_slice().is_empty() {
+            self.go_deciding(answer, publish(serving));
+        } else {
+            self.regs.start(class, Seq::PushBatch);
+            self.go_deciding(answer, Step::Cpu(CpuStep::Stock(serving)));
+        }
+    }
+
+    /// An allocation that found nothing at its CPU looks in the cache of its domain, or in the shard.
+    pub(crate) fn look_on(&mut self, asking: Asking)
+        requires acts { self.old.acts < 2 ^ 64 - 1 }
+        requires asks { undecided self.old.step ≡ Some (asks asking) }
+        requires under { under self.old.step ≡ 0 }
+        ensures { self.new ≡ looks_on self.old asking }
+    {
+        if self.domains == 0 {
+            self.go(Step::Shard(ShardStep::Fetch(asking)));
+        } else {
+            self.go(Step::Domain(DomainStep::Take(asking)));
+        }
+    }
+
+    /// The hand is to be given away: to the cache of the domain, or to the shard.
+    pub(crate) fn give_away(&mut self, giving: Giving)
+        requires acts { self.old.acts < 2 ^ 64 - 1 }
+        requires call { undecided self.old.step ≡ of_giving giving }
+        requires under { under self.old.step ≡ without_call (of_giving giving) }
+        ensures { self.new ≡ gives self.old giving }
+    {
+        if self.domains == 0 {
+            self.go(Step::Shard(ShardStep::Give(giving)));
+        } else {
+            self.go(Step::Domain(DomainStep::Put(giving)));
+        }
+    }
+
+    /// A drain takes the next class, and starts the CPU again behind the last one.
+    pub(crate) fn drain_on(&mut self, table: &ClassTable, draining: Draining)
+        requires acts { self.old.acts < 2 ^ 64 - 1 }
+        requires call { undecided self.old.step ≡ Some (drains draining) }
+        requires under { under self.old.step ≡ 0 }
+        ensures { self.new ≡ drains_on table.now self.old draining }
+    {
+        let stopping = Stopping::Drain(draining);
+        if u32::from(self.regs.class.0) + 1 < table.len() {
+            self.regs.class = Class(self.regs.class.0 + 1);
+            self.go(Step::Cpu(CpuStep::Take(stopping)));
+        } else {
+            self.go(Step::Cpu(CpuStep::Start(stopping)));
+        }
+    }
+
+    /// The call goes on, which has no span to give back.
+    pub(crate) fn go_onward(&mut self, table: &ClassTable, onward: Onward)
+        requires acts { self.old.acts < 2 ^ 64 - 1 }
+        requires call { undecided self.old.step ≡ of_onward onward }
+        requires under { under self.old.step ≡ without_call (of_onward onward) }
+        ensures { self.new ≡ goes_onward table.now self.old onward }
+    {
+        match onward {
+            Onward::Publish(serving) => self.go(publish(serving)),
+            Onward::Drain(draining) => self.drain_on(table, draining),
+            Onward::End => self.end(table),
+        }
+    }
+
+    /// The call gives the spans that left a shard back, if any, and goes on.
+    pub(crate) fn clear(&mut self, table: &ClassTable, onward: Onward)
+        requires acts { self.old.acts < 2 ^ 64 - 1 }
+        requires call { undecided self.old.step ≡ of_onward onward }
+        requires under { under self.old.step ≡ without_call (of_onward onward) }
+        ensures { self.new ≡ clears table.now self.old onward self.old.freed.items }
+    {
+        if self.freed.as_slice().is_empty() {
+            self.go_onward(table, onward);
+        } else {
+            self.go(Step::Map(MapStep::ClearSpan(onward)));
+        }
+    }
+
+    /// The hand was given away, which decides a free: the call gives the spans that left a shard back, if
+    /// any, and goes on.
+    pub(crate) fn go_on_behind(&mut self, table: &ClassTable, giving: Giving)
+        requires acts { self.old.acts < 2 ^ 64 - 1 }
+        requires call { undecided self.old.step ≡ of_giving giving }
+        requires under { under self.old.step ≡ without_call (of_giving giving) }
+        ensures { self.new ≡ clears table.now (decides_free self.old giving) (behind giving) self.old.freed.items }
+    {
+        match giving {
+            Giving::Rest(serving) => self.clear(table, Onward::Publish(serving)),
+            Giving::Freed(freeing) => {
+                self.decide(Answer::Freed { addr: freeing.addr });
+                self.clear(table, Onward::End);
+            }
+            Giving::Drained(draining) => self.clear(table, Onward::Drain(draining)),
+            Giving::Resized => self.clear(table, Onward::End),
+        }
+    }
+}
+
+/// An allocation publishes its object.
+pub(crate) fn publish(serving: Serving) -> Step
+    ensures { result ≡ does.Names (named.Publish serving.label (Some serving.addr)) }
+{
+    Step::Names(NamesStep::Publish {
+        label: serving.label,
+        value: Some(serving.addr),
+    })
+}

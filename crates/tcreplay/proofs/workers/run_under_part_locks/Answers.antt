@@ -1,0 +1,24 @@
+use Rattle.std.proofs.Common.{List, ℕ, sym, subst, arith}
+use Rattle.tc_model.specs.Input.{Input}
+use Rattle.tc_model.specs.Run.{start}
+use Rattle.tc_model.specs.Chains.{IsPolite}
+use Rattle.alloc_rules.specs.Machine.{rules}
+use Rattle.tc_machine.specs.Held.{input_in}
+use Rattle.relay.specs.Ends.{IsRun, threads_in}
+use Rattle.tcreplay.proofs.WorkerFacts.{few_threads, order_of_left}
+use Rattle.tcreplay.proofs.workers.run_under_part_locks.Goals as goal
+
+pub run_all-requires-clause-few : goal.run_all-requires-clause-few
+run_all-requires-clause-few g c κs within =
+    let few = few_threads c.args.state.input c.split-machine.result.1.items c.split-machine.result.2.items c.threads-threads.result c.split-machine.ensures.start c.threads-threads.ensures (let fits = c.threads-threads.type_inv in omega arith) in
+    let ok = c.split-machine.result.2.ok in
+    omega (arith, few, ok)
+
+pub gathered-requires-clause-run : goal.gathered-requires-clause-run
+gathered-requires-clause-run g c = subst (λ m. IsRun (rules (input_in m)) c.in-Some.left.closed.parts.items c.in-Some.left.locals.items c.in-Some.left.order.items) (sym c.in-Some.ensures.machine) c.in-Some.ensures.run
+
+pub returns-clause-polite : goal.returns-clause-polite
+returns-clause-polite g c =
+    let came = threads_in c.in-Some.left.order.items in
+    let polite = subst (λ (i : Input). IsPolite (rules i) (start (rules i)) came) c.split-machine.ensures.input c.in-Some.ensures.run.polite in
+    order_of_left (IsPolite (rules c.args.state.input) (start (rules c.args.state.input))) came c.gathered.result c.gathered.ensures.order polite

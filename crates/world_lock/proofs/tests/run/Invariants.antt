@@ -1,4 +1,0 @@
-use Rattle.world_lock.proofs.tests.run.Given as goal
-
-abbrev pub ghosts-run_in : goal.ghosts-run_in
-ghosts-run_in g a = record { input = a.state.input }

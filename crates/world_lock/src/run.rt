@@ -1,0 +1,93 @@
+//! A whole run of a state by threads: put under one lock, run, and taken out again.
+ghost use Rattle.std.specs.Prelude.{◌≡◌, ◌<◌, [], All, length, IfOk};
+ghost use Rattle.tc_model.specs.declared.board.Turn.TheVariants as turn;
+ghost use Rattle.tc_model.specs.Run.{start};
+ghost use Rattle.tc_model.specs.Chains.{IsPolite};
+ghost use Rattle.replay_workers.specs.Runs.{IsReady};
+ghost use Rattle.alloc_rules.specs.Machine as allocator;
+
+use crate::board::WorldBoard;
+use crate::named::Named;
+use crate::world::World;
+use replay_workers::{Worker, halt_of, run_workers};
+use std::alloc::{AllocError, Global};
+use std::marker::Brand;
+use std::sync::Wait;
+use std::thread::Threads;
+use tc_machine::State;
+use tc_model::{Halt, Turn};
+use tc_ports::Gate;
+use tc_units::ThreadNo;
+
+/// What threads left of a state, and why a worker was halted, if one was.
+#[derive(Drop)]
+pub struct Left {
+    pub state: State,
+    pub halt: Option<Halt>,
+}
+
+/// A worker before its first turn.
+fn worker_for<N: Named + Send>(board: &WorldBoard<N>, thread: ThreadNo) -> Worker<WorldBoard<N>>
+    ensures thread { result.hand.thread ≡ thread }
+    ensures last { result.last ≡ turn.NotYet }
+{
+    Worker {
+        hand: board.hand(thread),
+        turns: 0,
+        last: Turn::NotYet,
+    }
+}
+
+/// A worker for each thread.
+fn seat_all<N: Named + Send>(
+    alloc: Global,
+    board: &WorldBoard<N>,
+    threads: u8,
+) -> Result<Vec<Worker<WorldBoard<N>>>, AllocError>
+    requires { threads ≡ N.input.asked.config.threads }
+    ensures ready { IfOk result (λ workers. All (IsReady (λ h. h.thread.0 < N.input.asked.config.threads)) workers.items) }
+    ensures all { IfOk result (λ workers. length workers.items ≡ threads) }
+{
+    let mut workers = Vec::new(alloc);
+    for thread in 0..threads {
+        workers.push(worker_for(board, ThreadNo(thread)))?;
+    }
+    Ok(workers)
+}
+
+/// Runs a state under the name of its input.
+fn run_in<N: Named + Send + Sync, R: Threads + Wait + Sync, G: Gate + Sync>(
+    rt: &R,
+    alloc: Global,
+    gate: &G,
+    state: State,
+) -> Result<Left, AllocError>
+    requires input { state.input ≡ N.input }
+    requires start { state.order ≡ [] }
+    ensures input { IfOk result (λ left. left.state.input ≡ N.input) }
+    ensures polite { IfOk result (λ left. IsPolite (allocator.rules N.input) (start (allocator.rules N.input)) left.state.order) }
+{
+    let threads = state.threads();
+    let board = WorldBoard::<N>::new(World::new(state));
+    let mut workers = seat_all(alloc, &board, threads)?;
+    run_workers(rt, alloc, &board, gate, workers.as_mut_slice());
+    let halt = halt_of(workers.as_slice());
+    let state = board.into_world().into_state();
+    Ok(Left { state, halt })
+}
+
+/// Runs a state from its start, a thread for each of its threads, until each script has ended or a worker
+/// was halted. The state that is left is of the same input, and each pick of its order moved and was
+/// polite.
+pub fn run_all<R: Threads + Wait + Sync, G: Gate + Sync>(
+    rt: &R,
+    alloc: Global,
+    gate: &G,
+    state: State,
+) -> Result<Left, AllocError>
+    requires start { state.order ≡ [] }
+    ensures input { IfOk result (λ left. left.state.input ≡ state.input) }
+    ensures polite { IfOk result (λ left. IsPolite (allocator.rules state.input) (start (allocator.rules state.input)) left.state.order) }
+{
+    run_in::<Brand, R, G>(rt, alloc, gate, state)
+}
