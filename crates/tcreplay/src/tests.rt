@@ -29,6 +29,16 @@ pub(crate) const ONE_HALF: &[u8] = b"a 0 0 2097152 303104\ncalls 1\nlive 1 ";
 /// Three threads, of which the last one frees what the first one allocates.
 const THREADS: &[u8] = b"threads 3\na 0 0 300000\na 1 1 300000\nf 2 0\n";
 
+/// Small objects of two threads. The first one misses everywhere, and its second call is cut before its pop: the
+/// second thread's calls come between, and what it frees last serves that pop.
+const OBJECTS: &[u8] = b"threads 2\na 0 0 10\na 0 1 10\na 1 2 10\na 1 3 10\nf 1 2\nf 1 3\n";
+
+const OBJECTS_ORDER: &[u8] = b"0 21\n1 27\n";
+
+/// What comes of it: 2 of the 512 objects of 16 bytes of one page are live, and 256 pages are backed.
+const OBJECTS_TEXT: &[u8] =
+    b"a 0 0 2097152 16\na 1 2 2097200 16\na 1 3 2097184 16\nf 1 2 2097200\nf 1 3 2097184\na 0 1 2097184 16\ncalls 6\nlive 2 32\nused 1\nresident 256\nfrag 999\n";
+
 /// A call, and what comes of it.
 #[derive(Clone, Copy)]
 pub(crate) struct Case<'a> {
@@ -353,8 +363,7 @@ fn pieces(rt: HostRuntime) -> Result<(), Fail> {
 #[test]
 fn memory_that_runs_out(rt: HostRuntime) -> Result<(), Fail> {
     let alloc = rt.alloc();
-    let order = b"0 2\n";
-    let Ok(mut ends) = open(alloc, ONE, order) else {
+    let Ok(mut ends) = open(alloc, OBJECTS, OBJECTS_ORDER) else {
         return Ok(());
     };
     let Ok(outcome) = replay(&rt, alloc, ORDER, &mut ends) else {
@@ -365,7 +374,7 @@ fn memory_that_runs_out(rt: HostRuntime) -> Result<(), Fail> {
         assert_case(&rt, &memory, &outcome, &ends);
     } else {
         assert_eq!(rt; outcome.end, End::Done);
-        assert_eq!(rt; ends.out.taken(), ONE_TEXT);
+        assert_eq!(rt; ends.out.taken(), OBJECTS_TEXT);
     }
     Ok(())
 }
