@@ -1,10 +1,10 @@
 -- What holds at the start: each part is as it was opened, and each thread comes to the first call of its script.
-use Rattle.std.proofs.Common.{◌≡◌, ℕ, zero, suc, ◌+◌, ◌%◌, ◌<◌, true, false, get_or, List, [], ◌∷◌, length, drop, map, replicate, Option, Some, None, refl, sym, ap, ◌∙◌, subst, inr, arith}
+use Rattle.std.proofs.Common.{◌≡◌, ℕ, zero, suc, ◌+◌, ◌%◌, ◌<◌, false, get_or, List, [], ◌∷◌, length, drop, map, replicate, Option, Some, None, refl, sym, ap, ◌∙◌, subst, inr, arith}
 use Rattle.std.specs.Prelude.{is_some, option_map, sum_by, All, slice_get}
 use Rattle.std.specs.List.{range_with_len, slice_index_or}
 use Rattle.std.proofs.Math.Nat.{mod-lt}
 use Rattle.std.proofs.lemmas.Bool.{eq-eqb, false≢true}
-use Rattle.std.proofs.lemmas.Option.{slice_get-get_or, slice_get-map, slice_get_within, get_or_from_slice_get}
+use Rattle.std.proofs.lemmas.Option.{slice_get-get_or, slice_get-map, slice_get_within}
 use Rattle.std.proofs.lemmas.List.{length-replicate, length-map}
 use Rattle.std.proofs.lemmas.List.FromFn.{length-range_with_len, get_or-range_with_len}
 use Rattle.std.proofs.lemmas.List.Sums.{sum_by-cons}
@@ -37,6 +37,7 @@ use Rattle.transfer_cache.specs.Transfer.{Transfer}
 use Rattle.class_shard.specs.Shard.{Shard, places}
 use Rattle.class_shard.specs.Laws.{spans_in, objects_in_spans}
 use Rattle.central_free.specs.Central.{IsOfRow}
+use Rattle.holdings.proofs.Sums.{of_all}
 use Rattle.holdings.specs.Runs.{bit, spans_like, spans_at, objects_at}
 use Rattle.holdings.specs.Accounts.{Account, got, put, gets, puts, asking, publishing, taking, holds, pending, untaken, mentions}
 use Rattle.holdings.specs.Books.{Books, class_number}
@@ -261,12 +262,8 @@ is_first input valid =
 pub facts_first : (input : Input) → IsValid input → Facts (setup_of input) (first_books input) (calls (first_locals input) [])
 facts_first input valid = holds_at_first (setup_of input) (first_books input) (is_first input valid)
 
--- The parts.
-at_all : {X : Type 0} (P : X → Type 0) (xs : List X) (i : ℕ) (x : X) → All P xs → slice_get xs i ≡ Some x → P x
-at_all P xs i x all is = subst P (get_or_from_slice_get xs i x x is) (all i x (slice_get_within xs i x is))
-
 copy_is : {X : Type 0} (n : ℕ) (x : X) (i : ℕ) (y : X) → slice_get (replicate n x) i ≡ Some y → x ≡ y
-copy_is n x i y is = at_all (λ z. x ≡ z) (replicate n x) i y (All-replicate (λ z. x ≡ z) n x refl) is
+copy_is n x i y is = of_all (λ z. x ≡ z) (replicate n x) i y (All-replicate (λ z. x ≡ z) n x refl) is
 
 shards_count : (room j : ℕ) (rows : List ClassRow) → length (first_shards room j rows) ≡ length rows
 shards_count room j [] = refl
@@ -289,7 +286,7 @@ shard_is room j (suc k) (row ∷ rows) x is =
 shard_of : (room k : ℕ) (rows : List ClassRow) (x : Shard) → AreRows rows → slice_get (first_shards room 0 rows) k ≡ Some x → IsShardOf rows k x
 shard_of room k rows x are is =
     let r = shard_is room 0 k rows x is in
-    let row : IsClassRow r.row = at_all IsClassRow rows k r.row are.each r.there in
+    let row : IsClassRow r.row = of_all IsClassRow rows k r.row are.each r.there in
     let e : first_shard room k r.row ≡ x = ap (λ n. first_shard room n r.row) (let z : k ≡ 0 + k = omega arith in z) ∙ r.is in
     subst (IsShardOf rows k) e (record {
       class = refl;

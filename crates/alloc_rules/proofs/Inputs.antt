@@ -1,5 +1,5 @@
 -- What a valid input gives its threads: each label is allocated once and freed once, by one of them, and each planned call is there.
-use Rattle.std.proofs.Common.{◌≡◌, ℕ, zero, suc, ◌+◌, ◌<◌, ◌≤◌, Bool, true, false, cond, eqb, List, [], ◌∷◌, ◌++◌, map, fold, max, refl, sym, ap, ◌∙◌, subst, arith, inl, inr}
+use Rattle.std.proofs.Common.{◌≡◌, ℕ, zero, suc, ◌+◌, ◌<◌, ◌≤◌, false, cond, eqb, List, [], ◌∷◌, ◌++◌, map, fold, max, refl, sym, ap, ◌∙◌, subst, arith, inl, inr}
 use Rattle.std.specs.Prelude.{sum_by, All}
 use Rattle.std.specs.List.{range_with_len}
 use Rattle.std.proofs.lemmas.Bool.{cases_eq, eq-eqb, ne_eqb}
@@ -11,6 +11,7 @@ use Rattle.tc_model.specs.declared.calls.Call.{Call}
 use Rattle.tc_model.specs.declared.calls.Call.TheVariants.{Malloc, Free, Release, Drain, Resize}
 use Rattle.tc_model.specs.declared.calls.Planned.{Planned}
 use Rattle.tc_model.specs.Input.{Input, ThreadCall, script_of, label_end, labels_of}
+use Rattle.holdings.proofs.Sums.{bit_most, sum_of_both}
 use Rattle.holdings.specs.Runs.{bit}
 use Rattle.holdings.specs.Accounts.{got, put, gets, puts}
 use Rattle.call_steps.specs.Shapes.{IsPlanned}
@@ -33,10 +34,6 @@ one_in k v a (suc n) low high =
       | inl same ↦ (let e : cond (eqb k a) v 0 ≡ v = rw (eq-eqb k a same) refl in omega (arith, c, e, none_in k v (a + 1) n (omega arith)))
       | inr other ↦ (let e : cond (eqb k a) v 0 ≡ 0 = rw (ne_eqb k a other) refl in omega (arith, c, e, one_in k v (a + 1) n (omega (arith, other)) (omega arith)))
     ]
-
-sum-plus : {X : Type 0} (f g : X → ℕ) (xs : List X) → sum_by (λ x. f x + g x) xs ≡ sum_by f xs + sum_by g xs
-sum-plus f g [] = refl
-sum-plus f g (x ∷ xs) = omega (arith, sum-plus f g xs, sum_by-cons (λ y. f y + g y) x xs, sum_by-cons f x xs, sum_by-cons g x xs)
 
 pub sum-zero : {X : Type 0} (f : X → ℕ) (xs : List X) → ((x : X) → f x ≡ 0) → sum_by f xs ≡ 0
 sum-zero f [] none = refl
@@ -64,7 +61,7 @@ module _ (f : List Planned → ℕ) (w : Planned → ℕ) (nothing : f [] ≡ 0)
   over_threads n (c ∷ cs) below =
       let rest = over_threads n cs (λ earlier d later is. below (c ∷ earlier) d later (ap (λ xs. c ∷ xs) is)) in
       let split = sum-same (λ t. f (script_of t (c ∷ cs))) (λ t. f (script_of t cs) + cond (eqb c.thread.0 t) (w c.planned) 0) (range_with_len 0 n) (λ t. one_call t c cs) in
-      let plus = sum-plus (λ t. f (script_of t cs)) (λ t. cond (eqb c.thread.0 t) (w c.planned) 0) (range_with_len 0 n) in
+      let plus = sum_of_both (λ t. f (script_of t cs)) (λ t. cond (eqb c.thread.0 t) (w c.planned) 0) (range_with_len 0 n) in
       let one = one_in c.thread.0 (w c.planned) 0 n (omega arith) (omega (arith, below [] c cs refl)) in
       omega (arith, rest, split, plus, one, sum_by-cons (λ (d : ThreadCall). w d.planned) c cs)
 
@@ -84,7 +81,7 @@ in_order : (input : Input) (earlier cs : List ThreadCall) → earlier ++ cs ≡ 
 in_order input earlier [] is valid = tt
 in_order input earlier (c ∷ cs) is valid = ((valid.calls earlier c cs is).order, in_order input (earlier ++ c ∷ []) cs (append_snoc earlier c cs ∙ is) valid)
 
-got_push : (x : ℕ) (earlier : List ThreadCall) (c : ThreadCall) → got_in x (earlier ++ c ∷ []) ≡ got_in x earlier + got x c.planned.call
+pub got_push : (x : ℕ) (earlier : List ThreadCall) (c : ThreadCall) → got_in x (earlier ++ c ∷ []) ≡ got_in x earlier + got x c.planned.call
 got_push x earlier c = omega (arith, sum_by-append (λ (d : ThreadCall). got x d.planned.call) earlier (c ∷ []), sum_by-cons (λ (d : ThreadCall). got x d.planned.call) c [])
 
 put_push : (x : ℕ) (earlier : List ThreadCall) (c : ThreadCall) → put_in x (earlier ++ c ∷ []) ≡ put_in x earlier + put x c.planned.call
@@ -96,15 +93,11 @@ record Adds (x : ℕ) (earlier : List ThreadCall) (call : Call) : Type 0 where
   pub put_once : put_in x earlier ≤ 1 → put_in x earlier + put x call ≤ 1
   pub got_first : 0 < put x call → 0 < got_in x earlier
 
-bit_one : (b : Bool) → bit b ≤ 1
-bit_one true = omega arith
-bit_one false = omega arith
-
 adds : (x : ℕ) (earlier : List ThreadCall) (call : Call) → IsInOrder earlier call → Adds x earlier call
 adds x earlier (Malloc label size) order =
     record {
       got_once = λ most. elim (cases_eq label.0 x) [
-        | inl same ↦ (let e : got_in x earlier ≡ 0 = subst (λ y. got_in y earlier ≡ 0) same order.1 in omega (arith, e, bit_one (eqb label.0 x)))
+        | inl same ↦ (let e : got_in x earlier ≡ 0 = subst (λ y. got_in y earlier ≡ 0) same order.1 in omega (arith, e, bit_most (eqb label.0 x)))
         | inr other ↦ (let e : bit (eqb label.0 x) ≡ 0 = ap bit (ne_eqb label.0 x other) in omega (arith, most, e))
       ];
       put_once = λ most. omega arith;
@@ -114,7 +107,7 @@ adds x earlier (Free label) order =
     record {
       got_once = λ most. omega arith;
       put_once = λ most. elim (cases_eq label.0 x) [
-        | inl same ↦ (let e : put_in x earlier ≡ 0 = subst (λ y. put_in y earlier ≡ 0) same order.1 in omega (arith, e, bit_one (eqb label.0 x)))
+        | inl same ↦ (let e : put_in x earlier ≡ 0 = subst (λ y. put_in y earlier ≡ 0) same order.1 in omega (arith, e, bit_most (eqb label.0 x)))
         | inr other ↦ (let e : bit (eqb label.0 x) ≡ 0 = ap bit (ne_eqb label.0 x other) in omega (arith, most, e))
       ];
       got_first = λ some. elim (cases_eq label.0 x) [
@@ -185,7 +178,7 @@ pub record IsOnce (input : Input) : Type 0 where
   pub below : (x : ℕ) → labels_of input.asked ≤ x → (in_scripts (gets x) input ≡ 0) × (in_scripts (puts x) input ≡ 0)
 
 pub both_in : (input : Input) (x : ℕ) → in_scripts (λ script. gets x script + puts x script) input ≡ in_scripts (gets x) input + in_scripts (puts x) input
-both_in input x = sum-plus (λ t. gets x (script_of t input.asked.calls)) (λ t. puts x (script_of t input.asked.calls)) (range_with_len 0 input.asked.config.threads)
+both_in input x = sum_of_both (λ t. gets x (script_of t input.asked.calls)) (λ t. puts x (script_of t input.asked.calls)) (range_with_len 0 input.asked.config.threads)
 
 pub valid_once : (input : Input) → IsValid input → IsOnce input
 valid_once input valid =

@@ -2,7 +2,6 @@
 use Rattle.std.proofs.Common.{◌≡◌, ℕ, suc, ◌+◌, ◌<◌, ◌≤◌, Bool, true, false, eqb, ltb, cond, List, [], ◌∷◌, ◌++◌, length, get_or, map, filter, Option, Some, None, refl, sym, ap, ◌∙◌, subst, arith, inl, inr}
 use Rattle.std.specs.Prelude.{option_map, slice_get}
 use Rattle.std.proofs.lemmas.Bool.{cases_lt, cases_eq, eq-eqb, ltb-true, ltb-false, eqb-true}
-use Rattle.std.proofs.lemmas.List.Sums.{sum_by-cons, sum_by-append}
 use Rattle.std.proofs.lemmas.Option.{slice_get-get_or}
 use Rattle.std.proofs.Math.Seq.{append_snoc}
 use Rattle.tc_units.specs.declared.units.Label.{Label}
@@ -37,6 +36,7 @@ use Rattle.alloc_rules.specs.Machine.{Parts, parts_of, number, number_of, waits,
 use Rattle.alloc_rules.specs.Fits.{Fits}
 use Rattle.alloc_rules.specs.Scripts.{IsIn, is_under_way}
 use Rattle.alloc_rules.specs.Valid.{got_in, IsInOrder, IsValid}
+use Rattle.alloc_rules.proofs.Inputs.{got_push}
 use Rattle.alloc_rules.proofs.Numbers.{get_names}
 use Rattle.alloc_rules.proofs.Serving.{ArePlaced, IsAtWork}
 
@@ -82,11 +82,6 @@ script_length t (c ∷ cs) =
 turns-push : (before : List ThreadCall) (c : ThreadCall) → turns_of (before ++ c ∷ []) ≡ turns_of before ++ c.thread.0 ∷ []
 turns-push [] c = refl
 turns-push (b ∷ bs) c = ap (λ r. b.thread.0 ∷ r) (turns-push bs c)
-
-got-push : (x : ℕ) (before : List ThreadCall) (c : ThreadCall) → got_in x (before ++ c ∷ []) ≡ got_in x before + got x c.planned.call
-got-push x before c =
-    let f : ThreadCall → ℕ = λ (d : ThreadCall). got x d.planned.call in
-    omega (arith, sum_by-append f before (c ∷ []), sum_by-cons f c [])
 
 -- a pick moves where the part that is wanted is there, and isn't waited for
 moves_there : {P L : Type 0} (r : Rules P L) (w : World P L) (t : ℕ) (l : L) (n : PartNo) (part : P) → slice_get w.locals t ≡ Some l → r.want l ≡ Some n → slice_get w.parts n.0 ≡ Some part → r.waits part l ≡ false → stepped r w t ≡ step.Moved
@@ -231,7 +226,7 @@ module _ (input : Input) (valid : IsValid input) (p : Parts) (locals : List Loca
               ]))
               (λ x some. elim (cases_lt 0 (got_in x before)) [
                 | inl old ↦ out x old
-                | inr none ↦ out_more before c cs is early x c.planned.call refl (omega (arith, some, none, got-push x before c))
+                | inr none ↦ out_more before c cs is early x c.planned.call refl (omega (arith, some, none, got_push x before c))
               ])
               t (ap (λ us. next_turn done us (turns_of cs)) (turns-push before c) ∙ go)
           | false ↦ λ test go.

@@ -1,9 +1,7 @@
 -- That an input is valid has one proof at most, so that a machine can keep it.
-use Rattle.std.specs.Prelude.{All}
 use Rattle.std.proofs.Common.{List, Option, None, Some}
 use Rattle.std.proofs.Math.Nat.{ℕ_set}
 use Rattle.std.specs.Coded.{le_prop}
-use mathlib.Core.Sum.{⊎_set}
 use Rattle.tc_units.specs.declared.spans.ClassRow.{ClassRow}
 use Rattle.tc_model.specs.declared.calls.Call.{Call}
 use Rattle.tc_model.specs.declared.calls.Call.TheVariants.{Malloc, Free, Release, Drain, Resize}
