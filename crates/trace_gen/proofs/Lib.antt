@@ -1,1 +1,7 @@
 mod CallSteps
+pub mod Decimals
+mod Draws
+mod Forms
+mod Labels
+pub mod TextFields
+pub mod Valid

@@ -1,3 +1,4 @@
 pub mod Draws
+pub mod Fields
 pub mod Generated
 pub mod TraceText

@@ -1,8 +1,9 @@
 //! The whole generated trace.
-ghost use Rattle.std.specs.Prelude.{◌≡◌, ◌<◌, ◌≤◌, ◌++◌, IfOk, OnOk};
+ghost use Rattle.std.specs.Prelude.{◌≡◌, ℕ, ◌<◌, ◌≤◌, ◌++◌, IfOk, OnOk, IsOk};
 ghost use Rattle.std.specs.List.{flat_map};
 ghost use Rattle.trace_gen.specs.Generated.{cpus_of, lines_of, after_call, next_kind, at_call};
 ghost use Rattle.trace_gen.specs.TraceText.{line_text, trace_text};
+ghost use Rattle.trace_reader.specs.Reading.{asked_by};
 
 use crate::state::Generator;
 use crate::writing::{push_heads, push_line};
@@ -32,14 +33,15 @@ fn push_call(
 }
 
 /// A trace of so many calls of so many threads, on half as many CPUs, rounded up, and on 1024
-/// hugepages. The same seed gives the same trace.
+/// hugepages. The same seed gives the same trace. Always a valid trace, however many size classes there are.
 pub fn generate(alloc: Global, seed: u64, calls: u64, threads: u8) -> Result<Vec<u8>, AllocError>
     requires seed { seed ≤ 2147483647 }
     requires some_calls { 1 ≤ calls }
     requires calls { calls ≤ 500000 }
     requires some_threads { 1 ≤ threads }
     requires threads { threads ≤ 64 }
-    ensures { IfOk result (λ text. text.items ≡ trace_text seed calls threads) }
+    ensures text { IfOk result (λ text. text.items ≡ trace_text seed calls threads) }
+    ensures valid { IfOk result (λ text. (classes : ℕ) → IsOk (asked_by classes text.items)) }
 {
     let cpus = (threads + 1) / 2;
     let mut text = Vec::new(alloc);

@@ -3,11 +3,13 @@
 #![tactic(auto)]
 
 mod fields;
+mod laws;
 mod lines;
 mod search;
 #[cfg(test)]
 mod tests;
 
 pub use fields::{Field, Fields};
+pub use laws::joined_lines_are_cut;
 pub use lines::Lines;
 pub use tc_units::number;

@@ -1,0 +1,103 @@
+-- A line of a generated trace is read as what it says.
+use Rattle.std.proofs.Common.{◌≡◌, ℕ, ◌+◌, ◌^◌, ◌<◌, ◌≤◌, ◌&&◌, nat_lt, nat_le, true, false, if◌then◌else◌, List, [], ◌∷◌, map, codes, decimal, Some, None, Ok, refl, ap, ◌∙◌, arith, option_map, option_and_then, cond}
+use Rattle.std.proofs.lemmas.Bool.{le-ltb, le-leb, lt-leb, not_from_true, and_right}
+use Rattle.tc_model.specs.Input.{Asked}
+use Rattle.trace_reader.specs.declared.word.Word.{Word}
+use Rattle.trace_reader.specs.declared.word.Word.TheVariants as word
+use Rattle.trace_reader.specs.declared.form.Form.{Form}
+use Rattle.trace_reader.specs.declared.form.Form.TheVariants.{Head, Malloc, Free, Move, Release, Drain, Resize}
+use Rattle.trace_reader.specs.Words.{Range, word_of, is_head, ranges_of}
+use Rattle.trace_reader.specs.Form.{number_in, numbers_in, form_with, form_of, has_fields}
+use Rattle.trace_reader.specs.Steps.{Fits}
+use Rattle.trace_reader.specs.Reading as reading
+use Rattle.trace_reader.specs.Reading.{SoFar, lacks_thread, lacks_cpu, lacks_class, label_used, label_unknown, label_freed, with_form, read_line, read_lines, and_then}
+use Rattle.trace_gen.specs.declared.line.Line.{Line}
+use Rattle.trace_gen.specs.declared.line.Line.TheVariants as line
+use Rattle.trace_gen.specs.Fields.{line_fields}
+use Rattle.trace_gen.proofs.Decimals.{number_of_decimal}
+
+-- each number is in its range, and fits a machine word
+abbrev pub AreIn : List Range → List ℕ → Type 0
+AreIn [] [] = Unit {0}
+AreIn (range ∷ ranges) (n ∷ ns) = (range.least ≤ n) × (n ≤ range.most) × (n < 2 ^ 64) × AreIn ranges ns
+AreIn ranges ns = ⊥
+
+-- so they are read from their decimals
+number_in-decimal : (range : Range) (n : ℕ) → range.least ≤ n → n ≤ range.most → n < 2 ^ 64 → number_in range (decimal n) ≡ Some n
+number_in-decimal range n least most fits =
+    ap (option_and_then (λ m. if nat_le range.least m then Some m else None)) (number_of_decimal range.most n most fits)
+    ∙ ap (λ b. cond b (Some n) None) (le-leb range.least n least)
+
+numbers_in-decimals : (ranges : List Range) (ns : List ℕ) → AreIn ranges ns → numbers_in ranges (map decimal ns) ≡ Some ns
+numbers_in-decimals [] [] are = refl
+numbers_in-decimals (range ∷ ranges) (n ∷ ns) are =
+    ap (option_and_then (λ m. option_map (λ more. m ∷ more) (numbers_in ranges (map decimal ns)))) (number_in-decimal range n are.0 are.1 are.2)
+    ∙ ap (option_map (λ more. n ∷ more)) (numbers_in-decimals ranges ns are.3)
+numbers_in-decimals [] (n ∷ ns) are = absurd are
+numbers_in-decimals (range ∷ ranges) [] are = absurd are
+
+-- a form that fits fails no rule
+record FailsNone (classes : ℕ) (asked : Asked) (form : Form) : Type 0 where
+  thread : lacks_thread asked form ≡ false
+  cpu : lacks_cpu asked form ≡ false
+  class : lacks_class classes form ≡ false
+  used : label_used asked.calls form ≡ false
+  unknown : label_unknown asked.calls form ≡ false
+  freed : label_freed asked.calls form ≡ false
+
+fails_none : (classes : ℕ) (asked : Asked) (form : Form) → Fits classes asked form → FailsNone classes asked form
+fails_none classes asked (Head head value) fits = record { thread = refl; cpu = refl; class = refl; used = refl; unknown = refl; freed = refl }
+fails_none classes asked (Malloc thread label size) fits = record { thread = lt-leb asked.config.threads thread fits.0; cpu = refl; class = refl; used = fits.1; unknown = refl; freed = refl }
+fails_none classes asked (Free thread label) fits = record { thread = lt-leb asked.config.threads thread fits.0; cpu = refl; class = refl; used = refl; unknown = not_from_true _ fits.1; freed = fits.2 }
+fails_none classes asked (Move thread before cpu) fits = record { thread = lt-leb asked.config.threads thread fits.0; cpu = lt-leb asked.config.cpus cpu fits.1; class = refl; used = refl; unknown = refl; freed = refl }
+fails_none classes asked (Release thread pages) fits = record { thread = lt-leb asked.config.threads thread fits; cpu = refl; class = refl; used = refl; unknown = refl; freed = refl }
+fails_none classes asked (Drain thread cpu) fits = record { thread = lt-leb asked.config.threads thread fits.0; cpu = lt-leb asked.config.cpus cpu fits.1; class = refl; used = refl; unknown = refl; freed = refl }
+fails_none classes asked (Resize thread cpu class_ cap) fits = record { thread = lt-leb asked.config.threads thread fits.0; cpu = lt-leb asked.config.cpus cpu fits.1; class = lt-leb _ class_ fits.2; used = refl; unknown = refl; freed = refl }
+
+-- a line that fails no rule is read as its form
+passes : (l : reading.Line) (w : Word) (form : Form) → l.number ≤ 1000000 → reading.first_word l.fields ≡ Some w → (l.before.late && is_head w) ≡ false → has_fields w (reading.other_fields l.fields) ≡ true → form_of w (reading.other_fields l.fields) ≡ Some form → FailsNone l.classes l.before.asked form → read_line l ≡ Ok (with_form l.number form l.before)
+passes l w form few named early has is none =
+    let lines : nat_lt 1000000 l.number ≡ false = le-ltb 1000000 l.number few in
+    let thread = none.thread in
+    let cpu = none.cpu in
+    let class_ = none.class in
+    let used = none.used in
+    let unknown = none.unknown in
+    let freed = none.freed in
+    rw (lines, named, early, has, is, thread, cpu, class_, used, unknown, freed) refl
+
+-- a word with numbers behind it is read, and the lines behind it are read behind its form
+pub reads_words : (classes number : ℕ) (before : SoFar) (name : List ℕ) (w : Word) (ns : List ℕ) (form : Form) (rest : List (List (List ℕ))) → number ≤ 1000000 → word_of name ≡ Some w → (before.late && is_head w) ≡ false → has_fields w (map decimal ns) ≡ true → AreIn (ranges_of w) ns → form_with w ns ≡ Some form → Fits classes before.asked form → read_lines classes before number ((name ∷ map decimal ns) ∷ rest) ≡ read_lines classes (with_form number form before) (number + 1) rest
+reads_words classes number before name w ns form rest few named early has are is fits =
+    let l : reading.Line = record { classes = classes; before = before; number = number; fields = name ∷ map decimal ns } in
+    let read = passes l w form few named early has (ap (option_and_then (form_with w)) (numbers_in-decimals (ranges_of w) ns are) ∙ is) (fails_none classes before.asked form fits) in
+    ap (λ r. and_then number r (λ after. read_lines classes after (number + 1) rest)) read
+
+-- what a generated line says
+abbrev pub form_for : Line → Form
+form_for (line.Malloc thread label size) = Malloc thread label size
+form_for (line.Free thread label) = Free thread label
+form_for (line.Preempt thread before cpu) = Move thread before cpu
+form_for (line.Release thread pages) = Release thread pages
+form_for (line.Drain thread cpu) = Drain thread cpu
+
+-- its numbers are in their ranges
+abbrev pub IsIn : Line → Type 0
+IsIn (line.Malloc thread label size) = (thread < 64) × (label < 1000000) × (size ≤ 1099511627776)
+IsIn (line.Free thread label) = (thread < 64) × (label < 1000000)
+IsIn (line.Preempt thread before cpu) = (thread < 64) × (1 ≤ before) × (before ≤ 8) × (cpu < 64)
+IsIn (line.Release thread pages) = (thread < 64) × (pages < 1000)
+IsIn (line.Drain thread cpu) = (thread < 64) × (cpu < 64)
+
+-- a generated line is read, and the lines behind it are read behind its form
+pub reads_line : (classes number : ℕ) (before : SoFar) (own : Line) (rest : List (List (List ℕ))) → number ≤ 1000000 → IsIn own → Fits classes before.asked (form_for own) → read_lines classes before number (line_fields own ∷ rest) ≡ read_lines classes (with_form number (form_for own) before) (number + 1) rest
+reads_line classes number before (line.Malloc thread label size) rest few is fits =
+    reads_words classes number before (codes "a") word.Malloc (thread ∷ label ∷ size ∷ []) (Malloc thread label size) rest few refl (and_right before.late false refl) refl (omega arith) refl fits
+reads_line classes number before (line.Free thread label) rest few is fits =
+    reads_words classes number before (codes "f") word.Free (thread ∷ label ∷ []) (Free thread label) rest few refl (and_right before.late false refl) refl (omega arith) refl fits
+reads_line classes number before (line.Preempt thread instruction cpu) rest few is fits =
+    reads_words classes number before (codes "p") word.Move (thread ∷ instruction ∷ cpu ∷ []) (Move thread instruction cpu) rest few refl (and_right before.late false refl) refl (omega arith) refl fits
+reads_line classes number before (line.Release thread pages) rest few is fits =
+    reads_words classes number before (codes "r") word.Release (thread ∷ pages ∷ []) (Release thread pages) rest few refl (and_right before.late false refl) refl (omega arith) refl fits
+reads_line classes number before (line.Drain thread cpu) rest few is fits =
+    reads_words classes number before (codes "d") word.Drain (thread ∷ cpu ∷ []) (Drain thread cpu) rest few refl (and_right before.late false refl) refl (omega arith) refl fits
