@@ -1,5 +1,5 @@
 -- Hands as their items and their room, and how an allocation goes on with what came to its hand.
-use Rattle.std.proofs.Common.{◌≡◌, ℕ, ◌+◌, ◌-◌, List, [], ◌∷◌, ◌++◌, length, drop, get_or, Some, true, false, ap, sym, ◌∙◌, refl, arith}
+use Rattle.std.proofs.Common.{◌≡◌, ℕ, ◌+◌, ◌-◌, List, [], ◌∷◌, ◌++◌, length, drop, Some, true, false, ap, sym, ◌∙◌, refl, arith}
 use Rattle.std.specs.Prelude.{◌==◌, slice_get}
 use Rattle.std.proofs.lemmas.Option.{get_or_from_slice_get}
 use Rattle.std.proofs.lemmas.Bool.{eqb-true, false≢true}
@@ -17,7 +17,7 @@ use Rattle.call_steps.specs.declared.step.Step.TheVariants as does
 use Rattle.call_steps.specs.declared.step.CpuStep.TheVariants as cpu
 use Rattle.call_steps.specs.declared.step.NamesStep.TheVariants as names
 use Rattle.call_steps.specs.Local.{Local, set_for, decided, goes, no_class, class_row}
-use Rattle.call_steps.specs.Hands.{with_hand, starts, stocks, serves, serves_first}
+use Rattle.call_steps.specs.Hands.{with_hand, starts, serves, serves_first}
 
 -- a bag is its items and its room
 pub bag_is : {T : Type 0} (b : Contents T) (items : List T) (spare : ℕ) → b.items ≡ items → b.spare ≡ spare → b ≡ record { items = items; spare = spare }

@@ -1,11 +1,9 @@
 -- The acts at the page heap, at the page map and at the names, and the act of a local at any part.
-use Rattle.std.specs.Prelude.{ℕ, ◌+◌, ◌*◌, ◌/◌, Bool, true, false, List, [], ◌∷◌, ◌++◌, find, Option, Some, None, slice_set}
+use Rattle.std.specs.Prelude.{ℕ, ◌+◌, ◌*◌, ◌/◌, Bool, false, List, [], ◌∷◌, find, Option, Some, None, slice_set}
 use Rattle.tc_units.specs.Units.{page_bytes, pages_holding}
 use Rattle.tc_units.specs.Bag.{Contents}
 use Rattle.tc_units.specs.declared.units.Addr.{Addr}
-use Rattle.tc_units.specs.declared.units.Class.{Class}
 use Rattle.tc_units.specs.declared.units.Label.{Label}
-use Rattle.tc_units.specs.declared.spans.Run.{Run}
 use Rattle.tc_units.specs.declared.spans.SpanRef.{SpanRef}
 use Rattle.tc_units.specs.declared.spans.SpanKind.{SpanKind}
 use Rattle.tc_units.specs.declared.spans.SpanKind.TheVariants.{Small, Large}

@@ -1,5 +1,5 @@
 -- The laws of the acts, of a local alone and of a CPU with it: each act leaves a local its shape and keeps seats, and fits its CPU.
-use Rattle.std.specs.Prelude.{◌≡◌, ℕ, ◌+◌, ◌-◌, ◌*◌, ◌^◌, ◌<◌, ◌≤◌, ◌/◌, List, length, find, Option, Some}
+use Rattle.std.specs.Prelude.{◌≡◌, ℕ, ◌+◌, ◌^◌, ◌<◌, ◌≤◌, ◌/◌, List, length, find, Some}
 use Rattle.tc_units.specs.Units.{page_bytes}
 use Rattle.tc_units.specs.declared.units.ThreadNo.{ThreadNo}
 use Rattle.tc_units.specs.declared.spans.SpanRef.{SpanRef}
@@ -13,7 +13,7 @@ use Rattle.page_map.specs.Spans.{SpanMap, holds}
 use Rattle.name_table.specs.declared.table.NameState.{NameState}
 use Rattle.heap_rules.specs.Heap as heaps
 use Rattle.rseq_core.specs.declared.cpu_part.CpuPart.{CpuPart}
-use Rattle.cpu_drain.specs.Seats.{Seat, CpuOk, SeatOk, SeatKeeps}
+use Rattle.cpu_drain.specs.Seats.{CpuOk, SeatOk, SeatKeeps}
 use Rattle.call_steps.specs.declared.step.CpuStep.{CpuStep}
 use Rattle.call_steps.specs.declared.step.ShardStep.{ShardStep}
 use Rattle.call_steps.specs.declared.step.ShardStep.TheVariants as shard

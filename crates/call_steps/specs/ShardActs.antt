@@ -1,11 +1,8 @@
 -- The acts at the shard of the thread's class, and at the transfer cache of its class and domain.
-use Rattle.std.specs.Prelude.{ℕ, ◌+◌, ◌-◌, ◌++◌, Bool, nat_le, List, [], ◌∷◌, length, if◌then◌else◌}
+use Rattle.std.specs.Prelude.{◌+◌, ◌-◌, ◌++◌, Bool, nat_le, List, [], ◌∷◌, length, if◌then◌else◌}
 use Rattle.tc_units.specs.Bag.{Contents}
 use Rattle.tc_units.specs.declared.units.Addr.{Addr}
-use Rattle.tc_units.specs.declared.units.Class.{Class}
-use Rattle.tc_units.specs.declared.spans.Run.{Run}
 use Rattle.tc_units.specs.declared.spans.SpanRef.{SpanRef}
-use Rattle.tc_units.specs.declared.spans.SpanKind.TheVariants.{Small}
 use Rattle.tc_units.specs.declared.spans.ClassRow.{ClassRow}
 use Rattle.rseq_core.specs.Bags.{appended}
 use Rattle.transfer_cache.specs.Transfer.{Transfer, last_first, without_last}
@@ -13,7 +10,6 @@ use Rattle.central_free.specs.Central.{opened, opening, with_span}
 use Rattle.class_shard.specs.Shard as shards
 use Rattle.holdings.specs.Runs.{small}
 use Rattle.call_steps.specs.declared.step.Asking.{Asking}
-use Rattle.call_steps.specs.declared.step.Giving.{Giving}
 use Rattle.call_steps.specs.declared.step.Step.TheVariants as step
 use Rattle.call_steps.specs.declared.step.ShardStep.{ShardStep}
 use Rattle.call_steps.specs.declared.step.ShardStep.TheVariants.{Fetch, AddFetch, Give}

@@ -34,7 +34,7 @@ use trace_reader::Trace;
 /// and that order: no other state can be made. A pick that doesn't move isn't entered.
 #[derive(Drop)]
 pub struct State {
-    replay: Replay<AllocMachine>,
+    pub(crate) replay: Replay<AllocMachine>,
     alloc: Global,
 }
 

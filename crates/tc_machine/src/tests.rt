@@ -2,12 +2,15 @@
 ghost use Rattle.std.specs.Prelude.{◌≡◌, [], IfOk};
 
 use crate::State;
+use call_steps::{
+    Asking, CpuStep, Freeing, HeapStep, MapStep, NamesStep, Serving, ShardStep, Step,
+};
 use size_classes::ClassTable;
 use std::alloc::{AllocError, Global};
 use std::process::Abort;
 use std::test::Fail;
 use tc_model::{Answer, CallLine, StepFault, Stepped};
-use tc_units::{Addr, RowKind, RowView, ThreadNo};
+use tc_units::{Addr, Label, Page, RowKind, RowView, Run as PageRun, ThreadNo};
 use trace_reader::read_trace;
 
 /// The state of so many threads at the start of a trace.
@@ -630,4 +633,67 @@ fn a_state_is_split_gathered_and_stepped(rt: HostRuntime) -> Result<(), Fail> {
         in_region(0, 0, 0, 256),
     ];
     assert_rows(&rt, rt.alloc(), text, &rows)
+}
+
+/// The next act of the first thread.
+fn next_act(state: &State) -> Option<Step> {
+    Some(state.replay.locals.first()?.step())
+}
+
+#[test]
+fn an_object_comes_and_goes_act_by_act(rt: HostRuntime) -> Result<(), Fail> {
+    let label = Label(0);
+    let addr = Addr(2_097_152);
+    let run = PageRun {
+        first: Page(256),
+        pages: 1,
+    };
+    let asking = Asking { label, size: 10 };
+    let serving = Serving { label, addr };
+    let value = Some(addr);
+    let pop = Step::Cpu(CpuStep::Pop(asking));
+    let stock = Step::Cpu(CpuStep::Stock(serving));
+    let push = Step::Cpu(CpuStep::Push(Freeing { label, addr }));
+    let steps = [
+        // It switches in, begins, reads the header and finds no object there, nor in the shard.
+        pop,
+        pop,
+        pop,
+        Step::Cpu(CpuStep::Grow(asking)),
+        Step::Shard(ShardStep::Fetch(asking)),
+        // A new span gives a batch of four, three of which are pushed.
+        Step::Heap(HeapStep::NewSpan(asking)),
+        Step::Map(MapStep::SetSpan { asking, run }),
+        Step::Shard(ShardStep::AddFetch { asking, run }),
+        stock,
+        stock,
+        stock,
+        stock,
+        stock,
+        stock,
+        stock,
+        Step::Names(NamesStep::Publish { label, value }),
+        // The free pushes its object.
+        Step::Names(NamesStep::Take { label }),
+        Step::Map(MapStep::Lookup { label, addr }),
+        push,
+        push,
+        push,
+        push,
+        push,
+        Step::Ended,
+    ];
+    let mut state = opened(&rt, rt.alloc(), b"a 0 0 10\nf 0 0\n", 1)?;
+    assert_eq!(rt; next_act(&state), Some(pop));
+    for (picks, step) in steps.iter().enumerate() {
+        assert_eq!(rt; state.threads(), 1);
+        assert_eq!(rt;
+            state.step(ThreadNo(0)),
+            Ok(Stepped::Moved),
+            "behind {picks} picks"
+        );
+        assert_eq!(rt; next_act(&state), Some(*step), "behind {picks} picks");
+    }
+    assert!(rt; state.ended());
+    Ok(())
 }
