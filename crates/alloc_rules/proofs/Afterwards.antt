@@ -1,9 +1,10 @@
 -- What holds after every order, from the books of its parts and locals.
-use Rattle.std.proofs.Common.{◌≡◌, ℕ, ◌+◌, ◌*◌, ◌<◌, ◌≤◌, ◌⊎◌, ◌↔◌, true, false, eqb, List, map, Option, Some, None, refl, sym, ap, ◌∙◌, subst, inl, inr, arith}
+use Rattle.std.proofs.Common.{◌≡◌, ℕ, ◌+◌, ◌*◌, ◌<◌, ◌≤◌, ◌⊎◌, ◌↔◌, true, false, eqb, List, length, map, Option, Some, None, refl, sym, ap, ◌∙◌, subst, inl, inr, arith}
 use Rattle.std.specs.Prelude.{sum_by, MatchOption}
 use Rattle.std.proofs.lemmas.Bool.{cond-true, eq-eqb, false≢true}
 use Rattle.tc_units.specs.declared.units.Addr.{Addr}
 use Rattle.tc_units.specs.declared.spans.Run.{Run}
+use Rattle.tc_model.specs.declared.machine.TheConstants.{MOST_PICKS}
 use Rattle.tc_model.specs.Input.{Input}
 use Rattle.tc_model.specs.Run.{run}
 use Rattle.tc_model.specs.Blocks.{live_bytes}
@@ -32,6 +33,7 @@ use Rattle.alloc_rules.specs.Stocks.{stock_of, AreBooksOf}
 use Rattle.alloc_rules.specs.Valid.{IsValid}
 use Rattle.alloc_rules.specs.Law.{calls, setup_of, HoldsAfter}
 use Rattle.alloc_rules.proofs.Serving.{IsServed}
+use Rattle.alloc_rules.proofs.Switching.{switches_are_few}
 use Rattle.alloc_rules.proofs.Same.{same_starts, same_pages, same_spans}
 
 -- an allocation gets none exactly where none fits
@@ -68,7 +70,7 @@ own_are p locals b are =
     ∙ (ap (λ (ns : List NameState). let x : Books = record { stock = stock_of p; heap = b.heap; spans = b.spans; names = ns; accounts = b.accounts } in x) are.names
     ∙ ap (λ (as' : List Account). let x : Books = record { stock = stock_of p; heap = b.heap; spans = b.spans; names = p.names; accounts = as' } in x) are.accounts)
 
-module _ (input : Input) (valid : IsValid input) (order : List ℕ) (served : IsServed input (run (rules input) order) order) where
+module _ (input : Input) (valid : IsValid input) (order : List ℕ) (few : length order ≤ MOST_PICKS) (served : IsServed input (run (rules input) order) order) where
   abbrev p : Parts
   p = served.parts
 
@@ -125,4 +127,5 @@ module _ (input : Input) (valid : IsValid input) (order : List ℕ) (served : Is
         taken = f.taken;
         cpus = served.placed.ok.cpus;
         seats = served.seated;
+        switches = switches_are_few input valid order few;
       }

@@ -36,6 +36,7 @@ use Rattle.cpu_drain.specs.Seats.{CpuOk, Holds, SeatOk}
 use Rattle.transfer_cache.specs.Transfer.{Transfer}
 use Rattle.class_shard.specs.Shard.{Shard, places}
 use Rattle.class_shard.specs.Laws.{spans_in, objects_in_spans}
+use Rattle.class_shard.proofs.SpanSums.{sum_by-map}
 use Rattle.central_free.specs.Central.{IsOfRow}
 use Rattle.holdings.proofs.Sums.{of_all}
 use Rattle.holdings.specs.Runs.{bit, spans_like, spans_at, objects_at}
@@ -46,7 +47,7 @@ use Rattle.holdings.specs.Facts.{Facts}
 use Rattle.holdings.proofs.Start.{holds_at_first}
 use Rattle.call_steps.specs.declared.step.Step.{Step}
 use Rattle.call_steps.specs.declared.step.Step.TheVariants as does
-use Rattle.call_steps.specs.Local.{Local, Decided, first_of_malloc, first_of_call, first_act, regs_of_malloc, regs_of_call, fresh_regs, regs_by, first_regs, idle_local, first_local}
+use Rattle.call_steps.specs.Local.{Local, Decided, first_of_malloc, first_of_call, first_act, regs_of_malloc, regs_of_call, fresh_regs, regs_by, first_regs, lines_of, idle_local, first_local}
 use Rattle.call_steps.specs.Kept.{call_at}
 use Rattle.call_steps.specs.Laws.{thread_no}
 use Rattle.call_steps.specs.Shapes.{Limits, AreRows, IsClassRow, IsPlanned, IsCallThere, IsMove, HasNone, StepShape, IsShaped, standing_of, seat_of}
@@ -58,7 +59,7 @@ use Rattle.alloc_rules.specs.Stocks.{shard_at, cache_at, in_slab, in_caches, sto
 use Rattle.alloc_rules.specs.Scripts.{IsIn, is_under_way}
 use Rattle.alloc_rules.specs.Valid.{limits_in, IsValid}
 use Rattle.alloc_rules.specs.Law.{calls, setup_of}
-use Rattle.alloc_rules.proofs.Inputs.{sum-same, sum-map, in_scripts, both_in, valid_once, valid_planned}
+use Rattle.alloc_rules.proofs.Inputs.{sum-same, in_scripts, both_in, valid_once, valid_planned}
 use Rattle.alloc_rules.proofs.Serving.{ArePlaced, AreSeated, IsAtWork, IsServed}
 
 -- The first act of a script: with the calls behind it, it allocates and frees the script's labels; it holds nothing, and stands at no CPU.
@@ -121,32 +122,32 @@ inside_first rows thread cpu script domains names =
 
 -- Its shape.
 module _ (m : Limits) (t : ℕ) (thread : ThreadNo) (cpu : CpuNo) (domains : ℕ) (own : thread.0 ≡ t) (rows : AreRows m.rows) (home : cpu.0 < m.cpus) where
-  abbrev at_first : Step → Regs → Option MoveTo → List Planned → Local
-  at_first next regs moved rest = record (idle_local thread cpu domains) { step = next; regs = regs; moved = moved; rest = rest }
+  abbrev at_first : List ℕ → Step → Regs → Option MoveTo → List Planned → Local
+  at_first lines next regs moved rest = record (idle_local thread cpu domains) { step = next; regs = regs; moved = moved; rest = rest; lines = lines }
 
   abbrev regs_with : Class → Regs
   regs_with k = record (first_regs thread) { class = k }
 
-  shape_by : (next : Step) (k : Class) (moved : Option MoveTo) (rest : List Planned) → k.0 < length m.rows → IsMove m moved → All (IsPlanned m) rest → (HasNone (at_first next (regs_with k) moved rest) → StepShape m (at_first next (regs_with k) moved rest) next) → IsShaped m t (at_first next (regs_with k) moved rest)
-  shape_by next k moved rest low move planned shape =
+  shape_by : (lines : List ℕ) (next : Step) (k : Class) (moved : Option MoveTo) (rest : List Planned) → k.0 < length m.rows → IsMove m moved → All (IsPlanned m) rest → (HasNone (at_first lines next (regs_with k) moved rest) → StepShape m (at_first lines next (regs_with k) moved rest) next) → IsShaped m t (at_first lines next (regs_with k) moved rest)
+  shape_by lines next k moved rest low move planned shape =
       record { thread = own; class = low; home = home; hand = omega arith; loaded = omega arith; freed = omega arith; ran = omega arith; move = move; rest = planned; step = shape (record { begin = record { pc = refl; nothing = refl }; hand = refl; freed = refl }) }
 
-  shape_malloc : (label : Label) (size : ℕ) (o : Option Class) (moved : Option MoveTo) (rest : List Planned) → class_of m.rows size ≡ o → IsMove m moved → All (IsPlanned m) rest → IsShaped m t (at_first (first_of_malloc o label size) (record (regs_of_malloc o (first_regs thread)) { ran = 0 }) moved rest)
-  shape_malloc label size None moved rest of move planned = shape_by (first_of_malloc None label size) (class_number 0) moved rest rows.some move planned (λ n. (n, of))
-  shape_malloc label size (Some k) moved rest of move planned = shape_by (first_of_malloc (Some k) label size) k moved rest (class_low m.rows size k of) move planned (λ n. (record { seq = refl; freed = refl }, refl, of))
+  shape_malloc : (lines : List ℕ) (label : Label) (size : ℕ) (o : Option Class) (moved : Option MoveTo) (rest : List Planned) → class_of m.rows size ≡ o → IsMove m moved → All (IsPlanned m) rest → IsShaped m t (at_first lines (first_of_malloc o label size) (record (regs_of_malloc o (first_regs thread)) { ran = 0 }) moved rest)
+  shape_malloc lines label size None moved rest of move planned = shape_by lines (first_of_malloc None label size) (class_number 0) moved rest rows.some move planned (λ n. (n, of))
+  shape_malloc lines label size (Some k) moved rest of move planned = shape_by lines (first_of_malloc (Some k) label size) k moved rest (class_low m.rows size k of) move planned (λ n. (record { seq = refl; freed = refl }, refl, of))
 
-  shape_call : (call : Call) (moved : Option MoveTo) (rest : List Planned) → IsCallThere m call → IsMove m moved → All (IsPlanned m) rest → IsShaped m t (at_first (first_of_call m.rows call) (fresh_regs m.rows call (first_regs thread)) moved rest)
-  shape_call (Malloc label size) moved rest there move planned = shape_malloc label size (class_of m.rows size) moved rest refl move planned
-  shape_call (Free label) moved rest there move planned = shape_by (first_of_call m.rows (Free label)) (class_number 0) moved rest rows.some move planned (λ n. n)
-  shape_call (Release pages) moved rest there move planned = shape_by (first_of_call m.rows (Release pages)) (class_number 0) moved rest rows.some move planned (λ n. n)
-  shape_call (Drain c) moved rest there move planned = shape_by (first_of_call m.rows (Drain c)) (class_number 0) moved rest rows.some move planned (λ n. (n, (there, omega arith)))
-  shape_call (Resize c class cap) moved rest there move planned = shape_by (first_of_call m.rows (Resize c class cap)) class moved rest there.1 move planned (λ n. (n, (there.0, refl)))
+  shape_call : (lines : List ℕ) (call : Call) (moved : Option MoveTo) (rest : List Planned) → IsCallThere m call → IsMove m moved → All (IsPlanned m) rest → IsShaped m t (at_first lines (first_of_call m.rows call) (fresh_regs m.rows call (first_regs thread)) moved rest)
+  shape_call lines (Malloc label size) moved rest there move planned = shape_malloc lines label size (class_of m.rows size) moved rest refl move planned
+  shape_call lines (Free label) moved rest there move planned = shape_by lines (first_of_call m.rows (Free label)) (class_number 0) moved rest rows.some move planned (λ n. n)
+  shape_call lines (Release pages) moved rest there move planned = shape_by lines (first_of_call m.rows (Release pages)) (class_number 0) moved rest rows.some move planned (λ n. n)
+  shape_call lines (Drain c) moved rest there move planned = shape_by lines (first_of_call m.rows (Drain c)) (class_number 0) moved rest rows.some move planned (λ n. (n, (there, omega arith)))
+  shape_call lines (Resize c class cap) moved rest there move planned = shape_by lines (first_of_call m.rows (Resize c class cap)) class moved rest there.1 move planned (λ n. (n, (there.0, refl)))
 
   pub shaped_first : (script : List Planned) → All (IsPlanned m) script → IsShaped m t (first_local m.rows thread cpu script domains)
-  shaped_first [] planned = shape_by does.Ended (class_number 0) None [] rows.some tt planned (λ n. n)
+  shaped_first [] planned = shape_by [] does.Ended (class_number 0) None [] rows.some tt planned (λ n. n)
   shaped_first (p ∷ ps) planned =
       let first : IsPlanned m p = All-head (IsPlanned m) p ps planned in
-      shape_call p.call p.moved ps first.call first.move (All-tail (IsPlanned m) p ps planned)
+      shape_call (lines_of (p ∷ ps)) p.call p.moved ps first.call first.move (All-tail (IsPlanned m) p ps planned)
 
 -- It has nothing.
 hand_malloc : (o : Option Class) (r : Regs) → r.hand.items ≡ [] → (regs_of_malloc o r).hand.items ≡ []
@@ -195,7 +196,7 @@ all_nothing input =
 first_sum : (input : Input) (f : Account → ℕ) (g : List Planned → ℕ) → ((t : ℕ) → f (account_of (first_of input t)) ≡ g (script_of t input.asked.calls)) → sum_by f (map account_of (first_locals input)) ≡ in_scripts g input
 first_sum input f g same =
     let numbers : List ℕ = range_with_len 0 input.asked.config.threads in
-    sum-map account_of f (first_locals input) ∙ (sum-map (first_of input) (λ (l : Local). f (account_of l)) numbers ∙ sum-same (λ t. f (account_of (first_of input t))) (λ t. g (script_of t input.asked.calls)) numbers same)
+    sum_by-map f account_of (first_locals input) ∙ (sum_by-map (λ (l : Local). f (account_of l)) (first_of input) numbers ∙ sum-same (λ t. f (account_of (first_of input t))) (λ t. g (script_of t input.asked.calls)) numbers same)
 
 -- Nothing is stocked.
 no_objects : (room j k n : ℕ) (rows : List ClassRow) → objects_at n (objects_in_spans (shard_at (first_shards room j rows) k)) ≡ 0

@@ -1,5 +1,5 @@
 -- What a valid input gives its threads: each label is allocated once and freed once, by one of them, and each planned call is there.
-use Rattle.std.proofs.Common.{◌≡◌, ℕ, zero, suc, ◌+◌, ◌<◌, ◌≤◌, false, cond, eqb, List, [], ◌∷◌, ◌++◌, map, fold, max, refl, sym, ap, ◌∙◌, subst, arith, inl, inr}
+use Rattle.std.proofs.Common.{◌≡◌, ℕ, zero, suc, ◌+◌, ◌<◌, ◌≤◌, false, cond, eqb, List, [], ◌∷◌, ◌++◌, fold, max, refl, sym, ap, ◌∙◌, subst, arith, inl, inr}
 use Rattle.std.specs.Prelude.{sum_by, All}
 use Rattle.std.specs.List.{range_with_len}
 use Rattle.std.proofs.lemmas.Bool.{cases_eq, eq-eqb, ne_eqb}
@@ -42,10 +42,6 @@ sum-zero f (x ∷ xs) none = omega (arith, none x, sum-zero f xs none, sum_by-co
 pub sum-same : {X : Type 0} (f g : X → ℕ) (xs : List X) → ((x : X) → f x ≡ g x) → sum_by f xs ≡ sum_by g xs
 sum-same f g [] same = refl
 sum-same f g (x ∷ xs) same = omega (arith, same x, sum-same f g xs same, sum_by-cons f x xs, sum_by-cons g x xs)
-
-pub sum-map : {X Y : Type 0} (f : X → Y) (g : Y → ℕ) (xs : List X) → sum_by g (map f xs) ≡ sum_by (λ x. g (f x)) xs
-sum-map f g [] = refl
-sum-map f g (x ∷ xs) = omega (arith, sum-map f g xs, sum_by-cons g (f x) (map f xs), sum_by-cons (λ y. g (f y)) x xs)
 
 -- a number of scripts that adds up over their calls
 module _ (f : List Planned → ℕ) (w : Planned → ℕ) (nothing : f [] ≡ 0) (adds : (p : Planned) (ps : List Planned) → f (p ∷ ps) ≡ w p + f ps) where

@@ -12,5 +12,5 @@ in_every_order input valid =
       never_waits = never_waits served_order sound input valid;
       rises = rises input;
       ends = ends served_order input valid;
-      holds = λ order of. holds_after input valid order (served_order input valid order of);
+      holds = λ order of. holds_after input valid order of.few (served_order input valid order of);
     }

@@ -29,6 +29,8 @@ pub mod Reached
 pub mod Inputs
 pub mod First
 pub mod Runs
+pub mod Entering
+pub mod Switching
 pub mod SerialGoes
 pub mod SerialLaws
 pub mod Laws

@@ -43,7 +43,7 @@ module _ (input : Input) (valid : IsValid input) (w : World Part Local) (order :
       subst (λ (x : Part). IsServed input (with_pair w place.0 t (after input.rows x l)) (order ++ t ∷ [])) same
       (subst (λ (v : World Part Local). IsServed input (with_pair v place.0 t (after input.rows found.part l)) (order ++ t ∷ [])) (sym good.is) next)
 
-served_kept : (input : Input) → IsValid input → IsKeptWith MOST_PICKS (rules input) (IsServed input)
+pub served_kept : (input : Input) → IsValid input → IsKeptWith MOST_PICKS (rules input) (IsServed input)
 served_kept input valid w order t l place q few good local want there goes = goes_on input valid w order (omega (arith, few)) good t l local place want q there goes
 
 -- after every order of picks that move

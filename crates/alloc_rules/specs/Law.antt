@@ -8,7 +8,8 @@ use Rattle.tc_model.specs.declared.answers.CallLine.{CallLine}
 use Rattle.tc_model.specs.Blocks.{IsBlockRun, live_bytes}
 use Rattle.tc_model.specs.declared.calls.Planned.{Planned}
 use Rattle.tc_model.specs.Input.{Input, script_of, labels_of}
-use Rattle.tc_model.specs.Run.{world_of, run}
+use Rattle.tc_model.specs.Run.{world_of, start, run}
+use Rattle.tc_model.specs.Chains.{IsPolite}
 use Rattle.tc_model.specs.Sound.{IsOrder, IsSound}
 use Rattle.tc_model.specs.Calls.{picks_of, calls_of, AreRising}
 use Rattle.tc_model.specs.Serial.{AreThreads, NeverWaits, Rises, Ends}
@@ -32,6 +33,7 @@ use Rattle.alloc_rules.specs.Fits.{Fits}
 use Rattle.alloc_rules.specs.Accounts.{account_of}
 use Rattle.alloc_rules.specs.Stocks.{stock_of, IsShardOf}
 use Rattle.alloc_rules.specs.Valid.{IsValid}
+use Rattle.alloc_rules.specs.Switches.{SwitchesAreFew}
 
 -- the calls of a run: those that the picks of an order decided, in their order
 abbrev pub calls : List Local → List ℕ → List CallLine
@@ -94,6 +96,8 @@ pub record HoldsAfter (input : Input) (order : List ℕ) : Type 0 where
   -- where it is current its registers agree with the slab, and behind a fence it is at rest; a stopper's call stands there
   pub cpus : All (CpuOk (length input.rows)) parts.cpus
   pub seats : (i t : ℕ) (p : CpuPart) (l : Local) → slice_get parts.cpus i ≡ Some p → slice_get locals t ≡ Some l → SeatOk i (record { 0 = t }) p (seat_of l)
+  -- where each pick was polite, at each CPU the acts In are at most one more than the exits, commits and acts Grow, Leave and Back
+  pub switches : IsPolite (rules input) (start (rules input)) order → SwitchesAreFew (rules input) order
 
 -- The laws of the rules of an input: every pair that a pick takes fits; in every run the thread of the earliest call that
 -- hasn't ended moves, and where each call has ended each script has; no pick lowers a number of ended calls; and all that

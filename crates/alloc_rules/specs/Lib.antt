@@ -4,5 +4,6 @@ pub mod Accounts
 pub mod Stocks
 pub mod Acts
 pub mod Valid
+pub mod Switches
 pub mod Law
 pub mod Scripts

@@ -5,6 +5,7 @@ ghost use Rattle.tc_model.specs.Run.{start};
 ghost use Rattle.tc_model.specs.Chains.{IsPolite};
 ghost use Rattle.replay_workers.specs.Runs.{IsReady};
 ghost use Rattle.alloc_rules.specs.Machine as allocator;
+ghost use Rattle.alloc_rules.specs.Switches.{SwitchesAreFew};
 
 use crate::board::WorldBoard;
 use crate::named::Named;
@@ -66,6 +67,7 @@ fn run_in<N: Named + Send + Sync, R: Threads + Wait + Sync, G: Gate + Sync>(
     requires start { state.order ≡ [] }
     ensures input { IfOk result (λ left. left.state.input ≡ N.input) }
     ensures polite { IfOk result (λ left. IsPolite (allocator.rules N.input) (start (allocator.rules N.input)) left.state.order) }
+    ensures switches { IfOk result (λ left. SwitchesAreFew (allocator.rules N.input) left.state.order) }
 {
     let threads = state.threads();
     let board = WorldBoard::<N>::new(World::new(state));
@@ -77,8 +79,8 @@ fn run_in<N: Named + Send + Sync, R: Threads + Wait + Sync, G: Gate + Sync>(
 }
 
 /// Runs a state from its start, a thread for each of its threads, until each script has ended or a worker
-/// was halted. The state that is left is of the same input, and each pick of its order moved and was
-/// polite.
+/// was halted. The state that is left is of the same input, each pick of its order moved and was polite,
+/// and at each CPU few threads switched in.
 pub fn run_all<R: Threads + Wait + Sync, G: Gate + Sync>(
     rt: &R,
     alloc: Global,
@@ -88,6 +90,7 @@ pub fn run_all<R: Threads + Wait + Sync, G: Gate + Sync>(
     requires start { state.order ≡ [] }
     ensures input { IfOk result (λ left. left.state.input ≡ state.input) }
     ensures polite { IfOk result (λ left. IsPolite (allocator.rules state.input) (start (allocator.rules state.input)) left.state.order) }
+    ensures switches { IfOk result (λ left. SwitchesAreFew (allocator.rules state.input) left.state.order) }
 {
     run_in::<Brand, R, G>(rt, alloc, gate, state)
 }

@@ -5,6 +5,7 @@ ghost use Rattle.tc_model.specs.Run.{start, run};
 ghost use Rattle.tc_model.specs.Chains.{IsPolite};
 ghost use Rattle.tc_model.specs.Replays.{is_polite, done_in};
 ghost use Rattle.alloc_rules.specs.Machine as allocator;
+ghost use Rattle.alloc_rules.specs.Switches.{SwitchesAreFew};
 ghost use Rattle.world_lock.specs.Stepping.{IsTurnAt, order_after, halt_after, halt_of, turn_of};
 
 use crate::named::Named;
@@ -110,17 +111,21 @@ impl<N: Named> World<N> {
         self.state.done(thread)
     }
 
-    /// The state, without the lock's rest. Each pick of its order moved, and was polite.
+    /// The state, without the lock's rest. Each pick of its order moved, and was polite. So at each CPU the
+    /// acts In are at most one more than the exits, commits and acts Grow, Leave and Back: threads that only
+    /// switch in can't use up the picks that may move.
     pub fn into_state(self) -> State
         ensures input { result.input ≡ N.input }
         ensures order { result.order ≡ self.order }
         ensures polite { IsPolite (allocator.rules N.input) (start (allocator.rules N.input)) result.order }
+        ensures switches { SwitchesAreFew (allocator.rules N.input) result.order }
     {
         let World {
             state,
             halt: _,
             of: _,
         } = self;
+        let _order = state.order();
         state
     }
 }

@@ -1,4 +1,4 @@
-use Rattle.std.proofs.Common.{◌≡◌, ◌↔◌, Bool, true, false, refl, sym, ◌∙◌, subst}
+use Rattle.std.proofs.Common.{◌≡◌, ◌↔◌, true, false, refl, sym, ◌∙◌, subst}
 use Rattle.std.specs.Option.{IfNone}
 use Rattle.tc_model.specs.Input.{Input}
 use Rattle.tc_model.specs.Run.{run}
