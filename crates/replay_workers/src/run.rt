@@ -6,7 +6,8 @@ use crate::worker::Worker;
 use std::alloc::Global;
 use std::sync::Wait;
 use std::thread;
-use std::thread::Threads;
+use std::thread::{Parker, Threads};
+use std::time::Duration;
 use tc_model::{Board, Turn};
 use tc_ports::Gate;
 
@@ -16,6 +17,15 @@ const PATIENCE: u64 = 1_000_000;
 /// How often a worker leaves the processor to others, at most, between two turns of which the first moved
 /// nothing (this project's own rule).
 const MOST_YIELDS: u64 = 8;
+
+/// After so many turns in a row that moved nothing a worker sleeps between two of them, up to the last
+/// number (this project's own rule).
+const FIRST_NAP: u64 = 8;
+
+const LAST_NAP: u64 = 10_000;
+
+/// How long it sleeps, in microseconds (this project's own rule).
+const NAP: u64 = 100;
 
 /// Passes the gate and takes one turn.
 fn turn_once<R: Wait, B: Board, G: Gate>(
@@ -39,9 +49,14 @@ fn turn_once<R: Wait, B: Board, G: Gate>(
     worker.turns = worker.turns.saturating_add(1);
 }
 
-/// Leaves the processor to other threads, more often the longer nothing moved: what this worker waits for is
-/// theirs to do, under the same locks.
-fn give_way(idle: u64) {
+/// Leaves the processor to other threads, for longer the longer nothing moved: what this worker waits for is
+/// theirs to do, under the same locks. It sleeps, since yields of many that wait take the time of those that
+/// work.
+fn give_way<R: Wait>(rt: &R, idle: u64) {
+    if FIRST_NAP <= idle && idle < LAST_NAP {
+        Parker::new().park_timeout(rt, Duration::from_micros(NAP));
+        return;
+    }
     for _ in 0..idle.min(MOST_YIELDS) {
         thread::yield_now();
     }
@@ -75,7 +90,7 @@ fn run_alone<R: Wait, B: Board, G: Gate>(
             idle = 0;
         } else {
             idle += 1;
-            give_way(idle);
+            give_way(rt, idle);
         }
     }
     unreachable!()
