@@ -1,16 +1,22 @@
 -- Where the ends tell what they have, what a replay comes to is the verdict on that.
-use Rattle.std.proofs.Common.{◌≡◌, ◌⊎◌, ℕ, Bool, true, false, List, Option, Some, None, Result, Ok, Err, refl, sym, ap, subst, ◌∙◌, inl, inr}
+use Rattle.std.proofs.Common.{◌≡◌, ◌⊎◌, ℕ, Bool, true, false, List, Option, Some, None, Result, Ok, Err, refl, sym, ap, subst, ◌∙◌, inl, inr, arith}
 use Rattle.std.specs.Prelude.{IfSome, ◌↔◌}
 use Rattle.std.specs.FinMap.{get}
 use Rattle.tc_ports.specs.Shelves.{Files}
+use Rattle.tcreplay.specs.declared.run.Telling.{Telling}
+use Rattle.tcreplay.specs.declared.run.Telling.TheVariants.{Whole}
 use Rattle.tcreplay.specs.declared.outcome.End.{End}
-use Rattle.tcreplay.specs.declared.outcome.End.TheVariants.{Usage, ReadFault, Memory, FileFault}
-use Rattle.tcreplay.specs.Words.{Replay, file_of}
+use Rattle.tcreplay.specs.declared.outcome.End.TheVariants.{Done, Usage, ReadFault, WriteFault, Memory, FileFault}
+use Rattle.tcreplay.specs.Tasks.{Replay, Workload, Task, ToReplay, ToGenerate, file_of}
 use Rattle.alloc_rules.specs.Machine.{rules}
 use Rattle.tc_model.specs.Run.{run}
 use Rattle.tcreplay.specs.Verdict.{Given, Job, and_then, rows_in, asked_in, picks_or, job_with, job_of, run_verdict, have_ended, order_of_job, Verdict}
-use Rattle.tcreplay.specs.Reads.{Reading, Shelving, HaveCome, AreGiven, CutOff}
-use Rattle.tcreplay.specs.Replayed.{Writing, Ends, IsWritten, HasTried, IsAnswered, IsOutcome, SomeRose, IsComplete, order_file, given_by, verdict_on}
+use Rattle.tc_ports.specs.Faults.{Rose}
+use Rattle.tcreplay.specs.Reads.{Reading, Shelving, IsFile, HaveCome, AreGiven, CutOff}
+use Rattle.tcreplay.specs.Writes.{Writing, Ends, IsWritten, IsNoted}
+use Rattle.tcreplay.specs.Generating.{trace_of, load_verdict, AreWritten, IsLoadEnd, HasGenerated}
+use Rattle.tcreplay.specs.Replayed.{HasTried, verdict_on}
+use Rattle.tcreplay.specs.Outcomes.{IsAnswered, IsOutcome, SomeRose, SomeLoadRose, IsComplete, order_file, given_by}
 use Rattle.tcreplay.proofs.EndFacts.{FailsJob, job_fails}
 use Rattle.tcreplay.proofs.RunFacts.{verdict_if}
 
@@ -42,11 +48,11 @@ cut_by replay given before after end cut = absurd cut
 told_in : (replay : Replay) (given : Given) (before : Ends) (all : Files) (text : List ℕ) → before.files.files ≡ Some all → before.trace.left ≡ Some text → AreGiven replay before.files.files before.trace.left given → AreGiven replay (Some all) (Some text) given
 told_in replay given before all text files left told = subst (λ l. AreGiven replay (Some all) l given) left (subst (λ s. AreGiven replay s before.trace.left given) files told)
 
-complete_tried : (replay : Replay) (before after : Ends) (end : End) (order : List ℕ) → HasTried replay before.trace after.trace before.files after.files before.out after.out end order → IsComplete (Some replay) before after end order
+complete_tried : (replay : Replay) (before after : Ends) (end : End) (order : List ℕ) → HasTried replay before.trace after.trace before.files after.files before.out after.out end order → IsComplete (Some (ToReplay replay)) before after end order
 complete_tried replay before after end order tried all text files left =
     let told = told_in replay tried.given before all text files left tried.told in
     let job = job_same replay tried.given all text told in
-    let same : verdict_on replay tried.given ≡ verdict_on replay (given_by replay all text tried.given.came) = ap (run_verdict replay.rows) job in
+    let same : verdict_on replay tried.given ≡ verdict_on replay (given_by replay all text tried.given.came) = ap (run_verdict (Whole replay.rows)) job in
     elim tried.answer [
       | inl is ↦ inl (record {
         came = tried.given.came;
@@ -70,13 +76,13 @@ not_usage = record {
   order = λ _ _. refl;
 }
 
-run_usage : (told : Bool) (replay : Replay) (given : Given) (r : Result Job End) → job_of replay given ≡ r → is_usage (run_verdict told r).end ≡ false
-run_usage told replay given (Err end) is = job_fails is_usage replay given end not_usage is
-run_usage told replay given (Ok job) is = by_end (have_ended (rules job.input) (run (rules job.input) (order_of_job job))) told job
+run_usage : (telling : Telling) (replay : Replay) (given : Given) (r : Result Job End) → job_of replay given ≡ r → is_usage (run_verdict telling r).end ≡ false
+run_usage telling replay given (Err end) is = job_fails is_usage replay given end not_usage is
+run_usage telling replay given (Ok job) is = by_end (have_ended (rules job.input) (run (rules job.input) (order_of_job job))) telling job
   where
-    by_end : (ended told : Bool) (job : Job) → is_usage (verdict_if ended told job.input (order_of_job job)).end ≡ false
-    by_end true told job = refl
-    by_end false told job = refl
+    by_end : (ended : Bool) (telling : Telling) (job : Job) → is_usage (verdict_if ended telling job.input (order_of_job job)).end ≡ false
+    by_end true telling job = refl
+    by_end false telling job = refl
 
 cut_usage : (replay : Replay) (given : Given) (t u : Reading) (f g : Shelving) (end : End) → CutOff replay given t u f g end → is_usage end ≡ false
 cut_usage replay given t u f g Usage cut = absurd cut
@@ -84,23 +90,61 @@ cut_usage replay given t u f g end cut = refl
 
 tried_usage : (replay : Replay) (t u : Reading) (f g : Shelving) (before after : Writing) (end : End) (order : List ℕ) → HasTried replay t u f g before after end order → is_usage end ≡ false
 tried_usage replay t u f g before after end order tried = elim tried.answer [
-  | inl is ↦ ap is_usage is.0 ∙ run_usage replay.rows replay tried.given (job_of replay tried.given) refl
+  | inl is ↦ ap is_usage is.0 ∙ run_usage (Whole replay.rows) replay tried.given (job_of replay tried.given) refl
   | inr (inl cut) ↦ cut_usage replay tried.given t u f g end cut.1
   | inr (inr failed) ↦ ap is_usage failed.0
 ]
 
--- the clauses of the top call, by whether the words ask for a replay
-usage_by : (asked : Option Replay) (before after : Ends) (end : End) (order : List ℕ) → IsAnswered asked before.trace after.trace before.files after.files before.out after.out end order → (end ≡ Usage) ↔ (asked ≡ None)
+-- a count that rose, and then stood still or rose again
+rose_on : (old mid new : ℕ) → Rose old mid → (new ≡ mid) ⊎ Rose mid new → Rose old new
+rose_on old mid new rose (inl same) = subst (Rose old) (sym same) rose
+rose_on old mid new rose (inr again) = let a = rose.0 in let b = again.0 in (omega (arith, a, b), λ room. let c = again.1 room in let d = rose.1 (omega (arith, c, room)) in omega (arith, c, d))
+
+noted_count : (end : End) (before after : Writing) → IsNoted end before after → (after.faults ≡ before.faults) ⊎ Rose before.faults after.faults
+noted_count Done before after same = inl (ap (λ (w : Writing). w.faults) same)
+noted_count end before after (inl whole) = inl whole.count
+noted_count end before after (inr part) = inr part.rose
+
+-- a trace was generated
+load_told : (load : Workload) (all : Files) (files : Option Files) (table : Option (List ℕ)) → files ≡ Some all → IsFile files load.classes table → table ≡ get all load.classes
+load_told load all files table told is = subst (λ s. IsFile s load.classes table) told is
+
+write_rose : (load : Workload) (trace summary : List ℕ) (before after : Ends) (noted : Writing) → AreWritten WriteFault trace summary before.out after.out before.notes noted → (after.notes.faults ≡ noted.faults) ⊎ Rose noted.faults after.notes.faults → SomeLoadRose before after
+write_rose load trace summary before after noted (inl part) count = inr (inl part.0.rose)
+write_rose load trace summary before after noted (inr part) count = inr (inr (rose_on before.notes.faults noted.faults after.notes.faults part.1.rose count))
+
+complete_generated : (load : Workload) (before after : Ends) (noted : Writing) (end : End) (order : List ℕ) → HasGenerated load before (record after { notes = noted }) end order → IsNoted end noted after.notes → IsComplete (Some (ToGenerate load)) before after end order
+complete_generated load before after noted end order generated told all files =
+    let table = load_told load all before.files.files generated.table files generated.told in
+    elim generated.answer [
+      | inl is ↦ inl (record {
+        end_is = is.0 ∙ ap (λ t. (load_verdict load t).end) table;
+        order_is = is.1 ∙ ap (λ t. (load_verdict load t).order) table;
+      })
+      | inr (inl (none, inl memory)) ↦ inr (inl memory)
+      | inr (inl (none, inr failed)) ↦ inr (inr (inl failed.1))
+      | inr (inr failed) ↦ inr (inr (write_rose load (trace_of load) (load_verdict load generated.table).text before after noted (subst (λ e. AreWritten e (trace_of load) (load_verdict load generated.table).text before.out after.out before.notes noted) failed.0 generated.written) (noted_count end noted after.notes told)))
+    ]
+
+generated_usage : (end : End) → IsLoadEnd end → is_usage end ≡ false
+generated_usage Usage is = absurd is
+generated_usage end is = refl
+
+-- the clauses of the top call, by what the words ask for
+pub usage_by : (asked : Option Task) (before after : Ends) (end : End) (order : List ℕ) → IsAnswered asked before after end order → (end ≡ Usage) ↔ (asked ≡ None)
 usage_by None before after end order refused = (λ _. refl, λ _. refused.usage)
-usage_by (Some replay) before after end order tried =
-    (λ usage. absurd (let e : true ≡ false = sym (ap is_usage usage) ∙ tried_usage replay before.trace after.trace before.files after.files before.out after.out end order tried in cc), λ none. absurd (cc))
+usage_by (Some (ToReplay replay)) before after end order tried =
+    (λ usage. absurd (let e : true ≡ false = sym (ap is_usage usage) ∙ tried_usage replay before.trace after.trace before.files after.files before.out after.out end order tried.0 in cc), λ none. absurd (cc))
+usage_by (Some (ToGenerate load)) before after end order generated =
+    (λ usage. absurd (let e : true ≡ false = sym (ap is_usage usage) ∙ generated_usage end generated.ends in cc), λ none. absurd (cc))
 
-pub usage_is : (asked : Option Replay) (before after : Ends) (end : End) (order : List ℕ) → IsOutcome asked before after end order → (end ≡ Usage) ↔ (asked ≡ None)
-usage_is asked before after end order outcome = usage_by asked before after end order outcome.answered
+pub usage_is : (asked : Option Task) (before after : Ends) (end : End) (order : List ℕ) → IsOutcome asked before after end order → (end ≡ Usage) ↔ (asked ≡ None)
+usage_is asked before after end order outcome = usage_by asked before (record after { notes = outcome.noted }) end order outcome.answered
 
-complete_by : (asked : Option Replay) (before after : Ends) (end : End) (order : List ℕ) → IsAnswered asked before.trace after.trace before.files after.files before.out after.out end order → IsComplete asked before after end order
-complete_by None before after end order refused = refused.usage
-complete_by (Some replay) before after end order tried = complete_tried replay before after end order tried
+complete_by : (asked : Option Task) (before after : Ends) (noted : Writing) (end : End) (order : List ℕ) → IsAnswered asked before (record after { notes = noted }) end order → IsNoted end noted after.notes → IsComplete asked before after end order
+complete_by None before after noted end order refused told = refused.usage
+complete_by (Some (ToReplay replay)) before after noted end order tried told = complete_tried replay before after end order tried.0
+complete_by (Some (ToGenerate load)) before after noted end order generated told = complete_generated load before after noted end order generated told
 
-pub complete_is : (asked : Option Replay) (before after : Ends) (end : End) (order : List ℕ) → IsOutcome asked before after end order → IsComplete asked before after end order
-complete_is asked before after end order outcome = complete_by asked before after end order outcome.answered
+pub complete_is : (asked : Option Task) (before after : Ends) (end : End) (order : List ℕ) → IsOutcome asked before after end order → IsComplete asked before after end order
+complete_is asked before after end order outcome = complete_by asked before after outcome.noted end order outcome.answered outcome.notes

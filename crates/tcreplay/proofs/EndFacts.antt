@@ -12,7 +12,7 @@ use Rattle.trace_reader.specs.Reading.{asked_by}
 use Rattle.trace_reader.specs.Orders.{picks_by}
 use Rattle.tcreplay.specs.declared.outcome.End.{End}
 use Rattle.tcreplay.specs.declared.outcome.End.TheVariants.{BadTable, BadTrace, Memory, TooLong, BadOrder, FileFault}
-use Rattle.tcreplay.specs.Words.{Replay, file_of}
+use Rattle.tcreplay.specs.Tasks.{Replay, file_of}
 use Rattle.tcreplay.specs.Verdict.{Given, and_then, or_end, within, file_within, table_limit, trace_limit, table_end, trace_end, order_end, rows_in, asked_of_text, asked_in, picks_or, job_with, job_of}
 
 -- a test that no end of the reading passes

@@ -12,7 +12,7 @@ use Rattle.tc_machine.specs.Inputs.{asked_of}
 use Rattle.tcreplay.specs.declared.outcome.End.{End}
 use Rattle.tcreplay.specs.declared.outcome.End.TheVariants.{Done, ReadFault, FileFault}
 use Rattle.tcreplay.specs.declared.input.Job.{Job}
-use Rattle.tcreplay.specs.Words.{Replay, Schedule, InTurn, ByFile, ByThreads, file_of}
+use Rattle.tcreplay.specs.Tasks.{Replay, Schedule, InTurn, ByFile, ByThreads, file_of}
 use Rattle.tcreplay.specs.Verdict as verdict
 use Rattle.tcreplay.specs.Verdict.{Given, and_then, or_end, within, file_within, table_limit, trace_limit, table_end, rows_in, asked_in, picks_in, picks_or, job_with, job_of}
 use Rattle.tcreplay.specs.Reads.{Reading, Shelving, IsFile, IsStep, IsLoad, ArePicks, IsTraceRead, HaveCome, CutOff, HasRead, IsJobOf, IsJobRead, asked_by, order_loads, is_behind_trace}
@@ -217,8 +217,8 @@ picks_fail replay None t u f g h rows trace end named load read are = absurd are
 picks_fail replay (Some name) t u f g h rows trace end named load read are = order_stops replay name t u f g h rows trace end named load read are
 
 -- what a step that ended the work hands on
-handed_on : (result : Result Job End) (end : End) → IsErrAnd result (λ e. e ≡ end) → result ≡ Err end
-handed_on (Ok job) end is = absurd is
+pub handed_on : {A : Type 0} (result : Result A End) (end : End) → IsErrAnd result (λ e. e ≡ end) → result ≡ Err end
+handed_on (Ok given) end is = absurd is
 handed_on (Err e) end is = ap Err is
 
 pub table_err : (replay : Replay) (t : Reading) (f g : Shelving) (end : End) (result : Result Job End) → IsErrAnd result (λ e. e ≡ end) → IsLoad (λ (rows : List ClassRow). rows) rows_in replay.classes f g (Err end) → IsJobRead replay t t f g result

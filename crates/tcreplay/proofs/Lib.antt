@@ -4,10 +4,13 @@ pub mod LoadFacts
 pub mod TraceFacts
 pub mod JobFacts
 pub mod OptionFacts
+pub mod WorkloadFacts
 pub mod RunFacts
 pub mod AskedFacts
 pub mod NoteFacts
 pub mod EndFacts
+pub mod RanFacts
 pub mod TriedFacts
+pub mod GenerateFacts
 pub mod CompleteFacts
 pub mod WorkerFacts

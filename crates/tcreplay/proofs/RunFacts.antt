@@ -17,9 +17,10 @@ use Rattle.alloc_rules.specs.Machine.{rules, turns}
 use Rattle.tc_machine.specs.Finish.{finished_in}
 use Rattle.tcreplay.specs.declared.outcome.End.TheVariants.{Done, Full}
 use Rattle.tcreplay.specs.declared.run.Ran.{Ran}
-use Rattle.tcreplay.specs.Verdict.{Job, Verdict, have_ended, judged, order_of_job, text_with}
+use Rattle.tcreplay.specs.declared.run.Telling.{Telling}
+use Rattle.tcreplay.specs.Verdict.{Job, Verdict, have_ended, judged, order_of_job, told_by}
 use Rattle.tcreplay.specs.Reads.{IsMadeOf}
-use Rattle.tcreplay.specs.Replayed.{IsFilled}
+use Rattle.tcreplay.specs.Lawful.{IsFilled}
 use Rattle.tcreplay.specs.Ran.{IsRan}
 use Rattle.tcreplay.proofs.Ended.{ended_true, not_ended}
 
@@ -31,51 +32,51 @@ pub whole_is : (job : Job) (input : Input) (order picks : List ℕ) → input �
 whole_is job input order picks same none given = ap (λ i. whole i order picks) same ∙ (ap (λ o. whole job.input o picks) none ∙ ap (whole job.input []) given)
 
 -- the verdict on an order of a run that has ended, and of one that stands at the limit
-abbrev pub at_end : Bool → Input → List ℕ → Verdict
-at_end told input order = record { end = Done; order = order; text = text_with told (finished_in input order) }
+abbrev pub at_end : Telling → Input → List ℕ → Verdict
+at_end telling input order = record { end = Done; order = order; text = told_by telling (finished_in input order) }
 
 abbrev pub at_limit : Input → List ℕ → Verdict
 at_limit input order = record { end = Full input.asked.config.events; order = order; text = [] }
 
 -- the verdict on an order answers with that order, and is `Done` only where the run has ended
-abbrev pub verdict_if : Bool → Bool → Input → List ℕ → Verdict
-verdict_if ended told input order = cond ended (at_end told input order) (at_limit input order)
+abbrev pub verdict_if : Bool → Telling → Input → List ℕ → Verdict
+verdict_if ended telling input order = cond ended (at_end telling input order) (at_limit input order)
 
-pub its_order : (ended told : Bool) (input : Input) (order : List ℕ) → (verdict_if ended told input order).order ≡ order
-its_order true told input order = refl
-its_order false told input order = refl
+pub its_order : (ended : Bool) (telling : Telling) (input : Input) (order : List ℕ) → (verdict_if ended telling input order).order ≡ order
+its_order true telling input order = refl
+its_order false telling input order = refl
 
-pub its_end : (ended told : Bool) (input : Input) (order : List ℕ) → (verdict_if ended told input order).end ≡ Done → ended ≡ true
-its_end true told input order done = refl
-its_end false told input order done = absurd (cc)
+pub its_end : (ended : Bool) (telling : Telling) (input : Input) (order : List ℕ) → (verdict_if ended telling input order).end ≡ Done → ended ≡ true
+its_end true telling input order done = refl
+its_end false telling input order done = absurd (cc)
 
 -- the verdict on a run that has ended, and on one that stands at the limit
-pub told_done : (told : Bool) (input : Input) (order items text : List ℕ) (f : Finished) → HaveEnded (rules input) (run (rules input) order) → f ≡ finished_in input order → items ≡ order → text ≡ text_with told f → record { end = Done; order = items; text = text } ≡ judged told input order
-told_done told input order items text f ended finished given printed =
+pub told_done : (telling : Telling) (input : Input) (order items text : List ℕ) (f : Finished) → HaveEnded (rules input) (run (rules input) order) → f ≡ finished_in input order → items ≡ order → text ≡ told_by telling f → record { end = Done; order = items; text = text } ≡ judged telling input order
+told_done telling input order items text f ended finished given printed =
     let done : have_ended (rules input) (run (rules input) order) ≡ true = ended_true (rules input) (run (rules input) order) ended in
-    let words : text ≡ text_with told (finished_in input order) = printed ∙ ap (text_with told) finished in
+    let words : text ≡ told_by telling (finished_in input order) = printed ∙ ap (told_by telling) finished in
     let seen : Verdict = record { end = Done; order = items; text = text } in
-    let here : seen ≡ at_end told input order = ap (λ o. let v : Verdict = record { end = Done; order = o; text = text } in v) given ∙ ap (λ t. let v : Verdict = record { end = Done; order = order; text = t } in v) words in
-    here ∙ sym (ap (λ b. verdict_if b told input order) done)
+    let here : seen ≡ at_end telling input order = ap (λ o. let v : Verdict = record { end = Done; order = o; text = text } in v) given ∙ ap (λ t. let v : Verdict = record { end = Done; order = order; text = t } in v) words in
+    here ∙ sym (ap (λ b. verdict_if b telling input order) done)
 
-pub told_full : (told : Bool) (input : Input) (whole order items text : List ℕ) (ticket : ℕ) → IsAtLimit (rules input) input.asked.config.events whole order ticket → items ≡ order → text ≡ [] → record { end = Full ticket; order = items; text = text } ≡ judged told input order
-told_full told input whole order items text ticket limit given empty =
+pub told_full : (telling : Telling) (input : Input) (whole order items text : List ℕ) (ticket : ℕ) → IsAtLimit (rules input) input.asked.config.events whole order ticket → items ≡ order → text ≡ [] → record { end = Full ticket; order = items; text = text } ≡ judged telling input order
+told_full telling input whole order items text ticket limit given empty =
     let going : have_ended (rules input) (run (rules input) order) ≡ false = not_ended (rules input) (run (rules input) order) limit.thread limit.would_move in
     let seen : Verdict = record { end = Full ticket; order = items; text = text } in
     let here : seen ≡ at_limit input order = ap (λ n. let v : Verdict = record { end = Full n; order = items; text = text } in v) limit.ticket_is ∙ (ap (λ o. let v : Verdict = record { end = Full input.asked.config.events; order = o; text = text } in v) given ∙ ap (λ t. let v : Verdict = record { end = Full input.asked.config.events; order = order; text = t } in v) empty) in
-    here ∙ sym (ap (λ b. verdict_if b told input order) going)
+    here ∙ sym (ap (λ b. verdict_if b telling input order) going)
 
 -- at the limit an order has as many picks as may move
 pub filled_at : (input : Input) (whole order : List ℕ) (ticket : ℕ) → IsAtLimit (rules input) input.asked.config.events whole order ticket → IsFilled input (Full ticket) order
 filled_at input whole order ticket limit = (limit.ticket_is, limit.full ∙ sym limit.ticket_is)
 
 -- what an input's run came to, for what is the same input and order
-pub same_run : (rows : Bool) (input other : Input) (order whole : List ℕ) (ran : Ran) → input ≡ other → order ≡ whole → IsRan rows input order ran → IsRan rows other whole ran
-same_run rows input other order whole ran same is ran_so = subst (λ (o : List ℕ). IsRan rows other o ran) is (subst (λ (i : Input). IsRan rows i order ran) same ran_so)
+pub same_run : (telling : Telling) (input other : Input) (order whole : List ℕ) (ran : Ran) → input ≡ other → order ≡ whole → IsRan telling input order ran → IsRan telling other whole ran
+same_run telling input other order whole ran same is ran_so = subst (λ (o : List ℕ). IsRan telling other o ran) is (subst (λ (i : Input). IsRan telling i order ran) same ran_so)
 
-pub same_result : (rows : Bool) (input other : Input) (order whole : List ℕ) (result : Result Ran AllocError) → input ≡ other → order ≡ whole → IfOk result (IsRan rows input order) → IfOk result (IsRan rows other whole)
-same_result rows input other order whole (Ok ran) same is ran_so = same_run rows input other order whole ran same is ran_so
-same_result rows input other order whole (Err e) same is ran_so = tt
+pub same_result : (telling : Telling) (input other : Input) (order whole : List ℕ) (result : Result Ran AllocError) → input ≡ other → order ≡ whole → IfOk result (IsRan telling input order) → IfOk result (IsRan telling other whole)
+same_result telling input other order whole (Ok ran) same is ran_so = same_run telling input other order whole ran same is ran_so
+same_result telling input other order whole (Err e) same is ran_so = tt
 
 -- picks that are polite and no more than may move are followed one by one
 followed_each : {P L : Type 0} (r : Rules P L) (limit : ℕ) (past picks : List ℕ) → IsPolite r (run r past) picks → length past + length picks ≤ limit → followed r limit past picks ≡ past ++ picks

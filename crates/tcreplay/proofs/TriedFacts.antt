@@ -10,16 +10,20 @@ use Rattle.tcreplay.specs.declared.outcome.End.{End}
 use Rattle.tcreplay.specs.declared.outcome.End.TheVariants.{Done, WriteFault, Memory, Full}
 use Rattle.tcreplay.specs.declared.input.Job.{Job}
 use Rattle.tcreplay.specs.declared.run.Ran.{Ran}
+use Rattle.tcreplay.specs.declared.run.Telling.{Telling}
+use Rattle.tcreplay.specs.declared.run.Telling.TheVariants.{Whole}
 use Rattle.tcreplay.specs.declared.words.Locks.{Locks}
-use Rattle.tcreplay.specs.Words.{Replay, Schedule, InTurn, ByFile, ByThreads, file_of, locks_in}
+use Rattle.tcreplay.specs.Tasks.{Replay, Schedule, InTurn, ByFile, ByThreads, file_of, locks_in}
 use Rattle.tcreplay.specs.Verdict as verdict
 use Rattle.tcreplay.specs.Verdict.{Given, Verdict, and_then, rows_in, asked_in, picks_or, job_with, have_ended, run_verdict, order_of_job, job_of, text_with}
 use Rattle.tcreplay.specs.Reads.{Reading, Shelving, IsMadeOf, HaveCome, AreGiven, HasRead, IsJobRead, CutOff, seen_job}
 use Rattle.tcreplay.specs.Ran.{seen_ran, IsRan, IsRanByThreads}
-use Rattle.tcreplay.specs.Replayed.{Writing, IsWritten, IsRunEnd, IsLastEnd, IsAnswer, is_behind_run, IsLawful, IsCompleted, IsFilled, IsOrderOf, IsHeadline, HasTried, verdict_on}
-use Rattle.tcreplay.proofs.Ended.{ended_from}
+use Rattle.tcreplay.specs.Writes.{Writing, IsWritten, IsRunEnd, IsLastEnd, is_behind_run}
+use Rattle.tcreplay.specs.Lawful.{IsLawful, IsCompleted, IsFilled, IsOrderOf}
+use Rattle.tcreplay.specs.Replayed.{IsAnswer, IsHeadline, HasTried, verdict_on}
 use Rattle.tcreplay.proofs.EndFacts.{FailsJob, job_fails}
-use Rattle.tcreplay.proofs.RunFacts.{verdict_if, its_order, its_end, completed_is}
+use Rattle.tcreplay.proofs.RunFacts.{completed_is}
+use Rattle.tcreplay.proofs.RanFacts.{order_is, lawful, text_is, have_all_ended, its_run}
 
 -- what was read without a refusal was read for any end
 read_for : (replay : Replay) (given : Given) (t u : Reading) (f g : Shelving) (end : End) → HasRead replay given t u f g Done → HasRead replay given t u f g end
@@ -65,7 +69,7 @@ tried_stopped replay t u f g out end order none read =
       | inr cut ↦ cut_early replay read.given t u f g end cut
     ] in
     let answer : IsAnswer replay read.given t u f g end order = elim read.answer [
-      | inl e ↦ inl (sym (ap (λ r. (run_verdict replay.rows r).end) e), none ∙ sym (ap (λ r. (run_verdict replay.rows r).order) e))
+      | inl e ↦ inl (sym (ap (λ r. (run_verdict (Whole replay.rows) r).end) e), none ∙ sym (ap (λ r. (run_verdict (Whole replay.rows) r).order) e))
       | inr cut ↦ inr (inl (none, cut))
     ] in
     record {
@@ -92,60 +96,32 @@ tried_memory replay t u f g out job order none read = record {
   headline = λ done. absurd (cc);
 }
 
--- an end that is `Done` was the run's
-done_before : (ran end : End) → IsLastEnd ran end → end ≡ Done → ran ≡ Done
-done_before ran end (inl same) done = sym same ∙ done
-done_before ran end (inr failed) done = let e : WriteFault ≡ Done = sym failed.0 ∙ done in cc
-
 -- the text of a run that has ended was taken
 took : (end : End) (text : List ℕ) (before after : Writing) → end ≡ Done → IsWritten end text before after → Took before.taken after.taken text
 took end text before after done written = (subst (λ e. IsWritten e text before after) done written).taken
 
 module _ (replay : Replay) (given : Given) (t u : Reading) (f g : Shelving) (before after : Writing) (job : verdict.Job) (ran : Ran) (end : End) (order : List ℕ)
-    (told : AreGiven replay f.files t.left given) (asked : job_of replay given ≡ Ok job) (read : HasRead replay given t u f g Done) (is : IsRan replay.rows job.input (order_of_job job) ran) (made : IsCompleted replay.schedule job (order_of_job job))
+    (told : AreGiven replay f.files t.left given) (asked : job_of replay given ≡ Ok job) (read : HasRead replay given t u f g Done) (is : IsRan (Whole replay.rows) job.input (order_of_job job) ran) (made : IsCompleted replay.schedule job (order_of_job job))
     (last : IsLastEnd ran.end end) (same : order ≡ ran.order.items) (written : IsWritten end ran.text.items before after) where
-  -- the job's order, and whether the run of that has ended
-  abbrev whole : List ℕ
-  whole = order_of_job job
-
-  abbrev ended : Bool
-  ended = have_ended (rules job.input) (run (rules job.input) whole)
-
   verdict_is : verdict_on replay given ≡ seen_ran ran
-  verdict_is = ap (run_verdict replay.rows) asked ∙ sym is.is
+  verdict_is = ap (run_verdict (Whole replay.rows)) asked ∙ sym is.is
 
   answered : IsLastEnd ran.end end → IsAnswer replay given t u f g end order
   answered (inl e) = inl (e ∙ sym (ap (λ (v : Verdict). v.end) verdict_is), same ∙ sym (ap (λ (v : Verdict). v.order) verdict_is))
   answered (inr failed) = inr (inr (failed.0, same ∙ sym (ap (λ (v : Verdict). v.order) verdict_is), ap (λ (v : Verdict). v.end) verdict_is ∙ failed.1))
 
-  order_is : order ≡ whole
-  order_is = same ∙ (ap (λ (v : Verdict). v.order) is.is ∙ its_order ended replay.rows job.input whole)
-
-  lawful : IsLawful job.input order
-  lawful = subst (IsLawful job.input) (sym order_is) is.law
-
-  filled : IsLastEnd ran.end end → IsFilled job.input end order
-  filled (inl e) = subst (λ o. IsFilled job.input end o) (sym order_is) (subst (λ e. IsFilled job.input e whole) (sym e) is.filled)
-  filled (inr failed) = subst (λ e. IsFilled job.input e order) (sym failed.0) tt
-
-  all_ended : end ≡ Done → ended ≡ true
-  all_ended done = its_end ended replay.rows job.input whole (sym (ap (λ (v : Verdict). v.end) is.is) ∙ done_before ran.end end last done)
-
-  text_is : end ≡ Done → ran.text.items ≡ text_with replay.rows (finished_in job.input order)
-  text_is done = ap (λ (v : Verdict). v.text) is.is ∙ (ap (λ b. (verdict_if b replay.rows job.input whole).text) (all_ended done) ∙ ap (λ o. text_with replay.rows (finished_in job.input o)) (sym order_is))
+  abbrev telling : Telling
+  telling = Whole replay.rows
 
   headline : end ≡ Done → IsHeadline replay given before after order
   headline done = record {
     job = job;
     asked = asked;
-    order_is = order_is;
-    ended = ended_from (rules job.input) (run (rules job.input) order) (ap (λ o. have_ended (rules job.input) (run (rules job.input) o)) order_is ∙ all_ended done);
-    text = subst (Took before.taken after.taken) (text_is done) (took end ran.text.items before after done written);
-    law = lawful;
+    order_is = order_is telling job ran end order is last same;
+    ended = have_all_ended telling job ran end order is last same done;
+    text = subst (Took before.taken after.taken) (text_is telling job ran end order is last same done) (took end ran.text.items before after done written);
+    law = lawful telling job ran end order is last same;
   }
-
-  its_run : IsOrderOf replay.schedule job end order
-  its_run = record { whole = order_is; completed = subst (IsCompleted replay.schedule job) (sym order_is) made; filled = filled last }
 
   -- of the one job that was given
   of_job : (p : verdict.Job → Type 0) → p job → (other : verdict.Job) → job_of replay given ≡ Ok other → p other
@@ -161,8 +137,8 @@ module _ (replay : Replay) (given : Given) (t u : Reading) (f g : Shelving) (bef
     answer = answered last;
     read = read_for replay given t u f g end read;
     out = subst (λ (v : Verdict). IsWritten end v.text before after) (sym verdict_is) written;
-    law = λ _. of_job (λ (j : verdict.Job). IsLawful j.input order) lawful;
-    run = λ _. of_job (λ (j : verdict.Job). IsOrderOf replay.schedule j end order) its_run;
+    law = λ _. of_job (λ (j : verdict.Job). IsLawful j.input order) (lawful telling job ran end order is last same);
+    run = λ _. of_job (λ (j : verdict.Job). IsOrderOf replay.schedule j end order) (its_run telling job ran end order is last same replay.schedule made);
     headline = headline;
   }
 
@@ -172,7 +148,7 @@ alone_is InTurn job order alone = tt
 alone_is (ByFile file) job order alone = tt
 alone_is (ByThreads locks) job order alone = absurd (cc)
 
-pub tried_ran : (replay : Replay) (t u : Reading) (f g : Shelving) (before after : Writing) (job : Job) (ran : Ran) (end : End) (order : List ℕ) → locks_in replay.schedule ≡ None → IsJobRead replay t u f g (Ok job) → IsRan replay.rows (seen_job job).input (order_of_job (seen_job job)) ran → IsLastEnd ran.end end → order ≡ ran.order.items → IsWritten end ran.text.items before after → HasTried replay t u f g before after end order
+pub tried_ran : (replay : Replay) (t u : Reading) (f g : Shelving) (before after : Writing) (job : Job) (ran : Ran) (end : End) (order : List ℕ) → locks_in replay.schedule ≡ None → IsJobRead replay t u f g (Ok job) → IsRan (Whole replay.rows) (seen_job job).input (order_of_job (seen_job job)) ran → IsLastEnd ran.end end → order ≡ ran.order.items → IsWritten end ran.text.items before after → HasTried replay t u f g before after end order
 tried_ran replay t u f g before after job ran end order alone read is last same written = tried_by replay read.given t u f g before after (seen_job job) ran end order read.told read.answer read.read is (alone_is replay.schedule (seen_job job) (order_of_job (seen_job job)) alone) last same written
 
 -- what was given, with the picks that came
@@ -217,7 +193,7 @@ completed_by (ByFile file) locks job came threads made = tt
 completed_by (ByThreads other) locks job came threads made = sym (completed_is job.input came made)
 
 -- with worker threads
-pub tried_threads : (replay : Replay) (locks : Locks) (t u : Reading) (f g : Shelving) (before after : Writing) (job : Job) (ran : Ran) (end : End) (order : List ℕ) → locks_in replay.schedule ≡ Some locks → IsJobRead replay t u f g (Ok job) → IsRanByThreads replay.rows (seen_job job).input ran → IsLastEnd ran.end end → order ≡ ran.order.items → IsWritten end ran.text.items before after → HasTried replay t u f g before after end order
+pub tried_threads : (replay : Replay) (locks : Locks) (t u : Reading) (f g : Shelving) (before after : Writing) (job : Job) (ran : Ran) (end : End) (order : List ℕ) → locks_in replay.schedule ≡ Some locks → IsJobRead replay t u f g (Ok job) → IsRanByThreads (Whole replay.rows) (seen_job job).input ran → IsLastEnd ran.end end → order ≡ ran.order.items → IsWritten end ran.text.items before after → HasTried replay t u f g before after end order
 tried_threads replay locks t u f g before after job ran end order threads read by_threads last same written =
     let came : List ℕ = by_threads.came in
     let given : Given = given_with read.given came in
@@ -226,11 +202,3 @@ tried_threads replay locks t u f g before after job ran end order threads read b
     let told : AreGiven replay f.files t.left given = record { table = read.told.table; trace = read.told.trace; order = read.told.order; came = subst (λ j. HaveCome replay.schedule j came) (sym asked) (came_is replay.schedule locks (seen_job job) came threads by_threads.made) } in
     let had : HasRead replay given t u f g Done = record { files = read.read.files; loads = read.read.loads; file_count = read.read.file_count; untouched = read.read.untouched; lost = read.read.lost; reads = read.read.reads; drained = read.read.drained; trace_count = read.read.trace_count } in
     tried_by replay given t u f g before after (job_behind (seen_job job) came) ran end order told asked had by_threads.whole (completed_by replay.schedule locks (seen_job job) came threads by_threads.made) last same written
-
--- a run that was made ends as a run does
-run_end_if : (ended told : Bool) (input : Input) (order : List ℕ) → IsRunEnd (verdict_if ended told input order).end
-run_end_if true told input order = tt
-run_end_if false told input order = tt
-
-pub run_end : (rows : Bool) (input : Input) (order : List ℕ) (ran : Ran) → IsRan rows input order ran → IsRunEnd ran.end
-run_end rows input order ran is = subst IsRunEnd (sym (ap (λ (v : Verdict). v.end) is.is)) (run_end_if (have_ended (rules input) (run (rules input) order)) rows input order)

@@ -19,6 +19,7 @@ use Rattle.alloc_rules.specs.Machine.{rules, turns, first_of}
 use Rattle.tc_machine.specs.Played.{Played}
 use Rattle.relay.specs.Ends.{IsRun, threads_in}
 use Rattle.tcreplay.specs.declared.run.Ran.{Ran}
+use Rattle.tcreplay.specs.declared.run.Telling.{Telling}
 use Rattle.tcreplay.specs.Reads.{IsMadeOf}
 use Rattle.tcreplay.specs.Ran.{IsRan, IsRanByThreads}
 use Rattle.tcreplay.proofs.RunFacts.{same_run, completed_is}
@@ -42,18 +43,18 @@ pub left_few : (es : List Entry) (order : List ℕ) (events : ℕ) → order ≡
 left_few es order events is few = let n = length-map es (λ (e : Entry). e.thread.0) in let m = ap length is in omega (arith, n, m, few)
 
 -- a run that threads began and that was completed
-pub by_threads : (rows : Bool) (other input : Input) (came order : List ℕ) (ran : Ran) → other ≡ input → order ≡ completed (rules input) (turns input) input.asked.config.events came → IsPolite (rules input) (start (rules input)) came → IsRan rows other order ran → IsRanByThreads rows input ran
-by_threads rows other input came order ran same is polite ran_so =
+pub by_threads : (telling : Telling) (other input : Input) (came order : List ℕ) (ran : Ran) → other ≡ input → order ≡ completed (rules input) (turns input) input.asked.config.events came → IsPolite (rules input) (start (rules input)) came → IsRan telling other order ran → IsRanByThreads telling input ran
+by_threads telling other input came order ran same is polite ran_so =
     let whole : List ℕ = completed (rules input) (turns input) input.asked.config.events came in
-    let here : IsRan rows input whole ran = same_run rows other input order whole ran same is ran_so in
+    let here : IsRan telling input whole ran = same_run telling other input order whole ran same is ran_so in
     let long = length-append came (completion (rules input) (turns input) (input.asked.config.events - length came) (run (rules input) came)) in
     let few : length came ≤ input.asked.config.events = (let most = here.law.few in omega (arith, long, most)) in
     let made : IsMadeOf input came = record { polite = polite; few = few } in
-    record { came = came; made = made; whole = subst (λ o. IsRan rows input o ran) (completed_is input came made) here }
+    record { came = came; made = made; whole = subst (λ o. IsRan telling input o ran) (completed_is input came made) here }
 
-pub by_threads_result : (rows : Bool) (other input : Input) (came order : List ℕ) (result : Result Ran AllocError) → other ≡ input → order ≡ completed (rules input) (turns input) input.asked.config.events came → IsPolite (rules input) (start (rules input)) came → IfOk result (IsRan rows other order) → IfOk result (IsRanByThreads rows input)
-by_threads_result rows other input came order (Ok ran) same is polite ran_so = by_threads rows other input came order ran same is polite ran_so
-by_threads_result rows other input came order (Err e) same is polite ran_so = tt
+pub by_threads_result : (telling : Telling) (other input : Input) (came order : List ℕ) (result : Result Ran AllocError) → other ≡ input → order ≡ completed (rules input) (turns input) input.asked.config.events came → IsPolite (rules input) (start (rules input)) came → IfOk result (IsRan telling other order) → IfOk result (IsRanByThreads telling input)
+by_threads_result telling other input came order (Ok ran) same is polite ran_so = by_threads telling other input came order ran same is polite ran_so
+by_threads_result telling other input came order (Err e) same is polite ran_so = tt
 
 -- what holds of an order holds of a state that has it
 pub order_of_left : {E : Type 0} (P : List ℕ → Type 0) (order : List ℕ) (result : Result Played E) → IfOk result (λ state. state.order ≡ order) → P order → IfOk result (λ state. P state.order)

@@ -1,8 +1,13 @@
 pub mod Words
+pub mod Tasks
 pub mod Seen
 pub mod Status
 pub mod Notes
 pub mod Verdict
 pub mod Reads
+pub mod Writes
+pub mod Lawful
 pub mod Ran
 pub mod Replayed
+pub mod Generating
+pub mod Outcomes

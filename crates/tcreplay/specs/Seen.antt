@@ -1,10 +1,14 @@
--- Options, commands and replays as the grammar has them: names are bytes.
+-- Options, commands and their work as the grammar has them: names are bytes.
 use Rattle.std.specs.Prelude.{option_map}
 use Rattle.tcreplay.specs.Words as words
+use Rattle.tcreplay.specs.Tasks as tasks
 use Rattle.tcreplay.specs.declared.words.Options.{Options}
-use Rattle.tcreplay.specs.declared.words.Replay.{Replay}
-use Rattle.tcreplay.specs.declared.words.Schedule.{Schedule}
-use Rattle.tcreplay.specs.declared.words.Schedule.TheVariants.{InTurn, ByFile, ByThreads}
+use Rattle.tcreplay.specs.declared.task.Replay.{Replay}
+use Rattle.tcreplay.specs.declared.task.Workload.{Workload}
+use Rattle.tcreplay.specs.declared.task.Task.{Task}
+use Rattle.tcreplay.specs.declared.task.Task.TheVariants as task
+use Rattle.tcreplay.specs.declared.task.Schedule.{Schedule}
+use Rattle.tcreplay.specs.declared.task.Schedule.TheVariants.{InTurn, ByFile, ByThreads}
 use Rattle.tcreplay.specs.declared.words.Command.{Command}
 use Rattle.tcreplay.specs.declared.words.Command.TheVariants.{Serial, Order, Workers, Gen}
 
@@ -25,10 +29,17 @@ seen_command (Order classes order rows) = words.Order classes.now order.now rows
 seen_command (Workers classes locks rows) = words.Workers classes.now locks rows
 seen_command (Gen classes seed calls threads) = words.Gen classes.now seed calls threads
 
-abbrev pub seen_schedule : Schedule → words.Schedule
-seen_schedule InTurn = words.InTurn
-seen_schedule (ByFile order) = words.ByFile order.now
-seen_schedule (ByThreads locks) = words.ByThreads locks
+abbrev pub seen_schedule : Schedule → tasks.Schedule
+seen_schedule InTurn = tasks.InTurn
+seen_schedule (ByFile order) = tasks.ByFile order.now
+seen_schedule (ByThreads locks) = tasks.ByThreads locks
 
-abbrev pub seen_replay : Replay → words.Replay
+abbrev pub seen_replay : Replay → tasks.Replay
 seen_replay r = record { classes = r.classes.now; schedule = seen_schedule r.schedule; rows = r.rows }
+
+abbrev pub seen_workload : Workload → tasks.Workload
+seen_workload r = record { classes = r.classes.now; seed = r.seed; calls = r.calls; threads = r.threads }
+
+abbrev pub seen_task : Task → tasks.Task
+seen_task (task.Replay replay) = tasks.ToReplay (seen_replay replay)
+seen_task (task.Generate load) = tasks.ToGenerate (seen_workload load)

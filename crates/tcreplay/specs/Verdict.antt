@@ -17,10 +17,12 @@ use Rattle.trace_reader.specs.Reading.{BadLine, asked_by}
 use Rattle.trace_reader.specs.Orders.{picks_by}
 use Rattle.alloc_rules.specs.Machine as allocator
 use Rattle.tc_machine.specs.Finish.{finished_in}
-use Rattle.usage_report.specs.Report.{text_of}
+use Rattle.usage_report.specs.Report.{text_of, summary_of}
+use Rattle.tcreplay.specs.declared.run.Telling.{Telling}
+use Rattle.tcreplay.specs.declared.run.Telling.TheVariants.{Whole, Summary}
 use Rattle.tcreplay.specs.declared.outcome.End.{End}
 use Rattle.tcreplay.specs.declared.outcome.End.TheVariants.{Done, BadTable, BadTrace, Memory, TooLong, Full, BadOrder, FileFault}
-use Rattle.tcreplay.specs.Words.{Replay, file_of}
+use Rattle.tcreplay.specs.Tasks.{Replay, file_of}
 
 -- a step behind one that gave what it needs
 abbrev pub and_then : {A B : Type 0} → (A → Result B End) → Result A End → Result B End
@@ -113,6 +115,15 @@ rows_if told rows = if told then rows else []
 abbrev pub text_with : Bool → Finished → List ℕ
 text_with told f = text_of f.calls f.live f.live_bytes f.used f.resident (rows_if told f.rows)
 
+-- the last five lines of a text without hugepages
+abbrev pub summary_in : Finished → List ℕ
+summary_in f = summary_of (length f.calls) f.live f.live_bytes f.used f.resident
+
+-- what is told of a run that has ended: its text, or its summary alone
+abbrev pub told_by : Telling → Finished → List ℕ
+told_by (Whole rows) f = text_with rows f
+told_by Summary f = summary_in f
+
 -- whether all scripts have ended
 abbrev pub have_ended : {P L : Type 0} → Rules P L → World P L → Bool
 have_ended r w = list_all (λ l. is_none (r.want l)) w.locals
@@ -122,12 +133,12 @@ abbrev pub order_of_job : Job → List ℕ
 order_of_job job = order_of (allocator.rules job.input) (allocator.turns job.input) job.input.asked.config.events job.picks
 
 -- the verdict on an order: the run has ended, or it stands at the limit
-abbrev pub judged : Bool → Input → List ℕ → Verdict
-judged told input order =
+abbrev pub judged : Telling → Input → List ℕ → Verdict
+judged telling input order =
     if have_ended (allocator.rules input) (run (allocator.rules input) order)
-    then record { end = Done; order = order; text = text_with told (finished_in input order) }
+    then record { end = Done; order = order; text = told_by telling (finished_in input order) }
     else record { end = Full input.asked.config.events; order = order; text = [] }
 
-abbrev pub run_verdict : Bool → Result Job End → Verdict
-run_verdict told (Err end) = refused end
-run_verdict told (Ok job) = judged told job.input (order_of_job job)
+abbrev pub run_verdict : Telling → Result Job End → Verdict
+run_verdict telling (Err end) = refused end
+run_verdict telling (Ok job) = judged telling job.input (order_of_job job)

@@ -9,7 +9,7 @@ ghost use Rattle.tcreplay.specs.Verdict.{file_within, rows_in, asked_of_text, pi
 ghost use Rattle.tcreplay.specs.Reads.{load_end, IsLoad, ArePicks, IsPure, IsTraceRead, IsRunnable, IsJobRead};
 
 use crate::outcome::End;
-use crate::words::Replay;
+use crate::task::Replay;
 use size_classes::{ClassTable, TableFault};
 use std::alloc::Global;
 use tc_ports::{LoadFault, ReadAllFault, Shelf, Source, read_all};
@@ -54,7 +54,7 @@ fn load_file<F: Shelf>(alloc: Global, name: &str, limit: u64, files: &mut F) -> 
 }
 
 /// The class table of a file.
-fn load_table<F: Shelf>(alloc: Global, name: &str, files: &mut F) -> Result<ClassTable, End>
+pub fn load_table<F: Shelf>(alloc: Global, name: &str, files: &mut F) -> Result<ClassTable, End>
     ensures { IsLoad (λ (rows : List ClassRow). rows) rows_in name.now
         (record { files = F.files files.old; faults = F.faults files.old; loads = F.loads files.old })
         (record { files = F.files files.new; faults = F.faults files.new; loads = F.loads files.new }) result }
@@ -68,7 +68,7 @@ fn load_table<F: Shelf>(alloc: Global, name: &str, files: &mut F) -> Result<Clas
 }
 
 /// What a text asks for under a class table.
-fn trace_of(alloc: Global, table: &ClassTable, text: &[u8]) -> Result<Trace, End>
+pub fn trace_of(alloc: Global, table: &ClassTable, text: &[u8]) -> Result<Trace, End>
     ensures asked { IsPure asked_of (asked_of_text table.now text.now) result }
     ensures read { IfOk result (λ trace. IsRead (length table.now) trace (asked_of trace)) }
 {

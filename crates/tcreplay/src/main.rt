@@ -1,11 +1,15 @@
 //! Replays a trace of allocator calls over numbered pages.
 #![tactic(auto)]
 
+mod generate;
+#[cfg(test)]
+mod generate_tests;
 mod input;
 mod notes;
 mod outcome;
 mod replay;
 mod run;
+mod task;
 #[cfg(test)]
 mod tests;
 mod words;

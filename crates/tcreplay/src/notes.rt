@@ -1,7 +1,7 @@
 //! The line that tells an end. Making and writing it takes no memory.
 ghost use Rattle.std.specs.Prelude.{◌≡◌, ◌+◌, ◌≤◌, ◌++◌, length, decimal};
 ghost use Rattle.tcreplay.specs.Notes.{row_word, line_word, order_word, place_of, cause_of, note_of};
-ghost use Rattle.tcreplay.specs.Replayed.{IsNoted};
+ghost use Rattle.tcreplay.specs.Writes.{IsNoted};
 
 use crate::outcome::End;
 use arrayvec::ArrayString;

@@ -1,16 +1,20 @@
 //! The top calls: from words, files and a trace to bytes, a status and an order.
 ghost use Rattle.std.specs.Prelude.{◌≡◌, ◌↔◌, None, Some, map, IfSome, IfNone, IsSome, string_bytes};
 ghost use Rattle.tcreplay.specs.Status.{status_of};
-ghost use Rattle.tcreplay.specs.Words.{replay_by, locks_in, threads_in};
+ghost use Rattle.tcreplay.specs.Tasks.{task_by, locks_in, threads_in};
 ghost use Rattle.tcreplay.specs.Seen.{seen_schedule, seen_replay};
-ghost use Rattle.tcreplay.specs.Replayed.{IsWritten, IsRunEnd, IsLastEnd, HasTried, IsAnswered, IsOutcome, IsComplete};
+ghost use Rattle.tcreplay.specs.Writes.{Writing, IsWritten, IsRunEnd, IsLastEnd};
+ghost use Rattle.tcreplay.specs.Replayed.{HasTried};
+ghost use Rattle.tcreplay.specs.Outcomes.{IsAnswered, IsOutcome, IsComplete};
 ghost use Rattle.tcreplay.specs.declared.outcome.End.TheVariants as end;
 
+use crate::generate::generate;
 use crate::input::read_job;
 use crate::notes::note;
 use crate::outcome::{End, Outcome};
 use crate::run::{Ran, run};
-use crate::words::{Locks, Replay, Schedule, replay_by};
+use crate::task::{Replay, Schedule, Task, task_by};
+use crate::words::Locks;
 use crate::workers::run_by_threads;
 use std::alloc::Global;
 use std::sync::Wait;
@@ -61,7 +65,7 @@ fn try_replay<S: Source, F: Shelf, K: Sink>(
         Ok(job) => job,
         Err(end) => return Outcome::without_run(alloc, end),
     };
-    match run(alloc, job, replay.rows) {
+    match run(alloc, job, replay.telling()) {
         Ok(ran) => write(out, ran),
         Err(_) => Outcome::without_run(alloc, End::Memory),
     }
@@ -93,40 +97,48 @@ fn try_threads<R: Threads + Wait + Sync, S: Source, F: Shelf, K: Sink, G: Gate +
         Ok(job) => job,
         Err(end) => return Outcome::without_run(alloc, end),
     };
-    let Ok(ran) = run_by_threads(rt, alloc, gate, job, locks, replay.rows) else {
+    let Ok(ran) = run_by_threads(rt, alloc, gate, job, locks, replay.telling()) else {
         return Outcome::without_run(alloc, End::Memory);
     };
     write(out, ran)
 }
 
-/// Answers words that ask for no worker threads: a replay is tried where they ask for one.
-fn answer<S: Source, F: Shelf, K: Sink>(
+/// Answers words that ask for no worker threads: a replay is tried, or a trace is generated.
+fn answer<S: Source, F: Shelf, K: Sink, N: Sink>(
     alloc: Global,
     words: &[String],
     trace: &mut S,
     files: &mut F,
     out: &mut K,
+    notes: &mut N,
 ) -> Option<Outcome>
-    ensures alone { (result ≡ None) ↔ IsSome (threads_in (replay_by (map string_bytes words.now))) }
-    ensures untouched { IfNone result ((trace.new ≡ trace.old) × (files.new ≡ files.old) × (out.new ≡ out.old)) }
+    ensures alone { (result ≡ None) ↔ IsSome (threads_in (task_by (map string_bytes words.now))) }
+    ensures untouched { IfNone result ((trace.new ≡ trace.old) × (files.new ≡ files.old) × (out.new ≡ out.old) × (notes.new ≡ notes.old)) }
     ensures status { IfSome result (λ outcome. outcome.status ≡ status_of outcome.end) }
-    ensures answered { IfSome result (λ outcome. IsAnswered (replay_by (map string_bytes words.now))
-        (record { left = S.left trace.old; faults = S.faults trace.old; reads = S.reads trace.old })
-        (record { left = S.left trace.new; faults = S.faults trace.new; reads = S.reads trace.new })
-        (record { files = F.files files.old; faults = F.faults files.old; loads = F.loads files.old })
-        (record { files = F.files files.new; faults = F.faults files.new; loads = F.loads files.new })
-        (record { taken = K.taken out.old; faults = K.faults out.old; puts = K.puts out.old })
-        (record { taken = K.taken out.new; faults = K.faults out.new; puts = K.puts out.new })
+    ensures answered { IfSome result (λ outcome. IsAnswered (task_by (map string_bytes words.now))
+        (record {
+          trace = record { left = S.left trace.old; faults = S.faults trace.old; reads = S.reads trace.old };
+          files = record { files = F.files files.old; faults = F.faults files.old; loads = F.loads files.old };
+          out = record { taken = K.taken out.old; faults = K.faults out.old; puts = K.puts out.old };
+          notes = record { taken = N.taken notes.old; faults = N.faults notes.old; puts = N.puts notes.old };
+        })
+        (record {
+          trace = record { left = S.left trace.new; faults = S.faults trace.new; reads = S.reads trace.new };
+          files = record { files = F.files files.new; faults = F.faults files.new; loads = F.loads files.new };
+          out = record { taken = K.taken out.new; faults = K.faults out.new; puts = K.puts out.new };
+          notes = record { taken = N.taken notes.new; faults = N.faults notes.new; puts = N.puts notes.new };
+        })
         outcome.end outcome.order) }
 {
-    let Some(replay) = replay_by(words) else {
-        return Some(Outcome::without_run(alloc, End::Usage));
-    };
-    match replay.schedule {
-        Schedule::ByThreads { .. } => None,
-        Schedule::InTurn | Schedule::ByFile { .. } => {
-            Some(try_replay(alloc, replay, trace, files, out))
-        }
+    match task_by(words) {
+        None => Some(Outcome::without_run(alloc, End::Usage)),
+        Some(Task::Generate(load)) => Some(generate(alloc, load, files, out, notes)),
+        Some(Task::Replay(replay)) => match replay.schedule {
+            Schedule::ByThreads { .. } => None,
+            Schedule::InTurn | Schedule::ByFile { .. } => {
+                Some(try_replay(alloc, replay, trace, files, out))
+            }
+        },
     }
 }
 
@@ -140,18 +152,24 @@ fn answer_by_threads<R: Threads + Wait + Sync, S: Source, F: Shelf, K: Sink, G: 
     out: &mut K,
     gate: &G,
 ) -> Outcome
-    requires threads { IsSome (threads_in (replay_by (map string_bytes words.now))) }
+    requires threads { IsSome (threads_in (task_by (map string_bytes words.now))) }
     ensures status { result.status ≡ status_of result.end }
-    ensures answered { IsAnswered (replay_by (map string_bytes words.now))
-        (record { left = S.left trace.old; faults = S.faults trace.old; reads = S.reads trace.old })
-        (record { left = S.left trace.new; faults = S.faults trace.new; reads = S.reads trace.new })
-        (record { files = F.files files.old; faults = F.faults files.old; loads = F.loads files.old })
-        (record { files = F.files files.new; faults = F.faults files.new; loads = F.loads files.new })
-        (record { taken = K.taken out.old; faults = K.faults out.old; puts = K.puts out.old })
-        (record { taken = K.taken out.new; faults = K.faults out.new; puts = K.puts out.new })
+    ensures answered { (notes : Writing) → IsAnswered (task_by (map string_bytes words.now))
+        (record {
+          trace = record { left = S.left trace.old; faults = S.faults trace.old; reads = S.reads trace.old };
+          files = record { files = F.files files.old; faults = F.faults files.old; loads = F.loads files.old };
+          out = record { taken = K.taken out.old; faults = K.faults out.old; puts = K.puts out.old };
+          notes = notes;
+        })
+        (record {
+          trace = record { left = S.left trace.new; faults = S.faults trace.new; reads = S.reads trace.new };
+          files = record { files = F.files files.new; faults = F.faults files.new; loads = F.loads files.new };
+          out = record { taken = K.taken out.new; faults = K.faults out.new; puts = K.puts out.new };
+          notes = notes;
+        })
         result.end result.order }
 {
-    let Some(replay) = replay_by(words) else {
+    let Some(Task::Replay(replay)) = task_by(words) else {
         unreachable!()
     };
     let Schedule::ByThreads { locks } = replay.schedule else {
@@ -160,12 +178,13 @@ fn answer_by_threads<R: Threads + Wait + Sync, S: Source, F: Shelf, K: Sink, G: 
     try_threads(rt, alloc, replay, locks, trace, files, out, gate)
 }
 
-/// Replays a trace without worker threads. `None` exactly where the words ask for such threads, and then
-/// nothing was read or written.
+/// Replays a trace, or generates one, without worker threads. `None` exactly where the words ask for such
+/// threads, and then nothing was read or written.
 ///
 /// The steps are taken in order: words, class table, trace, order file, run, writing. The whole text is
 /// built before its first byte is written, by one `put`; at every status but 0 and 6 `out` is untouched.
-/// At every status but 0 one line goes to `notes`, by one `put`.
+/// At every status but 0 one line goes to `notes`, by one `put`. A generation makes its trace and replays it;
+/// then the trace goes to `out`, and the summary of the replay to `notes`, each by one `put`.
 pub fn replay_alone<S: Source, F: Shelf, K: Sink, N: Sink>(
     alloc: Global,
     words: &[String],
@@ -174,11 +193,11 @@ pub fn replay_alone<S: Source, F: Shelf, K: Sink, N: Sink>(
     out: &mut K,
     notes: &mut N,
 ) -> Option<Outcome>
-    ensures alone { (result ≡ None) ↔ IsSome (threads_in (replay_by (map string_bytes words.now))) }
+    ensures alone { (result ≡ None) ↔ IsSome (threads_in (task_by (map string_bytes words.now))) }
     ensures untouched { IfNone result ((trace.new ≡ trace.old) × (files.new ≡ files.old) × (out.new ≡ out.old) × (notes.new ≡ notes.old)) }
     ensures status { IfSome result (λ outcome. outcome.status ≡ status_of outcome.end) }
-    ensures usage { IfSome result (λ outcome. (outcome.end ≡ end.Usage) ↔ (replay_by (map string_bytes words.now) ≡ None)) }
-    ensures outcome { IfSome result (λ outcome. IsOutcome (replay_by (map string_bytes words.now))
+    ensures usage { IfSome result (λ outcome. (outcome.end ≡ end.Usage) ↔ (task_by (map string_bytes words.now) ≡ None)) }
+    ensures outcome { IfSome result (λ outcome. IsOutcome (task_by (map string_bytes words.now))
         (record {
           trace = record { left = S.left trace.old; faults = S.faults trace.old; reads = S.reads trace.old };
           files = record { files = F.files files.old; faults = F.faults files.old; loads = F.loads files.old };
@@ -192,7 +211,7 @@ pub fn replay_alone<S: Source, F: Shelf, K: Sink, N: Sink>(
           notes = record { taken = N.taken notes.new; faults = N.faults notes.new; puts = N.puts notes.new };
         })
         outcome.end outcome.order) }
-    ensures complete { IfSome result (λ outcome. IsComplete (replay_by (map string_bytes words.now))
+    ensures complete { IfSome result (λ outcome. IsComplete (task_by (map string_bytes words.now))
         (record {
           trace = record { left = S.left trace.old; faults = S.faults trace.old; reads = S.reads trace.old };
           files = record { files = F.files files.old; faults = F.faults files.old; loads = F.loads files.old };
@@ -207,12 +226,12 @@ pub fn replay_alone<S: Source, F: Shelf, K: Sink, N: Sink>(
         })
         outcome.end outcome.order) }
 {
-    let outcome = answer(alloc, words, trace, files, out)?;
+    let outcome = answer(alloc, words, trace, files, out, notes)?;
     note(notes, outcome.end);
     Some(outcome)
 }
 
-/// Replays a trace, alone where the words ask for no worker threads. Such threads pass `gate` before each
+/// Replays a trace, or generates one, alone where the words ask for no worker threads. Such threads pass `gate` before each
 /// of their turns. With them this may wait, and what it promises holds if it returns.
 pub fn tcreplay<R: Threads + Wait + Sync, S: Source, F: Shelf, K: Sink, N: Sink, G: Gate + Sync>(
     rt: &R,
@@ -225,8 +244,8 @@ pub fn tcreplay<R: Threads + Wait + Sync, S: Source, F: Shelf, K: Sink, N: Sink,
     gate: &G,
 ) -> Outcome
     ensures status { result.status ≡ status_of result.end }
-    ensures usage { (result.end ≡ end.Usage) ↔ (replay_by (map string_bytes words.now) ≡ None) }
-    ensures outcome { IsOutcome (replay_by (map string_bytes words.now))
+    ensures usage { (result.end ≡ end.Usage) ↔ (task_by (map string_bytes words.now) ≡ None) }
+    ensures outcome { IsOutcome (task_by (map string_bytes words.now))
         (record {
           trace = record { left = S.left trace.old; faults = S.faults trace.old; reads = S.reads trace.old };
           files = record { files = F.files files.old; faults = F.faults files.old; loads = F.loads files.old };
@@ -240,7 +259,7 @@ pub fn tcreplay<R: Threads + Wait + Sync, S: Source, F: Shelf, K: Sink, N: Sink,
           notes = record { taken = N.taken notes.new; faults = N.faults notes.new; puts = N.puts notes.new };
         })
         result.end result.order }
-    ensures complete { IsComplete (replay_by (map string_bytes words.now))
+    ensures complete { IsComplete (task_by (map string_bytes words.now))
         (record {
           trace = record { left = S.left trace.old; faults = S.faults trace.old; reads = S.reads trace.old };
           files = record { files = F.files files.old; faults = F.faults files.old; loads = F.loads files.old };

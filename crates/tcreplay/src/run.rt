@@ -1,19 +1,32 @@
 //! Running a job: the order of its picks that moved, and the text of what the run came to.
-ghost use Rattle.std.specs.Prelude.{◌≡◌, ℕ, List, Bool, IfOk};
+ghost use Rattle.std.specs.Prelude.{◌≡◌, ◌≤◌, ◌*◌, ℕ, List, IfOk, IsTrue};
+ghost use Rattle.std.specs.List.{list_all};
+ghost use Rattle.tc_units.specs.Units.{page_bytes};
 ghost use Rattle.tc_model.specs.Replays.{HaveEnded};
 ghost use Rattle.tc_model.specs.Serial.{IsAtLimit};
 ghost use Rattle.alloc_rules.specs.Machine as allocator;
 ghost use Rattle.tc_machine.specs.Played.{world};
-ghost use Rattle.tcreplay.specs.Verdict.{order_of_job};
+ghost use Rattle.usage_report.specs.Report.{can_answer};
+ghost use Rattle.tcreplay.specs.Verdict.{told_by, order_of_job};
 ghost use Rattle.tcreplay.specs.Reads.{seen_job, IsRunnable};
 ghost use Rattle.tcreplay.specs.Ran.{IsRan};
+ghost use Rattle.tcreplay.specs.declared.run.Telling.{Telling};
 
 use crate::input::Job;
 use crate::outcome::End;
 use std::alloc::{AllocError, Global};
 use tc_machine::State;
-use tc_model::StepFault;
-use usage_report::report;
+use tc_model::{Finished, StepFault};
+use usage_report::{report, summary};
+
+/// What is told of a run that has ended.
+#[derive(Clone, Copy, Debug)]
+pub enum Telling {
+    /// Its text, with a line for each hugepage on demand.
+    Whole { rows: bool },
+    /// The summary alone.
+    Summary,
+}
 
 /// What a run came to.
 #[derive(Drop)]
@@ -22,17 +35,30 @@ pub struct Ran {
     pub end: End,
     /// The threads whose picks moved, in order.
     pub order: Vec<u16>,
-    /// The text of a run that has ended; else there is none.
+    /// What is told of a run that has ended; else there is nothing.
     pub text: Vec<u8>,
 }
 
-/// What a run came to whose scripts have all ended, with a line for each hugepage on demand.
-pub fn tell(alloc: Global, state: State, rows: bool) -> Result<Ran, AllocError>
+/// What is told of a run that has ended.
+fn told(alloc: Global, finished: &Finished, telling: Telling) -> Result<Vec<u8>, AllocError>
+    requires few { finished.now.resident ≤ 8388608 }
+    requires within { finished.now.live_bytes ≤ finished.now.resident * page_bytes }
+    requires answered { IsTrue (list_all (λ c. can_answer c.call c.answer) finished.now.calls) }
+    ensures { IfOk result (λ text. text.items ≡ told_by telling finished.now) }
+{
+    match telling {
+        Telling::Whole { rows } => report(alloc, finished, rows),
+        Telling::Summary => summary(alloc, finished),
+    }
+}
+
+/// What a run came to whose scripts have all ended.
+pub fn tell(alloc: Global, state: State, telling: Telling) -> Result<Ran, AllocError>
     requires ended { HaveEnded (allocator.rules state.input) (world state) }
-    ensures { IfOk result (IsRan rows state.input state.order) }
+    ensures { IfOk result (IsRan telling state.input state.order) }
 {
     let finished = state.finish()?;
-    let text = report(alloc, &finished, rows)?;
+    let text = told(alloc, &finished, telling)?;
     let order = state.into_order();
     Ok(Ran {
         end: End::Done,
@@ -44,7 +70,7 @@ pub fn tell(alloc: Global, state: State, rows: bool) -> Result<Ran, AllocError>
 /// What a run came to that stands at its limit, where one pick more would move.
 pub fn stop(alloc: Global, state: State, ticket: u64) -> Ran
     requires limit { (whole : List ℕ) × IsAtLimit (allocator.rules state.input) state.input.asked.config.events whole state.order ticket }
-    ensures { (rows : Bool) → IsRan rows state.input state.order result }
+    ensures { (telling : Telling) → IsRan telling state.input state.order result }
 {
     let order = state.into_order();
     Ran {
@@ -54,10 +80,10 @@ pub fn stop(alloc: Global, state: State, ticket: u64) -> Ran
     }
 }
 
-/// Runs a job, with a line for each hugepage on demand.
-pub fn run(alloc: Global, job: Job, rows: bool) -> Result<Ran, AllocError>
+/// Runs a job.
+pub fn run(alloc: Global, job: Job, telling: Telling) -> Result<Ran, AllocError>
     requires { IsRunnable job }
-    ensures { IfOk result (IsRan rows (seen_job job).input (order_of_job (seen_job job))) }
+    ensures { IfOk result (IsRan telling (seen_job job).input (order_of_job (seen_job job))) }
 {
     let Job {
         table,
@@ -66,7 +92,7 @@ pub fn run(alloc: Global, job: Job, rows: bool) -> Result<Ran, AllocError>
     } = job;
     let mut state = State::open(alloc, table, trace)?;
     match state.run_order(&picks) {
-        Ok(()) => tell(alloc, state, rows),
+        Ok(()) => tell(alloc, state, telling),
         Err(StepFault::Full { ticket }) => Ok(stop(alloc, state, ticket)),
         Err(StepFault::Memory) => Err(AllocError),
     }

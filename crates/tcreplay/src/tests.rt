@@ -97,7 +97,7 @@ pub(crate) fn words_of(alloc: Global, command: &str) -> Result<Vec<String>, Allo
 }
 
 /// Runs a command line that asks for no worker threads.
-fn replay(
+pub(crate) fn replay(
     rt: &impl Abort,
     alloc: Global,
     command: &str,
@@ -216,7 +216,6 @@ fn words_that_are_refused(rt: HostRuntime) -> Result<(), Fail> {
         "tcreplay workers --classes T0 --locks",
         "tcreplay workers --classes T0 --order O",
         "tcreplay serial --classes T0 --locks one",
-        "tcreplay gen --classes T0 --seed 1 --calls 1 --threads 1",
     ] {
         check(
             &rt,

@@ -1,7 +1,7 @@
 //! The grammar of the command line: this project's own rule.
 ghost use Rattle.std.specs.Prelude.{◌≡◌, Some, None, map, option_map, option_and_then, string_bytes};
-ghost use Rattle.tcreplay.specs.Words.{name_of, locks_of, number_in, kind_of, flag_of, takes, taken_flag, is_rows, no_options, once, with_value, with_rows, options_of, command_with, command_of, replay_by, file_of};
-ghost use Rattle.tcreplay.specs.Seen.{seen, seen_command, seen_schedule, seen_replay};
+ghost use Rattle.tcreplay.specs.Words.{name_of, locks_of, number_in, kind_of, flag_of, takes, taken_flag, is_rows, no_options, once, with_value, with_rows, options_of, command_with, command_of};
+ghost use Rattle.tcreplay.specs.Seen.{seen, seen_command};
 
 use tc_units::number;
 
@@ -70,38 +70,6 @@ const MOST_CALLS: u64 = 500_000;
 
 /// The most threads.
 const MOST_THREADS: u64 = 64;
-
-/// Which picks a replay makes before it goes on in trace order.
-#[derive(Clone, Copy, Debug)]
-pub enum Schedule<'a> {
-    /// None.
-    InTurn,
-    /// Those of an order file.
-    ByFile { order: &'a str },
-    /// Those of a running thread for each thread of the trace.
-    ByThreads { locks: Locks },
-}
-
-impl<'a> Schedule<'a> {
-    /// The order file, where one is named.
-    pub fn file(self) -> Option<&'a str>
-        ensures { option_map (λ name. name.now) result ≡ file_of (seen_schedule self.entry) }
-    {
-        match self {
-            Schedule::ByFile { order } => Some(order),
-            Schedule::InTurn | Schedule::ByThreads { .. } => None,
-        }
-    }
-}
-
-/// A replay: the file of the class table, which picks come first, and whether a line for each hugepage is
-/// printed.
-#[derive(Clone, Copy, Debug)]
-pub struct Replay<'a> {
-    pub classes: &'a str,
-    pub schedule: Schedule<'a>,
-    pub rows: bool,
-}
 
 /// The options that came so far.
 #[derive(Clone, Copy, Debug)]
@@ -322,46 +290,4 @@ pub fn command_of(words: &[String]) -> Option<Command<'_>>
     let (word, rest) = words.split_first()?;
     let kind = Kind::of(word.as_str())?;
     Options::of(kind, rest)?.command(kind)
-}
-
-/// The replay that the words ask for. `None` exactly where they are not in the grammar, or ask for what
-/// isn't built.
-pub fn replay_by(words: &[String]) -> Option<Replay<'_>>
-    ensures { option_map seen_replay result ≡ replay_by (map string_bytes words.now) }
-{
-    match command_of(words)? {
-        Command::Serial { classes, rows } => {
-            let schedule = Schedule::InTurn;
-            Some(Replay {
-                classes,
-                schedule,
-                rows,
-            })
-        }
-        Command::Order {
-            classes,
-            order,
-            rows,
-        } => {
-            let schedule = Schedule::ByFile { order };
-            Some(Replay {
-                classes,
-                schedule,
-                rows,
-            })
-        }
-        Command::Workers {
-            classes,
-            locks,
-            rows,
-        } => {
-            let schedule = Schedule::ByThreads { locks };
-            Some(Replay {
-                classes,
-                schedule,
-                rows,
-            })
-        }
-        Command::Gen { .. } => None,
-    }
 }

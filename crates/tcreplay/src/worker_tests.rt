@@ -1,6 +1,7 @@
 //! The top call with worker threads, over ends in memory and over gates that hold them. The answers were
-//! worked out by hand: an allocation has three acts (New, Set, Publish) and a free has four (Take, Lookup,
-//! Clear, Free). 300,000 bytes are 37 pages, which are 303,104 bytes.
+//! worked out by hand: an allocation of a large block has three acts (New, Set, Publish) and a free has four
+//! (Take, Lookup, Clear, Free). 300,000 bytes are 37 pages, which are 303,104 bytes. The first small object
+//! of a class takes seventeen acts, and one of its span at another CPU fourteen.
 use crate::outcome::{End, Outcome};
 use crate::replay::{replay_alone, tcreplay};
 use crate::tests::{Case, Ends, ONE, ONE_HALF, ONE_TEXT, assert_case, open, refused, words_of};
@@ -23,6 +24,13 @@ const CROSSED: &[u8] = b"threads 2\na 0 0 300000\na 1 1 300000\nf 1 0\nf 0 1\n";
 
 /// What comes behind its four calls, whatever order came.
 const CROSSED_END: &[u8] = b"calls 4\nlive 0 0\nused 0\nresident 256\nfrag 1000\n";
+
+/// The same with small objects, of one class, at two CPUs.
+const CROSSED_SMALL: &[u8] = b"cpus 2\nthreads 2\na 0 0 10\na 1 1 10\nf 1 0\nf 0 1\n";
+
+/// What comes behind its four calls: the second thread takes its batch from the span of the first, and no
+/// free asks for another one. Each CPU keeps objects of it.
+const CROSSED_SMALL_END: &[u8] = b"\ncalls 4\nlive 0 0\nused 1\nresident 256\nfrag 1000\n";
 
 /// A mix of four threads. In every order each allocation is served: even without a free they need 6 of
 /// the 8 hugepages at most.
@@ -153,27 +161,47 @@ fn again<R: Threads + Wait + Sync + Abort>(
     Ok(())
 }
 
+/// Whether an order begins with so many picks of these threads, one run after another.
+fn begins_with(order: &[u16], runs: &[(u16, usize)]) -> bool {
+    let mut rest = order;
+    for (thread, count) in runs {
+        if rest.len() < *count || rest[..*count].iter().any(|pick| *pick != *thread) {
+            return false;
+        }
+        rest = &rest[*count..];
+    }
+    true
+}
+
+/// A run of two threads that a gate holds: which of them is late, and with what the text and the order
+/// begin.
+#[derive(Clone, Copy)]
+struct HeldRun<'a> {
+    trace: &'a [u8],
+    late: u8,
+    lines: &'a [u8],
+    runs: &'a [(u16, usize)],
+}
+
 /// Two threads that are held as a gate says: the beginning of the text and of the order follow by hand.
-/// The thread that isn't held ends its allocation, and then waits for the label of the other.
+/// The thread that isn't held ends its allocation, and then waits for the label of the other. Gives the
+/// text, and the length of the order.
 fn held<R: Threads + Wait + Sync + Abort>(
     rt: &R,
     alloc: Global,
     command: &str,
-    late: u8,
-    lines: &[u8],
-    picks: &[u16],
-) -> Result<(), AllocError> {
-    let gate = Hold::new(late);
-    let mut ends = open(alloc, CROSSED, b"")?;
+    run: &HeldRun,
+) -> Result<(Ends, usize), AllocError> {
+    let gate = Hold::new(run.late);
+    let mut ends = open(alloc, run.trace, b"")?;
     let outcome = replay(rt, alloc, command, &mut ends, &gate)?;
     assert_eq!(rt; gate.standing.load(Ordering::SeqCst), 2);
     assert_eq!(rt; gate.given_up.load(Ordering::SeqCst), 0);
     assert_eq!(rt; outcome.end, End::Done);
-    assert_eq!(rt; outcome.order.as_slice().len(), 14);
-    assert!(rt; outcome.order.as_slice().starts_with(picks));
-    assert!(rt; ends.out.taken().starts_with(lines));
-    assert!(rt; has(ends.out.taken(), CROSSED_END));
-    Ok(())
+    assert!(rt; begins_with(outcome.order.as_slice(), run.runs));
+    assert!(rt; ends.out.taken().starts_with(run.lines));
+    let picks = outcome.order.as_slice().len();
+    Ok((ends, picks))
 }
 
 #[test]
@@ -303,22 +331,49 @@ fn two_threads_meet_the_limit(rt: HostRuntime) -> Result<(), Fail> {
 fn threads_run_at_once_and_their_order_is_printed(rt: HostRuntime) -> Result<(), Fail> {
     let alloc = rt.alloc();
     for command in [ONE_LOCK, PART_LOCKS] {
-        held(
-            &rt,
-            alloc,
-            command,
-            0,
-            b"a 1 1 2097152 303104\na 0 0 2400256 303104\n",
-            &[1, 1, 1, 0, 0, 0],
-        )?;
-        held(
-            &rt,
-            alloc,
-            command,
-            1,
-            b"a 0 0 2097152 303104\na 1 1 2400256 303104\n",
-            &[0, 0, 0, 1, 1, 1],
-        )?;
+        for run in [
+            HeldRun {
+                trace: CROSSED,
+                late: 0,
+                lines: b"a 1 1 2097152 303104\na 0 0 2400256 303104\n",
+                runs: &[(1, 3), (0, 3)],
+            },
+            HeldRun {
+                trace: CROSSED,
+                late: 1,
+                lines: b"a 0 0 2097152 303104\na 1 1 2400256 303104\n",
+                runs: &[(0, 3), (1, 3)],
+            },
+        ] {
+            let (ends, picks) = held(&rt, alloc, command, &run)?;
+            assert_eq!(rt; picks, 14);
+            assert!(rt; has(ends.out.taken(), CROSSED_END));
+        }
+    }
+    Ok(())
+}
+
+#[test]
+fn threads_at_small_objects_run_at_once(rt: HostRuntime) -> Result<(), Fail> {
+    let alloc = rt.alloc();
+    for command in [ONE_LOCK, PART_LOCKS] {
+        for run in [
+            HeldRun {
+                trace: CROSSED_SMALL,
+                late: 0,
+                lines: b"a 1 1 2097152 16\na 0 0 2097216 16\n",
+                runs: &[(1, 17), (0, 14)],
+            },
+            HeldRun {
+                trace: CROSSED_SMALL,
+                late: 1,
+                lines: b"a 0 0 2097152 16\na 1 1 2097216 16\n",
+                runs: &[(0, 17), (1, 14)],
+            },
+        ] {
+            let (ends, _) = held(&rt, alloc, command, &run)?;
+            assert!(rt; has(ends.out.taken(), CROSSED_SMALL_END));
+        }
     }
     Ok(())
 }

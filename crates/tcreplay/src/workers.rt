@@ -11,7 +11,7 @@ ghost use Rattle.tcreplay.specs.Reads.{seen_job, IsRunnable};
 ghost use Rattle.tcreplay.specs.Ran.{IsRanByThreads};
 
 use crate::input::Job;
-use crate::run::{Ran, stop, tell};
+use crate::run::{Ran, Telling, stop, tell};
 use crate::words::Locks;
 use part_lock::Closed;
 use relay::Finish;
@@ -127,30 +127,29 @@ fn run_under<R: Threads + Wait + Sync, G: Gate + Sync>(
 }
 
 /// Ends every call of a state that threads left, in trace order.
-fn complete(alloc: Global, state: State, rows: bool) -> Result<Ran, AllocError>
+fn complete(alloc: Global, state: State, telling: Telling) -> Result<Ran, AllocError>
     requires polite { IsPolite (allocator.rules state.input) (start (allocator.rules state.input)) state.order }
-    ensures { IfOk result (IsRanByThreads rows state.input) }
+    ensures { IfOk result (IsRanByThreads telling state.input) }
 {
     let mut state = state;
     match state.run_serial() {
-        Ok(()) => tell(alloc, state, rows),
+        Ok(()) => tell(alloc, state, telling),
         Err(StepFault::Full { ticket }) => Ok(stop(alloc, state, ticket)),
         Err(StepFault::Memory) => Err(AllocError),
     }
 }
 
-/// Runs a job by a thread for each of its threads, and then what they left, with a line for each hugepage
-/// on demand.
+/// Runs a job by a thread for each of its threads, and then what they left.
 pub fn run_by_threads<R: Threads + Wait + Sync, G: Gate + Sync>(
     rt: &R,
     alloc: Global,
     gate: &G,
     job: Job,
     locks: Locks,
-    rows: bool,
+    telling: Telling,
 ) -> Result<Ran, AllocError>
     requires { IsRunnable job }
-    ensures { IfOk result (IsRanByThreads rows (seen_job job).input) }
+    ensures { IfOk result (IsRanByThreads telling (seen_job job).input) }
 {
     let Job {
         table,
@@ -160,5 +159,5 @@ pub fn run_by_threads<R: Threads + Wait + Sync, G: Gate + Sync>(
     let events = trace.config.events;
     let state = State::open(alloc, table, trace)?;
     let state = run_under(rt, alloc, gate, state, locks, events)?;
-    complete(alloc, state, rows)
+    complete(alloc, state, telling)
 }

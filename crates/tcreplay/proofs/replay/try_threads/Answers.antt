@@ -1,11 +1,14 @@
+use Rattle.std.proofs.Common.{subst}
+use Rattle.tcreplay.specs.Ran.{IsRanByThreads}
 use Rattle.tcreplay.specs.Seen.{seen_replay}
 use Rattle.tcreplay.specs.Reads.{seen_job}
 use Rattle.tcreplay.specs.Verdict.{order_of_job}
-use Rattle.tcreplay.proofs.TriedFacts.{tried_threads, run_end}
+use Rattle.tcreplay.proofs.RanFacts.{run_end}
+use Rattle.tcreplay.proofs.TriedFacts.{tried_threads}
 use Rattle.tcreplay.proofs.replay.try_threads.Goals as goal
 
 pub write-requires : goal.write-requires
-write-requires g c = let by = c.in-Ok-run_by_threads.ensures in run_end c.args.replay.rows (seen_job c.in-Ok.job).input (order_of_job (record { input = (seen_job c.in-Ok.job).input; picks = by.came })) c.in-Ok-run_by_threads.ran by.whole
+write-requires g c = let by = c.in-Ok-run_by_threads.ensures in run_end c.telling.result (seen_job c.in-Ok.job).input (order_of_job (record { input = (seen_job c.in-Ok.job).input; picks = by.came })) c.in-Ok-run_by_threads.ran by.whole
 
 pub returns-clause-tried : goal.returns-clause-tried
-returns-clause-tried g c = tried_threads (seen_replay c.args.replay) c.args.locks _ _ _ _ _ _ c.in-Ok.job c.in-Ok-run_by_threads.ran c.write.result.end c.write.result.order c.requires.threads c.in-Ok.ensures.read c.in-Ok-run_by_threads.ensures c.write.ensures.end c.write.ensures.order c.write.ensures.written
+returns-clause-tried g c = tried_threads (seen_replay c.args.replay) c.args.locks _ _ _ _ _ _ c.in-Ok.job c.in-Ok-run_by_threads.ran c.write.result.end c.write.result.order c.requires.threads c.in-Ok.ensures.read (subst (λ t. IsRanByThreads t (seen_job c.in-Ok.job).input c.in-Ok-run_by_threads.ran) c.telling.ensures c.in-Ok-run_by_threads.ensures) c.write.ensures.end c.write.ensures.order c.write.ensures.written

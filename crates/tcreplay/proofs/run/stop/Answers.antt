@@ -2,10 +2,10 @@ use Rattle.tcreplay.proofs.RunFacts.{told_full, filled_at}
 use Rattle.tcreplay.proofs.run.stop.Goals as goal
 
 pub returns : goal.returns
-returns c rows =
+returns c telling =
     let limit = c.requires.limit in
     record {
-      is = told_full rows c.args.state.input limit.0 c.args.state.order _ _ c.args.ticket limit.1 c.into_order-order.ensures.order c.new.ensures.items;
+      is = told_full telling c.args.state.input limit.0 c.args.state.order _ _ c.args.ticket limit.1 c.into_order-order.ensures.order c.new.ensures.items;
       law = record { moves = c.into_order-order.ensures.moves; few = c.into_order-order.ensures.few; holds = c.into_order-order.ensures.holds };
       filled = filled_at c.args.state.input limit.0 c.args.state.order c.args.ticket limit.1;
     }

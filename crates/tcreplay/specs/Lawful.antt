@@ -1,0 +1,35 @@
+-- What holds of the order of a run.
+use Rattle.std.specs.Prelude.{◌≡◌, ℕ, ◌≤◌, List, length}
+use Rattle.tc_model.specs.Input.{Input}
+use Rattle.tc_model.specs.Run.{start}
+use Rattle.tc_model.specs.Steps.{moving}
+use Rattle.tc_model.specs.Serial.{completed}
+use Rattle.alloc_rules.specs.Machine as allocator
+use Rattle.alloc_rules.specs.Law.{HoldsAfter}
+use Rattle.tcreplay.specs.declared.outcome.End.{End}
+use Rattle.tcreplay.specs.declared.outcome.End.TheVariants.{Full}
+use Rattle.tcreplay.specs.Tasks.{Schedule, InTurn, ByFile, ByThreads}
+use Rattle.tcreplay.specs.Verdict.{Job, order_of_job}
+
+-- the machine's law for an order: each of its picks moves, there are at most as many as may move, and all that holds in
+-- every order holds
+pub record IsLawful (input : Input) (order : List ℕ) : Type 0 where
+  pub moves : moving (allocator.rules input) (start (allocator.rules input)) order ≡ order
+  pub few : length order ≤ input.asked.config.events
+  pub holds : HoldsAfter input order
+
+-- The order of a run whose first picks are those of worker threads is these, completed: behind them the thread of the
+-- earliest call in trace order that hasn't ended is picked. At the limit an order has as many picks as may move.
+abbrev pub IsCompleted : Schedule → Job → List ℕ → Type 0
+IsCompleted InTurn job order = Unit {0}
+IsCompleted (ByFile file) job order = Unit {0}
+IsCompleted (ByThreads locks) job order = order ≡ completed (allocator.rules job.input) (allocator.turns job.input) job.input.asked.config.events job.picks
+
+abbrev pub IsFilled : Input → End → List ℕ → Type 0
+IsFilled input (Full ticket) order = (ticket ≡ input.asked.config.events) × (length order ≡ ticket)
+IsFilled input end order = Unit {0}
+
+pub record IsOrderOf (schedule : Schedule) (job : Job) (end : End) (order : List ℕ) : Type 0 where
+  pub whole : order ≡ order_of_job job
+  pub completed : IsCompleted schedule job order
+  pub filled : IsFilled job.input end order

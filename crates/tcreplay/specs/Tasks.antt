@@ -1,0 +1,70 @@
+-- What a command comes to: a trace is replayed, or one is generated and replayed.
+use Rattle.std.specs.Prelude.{ℕ, ◌≤◌, Bool, List, Option, Some, None, option_map, option_and_then}
+use Rattle.tcreplay.specs.declared.words.Locks.{Locks}
+use Rattle.tcreplay.specs.Words.{Command, Serial, Order, Workers, Gen, command_of}
+
+-- Which picks a replay makes before it goes on in trace order: none, those of an order file, or those of a running thread
+-- for each thread of the trace, under such locks.
+pub data Schedule : Type 0 where
+  InTurn : Schedule
+  ByFile : List ℕ → Schedule
+  ByThreads : Locks → Schedule
+
+abbrev pub file_of : Schedule → Option (List ℕ)
+file_of InTurn = None
+file_of (ByFile order) = Some order
+file_of (ByThreads locks) = None
+
+abbrev pub locks_in : Schedule → Option Locks
+locks_in InTurn = None
+locks_in (ByFile order) = None
+locks_in (ByThreads locks) = Some locks
+
+-- the replay of a trace: the file of the class table, which picks come first, and whether the rows are printed
+pub record Replay : Type 0 where
+  pub classes : List ℕ
+  pub schedule : Schedule
+  pub rows : Bool
+
+-- the generation of a trace: the file of the class table under which it is replayed, its seed, how many calls it has, and
+-- of how many threads
+pub record Workload : Type 0 where
+  pub classes : List ℕ
+  pub seed : ℕ
+  pub calls : ℕ
+  pub threads : ℕ
+
+-- what a command comes to
+pub data Task : Type 0 where
+  ToReplay : Replay → Task
+  ToGenerate : Workload → Task
+
+abbrev pub task_of : Command → Task
+task_of (Serial classes rows) = ToReplay (record { classes = classes; schedule = InTurn; rows = rows })
+task_of (Order classes order rows) = ToReplay (record { classes = classes; schedule = ByFile order; rows = rows })
+task_of (Workers classes locks rows) = ToReplay (record { classes = classes; schedule = ByThreads locks; rows = rows })
+task_of (Gen classes seed calls threads) = ToGenerate (record { classes = classes; seed = seed; calls = calls; threads = threads })
+
+-- what the words ask for, where they are in the grammar
+abbrev pub task_by : List (List ℕ) → Option Task
+task_by words = option_map task_of (command_of words)
+
+-- the locks of the worker threads that are asked for, where any are
+abbrev pub task_locks : Task → Option Locks
+task_locks (ToReplay replay) = locks_in replay.schedule
+task_locks (ToGenerate load) = None
+
+abbrev pub threads_in : Option Task → Option Locks
+threads_in asked = option_and_then task_locks asked
+
+-- the numbers of a workload are in their ranges
+pub record IsWorkload (load : Workload) : Type 0 where
+  pub seed : load.seed ≤ 2147483647
+  pub some_calls : 1 ≤ load.calls
+  pub calls : load.calls ≤ 500000
+  pub some_threads : 1 ≤ load.threads
+  pub threads : load.threads ≤ 64
+
+abbrev pub IsTask : Task → Type 0
+IsTask (ToReplay replay) = Unit {0}
+IsTask (ToGenerate load) = IsWorkload load

@@ -1,0 +1,129 @@
+//! The generation of a trace: it is replayed in serial, and only then it is written, and the summary of that
+//! replay behind it.
+ghost use Rattle.std.specs.Prelude.{◌≡◌, IfOk, OnOk, OnErr};
+ghost use Rattle.tcreplay.specs.declared.outcome.End.TheVariants as end;
+ghost use Rattle.tcreplay.specs.Status.{status_of};
+ghost use Rattle.tcreplay.specs.Tasks.{IsWorkload};
+ghost use Rattle.tcreplay.specs.Seen.{seen_workload};
+ghost use Rattle.tcreplay.specs.Reads.{Reading, IsRunnable};
+ghost use Rattle.tcreplay.specs.Writes.{IsRunEnd, IsLastEnd};
+ghost use Rattle.tcreplay.specs.Generating.{IsMade, AreWritten, HasGenerated};
+
+use crate::input::{Job, load_table, trace_of};
+use crate::outcome::{End, Outcome};
+use crate::run::{Ran, Telling, run};
+use crate::task::Workload;
+use std::alloc::Global;
+use tc_ports::{Failed, Shelf, Sink};
+
+/// A generated trace, and its serial replay under a class table.
+#[derive(Drop)]
+pub struct Made {
+    pub text: Vec<u8>,
+    pub job: Job,
+}
+
+/// Makes the trace of a workload, and reads what it asks for under the class table of its file.
+fn make<F: Shelf>(alloc: Global, load: Workload, files: &mut F) -> Result<Made, End>
+    requires ranges { IsWorkload (seen_workload load) }
+    ensures made { IsMade (seen_workload load.entry)
+        (record { files = F.files files.old; faults = F.faults files.old; loads = F.loads files.old })
+        (record { files = F.files files.new; faults = F.faults files.new; loads = F.loads files.new }) result }
+    ensures runnable { IfOk result (λ made. IsRunnable made.job) }
+{
+    let table = load_table(alloc, load.classes, files)?;
+    let Ok(text) = trace_gen::generate(alloc, load.seed, load.calls, load.threads as u8) else {
+        return Err(End::Memory);
+    };
+    let trace = trace_of(alloc, &table, &text)?;
+    let picks = Vec::new(alloc);
+    let job = Job {
+        table,
+        trace,
+        picks,
+    };
+    Ok(Made { text, job })
+}
+
+/// Writes a trace, and then a summary, each by one put.
+fn put_both<K: Sink, N: Sink>(
+    out: &mut K,
+    notes: &mut N,
+    trace: &[u8],
+    summary: &[u8],
+) -> Result<(), Failed>
+    ensures written { OnOk result (AreWritten end.Done trace.now summary.now
+        (record { taken = K.taken out.old; faults = K.faults out.old; puts = K.puts out.old })
+        (record { taken = K.taken out.new; faults = K.faults out.new; puts = K.puts out.new })
+        (record { taken = N.taken notes.old; faults = N.faults notes.old; puts = N.puts notes.old })
+        (record { taken = N.taken notes.new; faults = N.faults notes.new; puts = N.puts notes.new })) }
+    ensures failed { OnErr result (AreWritten end.WriteFault trace.now summary.now
+        (record { taken = K.taken out.old; faults = K.faults out.old; puts = K.puts out.old })
+        (record { taken = K.taken out.new; faults = K.faults out.new; puts = K.puts out.new })
+        (record { taken = N.taken notes.old; faults = N.faults notes.old; puts = N.puts notes.old })
+        (record { taken = N.taken notes.new; faults = N.faults notes.new; puts = N.puts notes.new })) }
+{
+    out.put(trace)?;
+    notes.put(summary)
+}
+
+/// Writes a trace whose replay has ended, and the summary of that.
+fn write<K: Sink, N: Sink>(out: &mut K, notes: &mut N, trace: &[u8], ran: Ran) -> Outcome
+    requires { IsRunEnd ran.end }
+    ensures status { result.status ≡ status_of result.end }
+    ensures order { result.order ≡ ran.order.items }
+    ensures end { IsLastEnd ran.end result.end }
+    ensures written { AreWritten result.end trace.now ran.text.items
+        (record { taken = K.taken out.old; faults = K.faults out.old; puts = K.puts out.old })
+        (record { taken = K.taken out.new; faults = K.faults out.new; puts = K.puts out.new })
+        (record { taken = N.taken notes.old; faults = N.faults notes.old; puts = N.puts notes.old })
+        (record { taken = N.taken notes.new; faults = N.faults notes.new; puts = N.puts notes.new }) }
+{
+    let Ran {
+        end,
+        order,
+        text: summary,
+    } = ran;
+    if end != End::Done {
+        return Outcome::new(end, order);
+    }
+    match put_both(out, notes, trace, &summary) {
+        Ok(()) => Outcome::new(End::Done, order),
+        Err(Failed) => Outcome::new(End::WriteFault, order),
+    }
+}
+
+/// Generates a trace: it is made and replayed, and then it and the summary are written.
+pub fn generate<F: Shelf, K: Sink, N: Sink>(
+    alloc: Global,
+    load: Workload,
+    files: &mut F,
+    out: &mut K,
+    notes: &mut N,
+) -> Outcome
+    requires ranges { IsWorkload (seen_workload load) }
+    ensures status { result.status ≡ status_of result.end }
+    ensures generated { (source : Reading) → HasGenerated (seen_workload load.entry)
+        (record {
+          trace = source;
+          files = record { files = F.files files.old; faults = F.faults files.old; loads = F.loads files.old };
+          out = record { taken = K.taken out.old; faults = K.faults out.old; puts = K.puts out.old };
+          notes = record { taken = N.taken notes.old; faults = N.faults notes.old; puts = N.puts notes.old };
+        })
+        (record {
+          trace = source;
+          files = record { files = F.files files.new; faults = F.faults files.new; loads = F.loads files.new };
+          out = record { taken = K.taken out.new; faults = K.faults out.new; puts = K.puts out.new };
+          notes = record { taken = N.taken notes.new; faults = N.faults notes.new; puts = N.puts notes.new };
+        })
+        result.end result.order }
+{
+    let Made { text, job } = match make(alloc, load, files) {
+        Ok(made) => made,
+        Err(end) => return Outcome::without_run(alloc, end),
+    };
+    match run(alloc, job, Telling::Summary) {
+        Ok(ran) => write(out, notes, &text, ran),
+        Err(_) => Outcome::without_run(alloc, End::Memory),
+    }
+}

@@ -1,0 +1,116 @@
+//! What a command comes to: a trace is replayed, or one is generated and replayed.
+ghost use Rattle.std.specs.Prelude.{◌≡◌, IfSome, map, option_map, string_bytes};
+ghost use Rattle.tcreplay.specs.declared.run.Telling.TheVariants as telling;
+ghost use Rattle.tcreplay.specs.Tasks.{task_of, task_by, file_of, IsTask};
+ghost use Rattle.tcreplay.specs.Seen.{seen_command, seen_schedule, seen_task};
+
+use crate::run::Telling;
+use crate::words::{Command, Locks, command_of};
+
+/// Which picks a replay makes before it goes on in trace order.
+#[derive(Clone, Copy, Debug)]
+pub enum Schedule<'a> {
+    /// None.
+    InTurn,
+    /// Those of an order file.
+    ByFile { order: &'a str },
+    /// Those of a running thread for each thread of the trace.
+    ByThreads { locks: Locks },
+}
+
+impl<'a> Schedule<'a> {
+    /// The order file, where one is named.
+    pub fn file(self) -> Option<&'a str>
+        ensures { option_map (λ name. name.now) result ≡ file_of (seen_schedule self.entry) }
+    {
+        match self {
+            Schedule::ByFile { order } => Some(order),
+            Schedule::InTurn | Schedule::ByThreads { .. } => None,
+        }
+    }
+}
+
+/// A replay: the file of the class table, which picks come first, and whether a line for each hugepage is
+/// printed.
+#[derive(Clone, Copy, Debug)]
+pub struct Replay<'a> {
+    pub classes: &'a str,
+    pub schedule: Schedule<'a>,
+    pub rows: bool,
+}
+
+impl<'a> Replay<'a> {
+    /// What is told of its run.
+    pub fn telling(self) -> Telling
+        ensures { result ≡ telling.Whole self.entry.rows }
+    {
+        let rows = self.rows;
+        Telling::Whole { rows }
+    }
+}
+
+/// The generation of a trace: the file of the class table under which it is replayed, its seed, how many
+/// calls it has, and of how many threads.
+#[derive(Clone, Copy, Debug)]
+pub struct Workload<'a> {
+    pub classes: &'a str,
+    pub seed: u64,
+    pub calls: u64,
+    pub threads: u64,
+}
+
+/// What a command comes to.
+#[derive(Clone, Copy, Debug)]
+pub enum Task<'a> {
+    /// A trace is replayed.
+    Replay(Replay<'a>),
+    /// A trace is generated, and replayed in serial.
+    Generate(Workload<'a>),
+}
+
+impl<'a> Task<'a> {
+    /// What a command comes to.
+    fn of(command: Command<'a>) -> Self
+        ensures { seen_task result ≡ task_of (seen_command command.entry) }
+    {
+        let (classes, schedule, rows) = match command {
+            Command::Serial { classes, rows } => (classes, Schedule::InTurn, rows),
+            Command::Order {
+                classes,
+                order,
+                rows,
+            } => (classes, Schedule::ByFile { order }, rows),
+            Command::Workers {
+                classes,
+                locks,
+                rows,
+            } => (classes, Schedule::ByThreads { locks }, rows),
+            Command::Gen {
+                classes,
+                seed,
+                calls,
+                threads,
+            } => {
+                return Task::Generate(Workload {
+                    classes,
+                    seed,
+                    calls,
+                    threads,
+                });
+            }
+        };
+        Task::Replay(Replay {
+            classes,
+            schedule,
+            rows,
+        })
+    }
+}
+
+/// What the words ask for. `None` exactly where they are not in the grammar.
+pub fn task_by(words: &[String]) -> Option<Task<'_>>
+    ensures task { option_map seen_task result ≡ task_by (map string_bytes words.now) }
+    ensures ranges { IfSome result (λ task. IsTask (seen_task task)) }
+{
+    command_of(words).map(Task::of)
+}
