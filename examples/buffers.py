@@ -1,6 +1,6 @@
 """Two threads fill buffers, one by one, and the first thread drops them. buffers.trace is a record of it, made by
 
-    tools/record/record --into FOLDER --cpus 2 python3 -I -S examples/recorded/buffers.py
+    tools/record/record --into FOLDER --cpus 2 python3 -I -S examples/buffers.py
 """
 import _thread
 
