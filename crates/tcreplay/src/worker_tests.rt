@@ -32,6 +32,9 @@ const CROSSED_SMALL: &[u8] = b"cpus 2\nthreads 2\na 0 0 10\na 1 1 10\nf 1 0\nf 0
 /// free asks for another one. Each CPU keeps objects of it.
 const CROSSED_SMALL_END: &[u8] = b"\ncalls 4\nlive 0 0\nused 1\nresident 256\nfrag 1000\n";
 
+/// Of that, what holds in every order: where both threads miss at once, each makes a span.
+const CROSSED_SMALL_LIVE: &[u8] = b"\ncalls 4\nlive 0 0\nused ";
+
 /// A mix of four threads. In every order each allocation is served: even without a free they need 6 of
 /// the 8 hugepages at most.
 const MIX: &[u8] =
@@ -393,7 +396,7 @@ fn the_order_that_came_replays_to_the_same_text(rt: HostRuntime) -> Result<(), F
 /// Made to be tried with each of its allocations refused in turn: either the whole text was written, or
 /// nothing was, and the note tells it. A refusal before the call ends the test.
 fn refused_in_turn<R: Threads + Wait + Sync + Abort>(rt: &R, alloc: Global, command: &str) {
-    let Ok(mut ends) = open(alloc, CROSSED, b"") else {
+    let Ok(mut ends) = open(alloc, CROSSED_SMALL, b"") else {
         return;
     };
     let Ok(outcome) = replay(rt, alloc, command, &mut ends, &OpenGate) else {
@@ -404,8 +407,7 @@ fn refused_in_turn<R: Threads + Wait + Sync + Abort>(rt: &R, alloc: Global, comm
         assert_case(rt, &memory, &outcome, &ends);
     } else {
         assert_eq!(rt; outcome.end, End::Done);
-        assert_eq!(rt; outcome.order.as_slice().len(), 14);
-        assert!(rt; has(ends.out.taken(), CROSSED_END));
+        assert!(rt; has(ends.out.taken(), CROSSED_SMALL_LIVE));
     }
 }
 
