@@ -1,5 +1,5 @@
 -- A trace that was read, for what it asks.
-use Rattle.std.proofs.Common.{◌≡◌, ℕ, List, Result, Ok, Err, ap, sym, subst}
+use Rattle.std.proofs.Common.{◌≡◌, ℕ, Result, Ok, Err, ap, sym, subst}
 use Rattle.std.specs.Prelude.{IsOkAnd}
 use Rattle.tc_model.specs.Input.{Asked}
 use Rattle.trace_reader.specs.declared.trace.Trace.{Trace}

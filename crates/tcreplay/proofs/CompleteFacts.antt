@@ -14,9 +14,9 @@ use Rattle.tcreplay.specs.Verdict.{Given, Job, and_then, rows_in, asked_in, pick
 use Rattle.tc_ports.specs.Faults.{Rose}
 use Rattle.tcreplay.specs.Reads.{Reading, Shelving, IsFile, HaveCome, AreGiven, CutOff}
 use Rattle.tcreplay.specs.Writes.{Writing, Ends, IsWritten, IsNoted}
-use Rattle.tcreplay.specs.Generating.{trace_of, load_verdict, AreWritten, IsLoadEnd, HasGenerated}
+use Rattle.tcreplay.specs.Generating.{trace_of, generation_verdict, AreWritten, IsGenerationEnd, HasGenerated}
 use Rattle.tcreplay.specs.Replayed.{HasTried, verdict_on}
-use Rattle.tcreplay.specs.Outcomes.{IsAnswered, IsOutcome, SomeRose, SomeLoadRose, IsComplete, order_file, given_by}
+use Rattle.tcreplay.specs.Outcomes.{IsAnswered, IsOutcome, SomeRose, SomeGenerationRose, IsComplete, order_file, given_by}
 use Rattle.tcreplay.proofs.EndFacts.{FailsJob, job_fails}
 use Rattle.tcreplay.proofs.RunFacts.{verdict_if}
 
@@ -106,27 +106,27 @@ noted_count end before after (inl whole) = inl whole.count
 noted_count end before after (inr part) = inr part.rose
 
 -- a trace was generated
-load_told : (load : Workload) (all : Files) (files : Option Files) (table : Option (List ℕ)) → files ≡ Some all → IsFile files load.classes table → table ≡ get all load.classes
-load_told load all files table told is = subst (λ s. IsFile s load.classes table) told is
+generation_told : (workload : Workload) (all : Files) (files : Option Files) (table : Option (List ℕ)) → files ≡ Some all → IsFile files workload.classes table → table ≡ get all workload.classes
+generation_told workload all files table told is = subst (λ s. IsFile s workload.classes table) told is
 
-write_rose : (load : Workload) (trace summary : List ℕ) (before after : Ends) (noted : Writing) → AreWritten WriteFault trace summary before.out after.out before.notes noted → (after.notes.faults ≡ noted.faults) ⊎ Rose noted.faults after.notes.faults → SomeLoadRose before after
-write_rose load trace summary before after noted (inl part) count = inr (inl part.0.rose)
-write_rose load trace summary before after noted (inr part) count = inr (inr (rose_on before.notes.faults noted.faults after.notes.faults part.1.rose count))
+write_rose : (workload : Workload) (trace summary : List ℕ) (before after : Ends) (noted : Writing) → AreWritten WriteFault trace summary before.out after.out before.notes noted → (after.notes.faults ≡ noted.faults) ⊎ Rose noted.faults after.notes.faults → SomeGenerationRose before after
+write_rose workload trace summary before after noted (inl part) count = inr (inl part.0.rose)
+write_rose workload trace summary before after noted (inr part) count = inr (inr (rose_on before.notes.faults noted.faults after.notes.faults part.1.rose count))
 
-complete_generated : (load : Workload) (before after : Ends) (noted : Writing) (end : End) (order : List ℕ) → HasGenerated load before (record after { notes = noted }) end order → IsNoted end noted after.notes → IsComplete (Some (ToGenerate load)) before after end order
-complete_generated load before after noted end order generated told all files =
-    let table = load_told load all before.files.files generated.table files generated.told in
+complete_generated : (workload : Workload) (before after : Ends) (noted : Writing) (end : End) (order : List ℕ) → HasGenerated workload before (record after { notes = noted }) end order → IsNoted end noted after.notes → IsComplete (Some (ToGenerate workload)) before after end order
+complete_generated workload before after noted end order generated told all files =
+    let table = generation_told workload all before.files.files generated.table files generated.told in
     elim generated.answer [
       | inl is ↦ inl (record {
-        end_is = is.0 ∙ ap (λ t. (load_verdict load t).end) table;
-        order_is = is.1 ∙ ap (λ t. (load_verdict load t).order) table;
+        end_is = is.0 ∙ ap (λ t. (generation_verdict workload t).end) table;
+        order_is = is.1 ∙ ap (λ t. (generation_verdict workload t).order) table;
       })
       | inr (inl (none, inl memory)) ↦ inr (inl memory)
       | inr (inl (none, inr failed)) ↦ inr (inr (inl failed.1))
-      | inr (inr failed) ↦ inr (inr (write_rose load (trace_of load) (load_verdict load generated.table).text before after noted (subst (λ e. AreWritten e (trace_of load) (load_verdict load generated.table).text before.out after.out before.notes noted) failed.0 generated.written) (noted_count end noted after.notes told)))
+      | inr (inr failed) ↦ inr (inr (write_rose workload (trace_of workload) (generation_verdict workload generated.table).text before after noted (subst (λ e. AreWritten e (trace_of workload) (generation_verdict workload generated.table).text before.out after.out before.notes noted) failed.0 generated.written) (noted_count end noted after.notes told)))
     ]
 
-generated_usage : (end : End) → IsLoadEnd end → is_usage end ≡ false
+generated_usage : (end : End) → IsGenerationEnd end → is_usage end ≡ false
 generated_usage Usage is = absurd is
 generated_usage end is = refl
 
@@ -135,7 +135,7 @@ pub usage_by : (asked : Option Task) (before after : Ends) (end : End) (order : 
 usage_by None before after end order refused = (λ _. refl, λ _. refused.usage)
 usage_by (Some (ToReplay replay)) before after end order tried =
     (λ usage. absurd (let e : true ≡ false = sym (ap is_usage usage) ∙ tried_usage replay before.trace after.trace before.files after.files before.out after.out end order tried.0 in cc), λ none. absurd (cc))
-usage_by (Some (ToGenerate load)) before after end order generated =
+usage_by (Some (ToGenerate workload)) before after end order generated =
     (λ usage. absurd (let e : true ≡ false = sym (ap is_usage usage) ∙ generated_usage end generated.ends in cc), λ none. absurd (cc))
 
 pub usage_is : (asked : Option Task) (before after : Ends) (end : End) (order : List ℕ) → IsOutcome asked before after end order → (end ≡ Usage) ↔ (asked ≡ None)
@@ -144,7 +144,7 @@ usage_is asked before after end order outcome = usage_by asked before (record af
 complete_by : (asked : Option Task) (before after : Ends) (noted : Writing) (end : End) (order : List ℕ) → IsAnswered asked before (record after { notes = noted }) end order → IsNoted end noted after.notes → IsComplete asked before after end order
 complete_by None before after noted end order refused told = refused.usage
 complete_by (Some (ToReplay replay)) before after noted end order tried told = complete_tried replay before after end order tried.0
-complete_by (Some (ToGenerate load)) before after noted end order generated told = complete_generated load before after noted end order generated told
+complete_by (Some (ToGenerate workload)) before after noted end order generated told = complete_generated workload before after noted end order generated told
 
 pub complete_is : (asked : Option Task) (before after : Ends) (end : End) (order : List ℕ) → IsOutcome asked before after end order → IsComplete asked before after end order
 complete_is asked before after end order outcome = complete_by asked before after outcome.noted end order outcome.answered outcome.notes

@@ -1,30 +1,25 @@
 -- What the generation of a trace comes to, from what its steps come to.
-use Rattle.std.proofs.Common.{◌≡◌, ◌⊎◌, ℕ, Bool, true, false, List, [], length, Option, Some, Result, Ok, Err, refl, sym, ap, subst, ◌∙◌, inl, inr}
-use Rattle.std.specs.Prelude.{IsOk, IfOk}
+use Rattle.std.proofs.Common.{◌≡◌, ◌⊎◌, ℕ, Bool, true, false, List, [], length, Option, Result, Ok, Err, refl, sym, ap, subst, ◌∙◌, inl, inr}
+use Rattle.std.specs.Prelude.{IsOk}
 use Rattle.tc_units.specs.declared.spans.ClassRow.{ClassRow}
 use Rattle.tc_model.specs.Input.{Asked}
-use Rattle.tc_ports.specs.Faults.{one_more, Rose}
+use Rattle.tc_ports.specs.Faults.{Rose}
 use Rattle.tc_ports.specs.Told.{Took}
-use Rattle.trace_reader.specs.declared.trace.Trace.{Trace}
 use Rattle.trace_reader.specs.Reading.{asked_by}
-use Rattle.alloc_rules.specs.Machine.{rules}
-use Rattle.tc_model.specs.Run.{run}
 use Rattle.tc_machine.specs.Inputs.{asked_of}
-use Rattle.tc_machine.specs.Finish.{finished_in}
 use Rattle.tcreplay.specs.declared.outcome.End.{End}
 use Rattle.tcreplay.specs.declared.outcome.End.TheVariants.{Done, Usage, BadTable, BadTrace, ReadFault, WriteFault, Memory, TooLong, Full, BadOrder, FileFault}
 use Rattle.tcreplay.specs.declared.generate.Made.{Made}
 use Rattle.tcreplay.specs.declared.run.Ran.{Ran}
 use Rattle.tcreplay.specs.declared.run.Telling.TheVariants.{Summary}
 use Rattle.tcreplay.specs.Tasks.{Workload, InTurn}
-use Rattle.tcreplay.specs.Verdict.{Job, Verdict, and_then, or_end, trace_end, rows_in, asked_of_text, run_verdict, have_ended, order_of_job}
-use Rattle.tcreplay.specs.Reads.{Reading, Shelving, IsPure, IsLoad, seen_job}
+use Rattle.tcreplay.specs.Verdict.{Job, Verdict, and_then, or_end, trace_end, rows_in, asked_of_text, run_verdict, order_of_job}
+use Rattle.tcreplay.specs.Reads.{Reading, Shelving, IsLoad, seen_job}
 use Rattle.tcreplay.specs.Ran.{seen_ran, IsRan}
 use Rattle.tcreplay.specs.Writes.{Writing, Ends, TookText, IsRunEnd, IsLastEnd, is_behind_run}
 use Rattle.tcreplay.specs.Lawful.{IsLawful, IsOrderOf}
-use Rattle.tcreplay.specs.Generating.{trace_of, load_job_with, load_job, load_verdict, IsMade, IsLoadAnswer, IsLoadEnd, AreWritten, IsLoadHeadline, HasGenerated}
+use Rattle.tcreplay.specs.Generating.{trace_of, generation_job_with, generation_job, generation_verdict, IsMade, IsGenerationAnswer, IsGenerationEnd, AreWritten, IsGenerationHeadline, HasGenerated}
 use Rattle.tcreplay.proofs.EndFacts.{FailsTable, table_fails}
-use Rattle.tcreplay.proofs.RunFacts.{verdict_if}
 use Rattle.tcreplay.proofs.RanFacts.{run_end, order_is, lawful, text_is, have_all_ended, its_run}
 
 -- a trace that is valid for any number of classes is valid under any class table
@@ -39,42 +34,45 @@ valid_under text valid rows = ok_end trace_end (asked_by (length rows) text) (va
 abbrev job_on : List ClassRow → Asked → Result Job End
 job_on rows asked = Ok (record { input = record { rows = rows; asked = asked }; picks = [] })
 
-module _ (load : Workload) (f g : Shelving) (valid : (classes : ℕ) → IsOk (asked_by classes (trace_of load))) where
+module _ (workload : Workload) (f g : Shelving) (valid : (classes : ℕ) → IsOk (asked_by classes (trace_of workload))) where
   -- the class table gave none, or memory ran out behind it
-  pub made_without : (end : End) → IsLoad (λ (rows : List ClassRow). rows) rows_in load.classes f g (Err end) → IsMade load f g (Err end)
+  pub made_without : (end : End) → IsLoad (λ (rows : List ClassRow). rows) rows_in workload.classes f g (Err end) → IsMade workload f g (Err end)
   made_without end read = record {
-    valid = valid_under (trace_of load) valid;
+    valid = valid_under (trace_of workload) valid;
     made = record { file = read.file; told = read.told; step = step read.step; files = read.files; once = read.once };
     text = tt;
   }
     where
-      step : ((rows_in read.file ≡ Err end) × (g.faults ≡ f.faults)) ⊎ (((end ≡ Memory) × (g.faults ≡ f.faults)) ⊎ ((end ≡ FileFault) × Rose f.faults g.faults)) → ((load_job load read.file ≡ Err end) × (g.faults ≡ f.faults)) ⊎ (((end ≡ Memory) × (g.faults ≡ f.faults)) ⊎ ((end ≡ FileFault) × Rose f.faults g.faults))
-      step (inl e) = inl (ap (and_then (load_job_with load)) e.0, e.1)
+      step : ((rows_in read.file ≡ Err end) × (g.faults ≡ f.faults)) ⊎ (((end ≡ Memory) × (g.faults ≡ f.faults)) ⊎ ((end ≡ FileFault) × Rose f.faults g.faults)) → ((generation_job workload read.file ≡ Err end) × (g.faults ≡ f.faults)) ⊎ (((end ≡ Memory) × (g.faults ≡ f.faults)) ⊎ ((end ≡ FileFault) × Rose f.faults g.faults))
+      step (inl e) = inl (ap (and_then (generation_job_with workload)) e.0, e.1)
       step (inr other) = inr other
 
-  pub made_memory : (rows : List ClassRow) → IsLoad (λ (rows : List ClassRow). rows) rows_in load.classes f g (Ok rows) → IsMade load f g (Err Memory)
+  pub made_memory : (rows : List ClassRow) → IsLoad (λ (rows : List ClassRow). rows) rows_in workload.classes f g (Ok rows) → IsMade workload f g (Err Memory)
   made_memory rows read = record {
-    valid = valid_under (trace_of load) valid;
+    valid = valid_under (trace_of workload) valid;
     made = record { file = read.file; told = read.told; step = inr (inl (refl, read.step.1)); files = read.files; once = read.once };
     text = tt;
   }
 
   -- what the trace asks for wasn't given: memory ran out, as it is valid
-  pub made_unread : (rows : List ClassRow) (text : List ℕ) (end : End) → text ≡ trace_of load → IsLoad (λ (rows : List ClassRow). rows) rows_in load.classes f g (Ok rows) → (asked_of_text rows text ≡ Err end) ⊎ (end ≡ Memory) → IsMade load f g (Err end)
-  made_unread rows text end is read (inl bad) = absurd (let never : false ≡ true = subst IsOk (ap (asked_of_text rows) (sym is) ∙ bad) (valid_under (trace_of load) valid rows) in cc)
-  made_unread rows text end is read (inr memory) = subst (λ e. IsMade load f g (Err e)) (sym memory) (made_memory rows read)
+  pub made_unread : (rows : List ClassRow) (text : List ℕ) (end : End) → text ≡ trace_of workload → IsLoad (λ (rows : List ClassRow). rows) rows_in workload.classes f g (Ok rows) → (asked_of_text rows text ≡ Err end) ⊎ (end ≡ Memory) → IsMade workload f g (Err end)
+  made_unread rows text end is read (inl bad) = absurd (let never : false ≡ true = subst IsOk (ap (asked_of_text rows) (sym is) ∙ bad) (valid_under (trace_of workload) valid rows) in cc)
+  made_unread rows text end is read (inr memory) = subst (λ e. IsMade workload f g (Err e)) (sym memory) (made_memory rows read)
 
-  pub made_whole : (rows : List ClassRow) (made : Made) → made.job.table ≡ rows → made.job.picks.items ≡ [] → made.text.items ≡ trace_of load → IsLoad (λ (rows : List ClassRow). rows) rows_in load.classes f g (Ok rows) → asked_of_text rows made.text.items ≡ Ok (asked_of made.job.trace) → IsMade load f g (Ok made)
+  pub made_whole : (rows : List ClassRow) (made : Made) → made.job.table ≡ rows → made.job.picks.items ≡ [] → made.text.items ≡ trace_of workload → IsLoad (λ (rows : List ClassRow). rows) rows_in workload.classes f g (Ok rows) → asked_of_text rows made.text.items ≡ Ok (asked_of made.job.trace) → IsMade workload f g (Ok made)
   made_whole rows made table none text read asked = record {
-    valid = valid_under (trace_of load) valid;
+    valid = valid_under (trace_of workload) valid;
     made = record {
       file = read.file;
       told = read.told;
-      step = (ap (and_then (load_job_with load)) read.step.0
-          ∙ (ap (λ t. and_then (job_on rows) (asked_of_text rows t)) (sym text)
-          ∙ (ap (and_then (job_on rows)) asked
-          ∙ (ap (λ r. Ok (record { input = record { rows = r; asked = asked_of made.job.trace }; picks = [] })) (sym table)
-          ∙ ap (λ p. Ok (record { input = record { rows = made.job.table; asked = asked_of made.job.trace }; picks = p })) (sym none)))), read.step.1);
+      step = (
+        ap (and_then (generation_job_with workload)) read.step.0
+            ∙ (ap (λ t. and_then (job_on rows) (asked_of_text rows t)) (sym text)
+            ∙ (ap (and_then (job_on rows)) asked
+            ∙ (ap (λ r. Ok (record { input = record { rows = r; asked = asked_of made.job.trace }; picks = [] })) (sym table)
+            ∙ ap (λ p. Ok (record { input = record { rows = made.job.table; asked = asked_of made.job.trace }; picks = p })) (sym none)))),
+        read.step.1,
+      );
       files = read.files;
       once = read.once;
     };
@@ -92,23 +90,23 @@ is_barred end = false
 not_barred : FailsTable is_barred
 not_barred = record { all = record { missing = refl; memory = refl; long = λ _. refl }; bad = λ _ _. refl }
 
-load_end_by : (end : End) → is_barred end ≡ false → IsLoadEnd end
-load_end_by Done is = tt
-load_end_by Usage is = absurd (cc)
-load_end_by (BadTable row why) is = tt
-load_end_by (BadTrace line why) is = absurd (cc)
-load_end_by ReadFault is = absurd (cc)
-load_end_by WriteFault is = tt
-load_end_by Memory is = tt
-load_end_by (TooLong limit) is = tt
-load_end_by (Full ticket) is = tt
-load_end_by (BadOrder line why) is = absurd (cc)
-load_end_by FileFault is = tt
+generation_end_by : (end : End) → is_barred end ≡ false → IsGenerationEnd end
+generation_end_by Done is = tt
+generation_end_by Usage is = absurd (cc)
+generation_end_by (BadTable row why) is = tt
+generation_end_by (BadTrace line why) is = absurd (cc)
+generation_end_by ReadFault is = absurd (cc)
+generation_end_by WriteFault is = tt
+generation_end_by Memory is = tt
+generation_end_by (TooLong limit) is = tt
+generation_end_by (Full ticket) is = tt
+generation_end_by (BadOrder line why) is = absurd (cc)
+generation_end_by FileFault is = tt
 
 -- a replay that can't begin ends at the class table
-table_ends : (load : Workload) (end : End) → ((rows : List ClassRow) → IsOk (asked_of_text rows (trace_of load))) → (file : Option (List ℕ)) (rows : Result (List ClassRow) End) → rows_in file ≡ rows → and_then (load_job_with load) rows ≡ Err end → rows_in file ≡ Err end
-table_ends load end valid file (Err other) is bad = let same : other ≡ end = cc in is ∙ ap Err same
-table_ends load end valid file (Ok rows) is bad = absurd (by_asked (asked_of_text rows (trace_of load)) (valid rows) bad)
+table_ends : (workload : Workload) (end : End) → ((rows : List ClassRow) → IsOk (asked_of_text rows (trace_of workload))) → (file : Option (List ℕ)) (rows : Result (List ClassRow) End) → rows_in file ≡ rows → and_then (generation_job_with workload) rows ≡ Err end → rows_in file ≡ Err end
+table_ends workload end valid file (Err other) is bad = let same : other ≡ end = cc in is ∙ ap Err same
+table_ends workload end valid file (Ok rows) is bad = absurd (by_asked (asked_of_text rows (trace_of workload)) (valid rows) bad)
   where
     by_asked : (asked : Result Asked End) → IsOk asked → and_then (job_on rows) asked ≡ Err end → ⊥
     by_asked (Ok asked) is bad = cc
@@ -130,40 +128,40 @@ not_run = record { all = record { missing = refl; memory = refl; long = λ _. re
 abbrev pub ends_of : Reading → Shelving → Writing → Writing → Ends
 ends_of source files out notes = record { trace = source; files = files; out = out; notes = notes }
 
-module _ (load : Workload) (source : Reading) (f g : Shelving) (out notes : Writing) where
-  stopped_by : (end : End) (order : List ℕ) (made : IsMade load f g (Err end)) → IsLoadAnswer load made.made.file f g end order → is_barred end ≡ false → is_behind_run end ≡ false → ((end ≡ FileFault → ⊥) → g.faults ≡ f.faults) → HasGenerated load (ends_of source f out notes) (ends_of source g out notes) end order
+module _ (workload : Workload) (source : Reading) (f g : Shelving) (out notes : Writing) where
+  stopped_by : (end : End) (order : List ℕ) (made : IsMade workload f g (Err end)) → IsGenerationAnswer workload made.made.file f g end order → is_barred end ≡ false → is_behind_run end ≡ false → ((end ≡ FileFault → ⊥) → g.faults ≡ f.faults) → HasGenerated workload (ends_of source f out notes) (ends_of source g out notes) end order
   stopped_by end order made answer barred early count = record {
     table = made.made.file;
     told = made.made.told;
     valid = made.valid;
     answer = answer;
-    ends = load_end_by end barred;
+    ends = generation_end_by end barred;
     trace = refl;
     files = made.made.files;
     once = made.made.once;
     file_count = count;
-    written = not_written end (trace_of load) (load_verdict load made.made.file).text out notes early;
+    written = not_written end (trace_of workload) (generation_verdict workload made.made.file).text out notes early;
     law = λ later. absurd (not_later end early later);
     run = λ later. absurd (not_later end early later);
     headline = λ done. absurd (not_later end early (ap is_behind_run done));
   }
 
   -- the work ended before the run
-  generated_stopped : (end : End) (order : List ℕ) → order ≡ [] → IsMade load f g (Err end) → HasGenerated load (ends_of source f out notes) (ends_of source g out notes) end order
+  generated_stopped : (end : End) (order : List ℕ) → order ≡ [] → IsMade workload f g (Err end) → HasGenerated workload (ends_of source f out notes) (ends_of source g out notes) end order
   generated_stopped end order none made = elim made.made.step [
     | inl e ↦
-        let bad : rows_in made.made.file ≡ Err end = table_ends load end made.valid made.made.file (rows_in made.made.file) refl e.0 in
-        let answer : IsLoadAnswer load made.made.file f g end order = inl (sym (ap (λ r. (run_verdict Summary r).end) e.0), none ∙ sym (ap (λ r. (run_verdict Summary r).order) e.0)) in
+        let bad : rows_in made.made.file ≡ Err end = table_ends workload end made.valid made.made.file (rows_in made.made.file) refl e.0 in
+        let answer : IsGenerationAnswer workload made.made.file f g end order = inl (sym (ap (λ r. (run_verdict Summary r).end) e.0), none ∙ sym (ap (λ r. (run_verdict Summary r).order) e.0)) in
         stopped_by end order made answer (table_fails is_barred made.made.file end not_barred bad) (table_fails is_behind_run made.made.file end not_run bad) (λ _. e.1)
     | inr (inl memory) ↦ stopped_by end order made (inr (inl (none, inl memory.0))) (ap is_barred memory.0) (ap is_behind_run memory.0) (λ _. memory.1)
     | inr (inr failed) ↦ stopped_by end order made (inr (inl (none, inr failed))) (ap is_barred failed.0) (ap is_behind_run failed.0) (λ other. absurd (other failed.0))
   ]
 
-  pub generated_ended : (end answered : End) (order : List ℕ) → answered ≡ end → order ≡ [] → IsMade load f g (Err end) → HasGenerated load (ends_of source f out notes) (ends_of source g out notes) answered order
-  generated_ended end answered order same none made = subst (λ e. HasGenerated load (ends_of source f out notes) (ends_of source g out notes) e order) (sym same) (generated_stopped end order none made)
+  pub generated_ended : (end answered : End) (order : List ℕ) → answered ≡ end → order ≡ [] → IsMade workload f g (Err end) → HasGenerated workload (ends_of source f out notes) (ends_of source g out notes) answered order
+  generated_ended end answered order same none made = subst (λ e. HasGenerated workload (ends_of source f out notes) (ends_of source g out notes) e order) (sym same) (generated_stopped end order none made)
 
   -- memory ran out in the run
-  pub generated_memory : (made : Made) (order : List ℕ) → order ≡ [] → IsMade load f g (Ok made) → HasGenerated load (ends_of source f out notes) (ends_of source g out notes) Memory order
+  pub generated_memory : (made : Made) (order : List ℕ) → order ≡ [] → IsMade workload f g (Ok made) → HasGenerated workload (ends_of source f out notes) (ends_of source g out notes) Memory order
   generated_memory made order none is = record {
     table = is.made.file;
     told = is.made.told;
@@ -181,17 +179,17 @@ module _ (load : Workload) (source : Reading) (f g : Shelving) (out notes : Writ
   }
 
 -- the end of a run, or a write fault behind it, is one that a generation has
-run_load_end : (end : End) → IsRunEnd end → IsLoadEnd end
-run_load_end Done is = tt
-run_load_end (Full ticket) is = tt
-run_load_end end is = absurd is
+run_generation_end : (end : End) → IsRunEnd end → IsGenerationEnd end
+run_generation_end Done is = tt
+run_generation_end (Full ticket) is = tt
+run_generation_end end is = absurd is
 
-last_load_end : (ran end : End) → IsRunEnd ran → IsLastEnd ran end → IsLoadEnd end
-last_load_end ran end is (inl same) = subst IsLoadEnd (sym same) (run_load_end ran is)
-last_load_end ran end is (inr failed) = subst IsLoadEnd (sym failed.0) tt
+last_generation_end : (ran end : End) → IsRunEnd ran → IsLastEnd ran end → IsGenerationEnd end
+last_generation_end ran end is (inl same) = subst IsGenerationEnd (sym same) (run_generation_end ran is)
+last_generation_end ran end is (inr failed) = subst IsGenerationEnd (sym failed.0) tt
 
-module _ (load : Workload) (source : Reading) (f g : Shelving) (out written_out notes written_notes : Writing) (made : Made) (text : List ℕ) (ran : Ran) (end : End) (order : List ℕ)
-    (whole : text ≡ made.text.items) (of : IsMade load f g (Ok made)) (is : IsRan Summary (seen_job made.job).input (order_of_job (seen_job made.job)) ran) (last : IsLastEnd ran.end end) (same : order ≡ ran.order.items)
+module _ (workload : Workload) (source : Reading) (f g : Shelving) (out written_out notes written_notes : Writing) (made : Made) (text : List ℕ) (ran : Ran) (end : End) (order : List ℕ)
+    (whole : text ≡ made.text.items) (of : IsMade workload f g (Ok made)) (is : IsRan Summary (seen_job made.job).input (order_of_job (seen_job made.job)) ran) (last : IsLastEnd ran.end end) (same : order ≡ ran.order.items)
     (written : AreWritten end text ran.text.items out written_out notes written_notes) where
   abbrev job : Job
   job = seen_job made.job
@@ -199,20 +197,20 @@ module _ (load : Workload) (source : Reading) (f g : Shelving) (out written_out 
   abbrev file : Option (List ℕ)
   file = of.made.file
 
-  verdict_is : load_verdict load file ≡ seen_ran ran
+  verdict_is : generation_verdict workload file ≡ seen_ran ran
   verdict_is = ap (run_verdict Summary) of.made.step.0 ∙ sym is.is
 
-  answered : IsLastEnd ran.end end → IsLoadAnswer load file f g end order
+  answered : IsLastEnd ran.end end → IsGenerationAnswer workload file f g end order
   answered (inl e) = inl (e ∙ sym (ap (λ (v : Verdict). v.end) verdict_is), same ∙ sym (ap (λ (v : Verdict). v.order) verdict_is))
   answered (inr failed) = inr (inr (failed.0, same ∙ sym (ap (λ (v : Verdict). v.order) verdict_is), ap (λ (v : Verdict). v.end) verdict_is ∙ failed.1))
 
-  text_made : text ≡ trace_of load
+  text_made : text ≡ trace_of workload
   text_made = whole ∙ of.text
 
   both : end ≡ Done → TookText text out written_out × TookText ran.text.items notes written_notes
   both done = subst (λ e. AreWritten e text ran.text.items out written_out notes written_notes) done written
 
-  headline : end ≡ Done → IsLoadHeadline load file (ends_of source f out notes) (ends_of source g written_out written_notes) order
+  headline : end ≡ Done → IsGenerationHeadline workload file (ends_of source f out notes) (ends_of source g written_out written_notes) order
   headline done = record {
     job = job;
     asked = of.made.step.0;
@@ -224,25 +222,25 @@ module _ (load : Workload) (source : Reading) (f g : Shelving) (out written_out 
   }
 
   -- of the one job that was made
-  of_job : (p : Job → Type 0) → p job → (other : Job) → load_job load file ≡ Ok other → p other
+  of_job : (p : Job → Type 0) → p job → (other : Job) → generation_job workload file ≡ Ok other → p other
   of_job p holds other is_other =
-      let made_it : load_job load file ≡ Ok job = of.made.step.0 in
+      let made_it : generation_job workload file ≡ Ok job = of.made.step.0 in
       let e : job ≡ other = cc in
       subst p e holds
 
   -- the trace was replayed
-  pub generated_ran : HasGenerated load (ends_of source f out notes) (ends_of source g written_out written_notes) end order
+  pub generated_ran : HasGenerated workload (ends_of source f out notes) (ends_of source g written_out written_notes) end order
   generated_ran = record {
     table = file;
     told = of.made.told;
     valid = of.valid;
     answer = answered last;
-    ends = last_load_end ran.end end (run_end Summary job.input (order_of_job job) ran is) last;
+    ends = last_generation_end ran.end end (run_end Summary job.input (order_of_job job) ran is) last;
     trace = refl;
     files = of.made.files;
     once = of.made.once;
     file_count = λ _. of.made.step.1;
-    written = subst (λ (v : Verdict). AreWritten end (trace_of load) v.text out written_out notes written_notes) (sym verdict_is) (subst (λ t. AreWritten end t ran.text.items out written_out notes written_notes) text_made written);
+    written = subst (λ (v : Verdict). AreWritten end (trace_of workload) v.text out written_out notes written_notes) (sym verdict_is) (subst (λ t. AreWritten end t ran.text.items out written_out notes written_notes) text_made written);
     law = λ _. of_job (λ (j : Job). IsLawful j.input order) (lawful Summary job ran end order is last same);
     run = λ _. of_job (λ (j : Job). IsOrderOf InTurn j end order) (its_run Summary job ran end order is last same InTurn tt);
     headline = headline;

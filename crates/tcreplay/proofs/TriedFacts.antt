@@ -1,11 +1,8 @@
 -- What a try at a replay comes to, from what its steps come to.
-use Rattle.std.proofs.Common.{◌≡◌, ℕ, Bool, true, false, List, [], Option, Some, None, Result, Ok, Err, refl, sym, ap, subst, ◌∙◌, inl, inr}
+use Rattle.std.proofs.Common.{◌≡◌, ℕ, true, false, List, [], Option, Some, None, Result, Ok, Err, refl, sym, ap, subst, ◌∙◌, inl, inr}
 use Rattle.tc_units.specs.declared.spans.ClassRow.{ClassRow}
-use Rattle.tc_model.specs.Input.{Asked, Input}
-use Rattle.tc_model.specs.Run.{run}
+use Rattle.tc_model.specs.Input.{Asked}
 use Rattle.tc_ports.specs.Told.{Took}
-use Rattle.alloc_rules.specs.Machine.{rules}
-use Rattle.tc_machine.specs.Finish.{finished_in}
 use Rattle.tcreplay.specs.declared.outcome.End.{End}
 use Rattle.tcreplay.specs.declared.outcome.End.TheVariants.{Done, WriteFault, Memory, Full}
 use Rattle.tcreplay.specs.declared.input.Job.{Job}
@@ -18,8 +15,8 @@ use Rattle.tcreplay.specs.Verdict as verdict
 use Rattle.tcreplay.specs.Verdict.{Given, Verdict, and_then, rows_in, asked_in, picks_or, job_with, have_ended, run_verdict, order_of_job, job_of, text_with}
 use Rattle.tcreplay.specs.Reads.{Reading, Shelving, IsMadeOf, HaveCome, AreGiven, HasRead, IsJobRead, CutOff, seen_job}
 use Rattle.tcreplay.specs.Ran.{seen_ran, IsRan, IsRanByThreads}
-use Rattle.tcreplay.specs.Writes.{Writing, IsWritten, IsRunEnd, IsLastEnd, is_behind_run}
-use Rattle.tcreplay.specs.Lawful.{IsLawful, IsCompleted, IsFilled, IsOrderOf}
+use Rattle.tcreplay.specs.Writes.{Writing, IsWritten, IsLastEnd, is_behind_run}
+use Rattle.tcreplay.specs.Lawful.{IsLawful, IsCompleted, IsOrderOf}
 use Rattle.tcreplay.specs.Replayed.{IsAnswer, IsHeadline, HasTried, verdict_on}
 use Rattle.tcreplay.proofs.EndFacts.{FailsJob, job_fails}
 use Rattle.tcreplay.proofs.RunFacts.{completed_is}

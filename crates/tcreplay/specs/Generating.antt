@@ -1,6 +1,6 @@
 -- What the generation of a trace comes to: the trace is replayed in serial, and only then it is written, and the summary of
 -- that replay behind it.
-use Rattle.std.specs.Prelude.{◌≡◌, ℕ, ◌⊎◌, Bool, true, List, [], length, Option, Some, None, Result, Ok, Err, IsOk, IfOk}
+use Rattle.std.specs.Prelude.{◌≡◌, ℕ, ◌⊎◌, true, List, [], Option, Result, Ok, IsOk, IfOk}
 use Rattle.std.specs.FinMap.{get}
 use Rattle.tc_units.specs.declared.spans.ClassRow.{ClassRow}
 use Rattle.tc_model.specs.Run.{run}
@@ -23,32 +23,32 @@ use Rattle.tcreplay.specs.Lawful.{IsLawful, IsOrderOf}
 
 -- the trace of a workload
 abbrev pub trace_of : Workload → List ℕ
-trace_of load = trace_text load.seed load.calls load.threads
+trace_of workload = trace_text workload.seed workload.calls workload.threads
 
 -- its serial replay under a class table
-abbrev pub load_job_with : Workload → List ClassRow → Result Job End
-load_job_with load rows = and_then (λ asked. Ok (record { input = record { rows = rows; asked = asked }; picks = [] })) (asked_of_text rows (trace_of load))
+abbrev pub generation_job_with : Workload → List ClassRow → Result Job End
+generation_job_with workload rows = and_then (λ asked. Ok (record { input = record { rows = rows; asked = asked }; picks = [] })) (asked_of_text rows (trace_of workload))
 
-abbrev pub load_job : Workload → Option (List ℕ) → Result Job End
-load_job load table = and_then (load_job_with load) (rows_in table)
+abbrev pub generation_job : Workload → Option (List ℕ) → Result Job End
+generation_job workload table = and_then (generation_job_with workload) (rows_in table)
 
 -- the end and the order of that replay, and its summary
-abbrev pub load_verdict : Workload → Option (List ℕ) → Verdict
-load_verdict load table = run_verdict Summary (load_job load table)
+abbrev pub generation_verdict : Workload → Option (List ℕ) → Verdict
+generation_verdict workload table = run_verdict Summary (generation_job workload table)
 
 -- what a trace was made of: by one load, the class table gave what its replay needs, or why there is none
-pub record IsMade (load : Workload) (f g : Shelving) (result : Result Made End) : Type 0 where
-  pub valid : (rows : List ClassRow) → IsOk (asked_of_text rows (trace_of load))
-  pub made : IsLoad (λ (made : Made). seen_job made.job) (load_job load) load.classes f g result
-  pub text : IfOk result (λ made. made.text.items ≡ trace_of load)
+pub record IsMade (workload : Workload) (f g : Shelving) (result : Result Made End) : Type 0 where
+  pub valid : (rows : List ClassRow) → IsOk (asked_of_text rows (trace_of workload))
+  pub made : IsLoad (λ (made : Made). seen_job made.job) (generation_job workload) workload.classes f g result
+  pub text : IfOk result (λ made. made.text.items ≡ trace_of workload)
 
 -- The answer is the verdict; or memory ran out, or the load of the class table failed; or what was to be written wasn't
 -- taken.
-abbrev pub IsLoadAnswer : Workload → Option (List ℕ) → Shelving → Shelving → End → List ℕ → Type 0
-IsLoadAnswer load table f g end order =
-    ((end ≡ (load_verdict load table).end) × (order ≡ (load_verdict load table).order))
+abbrev pub IsGenerationAnswer : Workload → Option (List ℕ) → Shelving → Shelving → End → List ℕ → Type 0
+IsGenerationAnswer workload table f g end order =
+    ((end ≡ (generation_verdict workload table).end) × (order ≡ (generation_verdict workload table).order))
     ⊎ (((order ≡ []) × ((end ≡ Memory) ⊎ ((end ≡ FileFault) × Rose f.faults g.faults)))
-    ⊎ ((end ≡ WriteFault) × (order ≡ (load_verdict load table).order) × ((load_verdict load table).end ≡ Done)))
+    ⊎ ((end ≡ WriteFault) × (order ≡ (generation_verdict workload table).order) × ((generation_verdict workload table).end ≡ Done)))
 
 -- The trace goes to `out` by one put, and then the summary to `notes` by one put. At a write fault `out` took a part of the
 -- trace, and `notes` nothing; or `notes` took a part of the summary. Else both are untouched.
@@ -59,44 +59,44 @@ AreWritten WriteFault trace summary out out_after notes notes_after =
 AreWritten end trace summary out out_after notes notes_after = (out_after ≡ out) × (notes_after ≡ notes)
 
 -- the ends of a generation: no trace, no source and no order file is ever at fault
-abbrev pub IsLoadEnd : End → Type 0
-IsLoadEnd Done = Unit {0}
-IsLoadEnd (BadTable row why) = Unit {0}
-IsLoadEnd WriteFault = Unit {0}
-IsLoadEnd Memory = Unit {0}
-IsLoadEnd (TooLong limit) = Unit {0}
-IsLoadEnd (Full ticket) = Unit {0}
-IsLoadEnd FileFault = Unit {0}
-IsLoadEnd end = ⊥
+abbrev pub IsGenerationEnd : End → Type 0
+IsGenerationEnd Done = Unit {0}
+IsGenerationEnd (BadTable row why) = Unit {0}
+IsGenerationEnd WriteFault = Unit {0}
+IsGenerationEnd Memory = Unit {0}
+IsGenerationEnd (TooLong limit) = Unit {0}
+IsGenerationEnd (Full ticket) = Unit {0}
+IsGenerationEnd FileFault = Unit {0}
+IsGenerationEnd end = ⊥
 
 -- What is printed is the workload's trace, and what is noted is the summary of the serial replay of it, in which every call
 -- has returned, and for which the machine's law holds.
-pub record IsLoadHeadline (load : Workload) (table : Option (List ℕ)) (before after : Ends) (order : List ℕ) : Type 0 where
+pub record IsGenerationHeadline (workload : Workload) (table : Option (List ℕ)) (before after : Ends) (order : List ℕ) : Type 0 where
   pub job : Job
-  pub asked : load_job load table ≡ Ok job
+  pub asked : generation_job workload table ≡ Ok job
   pub order_is : order ≡ order_of_job job
   pub ended : HaveEnded (allocator.rules job.input) (run (allocator.rules job.input) order)
-  pub trace : Took before.out.taken after.out.taken (trace_of load)
+  pub trace : Took before.out.taken after.out.taken (trace_of workload)
   pub summary : Took before.notes.taken after.notes.taken (summary_in (finished_in job.input order))
   pub law : IsLawful job.input order
 
 -- A trace was generated and replayed. The source is untouched, and one file is loaded, the class table.
-pub record HasGenerated (load : Workload) (before after : Ends) (end : End) (order : List ℕ) : Type 0 where
+pub record HasGenerated (workload : Workload) (before after : Ends) (end : End) (order : List ℕ) : Type 0 where
   pub table : Option (List ℕ)
-  pub told : IsFile before.files.files load.classes table
-  pub valid : (rows : List ClassRow) → IsOk (asked_of_text rows (trace_of load))
-  pub answer : IsLoadAnswer load table before.files after.files end order
-  pub ends : IsLoadEnd end
+  pub told : IsFile before.files.files workload.classes table
+  pub valid : (rows : List ClassRow) → IsOk (asked_of_text rows (trace_of workload))
+  pub answer : IsGenerationAnswer workload table before.files after.files end order
+  pub ends : IsGenerationEnd end
   pub trace : after.trace ≡ before.trace
   pub files : after.files.files ≡ before.files.files
   pub once : after.files.loads ≡ one_more before.files.loads
   pub file_count : (end ≡ FileFault → ⊥) → after.files.faults ≡ before.files.faults
-  pub written : AreWritten end (trace_of load) (load_verdict load table).text before.out after.out before.notes after.notes
-  pub law : is_behind_run end ≡ true → (job : Job) → load_job load table ≡ Ok job → IsLawful job.input order
-  pub run : is_behind_run end ≡ true → (job : Job) → load_job load table ≡ Ok job → IsOrderOf InTurn job end order
-  pub headline : end ≡ Done → IsLoadHeadline load table before after order
+  pub written : AreWritten end (trace_of workload) (generation_verdict workload table).text before.out after.out before.notes after.notes
+  pub law : is_behind_run end ≡ true → (job : Job) → generation_job workload table ≡ Ok job → IsLawful job.input order
+  pub run : is_behind_run end ≡ true → (job : Job) → generation_job workload table ≡ Ok job → IsOrderOf InTurn job end order
+  pub headline : end ≡ Done → IsGenerationHeadline workload table before after order
 
 -- where the shelf tells its files, the end and the order are those of the verdict on its class table
-pub record IsLoadToldBy (load : Workload) (all : Files) (end : End) (order : List ℕ) : Type 0 where
-  pub end_is : end ≡ (load_verdict load (get all load.classes)).end
-  pub order_is : order ≡ (load_verdict load (get all load.classes)).order
+pub record IsGenerationToldBy (workload : Workload) (all : Files) (end : End) (order : List ℕ) : Type 0 where
+  pub end_is : end ≡ (generation_verdict workload (get all workload.classes)).end
+  pub order_is : order ≡ (generation_verdict workload (get all workload.classes)).order

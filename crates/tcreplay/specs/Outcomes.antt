@@ -6,11 +6,11 @@ use Rattle.tc_ports.specs.Shelves.{Files}
 use Rattle.tcreplay.specs.declared.outcome.End.{End}
 use Rattle.tcreplay.specs.declared.outcome.End.TheVariants.{Usage, Memory}
 use Rattle.tcreplay.specs.Tasks.{Replay, Task, ToReplay, ToGenerate, file_of}
-use Rattle.tcreplay.specs.Verdict.{Given, Verdict, job_of}
+use Rattle.tcreplay.specs.Verdict.{Given, job_of}
 use Rattle.tcreplay.specs.Reads.{HaveCome}
 use Rattle.tcreplay.specs.Writes.{Writing, Ends, IsNoted}
 use Rattle.tcreplay.specs.Replayed.{HasTried, verdict_on}
-use Rattle.tcreplay.specs.Generating.{HasGenerated, IsLoadToldBy}
+use Rattle.tcreplay.specs.Generating.{HasGenerated, IsGenerationToldBy}
 
 -- the words aren't in the grammar: nothing was read or written
 pub record HasRefused (before after : Ends) (end : End) (order : List ℕ) : Type 0 where
@@ -22,7 +22,7 @@ pub record HasRefused (before after : Ends) (end : End) (order : List ℕ) : Typ
 abbrev pub IsAnswered : Option Task → Ends → Ends → End → List ℕ → Type 0
 IsAnswered None before after end order = HasRefused before after end order
 IsAnswered (Some (ToReplay replay)) before after end order = HasTried replay before.trace after.trace before.files after.files before.out after.out end order × (after.notes ≡ before.notes)
-IsAnswered (Some (ToGenerate load)) before after end order = HasGenerated load before after end order
+IsAnswered (Some (ToGenerate workload)) before after end order = HasGenerated workload before after end order
 
 -- What a call comes to: the words are answered, and behind what `notes` had taken by then the end is told.
 pub record IsOutcome (asked : Option Task) (before after : Ends) (end : End) (order : List ℕ) : Type 0 where
@@ -51,8 +51,8 @@ pub record IsToldBy (replay : Replay) (all : Files) (text : List ℕ) (end : End
 abbrev pub SomeRose : Ends → Ends → Type 0
 SomeRose before after = Rose before.trace.faults after.trace.faults ⊎ (Rose before.files.faults after.files.faults ⊎ Rose before.out.faults after.out.faults)
 
-abbrev pub SomeLoadRose : Ends → Ends → Type 0
-SomeLoadRose before after = Rose before.files.faults after.files.faults ⊎ (Rose before.out.faults after.out.faults ⊎ Rose before.notes.faults after.notes.faults)
+abbrev pub SomeGenerationRose : Ends → Ends → Type 0
+SomeGenerationRose before after = Rose before.files.faults after.files.faults ⊎ (Rose before.out.faults after.out.faults ⊎ Rose before.notes.faults after.notes.faults)
 
 -- Completeness. Where the ends tell what they have, the end and the order are those of the verdict, unless memory ran
 -- out or a count of faults rose.
@@ -61,6 +61,6 @@ IsComplete None before after end order = end ≡ Usage
 IsComplete (Some (ToReplay replay)) before after end order =
     (all : Files) (text : List ℕ) → before.files.files ≡ Some all → before.trace.left ≡ Some text →
     IsToldBy replay all text end order ⊎ ((end ≡ Memory) ⊎ SomeRose before after)
-IsComplete (Some (ToGenerate load)) before after end order =
+IsComplete (Some (ToGenerate workload)) before after end order =
     (all : Files) → before.files.files ≡ Some all →
-    IsLoadToldBy load all end order ⊎ ((end ≡ Memory) ⊎ SomeLoadRose before after)
+    IsGenerationToldBy workload all end order ⊎ ((end ≡ Memory) ⊎ SomeGenerationRose before after)

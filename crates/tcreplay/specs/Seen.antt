@@ -42,4 +42,4 @@ seen_workload r = record { classes = r.classes.now; seed = r.seed; calls = r.cal
 
 abbrev pub seen_task : Task → tasks.Task
 seen_task (task.Replay replay) = tasks.ToReplay (seen_replay replay)
-seen_task (task.Generate load) = tasks.ToGenerate (seen_workload load)
+seen_task (task.Generate workload) = tasks.ToGenerate (seen_workload workload)

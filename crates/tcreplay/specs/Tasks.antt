@@ -52,19 +52,19 @@ task_by words = option_map task_of (command_of words)
 -- the locks of the worker threads that are asked for, where any are
 abbrev pub task_locks : Task → Option Locks
 task_locks (ToReplay replay) = locks_in replay.schedule
-task_locks (ToGenerate load) = None
+task_locks (ToGenerate workload) = None
 
 abbrev pub threads_in : Option Task → Option Locks
 threads_in asked = option_and_then task_locks asked
 
 -- the numbers of a workload are in their ranges
-pub record IsWorkload (load : Workload) : Type 0 where
-  pub seed : load.seed ≤ 2147483647
-  pub some_calls : 1 ≤ load.calls
-  pub calls : load.calls ≤ 500000
-  pub some_threads : 1 ≤ load.threads
-  pub threads : load.threads ≤ 64
+pub record IsWorkload (workload : Workload) : Type 0 where
+  pub seed : workload.seed ≤ 2147483647
+  pub some_calls : 1 ≤ workload.calls
+  pub calls : workload.calls ≤ 500000
+  pub some_threads : 1 ≤ workload.threads
+  pub threads : workload.threads ≤ 64
 
 abbrev pub IsTask : Task → Type 0
 IsTask (ToReplay replay) = Unit {0}
-IsTask (ToGenerate load) = IsWorkload load
+IsTask (ToGenerate workload) = IsWorkload workload

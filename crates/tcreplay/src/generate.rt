@@ -24,15 +24,16 @@ pub struct Made {
 }
 
 /// Makes the trace of a workload, and reads what it asks for under the class table of its file.
-fn make<F: Shelf>(alloc: Global, load: Workload, files: &mut F) -> Result<Made, End>
-    requires ranges { IsWorkload (seen_workload load) }
-    ensures made { IsMade (seen_workload load.entry)
+fn make<F: Shelf>(alloc: Global, workload: Workload, files: &mut F) -> Result<Made, End>
+    requires ranges { IsWorkload (seen_workload workload) }
+    ensures made { IsMade (seen_workload workload.entry)
         (record { files = F.files files.old; faults = F.faults files.old; loads = F.loads files.old })
         (record { files = F.files files.new; faults = F.faults files.new; loads = F.loads files.new }) result }
     ensures runnable { IfOk result (λ made. IsRunnable made.job) }
 {
-    let table = load_table(alloc, load.classes, files)?;
-    let Ok(text) = trace_gen::generate(alloc, load.seed, load.calls, load.threads as u8) else {
+    let table = load_table(alloc, workload.classes, files)?;
+    let threads = workload.threads as u8;
+    let Ok(text) = trace_gen::generate(alloc, workload.seed, workload.calls, threads) else {
         return Err(End::Memory);
     };
     let trace = trace_of(alloc, &table, &text)?;
@@ -96,14 +97,14 @@ fn write<K: Sink, N: Sink>(out: &mut K, notes: &mut N, trace: &[u8], ran: Ran) -
 /// Generates a trace: it is made and replayed, and then it and the summary are written.
 pub fn generate<F: Shelf, K: Sink, N: Sink>(
     alloc: Global,
-    load: Workload,
+    workload: Workload,
     files: &mut F,
     out: &mut K,
     notes: &mut N,
 ) -> Outcome
-    requires ranges { IsWorkload (seen_workload load) }
+    requires ranges { IsWorkload (seen_workload workload) }
     ensures status { result.status ≡ status_of result.end }
-    ensures generated { (source : Reading) → HasGenerated (seen_workload load.entry)
+    ensures generated { (source : Reading) → HasGenerated (seen_workload workload.entry)
         (record {
           trace = source;
           files = record { files = F.files files.old; faults = F.faults files.old; loads = F.loads files.old };
@@ -118,7 +119,7 @@ pub fn generate<F: Shelf, K: Sink, N: Sink>(
         })
         result.end result.order }
 {
-    let Made { text, job } = match make(alloc, load, files) {
+    let Made { text, job } = match make(alloc, workload, files) {
         Ok(made) => made,
         Err(end) => return Outcome::without_run(alloc, end),
     };

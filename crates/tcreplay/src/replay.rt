@@ -132,7 +132,7 @@ fn answer<S: Source, F: Shelf, K: Sink, N: Sink>(
 {
     match task_by(words) {
         None => Some(Outcome::without_run(alloc, End::Usage)),
-        Some(Task::Generate(load)) => Some(generate(alloc, load, files, out, notes)),
+        Some(Task::Generate(workload)) => Some(generate(alloc, workload, files, out, notes)),
         Some(Task::Replay(replay)) => match replay.schedule {
             Schedule::ByThreads { .. } => None,
             Schedule::InTurn | Schedule::ByFile { .. } => {

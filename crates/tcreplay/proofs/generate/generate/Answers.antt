@@ -6,8 +6,8 @@ use Rattle.tcreplay.proofs.generate.generate.Goals as goal
 
 pub returns-in-Err-clause-generated : goal.returns-in-Err-clause-generated
 returns-in-Err-clause-generated g c source =
-    generated_ended (seen_workload c.args.load) source _ _ _ _ c.in-Err.end c.without_run.result.end c.without_run.result.order (ap (λ (o : Outcome). o.end) c.without_run.ensures) (ap (λ (o : Outcome). o.order) c.without_run.ensures) c.in-Err.ensures.made
+    generated_ended (seen_workload c.args.workload) source _ _ _ _ c.in-Err.end c.without_run.result.end c.without_run.result.order (ap (λ (o : Outcome). o.end) c.without_run.ensures) (ap (λ (o : Outcome). o.order) c.without_run.ensures) c.in-Err.ensures.made
 
 pub returns-in-Ok-run-clause-generated : goal.returns-in-Ok-run-clause-generated
 returns-in-Ok-run-clause-generated g c source =
-    generated_ran (seen_workload c.args.load) source _ _ _ _ _ _ c.in-Ok.made c.deref.result.now c.in-Ok-run.ran c.write.result.end c.write.result.order c.deref.ensures.value c.in-Ok.ensures.made c.in-Ok-run.ensures c.write.ensures.end c.write.ensures.order c.write.ensures.written
+    generated_ran (seen_workload c.args.workload) source _ _ _ _ _ _ c.in-Ok.made c.deref.result.now c.in-Ok-run.ran c.write.result.end c.write.result.order c.deref.ensures.value c.in-Ok.ensures.made c.in-Ok-run.ensures c.write.ensures.end c.write.ensures.order c.write.ensures.written

@@ -1,4 +1,4 @@
-use Rattle.std.proofs.Common.{Err, sym, subst}
+use Rattle.std.proofs.Common.{sym, subst}
 use Rattle.trace_gen.proofs.Valid.{valid_trace}
 use Rattle.tcreplay.specs.Seen.{seen_workload}
 use Rattle.tcreplay.specs.Generating.{IsMade}
@@ -8,11 +8,11 @@ use Rattle.tcreplay.proofs.generate.make.Goals as goal
 
 pub returns-in_err-table-clause-made : goal.returns-in_err-table-clause-made
 returns-in_err-table-clause-made g c =
-    let load = c.args.load in
-    subst (IsMade (seen_workload load) _ _) (sym (handed_on c.from_residual.result c.in_err-table.field-0.0 c.from_residual.ensures.1))
-    (made_without (seen_workload load) _ _ (λ classes. valid_trace load.seed load.calls load.threads classes c.requires.ranges.some_threads c.requires.ranges.threads c.requires.ranges.calls) c.in_err-table.field-0.0 c.in_err-table.ensures)
+    let workload = c.args.workload in
+    subst (IsMade (seen_workload workload) _ _) (sym (handed_on c.from_residual.result c.in_err-table.field-0.0 c.from_residual.ensures.1))
+    (made_without (seen_workload workload) _ _ (λ classes. valid_trace workload.seed workload.calls workload.threads classes c.requires.ranges.some_threads c.requires.ranges.threads c.requires.ranges.calls) c.in_err-table.field-0.0 c.in_err-table.ensures)
 
 pub returns-in_default-clause-made : goal.returns-in_default-clause-made
 returns-in_default-clause-made g c =
-    let load = c.args.load in
-    made_memory (seen_workload load) _ _ (λ classes. valid_trace load.seed load.calls load.threads classes c.requires.ranges.some_threads c.requires.ranges.threads c.requires.ranges.calls) c.in_ok-table.table c.in_ok-table.ensures
+    let workload = c.args.workload in
+    made_memory (seen_workload workload) _ _ (λ classes. valid_trace workload.seed workload.calls workload.threads classes c.requires.ranges.some_threads c.requires.ranges.threads c.requires.ranges.calls) c.in_ok-table.table c.in_ok-table.ensures

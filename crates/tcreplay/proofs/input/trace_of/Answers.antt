@@ -1,4 +1,4 @@
-use Rattle.std.proofs.Common.{◌≡◌, Ok, ap, subst}
+use Rattle.std.proofs.Common.{◌≡◌, Ok, subst}
 use Rattle.std.specs.Prelude.{length, IsOkAnd}
 use Rattle.trace_reader.specs.Reading.{asked_by}
 use Rattle.trace_reader.specs.Valid.{IsAsked}

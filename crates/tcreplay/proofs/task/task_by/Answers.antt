@@ -1,5 +1,5 @@
-use Rattle.std.proofs.Common.{◌≡◌, map, string_bytes, rules}
-use Rattle.tcreplay.proofs.WorkloadFacts.{task_ranged, seen_ranged}
+use Rattle.std.proofs.Common.{map, string_bytes, rules}
+use Rattle.tcreplay.proofs.WorkloadFacts.{seen_ranged}
 use Rattle.tcreplay.proofs.task.task_by.Goals as goal
 
 pub returns-clause-ranges : goal.returns-clause-ranges
