@@ -12,7 +12,7 @@ use trace_reader::{LineWhy, OrderWhy};
 pub enum End {
     /// The run ended and its text was written.
     Done,
-    /// The words are not in the grammar, or ask for what isn't built.
+    /// The words are not in the grammar.
     Usage,
     /// The class table isn't valid: its first bad record, from 1, with its first failing rule.
     BadTable { row: u32, why: RowWhy },
@@ -20,7 +20,7 @@ pub enum End {
     BadTrace { line: u32, why: LineWhy },
     /// A read of the trace failed.
     ReadFault,
-    /// A write of the text failed.
+    /// A write of the text, of a generated trace or of its summary failed.
     WriteFault,
     /// Memory ran out.
     Memory,
