@@ -1,6 +1,6 @@
 -- What holds after every order, from the books of its parts and locals.
 use Rattle.std.proofs.Common.{◌≡◌, ℕ, ◌+◌, ◌*◌, ◌<◌, ◌≤◌, ◌⊎◌, ◌↔◌, true, false, eqb, List, length, map, Option, Some, None, refl, sym, ap, ◌∙◌, subst, inl, inr, arith}
-use Rattle.std.specs.Prelude.{sum_by, MatchOption}
+use Rattle.std.specs.Prelude.{◌≢◌, sum_by, slice_get, MatchOption}
 use Rattle.std.proofs.lemmas.Bool.{cond-true, eq-eqb, false≢true}
 use Rattle.tc_units.specs.declared.units.Addr.{Addr}
 use Rattle.tc_units.specs.declared.spans.Run.{Run}
@@ -9,7 +9,6 @@ use Rattle.tc_model.specs.Input.{Input}
 use Rattle.tc_model.specs.Run.{run}
 use Rattle.tc_model.specs.Blocks.{live_bytes}
 use Rattle.tc_model.specs.declared.answers.CallLine.{CallLine}
-use Rattle.tc_units.specs.Units.{page_bytes}
 use Rattle.name_table.specs.declared.table.NameState.{NameState}
 use Rattle.name_table.specs.declared.table.NameState.TheVariants as name
 use Rattle.name_table.specs.Names.{state_of}
@@ -26,12 +25,26 @@ use Rattle.holdings.specs.Facts.{Facts}
 use Rattle.holdings.proofs.Sums.{least, none_counts, sum_of_both, class_zero}
 use Rattle.holdings.proofs.Held.{objects_are_once, names_are_live}
 use Rattle.holdings.proofs.Blocks.{bytes_are_within}
-use Rattle.call_steps.specs.Local.{Local}
+use Rattle.tc_units.specs.Units.{page_bytes, pages_holding}
+use Rattle.tc_units.specs.declared.units.ThreadNo.{ThreadNo}
+use Rattle.rseq_core.specs.declared.cpu_part.CpuPart.{CpuPart}
+use Rattle.cpu_drain.specs.Seats.{IsStopping}
+use Rattle.call_steps.specs.declared.step.Step.{Step}
+use Rattle.call_steps.specs.declared.step.Step.TheVariants as does
+use Rattle.call_steps.specs.declared.step.CpuStep.TheVariants as cpu
+use Rattle.call_steps.specs.declared.step.HeapStep.TheVariants as heap
+use Rattle.call_steps.specs.declared.step.Stopping.{Stopping}
+use Rattle.call_steps.specs.declared.step.Resizing.{Resizing}
+use Rattle.call_steps.specs.Local.{Local, class_row}
+use Rattle.call_steps.specs.Shapes.{StepShape, standing_of}
 use Rattle.alloc_rules.specs.Machine.{Parts, rules}
 use Rattle.alloc_rules.specs.Accounts.{account_of}
 use Rattle.alloc_rules.specs.Stocks.{stock_of, AreBooksOf}
-use Rattle.alloc_rules.specs.Valid.{IsValid}
+use Rattle.alloc_rules.specs.Valid.{IsValid, limits_in}
+use Rattle.alloc_rules.specs.Answers.{pages_asked}
 use Rattle.alloc_rules.specs.Law.{calls, setup_of, HoldsAfter}
+use Rattle.alloc_rules.proofs.PartFits.{row_at_class, some_size}
+use Rattle.alloc_rules.proofs.Answering.{answers_none, answers_busy, answers_cap}
 use Rattle.alloc_rules.proofs.Serving.{IsServed}
 use Rattle.alloc_rules.proofs.Switching.{switches_are_few}
 use Rattle.alloc_rules.proofs.Same.{same_starts, same_pages, same_spans}
@@ -99,6 +112,34 @@ module _ (input : Input) (valid : IsValid input) (order : List ℕ) (few : lengt
         | inr live ↦ inr (sym (starts_are addr.0) ∙ live)
       ]
 
+  -- what a thread asks the heap for has a page
+  asked_some : (l : Local) (s : Step) (n : ℕ) → l.regs.class.0 < length input.rows → StepShape (limits_in input) l s → pages_asked input.rows l s ≡ Some n → 0 < n
+  asked_some l (does.Heap (heap.New label size)) n low shape is =
+      let e : pages_holding size ≡ n = cc in
+      let some = some_size input.rows size valid.rows.some shape.1 in
+      omega (arith, e, some)
+  asked_some l (does.Heap (heap.NewSpan a)) n low shape is =
+      let e : (class_row input.rows l).pages ≡ n = cc in
+      omega (arith, e, (row_at_class input.rows l valid.rows low).pages)
+  asked_some l (does.Heap (heap.GiveBack label run)) n low shape is = absurd (cc)
+  asked_some l (does.Heap (heap.FreeSpan next)) n low shape is = absurd (cc)
+  asked_some l (does.Heap (heap.Unback pages)) n low shape is = absurd (cc)
+  asked_some l (does.Cpu row) n low shape is = absurd (cc)
+  asked_some l (does.Shard row) n low shape is = absurd (cc)
+  asked_some l (does.Map row) n low shape is = absurd (cc)
+  asked_some l (does.Names row) n low shape is = absurd (cc)
+  asked_some l (does.Domain row) n low shape is = absurd (cc)
+  asked_some l does.Ended n low shape is = absurd (cc)
+
+  -- a thread that is to stop a CPU is the stopper of none
+  no_stopper : (i t : ℕ) (q : CpuPart) (l : Local) → slice_get p.cpus i ≡ Some q → slice_get locals t ≡ Some l → (s : Stopping) → l.step ≡ does.Cpu (cpu.Stop s) → q.stopper ≢ Some l.regs.thread
+  no_stopper i t q l part at s step is =
+      let own : l.regs.thread ≡ record { 0 = t } = ap (λ (n : ℕ). record { 0 = n }) (served.works t l at).shaped.thread in
+      subst (λ (x : Step). IsStopping i (standing_of x)) step ((served.seated i t q l part at).stops (is ∙ ap (λ (u : ThreadNo). Some u) own))
+
+  cap_class : (t : ℕ) (l : Local) → slice_get locals t ≡ Some l → (r : Resizing) → l.step ≡ does.Cpu (cpu.SetCap r) → l.regs.class ≡ r.class
+  cap_class t l at r step = (subst (StepShape (limits_in input) l) step (served.works t l at).shaped.step).2
+
   pub holds_after : HoldsAfter input order
   holds_after =
       record {
@@ -117,6 +158,11 @@ module _ (input : Input) (valid : IsValid input) (order : List ℕ) (few : lengt
         heap = served.placed.ok.heap;
         config = served.placed.ok.config;
         none = λ n some. none_exactly p.heap n served.placed.ok.heap wide some;
+        answers_none = λ t l at.
+            let shaped = (served.works t l at).shaped in
+            answers_none input.rows p.heap l (λ n is. none_exactly p.heap n served.placed.ok.heap wide (asked_some l l.step n shaped.class shaped.step is));
+        answers_busy = λ i t q l part at. answers_busy input.rows q l (no_stopper i t q l part at);
+        answers_cap = λ i t q l part at. answers_cap input.rows q l (cap_class t l at);
         spans = λ n. omega (arith, f.begins n, starts_are n);
         runs = λ n none. runs_alone (setup_of input) b (calls locals order) f n none ∙ starts_are n;
         starts = λ n. omega (arith, f.starts n, starts_are n);

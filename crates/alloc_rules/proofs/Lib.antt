@@ -35,5 +35,6 @@ pub mod SerialGoes
 pub mod SerialLaws
 pub mod Laws
 pub mod Same
+pub mod Answering
 pub mod Afterwards
 pub mod ValidProp

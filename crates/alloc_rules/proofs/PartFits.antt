@@ -57,7 +57,7 @@ pub row_at_class : (rows : List ClassRow) (l : Local) → AreRows rows → l.reg
 row_at_class rows l are low = are.each l.regs.class.0 no_class low
 
 -- a request without a class has a byte
-some_size : (rows : List ClassRow) (size : ℕ) → 0 < length rows → class_of rows size ≡ None → 0 < size
+pub some_size : (rows : List ClassRow) (size : ℕ) → 0 < length rows → class_of rows size ≡ None → 0 < size
 some_size [] size some none = absurd (omega arith)
 some_size (r ∷ rs) zero some none =
     let e : find (serves 0) (r ∷ rs) ≡ Some r = rw (le-leb 0 r.size (omega arith)) refl in

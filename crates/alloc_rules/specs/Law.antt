@@ -33,6 +33,7 @@ use Rattle.alloc_rules.specs.Fits.{Fits}
 use Rattle.alloc_rules.specs.Accounts.{account_of}
 use Rattle.alloc_rules.specs.Stocks.{stock_of, IsShardOf}
 use Rattle.alloc_rules.specs.Valid.{IsValid}
+use Rattle.alloc_rules.specs.Answers.{AnswersNone, AnswersBusy, AnswersCap}
 use Rattle.alloc_rules.specs.Switches.{SwitchesAreFew}
 
 -- the calls of a run: those that the picks of an order decided, in their order
@@ -78,14 +79,21 @@ pub record HoldsAfter (input : Input) (order : List ℕ) : Type 0 where
   -- live runs are disjoint, inside the arena and backed, and each hugepage serves what its runs say
   pub heap : heaps.IsSound parts.heap
   pub config : parts.heap.config ≡ heap_config input.asked.config
-  -- an allocation gets none exactly where no run of its pages fits
+  -- the heap has no run of so many pages to give exactly where, by a look at every place, none fits; and the next act of a
+  -- thread that asks it for one answers none exactly there
   pub none : (n : ℕ) → 0 < n → (new parts.heap n ≡ None) ↔ (none_fits parts.heap n ≡ true)
+  pub answers_none : (t : ℕ) (l : Local) → slice_get locals t ≡ Some l → AnswersNone input.rows parts.heap l
+  -- a drain or a resize is answered busy exactly where another thread is the stopper, and a capacity is refused exactly
+  -- above the static one, or else past the limit
+  pub answers_busy : (i t : ℕ) (p : CpuPart) (l : Local) → slice_get parts.cpus i ≡ Some p → slice_get locals t ≡ Some l → AnswersBusy input.rows p l
+  pub answers_cap : (i t : ℕ) (p : CpuPart) (l : Local) → slice_get parts.cpus i ≡ Some p → slice_get locals t ≡ Some l → AnswersCap input.rows p l
   -- a live run is at one place: it is a shard's span or one that a call holds, or else it is loose in a hand or under a published name
   pub spans : (n : ℕ) → (stock_of parts).begins n + over_locals locals (λ (a : Account). spans_at n a.apart) ≤ runs_at n parts.heap.runs
   pub runs : (n : ℕ) → ((k : ℕ) → (stock_of parts).objects k n ≡ 0)
       → over_locals locals (λ (a : Account). loose n a.doing + spans_at n a.apart) + sum_by (named_at n) parts.names + (stock_of parts).begins n ≡ runs_at n parts.heap.runs
   pub starts : (n : ℕ) → runs_at n parts.heap.runs ≤ 1
-  -- the page map's spans are disjoint, and are the live runs but for those of calls between New and Set, or between Clear and Free
+  -- the page map's spans are disjoint, and are the live runs but for those of calls between an act that gets a run and the
+  -- one that sets it, or between the one that clears a run and the one that gives it back
   pub spans_apart : IsWellFormed parts.map
   pub mapped : (r : Run) → spans_of_run r parts.map.spans + over_locals locals (off_map r) ≡ runs_like r parts.heap.runs
   -- a published label that isn't taken is null or names an object or a live run; each label is published once and taken once

@@ -5,5 +5,6 @@ pub mod Stocks
 pub mod Acts
 pub mod Valid
 pub mod Switches
+pub mod Answers
 pub mod Law
 pub mod Scripts
