@@ -1,11 +1,12 @@
 -- Blocks that calls leave have no byte in common, and their bytes are among those of the live runs.
-use Rattle.std.proofs.Common.{◌≡◌, ℕ, zero, suc, ◌+◌, ◌*◌, ◌<◌, ◌≤◌, Bool, true, false, not, ◌&&◌, cond, eqb, leb, ltb, List, [], ◌∷◌, ◌++◌, length, take, refl, sym, ap, ◌∙◌, subst, arith, inl, inr}
+use Rattle.std.proofs.Common.{◌≡◌, ℕ, zero, suc, ◌+◌, ◌*◌, ◌<◌, ◌≤◌, Bool, true, false, not, ◌&&◌, cond, eqb, leb, ltb, List, [], ◌∷◌, ◌++◌, length, take, drop, refl, sym, ap, ◌∙◌, subst, arith, inl, inr}
 use Rattle.std.specs.Prelude.{All, count_by, filter, sum_by}
 use Rattle.std.specs.List.{list_any, slice_index_or}
 use Rattle.std.proofs.lemmas.Bool.{cases_Bool, cases_lt, and_parts, and_from, eqb-true, le-leb, lt-ltb, leb-true, ltb-true, false≢true}
 use Rattle.std.proofs.lemmas.List.{take_more, take_all}
 use Rattle.std.proofs.lemmas.List.Elements.{All-head, All-tail, All-nil, All-filter}
 use Rattle.std.proofs.lemmas.List.Sums.{sum_by-cons}
+use Rattle.std.proofs.Math.Seq.{split_at}
 use Rattle.tc_units.specs.Units.{page_bytes}
 use Rattle.tc_units.specs.declared.spans.Run.{Run}
 use Rattle.tc_units.specs.declared.units.Addr.{Addr}
@@ -131,7 +132,7 @@ spread_after huge round (c ∷ cs) run (suc n) within =
     let next : CallLine = slice_index_or calls n c in
     let more : take (suc n) calls ≡ take n calls ++ next ∷ [] = (let e : suc n ≡ n + 1 = omega arith in ap (λ k. take k calls) e) ∙ take_more calls n c below in
     subst (λ (ds : List CallLine). AreSpread (blocks_after ds)) (sym more)
-    (subst AreSpread (sym (blocks_after-push (take n calls) next)) (spread_with huge round (take n calls) next.call next.answer before (run n c below)))
+    (subst AreSpread (sym (blocks_after-push (take n calls) next)) (spread_with huge round (take n calls) next.call next.answer before (run (take n calls) next (drop (suc n) calls) (sym (split_at calls n c below)))))
 
 -- so they begin at different addresses
 starts_once : (a : ℕ) (bs : List Extent) → All (λ (b : Extent). 0 < b.len) bs → count_by (λ (b : Extent). eqb b.addr a) bs ≤ sum_by (has a) bs

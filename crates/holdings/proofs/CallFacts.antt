@@ -1,13 +1,13 @@
 -- What one more decided call makes of a run on disjoint blocks.
-use Rattle.std.proofs.Common.{◌≡◌, ℕ, false, ◌||◌, eqb, ltb, cond, List, [], ◌∷◌, ◌++◌, length, take, get_or, Option, Some, None, refl, sym, ap, ◌∙◌, subst, arith, ◌⊎◌, inl, inr}
+use Rattle.std.proofs.Common.{◌≡◌, ℕ, false, ◌||◌, eqb, ltb, cond, List, [], ◌∷◌, ◌++◌, Option, Some, None, refl, sym, ap, ◌∙◌, subst, arith, ◌⊎◌, inl, inr}
 use Rattle.std.specs.Prelude.{◌==◌, find, All}
 use Rattle.std.specs.List.{list_any}
-use Rattle.std.proofs.lemmas.Bool.{cases_lt, cases_Bool, eq-eqb, ne_eqb, eqb-true, or_parts, cond-true, cond-false}
+use Rattle.std.proofs.lemmas.Bool.{cases_Bool, eq-eqb, ne_eqb, eqb-true, or_parts, cond-true, cond-false}
 use Rattle.std.proofs.lemmas.Bool.Decides.{nat_tests}
-use Rattle.std.proofs.lemmas.List.{get_or_append_left, get_or_at, take-append-le, take_at, length-append}
 use Rattle.std.proofs.lemmas.List.Sums.{fold_push}
 use Rattle.std.proofs.lemmas.List.Recursion.{or_push}
 use Rattle.std.proofs.lemmas.List.Elements.{All-cons, All-head, All-tail}
+use Rattle.tc_model.proofs.EachAfter.{each_of_push}
 use Rattle.tc_model.specs.declared.answers.Answer.{Answer}
 use Rattle.tc_model.specs.declared.answers.CallLine.{CallLine}
 use Rattle.tc_model.specs.Blocks.{Extent, with_block, without_block, meets, blocks_with, blocks_after, allocates, frees, answer_to, freed_in, IsAllowed, IsBlockRun}
@@ -47,16 +47,7 @@ answer_cases (Some answer) = inr (answer, refl)
 
 -- a run goes on by an allowed call
 pub IsBlockRun-push : (round : ℕ → ℕ) (huge : ℕ) (calls : List CallLine) (c : CallLine) → IsBlockRun huge round calls → IsAllowed huge round calls c.call c.answer → IsBlockRun huge round (calls ++ c ∷ [])
-IsBlockRun-push round huge calls c run allowed k d l =
-    elim (cases_lt k (length calls)) [
-      | inl before ↦
-          let P : CallLine → List CallLine → Type 0 = λ x earlier. IsAllowed huge round earlier x.call x.answer in
-          subst (λ x. P x (take k (calls ++ c ∷ []))) (sym (get_or_append_left calls (c ∷ []) d k before)) (subst (P (get_or calls k d)) (sym (take-append-le k calls (c ∷ []) (omega arith))) (run k d before))
-      | inr last ↦
-          let at : length calls ≡ k = omega (arith, length-append calls (c ∷ [])) in
-          let P : CallLine → List CallLine → Type 0 = λ x earlier. IsAllowed huge round earlier x.call x.answer in
-          subst (λ x. P x (take k (calls ++ c ∷ []))) (sym (get_or_at calls c [] d k at)) (subst (P c) (sym (take_at calls (c ∷ []) k at)) allowed)
-    ]
+IsBlockRun-push round huge = each_of_push (λ earlier (c : CallLine). IsAllowed huge round earlier c.call c.answer)
 
 -- Blocks by their addresses.
 -- the block that is added is found, where none begins at its address

@@ -10,7 +10,7 @@ use Rattle.tc_model.specs.declared.calls.Call.TheVariants.{Malloc, Free, Release
 use Rattle.tc_model.specs.declared.answers.Answer.{Answer}
 use Rattle.tc_model.specs.declared.answers.Answer.TheVariants.{Block, NoBlock, Freed, FreedNull, Released, Busy, CapSet, Drained, OverLimit, OverStatic}
 use Rattle.tc_model.specs.declared.answers.CallLine.{CallLine}
-use Rattle.tc_model.specs.Blocks.{Extent, with_block, meets, blocks_after, allocates, frees, answer_to, freed_in, IsFreePlace, IsAllowed, blocks_with}
+use Rattle.tc_model.specs.Blocks.{Extent, with_block, meets, blocks_after, allocates, frees, answer_to, freed_in, IsFreePlace, FreesNull, IsAllowed, blocks_with}
 use Rattle.holdings.specs.Kept.{HasBlock, IsOfMalloc, AreKept}
 use Rattle.tc_model.specs.declared.calls.Call.{Call}
 use Rattle.holdings.specs.Moves.{IsOther}
@@ -198,11 +198,11 @@ kept_other round huge calls c kept is =
     kept_quiet round huge calls c kept (other_allowed huge round calls c.call c.answer is) (other_blocks (blocks_after calls) c.call c.answer is) (λ l h. absurd (false≢true (sym (apart l).0 ∙ h))) (λ l h. absurd (false≢true (sym (apart l).1 ∙ h))) (λ l addr len has. (apart l).1)
 
 -- a free of null
-pub kept_freed_null : (round : ℕ → ℕ) (huge : ℕ) (calls : List CallLine) (thread : ThreadNo) (label : Label) → AreKept round huge calls → answer_to label.0 calls ≡ Some NoBlock → AreKept round huge (calls ++ record { thread = thread; call = Free label; answer = FreedNull } ∷ [])
+pub kept_freed_null : (round : ℕ → ℕ) (huge : ℕ) (calls : List CallLine) (thread : ThreadNo) (label : Label) → AreKept round huge calls → FreesNull calls label.0 → AreKept round huge (calls ++ record { thread = thread; call = Free label; answer = FreedNull } ∷ [])
 kept_freed_null round huge calls thread label kept null =
     kept_quiet round huge calls (record { thread = thread; call = Free label; answer = FreedNull }) kept null refl (λ l h. absurd (false≢true h))
-    (λ l h. subst (λ (x : ℕ). is_some (answer_to x calls) ≡ true) (eqb-true label.0 l h) (ap is_some null))
-    (λ l addr len has. ne_eqb label.0 l (λ e. let both : Some NoBlock ≡ Some (Block addr len) = sym null ∙ (ap (λ (x : ℕ). answer_to x calls) e ∙ has.answered) in absurd (cc)))
+    (λ l h. subst (λ (x : ℕ). is_some (answer_to x calls) ≡ true) (eqb-true label.0 l h) (ap is_some null.answered))
+    (λ l addr len has. ne_eqb label.0 l (λ e. let both : Some NoBlock ≡ Some (Block addr len) = sym null.answered ∙ (ap (λ (x : ℕ). answer_to x calls) e ∙ has.answered) in absurd (cc)))
 
 -- a free of a block
 module _ (round : ℕ → ℕ) (huge : ℕ) (calls : List CallLine) (thread : ThreadNo) (label : Label) (addr : Addr) (len : ℕ) (kept : AreKept round huge calls) (has : HasBlock calls label.0 addr len) where

@@ -8,7 +8,7 @@ use Rattle.tc_model.specs.declared.calls.Call.TheVariants.{Malloc, Free}
 use Rattle.tc_model.specs.declared.answers.Answer.{Answer}
 use Rattle.tc_model.specs.declared.answers.Answer.TheVariants.{Block, NoBlock, Freed, FreedNull, Released, Drained, Busy, CapSet, OverLimit, OverStatic}
 use Rattle.tc_model.specs.declared.answers.CallLine.{CallLine}
-use Rattle.tc_model.specs.Blocks.{answer_to, freed_in, allocates, frees}
+use Rattle.tc_model.specs.Blocks.{answer_to, freed_in, allocates, frees, FreesNull}
 use Rattle.holdings.specs.Kept.{HasBlock, IsOfMalloc, value_of}
 use Rattle.holdings.specs.Runs.{bit}
 use Rattle.holdings.specs.Accounts.{same_value}
@@ -137,5 +137,7 @@ null_by CapSet of is = absurd of
 null_by (OverLimit sum) of is = absurd of
 null_by (OverStatic most) of is = absurd of
 
-pub has_null : (calls : List CallLine) (x : ℕ) → ((answer : Answer) → answer_to x calls ≡ Some answer → IsOfMalloc answer) → value_after calls x ≡ Some None → answer_to x calls ≡ Some NoBlock
-has_null calls x of has = let h = has_answer calls x None has in h.answered ∙ ap (λ (o : Answer). Some o) (null_by h.answer (of h.answer h.answered) h.value)
+pub has_null : (calls : List CallLine) (x : ℕ) → ((answer : Answer) → answer_to x calls ≡ Some answer → IsOfMalloc answer) → value_after calls x ≡ Some None → FreesNull calls x
+has_null calls x of has =
+    let h = has_answer calls x None has in
+    record { answered = h.answered ∙ ap (λ (o : Answer). Some o) (null_by h.answer (of h.answer h.answered) h.value); once = h.kept }

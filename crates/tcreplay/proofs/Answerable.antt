@@ -1,8 +1,9 @@
 -- Each answer that a set of blocks allows is of a kind that its call can get.
-use Rattle.std.proofs.Common.{◌≡◌, ℕ, true, List, refl}
+use Rattle.std.proofs.Common.{◌≡◌, ℕ, suc, true, List, drop, refl, sym}
 use Rattle.std.specs.Prelude.{take, slice_index_or}
 use Rattle.std.specs.List.{list_all}
 use Rattle.std.proofs.lemmas.List.Sums.{list_all-from_AllPass}
+use Rattle.std.proofs.Math.Seq.{split_at}
 use Rattle.tc_model.specs.declared.calls.Call.{Call}
 use Rattle.tc_model.specs.declared.calls.Call.TheVariants.{Malloc, Free, Release, Drain, Resize}
 use Rattle.tc_model.specs.declared.answers.Answer.{Answer}
@@ -26,4 +27,4 @@ can huge length_of earlier (Resize cpu class cap_) (OverStatic most) allowed = r
 can huge length_of earlier call answer allowed = absurd allowed
 
 pub answerable : (huge : ℕ) (length_of : ℕ → ℕ) (calls : List CallLine) → IsBlockRun huge length_of calls → list_all (λ (c : CallLine). can_answer c.call c.answer) calls ≡ true
-answerable huge length_of calls allowed = list_all-from_AllPass (λ (c : CallLine). can_answer c.call c.answer) calls (λ k d within. can huge length_of (take k calls) (slice_index_or calls k d).call (slice_index_or calls k d).answer (allowed k d within))
+answerable huge length_of calls allowed = list_all-from_AllPass (λ (c : CallLine). can_answer c.call c.answer) calls (λ k d within. can huge length_of (take k calls) (slice_index_or calls k d).call (slice_index_or calls k d).answer (allowed (take k calls) (slice_index_or calls k d) (drop (suc k) calls) (sym (split_at calls k d within))))

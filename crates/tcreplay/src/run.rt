@@ -58,8 +58,8 @@ pub fn tell(alloc: Global, state: State, telling: Telling) -> Result<Ran, AllocE
     ensures { IfOk result (IsRan telling state.input state.order) }
 {
     let finished = state.finish()?;
-    let text = told(alloc, &finished, telling)?;
     let order = state.into_order();
+    let text = told(alloc, &finished, telling)?;
     Ok(Ran {
         end: End::Done,
         order,

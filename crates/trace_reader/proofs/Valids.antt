@@ -2,6 +2,7 @@
 use Rattle.std.proofs.Common.{◌≡◌, ℕ, ◌<◌, ◌≤◌, true, false, List, [], ◌∷◌, ◌++◌, length, get_or, set, replicate, Option, Some, None, IfSome, refl, sym, ap, subst, ◌∙◌, arith, inl, inr, ◌⊎◌, lit≤}
 use Rattle.std.proofs.lemmas.Bool.{cases_eq, cases_lt, false≢true}
 use Rattle.std.proofs.lemmas.List.{get_or-set_same, get_or-set_other, get_or-replicate, get_or_past, set_past, length-append, length-replicate}
+use Rattle.tc_model.proofs.EachAfter.{each_of_none, each_of_push}
 use Rattle.tc_model.specs.declared.calls.Call.{Call}
 use Rattle.tc_model.specs.declared.calls.Call.TheVariants as call
 use Rattle.tc_model.specs.declared.calls.MoveTo.{MoveTo}
@@ -49,44 +50,8 @@ IsConfig-with head.Events value config k least most = record { cpus = k.cpus; th
 IsConfig-with head.Window value config k least most = record { cpus = k.cpus; threads = k.threads; huge = k.huge; cache = k.cache; region = k.region; slack = k.slack; transfer = k.transfer; slab = k.slab; percpu = k.percpu; events = k.events; window = most; domains = k.domains }
 IsConfig-with head.Domains value config k least most = record { cpus = k.cpus; threads = k.threads; huge = k.huge; cache = k.cache; region = k.region; slack = k.slack; transfer = k.transfer; slab = k.slab; percpu = k.percpu; events = k.events; window = k.window; domains = most }
 
--- a place in a list with one item more: the new item's, or one of the list before
-record IsLast (calls earlier later : List ThreadCall) (c x : ThreadCall) : Type 0 where
-  before : earlier ≡ calls
-  same : c ≡ x
-
-record IsWithin (calls earlier : List ThreadCall) (c : ThreadCall) : Type 0 where
-  rest : List ThreadCall
-  parts : earlier ++ c ∷ rest ≡ calls
-
-place_in_push : (calls earlier later : List ThreadCall) (c x : ThreadCall) → earlier ++ c ∷ later ≡ calls ++ x ∷ [] → IsLast calls earlier later c x ⊎ IsWithin calls earlier c
-place_in_push [] [] later c x e =
-    let same : c ≡ x = cc in
-    inl (record { before = refl; same = same })
-place_in_push [] (d ∷ earlier) later c x e =
-    let none : earlier ++ c ∷ later ≡ [] = cc in
-    absurd (omega (arith, length-append earlier (c ∷ later), ap length none))
-place_in_push (d ∷ calls) [] later c x e =
-    let same : c ≡ d = cc in
-    inr (record { rest = calls; parts = ap (λ y. y ∷ calls) same })
-place_in_push (d ∷ calls) (y ∷ earlier) later c x e =
-    let first : y ≡ d = cc in
-    let more : earlier ++ c ∷ later ≡ calls ++ x ∷ [] = cc in
-    elim (place_in_push calls earlier later c x more) [
-      | inl l ↦ inl (record { before = ap (λ ys. y ∷ ys) l.before ∙ ap (λ z. z ∷ calls) first; same = l.same })
-      | inr w ↦ inr (record { rest = w.rest; parts = ap (λ ys. y ∷ ys) w.parts ∙ ap (λ z. z ∷ calls) first })
-    ]
-
 AreCalls-none : (classes : ℕ) (config : Config) (calls : List ThreadCall) → calls ≡ [] → AreCalls classes config calls
-AreCalls-none classes config calls none earlier c later e = absurd (omega (arith, length-append earlier (c ∷ later), ap length e, ap length none))
-
-AreCalls-push : (classes : ℕ) (config : Config) (calls : List ThreadCall) (x : ThreadCall) → AreCalls classes config calls → IsThreadCall classes config calls x → AreCalls classes config (calls ++ x ∷ [])
-AreCalls-push classes config calls x known new earlier c later e = elim (place_in_push calls earlier later c x e) [
-  | inl l ↦
-      let P : List ThreadCall → Type 0 = λ all. IsThreadCall classes config all c in
-      let Q : ThreadCall → Type 0 = λ y. IsThreadCall classes config calls y in
-      subst P (sym l.before) (subst Q (sym l.same) new)
-  | inr w ↦ known earlier c w.rest w.parts
-]
+AreCalls-none classes config calls none earlier c later is = each_of_none (IsThreadCall classes config) earlier c later (is ∙ none)
 
 -- pending moves, of which one is set anew
 moves-set : (config : Config) (moves : List (Option MoveTo)) (thread : ℕ) (now : Option MoveTo) → ((t : ℕ) → IfSome (get_or moves t None) (IsMove config)) → IfSome now (IsMove config) → (t : ℕ) → IfSome (get_or (set moves thread now) t None) (IsMove config)
@@ -113,7 +78,7 @@ IsSoFar-call classes number thread what before known there may =
     let x : ThreadCall = record { thread = record { 0 = thread }; planned = record { line = number; call = what; moved = get_or before.moves thread None } } in
     record {
       config = known.config;
-      calls = AreCalls-push classes config before.asked.calls x known.calls (record { thread = there; call = may; moved = known.moves thread });
+      calls = each_of_push (IsThreadCall classes config) before.asked.calls x known.calls (record { thread = there; call = may; moved = known.moves thread });
       moves = moves-set config before.moves thread None known.moves tt;
       early = λ h. absurd (false≢true (sym h));
     }
