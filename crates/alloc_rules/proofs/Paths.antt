@@ -394,14 +394,10 @@ module _ (rows : List ClassRow) (l : Local) where
     started_path (stopping.Drain d) = ends_deciding rows (on_cpu (cpu.Start (stopping.Drain d))) (after (cpu.Start (stopping.Drain d))) (Drain d.cpu) (Drained d.taken) refl refl refl refl refl
     started_path (stopping.Resize r) = taken_path r regs.hand.items
 
-  stop_call : (s : Stopping) → undecided (does.Cpu (cpu.Stop s)) ≡ Some (call_of s)
-  stop_call (stopping.Drain d) = refl
-  stop_call (stopping.Resize r) = refl
-
   stop_path : (p : CpuPart) (s : Stopping) (o : Option ThreadNo) → Path rows (on_cpu (cpu.Stop s)) (stops rows p (on_cpu (cpu.Stop s)) s o).1
   unfolding Of
   stop_path p s None = Stays [] silent refl refl refl refl tt (refl, refl)
-  stop_path p s (Some owner) = ends_deciding rows (on_cpu (cpu.Stop s)) (on_cpu (cpu.Stop s)) (call_of s) (Busy owner) refl refl refl refl (stop_call s)
+  stop_path p s (Some owner) = ends_deciding rows (on_cpu (cpu.Stop s)) (on_cpu (cpu.Stop s)) (call_of s) (Busy owner) refl refl refl refl refl
 
   leave_path : (p : CpuPart) (o : Option MoveTo) → Path rows (on_cpu cpu.Leave) (left_for rows p (on_cpu cpu.Leave) o).1
   unfolding Of

@@ -18,7 +18,7 @@ use Rattle.call_steps.specs.CpuActs.{due}
 use Rattle.alloc_rules.specs.declared.part.Part.{Part}
 use Rattle.alloc_rules.specs.declared.part.Part.TheVariants.{Cpu}
 
--- what an act is at a CPU: In; an exit, a commit, Grow, Leave or Back, which end what is open there; or neither
+-- what an act is at a CPU: In; an exit, a commit, Grow, Leave or Back, by which what is open there may end; or neither
 pub data Kind : Type 0 where
   enters : Kind
   closes : Kind
@@ -75,7 +75,7 @@ kind_by r w c (Some l) = kind_at w c l (r.want l)
 abbrev pub kind_of : Rules Part Local → World Part Local → ℕ → ℕ → Kind
 kind_of r w c t = kind_by r w c (slice_get w.locals t)
 
--- the picks of an order that are acts In at CPU c, and those that end what is open there
+-- the picks of an order that are acts In at CPU c, and those by which what is open there may end
 abbrev pub entry : Kind → ℕ
 entry enters = 1
 entry closes = 0

@@ -26,6 +26,7 @@ use Rattle.call_steps.specs.declared.step.MapStep.{MapStep}
 use Rattle.call_steps.specs.declared.step.MapStep.TheVariants.{Set, SetSpan, Lookup, Clear, ClearSpan}
 use Rattle.call_steps.specs.declared.step.NamesStep.{NamesStep}
 use Rattle.call_steps.specs.declared.step.NamesStep.TheVariants as names
+use Rattle.call_steps.specs.CpuActs.{call_of}
 
 -- the calls of what a call has under way
 abbrev pub asks : Asking → Call
@@ -39,10 +40,6 @@ drains d = Drain d.cpu
 
 abbrev pub resizes : Resizing → Call
 resizes r = Resize r.cpu r.class r.cap
-
-abbrev pub stops : Stopping → Call
-stops (stopping.Drain d) = drains d
-stops (stopping.Resize r) = resizes r
 
 abbrev pub of_start : Stopping → Option Call
 of_start (stopping.Drain d) = Some (drains d)
@@ -66,9 +63,9 @@ of_cpu (Grow a) = Some (asks a)
 of_cpu (Stock s) = None
 of_cpu (Push f) = Some (frees f)
 of_cpu (PopBatch f) = Some (frees f)
-of_cpu (Stop s) = Some (stops s)
-of_cpu (Fence s) = Some (stops s)
-of_cpu (Take s) = Some (stops s)
+of_cpu (Stop s) = Some (call_of s)
+of_cpu (Fence s) = Some (call_of s)
+of_cpu (Take s) = Some (call_of s)
 of_cpu (SetCap r) = Some (resizes r)
 of_cpu (Start s) = of_start s
 of_cpu Leave = None

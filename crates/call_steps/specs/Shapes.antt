@@ -38,7 +38,7 @@ use Rattle.call_steps.specs.declared.step.MapStep.TheVariants as map
 use Rattle.call_steps.specs.Local.{Local, class_row}
 use Rattle.call_steps.specs.Kept.{cpu_of}
 
--- What a call has done to the CPU that it stopped: behind its fence a resize knows that its class is empty.
+-- What a call has done to the CPU that it stopped: behind its Take, at SetCap, a resize knows that its class is empty.
 abbrev pub stands : CpuNo → Bool → (ℕ → Bool) → Option Standing
 stands c fenced empty = Some (record { cpu = c.0; fenced = fenced; empty = empty })
 
@@ -124,7 +124,7 @@ pub record IsPlanned (m : Limits) (p : Planned) : Type 0 where
   pub call : IsCallThere m p.call
   pub move : IsMove m p.moved
 
--- the thread is in no sequence, has nothing in hand, and has no span to give back
+-- no sequence is under way, and nothing is loaded
 pub record IsAtBegin (r : Regs) : Type 0 where
   pub pc : r.pc ≡ Begin
   pub nothing : r.loaded.items ≡ []
@@ -175,7 +175,7 @@ pub record HasSpans (l : Local) : Type 0 where
   pub hand : l.regs.hand.items ≡ []
   pub some : 0 < length l.freed.items
 
--- a sequence is under way, with these objects in hand
+-- the registers are set for this sequence, and there is no span to give back
 pub record InSequence (s : Seq) (l : Local) : Type 0 where
   pub seq : l.regs.seq ≡ s
   pub freed : l.freed.items ≡ []

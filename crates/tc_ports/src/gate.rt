@@ -1,9 +1,9 @@
-//! Where a run of threads may be held between two steps.
+//! Where a run of threads may be held between two turns.
 use tc_units::ThreadNo;
 
-/// A gate that each thread passes between two of its steps.
+/// A gate that each thread passes before each of its turns.
 pub trait Gate {
-    /// Called by a thread in a turn, with how many steps it has done. A gate may take its time.
+    /// Called by a thread before a turn, with how many of its calls have ended. A gate may take its time.
     fn pass(&self, thread: ThreadNo, turn: u64, done: u64);
 }
 

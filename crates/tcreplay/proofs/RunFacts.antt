@@ -68,7 +68,7 @@ told_full telling input whole order items text ticket limit given empty =
 
 -- at the limit an order has as many picks as may move
 pub filled_at : (input : Input) (whole order : List ℕ) (ticket : ℕ) → IsAtLimit (rules input) input.asked.config.events whole order ticket → IsFilled input (Full ticket) order
-filled_at input whole order ticket limit = (limit.ticket_is, limit.full ∙ sym limit.ticket_is)
+filled_at input whole order ticket limit = record { limit = limit.ticket_is; full = limit.full ∙ sym limit.ticket_is; thread = limit.thread; would_move = limit.would_move }
 
 -- what an input's run came to, for what is the same input and order
 pub same_run : (telling : Telling) (input other : Input) (order whole : List ℕ) (ran : Ran) → input ≡ other → order ≡ whole → IsRan telling input order ran → IsRan telling other whole ran

@@ -80,7 +80,7 @@ pub record IsGenerationHeadline (workload : Workload) (table : Option (List ℕ)
   pub summary : Took before.notes.taken after.notes.taken (summary_in (finished_in job.input order))
   pub law : IsLawful job.input order
 
--- A trace was generated and replayed. The source is untouched, and one file is loaded, the class table.
+-- A generation was tried: the source is untouched, and one file is loaded, the class table.
 pub record HasGenerated (workload : Workload) (before after : Ends) (end : End) (order : List ℕ) : Type 0 where
   pub table : Option (List ℕ)
   pub told : IsFile before.files.files workload.classes table

@@ -1,8 +1,9 @@
 -- What holds of the order of a run.
 use Rattle.std.specs.Prelude.{◌≡◌, ℕ, ◌≤◌, List, length}
 use Rattle.tc_model.specs.Input.{Input}
-use Rattle.tc_model.specs.Run.{start}
-use Rattle.tc_model.specs.Steps.{moving}
+use Rattle.tc_model.specs.declared.steps.Stepped.TheVariants as step
+use Rattle.tc_model.specs.Run.{start, run}
+use Rattle.tc_model.specs.Steps.{stepped, moving}
 use Rattle.tc_model.specs.Serial.{completed}
 use Rattle.alloc_rules.specs.Machine as allocator
 use Rattle.alloc_rules.specs.Law.{HoldsAfter}
@@ -19,14 +20,21 @@ pub record IsLawful (input : Input) (order : List ℕ) : Type 0 where
   pub holds : HoldsAfter input order
 
 -- The order of a run whose first picks are those of worker threads is these, completed: behind them the thread of the
--- earliest call in trace order that hasn't ended is picked. At the limit an order has as many picks as may move.
+-- earliest call in trace order that hasn't ended is picked.
 abbrev pub IsCompleted : Schedule → Job → List ℕ → Type 0
 IsCompleted InTurn job order = Unit {0}
 IsCompleted (ByFile file) job order = Unit {0}
 IsCompleted (ByThreads locks) job order = order ≡ completed (allocator.rules job.input) (allocator.turns job.input) job.input.asked.config.events job.picks
 
+-- as many picks moved as may, which is the number told, and one pick more would move
+pub record IsFull (input : Input) (order : List ℕ) (ticket : ℕ) : Type 0 where
+  pub limit : ticket ≡ input.asked.config.events
+  pub full : length order ≡ ticket
+  pub thread : ℕ
+  pub would_move : stepped (allocator.rules input) (run (allocator.rules input) order) thread ≡ step.Moved
+
 abbrev pub IsFilled : Input → End → List ℕ → Type 0
-IsFilled input (Full ticket) order = (ticket ≡ input.asked.config.events) × (length order ≡ ticket)
+IsFilled input (Full ticket) order = IsFull input order ticket
 IsFilled input end order = Unit {0}
 
 pub record IsOrderOf (schedule : Schedule) (job : Job) (end : End) (order : List ℕ) : Type 0 where

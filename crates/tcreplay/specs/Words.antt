@@ -95,11 +95,12 @@ with_rows so = if so.rows then None else Some (record so { rows = true })
 abbrev pub taken_flag : Kind → List ℕ → Option Flag
 taken_flag kind word = option_and_then (λ flag. if takes kind flag then Some flag else None) (flag_of word)
 
--- the options behind the command, in any sequence
+-- whether a flag is the one without a value
 abbrev pub is_rows : Flag → Bool
 is_rows flag.Rows = true
 is_rows flag = false
 
+-- the options behind the command, in any sequence
 abbrev pub options_of : Kind → Options → List (List ℕ) → Option Options
 options_of kind so [] = Some so
 options_of kind so (word ∷ []) = option_and_then (λ flag. if is_rows flag then with_rows so else None) (taken_flag kind word)
