@@ -32,9 +32,10 @@ pub mod Runs
 pub mod Entering
 pub mod Switching
 pub mod SerialGoes
+pub mod Answering
+pub mod NoneElsewhere
 pub mod SerialLaws
 pub mod Laws
 pub mod Same
-pub mod Answering
 pub mod Afterwards
 pub mod ValidProp

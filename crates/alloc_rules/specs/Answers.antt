@@ -19,6 +19,7 @@ use Rattle.call_steps.specs.declared.step.HeapStep.TheVariants as heap
 use Rattle.call_steps.specs.declared.step.Stopping.{Stopping}
 use Rattle.call_steps.specs.declared.step.Resizing.{Resizing}
 use Rattle.call_steps.specs.Local.{Local, class_row}
+use Rattle.alloc_rules.specs.declared.part.Part.{Part}
 use Rattle.alloc_rules.specs.declared.part.Part.TheVariants as part
 use Rattle.alloc_rules.specs.Machine.{after}
 
@@ -33,9 +34,11 @@ pages_asked rows l (does.Heap (heap.New label size)) = Some (pages_holding size)
 pages_asked rows l (does.Heap (heap.NewSpan asking)) = Some (class_row rows l).pages
 pages_asked rows l other = None
 
--- An act that asks the heap for so many pages answers none exactly where, by a look at every place, no run of them fits.
-abbrev pub AnswersNone : List ClassRow → Heap → Local → Type 0
-AnswersNone rows heap l = (n : ℕ) → pages_asked rows l l.step ≡ Some n → Decides l (after rows (part.Heap heap) l).1 NoBlock ↔ (none_fits heap n ≡ true)
+-- An act that asks the heap for so many pages answers none exactly where, by a look at every place, no run of them fits;
+-- and no act at any part answers none that doesn't ask for pages.
+pub record AnswersNone (rows : List ClassRow) (heap : Heap) (l : Local) : Type 0 where
+  pub asking : (n : ℕ) → pages_asked rows l l.step ≡ Some n → Decides l (after rows (part.Heap heap) l).1 NoBlock ↔ (none_fits heap n ≡ true)
+  pub other : (p : Part) → pages_asked rows l l.step ≡ None → Decides l (after rows p l).1 NoBlock → ⊥
 
 -- An act that is to stop a CPU answers busy exactly where another thread is the stopper there, and names that one.
 abbrev pub AnswersBusy : List ClassRow → CpuPart → Local → Type 0

@@ -7,7 +7,7 @@ use Rattle.std.proofs.lemmas.Bool.Decides.{nat_tests}
 use Rattle.std.proofs.lemmas.List.Sums.{fold_push}
 use Rattle.std.proofs.lemmas.List.Recursion.{or_push}
 use Rattle.std.proofs.lemmas.List.Elements.{All-cons, All-head, All-tail}
-use Rattle.tc_model.proofs.EachAfter.{each_of_push}
+use Rattle.tc_model.proofs.EachAfter.{each_of_none, each_of_push}
 use Rattle.tc_model.specs.declared.answers.Answer.{Answer}
 use Rattle.tc_model.specs.declared.answers.CallLine.{CallLine}
 use Rattle.tc_model.specs.Blocks.{Extent, with_block, without_block, meets, blocks_with, blocks_after, allocates, frees, answer_to, freed_in, IsAllowed, IsBlockRun}
@@ -45,7 +45,10 @@ pub answer_cases : (o : Option Answer) → (o ≡ None) ⊎ ((answer : Answer) �
 answer_cases None = inl refl
 answer_cases (Some answer) = inr (answer, refl)
 
--- a run goes on by an allowed call
+-- no call is a run, and a run goes on by an allowed call
+pub IsBlockRun-none : (round : ℕ → ℕ) (huge : ℕ) → IsBlockRun huge round []
+IsBlockRun-none round huge = each_of_none (λ earlier (c : CallLine). IsAllowed huge round earlier c.call c.answer)
+
 pub IsBlockRun-push : (round : ℕ → ℕ) (huge : ℕ) (calls : List CallLine) (c : CallLine) → IsBlockRun huge round calls → IsAllowed huge round calls c.call c.answer → IsBlockRun huge round (calls ++ c ∷ [])
 IsBlockRun-push round huge = each_of_push (λ earlier (c : CallLine). IsAllowed huge round earlier c.call c.answer)
 

@@ -1,5 +1,6 @@
 -- What holds at the start.
 use Rattle.holdings.specs.Accounts.{Account, Asks, Doing, Frees, Holds, Other, Publishes, Takes, clearing, held_at, holding, holds, is_out, is_taken, means, named_at, off_map, pending, same_value, in_hand, loose, publishing, transit, unpublished}
+use Rattle.tc_units.specs.Classes.{length_of}
 use Rattle.tc_units.specs.declared.units.Addr.{Addr}
 use Rattle.std.specs.Prelude.{All, sum_by}
 use Rattle.std.proofs.lemmas.List.Elements.{All-head, All-nil, All-tail}
@@ -14,6 +15,7 @@ use Rattle.holdings.specs.Runs.{bit, large, objects_at, runs_at, runs_like, smal
 use Rattle.std.proofs.lemmas.Bool.{cases_Bool, cond-false, cond-true, eq-eqb}
 use Rattle.holdings.proofs.Sums.{class_zero, of_all}
 use Rattle.std.proofs.lemmas.List.{length-replicate}
+use Rattle.holdings.proofs.CallFacts.{IsBlockRun-none}
 use Rattle.holdings.proofs.Standing.{same_value_refl}
 use Rattle.name_table.specs.Names.{state_of}
 use Rattle.std.proofs.lemmas.List.Sums.{sum_by-cons}
@@ -103,7 +105,7 @@ holds_at_first m b h =
     let named : (x : ℕ) → state_of b.names x ≡ name.Unpublished = λ x. ap (λ ns. state_of ns x) h.names ∙ name_at m.labels x in
     record {
       kept = record {
-        run = λ k d below. absurd (omega arith);
+        run = IsBlockRun-none (length_of m.rows) m.huge;
         some = λ i d below. absurd (omega arith);
         stands = λ label addr len has. let e = has.answered in absurd (cc);
         distinct = λ x y addr n k has hasm. let e = has.answered in absurd (cc);
