@@ -29,6 +29,8 @@ use Rattle.call_steps.specs.declared.step.Resizing.{Resizing}
 use Rattle.call_steps.specs.Local.{Local, Decided, closes, ends, decided, class_row}
 use Rattle.call_steps.specs.CpuActs.{call_of, cap_answer, stops}
 use Rattle.call_steps.specs.Acts.{after_new, after_new_span, heap_after, cpu_after}
+use Rattle.alloc_rules.specs.declared.part.Part.TheVariants as part
+use Rattle.alloc_rules.specs.Machine.{after}
 use Rattle.alloc_rules.specs.Answers.{Decides, pages_asked, AnswersBusy, bytes_with, DecidesCap, AnswersCap}
 
 -- one answer more is the one that was decided, and none where the answers are as before

@@ -1,5 +1,5 @@
 -- What no act does: it lowers no number of ended calls, and answers none only where it asks the heap for a run.
-use Rattle.std.proofs.Common.{◌≡◌, ℕ, ◌+◌, ◌/◌, ◌≤◌, Bool, true, false, cond, ltb, List, [], ◌∷◌, ◌++◌, length, map, Option, Some, None, refl, sym, ap, ◌∙◌, arith}
+use Rattle.std.proofs.Common.{◌≡◌, ℕ, ◌+◌, ◌/◌, ◌≤◌, Bool, true, false, cond, ltb, List, [], ◌∷◌, ◌++◌, length, Option, Some, None, refl, sym, ap, ◌∙◌, arith}
 use Rattle.std.specs.Prelude.{◌≢◌, find}
 use Rattle.tc_units.specs.Units.{page_bytes, pages_holding}
 use Rattle.tc_units.specs.Bag.{Contents}
@@ -61,7 +61,7 @@ use Rattle.call_steps.specs.declared.step.MapStep.{MapStep}
 use Rattle.call_steps.specs.declared.step.MapStep.TheVariants as mapped
 use Rattle.call_steps.specs.declared.step.NamesStep.{NamesStep}
 use Rattle.call_steps.specs.declared.step.NamesStep.TheVariants as names
-use Rattle.call_steps.specs.Local.{Local, decided, goes, closes, class_row, Decided}
+use Rattle.call_steps.specs.Local.{Local, decided, goes, closes, ends, class_row, Decided}
 use Rattle.call_steps.specs.Hands.{with_hand, stocks, serves_first, goes_onward, given, given_back, clears, with_freed}
 use Rattle.call_steps.specs.CpuActs.{call_of, due, with_regs, moves_to, after_pop, gives_rest, after_push, replied, instructed_to, sequence_by, grew_to, stops, drained, took, gives_taken, started, left_for, cpu_row, cap_answer}
 use Rattle.call_steps.specs.ShardActs.{with_more, fetches, takes, with_spans_behind, fits_into, put_in, shard_row, domain_row}
@@ -111,7 +111,7 @@ module _ (rows : List ClassRow) where
   closes_goes x None = record { ended = omega arith; answers = refl }
   closes_goes x (Some move) = record { ended = omega arith; answers = refl }
 
-  ends_goes : (x : Local) → GoesAs x (call_ends rows x)
+  ends_goes : (x : Local) → GoesAs x (ends rows x)
   ends_goes x = let g = closes_goes (record x { acts = x.acts + 1 }) x.moved in record { ended = g.ended; answers = g.answers }
 
   stocks_goes : (x : Local) (s : Serving) (others : List Addr) → GoesAs x (stocks x s others)
@@ -132,10 +132,10 @@ module _ (rows : List ClassRow) where
   clears_goes x next (s ∷ others) = record { ended = omega arith; answers = refl }
 
   -- an act that decides a call and ends it
-  ends_saying : (l : Local) (call : Call) (answer : Answer) → answer ≢ NoBlock → Leaves l (call_ends rows (decided l call answer))
+  ends_saying : (l : Local) (call : Call) (answer : Answer) → answer ≢ NoBlock → Leaves l (ends rows (decided l call answer))
   ends_saying l call answer other = let g = ends_goes (decided l call answer) in says l _ call answer other g.ended g.answers
 
-  ends_quietly : (l : Local) → Leaves l (call_ends rows l)
+  ends_quietly : (l : Local) → Leaves l (ends rows l)
   ends_quietly l = let g = ends_goes l in quiet l _ g.ended g.answers
 
   serves_leaves : (x : Local) (a : Asking) (hand : List Addr) → Leaves x (serves_first rows x a hand)

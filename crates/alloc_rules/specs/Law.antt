@@ -80,7 +80,7 @@ pub record HoldsAfter (input : Input) (order : List ℕ) : Type 0 where
   pub heap : heaps.IsSound parts.heap
   pub config : parts.heap.config ≡ heap_config input.asked.config
   -- the heap has no run of so many pages to give exactly where, by a look at every place, none fits; and the next act of a
-  -- thread that asks it for one answers none exactly there
+  -- thread answers none exactly where it asks for one there
   pub none : (n : ℕ) → 0 < n → (new parts.heap n ≡ None) ↔ (none_fits parts.heap n ≡ true)
   pub answers_none : (t : ℕ) (l : Local) → slice_get locals t ≡ Some l → AnswersNone input.rows parts.heap l
   -- a drain or a resize is answered busy exactly where another thread is the stopper, and a capacity is refused exactly

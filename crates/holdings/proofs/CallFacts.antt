@@ -11,7 +11,6 @@ use Rattle.tc_model.proofs.EachAfter.{each_of_none, each_of_push}
 use Rattle.tc_model.specs.declared.answers.Answer.{Answer}
 use Rattle.tc_model.specs.declared.answers.CallLine.{CallLine}
 use Rattle.tc_model.specs.Blocks.{Extent, with_block, without_block, meets, blocks_with, blocks_after, allocates, frees, answer_to, freed_in, IsAllowed, IsBlockRun}
-use Rattle.tc_model.specs.Run.{run}
 
 -- One call more.
 pub blocks_after-push : (calls : List CallLine) (c : CallLine) → blocks_after (calls ++ c ∷ []) ≡ blocks_with (blocks_after calls) c.answer
