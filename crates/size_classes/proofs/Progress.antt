@@ -132,14 +132,15 @@ pub record Unread (rdr : Reader (Bor (List ℕ))) (rest : List (List (List ℕ))
   pub rest_is : rest ≡ records_from default_config fuel rdr.state text
   pub config : rdr.config ≡ default_config
   pub plain : rdr.trim ≡ trim.None
+  pub loose : rdr.flexible ≡ true
   pub ready : Ready rdr
 
 -- the reader gave the first of them
 pub unread_more : (a b : Reader (Bor (List ℕ))) (f : List (List ℕ)) (rest : List (List (List ℕ)))
-    → Unread a rest → ReadRecord told a b true f → Ready b
+    → Unread a rest → ReadRecord told a b true f → Ready b → b.flexible ≡ a.flexible
     → (later : List (List (List ℕ))) × (rest ≡ f ∷ later) × Unread b later
 unfolding Reached
-unread_more a b f rest u r ready =
+unread_more a b f rest u r ready kept =
     let g = rows-more told a b f default_config a.state u.text u.text [] u.config u.source (refl, refl) r in
     let z : List ℕ = g.0 in
     let p : Read = g.2.0 in
@@ -165,6 +166,7 @@ unread_more a b f rest u r ready =
         rest_is = refl;
         config = r.2 ∙ u.config;
         plain = r.3 ∙ u.plain;
+        loose = kept ∙ u.loose;
         ready = ready;
       },
     )
@@ -177,8 +179,8 @@ unread_end a b f rest u r =
 
 -- a reader of a text has all its records
 pub unread_start : (rdr : Reader (Bor (List ℕ))) (text : List ℕ) → source_of told rdr ≡ Some text → rdr.state ≡ st.StartRecord
-    → rdr.config ≡ default_config → rdr.trim ≡ trim.None → Ready rdr → Unread rdr (records default_config text)
-unread_start rdr text source state config plain ready =
+    → rdr.config ≡ default_config → rdr.trim ≡ trim.None → rdr.flexible ≡ true → Ready rdr → Unread rdr (records default_config text)
+unread_start rdr text source state config plain loose ready =
     let none : one_more rdr.state ≡ 0 = ap one_more state in
     record {
       text = text;
@@ -188,6 +190,7 @@ unread_start rdr text source state config plain ready =
       rest_is = ap (λ (s : State). records_from default_config (length text + 1) s text) (sym state);
       config = config;
       plain = plain;
+      loose = loose;
       ready = ready;
     }
 
@@ -230,10 +233,10 @@ going_start bytes rdr unread = record {
 }
 
 pub going_more : (bytes : List ℕ) (a b : Reader (Bor (List ℕ))) (rows : List ClassRow) (above : ℕ) (f : List (List ℕ)) (row : ClassRow)
-    → Going bytes a rows above → ReadRecord told a b true f → Ready b → check_record (length rows + 1) above f ≡ Ok row
+    → Going bytes a rows above → ReadRecord told a b true f → Ready b → b.flexible ≡ a.flexible → check_record (length rows + 1) above f ≡ Ok row
     → IsRow row → above < row.size → length rows + 1 ≤ 120 → Going bytes b (rows ++ row ∷ []) row.size
-going_more bytes a b rows above f row so r ready checked rules rises few =
-    let u = unread_more a b f so.rest so.unread r ready in
+going_more bytes a b rows above f row so r ready kept checked rules rises few =
+    let u = unread_more a b f so.rest so.unread r ready kept in
     let longer : length (rows ++ row ∷ []) ≡ length rows + 1 = length_push rows row in
     let more : ℕ → Result (List ClassRow) TableFault = λ size. rows_from (length rows + 1 + 1) size u.0 in
     let above_is : above ≡ last_size 0 rows = so.last in
@@ -252,10 +255,10 @@ going_more bytes a b rows above f row so r ready checked rules rises few =
     }
 
 pub going_bad : (bytes : List ℕ) (a b : Reader (Bor (List ℕ))) (rows : List ClassRow) (above : ℕ) (f : List (List ℕ)) (rule : RowWhy)
-    → Going bytes a rows above → ReadRecord told a b true f → Ready b → check_record (length rows + 1) above f ≡ Err rule
+    → Going bytes a rows above → ReadRecord told a b true f → Ready b → b.flexible ≡ a.flexible → check_record (length rows + 1) above f ≡ Err rule
     → table_of bytes ≡ Err (BadRow (length rows + 1) rule)
-going_bad bytes a b rows above f rule so r ready checked =
-    let u = unread_more a b f so.rest so.unread r ready in
+going_bad bytes a b rows above f rule so r ready kept checked =
+    let u = unread_more a b f so.rest so.unread r ready kept in
     let more : ℕ → Result (List ClassRow) TableFault = λ size. rows_from (length rows + 1 + 1) size u.0 in
     so.read
     ∙ ap (λ (l : List (List (List ℕ))). with_rows rows (rows_from (length rows + 1) above l)) u.1

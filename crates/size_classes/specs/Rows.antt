@@ -1,5 +1,6 @@
 -- The rules of the rows of a class table.
 use Rattle.std.specs.Prelude.{◌≡◌, ℕ, ◌*◌, ◌%◌, ◌<◌, ◌≤◌, List, [], ◌∷◌, length, map}
+use Rattle.tc_units.specs.Units.{page_bytes}
 use Rattle.tc_units.specs.declared.spans.ClassRow.{ClassRow}
 
 -- the rules of one row alone
@@ -9,7 +10,7 @@ pub record IsRow (row : ClassRow) : Type 0 where
   pub most_size : row.size ≤ 262144
   pub least_pages : 1 ≤ row.pages
   pub most_pages : row.pages ≤ 255
-  pub fits : row.size ≤ row.pages * 8192
+  pub fits : row.size ≤ row.pages * page_bytes
   pub least_batch : 1 ≤ row.batch
   pub most_batch : row.batch ≤ 128
 

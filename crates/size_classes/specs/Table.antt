@@ -2,6 +2,7 @@
 use Rattle.std.specs.Prelude.{◌≡◌, ℕ, ◌+◌, ◌*◌, ◌%◌, ◌==◌, nat_le, nat_lt, List, [], ◌∷◌, Option, None, Some, Result, Ok, Err, if◌then◌else◌}
 use Rattle.csv.specs.Reading.{default_config, records, strip_bom}
 use Rattle.tc_units.specs.Decimal.{number_of}
+use Rattle.tc_units.specs.Units.{page_bytes}
 use Rattle.tc_units.specs.declared.spans.ClassRow.{ClassRow}
 use Rattle.size_classes.specs.declared.fault.TableFault.{TableFault}
 use Rattle.size_classes.specs.declared.fault.TableFault.TheVariants.{BadRow, Memory}
@@ -21,7 +22,7 @@ check_numbers above size pages batch =
     else if nat_le size above then Err why.Rise
     else if nat_lt pages 1 then Err why.Pages
     else if nat_lt 255 pages then Err why.Pages
-    else if nat_lt (pages * 8192) size then Err why.Fit
+    else if nat_lt (pages * page_bytes) size then Err why.Fit
     else if nat_lt batch 1 then Err why.Batch
     else if nat_lt 128 batch then Err why.Batch
     else Ok (record { size = size; pages = pages; batch = batch })

@@ -51,6 +51,7 @@ fn faults(rt: HostRuntime) -> Result<(), Fail> {
     for (text, row, why) in [
         (b"16,1".as_slice(), 1, RowWhy::Fields),
         (b"16,1,4,5".as_slice(), 1, RowWhy::Fields),
+        (b"16,1,4\n64,1".as_slice(), 2, RowWhy::Fields),
         (b"16,01,4".as_slice(), 1, RowWhy::Number),
         (b"16, 1,4".as_slice(), 1, RowWhy::Number),
         (b"16,1,1000001".as_slice(), 1, RowWhy::Number),

@@ -9,8 +9,8 @@ use Rattle.size_classes.specs.Table.{check_record}
 use Rattle.size_classes.proofs.Progress.{told, going_start, going_more, going_bad, going_end, going_empty, unread_start}
 use Rattle.size_classes.proofs.table.ClassTable.read.Goals as goal
 
-pub loop-rows-init : goal.loop-rows-init
-loop-rows-init c =
+pub records-init : goal.records-init
+records-init c =
     let made = c.from_reader-reader.ensures in
     let named = c.has_headers.ensures in
     let loose = c.flexible.ensures in
@@ -19,48 +19,49 @@ loop-rows-init c =
     unread_start c.from_reader-reader.result (strip_bom c.args.bytes.now) made.source made.state
     (made.config ∙ ap (λ (b : ReaderBuilder). b.config) loose ∙ ap (λ (b : ReaderBuilder). b.config) named ∙ c.new.ensures.config)
     (made.trim ∙ ap (λ (b : ReaderBuilder). b.trim) loose ∙ ap (λ (b : ReaderBuilder). b.trim) named ∙ c.new.ensures.trim)
+    (made.flexible ∙ ap (λ (b : ReaderBuilder). b.flexible) loose)
     (inr (inr (made.has_headers ∙ ap (λ (b : ReaderBuilder). b.has_headers) loose ∙ ap (λ (b : ReaderBuilder). b.has_headers) named, made.headers)))))
 
-pub loop-rows-preserved : goal.loop-rows-preserved
-loop-rows-preserved c =
-    let so = c.loop-rows.invariant in
+pub records-preserved : goal.records-preserved
+records-preserved c =
+    let so = c.records.invariant in
     let fields : List (List ℕ) = fields_of c.read_byte_record.new.row in
-    let reads : ReadRecord told c.loop-rows.reader c.read_byte_record.new.self true fields =
-    subst (λ (t : Bool). ReadRecord told c.loop-rows.reader c.read_byte_record.new.self t fields) c.in-Ok-true.field-0-test
+    let reads : ReadRecord told c.records.reader c.read_byte_record.new.self true fields =
+    subst (λ (t : Bool). ReadRecord told c.records.reader c.read_byte_record.new.self t fields) c.in-Ok-true.field-0-test
     (c.in-Ok-true.ensures.reads so.unread.plain so.unread.ready) in
-    let count : c.len.result ≡ length c.loop-rows.rows.items = grind (arith, common_steps) in
-    let checked = ap (λ (n : ℕ). check_record (n + 1) c.loop-rows.above fields) (sym count) ∙ sym c.check_row.ensures.checked ∙ c.in-Ok.is in
-    let items : c.push.new.self.items ≡ c.loop-rows.rows.items ++ c.in-Ok.class ∷ [] = grind (arith, common_steps) in
-    rw items (going_more c.args.bytes.now _ _ _ _ _ _ so reads (inl (c.in-Ok-true.ensures.ready so.unread.plain)) checked c.in-Ok.ensures.rules c.in-Ok.ensures.rises (omega (arith, c.in-Ok.ensures.few, count)))
+    let count : c.len.result ≡ length c.records.rows.items = grind (arith, common_steps) in
+    let checked = ap (λ (n : ℕ). check_record (n + 1) c.records.above fields) (sym count) ∙ sym c.check_row.ensures.checked ∙ c.in-Ok.is in
+    let items : c.push.new.self.items ≡ c.records.rows.items ++ c.in-Ok.class ∷ [] = grind (arith, common_steps) in
+    rw items (going_more c.args.bytes.now _ _ _ _ _ _ so reads (inl (c.in-Ok-true.ensures.ready so.unread.plain)) c.in-Ok-true.ensures.flexible checked c.in-Ok.ensures.rules c.in-Ok.ensures.rises (omega (arith, c.in-Ok.ensures.few, count)))
 
 pub returns-in-Err-check_row-clause-fault : goal.returns-in-Err-check_row-clause-fault
 returns-in-Err-check_row-clause-fault c =
-    let so = c.loop-rows.invariant in
+    let so = c.records.invariant in
     let fields : List (List ℕ) = fields_of c.read_byte_record.new.row in
-    let reads : ReadRecord told c.loop-rows.reader c.read_byte_record.new.self true fields =
-    subst (λ (t : Bool). ReadRecord told c.loop-rows.reader c.read_byte_record.new.self t fields) c.in-Ok-true.field-0-test
+    let reads : ReadRecord told c.records.reader c.read_byte_record.new.self true fields =
+    subst (λ (t : Bool). ReadRecord told c.records.reader c.read_byte_record.new.self t fields) c.in-Ok-true.field-0-test
     (c.in-Ok-true.ensures.reads so.unread.plain so.unread.ready) in
-    let count : c.len.result ≡ length c.loop-rows.rows.items = grind (arith, common_steps) in
-    let checked = ap (λ (n : ℕ). check_record (n + 1) c.loop-rows.above fields) (sym count) ∙ sym c.check_row.ensures.checked ∙ c.in-Err-check_row.is in
-    going_bad c.args.bytes.now _ c.read_byte_record.new.self _ _ _ _ so reads (inl (c.in-Ok-true.ensures.ready so.unread.plain)) checked
+    let count : c.len.result ≡ length c.records.rows.items = grind (arith, common_steps) in
+    let checked = ap (λ (n : ℕ). check_record (n + 1) c.records.above fields) (sym count) ∙ sym c.check_row.ensures.checked ∙ c.in-Err-check_row.is in
+    going_bad c.args.bytes.now _ c.read_byte_record.new.self _ _ _ _ so reads (inl (c.in-Ok-true.ensures.ready so.unread.plain)) c.in-Ok-true.ensures.flexible checked
     ∙ ap (λ (n : ℕ). Err (BadRow (n + 1) c.in-Err-check_row.why)) (sym count)
 
 pub returns-then-is_empty-clause-fault : goal.returns-then-is_empty-clause-fault
 returns-then-is_empty-clause-fault c =
-    let so = c.loop-rows.invariant in
+    let so = c.records.invariant in
     let fields : List (List ℕ) = fields_of c.read_byte_record.new.row in
-    let reads : ReadRecord told c.loop-rows.reader c.read_byte_record.new.self false fields =
-    subst (λ (t : Bool). ReadRecord told c.loop-rows.reader c.read_byte_record.new.self t fields) c.in-Ok-false.field-0-test
+    let reads : ReadRecord told c.records.reader c.read_byte_record.new.self false fields =
+    subst (λ (t : Bool). ReadRecord told c.records.reader c.read_byte_record.new.self t fields) c.in-Ok-false.field-0-test
     (c.in-Ok-false.ensures.reads so.unread.plain so.unread.ready) in
-    let none : length c.loop-rows.rows.items ≡ 0 = grind (arith, common_steps) in
+    let none : length c.records.rows.items ≡ 0 = grind (arith, common_steps) in
     going_empty c.args.bytes.now _ c.read_byte_record.new.self _ _ _ so reads none
 
 pub returns-clause-table : goal.returns-clause-table
 returns-clause-table c =
-    let so = c.loop-rows.invariant in
+    let so = c.records.invariant in
     let fields : List (List ℕ) = fields_of c.read_byte_record.new.row in
-    let reads : ReadRecord told c.loop-rows.reader c.read_byte_record.new.self false fields =
-    subst (λ (t : Bool). ReadRecord told c.loop-rows.reader c.read_byte_record.new.self t fields) c.in-Ok-false.field-0-test
+    let reads : ReadRecord told c.records.reader c.read_byte_record.new.self false fields =
+    subst (λ (t : Bool). ReadRecord told c.records.reader c.read_byte_record.new.self t fields) c.in-Ok-false.field-0-test
     (c.in-Ok-false.ensures.reads so.unread.plain so.unread.ready) in
-    let some : 0 < length c.loop-rows.rows.items = grind (arith, common_steps) in
+    let some : 0 < length c.records.rows.items = grind (arith, common_steps) in
     going_end c.args.bytes.now _ c.read_byte_record.new.self _ _ _ so reads some ∙ ap (λ (rows : List ClassRow). Ok rows) (sym c.new-2.ensures)

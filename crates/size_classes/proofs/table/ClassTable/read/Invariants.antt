@@ -3,8 +3,8 @@ use Rattle.std.proofs.Common.{◌-◌, vec_len}
 use Rattle.size_classes.proofs.Progress.{Going}
 use Rattle.size_classes.proofs.table.ClassTable.read.Given as goal
 
-abbrev pub invariant-loop-rows : goal.invariant-loop-rows
-invariant-loop-rows l = Going l.bytes l.reader l.rows.items l.above
+abbrev pub invariant-records : goal.invariant-records
+invariant-records l = Going l.bytes l.reader l.rows.items l.above
 
-abbrev pub decreases-loop-rows : goal.decreases-loop-rows
-decreases-loop-rows l = 120 - vec_len l.rows
+abbrev pub decreases-records : goal.decreases-records
+decreases-records l = 120 - vec_len l.rows
