@@ -1,18 +1,18 @@
 -- A span that is added: its first objects, and where it stands.
-use Rattle.std.proofs.Common.{◌≡◌, ℕ, zero, suc, ◌+◌, ◌-◌, ◌*◌, ◌^◌, ◌<◌, ◌≤◌, Bool, true, false, not, nat_le, min, List, [], ◌∷◌, ◌++◌, length, get_or, set, map, take, drop, replicate, count_by, position, Some, cond, refl, sym, ◌∙◌, ap, inl, inr, arith, subst}
+use Rattle.std.proofs.Common.{◌≡◌, ℕ, zero, suc, ◌+◌, ◌-◌, ◌*◌, ◌^◌, ◌<◌, ◌≤◌, Bool, true, false, not, nat_lt, min, List, [], ◌∷◌, ◌++◌, length, get_or, set, map, replicate, count_by, position, Some, cond, refl, sym, ◌∙◌, ap, inl, inr, arith, subst}
 use Rattle.std.specs.Prelude.{AllPairs, All}
 use Rattle.std.specs.Option.{option_to_list}
-use Rattle.std.specs.List.{prefix_len, position_or_len, range_with_len, insert}
+use Rattle.std.specs.List.{position_or_len, range_with_len}
 use Rattle.std.proofs.lemmas.List.{length-append, length-replicate}
 use Rattle.std.proofs.lemmas.Option.{slice_get-get_or}
-use Rattle.std.proofs.lemmas.List.Elements.{All-append, All-cons, All-take, All-drop}
-use Rattle.std.proofs.lemmas.List.Edits.{length-insert, get_or-insert_below, get_or-insert_at, get_or-insert_above}
+use Rattle.std.proofs.lemmas.List.Elements.{All-nil, All-cons, All-head, All-tail, All-weaker}
+use Rattle.std.proofs.lemmas.List.Kept.{AllPairs-cons}
 use Rattle.std.proofs.lemmas.List.FromFn.{map-range_with_len_more, length-map-range_with_len, get_or-map-range_with_len}
-use Rattle.std.proofs.lemmas.List.Sums.{sum_by-append, sum_by-insert, prefix_len-le-length, prefix_len_passes, prefix_len_stops}
+use Rattle.std.proofs.lemmas.List.Sums.{sum_by-append}
 use Rattle.std.proofs.lemmas.List.Folds.{sum_by-replicate}
 use Rattle.std.proofs.lemmas.Nat.{le-div, mul-le}
 use Rattle.std.proofs.Math.Nat.{min-eq_left}
-use Rattle.std.proofs.lemmas.Bool.{cases_lt, cases_order, leb-true, leb-false}
+use Rattle.std.proofs.lemmas.Bool.{ltb-true, ltb-false}
 use Rattle.tc_units.specs.declared.units.Addr.{Addr}
 use Rattle.tc_units.specs.declared.spans.SpanRef.{SpanRef}
 use Rattle.tc_units.specs.declared.spans.ClassRow.{ClassRow}
@@ -21,6 +21,7 @@ use Rattle.central_free.specs.Runs.{span_after, given_by}
 use Rattle.span_list.proofs.BitFacts.{first_is}
 use Rattle.central_free.specs.Central.{opened, opening, with_span, IsApartFrom, IsBefore, IsOfRow, IsSound, free_in, IsTakenIn, AreDifferent}
 use Rattle.central_free.proofs.SoundFacts.{count-flat_map}
+use Rattle.central_free.proofs.SortedFacts.{All-with_item, Any-new, Any-old, sum_by-with_item}
 
 -- a list of which the first a are taken and b more are free
 abbrev front : ℕ → ℕ → List Bool
@@ -130,74 +131,38 @@ IsOfRow-opened row span n some sizes fits first few pages any =
     }
 
 -- the spans stay sound where one is added
-begins_low : (spans : List SpanState) (s : SpanState) (i : ℕ) (d : SpanState) → i < prefix_len (λ t. nat_le (first_byte t.span) (first_byte s.span)) spans → (get_or spans i d).span.first.0 ≤ s.span.first.0
-begins_low spans s i d less =
-    let low : first_byte (get_or spans i d).span ≤ first_byte s.span = leb-true (first_byte (get_or spans i d).span) (first_byte s.span) (prefix_len_passes (λ t. nat_le (first_byte t.span) (first_byte s.span)) spans i d less) in
-    omega arith
-
-begins_high : (spans : List SpanState) (s : SpanState) (i : ℕ) (d : SpanState) → AllPairs IsBefore spans → prefix_len (λ t. nat_le (first_byte t.span) (first_byte s.span)) spans ≤ i → i < length spans → s.span.first.0 < (get_or spans i d).span.first.0
-begins_high spans s i d apart above within =
-    let k = prefix_len (λ t. nat_le (first_byte t.span) (first_byte s.span)) spans in
-    let high : first_byte s.span < first_byte (get_or spans k d).span = leb-false (first_byte (get_or spans k d).span) (first_byte s.span) (prefix_len_stops (λ t. nat_le (first_byte t.span) (first_byte s.span)) spans d (omega arith)) in
-    elim (cases_lt k i) [
-      | inl less ↦ (let before : IsBefore (get_or spans k d) (get_or spans i d) = apart k i d less within in omega arith)
-      | inr same ↦ (let is : i ≡ k = omega arith in rw is (omega arith))
-    ]
-
-both : {s t u v : SpanState} → s ≡ u → t ≡ v → IsBefore u v → IsBefore s t
-both {s} {t} {u} {v} left right before =
-    let from : s.span.first.0 + s.span.pages ≡ u.span.first.0 + u.span.pages = ap (λ w. w.span.first.0 + w.span.pages) left in
-    let to : t.span.first.0 ≡ v.span.first.0 = ap (λ w. w.span.first.0) right in
-    omega arith
-
-inserted_apart : (spans : List SpanState) (s : SpanState) (k i j : ℕ) (d : SpanState) → k ≤ length spans → AllPairs IsBefore spans → ((i : ℕ) (d : SpanState) → i < k → IsBefore (get_or spans i d) s) → ((i : ℕ) (d : SpanState) → k ≤ i → i < length spans → IsBefore s (get_or spans i d)) → i < j → j < length spans + 1 → IsBefore (get_or (insert spans k s) i d) (get_or (insert spans k s) j d)
-inserted_apart spans s k i j d within apart low high less inside =
-    elim (cases_order j k) [
-      | inl here ↦ both (get_or-insert_below spans k s d i (omega arith) within) (ap (λ m. get_or (insert spans k s) m d) here ∙ get_or-insert_at spans k s d within) (low i d (omega arith))
-      | inr apart_from ↦
-          elim apart_from [
-            | inl below ↦ both (get_or-insert_below spans k s d i (omega arith) within) (get_or-insert_below spans k s d j below within) (apart i j d less (omega arith))
-            | inr above ↦
-                (let back : j ≡ j - 1 + 1 = omega arith in
-                let second : get_or (insert spans k s) j d ≡ get_or spans (j - 1) d = ap (λ m. get_or (insert spans k s) m d) back ∙ get_or-insert_above spans k s d (j - 1) (omega arith) within in
-                elim (cases_order i k) [
-                  | inl there ↦ both (ap (λ m. get_or (insert spans k s) m d) there ∙ get_or-insert_at spans k s d within) second (high (j - 1) d (omega arith) (omega arith))
-                  | inr other ↦
-                      elim other [
-                        | inl before ↦ both (get_or-insert_below spans k s d i before within) second (apart i (j - 1) d (omega arith) (omega arith))
-                        | inr behind ↦
-                            (let back_too : i ≡ i - 1 + 1 = omega arith in
-                            both (ap (λ m. get_or (insert spans k s) m d) back_too ∙ get_or-insert_above spans k s d (i - 1) (omega arith) within) second (apart (i - 1) (j - 1) d (omega arith) (omega arith)))
-                      ]
-                ])
-          ]
-    ]
+apart-with_span : (s : SpanState) (spans : List SpanState) → 0 < s.span.pages → All (IsApartFrom s.span) spans → AllPairs IsBefore spans → AllPairs IsBefore (with_span s spans)
+apart-with_span s [] some clear apart = AllPairs-cons IsBefore s [] (All-nil (IsBefore s)) apart
+apart-with_span s (t ∷ ts) some clear apart =
+    let a = first_byte s.span in
+    let b = first_byte t.span in
+    let here : IsApartFrom s.span t = All-head (IsApartFrom s.span) t ts clear in
+    let behind : All (IsBefore t) ts = λ i d less. apart 0 (suc i) d (omega arith) (omega arith) in
+    let others : AllPairs IsBefore ts = λ i j d less within. apart (suc i) (suc j) d (omega arith) (omega arith) in
+    (elim (nat_lt a b) as (λ lower. nat_lt a b ≡ lower → AllPairs IsBefore (cond lower (s ∷ t ∷ ts) (t ∷ with_span s ts))) [
+      | true ↦ λ is.
+          (let less : a < b = ltb-true a b is in
+          let before : IsBefore s t = elim here [ inl before ↦ before | inr after ↦ absurd (omega arith) ] in
+          AllPairs-cons IsBefore s (t ∷ ts) (All-cons (IsBefore s) t ts before (All-weaker (IsBefore t) (IsBefore s) (λ u after. omega arith) ts behind)) apart)
+      | false ↦ λ is.
+          (let more : b ≤ a = ltb-false a b is in
+          let before : IsBefore t s = elim here [ inl after ↦ absurd (omega arith) | inr before ↦ before ] in
+          AllPairs-cons IsBefore t (with_span s ts) (All-with_item (λ u. first_byte u.span) (IsBefore t) s ts before behind) (apart-with_span s ts some (All-tail (IsApartFrom s.span) t ts clear) others))
+    ]) refl
 
 pub IsSound-with_span : (row : ClassRow) (spans : List SpanState) (s : SpanState) → IsSound (record { row = row; spans = spans }) → IsOfRow row s → All (IsApartFrom s.span) spans → IsSound (record { row = row; spans = with_span s spans })
 IsSound-with_span row spans s sound of_row clear =
-    let k = prefix_len (λ t. nat_le (first_byte t.span) (first_byte s.span)) spans in
-    let within : k ≤ length spans = prefix_len-le-length (λ t. nat_le (first_byte t.span) (first_byte s.span)) spans in
-    let longer : length (insert spans k s) ≡ length spans + 1 = length-insert spans k s within in
-    let pages : 0 < s.span.pages = omega (arith, of_row.pages, sound.some, sound.fits) in
-    let low : (i : ℕ) (d : SpanState) → i < k → IsBefore (get_or spans i d) s = λ i d less. (
-    let low : (get_or spans i d).span.first.0 ≤ s.span.first.0 = begins_low spans s i d less in
-    elim (clear i d (omega arith)) [ inl behind ↦ absurd (omega arith) | inr before ↦ before ]) in
-    let high : (i : ℕ) (d : SpanState) → k ≤ i → i < length spans → IsBefore s (get_or spans i d) = λ i d above inside. (
-    let high : s.span.first.0 < (get_or spans i d).span.first.0 = begins_high spans s i d sound.apart above inside in
-    elim (clear i d inside) [ inl before ↦ before | inr behind ↦ absurd (omega arith) ]) in
     record {
       some = sound.some;
       fits = sound.fits;
-      of_row = All-append (IsOfRow row) (take k spans) (s ∷ drop k spans) (All-take (IsOfRow row) k spans sound.of_row) (All-cons (IsOfRow row) s (drop k spans) of_row (All-drop (IsOfRow row) k spans sound.of_row));
-      apart = λ i j d less inside.
-          inserted_apart spans s k i j d within sound.apart low high less (omega arith);
+      of_row = All-with_item (λ t. first_byte t.span) (IsOfRow row) s spans of_row sound.of_row;
+      apart = apart-with_span s spans (omega (arith, of_row.pages, sound.some, sound.fits)) clear sound.apart;
     }
 
 -- how the free objects change
 pub count-with_span : (test : Addr → Bool) (spans : List SpanState) (s : SpanState) → count_by test (free_in (with_span s spans)) ≡ count_by test (free_in spans) + count_by test (free_objects s)
 count-with_span test spans s =
-    let k = prefix_len (λ t. nat_le (first_byte t.span) (first_byte s.span)) spans in
-    omega (arith, count-flat_map test free_objects (insert spans k s), count-flat_map test free_objects spans, sum_by-insert (λ u. count_by test (free_objects u)) spans k s)
+    omega (arith, count-flat_map test free_objects (with_span s spans), count-flat_map test free_objects spans, sum_by-with_item (λ (t : SpanState). first_byte t.span) (λ u. count_by test (free_objects u)) s spans)
 
 -- what came from the new span can be put back
 get_or-front : (a b i : ℕ) (d : Bool) → i < a → get_or (front a b) i d ≡ false
@@ -207,14 +172,7 @@ get_or-front (suc a) b (suc i) d less = get_or-front a b i d (omega arith)
 
 -- and so can what was taken from the others
 pub kept-with_span : (spans : List SpanState) (s : SpanState) (a : Addr) → IsTakenIn spans a → IsTakenIn (with_span s spans) a
-kept-with_span spans s a there =
-    let k = prefix_len (λ t. nat_le (first_byte t.span) (first_byte s.span)) spans in
-    let within : k ≤ length spans = prefix_len-le-length (λ t. nat_le (first_byte t.span) (first_byte s.span)) spans in
-    let longer : length (insert spans k s) ≡ length spans + 1 = length-insert spans k s within in
-    elim (cases_lt there.0 k) [
-      | inl below ↦ (there.0, there.1, omega (arith, there.2), get_or-insert_below spans k s there.1 there.0 below within ∙ there.3, there.4)
-      | inr above ↦ (there.0 + 1, there.1, omega (arith, there.2), get_or-insert_above spans k s there.1 there.0 above within ∙ there.3, there.4)
-    ]
+kept-with_span spans s a there = Any-old (λ t. first_byte t.span) (λ t. IsTaken t a) s spans there
 
 opening-IsTaken : (span : SpanRef) (size n i : ℕ) → i < min n (objects_in span.pages size) → IsTaken (opened span size n) (address (opened span size n) i)
 opening-IsTaken span size n i less =
@@ -233,10 +191,8 @@ opening-is_taken span size n = λ i d within.
 
 pub opening-taken : (spans : List SpanState) (span : SpanRef) (size n : ℕ) → All (IsTakenIn (with_span (opened span size n) spans)) (opening span size n)
 opening-taken spans span size n = λ i d within.
-    (let s = opened span size n in
-    let k = prefix_len (λ t. nat_le (first_byte t.span) (first_byte s.span)) spans in
-    let within_spans : k ≤ length spans = prefix_len-le-length (λ t. nat_le (first_byte t.span) (first_byte s.span)) spans in
-    (k, s, omega (arith, length-insert spans k s within_spans), get_or-insert_at spans k s s within_spans, opening-is_taken span size n i d within))
+    (let a = get_or (opening span size n) i d in
+    Any-new (λ t. first_byte t.span) (λ t. IsTaken t a) (opened span size n) spans (opening-is_taken span size n i d within))
 
 pub opening-different : (span : SpanRef) (size n : ℕ) → 0 < size → AreDifferent (opening span size n)
 opening-different span size n some = λ i j d less within.

@@ -1,3 +1,4 @@
+pub mod SortedFacts
 pub mod SlotFacts
 pub mod ChoiceFacts
 pub mod SoundFacts

@@ -1,7 +1,7 @@
 -- Spans in slots: where the span of a slot stands in the order of first bytes, and what a change of a slot makes of the order.
-use Rattle.std.proofs.Common.{◌≡◌, ◌≢◌, ℕ, zero, suc, ◌+◌, ◌-◌, ◌<◌, ◌≤◌, ◌⊎◌, Bool, true, false, nat_le, List, [], ◌∷◌, length, get_or, set, map, Option, Some, None, unwrap_or, refl, sym, ◌∙◌, ap, subst, inl, inr, arith}
+use Rattle.std.proofs.Common.{◌≡◌, ◌≢◌, ℕ, zero, suc, ◌+◌, ◌-◌, ◌<◌, ◌≤◌, Bool, true, false, nat_lt, List, [], ◌∷◌, length, get_or, set, map, Option, Some, None, unwrap_or, refl, sym, ◌∙◌, ap, subst, inl, inr, arith}
 use Rattle.std.specs.Prelude.{All, Any}
-use Rattle.std.specs.List.{prefix_len, insert, remove}
+use Rattle.std.specs.List.{remove}
 use Rattle.std.specs.Map.{remove_entry}
 use Rattle.std.specs.BTreeMap.{insert_entry, is_at}
 use Rattle.std.specs.Ordering.{nat_cmp, is_eq, match_ordering}
@@ -9,10 +9,11 @@ use Rattle.std.specs.Cmp.{nat_cmp_is}
 use Rattle.std.specs.declared.cmp.Ordering.{Ordering}
 use Rattle.std.specs.declared.cmp.Ordering.TheVariants.{Less, Equal, Greater}
 use Rattle.std.proofs.lemmas.List.{get_or-map, get_or-set_same, get_or-set_other, get_or_default, get_or_past, length-map, length-set, same_lists}
-use Rattle.std.proofs.lemmas.List.Edits.{length-insert, get_or-insert_below, get_or-insert_at, get_or-insert_above, length-remove, get_or-remove_below, get_or-remove_above}
-use Rattle.std.proofs.lemmas.List.Sums.{prefix_len_is, prefix_len-le-length, prefix_len_passes, prefix_len_stops}
+use Rattle.std.proofs.lemmas.List.Elements.{All-head, All-tail}
+use Rattle.std.proofs.lemmas.List.Edits.{length-remove, get_or-remove_below, get_or-remove_above}
 use Rattle.std.proofs.lemmas.Option.{none-some, same_Some}
-use Rattle.std.proofs.lemmas.Bool.{cases_lt, cases_eq, cases_order, cond-true, cond-false, le-leb, lt-leb}
+use Rattle.std.proofs.lemmas.Bool.{cases_lt, cases_eq, cases_order, cond-true, cond-false, le-ltb, lt-ltb}
+use Rattle.tc_units.specs.Sorted.{with_item}
 use Rattle.tc_units.specs.declared.spans.ClassRow.{ClassRow}
 use Rattle.span_list.specs.Span.{SpanState, first_byte}
 use Rattle.central_free.specs.declared.ranking.Standing.{Standing}
@@ -20,6 +21,7 @@ use Rattle.central_free.specs.Ranking.{no_standing, standing_at, IsBestSlot}
 use Rattle.central_free.specs.Central.{IsBefore, IsSound, IsApartFrom, with_span}
 use Rattle.central_free.specs.Slots.{weight, standing_of, standing_in, slot_at, span_at, no_span, spans_of, IsFiled, IsKept}
 use Rattle.central_free.proofs.SoundFacts.{has_pages}
+use Rattle.central_free.proofs.SortedFacts.{All-with_item, Any-new, Any-old, map-with_item}
 use Rattle.central_free.proofs.ChoiceFacts.{IsBestPlace}
 
 -- the span at a place is that of the entry's slot
@@ -288,21 +290,24 @@ IsKept-remove slots entries ts k s j kept at =
       ];
     }
 
--- an entry that comes in at a key that is new stands behind those of lower keys
-pub insert_entry-is : (es : List (ℕ × ℕ)) (q v : ℕ) → ((i : ℕ) (d : ℕ × ℕ) → i < length es → (get_or es i d).0 ≢ q) → insert_entry nat_cmp es q v ≡ insert es (prefix_len (λ e. nat_le e.0 q) es) (q, v)
+-- the entries with one more
+abbrev pub with_entry : List (ℕ × ℕ) → ℕ → ℕ → List (ℕ × ℕ)
+with_entry entries q k = with_item (λ (e : ℕ × ℕ). e.0) (q, k) entries
+
+-- a map puts an entry whose key is new where the order of keys has it
+pub insert_entry-is : (es : List (ℕ × ℕ)) (q v : ℕ) → ((i : ℕ) (d : ℕ × ℕ) → i < length es → (get_or es i d).0 ≢ q) → insert_entry nat_cmp es q v ≡ with_entry es q v
 insert_entry-is [] q v new = refl
 insert_entry-is (e ∷ es) q v new =
-    let p : ℕ × ℕ → Bool = λ x. nat_le x.0 q in
-    let one : (n : ℕ) → suc n ≡ 1 + n = λ n. omega arith in
     let go = λ (o : Ordering). match_ordering o ((q, v) ∷ e ∷ es) ((e.0, v) ∷ es) (e ∷ insert_entry nat_cmp es q v) in
+    let lower = nat_lt q e.0 in
     elim (cases_order q e.0) [
       | inl same ↦ absurd (new 0 e (omega arith) (sym same))
       | inr other ↦
           elim other [
             | inl less ↦
-                ap go (sym (nat_cmp_is q e.0 Less less)) ∙ ap (λ i. insert (e ∷ es) i (q, v)) (sym (cond-false (p e) (1 + prefix_len p es) 0 (lt-leb e.0 q less)))
+                ap go (sym (nat_cmp_is q e.0 Less less)) ∙ sym (cond-true lower ((q, v) ∷ e ∷ es) (e ∷ with_entry es q v) (lt-ltb q e.0 less))
             | inr more ↦
-                ap go (sym (nat_cmp_is q e.0 Greater more)) ∙ ap (λ xs. e ∷ xs) (insert_entry-is es q v (λ i d within. new (suc i) d (omega arith))) ∙ ap (λ i. insert (e ∷ es) i (q, v)) (one (prefix_len p es) ∙ sym (cond-true (p e) (1 + prefix_len p es) 0 (le-leb e.0 q (omega arith))))
+                ap go (sym (nat_cmp_is q e.0 Greater more)) ∙ ap (λ xs. e ∷ xs) (insert_entry-is es q v (λ i d within. new (suc i) d (omega arith))) ∙ sym (cond-false lower ((q, v) ∷ e ∷ es) (e ∷ with_entry es q v) (le-ltb q e.0 (omega arith)))
           ]
     ]
 
@@ -322,92 +327,44 @@ new_key slots entries ts s kept some pages apart i d less same =
       | inr behind ↦ omega (arith, behind, pages i no_span (omega arith), first, same)
     ]
 
--- how many spans begin by its first byte, and how many entries do
-begun : (slots : List (Option SpanState)) (entries : List (ℕ × ℕ)) (ts : List Standing) (q : ℕ) → IsKept slots entries ts → prefix_len (λ (t : SpanState). nat_le (first_byte t.span) q) (spans_of slots entries) ≡ prefix_len (λ (e : ℕ × ℕ). nat_le e.0 q) entries
-begun slots entries ts q kept =
-    let p : ℕ × ℕ → Bool = λ e. nat_le e.0 q in
-    let k = prefix_len p entries in
-    let few : k ≤ length entries = prefix_len-le-length p entries in
-    let long : length (spans_of slots entries) ≡ length entries = length-map entries (λ (x : ℕ × ℕ). span_at slots x.1) in
-    prefix_len_is (λ (t : SpanState). nat_le (first_byte t.span) q) (spans_of slots entries) k no_span (omega arith) (λ j below. ap (λ n. nat_le n q) (sym (key_of_place slots entries ts j nobody no_span kept (omega arith))) ∙ prefix_len_passes p entries j nobody below) (λ more. ap (λ n. nat_le n q) (sym (key_of_place slots entries ts k nobody no_span kept (omega arith))) ∙ prefix_len_stops p entries nobody (omega arith))
+-- each entry's slot has the span that it had
+still_at : (slots now : List (Option SpanState)) (k : ℕ) (s : SpanState) (e : ℕ × ℕ) → IsFilled slots now k s → IsFiled slots e → slot_at now e.1 ≡ slot_at slots e.1
+still_at slots now k s e filled filed =
+    filled.others e.1 (λ same. none-some (span_at slots e.1) (sym filled.vacant ∙ ap (slot_at slots) (sym same) ∙ filed.has))
 
--- the entries with one more
-abbrev pub with_entry : List (ℕ × ℕ) → ℕ → ℕ → List (ℕ × ℕ)
-with_entry entries q k = insert entries (prefix_len (λ e. nat_le e.0 q) entries) (q, k)
+still_filed : (slots now : List (Option SpanState)) (k : ℕ) (s : SpanState) (e : ℕ × ℕ) → IsFilled slots now k s → IsFiled slots e → IsFiled now e
+still_filed slots now k s e filled filed =
+    let P : Option SpanState → Type 0 = λ o. (o ≡ Some (unwrap_or o no_span)) × (first_byte (unwrap_or o no_span).span ≡ e.0) in
+    let moved : P (slot_at now e.1) = subst P (sym (still_at slots now k s e filled filed)) (filed.has, filed.begins) in
+    record { has = moved.0; begins = moved.1 }
 
--- a list with one more, by index: the new one, or one of those before
-records : (entries : List (ℕ × ℕ)) (p : ℕ) (e : ℕ × ℕ) (i : ℕ) (d : ℕ × ℕ) → p ≤ length entries → i < length (insert entries p e) → (get_or (insert entries p e) i d ≡ e) ⊎ ((m : ℕ) × (m < length entries) × (get_or (insert entries p e) i d ≡ get_or entries m d))
-records entries p e i d within less =
-    let longer : length (insert entries p e) ≡ length entries + 1 = length-insert entries p e within in
-    elim (cases_order i p) [
-      | inl here ↦ inl (ap (λ j. get_or (insert entries p e) j d) here ∙ get_or-insert_at entries p e d within)
-      | inr other ↦
-          elim other [
-            | inl below ↦ inr (i, omega arith, get_or-insert_below entries p e d i below within)
-            | inr above ↦ inr (i - 1, omega arith, ap (λ j. get_or (insert entries p e) j d) (omega arith) ∙ get_or-insert_above entries p e d (i - 1) (omega arith) within)
-          ]
-    ]
+-- the new slot's span, and those of the entries that were there
+filled_span : (slots now : List (Option SpanState)) (k : ℕ) (s : SpanState) → IsFilled slots now k s → span_at now k ≡ s
+filled_span slots now k s filled = ap (λ (o : Option SpanState). unwrap_or o no_span) filled.has
 
--- each entry's slot but the new one is as it was
-same_slot : (slots now : List (Option SpanState)) (entries : List (ℕ × ℕ)) (ts : List Standing) (k : ℕ) (s : SpanState) (m : ℕ) (d : ℕ × ℕ) → IsKept slots entries ts → IsFilled slots now k s → m < length entries → (get_or entries m d).1 ≢ k
-same_slot slots now entries ts k s m d kept filled less same =
-    none-some (span_at slots (get_or entries m d).1) (sym filled.vacant ∙ ap (slot_at slots) (sym same) ∙ (kept.filed m d less).has)
+still_spans : (slots now : List (Option SpanState)) (k : ℕ) (s : SpanState) (entries : List (ℕ × ℕ)) → IsFilled slots now k s → All (IsFiled slots) entries → spans_of now entries ≡ spans_of slots entries
+still_spans slots now k s [] filled filed = refl
+still_spans slots now k s (e ∷ es) filled filed =
+    ap (λ (o : Option SpanState). unwrap_or o no_span ∷ spans_of now es) (still_at slots now k s e filled (All-head (IsFiled slots) e es filed)) ∙ ap (λ spans. span_at slots e.1 ∷ spans) (still_spans slots now k s es filled (All-tail (IsFiled slots) e es filed))
 
 pub spans_of-insert : (slots now : List (Option SpanState)) (entries : List (ℕ × ℕ)) (ts : List Standing) (k : ℕ) (s : SpanState) → IsKept slots entries ts → IsFilled slots now k s → spans_of now (with_entry entries (first_byte s.span) k) ≡ with_span s (spans_of slots entries)
 spans_of-insert slots now entries ts k s kept filled =
-    let q = first_byte s.span in
-    let p = prefix_len (λ (e : ℕ × ℕ). nat_le e.0 q) entries in
-    let few : p ≤ length entries = prefix_len-le-length (λ (e : ℕ × ℕ). nat_le e.0 q) entries in
-    let spans = spans_of slots entries in
-    let grown = insert entries p (q, k) in
-    let long : length spans ≡ length entries = length-map entries (λ (x : ℕ × ℕ). span_at slots x.1) in
-    let long_now : length (spans_of now grown) ≡ length grown = length-map grown (λ (x : ℕ × ℕ). span_at now x.1) in
-    let longer : length grown ≡ length entries + 1 = length-insert entries p (q, k) few in
-    let longer_too : length (insert spans p s) ≡ length spans + 1 = length-insert spans p s (omega arith) in
-    let same : (m : ℕ) → m < length entries → span_at now (get_or entries m nobody).1 ≡ span_at slots (get_or entries m nobody).1 = λ m less. ap (λ (o : Option SpanState). unwrap_or o no_span) (filled.others (get_or entries m nobody).1 (same_slot slots now entries ts k s m nobody kept filled less)) in
-    same_lists (spans_of now grown) (insert spans p s) (omega arith) (λ i d less.
-    elim (cases_order i p) [
-      | inl here ↦
-          (let P : ℕ → Type 0 = λ j. get_or (spans_of now grown) j d ≡ get_or (insert spans p s) j d in
-          subst P (sym here) (span_of_place now grown p d nobody (omega arith) ∙ ap (λ (e : ℕ × ℕ). span_at now e.1) (get_or-insert_at entries p (q, k) nobody few) ∙ ap (λ (o : Option SpanState). unwrap_or o no_span) filled.has ∙ sym (get_or-insert_at spans p s d (omega arith))))
-      | inr other ↦
-          elim other [
-            | inl below ↦
-                span_of_place now grown i d nobody (omega arith) ∙ ap (λ (e : ℕ × ℕ). span_at now e.1) (get_or-insert_below entries p (q, k) nobody i below few) ∙ same i (omega arith) ∙ sym (span_of_place slots entries i d nobody (omega arith)) ∙ sym (get_or-insert_below spans p s d i below (omega arith))
-            | inr above ↦
-                (let back : i ≡ i - 1 + 1 = omega arith in
-                let P : ℕ → Type 0 = λ j. get_or (spans_of now grown) j d ≡ get_or (insert spans p s) j d in
-                subst P (sym back) (span_of_place now grown (i - 1 + 1) d nobody (omega arith) ∙ ap (λ (e : ℕ × ℕ). span_at now e.1) (get_or-insert_above entries p (q, k) nobody (i - 1) (omega arith) few) ∙ same (i - 1) (omega arith) ∙ sym (span_of_place slots entries (i - 1) d nobody (omega arith)) ∙ sym (get_or-insert_above spans p s d (i - 1) (omega arith) (omega arith))))
-          ]
-    ]) ∙ ap (λ j. insert spans j s) (sym (begun slots entries ts q kept))
+    let new = filled_span slots now k s filled in
+    map-with_item (λ (e : ℕ × ℕ). span_at now e.1) (λ (e : ℕ × ℕ). e.0) (λ (t : SpanState). first_byte t.span) (first_byte s.span, k) entries (ap (λ t. first_byte t.span) new) (λ i d less. (still_filed slots now k s (get_or entries i d) filled (kept.filed i d less)).begins)
+    ∙ ap (λ t. with_span t (spans_of now entries)) new
+    ∙ ap (with_span s) (still_spans slots now k s entries filled kept.filed)
 
 pub IsKept-insert : (slots now : List (Option SpanState)) (entries : List (ℕ × ℕ)) (ts grown : List Standing) (k : ℕ) (s : SpanState) → IsKept slots entries ts → IsFilled slots now k s → ((m : ℕ) → standing_at grown m ≡ standing_at ts m) → length ts ≤ length grown → k < length grown → IsKept now (with_entry entries (first_byte s.span) k) (set grown k (standing_of s))
 IsKept-insert slots now entries ts grown k s kept filled same longer inside =
     let q = first_byte s.span in
-    let p = prefix_len (λ (e : ℕ × ℕ). nat_le e.0 q) entries in
-    let few : p ≤ length entries = prefix_len-le-length (λ (e : ℕ × ℕ). nat_le e.0 q) entries in
-    let more : length (insert entries p (q, k)) ≡ length entries + 1 = length-insert entries p (q, k) few in
-    let mine : span_at now k ≡ s = ap (λ (o : Option SpanState). unwrap_or o no_span) filled.has in
+    let key : ℕ × ℕ → ℕ = λ e. e.0 in
+    let mine = filled_span slots now k s filled in
     let here : IsFiled now (q, k) = record { has = filled.has ∙ ap (λ u. Some u) (sym mine); begins = ap (λ u. first_byte u.span) mine } in
     record {
-      filed = λ i d less. elim (records entries p (q, k) i d few less) [
-        | inl new ↦ subst (IsFiled now) (sym new) here
-        | inr old ↦
-            (let e = get_or entries old.0 d in
-            let filed : IsFiled slots e = kept.filed old.0 d old.1 in
-            let P : Option SpanState → Type 0 = λ o. (o ≡ Some (unwrap_or o no_span)) × (first_byte (unwrap_or o no_span).span ≡ e.0) in
-            let moved : P (slot_at now e.1) = subst P (sym (filled.others e.1 (same_slot slots now entries ts k s old.0 d kept filled old.1))) (filed.has, filed.begins) in
-            let all : IsFiled now e = record { has = moved.0; begins = moved.1 } in
-            subst (IsFiled now) (sym old.2) all)
-      ];
+      filed = All-with_item key (IsFiled now) (q, k) entries here (λ i d less. still_filed slots now k s (get_or entries i d) filled (kept.filed i d less));
       placed = λ m u has_u. elim (cases_eq m k) [
-        | inl new ↦ (p, (q, k), omega arith, get_or-insert_at entries p (q, k) (q, k) few, sym new)
-        | inr other ↦
-            (let it = kept.placed m u (sym (filled.others m other) ∙ has_u) in
-            elim (cases_lt it.0 p) [
-              | inl below ↦ (it.0, it.1, omega (arith, it.2), get_or-insert_below entries p (q, k) it.1 it.0 below few ∙ it.3, it.4)
-              | inr above ↦ (it.0 + 1, it.1, omega (arith, it.2), get_or-insert_above entries p (q, k) it.1 it.0 above few ∙ it.3, it.4)
-            ])
+        | inl new ↦ Any-new key (λ e. e.1 ≡ m) (q, k) entries (sym new)
+        | inr other ↦ Any-old key (λ e. e.1 ≡ m) (q, k) entries (kept.placed m u (sym (filled.others m other) ∙ has_u))
       ];
       room = λ m past. filled.others m (λ clash. omega (arith, length-set grown k (standing_of s))) ∙ kept.room m (omega (arith, length-set grown k (standing_of s)));
       ranked = λ m. elim (cases_eq m k) [

@@ -1,8 +1,9 @@
 -- A central free list: which span an object is taken from, what a new span adds, and where an object that is put back goes.
 use Rattle.std.specs.Prelude.{◌≡◌, ◌≢◌, ℕ, zero, suc, ◌+◌, ◌-◌, ◌*◌, ◌<◌, ◌≤◌, ◌⊎◌, Bool, true, false, ◌==◌, ◌&&◌, ◌||◌, nat_lt, nat_le, min, List, [], ◌∷◌, ◌++◌, map, replicate, All, AllPairs, Any, Option, Some, None, slice_get, slice_set, if◌then◌else◌}
-use Rattle.std.specs.List.{prefix_len, position_or_len, range_with_len, insert, remove, flat_map}
+use Rattle.std.specs.List.{position_or_len, range_with_len, remove, flat_map}
 use Rattle.std.specs.Option.{option_map}
 use Rattle.tc_units.specs.Units.{page_bytes}
+use Rattle.tc_units.specs.Sorted.{with_item}
 use Rattle.tc_units.specs.declared.units.Addr.{Addr}
 use Rattle.tc_units.specs.declared.spans.SpanRef.{SpanRef}
 use Rattle.tc_units.specs.declared.spans.ClassRow.{ClassRow}
@@ -72,9 +73,9 @@ opened span size n =
 abbrev pub opening : SpanRef → ℕ → ℕ → List Addr
 opening span size n = map (address (opened span size n)) (range_with_len 0 (min n (objects_in span.pages size)))
 
--- the spans with one more, which stands behind those that begin before it
+-- the spans with one more, which stands before the first span that begins behind it
 abbrev pub with_span : SpanState → List SpanState → List SpanState
-with_span s spans = insert spans (prefix_len (λ t. nat_le (first_byte t.span) (first_byte s.span)) spans) s
+with_span s spans = with_item (λ t. first_byte t.span) s spans
 
 -- Putting. Whether an address lies in a span's pages
 abbrev pub holds : Addr → SpanState → Bool

@@ -1,12 +1,13 @@
 -- What a new span leaves: its objects, of which the first ones are gone.
-use Rattle.std.proofs.Common.{◌≡◌, ℕ, zero, suc, ◌+◌, ◌-◌, Bool, true, false, nat_le, min, List, [], ◌++◌, map, replicate, count_by, cond, refl, ◌∙◌, ap, arith}
-use Rattle.std.specs.List.{prefix_len, range_with_len, insert, sum_by}
-use Rattle.std.proofs.lemmas.List.Sums.{sum_by-cons, sum_by-append, sum_by-insert}
+use Rattle.std.proofs.Common.{◌≡◌, ℕ, zero, suc, ◌+◌, ◌-◌, Bool, true, false, min, List, [], ◌++◌, map, replicate, count_by, cond, refl, ◌∙◌, ap, arith}
+use Rattle.std.specs.List.{range_with_len, sum_by}
+use Rattle.std.proofs.lemmas.List.Sums.{sum_by-cons, sum_by-append}
 use Rattle.tc_units.specs.declared.units.Addr.{Addr}
 use Rattle.tc_units.specs.declared.spans.SpanRef.{SpanRef}
 use Rattle.span_list.specs.Span.{SpanState, first_byte, address, objects_in, all_free, free_from, free_objects, objects_of}
 use Rattle.central_free.specs.Central.{opened, opening, with_span, IsOfRow, free_in}
 use Rattle.central_free.proofs.AddFacts.{some_objects, length-opening, IsOfRow-opened, IsSound-with_span, count-with_span}
+use Rattle.central_free.proofs.SortedFacts.{sum_by-with_item}
 use Rattle.class_shard.specs.Laws.{spans_in, with_new, AddMoves}
 use Rattle.class_shard.proofs.SpanSums.{pages_of, sum_by-map, objects_passing, count-objects}
 
@@ -30,9 +31,8 @@ count-opened test span size n =
 -- one more span in a sum
 sum-with_span : (w : SpanRef → ℕ) (spans : List SpanState) (s : SpanState) → sum_by w (pages_of (with_span s spans)) ≡ sum_by w (pages_of spans) + w s.span
 sum-with_span w spans s =
-    let k = prefix_len (λ (t : SpanState). nat_le (first_byte t.span) (first_byte s.span)) spans in
     let span : SpanState → SpanRef = λ x. x.span in
-    omega (arith, sum_by-map w span (insert spans k s), sum_by-map w span spans, sum_by-insert (λ x. w (span x)) spans k s)
+    omega (arith, sum_by-map w span (with_span s spans), sum_by-map w span spans, sum_by-with_item (λ (t : SpanState). first_byte t.span) (λ x. w (span x)) s spans)
 
 pub add_moves : AddMoves
 add_moves n s span some sound pages first sizes few apart =
