@@ -10,13 +10,13 @@ use Rattle.tc_ports.specs.Shelves.{Files}
 use Rattle.trace_reader.specs.declared.trace.Trace.{Trace}
 use Rattle.tc_machine.specs.Inputs.{asked_of}
 use Rattle.tcreplay.specs.declared.outcome.End.{End}
-use Rattle.tcreplay.specs.declared.outcome.End.TheVariants.{Done, ReadFault, FileFault}
+use Rattle.tcreplay.specs.declared.outcome.End.TheVariants.{Done, WriteFault, Full, ReadFault, FileFault}
 use Rattle.tcreplay.specs.declared.input.Job.{Job}
 use Rattle.tcreplay.specs.Tasks.{Replay, Schedule, InTurn, ByFile, ByThreads, file_of}
 use Rattle.tcreplay.specs.Verdict as verdict
 use Rattle.tcreplay.specs.Verdict.{Given, and_then, or_end, within, file_within, table_limit, trace_limit, table_end, rows_in, asked_in, picks_in, picks_or, job_with, job_of}
-use Rattle.tcreplay.specs.Reads.{Reading, Shelving, IsFile, IsStep, IsLoad, ArePicks, IsTraceRead, HaveCome, CutOff, HasRead, IsJobOf, IsJobRead, asked_by, order_loads, is_behind_trace}
-use Rattle.tcreplay.proofs.EndFacts.{FailsTable, table_fails}
+use Rattle.tcreplay.specs.Reads.{Reading, Shelving, IsFile, IsStep, IsLoad, ArePicks, IsTraceRead, HaveCome, CutOff, HasRead, IsJobOf, IsJobRead, asked_by, order_loads, loads_behind, is_behind_trace, is_behind_run}
+use Rattle.tcreplay.proofs.EndFacts.{FailsTable, FailsJob, table_fails, job_fails}
 use Rattle.tcreplay.proofs.LoadFacts.{some_file, some_file_is}
 use Rattle.tcreplay.proofs.TraceFacts.{some_text, some_text_is, lost_none}
 
@@ -27,6 +27,29 @@ not_behind = record { all = record { missing = refl; memory = refl; long = λ _.
 -- an end that comes behind the trace is another than one that doesn't
 behind : (end : End) → is_behind_trace end ≡ false → is_behind_trace end ≡ true → ⊥
 behind end is later = let e : false ≡ true = sym is ∙ later in cc
+
+-- the reading has no end behind a run
+pub not_run : FailsJob is_behind_run
+not_run = record {
+  table = record { all = record { missing = refl; memory = refl; long = λ _. refl }; bad = λ _ _. refl };
+  trace = λ _ _. refl;
+  order = λ _ _. refl;
+}
+
+pub cut_early : (replay : Replay) (given : Given) (t u : Reading) (f g : Shelving) (end : End) → CutOff replay given t u f g end → is_behind_run end ≡ false
+cut_early replay given t u f g Done cut = absurd cut
+cut_early replay given t u f g WriteFault cut = absurd cut
+cut_early replay given t u f g (Full ticket) cut = absurd cut
+cut_early replay given t u f g end cut = refl
+
+-- so a reading that stopped came to no end behind a run
+stops_early : (replay : Replay) (given : Given) (t u : Reading) (f g : Shelving) (end : End) → IsJobOf replay given t u f g (Err end) → is_behind_run end ≡ true → ⊥
+stops_early replay given t u f g end answer later =
+    let early : is_behind_run end ≡ false = elim answer [
+      | inl e ↦ job_fails is_behind_run replay given end not_run e
+      | inr cut ↦ cut_early replay given t u f g end cut
+    ] in
+    let e : false ≡ true = sym early ∙ later in cc
 
 -- a step that ended with another fault than that of its end left the count of faults
 step_count : {A B : Type 0} (seen : B → A) (verdict : Result A End) (fault end : End) (old new : ℕ) → IsStep seen verdict fault old new (Err end) → (end ≡ fault → ⊥) → new ≡ old
@@ -84,6 +107,7 @@ table_stops replay t f g end load =
       read = record {
         files = load.files;
         loads = one_load (order_loads (file_of replay.schedule) (asked_by given)) f.loads g.loads load.once;
+        loaded = λ later. absurd (stops_early replay given t t f g end answer later);
         file_count = step_count (λ (rows : List ClassRow). rows) (rows_in load.file) FileFault end f.faults g.faults load.step;
         untouched = λ _. refl;
         lost = lost_none t.left (trace_limit + 1);
@@ -109,6 +133,7 @@ trace_stops replay t u f g rows end load trace =
       read = record {
         files = load.files;
         loads = one_load (order_loads (file_of replay.schedule) (asked_by given)) f.loads g.loads load.once;
+        loaded = λ later. absurd (stops_early replay given t u f g end answer later);
         file_count = λ _. load.step.1;
         untouched = λ err. absurd (not_err (rows_in load.file) rows load.step.0 err);
         lost = trace.lost;
@@ -144,6 +169,7 @@ behind_order replay name t u f g h rows trace given end named good asked first s
     record {
       files = second ∙ first;
       loads = subst (λ n. h.loads ≤ f.loads + n) (sym both) (two_loads f.loads g.loads h.loads one two);
+      loaded = λ _. two ∙ ap one_more one ∙ sym (ap (λ o. loads_behind o f.loads) named);
       file_count = count;
       untouched = λ err. absurd (not_err (rows_in given.table) rows good err);
       lost = read.lost;
@@ -182,6 +208,7 @@ reads_without replay t u f g rows trace picks unnamed load read none =
       read = record {
         files = load.files;
         loads = one_load (order_loads (file_of replay.schedule) (asked_by given)) f.loads g.loads load.once;
+        loaded = λ _. load.once ∙ sym (ap (λ o. loads_behind o f.loads) unnamed);
         file_count = λ _. load.step.1;
         untouched = λ err. absurd (not_err (rows_in load.file) rows load.step.0 err);
         lost = read.lost;

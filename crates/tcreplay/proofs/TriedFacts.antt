@@ -13,12 +13,13 @@ use Rattle.tcreplay.specs.declared.words.Locks.{Locks}
 use Rattle.tcreplay.specs.Tasks.{Replay, Schedule, InTurn, ByFile, ByThreads, file_of, locks_in}
 use Rattle.tcreplay.specs.Verdict as verdict
 use Rattle.tcreplay.specs.Verdict.{Given, Verdict, and_then, rows_in, asked_in, picks_or, job_with, have_ended, run_verdict, order_of_job, job_of, text_with}
-use Rattle.tcreplay.specs.Reads.{Reading, Shelving, IsMadeOf, HaveCome, AreGiven, HasRead, IsJobRead, CutOff, seen_job}
+use Rattle.tcreplay.specs.Reads.{Reading, Shelving, IsMadeOf, HaveCome, AreGiven, HasRead, IsJobRead, CutOff, is_behind_run, seen_job}
 use Rattle.tcreplay.specs.Ran.{seen_ran, IsRan, IsRanByThreads}
-use Rattle.tcreplay.specs.Writes.{Writing, IsWritten, IsLastEnd, is_behind_run}
+use Rattle.tcreplay.specs.Writes.{Writing, IsWritten, IsLastEnd}
 use Rattle.tcreplay.specs.Lawful.{IsLawful, IsCompleted, IsOrderOf}
 use Rattle.tcreplay.specs.Replayed.{IsAnswer, IsHeadline, HasTried, verdict_on}
-use Rattle.tcreplay.proofs.EndFacts.{FailsJob, job_fails}
+use Rattle.tcreplay.proofs.EndFacts.{job_fails}
+use Rattle.tcreplay.proofs.JobFacts.{not_run, cut_early}
 use Rattle.tcreplay.proofs.RunFacts.{completed_is}
 use Rattle.tcreplay.proofs.RanFacts.{order_is, lawful, text_is, have_all_ended, its_run}
 
@@ -27,6 +28,7 @@ read_for : (replay : Replay) (given : Given) (t u : Reading) (f g : Shelving) (e
 read_for replay given t u f g end read = record {
   files = read.files;
   loads = read.loads;
+  loaded = λ _. read.loaded refl;
   file_count = λ _. read.file_count (λ e. cc);
   untouched = read.untouched;
   lost = read.lost;
@@ -34,20 +36,6 @@ read_for replay given t u f g end read = record {
   drained = λ _. read.drained refl;
   trace_count = λ _. read.trace_count (λ e. cc);
 }
-
--- the reading has no end behind a run
-not_run : FailsJob is_behind_run
-not_run = record {
-  table = record { all = record { missing = refl; memory = refl; long = λ _. refl }; bad = λ _ _. refl };
-  trace = λ _ _. refl;
-  order = λ _ _. refl;
-}
-
-cut_early : (replay : Replay) (given : Given) (t u : Reading) (f g : Shelving) (end : End) → CutOff replay given t u f g end → is_behind_run end ≡ false
-cut_early replay given t u f g Done cut = absurd cut
-cut_early replay given t u f g WriteFault cut = absurd cut
-cut_early replay given t u f g (Full ticket) cut = absurd cut
-cut_early replay given t u f g end cut = refl
 
 -- before a run nothing is written
 untouched : (end : End) (text : List ℕ) (out : Writing) → is_behind_run end ≡ false → IsWritten end text out out
@@ -197,5 +185,5 @@ tried_threads replay locks t u f g before after job ran end order threads read b
     let none : file_of replay.schedule ≡ None = no_file replay.schedule locks threads in
     let asked : job_of replay given ≡ Ok (job_behind (seen_job job) came) = behind_rows replay read.given came (seen_job job) none (rows_in read.given.table) read.answer in
     let told : AreGiven replay f.files t.left given = record { table = read.told.table; trace = read.told.trace; order = read.told.order; came = subst (λ j. HaveCome replay.schedule j came) (sym asked) (came_is replay.schedule locks (seen_job job) came threads by_threads.made) } in
-    let had : HasRead replay given t u f g Done = record { files = read.read.files; loads = read.read.loads; file_count = read.read.file_count; untouched = read.read.untouched; lost = read.read.lost; reads = read.read.reads; drained = read.read.drained; trace_count = read.read.trace_count } in
+    let had : HasRead replay given t u f g Done = record { files = read.read.files; loads = read.read.loads; loaded = read.read.loaded; file_count = read.read.file_count; untouched = read.read.untouched; lost = read.read.lost; reads = read.read.reads; drained = read.read.drained; trace_count = read.read.trace_count } in
     tried_by replay given t u f g before after (job_behind (seen_job job) came) ran end order told asked had by_threads.whole (completed_by replay.schedule locks (seen_job job) came threads by_threads.made) last same written

@@ -17,8 +17,8 @@ use Rattle.tcreplay.specs.declared.outcome.End.{End}
 use Rattle.tcreplay.specs.declared.outcome.End.TheVariants.{Done, BadTable, WriteFault, Memory, TooLong, Full, FileFault}
 use Rattle.tcreplay.specs.Tasks.{Workload, InTurn}
 use Rattle.tcreplay.specs.Verdict.{Job, Verdict, and_then, rows_in, asked_of_text, order_of_job, run_verdict, summary_in}
-use Rattle.tcreplay.specs.Reads.{Shelving, IsFile, IsLoad, seen_job}
-use Rattle.tcreplay.specs.Writes.{Writing, Ends, TookText, TookPartOf, is_behind_run}
+use Rattle.tcreplay.specs.Reads.{Shelving, IsFile, IsLoad, is_behind_run, seen_job}
+use Rattle.tcreplay.specs.Writes.{Writing, Ends, TookText, TookPartOf}
 use Rattle.tcreplay.specs.Lawful.{IsLawful, IsOrderOf}
 
 -- the trace of a workload

@@ -83,6 +83,13 @@ is_behind_trace (BadTrace line why) = true
 is_behind_trace (BadOrder line why) = true
 is_behind_trace end = false
 
+-- whether an end comes behind a run
+abbrev pub is_behind_run : End → Bool
+is_behind_run Done = true
+is_behind_run WriteFault = true
+is_behind_run (Full ticket) = true
+is_behind_run end = false
+
 -- the trace that was left gave what it asks for under these rows
 pub record IsTraceRead (rows : List ClassRow) (before after : Reading) (result : Result Trace End) : Type 0 where
   pub text : List ℕ
@@ -132,11 +139,17 @@ order_loads name asked = 0
 abbrev pub most_loads : Replay → Given → ℕ
 most_loads replay given = 1 + order_loads (file_of replay.schedule) (asked_by given)
 
--- What was read at an end: each input once, up to its limit, and not before its step. A count of faults rose only where
--- that is the end.
+-- how often files were loaded for a run: the class table once, and the order file once where one is named
+abbrev pub loads_behind : Option (List ℕ) → ℕ → ℕ
+loads_behind None loads = one_more loads
+loads_behind (Some name) loads = one_more (one_more loads)
+
+-- What was read at an end: each input once at most, up to its limit, and not before its step; behind a run each file was
+-- loaded. A count of faults rose only where that is the end.
 pub record HasRead (replay : Replay) (given : Given) (t u : Reading) (f g : Shelving) (end : End) : Type 0 where
   pub files : g.files ≡ f.files
   pub loads : g.loads ≤ f.loads + most_loads replay given
+  pub loaded : is_behind_run end ≡ true → g.loads ≡ loads_behind (file_of replay.schedule) f.loads
   pub file_count : (end ≡ FileFault → ⊥) → g.faults ≡ f.faults
   pub untouched : IsErr (rows_in given.table) → u ≡ t
   pub lost : LostAtMost t.left u.left (trace_limit + 1)

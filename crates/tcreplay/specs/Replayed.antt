@@ -10,8 +10,8 @@ use Rattle.tcreplay.specs.declared.outcome.End.{End}
 use Rattle.tcreplay.specs.declared.outcome.End.TheVariants.{Done, WriteFault}
 use Rattle.tcreplay.specs.Tasks.{Replay}
 use Rattle.tcreplay.specs.Verdict.{Given, Job, Verdict, job_of, order_of_job, run_verdict, text_with}
-use Rattle.tcreplay.specs.Reads.{Reading, Shelving, AreGiven, CutOff, HasRead}
-use Rattle.tcreplay.specs.Writes.{Writing, IsWritten, is_behind_run}
+use Rattle.tcreplay.specs.Reads.{Reading, Shelving, AreGiven, CutOff, HasRead, is_behind_run}
+use Rattle.tcreplay.specs.Writes.{Writing, IsWritten}
 use Rattle.tcreplay.specs.Lawful.{IsLawful, IsOrderOf}
 
 -- what a replay comes to, over what its inputs gave

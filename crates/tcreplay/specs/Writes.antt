@@ -1,5 +1,5 @@
 -- What a call writes, and at which ends.
-use Rattle.std.specs.Prelude.{◌≡◌, ℕ, ◌⊎◌, Bool, true, false, List, Option}
+use Rattle.std.specs.Prelude.{◌≡◌, ℕ, ◌⊎◌, List, Option}
 use Rattle.tc_ports.specs.Faults.{one_more, Rose}
 use Rattle.tc_ports.specs.Told.{Took, TookPart}
 use Rattle.tcreplay.specs.declared.outcome.End.{End}
@@ -51,10 +51,3 @@ IsRunEnd end = ⊥
 -- the end of a run stays, unless its text couldn't be written
 abbrev pub IsLastEnd : End → End → Type 0
 IsLastEnd ran end = (end ≡ ran) ⊎ ((end ≡ WriteFault) × (ran ≡ Done))
-
--- whether an end comes behind a run
-abbrev pub is_behind_run : End → Bool
-is_behind_run Done = true
-is_behind_run WriteFault = true
-is_behind_run (Full ticket) = true
-is_behind_run end = false

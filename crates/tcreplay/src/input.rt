@@ -21,7 +21,7 @@ const MOST_TABLE_BYTES: u64 = 65_536;
 /// The most bytes of a trace or an order file (this project's own limit).
 const MOST_TRACE_BYTES: u64 = 67_108_864;
 
-/// What is run, and whether a line for each hugepage is printed.
+/// What is run: a trace under a class table, with an order's picks.
 #[derive(Drop)]
 pub struct Job {
     pub table: ClassTable,
