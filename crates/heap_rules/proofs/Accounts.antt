@@ -12,7 +12,7 @@ use Rattle.heap_rules.specs.GiveUp.{gives_whole, SpareRow, gives_before, gives_s
 use Rattle.heap_rules.specs.Release.{only_used, whole_given, spare_row, spare_rows, spare_given}
 use Rattle.range_bits.proofs.RangeLemmas.{range-within}
 use Rattle.tc_units.proofs.Counts.{one-true}
-use Rattle.heap_rules.proofs.Places.{at}
+use Rattle.heap_rules.proofs.Places.{at, at-next}
 
 -- a sum over the elements that pass
 pub sum-filter : {X : Type 0} (f : X → ℕ) (p : X → Bool) (xs : List X) → sum_by f (filter p xs) ≡ sum_by (λ x. cond (p x) (f x) 0) xs
@@ -51,17 +51,16 @@ by_numbers f xs =
     same_lists _ _ (len' ∙ len ∙ sym count)
     (λ k d l.
     let short : k < length xs = omega arith in
-    let e : 1 + k - 1 ≡ k = omega arith in
     get_or-map (λ (p : ℕ × Hugepage). f p.0 p.1) (enumerate_from 1 xs) k (0, untouched) d (omega arith)
     ∙ ap (λ (p : ℕ × Hugepage). f p.0 p.1) (get_or-enumerate_from 1 xs k (0, untouched) short)
-    ∙ ap (λ i. f (1 + k) (get_or xs i untouched)) (sym e)
+    ∙ ap (f (1 + k)) (sym (at-next xs k))
     ∙ sym (get_or-map-range_with_len g 1 (length xs) k (1 + k) d short refl))
 
 pub self : (xs : List Hugepage) → xs ≡ map (at xs) (range_with_len 1 (length xs))
 self xs =
     let count = length-map-range_with_len (at xs) 1 (length xs) in
     same_lists _ _ (sym count)
-    (λ k d l. let e : k ≡ 1 + k - 1 = omega arith in get_or_default xs k d untouched l ∙ ap (λ i. get_or xs i untouched) e ∙ sym (get_or-map-range_with_len (at xs) 1 (length xs) k (1 + k) d l refl))
+    (λ k d l. get_or_default xs k d untouched l ∙ sym (at-next xs k) ∙ sym (get_or-map-range_with_len (at xs) 1 (length xs) k (1 + k) d l refl))
 
 -- the backed pages of a hugepage, over the numbers of its pages
 pub own_backs : (h : ℕ) (x : Hugepage) → length x.backed ≡ 256 → x.backed ≡ map (backs x) (pages_of h)

@@ -1,5 +1,5 @@
 -- What the choices of free hugepages give, and where there is none.
-use Rattle.std.proofs.Common.{◌≡◌, ℕ, ◌+◌, ◌-◌, ◌<◌, ◌≤◌, ◌⊎◌, Bool, true, not, List, length, get_or, map, Option, Some, None, option_map, refl, sym, subst, ◌∙◌, inl, inr, arith}
+use Rattle.std.proofs.Common.{◌≡◌, ℕ, ◌+◌, ◌-◌, ◌<◌, ◌≤◌, ◌⊎◌, Bool, true, not, List, length, get_or, map, Option, Some, None, option_map, refl, sym, ap, subst, ◌∙◌, inl, inr, arith}
 use Rattle.std.proofs.lemmas.Bool.{and_parts, not-false}
 use Rattle.std.proofs.lemmas.List.{length-map, get_or-map}
 use Rattle.std.proofs.lemmas.Option.{none-some, same_Some}
@@ -7,6 +7,7 @@ use Rattle.range_bits.specs.Ranges.{best, longest}
 use Rattle.heap_rules.specs.Heap.{Heap, Hugepage, hugepage, untouched, is_free, is_free_backed}
 use Rattle.heap_rules.specs.CacheFlags.{or_else}
 use Rattle.heap_rules.specs.Choice.{taken_row, unready_row, run_choice}
+use Rattle.heap_rules.proofs.Places.{at-place}
 use Rattle.range_bits.proofs.RangeLemmas.{best-at, free_fits, free_at}
 use Rattle.range_bits.proofs.RangeFacts.{longest_is_short}
 
@@ -45,7 +46,7 @@ free_run : (heap : Heap) (m s : ℕ) → ArePassing is_free heap.hugepages s m �
 free_run heap m s are = record {
   from = omega arith;
   to = omega (arith, are.to);
-  free = λ k a b. (let e : s + (k - 1 - s) ≡ k - 1 = omega arith in subst (λ j. is_free (get_or heap.hugepages j untouched) ≡ true) e (are.pass (k - 1 - s) (omega arith)));
+  free = λ k a b. (let e : s + (k - 1 - s) ≡ k - 1 = omega arith in ap is_free (at-place heap.hugepages k (omega arith)) ∙ subst (λ j. is_free (get_or heap.hugepages j untouched) ≡ true) e (are.pass (k - 1 - s) (omega arith)));
 }
 
 pub run_choice_free : (heap : Heap) (m h : ℕ) → 0 < m → run_choice heap m ≡ Some h → AreFree heap h m

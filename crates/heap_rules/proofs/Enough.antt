@@ -2,13 +2,13 @@
 use Rattle.std.proofs.Common.{◌≡◌, ℕ, zero, suc, ◌+◌, ◌-◌, ◌*◌, ◌<◌, ◌≤◌, ◌⊎◌, Bool, true, false, not, ◌&&◌, ◌||◌, ◌==◌, cond, List, length, get_or, map, filter, count_by, sum_by, replicate, refl, sym, ap, subst, ◌∙◌, inl, inr, arith}
 use Rattle.std.specs.List.{list_all, range_with_len}
 use Rattle.std.proofs.lemmas.Bool.{and_parts, and_right, eqb-true}
-use Rattle.std.proofs.lemmas.List.{get_or-map, length-map, get_or-replicate, length-replicate}
+use Rattle.std.proofs.lemmas.List.{length-map, get_or-replicate, length-replicate}
 use Rattle.std.proofs.lemmas.List.Folds.{list_all_at}
 use Rattle.std.proofs.lemmas.List.FromFn.{length-map-range_with_len, get_or-map-range_with_len}
 use Rattle.tc_units.specs.declared.spans.Run.{Run}
 use Rattle.tc_units.specs.declared.rows.RowKind.{RowKind}
 use Rattle.tc_units.specs.declared.rows.RowKind.TheVariants as kind
-use Rattle.heap_rules.specs.Heap.{Heap, Hugepage, hugepage, numbers, untouched, whole, backs, backed_count, is_used, is_free, is_filler, is_region, is_free_backed, is_kind_filler, is_kind_region, used_count, pages_of}
+use Rattle.heap_rules.specs.Heap.{Heap, Hugepage, hugepage, numbers, whole, backs, backed_count, is_used, is_free, is_filler, is_region, is_free_backed, is_kind_filler, is_kind_region, used_count, pages_of}
 use Rattle.heap_rules.specs.Settle.{unbacked}
 use Rattle.heap_rules.specs.GiveUp.{gives_whole}
 use Rattle.heap_rules.specs.Release.{Released, whole_given, free_given, is_idle, idle_given, spare_pages, spare_row, spare_rows, spare_given, release, may_give, givable_pages}
@@ -16,7 +16,7 @@ use Rattle.heap_rules.specs.Sound.{IsHugepageOf, HasNoUsed, IsBackedEvenly, IsFi
 use Rattle.heap_rules.specs.Laws.{ReleaseIsEnough}
 use Rattle.range_bits.proofs.RangeLemmas.{range-within}
 use Rattle.tc_units.proofs.Counts.{count_none}
-use Rattle.heap_rules.proofs.Places.{at, length-each, at-each}
+use Rattle.heap_rules.proofs.Places.{at, length-each, at-each, map-place}
 use Rattle.heap_rules.proofs.Fits.{serves_at, is_Free, is_Region}
 use Rattle.heap_rules.proofs.Accounts.{sum-filter, sum-adds, sum-map', self, own_backs, both, scaled, all_counted, same_sums}
 use Rattle.heap_rules.proofs.GiveUps as walk
@@ -139,7 +139,7 @@ no_idle runs h x k e other = let none : is_region x ≡ false = ap is_kind_regio
 
 free_kind : (heap : Heap) (h : ℕ) → 0 < h → h ≤ length heap.hugepages → get_or (map is_free_backed heap.hugepages) (h - 1) false ≡ true → (hugepage heap h).kind ≡ kind.Free
 free_kind heap h from to flag =
-    let ready : is_free_backed (hugepage heap h) ≡ true = sym (get_or-map is_free_backed heap.hugepages (h - 1) untouched false (omega arith)) ∙ flag in
+    let ready : is_free_backed (hugepage heap h) ≡ true = sym (map-place is_free_backed heap.hugepages h false from to) ∙ flag in
     is_Free (hugepage heap h).kind (and_parts _ _ ready).0
 
 idle_kind : (heap : Heap) (h : ℕ) → 0 < h → h ≤ length heap.hugepages → get_or (map (is_idle heap) (numbers heap)) (h - 1) false ≡ true → (hugepage heap h).kind ≡ kind.Region

@@ -20,6 +20,7 @@ use Rattle.heap_rules.specs.Sound.{IsRegion, IsSound}
 use Rattle.heap_rules.specs.Laws.{IsGiven, NewGives}
 use Rattle.range_bits.proofs.RangeLemmas.{first_least-all, first_least-none, filter-some}
 use Rattle.range_bits.proofs.RangeFacts.{best_there}
+use Rattle.heap_rules.proofs.Places.{at-place, map-place}
 use Rattle.heap_rules.proofs.Chosen.{AreFree, run_choice_free, run_choice_none}
 use Rattle.heap_rules.proofs.Fillers.{IsRowWithRoom, rows_fit, unused_at, given_filler}
 use Rattle.heap_rules.proofs.Regions.{given_region, given_new_region}
@@ -82,7 +83,7 @@ module _ (heap : Heap) (n : ℕ) (sound : IsSound heap) (some : 0 < n) where
   small_fresh small (Some h) e none =
       let are = run_choice_free heap 1 h (omega arith) e in (
         given_fresh heap n h 1 sound some (omega arith) are refl,
-        and_right _ _ (list_all_at (λ x. not (is_free x)) heap.hugepages (h - 1) untouched (omega (arith, are.from, are.to)) (not_from_true _ (are.free h (omega arith) (omega arith)))),
+        and_right _ _ (list_all_at (λ x. not (is_free x)) heap.hugepages (h - 1) untouched (omega (arith, are.from, are.to)) (not_from_true _ (ap is_free (sym (at-place heap.hugepages h are.from)) ∙ are.free h (omega arith) (omega arith)))),
       )
 
   small_own : (row : FillerRow) → IsRowWithRoom heap n row → (o : Option ℕ) → best row.used n ≡ o → IsAnswer heap n (none_small heap n) (by_filler heap n (option_map (λ start. 256 * row.number + start) o))
@@ -112,7 +113,7 @@ module _ (heap : Heap) (n : ℕ) (sound : IsSound heap) (some : 0 < n) where
       longest-le (taken_row heap) (h - 1) m pos (omega (arith, are.from, are.to))
       (λ k l. (let e : h + k - 1 ≡ h - 1 + k = omega (arith, are.from) in
       subst (λ i. get_or (taken_row heap) i true ≡ false) e
-      (get_or-map (λ x. not (is_free x)) heap.hugepages (h + k - 1) untouched true (omega (arith, are.from, are.to)) ∙ not_from_true _ (are.free (h + k) (omega arith) (omega arith)))))
+      (map-place (λ x. not (is_free x)) heap.hugepages (h + k) true (omega (arith, are.from)) (omega (arith, are.to)) ∙ not_from_true _ (are.free (h + k) (omega arith) (omega arith)))))
 
   whole_by : (other : Bool) → other ≡ true → (o : Option ℕ) → run_choice heap (hugepages_for n) ≡ o → IsAnswer heap n (nat_lt (longest (taken_row heap)) (hugepages_for n) && other) (option_map (in_free heap n) o)
   whole_by other t None e = and_from _ _ (lt-ltb (longest (taken_row heap)) (hugepages_for n) (run_choice_none heap (hugepages_for n) (omega arith) e)) t

@@ -2,6 +2,7 @@
 use Rattle.std.proofs.Common.{◌≡◌, ℕ, ◌+◌, ◌-◌, ◌*◌, ◌/◌, ◌%◌, ◌<◌, ◌≤◌, Bool, true, false, not, ◌&&◌, ◌==◌, cond, List, length, get_or, map, Contains, refl, sym, ap, ◌∙◌, inl, inr, arith}
 use Rattle.std.specs.List.{list_all, list_any}
 use Rattle.std.proofs.lemmas.Bool.{cases_Bool, cases_lt, and_parts, false≢true}
+use Rattle.std.proofs.lemmas.Grind.{get_or_head}
 use Rattle.std.proofs.lemmas.List.{get_or_past}
 use Rattle.std.proofs.lemmas.List.Folds.{list_all_at}
 use Rattle.std.proofs.lemmas.List.FromFn.{get_or-map-range_with_len}
@@ -16,7 +17,7 @@ use Rattle.heap_rules.specs.Free.{emptied, left_by, left, used_regions, without_
 use Rattle.heap_rules.specs.Release.{Released, whole_given, free_given, is_idle, idle_given, spare_row, spare_rows, only_used, spare_given, release}
 use Rattle.heap_rules.specs.Sound.{Serves, IsSound}
 use Rattle.heap_rules.specs.Laws.{BacksNone}
-use Rattle.heap_rules.proofs.Places.{at, length-each, at-each, backs-whole}
+use Rattle.heap_rules.proofs.Places.{at, at-place, length-each, at-each, backs-whole}
 
 -- a hugepage that backs no page more than another
 abbrev Unbacks : Hugepage → Hugepage → Type 0
@@ -36,16 +37,13 @@ unbacks_same x page e = e
 -- a change of each hugepage that unbacks
 each_unbacks : (f : ℕ → Hugepage → Hugepage) (xs : List Hugepage) → ((h : ℕ) → 0 < h → h ≤ length xs → Unbacks (at xs h) (f h (at xs h))) → (h page : ℕ) → backs (at (each f xs) h) page ≡ true → backs (at xs h) page ≡ true
 each_unbacks f xs unbacks h page e =
-    let same : h - 1 + 1 - 1 ≡ h - 1 = omega arith in
-    let now : (ys : List Hugepage) → at ys (h - 1 + 1) ≡ at ys h = λ ys. ap (λ k. get_or ys k untouched) same in
-    elim (cases_lt (h - 1) (length xs)) [
-      | inl within ↦
-          (let changed = at-each f xs (h - 1 + 1) (omega arith) (omega arith) in
-          let after : backs (f (h - 1 + 1) (at xs (h - 1 + 1))) page ≡ true = ap (λ x. backs x page) (sym changed ∙ now (each f xs)) ∙ e in
-          ap (λ x. backs x page) (sym (now xs)) ∙ unbacks (h - 1 + 1) (omega arith) (omega arith) page after)
-      | inr past ↦
-          (let none : at (each f xs) h ≡ untouched = get_or_past (each f xs) (h - 1) untouched (omega (arith, length-each f xs, past)) in
-          absurd (false≢true (sym (backs-whole false page) ∙ ap (λ x. backs x page) (sym none) ∙ e)))
+    let none : at (each f xs) h ≡ untouched → backs (at xs h) page ≡ true = λ is. absurd (false≢true (sym (backs-whole false page) ∙ ap (λ x. backs x page) (sym is) ∙ e)) in
+    elim (cases_lt 0 h) [
+      | inl some ↦ elim (cases_lt (length xs) h) [
+        | inl past ↦ none (at-place (each f xs) h some ∙ get_or_past (each f xs) (h - 1) untouched (omega (arith, length-each f xs, past)))
+        | inr within ↦ unbacks h some within page (ap (λ x. backs x page) (sym (at-each f xs h some within)) ∙ e)
+      ]
+      | inr zero ↦ none (get_or_head untouched (each f xs) h untouched (omega arith))
     ]
 
 -- what a run leaves of a hugepage

@@ -1,11 +1,12 @@
 -- A heap at its opening is sound.
-use Rattle.std.proofs.Common.{◌≡◌, ℕ, ◌-◌, false, [], refl, sym, subst, arith}
+use Rattle.std.proofs.Common.{◌≡◌, ℕ, ◌-◌, false, [], replicate, refl, sym, subst, ◌∙◌, arith}
 use Rattle.std.proofs.lemmas.Bool.{false≢true}
 use Rattle.std.proofs.lemmas.List.{length-replicate, get_or-replicate}
 use Rattle.std.proofs.lemmas.List.Elements.{All-nil}
 use Rattle.heap_rules.specs.declared.config.HeapConfig.{HeapConfig}
 use Rattle.heap_rules.specs.Heap.{hugepage, untouched, opened}
 use Rattle.heap_rules.specs.Sound.{IsInside, IsFit, IsRegion, IsSound}
+use Rattle.heap_rules.proofs.Places.{at-place}
 
 fit_untouched : (width h : ℕ) → IsFit [] [] width h untouched
 fit_untouched width h = record { size = length-replicate 256 false; serves = ((λ p own. refl), (false, refl)); donated = λ e. absurd (false≢true e) }
@@ -17,7 +18,7 @@ opened_sound config = record {
     disjoint = λ p. omega arith;
     inside = All-nil (IsInside config.huge);
     backed = λ p e. absurd (false≢true e);
-    fit = λ h is. (let e : hugepage (opened config) h ≡ untouched = get_or-replicate config.huge (h - 1) untouched untouched (omega (arith, is.from, is.to)) in subst (IsFit [] [] config.region h) (sym e) (fit_untouched config.region h));
+    fit = λ h is. (let e : hugepage (opened config) h ≡ untouched = at-place (replicate config.huge untouched) h is.from ∙ get_or-replicate config.huge (h - 1) untouched untouched (omega (arith, is.from, is.to)) in subst (IsFit [] [] config.region h) (sym e) (fit_untouched config.region h));
     apart = λ h. omega arith;
   };
   regions = All-nil (IsRegion (opened config));

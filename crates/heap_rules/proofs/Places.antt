@@ -1,14 +1,25 @@
 -- A change of each hugepage, place by place.
-use Rattle.std.proofs.Common.{◌≡◌, ℕ, ◌+◌, ◌-◌, ◌*◌, ◌/◌, ◌%◌, ◌<◌, ◌≤◌, Bool, false, List, length, get_or, map, ap, ◌∙◌, arith}
+use Rattle.std.proofs.Common.{◌≡◌, ℕ, ◌+◌, ◌-◌, ◌*◌, ◌/◌, ◌%◌, ◌<◌, ◌≤◌, Bool, false, List, ◌∷◌, length, get_or, map, sym, ap, ◌∙◌, arith}
 use Rattle.std.specs.List.{enumerate_from}
 use Rattle.std.proofs.lemmas.List.{length-map, get_or-map, get_or-replicate}
+use Rattle.std.proofs.lemmas.Grind.{get_or_tail}
 use Rattle.std.proofs.lemmas.List.FromFn.{length-enumerate_from, get_or-enumerate_from, get_or-map-range_with_len}
 use Rattle.heap_rules.specs.Heap.{Hugepage, untouched, each, whole, pages_of}
 use Rattle.heap_rules.specs.Sound.{IsPageOf}
 
--- hugepage h of a list
+-- hugepage h of a list, as a heap has it; from 1 on it is what stands at place h - 1
 abbrev pub at : List Hugepage → ℕ → Hugepage
-at xs h = get_or xs (h - 1) untouched
+at xs h = get_or (untouched ∷ xs) h untouched
+
+pub at-place : (xs : List Hugepage) (h : ℕ) → 0 < h → at xs h ≡ get_or xs (h - 1) untouched
+at-place xs h some = get_or_tail untouched xs h untouched some
+
+pub at-next : (xs : List Hugepage) (k : ℕ) → at xs (1 + k) ≡ get_or xs k untouched
+at-next xs k = let e : 1 + k - 1 ≡ k = omega arith in at-place xs (1 + k) (omega arith) ∙ ap (λ i. get_or xs i untouched) e
+
+-- what a map of the list has there
+pub map-place : {X : Type 0} (f : Hugepage → X) (xs : List Hugepage) (h : ℕ) (d : X) → 0 < h → h ≤ length xs → get_or (map f xs) (h - 1) d ≡ f (at xs h)
+map-place f xs h d some inside = get_or-map f xs (h - 1) untouched d (omega arith) ∙ ap f (sym (at-place xs h some))
 
 pub length-each : (f : ℕ → Hugepage → Hugepage) (xs : List Hugepage) → length (each f xs) ≡ length xs
 length-each f xs = length-map (enumerate_from 1 xs) (λ (p : ℕ × Hugepage). f p.0 p.1) ∙ length-enumerate_from 1 xs
@@ -17,9 +28,11 @@ pub at-each : (f : ℕ → Hugepage → Hugepage) (xs : List Hugepage) (h : ℕ)
 at-each f xs h some inside =
     let len = length-enumerate_from 1 xs in
     let e : 1 + (h - 1) ≡ h = omega arith in
-    get_or-map (λ (p : ℕ × Hugepage). f p.0 p.1) (enumerate_from 1 xs) (h - 1) (0, untouched) untouched (omega arith)
+    at-place (each f xs) h some
+    ∙ get_or-map (λ (p : ℕ × Hugepage). f p.0 p.1) (enumerate_from 1 xs) (h - 1) (0, untouched) untouched (omega arith)
     ∙ ap (λ (p : ℕ × Hugepage). f p.0 p.1) (get_or-enumerate_from 1 xs (h - 1) (0, untouched) (omega arith))
-    ∙ ap (λ k. f k (at xs h)) e
+    ∙ ap (λ k. f k (get_or xs (h - 1) untouched)) e
+    ∙ ap (f h) (sym (at-place xs h some))
 
 -- the hugepage of a page
 pub own : (h page : ℕ) → IsPageOf h page → page / 256 ≡ h

@@ -2,18 +2,18 @@
 use Rattle.std.proofs.Common.{◌≡◌, ℕ, ◌+◌, ◌-◌, ◌*◌, ◌<◌, ◌≤◌, Bool, true, false, ◌&&◌, cond, List, length, get_or, map, count_by, refl, sym, subst, ◌∙◌, inl, inr, arith}
 use Rattle.std.specs.List.{list_all}
 use Rattle.std.proofs.lemmas.Bool.{cases_Bool, and_parts, and_from, eqb-true, false≢true, false_from_ne_true}
-use Rattle.std.proofs.lemmas.List.{get_or-map, length-replicate}
+use Rattle.std.proofs.lemmas.List.{length-replicate}
 use Rattle.std.proofs.lemmas.List.FromFn.{length-map-range_with_len, get_or-map-range_with_len}
 use Rattle.tc_units.specs.declared.spans.Run.{Run}
 use Rattle.tc_units.specs.declared.rows.RowKind.TheVariants as kind
-use Rattle.heap_rules.specs.Heap.{Heap, Hugepage, hugepage, numbers, untouched, backed_count, backed_pages, is_used, is_free_backed, is_filler, is_region, backs, used_from, used_count}
+use Rattle.heap_rules.specs.Heap.{Heap, Hugepage, hugepage, numbers, backed_count, backed_pages, is_used, is_free_backed, is_filler, is_region, backs, used_from, used_count}
 use Rattle.heap_rules.specs.Settle.{unbacked}
 use Rattle.heap_rules.specs.GiveUp.{gives_whole, gives_spare}
 use Rattle.heap_rules.specs.Release.{Released, whole_given, free_given, is_idle, idle_given, spare_row, spare_rows, only_used, spare_given, release}
 use Rattle.heap_rules.specs.Sound.{IsHugepageOf, HasNoUsed, Serves, IsFit, IsSound}
 use Rattle.heap_rules.specs.Laws.{ReleaseKeeps}
 use Rattle.tc_units.proofs.Counts.{count_some}
-use Rattle.heap_rules.proofs.Places.{backs-map}
+use Rattle.heap_rules.proofs.Places.{backs-map, map-place}
 use Rattle.heap_rules.proofs.Fits.{serves_at, is_Region}
 use Rattle.heap_rules.proofs.Accounts.{all_counted, whole_counts, spare_counts}
 use Rattle.heap_rules.proofs.Fillers.{is_Filler}
@@ -92,7 +92,7 @@ free_sound heap n sound =
     whole_sound (map is_free_backed heap.hugepages) heap n sound
     (λ h is e.
     let len = sound.runs.arena in
-    let ready : is_free_backed (hugepage heap h) ≡ true = sym (get_or-map is_free_backed heap.hugepages (h - 1) untouched false (omega (arith, is.from, is.to))) ∙ e in
+    let ready : is_free_backed (hugepage heap h) ≡ true = sym (map-place is_free_backed heap.hugepages h false is.from (omega (arith, is.to))) ∙ e in
     remade_unbacked heap.runs heap.regions heap.config.region h (hugepage heap h) (and_parts _ _ ready).0 (sound.runs.fit h is))
 
 pub idle_sound : (heap : Heap) (n : ℕ) → IsSound heap → IsSound (idle_given heap n).heap
@@ -113,7 +113,7 @@ free_counts heap n sound =
     whole_counts (map is_free_backed heap.hugepages) heap n
     (λ h from to e.
     let len = sound.runs.arena in
-    let ready : is_free_backed (hugepage heap h) ≡ true = sym (get_or-map is_free_backed heap.hugepages (h - 1) untouched false (omega arith)) ∙ e in
+    let ready : is_free_backed (hugepage heap h) ≡ true = sym (map-place is_free_backed heap.hugepages h false from (omega arith)) ∙ e in
     full (hugepage heap h) (sound.runs.fit h (record { from = from; to = omega arith })).size (and_parts _ _ ready).1)
 
 pub idle_counts : (heap : Heap) (n : ℕ) → IsSound heap → backed_pages (idle_given heap n).heap + (idle_given heap n).pages ≡ backed_pages heap

@@ -13,7 +13,7 @@ or_else None y = y
 abbrev pub run_choice : List Bool → List Bool → ℕ → Option ℕ
 run_choice taken unready many = option_map (λ place. place + 1) (or_else (best unready many) (best taken many))
 
--- whether hugepage h is backed and free, and at least `limit` such ones stand before it
+-- whether hugepage h, from 1 on, is backed and free, and at least `limit` such ones stand before it
 abbrev pub is_over : ℕ → List Bool → ℕ → Bool
 is_over limit ready h = slice_index_or ready (h - 1) false && nat_le limit (count_by (λ b. b) (take (h - 1) ready))
 

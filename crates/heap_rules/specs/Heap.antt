@@ -1,5 +1,5 @@
 -- A page heap as a value: its live runs, its regions, its hugepages and its use counts. All else is a function of these.
-use Rattle.std.specs.Prelude.{ℕ, ◌+◌, ◌-◌, ◌*◌, ◌/◌, ◌%◌, Bool, true, false, ◌&&◌, nat_lt, nat_le, List, [], length, map, count_by, replicate, if◌then◌else◌, sum_by}
+use Rattle.std.specs.Prelude.{ℕ, ◌+◌, ◌*◌, ◌/◌, ◌%◌, Bool, true, false, ◌&&◌, nat_lt, nat_le, List, [], ◌∷◌, length, map, count_by, replicate, if◌then◌else◌, sum_by}
 use Rattle.std.specs.List.{list_any, list_all, range_with_len, enumerate_from, slice_index_or}
 use Rattle.tc_units.specs.Units.{huge_pages}
 use Rattle.tc_units.specs.Sorted.{with_item, without_key}
@@ -41,9 +41,9 @@ opened config = record { config = config; runs = []; regions = []; hugepages = r
 abbrev pub numbers : Heap → List ℕ
 numbers heap = range_with_len 1 (length heap.hugepages)
 
--- hugepage h
+-- hugepage h; the arena has no hugepage 0, so 0 reads as untouched, as does what is past the last
 abbrev pub hugepage : Heap → ℕ → Hugepage
-hugepage heap h = slice_index_or heap.hugepages (h - 1) untouched
+hugepage heap h = slice_index_or (untouched ∷ heap.hugepages) h untouched
 
 -- the hugepages after each is changed by its number and what it is
 abbrev pub each : (ℕ → Hugepage → Hugepage) → List Hugepage → List Hugepage

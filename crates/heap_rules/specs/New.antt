@@ -101,7 +101,7 @@ abbrev pub by_regions : Heap → ℕ → Option ℕ → Option Placed
 by_regions heap n (Some page) = Some (in_region heap n page)
 by_regions heap n None = new_beside_regions heap n
 
--- whether n pages may lie in a region: more than a hugepage, no multiple of one, and no more than a region has
+-- whether n pages, 256 or more, may lie in a region: no multiple of a hugepage, and no more than a region has
 abbrev pub suits_region : HeapConfig → ℕ → Bool
 suits_region config n = not (n % huge_pages == 0) && nat_le n (huge_pages * config.region)
 

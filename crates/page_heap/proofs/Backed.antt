@@ -1,11 +1,12 @@
 -- The backed pages of a heap, counted hugepage by hugepage. They cover the used ones.
-use Rattle.std.proofs.Common.{◌≡◌, ℕ, zero, suc, ◌+◌, ◌-◌, ◌*◌, ◌/◌, ◌%◌, ◌<◌, ◌≤◌, Bool, true, false, cond, List, [], ◌∷◌, length, get_or, take, count_by, sum_by, refl, sym, ap, ◌∙◌, arith}
+use Rattle.std.proofs.Common.{◌≡◌, ℕ, zero, suc, ◌+◌, ◌*◌, ◌/◌, ◌%◌, ◌<◌, ◌≤◌, Bool, true, false, cond, List, [], ◌∷◌, length, get_or, take, count_by, sum_by, refl, sym, ap, ◌∙◌, arith}
 use Rattle.std.specs.List.{range_with_len}
 use Rattle.std.proofs.lemmas.List.Sums.{sum_by-cons}
 use Rattle.std.proofs.lemmas.List.FromFn.{length-map-range_with_len, get_or-map-range_with_len}
 use Rattle.tc_units.proofs.Counts.{count-cons}
 use Rattle.heap_rules.specs.Heap.{Heap, Hugepage, hugepage, untouched, backs, is_used, used_row, used_count, backed_count, used_pages, backed_pages}
 use Rattle.heap_rules.specs.Sound.{IsHugepageOf, IsSound}
+use Rattle.heap_rules.proofs.Places.{at-next}
 use Rattle.page_heap.proofs.Unbacks.{backed_most}
 
 -- sums of the first elements
@@ -73,15 +74,15 @@ module _ (heap : Heap) (sound : IsSound heap) where
       let arena = sound.runs.arena in
       sum_range_le (used_count heap.runs) backed_count 1 heap.hugepages
       (λ k l.
-      (let at : 1 + k - 1 ≡ k = omega arith in
-      let same = ap (λ i. backed_count (get_or heap.hugepages i untouched)) at in
+      (let same = ap backed_count (at-next heap.hugepages k) in
       le_same (used_count heap.runs (1 + k)) _ _ (covered (1 + k) (record { from = omega arith; to = omega (arith, l) })) same))
 
   -- hugepage after hugepage
   pub backed_more : (k : ℕ) → k < length heap.hugepages → sum_by backed_count (take k heap.hugepages) + backed_count (hugepage heap (k + 1)) ≡ sum_by backed_count (take (k + 1) heap.hugepages)
   backed_more k l =
-      let at : k + 1 - 1 ≡ k = omega arith in
-      ap (λ i. sum_by backed_count (take k heap.hugepages) + backed_count (get_or heap.hugepages i untouched)) at
+      let at : k + 1 ≡ 1 + k = omega arith in
+      ap (λ i. sum_by backed_count (take k heap.hugepages) + backed_count (hugepage heap i)) at
+      ∙ ap (λ x. sum_by backed_count (take k heap.hugepages) + backed_count x) (at-next heap.hugepages k)
       ∙ sum_take_more backed_count heap.hugepages k untouched l
       ∙ (let next : suc k ≡ k + 1 = omega arith in ap (λ i. sum_by backed_count (take i heap.hugepages)) next)
 

@@ -13,6 +13,7 @@ use Rattle.range_bits.proofs.RangeLemmas.{first_least-all, first_least-none, fil
 use Rattle.heap_rules.specs.Heap.{Heap, Hugepage, hugepage, untouched, used_row, allocation_count, is_filler}
 use Rattle.heap_rules.specs.FillerRows.{is_preferred, has_room, place_in_row, filler_place}
 use Rattle.heap_rules.specs.Choice.{filler_rows}
+use Rattle.heap_rules.proofs.Places.{at-next}
 use Rattle.heap_rules.proofs.Live.{Contains-cons}
 use Rattle.huge_filler.specs.Filler.{FillerPage, with_page, row_of, rows_of, fresh}
 use Rattle.page_heap.specs.Parts.{filler_page_of, filler_of}
@@ -100,7 +101,7 @@ module _ {Y : Type 0} (g : ℕ → FillerPage → Y) where
 
 -- the filler's rows are those of the heap
 pub look_at : (heap : Heap) (k : ℕ) (d : Hugepage) → k < length heap.hugepages → hugepage heap (1 + k) ≡ get_or heap.hugepages k d
-look_at heap k d l = (let z : 1 + k - 1 ≡ k = omega arith in ap (λ i. get_or heap.hugepages i untouched) z ∙ get_or_default heap.hugepages k untouched d l)
+look_at heap k d l = at-next heap.hugepages k ∙ get_or_default heap.hugepages k untouched d l
 
 pub rows_of-filler_of : (heap : Heap) → rows_of (filler_of heap) ≡ filler_rows heap
 rows_of-filler_of heap = rows_are row_of heap.runs (hugepage heap) 1 heap.hugepages (look_at heap)

@@ -3,15 +3,16 @@ use Rattle.std.proofs.Common.{◌≡◌, ℕ, ◌+◌, ◌-◌, ◌*◌, ◌/◌
 use Rattle.std.specs.Prelude.{option_and_then}
 use Rattle.std.specs.List.{list_all}
 use Rattle.std.proofs.lemmas.Bool.{cases_eq, eq-eqb, ne_eqb, false≢true, false_from_ne_true, not_from_false}
-use Rattle.std.proofs.lemmas.List.{length-map, get_or-map, length-drop, get_or-drop}
+use Rattle.std.proofs.lemmas.List.{length-map, length-drop, get_or-drop}
 use Rattle.std.proofs.lemmas.List.Elements.{Contains-get_or}
 use Rattle.tc_units.specs.declared.spans.Run.{Run}
 use Rattle.tc_units.specs.declared.rows.RowKind.TheVariants as kind
 use Rattle.range_bits.specs.Ranges.{used_from}
 use Rattle.range_bits.proofs.Placing.{length-with_places, get_or-with_places}
-use Rattle.heap_rules.specs.Heap.{Heap, hugepage, untouched, reaches, is_free, is_region, is_kind_free, is_kind_filler}
+use Rattle.heap_rules.specs.Heap.{Heap, hugepage, reaches, is_free, is_region, is_kind_free, is_kind_filler}
 use Rattle.heap_rules.specs.Free.{left, given_back}
 use Rattle.heap_rules.specs.Sound.{IsHugepageOf, IsSound}
+use Rattle.heap_rules.proofs.Places.{map-place}
 use Rattle.heap_rules.proofs.Left.{left_runs, live_inside}
 use Rattle.heap_rules.proofs.Longest.{prefix_long}
 use Rattle.heap_rules.proofs.Ended.{given_back_sound}
@@ -153,7 +154,7 @@ module _ (old : Parts) (kept : IsKept old) (run : Run) (live : Contains (heap_of
         (let at : start - 1 + k ≡ start + k - 1 = omega arith in
         get_or-drop (start - 1) row k false
         ∙ ap (λ i. get_or row i false) at
-        ∙ get_or-map (λ x. not (is_free x)) heap.hugepages (start + k - 1) untouched false (omega arith)
+        ∙ map-place (λ x. not (is_free x)) heap.hugepages (start + k) false (omega arith) (omega arith)
         ∙ not_from_false _ (ap is_kind_free (route.whole (start + k) (omega (arith, route.begins)) (omega (arith, route.begins)))))))
 
     whole_same : given_back heap run ≡ left heap run

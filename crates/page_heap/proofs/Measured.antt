@@ -11,6 +11,7 @@ use Rattle.tc_units.specs.declared.rows.RowView.{RowView}
 use Rattle.range_bits.specs.Ranges.{longest}
 use Rattle.heap_rules.specs.Heap.{Heap, Hugepage, hugepage, untouched, whole, backs, backed_count, is_backed, used_row, used_count, is_used, allocation_count, is_free, is_filler, is_region, is_kind_free, is_kind_filler, row_of}
 use Rattle.heap_rules.specs.Sound.{IsHugepageOf, HasOneRun, IsBackedEvenly, IsFit, IsSound}
+use Rattle.heap_rules.proofs.Places.{at-place}
 use Rattle.heap_rules.proofs.Fits.{serves_at, is_Free, is_Region, spans_parts, reaches_from, holds_from}
 use Rattle.heap_rules.proofs.Fillers.{is_Filler}
 use Rattle.huge_filler.specs.Filler.{FillerPage, page_at, place_of}
@@ -86,7 +87,7 @@ module _ (old : Parts) (kept : IsKept old) (h : ℕ) (from : 0 < h) (to : h ≤ 
   inside = let arena = sound.runs.arena in omega (arith, to)
 
   owner : x ≡ hugepage_of old h
-  owner = get_or-map-range_with_len (hugepage_of old) 1 old.config.huge (h - 1) h untouched (omega (arith, from, to)) (omega (arith, from))
+  owner = at-place heap.hugepages h from ∙ get_or-map-range_with_len (hugepage_of old) 1 old.config.huge (h - 1) h untouched (omega (arith, from, to)) (omega (arith, from))
 
   fit : IsFit heap.runs heap.regions heap.config.region h x
   fit = sound.runs.fit h is

@@ -29,9 +29,6 @@ numbered-each {X} f xs h d e some inside =
 pub length-each : {X Y : Type 0} (f : ℕ → X → Y) (xs : List X) → length (map (λ (p : ℕ × X). f p.0 p.1) (enumerate_from 1 xs)) ≡ length xs
 length-each {X} f xs = length-map (enumerate_from 1 xs) (λ (p : ℕ × X). f p.0 p.1) ∙ length-enumerate_from 1 xs
 
-pub numbered-map : {X Y : Type 0} (f : X → Y) (xs : List X) (h : ℕ) (d : X) (e : Y) → 0 < h → h ≤ length xs → numbered (map f xs) h e ≡ f (numbered xs h d)
-numbered-map f xs h d e some inside = get_or-map f xs (h - 1) d e (omega arith)
-
 pub numbered-set_same : {X : Type 0} (xs : List X) (h : ℕ) (x d : X) → 0 < h → h ≤ length xs → numbered (set xs (h - 1) x) h d ≡ x
 numbered-set_same xs h x d some inside = get_or-set_same xs (h - 1) x d (omega arith)
 

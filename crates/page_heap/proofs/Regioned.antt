@@ -10,7 +10,7 @@ use Rattle.std.proofs.lemmas.Option.{none-some}
 use Rattle.tc_units.specs.declared.spans.Run.{Run}
 use Rattle.range_bits.specs.Ranges.{best, first_least}
 use Rattle.range_bits.proofs.RangeLemmas.{first_least-all}
-use Rattle.heap_rules.specs.Heap.{Heap, Hugepage, hugepage, untouched, numbers, reaches, run_at, with_run, region_row, used_count, is_filler, is_free, spans}
+use Rattle.heap_rules.specs.Heap.{Heap, Hugepage, hugepage, numbers, reaches, run_at, with_run, region_row, used_count, is_filler, is_free, spans}
 use Rattle.heap_rules.specs.CacheFlags as cache
 use Rattle.heap_rules.specs.RegionRows.{RegionRow, is_preferred, has_room, place_in_region, region_place}
 use Rattle.heap_rules.specs.Choice.{region_rows, hugepages_for}
@@ -29,8 +29,8 @@ use Rattle.huge_cache.specs.Cache.{Cache, is_backed, without_run}
 use Rattle.huge_region.specs.Regions.{Regions, region_with, row_of, after_take}
 use Rattle.page_heap.specs.Parts.{Parts, heap_of, filler_page_of, filler_of, region_of, regions_of, with_backed_region, IsRouted, IsKept}
 use Rattle.page_heap.specs.Moves.{AreOutside}
-use Rattle.page_heap.proofs.Numbered.{numbered-each, length-each}
-use Rattle.page_heap.proofs.View.{filler_some, filler_none, region_missing}
+use Rattle.page_heap.proofs.Numbered.{length-each}
+use Rattle.page_heap.proofs.View.{filler_at, filler_some, filler_none, region_missing}
 use Rattle.page_heap.proofs.Steps.{map-map, placed_regions}
 use Rattle.page_heap.proofs.TakenRegion.{taken_filler, taken_cache, taken_regions, opened_cache, opened_filler, opened_regions, opened_sound, opened_places, opened_known, opened_place}
 use Rattle.page_heap.proofs.Routed.{routed_with, route_kept, some_pages, in_arena, no_run_there}
@@ -135,7 +135,7 @@ donated_is heap sound =
     let back : 1 + k - 1 ≡ k = omega arith in
     get_or-map free_of_donated (filler_of heap) k None d (omega arith)
     ∙ ap (λ i. free_of_donated (get_or (filler_of heap) i None)) (sym back)
-    ∙ ap free_of_donated (numbered-each (filler_page_of heap.runs) heap.hugepages (1 + k) untouched None (omega arith) (omega arith))
+    ∙ ap free_of_donated (filler_at heap (1 + k) (omega arith) (omega arith))
     ∙ free_there heap (1 + k) sound (record { from = omega arith; to = omega arith })
     ∙ sym (get_or-map-range_with_len g 1 (length heap.hugepages) k (1 + k) d short refl))) in
     sym (sum-map free_of_donated (filler_of heap)) ∙ ap (sum_by (λ x. x)) same ∙ sum-map g (numbers heap)

@@ -1,5 +1,5 @@
 -- By which route a live run was placed stays true of it while others come and go.
-use Rattle.std.proofs.Common.{◌≡◌, ℕ, ◌+◌, ◌-◌, ◌*◌, ◌/◌, ◌<◌, ◌≤◌, ◌⊎◌, ◌==◌, true, false, not, ◌&&◌, cond, List, get_or, All, Contains, refl, ap, subst, ◌∙◌, inl, inr, arith}
+use Rattle.std.proofs.Common.{◌≡◌, ℕ, ◌+◌, ◌*◌, ◌/◌, ◌<◌, ◌≤◌, ◌⊎◌, ◌==◌, true, false, not, ◌&&◌, cond, List, get_or, All, Contains, refl, ap, subst, ◌∙◌, inl, inr, arith}
 use Rattle.std.specs.List.{list_any}
 use Rattle.std.proofs.lemmas.Bool.{cases_Bool, ne_eqb, and_parts, not-true}
 use Rattle.std.proofs.lemmas.List.Elements.{All-contains, All-filter, Contains-get_or}
@@ -7,10 +7,11 @@ use Rattle.tc_units.specs.declared.spans.Run.{Run}
 use Rattle.tc_units.specs.declared.rows.RowKind.{RowKind}
 use Rattle.tc_units.specs.declared.rows.RowKind.TheVariants as kind
 use Rattle.tc_units.proofs.Counts.{count_some}
-use Rattle.heap_rules.specs.Heap.{Heap, Hugepage, hugepage, untouched, each, holds, reaches, with_run, without_run, allocation_count, is_free, is_region, spans}
+use Rattle.heap_rules.specs.Heap.{Heap, Hugepage, hugepage, each, holds, reaches, with_run, without_run, allocation_count, is_free, is_region, spans}
 use Rattle.heap_rules.specs.Free.{left, left_by, emptied, used_regions, given_back}
 use Rattle.heap_rules.specs.Sound.{IsInside, IsHugepageOf, HasNoUsed, IsRegion, AreRunsSound, IsSound}
 use Rattle.heap_rules.proofs.Live.{All-with_item, Contains-filter, counts_used}
+use Rattle.heap_rules.proofs.Places.{at}
 use Rattle.heap_rules.proofs.Fits.{holds_from, reaches_parts, reaches_from, serves_at, is_Region}
 use Rattle.heap_rules.proofs.Remade.{remade, here}
 use Rattle.heap_rules.proofs.Left.{fewer, own_run, left_runs, left_kinds}
@@ -31,7 +32,7 @@ no_run_there huge runs z h inside live e none = contradict _ (reached_some runs 
     contradict n a b = omega arith
 
 -- A route stays where the hugepages that the run reaches keep their kinds, and its region stays.
-pub route_kept : (heap : Heap) (runs : List Run) (regions : List ℕ) (hugepages : List Hugepage) (counts : List ℕ) (z : Run) → 0 < z.pages → IsRouted heap z → ((h : ℕ) → reaches h z ≡ true → (get_or hugepages (h - 1) untouched).kind ≡ (hugepage heap h).kind) → ((r : ℕ) → Contains heap.regions r → 256 * r ≤ z.first.0 → z.first.0 + z.pages ≤ 256 * (r + heap.config.region) → Contains regions r) → IsRouted (record heap { runs = runs; regions = regions; hugepages = hugepages; counts = counts }) z
+pub route_kept : (heap : Heap) (runs : List Run) (regions : List ℕ) (hugepages : List Hugepage) (counts : List ℕ) (z : Run) → 0 < z.pages → IsRouted heap z → ((h : ℕ) → reaches h z ≡ true → (at hugepages h).kind ≡ (hugepage heap h).kind) → ((r : ℕ) → Contains heap.regions r → 256 * r ≤ z.first.0 → z.first.0 + z.pages ≤ 256 * (r + heap.config.region) → Contains regions r) → IsRouted (record heap { runs = runs; regions = regions; hugepages = hugepages; counts = counts }) z
 route_kept heap runs regions hugepages counts z some (inl one) kinds known = inl (record {
   filler = kinds (z.first.0 / 256) (reaches_from (z.first.0 / 256) z (omega arith) (omega arith)) ∙ one.filler;
   ends = one.ends;

@@ -2,14 +2,15 @@
 use Rattle.std.proofs.Common.{◌≡◌, ℕ, ◌-◌, ◌*◌, Bool, true, false, not, ◌||◌, cond, List, get_or, map, count_by, refl, sym, ap, ◌∙◌, inl, inr, arith}
 use Rattle.std.specs.List.{list_all, range_with_len}
 use Rattle.std.proofs.lemmas.Bool.{cases_Bool, and_right, and_parts, or_right, false_from_ne_true}
-use Rattle.std.proofs.lemmas.List.{length-map, get_or-map}
+use Rattle.std.proofs.lemmas.List.{length-map}
 use Rattle.range_bits.specs.Ranges.{used_count}
 use Rattle.heap_rules.specs.CacheFlags.{is_over, limit}
 use Rattle.heap_rules.specs.GiveUp.{gives_whole}
-use Rattle.heap_rules.specs.Heap.{Heap, Hugepage, hugepage, untouched, is_free, is_free_backed}
+use Rattle.heap_rules.specs.Heap.{Heap, Hugepage, hugepage, is_free, is_free_backed}
 use Rattle.heap_rules.specs.Settle.{unbacked, counted, settled}
 use Rattle.heap_rules.specs.Release.{free_given}
 use Rattle.heap_rules.specs.Sound.{IsHugepageOf, IsSound}
+use Rattle.heap_rules.proofs.Places.{map-place}
 use Rattle.heap_rules.proofs.Fits.{spans_parts}
 use Rattle.heap_rules.proofs.Remade.{remade}
 use Rattle.heap_rules.proofs.Routes.{free_not_region}
@@ -89,7 +90,7 @@ module _ (heap : Heap) (lost : ℕ → Bool) (counts : List ℕ) (sound : IsSoun
 
 -- a flag of the free backed hugepages
 flagged : (heap : Heap) (h : ℕ) → IsSound heap → IsHugepageOf heap.config.huge h → get_or (map is_free_backed heap.hugepages) (h - 1) false ≡ true → is_free_backed (hugepage heap h) ≡ true
-flagged heap h sound is e = let arena = sound.runs.arena in sym (get_or-map is_free_backed heap.hugepages (h - 1) untouched false (omega (arith, is.from, is.to))) ∙ e
+flagged heap h sound is e = let arena = sound.runs.arena in sym (map-place is_free_backed heap.hugepages h false is.from (omega (arith, is.to))) ∙ e
 
 -- The heap settles.
 module _ (heap : Heap) (sound : IsSound heap) where

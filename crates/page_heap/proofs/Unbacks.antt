@@ -1,10 +1,9 @@
 -- What a release keeps, step by step.
-use Rattle.std.proofs.Common.{◌≡◌, ℕ, ◌+◌, ◌-◌, ◌*◌, ◌<◌, ◌≤◌, Bool, true, false, ◌&&◌, cond, List, [], ◌∷◌, length, get_or, map, count_by, sum_by, All, Option, refl, sym, ap, ◌∙◌, arith}
-use Rattle.std.proofs.lemmas.List.{get_or_default}
+use Rattle.std.proofs.Common.{◌≡◌, ℕ, ◌+◌, ◌-◌, ◌*◌, ◌≤◌, Bool, true, false, ◌&&◌, cond, List, [], ◌∷◌, length, map, count_by, sum_by, All, Option, refl, sym, ap, ◌∙◌, arith}
 use Rattle.std.proofs.lemmas.List.Elements.{All-head, All-tail}
 use Rattle.std.proofs.lemmas.List.Sums.{sum_by-cons}
 use Rattle.tc_units.proofs.Counts.{count-cons}
-use Rattle.heap_rules.specs.Heap.{Heap, Hugepage, hugepage, untouched, backed_count, backed_pages, is_free_backed, is_filler, numbers}
+use Rattle.heap_rules.specs.Heap.{Heap, Hugepage, backed_count, backed_pages, is_free_backed, is_filler, numbers}
 use Rattle.heap_rules.specs.Settle.{unbacked}
 use Rattle.heap_rules.specs.GiveUp.{gives_whole, gives_spare}
 use Rattle.heap_rules.specs.Release.{Released, free_given, is_idle, idle_given, spare_row, spare_rows, only_used, spare_given, after_regions, after_free, release}
@@ -18,6 +17,7 @@ use Rattle.huge_cache.specs.Cache as frees
 use Rattle.huge_region.specs.Regions.{Regions}
 use Rattle.huge_region.specs.Regions as regions
 use Rattle.page_heap.specs.Parts.{Parts, heap_of, IsKept}
+use Rattle.page_heap.proofs.Choices.{look_at}
 use Rattle.page_heap.proofs.Settles.{free_given_filler, free_given_regions, free_given_cache, free_given_pages}
 use Rattle.page_heap.proofs.Gives.{idle_given_filler, idle_given_cache, idle_given_regions, idle_given_pages, spare_given_filler, spare_given_cache, spare_given_regions, spare_given_pages}
 use Rattle.page_heap.proofs.Routed.{routed_same}
@@ -37,13 +37,10 @@ sum_short (x ∷ xs) h =
     let b = count_short x.backed in
     omega arith
 
-at_place : (heap : Heap) (k : ℕ) (d : Hugepage) → k < length heap.hugepages → hugepage heap (k + 1) ≡ get_or heap.hugepages k d
-at_place heap k d l = let at : k + 1 - 1 ≡ k = omega arith in ap (λ i. get_or heap.hugepages i untouched) at ∙ get_or_default heap.hugepages k untouched d l
-
 pub backed_most : (heap : Heap) → IsSound heap → backed_pages heap ≤ 256 * heap.config.huge
 backed_most heap sound =
     let arena = sound.runs.arena in
-    let sizes : All (λ (x : Hugepage). length x.backed ≡ 256) heap.hugepages = λ k d l. ap (λ (x : Hugepage). length x.backed) (sym (at_place heap k d l)) ∙ (sound.runs.fit (k + 1) (record { from = omega arith; to = omega arith })).size in
+    let sizes : All (λ (x : Hugepage). length x.backed ≡ 256) heap.hugepages = λ k d l. ap (λ (x : Hugepage). length x.backed) (sym (look_at heap k d l)) ∙ (sound.runs.fit (1 + k) (record { from = omega arith; to = omega arith })).size in
     let most = sum_short heap.hugepages sizes in
     omega arith
 
