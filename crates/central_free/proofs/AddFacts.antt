@@ -21,7 +21,7 @@ use Rattle.central_free.specs.Runs.{span_after, given_by}
 use Rattle.span_list.proofs.BitFacts.{first_is}
 use Rattle.central_free.specs.Central.{opened, opening, with_span, IsApartFrom, IsBefore, IsOfRow, IsSound, free_in, IsTakenIn, AreDifferent}
 use Rattle.central_free.proofs.SoundFacts.{count-flat_map}
-use Rattle.central_free.proofs.SortedFacts.{All-with_item, Any-new, Any-old, sum_by-with_item}
+use Rattle.tc_units.proofs.SortedFacts.{All-with_item, Any-new, Any-old, sum_by-with_item}
 
 -- a list of which the first a are taken and b more are free
 abbrev front : ℕ → ℕ → List Bool

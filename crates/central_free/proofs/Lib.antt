@@ -1,4 +1,3 @@
-pub mod SortedFacts
 pub mod SlotFacts
 pub mod ChoiceFacts
 pub mod SoundFacts

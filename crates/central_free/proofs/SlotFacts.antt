@@ -21,7 +21,7 @@ use Rattle.central_free.specs.Ranking.{no_standing, standing_at, IsBestSlot}
 use Rattle.central_free.specs.Central.{IsBefore, IsSound, IsApartFrom, with_span}
 use Rattle.central_free.specs.Slots.{weight, standing_of, standing_in, slot_at, span_at, no_span, spans_of, IsFiled, IsKept}
 use Rattle.central_free.proofs.SoundFacts.{has_pages}
-use Rattle.central_free.proofs.SortedFacts.{All-with_item, Any-new, Any-old, map-with_item}
+use Rattle.tc_units.proofs.SortedFacts.{All-with_item, Any-new, Any-old, map-with_item}
 use Rattle.central_free.proofs.ChoiceFacts.{IsBestPlace}
 
 -- the span at a place is that of the entry's slot

@@ -7,7 +7,7 @@ use Rattle.tc_units.specs.declared.spans.SpanRef.{SpanRef}
 use Rattle.span_list.specs.Span.{SpanState, first_byte, address, objects_in, all_free, free_from, free_objects, objects_of}
 use Rattle.central_free.specs.Central.{opened, opening, with_span, IsOfRow, free_in}
 use Rattle.central_free.proofs.AddFacts.{some_objects, length-opening, IsOfRow-opened, IsSound-with_span, count-with_span}
-use Rattle.central_free.proofs.SortedFacts.{sum_by-with_item}
+use Rattle.tc_units.proofs.SortedFacts.{sum_by-with_item}
 use Rattle.class_shard.specs.Laws.{spans_in, with_new, AddMoves}
 use Rattle.class_shard.proofs.SpanSums.{pages_of, sum_by-map, objects_passing, count-objects}
 
