@@ -4,9 +4,10 @@ use Rattle.std.proofs.lemmas.Bool.{and_from, and_parts, leb-true, ltb-true, lt-l
 use Rattle.tc_units.specs.declared.spans.Run.{Run}
 use Rattle.tc_units.specs.declared.rows.RowKind.{RowKind}
 use Rattle.tc_units.specs.declared.rows.RowKind.TheVariants as kind
+use Rattle.tc_units.proofs.SortedFacts.{Contains-old}
 use Rattle.heap_rules.specs.Heap.{Hugepage, holds, with_run, reaches, spans, is_kind_region, is_kind_free}
 use Rattle.heap_rules.specs.Sound.{IsPageOf, HasUsed, HasOneRun, Serves, IsFit}
-use Rattle.heap_rules.proofs.Live.{used_with_old, unused_with, Contains-old}
+use Rattle.heap_rules.proofs.Live.{used_with_old, unused_with}
 
 -- what a run holds, in numbers
 pub holds_parts : (page : ℕ) (run : Run) → holds page run ≡ true → (run.first.0 ≤ page) × (page < run.first.0 + run.pages)

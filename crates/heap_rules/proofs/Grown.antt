@@ -4,11 +4,12 @@ use Rattle.std.proofs.lemmas.Bool.{cases_Bool, false≢true}
 use Rattle.std.proofs.lemmas.List.Elements.{All-weaker, All-contains}
 use Rattle.std.proofs.lemmas.List.Folds.{Any-from_list_any}
 use Rattle.tc_units.specs.declared.spans.Run.{Run}
+use Rattle.tc_units.proofs.SortedFacts.{All-with_item}
 use Rattle.heap_rules.specs.Heap.{Heap, Hugepage, hugepage, holds, is_used, is_backed, backs, is_region, with_run, run_at, reaches}
 use Rattle.heap_rules.specs.Sound.{IsInside, IsPageOf, IsHugepageOf, IsFit, IsRegion, AreRunsSound, IsSound}
 use Rattle.heap_rules.specs.New.{placed}
 use Rattle.heap_rules.proofs.Places.{length-each, at-each, page_of}
-use Rattle.heap_rules.proofs.Live.{count-with, used_with_old, used_with_cases, unused_counts, All-with_item}
+use Rattle.heap_rules.proofs.Live.{count-with, used_with_old, used_with_cases, unused_counts}
 use Rattle.heap_rules.proofs.Fits.{holds_parts, holds_reaches, fit_more, spans_parts}
 
 -- a page that a run inside the arena holds lies in one of its hugepages

@@ -12,8 +12,9 @@ use Rattle.heap_rules.specs.New.{placed, all_backed, region_page, with_region, w
 use Rattle.heap_rules.specs.Sound.{IsInside, IsHugepageOf, LiesInRegion, Serves, IsFit, IsRegion, AreRunsSound, IsSound}
 use Rattle.heap_rules.specs.Laws.{IsGiven}
 use Rattle.tc_units.proofs.Counts.{any_is_count}
+use Rattle.tc_units.proofs.SortedFacts.{count-with_item, All-with_item, Contains-new, Contains-old}
 use Rattle.heap_rules.proofs.Places.{length-each, at-each, backs-whole}
-use Rattle.heap_rules.proofs.Live.{count-with_item, All-with_item, Contains-new, Contains-old, used_with_new}
+use Rattle.heap_rules.proofs.Live.{used_with_new}
 use Rattle.heap_rules.proofs.Fits.{holds_parts, holds_from, reaches_parts, spans_parts, spans_from, serves_at, is_Free, is_Region}
 use Rattle.heap_rules.proofs.Grown.{IsTurned, used_in, most_one, grown, grown_kind, grown_region}
 use Rattle.heap_rules.proofs.Chosen.{AreFree}

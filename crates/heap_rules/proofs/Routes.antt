@@ -4,12 +4,13 @@ use Rattle.std.proofs.lemmas.Bool.{cases_lt, le-leb, lt-leb, false≢true}
 use Rattle.std.proofs.lemmas.List.{length-replicate}
 use Rattle.tc_units.specs.declared.spans.Run.{Run}
 use Rattle.tc_units.specs.declared.rows.RowKind.TheVariants as kind
+use Rattle.tc_units.proofs.SortedFacts.{Contains-new}
 use Rattle.heap_rules.specs.Heap.{Heap, Hugepage, hugepage, holds, is_used, is_free, is_region, is_kind_region, run_at, reaches}
 use Rattle.heap_rules.specs.New.{placed, filler_page, run_page, run_or_tail, in_free, in_fresh}
 use Rattle.heap_rules.specs.Sound.{IsInside, IsPageOf, IsHugepageOf, AreRunsSound, IsSound}
 use Rattle.heap_rules.specs.Laws.{IsGiven}
 use Rattle.heap_rules.proofs.Places.{backs-whole, page_of}
-use Rattle.heap_rules.proofs.Live.{used_with_new, Contains-new}
+use Rattle.heap_rules.proofs.Live.{used_with_new}
 use Rattle.heap_rules.proofs.Fits.{holds_from, reaches_parts, holds_reaches, serves_at, is_Free}
 use Rattle.heap_rules.proofs.Grown.{IsTurned, held_in, grown_sound}
 use Rattle.heap_rules.proofs.Chosen.{AreFree}
