@@ -8,6 +8,7 @@ use Rattle.std.proofs.lemmas.List.Elements.{All-nil, All-cons, All-head, All-tai
 use Rattle.std.proofs.lemmas.List.Folds.{map_fixed}
 use Rattle.std.proofs.lemmas.Option.{none-some}
 use Rattle.tc_units.specs.Sorted.{with_item}
+use Rattle.tc_units.proofs.SortedFacts.{map-with_item}
 use Rattle.range_bits.specs.Ranges.{with_places}
 use Rattle.range_bits.proofs.Placing.{length-with_places, get_or-with_places}
 use Rattle.huge_cache.specs.Cache.{Cache, with_huge}
@@ -20,7 +21,6 @@ use Rattle.page_heap.proofs.Numbered.{numbered, same_numbered, numbered-each, le
 use Rattle.page_heap.proofs.Frames.{same_region}
 use Rattle.page_heap.proofs.Steps.{same_cache}
 use Rattle.page_heap.proofs.InRegion.{enumerated}
-use Rattle.page_heap.proofs.TakenRegion.{map-with_item}
 
 or_none : (a : Bool) → ((true && a) || false) ≡ a
 or_none true = refl
@@ -82,10 +82,11 @@ module _ (all : Regions) (c : Cache) (first width : ℕ) (are : AreOutside all c
       let h : ℕ = first + k in
       let change : Region → Region = λ x. record { first = x.first; used = x.used; allocs = x.allocs; backed = map (λ p. p.1 || p.0 == h) (enumerate_from x.first x.backed) } in
       let g : Region → Region = λ x. cond (x.first == first) (change x) x in
+      let keeps : (x : Region) → (g x).first ≡ x.first = λ x. elim (x.first == first) as (λ b. (cond b (change x) x).first ≡ x.first) [ true ↦ refl | false ↦ refl ] in
       let one = new_region all.width first (flags_upto c first k) in
       ap (backed_at now h) (new_found (flags_upto c first k) h (omega arith) (omega arith))
       ∙ ap (λ (rs : List Region). record all { regions = rs })
-      (sym (map-with_item g (λ (x : Region). x.first) (λ (x : Region). x.first) (λ x. elim (x.first == first) as (λ b. (cond b (change x) x).first ≡ x.first) [ true ↦ refl | false ↦ refl ]) one all.regions)
+      (map-with_item g (λ (x : Region). x.first) (λ (x : Region). x.first) one all.regions (keeps one) (λ j d l. keeps (get_or all.regions j d))
       ∙ ap (λ rs. with_item (λ (x : Region). x.first) (g one) rs)
       (map_fixed g all.regions
       (λ j d l.

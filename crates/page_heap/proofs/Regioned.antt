@@ -8,6 +8,7 @@ use Rattle.std.proofs.lemmas.List.Elements.{All-contains, Contains-get_or}
 use Rattle.std.proofs.lemmas.List.Sums.{sum-map, sum_by-le}
 use Rattle.std.proofs.lemmas.Option.{none-some}
 use Rattle.tc_units.specs.declared.spans.Run.{Run}
+use Rattle.tc_units.proofs.SortedFacts.{All-with_item, Contains-new, Contains-old}
 use Rattle.range_bits.specs.Ranges.{best, first_least}
 use Rattle.range_bits.proofs.RangeLemmas.{first_least-all}
 use Rattle.heap_rules.specs.Heap.{Heap, Hugepage, hugepage, numbers, reaches, run_at, with_run, region_row, used_count, is_filler, is_free, spans}
@@ -17,7 +18,6 @@ use Rattle.heap_rules.specs.Choice.{region_rows, hugepages_for}
 use Rattle.heap_rules.specs.New.{all_backed, region_page, with_new_region, in_region, in_new_region, slack}
 use Rattle.heap_rules.specs.Sound.{IsHugepageOf, IsRegion, IsSound}
 use Rattle.heap_rules.specs.Laws.{IsGiven}
-use Rattle.heap_rules.proofs.Live.{All-with_item, Contains-new, Contains-old}
 use Rattle.heap_rules.proofs.Fits.{spans_parts}
 use Rattle.heap_rules.proofs.Chosen.{mapped, AreFree, run_choice_free}
 use Rattle.heap_rules.proofs.Fillers.{AreUnused, unused_at}

@@ -7,10 +7,11 @@ use Rattle.tc_units.specs.declared.spans.Run.{Run}
 use Rattle.tc_units.specs.declared.rows.RowKind.{RowKind}
 use Rattle.tc_units.specs.declared.rows.RowKind.TheVariants as kind
 use Rattle.tc_units.proofs.Counts.{count_some}
+use Rattle.tc_units.proofs.SortedFacts.{All-with_item}
 use Rattle.heap_rules.specs.Heap.{Heap, Hugepage, hugepage, each, holds, reaches, with_run, without_run, allocation_count, is_free, is_region, spans}
 use Rattle.heap_rules.specs.Free.{left, left_by, emptied, used_regions, given_back}
 use Rattle.heap_rules.specs.Sound.{IsInside, IsHugepageOf, HasNoUsed, IsRegion, AreRunsSound, IsSound}
-use Rattle.heap_rules.proofs.Live.{All-with_item, Contains-filter, counts_used}
+use Rattle.heap_rules.proofs.Live.{Contains-filter, counts_used}
 use Rattle.heap_rules.proofs.Places.{at}
 use Rattle.heap_rules.proofs.Fits.{holds_from, reaches_parts, reaches_from, serves_at, is_Region}
 use Rattle.heap_rules.proofs.Remade.{remade, here}

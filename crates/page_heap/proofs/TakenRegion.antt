@@ -9,6 +9,7 @@ use Rattle.std.proofs.lemmas.List.Sums.{AllPass-from_list_all}
 use Rattle.std.proofs.lemmas.Option.{none-some}
 use Rattle.tc_units.specs.Sorted.{with_item}
 use Rattle.tc_units.specs.declared.spans.Run.{Run}
+use Rattle.tc_units.proofs.SortedFacts.{All-with_item, Contains-new, map-with_item}
 use Rattle.range_bits.specs.Ranges.{best, longest}
 use Rattle.range_bits.proofs.Existence.{none_exactly}
 use Rattle.heap_rules.specs.Heap.{Heap, Hugepage, hugepage, reaches, run_at, with_run, region_row, allocation_count, is_free, is_free_backed, is_filler, is_kind_free, is_kind_filler, is_region, spans}
@@ -16,7 +17,6 @@ use Rattle.heap_rules.specs.New.{all_backed, region_page, with_region, with_new_
 use Rattle.heap_rules.specs.RegionRows.{is_preferred, has_room, place_in_region, region_place}
 use Rattle.heap_rules.specs.Choice.{region_row_of, region_rows}
 use Rattle.heap_rules.specs.Sound.{IsHugepageOf, HasNoUsed, AreRunsSound, IsSound}
-use Rattle.heap_rules.proofs.Live.{All-with_item, Contains-new}
 use Rattle.heap_rules.proofs.Fits.{spans_parts, spans_from, is_Region}
 use Rattle.heap_rules.proofs.Chosen.{AreFree}
 use Rattle.heap_rules.proofs.Regions.{runs_sound, kinds_inner, kinds_more}
@@ -96,15 +96,6 @@ module _ (heap : Heap) (n page r : ℕ) (sound : AreRunsSound heap) (places : Al
       same_cache (cache_of heap) _ _
       (flags_same heap rest heap.regions f heap.counts sound (λ y. not (is_free y)) (λ h is_h. busy_both (λ y. not (is_free y)) (λ x e. ap not e) h))
       (flags_same heap rest heap.regions f heap.counts sound (λ y. not (is_free_backed y)) (λ h is_h. busy_both (λ y. not (is_free_backed y)) (λ x e. ap not (and_left _ _ e)) h))
-
--- a list with an item more, seen through a function that keeps its key
-pub map-with_item : {X Y : Type 0} (g : X → Y) (key : X → ℕ) (key' : Y → ℕ) → ((x : X) → key' (g x) ≡ key x) → (x : X) (xs : List X) → with_item key' (g x) (map g xs) ≡ map g (with_item key x xs)
-map-with_item g key key' same x [] = refl
-map-with_item g key key' same x (y ∷ ys) =
-    ap (λ k. cond (nat_lt k (key' (g y))) (g x ∷ g y ∷ map g ys) (g y ∷ with_item key' (g x) (map g ys))) (same x)
-    ∙ ap (λ k. cond (nat_lt (key x) k) (g x ∷ g y ∷ map g ys) (g y ∷ with_item key' (g x) (map g ys))) (same y)
-    ∙ ap (λ zs. cond (nat_lt (key x) (key y)) (g x ∷ g y ∷ map g ys) (g y ∷ zs)) (map-with_item g key key' same x ys)
-    ∙ (elim (nat_lt (key x) (key y)) as (λ b. cond b (g x ∷ g y ∷ map g ys) (g y ∷ map g (with_item key x ys)) ≡ map g (cond b (x ∷ y ∷ ys) (y ∷ with_item key x ys))) [ true ↦ refl | false ↦ refl ])
 
 pub Contains-map : {X Y : Type 0} (g : X → Y) (xs : List X) (x : X) → Contains xs x → Contains (map g xs) (g x)
 Contains-map g xs x has =
@@ -200,7 +191,7 @@ module _ (heap : Heap) (r : ℕ) (sound : IsSound heap) (are : AreFree heap r he
       (let is = sound.regions k d l in
       region_same heap heap.runs regions' g heap.counts sound.runs (get_or heap.regions k d) is.from is.to refl (λ h e. refl)
       (λ h e. (let y = hugepage heap h in elim (spans width h r) as (λ b. list_all (λ b. b) y.backed ≡ list_all (λ b. b) (cond b (region_page y) y).backed) [ true ↦ refl | false ↦ refl ])))))
-      ∙ map-with_item (region_of after) (λ (k : ℕ). k) (λ (r : Region). r.first) (λ k. refl) r heap.regions)
+      ∙ sym (map-with_item (region_of after) (λ (k : ℕ). k) (λ (r : Region). r.first) r heap.regions refl (λ k d l. refl)))
 
   pub opened_sound : AreRunsSound (with_new_region heap r)
   opened_sound = runs_sound heap r sound are
