@@ -18,12 +18,13 @@ use Rattle.tc_model.specs.declared.answers.Answer.TheVariants.{Block, NoBlock, F
 use Rattle.tc_model.specs.declared.answers.CallLine.{CallLine}
 use Rattle.tc_model.specs.Blocks.{Extent, meets, blocks_after, blocks_with, with_block, without_block, live_bytes, IsAllowed, IsFreePlace, IsBlockRun}
 use Rattle.tc_units.specs.Classes.{length_of}
+use Rattle.tc_units.proofs.SortedFacts.{All-with_item, sum_by-with_item}
 use Rattle.holdings.specs.Apart.{AreApart}
 use Rattle.holdings.specs.Books.{Setup, Books}
 use Rattle.holdings.specs.Facts.{Facts, IsStanding}
 use Rattle.holdings.specs.Laws.{BytesWithin}
 use Rattle.holdings.specs.Runs.{bit, first_byte, runs_like, same_run}
-use Rattle.holdings.proofs.CallFacts.{All-with_block, blocks_after-push}
+use Rattle.holdings.proofs.CallFacts.{blocks_after-push}
 use Rattle.holdings.proofs.MapFacts.{span_of}
 use Rattle.holdings.proofs.Sums.{All-weaken, bit_most, same_run_is, sum_of_both}
 
@@ -67,14 +68,6 @@ no_byte n b (x ∷ xs) own apart =
           ]
     ]
 
-sum_with_item : (f : Extent → ℕ) (x : Extent) (xs : List Extent) → sum_by f (with_block x xs) ≡ f x + sum_by f xs
-sum_with_item f x [] = sum_by-cons f x []
-sum_with_item f x (y ∷ ys) =
-    elim (ltb x.addr y.addr) as (λ b. sum_by f (cond b (x ∷ y ∷ ys) (y ∷ with_block x ys)) ≡ f x + sum_by f (y ∷ ys)) [
-      | true ↦ sum_by-cons f x (y ∷ ys)
-      | false ↦ omega (arith, sum_by-cons f y (with_block x ys), sum_by-cons f y ys, sum_with_item f x ys)
-    ]
-
 sum_filter : (f : Extent → ℕ) (p : Extent → Bool) (xs : List Extent) → sum_by f (filter p xs) ≤ sum_by f xs
 sum_filter f p [] = omega arith
 sum_filter f p (x ∷ xs) =
@@ -88,10 +81,10 @@ with_one : (huge : ℕ) (bs : List Extent) (b : Extent) → AreSpread bs → IsF
 with_one huge bs b are place =
     record {
       bytes = λ n. elim (cases_lt 0 (has n b)) [
-        | inl own ↦ omega (arith, sum_with_item (has n) b bs, no_byte n b bs own place.apart, bit_most (leb b.addr n && ltb n (b.addr + b.len)))
-        | inr none ↦ omega (arith, none, sum_with_item (has n) b bs, are.bytes n)
+        | inl own ↦ omega (arith, sum_by-with_item (λ (x : Extent). x.addr) (has n) b bs, no_byte n b bs own place.apart, bit_most (leb b.addr n && ltb n (b.addr + b.len)))
+        | inr none ↦ omega (arith, none, sum_by-with_item (λ (x : Extent). x.addr) (has n) b bs, are.bytes n)
       ];
-      some = All-with_block (λ (x : Extent). 0 < x.len) b bs place.inside.some are.some;
+      some = All-with_item (λ (b : Extent). b.addr) (λ (x : Extent). 0 < x.len) b bs place.inside.some are.some;
     }
 
 without_one : (bs : List Extent) (addr : ℕ) → AreSpread bs → AreSpread (without_block addr bs)

@@ -1,12 +1,12 @@
 -- What one more decided call makes of a run on disjoint blocks.
-use Rattle.std.proofs.Common.{◌≡◌, ℕ, false, ◌||◌, eqb, ltb, cond, List, [], ◌∷◌, ◌++◌, Option, Some, None, refl, sym, ap, ◌∙◌, subst, arith, ◌⊎◌, inl, inr}
+use Rattle.std.proofs.Common.{◌≡◌, ℕ, false, ◌||◌, eqb, cond, List, [], ◌∷◌, ◌++◌, Option, Some, None, refl, sym, ap, ◌∙◌, subst, arith, ◌⊎◌, inl, inr}
 use Rattle.std.specs.Prelude.{◌==◌, find, All}
 use Rattle.std.specs.List.{list_any}
 use Rattle.std.proofs.lemmas.Bool.{cases_Bool, eq-eqb, ne_eqb, eqb-true, or_parts, cond-true, cond-false}
 use Rattle.std.proofs.lemmas.Bool.Decides.{nat_tests}
 use Rattle.std.proofs.lemmas.List.Sums.{fold_push}
 use Rattle.std.proofs.lemmas.List.Recursion.{or_push}
-use Rattle.std.proofs.lemmas.List.Elements.{All-cons, All-head, All-tail}
+use Rattle.std.proofs.lemmas.List.Elements.{All-head, All-tail}
 use Rattle.tc_model.proofs.EachAfter.{each_of_none, each_of_push}
 use Rattle.tc_model.specs.declared.answers.Answer.{Answer}
 use Rattle.tc_model.specs.declared.answers.CallLine.{CallLine}
@@ -89,13 +89,4 @@ find_apart block addr (x ∷ xs) b apart h =
           let e : x ≡ b = cc in
           subst (λ y. meets block y ≡ false) e parts.0
       | inr not_here ↦ find_apart block addr xs b parts.1 (sym (cond-false (eqb x.addr addr) (Some x) (find (λ y. y.addr == addr) xs) not_here) ∙ h)
-    ]
-
--- all blocks have what the old ones and the new one have
-pub All-with_block : (P : Extent → Type 0) (block : Extent) (bs : List Extent) → P block → All P bs → All P (with_block block bs)
-All-with_block P block [] p all = All-cons P block [] p all
-All-with_block P block (b ∷ bs) p all =
-    elim (cases_Bool (ltb block.addr b.addr)) [
-      | inl before ↦ subst (All P) (sym (cond-true (ltb block.addr b.addr) (block ∷ b ∷ bs) (b ∷ with_block block bs) before)) (All-cons P block (b ∷ bs) p all)
-      | inr after ↦ subst (All P) (sym (cond-false (ltb block.addr b.addr) (block ∷ b ∷ bs) (b ∷ with_block block bs) after)) (All-cons P b (with_block block bs) (All-head P b bs all) (All-with_block P block bs p (All-tail P b bs all)))
     ]

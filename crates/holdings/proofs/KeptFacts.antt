@@ -6,6 +6,7 @@ use Rattle.std.proofs.lemmas.List.Elements.{All-filter}
 use Rattle.tc_units.specs.declared.units.Addr.{Addr}
 use Rattle.tc_units.specs.declared.units.Label.{Label}
 use Rattle.tc_units.specs.declared.units.ThreadNo.{ThreadNo}
+use Rattle.tc_units.proofs.SortedFacts.{All-with_item}
 use Rattle.tc_model.specs.declared.calls.Call.TheVariants.{Malloc, Free, Release, Drain, Resize}
 use Rattle.tc_model.specs.declared.answers.Answer.{Answer}
 use Rattle.tc_model.specs.declared.answers.Answer.TheVariants.{Block, NoBlock, Freed, FreedNull, Released, Busy, CapSet, Drained, OverLimit, OverStatic}
@@ -15,7 +16,7 @@ use Rattle.holdings.specs.Kept.{HasBlock, IsOfMalloc, AreKept}
 use Rattle.tc_model.specs.declared.calls.Call.{Call}
 use Rattle.holdings.specs.Moves.{IsOther}
 use Rattle.holdings.proofs.Sums.{All-kept, All-weaken}
-use Rattle.holdings.proofs.CallFacts.{All-with_block, IsBlockRun-push, answer_cases, answer_to-push_new, answer_to-push_old, blocks_after-push, find-with_block_other, find-with_block_same, find-without_block, find_all, find_apart, freed_in-push}
+use Rattle.holdings.proofs.CallFacts.{IsBlockRun-push, answer_cases, answer_to-push_new, answer_to-push_old, blocks_after-push, find-with_block_other, find-with_block_same, find-without_block, find_all, find_apart, freed_in-push}
 
 -- a block that a label has after a call that allocates another, or none, is one that it had
 has_block_before : (calls : List CallLine) (c : CallLine) (label : ℕ) (addr : Addr) (len : ℕ) → allocates label c.call ≡ false → HasBlock (calls ++ c ∷ []) label addr len → HasBlock calls label addr len
@@ -148,7 +149,7 @@ module _ (round : ℕ → ℕ) (huge : ℕ) (calls : List CallLine) (thread : Th
   kept_block =
       record {
         run = IsBlockRun-push round huge calls line kept.run (is, free);
-        some = subst (All (λ b. 0 < b.len)) (sym (blocks_after-push calls line)) (All-with_block (λ b. 0 < b.len) place (blocks_after calls) some kept.some);
+        some = subst (All (λ b. 0 < b.len)) (sym (blocks_after-push calls line)) (All-with_item (λ (b : Extent). b.addr) (λ b. 0 < b.len) place (blocks_after calls) some kept.some);
         stands = λ l a n has. ap (find (λ b. b.addr == a.0)) (blocks_after-push calls line) ∙
             elim (of_label l a n has) [
               | inl before ↦ find-with_block_other place a.0 (blocks_after calls) (older l a n before) ∙ kept.stands l a n before
@@ -160,7 +161,7 @@ module _ (round : ℕ → ℕ) (huge : ℕ) (calls : List CallLine) (thread : Th
               | inr mine ↦ elim (of_label m a k hasm) [ inl beforem ↦ absurd (older m a k beforem (ap (λ (x : Addr). x.0) (sym mine.1))) | inr minem ↦ sym mine.0 ∙ minem.0 ]
             ];
         answers = λ l answer h. elim (answer_before calls line l answer h) [ inl before ↦ kept.answers l answer before | inr mine ↦ subst IsOfMalloc mine.1 tt ];
-        labelled = subst (All (Labelled (calls ++ line ∷ []))) (sym (blocks_after-push calls line)) (All-with_block (Labelled (calls ++ line ∷ [])) place (blocks_after calls) (label.0, own_block) (All-weaken (Labelled calls) (Labelled (calls ++ line ∷ [])) (blocks_after calls) (λ b l. labelled_push calls line b l refl) kept.labelled));
+        labelled = subst (All (Labelled (calls ++ line ∷ []))) (sym (blocks_after-push calls line)) (All-with_item (λ (b : Extent). b.addr) (Labelled (calls ++ line ∷ [])) place (blocks_after calls) (label.0, own_block) (All-weaken (Labelled calls) (Labelled (calls ++ line ∷ [])) (blocks_after calls) (λ b l. labelled_push calls line b l refl) kept.labelled));
         known = known_after calls line kept.known (λ l h. absurd (false≢true h));
       }
 

@@ -17,9 +17,10 @@ use Rattle.holdings.specs.Moves.{about, books_with}
 use Rattle.std.proofs.lemmas.Bool.{and_from, and_parts, cases_Bool, cases_eq, cases_lt, eq-eqb, false≢true, lt-ltb, ltb-true, ne_eqb}
 use Rattle.tc_units.specs.Classes.{length_of}
 use Rattle.tc_units.specs.Units.{page_bytes, pages_holding}
+use Rattle.tc_units.proofs.SortedFacts.{All-with_item}
 use Rattle.std.specs.List.{slice_get}
 use Rattle.holdings.proofs.Sums.{All-kept, All-weaken, less_counts, like, none_counts, none_meets, one_at, same_run_is, same_run_refl, set_cases, shift, starting, two}
-use Rattle.holdings.proofs.CallFacts.{All-with_block, blocks_after-push}
+use Rattle.holdings.proofs.CallFacts.{blocks_after-push}
 use Rattle.holdings.proofs.MapFacts.{apart_lives, like_at, mapped_there, off_lives, once_live, one_start, owned_there, same_start, span_at_found, span_found, span_lives, span_of, span_run}
 use Rattle.holdings.proofs.Labels.{by_holds, labels_freed, labels_got, unanswered, value_returned}
 use Rattle.holdings.proofs.Standing.{has_block}
@@ -90,7 +91,7 @@ module _ (m : Setup) (b : Books) (calls : List CallLine) (f : Facts m b calls) (
       } in
       moved m b calls f t a w at b.stock (r ∷ b.heap) b.spans b.names (calls ++ c ∷ [])
       (kept_block (length_of m.rows) m.huge calls (record { 0 = t }) label size (address_of r) (r.pages * page_bytes) f.kept (unanswered m b calls f t a at label size is) (record { inside = placed.inside; apart = none_meets (block_of r) (blocks_after calls) apart }) (sym length_is) placed.inside.some)
-      (subst (All (IsStanding m (books_with b b.stock (r ∷ b.heap) b.spans b.names t w))) (sym (blocks_after-push calls c)) (All-with_block (IsStanding m (books_with b b.stock (r ∷ b.heap) b.spans b.names t w)) (block_of r) (blocks_after calls) (inl new) (still m b calls f t a w at (r ∷ b.heap) b.spans b.names (λ x l. (omega (arith, l.live), l.unmapped, l.unheld t a at)))))
+      (subst (All (IsStanding m (books_with b b.stock (r ∷ b.heap) b.spans b.names t w))) (sym (blocks_after-push calls c)) (All-with_item (λ (b : Extent). b.addr) (IsStanding m (books_with b b.stock (r ∷ b.heap) b.spans b.names t w)) (block_of r) (blocks_after calls) (inl new) (still m b calls f t a w at (r ∷ b.heap) b.spans b.names (λ x l. (omega (arith, l.live), l.unmapped, l.unheld t a at)))))
       (heap_more m b calls f (pages_holding size) r placed) f.cut
       (record {
         freeing = λ l o e. absurd (cc);

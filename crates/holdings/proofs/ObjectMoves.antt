@@ -18,9 +18,10 @@ use Rattle.tc_units.specs.declared.spans.SpanRef.{SpanRef}
 use Rattle.holdings.specs.Runs.{bit, block_of, first_byte, objects_at, run_of, runs_like, same_run, small, spans_at, spans_like, spans_of_run}
 use Rattle.std.proofs.lemmas.Bool.{cases_Bool, cases_eq, cases_lt, eq-eqb, false≢true}
 use Rattle.tc_units.specs.Classes.{class_of, length_of}
+use Rattle.tc_units.proofs.SortedFacts.{All-with_item}
 use Rattle.std.specs.List.{slice_get, slice_set}
 use Rattle.holdings.proofs.Sums.{All-kept, counts_append, like_span, none_meets, of_run, same_run_is, shift, starting_span}
-use Rattle.holdings.proofs.CallFacts.{All-with_block, blocks_after-push}
+use Rattle.holdings.proofs.CallFacts.{blocks_after-push}
 use Rattle.holdings.proofs.KeptFacts.{Labelled, kept_block, kept_freed}
 use Rattle.holdings.proofs.Groups.{PlaceFacts, SpanFacts, heap_facts, labels_still, meets_flip, moved, spans_still}
 use Rattle.holdings.proofs.StockMoves.{Stocked, class_length, not_meets, object_stays, stands_on, stands_where, stock_classes, stock_places}
@@ -220,5 +221,5 @@ module _ (m : Setup) (b : Books) (calls : List CallLine) (f : Facts m b calls) (
     pub live_object : (w : Account) → ((q : Run) → spans_of_run q a.apart ≡ 0 → spans_of_run q w.apart ≡ 0) → All (IsStanding m (books_with b g b.heap b.spans b.names t w)) (blocks_after (calls ++ line ∷ []))
     live_object w apart =
         subst (All (IsStanding m (books_with b g b.heap b.spans b.names t w))) (sym (blocks_after-push calls line))
-        (All-with_block (IsStanding m (books_with b g b.heap b.spans b.names t w)) place (blocks_after calls) (inr (record { class = a.class; object = object; size = refl }))
+        (All-with_item (λ (b : Extent). b.addr) (IsStanding m (books_with b g b.heap b.spans b.names t w)) place (blocks_after calls) (inr (record { class = a.class; object = object; size = refl }))
         (λ i d within. stands_on m b calls f t a at g (o ∷ rest) st w (get_or (blocks_after calls) i d) (f.live i d within) (f.kept.labelled i d within) (unfreed (get_or (blocks_after calls) i d)) (λ q unmapped unheld. apart q unheld)))
