@@ -5,9 +5,9 @@ use Rattle.std.specs.HashMap.{get, Updates}
 use Rattle.std.proofs.lemmas.Bool.{cases_Bool, cases_eq, ne_eqb, cond-true, cond-false}
 use Rattle.std.proofs.lemmas.List.{length-append}
 use Rattle.std.proofs.lemmas.List.Sums.{sum_by-cons}
-use Rattle.tc_units.specs.Sorted.{with_item}
 use Rattle.tc_units.specs.declared.units.Addr.{Addr}
 use Rattle.tc_units.proofs.Counts.{count-cons}
+use Rattle.tc_units.proofs.SortedFacts.{length-with_item, sum_by-with_item, without_none}
 use Rattle.tc_model.specs.declared.calls.Call.{Call}
 use Rattle.tc_model.specs.declared.calls.Call.TheVariants.{Malloc, Free, Release, Drain, Resize}
 use Rattle.tc_model.specs.declared.answers.Answer.TheVariants.{Block, Freed}
@@ -19,38 +19,13 @@ use Rattle.holdings.proofs.Blocks.{none_begins, place_of}
 use Rattle.tc_machine.specs.declared.standing.Standing.{Standing}
 use Rattle.tc_machine.specs.Standing.{AreStanding}
 
--- a list with one item more has its number and its measure more
-length-with_item : {X : Type 0} (key : X → ℕ) (x : X) (xs : List X) → length (with_item key x xs) ≡ length xs + 1
-length-with_item key x [] = refl
-length-with_item key x (y ∷ ys) =
-    elim (ltb (key x) (key y)) as (λ b. length (cond b (x ∷ y ∷ ys) (y ∷ with_item key x ys)) ≡ length (y ∷ ys) + 1) [
-      | true ↦ omega arith
-      | false ↦ omega (arith, length-with_item key x ys)
-    ]
-
-sum_by-with_item : {X : Type 0} (f : X → ℕ) (key : X → ℕ) (x : X) (xs : List X) → sum_by f (with_item key x xs) ≡ f x + sum_by f xs
-sum_by-with_item f key x [] = sum_by-cons f x []
-sum_by-with_item f key x (y ∷ ys) =
-    elim (ltb (key x) (key y)) as (λ b. sum_by f (cond b (x ∷ y ∷ ys) (y ∷ with_item key x ys)) ≡ f x + sum_by f (y ∷ ys)) [
-      | true ↦ sum_by-cons f x (y ∷ ys)
-      | false ↦ omega (arith, sum_by-cons f y (with_item key x ys), sum_by-cons f y ys, sum_by-with_item f key x ys)
-    ]
-
--- where none begins at an address, none is found there, and the list without it is the same
+-- where none begins at an address, none is found there
 none_found : (a : ℕ) (bs : List Extent) → count_by (λ (b : Extent). eqb b.addr a) bs ≡ 0 → find (λ (b : Extent). eqb b.addr a) bs ≡ None
 none_found a [] none = refl
 none_found a (b ∷ bs) none =
     elim (cases_Bool (eqb b.addr a)) [
       | inl here ↦ absurd (omega (arith, none, count-cons (λ (x : Extent). eqb x.addr a) b bs, ap (λ t. cond {A = ℕ} t 1 0) here))
       | inr other ↦ cond-false (eqb b.addr a) (Some b) (find (λ (x : Extent). eqb x.addr a) bs) other ∙ none_found a bs (omega (arith, none, count-cons (λ (x : Extent). eqb x.addr a) b bs))
-    ]
-
-without_none : (a : ℕ) (bs : List Extent) → count_by (λ (b : Extent). eqb b.addr a) bs ≡ 0 → without_block a bs ≡ bs
-without_none a [] none = refl
-without_none a (b ∷ bs) none =
-    elim (cases_Bool (eqb b.addr a)) [
-      | inl here ↦ absurd (omega (arith, none, count-cons (λ (x : Extent). eqb x.addr a) b bs, ap (λ t. cond {A = ℕ} t 1 0) here))
-      | inr other ↦ ap (λ t. cond (not t) (b ∷ without_block a bs) (without_block a bs)) other ∙ ap (λ xs. b ∷ xs) (without_none a bs (omega (arith, none, count-cons (λ (x : Extent). eqb x.addr a) b bs)))
     ]
 
 -- and where one is found, that one alone leaves
@@ -67,7 +42,7 @@ leaves_one a (x ∷ xs) b once found =
           let same : Some x ≡ Some b = sym (cond-true (eqb x.addr a) (Some x) (find (λ (y : Extent). eqb y.addr a) xs) here) ∙ found in
           let e : x ≡ b = cc in
           let none : count_by (λ (y : Extent). eqb y.addr a) xs ≡ 0 = omega (arith, once, count-cons (λ (y : Extent). eqb y.addr a) x xs, ap (λ t. cond {A = ℕ} t 1 0) here) in
-          let w : without_block a (x ∷ xs) ≡ xs = ap (λ t. cond (not t) (x ∷ without_block a xs) (without_block a xs)) here ∙ without_none a xs none in
+          let w : without_block a (x ∷ xs) ≡ xs = ap (λ t. cond (not t) (x ∷ without_block a xs) (without_block a xs)) here ∙ without_none (λ (y : Extent). eqb y.addr a) xs none in
           record {
             count = omega (arith, ap length w);
             bytes = omega (arith, ap (sum_by (λ (y : Extent). y.len)) w, sum_by-cons (λ (y : Extent). y.len) x xs, ap (λ (y : Extent). y.len) e);
@@ -124,7 +99,7 @@ module _ (s : Standing) (line : CallLine) (huge : ℕ) (round : ℕ → ℕ) (ea
               updates.0 a ∙ (cond-false (eqb addr.0 a) (Some len) (get nat_eq s.lens a) t ∙ (stand.lens a ∙ sym (ap (λ xs. option_map (λ (x : Extent). x.len) (find (λ (x : Extent). eqb x.addr a) xs)) e ∙ ap (option_map (λ (x : Extent). x.len)) (find-with_block_other b a bs other))))
         ];
         count = omega (arith, count, stand.count, ap length e, length-with_item (λ (x : Extent). x.addr) b bs);
-        bytes = omega (arith, bytes, stand.bytes, ap (sum_by (λ (x : Extent). x.len)) e, sum_by-with_item (λ (x : Extent). x.len) (λ (x : Extent). x.addr) b bs);
+        bytes = omega (arith, bytes, stand.bytes, ap (sum_by (λ (x : Extent). x.len)) e, sum_by-with_item (λ (x : Extent). x.addr) (λ (x : Extent). x.len) b bs);
         few = omega (arith, count, stand.few, n);
         small = omega (arith, bytes, stand.small, small, n);
       }
