@@ -1,5 +1,5 @@
 -- A run in a region, and a new region for one.
-use Rattle.std.proofs.Common.{◌≡◌, ℕ, ◌+◌, ◌-◌, ◌*◌, ◌/◌, ◌<◌, ◌≤◌, ◌⊎◌, Bool, true, false, not, ◌&&◌, cond, nat_lt, add-zero, List, [], ◌∷◌, get_or, replicate, map, All, Contains, Some, option_map, refl, sym, ap, ◌∙◌, inl, inr, arith}
+use Rattle.std.proofs.Common.{◌≡◌, ℕ, ◌+◌, ◌-◌, ◌*◌, ◌/◌, ◌<◌, ◌≤◌, ◌⊎◌, Bool, true, false, not, ◌&&◌, cond, add-zero, List, get_or, replicate, map, All, Contains, Some, option_map, refl, sym, ap, ◌∙◌, inl, inr, arith}
 use Rattle.std.specs.List.{list_all}
 use Rattle.std.proofs.lemmas.Bool.{cases_Bool, cases_lt, and_left, and_right, le-leb, lt-leb, le-ltb, false≢true, not-true}
 use Rattle.std.proofs.lemmas.List.{same_lists, length-replicate, get_or-replicate, length-map, get_or-map}
