@@ -44,8 +44,8 @@ use Rattle.alloc_rules.specs.Valid.{IsValid, limits_in}
 use Rattle.alloc_rules.specs.Answers.{pages_asked}
 use Rattle.alloc_rules.specs.Law.{calls, setup_of, HoldsAfter}
 use Rattle.alloc_rules.proofs.PartFits.{row_at_class, some_size}
-use Rattle.alloc_rules.proofs.Answering.{none_asking, answers_busy, answers_cap}
-use Rattle.alloc_rules.proofs.NoneElsewhere.{none_elsewhere}
+use Rattle.alloc_rules.proofs.Answering.{answers_none, answers_busy, answers_cap}
+use Rattle.alloc_rules.proofs.Elsewhere.{refuses_there}
 use Rattle.alloc_rules.proofs.Serving.{IsServed}
 use Rattle.alloc_rules.proofs.Switching.{switches_are_few}
 use Rattle.alloc_rules.proofs.Same.{same_starts, same_pages, same_spans}
@@ -161,12 +161,10 @@ module _ (input : Input) (valid : IsValid input) (order : List ℕ) (few : lengt
         none = λ n some. none_exactly p.heap n served.placed.ok.heap wide some;
         answers_none = λ t l at.
             let shaped = (served.works t l at).shaped in
-            record {
-              asking = none_asking input.rows p.heap l (λ n is. none_exactly p.heap n served.placed.ok.heap wide (asked_some l l.step n shaped.class shaped.step is));
-              other = λ q. none_elsewhere input.rows q l;
-            };
+            answers_none input.rows p.heap l (λ n is. none_exactly p.heap n served.placed.ok.heap wide (asked_some l l.step n shaped.class shaped.step is));
         answers_busy = λ i t q l part at. answers_busy input.rows q l (no_stopper i t q l part at);
         answers_cap = λ i t q l part at. answers_cap input.rows q l (cap_class t l at);
+        refuses_there = λ t l at. refuses_there input.rows l;
         spans = λ n. omega (arith, f.begins n, starts_are n);
         runs = λ n none. runs_alone (setup_of input) b (calls locals order) f n none ∙ starts_are n;
         starts = λ n. omega (arith, f.starts n, starts_are n);

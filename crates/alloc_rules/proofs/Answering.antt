@@ -29,9 +29,7 @@ use Rattle.call_steps.specs.declared.step.Resizing.{Resizing}
 use Rattle.call_steps.specs.Local.{Local, Decided, closes, ends, decided, class_row}
 use Rattle.call_steps.specs.CpuActs.{call_of, cap_answer, stops}
 use Rattle.call_steps.specs.Acts.{after_new, after_new_span, heap_after, cpu_after}
-use Rattle.alloc_rules.specs.declared.part.Part.TheVariants as part
-use Rattle.alloc_rules.specs.Machine.{after}
-use Rattle.alloc_rules.specs.Answers.{Decides, pages_asked, AnswersBusy, bytes_with, DecidesCap, AnswersCap}
+use Rattle.alloc_rules.specs.Answers.{Decides, pages_asked, AnswersNone, AnswersBusy, bytes_with, DecidesCap, AnswersCap}
 
 -- one answer more is the one that was decided, and none where the answers are as before
 pub decides_by : (l next : Local) (call : Call) (x y : Answer) → next.answers ≡ l.answers ++ record { act = l.acts; call = call; answer = x } ∷ [] → Decides l next y ↔ (x ≡ y)
@@ -78,8 +76,8 @@ none_by_step rows h l (does.Names row) n law is = absurd (cc)
 none_by_step rows h l (does.Domain row) n law is = absurd (cc)
 none_by_step rows h l does.Ended n law is = absurd (cc)
 
-pub none_asking : (rows : List ClassRow) (h : heaps.Heap) (l : Local) → ((n : ℕ) → pages_asked rows l l.step ≡ Some n → (new h n ≡ None) ↔ (none_fits h n ≡ true)) → (n : ℕ) → pages_asked rows l l.step ≡ Some n → Decides l (after rows (part.Heap h) l).1 NoBlock ↔ (none_fits h n ≡ true)
-none_asking rows h l law n is = none_by_step rows h l l.step n (law n is) is
+pub answers_none : (rows : List ClassRow) (h : heaps.Heap) (l : Local) → ((n : ℕ) → pages_asked rows l l.step ≡ Some n → (new h n ≡ None) ↔ (none_fits h n ≡ true)) → AnswersNone rows h l
+answers_none rows h l law n is = none_by_step rows h l l.step n (law n is) is
 
 -- busy, by who is the stopper
 closes_tells : (rows : List ClassRow) (l : Local) (o : Option MoveTo) → (closes rows l o).answers ≡ l.answers

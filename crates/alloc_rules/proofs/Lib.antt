@@ -33,7 +33,7 @@ pub mod Entering
 pub mod Switching
 pub mod SerialGoes
 pub mod Answering
-pub mod NoneElsewhere
+pub mod Elsewhere
 pub mod SerialLaws
 pub mod Laws
 pub mod Same

@@ -26,7 +26,7 @@ use Rattle.alloc_rules.specs.Scripts.{IsIn, is_under_way}
 use Rattle.alloc_rules.specs.Valid.{IsValid}
 use Rattle.alloc_rules.proofs.Serving.{IsAtWork, IsServed}
 use Rattle.alloc_rules.proofs.SerialGoes.{script_length, serial_goes}
-use Rattle.alloc_rules.proofs.NoneElsewhere.{after_rises}
+use Rattle.alloc_rules.proofs.Elsewhere.{after_rises}
 
 -- calls are made by threads that there are
 thread_below : (n : ℕ) (cs : List ThreadCall) → ((earlier : List ThreadCall) (c : ThreadCall) (later : List ThreadCall) → earlier ++ c ∷ later ≡ cs → c.thread.0 < n) → (i : ℕ) → i < length (map (λ (c : ThreadCall). c.thread.0) cs) → slice_index (map (λ (c : ThreadCall). c.thread.0) cs) i < n

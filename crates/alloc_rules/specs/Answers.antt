@@ -1,12 +1,12 @@
--- What an act answers, and exactly where: none of an allocation, busy, and what a capacity is answered.
-use Rattle.std.specs.Prelude.{◌≡◌, ◌≢◌, ℕ, ◌<◌, ◌≤◌, ◌↔◌, true, List, [], ◌∷◌, ◌++◌, Option, Some, None}
+-- Where an act refuses a call: none of an allocation, busy of a drain or a resize, and what a capacity is answered.
+use Rattle.std.specs.Prelude.{◌≡◌, ◌≢◌, ℕ, ◌<◌, ◌≤◌, ◌↔◌, Bool, true, false, List, [], ◌∷◌, ◌++◌, Option, Some, None}
 use Rattle.tc_units.specs.Units.{pages_holding}
 use Rattle.tc_units.specs.declared.units.Class.{Class}
 use Rattle.tc_units.specs.declared.units.ThreadNo.{ThreadNo}
 use Rattle.tc_units.specs.declared.spans.ClassRow.{ClassRow}
 use Rattle.tc_model.specs.declared.calls.Call.{Call}
 use Rattle.tc_model.specs.declared.answers.Answer.{Answer}
-use Rattle.tc_model.specs.declared.answers.Answer.TheVariants.{NoBlock, Busy, CapSet, OverLimit, OverStatic}
+use Rattle.tc_model.specs.declared.answers.Answer.TheVariants.{Block, NoBlock, Freed, FreedNull, Released, Drained, Busy, CapSet, OverLimit, OverStatic}
 use Rattle.heap_rules.specs.Heap.{Heap}
 use Rattle.heap_rules.specs.New.{none_fits}
 use Rattle.cpu_slab.specs.Slots.{CpuSlab, with_cap}
@@ -34,11 +34,9 @@ pages_asked rows l (does.Heap (heap.New label size)) = Some (pages_holding size)
 pages_asked rows l (does.Heap (heap.NewSpan asking)) = Some (class_row rows l).pages
 pages_asked rows l other = None
 
--- An act that asks the heap for so many pages answers none exactly where, by a look at every place, no run of them fits;
--- and no act at any part answers none that doesn't ask for pages.
-pub record AnswersNone (rows : List ClassRow) (heap : Heap) (l : Local) : Type 0 where
-  pub asking : (n : ℕ) → pages_asked rows l l.step ≡ Some n → Decides l (after rows (part.Heap heap) l).1 NoBlock ↔ (none_fits heap n ≡ true)
-  pub other : (p : Part) → pages_asked rows l l.step ≡ None → Decides l (after rows p l).1 NoBlock → ⊥
+-- An act that asks the heap for so many pages answers none exactly where, by a look at every place, no run of them fits.
+abbrev pub AnswersNone : List ClassRow → Heap → Local → Type 0
+AnswersNone rows heap l = (n : ℕ) → pages_asked rows l l.step ≡ Some n → Decides l (after rows (part.Heap heap) l).1 NoBlock ↔ (none_fits heap n ≡ true)
 
 -- An act that is to stop a CPU answers busy exactly where another thread is the stopper there, and names that one.
 abbrev pub AnswersBusy : List ClassRow → CpuPart → Local → Type 0
@@ -57,3 +55,29 @@ pub record DecidesCap (before after : Local) (slab : CpuSlab) (k : Class) (n : �
 
 abbrev pub AnswersCap : List ClassRow → CpuPart → Local → Type 0
 AnswersCap rows p l = (r : Resizing) → l.step ≡ does.Cpu (cpu.SetCap r) → DecidesCap l (after rows (part.Cpu p) l).1 p.slab r.class r.cap
+
+-- whether an answer refuses its call
+abbrev pub is_refusal : Answer → Bool
+is_refusal (Block addr len) = false
+is_refusal NoBlock = true
+is_refusal (Freed addr) = false
+is_refusal FreedNull = false
+is_refusal (Released pages) = false
+is_refusal (Drained objects) = false
+is_refusal (Busy owner) = true
+is_refusal CapSet = false
+is_refusal (OverLimit sum) = true
+is_refusal (OverStatic most) = true
+
+-- which steps may refuse their call, and how
+abbrev pub may_refuse : Step → Answer → Bool
+may_refuse (does.Heap (heap.New label size)) NoBlock = true
+may_refuse (does.Heap (heap.NewSpan asking)) NoBlock = true
+may_refuse (does.Cpu (cpu.Stop s)) (Busy owner) = true
+may_refuse (does.Cpu (cpu.SetCap r)) (OverLimit sum) = true
+may_refuse (does.Cpu (cpu.SetCap r)) (OverStatic most) = true
+may_refuse step answer = false
+
+-- No act, at whatever part, refuses a call but where its step may.
+abbrev pub RefusesThere : List ClassRow → Local → Type 0
+RefusesThere rows l = (p : Part) (answer : Answer) → is_refusal answer ≡ true → may_refuse l.step answer ≡ false → Decides l (after rows p l).1 answer → ⊥

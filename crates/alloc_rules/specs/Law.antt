@@ -33,7 +33,7 @@ use Rattle.alloc_rules.specs.Fits.{Fits}
 use Rattle.alloc_rules.specs.Accounts.{account_of}
 use Rattle.alloc_rules.specs.Stocks.{stock_of, IsShardOf}
 use Rattle.alloc_rules.specs.Valid.{IsValid}
-use Rattle.alloc_rules.specs.Answers.{AnswersNone, AnswersBusy, AnswersCap}
+use Rattle.alloc_rules.specs.Answers.{AnswersNone, AnswersBusy, AnswersCap, RefusesThere}
 use Rattle.alloc_rules.specs.Switches.{SwitchesAreFew}
 
 -- the calls of a run: those that the picks of an order decided, in their order
@@ -79,14 +79,15 @@ pub record HoldsAfter (input : Input) (order : List ℕ) : Type 0 where
   -- live runs are disjoint, inside the arena and backed, and each hugepage serves what its runs say
   pub heap : heaps.IsSound parts.heap
   pub config : parts.heap.config ≡ heap_config input.asked.config
-  -- the heap has no run of so many pages to give exactly where, by a look at every place, none fits; and the next act of a
-  -- thread answers none exactly where it asks for one there
+  -- the heap has no run of so many pages to give exactly where, by a look at every place, none fits; and an act that asks it
+  -- for one answers none exactly there
   pub none : (n : ℕ) → 0 < n → (new parts.heap n ≡ None) ↔ (none_fits parts.heap n ≡ true)
   pub answers_none : (t : ℕ) (l : Local) → slice_get locals t ≡ Some l → AnswersNone input.rows parts.heap l
   -- a drain or a resize is answered busy exactly where another thread is the stopper, and a capacity is refused exactly
-  -- above the static one, or else past the limit
+  -- above the static one, or else past the limit; no other act refuses a call
   pub answers_busy : (i t : ℕ) (p : CpuPart) (l : Local) → slice_get parts.cpus i ≡ Some p → slice_get locals t ≡ Some l → AnswersBusy input.rows p l
   pub answers_cap : (i t : ℕ) (p : CpuPart) (l : Local) → slice_get parts.cpus i ≡ Some p → slice_get locals t ≡ Some l → AnswersCap input.rows p l
+  pub refuses_there : (t : ℕ) (l : Local) → slice_get locals t ≡ Some l → RefusesThere input.rows l
   -- a live run is at one place: it is a shard's span or one that a call holds, or else it is loose in a hand or under a published name
   pub spans : (n : ℕ) → (stock_of parts).begins n + over_locals locals (λ (a : Account). spans_at n a.apart) ≤ runs_at n parts.heap.runs
   pub runs : (n : ℕ) → ((k : ℕ) → (stock_of parts).objects k n ≡ 0)
