@@ -79,15 +79,23 @@ none_by_step rows h l does.Ended n law is = absurd (cc)
 pub answers_none : (rows : List ClassRow) (h : heaps.Heap) (l : Local) → ((n : ℕ) → pages_asked rows l l.step ≡ Some n → (new h n ≡ None) ↔ (none_fits h n ≡ true)) → AnswersNone rows h l
 answers_none rows h l law n is = none_by_step rows h l l.step n (law n is) is
 
--- busy, by who is the stopper
-closes_tells : (rows : List ClassRow) (l : Local) (o : Option MoveTo) → (closes rows l o).answers ≡ l.answers
-closes_tells rows l None = refl
-closes_tells rows l (Some move) = refl
+-- A local that goes on as another did: with its answers, and no fewer ended calls. A call that ends does.
+pub record GoesAs (x y : Local) : Type 0 where
+  pub ended : x.ended ≤ y.ended
+  pub answers : y.answers ≡ x.answers
 
+closes_goes : (rows : List ClassRow) (x : Local) (m : Option MoveTo) → GoesAs x (closes rows x m)
+closes_goes rows x None = record { ended = omega arith; answers = refl }
+closes_goes rows x (Some move) = record { ended = omega arith; answers = refl }
+
+pub ends_goes : (rows : List ClassRow) (x : Local) → GoesAs x (ends rows x)
+ends_goes rows x = let g = closes_goes rows (record x { acts = x.acts + 1 }) x.moved in record { ended = g.ended; answers = g.answers }
+
+-- busy, by who is the stopper
 busy_of : (rows : List ClassRow) (p : CpuPart) (l : Local) (s : Stopping) (owner : ThreadNo) (o : Option ThreadNo) → Decides l (stops rows p l s o).1 (Busy owner) ↔ (o ≡ Some owner)
 busy_of rows p l s owner None = (λ d. absurd (decides_none l _ (Busy owner) refl d), λ is. absurd (cc))
 busy_of rows p l s owner (Some u) =
-    let told : (ends rows (decided l (call_of s) (Busy u))).answers ≡ l.answers ++ record { act = l.acts; call = call_of s; answer = Busy u } ∷ [] = closes_tells rows (record (decided l (call_of s) (Busy u)) { acts = l.acts + 1 }) l.moved in
+    let told : (ends rows (decided l (call_of s) (Busy u))).answers ≡ l.answers ++ record { act = l.acts; call = call_of s; answer = Busy u } ∷ [] = (ends_goes rows (decided l (call_of s) (Busy u))).answers in
     let law = decides_by l (ends rows (decided l (call_of s) (Busy u))) (call_of s) (Busy u) (Busy owner) told in
     (λ d. let same : Busy u ≡ Busy owner = law.0 d in cc, λ is. law.1 cc)
 

@@ -63,7 +63,7 @@ use Rattle.call_steps.specs.declared.step.MapStep.{MapStep}
 use Rattle.call_steps.specs.declared.step.MapStep.TheVariants as mapped
 use Rattle.call_steps.specs.declared.step.NamesStep.{NamesStep}
 use Rattle.call_steps.specs.declared.step.NamesStep.TheVariants as names
-use Rattle.call_steps.specs.Local.{Local, decided, goes, closes, ends, class_row, Decided}
+use Rattle.call_steps.specs.Local.{Local, decided, goes, ends, class_row, Decided}
 use Rattle.call_steps.specs.Hands.{with_hand, stocks, serves_first, goes_onward, given, given_back, clears, with_freed}
 use Rattle.call_steps.specs.CpuActs.{call_of, due, with_regs, moves_to, after_pop, gives_rest, after_push, replied, instructed_to, sequence_by, grew_to, stops, drained, took, gives_taken, started, left_for, cpu_row, cap_answer}
 use Rattle.call_steps.specs.ShardActs.{with_more, fetches, takes, with_spans_behind, fits_into, put_in, shard_row, domain_row}
@@ -75,12 +75,7 @@ use Rattle.cpu_slab.specs.declared.slab.CapFault.{CapFault}
 use Rattle.cpu_slab.specs.declared.slab.CapFault.TheVariants as fault
 use Rattle.cpu_slab.specs.Caps.{cap_fault}
 use Rattle.alloc_rules.specs.Answers.{Decides, is_refusal, may_refuse, RefusesThere}
-use Rattle.alloc_rules.proofs.Answering.{decides_by, decides_none}
-
--- A local that goes on as another did: with its answers, and no fewer ended calls.
-record GoesAs (x y : Local) : Type 0 where
-  ended : x.ended ≤ y.ended
-  answers : y.answers ≡ x.answers
+use Rattle.alloc_rules.proofs.Answering.{GoesAs, ends_goes, decides_by, decides_none}
 
 -- An act leaves no fewer ended calls, and refused none.
 record Plain (l y : Local) : Type 0 where
@@ -114,13 +109,6 @@ refuses s l y call answer may ended is = record { ended = ended; there = λ x re
 
 module _ (rows : List ClassRow) where
   -- the ways in which a call goes on
-  closes_goes : (x : Local) (m : Option MoveTo) → GoesAs x (closes rows x m)
-  closes_goes x None = record { ended = omega arith; answers = refl }
-  closes_goes x (Some move) = record { ended = omega arith; answers = refl }
-
-  ends_goes : (x : Local) → GoesAs x (ends rows x)
-  ends_goes x = let g = closes_goes (record x { acts = x.acts + 1 }) x.moved in record { ended = g.ended; answers = g.answers }
-
   stocks_goes : (x : Local) (s : Serving) (others : List Addr) → GoesAs x (stocks x s others)
   stocks_goes x s [] = record { ended = omega arith; answers = refl }
   stocks_goes x s (a ∷ others) = record { ended = omega arith; answers = refl }
@@ -132,7 +120,7 @@ module _ (rows : List ClassRow) where
   onward_goes : (x : Local) (next : Onward) → GoesAs x (goes_onward rows x next)
   onward_goes x (onward.Publish s) = record { ended = omega arith; answers = refl }
   onward_goes x (onward.Drain d) = drains_goes x d (ltb (x.regs.class.0 + 1) (length rows))
-  onward_goes x onward.End = ends_goes x
+  onward_goes x onward.End = ends_goes rows x
 
   clears_goes : (x : Local) (next : Onward) (spans : List SpanRef) → GoesAs x (clears rows x next spans)
   clears_goes x next [] = onward_goes x next
@@ -140,10 +128,10 @@ module _ (rows : List ClassRow) where
 
   -- an act that decides a call and ends it
   ends_saying : (l : Local) (call : Call) (answer : Answer) → is_refusal answer ≡ false → Plain l (ends rows (decided l call answer))
-  ends_saying l call answer other = let g = ends_goes (decided l call answer) in says l _ call answer other g.ended g.answers
+  ends_saying l call answer other = let g = ends_goes rows (decided l call answer) in says l _ call answer other g.ended g.answers
 
   ends_quietly : (l : Local) → Plain l (ends rows l)
-  ends_quietly l = let g = ends_goes l in quiet l _ g.ended g.answers
+  ends_quietly l = let g = ends_goes rows l in quiet l _ g.ended g.answers
 
   serves_leaves : (x : Local) (a : Asking) (hand : List Addr) → Plain x (serves_first rows x a hand)
   serves_leaves x a [] = quiet x x (omega arith) refl
@@ -290,7 +278,7 @@ module _ (rows : List ClassRow) where
 
   stop_leaves : (p : CpuPart) (l : Local) (s : Stopping) (o : Option ThreadNo) → Leaves (does.Cpu (cpu.Stop s)) l (stops rows p l s o).1
   stop_leaves p l s None = leaves_of (does.Cpu (cpu.Stop s)) l _ (quiet l _ (omega arith) refl)
-  stop_leaves p l s (Some owner) = let g = ends_goes (decided l (call_of s) (Busy owner)) in refuses (does.Cpu (cpu.Stop s)) l _ (call_of s) (Busy owner) refl g.ended g.answers
+  stop_leaves p l s (Some owner) = let g = ends_goes rows (decided l (call_of s) (Busy owner)) in refuses (does.Cpu (cpu.Stop s)) l _ (call_of s) (Busy owner) refl g.ended g.answers
 
   cap_leaves : (l : Local) (r : Resizing) (o : Option CapFault) → Leaves (does.Cpu (cpu.SetCap r)) l (goes (decided l (Resize r.cpu r.class r.cap) (cap_answer o)) (does.Cpu (cpu.Start (stopping.Resize r))))
   cap_leaves l r None = leaves_of (does.Cpu (cpu.SetCap r)) l _ (says l _ (Resize r.cpu r.class r.cap) CapSet refl (omega arith) refl)

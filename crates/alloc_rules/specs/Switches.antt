@@ -1,4 +1,4 @@
--- How often threads switch in at a CPU in an order, and how often what is open there comes to an end.
+-- How often threads switch in at a CPU in an order, and how many acts there are by which what is open there may end.
 use Rattle.std.specs.Prelude.{ℕ, ◌+◌, ◌≤◌, ◌==◌, List, [], ◌∷◌, Option, Some, None, slice_get, if◌then◌else◌}
 use Rattle.tc_model.specs.declared.calls.MoveTo.{MoveTo}
 use Rattle.tc_model.specs.declared.machine.PartNo.{PartNo}
