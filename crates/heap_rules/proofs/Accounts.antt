@@ -1,5 +1,5 @@
 -- A release answers how many pages it unbacked, and the filler's order is a walk by candidates.
-use Rattle.std.proofs.Common.{◌≡◌, ℕ, ◌+◌, ◌-◌, ◌*◌, ◌%◌, ◌<◌, ◌≤◌, Bool, true, false, not, ◌&&◌, cond, nat_lt, List, [], ◌∷◌, length, get_or, filter, map, count_by, sum_by, All, refl, sym, ap, subst, ◌∙◌, inl, inr, arith}
+use Rattle.std.proofs.Common.{◌≡◌, ℕ, ◌+◌, ◌*◌, ◌%◌, ◌<◌, ◌≤◌, Bool, true, false, not, ◌&&◌, cond, nat_lt, List, [], ◌∷◌, length, get_or, filter, map, count_by, sum_by, All, refl, sym, ap, subst, ◌∙◌, inl, inr, arith}
 use Rattle.std.specs.List.{range_with_len, enumerate_from, list_all}
 use Rattle.std.proofs.lemmas.Bool.{cases_Bool, cases_lt, and_parts, false≢true}
 use Rattle.std.proofs.lemmas.List.{same_lists, get_or_default, length-map, get_or-map}
@@ -7,6 +7,7 @@ use Rattle.std.proofs.lemmas.List.FromFn.{length-map-range_with_len, get_or-map-
 use Rattle.std.proofs.lemmas.List.Elements.{All-head, All-tail}
 use Rattle.std.proofs.lemmas.List.Sums.{sum_by-cons}
 use Rattle.heap_rules.specs.Heap.{Heap, Hugepage, hugepage, numbers, untouched, each, is_used, is_filler, backs, pages_of, backed_count, backed_pages}
+use Rattle.heap_rules.specs.Numbered.{at_number}
 use Rattle.heap_rules.specs.Settle.{unbacked}
 use Rattle.heap_rules.specs.GiveUp.{gives_whole, SpareRow, gives_before, gives_spare}
 use Rattle.heap_rules.specs.Release.{only_used, whole_given, spare_row, spare_rows, spare_given}
@@ -145,7 +146,7 @@ nested f p v q (x ∷ xs) =
           elim (p (v x)) as (λ t. sum_by f (cond t (v x ∷ filter p (map v (filter q xs))) (filter p (map v (filter q xs)))) ≡ cond t (f (v x)) 0 + sum_by (λ y. cond (q y && p (v y)) (f (v y)) 0) xs) [ true ↦ omega arith | false ↦ omega arith ])
     ]) ∙ sym b
 
-pub whole_counts : (flags : List Bool) (heap : Heap) (n : ℕ) → ((h : ℕ) → 1 ≤ h → h < 1 + length heap.hugepages → get_or flags (h - 1) false ≡ true → backed_count (hugepage heap h) ≡ 256) → backed_pages (whole_given flags heap n).heap + (whole_given flags heap n).pages ≡ backed_pages heap
+pub whole_counts : (flags : List Bool) (heap : Heap) (n : ℕ) → ((h : ℕ) → 1 ≤ h → h < 1 + length heap.hugepages → at_number false flags h ≡ true → backed_count (hugepage heap h) ≡ 256) → backed_pages (whole_given flags heap n).heap + (whole_given flags heap n).pages ≡ backed_pages heap
 whole_counts flags heap n full =
     let all = change_counts heap (λ h x. cond (gives_whole flags n h) (unbacked x) x) (λ h. cond (gives_whole flags n h) 256 0)
     (λ h from to.

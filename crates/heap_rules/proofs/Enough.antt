@@ -9,6 +9,7 @@ use Rattle.tc_units.specs.declared.spans.Run.{Run}
 use Rattle.tc_units.specs.declared.rows.RowKind.{RowKind}
 use Rattle.tc_units.specs.declared.rows.RowKind.TheVariants as kind
 use Rattle.heap_rules.specs.Heap.{Heap, Hugepage, hugepage, numbers, whole, backs, backed_count, is_used, is_free, is_filler, is_region, is_free_backed, is_kind_filler, is_kind_region, used_count, pages_of}
+use Rattle.heap_rules.specs.Numbered.{at_number}
 use Rattle.heap_rules.specs.Settle.{unbacked}
 use Rattle.heap_rules.specs.GiveUp.{gives_whole}
 use Rattle.heap_rules.specs.Release.{Released, whole_given, free_given, is_idle, idle_given, spare_pages, spare_row, spare_rows, spare_given, release, may_give, givable_pages}
@@ -16,7 +17,7 @@ use Rattle.heap_rules.specs.Sound.{IsHugepageOf, HasNoUsed, IsBackedEvenly, IsFi
 use Rattle.heap_rules.specs.Laws.{ReleaseIsEnough}
 use Rattle.range_bits.proofs.RangeLemmas.{range-within}
 use Rattle.tc_units.proofs.Counts.{count_none}
-use Rattle.heap_rules.proofs.Places.{at, length-each, at-each, map-place}
+use Rattle.heap_rules.proofs.Places.{at, length-each, at-each, map-at, idle_at}
 use Rattle.heap_rules.proofs.Fits.{serves_at, is_Free, is_Region}
 use Rattle.heap_rules.proofs.Accounts.{sum-filter, sum-adds, sum-map', self, own_backs, both, scaled, all_counted, same_sums}
 use Rattle.heap_rules.proofs.GiveUps as walk
@@ -118,7 +119,7 @@ if_given : (g : Bool) (v : Hugepage → ℕ) (x : Hugepage) → (g ≡ true → 
 if_given true v x same = same refl
 if_given false v x same = refl
 
-whole_keeps : (flags : List Bool) (heap : Heap) (n : ℕ) (part : ℕ → Hugepage → ℕ) → ((h : ℕ) → 0 < h → h ≤ length heap.hugepages → get_or flags (h - 1) false ≡ true → part h (unbacked (hugepage heap h)) ≡ part h (hugepage heap h)) → total part (whole_given flags heap n).heap ≡ total part heap
+whole_keeps : (flags : List Bool) (heap : Heap) (n : ℕ) (part : ℕ → Hugepage → ℕ) → ((h : ℕ) → 0 < h → h ≤ length heap.hugepages → at_number false flags h ≡ true → part h (unbacked (hugepage heap h)) ≡ part h (hugepage heap h)) → total part (whole_given flags heap n).heap ≡ total part heap
 whole_keeps flags heap n part same =
     let f : ℕ → Hugepage → Hugepage = λ h x. cond (gives_whole flags n h) (unbacked x) x in
     let after : Heap = (whole_given flags heap n).heap in
@@ -137,14 +138,14 @@ no_spare runs h x k e other = let none : is_filler x ≡ false = ap is_kind_fill
 no_idle : (runs : List Run) (h : ℕ) (x : Hugepage) (k : RowKind) → x.kind ≡ k → is_kind_region k ≡ false → idle_part runs h (unbacked x) ≡ idle_part runs h x
 no_idle runs h x k e other = let none : is_region x ≡ false = ap is_kind_region e ∙ other in rw none refl
 
-free_kind : (heap : Heap) (h : ℕ) → 0 < h → h ≤ length heap.hugepages → get_or (map is_free_backed heap.hugepages) (h - 1) false ≡ true → (hugepage heap h).kind ≡ kind.Free
+free_kind : (heap : Heap) (h : ℕ) → 0 < h → h ≤ length heap.hugepages → at_number false (map is_free_backed heap.hugepages) h ≡ true → (hugepage heap h).kind ≡ kind.Free
 free_kind heap h from to flag =
-    let ready : is_free_backed (hugepage heap h) ≡ true = sym (map-place is_free_backed heap.hugepages h false from to) ∙ flag in
+    let ready : is_free_backed (hugepage heap h) ≡ true = sym (map-at is_free_backed heap.hugepages h false from to) ∙ flag in
     is_Free (hugepage heap h).kind (and_parts _ _ ready).0
 
-idle_kind : (heap : Heap) (h : ℕ) → 0 < h → h ≤ length heap.hugepages → get_or (map (is_idle heap) (numbers heap)) (h - 1) false ≡ true → (hugepage heap h).kind ≡ kind.Region
+idle_kind : (heap : Heap) (h : ℕ) → 0 < h → h ≤ length heap.hugepages → at_number false (map (is_idle heap) (numbers heap)) h ≡ true → (hugepage heap h).kind ≡ kind.Region
 idle_kind heap h from to flag =
-    let idle : is_idle heap h ≡ true = sym (get_or-map-range_with_len (is_idle heap) 1 (length heap.hugepages) (h - 1) h false (omega arith) (omega arith)) ∙ flag in
+    let idle : is_idle heap h ≡ true = sym (idle_at heap h from to) ∙ flag in
     is_Region (hugepage heap h).kind (and_parts _ _ (and_parts _ _ idle).0).0
 
 -- Each step gives all its part, or as many as are wanted.

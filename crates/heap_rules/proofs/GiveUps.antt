@@ -4,6 +4,7 @@ use Rattle.std.specs.List.{range_with_len}
 use Rattle.std.proofs.lemmas.Bool.{cases_Bool, cases_lt, and_left, lt-ltb, le-ltb}
 use Rattle.std.proofs.lemmas.List.{drop_more, drop_all}
 use Rattle.heap_rules.specs.GiveUp.{gives_whole}
+use Rattle.heap_rules.proofs.Numbered.{at_number-place}
 use Rattle.tc_units.proofs.Counts.{count-cons, one-true, one-false}
 
 -- what a walk has given when hugepages h + 1 to h + m are behind it
@@ -24,7 +25,7 @@ all_or_enough flags n h (suc m) e =
     let flag = step_flag flags h (omega arith) in
     let one = count-cons (gives_whole flags n) (h + 1) (range_with_len (h + 1 + 1) m) in
     let back : h + 1 - 1 ≡ h = omega arith in
-    let test : gives_whole flags n (h + 1) ≡ (get_or flags h false && nat_lt (flagged_behind flags (h + 1)) n) = ap (λ i. get_or flags i false && nat_lt (flagged_behind flags (h + 1)) n) back in
+    let test : gives_whole flags n (h + 1) ≡ (get_or flags h false && nat_lt (flagged_behind flags (h + 1)) n) = ap (λ b. b && nat_lt (flagged_behind flags (h + 1)) n) (at_number-place false flags (h + 1) (omega arith) ∙ ap (λ i. get_or flags i false) back) in
     elim (cases_Bool (get_or flags h false)) [
       | inr f ↦
           (let not_given = one-false (gives_whole flags n (h + 1)) (test ∙ and_left _ _ f) in
@@ -45,7 +46,8 @@ all_or_enough flags n h (suc m) e =
 -- So a hugepage gives exactly where it has the flag and fewer than n were given before.
 pub gives_by_walk : (flags : List Bool) (n h m : ℕ) → 0 < h → h + m ≡ length flags → gives_whole flags n h ≡ (get_or flags (h - 1) false && nat_lt (given_behind flags n h m) n)
 gives_by_walk flags n h m some e =
-    elim (all_or_enough flags n h m e) [
+    ap (λ b. b && nat_lt (flagged_behind flags h) n) (at_number-place false flags h some)
+    ∙ elim (all_or_enough flags n h m e) [
       | inl same ↦ ap (λ i. get_or flags (h - 1) false && nat_lt i n) (sym same)
       | inr enough ↦ ap (λ b. get_or flags (h - 1) false && b) (le-ltb (flagged_behind flags h) n enough.1 ∙ sym (le-ltb (given_behind flags n h m) n enough.0))
     ]

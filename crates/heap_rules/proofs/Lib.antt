@@ -1,4 +1,5 @@
 pub mod Rows
+pub mod Numbered
 pub mod Places
 pub mod Live
 pub mod Fits

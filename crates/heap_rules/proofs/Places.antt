@@ -1,25 +1,33 @@
 -- A change of each hugepage, place by place.
-use Rattle.std.proofs.Common.{◌≡◌, ℕ, ◌+◌, ◌-◌, ◌*◌, ◌/◌, ◌%◌, ◌<◌, ◌≤◌, Bool, false, List, ◌∷◌, length, get_or, map, sym, ap, ◌∙◌, arith}
+use Rattle.std.proofs.Common.{◌≡◌, ℕ, ◌+◌, ◌-◌, ◌*◌, ◌/◌, ◌%◌, ◌<◌, ◌≤◌, Bool, false, List, length, get_or, map, sym, ap, ◌∙◌, arith}
 use Rattle.std.specs.List.{enumerate_from}
 use Rattle.std.proofs.lemmas.List.{length-map, get_or-map, get_or-replicate}
-use Rattle.std.proofs.lemmas.Grind.{get_or_tail}
 use Rattle.std.proofs.lemmas.List.FromFn.{length-enumerate_from, get_or-enumerate_from, get_or-map-range_with_len}
-use Rattle.heap_rules.specs.Heap.{Hugepage, untouched, each, whole, pages_of}
+use Rattle.heap_rules.specs.Heap.{Heap, Hugepage, numbers, untouched, each, whole, pages_of}
+use Rattle.heap_rules.specs.Numbered.{at_number}
+use Rattle.heap_rules.specs.Release.{is_idle}
 use Rattle.heap_rules.specs.Sound.{IsPageOf}
+use Rattle.heap_rules.proofs.Numbered.{at_number-place, at_number-next}
 
 -- hugepage h of a list, as a heap has it; from 1 on it is what stands at place h - 1
 abbrev pub at : List Hugepage → ℕ → Hugepage
-at xs h = get_or (untouched ∷ xs) h untouched
+at xs h = at_number untouched xs h
 
 pub at-place : (xs : List Hugepage) (h : ℕ) → 0 < h → at xs h ≡ get_or xs (h - 1) untouched
-at-place xs h some = get_or_tail untouched xs h untouched some
+at-place xs h some = at_number-place untouched xs h some
 
 pub at-next : (xs : List Hugepage) (k : ℕ) → at xs (1 + k) ≡ get_or xs k untouched
-at-next xs k = let e : 1 + k - 1 ≡ k = omega arith in at-place xs (1 + k) (omega arith) ∙ ap (λ i. get_or xs i untouched) e
+at-next xs k = at_number-next untouched xs k
 
--- what a map of the list has there
+-- what a map of the list has there, by place and by number
 pub map-place : {X : Type 0} (f : Hugepage → X) (xs : List Hugepage) (h : ℕ) (d : X) → 0 < h → h ≤ length xs → get_or (map f xs) (h - 1) d ≡ f (at xs h)
 map-place f xs h d some inside = get_or-map f xs (h - 1) untouched d (omega arith) ∙ ap f (sym (at-place xs h some))
+
+pub map-at : {X : Type 0} (f : Hugepage → X) (xs : List Hugepage) (h : ℕ) (d : X) → 0 < h → h ≤ length xs → at_number d (map f xs) h ≡ f (at xs h)
+map-at f xs h d some inside = at_number-place d (map f xs) h some ∙ map-place f xs h d some inside
+
+pub idle_at : (heap : Heap) (h : ℕ) → 0 < h → h ≤ length heap.hugepages → at_number false (map (is_idle heap) (numbers heap)) h ≡ is_idle heap h
+idle_at heap h some inside = at_number-place false (map (is_idle heap) (numbers heap)) h some ∙ get_or-map-range_with_len (is_idle heap) 1 (length heap.hugepages) (h - 1) h false (omega arith) (omega arith)
 
 pub length-each : (f : ℕ → Hugepage → Hugepage) (xs : List Hugepage) → length (each f xs) ≡ length xs
 length-each f xs = length-map (enumerate_from 1 xs) (λ (p : ℕ × Hugepage). f p.0 p.1) ∙ length-enumerate_from 1 xs

@@ -1,5 +1,5 @@
 -- A release keeps the runs, and unbacks no page that one of them holds.
-use Rattle.std.proofs.Common.{◌≡◌, ℕ, ◌+◌, ◌-◌, ◌*◌, ◌<◌, ◌≤◌, Bool, true, false, ◌&&◌, cond, List, length, get_or, map, count_by, refl, sym, subst, ◌∙◌, inl, inr, arith}
+use Rattle.std.proofs.Common.{◌≡◌, ℕ, ◌+◌, ◌-◌, ◌*◌, ◌<◌, ◌≤◌, Bool, true, false, ◌&&◌, cond, List, length, map, count_by, refl, sym, subst, ◌∙◌, inl, inr, arith}
 use Rattle.std.specs.List.{list_all}
 use Rattle.std.proofs.lemmas.Bool.{cases_Bool, and_parts, and_from, eqb-true, false≢true, false_from_ne_true}
 use Rattle.std.proofs.lemmas.List.{length-replicate}
@@ -7,13 +7,14 @@ use Rattle.std.proofs.lemmas.List.FromFn.{length-map-range_with_len, get_or-map-
 use Rattle.tc_units.specs.declared.spans.Run.{Run}
 use Rattle.tc_units.specs.declared.rows.RowKind.TheVariants as kind
 use Rattle.heap_rules.specs.Heap.{Heap, Hugepage, hugepage, numbers, backed_count, backed_pages, is_used, is_free_backed, is_filler, is_region, backs, used_from, used_count}
+use Rattle.heap_rules.specs.Numbered.{at_number}
 use Rattle.heap_rules.specs.Settle.{unbacked}
 use Rattle.heap_rules.specs.GiveUp.{gives_whole, gives_spare}
 use Rattle.heap_rules.specs.Release.{Released, whole_given, free_given, is_idle, idle_given, spare_row, spare_rows, only_used, spare_given, release}
 use Rattle.heap_rules.specs.Sound.{IsHugepageOf, HasNoUsed, Serves, IsFit, IsSound}
 use Rattle.heap_rules.specs.Laws.{ReleaseKeeps}
 use Rattle.tc_units.proofs.Counts.{count_some}
-use Rattle.heap_rules.proofs.Places.{backs-map, map-place}
+use Rattle.heap_rules.proofs.Places.{backs-map, map-at, idle_at}
 use Rattle.heap_rules.proofs.Fits.{serves_at, is_Region}
 use Rattle.heap_rules.proofs.Accounts.{all_counted, whole_counts, spare_counts}
 use Rattle.heap_rules.proofs.Fillers.{is_Filler}
@@ -75,7 +76,7 @@ remade_idle runs regions width h x region none fit =
     }
 
 -- hugepages that give whole, where what the flag says suffices
-whole_sound : (flags : List Bool) (heap : Heap) (n : ℕ) → IsSound heap → ((h : ℕ) → IsHugepageOf heap.config.huge h → get_or flags (h - 1) false ≡ true → IsRemade heap.runs heap.regions heap.config.region h (hugepage heap h) (unbacked (hugepage heap h))) → IsSound (whole_given flags heap n).heap
+whole_sound : (flags : List Bool) (heap : Heap) (n : ℕ) → IsSound heap → ((h : ℕ) → IsHugepageOf heap.config.huge h → at_number false flags h ≡ true → IsRemade heap.runs heap.regions heap.config.region h (hugepage heap h) (unbacked (hugepage heap h))) → IsSound (whole_given flags heap n).heap
 whole_sound flags heap n sound flagged =
     remade_same heap (λ h x. cond (gives_whole flags n h) (unbacked x) x) heap.counts sound
     (λ h is.
@@ -92,7 +93,7 @@ free_sound heap n sound =
     whole_sound (map is_free_backed heap.hugepages) heap n sound
     (λ h is e.
     let len = sound.runs.arena in
-    let ready : is_free_backed (hugepage heap h) ≡ true = sym (map-place is_free_backed heap.hugepages h false is.from (omega (arith, is.to))) ∙ e in
+    let ready : is_free_backed (hugepage heap h) ≡ true = sym (map-at is_free_backed heap.hugepages h false is.from (omega (arith, is.to))) ∙ e in
     remade_unbacked heap.runs heap.regions heap.config.region h (hugepage heap h) (and_parts _ _ ready).0 (sound.runs.fit h is))
 
 pub idle_sound : (heap : Heap) (n : ℕ) → IsSound heap → IsSound (idle_given heap n).heap
@@ -100,7 +101,7 @@ idle_sound heap n sound =
     whole_sound (map (is_idle heap) (numbers heap)) heap n sound
     (λ h is e.
     let len = sound.runs.arena in
-    let idle : is_idle heap h ≡ true = sym (get_or-map-range_with_len (is_idle heap) 1 (length heap.hugepages) (h - 1) h false (omega (arith, is.from, is.to)) (omega (arith, is.from))) ∙ e in
+    let idle : is_idle heap h ≡ true = sym (idle_at heap h is.from (omega (arith, is.to))) ∙ e in
     let parts = and_parts _ _ (and_parts _ _ idle).0 in
     remade_idle heap.runs heap.regions heap.config.region h (hugepage heap h) parts.0 (none_used heap.runs h (eqb-true (used_count heap.runs h) 0 parts.1)) (sound.runs.fit h is))
 
@@ -113,7 +114,7 @@ free_counts heap n sound =
     whole_counts (map is_free_backed heap.hugepages) heap n
     (λ h from to e.
     let len = sound.runs.arena in
-    let ready : is_free_backed (hugepage heap h) ≡ true = sym (map-place is_free_backed heap.hugepages h false from (omega arith)) ∙ e in
+    let ready : is_free_backed (hugepage heap h) ≡ true = sym (map-at is_free_backed heap.hugepages h false from (omega arith)) ∙ e in
     full (hugepage heap h) (sound.runs.fit h (record { from = from; to = omega arith })).size (and_parts _ _ ready).1)
 
 pub idle_counts : (heap : Heap) (n : ℕ) → IsSound heap → backed_pages (idle_given heap n).heap + (idle_given heap n).pages ≡ backed_pages heap
@@ -121,7 +122,7 @@ idle_counts heap n sound =
     whole_counts (map (is_idle heap) (numbers heap)) heap n
     (λ h from to e.
     let len = sound.runs.arena in
-    let idle : is_idle heap h ≡ true = sym (get_or-map-range_with_len (is_idle heap) 1 (length heap.hugepages) (h - 1) h false (omega arith) (omega arith)) ∙ e in
+    let idle : is_idle heap h ≡ true = sym (idle_at heap h from (omega arith)) ∙ e in
     full (hugepage heap h) (sound.runs.fit h (record { from = from; to = omega arith })).size (and_parts _ _ idle).1)
 
 within : (heap : Heap) (h : ℕ) → length heap.hugepages ≡ heap.config.huge → h < 1 + length heap.hugepages → h ≤ heap.config.huge

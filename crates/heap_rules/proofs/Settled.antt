@@ -8,7 +8,7 @@ use Rattle.heap_rules.specs.Heap.{Heap, Hugepage, hugepage, is_free, is_free_bac
 use Rattle.heap_rules.specs.CacheFlags.{is_over, limit}
 use Rattle.heap_rules.specs.Settle.{unbacked, counted, settled}
 use Rattle.heap_rules.specs.Sound.{Serves, IsFit, IsSound}
-use Rattle.heap_rules.proofs.Places.{map-place}
+use Rattle.heap_rules.proofs.Places.{map-at}
 use Rattle.heap_rules.proofs.Fits.{serves_at, is_Free}
 use Rattle.heap_rules.proofs.Remade.{IsRemade, remade_same}
 
@@ -40,7 +40,7 @@ settled_sound heap sound =
     let P : Bool → Type 0 = λ b. IsRemade heap.runs heap.regions heap.config.region h x (cond b (unbacked x) x) in
     elim (cases_Bool (over h)) [
       | inl t ↦
-          (let ready : is_free_backed x ≡ true = sym (map-place is_free_backed heap.hugepages h false is.from (omega (arith, is.to))) ∙ (and_parts _ _ t).0 in
+          (let ready : is_free_backed x ≡ true = sym (map-at is_free_backed heap.hugepages h false is.from (omega (arith, is.to))) ∙ (and_parts _ _ t).0 in
           subst P (sym t) (remade_unbacked heap.runs heap.regions heap.config.region h x (and_parts _ _ ready).0 (sound.runs.fit h is)))
       | inr n ↦ subst P (sym n) (remade_not heap.runs heap.regions heap.config.region h x (sound.runs.fit h is))
     ])

@@ -7,6 +7,7 @@ use Rattle.heap_rules.specs.Heap.{Hugepage, is_free, is_free_backed}
 use Rattle.std.proofs.lemmas.List.{get_or-map, length-map}
 use Rattle.heap_rules.specs.CacheFlags.{is_over}
 use Rattle.heap_rules.specs.Settle.{unbacked, trimmed}
+use Rattle.heap_rules.proofs.Numbered.{at_number-place}
 use Rattle.tc_units.proofs.Counts.{count-cons, one-true, one-false}
 
 -- the walk of a loop: the first `left` backed free hugepages stay backed
@@ -44,7 +45,7 @@ module _ (limit : ℕ) (ready : List Bool) where
       let head : get_or ready (at - 1) false ≡ is_free_backed x = (let z : at - 1 + 0 ≡ at - 1 = omega arith in subst (λ i. get_or ready i false ≡ is_free_backed x) z (same 0 x (omega arith))) in
       let next : at + 1 - 1 ≡ at - 1 + 1 = omega arith in
       let rest : (k : ℕ) (d : Hugepage) → k < length xs → get_or ready (at + 1 - 1 + k) false ≡ is_free_backed (get_or xs k d) = λ k d h. (let z : at - 1 + suc k ≡ at + 1 - 1 + k = omega arith in subst (λ i. get_or ready i false ≡ is_free_backed (get_or xs k d)) z (same (suc k) d (omega arith))) in
-      let test : (b c : Bool) → is_free_backed x ≡ b → nat_le limit n ≡ c → is_over limit ready at ≡ (b && c) = λ b c g h. ap (λ t. t && nat_le limit (count_by (λ b. b) (take (at - 1) ready))) (head ∙ g) ∙ ap (λ i. b && nat_le limit i) e ∙ ap (λ t. b && t) h in
+      let test : (b c : Bool) → is_free_backed x ≡ b → nat_le limit n ≡ c → is_over limit ready at ≡ (b && c) = λ b c g h. ap (λ t. t && nat_le limit (count_by (λ b. b) (take (at - 1) ready))) (at_number-place false ready at pos ∙ head ∙ g) ∙ ap (λ i. b && nat_le limit i) e ∙ ap (λ t. b && t) h in
       elim (cases_Bool (is_free_backed x)) [
         | inr f ↦
             (let more = count_by_more_no (λ b. b) ready (at - 1) false (omega arith) (head ∙ f) in

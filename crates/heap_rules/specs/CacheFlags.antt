@@ -1,7 +1,8 @@
 -- (huge_cache) The choice of adjacent free hugepages, and the limit of backed ones, over flags.
 use Rattle.std.specs.Prelude.{ℕ, ◌+◌, ◌-◌, Bool, false, ◌&&◌, nat_le, List, [], ◌∷◌, ◌++◌, length, take, drop, fold, min, max, count_by, Option, Some, None, option_map}
-use Rattle.std.specs.List.{last_or, slice_index_or}
+use Rattle.std.specs.List.{last_or}
 use Rattle.range_bits.specs.Ranges.{best}
+use Rattle.heap_rules.specs.Numbered.{at_number}
 
 -- the first, or where there is none the second
 abbrev pub or_else : Option ℕ → Option ℕ → Option ℕ
@@ -13,9 +14,9 @@ or_else None y = y
 abbrev pub run_choice : List Bool → List Bool → ℕ → Option ℕ
 run_choice taken unready many = option_map (λ place. place + 1) (or_else (best unready many) (best taken many))
 
--- whether hugepage h, from 1 on, is backed and free, and at least `limit` such ones stand before it
+-- whether hugepage h is backed and free, and at least `limit` such ones stand before it
 abbrev pub is_over : ℕ → List Bool → ℕ → Bool
-is_over limit ready h = slice_index_or ready (h - 1) false && nat_le limit (count_by (λ b. b) (take (h - 1) ready))
+is_over limit ready h = at_number false ready h && nat_le limit (count_by (λ b. b) (take (h - 1) ready))
 
 -- the last `window` of the counts with a new one
 abbrev pub with_count : ℕ → List ℕ → ℕ → List ℕ

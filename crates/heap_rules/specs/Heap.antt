@@ -1,5 +1,5 @@
 -- A page heap as a value: its live runs, its regions, its hugepages and its use counts. All else is a function of these.
-use Rattle.std.specs.Prelude.{ℕ, ◌+◌, ◌*◌, ◌/◌, ◌%◌, Bool, true, false, ◌&&◌, nat_lt, nat_le, List, [], ◌∷◌, length, map, count_by, replicate, if◌then◌else◌, sum_by}
+use Rattle.std.specs.Prelude.{ℕ, ◌+◌, ◌*◌, ◌/◌, ◌%◌, Bool, true, false, ◌&&◌, nat_lt, nat_le, List, [], length, map, count_by, replicate, if◌then◌else◌, sum_by}
 use Rattle.std.specs.List.{list_any, list_all, range_with_len, enumerate_from, slice_index_or}
 use Rattle.tc_units.specs.Units.{huge_pages}
 use Rattle.tc_units.specs.Sorted.{with_item, without_key}
@@ -8,6 +8,7 @@ use Rattle.tc_units.specs.declared.rows.RowKind.{RowKind}
 use Rattle.tc_units.specs.declared.rows.RowKind.TheVariants as kind
 use Rattle.tc_units.specs.declared.rows.RowView.{RowView}
 use Rattle.heap_rules.specs.declared.config.HeapConfig.{HeapConfig}
+use Rattle.heap_rules.specs.Numbered.{at_number}
 use Rattle.range_bits.specs.Ranges.{longest}
 
 -- what a hugepage serves, whether it is the donated tail of a larger run, and which of its 256 pages are backed
@@ -41,9 +42,9 @@ opened config = record { config = config; runs = []; regions = []; hugepages = r
 abbrev pub numbers : Heap → List ℕ
 numbers heap = range_with_len 1 (length heap.hugepages)
 
--- hugepage h; the arena has no hugepage 0, so 0 reads as untouched, as does what is past the last
+-- hugepage h, untouched where the arena has none of this number
 abbrev pub hugepage : Heap → ℕ → Hugepage
-hugepage heap h = slice_index_or (untouched ∷ heap.hugepages) h untouched
+hugepage heap h = at_number untouched heap.hugepages h
 
 -- the hugepages after each is changed by its number and what it is
 abbrev pub each : (ℕ → Hugepage → Hugepage) → List Hugepage → List Hugepage

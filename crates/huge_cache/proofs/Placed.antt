@@ -1,8 +1,10 @@
 -- Both rows after a stretch of places changed in both of them, and the cache that they mean.
-use Rattle.std.proofs.Common.{◌≡◌, ℕ, ◌+◌, ◌-◌, ◌<◌, ◌≤◌, Bool, true, false, not, List, length, get_or, set, take, refl, sym, ap, subst, ◌∙◌, arith}
-use Rattle.std.proofs.lemmas.Bool.{not-false}
-use Rattle.std.proofs.lemmas.List.{set-get_or}
-use Rattle.range_bits.specs.Ranges.{with_places}
+use Rattle.std.proofs.Common.{◌≡◌, ℕ, ◌+◌, ◌-◌, ◌<◌, ◌≤◌, Bool, true, false, not, List, length, get_or, set, take, drop, refl, sym, ap, subst, ◌∙◌, inl, inr, arith}
+use Rattle.std.proofs.lemmas.Bool.{cases_lt, false≢true, not-false}
+use Rattle.std.proofs.lemmas.List.{set-get_or, length-drop, get_or-drop}
+use Rattle.std.proofs.lemmas.List.Sums.{prefix_len_stops}
+use Rattle.range_bits.specs.Ranges.{used_from, with_places}
+use Rattle.heap_rules.proofs.Numbered.{at_number-place}
 use Rattle.huge_cache.specs.Cache.{Cache, holds, with_huge}
 use Rattle.huge_cache.specs.Rows.{IsPadded, IsSound}
 use Rattle.huge_cache.proofs.Kept.{sound_placed}
@@ -36,6 +38,18 @@ module _ (huge most window : ℕ) (counts : List ℕ) (taken unready : List Bool
       let used : get_or unready p true ≡ true = place-front huge unready p true second inside ∙ sound.unready p out in
       sym (one_place unready p true (omega (arith, second.within)) ∙ ap (λ (b : Bool). set unready p b) (sym used) ∙ set-get_or unready p true)
 
+-- a used place begins a used range
+used_here : (row : List Bool) (p : ℕ) → p < length row → get_or row p true ≡ true → 1 ≤ used_from row p
+used_here row p inside e =
+    elim (cases_lt 0 (used_from row p)) [
+      | inl some ↦ omega arith
+      | inr none ↦
+          (let size = length-drop p row in
+          let stops : get_or (drop p row) (used_from row p) true ≡ false = prefix_len_stops (λ used. used) (drop p row) true (omega arith) in
+          let at : p + used_from row p ≡ p = omega arith in
+          absurd (false≢true (sym stops ∙ get_or-drop p row (used_from row p) true ∙ ap (λ (k : ℕ). get_or row k true) at ∙ e)))
+    ]
+
 not_not : (b : Bool) → not (not b) ≡ b
 not_not true = refl
 not_not false = refl
@@ -50,7 +64,12 @@ module _ (huge most window : ℕ) (counts : List ℕ) (taken unready : List Bool
   place_of : (h - 1 < huge) × (get_or (take huge taken) (h - 1) true ≡ true)
   place_of =
       let same = ap (λ (v : Cache). v.taken) is_now in
-      (omega (arith, front_length huge taken first, ap (λ (r : List Bool). length r) same), ap (λ (r : List Bool). get_or r (h - 1) true) same ∙ not-false _ out)
+      (omega (arith, front_length huge taken first, ap (λ (r : List Bool). length r) same), ap (λ (r : List Bool). get_or r (h - 1) true) same ∙ sym (at_number-place true now.taken h low) ∙ not-false _ out)
+
+  pub unready_used : 1 ≤ used_from unready (h - 1)
+  unready_used =
+      let p = place_of in
+      used_here unready (h - 1) (omega (arith, p.0, second.within)) (place-front huge unready (h - 1) true second p.0 ∙ sound.unready (h - 1) p.1)
 
   one_more : (new_taken new_unready : List Bool) (b : Bool) → new_taken ≡ with_places taken (h - 1) 1 false → new_unready ≡ with_places unready (h - 1) 1 b → OneMore huge most window counts new_taken new_unready now h (not b)
   one_more new_taken new_unready b is also =

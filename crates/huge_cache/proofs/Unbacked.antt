@@ -12,8 +12,10 @@ use Rattle.range_bits.proofs.Placing.{length-with_places, get_or-with_places}
 use Rattle.range_bits.proofs.Scan.{range-append}
 use Rattle.range_bits.proofs.Stretches.{free_all, free_behind}
 use Rattle.tc_units.specs.Units.{huge_pages}
+use Rattle.heap_rules.specs.Numbered.{at_number}
 use Rattle.heap_rules.specs.CacheFlags.{is_over}
 use Rattle.heap_rules.specs.GiveUp.{gives_whole}
+use Rattle.heap_rules.proofs.Numbered.{at_number-next}
 use Rattle.huge_cache.specs.Cache.{marked, count_of}
 use Rattle.huge_cache.specs.Rows.{IsPadded}
 use Rattle.huge_cache.proofs.Padded.{pad, padded_by, front_length, free_count-padded}
@@ -201,10 +203,10 @@ ready_count (x ∷ v) = omega (arith, sum_by-cons (λ (b : Bool). cond b 1 0) (n
 pub ready_is : (v : List Bool) → count_by (λ b. b) (map not v) ≡ free_count v
 ready_is v = ready_count v
 
-ready_at : (v : List Bool) (p : ℕ) → p < length v → get_or (map not v) (p + 1 - 1) false ≡ not (get_or v p true)
+ready_at : (v : List Bool) (p : ℕ) → p < length v → at_number false (map not v) (p + 1) ≡ not (get_or v p true)
 ready_at v p inside =
-    let e : p + 1 - 1 ≡ p = omega arith in
-    ap (λ (i : ℕ). get_or (map not v) i false) e ∙ get_or-map not v p true false inside
+    let e : p + 1 ≡ 1 + p = omega arith in
+    ap (at_number false (map not v)) e ∙ at_number-next false (map not v) p ∙ get_or-map not v p true false inside
 
 and_same : (b t u : Bool) → (b ≡ false → t ≡ u) → (not b && t) ≡ (not b && u)
 and_same true t u h = refl

@@ -1,7 +1,8 @@
 -- The free hugepages: which are there, which of them are backed, and how many stay so.
 use Rattle.std.specs.Prelude.{ℕ, ◌-◌, Bool, true, false, ◌||◌, not, List, [], map, replicate, count_by, slice_set, length}
-use Rattle.std.specs.List.{slice_index_or, enumerate_from, range_with_len}
+use Rattle.std.specs.List.{enumerate_from, range_with_len}
 use Rattle.range_bits.specs.Ranges.{with_places}
+use Rattle.heap_rules.specs.Numbered.{at_number}
 use Rattle.heap_rules.specs.CacheFlags.{is_over, with_count, limit}
 use Rattle.heap_rules.specs.GiveUp.{gives_whole}
 
@@ -20,10 +21,10 @@ opened huge most window = record { most = most; window = window; taken = replica
 
 -- whether a hugepage is in the cache, and whether it is there and backed
 abbrev pub holds : Cache → ℕ → Bool
-holds cache h = not (slice_index_or cache.taken (h - 1) true)
+holds cache h = not (at_number true cache.taken h)
 
 abbrev pub is_backed : Cache → ℕ → Bool
-is_backed cache h = not (slice_index_or cache.unready (h - 1) true)
+is_backed cache h = not (at_number true cache.unready h)
 
 -- the cache without `many` hugepages from h on, with `many` backed ones more, and with one more
 abbrev pub without_run : Cache → ℕ → ℕ → Cache

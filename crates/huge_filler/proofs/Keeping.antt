@@ -11,6 +11,7 @@ use Rattle.huge_index.specs.Rows.{IsIndexOf}
 use Rattle.huge_index.proofs.Rows.{index_more, index_fewer, index_changed, key_held, as_many}
 use Rattle.range_bits.specs.Ranges.{used_count}
 use Rattle.heap_rules.specs.FillerRows.{FillerRow}
+use Rattle.heap_rules.proofs.Numbered.{at_number-place, at_number-there}
 use Rattle.huge_filler.specs.Filler.{FillerPage, IsFillerPage, AreFillerPages, row_of, rows_of, free_of_donated, donated_free, fresh}
 use Rattle.huge_filler.specs.Keys.{key_of, IsKept}
 use Rattle.huge_filler.proofs.Numbered.{weight, numbered-set, numbered-held, numbered-short, numbered-none}
@@ -27,9 +28,10 @@ passing test row = cond (test (key_of row)) 1 0
 -- pages with a change at a place
 pub sound-set : (pages : List (Option FillerPage)) (i : ℕ) (y : Option FillerPage) → AreFillerPages pages → i < length pages → ((page : FillerPage) → y ≡ Some page → IsFillerPage page) → AreFillerPages (set pages i y)
 sound-set pages i y sound inside here h page e =
+    let there = at_number-there (set pages i y) h page e in
     elim (cases_eq (h - 1) i) [
-      | inl same ↦ here page (sym (get_or-set_same pages i y None inside) ∙ ap (λ (k : ℕ). get_or (set pages i y) k None) (sym same) ∙ e)
-      | inr other ↦ sound h page (sym (get_or-set_other pages i (h - 1) y None other) ∙ e)
+      | inl same ↦ here page (sym (get_or-set_same pages i y None inside) ∙ ap (λ (k : ℕ). get_or (set pages i y) k None) (sym same) ∙ there.1)
+      | inr other ↦ sound h page (at_number-place None pages h there.0 ∙ sym (get_or-set_other pages i (h - 1) y None other) ∙ there.1)
     ]
 
 -- the key of the hugepage at a place
@@ -135,7 +137,7 @@ kept_none huge pages index most is keys spare =
     let none : length index.keys ≡ 0 = ap length keys in
     record {
       arena = omega arith;
-      sound = λ h page e. absurd (let clash : None ≡ Some page = sym (none_at huge (h - 1)) ∙ sym (ap (λ (ps : List (Option FillerPage)). get_or ps (h - 1) None) is) ∙ e in cc);
+      sound = λ h page e. absurd (let clash : None ≡ Some page = sym (none_at huge (h - 1)) ∙ sym (ap (λ (ps : List (Option FillerPage)). get_or ps (h - 1) None) is) ∙ (at_number-there pages h page e).1 in cc);
       keys = λ test. ap (count_by test) keys ∙ sym (ap (λ (ps : List (Option FillerPage)). count_by (λ row. test (key_of row)) (rows_of ps)) is ∙ ap (count_by (λ row. test (key_of row))) (numbered-none row_of 1 huge));
       room = omega arith;
       counted = let zero_times : huge * 0 ≡ 0 = omega arith in sym (ap donated_free is ∙ sum_by-replicate free_of_donated huge None ∙ zero_times);

@@ -8,6 +8,7 @@ use Rattle.range_bits.specs.Ranges.{free_from, used_from, used_count, with_place
 use Rattle.range_bits.proofs.Counts.{free_inside, used_inside, marked_count}
 use Rattle.range_bits.proofs.Filling.{length-with_places, place_before, place_in, place_behind}
 use Rattle.heap_rules.specs.Heap.{run_at}
+use Rattle.heap_rules.proofs.Numbered.{at_number-place, at_number-there}
 use Rattle.huge_filler.specs.Filler.{FillerPage, AreFillerPages, page_at, joined, donated_tail, fresh, IsLive}
 use Rattle.huge_filler.proofs.Pages.{none_free, first_places, fresh_sound}
 
@@ -63,7 +64,7 @@ module _ (pages new : List (Option FillerPage)) (n start h from place : ℕ) (ro
       let count = marked_count row.used start n some free in (
         joined row start n,
         record {
-          row = ap (λ (k : ℕ). get_or new k None) (let same : (256 * from + start) / 256 - 1 ≡ place = omega arith in same) ∙ now;
+          row = ap (page_at new) its ∙ at_number-place None new h (at_number-there pages h row here).0 ∙ ap (λ (k : ℕ). get_or new k None) (sym at) ∙ now;
           some = some;
           used = subst (λ (s : ℕ). n ≤ used_from (with_places row.used start n true) s) (sym its_start) (used_marked row.used start n inside);
           counted = omega arith;
@@ -75,12 +76,15 @@ module _ (pages new : List (Option FillerPage)) (n start h from place : ℕ) (ro
   pub stays_live : (run : Run) → IsLive pages run → IsLive new run
   stays_live run live =
       let was = live.1 in
-      let k : ℕ = run.first.0 / 256 - 1 in
+      let h' : ℕ = run.first.0 / 256 in
+      let there = at_number-there pages h' live.0 was.row in
+      let by_place = at_number-place None new h' there.0 in
+      let k : ℕ = h' - 1 in
       elim (cases_eq k place) [
         | inr other ↦ (
           live.0,
           record {
-            row = ap (λ (ps : List (Option FillerPage)). get_or ps k None) is ∙ get_or-set_other pages place k (Some (joined row start n)) None other ∙ was.row;
+            row = by_place ∙ ap (λ (ps : List (Option FillerPage)). get_or ps k None) is ∙ get_or-set_other pages place k (Some (joined row start n)) None other ∙ there.1;
             some = was.some;
             used = was.used;
             counted = was.counted;
@@ -88,14 +92,14 @@ module _ (pages new : List (Option FillerPage)) (n start h from place : ℕ) (ro
           },
         )
         | inl same ↦
-            (let both : Some live.0 ≡ Some row = sym was.row ∙ ap (λ (i : ℕ). get_or pages i None) (let t : k ≡ h - 1 = omega arith in t) ∙ here in
+            (let both : Some live.0 ≡ Some row = sym there.1 ∙ ap (λ (i : ℕ). get_or pages i None) (let t : k ≡ h - 1 = omega arith in t) ∙ (at_number-there pages h row here).1 in
             let one : live.0 ≡ row = cc in
             let used : run.pages ≤ used_from row.used (run.first.0 % 256) = subst (λ (p : FillerPage). run.pages ≤ used_from p.used (run.first.0 % 256)) one was.used in
             let others : row.allocs + run.pages ≤ used_count row.used + 1 = subst (λ (p : FillerPage). p.allocs + run.pages ≤ used_count p.used + 1) one was.others in
             let count = marked_count row.used start n some free in (
               joined row start n,
               record {
-                row = ap (λ (i : ℕ). get_or new i None) same ∙ now;
+                row = by_place ∙ ap (λ (i : ℕ). get_or new i None) same ∙ now;
                 some = was.some;
                 used = stays_long row.used start n (run.first.0 % 256) run.pages was.some inside used;
                 counted = omega arith;
@@ -108,12 +112,14 @@ module _ (pages new : List (Option FillerPage)) (n start h from place : ℕ) (ro
 pub same_live : (pages : List (Option FillerPage)) (place : ℕ) (old page : FillerPage) → place < length pages → get_or pages place None ≡ Some old → page.used ≡ old.used → page.allocs ≡ old.allocs → (run : Run) → IsLive pages run → IsLive (set pages place (Some page)) run
 same_live pages place old page within here used allocs run live =
     let was = live.1 in
+    let there = at_number-there pages (run.first.0 / 256) live.0 was.row in
+    let by_place = at_number-place None (set pages place (Some page)) (run.first.0 / 256) there.0 in
     let k : ℕ = run.first.0 / 256 - 1 in
     elim (cases_eq k place) [
       | inr other ↦ (
         live.0,
         record {
-          row = get_or-set_other pages place k (Some page) None other ∙ was.row;
+          row = by_place ∙ get_or-set_other pages place k (Some page) None other ∙ there.1;
           some = was.some;
           used = was.used;
           counted = was.counted;
@@ -121,13 +127,13 @@ same_live pages place old page within here used allocs run live =
         },
       )
       | inl same ↦
-          (let both : Some live.0 ≡ Some old = sym was.row ∙ ap (λ (i : ℕ). get_or pages i None) same ∙ here in
+          (let both : Some live.0 ≡ Some old = sym there.1 ∙ ap (λ (i : ℕ). get_or pages i None) same ∙ here in
           let one : live.0 ≡ old = cc in
           let count : used_count page.used ≡ used_count live.0.used = ap used_count used ∙ sym (ap (λ (p : FillerPage). used_count p.used) one) in
           let runs : page.allocs ≡ live.0.allocs = allocs ∙ sym (ap (λ (p : FillerPage). p.allocs) one) in (
             page,
             record {
-              row = ap (λ (i : ℕ). get_or (set pages place (Some page)) i None) same ∙ get_or-set_same pages place (Some page) None within;
+              row = by_place ∙ ap (λ (i : ℕ). get_or (set pages place (Some page)) i None) same ∙ get_or-set_same pages place (Some page) None within;
               some = was.some;
               used = subst (λ (xs : List Bool). run.pages ≤ used_from xs (run.first.0 % 256)) (ap (λ (p : FillerPage). p.used) one ∙ sym used) was.used;
               counted = omega (arith, runs, was.counted);
@@ -148,7 +154,7 @@ tail_live pages new h used from to some below is =
     let none : used_count (with_places fresh.used 0 used true) ≡ used_count (donated_tail used).used = ap used_count same in (
       donated_tail used,
       record {
-        row = ap (λ (k : ℕ). get_or new (k - 1) None) its ∙ ap (λ (ps : List (Option FillerPage)). get_or ps (h - 1) None) is ∙ get_or-set_same pages (h - 1) (Some (donated_tail used)) None (omega arith);
+        row = ap (page_at new) its ∙ at_number-place None new h from ∙ ap (λ (ps : List (Option FillerPage)). get_or ps (h - 1) None) is ∙ get_or-set_same pages (h - 1) (Some (donated_tail used)) None (omega arith);
         some = some;
         used = subst (λ (s : ℕ). used ≤ used_from (donated_tail used).used s) (sym its_start) (subst (λ (xs : List Bool). used ≤ used_from xs 0) same (used_marked fresh.used 0 used inside));
         counted = omega arith;

@@ -1,8 +1,10 @@
 -- The rows of a list with gaps, each by its number: sums over them, and what holds of each.
-use Rattle.std.proofs.Common.{◌∙◌, ◌≡◌, ℕ, zero, suc, ◌+◌, ◌-◌, ◌<◌, ◌≤◌, List, [], ◌∷◌, length, get_or, set, Option, Some, None, option_map, replicate, All, Contains, refl, sym, ap, subst, arith}
+use Rattle.std.proofs.Common.{◌∙◌, ◌≡◌, ℕ, zero, suc, ◌+◌, ◌<◌, ◌≤◌, List, [], ◌∷◌, length, get_or, set, Option, Some, None, option_map, replicate, All, Contains, refl, sym, ap, subst, arith}
 use Rattle.std.specs.List.{sum_by, filter_map, enumerate_from, cons_option}
 use Rattle.std.proofs.lemmas.List.Sums.{sum_by-cons}
 use Rattle.std.proofs.lemmas.List.Elements.{All-nil, All-cons}
+use Rattle.heap_rules.specs.Numbered.{at_number}
+use Rattle.heap_rules.proofs.Numbered.{at_number-next}
 
 -- what a row adds to a sum, where there is one
 abbrev pub weight : {Y : Type 0} → (Y → ℕ) → Option Y → ℕ
@@ -118,7 +120,7 @@ pub record IsRowAt {X Y : Type 0} (g : ℕ → X → Y) (number : Y → ℕ) (xs
   pub page : X
   pub from : 0 < number row
   pub to : number row ≤ length xs
-  pub at : get_or xs (number row - 1) None ≡ Some page
+  pub at : at_number None xs (number row) ≡ Some page
   pub is : row ≡ g (number row) page
 
 -- each row stands at its number
@@ -129,6 +131,6 @@ rows_at g number its xs = numbered-all g (IsRowAt g number xs) 1 xs (λ k x l e.
       page = x;
       from = omega arith;
       to = omega arith;
-      at = ap (λ (i : ℕ). get_or xs i None) (let here : number (g (1 + k) x) - 1 ≡ k = omega arith in here) ∙ e;
+      at = ap (at_number None xs) same ∙ at_number-next None xs k ∙ e;
       is = ap (λ (h : ℕ). g h x) (sym same);
     })

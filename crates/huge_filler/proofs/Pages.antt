@@ -1,5 +1,5 @@
 -- What holds of each hugepage of the filler, and stays so.
-use Rattle.std.proofs.Common.{◌≡◌, ℕ, ◌+◌, ◌-◌, ◌<◌, ◌≤◌, Bool, true, false, not, ◌&&◌, cond, eqb, List, [], ◌∷◌, ◌++◌, length, map, count_by, replicate, drop, refl, sym, ap, ◌∙◌, inl, inr, arith}
+use Rattle.std.proofs.Common.{◌≡◌, ℕ, ◌+◌, ◌-◌, ◌<◌, ◌≤◌, Bool, true, false, not, ◌&&◌, cond, eqb, List, [], ◌∷◌, ◌++◌, length, get_or, map, count_by, replicate, drop, Option, Some, None, refl, sym, ap, ◌∙◌, inl, inr, arith}
 use Rattle.std.specs.List.{list_all, range_with_len, sum_by}
 use Rattle.std.proofs.lemmas.Bool.{cases_Bool, cases_lt, eq-eqb, ne_eqb, false≢true}
 use Rattle.std.proofs.lemmas.List.{length-replicate, get_or-replicate, get_or_past, drop-replicate}
@@ -8,7 +8,17 @@ use Rattle.std.proofs.lemmas.List.Sums.{sum_by-cons, count_by-le-length, prefix_
 use Rattle.range_bits.specs.Ranges.{free_from, used_from, used_count, with_places}
 use Rattle.range_bits.proofs.Counts.{free_inside, used_inside, marked_count, unmarked_count}
 use Rattle.range_bits.proofs.Filling.{length-with_places, place_before, place_in, place_behind}
-use Rattle.huge_filler.specs.Filler.{FillerPage, IsFillerPage, fresh, donated_tail, joined, left, only_used, used_backed, spare_count, place_of}
+use Rattle.heap_rules.proofs.Numbered.{at_number-place, at_number-there}
+use Rattle.huge_filler.specs.Filler.{FillerPage, IsFillerPage, page_at, fresh, donated_tail, joined, left, only_used, used_backed, spare_count, place_of}
+
+-- A hugepage of the filler, and where none is, by its place.
+pub read_is : (pages : List (Option FillerPage)) (h place : ℕ) (now page : FillerPage) → get_or pages place None ≡ Some now → place ≡ h - 1 → page_at pages h ≡ Some page → now ≡ page
+read_is pages h place now page here at is =
+    let both : Some now ≡ Some page = sym here ∙ ap (λ (k : ℕ). get_or pages k None) at ∙ (at_number-there pages h page is).1 in
+    cc
+
+pub free_place : (pages : List (Option FillerPage)) (h from place : ℕ) → 0 < h → from ≡ h → place ≡ from - 1 → page_at pages h ≡ None → get_or pages place None ≡ None
+free_place pages h from place some same at none = ap (λ (k : ℕ). get_or pages k None) (let e : place ≡ h - 1 = omega arith in e) ∙ sym (at_number-place None pages h some) ∙ none
 
 -- all places are used exactly where their number is used
 all_or_fewer : (row : List Bool) → (list_all (λ b. b) row ≡ true → used_count row ≡ length row) × (list_all (λ b. b) row ≡ false → used_count row < length row)

@@ -13,6 +13,7 @@ use Rattle.range_bits.proofs.Least.{none_less}
 use Rattle.heap_rules.specs.GiveUp.{SpareRow, gives_before, gives_spare}
 use Rattle.huge_filler.specs.Filler.{FillerPage, IsFillerPage, AreFillerPages, place_of, spare_row, spare_rows, spare_count, only_used, candidate, released, released_page, released_count}
 use Rattle.huge_filler.proofs.Numbered.{numbered-all, numbered-held}
+use Rattle.heap_rules.proofs.Numbered.{at_number-next}
 use Rattle.heap_rules.proofs.Orders.{by_first, last_is}
 use Rattle.heap_rules.proofs.Live.{filter_holds}
 use Rattle.huge_filler.proofs.Pages.{spare_and_used, used_stays, only_used_sound}
@@ -174,7 +175,7 @@ quiet_pages pages n sound quiet =
     ∙ at_option (released_page (spare_rows pages) n (1 + k)) (get_or pages k None) (λ page e.
     elim (quiet k page inside e) [
       | inl off ↦ ap (λ (b : Bool). cond b (only_used page) page) off
-      | inr none ↦ either_way (gives_spare (spare_rows pages) n (spare_row (1 + k) page)) page (unchanged page (sound (1 + k) page (ap (λ (i : ℕ). get_or pages i None) (let same : 1 + k - 1 ≡ k = omega arith in same) ∙ e)) none)
+      | inr none ↦ either_way (gives_spare (spare_rows pages) n (spare_row (1 + k) page)) page (unchanged page (sound (1 + k) page (at_number-next None pages k ∙ e)) none)
     ])
     ∙ get_or_default pages k None d inside)
 

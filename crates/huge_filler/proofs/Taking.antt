@@ -1,17 +1,23 @@
 -- A run that comes to the preferred hugepage.
 use Rattle.std.proofs.Common.{◌≡◌, ℕ, ◌+◌, ◌-◌, ◌*◌, ◌/◌, ◌%◌, ◌<◌, ◌≤◌, List, get_or, set, Option, Some, None, option_map, subst, sym, ap, ◌∙◌, arith}
 use Rattle.tc_units.specs.declared.units.Huge.{Huge}
-use Rattle.range_bits.specs.Ranges.{free_from, best}
+use Rattle.range_bits.specs.Ranges.{free_from, best, longest}
 use Rattle.range_bits.proofs.RangeFacts.{best_is_fit}
 use Rattle.range_bits.proofs.Counts.{free_inside}
 use Rattle.heap_rules.specs.FillerRows.{filler_place}
+use Rattle.heap_rules.proofs.Numbered.{at_number-place}
 use Rattle.huge_filler.specs.Filler.{FillerPage, AreFillerPages, page_at, joined, after_take, rows_of}
 use Rattle.huge_filler.specs.Preferred.{IsPreferred}
 use Rattle.huge_filler.proofs.Choosing.{chosen_place}
 
 -- the hugepage that the code reads, by its number
-pub at_place : (pages : List (Option FillerPage)) (h from place : ℕ) (row now : FillerPage) → get_or pages place None ≡ Some now → place ≡ from - 1 → from ≡ h → row ≡ now → page_at pages h ≡ Some row
-at_place pages h from place row now here a b e = ap (λ (k : ℕ). get_or pages k None) (let same : h - 1 ≡ place = omega arith in same) ∙ here ∙ ap Some (sym e)
+pub at_place : (pages : List (Option FillerPage)) (h from place : ℕ) (row now : FillerPage) → 0 < h → get_or pages place None ≡ Some now → place ≡ from - 1 → from ≡ h → row ≡ now → page_at pages h ≡ Some row
+at_place pages h from place row now some here a b e = at_number-place None pages h some ∙ ap (λ (k : ℕ). get_or pages k None) (let same : h - 1 ≡ place = omega arith in same) ∙ here ∙ ap Some (sym e)
+
+pub row_has_room : (pages : List (Option FillerPage)) (n : ℕ) (huge : Huge) (row : FillerPage) → page_at pages huge.0 ≡ Some row → IsPreferred pages n huge → n ≤ longest row.used
+row_has_room pages n huge row here is =
+    let both : Some is.page ≡ Some row = sym is.row ∙ here in
+    subst (λ (page : FillerPage). n ≤ longest page.used) (let same : is.page ≡ row = cc in same) is.room
 
 -- the place is the chosen one
 pub first_page_is : (pages : List (Option FillerPage)) (n start : ℕ) (huge : Huge) (from : ℕ) (row : FillerPage) → page_at pages huge.0 ≡ Some row → IsPreferred pages n huge → best row.used n ≡ Some start → from ≡ huge.0 → Some (256 * from + start) ≡ filler_place (rows_of pages) n

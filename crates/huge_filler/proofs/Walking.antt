@@ -9,7 +9,8 @@ use Rattle.std.proofs.lemmas.List.Sums.{sum_by-le, count_by-le-length}
 use borrow.Author.Tests.{ltb-true}
 use Rattle.range_bits.proofs.RangeLemmas.{first_least-all}
 use Rattle.heap_rules.specs.GiveUp.{SpareRow, gives_before, gives_spare}
-use Rattle.huge_filler.specs.Filler.{FillerPage, IsFillerPage, AreFillerPages, place_of, spare_row, spare_rows, spare_count, only_used, candidate, released, released_page, released_count}
+use Rattle.huge_filler.specs.Filler.{FillerPage, IsFillerPage, AreFillerPages, page_at, place_of, spare_row, spare_rows, spare_count, only_used, candidate, released, released_page, released_count}
+use Rattle.heap_rules.proofs.Numbered.{at_number-next, at_number-there}
 use Rattle.huge_filler.proofs.Numbered.{weight, numbered-set, numbered-all, numbered-short, numbered-except}
 use Rattle.huge_filler.proofs.Pages.{only_used_sound}
 use Rattle.huge_filler.proofs.Giving.{has_spare, candidate_is}
@@ -39,7 +40,7 @@ module _ (pages : List (Option FillerPage)) (n i : ℕ) (page : FillerPage) (ins
   rest = set pages i (Some (only_used page))
 
   sound_at : (k : ℕ) (p : FillerPage) → get_or pages k None ≡ Some p → IsFillerPage p
-  sound_at k p e = sound (1 + k) p (ap (λ (j : ℕ). get_or pages j None) (let same : 1 + k - 1 ≡ k = omega arith in same) ∙ e)
+  sound_at k p e = sound (1 + k) p (at_number-next None pages k ∙ e)
 
   gone : spare_count (only_used page) ≡ 0
   gone = spare_gone page (sound_at i page here)
@@ -172,6 +173,7 @@ released_bound pages n most =
 pub record IsStep (pages : List (Option FillerPage)) (h : ℕ) : Type 0 where
   pub page : FillerPage
   pub inside : h - 1 < length pages
+  pub row : page_at pages h ≡ Some page
   pub here : get_or pages (h - 1) None ≡ Some page
   pub first : candidate pages ≡ Some (spare_row (1 + (h - 1)) page)
 
@@ -184,10 +186,12 @@ step_of pages h e =
           let found = candidate_is pages c is in
           let number : h ≡ c.number = same_Some h c.number same in
           let back : c.number ≡ 1 + (h - 1) = omega (arith, found.from) in
+          let row : page_at pages h ≡ Some found.page = ap (page_at pages) number ∙ found.at in
           record {
             page = found.page;
             inside = omega (arith, found.from, found.to);
-            here = ap (λ (k : ℕ). get_or pages (k - 1) None) number ∙ found.at;
+            row = row;
+            here = (at_number-there pages h found.page row).1;
             first = is ∙ ap Some (found.is ∙ ap (λ (k : ℕ). spare_row k found.page) back);
           }
     ] in

@@ -7,6 +7,7 @@ use Rattle.tc_units.specs.declared.rows.RowView.{RowView}
 use Rattle.tc_units.specs.declared.rows.RowKind.TheVariants as kind
 use Rattle.range_bits.specs.Ranges.{longest, used_count, used_from, with_places, first_least}
 use Rattle.heap_rules.specs.FillerRows.{FillerRow}
+use Rattle.heap_rules.specs.Numbered.{at_number}
 use Rattle.heap_rules.specs.GiveUp.{SpareRow, gives_before, gives_spare}
 
 -- a hugepage of the filler: whether it is the donated tail of a larger run, how many live runs have a page in it, and
@@ -27,7 +28,7 @@ pub record IsFillerPage (page : FillerPage) : Type 0 where
 -- The filler is a list with a place for each hugepage of the arena: hugepage h, from 1 on, stands at place h - 1, and there
 -- is nothing where it isn't the filler's.
 abbrev pub page_at : List (Option FillerPage) → ℕ → Option FillerPage
-page_at pages h = slice_index_or pages (h - 1) None
+page_at pages h = at_number None pages h
 
 abbrev pub with_page : List (Option FillerPage) → ℕ → Option FillerPage → List (Option FillerPage)
 with_page pages h page = slice_set pages (h - 1) page

@@ -90,6 +90,19 @@ impl HugeFiller {
         }
     }
 
+    /// A hugepage of the filler. The arena has no hugepage 0.
+    fn find(&self, huge: Huge) -> Option<&Row>
+        ensures row { option_map (λ row. row.now) result ≡ page_at self.now huge.0 }
+        ensures sound { AreFillerPages self.now }
+    {
+        let rows = &self.rows;
+        let place = usize::from(huge.0).checked_sub(1)?;
+        match rows.get(place) {
+            Some(Some(row)) => Some(row),
+            _ => None,
+        }
+    }
+
     /// Puts a hugepage where none is.
     fn lay(&mut self, place: usize, row: Row)
         requires within { place < length self.old }
@@ -245,10 +258,7 @@ impl HugeFiller {
         ensures held { result ≡ is_some (page_at self.now huge.0) }
         ensures sound { AreFillerPages self.now }
     {
-        match self.rows.get(place_of(u32::from(huge.0))) {
-            Some(Some(_)) => true,
-            _ => false,
-        }
+        self.find(huge).is_some()
     }
 
     /// How a hugepage of the filler is shown. `None` exactly where it is none.
@@ -256,10 +266,7 @@ impl HugeFiller {
         ensures row { result ≡ option_map view_of (page_at self.now huge.0) }
         ensures sound { AreFillerPages self.now }
     {
-        match self.rows.get(place_of(u32::from(huge.0))) {
-            Some(Some(row)) => Some(row.view()),
-            _ => None,
-        }
+        self.find(huge).map(|row| row.view())
     }
 
     /// Whether a page of a hugepage of the filler is backed.

@@ -68,6 +68,9 @@ fn a_donated_tail_serves_behind_others(rt: HostRuntime) -> Result<(), Fail> {
         donated: true,
     };
     assert_eq!(rt; filler.row(Huge(2)), Some(tail));
+    // The arena has neither a hugepage 0 nor a third.
+    assert_eq!(rt; filler.row(Huge(0)), None);
+    assert!(rt; !filler.holds(Huge(0)));
     assert_eq!(rt; filler.row(Huge(3)), None);
     let run = Run {
         first: Page(512),

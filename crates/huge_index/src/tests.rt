@@ -41,6 +41,18 @@ fn the_first_of_a_tier(rt: HostRuntime) -> Result<(), Fail> {
 }
 
 #[test]
+fn more_runs_come_first_among_equal_ranges(rt: HostRuntime) -> Result<(), Fail> {
+    let mut index = HugeIndex::open(rt.alloc(), 3)?;
+    index.insert(0, 2, 2, Huge(2));
+    index.insert(0, 2, 1, Huge(1));
+    index.insert(1, 9, 1, Huge(3));
+    assert_eq!(rt; first::<Brand>(&index, 0, 2, Blank::new(1)), Some(Huge(2)));
+    assert_eq!(rt; first::<Brand>(&index, 0, 3, Blank::new(1)), None);
+    assert_eq!(rt; first::<Brand>(&index, 1, 3, Blank::new(1)), Some(Huge(3)));
+    Ok(())
+}
+
+#[test]
 fn new_measures_move_a_hugepage(rt: HostRuntime) -> Result<(), Fail> {
     let mut index = HugeIndex::open(rt.alloc(), 3)?;
     index.insert(0, 10, 1, Huge(1));

@@ -8,6 +8,7 @@ use Rattle.std.proofs.lemmas.List.Sums.{sum_by-append, sum_by-drop_more, sum_by-
 use Rattle.range_bits.proofs.Scan.{range-append}
 use Rattle.tc_units.specs.Units.{huge_pages}
 use Rattle.heap_rules.specs.GiveUp.{gives_whole}
+use Rattle.heap_rules.proofs.Numbered.{at_number-place}
 use Rattle.huge_region.specs.Kept.{IsSound}
 use Rattle.huge_region.specs.Masked.{masked}
 use Rattle.huge_region.specs.Regions.{Region, Regions, region_with, is_idle_in, idle, released, released_count}
@@ -175,7 +176,7 @@ gives_is : (all now : Regions) (n above given h : ℕ) → IsGiven all now n abo
 gives_is all now n above given h is end low high =
     let flag = idle_flag all h low high in
     let more = behind_more all h low high in
-    ap (λ (b : Bool). b && nat_lt (huge_pages * idle_behind all h) n) flag
+    ap (λ (b : Bool). b && nat_lt (huge_pages * idle_behind all h) n) (at_number-place false (idle all) h low ∙ flag)
     ∙ elim (cases_Bool (idle_at all h)) [
       | inr isnt ↦
           ap (λ (b : Bool). b && nat_lt (huge_pages * idle_behind all h) n) isnt

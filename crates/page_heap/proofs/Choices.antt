@@ -1,8 +1,8 @@
 -- The choices by the parts are those of the heap, and a hugepage that is new is the only one with room.
-use Rattle.std.proofs.Common.{◌≡◌, ℕ, zero, suc, ◌+◌, ◌-◌, ◌*◌, ◌<◌, ◌≤◌, ◌==◌, Bool, true, false, not, ◌&&◌, ◌||◌, cond, nat_le, nat_lt, zero-add, add-zero, List, [], ◌∷◌, length, get_or, replicate, map, filter, All, Contains, Option, Some, None, IfSome, option_map, refl, sym, ap, subst, ◌∙◌, inl, inr, arith}
+use Rattle.std.proofs.Common.{◌≡◌, ◌≢◌, ℕ, zero, suc, ◌+◌, ◌-◌, ◌*◌, ◌<◌, ◌≤◌, ◌==◌, Bool, true, false, not, ◌&&◌, ◌||◌, cond, nat_le, nat_lt, zero-add, add-zero, List, [], ◌∷◌, length, get_or, replicate, map, filter, All, Contains, Option, Some, None, IfSome, option_map, refl, sym, ap, subst, ◌∙◌, inl, inr, arith}
 use Rattle.std.specs.List.{range_with_len, enumerate_from, filter_map, cons_option, list_all}
 use Rattle.std.proofs.lemmas.Bool.{cases_Bool, cases_eq, and_from, and_parts, ne_eqb, le-leb, not_from_true, not_from_false, false≢true}
-use Rattle.std.proofs.lemmas.List.{length-replicate, get_or-replicate, get_or_default}
+use Rattle.std.proofs.lemmas.List.{length-replicate, get_or-replicate, get_or_default, get_or-set_same, get_or-set_other}
 use Rattle.std.proofs.lemmas.List.FromFn.{length-range_with_len, get_or-range_with_len}
 use Rattle.std.proofs.lemmas.List.Elements.{All-nil, All-cons, All-filter, filter_passes}
 use Rattle.std.proofs.lemmas.List.Folds.{list_all_at, prefix_len-replicate}
@@ -17,7 +17,6 @@ use Rattle.heap_rules.proofs.Places.{at-next}
 use Rattle.heap_rules.proofs.Live.{Contains-cons}
 use Rattle.huge_filler.specs.Filler.{FillerPage, with_page, row_of, rows_of, fresh}
 use Rattle.page_heap.specs.Parts.{filler_page_of, filler_of}
-use Rattle.page_heap.proofs.Numbered.{numbered-set_same, numbered-set_other}
 use Rattle.page_heap.proofs.View.{filler_some, filler_none}
 
 -- the one element that passes is the first of those that do
@@ -110,7 +109,7 @@ rows_of-filler_of heap = rows_are row_of heap.runs (hugepage heap) 1 heap.hugepa
 pub fresh_place : (pages : List (Option FillerPage)) (h n : ℕ) → 0 < h → h ≤ length pages → 0 < n → n < 256 → list_all (λ row. not (has_room n row)) (rows_of pages) ≡ true → filler_place (rows_of (with_page pages h (Some fresh))) n ≡ Some (256 * h)
 fresh_place pages h n some inside pos small none =
     let new = with_page pages h (Some fresh) in
-    let here : get_or new (h - 1) None ≡ Some fresh = numbered-set_same pages h (Some fresh) None some inside in
+    let here : get_or new (h - 1) None ≡ Some fresh = get_or-set_same pages (h - 1) (Some fresh) None (omega arith) in
     let at : 1 + (h - 1) ≡ h = omega arith in
     let room : has_room n (row_of h fresh) ≡ true = le-leb n 256 (omega arith) in
     let one : All (λ row. has_room n row ≡ true → row ≡ row_of h fresh) (rows_of new) =
@@ -121,8 +120,8 @@ fresh_place pages h n some inside pos small none =
           let is : page ≡ fresh = same_Some page fresh (sym (ap (λ i. get_or new i None) (sym k') ∙ e) ∙ here) in
           ap (row_of (1 + k)) is ∙ ap (λ i. row_of i fresh) same)
       | inr other ↦
-          (let back : 1 + k - 1 ≡ k = omega arith in
-          let old : get_or pages k None ≡ Some page = ap (λ i. get_or pages i None) (sym back) ∙ sym (numbered-set_other pages h (1 + k) (Some fresh) None some (omega arith) other) ∙ ap (λ i. get_or new i None) back ∙ e in
+          (let far : k ≢ (h - 1) = (λ same. other (omega arith)) in
+          let old : get_or pages k None ≡ Some page = sym (get_or-set_other pages (h - 1) k (Some fresh) None far) ∙ e in
           let has = rows_contain row_of 1 pages k page old in
           absurd (false≢true (sym (list_all_at (λ row. not (has_room n row)) (rows_of pages) has.0 (row_of (1 + k) page) has.1 (ap (λ row. not (has_room n row)) has.2 ∙ not_from_true _ t)) ∙ none)))
     ]) in

@@ -14,14 +14,14 @@ use Rattle.heap_rules.specs.Heap.{Heap, Hugepage, hugepage, untouched, holds, re
 use Rattle.heap_rules.specs.Free.{left, used_regions, without_unused_regions}
 use Rattle.heap_rules.specs.Sound.{IsHugepageOf, IsRegion, AreRunsSound, IsSound}
 use Rattle.heap_rules.proofs.Fits.{spans_from, serves_at, is_Region, unreached_unheld}
-use Rattle.heap_rules.proofs.Places.{at-place, page_of}
+use Rattle.heap_rules.proofs.Places.{page_of}
 use Rattle.heap_rules.proofs.Live.{Contains-filter}
 use Rattle.heap_rules.proofs.Left.{left_kinds, used_rest, same_member}
 use Rattle.heap_rules.proofs.Ended.{range_used}
 use Rattle.huge_region.specs.Regions.{Region, without_region, is_unused}
 use Rattle.page_heap.specs.Parts.{filler_page_of, filler_of, cache_of, is_backed_whole, region_of, regions_of, flag_of, flag_in, given_flags}
 use Rattle.page_heap.proofs.Rows.{within, within_no}
-use Rattle.page_heap.proofs.Numbered.{numbered, same_numbered, numbered-each, length-each}
+use Rattle.page_heap.proofs.Numbered.{same_numbered, numbered-each, length-each}
 use Rattle.page_heap.proofs.View.{filler_none, same_heap, region_found, flag_at}
 use Rattle.page_heap.proofs.Frames.{filler_same, flags_are, flags_run, at_number, region_same}
 use Rattle.page_heap.proofs.Steps.{same_cache, map_same, HasPlace}
@@ -75,7 +75,6 @@ module _ (heap : Heap) (sound : AreRunsSound heap) where
       (let arena = sound.arena in
       let x = hugepage heap h in
       let is : IsHugepageOf heap.config.huge h = record { from = some; to = omega arith } in
-      let place : x ≡ numbered heap.hugepages h untouched = at-place heap.hugepages h some in
       let stays : g h x ≡ x = elim (cases_Bool (is_region x)) [
         | inr other ↦ ap (λ b. cond b (record x { kind = kind.Free }) x) (and_left _ _ other)
         | inl own ↦
@@ -84,7 +83,7 @@ module _ (heap : Heap) (sound : AreRunsSound heap) where
             let there : list_any (spans width h) kept ≡ true = ap (list_any (spans width h)) same ∙ list_any_at (spans width h) heap.regions lies.known.0 lies.region lies.known.1 (ap (spans width h) at ∙ lies.spanned) in
             ap (λ b. cond b (record x { kind = kind.Free }) x) (and_right _ _ (not_from_true _ there)))
       ] in
-      numbered-each g heap.hugepages h untouched untouched some (omega arith) ∙ ap (g h) (sym place) ∙ stays ∙ place)))
+      numbered-each g heap.hugepages h untouched untouched some (omega arith) ∙ stays)))
       refl
 
   -- Where one has none, it ends alone.

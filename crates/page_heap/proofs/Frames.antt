@@ -6,17 +6,17 @@ use Rattle.std.proofs.lemmas.List.{same_lists, length-set, length-map}
 use Rattle.std.proofs.lemmas.List.FromFn.{length-map-range_with_len, get_or-map-range_with_len}
 use Rattle.tc_units.specs.declared.spans.Run.{Run}
 use Rattle.range_bits.specs.Ranges.{with_places}
-use Rattle.range_bits.proofs.Placing.{length-with_places, get_or-with_places}
+use Rattle.range_bits.proofs.Placing.{length-with_places}
 use Rattle.heap_rules.specs.Heap.{Heap, Hugepage, hugepage, used_row, allocation_count, region_row, reaches, spans}
 use Rattle.heap_rules.specs.Sound.{IsHugepageOf, AreRunsSound}
-use Rattle.heap_rules.proofs.Places.{length-each, map-place}
+use Rattle.heap_rules.proofs.Places.{length-each, map-at}
 use Rattle.heap_rules.proofs.Fits.{unreached_unheld, spans_parts, spans_from}
 use Rattle.heap_rules.proofs.Remade.{remade, here}
 use Rattle.huge_filler.specs.Filler.{FillerPage, page_at, with_page}
 use Rattle.huge_region.specs.Regions.{Region}
 use Rattle.page_heap.specs.Parts.{filler_page_of, filler_of, is_backed_whole, region_of}
 use Rattle.page_heap.proofs.Rows.{Differs, used_from-away, within_yes, within_no}
-use Rattle.page_heap.proofs.Numbered.{numbered, same_numbered, numbered-set_same, numbered-set_other}
+use Rattle.page_heap.proofs.Numbered.{numbered, same_numbered, numbered-set_same, numbered-set_other, numbered-with_places}
 use Rattle.page_heap.proofs.View.{filler_at, length-filler_of}
 
 -- Other live runs, that differ by one run alone: of the pages of a range that it does not reach, and of the runs there.
@@ -76,12 +76,12 @@ module _ (heap : Heap) (rest : List Run) (regions : List ℕ) (f : ℕ → Hugep
       same_numbered d flags (map p after.hugepages) (size ∙ sym length-after ∙ sym len)
       (λ h some l.
       let is : IsHugepageOf heap.config.huge h = record { from = some; to = inside h (omega arith) } in
-      same h is ∙ ap p (sym (here heap rest regions f counts sound h is)) ∙ sym (map-place p after.hugepages h d some (omega (arith, length-after))))
+      same h is ∙ ap p (sym (here heap rest regions f counts sound h is)) ∙ sym (map-at p after.hugepages h d some (omega (arith, length-after))))
 
   -- flags of which a range is set, one is, or none
   module _ (p : Hugepage → Bool) where
     pub at_number : (h : ℕ) (d : Bool) → IsHugepageOf heap.config.huge h → numbered (map p heap.hugepages) h d ≡ p (hugepage heap h)
-    at_number h d is = let len = sound.arena in map-place p heap.hugepages h d is.from (omega (arith, is.to))
+    at_number h d is = let len = sound.arena in map-at p heap.hugepages h d is.from (omega (arith, is.to))
 
     pub flags_run : (r many : ℕ) (t : Bool) → 0 < r → r + many ≤ length heap.hugepages + 1 → ((h : ℕ) → IsHugepageOf heap.config.huge h → r ≤ h → h < r + many → t ≡ p (f h (hugepage heap h))) → ((h : ℕ) → IsHugepageOf heap.config.huge h → (h < r) ⊎ (r + many ≤ h) → p (hugepage heap h) ≡ p (f h (hugepage heap h))) → with_places (map p heap.hugepages) (r - 1) many t ≡ map p after.hugepages
     flags_run r many t some fits inner outer =
@@ -91,7 +91,7 @@ module _ (heap : Heap) (rest : List Run) (regions : List ℕ) (f : ℕ → Hugep
         flags_are p (with_places row (r - 1) many t) true (length-with_places row (r - 1) many t fits' ∙ len)
         (λ h is.
         let from : 0 < h = is.from in
-        get_or-with_places row (r - 1) many t (h - 1) true fits'
+        numbered-with_places row r many t h true from fits'
         ∙ elim (cases_lt h r) [
           | inl before ↦ ap (λ b. cond b t (numbered row h true)) (within_no (r - 1) (r - 1 + many) (h - 1) (inl (omega arith))) ∙ at_number h true is ∙ outer h is (inl before)
           | inr from' ↦ elim (cases_lt h (r + many)) [
@@ -126,7 +126,7 @@ module _ (heap : Heap) (rest : List Run) (regions : List ℕ) (f : ℕ → Hugep
           | inl same ↦ subst (λ i. numbered (set all (r + many - 1) u) i true ≡ p (f i (hugepage heap i))) (sym same) (numbered-set_same all (r + many) u true (omega arith) (omega arith) ∙ own)
           | inr other ↦
               numbered-set_other all (r + many) h u true (omega arith) is.from other
-              ∙ get_or-with_places row (r - 1) many t (h - 1) true fits'
+              ∙ numbered-with_places row r many t h true from fits'
               ∙ elim (cases_lt h r) [
                 | inl before ↦ ap (λ b. cond b t (numbered row h true)) (within_no (r - 1) (r - 1 + many) (h - 1) (inl (omega arith))) ∙ at_number h true is ∙ outer h is (inl before)
                 | inr from' ↦ elim (cases_lt h (r + many)) [

@@ -8,11 +8,12 @@ use Rattle.std.proofs.lemmas.List.Elements.{Contains-get_or}
 use Rattle.tc_units.specs.declared.spans.Run.{Run}
 use Rattle.tc_units.specs.declared.rows.RowKind.TheVariants as kind
 use Rattle.range_bits.specs.Ranges.{used_from}
-use Rattle.range_bits.proofs.Placing.{length-with_places, get_or-with_places}
+use Rattle.range_bits.proofs.Placing.{length-with_places}
 use Rattle.heap_rules.specs.Heap.{Heap, hugepage, reaches, is_free, is_region, is_kind_free, is_kind_filler}
 use Rattle.heap_rules.specs.Free.{left, given_back}
 use Rattle.heap_rules.specs.Sound.{IsHugepageOf, IsSound}
 use Rattle.heap_rules.proofs.Places.{map-place}
+use Rattle.page_heap.proofs.Numbered.{numbered, numbered-with_places}
 use Rattle.heap_rules.proofs.Left.{left_runs, live_inside}
 use Rattle.heap_rules.proofs.Longest.{prefix_long}
 use Rattle.heap_rules.proofs.Ended.{given_back_sound}
@@ -208,7 +209,7 @@ module _ (old : Parts) (kept : IsKept old) (run : Run) (live : Contains (heap_of
           let fits : start - 1 + many ≤ length old.cache.taken = omega (arith, is'.to, cache_size) in
           ap (λ (c : Cache). frees.holds c (rest.first.0 / 256)) e
           ∙ ap (frees.holds (with_backed_run old.cache start many)) rest_huge
-          ∙ ap not (get_or-with_places old.cache.taken (start - 1) many false (tail - 1) true fits ∙ ap (λ b. cond b false (get_or old.cache.taken (tail - 1) true)) (within_no (start - 1) (start - 1 + many) (tail - 1) (inr (omega arith))))
+          ∙ ap not (numbered-with_places old.cache.taken start many false tail true is'.from fits ∙ ap (λ b. cond b false (numbered old.cache.taken tail true)) (within_no (start - 1) (start - 1 + many) (tail - 1) (inr (omega arith))))
           ∙ filler_out tail is' own
 
       pub given_size : (cache : Cache) → cache ≡ with_backed_run old.cache start many → rest.first.0 / 256 ≤ length cache.taken

@@ -18,6 +18,7 @@ use Rattle.huge_filler.specs.Filler as filler
 use Rattle.huge_region.specs.Regions.{Region, is_idle_in, idle, region_with}
 use Rattle.huge_region.specs.Regions as regions
 use Rattle.page_heap.specs.Parts.{filler_page_of, filler_of, cache_of, is_backed_whole, region_of, regions_of}
+use Rattle.heap_rules.proofs.Places as places
 use Rattle.page_heap.proofs.Numbered.{numbered-each, length-each}
 use Rattle.page_heap.proofs.Counted.{count-map}
 use Rattle.page_heap.proofs.View.{filler_at, length-filler_of, filler_some, filler_none, region_found, region_missing, flag_at, all_whole}
@@ -92,7 +93,7 @@ module _ (heap : Heap) (sound : IsSound heap) where
     was_region : (h : ℕ) → IsHugepageOf heap.config.huge h → gives_whole flags n h ≡ true → is_region (hugepage heap h) ≡ true
     was_region h is e =
         let arena = sound.runs.arena in
-        let own : is_idle heap h ≡ true = sym (get_or-map-range_with_len (is_idle heap) 1 (length heap.hugepages) (h - 1) h false (omega (arith, is.from, is.to)) (omega (arith, is.from))) ∙ (and_parts _ _ e).0 in
+        let own : is_idle heap h ≡ true = sym (places.idle_at heap h is.from (omega (arith, is.to))) ∙ (and_parts _ _ e).0 in
         (and_parts _ _ (and_parts _ _ own).0).0
 
     pub idle_given_filler : filler_of heap ≡ filler_of (idle_given heap n).heap

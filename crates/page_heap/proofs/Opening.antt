@@ -10,14 +10,14 @@ use Rattle.std.proofs.lemmas.Option.{none-some}
 use Rattle.tc_units.specs.Sorted.{with_item}
 use Rattle.tc_units.proofs.SortedFacts.{map-with_item}
 use Rattle.range_bits.specs.Ranges.{with_places}
-use Rattle.range_bits.proofs.Placing.{length-with_places, get_or-with_places}
+use Rattle.range_bits.proofs.Placing.{length-with_places}
 use Rattle.huge_cache.specs.Cache.{Cache, with_huge}
 use Rattle.huge_cache.specs.Cache as cache
 use Rattle.huge_region.specs.Regions.{Region, Regions, spans, region_with, with_region, backed_at}
 use Rattle.page_heap.specs.Parts.{new_region, with_backed_region, given_flags}
 use Rattle.page_heap.specs.Moves.{AreOutside, IsEnding}
 use Rattle.page_heap.proofs.Rows.{within, within_yes, within_no}
-use Rattle.page_heap.proofs.Numbered.{numbered, same_numbered, numbered-each, length-each, numbered-set_same, numbered-set_other}
+use Rattle.page_heap.proofs.Numbered.{numbered, same_numbered, numbered-each, length-each, numbered-set_same, numbered-set_other, numbered-with_places}
 use Rattle.page_heap.proofs.Frames.{same_region}
 use Rattle.page_heap.proofs.Steps.{same_cache}
 use Rattle.page_heap.proofs.InRegion.{enumerated}
@@ -144,7 +144,7 @@ module _ (all : Regions) (c : Cache) (first width : ℕ) (is : IsEnding all c fi
   gives_none =
       sym (same_cache c (given_flags c first 0 flag).taken (given_flags c first 0 flag).unready
       (same_numbered true c.taken (taken_upto 0) (sym (length-with_places c.taken (first - 1) 0 false (fits 0 (omega arith))))
-      (λ h some l. sym (get_or-with_places c.taken (first - 1) 0 false (h - 1) true (fits 0 (omega arith)) ∙ ap (λ b. cond b false (numbered c.taken h true)) (none_within (first - 1) (h - 1)))))
+      (λ h some l. sym (numbered-with_places c.taken first 0 false h true some (fits 0 (omega arith)) ∙ ap (λ b. cond b false (numbered c.taken h true)) (none_within (first - 1) (h - 1)))))
       (same_numbered true c.unready _ (sym (length-each (mark 0) c.unready))
       (λ h some l. sym (numbered-each (mark 0) c.unready h true true some l ∙ ap (λ b. cond b (not (flag h)) (numbered c.unready h true)) (none_within first h)))))
 
@@ -152,7 +152,7 @@ module _ (all : Regions) (c : Cache) (first width : ℕ) (is : IsEnding all c fi
   pub next_out : (k : ℕ) → k < width → cache.holds (given_flags c first k flag) (first + k) ≡ false
   next_out k l =
       let from = is.low in
-      ap not (get_or-with_places c.taken (first - 1) k false (first + k - 1) true (fits k (omega arith)) ∙ ap (λ b. cond b false (numbered c.taken (first + k) true)) (within_no (first - 1) (first - 1 + k) (first + k - 1) (inr (omega arith))))
+      ap not (numbered-with_places c.taken first k false (first + k) true (omega arith) (fits k (omega arith)) ∙ ap (λ b. cond b false (numbered c.taken (first + k) true)) (within_no (first - 1) (first - 1 + k) (first + k - 1) (inr (omega arith))))
       ∙ is.out (first + k) (omega arith) (omega arith)
 
   pub length-given : (k : ℕ) → k ≤ width → length (given_flags c first k flag).taken ≡ length c.taken
@@ -170,8 +170,8 @@ module _ (all : Regions) (c : Cache) (first width : ℕ) (is : IsEnding all c fi
       same_cache (with_huge now (first + k) (flag (first + k))) (given_flags c first (k + 1) flag).taken (given_flags c first (k + 1) flag).unready
       (same_numbered true (set (taken_upto k) (first + k - 1) false) (taken_upto (k + 1)) (length-set (taken_upto k) (first + k - 1) false ∙ len ∙ sym len')
       (λ h some l.
-      (let right : (t : Bool) → within (first - 1) (first - 1 + (k + 1)) (h - 1) ≡ t → numbered (taken_upto (k + 1)) h true ≡ cond t false (numbered c.taken h true) = λ t e. get_or-with_places c.taken (first - 1) (k + 1) false (h - 1) true (fits (k + 1) (omega arith)) ∙ ap (λ b. cond b false (numbered c.taken h true)) e in
-      let left : (t : Bool) → h ≢ first + k → within (first - 1) (first - 1 + k) (h - 1) ≡ t → numbered (set (taken_upto k) (first + k - 1) false) h true ≡ cond t false (numbered c.taken h true) = λ t ne e. numbered-set_other (taken_upto k) (first + k) h false true (omega arith) some ne ∙ get_or-with_places c.taken (first - 1) k false (h - 1) true (fits k (omega arith)) ∙ ap (λ b. cond b false (numbered c.taken h true)) e in
+      (let right : (t : Bool) → within (first - 1) (first - 1 + (k + 1)) (h - 1) ≡ t → numbered (taken_upto (k + 1)) h true ≡ cond t false (numbered c.taken h true) = λ t e. numbered-with_places c.taken first (k + 1) false h true some (fits (k + 1) (omega arith)) ∙ ap (λ b. cond b false (numbered c.taken h true)) e in
+      let left : (t : Bool) → h ≢ first + k → within (first - 1) (first - 1 + k) (h - 1) ≡ t → numbered (set (taken_upto k) (first + k - 1) false) h true ≡ cond t false (numbered c.taken h true) = λ t ne e. numbered-set_other (taken_upto k) (first + k) h false true (omega arith) some ne ∙ numbered-with_places c.taken first k false h true some (fits k (omega arith)) ∙ ap (λ b. cond b false (numbered c.taken h true)) e in
       elim (cases_eq h (first + k)) [
         | inl same ↦ subst (λ i. numbered (set (taken_upto k) (first + k - 1) false) i true ≡ false) (sym same) (numbered-set_same (taken_upto k) (first + k) false true (omega arith) (omega (arith, len, fits (k + 1) (omega arith)))) ∙ sym (right true (within_yes (first - 1) (first - 1 + (k + 1)) (h - 1) (omega arith) (omega arith)))
         | inr other ↦ elim (cases_lt h first) [

@@ -18,6 +18,7 @@ use Rattle.heap_rules.specs.Choice.{region_rows, hugepages_for}
 use Rattle.heap_rules.specs.New.{all_backed, region_page, with_new_region, in_region, in_new_region, slack}
 use Rattle.heap_rules.specs.Sound.{IsHugepageOf, IsRegion, IsSound}
 use Rattle.heap_rules.specs.Laws.{IsGiven}
+use Rattle.heap_rules.proofs.Numbered.{at_number-next}
 use Rattle.heap_rules.proofs.Fits.{spans_parts}
 use Rattle.heap_rules.proofs.Chosen.{mapped, AreFree, run_choice_free}
 use Rattle.heap_rules.proofs.Fillers.{AreUnused, unused_at}
@@ -132,9 +133,8 @@ donated_is heap sound =
     let same : map free_of_donated (filler_of heap) ≡ map g (numbers heap) = same_lists _ _ (omega arith)
     (λ k d l.
     (let short : k < length heap.hugepages = omega arith in
-    let back : 1 + k - 1 ≡ k = omega arith in
     get_or-map free_of_donated (filler_of heap) k None d (omega arith)
-    ∙ ap (λ i. free_of_donated (get_or (filler_of heap) i None)) (sym back)
+    ∙ ap free_of_donated (sym (at_number-next None (filler_of heap) k))
     ∙ ap free_of_donated (filler_at heap (1 + k) (omega arith) (omega arith))
     ∙ free_there heap (1 + k) sound (record { from = omega arith; to = omega arith })
     ∙ sym (get_or-map-range_with_len g 1 (length heap.hugepages) k (1 + k) d short refl))) in

@@ -1,5 +1,5 @@
 -- Free hugepages lose their backing, as the heap settles or a release asks.
-use Rattle.std.proofs.Common.{◌≡◌, ℕ, ◌-◌, ◌*◌, Bool, true, false, not, ◌||◌, cond, List, get_or, map, count_by, refl, sym, ap, ◌∙◌, inl, inr, arith}
+use Rattle.std.proofs.Common.{◌≡◌, ℕ, ◌*◌, Bool, true, false, not, ◌||◌, cond, List, get_or, map, count_by, refl, sym, ap, ◌∙◌, inl, inr, arith}
 use Rattle.std.specs.List.{list_all, range_with_len}
 use Rattle.std.proofs.lemmas.Bool.{cases_Bool, and_right, and_parts, or_right, false_from_ne_true}
 use Rattle.std.proofs.lemmas.List.{length-map}
@@ -10,13 +10,13 @@ use Rattle.heap_rules.specs.Heap.{Heap, Hugepage, hugepage, is_free, is_free_bac
 use Rattle.heap_rules.specs.Settle.{unbacked, counted, settled}
 use Rattle.heap_rules.specs.Release.{free_given}
 use Rattle.heap_rules.specs.Sound.{IsHugepageOf, IsSound}
-use Rattle.heap_rules.proofs.Places.{map-place}
+use Rattle.heap_rules.proofs.Places.{map-at}
 use Rattle.heap_rules.proofs.Fits.{spans_parts}
 use Rattle.heap_rules.proofs.Remade.{remade}
 use Rattle.heap_rules.proofs.Routes.{free_not_region}
 use Rattle.huge_cache.specs.Cache.{marked, count_of, ready, noted, trimmed, released}
 use Rattle.page_heap.specs.Parts.{filler_page_of, filler_of, cache_of, regions_of}
-use Rattle.page_heap.proofs.Numbered.{numbered-each, length-each}
+use Rattle.page_heap.proofs.Numbered.{numbered, numbered-each, length-each}
 use Rattle.page_heap.proofs.Counted.{count-map}
 use Rattle.page_heap.proofs.View.{filler_none, not-not}
 use Rattle.page_heap.proofs.Frames.{filler_same, flags_are, flags_same, at_number, region_same}
@@ -89,8 +89,8 @@ module _ (heap : Heap) (lost : ℕ → Bool) (counts : List ℕ) (sound : IsSoun
       ])))
 
 -- a flag of the free backed hugepages
-flagged : (heap : Heap) (h : ℕ) → IsSound heap → IsHugepageOf heap.config.huge h → get_or (map is_free_backed heap.hugepages) (h - 1) false ≡ true → is_free_backed (hugepage heap h) ≡ true
-flagged heap h sound is e = let arena = sound.runs.arena in sym (map-place is_free_backed heap.hugepages h false is.from (omega (arith, is.to))) ∙ e
+flagged : (heap : Heap) (h : ℕ) → IsSound heap → IsHugepageOf heap.config.huge h → numbered (map is_free_backed heap.hugepages) h false ≡ true → is_free_backed (hugepage heap h) ≡ true
+flagged heap h sound is e = let arena = sound.runs.arena in sym (map-at is_free_backed heap.hugepages h false is.from (omega (arith, is.to))) ∙ e
 
 -- The heap settles.
 module _ (heap : Heap) (sound : IsSound heap) where

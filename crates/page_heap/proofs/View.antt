@@ -9,7 +9,8 @@ use Rattle.tc_units.specs.declared.rows.RowKind.TheVariants as kind
 use Rattle.heap_rules.specs.declared.config.HeapConfig.{HeapConfig}
 use Rattle.heap_rules.specs.Heap.{Heap, Hugepage, hugepage, untouched, whole, used_row, allocation_count, is_free, is_free_backed, is_filler, is_region, is_kind_free, is_kind_filler, is_kind_region, spans}
 use Rattle.heap_rules.specs.Sound.{IsHugepageOf, IsBackedEvenly, IsSound}
-use Rattle.heap_rules.proofs.Places.{at-place, map-place}
+use Rattle.heap_rules.proofs.Numbered.{at_number-place}
+use Rattle.heap_rules.proofs.Places.{map-at}
 use Rattle.heap_rules.proofs.Fits.{spans_parts, serves_at}
 use Rattle.huge_filler.specs.Filler.{page_at}
 use Rattle.huge_cache.specs.Cache as cache
@@ -19,7 +20,7 @@ use Rattle.page_heap.proofs.Numbered.{same_numbered, numbered-each, length-each,
 
 -- What a part has of hugepage h.
 pub filler_at : (heap : Heap) (h : ℕ) → 0 < h → h ≤ length heap.hugepages → page_at (filler_of heap) h ≡ filler_page_of heap.runs h (hugepage heap h)
-filler_at heap h some inside = numbered-each (filler_page_of heap.runs) heap.hugepages h untouched None some inside ∙ ap (filler_page_of heap.runs h) (sym (at-place heap.hugepages h some))
+filler_at heap h some inside = numbered-each (filler_page_of heap.runs) heap.hugepages h untouched None some inside
 
 pub length-filler_of : (heap : Heap) → length (filler_of heap) ≡ length heap.hugepages
 length-filler_of heap = length-each (filler_page_of heap.runs) heap.hugepages
@@ -29,10 +30,10 @@ not-not true = refl
 not-not false = refl
 
 pub holds_at : (heap : Heap) (h : ℕ) → 0 < h → h ≤ length heap.hugepages → cache.holds (cache_of heap) h ≡ is_free (hugepage heap h)
-holds_at heap h some inside = ap not (map-place (λ x. not (is_free x)) heap.hugepages h true some inside) ∙ not-not (is_free (hugepage heap h))
+holds_at heap h some inside = ap not (map-at (λ x. not (is_free x)) heap.hugepages h true some inside) ∙ not-not (is_free (hugepage heap h))
 
 pub backed_at : (heap : Heap) (h : ℕ) → 0 < h → h ≤ length heap.hugepages → cache.is_backed (cache_of heap) h ≡ is_free_backed (hugepage heap h)
-backed_at heap h some inside = ap not (map-place (λ x. not (is_free_backed x)) heap.hugepages h true some inside) ∙ not-not (is_free_backed (hugepage heap h))
+backed_at heap h some inside = ap not (map-at (λ x. not (is_free_backed x)) heap.hugepages h true some inside) ∙ not-not (is_free_backed (hugepage heap h))
 
 -- the filler has what its kind says
 pub filler_none : (runs : List Run) (h : ℕ) (x : Hugepage) → is_filler x ≡ false → filler_page_of runs h x ≡ None
@@ -136,12 +137,12 @@ view_is parts heap shows sound =
     let huge : parts.config.huge ≡ heap.config.huge = ap (λ (c : HeapConfig). c.huge) shows.config in
     same_numbered untouched (map (hugepage_of parts) (range_with_len 1 parts.config.huge)) heap.hugepages (omega arith)
     (λ h some l.
-    get_or-map-range_with_len (hugepage_of parts) 1 parts.config.huge (h - 1) h untouched (omega arith) (omega arith)
+    at_number-place untouched (map (hugepage_of parts) (range_with_len 1 parts.config.huge)) h some
+    ∙ get_or-map-range_with_len (hugepage_of parts) 1 parts.config.huge (h - 1) h untouched (omega arith) (omega arith)
     ∙ ap (λ f. by_owner h (page_at f h) (cache.holds parts.cache h) (cache.is_backed parts.cache h) (region_with parts.regions h)) shows.filler
     ∙ ap (λ c. by_owner h (page_at (filler_of heap) h) (cache.holds c h) (cache.is_backed c h) (region_with parts.regions h)) shows.cache
     ∙ ap (λ r. by_owner h (page_at (filler_of heap) h) (cache.holds (cache_of heap) h) (cache.is_backed (cache_of heap) h) (region_with r h)) shows.regions
-    ∙ own_is heap h sound (record { from = some; to = omega arith })
-    ∙ at-place heap.hugepages h some))
+    ∙ own_is heap h sound (record { from = some; to = omega arith })))
     (ap (λ (c : cache.Cache). c.counts) shows.cache)
 
 -- So they keep what they should where the heap is as it should be.

@@ -6,7 +6,7 @@ pub mod Filling
 pub mod Least
 pub mod Placing
 mod Parts
-mod RowFacts
+pub mod RowFacts
 pub mod Scan
 pub mod Stretches
 pub mod RangeFacts

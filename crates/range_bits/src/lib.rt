@@ -12,3 +12,4 @@ mod words;
 
 pub use bits256::Bits256;
 pub use wide_bits::WideBits;
+pub use words::{end_bit, next_bit, with_bits};

@@ -4,7 +4,7 @@ ghost use Rattle.range_bits.specs.Ranges.{with_places};
 ghost use Rattle.range_bits.specs.Words.{is_one, is_marked, row_of, IsNext};
 
 /// The first bit from `low` on that is 1, or that is 0; 64 where there is none.
-fn next_bit(word: u64, low: u32, used: bool) -> u32
+pub fn next_bit(word: u64, low: u32, used: bool) -> u32
     requires { low < 64 }
     ensures behind { low ≤ result }
     ensures within { result ≤ 64 }
@@ -33,6 +33,18 @@ pub fn next_place(words: &[u64], from: usize, used: bool) -> usize
     words.len() * 64
 }
 
+/// Where the last bit below `high` ends that is 1, or that is 0; 0 where there is none.
+pub fn end_bit(word: u64, high: u32, used: bool) -> u32
+    requires some { 0 < high }
+    requires within { high ≤ 64 }
+    ensures within { result ≤ high }
+    ensures behind { (k : ℕ) → result ≤ k → k < high → is_one word k ≡ not used }
+    ensures there { 0 < result → is_one word (result - 1) ≡ used }
+{
+    let seen = if used { word } else { !word };
+    64 - (seen & (u64::MAX >> (64 - high))).leading_zeros()
+}
+
 /// The bits below a number of bits.
 fn ones(bits: u32) -> u64
     requires { bits ≤ 64 }
@@ -46,7 +58,7 @@ fn ones(bits: u32) -> u64
 }
 
 /// A word whose bits from `low` up to `high` are made 1, or 0.
-fn with_bits(word: u64, low: u32, high: u32, used: bool) -> u64
+pub fn with_bits(word: u64, low: u32, high: u32, used: bool) -> u64
     requires order { low ≤ high }
     requires within { high ≤ 64 }
     ensures { (k : ℕ) → k < 64 → is_one result k

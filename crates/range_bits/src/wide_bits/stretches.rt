@@ -2,10 +2,10 @@
 ghost use Rattle.std.specs.Prelude.{◌≡◌, ℕ, ◌+◌, ◌-◌, ◌*◌, ◌^◌, ◌<◌, ◌≤◌, true, not, length, take, drop};
 ghost use Rattle.range_bits.specs.Fills.{free_before, IsEnd, IsTail, FillsLast};
 ghost use Rattle.range_bits.specs.Ranges.{longest, used_count, with_places};
-ghost use Rattle.range_bits.specs.Words.{is_one, row_of};
+ghost use Rattle.range_bits.specs.Words.{row_of};
 
 use crate::ranges;
-use crate::words::{next_place, set_places};
+use crate::words::{end_bit, next_place, set_places};
 
 /// How many of the places from `start` up to `end` are free.
 pub fn free_between(words: &[u64], start: usize, end: usize) -> usize
@@ -32,18 +32,6 @@ pub fn longest_in(words: &[u64], first: usize, count: usize) -> u32
     ensures { result ≡ longest (take (64 * count) (drop (64 * first) (row_of words.now))) }
 {
     ranges::longest(&words[first..first + count])
-}
-
-/// Where the last bit below `high` ends that is 1, or that is 0; 0 where there is none.
-fn end_bit(word: u64, high: u32, used: bool) -> u32
-    requires some { 0 < high }
-    requires within { high ≤ 64 }
-    ensures within { result ≤ high }
-    ensures behind { (k : ℕ) → result ≤ k → k < high → is_one word k ≡ not used }
-    ensures there { 0 < result → is_one word (result - 1) ≡ used }
-{
-    let seen = if used { word } else { !word };
-    64 - (seen & (u64::MAX >> (64 - high))).leading_zeros()
 }
 
 /// Where the last place before a place ends that is used, or that is free; 0 where there is none.

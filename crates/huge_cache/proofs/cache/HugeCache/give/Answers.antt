@@ -1,7 +1,13 @@
-use Rattle.std.proofs.Common.{ℕ, ◌-◌, false, ap, ◌∙◌}
-use Rattle.range_bits.specs.Ranges.{with_places}
-use Rattle.huge_cache.proofs.Placed.{given_backed, given_unbacked}
+use Rattle.std.proofs.Common.{ℕ, ◌-◌, false, ap, ◌∙◌, arith}
+use Rattle.range_bits.specs.Ranges.{used_from, with_places}
+use Rattle.huge_cache.proofs.Placed.{given_backed, given_unbacked, unready_used}
 use Rattle.huge_cache.proofs.cache.HugeCache.give.Goals as goal
+
+pub unmark-requires-then-backed-clause-used : goal.unmark-requires-then-backed-clause-used
+unmark-requires-then-backed-clause-used c =
+    let f = c.self.inside in
+    let used = unready_used f.huge f.limit f.uses.window f.uses.counts f.taken f.unready c.args.self.now c.args.huge.0 c.self.invariant.0 c.self.invariant.1 c.self.invariant.2 c.self.view_is c.requires.low c.requires.high c.requires.out in
+    omega (arith, used, ap (λ (p : ℕ). used_from f.unready (p - 1)) c.from-place.ensures)
 
 pub invariant_of-self : goal.invariant_of-self
 invariant_of-self c =

@@ -1,6 +1,6 @@
 use Rattle.std.proofs.Common.{◌≡◌, List, Option, All, subst, refl, arith, below_more}
 use Rattle.huge_index.specs.Order.{Serves}
-use Rattle.huge_filler.specs.Filler.{FillerPage, rows_of}
+use Rattle.huge_filler.specs.Filler.{FillerPage, AreFillerPages, rows_of}
 use Rattle.std.specs.List.{list_all}
 use Rattle.std.proofs.Common.{not, true}
 use Rattle.heap_rules.specs.FillerRows.{has_room}
@@ -19,3 +19,6 @@ returns-in-Some-clause-found c =
 pub returns-clause-none : goal.returns-clause-none
 returns-clause-none c =
     subst (λ (pages : List (Option FillerPage)). list_all (λ row. not (has_room c.args.n row)) (rows_of pages) ≡ true) c.self.view_is (none_has_room c.self.inside.rows.items c.self.inside.index.keys c.args.n c.self.invariant.keys (λ t l. c.loop-tier.invariant t (omega arith)))
+
+pub returns-in-Some-clause-sound : goal.returns-in-Some-clause-sound
+returns-in-Some-clause-sound c = subst AreFillerPages c.self.view_is c.self.invariant.sound

@@ -12,7 +12,7 @@ overflow_add-given c =
     let pages : List (Option FillerPage) = c.loop-given.self in
     let step = step_of pages c.in-Some.huge.0 c.in-Some.ensures.first in
     let m : ℕ = c.args.n - c.loop-given.given in
-    let spare = c.from-given.ensures ∙ c.unback.ensures.count step.page step.here in
+    let spare = c.from-given.ensures ∙ c.unback.ensures.count step.page step.row in
     let count = step_count pages m (c.in-Some.huge.0 - 1) step.page step.inside step.here c.loop-given.invariant.sound (omega (arith, c.loop-given-test.true)) step.first in
     let before : length c.args.self.now ≤ 4096 = subst (λ (ps : List (Option FillerPage)). length ps ≤ 4096) c.self.view_is c.self.invariant.arena in
     omega (arith, spare, count, c.loop-given.invariant.count, released_bound c.args.self.now c.args.n before)
@@ -22,7 +22,7 @@ loop-given-smaller c =
     let pages : List (Option FillerPage) = c.loop-given.self in
     let step = step_of pages c.in-Some.huge.0 c.in-Some.ensures.first in
     let m : ℕ = c.args.n - c.loop-given.given in
-    subst (λ (ps : List (Option FillerPage)). sum_by (λ (r : SpareRow). r.spare) (spare_rows ps) < sum_by (λ (r : SpareRow). r.spare) (spare_rows pages)) (sym (c.unback.ensures.row step.page step.here))
+    subst (λ (ps : List (Option FillerPage)). sum_by (λ (r : SpareRow). r.spare) (spare_rows ps) < sum_by (λ (r : SpareRow). r.spare) (spare_rows pages)) (sym (c.unback.ensures.row step.page step.row))
     (fewer pages m (c.in-Some.huge.0 - 1) step.page step.inside step.here c.loop-given.invariant.sound (omega (arith, c.loop-given-test.true)) step.first)
 
 pub loop-given-preserved : goal.loop-given-preserved
@@ -35,8 +35,8 @@ loop-given-preserved c =
     let m : ℕ = n - given in
     let some : 0 < m = omega (arith, c.loop-given-test.true) in
     let rest : List (Option FillerPage) = set pages place (Some (only_used step.page)) in
-    let new : c.unback.new.self ≡ rest = c.unback.ensures.row step.page step.here in
-    let spare = c.from-given.ensures ∙ c.unback.ensures.count step.page step.here in
+    let new : c.unback.new.self ≡ rest = c.unback.ensures.row step.page step.row in
+    let spare = c.from-given.ensures ∙ c.unback.ensures.count step.page step.row in
     let left : n - (given + c.from-given.result) ≡ m - spare_count step.page = omega (arith, spare) in
     let count = step_count pages m place step.page step.inside step.here c.loop-given.invariant.sound some step.first in
     let now : released_count c.unback.new.self (n - (given + c.from-given.result)) ≡ released_count rest (m - spare_count step.page) = ap (λ (ps : List (Option FillerPage)). released_count ps (n - (given + c.from-given.result))) new ∙ ap (released_count rest) left in

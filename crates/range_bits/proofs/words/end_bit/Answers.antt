@@ -1,8 +1,8 @@
 use Rattle.std.proofs.Common.{◌≡◌, ◌/◌, ◌-◌, ◌^◌, ◌<◌, cond, sym, ap, ◌∙◌, arith, w64, bit_and, Bool, refl}
 use Rattle.std.specs.Int.{bit_not, leading_zeros}
 use Rattle.range_bits.proofs.EndBits.{EndBit, found_end}
-use Rattle.range_bits.proofs.wide_bits.stretches.end_bit.Goals as goal
-use Rattle.range_bits.proofs.wide_bits.stretches.end_bit.Goals.{then-used, else-used}
+use Rattle.range_bits.proofs.words.end_bit.Goals as goal
+use Rattle.range_bits.proofs.words.end_bit.Goals.{then-used, else-used}
 
 pub returns : goal.returns
 returns c =
