@@ -1,3 +1,3 @@
 pub mod SpanFacts
-pub mod TreeFacts
 pub mod Meaning
+pub mod LeafFacts

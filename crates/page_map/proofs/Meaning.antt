@@ -1,118 +1,142 @@
--- The spans that a tree means: a list of spans in order is told by what holds each page.
-use Rattle.std.proofs.Common.{◌≡◌, ℕ, zero, suc, ◌+◌, ◌-◌, ◌*◌, ◌/◌, ◌%◌, ◌<◌, ◌≤◌, Bool, true, false, ◌==◌, ◌||◌, nat_lt, nat_le, List, [], ◌∷◌, ◌++◌, length, get_or, find, All, AllPairs, Contains, max, Option, Some, None, cond, refl, sym, ◌∙◌, ap, subst, inl, inr, arith}
+-- The spans that leaves mean: a list of spans in order is told by what begins at each page.
+use Rattle.std.proofs.Common.{◌≡◌, ℕ, zero, suc, ◌+◌, ◌-◌, ◌*◌, ◌/◌, ◌%◌, ◌<◌, ◌≤◌, Bool, true, false, ◌==◌, nat_lt, nat_le, List, [], ◌∷◌, ◌++◌, length, get_or, set, replicate, find, is_some, IsSome, All, AllPairs, Contains, Option, Some, None, cond, refl, sym, ◌∙◌, ap, subst, inl, inr, arith}
 use Rattle.std.specs.Option.{option_to_list}
 use Rattle.std.proofs.lemmas.List.Elements.{All-cons, All-nil, All-head, All-tail, All-contains}
-use Rattle.std.proofs.lemmas.List.{get_or_default}
-use Rattle.std.proofs.lemmas.Bool.{cases_lt, cases_eq, and_from, and_parts, ltb-true, le-leb, lt-ltb, eq-eqb, ne_eqb, true≢false}
+use Rattle.std.proofs.lemmas.List.{get_or_default, get_or_past, length-set, length-replicate, get_or-replicate, get_or-set_same, get_or-set_other}
+use Rattle.std.proofs.lemmas.Bool.{cases_Bool, cases_lt, cases_eq, and_from, and_parts, leb-true, ltb-true, le-leb, lt-ltb, eq-eqb, ne_eqb, eqb-true, true≢false}
 use Rattle.tc_units.specs.declared.spans.SpanRef.{SpanRef}
-use Rattle.page_map.specs.declared.node.Node.{Node}
-use Rattle.page_map.specs.declared.node.Node.TheVariants.{Alike, Split}
+use Rattle.place_set.specs.Places.{IsLast, IsLastAt}
+use Rattle.page_map.specs.declared.leaf.Leaf.{Leaf}
 use Rattle.page_map.specs.Spans.{SpanMap, holds, with_span, without_span, IsInside, IsBefore, AreApart, IsWellFormed}
-use Rattle.page_map.specs.Parts.{covers}
-use Rattle.page_map.specs.Holders.{holder_in, holder_at, is_split, IsReady, beginning_at, spans_from, map_of, IsKept}
-use Rattle.page_map.proofs.SpanFacts.{AllPairs-head, AllPairs-tail, begins_behind, ends_before, apart_holds, find_there, find_nowhere, find_none, with_span-well_formed, without_span-well_formed, find-with_span, find-without_span}
-
--- whether a span begins at a page
-abbrev begins : ℕ → SpanRef → Bool
-begins page span = span.first.0 == page
+use Rattle.page_map.specs.Begins.{begins, begin_in, begin_at, spans_from, map_of, IsKept}
+use Rattle.page_map.proofs.SpanFacts.{AllPairs-head, AllPairs-tail, ends_before, apart_holds, find_there, find_nowhere, find_none, with_span-well_formed, without_span-well_formed, begins-with_span, begins-without_span}
 
 abbrev HasPages : SpanRef → Type 0
 HasPages span = 0 < span.pages
 
 none_begins : (page : ℕ) (xs : List SpanRef) → All (λ s. page < s.first.0) xs → None ≡ find (begins page) xs
-none_begins page xs later = find_none (begins page) xs (λ k d within. let l : page < (get_or xs k d).first.0 = later k d within in ne_eqb (get_or xs k d).first.0 page (omega arith))
-
--- of spans in order, the one that begins at a page is told by the one that holds it
-beginning_is : (page : ℕ) (xs : List SpanRef) → AllPairs IsBefore xs → All HasPages xs → beginning_at page (find (holds page) xs) ≡ option_to_list (find (begins page) xs)
-beginning_is page [] order some = refl
-beginning_is page (x ∷ xs) order some =
-    let rest : beginning_at page (find (holds page) xs) ≡ option_to_list (find (begins page) xs) = beginning_is page xs (AllPairs-tail IsBefore x xs order) (All-tail HasPages x xs some) in
-    let later : All (IsBefore x) xs = AllPairs-head IsBefore x xs order in
-    let pages : 0 < x.pages = All-head HasPages x xs some in
-    elim (cases_lt page x.first.0) [
-      | inl before ↦ rw (begins_behind page x before, ne_eqb x.first.0 page (omega arith)) rest
-      | inr from ↦ elim (cases_lt page (x.first.0 + x.pages)) [
-        | inr past ↦ rw (ends_before page x past, ne_eqb x.first.0 page (omega arith)) rest
-        | inl held ↦
-            (let none : None ≡ find (begins page) xs = none_begins page xs (λ k d within. let l : IsBefore x (get_or xs k d) = later k d within in omega arith) in
-            let here : holds page x ≡ true = and_from (nat_le x.first.0 page) (nat_lt page (x.first.0 + x.pages)) (le-leb x.first.0 page from) (lt-ltb page (x.first.0 + x.pages) held) in
-            rw (here, sym none) (elim (x.first.0 == page) as (λ b. cond b (x ∷ []) [] ≡ option_to_list (cond b (Some x) None)) [ true ↦ refl | false ↦ refl ]))
-      ]
-    ]
+none_begins page xs later = find_none (begins page) xs (λ k d within. let l : page < (get_or xs k d).first.0 = later k d within in ne_eqb page (get_or xs k d).first.0 (omega arith))
 
 first_later : (page : ℕ) (x : SpanRef) (xs : List SpanRef) → page < x.first.0 → All (IsBefore x) xs → All (λ s. page < s.first.0) (x ∷ xs)
 first_later page x xs first later = All-cons (λ s. page < s.first.0) x xs first (λ k d within. let b : IsBefore x (get_or xs k d) = later k d within in omega arith)
 
 -- spans in order are those that begin at each page in turn
-spans_from-is : (holder : ℕ → Option SpanRef) (page n : ℕ) (xs : List SpanRef) → AllPairs IsBefore xs → All HasPages xs → All (λ s. page ≤ s.first.0) xs → All (λ s. s.first.0 < page + n) xs → ((p : ℕ) → page ≤ p → beginning_at p (holder p) ≡ option_to_list (find (begins p) xs)) → spans_from holder page n ≡ xs
-spans_from-is holder page zero [] order some low high told = refl
-spans_from-is holder page zero (x ∷ xs) order some low high told =
+spans_from-is : (begin : ℕ → Option SpanRef) (page n : ℕ) (xs : List SpanRef) → AllPairs IsBefore xs → All HasPages xs → All (λ s. page ≤ s.first.0) xs → All (λ s. s.first.0 < page + n) xs → ((p : ℕ) → page ≤ p → option_to_list (begin p) ≡ option_to_list (find (begins p) xs)) → spans_from begin page n ≡ xs
+spans_from-is begin page zero [] order some low high told = refl
+spans_from-is begin page zero (x ∷ xs) order some low high told =
     let l : page ≤ x.first.0 = All-head (λ s. page ≤ s.first.0) x xs low in
     let h : x.first.0 < page + 0 = All-head (λ s. s.first.0 < page + 0) x xs high in
     absurd (omega arith)
-spans_from-is holder page (suc n) [] order some low high told =
-    ap (λ b. b ++ spans_from holder (page + 1) n) (told page (omega arith))
-    ∙ spans_from-is holder (page + 1) n [] order some (All-nil (λ s. page + 1 ≤ s.first.0)) (All-nil (λ s. s.first.0 < page + 1 + n)) (λ p from. told p (omega arith))
-spans_from-is holder page (suc n) (x ∷ xs) order some low high told =
+spans_from-is begin page (suc n) [] order some low high told =
+    ap (λ b. b ++ spans_from begin (page + 1) n) (told page (omega arith))
+    ∙ spans_from-is begin (page + 1) n [] order some (All-nil (λ s. page + 1 ≤ s.first.0)) (All-nil (λ s. s.first.0 < page + 1 + n)) (λ p from. told p (omega arith))
+spans_from-is begin page (suc n) (x ∷ xs) order some low high told =
     let l : page ≤ x.first.0 = All-head (λ s. page ≤ s.first.0) x xs low in
     let pages : 0 < x.pages = All-head HasPages x xs some in
     let later : All (IsBefore x) xs = AllPairs-head IsBefore x xs order in
     elim (cases_eq x.first.0 page) [
       | inl here ↦
-          (let one : beginning_at page (holder page) ≡ x ∷ [] = told page (omega arith) ∙ ap (λ b. option_to_list (cond b (Some x) (find (begins page) xs))) (eq-eqb x.first.0 page here) in
-          let rest : spans_from holder (page + 1) n ≡ xs =
-          spans_from-is holder (page + 1) n xs (AllPairs-tail IsBefore x xs order) (All-tail HasPages x xs some)
+          (let one : option_to_list (begin page) ≡ x ∷ [] = told page (omega arith) ∙ ap (λ b. option_to_list (cond b (Some x) (find (begins page) xs))) (eq-eqb page x.first.0 (sym here)) in
+          let rest : spans_from begin (page + 1) n ≡ xs =
+          spans_from-is begin (page + 1) n xs (AllPairs-tail IsBefore x xs order) (All-tail HasPages x xs some)
           (λ k d within. let b : IsBefore x (get_or xs k d) = later k d within in omega arith)
           (λ k d within. let h : (get_or xs k d).first.0 < page + suc n = All-tail (λ s. s.first.0 < page + suc n) x xs high k d within in omega arith)
-          (λ p from. told p (omega arith) ∙ ap (λ b. option_to_list (cond b (Some x) (find (begins p) xs))) (ne_eqb x.first.0 p (omega arith))) in
-          ap (λ b. b ++ spans_from holder (page + 1) n) one ∙ ap (λ ys. x ∷ ys) rest)
+          (λ p from. told p (omega arith) ∙ ap (λ b. option_to_list (cond b (Some x) (find (begins p) xs))) (ne_eqb p x.first.0 (omega arith))) in
+          ap (λ b. b ++ spans_from begin (page + 1) n) one ∙ ap (λ ys. x ∷ ys) rest)
       | inr other ↦
           (let all_later : All (λ s. page < s.first.0) (x ∷ xs) = first_later page x xs (omega arith) later in
-          ap (λ b. b ++ spans_from holder (page + 1) n) (told page (omega arith) ∙ ap option_to_list (sym (none_begins page (x ∷ xs) all_later)))
-          ∙ spans_from-is holder (page + 1) n (x ∷ xs) order some (λ k d within. let l : page < (get_or (x ∷ xs) k d).first.0 = all_later k d within in omega arith)
+          ap (λ b. b ++ spans_from begin (page + 1) n) (told page (omega arith) ∙ ap option_to_list (sym (none_begins page (x ∷ xs) all_later)))
+          ∙ spans_from-is begin (page + 1) n (x ∷ xs) order some (λ k d within. let l : page < (get_or (x ∷ xs) k d).first.0 = all_later k d within in omega arith)
           (λ k d within. let h : (get_or (x ∷ xs) k d).first.0 < page + suc n = high k d within in omega arith) (λ p from. told p (omega arith)))
     ]
 
--- the map of a tree that tells of each page what spans in order tell of it
-pub record Means (nodes : List Node) (map : SpanMap) : Type 0 where
-  pub is : map_of nodes ≡ map
-  pub kept : IsKept nodes
+-- the map of leaves and a set that tell of each page what spans in order tell of it
+pub record Means (leaves : List (Option Leaf)) (marks : List Bool) (map : SpanMap) : Type 0 where
+  pub is : map_of leaves ≡ map
+  pub kept : IsKept leaves marks
 
-pub means : (nodes : List Node) (huge : ℕ) (xs : List SpanRef) → length nodes ≡ huge + 1 → IsWellFormed (record { huge = huge; spans = xs }) → ((page : ℕ) → holder_at nodes page ≡ find (holds page) xs) → Means nodes (record { huge = huge; spans = xs })
-means nodes huge xs size well told =
-    let spans : spans_from (holder_at nodes) 0 (256 * length nodes) ≡ xs =
-    spans_from-is (holder_at nodes) 0 (256 * length nodes) xs well.apart (λ k d within. (well.inside k d within).some) (λ k d within. omega arith)
+pub means : (leaves : List (Option Leaf)) (marks : List Bool) (huge : ℕ) (xs : List SpanRef) → length leaves ≡ huge + 1 → IsWellFormed (record { huge = huge; spans = xs }) → ((page : ℕ) → begin_at leaves page ≡ find (begins page) xs) → ((page : ℕ) → get_or marks page false ≡ is_some (begin_at leaves page)) → length marks ≡ 256 * length leaves → Means leaves marks (record { huge = huge; spans = xs })
+means leaves marks huge xs size well told places len =
+    let spans : spans_from (begin_at leaves) 0 (256 * length leaves) ≡ xs =
+    spans_from-is (begin_at leaves) 0 (256 * length leaves) xs well.apart (λ k d within. (well.inside k d within).some) (λ k d within. omega arith)
     (λ k d within. let i : IsInside huge (get_or xs k d) = well.inside k d within in omega (arith, i.some, i.to, size))
-    (λ p from. ap (beginning_at p) (told p) ∙ beginning_is p xs well.apart (λ k d within. (well.inside k d within).some)) in
-    let same_huge : length nodes - 1 ≡ huge = omega arith in
-    let same : map_of nodes ≡ record { huge = huge; spans = xs } =
-    ap (λ (h : ℕ). (let m : SpanMap = record { huge = h; spans = spans_from (holder_at nodes) 0 (256 * length nodes) } in m)) same_huge
+    (λ p from. ap option_to_list (told p)) in
+    let same_huge : length leaves - 1 ≡ huge = omega arith in
+    let same : map_of leaves ≡ record { huge = huge; spans = xs } =
+    ap (λ (h : ℕ). (let m : SpanMap = record { huge = h; spans = spans_from (begin_at leaves) 0 (256 * length leaves) } in m)) same_huge
     ∙ ap (λ (ys : List SpanRef). (let m : SpanMap = record { huge = huge; spans = ys } in m)) spans in
     record {
       is = same;
       kept = record {
         well_formed = subst IsWellFormed (sym same) well;
-        holders = λ page. told page ∙ ap (λ (ys : List SpanRef). find (holds page) ys) (sym spans);
+        begins = λ page. told page ∙ ap (λ (ys : List SpanRef). find (begins page) ys) (sym spans);
+        places = places;
+        size = len;
       };
     }
 
--- so a span more, of pages that none has, is one that its pages are held by
-pub means_with : (old new : List Node) (span : SpanRef) (map : SpanMap) → map_of old ≡ map → IsKept old → length new ≡ length old → IsInside map.huge span → All (AreApart span) map.spans → ((page : ℕ) → holder_at new page ≡ cond (holds page span) (Some span) (holder_at old page)) → Means new (record map { spans = with_span span map.spans })
-means_with old new span map view kept size inside apart told =
-    let well : IsWellFormed map = subst IsWellFormed view kept.well_formed in
-    let huge : length old - 1 ≡ map.huge = ap (λ (m : SpanMap). m.huge) view in
-    let some : 0 < map.huge = well.some in
-    means new map.huge (with_span span map.spans) (omega arith) (with_span-well_formed map.huge span map.spans inside apart well)
-    (λ page. told page ∙ ap (λ h. cond (holds page span) (Some span) h) (kept.holders page ∙ ap (λ (m : SpanMap). find (holds page) m.spans) view) ∙ sym (find-with_span page span map.spans apart))
+-- where none begins
+pub unmarked : (n k : ℕ) → get_or (replicate n false) k false ≡ false
+unmarked n k = elim (cases_lt k n) [ inl inside ↦ get_or-replicate n k false false inside | inr past ↦ get_or_past (replicate n false) k false (omega (arith, length-replicate n false)) ]
 
--- and a span less is one that its pages are held by no more
-pub means_without : (old new : List Node) (span : SpanRef) (map : SpanMap) → map_of old ≡ map → IsKept old → length new ≡ length old → Contains map.spans span → ((page : ℕ) → holder_at new page ≡ cond (holds page span) None (holder_at old page)) → Means new (record map { spans = without_span span map.spans })
-means_without old new span map view kept size there told =
-    let well : IsWellFormed map = subst IsWellFormed view kept.well_formed in
-    let huge : length old - 1 ≡ map.huge = ap (λ (m : SpanMap). m.huge) view in
-    let some : 0 < map.huge = well.some in
-    means new map.huge (without_span span map.spans) (omega arith) (without_span-well_formed map.huge span map.spans well)
-    (λ page. told page ∙ ap (λ h. cond (holds page span) None h) (kept.holders page ∙ ap (λ (m : SpanMap). find (holds page) m.spans) view) ∙ sym (find-without_span map.huge page span map.spans well there))
+pub past_by : (b : Bool) (page n : ℕ) → b ≡ false → (page < n → b ≡ true) → n ≤ page
+past_by b page n e h = elim (cases_lt page n) [ inl inside ↦ absurd (true≢false (sym (h inside) ∙ e)) | inr past ↦ past ]
+
+-- the set once a page is put into it, or taken out
+set_tells : (marks : List Bool) (old new : ℕ → Option SpanRef) (first : ℕ) (begin : Option SpanRef) → first < length marks → ((page : ℕ) → get_or marks page false ≡ is_some (old page)) → ((page : ℕ) → new page ≡ cond (page == first) begin (old page)) → (page : ℕ) → get_or (set marks first (is_some begin)) page false ≡ is_some (new page)
+set_tells marks old new first begin inside was changed page =
+    elim (cases_eq page first) [
+      | inl same ↦
+          ap (λ (k : ℕ). get_or (set marks first (is_some begin)) k false) same ∙ get_or-set_same marks first (is_some begin) false inside
+          ∙ sym (ap is_some (changed page ∙ ap (λ (b : Bool). cond b begin (old page)) (eq-eqb page first same)))
+      | inr other ↦
+          get_or-set_other marks first page (is_some begin) false other ∙ was page
+          ∙ sym (ap is_some (changed page ∙ ap (λ (b : Bool). cond b begin (old page)) (ne_eqb page first other)))
+    ]
+
+module _ (old new : List (Option Leaf)) (marks : List Bool) (span : SpanRef) (map : SpanMap) (view : map_of old ≡ map) (kept : IsKept old marks) (size : length new ≡ length old) where
+  well : IsWellFormed map
+  well = subst IsWellFormed view kept.well_formed
+
+  huge : length old - 1 ≡ map.huge
+  huge = ap (λ (m : SpanMap). m.huge) view
+
+  told : (page : ℕ) → begin_at old page ≡ find (begins page) map.spans
+  told page = kept.begins page ∙ ap (λ (m : SpanMap). find (begins page) m.spans) view
+
+  -- a span of the arena begins at a place of the set
+  pub first_inside : IsInside map.huge span → span.first.0 < length marks
+  first_inside inside = omega (arith, inside.some, inside.to, huge, well.some, kept.size)
+
+  -- where a span begins there is a leaf
+  pub leaf_there : Contains map.spans span → IsSome (get_or old (span.first.0 / 256) None)
+  leaf_there there =
+      by_leaf (get_or old (span.first.0 / 256) None) refl
+    where
+      by_leaf : (o : Option Leaf) → get_or old (span.first.0 / 256) None ≡ o → IsSome o
+      by_leaf (Some leaf) e = refl
+      by_leaf None e =
+          let nothing : None ≡ find (begins span.first.0) map.spans = sym (ap (λ (o : Option Leaf). begin_in o (span.first.0 % 256)) e) ∙ told span.first.0 in
+          absurd (true≢false (sym (eq-eqb span.first.0 span.first.0 refl) ∙ All-contains (λ s. begins span.first.0 s ≡ false) map.spans span (find_nowhere (begins span.first.0) map.spans nothing) there))
+
+  -- a span more, of pages that none has, begins at one page more
+  pub means_with : IsInside map.huge span → All (AreApart span) map.spans → ((page : ℕ) → begin_at new page ≡ cond (page == span.first.0) (Some span) (begin_at old page)) → Means new (set marks span.first.0 true) (record map { spans = with_span span map.spans })
+  means_with inside apart changed =
+      let at = first_inside inside in
+      means new (set marks span.first.0 true) map.huge (with_span span map.spans) (omega (arith, huge, well.some)) (with_span-well_formed map.huge span map.spans inside apart well)
+      (λ page. changed page ∙ ap (cond (page == span.first.0) (Some span)) (told page) ∙ sym (begins-with_span map.huge page span map.spans apart inside.some well.inside))
+      (set_tells marks (begin_at old) (begin_at new) span.first.0 (Some span) at kept.places changed)
+      (length-set marks span.first.0 true ∙ kept.size ∙ ap (λ (n : ℕ). 256 * n) (sym size))
+
+  -- and a span less at one less
+  pub means_without : Contains map.spans span → ((page : ℕ) → begin_at new page ≡ cond (page == span.first.0) None (begin_at old page)) → Means new (set marks span.first.0 false) (record map { spans = without_span span map.spans })
+  means_without there changed =
+      let inside : IsInside map.huge span = subst (IsInside map.huge) there.2 (well.inside there.0 span there.1) in
+      let at = first_inside inside in
+      means new (set marks span.first.0 false) map.huge (without_span span map.spans) (omega (arith, huge, well.some)) (without_span-well_formed map.huge span map.spans well)
+      (λ page. changed page ∙ ap (cond (page == span.first.0) None) (told page) ∙ sym (begins-without_span page span map.spans))
+      (set_tells marks (begin_at old) (begin_at new) span.first.0 None at kept.places changed)
+      (length-set marks span.first.0 false ∙ kept.size ∙ ap (λ (n : ℕ). 256 * n) (sym size))
 
 -- two spans of a map that hold one page are one
 same_span : (map : SpanMap) (s t : SpanRef) (page : ℕ) → IsWellFormed map → Contains map.spans s → Contains map.spans t → holds page s ≡ true → holds page t ≡ true → s ≡ t
@@ -129,35 +153,77 @@ same_span map s t page well s_there t_there s_holds t_holds =
       ]
     ]
 
--- a span that is set holds its pages
-held_by : (map : SpanMap) (span : SpanRef) (page : ℕ) (holder : Option SpanRef) → IsWellFormed map → Contains map.spans span → holds page span ≡ true → holder ≡ find (holds page) map.spans → holder ≡ Some span
-held_by map span page None well there held is =
-    absurd (true≢false (sym held ∙ All-contains (λ s. holds page s ≡ false) map.spans span (find_nowhere (holds page) map.spans is) there))
-held_by map span page (Some t) well there held is =
-    let found = find_there (holds page) map.spans t is in
-    ap (λ s. Some s) (same_span map t span page well found.0 there found.1 held)
+-- a span that begins at a page, and one that holds a page beginning at or before it
+begins_at : (page : ℕ) (xs : List SpanRef) (s : SpanRef) → find (begins page) xs ≡ Some s → Contains xs s × (page ≡ s.first.0)
+begins_at page xs s e = let found = find_there (begins page) xs s (sym e) in (found.0, eqb-true page s.first.0 found.1)
 
--- in a hugepage without a leaf all pages are held alike
-alike : (nodes : List Node) (span : SpanRef) (map : SpanMap) (huge : ℕ) (holder : Option SpanRef) → ((page : ℕ) → holder_at nodes page ≡ find (holds page) map.spans) → IsWellFormed map → Contains map.spans span → Alike holder ≡ get_or nodes huge (Alike None)
-    → (p q : ℕ) → p / 256 ≡ huge → q / 256 ≡ huge → holds p span ≡ true → holds q span ≡ true
-alike nodes span map huge holder told well there node p q p_in q_in held =
-    let at : (page : ℕ) → page / 256 ≡ huge → holder ≡ find (holds page) map.spans =
-    λ page inside. ap (λ n. holder_in n (page % 256)) (node ∙ ap (λ h. get_or nodes h (Alike None)) (sym inside)) ∙ told page in
-    let is : Some span ≡ find (holds q) map.spans = sym (held_by map span p holder well there held (at p p_in)) ∙ at q q_in in
-    (find_there (holds q) map.spans span is).1
+-- The span that holds a page is the last one that begins at or before it, if that one reaches so far.
+module _ (leaves : List (Option Leaf)) (marks : List Bool) (map : SpanMap) (page : ℕ) (view : map_of leaves ≡ map) (kept : IsKept leaves marks) where
+  all_well : IsWellFormed map
+  all_well = subst IsWellFormed view kept.well_formed
 
--- so a hugepage that a span which is set takes a part of has a leaf
-ready_at : (nodes : List Node) (span : SpanRef) (map : SpanMap) (huge : ℕ) (node : Node) → ((page : ℕ) → holder_at nodes page ≡ find (holds page) map.spans) → IsWellFormed map → Contains map.spans span → 256 * huge < span.first.0 + span.pages → span.first.0 < 256 * huge + 256 → node ≡ get_or nodes huge (Alike None) → (is_split node || covers span huge) ≡ true
-ready_at nodes span map huge (Split leaf) told well there below above node = refl
-ready_at nodes span map huge (Alike holder) told well there below above node =
-    let some : 0 < span.pages = subst HasPages there.2 (well.inside there.0 span there.1).some in
-    let page : ℕ = max span.first.0 (256 * huge) in
-    let inside : page / 256 ≡ huge = omega arith in
-    let held : holds page span ≡ true = and_from (nat_le span.first.0 page) (nat_lt page (span.first.0 + span.pages)) (le-leb span.first.0 page (omega arith)) (lt-ltb page (span.first.0 + span.pages) (omega arith)) in
-    let first = and_parts (nat_le span.first.0 (256 * huge)) (nat_lt (256 * huge) (span.first.0 + span.pages)) (alike nodes span map huge holder told well there node page (256 * huge) inside (omega arith) held) in
-    let last = and_parts (nat_le span.first.0 (256 * huge + 255)) (nat_lt (256 * huge + 255) (span.first.0 + span.pages)) (alike nodes span map huge holder told well there node page (256 * huge + 255) inside (omega arith) held) in
-    and_from (nat_le span.first.0 (256 * huge)) (nat_le (256 * huge + 256) (span.first.0 + span.pages)) first.0 (le-leb (256 * huge + 256) (span.first.0 + span.pages) (omega (arith, ltb-true (256 * huge + 255) (span.first.0 + span.pages) last.1)))
+  begin_is : (k : ℕ) → begin_at leaves k ≡ find (begins k) map.spans
+  begin_is k = kept.begins k ∙ ap (λ (m : SpanMap). find (begins k) m.spans) view
 
-pub set_is_ready : (nodes : List Node) (span : SpanRef) (map : SpanMap) → map_of nodes ≡ map → IsKept nodes → Contains map.spans span → IsReady span nodes
-set_is_ready nodes span map view kept there huge below above =
-    ready_at nodes span map huge (get_or nodes huge (Alike None)) (λ page. kept.holders page ∙ ap (λ (m : SpanMap). find (holds page) m.spans) view) (subst IsWellFormed view kept.well_formed) there below above refl
+  -- no span begins where the set has no place
+  none_begins_at : (k : ℕ) → get_or marks k false ≡ false → All (λ s. begins k s ≡ false) map.spans
+  none_begins_at k e = find_nowhere (begins k) map.spans (sym (is_none (begin_at leaves k) (sym (kept.places k) ∙ e)) ∙ begin_is k)
+    where
+      is_none : (o : Option SpanRef) → is_some o ≡ false → o ≡ None
+      is_none None e = refl
+      is_none (Some s) e = absurd (true≢false e)
+
+  -- a span that holds the page begins at a place of the set, at or before it
+  holder_begins : (t : SpanRef) → Contains map.spans t → holds page t ≡ true → (t.first.0 ≤ page) × (get_or marks t.first.0 false ≡ true)
+  holder_begins t there held = (
+    leb-true t.first.0 page (and_parts (nat_le t.first.0 page) (nat_lt page (t.first.0 + t.pages)) held).0,
+    elim (cases_Bool (get_or marks t.first.0 false)) [
+      | inl is ↦ is
+      | inr isnt ↦ absurd (true≢false (sym (eq-eqb t.first.0 t.first.0 refl) ∙ All-contains (λ s. begins t.first.0 s ≡ false) map.spans t (none_begins_at t.first.0 isnt) there))
+    ],
+  )
+
+  -- past the arena, or where no span has begun
+  pub outside : 256 * length leaves ≤ page → None ≡ find (holds page) map.spans
+  outside past =
+      let size : length leaves - 1 ≡ map.huge = ap (λ (m : SpanMap). m.huge) view in
+      find_none (holds page) map.spans (λ k d within. let i : IsInside map.huge (get_or map.spans k d) = all_well.inside k d within in ends_before page (get_or map.spans k d) (omega (arith, i.to, size, all_well.some)))
+
+  pub none_begun : IsLast (λ k. get_or marks k false) 0 page None → None ≡ find (holds page) map.spans
+  none_begun none =
+      by_holder (find (holds page) map.spans) refl
+    where
+      by_holder : (o : Option SpanRef) → o ≡ find (holds page) map.spans → None ≡ o
+      by_holder None e = refl
+      by_holder (Some t) e = let found = find_there (holds page) map.spans t e in let at = holder_begins t found.0 found.1 in absurd (true≢false (sym at.1 ∙ none t.first.0 (omega arith) at.0))
+
+  -- none but the one that begins at the last place holds the page
+  last_alone : (at : ℕ) (s t : SpanRef) → IsLastAt (λ k. get_or marks k false) 0 page at → begin_at leaves at ≡ Some s → Contains map.spans t → holds page t ≡ true → s ≡ t
+  last_alone at s t last begin there held =
+      let own = begins_at at map.spans s (sym (begin_is at) ∙ begin) in
+      let from = holder_begins t there held in
+      let low : t.first.0 ≤ at =
+      elim (cases_lt at t.first.0) [
+        | inl late ↦ absurd (true≢false (sym from.1 ∙ last.behind t.first.0 late from.0))
+        | inr early ↦ early
+      ] in
+      let s_some : 0 < s.pages = subst (λ (x : SpanRef). 0 < x.pages) own.0.2 (all_well.inside own.0.0 s own.0.1).some in
+      let high : page < t.first.0 + t.pages = ltb-true page (t.first.0 + t.pages) (and_parts (nat_le t.first.0 page) (nat_lt page (t.first.0 + t.pages)) held).1 in
+      let reach : at ≤ page = last.to in
+      let first : at ≡ s.first.0 = own.1 in
+      same_span map s t at all_well own.0 there
+      (and_from (nat_le s.first.0 at) (nat_lt at (s.first.0 + s.pages)) (le-leb s.first.0 at (omega arith)) (lt-ltb at (s.first.0 + s.pages) (omega arith)))
+      (and_from (nat_le t.first.0 at) (nat_lt at (t.first.0 + t.pages)) (le-leb t.first.0 at low) (lt-ltb at (t.first.0 + t.pages) (omega arith)))
+
+  pub begun : (at : ℕ) (s : SpanRef) → IsLastAt (λ k. get_or marks k false) 0 page at → begin_at leaves at ≡ Some s → cond (holds page s) (Some s) None ≡ find (holds page) map.spans
+  begun at s last begin =
+      by_holder (find (holds page) map.spans) refl
+    where
+      by_holder : (o : Option SpanRef) → o ≡ find (holds page) map.spans → cond (holds page s) (Some s) None ≡ o
+      by_holder None e =
+          let own = begins_at at map.spans s (sym (begin_is at) ∙ begin) in
+          ap (λ (b : Bool). cond b (Some s) None) (All-contains (λ x. holds page x ≡ false) map.spans s (find_nowhere (holds page) map.spans e) own.0)
+      by_holder (Some t) e =
+          let found = find_there (holds page) map.spans t e in
+          let same : s ≡ t = last_alone at s t last begin found.0 found.1 in
+          ap (λ (b : Bool). cond b (Some s) None) (ap (holds page) same ∙ found.1) ∙ ap Some same

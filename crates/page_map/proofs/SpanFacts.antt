@@ -4,8 +4,9 @@ use Rattle.std.proofs.lemmas.List.Elements.{All-cons, All-nil, All-head, All-tai
 use Rattle.std.proofs.lemmas.List.Kept.{AllPairs-cons, AllPairs-filter}
 use Rattle.std.proofs.lemmas.List.{get_or_default}
 use Rattle.std.proofs.lemmas.Option.{none-some, same_Some}
-use Rattle.std.proofs.lemmas.Bool.{cond_both, cases_Bool, cases_lt, cases_eq, and_parts, and_left, and_right, leb-true, lt-leb, le-ltb, ltb-true, ltb-false, true≢false, eqb-true, eqb-false}
+use Rattle.std.proofs.lemmas.Bool.{cond_both, cases_Bool, cases_lt, cases_eq, and_parts, and_left, and_right, leb-true, lt-leb, le-ltb, ltb-true, ltb-false, true≢false, eqb-true, eqb-false, ne_eqb}
 use Rattle.tc_units.specs.declared.spans.SpanRef.{SpanRef}
+use Rattle.page_map.specs.Begins.{begins}
 use Rattle.page_map.specs.Spans.{holds, with_span, without_span, IsInside, IsBefore, AreApart, IsWellFormed}
 
 pub AllPairs-head : {X : Type 0} (R : X → X → Type 0) (x : X) (xs : List X) → AllPairs R (x ∷ xs) → All (R x) xs
@@ -66,6 +67,13 @@ with_span-All P span (x ∷ xs) one all =
     cond_both (nat_lt span.first.0 x.first.0) (span ∷ x ∷ xs) (x ∷ with_span span xs) (All P) (λ _. All-cons P span (x ∷ xs) one all)
     (λ _. All-cons P x (with_span span xs) (All-head P x xs all) (with_span-All P span xs one (All-tail P x xs all)))
 
+-- a span that is set is one of the spans
+pub with_span-there : (span : SpanRef) (xs : List SpanRef) → Contains (with_span span xs) span
+with_span-there span [] = (0, omega arith, refl)
+with_span-there span (x ∷ xs) =
+    cond_both (nat_lt span.first.0 x.first.0) (span ∷ x ∷ xs) (x ∷ with_span span xs) (λ ys. Contains ys span) (λ _. (0, omega arith, refl))
+    (λ _. let rest = with_span-there span xs in (suc rest.0, omega (arith, rest.1), rest.2))
+
 pub with_span-apart : (span : SpanRef) (xs : List SpanRef) → 0 < span.pages → All (AreApart span) xs → AllPairs IsBefore xs → AllPairs IsBefore (with_span span xs)
 with_span-apart span [] some apart order = AllPairs-cons IsBefore span [] (All-nil (IsBefore span)) order
 with_span-apart span (x ∷ xs) some apart order =
@@ -123,53 +131,75 @@ apart_holds page s t apart held =
       | inr behind ↦ begins_behind page s (let b : t.first.0 + t.pages ≤ s.first.0 = behind in omega arith)
     ]
 
--- what a page is held by once a span is set
-pub find-with_span : (page : ℕ) (span : SpanRef) (xs : List SpanRef) → All (AreApart span) xs → find (holds page) (with_span span xs) ≡ cond (holds page span) (Some span) (find (holds page) xs)
-find-with_span page span [] apart = refl
-find-with_span page span (x ∷ xs) apart =
-    let rest : find (holds page) (with_span span xs) ≡ cond (holds page span) (Some span) (find (holds page) xs) = find-with_span page span xs (All-tail (AreApart span) x xs apart) in
-    cond_both (nat_lt span.first.0 x.first.0) (span ∷ x ∷ xs) (x ∷ with_span span xs) (λ ys. find (holds page) ys ≡ cond (holds page span) (Some span) (find (holds page) (x ∷ xs)))
+-- what is found once a span is set, of those that pass a test which it fails where another passes
+pub find-with : (p : SpanRef → Bool) (span : SpanRef) (xs : List SpanRef) → All (λ x. p x ≡ true → p span ≡ false) xs → find p (with_span span xs) ≡ cond (p span) (Some span) (find p xs)
+find-with p span [] apart = refl
+find-with p span (x ∷ xs) apart =
+    let rest : find p (with_span span xs) ≡ cond (p span) (Some span) (find p xs) = find-with p span xs (All-tail (λ y. p y ≡ true → p span ≡ false) x xs apart) in
+    cond_both (nat_lt span.first.0 x.first.0) (span ∷ x ∷ xs) (x ∷ with_span span xs) (λ ys. find p ys ≡ cond (p span) (Some span) (find p (x ∷ xs)))
     (λ _. refl)
     (λ _.
-    elim (cases_Bool (holds page x)) [
+    elim (cases_Bool (p x)) [
       | inl held ↦
-          (let not_span : holds page span ≡ false = apart_holds page span x (All-head (AreApart span) x xs apart) held in
-          let F : Bool → Bool → Type 0 = λ h g. cond h (Some x) (find (holds page) (with_span span xs)) ≡ cond g (Some span) (cond h (Some x) (find (holds page) xs)) in
-          let at : F true (holds page span) = (let G : Bool → Type 0 = λ g. F true g in subst G (sym not_span) refl) in
-          let H : Bool → Type 0 = λ h. F h (holds page span) in
+          (let not_span : p span ≡ false = All-head (λ y. p y ≡ true → p span ≡ false) x xs apart held in
+          let F : Bool → Bool → Type 0 = λ h g. cond h (Some x) (find p (with_span span xs)) ≡ cond g (Some span) (cond h (Some x) (find p xs)) in
+          let at : F true (p span) = (let G : Bool → Type 0 = λ g. F true g in subst G (sym not_span) refl) in
+          let H : Bool → Type 0 = λ h. F h (p span) in
           subst H (sym held) at)
       | inr free ↦
-          (let H : Bool → Type 0 = λ h. cond h (Some x) (find (holds page) (with_span span xs)) ≡ cond (holds page span) (Some span) (cond h (Some x) (find (holds page) xs)) in
+          (let H : Bool → Type 0 = λ h. cond h (Some x) (find p (with_span span xs)) ≡ cond (p span) (Some span) (cond h (Some x) (find p xs)) in
           subst H (sym free) rest)
     ])
 
--- how a span that is kept or left out relates to the one that is cleared, at a page
-record Relates (page : ℕ) (span s : SpanRef) : Type 0 where
-  same : (s.first.0 == span.first.0) ≡ true → holds page s ≡ holds page span
-  other : (s.first.0 == span.first.0) ≡ false → holds page span ≡ true → holds page s ≡ false
+-- so what a page is held by, and what begins there
+pub find-with_span : (page : ℕ) (span : SpanRef) (xs : List SpanRef) → All (AreApart span) xs → find (holds page) (with_span span xs) ≡ cond (holds page span) (Some span) (find (holds page) xs)
+find-with_span page span xs apart = find-with (holds page) span xs (λ k d within held. apart_holds page span (get_or xs k d) (apart k d within) held)
+
+pub begins-with_span : (huge page : ℕ) (span : SpanRef) (xs : List SpanRef) → All (AreApart span) xs → 0 < span.pages → All (IsInside huge) xs → find (begins page) (with_span span xs) ≡ cond (begins page span) (Some span) (find (begins page) xs)
+begins-with_span huge page span xs apart some inside =
+    find-with (begins page) span xs (λ k d within e.
+    let x : SpanRef = get_or xs k d in
+    let here : page ≡ x.first.0 = eqb-true page x.first.0 e in
+    let pages : 0 < x.pages = (inside k d within).some in
+    let other : AreApart span x = apart k d within in
+    ne_eqb page span.first.0 (λ same. elim other [ inl before ↦ (let b : IsBefore span x = before in absurd (omega arith)) | inr behind ↦ (let b : IsBefore x span = behind in absurd (omega arith)) ]))
+
+-- how a span that is kept or left out relates to the one that is cleared, by a test
+record Relates (p : SpanRef → Bool) (span s : SpanRef) : Type 0 where
+  same : (s.first.0 == span.first.0) ≡ true → p s ≡ p span
+  other : (s.first.0 == span.first.0) ≡ false → p span ≡ true → p s ≡ false
 
 -- a step of the next lemma, by what its three tests answer
-find_left_step : (page : ℕ) (x : SpanRef) (left : List SpanRef) (later : Option SpanRef) (cut held gone : Bool) → (cut ≡ true → held ≡ gone) → (cut ≡ false → gone ≡ true → held ≡ false) → find (holds page) left ≡ cond gone None later → holds page x ≡ held → find (holds page) (cond (not cut) (x ∷ left) left) ≡ cond gone None (cond held (Some x) later)
-find_left_step page x left later true true true same other rest at = rest
-find_left_step page x left later true true false same other rest at = absurd (true≢false (same refl))
-find_left_step page x left later true false true same other rest at = absurd (true≢false (sym (same refl)))
-find_left_step page x left later true false false same other rest at = rest
-find_left_step page x left later false true true same other rest at = absurd (true≢false (other refl refl))
-find_left_step page x left later false true false same other rest at = ap (λ t. cond t (Some x) (find (holds page) left)) at
-find_left_step page x left later false false true same other rest at = ap (λ t. cond t (Some x) (find (holds page) left)) at ∙ rest
-find_left_step page x left later false false false same other rest at = ap (λ t. cond t (Some x) (find (holds page) left)) at ∙ rest
+find_left_step : (p : SpanRef → Bool) (x : SpanRef) (left : List SpanRef) (later : Option SpanRef) (cut held gone : Bool) → (cut ≡ true → held ≡ gone) → (cut ≡ false → gone ≡ true → held ≡ false) → find p left ≡ cond gone None later → p x ≡ held → find p (cond (not cut) (x ∷ left) left) ≡ cond gone None (cond held (Some x) later)
+find_left_step p x left later true true true same other rest at = rest
+find_left_step p x left later true true false same other rest at = absurd (true≢false (same refl))
+find_left_step p x left later true false true same other rest at = absurd (true≢false (sym (same refl)))
+find_left_step p x left later true false false same other rest at = rest
+find_left_step p x left later false true true same other rest at = absurd (true≢false (other refl refl))
+find_left_step p x left later false true false same other rest at = ap (λ t. cond t (Some x) (find p left)) at
+find_left_step p x left later false false true same other rest at = ap (λ t. cond t (Some x) (find p left)) at ∙ rest
+find_left_step p x left later false false false same other rest at = ap (λ t. cond t (Some x) (find p left)) at ∙ rest
 
-find_left : (page : ℕ) (span : SpanRef) (xs : List SpanRef) → All (Relates page span) xs → find (holds page) (without_span span xs) ≡ cond (holds page span) None (find (holds page) xs)
-find_left page span [] all =
+find_left : (p : SpanRef → Bool) (span : SpanRef) (xs : List SpanRef) → All (Relates p span) xs → find p (without_span span xs) ≡ cond (p span) None (find p xs)
+find_left p span [] all =
     let N : Bool → Type 0 = λ b. (let nothing : Option SpanRef = None in nothing ≡ cond b None None) in
-    elim (holds page span) as N [ true ↦ refl | false ↦ refl ]
-find_left page span (x ∷ xs) all =
-    let rest : find (holds page) (without_span span xs) ≡ cond (holds page span) None (find (holds page) xs) = find_left page span xs (All-tail (Relates page span) x xs all) in
-    let here : Relates page span x = All-head (Relates page span) x xs all in
-    find_left_step page x (without_span span xs) (find (holds page) xs) (x.first.0 == span.first.0) (holds page x) (holds page span) here.same here.other rest refl
+    elim (p span) as N [ true ↦ refl | false ↦ refl ]
+find_left p span (x ∷ xs) all =
+    let rest : find p (without_span span xs) ≡ cond (p span) None (find p xs) = find_left p span xs (All-tail (Relates p span) x xs all) in
+    let here : Relates p span x = All-head (Relates p span) x xs all in
+    find_left_step p x (without_span span xs) (find p xs) (x.first.0 == span.first.0) (p x) (p span) here.same here.other rest refl
+
+pub begins-without_span : (page : ℕ) (span : SpanRef) (xs : List SpanRef) → find (begins page) (without_span span xs) ≡ cond (begins page span) None (find (begins page) xs)
+begins-without_span page span xs =
+    find_left (begins page) span xs (λ k d within.
+    let x : SpanRef = get_or xs k d in
+    record {
+      same = λ e. ap (λ (first : ℕ). page == first) (eqb-true x.first.0 span.first.0 e);
+      other = λ e here. ne_eqb page x.first.0 (λ same. eqb-false x.first.0 span.first.0 e (sym same ∙ eqb-true page span.first.0 here));
+    })
 
 -- the spans apart from a set one are the others
-relates : (huge : ℕ) (page : ℕ) (span : SpanRef) (xs : List SpanRef) → IsWellFormed (record { huge = huge; spans = xs }) → Contains xs span → All (Relates page span) xs
+relates : (huge : ℕ) (page : ℕ) (span : SpanRef) (xs : List SpanRef) → IsWellFormed (record { huge = huge; spans = xs }) → Contains xs span → All (Relates (holds page) span) xs
 relates huge page span xs well there = λ k d within.
     let at = there in
     let here : get_or xs at.0 d ≡ span = get_or_default xs at.0 d span at.1 ∙ at.2 in
@@ -196,4 +226,4 @@ relates huge page span xs well there = λ k d within.
 
 -- what a page is held by once a span is cleared
 pub find-without_span : (huge : ℕ) (page : ℕ) (span : SpanRef) (xs : List SpanRef) → IsWellFormed (record { huge = huge; spans = xs }) → Contains xs span → find (holds page) (without_span span xs) ≡ cond (holds page span) None (find (holds page) xs)
-find-without_span huge page span xs well there = find_left page span xs (relates huge page span xs well there)
+find-without_span huge page span xs well there = find_left (holds page) span xs (relates huge page span xs well there)

@@ -1,3 +1,2 @@
 pub mod Spans
-pub mod Parts
-pub mod Holders
+pub mod Begins

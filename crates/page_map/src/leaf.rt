@@ -1,43 +1,43 @@
 //! A place for each page of a hugepage.
-ghost use Rattle.std.specs.Prelude.{◌≡◌, ◌-◌, ◌<◌, ◌≤◌, None, replicate, vec_len, IfOk};
+ghost use Rattle.std.specs.Prelude.{◌≡◌, ◌<◌, None, replicate, slice_set, vec_len, IfOk};
 ghost use Rattle.std.specs.List.{slice_index_or};
-ghost use Rattle.page_map.specs.Parts.{with_range};
 
-use crate::places::{PLACES, Places};
 use std::alloc::{AllocError, Global};
-use tc_units::SpanRef;
+use tc_units::{HUGE_PAGES, SpanRef};
 
-/// Which span holds each page of a hugepage.
+/// How many pages a hugepage has.
+pub(crate) const PLACES: usize = HUGE_PAGES as usize;
+
+/// Which span begins at each page of a hugepage.
 #[derive(Drop)]
 pub(crate) struct Leaf {
-    holders: Vec<Option<SpanRef>>,
-    ghost sized: { vec_len holders ≡ 256 },
+    begins: Vec<Option<SpanRef>>,
+    ghost sized: { vec_len begins ≡ 256 },
 }
 
 impl Leaf {
-    /// All pages are held alike.
-    pub(crate) fn alike(alloc: Global, holder: Option<SpanRef>) -> Result<Self, AllocError>
-        ensures { IfOk result (λ leaf. leaf.holders.items ≡ replicate 256 holder) }
+    /// No span begins in the hugepage.
+    pub(crate) fn open(alloc: Global) -> Result<Self, AllocError>
+        ensures { IfOk result (λ leaf. leaf.begins.items ≡ replicate 256 None) }
     {
         Ok(Leaf {
-            holders: vec![in alloc; holder; PLACES]?,
+            begins: vec![in alloc; None; PLACES]?,
         })
     }
 
-    /// What holds the page of a place.
+    /// The span that begins at the page of a place.
     pub(crate) fn get(&self, place: usize) -> Option<SpanRef>
         requires { place < 256 }
-        ensures { result ≡ slice_index_or self.now.holders.items place None }
+        ensures { result ≡ slice_index_or self.now.begins.items place None }
     {
-        self.holders[place]
+        self.begins[place]
     }
 
-    /// Says what holds the pages of these places.
-    pub(crate) fn fill(&mut self, places: Places, holder: Option<SpanRef>)
-        requires ordered { places.from ≤ places.to }
-        requires within { places.to ≤ 256 }
-        ensures { self.new.holders.items ≡ with_range self.old.holders.items places.from places.to holder }
+    /// Says which span begins at the page of a place.
+    pub(crate) fn put(&mut self, place: usize, begin: Option<SpanRef>)
+        requires { place < 256 }
+        ensures { self.new.begins.items ≡ slice_set self.old.begins.items place begin }
     {
-        self.holders[places.from..places.to].fill(holder);
+        self.begins[place] = begin;
     }
 }

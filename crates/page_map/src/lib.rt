@@ -2,11 +2,9 @@
 #![tactic(auto)]
 
 mod leaf;
+mod leaves;
 mod map;
-mod node;
-mod places;
 #[cfg(test)]
 mod tests;
-mod tree;
 
 pub use map::PageMap;

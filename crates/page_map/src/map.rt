@@ -3,7 +3,8 @@ ghost use Rattle.std.specs.Prelude.{◌≡◌, ℕ, ◌<◌, ◌≤◌, ◌↔�
 ghost use Rattle.tc_units.specs.declared.units.TheConstants.{MOST_HUGE};
 ghost use Rattle.page_map.specs.Spans.{holds, with_span, without_span, IsInside, AreApart, IsWellFormed};
 
-use crate::tree::RadixTree;
+use crate::leaves::Leaves;
+use place_set::PlaceSet;
 use std::alloc::{AllocError, Global};
 use std::marker::Model;
 use tc_units::{Page, SpanRef};
@@ -11,18 +12,31 @@ use tc_units::{Page, SpanRef};
 /// The spans of an arena, none of which has a page of another.
 #[derive(Drop)]
 pub struct PageMap {
-    tree: RadixTree,
+    /// What begins at each page.
+    leaves: Leaves,
+    /// The pages at which a span begins.
+    begins: PlaceSet,
 }
 
 impl Model for PageMap {
     ghost use Rattle.page_map.specs.Spans.{SpanMap};
-    ghost use Rattle.page_map.specs.Holders.{map_of, IsKept};
+    ghost use Rattle.page_map.specs.Begins.{map_of, IsKept};
 
     ghost Value = { SpanMap };
 
-    ghost view = { λ m. map_of m.tree.nodes.items };
+    ghost view = { λ m. map_of m.leaves.leaves.items };
 
-    ghost invariant = { λ m. IsKept m.tree.nodes.items };
+    ghost invariant = { λ m. IsKept m.leaves.leaves.items m.begins };
+}
+
+/// Words of 64 places that have the pages of a hugepage.
+const HUGE_WORDS: usize = 4;
+
+/// Whether a span holds a page.
+fn holds(span: SpanRef, page: Page) -> bool
+    ensures { result ≡ holds page.0 span }
+{
+    span.first.0 <= page.0 && page.0 - span.first.0 < span.pages
 }
 
 impl PageMap {
@@ -34,8 +48,23 @@ impl PageMap {
         ensures well_formed { IfOk result IsWellFormed }
     {
         Ok(PageMap {
-            tree: RadixTree::open(alloc, huge)?,
+            leaves: Leaves::open(alloc, huge)?,
+            begins: PlaceSet::open(alloc, HUGE_WORDS * (huge as usize + 1))?,
         })
+    }
+
+    /// The last span that begins at or before a page, where it holds that page.
+    fn find(&self, page: Page) -> Option<SpanRef>
+        ensures first { result ≡ find (holds page.0) self.now.spans }
+        ensures well_formed { IsWellFormed self.now }
+    {
+        let place = page.0 as usize;
+        if !self.leaves.have(place) {
+            return None;
+        }
+        let begin = self.begins.last_at_or_before(place)?;
+        let span = self.leaves.get(begin)?;
+        if holds(span, page) { Some(span) } else { None }
     }
 
     /// The span that holds a page, if one does.
@@ -45,7 +74,7 @@ impl PageMap {
         ensures none { IsNone result ↔ All (λ span. holds page.0 span ≡ false) self.now.spans }
         ensures well_formed { IsWellFormed self.now }
     {
-        self.tree.get(page)
+        self.find(page)
     }
 
     /// Sets a span of pages that no span holds.
@@ -60,8 +89,10 @@ impl PageMap {
         ensures reads { OnOk result ((page : ℕ) → find (holds page) self.new.spans
             ≡ (if holds page span then Some span else find (holds page) self.old.spans)) }
     {
-        self.tree.make_leaves(span)?;
-        self.tree.hold(span, Some(span));
+        let begin = span.first.0 as usize;
+        self.leaves.make(begin)?;
+        self.leaves.put(begin, Some(span));
+        self.begins.insert(begin);
         Ok(())
     }
 
@@ -75,6 +106,8 @@ impl PageMap {
         ensures reads { (page : ℕ) → find (holds page) self.new.spans
             ≡ (if holds page span then None else find (holds page) self.old.spans) }
     {
-        self.tree.hold(span, None);
+        let begin = span.first.0 as usize;
+        self.leaves.put(begin, None);
+        self.begins.remove(begin);
     }
 }

@@ -127,3 +127,34 @@ fn a_span_of_many_hugepages(rt: HostRuntime) -> Result<(), Fail> {
     assert!(rt; agrees(&map, &[], 2049));
     Ok(())
 }
+
+#[test]
+fn spans_at_the_ends_of_the_largest_arena(rt: HostRuntime) -> Result<(), Fail> {
+    // Pages 256 to 1,048,831: the first, the last, and all between them.
+    let first = small(256, 1, 2);
+    let between = large(257, 1_048_574);
+    let last = small(1_048_831, 1, 2);
+    let mut map = PageMap::open(rt.alloc(), 4096)?;
+    map.set(last)?;
+    map.set(first)?;
+    map.set(between)?;
+    let cases = [
+        (0, None),
+        (255, None),
+        (256, Some(first)),
+        (257, Some(between)),
+        (600_000, Some(between)),
+        (1_048_830, Some(between)),
+        (1_048_831, Some(last)),
+        (1_048_832, None),
+    ];
+    for (page, span) in cases {
+        assert_eq!(rt; map.get(Page(page)), span);
+    }
+    map.clear(between);
+    assert_eq!(rt; map.get(Page(256)), Some(first));
+    assert_eq!(rt; map.get(Page(257)), None);
+    assert_eq!(rt; map.get(Page(1_048_830)), None);
+    assert_eq!(rt; map.get(Page(1_048_831)), Some(last));
+    Ok(())
+}

@@ -1,19 +1,19 @@
-use Rattle.std.proofs.Common.{◌∙◌, ap, find, subst}
+use Rattle.std.proofs.Common.{◌∙◌, sym, ap, set, find, false, refl, subst}
 use Rattle.page_map.specs.Spans.{holds, without_span, IsWellFormed}
+use Rattle.page_map.specs.Begins.{IsKept}
 use Rattle.page_map.proofs.SpanFacts.{find-without_span}
-use Rattle.page_map.proofs.Meaning.{Means, means_without, set_is_ready}
+use Rattle.page_map.proofs.Meaning.{Means, leaf_there, means_without}
 use Rattle.page_map.proofs.map.PageMap.clear.Goals as goal
-use Rattle.page_map.proofs.map.PageMap.clear.Goals.{After-hold}
+use Rattle.page_map.proofs.map.PageMap.clear.Goals.{After-remove}
 
-pub hold-requires-clause-ready : goal.hold-requires-clause-ready
-hold-requires-clause-ready c = set_is_ready c.self.inside.tree.nodes.items c.args.span c.args.self.now c.self.view_is c.self.invariant c.requires
+pub put-requires : goal.put-requires
+put-requires c = leaf_there c.self.inside.leaves.leaves.items c.self.inside.leaves.leaves.items c.self.inside.begins c.args.span c.args.self.now c.self.view_is c.self.invariant refl c.requires
 
-meaning : (c : After-hold) → Means c.hold.new.self.nodes.items (record c.args.self.now { spans = without_span c.args.span c.args.self.now.spans })
-meaning c =
-    means_without c.self.inside.tree.nodes.items c.hold.new.self.nodes.items c.args.span c.args.self.now c.self.view_is c.self.invariant c.hold.ensures.size c.requires c.hold.ensures.holders
+meaning : (c : After-remove) → Means c.put.new.self.leaves.items (set c.self.inside.begins c.args.span.first.0 false) (record c.args.self.now { spans = without_span c.args.span c.args.self.now.spans })
+meaning c = means_without c.self.inside.leaves.leaves.items c.put.new.self.leaves.items c.self.inside.begins c.args.span c.args.self.now c.self.view_is c.self.invariant c.put.ensures.size c.requires c.put.ensures.begins
 
 pub invariant_of-self : goal.invariant_of-self
-invariant_of-self c = (meaning c).kept
+invariant_of-self c = subst (IsKept c.put.new.self.leaves.items) (sym c.remove.ensures) (meaning c).kept
 
 pub returns-clause-spans : goal.returns-clause-spans
 returns-clause-spans c = (meaning c).is

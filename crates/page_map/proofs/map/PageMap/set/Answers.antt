@@ -1,17 +1,18 @@
-use Rattle.std.proofs.Common.{Some, ◌∙◌, ap, cond, find}
+use Rattle.std.proofs.Common.{Some, ◌∙◌, ◌==◌, sym, ap, cond, set, find, true, subst}
 use Rattle.page_map.specs.Spans.{holds, with_span}
+use Rattle.page_map.specs.Begins.{IsKept}
 use Rattle.page_map.proofs.SpanFacts.{find-with_span}
 use Rattle.page_map.proofs.Meaning.{Means, means_with}
 use Rattle.page_map.proofs.map.PageMap.set.Goals as goal
-use Rattle.page_map.proofs.map.PageMap.set.Goals.{After-hold}
+use Rattle.page_map.proofs.map.PageMap.set.Goals.{After-insert}
 
-meaning : (c : After-hold) → Means c.hold.new.self.nodes.items (record c.args.self.now { spans = with_span c.args.span c.args.self.now.spans })
+meaning : (c : After-insert) → Means c.put.new.self.leaves.items (set c.self.inside.begins c.args.span.first.0 true) (record c.args.self.now { spans = with_span c.args.span c.args.self.now.spans })
 meaning c =
-    means_with c.self.inside.tree.nodes.items c.hold.new.self.nodes.items c.args.span c.args.self.now c.self.view_is c.self.invariant (c.hold.ensures.size ∙ c.in_ok-make_leaves.ensures.size) c.requires.inside c.requires.apart
-    (λ page. c.hold.ensures.holders page ∙ ap (λ h. cond (holds page c.args.span) (Some c.args.span) h) (c.in_ok-make_leaves.ensures.same page))
+    means_with c.self.inside.leaves.leaves.items c.put.new.self.leaves.items c.self.inside.begins c.args.span c.args.self.now c.self.view_is c.self.invariant (c.put.ensures.size ∙ c.in_ok-make.ensures.size) c.requires.inside c.requires.apart
+    (λ page. c.put.ensures.begins page ∙ ap (λ begin. cond (page == c.args.span.first.0) (Some c.args.span) begin) (c.in_ok-make.ensures.same page))
 
 pub invariant_of-self-2 : goal.invariant_of-self-2
-invariant_of-self-2 c = (meaning c).kept
+invariant_of-self-2 c = subst (IsKept c.put.new.self.leaves.items) (sym c.insert.ensures) (meaning c).kept
 
 pub returns-clause-ok : goal.returns-clause-ok
 returns-clause-ok c = (meaning c).is
