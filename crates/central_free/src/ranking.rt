@@ -1,5 +1,5 @@
 //! Which slot has the best standing, asked and changed in the logarithm of the slots.
-ghost use Rattle.std.specs.Prelude.{◌≡◌, ℕ, ◌+◌, ◌*◌, ◌^◌, ◌<◌, ◌≤◌, ◌/◌, [], OnErr, OnOk, length, slice_set};
+ghost use Rattle.std.specs.Prelude.{◌≡◌, ℕ, ◌+◌, ◌*◌, ◌^◌, ◌<◌, ◌≤◌, ◌/◌, ◌↔◌, [], IsTrue, OnErr, OnOk, length, slice_set};
 ghost use Rattle.std.specs.List.{slice_index_or};
 ghost use Rattle.central_free.specs.Ranking.{better, no_rank, no_standing, standing_at, standings_of, HasLeaves, IsBestSlot, IsJoined, IsJoinedBut};
 
@@ -37,6 +37,13 @@ pub struct Rank {
 
 /// So many slots have numbers of 32 bits.
 const MOST_SLOTS: usize = 1 << 32;
+
+/// Whether so many slots can be numbered.
+fn fits(slots: usize) -> bool
+    ensures { IsTrue result ↔ (slots ≤ 2 ^ 32) }
+{
+    slots <= MOST_SLOTS
+}
 
 /// A tournament of slots: each inner node has the better of its two children, so the root has the slot of
 /// the best standing. The children of node `i` are `2 i` and `2 i + 1`, and the leaves stand behind the
@@ -157,7 +164,7 @@ impl Ranking {
             standing: Standing::none(),
             slot: 0,
         };
-        if slots > MOST_SLOTS {
+        if !fits(slots) {
             return Err(AllocError);
         }
         let mut nodes = vec![in *self.nodes.allocator(); nothing; 2 * slots]?;

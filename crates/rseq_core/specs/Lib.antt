@@ -3,3 +3,4 @@ pub mod Tables
 pub mod Agrees
 pub mod Acts
 pub mod Alone
+pub mod Rooms

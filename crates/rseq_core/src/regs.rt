@@ -38,6 +38,7 @@ impl Regs {
     ghost use Rattle.rseq_core.specs.Acts.{dropped};
     ghost use Rattle.rseq_core.specs.Tables.{is_pop, wanted};
     ghost use Rattle.rseq_core.specs.Bags.{emptied};
+    ghost use Rattle.rseq_core.specs.Rooms.{hand_room, loaded_room};
     ghost use Rattle.rseq_core.specs.declared.sequence.Pc.TheVariants.{Begin};
     ghost use Rattle.rseq_core.specs.declared.sequence.Seq.TheVariants.{Pop};
 
@@ -53,8 +54,8 @@ impl Regs {
           top = 0;
           count = 0;
           ran = 0;
-          hand = record { items = []; spare = HAND_ROOM };
-          loaded = record { items = []; spare = LOADED_ROOM };
+          hand = record { items = []; spare = hand_room };
+          loaded = record { items = []; spare = loaded_room };
         }) }
     {
         Ok(Regs {

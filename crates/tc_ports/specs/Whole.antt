@@ -3,6 +3,7 @@ use Rattle.std.specs.Prelude.{◌≡◌, ℕ, ◌+◌, ◌<◌, List, Option, le
 use Rattle.tc_ports.specs.declared.whole.ReadAllFault.{ReadAllFault}
 use Rattle.tc_ports.specs.declared.whole.ReadAllFault.TheVariants.{ReadFault, TooLong, Memory}
 use Rattle.tc_ports.specs.Faults.{Rose}
+use Rattle.tc_ports.specs.Told.{LostAtMost}
 
 -- only a read that failed raises the count of faults
 abbrev pub ReadAllCounted : ReadAllFault → ℕ → ℕ → Type 0
@@ -16,8 +17,8 @@ PassedLimit None new limit = new ≡ None
 PassedLimit (Some bytes) new limit =
     (limit < length bytes) × (new ≡ Some (drop (limit + 1) bytes))
 
--- where a refusal is that of the limit, the limit was passed
-abbrev pub LimitRefused : ReadAllFault → Option (List ℕ) → Option (List ℕ) → ℕ → Type 0
-LimitRefused ReadFault old new limit = Unit {0}
-LimitRefused TooLong old new limit = PassedLimit old new limit
-LimitRefused Memory old new limit = Unit {0}
+-- what a refusal leaves: where it is that of the limit, the limit was passed; else no more than the limit is gone
+abbrev pub ReadAllRefused : ReadAllFault → Option (List ℕ) → Option (List ℕ) → ℕ → Type 0
+ReadAllRefused ReadFault old new limit = LostAtMost old new limit
+ReadAllRefused TooLong old new limit = PassedLimit old new limit
+ReadAllRefused Memory old new limit = LostAtMost old new limit

@@ -1,7 +1,6 @@
 //! Reading a whole source, up to a limit.
-ghost use Rattle.std.specs.Prelude.{◌≡◌, ◌<◌, ◌≤◌, ◌+◌, ◌↔◌, [], length, None, IfOk, OnOk, OnErr, IfErr, IfSome, IsNone};
-ghost use Rattle.tc_ports.specs.Told.{LostAtMost};
-ghost use Rattle.tc_ports.specs.Whole.{ReadAllCounted, LimitRefused};
+ghost use Rattle.std.specs.Prelude.{◌≡◌, ◌<◌, ◌≤◌, ◌+◌, ◌↔◌, [], length, None, IfOk, OnOk, IfErr, IfSome, IsNone};
+ghost use Rattle.tc_ports.specs.Whole.{ReadAllCounted, ReadAllRefused};
 
 use crate::fault::Failed;
 use crate::source::Source;
@@ -22,7 +21,8 @@ pub enum ReadAllFault {
 const CHUNK: usize = 16384;
 
 /// All the bytes of a source that has at most `limit` of them. Each read but the last gives a byte
-/// at least. It never reads more than one byte past the limit, and after a refusal the source has lost what was read and no more.
+/// at least. It never reads more than one byte past the limit, and that one byte only where it answers `TooLong`; after a
+/// refusal the source has lost what was read and no more.
 pub fn read_all<S: Source>(
     alloc: Global,
     source: &mut S,
@@ -31,9 +31,8 @@ pub fn read_all<S: Source>(
     ensures within { IfOk result (λ all. length all.items ≤ limit) }
     ensures whole { IfOk result (λ all. IfSome (S.left source.old) (λ bytes. all.items ≡ bytes)) }
     ensures end { OnOk result (IfSome (S.left source.new) (λ rest. rest ≡ [])) }
-    ensures too_long { IfErr result
-        (λ fault. LimitRefused fault (S.left source.old) (S.left source.new) limit) }
-    ensures lost { OnErr result (LostAtMost (S.left source.old) (S.left source.new) (limit + 1)) }
+    ensures refused { IfErr result
+        (λ fault. ReadAllRefused fault (S.left source.old) (S.left source.new) limit) }
     ensures reads { S.reads source.new ≤ S.reads source.old + limit + 1 }
     ensures each_gives { IfOk result
         (λ all. S.reads source.new ≤ S.reads source.old + length all.items + 1) }
