@@ -1,14 +1,17 @@
 -- What holds after every order, from the books of its parts and locals.
 use Rattle.std.proofs.Common.{◌≡◌, ℕ, ◌+◌, ◌*◌, ◌<◌, ◌≤◌, ◌⊎◌, ◌↔◌, true, false, eqb, List, length, map, Option, Some, None, refl, sym, ap, ◌∙◌, subst, inl, inr, arith}
-use Rattle.std.specs.Prelude.{◌≢◌, sum_by, slice_get, MatchOption}
-use Rattle.std.proofs.lemmas.Bool.{cond-true, eq-eqb, false≢true}
+use Rattle.std.specs.Prelude.{◌≢◌, sum_by, slice_get, All, MatchOption}
+use Rattle.std.proofs.lemmas.List.Elements.{All-weaker}
+use Rattle.std.proofs.lemmas.Bool.{cases_Bool, cond-true, eq-eqb, false≢true}
 use Rattle.tc_units.specs.declared.units.Addr.{Addr}
 use Rattle.tc_units.specs.declared.spans.Run.{Run}
 use Rattle.tc_model.specs.declared.machine.TheConstants.{MOST_PICKS}
-use Rattle.tc_model.specs.Input.{Input}
-use Rattle.tc_model.specs.Run.{run}
-use Rattle.tc_model.specs.Blocks.{live_bytes}
+use Rattle.tc_model.specs.Input.{Input, script_of}
+use Rattle.tc_model.specs.Run.{World, run}
+use Rattle.tc_model.specs.Replays.{HaveEnded}
+use Rattle.tc_model.specs.Blocks.{Extent, blocks_after, live_bytes}
 use Rattle.tc_model.specs.declared.answers.CallLine.{CallLine}
+use Rattle.tc_model.specs.declared.calls.Planned.{Planned}
 use Rattle.name_table.specs.declared.table.NameState.{NameState}
 use Rattle.name_table.specs.declared.table.NameState.TheVariants as name
 use Rattle.name_table.specs.Names.{state_of}
@@ -18,11 +21,11 @@ use Rattle.heap_rules.specs.New.{Placed, new, none_fits}
 use Rattle.heap_rules.specs.Laws.{IsGiven}
 use Rattle.heap_rules.specs.Sound.{IsSound}
 use Rattle.heap_rules.proofs.Given.{new_gives}
-use Rattle.holdings.specs.Runs.{runs_at, spans_at, objects_at}
+use Rattle.holdings.specs.Runs.{small, runs_at, spans_at, objects_at}
 use Rattle.holdings.specs.Accounts.{Account, loose, in_hand, named_at}
-use Rattle.holdings.specs.Books.{Setup, Stock, Books}
-use Rattle.holdings.specs.Facts.{Facts}
-use Rattle.holdings.proofs.Sums.{least, none_counts, sum_of_both, class_zero}
+use Rattle.holdings.specs.Books.{Setup, Stock, Books, class_number}
+use Rattle.holdings.specs.Facts.{IsStanding, Facts}
+use Rattle.holdings.proofs.Sums.{least, none_counts, of_all, sum_of_both, class_zero}
 use Rattle.holdings.proofs.Held.{objects_are_once, names_are_live}
 use Rattle.holdings.proofs.Blocks.{bytes_are_within}
 use Rattle.tc_units.specs.Units.{page_bytes, pages_holding}
@@ -36,17 +39,24 @@ use Rattle.call_steps.specs.declared.step.HeapStep.TheVariants as heap
 use Rattle.call_steps.specs.declared.step.Stopping.{Stopping}
 use Rattle.call_steps.specs.declared.step.Resizing.{Resizing}
 use Rattle.call_steps.specs.Local.{Local, class_row}
+use Rattle.call_steps.specs.Calls.{under}
 use Rattle.call_steps.specs.Shapes.{StepShape, standing_of}
-use Rattle.alloc_rules.specs.Machine.{Parts, rules}
+use Rattle.alloc_rules.specs.declared.part.Part.{Part}
+use Rattle.alloc_rules.specs.Machine.{Parts, place_of, rules}
 use Rattle.alloc_rules.specs.Accounts.{account_of}
+use Rattle.alloc_rules.specs.Told.{lines_of, TellsFirst, TellsScript}
+use Rattle.alloc_rules.specs.Scripts.{is_under_way}
 use Rattle.alloc_rules.specs.Stocks.{stock_of, AreBooksOf}
 use Rattle.alloc_rules.specs.Valid.{IsValid, limits_in}
 use Rattle.alloc_rules.specs.Answers.{pages_asked}
-use Rattle.alloc_rules.specs.Law.{calls, setup_of, HoldsAfter}
+use Rattle.alloc_rules.specs.Law.{calls, setup_of, books_of, HoldsAfter}
 use Rattle.alloc_rules.proofs.PartFits.{row_at_class, some_size}
 use Rattle.alloc_rules.proofs.Answering.{answers_none, answers_busy, answers_cap}
 use Rattle.alloc_rules.proofs.Elsewhere.{refuses_there}
+use Rattle.alloc_rules.proofs.Reached.{there_is}
+use Rattle.alloc_rules.proofs.SerialGoes.{wants_by}
 use Rattle.alloc_rules.proofs.Serving.{IsServed}
+use Rattle.alloc_rules.proofs.Telling.{tells_first, takes_all}
 use Rattle.alloc_rules.proofs.Switching.{switches_are_few}
 use Rattle.alloc_rules.proofs.Same.{same_starts, same_pages, same_spans}
 
@@ -136,10 +146,50 @@ module _ (input : Input) (valid : IsValid input) (order : List ℕ) (few : lengt
   no_stopper : (i t : ℕ) (q : CpuPart) (l : Local) → slice_get p.cpus i ≡ Some q → slice_get locals t ≡ Some l → (s : Stopping) → l.step ≡ does.Cpu (cpu.Stop s) → q.stopper ≢ Some l.regs.thread
   no_stopper i t q l part at s step is =
       let own : l.regs.thread ≡ record { 0 = t } = ap (λ (n : ℕ). record { 0 = n }) (served.works t l at).shaped.thread in
-      subst (λ (x : Step). IsStopping i (standing_of x)) step ((served.seated i t q l part at).stops (is ∙ ap (λ (u : ThreadNo). Some u) own))
+      subst (λ (x : Step). IsStopping i (standing_of input.rows l.regs.class.0 x)) step ((served.seated i t q l part at).stops (is ∙ ap (λ (u : ThreadNo). Some u) own))
 
   cap_class : (t : ℕ) (l : Local) → slice_get locals t ≡ Some l → (r : Resizing) → l.step ≡ does.Cpu (cpu.SetCap r) → l.regs.class ≡ r.class
   cap_class t l at r step = (subst (StepShape (limits_in input) l) step (served.works t l at).shaped.step).2
+
+  -- a block of a live run or of an object, in whichever order runs and spans stand
+  standing : (x : Extent) → IsStanding (setup_of input) b x → IsStanding (setup_of input) (books_of p locals) x
+  standing x stands =
+      elim stands [
+        | inl large ↦ inl (record {
+          run = large.run;
+          is = large.is;
+          live = omega (arith, large.live, served.books_of.heap large.run);
+          unmapped = λ k. sym (served.books_of.spans (small (class_number k) large.run)) ∙ large.unmapped k;
+          unheld = large.unheld;
+        })
+        | inr object ↦ inr (record { class = object.class; object = object.object; size = object.size })
+      ]
+
+  -- the calls that are told of a thread
+  first_told : (t : ℕ) (l : Local) → slice_get locals t ≡ Some l → TellsFirst input t (l.ended + under l.step) (calls locals order)
+  first_told t l at =
+      let inside = (served.works t l at).inside in
+      tells_first (script_of t input.asked.calls) t l (lines_of t (calls locals order)) (l.ended + under l.step) (served.tells t l at) inside.decided inside.count
+
+  whole_told : (t : ℕ) (l : Local) → slice_get locals t ≡ Some l → is_under_way l.step ≡ false → TellsScript input t (calls locals order)
+  whole_told t l at way =
+      let script : List Planned = script_of t input.asked.calls in
+      first_told t l at ∙ takes_all script l.ended (l.ended + under l.step) ((served.works t l at).inside.none way) (omega arith)
+
+  -- a thread that wants no part has no call under way
+  wants_none : (l : Local) → place_of input.asked.config.cpus (length input.rows) l ≡ None → is_under_way l.step ≡ false
+  wants_none l none =
+      elim (cases_Bool (is_under_way l.step)) [
+        | inl way ↦ let wants = (wants_by input.asked.config.cpus (length input.rows) l l.step way).1 in absurd (cc)
+        | inr way ↦ way
+      ]
+
+  all_told : HaveEnded (rules input) (run (rules input) order) → (t : ℕ) → t < input.asked.config.threads → TellsScript input t (calls locals order)
+  all_told ended t low =
+      let WantsNone : Local → Type 0 = λ l. place_of input.asked.config.cpus (length input.rows) l ≡ None in
+      let all : All WantsNone locals = subst (λ (w : World Part Local). All WantsNone w.locals) served.is ended in
+      let found = there_is locals t (omega (arith, low, served.count)) in
+      whole_told t found.0 found.1 (wants_none found.0 (of_all WantsNone locals t found.0 all found.1))
 
   pub holds_after : HoldsAfter input order
   holds_after =
@@ -147,33 +197,53 @@ module _ (input : Input) (valid : IsValid input) (order : List ℕ) (few : lengt
         parts = p;
         locals = locals;
         is = served.is;
+        counts = record {
+          cpus = served.placed.cpus;
+          shards = served.placed.ok.classes;
+          huge = served.placed.ok.huge;
+          names = f.names;
+          domains = served.placed.domains;
+          caches = served.placed.ok.domains;
+          threads = served.count;
+        };
         blocks = f.kept.run;
+        blocks_are_live = All-weaker (IsStanding (setup_of input) b) (IsStanding (setup_of input) (books_of p locals)) standing (blocks_after (calls locals order)) f.live;
         covered = bytes;
-        decided = λ t l at. let inside = (served.works t l at).inside in record { count = inside.count; each = inside.decided };
+        decided = λ t l at. let inside = (served.works t l at).inside in record { count = inside.count; each = inside.decided; over = λ over. inside.none (ap is_under_way over) };
+        answers_are_told = served.tells;
+        told_first = first_told;
+        told_all = λ t l at over. whole_told t l at (ap is_under_way over);
+        all_told = all_told;
         threads = λ t l at. (served.works t l at).shaped.thread;
         acts = λ t l at. (served.works t l at).acts;
+        ran_is_within_acts = λ t l at. (served.works t l at).shaped.ran;
         rising = λ t l at. (served.works t l at).rising;
-        objects = λ k n some. objects_are_once (setup_of input) b (calls locals order) k n f some;
-        places = f.classes;
-        shards = served.placed.ok.shards;
+        object_is_once = λ k n some. objects_are_once (setup_of input) b (calls locals order) k n f some;
+        places_have_objects = f.classes;
+        shard_is_of_class = served.placed.ok.shards;
         heap = served.placed.ok.heap;
         config = served.placed.ok.config;
-        none = λ n some. none_exactly p.heap n served.placed.ok.heap wide some;
+        none_where_none_fits = λ n some. none_exactly p.heap n served.placed.ok.heap wide some;
         answers_none = λ t l at.
             let shaped = (served.works t l at).shaped in
             answers_none input.rows p.heap l (λ n is. none_exactly p.heap n served.placed.ok.heap wide (asked_some l l.step n shaped.class shaped.step is));
         answers_busy = λ i t q l part at. answers_busy input.rows q l (no_stopper i t q l part at);
         answers_cap = λ i t q l part at. answers_cap input.rows q l (cap_class t l at);
         refuses_there = λ t l at. refuses_there input.rows l;
-        spans = λ n. omega (arith, f.begins n, starts_are n);
-        runs = λ n none. runs_alone (setup_of input) b (calls locals order) f n none ∙ starts_are n;
-        starts = λ n. omega (arith, f.starts n, starts_are n);
-        spans_apart = served.placed.ok.map;
-        mapped = λ r. omega (arith, f.map r, served.books_of.heap r, same_spans b.spans p.map.spans served.books_of.spans r);
-        named = names_live;
-        published = f.published;
-        taken = f.taken;
-        cpus = served.placed.ok.cpus;
-        seats = served.seated;
+        spans_are_runs = λ n. omega (arith, f.begins n, starts_are n);
+        run_is_once = λ n none. runs_alone (setup_of input) b (calls locals order) f n none ∙ starts_are n;
+        run_begins_once = λ n. omega (arith, f.starts n, starts_are n);
+        map_spans_are_apart = served.placed.ok.map;
+        map_has_runs = λ r. omega (arith, f.map r, served.books_of.heap r, same_spans b.spans p.map.spans served.books_of.spans r);
+        map_has_spans = λ k r. f.own k r ∙ served.books_of.spans (small (class_number k) r);
+        name_is_live = names_live;
+        name_is_published_once = f.published;
+        name_is_taken_once = f.taken;
+        cpu_is_sound = served.placed.ok.cpus;
+        slab_is_of_heads = served.placed.heads.slabs;
+        transfer_has_room = served.placed.heads.transfers;
+        cache_has_room = served.placed.heads.caches;
+        epoch_is_within_picks = served.placed.epochs;
+        seats_agree = served.seated;
         switches = switches_are_few input valid order few;
       }

@@ -8,7 +8,7 @@ use Rattle.std.proofs.lemmas.Option.{slice_get-get_or, slice_get-map, slice_get_
 use Rattle.std.proofs.lemmas.List.{length-replicate, length-map}
 use Rattle.std.proofs.lemmas.List.FromFn.{length-range_with_len, get_or-range_with_len}
 use Rattle.std.proofs.lemmas.List.Sums.{sum_by-cons}
-use Rattle.std.proofs.lemmas.List.Elements.{All-nil, All-map, All-replicate, All-head, All-tail}
+use Rattle.std.proofs.lemmas.List.Elements.{All-nil, All-cons, All-map, All-replicate, All-head, All-tail}
 use Rattle.tc_units.specs.Classes.{class_of}
 use Rattle.tc_units.specs.declared.units.Addr.{Addr}
 use Rattle.tc_units.specs.declared.units.Class.{Class}
@@ -47,13 +47,14 @@ use Rattle.holdings.specs.Facts.{Facts}
 use Rattle.holdings.proofs.Start.{holds_at_first}
 use Rattle.call_steps.specs.declared.step.Step.{Step}
 use Rattle.call_steps.specs.declared.step.Step.TheVariants as does
-use Rattle.call_steps.specs.Local.{Local, Decided, first_of_malloc, first_of_call, first_act, regs_of_malloc, regs_of_call, fresh_regs, regs_by, first_regs, lines_of, idle_local, first_local}
+use Rattle.call_steps.specs.Local.{Local, Decided, told, first_of_malloc, first_of_call, first_act, regs_of_malloc, regs_of_call, fresh_regs, regs_by, first_regs, idle_local, first_local}
 use Rattle.call_steps.specs.Kept.{call_at}
 use Rattle.call_steps.specs.Laws.{thread_no}
 use Rattle.call_steps.specs.Shapes.{Limits, AreRows, IsClassRow, IsPlanned, IsCallThere, IsMove, HasNone, StepShape, IsShaped, standing_of, seat_of}
 use Rattle.call_steps.proofs.ScriptFacts.{first_is_of, first_under, first_domain}
 use Rattle.call_steps.proofs.NextShapes.{class_low}
 use Rattle.alloc_rules.specs.Machine.{heap_config, first_of, first_cpu, first_shard, first_shards, first_caches, first_parts, rules}
+use Rattle.alloc_rules.specs.Heads.{slab_class, table_class, IsSlabOf, HasRoom}
 use Rattle.alloc_rules.specs.Accounts.{account_of, doing_of, off_of, apart_of, mapped_of, clears_of}
 use Rattle.alloc_rules.specs.Stocks.{shard_at, cache_at, in_slab, in_caches, stored_in, stock_of, IsShardOf}
 use Rattle.alloc_rules.specs.Scripts.{IsIn, is_under_way}
@@ -72,22 +73,22 @@ record IsFresh (s : Step) (rest script : List Planned) : Type 0 where
   pub apart : (k : Class) → apart_of k [] s ≡ []
   pub mapped : (k : Class) → mapped_of k [] s ≡ []
   pub clears : clears_of s ≡ []
-  pub standing : standing_of s ≡ None
+  pub standing : (rows : List ClassRow) (k : ℕ) → standing_of rows k s ≡ None
   pub way : is_under_way s ≡ is_some (call_at script 0)
 
 fresh_malloc : (c : Option Class) (label : Label) (size : ℕ) (rest : List Planned) (line : Planned) → line.call ≡ Malloc label size → IsFresh (first_of_malloc c label size) rest (line ∷ rest)
-fresh_malloc None label size rest line is = record { asks = λ x. let e : _ = ap (got x) is in omega (arith, e); publishes = λ x. refl; takes = λ x. let e : _ = ap (put x) is in omega (arith, e); value = λ x v. refl; off = refl; apart = λ k. refl; mapped = λ k. refl; clears = refl; standing = refl; way = refl }
-fresh_malloc (Some c) label size rest line is = record { asks = λ x. let e : _ = ap (got x) is in omega (arith, e); publishes = λ x. refl; takes = λ x. let e : _ = ap (put x) is in omega (arith, e); value = λ x v. refl; off = refl; apart = λ k. refl; mapped = λ k. refl; clears = refl; standing = refl; way = refl }
+fresh_malloc None label size rest line is = record { asks = λ x. let e : _ = ap (got x) is in omega (arith, e); publishes = λ x. refl; takes = λ x. let e : _ = ap (put x) is in omega (arith, e); value = λ x v. refl; off = refl; apart = λ k. refl; mapped = λ k. refl; clears = refl; standing = λ rows k. refl; way = refl }
+fresh_malloc (Some c) label size rest line is = record { asks = λ x. let e : _ = ap (got x) is in omega (arith, e); publishes = λ x. refl; takes = λ x. let e : _ = ap (put x) is in omega (arith, e); value = λ x v. refl; off = refl; apart = λ k. refl; mapped = λ k. refl; clears = refl; standing = λ rows k. refl; way = refl }
 
 fresh_call : (rows : List ClassRow) (c : Call) (rest : List Planned) (line : Planned) → line.call ≡ c → IsFresh (first_of_call rows c) rest (line ∷ rest)
 fresh_call rows (Malloc label size) rest line is = fresh_malloc (class_of rows size) label size rest line is
-fresh_call rows (Free label) rest line is = record { asks = λ x. let e : _ = ap (got x) is in omega (arith, e); publishes = λ x. refl; takes = λ x. let e : _ = ap (put x) is in omega (arith, e); value = λ x v. refl; off = refl; apart = λ k. refl; mapped = λ k. refl; clears = refl; standing = refl; way = refl }
-fresh_call rows (Release pages) rest line is = record { asks = λ x. let e : _ = ap (got x) is in omega (arith, e); publishes = λ x. refl; takes = λ x. let e : _ = ap (put x) is in omega (arith, e); value = λ x v. refl; off = refl; apart = λ k. refl; mapped = λ k. refl; clears = refl; standing = refl; way = refl }
-fresh_call rows (Drain cpu) rest line is = record { asks = λ x. let e : _ = ap (got x) is in omega (arith, e); publishes = λ x. refl; takes = λ x. let e : _ = ap (put x) is in omega (arith, e); value = λ x v. refl; off = refl; apart = λ k. refl; mapped = λ k. refl; clears = refl; standing = refl; way = refl }
-fresh_call rows (Resize cpu class cap) rest line is = record { asks = λ x. let e : _ = ap (got x) is in omega (arith, e); publishes = λ x. refl; takes = λ x. let e : _ = ap (put x) is in omega (arith, e); value = λ x v. refl; off = refl; apart = λ k. refl; mapped = λ k. refl; clears = refl; standing = refl; way = refl }
+fresh_call rows (Free label) rest line is = record { asks = λ x. let e : _ = ap (got x) is in omega (arith, e); publishes = λ x. refl; takes = λ x. let e : _ = ap (put x) is in omega (arith, e); value = λ x v. refl; off = refl; apart = λ k. refl; mapped = λ k. refl; clears = refl; standing = λ rows k. refl; way = refl }
+fresh_call rows (Release pages) rest line is = record { asks = λ x. let e : _ = ap (got x) is in omega (arith, e); publishes = λ x. refl; takes = λ x. let e : _ = ap (put x) is in omega (arith, e); value = λ x v. refl; off = refl; apart = λ k. refl; mapped = λ k. refl; clears = refl; standing = λ rows k. refl; way = refl }
+fresh_call rows (Drain cpu) rest line is = record { asks = λ x. let e : _ = ap (got x) is in omega (arith, e); publishes = λ x. refl; takes = λ x. let e : _ = ap (put x) is in omega (arith, e); value = λ x v. refl; off = refl; apart = λ k. refl; mapped = λ k. refl; clears = refl; standing = λ rows k. refl; way = refl }
+fresh_call rows (Resize cpu class cap) rest line is = record { asks = λ x. let e : _ = ap (got x) is in omega (arith, e); publishes = λ x. refl; takes = λ x. let e : _ = ap (put x) is in omega (arith, e); value = λ x v. refl; off = refl; apart = λ k. refl; mapped = λ k. refl; clears = refl; standing = λ rows k. refl; way = refl }
 
 fresh_first : (rows : List ClassRow) (script : List Planned) → IsFresh (first_act rows (slice_get script 0)) (drop 1 script) script
-fresh_first rows [] = record { asks = λ x. refl; publishes = λ x. refl; takes = λ x. refl; value = λ x v. refl; off = refl; apart = λ k. refl; mapped = λ k. refl; clears = refl; standing = refl; way = refl }
+fresh_first rows [] = record { asks = λ x. refl; publishes = λ x. refl; takes = λ x. refl; value = λ x v. refl; off = refl; apart = λ k. refl; mapped = λ k. refl; clears = refl; standing = λ rows k. refl; way = refl }
 fresh_first rows (p ∷ ps) = fresh_call rows p.call ps p refl
 
 -- Where the thread of a script is at the start.
@@ -122,32 +123,32 @@ inside_first rows thread cpu script domains names =
 
 -- Its shape.
 module _ (m : Limits) (t : ℕ) (thread : ThreadNo) (cpu : CpuNo) (domains : ℕ) (own : thread.0 ≡ t) (rows : AreRows m.rows) (home : cpu.0 < m.cpus) where
-  abbrev at_first : List ℕ → Step → Regs → Option MoveTo → List Planned → Local
-  at_first lines next regs moved rest = record (idle_local thread cpu domains) { step = next; regs = regs; moved = moved; rest = rest; lines = lines }
+  abbrev at_first : Step → Regs → Option MoveTo → List Planned → Local
+  at_first next regs moved rest = record (idle_local thread cpu domains) { step = next; regs = regs; moved = moved; rest = rest }
 
   abbrev regs_with : Class → Regs
   regs_with k = record (first_regs thread) { class = k }
 
-  shape_by : (lines : List ℕ) (next : Step) (k : Class) (moved : Option MoveTo) (rest : List Planned) → k.0 < length m.rows → IsMove m moved → All (IsPlanned m) rest → (HasNone (at_first lines next (regs_with k) moved rest) → StepShape m (at_first lines next (regs_with k) moved rest) next) → IsShaped m t (at_first lines next (regs_with k) moved rest)
-  shape_by lines next k moved rest low move planned shape =
+  shape_by : (next : Step) (k : Class) (moved : Option MoveTo) (rest : List Planned) → k.0 < length m.rows → IsMove m moved → All (IsPlanned m) rest → (HasNone (at_first next (regs_with k) moved rest) → StepShape m (at_first next (regs_with k) moved rest) next) → IsShaped m t (at_first next (regs_with k) moved rest)
+  shape_by next k moved rest low move planned shape =
       record { thread = own; class = low; home = home; hand = omega arith; loaded = omega arith; freed = omega arith; ran = omega arith; move = move; rest = planned; step = shape (record { begin = record { pc = refl; nothing = refl }; hand = refl; freed = refl }) }
 
-  shape_malloc : (lines : List ℕ) (label : Label) (size : ℕ) (o : Option Class) (moved : Option MoveTo) (rest : List Planned) → class_of m.rows size ≡ o → IsMove m moved → All (IsPlanned m) rest → IsShaped m t (at_first lines (first_of_malloc o label size) (record (regs_of_malloc o (first_regs thread)) { ran = 0 }) moved rest)
-  shape_malloc lines label size None moved rest of move planned = shape_by lines (first_of_malloc None label size) (class_number 0) moved rest rows.some move planned (λ n. (n, of))
-  shape_malloc lines label size (Some k) moved rest of move planned = shape_by lines (first_of_malloc (Some k) label size) k moved rest (class_low m.rows size k of) move planned (λ n. (record { seq = refl; freed = refl }, refl, of))
+  shape_malloc : (label : Label) (size : ℕ) (o : Option Class) (moved : Option MoveTo) (rest : List Planned) → class_of m.rows size ≡ o → IsMove m moved → All (IsPlanned m) rest → IsShaped m t (at_first (first_of_malloc o label size) (record (regs_of_malloc o (first_regs thread)) { ran = 0 }) moved rest)
+  shape_malloc label size None moved rest of move planned = shape_by (first_of_malloc None label size) (class_number 0) moved rest rows.some move planned (λ n. (n, of))
+  shape_malloc label size (Some k) moved rest of move planned = shape_by (first_of_malloc (Some k) label size) k moved rest (class_low m.rows size k of) move planned (λ n. (record { seq = refl; freed = refl }, refl, of))
 
-  shape_call : (lines : List ℕ) (call : Call) (moved : Option MoveTo) (rest : List Planned) → IsCallThere m call → IsMove m moved → All (IsPlanned m) rest → IsShaped m t (at_first lines (first_of_call m.rows call) (fresh_regs m.rows call (first_regs thread)) moved rest)
-  shape_call lines (Malloc label size) moved rest there move planned = shape_malloc lines label size (class_of m.rows size) moved rest refl move planned
-  shape_call lines (Free label) moved rest there move planned = shape_by lines (first_of_call m.rows (Free label)) (class_number 0) moved rest rows.some move planned (λ n. n)
-  shape_call lines (Release pages) moved rest there move planned = shape_by lines (first_of_call m.rows (Release pages)) (class_number 0) moved rest rows.some move planned (λ n. n)
-  shape_call lines (Drain c) moved rest there move planned = shape_by lines (first_of_call m.rows (Drain c)) (class_number 0) moved rest rows.some move planned (λ n. (n, (there, omega arith)))
-  shape_call lines (Resize c class cap) moved rest there move planned = shape_by lines (first_of_call m.rows (Resize c class cap)) class moved rest there.1 move planned (λ n. (n, (there.0, refl)))
+  shape_call : (call : Call) (moved : Option MoveTo) (rest : List Planned) → IsCallThere m call → IsMove m moved → All (IsPlanned m) rest → IsShaped m t (at_first (first_of_call m.rows call) (fresh_regs m.rows call (first_regs thread)) moved rest)
+  shape_call (Malloc label size) moved rest there move planned = shape_malloc label size (class_of m.rows size) moved rest refl move planned
+  shape_call (Free label) moved rest there move planned = shape_by (first_of_call m.rows (Free label)) (class_number 0) moved rest rows.some move planned (λ n. n)
+  shape_call (Release pages) moved rest there move planned = shape_by (first_of_call m.rows (Release pages)) (class_number 0) moved rest rows.some move planned (λ n. n)
+  shape_call (Drain c) moved rest there move planned = shape_by (first_of_call m.rows (Drain c)) (class_number 0) moved rest rows.some move planned (λ n. (n, (there, omega arith), refl))
+  shape_call (Resize c class cap) moved rest there move planned = shape_by (first_of_call m.rows (Resize c class cap)) class moved rest there.1 move planned (λ n. (n, (there.0, refl), tt))
 
   pub shaped_first : (script : List Planned) → All (IsPlanned m) script → IsShaped m t (first_local m.rows thread cpu script domains)
-  shaped_first [] planned = shape_by [] does.Ended (class_number 0) None [] rows.some tt planned (λ n. n)
+  shaped_first [] planned = shape_by does.Ended (class_number 0) None [] rows.some tt planned (λ n. n)
   shaped_first (p ∷ ps) planned =
       let first : IsPlanned m p = All-head (IsPlanned m) p ps planned in
-      shape_call (lines_of (p ∷ ps)) p.call p.moved ps first.call first.move (All-tail (IsPlanned m) p ps planned)
+      shape_call p.call p.moved ps first.call first.move (All-tail (IsPlanned m) p ps planned)
 
 -- It has nothing.
 hand_malloc : (o : Option Class) (r : Regs) → r.hand.items ≡ [] → (regs_of_malloc o r).hand.items ≡ []
@@ -305,6 +306,14 @@ cpu_first input valid =
       stopped = λ fenced. absurd (false≢true fenced);
     }
 
+opened_classes : (most : ℕ) (rows : List ClassRow) → map slab_class (map (slots.empty_row most) rows) ≡ map table_class rows
+opened_classes most [] = refl
+opened_classes most (row ∷ rows) = ap (λ cs. table_class row ∷ cs) (opened_classes most rows)
+
+first_room : (room j : ℕ) (rows : List ClassRow) → All (λ (x : Shard). HasRoom room x.transfer) (first_shards room j rows)
+first_room room j [] = All-nil (λ (x : Shard). HasRoom room x.transfer)
+first_room room j (row ∷ rows) = All-cons (λ (x : Shard). HasRoom room x.transfer) (first_shard room j row) (first_shards room (j + 1) rows) (record { room = refl; within = omega arith }) (first_room room (j + 1) rows)
+
 pub placed_first : (input : Input) → IsValid input → ArePlaced input (first_parts input) 0
 placed_first input valid =
     let c = input.asked.config in
@@ -322,10 +331,15 @@ placed_first input valid =
       cpus = length-replicate c.cpus (first_cpu input);
       domains = length-replicate c.domains (first_caches input);
       epochs = λ i q is. let e : 0 ≡ q.epoch = ap (λ (p : CpuPart). p.epoch) (copy_is c.cpus (first_cpu input) i q is) in omega (arith, e);
+      heads = record {
+        slabs = All-replicate (λ (p : CpuPart). IsSlabOf input.rows c p.slab) c.cpus (first_cpu input) (record { most = refl; limit = refl; classes = opened_classes c.slab input.rows });
+        transfers = first_room c.transfer 0 input.rows;
+        caches = All-replicate (All (HasRoom c.transfer)) c.domains (first_caches input) (All-replicate (HasRoom c.transfer) (length input.rows) (record { objects = []; room = c.transfer }) (record { room = refl; within = omega arith }));
+      };
     }
 
 -- No thread runs at a CPU, and none has stopped one.
-seat_first : (input : Input) (i t : ℕ) → SeatOk i (thread_no t) (first_cpu input) (seat_of (first_of input t))
+seat_first : (input : Input) (i t : ℕ) → SeatOk i (thread_no t) (first_cpu input) (seat_of input.rows (first_of input t))
 seat_first input i t =
     let f = fresh_first input.rows (script_of t input.asked.calls) in
     record {
@@ -334,13 +348,13 @@ seat_first input i t =
       agrees = λ on. let e = on.runs in absurd (cc);
       rests = λ fenced. absurd (false≢true fenced);
       stops = λ on. absurd (cc);
-      stage = subst (Holds i (thread_no t) (first_cpu input)) (sym f.standing) tt;
+      stage = subst (Holds i (thread_no t) (first_cpu input)) (sym (f.standing input.rows (first_of input t).regs.class.0)) tt;
     }
 
-pub seated_first : (input : Input) → AreSeated (first_parts input) (first_locals input)
+pub seated_first : (input : Input) → AreSeated input.rows (first_parts input) (first_locals input)
 seated_first input i t q l cpu local =
     let e = copy_is input.asked.config.cpus (first_cpu input) i q cpu in
-    subst (λ (k : Local). SeatOk i (thread_no t) q (seat_of k)) (own_local input t l local) (subst (λ (p : CpuPart). SeatOk i (thread_no t) p (seat_of (first_of input t))) e (seat_first input i t))
+    subst (λ (k : Local). SeatOk i (thread_no t) q (seat_of input.rows k)) (own_local input t l local) (subst (λ (p : CpuPart). SeatOk i (thread_no t) p (seat_of input.rows (first_of input t))) e (seat_first input i t))
 
 -- Each thread is at its first call.
 work_first : (input : Input) (t : ℕ) → IsValid input → IsAtWork input (first_parts input).names [] t (first_of input t)
@@ -382,4 +396,5 @@ served_first input valid =
       count = length-map (range_with_len 0 n) (first_of input) ∙ length-range_with_len 0 n;
       works = works_first input valid;
       of = λ t. answered_none input (range_with_len 0 n) t;
+      tells = λ t l is. ap (λ (k : Local). map (told t) k.answers) (own_local input t l is);
     }

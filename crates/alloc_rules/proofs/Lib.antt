@@ -2,6 +2,7 @@ pub mod Numbers
 pub mod Weighing
 pub mod Likes
 pub mod Lists
+pub mod Sets
 pub mod Placing
 pub mod Onwards
 pub mod Moved
@@ -22,6 +23,8 @@ pub mod InScripts
 pub mod Published
 pub mod PartFits
 pub mod HeapStays
+pub mod Heads
+pub mod Telling
 pub mod Serving
 pub mod Sizes
 pub mod Steps

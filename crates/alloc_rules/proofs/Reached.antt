@@ -40,12 +40,12 @@ use Rattle.alloc_rules.proofs.Numbers.{get_cpu, set_cpu, get_shard, set_shard, g
 use Rattle.alloc_rules.proofs.Serving.{ArePlaced, AreSeated, IsAtWork, IsActed}
 use Rattle.alloc_rules.proofs.Steps.{acts_low, cpu_low, cpu_fit, cpu_acted, shard_fit, shard_acted, domain_fit, domain_acted, heap_fit, heap_acted, map_fit, map_acted, names_fit, names_acted}
 
-there_is : {X : Type 0} (xs : List X) (i : ℕ) → i < length xs → (x : X) × (slice_get xs i ≡ Some x)
+pub there_is : {X : Type 0} (xs : List X) (i : ℕ) → i < length xs → (x : X) × (slice_get xs i ≡ Some x)
 there_is [] i low = absurd (omega arith)
 there_is (x ∷ xs) zero low = (x, refl)
 there_is (x ∷ xs) (suc i) low = there_is xs i (omega arith)
 
-module _ (input : Input) (valid : IsValid input) (p : Parts) (locals : List Local) (b : Books) (order : List ℕ) (t : ℕ) (l : Local) (placed : ArePlaced input p (length order)) (books : AreBooksOf p locals b) (facts : Facts (setup_of input) b (calls locals order)) (seated : AreSeated p locals) (works : (u : ℕ) (k : Local) → slice_get locals u ≡ Some k → IsAtWork input p.names order u k) (of : AreOfPicks (λ (k : Local). k.answers) (λ (d : Decided). d.act) locals order) (local : slice_get locals t ≡ Some l) (few : length order ≤ MOST_PICKS) where
+module _ (input : Input) (valid : IsValid input) (p : Parts) (locals : List Local) (b : Books) (order : List ℕ) (t : ℕ) (l : Local) (placed : ArePlaced input p (length order)) (books : AreBooksOf p locals b) (facts : Facts (setup_of input) b (calls locals order)) (seated : AreSeated input.rows p locals) (works : (u : ℕ) (k : Local) → slice_get locals u ≡ Some k → IsAtWork input p.names order u k) (of : AreOfPicks (λ (k : Local). k.answers) (λ (d : Decided). d.act) locals order) (local : slice_get locals t ≡ Some l) (few : length order ≤ MOST_PICKS) where
   -- the act at part i leaves other parts and another local, in which all holds
   pub record Goes (i : ℕ) (part : Part) : Type 0 where
     pub parts : Parts

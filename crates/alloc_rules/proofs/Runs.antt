@@ -38,7 +38,7 @@ module _ (input : Input) (valid : IsValid input) (w : World Part Local) (order :
       let same : found.part ≡ q = let e : Some found.part ≡ Some q = sym there ∙ is in cc in
       let g = found.goes (subst (λ (x : Part). waits x l ≡ false) (sym same) goes) in
       let next : IsServed input (with_pair (world_of (parts_of good.parts) good.locals) place.0 t (after input.rows found.part l)) (order ++ t ∷ []) =
-      served input good.parts good.locals good.books order t l good.books_of good.facts good.works good.of here g.parts g.left g.acted (with_pair (world_of (parts_of good.parts) good.locals) place.0 t (after input.rows found.part l)) g.is good.count
+      served input good.parts good.locals good.books order t l good.books_of good.facts good.works good.of here g.parts g.left g.acted (with_pair (world_of (parts_of good.parts) good.locals) place.0 t (after input.rows found.part l)) g.is good.count good.tells
       in
       subst (λ (x : Part). IsServed input (with_pair w place.0 t (after input.rows x l)) (order ++ t ∷ [])) same
       (subst (λ (v : World Part Local). IsServed input (with_pair v place.0 t (after input.rows found.part l)) (order ++ t ∷ [])) (sym good.is) next)

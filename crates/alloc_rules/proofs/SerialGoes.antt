@@ -88,7 +88,7 @@ moves_there : {P L : Type 0} (r : Rules P L) (w : World P L) (t : ℕ) (l : L) (
 moves_there r w t l n part local wants there goes = ap (stepped_by r w) local ∙ (ap (stepped_at r w l) wants ∙ (ap (stepped_on r l) there ∙ ap (λ b. cond b step.NotYet step.Moved) goes))
 
 -- a call under way wants a part
-wants_by : (cpus classes : ℕ) (l : Local) (s : Step) → is_under_way s ≡ true → (n : PartNo) × (option_map (number_of cpus classes) (target_at l s) ≡ Some n)
+pub wants_by : (cpus classes : ℕ) (l : Local) (s : Step) → is_under_way s ≡ true → (n : PartNo) × (option_map (number_of cpus classes) (target_at l s) ≡ Some n)
 wants_by cpus classes l (does.Cpu row) way = (_, refl)
 wants_by cpus classes l (does.Shard row) way = (_, refl)
 wants_by cpus classes l (does.Heap row) way = (_, refl)

@@ -1,19 +1,23 @@
 -- What holds of a world in every run, and what an act of a thread makes of it.
-use Rattle.std.proofs.Common.{◌≡◌, ℕ, zero, suc, ◌+◌, ◌≤◌, true, List, [], ◌∷◌, ◌++◌, length, map, Option, Some, refl, sym, ap, ◌∙◌, subst, inl, inr, arith}
-use Rattle.std.specs.Prelude.{slice_get, slice_set}
-use Rattle.std.proofs.lemmas.Bool.{cases_eq}
-use Rattle.std.proofs.lemmas.List.{append-nil, length-set, length-append}
+use Rattle.std.proofs.Common.{◌≡◌, ℕ, zero, suc, ◌+◌, ◌≤◌, true, eqb, List, [], ◌∷◌, ◌++◌, length, map, Option, Some, refl, sym, ap, ◌∙◌, subst, inl, inr, arith}
+use Rattle.std.specs.Prelude.{All, slice_get, slice_set}
+use Rattle.std.proofs.lemmas.List.{append-nil, length-set, length-append, map-append}
+use Rattle.std.proofs.lemmas.List.Elements.{filter-append}
+use Rattle.tc_units.specs.declared.spans.ClassRow.{ClassRow}
 use Rattle.tc_model.specs.declared.calls.Planned.{Planned}
+use Rattle.tc_model.specs.declared.answers.CallLine.{CallLine}
+use Rattle.tc_model.specs.declared.config.Config.{Config}
 use Rattle.tc_model.specs.Input.{Input, script_of}
 use Rattle.tc_model.specs.Run.{World, world_of}
 use Rattle.tc_model.specs.Calls.{picks_of, answers_at, AreOfPicks, AreAt, AreBelow, AreRising}
 use Rattle.tc_model.proofs.Rising.{rising_push}
-use Rattle.tc_model.proofs.Lists.{set_here, set_elsewhere}
 use Rattle.tc_model.proofs.CallSteps.{calls-step, picks-step, picks-push_same, picks-push_other}
 use Rattle.name_table.specs.declared.table.NameState.{NameState}
 use Rattle.name_table.specs.Names.{state_of}
 use Rattle.rseq_core.specs.declared.cpu_part.CpuPart.{CpuPart}
 use Rattle.cpu_drain.specs.Seats.{SeatOk}
+use Rattle.transfer_cache.specs.Transfer.{Transfer}
+use Rattle.class_shard.specs.Shard.{Shard}
 use Rattle.holdings.specs.Accounts.{Account, is_out}
 use Rattle.holdings.specs.Books.{Books}
 use Rattle.holdings.specs.Facts.{Facts}
@@ -25,14 +29,24 @@ use Rattle.call_steps.specs.Laws.{thread_no}
 use Rattle.call_steps.specs.Shapes.{IsShaped, seat_of}
 use Rattle.alloc_rules.specs.declared.part.Part.{Part}
 use Rattle.alloc_rules.specs.Machine.{Parts, parts_of, heap_config}
+use Rattle.alloc_rules.specs.Heads.{IsSlabOf, HasRoom}
+use Rattle.alloc_rules.specs.Told.{lines_of}
 use Rattle.alloc_rules.specs.Accounts.{account_of}
 use Rattle.alloc_rules.specs.Stocks.{stock_of, ArePartsOk, AreBooksOf, Does, decided_at}
 use Rattle.alloc_rules.specs.Scripts.{IsIn, Path, is_under_way}
 use Rattle.alloc_rules.specs.Valid.{limits_in}
 use Rattle.alloc_rules.specs.Law.{calls, setup_of}
+use Rattle.alloc_rules.proofs.Sets.{each_set}
 use Rattle.alloc_rules.proofs.MapMoves.{account_at}
 use Rattle.alloc_rules.proofs.Published.{stays_out, keeps_unpublished, said_few}
+use Rattle.alloc_rules.proofs.Telling.{own_lines, others_lines}
 use Rattle.alloc_rules.proofs.InScripts.{StayOut, path_in, path_domains, path_has}
+
+-- slabs, transfer lists and caches of domains are as the table and the heads say
+pub record AreOfHeads (rows : List ClassRow) (c : Config) (cpus : List CpuPart) (shards : List Shard) (domains : List (List Transfer)) : Type 0 where
+  pub slabs : All (λ (p : CpuPart). IsSlabOf rows c p.slab) cpus
+  pub transfers : All (λ (x : Shard). HasRoom c.transfer x.transfer) shards
+  pub caches : All (λ (cs : List Transfer). All (HasRoom c.transfer) cs) domains
 
 -- The parts alone, as many as the input says, and how often each CPU's epoch rose.
 pub record ArePlaced (input : Input) (p : Parts) (picks : ℕ) : Type 0 where
@@ -40,9 +54,10 @@ pub record ArePlaced (input : Input) (p : Parts) (picks : ℕ) : Type 0 where
   pub cpus : length p.cpus ≡ input.asked.config.cpus
   pub domains : length p.domains ≡ input.asked.config.domains
   pub epochs : (i : ℕ) (q : CpuPart) → slice_get p.cpus i ≡ Some q → q.epoch ≤ picks
+  pub heads : AreOfHeads input.rows input.asked.config p.cpus p.shards p.domains
 
-abbrev pub AreSeated : Parts → List Local → Type 0
-AreSeated p locals = (i t : ℕ) (q : CpuPart) (l : Local) → slice_get p.cpus i ≡ Some q → slice_get locals t ≡ Some l → SeatOk i (thread_no t) q (seat_of l)
+abbrev pub AreSeated : List ClassRow → Parts → List Local → Type 0
+AreSeated rows p locals = (i t : ℕ) (q : CpuPart) (l : Local) → slice_get p.cpus i ≡ Some q → slice_get locals t ≡ Some l → SeatOk i (thread_no t) q (seat_of rows l)
 
 -- A local alone: it has its shape, it is in its script, and its acts are its thread's picks.
 pub record IsAtWork (input : Input) (names : List NameState) (order : List ℕ) (t : ℕ) (l : Local) : Type 0 where
@@ -53,6 +68,10 @@ pub record IsAtWork (input : Input) (names : List NameState) (order : List ℕ) 
   pub acts : l.acts ≡ picks_of t order
   pub rising : AreRising (λ (d : Decided). d.act) 0 l.answers
 
+-- of each thread its decided calls are told
+abbrev pub AllTell : List Local → List CallLine → Type 0
+AllTell locals all = (t : ℕ) (l : Local) → slice_get locals t ≡ Some l → lines_of t all ≡ map (told t) l.answers
+
 -- a world is that of parts and locals in which all this holds
 pub record IsServed (input : Input) (w : World Part Local) (order : List ℕ) : Type 0 where
   pub parts : Parts
@@ -62,10 +81,11 @@ pub record IsServed (input : Input) (w : World Part Local) (order : List ℕ) : 
   pub placed : ArePlaced input parts (length order)
   pub books_of : AreBooksOf parts locals books
   pub facts : Facts (setup_of input) books (calls locals order)
-  pub seated : AreSeated parts locals
+  pub seated : AreSeated input.rows parts locals
   pub count : length locals ≡ input.asked.config.threads
   pub works : (t : ℕ) (l : Local) → slice_get locals t ≡ Some l → IsAtWork input parts.names order t l
   pub of : AreOfPicks (λ (l : Local). l.answers) (λ (d : Decided). d.act) locals order
+  pub tells : AllTell locals (calls locals order)
 
 -- answers that rise still do with those that the pick behind them decided
 rising_with : {A : Type 0} (act : A → ℕ) (n : ℕ) (xs new : List A) → AreRising act 0 xs → AreBelow act n xs → AreAt act n new → length new ≤ 1 → AreRising act 0 (xs ++ new)
@@ -112,7 +132,7 @@ module _ (input : Input) (p : Parts) (locals : List Local) (b : Books) (order : 
     pub way : is_under_way l.step ≡ true
     pub placed : ArePlaced input new (length order + 1)
     pub shaped : IsShaped (limits_in input) t after
-    pub seated : AreSeated new (slice_set locals t after)
+    pub seated : AreSeated input.rows new (slice_set locals t after)
 
   module _ (new : Parts) (after : Local) (acted : IsActed new after) where
     abbrev after_books : Books
@@ -168,20 +188,30 @@ module _ (input : Input) (p : Parts) (locals : List Local) (b : Books) (order : 
         }
 
     all_work : (u : ℕ) (k : Local) → slice_get (slice_set locals t after) u ≡ Some k → Works u k
-    all_work u k is =
-        elim (cases_eq t u) [
-          | inl same ↦
-              let e : Some after ≡ Some k = sym (set_here locals t after l local) ∙ (ap (λ v. slice_get (slice_set locals t after) v) same ∙ is) in
-              let h : after ≡ k = cc in
-              subst (Works u) h (subst (λ v. Works v after) same this_works)
-          | inr apart ↦ other_works u k apart (sym (set_elsewhere locals t u after apart) ∙ is)
-        ]
+    all_work = each_set Works locals t after l local this_works other_works
 
     calls_now : calls (slice_set locals t after) (order ++ t ∷ []) ≡ calls locals order ++ lines t acted.does.said
     calls_now = calls-step (λ (k : Local). k.answers) (λ (x : Decided). x.act) told locals order t l after (decided_at l.acts acted.does.said) of local acted.does.answers at_pick ∙ ap (λ xs. calls locals order ++ xs) (told_lines t l.acts acted.does.said)
 
-    pub served : (w : World Part Local) → w ≡ world_of (parts_of new) (slice_set locals t after) → length locals ≡ input.asked.config.threads → IsServed input w (order ++ t ∷ [])
-    served w is count =
+    -- what is told then of a thread
+    lines_now : (u : ℕ) → lines_of u (calls (slice_set locals t after) (order ++ t ∷ [])) ≡ lines_of u (calls locals order) ++ lines_of u (lines t acted.does.said)
+    lines_now u = ap (lines_of u) calls_now ∙ filter-append (λ (c : CallLine). eqb c.thread.0 u) (calls locals order) (lines t acted.does.said)
+
+    this_tells : AllTell locals (calls locals order) → lines_of t (calls (slice_set locals t after) (order ++ t ∷ [])) ≡ map (told t) after.answers
+    this_tells tells =
+        let said : List Said = acted.does.said in
+        lines_now t
+        ∙ (ap (λ xs. xs ++ lines_of t (lines t said)) (tells t l local)
+        ∙ (ap (λ xs. map (told t) l.answers ++ xs) (own_lines t said ∙ sym (told_lines t l.acts said))
+        ∙ (sym (map-append (told t) l.answers (decided_at l.acts said)) ∙ ap (map (told t)) (sym acted.does.answers))))
+
+    all_tell : AllTell locals (calls locals order) → AllTell (slice_set locals t after) (calls (slice_set locals t after) (order ++ t ∷ []))
+    all_tell tells =
+        each_set (λ u k. lines_of u (calls (slice_set locals t after) (order ++ t ∷ [])) ≡ map (told u) k.answers) locals t after l local (this_tells tells)
+        (λ u k apart old. lines_now u ∙ (ap (λ xs. lines_of u (calls locals order) ++ xs) (others_lines t u acted.does.said apart) ∙ (append-nil (lines_of u (calls locals order)) ∙ tells u k old)))
+
+    pub served : (w : World Part Local) → w ≡ world_of (parts_of new) (slice_set locals t after) → length locals ≡ input.asked.config.threads → AllTell locals (calls locals order) → IsServed input w (order ++ t ∷ [])
+    served w is count tells =
         record {
           parts = new;
           locals = slice_set locals t after;
@@ -200,4 +230,5 @@ module _ (input : Input) (p : Parts) (locals : List Local) (b : Books) (order : 
           count = length-set locals t after ∙ count;
           works = all_work;
           of = picks-step (λ (k : Local). k.answers) (λ (x : Decided). x.act) told locals order t l after (decided_at l.acts acted.does.said) of local acted.does.answers at_pick;
+          tells = all_tell tells;
         }

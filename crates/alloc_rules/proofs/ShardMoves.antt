@@ -1,7 +1,7 @@
 -- The acts at a shard move objects between it and the hand, and spans to it and from it.
 use Rattle.std.proofs.Common.{◌≡◌, ◌≢◌, ℕ, ◌+◌, ◌<◌, ◌≤◌, ◌^◌, eqb, List, [], ◌∷◌, ◌++◌, length, Some, refl, sym, ap, ◌∙◌, subst, arith, inl, inr}
 use Rattle.std.specs.List.{slice_get, slice_set, flat_map}
-use Rattle.std.proofs.lemmas.Bool.{cases_eq, cases_lt}
+use Rattle.std.proofs.lemmas.Bool.{cases_lt}
 use Rattle.std.proofs.lemmas.List.{get_or-set_same, get_or-set_other, length-set}
 use Rattle.std.proofs.lemmas.List.Elements.{All-cons, All-nil}
 use Rattle.std.proofs.lemmas.Option.{slice_get_within}
@@ -13,7 +13,6 @@ use Rattle.tc_units.specs.declared.spans.Run.{Run}
 use Rattle.tc_units.specs.declared.spans.SpanRef.{SpanRef}
 use Rattle.tc_units.specs.declared.spans.SpanKind.TheVariants.{Small}
 use Rattle.tc_model.specs.declared.answers.CallLine.{CallLine}
-use Rattle.tc_model.proofs.Lists.{set_here, set_elsewhere}
 use Rattle.page_map.specs.Spans.{IsInside}
 use Rattle.heap_rules.specs.declared.config.HeapConfig.{HeapConfig}
 use Rattle.rseq_core.specs.Bags.{appended, emptied}
@@ -48,6 +47,7 @@ use Rattle.call_steps.specs.Shapes.{StepShape, ShardShape}
 use Rattle.alloc_rules.specs.Machine.{Parts}
 use Rattle.alloc_rules.specs.Stocks.{no_shard, shard_at, stock_of, IsShardOf, Does}
 use Rattle.alloc_rules.specs.Acts.{limits_of, IsBefore, ShardActsMove}
+use Rattle.alloc_rules.proofs.Sets.{each_set}
 use Rattle.alloc_rules.proofs.Weighing.{bare}
 use Rattle.alloc_rules.proofs.Counting.{objects_count, spans_count, begun_count}
 use Rattle.alloc_rules.proofs.Stored.{with_stores}
@@ -86,13 +86,7 @@ module _ (m : Setup) (limits : HeapConfig) (cpus : ℕ) (p : Parts) (locals : Li
 
   cut : (new : Shard) → IsShardOf m.rows l.regs.class.0 new → IsCut m.rows (stock_of (with_shard new))
   cut new of =
-      cut_of m.rows (with_shard new) (length-set p.shards l.regs.class.0 new ∙ before.parts.classes) (λ k y is. elim (cases_eq l.regs.class.0 k) [
-        | inl same ↦
-            let e : Some new ≡ Some y = sym (set_here p.shards l.regs.class.0 new x at) ∙ (ap (λ j. slice_get (shards_with new) j) same ∙ is) in
-            let h : new ≡ y = cc in
-            subst (λ j. IsShardOf m.rows j y) same (subst (λ (z : Shard). IsShardOf m.rows l.regs.class.0 z) h of)
-        | inr apart ↦ before.parts.shards k y (sym (set_elsewhere p.shards l.regs.class.0 k new apart) ∙ is)
-      ])
+      cut_of m.rows (with_shard new) (length-set p.shards l.regs.class.0 new ∙ before.parts.classes) (each_set (IsShardOf m.rows) p.shards l.regs.class.0 new x at of (λ k y apart is. before.parts.shards k y is))
 
   -- the stock with another shard
   now : (new : Shard) → shard_at (shards_with new) l.regs.class.0 ≡ new

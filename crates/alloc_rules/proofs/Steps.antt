@@ -1,7 +1,6 @@
 -- Each act of a thread, at the part that it wants, keeps what holds of a world.
-use Rattle.std.proofs.Common.{◌≡◌, ℕ, ◌+◌, ◌<◌, ◌≤◌, ◌^◌, false, eqb, List, length, All, Some, refl, sym, ap, ◌∙◌, subst, inl, inr, arith}
+use Rattle.std.proofs.Common.{◌≡◌, ℕ, ◌+◌, ◌<◌, ◌≤◌, ◌^◌, false, eqb, List, length, All, Some, refl, sym, ap, ◌∙◌, subst, arith}
 use Rattle.std.specs.Prelude.{slice_get, slice_set}
-use Rattle.std.proofs.lemmas.Bool.{cases_eq}
 use Rattle.std.proofs.lemmas.List.{length-set}
 use Rattle.std.proofs.lemmas.List.Sums.{count_by-le-length}
 use Rattle.std.proofs.lemmas.List.Elements.{All-set}
@@ -16,7 +15,6 @@ use Rattle.tc_units.specs.declared.units.ThreadNo.{ThreadNo}
 use Rattle.tc_model.specs.declared.machine.TheConstants.{MOST_PICKS}
 use Rattle.tc_model.specs.Input.{Input}
 use Rattle.tc_model.specs.Calls.{picks_of, AreOfPicks}
-use Rattle.tc_model.proofs.Lists.{set_here, set_elsewhere}
 use Rattle.rseq_core.specs.declared.cpu_part.CpuPart.{CpuPart}
 use Rattle.rseq_core.specs.Tables.{is_pop}
 use Rattle.rseq_core.specs.Agrees.{Agrees}
@@ -49,11 +47,14 @@ use Rattle.call_steps.specs.Shapes.{Limits, IsStop, CpuShape, ShardShape, StepSh
 use Rattle.call_steps.proofs.CpuKeeps.{cpu_acts_keep}
 use Rattle.call_steps.proofs.ElsewhereKeeps.{shard_acts_keep, domain_acts_keep, heap_acts_keep, map_acts_keep, names_acts_keep}
 use Rattle.alloc_rules.specs.Machine.{Parts, heap_config}
-use Rattle.alloc_rules.specs.Stocks.{AreBooksOf, IsShardOf, cache_at}
+use Rattle.alloc_rules.specs.Heads.{IsSlabOf, HasRoom}
+use Rattle.alloc_rules.specs.Stocks.{AreBooksOf, IsShardOf, no_cache, cache_at}
 use Rattle.alloc_rules.specs.Acts.{IsBefore}
 use Rattle.alloc_rules.specs.Scripts.{Path, is_under_way}
 use Rattle.alloc_rules.specs.Valid.{limits_in, IsValid}
 use Rattle.alloc_rules.specs.Law.{calls, setup_of}
+use Rattle.alloc_rules.proofs.Sets.{each_set}
+use Rattle.alloc_rules.proofs.Heads.{slab_stays, list_stays, cache_stays}
 use Rattle.alloc_rules.proofs.CpuMoves.{cpu_acts_move}
 use Rattle.alloc_rules.proofs.Paths.{AddsSome, cpu_path, shard_path, domain_path, heap_path, map_path, names_path}
 use Rattle.alloc_rules.proofs.PartFits.{heap_fits, map_fits, found_class, names_fits, domain_fits}
@@ -97,7 +98,7 @@ picks_few : (t : ℕ) (order : List ℕ) → picks_of t order ≤ length order
 picks_few t order = count_by-le-length (λ u. eqb u t) order
 
 -- a world in which an act comes
-module _ (input : Input) (valid : IsValid input) (p : Parts) (locals : List Local) (b : Books) (order : List ℕ) (t : ℕ) (l : Local) (placed : ArePlaced input p (length order)) (books : AreBooksOf p locals b) (facts : Facts (setup_of input) b (calls locals order)) (seated : AreSeated p locals) (works : (u : ℕ) (k : Local) → slice_get locals u ≡ Some k → IsAtWork input p.names order u k) (of : AreOfPicks (λ (k : Local). k.answers) (λ (d : Decided). d.act) locals order) (local : slice_get locals t ≡ Some l) (few : length order ≤ MOST_PICKS) where
+module _ (input : Input) (valid : IsValid input) (p : Parts) (locals : List Local) (b : Books) (order : List ℕ) (t : ℕ) (l : Local) (placed : ArePlaced input p (length order)) (books : AreBooksOf p locals b) (facts : Facts (setup_of input) b (calls locals order)) (seated : AreSeated input.rows p locals) (works : (u : ℕ) (k : Local) → slice_get locals u ≡ Some k → IsAtWork input p.names order u k) (of : AreOfPicks (λ (k : Local). k.answers) (λ (d : Decided). d.act) locals order) (local : slice_get locals t ≡ Some l) (few : length order ≤ MOST_PICKS) where
   pub before : IsBefore (setup_of input) (heap_config input.asked.config) input.asked.config.cpus p locals b (calls locals order) t l
   before =
       record {
@@ -118,16 +119,20 @@ module _ (input : Input) (valid : IsValid input) (p : Parts) (locals : List Loca
   abbrev Acted : Parts → Local → Type 0
   Acted new after' = IsActed input p locals b order t l books facts works of local new after'
 
+  -- what the heads say of a CPU, a shard and a cache
+  abbrev IsSlab : CpuPart → Type 0
+  IsSlab q = IsSlabOf input.rows input.asked.config q.slab
+
+  abbrev HasObjects : Transfer → Type 0
+  HasObjects c = HasRoom input.asked.config.transfer c
+
+  abbrev HasList : Shard → Type 0
+  HasList x = HasObjects x.transfer
+
   -- seats where the CPUs stay
-  pub seats_kept : (after' : Local) → ((c : ℕ) (q : CpuPart) → SeatOk c (thread_no t) q (seat_of l) → SeatOk c (thread_no t) q (seat_of after')) → AreSeated p (slice_set locals t after')
-  seats_kept after' kept i u q k at is =
-      elim (cases_eq t u) [
-        | inl same ↦
-            let e : Some after' ≡ Some k = sym (set_here locals t after' l local) ∙ (ap (λ v. slice_get (slice_set locals t after') v) same ∙ is) in
-            let h : after' ≡ k = cc in
-            subst (λ v. SeatOk i (thread_no v) q (seat_of k)) same (subst (λ (x : Local). SeatOk i (thread_no t) q (seat_of x)) h (kept i q (seated i t q l at local)))
-        | inr apart ↦ seated i u q k at (sym (set_elsewhere locals t u after' apart) ∙ is)
-      ]
+  pub seats_kept : (after' : Local) → ((c : ℕ) (q : CpuPart) → SeatOk c (thread_no t) q (seat_of input.rows l) → SeatOk c (thread_no t) q (seat_of input.rows after')) → AreSeated input.rows p (slice_set locals t after')
+  seats_kept after' kept i u q k at =
+      each_set (λ v x. SeatOk i (thread_no v) q (seat_of input.rows x)) locals t after' l local (kept i q (seated i t q l at local)) (λ v x apart is. seated i v q x at is) u k
 
   -- at a CPU
   at_cpu_part : (row : CpuStep) (c : ℕ) (q : CpuPart) → l.step ≡ does.Cpu row → (at_cpu l.cpu row).0 ≡ c → slice_get p.cpus c ≡ Some q → IsAtCpu (limits_in input) c t q l row
@@ -143,30 +148,13 @@ module _ (input : Input) (valid : IsValid input) (p : Parts) (locals : List Loca
         acts = acts_low;
       }
 
-  cpu_seated : (c : ℕ) (q new : CpuPart) (after' : Local) → SeatKeeps (length input.rows) c (thread_no t) q (seat_of l) new (seat_of after') → slice_get p.cpus c ≡ Some q → AreSeated (record p { cpus = slice_set p.cpus c new }) (slice_set locals t after')
-  cpu_seated c q new after' keeps at i u x k at_i is =
-      elim (cases_eq c i) [
-        | inl here ↦
-            let e : Some new ≡ Some x = sym (set_here p.cpus c new q at) ∙ (ap (λ j. slice_get (slice_set p.cpus c new) j) here ∙ at_i) in
-            let h : new ≡ x = cc in
-            subst (λ j. SeatOk j (thread_no u) x (seat_of k)) here (subst (λ (y : CpuPart). SeatOk c (thread_no u) y (seat_of k)) h
-            (elim (cases_eq t u) [
-              | inl same ↦
-                  let d : Some after' ≡ Some k = sym (set_here locals t after' l local) ∙ (ap (λ v. slice_get (slice_set locals t after') v) same ∙ is) in
-                  let g : after' ≡ k = cc in
-                  subst (λ v. SeatOk c (thread_no v) new (seat_of k)) same (subst (λ (y : Local). SeatOk c (thread_no t) new (seat_of y)) g keeps.both)
-              | inr apart ↦ keeps.others (thread_no u) (seat_of k) (λ same. apart (ap (λ (y : ThreadNo). y.0) (sym same))) (seated c u q k at (sym (set_elsewhere locals t u after' apart) ∙ is))
-            ]))
-        | inr away ↦
-            let old : slice_get p.cpus i ≡ Some x = sym (set_elsewhere p.cpus c i new away) ∙ at_i in
-            elim (cases_eq t u) [
-              | inl same ↦
-                  let d : Some after' ≡ Some k = sym (set_here locals t after' l local) ∙ (ap (λ v. slice_get (slice_set locals t after') v) same ∙ is) in
-                  let g : after' ≡ k = cc in
-                  subst (λ v. SeatOk i (thread_no v) x (seat_of k)) same (subst (λ (y : Local). SeatOk i (thread_no t) x (seat_of y)) g (keeps.elsewhere i x (λ same'. away (sym same')) (seated i t x l old local)))
-              | inr apart ↦ seated i u x k old (sym (set_elsewhere locals t u after' apart) ∙ is)
-            ]
-      ]
+  cpu_seated : (c : ℕ) (q new : CpuPart) (after' : Local) → SeatKeeps (length input.rows) c (thread_no t) q (seat_of input.rows l) new (seat_of input.rows after') → slice_get p.cpus c ≡ Some q → AreSeated input.rows (record p { cpus = slice_set p.cpus c new }) (slice_set locals t after')
+  cpu_seated c q new after' keeps at i u x k at_i =
+      each_set (λ j y. (v : ℕ) (z : Local) → slice_get (slice_set locals t after') v ≡ Some z → SeatOk j (thread_no v) y (seat_of input.rows z)) p.cpus c new q at
+      (each_set (λ v z. SeatOk c (thread_no v) new (seat_of input.rows z)) locals t after' l local keeps.both
+      (λ v z apart is. keeps.others (thread_no v) (seat_of input.rows z) (λ same. apart (ap (λ (y : ThreadNo). y.0) (sym same))) (seated c v q z at is)))
+      (λ j y away there. each_set (λ v z. SeatOk j (thread_no v) y (seat_of input.rows z)) locals t after' l local (keeps.elsewhere j y (λ same. away (sym same)) (seated j t y l there local)) (λ v z apart is. seated j v y z there is))
+      i x at_i u k
 
   pub cpu_fit : (row : CpuStep) (c : ℕ) (q : CpuPart) → l.step ≡ does.Cpu row → (at_cpu l.cpu row).0 ≡ c → slice_get p.cpus c ≡ Some q → FitsCpu input.rows q l row
   cpu_fit row c q step here at = (cpu_acts_keep (limits_in input) c t q l row (at_cpu_part row c q step here at)).fits
@@ -175,7 +163,7 @@ module _ (input : Input) (valid : IsValid input) (p : Parts) (locals : List Loca
   cpu_acted row c q step here at =
       let k : CpuActKeeps (limits_in input) c t q l row = cpu_acts_keep (limits_in input) c t q l row (at_cpu_part row c q step here at) in
       let thread : l.regs.thread ≡ thread_no t = ap (λ (n : ℕ). let x : ThreadNo = record { 0 = n } in x) (works t l local).shaped.thread in
-      let seat : SeatOk c (thread_no t) q (seat_of l) = seated c t q l at local in
+      let seat : SeatOk c (thread_no t) q (seat_of input.rows l) = seated c t q l at local in
       let agrees : IsCurrent l.regs.thread q l.regs → Agrees (is_pop l.regs.seq) (row_at q.slab l.regs.class.0) l.regs l.regs.pc = λ current. seat.agrees (subst (λ (x : ThreadNo). IsCurrent x q l.regs) thread current) in
       let moves = cpu_acts_move (setup_of input) (heap_config input.asked.config) input.asked.config.cpus p locals b (calls locals order) t l c q row before step at agrees in
       let new : CpuPart = (cpu_row input.rows q l row).0 in
@@ -197,13 +185,12 @@ module _ (input : Input) (valid : IsValid input) (p : Parts) (locals : List Loca
           };
           cpus = length-set p.cpus c new ∙ placed.cpus;
           domains = placed.domains;
-          epochs = λ i x is. elim (cases_eq c i) [
-            | inl same ↦
-                let e : Some new ≡ Some x = sym (set_here p.cpus c new q at) ∙ (ap (λ j. slice_get (slice_set p.cpus c new) j) same ∙ is) in
-                let h : new ≡ x = cc in
-                omega (arith, k.epoch, placed.epochs c q at, ap (λ (y : CpuPart). y.epoch) h)
-            | inr apart ↦ omega (arith, placed.epochs i x (sym (set_elsewhere p.cpus c i new apart) ∙ is))
-          ];
+          epochs = each_set (λ i x. x.epoch ≤ length order + 1) p.cpus c new q at (omega (arith, k.epoch, placed.epochs c q at)) (λ i x apart is. omega (arith, placed.epochs i x is));
+          heads = record {
+            slabs = all_set IsSlab p.cpus c new placed.heads.slabs (slab_stays input.rows input.asked.config q l row (of_all IsSlab p.cpus c q placed.heads.slabs at));
+            transfers = placed.heads.transfers;
+            caches = placed.heads.caches;
+          };
         };
         shaped = k.shaped;
         seated = cpu_seated c q new after' k.keeps at;
@@ -258,13 +245,7 @@ module _ (input : Input) (valid : IsValid input) (p : Parts) (locals : List Loca
           ok = record {
             cpus = placed.ok.cpus;
             classes = length-set p.shards l.regs.class.0 new ∙ placed.ok.classes;
-            shards = λ k y is. elim (cases_eq l.regs.class.0 k) [
-              | inl same ↦
-                  let e : Some new ≡ Some y = sym (set_here p.shards l.regs.class.0 new x at) ∙ (ap (λ j. slice_get (slice_set p.shards l.regs.class.0 new) j) same ∙ is) in
-                  let h : new ≡ y = cc in
-                  subst (IsShardOf input.rows k) h (subst (λ j. IsShardOf input.rows j new) same of_class)
-              | inr apart ↦ placed.ok.shards k y (sym (set_elsewhere p.shards l.regs.class.0 k new apart) ∙ is)
-            ];
+            shards = each_set (IsShardOf input.rows) p.shards l.regs.class.0 new x at of_class (λ k y apart is. placed.ok.shards k y is);
             domains = placed.ok.domains;
             heap = placed.ok.heap;
             config = placed.ok.config;
@@ -274,6 +255,11 @@ module _ (input : Input) (valid : IsValid input) (p : Parts) (locals : List Loca
           cpus = placed.cpus;
           domains = placed.domains;
           epochs = same_epochs;
+          heads = record {
+            slabs = placed.heads.slabs;
+            transfers = all_set HasList p.shards l.regs.class.0 new placed.heads.transfers (list_stays input.rows input.asked.config.transfer x l row (of_all HasList p.shards l.regs.class.0 x placed.heads.transfers at));
+            caches = placed.heads.caches;
+          };
         };
         shaped = kept.shaped;
         seated = seats_kept (shard_row input.rows x l row).1 kept.seat;
@@ -308,6 +294,14 @@ module _ (input : Input) (valid : IsValid input) (p : Parts) (locals : List Loca
           cpus = placed.cpus;
           domains = length-set p.domains d new ∙ placed.domains;
           epochs = same_epochs;
+          heads = record {
+            slabs = placed.heads.slabs;
+            transfers = placed.heads.transfers;
+            caches =
+                let many : length caches ≡ length input.rows = of_all (λ (cs : List Transfer). length cs ≡ length input.rows) p.domains d caches placed.ok.domains at in
+                let have : All HasObjects caches = of_all (All HasObjects) p.domains d caches placed.heads.caches at in
+                all_set (All HasObjects) p.domains d new placed.heads.caches (all_set HasObjects caches l.regs.class.0 (domain_row input.rows c l row).0 have (cache_stays input.rows input.asked.config.transfer c l row (have l.regs.class.0 no_cache (omega (arith, many, (works t l local).shaped.class)))));
+          };
         };
         shaped = kept.shaped;
         seated = seats_kept (domain_row input.rows c l row).1 kept.seat;
@@ -341,6 +335,7 @@ module _ (input : Input) (valid : IsValid input) (p : Parts) (locals : List Loca
           cpus = placed.cpus;
           domains = placed.domains;
           epochs = same_epochs;
+          heads = placed.heads;
         };
         shaped = kept.shaped;
         seated = seats_kept (heap_row input.rows p.heap l row).1 kept.seat;
@@ -375,6 +370,7 @@ module _ (input : Input) (valid : IsValid input) (p : Parts) (locals : List Loca
           cpus = placed.cpus;
           domains = placed.domains;
           epochs = same_epochs;
+          heads = placed.heads;
         };
         shaped = kept.shaped;
         seated = seats_kept (map_row p.map l row).1 kept.seat;
@@ -407,6 +403,7 @@ module _ (input : Input) (valid : IsValid input) (p : Parts) (locals : List Loca
           cpus = placed.cpus;
           domains = placed.domains;
           epochs = same_epochs;
+          heads = placed.heads;
         };
         shaped = kept.shaped;
         seated = seats_kept (names_row input.rows p.names l row).1 kept.seat;

@@ -1,10 +1,12 @@
 pub mod Machine
 pub mod Fits
+pub mod Heads
 pub mod Accounts
 pub mod Stocks
 pub mod Acts
 pub mod Valid
 pub mod Switches
+pub mod Told
 pub mod Answers
 pub mod Law
 pub mod Scripts

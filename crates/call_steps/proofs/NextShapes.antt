@@ -1,7 +1,7 @@
 -- What the steps of a call do to its local's shape, whichever act they follow.
 use Rattle.std.proofs.Common.{◌≡◌, refl, ℕ, ◌+◌, ◌*◌, ◌<◌, ◌≤◌, Bool, true, false, cond, eqb, ltb, List, [], ◌∷◌, length, drop, Option, Some, None, ap, sym, ◌∙◌, subst, arith}
 use Rattle.std.specs.Prelude.{All, is_some, option_map}
-use Rattle.std.proofs.lemmas.Bool.{cond_both, ltb-true}
+use Rattle.std.proofs.lemmas.Bool.{cond_both, ltb-true, ltb-false}
 use Rattle.std.proofs.lemmas.List.{length-drop}
 use Rattle.std.proofs.lemmas.List.Elements.{All-head, All-tail}
 use Rattle.std.specs.List.{position_or_len}
@@ -44,7 +44,7 @@ use Rattle.call_steps.specs.declared.step.MapStep.TheVariants as map
 use Rattle.call_steps.specs.declared.step.NamesStep.TheVariants as names
 use Rattle.call_steps.specs.Local.{Local, no_class, class_row, first_of_malloc, regs_of_malloc, first_of_call, fresh_regs, next_call, decided, goes, closes, ends}
 use Rattle.call_steps.specs.Hands.{with_hand, publishes, stocks, serves_first, looks_on, gives, drains_on, goes_onward, behind, decides_free, given, clears, with_freed, given_back}
-use Rattle.call_steps.specs.Shapes.{IsClassRow, seat_of, stands, no_class_empty, giving_standing, onward_standing, standing_of, AreRows, Limits, IsMove, IsCallThere, IsPlanned, IsAtBegin, most_slots, IsStop, IsAsked, IsGiving, IsOnward, HasHand, HasNone, HasSpans, StepShape, IsShaped}
+use Rattle.call_steps.specs.Shapes.{IsClassRow, seat_of, stands, below, giving_standing, onward_standing, standing_of, standing_in, AreRows, Limits, IsMove, IsCallThere, IsPlanned, IsAtBegin, most_slots, IsStop, IsAtFirst, IsAsked, IsGiving, IsOnward, HasHand, HasNone, HasSpans, StepShape, IsShaped}
 
 -- all of a shape but the step's, within an act
 pub record IsCommon (m : Limits) (t : ℕ) (l : Local) : Type 0 where
@@ -67,10 +67,10 @@ pub record IsNext (m : Limits) (t : ℕ) (cpu : CpuNo) (epoch : ℕ) (o : Option
   pub home : new.cpu ≡ cpu
   pub begin : IsAtBegin new.regs
   pub same : new.regs.epoch ≡ epoch
-  pub standing : standing_of new.step ≡ o
+  pub standing : standing_in m.rows new ≡ o
 
 -- the call goes on
-pub goes_next : (m : Limits) (t : ℕ) (l : Local) (next : Step) → IsCommon m t l → IsAtBegin l.regs → StepShape m (goes l next) next → IsNext m t l.cpu l.regs.epoch (standing_of next) (goes l next)
+pub goes_next : (m : Limits) (t : ℕ) (l : Local) (next : Step) → IsCommon m t l → IsAtBegin l.regs → StepShape m (goes l next) next → IsNext m t l.cpu l.regs.epoch (standing_of m.rows l.regs.class.0 next) (goes l next)
 goes_next m t l next c begin shape =
     record {
       shaped = record { thread = c.thread; class = c.class; home = c.home; hand = c.hand; loaded = c.loaded; freed = c.freed; ran = c.ran; move = c.move; rest = c.rest; step = shape };
@@ -93,6 +93,10 @@ pub stop_still : (m : Limits) (l : Local) (next : Step) (s : Stopping) → IsSto
 stop_still m l next (stopping.Drain d) is = is
 stop_still m l next (stopping.Resize r) is = is
 
+pub first_still : (l : Local) (next : Step) (s : Stopping) → IsAtFirst l s → IsAtFirst (goes l next) s
+first_still l next (stopping.Drain d) is = is
+first_still l next (stopping.Resize r) is = is
+
 pub giving_still : (m : Limits) (l : Local) (next : Step) (g : Giving) → IsGiving m l g → IsGiving m (goes l next) g
 giving_still m l next (giving.Rest s) is = is
 giving_still m l next (giving.Freed f) is = is
@@ -113,27 +117,29 @@ looks_next m t l a c n asked =
     (λ e. goes_next m t l (does.Shard (shard.Fetch a)) c n.begin (none_still l (does.Shard (shard.Fetch a)) n, asked))
     (λ e. goes_next m t l (does.Domain (domain.Take a)) c n.begin (none_still l (does.Domain (domain.Take a)) n, asked))
 
-pub gives_next : (m : Limits) (t : ℕ) (l : Local) (g : Giving) → IsCommon m t l → HasHand most_slots l → IsGiving m l g → IsNext m t l.cpu l.regs.epoch (giving_standing g) (gives l g)
+pub gives_next : (m : Limits) (t : ℕ) (l : Local) (g : Giving) → IsCommon m t l → HasHand most_slots l → IsGiving m l g → IsNext m t l.cpu l.regs.epoch (giving_standing l.regs.class.0 g) (gives l g)
 gives_next m t l g c n is =
-    cond_both (eqb l.domains 0) (does.Shard (shard.Give g)) (does.Domain (domain.Put g)) (λ (next : Step). IsNext m t l.cpu l.regs.epoch (giving_standing g) (goes l next))
+    cond_both (eqb l.domains 0) (does.Shard (shard.Give g)) (does.Domain (domain.Put g)) (λ (next : Step). IsNext m t l.cpu l.regs.epoch (giving_standing l.regs.class.0 g) (goes l next))
     (λ e. goes_next m t l (does.Shard (shard.Give g)) c n.begin (hand_still l (does.Shard (shard.Give g)) n, giving_still m l (does.Shard (shard.Give g)) g is))
     (λ e. goes_next m t l (does.Domain (domain.Put g)) c n.begin (hand_still l (does.Domain (domain.Put g)) n, giving_still m l (does.Domain (domain.Put g)) g is))
 
-pub drains_next : (m : Limits) (t : ℕ) (l : Local) (d : Draining) → IsCommon m t l → HasNone l → d.cpu.0 < m.cpus → d.taken ≤ (l.regs.class.0 + 1) * most_slots → IsNext m t l.cpu l.regs.epoch (stands d.cpu true no_class_empty) (drains_on m.rows l d)
+pub drains_next : (m : Limits) (t : ℕ) (l : Local) (d : Draining) → IsCommon m t l → HasNone l → d.cpu.0 < m.cpus → d.taken ≤ (l.regs.class.0 + 1) * most_slots → IsNext m t l.cpu l.regs.epoch (stands d.cpu true (below (l.regs.class.0 + 1))) (drains_on m.rows l d)
 drains_next m t l d c n there few =
     let k : Class = record { 0 = l.regs.class.0 + 1 } in
     let l' : Local = record l { regs = record l.regs { class = k } } in
     let next : Step = does.Cpu (cpu.Take (stopping.Drain d)) in
     let start : Step = does.Cpu (cpu.Start (stopping.Drain d)) in
-    cond_both (ltb (l.regs.class.0 + 1) (length m.rows)) (goes l' next) (goes l start) (IsNext m t l.cpu l.regs.epoch (stands d.cpu true no_class_empty))
+    cond_both (ltb k.0 (length m.rows)) (goes l' next) (goes l start) (IsNext m t l.cpu l.regs.epoch (stands d.cpu true (below k.0)))
     (λ e.
-    (let c' : IsCommon m t l' = record { thread = c.thread; class = ltb-true (l.regs.class.0 + 1) (length m.rows) e; home = c.home; hand = c.hand; loaded = c.loaded; freed = c.freed; ran = c.ran; move = c.move; rest = c.rest } in
+    (let c' : IsCommon m t l' = record { thread = c.thread; class = ltb-true k.0 (length m.rows) e; home = c.home; hand = c.hand; loaded = c.loaded; freed = c.freed; ran = c.ran; move = c.move; rest = c.rest } in
     goes_next m t l' next c' (record { pc = n.begin.pc; nothing = n.begin.nothing }) (record { begin = record { pc = n.begin.pc; nothing = n.begin.nothing }; hand = n.hand; freed = n.freed }, (there, few))))
-    (λ e. goes_next m t l start c n.begin (none_still l start n, there))
+    (λ e.
+    (let last : length m.rows ≡ k.0 = omega (arith, ltb-false k.0 (length m.rows) e, c.class) in
+    subst (λ (j : ℕ). IsNext m t l.cpu l.regs.epoch (stands d.cpu true (below j)) (goes l start)) last (goes_next m t l start c n.begin (none_still l start n, there))))
 
 -- The first step of a call, with its registers.
 pub fresh_next : (m : Limits) (t : ℕ) (l : Local) (next : Step) (k : Class) (s : Seq) (pc : Pc) (ran : ℕ) (moved : Option MoveTo) (rest : List Planned) (ended : ℕ) → IsCommon m t l → HasNone l → k.0 < length m.rows → pc ≡ Begin → ran ≤ l.acts + 1 → IsMove m moved → All (IsPlanned m) rest
-    → (let new : Local = record l { step = next; regs = record l.regs { class = k; seq = s; pc = pc; ran = ran }; moved = moved; rest = rest; ended = ended; acts = l.acts + 1 } in (HasNone new → StepShape m new next) → IsNext m t l.cpu l.regs.epoch (standing_of next) new)
+    → (let new : Local = record l { step = next; regs = record l.regs { class = k; seq = s; pc = pc; ran = ran }; moved = moved; rest = rest; ended = ended; acts = l.acts + 1 } in (HasNone new → StepShape m new next) → IsNext m t l.cpu l.regs.epoch (standing_of m.rows k.0 next) new)
 fresh_next m t l next k s pc ran moved rest ended c n low begin few move planned shape =
     record {
       shaped = record { thread = c.thread; class = low; home = c.home; hand = c.hand; loaded = c.loaded; freed = c.freed; ran = few; move = move; rest = planned; step = shape (record { begin = record { pc = begin; nothing = n.begin.nothing }; hand = n.hand; freed = n.freed }) };
@@ -163,9 +169,9 @@ call_next m t l (Malloc label size) moved rest ended rows c n there move planned
 call_next m t l (Free label) moved rest ended rows c n there move planned = fresh_next m t l (does.Names (names.Take label)) l.regs.class l.regs.seq l.regs.pc 0 moved rest ended c n c.class n.begin.pc (omega arith) move planned (λ none. none)
 call_next m t l (Release pages) moved rest ended rows c n there move planned = fresh_next m t l (does.Heap (heap.Unback pages)) l.regs.class l.regs.seq l.regs.pc 0 moved rest ended c n c.class n.begin.pc (omega arith) move planned (λ none. none)
 call_next m t l (Drain c) moved rest ended rows common n there move planned =
-    fresh_next m t l (does.Cpu (cpu.Stop (stopping.Drain (record { cpu = c; taken = 0 })))) (record { 0 = 0 }) seq.Pop Begin 0 moved rest ended common n rows.some refl (omega arith) move planned (λ none. (none, (there, omega arith)))
+    fresh_next m t l (does.Cpu (cpu.Stop (stopping.Drain (record { cpu = c; taken = 0 })))) (record { 0 = 0 }) seq.Pop Begin 0 moved rest ended common n rows.some refl (omega arith) move planned (λ none. (none, (there, omega arith), refl))
 call_next m t l (Resize c class cap) moved rest ended rows common n there move planned =
-    fresh_next m t l (does.Cpu (cpu.Stop (stopping.Resize (record { cpu = c; class = class; cap = cap })))) class seq.Pop Begin 0 moved rest ended common n there.1 refl (omega arith) move planned (λ none. (none, (there.0, refl)))
+    fresh_next m t l (does.Cpu (cpu.Stop (stopping.Resize (record { cpu = c; class = class; cap = cap })))) class seq.Pop Begin 0 moved rest ended common n there.1 refl (omega arith) move planned (λ none. (none, (there.0, refl), tt))
 
 -- the thread comes to the first of these calls
 come_next : (m : Limits) (t : ℕ) (l : Local) (calls : List Planned) (ended : ℕ) → AreRows m.rows → IsCommon m t l → HasNone l → All (IsPlanned m) calls → IsNext m t l.cpu l.regs.epoch None (next_call m.rows (record l { ended = ended; acts = l.acts + 1 }) calls)
@@ -199,12 +205,12 @@ serves_next m t l a (x ∷ others) is some few c begin none =
     stocks_next m t l' (record { label = a.label; addr = x }) others (ap (drop 1) is) (omega (arith, few)) c' (record { pc = begin.pc; nothing = begin.nothing }) none
 
 -- what comes once no span is left to give back
-pub onward_next : (m : Limits) (t : ℕ) (l : Local) (o : Onward) → AreRows m.rows → IsCommon m t l → HasNone l → IsOnward m l o → IsNext m t l.cpu l.regs.epoch (onward_standing o) (goes_onward m.rows l o)
+pub onward_next : (m : Limits) (t : ℕ) (l : Local) (o : Onward) → AreRows m.rows → IsCommon m t l → HasNone l → IsOnward m l o → IsNext m t l.cpu l.regs.epoch (onward_standing l.regs.class.0 o) (goes_onward m.rows l o)
 onward_next m t l (onward.Publish s) rows c n is = publishes_next m t l s c n
 onward_next m t l (onward.Drain d) rows c n is = drains_next m t l d c n is.0 is.1
 onward_next m t l onward.End rows c n is = ends_next m t l rows c n
 
-pub clears_next : (m : Limits) (t : ℕ) (l : Local) (o : Onward) (spans : List SpanRef) → l.freed.items ≡ spans → AreRows m.rows → IsCommon m t l → IsAtBegin l.regs → l.regs.hand.items ≡ [] → IsOnward m l o → IsNext m t l.cpu l.regs.epoch (onward_standing o) (clears m.rows l o spans)
+pub clears_next : (m : Limits) (t : ℕ) (l : Local) (o : Onward) (spans : List SpanRef) → l.freed.items ≡ spans → AreRows m.rows → IsCommon m t l → IsAtBegin l.regs → l.regs.hand.items ≡ [] → IsOnward m l o → IsNext m t l.cpu l.regs.epoch (onward_standing l.regs.class.0 o) (clears m.rows l o spans)
 clears_next m t l o [] freed rows c begin hand is = onward_next m t l o rows c (record { begin = begin; hand = hand; freed = freed }) is
 clears_next m t l o (s ∷ others) freed rows c begin hand is = goes_next m t l (does.Map (map.ClearSpan o)) c begin (record { begin = begin; hand = hand; some = (let e = ap length freed in omega arith) }, onward_still m l (does.Map (map.ClearSpan o)) o is)
 
@@ -218,26 +224,26 @@ gave_common m t l (giving.Freed f) freed c size = record { thread = c.thread; cl
 gave_common m t l (giving.Drained d) freed c size = record { thread = c.thread; class = c.class; home = c.home; hand = omega (arith, c.hand); loaded = c.loaded; freed = size; ran = c.ran; move = c.move; rest = c.rest }
 gave_common m t l giving.Resized freed c size = record { thread = c.thread; class = c.class; home = c.home; hand = omega (arith, c.hand); loaded = c.loaded; freed = size; ran = c.ran; move = c.move; rest = c.rest }
 
-pub given_back_next : (m : Limits) (t : ℕ) (l : Local) (g : Giving) (freed : Contents SpanRef) → AreRows m.rows → IsCommon m t l → IsAtBegin l.regs → length freed.items + freed.spare ≡ HAND_ROOM → IsGiving m l g → IsNext m t l.cpu l.regs.epoch (giving_standing g) (given_back m.rows l g freed)
+pub given_back_next : (m : Limits) (t : ℕ) (l : Local) (g : Giving) (freed : Contents SpanRef) → AreRows m.rows → IsCommon m t l → IsAtBegin l.regs → length freed.items + freed.spare ≡ HAND_ROOM → IsGiving m l g → IsNext m t l.cpu l.regs.epoch (giving_standing l.regs.class.0 g) (given_back m.rows l g freed)
 given_back_next m t l (giving.Rest s) freed rows c begin size is = clears_next m t (gave l (giving.Rest s) freed) (onward.Publish s) freed.items refl rows (gave_common m t l (giving.Rest s) freed c size) (record { pc = begin.pc; nothing = begin.nothing }) refl tt
 given_back_next m t l (giving.Freed f) freed rows c begin size is = clears_next m t (gave l (giving.Freed f) freed) onward.End freed.items refl rows (gave_common m t l (giving.Freed f) freed c size) (record { pc = begin.pc; nothing = begin.nothing }) refl tt
 given_back_next m t l (giving.Drained d) freed rows c begin size is = clears_next m t (gave l (giving.Drained d) freed) (onward.Drain d) freed.items refl rows (gave_common m t l (giving.Drained d) freed c size) (record { pc = begin.pc; nothing = begin.nothing }) refl is
 given_back_next m t l giving.Resized freed rows c begin size is = clears_next m t (gave l giving.Resized freed) onward.End freed.items refl rows (gave_common m t l giving.Resized freed c size) (record { pc = begin.pc; nothing = begin.nothing }) refl tt
 
-given_keeps : (m : Limits) (t : ℕ) (l : Local) (g : Giving) → AreRows m.rows → IsCommon m t l → IsAtBegin l.regs → IsGiving m l g → IsNext m t l.cpu l.regs.epoch (giving_standing g) (clears m.rows (decides_free (with_hand l (emptied l.regs.hand)) g) (behind g) l.freed.items)
+given_keeps : (m : Limits) (t : ℕ) (l : Local) (g : Giving) → AreRows m.rows → IsCommon m t l → IsAtBegin l.regs → IsGiving m l g → IsNext m t l.cpu l.regs.epoch (giving_standing l.regs.class.0 g) (clears m.rows (decides_free (with_hand l (emptied l.regs.hand)) g) (behind g) l.freed.items)
 given_keeps m t l (giving.Rest s) rows c begin is = given_back_next m t l (giving.Rest s) l.freed rows c begin c.freed is
 given_keeps m t l (giving.Freed f) rows c begin is = given_back_next m t l (giving.Freed f) l.freed rows c begin c.freed is
 given_keeps m t l (giving.Drained d) rows c begin is = given_back_next m t l (giving.Drained d) l.freed rows c begin c.freed is
 given_keeps m t l giving.Resized rows c begin is = given_back_next m t l giving.Resized l.freed rows c begin c.freed is
 
 -- the hand is given to the cache of a domain
-pub given_next : (m : Limits) (t : ℕ) (l : Local) (g : Giving) → AreRows m.rows → IsCommon m t l → HasHand most_slots l → IsGiving m l g → IsNext m t l.cpu l.regs.epoch (giving_standing g) (given m.rows l g)
+pub given_next : (m : Limits) (t : ℕ) (l : Local) (g : Giving) → AreRows m.rows → IsCommon m t l → HasHand most_slots l → IsGiving m l g → IsNext m t l.cpu l.regs.epoch (giving_standing l.regs.class.0 g) (given m.rows l g)
 given_next m t l g rows c n is =
     let l' : Local = decides_free (with_hand l (emptied l.regs.hand)) g in
-    subst (λ (xs : List SpanRef). IsNext m t l.cpu l.regs.epoch (giving_standing g) (clears m.rows l' (behind g) xs)) n.freed (given_keeps m t l g rows c n.begin is)
+    subst (λ (xs : List SpanRef). IsNext m t l.cpu l.regs.epoch (giving_standing l.regs.class.0 g) (clears m.rows l' (behind g) xs)) n.freed (given_keeps m t l g rows c n.begin is)
 
 -- the seat of the next local
-pub seat_is : (m : Limits) (t : ℕ) (home : CpuNo) (epoch : ℕ) (o : Option Standing) (after : Local) → IsNext m t home epoch o after → (let v : Seat = record { regs = after.regs; cpu = home.0; standing = o } in v) ≡ seat_of after
+pub seat_is : (m : Limits) (t : ℕ) (home : CpuNo) (epoch : ℕ) (o : Option Standing) (after : Local) → IsNext m t home epoch o after → (let v : Seat = record { regs = after.regs; cpu = home.0; standing = o } in v) ≡ seat_of m.rows after
 seat_is m t home epoch o after n =
     ap (λ (c : ℕ). let v : Seat = record { regs = after.regs; cpu = c; standing = o } in v) (sym (ap (λ (c : CpuNo). c.0) n.home))
     ∙ ap (λ (x : Option Standing). let v : Seat = record { regs = after.regs; cpu = after.cpu.0; standing = x } in v) (sym n.standing)

@@ -15,7 +15,7 @@ use Rattle.call_steps.specs.Local.{Decided, first_of_malloc, first_of_call, firs
 use Rattle.call_steps.specs.Calls.{undecided, under, without_call, IsOf}
 use Rattle.call_steps.specs.declared.step.Step.{Step}
 use Rattle.call_steps.specs.declared.step.Step.TheVariants as does
-use Rattle.call_steps.specs.Kept.{decided_by, call_at, HasDomain, HasLines, IsKept}
+use Rattle.call_steps.specs.Kept.{decided_by, call_at, HasDomain, IsKept}
 
 without : (o : Option Call) → is_some o ≡ true → without_call o ≡ 0
 without None is = absurd (cc)
@@ -74,8 +74,8 @@ decided_more (p ∷ ps) [] a call at = cc
 decided_more (p ∷ ps) (b ∷ bs) a call at = ap (λ ds. record { act = b.act; call = p.call; answer = b.answer } ∷ ds) (decided_more ps bs a call at)
 
 -- what the code keeps, once the thread has come to a call
-pub kept_at : (rows : List ClassRow) (script : List Planned) (place : ℕ) (next : Step) (answers : Contents Answered) (domains : ℕ) → place ≤ length script → length script < 2 ^ 64 → length answers.items ≡ place → length answers.items + answers.spare ≡ length script → HasLines script answers.items → next ≡ first_act rows (slice_get script place) → IsKept script place next answers domains
-kept_at rows script place next answers domains within few count room lines is =
+pub kept_at : (rows : List ClassRow) (script : List Planned) (place : ℕ) (next : Step) (answers : Contents Answered) (domains : ℕ) → place ≤ length script → length script < 2 ^ 64 → length answers.items ≡ place → length answers.items + answers.spare ≡ length script → next ≡ first_act rows (slice_get script place) → IsKept script place next answers domains
+kept_at rows script place next answers domains within few count room is =
     record {
       within = within;
       few = few;
@@ -83,31 +83,7 @@ kept_at rows script place next answers domains within few count room lines is =
       room = room;
       call = subst (λ s. IsOf s (call_at script place)) (sym is) (first_is_of rows (slice_get script place));
       domain = subst (λ s. HasDomain s domains) (sym is) (first_domain rows (slice_get script place) domains);
-      lines = lines;
     }
-
--- a call that isn't decided is one of the script
-within : (script : List Planned) (place : ℕ) (c : Call) → call_at script place ≡ Some c → place < length script
-within [] place c at = absurd (cc)
-within (p ∷ ps) zero c at = omega arith
-within (p ∷ ps) (suc place) c at = omega (arith, within ps place c at)
-
-within_by : (script : List Planned) (place : ℕ) (o : Option Call) → is_some o ≡ true → ((c : Call) → o ≡ Some c → call_at script place ≡ Some c) → place < length script
-within_by script place None some is = absurd (cc)
-within_by script place (Some c) some is = within script place c (is c refl)
-
-pub call_within : (script : List Planned) (place : ℕ) (s : Step) → is_some (undecided s) ≡ true → IsOf s (call_at script place) → place < length script
-call_within script place s some is = within_by script place (undecided s) some is
-
--- one answer more has the line of the call behind those that were answered
-pub lines_more : (script : List Planned) (answers : List Answered) (a : Answered) (p : Planned) → slice_get script (length answers) ≡ Some p → a.line ≡ p.line → HasLines script answers → HasLines script (answers ++ a ∷ [])
-lines_more [] [] a p at line lines = absurd (cc)
-lines_more [] (b ∷ bs) a p at line lines = absurd (cc)
-lines_more (q ∷ qs) [] a p at line lines = let same : q.line ≡ p.line = cc in ap (λ n. n ∷ []) (line ∙ sym same)
-lines_more (q ∷ qs) (b ∷ bs) a p at line lines =
-    let first : b.line ≡ q.line = cc in
-    let rest : HasLines qs bs = cc in
-    ap (λ n. n ∷ map (λ (x : Answered). x.line) (bs ++ a ∷ [])) first ∙ ap (λ ns. q.line ∷ ns) (lines_more qs bs a p at line rest)
 
 -- the decided calls are told by the answers and the script
 pub acts_told : (script : List Planned) (answers : List Answered) → length answers ≤ length script → map (λ (a : Answered). a.act) answers ≡ map (λ (d : Decided). d.act) (decided_by script answers)

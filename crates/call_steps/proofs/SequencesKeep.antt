@@ -67,22 +67,22 @@ abbrev pub Replies : Limits → ℕ → Local → CpuStep → Type 0
 Replies m t l row = (old new : SlabRow) (r : Regs) (o : Reply) → ReplyMoves o old new l.regs r → AreAtBegin r → AreOfSame l.regs r → IsCommon m t (with_regs l r) → IsNext m t l.cpu r.epoch None (replied m.rows (with_regs l r) row o)
 
 -- a sequence that goes on, or is at its begin again
-still_keeps : (m : Limits) (i t : ℕ) (p new : CpuPart) (l : Local) (row : CpuStep) (r : Regs) → l.step ≡ does.Cpu row → IsCommon m t (with_regs l r) → CpuShape m (goes (with_regs l r) l.step) row → seats.SeatKeeps (length m.rows) i (thread_no t) p (seat_of l) new (seats.with_regs (seat_of l) r) → new.epoch ≤ p.epoch + 1 → ActKeeps m i t p l (new, goes (with_regs l r) l.step)
-still_keeps m i t p new l row r is c shape keeps low =
+still_keeps : (m : Limits) (i t : ℕ) (p new : CpuPart) (l : Local) (row : CpuStep) (r : Regs) → l.step ≡ does.Cpu row → r.class ≡ l.regs.class → IsCommon m t (with_regs l r) → CpuShape m (goes (with_regs l r) l.step) row → seats.SeatKeeps (length m.rows) i (thread_no t) p (seat_of m.rows l) new (seats.with_regs (seat_of m.rows l) r) → new.epoch ≤ p.epoch + 1 → ActKeeps m i t p l (new, goes (with_regs l r) l.step)
+still_keeps m i t p new l row r is class c shape keeps low =
     record {
-      keeps = keeps;
+      keeps = subst (λ (v : seats.Seat). seats.SeatKeeps (length m.rows) i (thread_no t) p (seat_of m.rows l) new v) (ap (λ (k : Class). let v : seats.Seat = record { regs = r; cpu = l.cpu.0; standing = standing_of m.rows k.0 l.step } in v) (sym class)) keeps;
       shaped = record { thread = c.thread; class = c.class; home = c.home; hand = c.hand; loaded = c.loaded; freed = c.freed; ran = c.ran; move = c.move; rest = c.rest; step = subst (λ (s : Step). StepShape m (goes (with_regs l r) l.step) s) (sym is) shape };
       epoch = low;
     }
 
-answer_keeps : (m : Limits) (i t : ℕ) (p new : CpuPart) (l : Local) (row : CpuStep) (r : Regs) (a : Instructed) → IsShaped m t l → l.step ≡ does.Cpu row → cpu_standing row ≡ None → Stays m l row → Replies m t l row → (is_pop l.regs.seq ≡ true → HasRoom l.regs) → Instructs p l.regs (record { cpu = new; regs = r; answer = a }) → seats.SeatKeeps (length m.rows) i (thread_no t) p (seat_of l) new (seats.with_regs (seat_of l) r)
+answer_keeps : (m : Limits) (i t : ℕ) (p new : CpuPart) (l : Local) (row : CpuStep) (r : Regs) (a : Instructed) → IsShaped m t l → l.step ≡ does.Cpu row → cpu_standing m.rows l.regs.class.0 row ≡ None → Stays m l row → Replies m t l row → (is_pop l.regs.seq ≡ true → HasRoom l.regs) → Instructs p l.regs (record { cpu = new; regs = r; answer = a }) → seats.SeatKeeps (length m.rows) i (thread_no t) p (seat_of m.rows l) new (seats.with_regs (seat_of m.rows l) r)
     → ActKeeps m i t p l (new, instructed_to m.rows (with_regs l r) row a)
-answer_keeps m i t p new l row r answer.In s is none stays replies rooms x keeps = still_keeps m i t p new l row r is (regs_common m t l r s (x.same rooms) x.ran) (stays (goes (with_regs l r) l.step) (x.same rooms).seq (x.same rooms).class x.moves.hand refl) keeps x.epoch
-answer_keeps m i t p new l row r answer.Back s is none stays replies rooms x keeps = still_keeps m i t p new l row r is (regs_common m t l r s (x.same rooms) x.ran) (stays (goes (with_regs l r) l.step) (x.same rooms).seq (x.same rooms).class x.moves.hand refl) keeps x.epoch
-answer_keeps m i t p new l row r answer.Ran s is none stays replies rooms x keeps = still_keeps m i t p new l row r is (regs_common m t l r s (x.same rooms) x.ran) (stays (goes (with_regs l r) l.step) (x.same rooms).seq (x.same rooms).class x.moves.hand refl) keeps x.epoch
+answer_keeps m i t p new l row r answer.In s is none stays replies rooms x keeps = still_keeps m i t p new l row r is (x.same rooms).class (regs_common m t l r s (x.same rooms) x.ran) (stays (goes (with_regs l r) l.step) (x.same rooms).seq (x.same rooms).class x.moves.hand refl) keeps x.epoch
+answer_keeps m i t p new l row r answer.Back s is none stays replies rooms x keeps = still_keeps m i t p new l row r is (x.same rooms).class (regs_common m t l r s (x.same rooms) x.ran) (stays (goes (with_regs l r) l.step) (x.same rooms).seq (x.same rooms).class x.moves.hand refl) keeps x.epoch
+answer_keeps m i t p new l row r answer.Ran s is none stays replies rooms x keeps = still_keeps m i t p new l row r is (x.same rooms).class (regs_common m t l r s (x.same rooms) x.ran) (stays (goes (with_regs l r) l.step) (x.same rooms).seq (x.same rooms).class x.moves.hand refl) keeps x.epoch
 answer_keeps m i t p new l row r (answer.Done o) s is none stays replies rooms x keeps =
-    act_next m i t p new l (replied m.rows (with_regs l r) row o) (seats.with_regs (seat_of l) r) l.cpu r.epoch None keeps
-    (replies (row_at p.slab l.regs.class.0) (row_at new.slab l.regs.class.0) r o x.moves x.begins (x.same rooms) (regs_common m t l r s (x.same rooms) x.ran)) refl refl (sym (ap standing_of is ∙ none)) x.epoch
+    act_next m i t p new l (replied m.rows (with_regs l r) row o) (seats.with_regs (seat_of m.rows l) r) l.cpu r.epoch None keeps
+    (replies (row_at p.slab l.regs.class.0) (row_at new.slab l.regs.class.0) r o x.moves x.begins (x.same rooms) (regs_common m t l r s (x.same rooms) x.ran)) refl refl (sym (ap (standing_of m.rows l.regs.class.0) is ∙ none)) x.epoch
 
 -- the thread's move
 due_is : (o : Option MoveTo) (ran : ℕ) (move : MoveTo) → due o ran ≡ Some move → o ≡ Some move
@@ -93,22 +93,22 @@ leaves_keeps : (m : Limits) (i t : ℕ) (p : CpuPart) (l : Local) (row : CpuStep
 leaves_keeps m i t p l row move w here is stays =
     let u : ThreadNo = l.regs.thread in
     let s = w.shaped in
-    let keeps = lawful.leaves (length m.rows) i move.cpu.0 (thread_no t) p (seat_of l) (home_of m i t p l row w here) in
+    let keeps = lawful.leaves (length m.rows) i move.cpu.0 (thread_no t) p (seat_of m.rows l) (home_of m i t p l row w here) in
     let there : IsMove m (Some move) = subst (λ (o : Option MoveTo). IsMove m o) is s.move in
     let new : Local = goes (moves_to l move) l.step in
     record {
-      keeps = subst (λ (v : ThreadNo). seats.SeatKeeps (length m.rows) i (thread_no t) p (seat_of l) (rseq.left p v) (seat_of new)) (sym (thread_is u t s.thread)) keeps;
+      keeps = subst (λ (v : ThreadNo). seats.SeatKeeps (length m.rows) i (thread_no t) p (seat_of m.rows l) (rseq.left p v) (seat_of m.rows new)) (sym (thread_is u t s.thread)) keeps;
       shaped = record { thread = s.thread; class = s.class; home = there; hand = s.hand; loaded = omega (arith, s.loaded); freed = s.freed; ran = omega (arith, s.ran); move = tt; rest = s.rest; step = subst (λ (x : Step). StepShape m new x) (sym w.step) (stays new refl refl refl refl) };
       epoch = left_epoch p u;
     }
 
-sequence_keeps : (m : Limits) (i t : ℕ) (p : CpuPart) (l : Local) (row : CpuStep) → IsAtCpu m i t p l row → l.cpu.0 ≡ i → cpu_standing row ≡ None → Stays m l row → Replies m t l row → (is_pop l.regs.seq ≡ true → HasRoom l.regs) → (o : Option MoveTo) → due l.moved l.regs.ran ≡ o → ActKeeps m i t p l (sequence_by m.rows p l row o)
+sequence_keeps : (m : Limits) (i t : ℕ) (p : CpuPart) (l : Local) (row : CpuStep) → IsAtCpu m i t p l row → l.cpu.0 ≡ i → cpu_standing m.rows l.regs.class.0 row ≡ None → Stays m l row → Replies m t l row → (is_pop l.regs.seq ≡ true → HasRoom l.regs) → (o : Option MoveTo) → due l.moved l.regs.ran ≡ o → ActKeeps m i t p l (sequence_by m.rows p l row o)
 sequence_keeps m i t p l row w here none stays replies rooms (Some move) is = leaves_keeps m i t p l row move w here (due_is l.moved l.regs.ran move is) stays
 sequence_keeps m i t p l row w here none stays replies rooms None is =
     let x = rseq.instructed p l.regs in
     answer_keeps m i t p x.cpu l row x.regs x.answer w.shaped w.step none stays replies rooms
     (instruct_does (length m.rows) p l.regs w.part w.shaped.class (agrees_of m i t p l row w))
-    (lawful.instructs (length m.rows) i (thread_no t) p (seat_of l) (home_of m i t p l row w here))
+    (lawful.instructs (length m.rows) i (thread_no t) p (seat_of m.rows l) (home_of m i t p l row w here))
 
 -- the act fits
 sequence_fits : (m : Limits) (i t : ℕ) (p : CpuPart) (l : Local) (row : CpuStep) → IsAtCpu m i t p l row → (is_pop l.regs.seq ≡ true → HasRoom l.regs) → FitsSequence m.rows p l
@@ -126,7 +126,7 @@ pub record RowKeeps (m : Limits) (i t : ℕ) (p : CpuPart) (l : Local) (row : Cp
   pub fits : FitsSequence m.rows p l
   pub act : ActKeeps m i t p l (sequence m.rows p l row)
 
-row_keeps : (m : Limits) (i t : ℕ) (p : CpuPart) (l : Local) (row : CpuStep) → IsAtCpu m i t p l row → l.cpu.0 ≡ i → cpu_standing row ≡ None → Stays m l row → Replies m t l row → (is_pop l.regs.seq ≡ true → HasRoom l.regs) → RowKeeps m i t p l row
+row_keeps : (m : Limits) (i t : ℕ) (p : CpuPart) (l : Local) (row : CpuStep) → IsAtCpu m i t p l row → l.cpu.0 ≡ i → cpu_standing m.rows l.regs.class.0 row ≡ None → Stays m l row → Replies m t l row → (is_pop l.regs.seq ≡ true → HasRoom l.regs) → RowKeeps m i t p l row
 row_keeps m i t p l row w here none stays replies rooms = record { fits = sequence_fits m i t p l row w rooms; act = sequence_keeps m i t p l row w here none stays replies rooms (due l.moved l.regs.ran) refl }
 
 -- which way a sequence goes
@@ -265,20 +265,20 @@ batch_keeps m i t p l f w =
     row_keeps m i t p l (cpu.PopBatch f) w w.here refl (batch_stays m l f shape) (batch_replies m t l f (batch_wants m t l f w.rows c shape) shape) (λ pops. batch_rooms m t l f w.rows c shape)
 
 -- Grow
-grew_keeps : (m : Limits) (i t : ℕ) (p new : CpuPart) (l : Local) (a : Asking) (r : Regs) (o : Grew) → IsShaped m t l → l.step ≡ does.Cpu (cpu.Grow a) → CpuShape m l (cpu.Grow a) → Grows p l.regs (record { cpu = new; regs = r; answer = o }) → seats.SeatKeeps (length m.rows) i (thread_no t) p (seat_of l) new (seats.with_regs (seat_of l) r) → ActKeeps m i t p l (new, grew_to (with_regs l r) a o)
+grew_keeps : (m : Limits) (i t : ℕ) (p new : CpuPart) (l : Local) (a : Asking) (r : Regs) (o : Grew) → IsShaped m t l → l.step ≡ does.Cpu (cpu.Grow a) → CpuShape m l (cpu.Grow a) → Grows p l.regs (record { cpu = new; regs = r; answer = o }) → seats.SeatKeeps (length m.rows) i (thread_no t) p (seat_of m.rows l) new (seats.with_regs (seat_of m.rows l) r) → ActKeeps m i t p l (new, grew_to (with_regs l r) a o)
 grew_keeps m i t p new l a r grew.In s is shape x keeps =
     let begin = x.begins (record { pc = shape.0.begin.pc; nothing = shape.0.begin.nothing }) in
-    still_keeps m i t p new l (cpu.Grow a) r is (regs_common m t l r s x.same (omega (arith, x.ran))) (record { begin = record { pc = begin.pc; nothing = begin.nothing }; hand = x.hand ∙ shape.0.hand; freed = shape.0.freed }, pop_asked m l a r shape.1 x.same.class) keeps x.epoch
+    still_keeps m i t p new l (cpu.Grow a) r is x.same.class (regs_common m t l r s x.same (omega (arith, x.ran))) (record { begin = record { pc = begin.pc; nothing = begin.nothing }; hand = x.hand ∙ shape.0.hand; freed = shape.0.freed }, pop_asked m l a r shape.1 x.same.class) keeps x.epoch
 grew_keeps m i t p new l a r grew.Back s is shape x keeps =
     let begin = x.begins (record { pc = shape.0.begin.pc; nothing = shape.0.begin.nothing }) in
-    still_keeps m i t p new l (cpu.Grow a) r is (regs_common m t l r s x.same (omega (arith, x.ran))) (record { begin = record { pc = begin.pc; nothing = begin.nothing }; hand = x.hand ∙ shape.0.hand; freed = shape.0.freed }, pop_asked m l a r shape.1 x.same.class) keeps x.epoch
+    still_keeps m i t p new l (cpu.Grow a) r is x.same.class (regs_common m t l r s x.same (omega (arith, x.ran))) (record { begin = record { pc = begin.pc; nothing = begin.nothing }; hand = x.hand ∙ shape.0.hand; freed = shape.0.freed }, pop_asked m l a r shape.1 x.same.class) keeps x.epoch
 grew_keeps m i t p new l a r grew.Done s is shape x keeps =
     let begin = x.begins (record { pc = shape.0.begin.pc; nothing = shape.0.begin.nothing }) in
-    act_next m i t p new l (looks_on (with_regs l r) a) (seats.with_regs (seat_of l) r) l.cpu r.epoch None keeps
-    (looks_next m t (with_regs l r) a (regs_common m t l r s x.same (omega (arith, x.ran))) (record { begin = record { pc = begin.pc; nothing = begin.nothing }; hand = x.hand ∙ shape.0.hand; freed = shape.0.freed }) (pop_asked m l a r shape.1 x.same.class)) refl refl (sym (ap standing_of is)) x.epoch
+    act_next m i t p new l (looks_on (with_regs l r) a) (seats.with_regs (seat_of m.rows l) r) l.cpu r.epoch None keeps
+    (looks_next m t (with_regs l r) a (regs_common m t l r s x.same (omega (arith, x.ran))) (record { begin = record { pc = begin.pc; nothing = begin.nothing }; hand = x.hand ∙ shape.0.hand; freed = shape.0.freed }) (pop_asked m l a r shape.1 x.same.class)) refl refl (sym (ap (standing_of m.rows l.regs.class.0) is)) x.epoch
 
 pub grow_keeps : (m : Limits) (i t : ℕ) (p : CpuPart) (l : Local) (a : Asking) → IsAtCpu m i t p l (cpu.Grow a) → ActKeeps m i t p l (grows p l a (rseq.grew_here p l.regs))
 grow_keeps m i t p l a w =
     let x = rseq.grew_here p l.regs in
     let shape : CpuShape m l (cpu.Grow a) = shape_of m i t p l (cpu.Grow a) w in
-    grew_keeps m i t p x.cpu l a x.regs x.answer w.shaped w.step shape (grow_does (length m.rows) p l.regs w.part w.shaped.class) (lawful.grows (length m.rows) i (thread_no t) p (seat_of l) (home_of m i t p l (cpu.Grow a) w w.here) shape.0.begin.pc)
+    grew_keeps m i t p x.cpu l a x.regs x.answer w.shaped w.step shape (grow_does (length m.rows) p l.regs w.part w.shaped.class) (lawful.grows (length m.rows) i (thread_no t) p (seat_of m.rows l) (home_of m i t p l (cpu.Grow a) w w.here) shape.0.begin.pc)

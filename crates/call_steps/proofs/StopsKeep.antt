@@ -1,7 +1,8 @@
 -- Acts of a thread that stops a CPU, and of one that leaves it at the end of its call.
-use Rattle.std.proofs.Common.{◌≡◌, refl, ℕ, ◌+◌, ◌*◌, ◌<◌, ◌≤◌, Bool, true, false, eqb, [], ◌∷◌, List, length, reverse, Option, Some, None, ap, sym, ◌∙◌, subst, arith}
+use Rattle.std.proofs.Common.{◌≡◌, refl, ℕ, ◌+◌, ◌*◌, ◌<◌, ◌≤◌, Bool, true, false, [], ◌∷◌, List, length, reverse, Option, Some, None, ap, sym, ◌∙◌, subst, inl, inr, arith}
 use Rattle.std.specs.Prelude.{is_some}
-use Rattle.std.proofs.lemmas.Bool.{eqb-true, eq-eqb}
+use Rattle.std.proofs.Math.Path.{fun_ext}
+use Rattle.std.proofs.lemmas.Bool.{cases_eq, eqb-true, eq-eqb, lt-ltb, ltb-true, le-ltb}
 use Rattle.std.proofs.lemmas.List.{length-append, length-reverse}
 use Rattle.tc_units.specs.Bag.{Contents}
 use Rattle.tc_units.specs.declared.units.Addr.{Addr}
@@ -32,9 +33,9 @@ use Rattle.call_steps.specs.Hands.{with_hand}
 use Rattle.call_steps.specs.Kept.{cpu_of}
 use Rattle.call_steps.specs.CpuActs.{moves_to, stops, drained, took, gives_taken, started, left_for, cpu_row}
 use Rattle.call_steps.specs.Fits.{taken_by, FitsCpu}
-use Rattle.call_steps.specs.Shapes.{stands, no_class_empty, standing_of, seat_of, AreRows, Limits, IsMove, most_slots, IsStop, IsAtBegin, HasHand, HasNone, CpuShape, IsShaped}
+use Rattle.call_steps.specs.Shapes.{stands, no_class_empty, below, alone, empty_to_take, empty_to_start, standing_of, standing_in, seat_of, AreRows, Limits, IsMove, most_slots, IsStop, IsAtFirst, IsAtBegin, HasHand, HasNone, CpuShape, IsShaped}
 use Rattle.call_steps.specs.Laws.{thread_no, IsAtCpu, CpuActKeeps}
-use Rattle.call_steps.proofs.NextShapes.{IsCommon, common_of, IsNext, goes_next, none_still, stop_still, gives_next, drains_next, ends_next, decided_ends}
+use Rattle.call_steps.proofs.NextShapes.{IsCommon, common_of, IsNext, goes_next, none_still, stop_still, first_still, gives_next, drains_next, ends_next, decided_ends}
 use Rattle.call_steps.proofs.ActKeeps.{ActKeeps, thread_is, act_next, same_keeps, home_of, shape_of, standing_is, stands_at, held_of, left_epoch}
 
 -- the act fits, and keeps
@@ -54,14 +55,14 @@ stop_by : (m : Limits) (i t : ℕ) (p : CpuPart) (l : Local) (s : Stopping) (o :
 stop_by m i t p l s None w none =
     let shape : CpuShape m l (cpu.Stop s) = shape_of m i t p l (cpu.Stop s) w in
     let next : Step = does.Cpu (cpu.Fence s) in
-    let nowhere : standing_of l.step ≡ None = standing_is m i t p l (cpu.Stop s) w in
-    let keeps = lawful.stops (length m.rows) i (thread_no t) p (seat_of l) w.part w.seat shape.0.begin.pc nowhere none in
-    let mine = subst (λ (u : ThreadNo). seats.SeatKeeps (length m.rows) i (thread_no t) p (seat_of l) (drains.stopped p u) (seats.standing_at (seat_of l) i false (λ j. false))) (sym (thread_is l.regs.thread t w.shaped.thread)) keeps in
-    act_next m i t p (drains.stopped p l.regs.thread) l (goes l next) (seats.standing_at (seat_of l) i false (λ j. false)) l.cpu l.regs.epoch (standing_of next) mine
-    (goes_next m t l next (common_of m t l w.shaped) shape.0.begin (none_still l next shape.0, stop_still m l next s shape.1)) refl refl (stands_at (cpu_of s) i false no_class_empty w.here) (stopped_epoch p.stopper p l.regs.thread)
+    let nowhere : standing_in m.rows l ≡ None = standing_is m i t p l (cpu.Stop s) w in
+    let keeps = lawful.stops (length m.rows) i (thread_no t) p (seat_of m.rows l) w.part w.seat shape.0.begin.pc nowhere none in
+    let mine = subst (λ (u : ThreadNo). seats.SeatKeeps (length m.rows) i (thread_no t) p (seat_of m.rows l) (drains.stopped p u) (seats.standing_at (seat_of m.rows l) i false (λ j. false))) (sym (thread_is l.regs.thread t w.shaped.thread)) keeps in
+    act_next m i t p (drains.stopped p l.regs.thread) l (goes l next) (seats.standing_at (seat_of m.rows l) i false (λ j. false)) l.cpu l.regs.epoch (standing_of m.rows l.regs.class.0 next) mine
+    (goes_next m t l next (common_of m t l w.shaped) shape.0.begin (none_still l next shape.0, stop_still m l next s shape.1, first_still l next s shape.2)) refl refl (stands_at (cpu_of s) i false no_class_empty w.here) (stopped_epoch p.stopper p l.regs.thread)
 stop_by m i t p l s (Some owner) w is =
     let shape : CpuShape m l (cpu.Stop s) = shape_of m i t p l (cpu.Stop s) w in
-    act_next m i t p p l _ (seat_of l) l.cpu l.regs.epoch None (same_keeps (length m.rows) i (thread_no t) p (seat_of l) w.part w.seat)
+    act_next m i t p p l _ (seat_of m.rows l) l.cpu l.regs.epoch None (same_keeps (length m.rows) i (thread_no t) p (seat_of m.rows l) w.part w.seat)
     (decided_ends m t l _ w.rows (common_of m t l w.shaped) shape.0 refl) refl refl (sym (standing_is m i t p l (cpu.Stop s) w)) (omega arith)
 
 pub stop_keeps : (m : Limits) (i t : ℕ) (p : CpuPart) (l : Local) (s : Stopping) → IsAtCpu m i t p l (cpu.Stop s) → CpuActKeeps m i t p l (cpu.Stop s)
@@ -70,7 +71,11 @@ stop_keeps m i t p l s w =
     (λ e. subst (λ (o : Option seats.Standing). seats.IsStopping i o) (standing_is m i t p l (cpu.Stop s) w) (w.seat.stops (e ∙ ap (λ (u : ThreadNo). Some u) (thread_is l.regs.thread t w.shaped.thread))))
     (stop_by m i t p l s p.stopper w refl)
 
--- Fence
+-- Fence: a drain is to take class 0 then, below which there is none
+nothing_taken : (l : Local) (s : Stopping) → IsAtFirst l s → empty_to_take l.regs.class.0 s ≡ no_class_empty
+nothing_taken l (stopping.Drain d) is = ap below is ∙ fun_ext (λ j. le-ltb j 0 (omega arith))
+nothing_taken l (stopping.Resize r) is = refl
+
 pub fence_keeps : (m : Limits) (i t : ℕ) (p : CpuPart) (l : Local) (s : Stopping) → IsAtCpu m i t p l (cpu.Fence s) → CpuActKeeps m i t p l (cpu.Fence s)
 fence_keeps m i t p l s w =
     let shape : CpuShape m l (cpu.Fence s) = shape_of m i t p l (cpu.Fence s) w in
@@ -78,28 +83,34 @@ fence_keeps m i t p l s w =
     let is = standing_is m i t p l (cpu.Fence s) w in
     let has = held_of m i t p l (cpu_of s) false no_class_empty w.seat is w.here in
     act_keeps m i t p l (cpu.Fence s) (stopper_is m t l p.stopper w.shaped has.stopper, omega (arith, w.epoch))
-    (act_next m i t p (drains.fenced p) l (goes l next) (seats.standing_at (seat_of l) i true (λ j. false)) l.cpu l.regs.epoch (standing_of next)
-    (lawful.fences (length m.rows) i (thread_no t) p (seat_of l) (record { cpu = (cpu_of s).0; fenced = false; empty = no_class_empty }) w.part w.seat shape.0.begin.pc is w.here)
-    (goes_next m t l next (common_of m t l w.shaped) shape.0.begin (none_still l next shape.0, stop_still m l next s shape.1)) refl refl (stands_at (cpu_of s) i true no_class_empty w.here) (omega arith))
+    (act_next m i t p (drains.fenced p) l (goes l next) (seats.standing_at (seat_of m.rows l) i true (λ j. false)) l.cpu l.regs.epoch (standing_of m.rows l.regs.class.0 next)
+    (lawful.fences (length m.rows) i (thread_no t) p (seat_of m.rows l) (record { cpu = (cpu_of s).0; fenced = false; empty = no_class_empty }) w.part w.seat shape.0.begin.pc is w.here)
+    (goes_next m t l next (common_of m t l w.shaped) shape.0.begin (none_still l next shape.0, stop_still m l next s shape.1)) refl refl (ap (stands (cpu_of s) true) (nothing_taken l s shape.2) ∙ stands_at (cpu_of s) i true no_class_empty w.here) (omega arith))
 
 -- Take: which classes the thread knows to be empty behind it
-abbrev empty_of : Stopping → ℕ → Bool
-empty_of (stopping.Drain d) = no_class_empty
-empty_of (stopping.Resize r) = λ j. eqb j r.class.0
+abbrev empty_of : ℕ → Stopping → ℕ → Bool
+empty_of k (stopping.Drain d) = below (k + 1)
+empty_of k (stopping.Resize r) = alone r.class.0
 
-is_empty : (m : Limits) (l : Local) (p : CpuPart) (s : Stopping) → l.regs.class.0 < length p.slab.rows → IsStop m l s → (j : ℕ) → empty_of s j ≡ true → (row_at (drains.taken p l.regs.class.0).slab j).top ≡ 0
-is_empty m l p (stopping.Drain d) low is j no_one = absurd (cc)
-is_empty m l p (stopping.Resize r) low is j same =
+known_before : (m : Limits) (l : Local) (s : Stopping) → IsStop m l s → (j : ℕ) → empty_of l.regs.class.0 s j ≡ true → (l.regs.class.0 ≡ j → ⊥) → empty_to_take l.regs.class.0 s j ≡ true
+known_before m l (stopping.Drain d) is j known apart = lt-ltb j l.regs.class.0 (omega (arith, ltb-true j (l.regs.class.0 + 1) known, apart))
+known_before m l (stopping.Resize r) is j known apart = absurd (apart (ap (λ (c : Class). c.0) is.1 ∙ sym (eqb-true j r.class.0 known)))
+
+is_empty : (m : Limits) (l : Local) (p : CpuPart) (s : Stopping) → Takes p l.regs.class.0 l.regs.hand → l.regs.class.0 < length p.slab.rows → IsStop m l s → ((j : ℕ) → empty_to_take l.regs.class.0 s j ≡ true → (row_at p.slab j).top ≡ 0) → (j : ℕ) → empty_of l.regs.class.0 s j ≡ true → (row_at (drains.taken p l.regs.class.0).slab j).top ≡ 0
+is_empty m l p s x low is before j known =
     let k : ℕ = l.regs.class.0 in
-    let here : j ≡ k = eqb-true j r.class.0 same ∙ sym (ap (λ (c : Class). c.0) is.1) in
-    subst (λ (n : ℕ). (row_at (drains.taken p k).slab n).top ≡ 0) (sym here) (ap (λ (row : SlabRow). row.top) (row_same p.slab.rows k (record (row_at p.slab k) { top = 0 }) low))
+    let new : SlabRow = record (row_at p.slab k) { top = 0 } in
+    elim (cases_eq k j) [
+      | inl here ↦ subst (λ (n : ℕ). (row_at (drains.taken p k).slab n).top ≡ 0) here (ap (λ (row : SlabRow). row.top) (row_same p.slab.rows k new low))
+      | inr apart ↦ ap (λ (row : SlabRow). row.top) (x.others j (λ same. apart (sym same))) ∙ before j (known_before m l s is j known apart)
+    ]
 
-drained_next : (m : Limits) (t : ℕ) (l : Local) (d : Draining) (xs : List Addr) → l.regs.hand.items ≡ xs → length xs ≤ most_slots → AreRows m.rows → IsCommon m t l → IsAtBegin l.regs → l.freed.items ≡ [] → d.cpu.0 < m.cpus → d.taken ≤ l.regs.class.0 * most_slots → IsNext m t l.cpu l.regs.epoch (stands d.cpu true no_class_empty) (drained m.rows l d xs)
+drained_next : (m : Limits) (t : ℕ) (l : Local) (d : Draining) (xs : List Addr) → l.regs.hand.items ≡ xs → length xs ≤ most_slots → AreRows m.rows → IsCommon m t l → IsAtBegin l.regs → l.freed.items ≡ [] → d.cpu.0 < m.cpus → d.taken ≤ l.regs.class.0 * most_slots → IsNext m t l.cpu l.regs.epoch (stands d.cpu true (below (l.regs.class.0 + 1))) (drained m.rows l d xs)
 drained_next m t l d [] is few rows c begin freed there taken = drains_next m t l d c (record { begin = begin; hand = is; freed = freed }) there (omega (arith, taken))
 drained_next m t l d (x ∷ xs) is few rows c begin freed there taken =
     gives_next m t l (giving.Drained (record d { taken = d.taken + length (x ∷ xs) })) c (record { begin = begin; few = omega (arith, ap length is, few); freed = freed }) (there, omega (arith, taken, few))
 
-took_next : (m : Limits) (t : ℕ) (l : Local) (s : Stopping) → length l.regs.hand.items ≤ most_slots → AreRows m.rows → IsCommon m t l → IsAtBegin l.regs → l.freed.items ≡ [] → IsStop m l s → IsNext m t l.cpu l.regs.epoch (stands (cpu_of s) true (empty_of s)) (took m.rows l s)
+took_next : (m : Limits) (t : ℕ) (l : Local) (s : Stopping) → length l.regs.hand.items ≤ most_slots → AreRows m.rows → IsCommon m t l → IsAtBegin l.regs → l.freed.items ≡ [] → IsStop m l s → IsNext m t l.cpu l.regs.epoch (stands (cpu_of s) true (empty_of l.regs.class.0 s)) (took m.rows l s)
 took_next m t l (stopping.Drain d) few rows c begin freed is = drained_next m t l d l.regs.hand.items refl few rows c begin freed is.0 is.1
 took_next m t l (stopping.Resize r) few rows c begin freed is = goes_next m t l (does.Cpu (cpu.SetCap r)) c begin (record { begin = begin; few = few; freed = freed }, is.0, is.1)
 
@@ -119,7 +130,7 @@ take_keeps m i t p l s w =
     let h : Contents Addr = drains.taken_to p k l.regs.hand in
     let l' : Local = with_hand l h in
     let is = standing_is m i t p l (cpu.Take s) w in
-    let has = held_of m i t p l (cpu_of s) true no_class_empty w.seat is w.here in
+    let has = held_of m i t p l (cpu_of s) true (empty_to_take k s) w.seat is w.here in
     let there : k < length p.slab.rows = omega (arith, w.part.classes, c.class) in
     let x : Takes p k l.regs.hand = take_does (length m.rows) k p l.regs.hand w.part c.class in
     let none : length l.regs.hand.items ≡ 0 = ap length shape.0.hand in
@@ -134,12 +145,12 @@ take_keeps m i t p l s w =
       empty = shape.0.hand;
       few = omega (arith, x.all, x.few, taken_few m l s w.rows c.class shape.1);
     })
-    (act_next m i t p (drains.taken p k) l (took m.rows l' s) (seats.standing_at (seats.with_regs (seat_of l) (record l.regs { hand = h })) i true (empty_of s)) l.cpu l.regs.epoch (stands (cpu_of s) true (empty_of s))
-    (lawful.takes (length m.rows) i k (thread_no t) p (seat_of l) h (empty_of s) w.part w.seat (record { pc = shape.0.begin.pc; old = record { cpu = (cpu_of s).0; fenced = true; empty = no_class_empty }; is = is; here = w.here; fenced = refl }) c.class (is_empty m l p s there shape.1))
-    (took_next m t l' s (omega (arith, all, x.few)) w.rows c' (record { pc = shape.0.begin.pc; nothing = shape.0.begin.nothing }) shape.0.freed (stop_handed m l h s shape.1)) refl refl (stands_at (cpu_of s) i true (empty_of s) w.here) (omega arith))
+    (act_next m i t p (drains.taken p k) l (took m.rows l' s) (seats.standing_at (seats.with_regs (seat_of m.rows l) (record l.regs { hand = h })) i true (empty_of k s)) l.cpu l.regs.epoch (stands (cpu_of s) true (empty_of k s))
+    (lawful.takes (length m.rows) i k (thread_no t) p (seat_of m.rows l) h (empty_of k s) w.part w.seat (record { pc = shape.0.begin.pc; old = record { cpu = (cpu_of s).0; fenced = true; empty = empty_to_take k s }; is = is; here = w.here; fenced = refl }) c.class (is_empty m l p s x there shape.1 (λ j known. (has.empty j known).1)))
+    (took_next m t l' s (omega (arith, all, x.few)) w.rows c' (record { pc = shape.0.begin.pc; nothing = shape.0.begin.nothing }) shape.0.freed (stop_handed m l h s shape.1)) refl refl (stands_at (cpu_of s) i true (empty_of k s) w.here) (omega arith))
 
 -- SetCap
-resized_next : (m : Limits) (t : ℕ) (l : Local) (r : Resizing) (answers : List Decided) → IsCommon m t l → HasHand most_slots l → r.cpu.0 < m.cpus → IsNext m t l.cpu l.regs.epoch (stands r.cpu true no_class_empty) (goes (record l { answers = answers }) (does.Cpu (cpu.Start (stopping.Resize r))))
+resized_next : (m : Limits) (t : ℕ) (l : Local) (r : Resizing) (answers : List Decided) → IsCommon m t l → HasHand most_slots l → r.cpu.0 < m.cpus → IsNext m t l.cpu l.regs.epoch (stands r.cpu true (alone r.class.0)) (goes (record l { answers = answers }) (does.Cpu (cpu.Start (stopping.Resize r))))
 resized_next m t l r answers c n there =
     goes_next m t (record l { answers = answers }) (does.Cpu (cpu.Start (stopping.Resize r))) (record { thread = c.thread; class = c.class; home = c.home; hand = c.hand; loaded = c.loaded; freed = c.freed; ran = c.ran; move = c.move; rest = c.rest }) n.begin (record { begin = n.begin; few = n.few; freed = n.freed }, there)
 
@@ -148,22 +159,22 @@ set_cap_keeps m i t p l r w =
     let shape : CpuShape m l (cpu.SetCap r) = shape_of m i t p l (cpu.SetCap r) w in
     let c : IsCommon m t l = common_of m t l w.shaped in
     let k : ℕ = l.regs.class.0 in
-    let mark : ℕ → Bool = λ j. eqb j r.class.0 in
+    let mark : ℕ → Bool = alone r.class.0 in
     let is = standing_is m i t p l (cpu.SetCap r) w in
     let has = held_of m i t p l r.cpu true mark w.seat is w.here in
     let there : k < length p.slab.rows = omega (arith, w.part.classes, c.class) in
     let zero : (row_at p.slab k).top ≡ 0 = (has.empty k (eq-eqb k r.class.0 (ap (λ (j : Class). j.0) shape.2))).1 in
     let next : Step = does.Cpu (cpu.Start (stopping.Resize r)) in
     act_keeps m i t p l (cpu.SetCap r) (record { fenced = record { stopper = stopper_is m t l p.stopper w.shaped has.stopper; fenced = has.fenced refl }; there = there; empty = zero })
-    (act_next m i t p (drains.capped p k r.cap) l (cpu_row m.rows p l (cpu.SetCap r)).1 (seats.standing_at (seat_of l) i true no_class_empty) l.cpu l.regs.epoch (standing_of next)
-    (lawful.sets_cap (length m.rows) i k r.cap (thread_no t) p (seat_of l) no_class_empty w.part w.seat (record { pc = shape.0.begin.pc; old = record { cpu = r.cpu.0; fenced = true; empty = mark }; is = is; here = w.here; fenced = refl }) c.class zero (λ j e. absurd (cc)))
-    (resized_next m t l r (cpu_row m.rows p l (cpu.SetCap r)).1.answers c shape.0 shape.1) refl refl (stands_at r.cpu i true no_class_empty w.here) (omega arith))
+    (act_next m i t p (drains.capped p k r.cap) l (cpu_row m.rows p l (cpu.SetCap r)).1 (seats.standing_at (seat_of m.rows l) i true mark) l.cpu l.regs.epoch (standing_of m.rows l.regs.class.0 next)
+    (lawful.sets_cap (length m.rows) i k r.cap (thread_no t) p (seat_of m.rows l) mark w.part w.seat (record { pc = shape.0.begin.pc; old = record { cpu = r.cpu.0; fenced = true; empty = mark }; is = is; here = w.here; fenced = refl }) c.class zero (λ j known. (has.empty j known).1))
+    (resized_next m t l r (cpu_row m.rows p l (cpu.SetCap r)).1.answers c shape.0 shape.1) refl refl (stands_at r.cpu i true mark w.here) (omega arith))
 
 -- Start
 begins_again : (m : Limits) (i t : ℕ) (p : CpuPart) (l after : Local) (s : Stopping) → IsAtCpu m i t p l (cpu.Start s) → l.regs.pc ≡ Begin → IsNext m t l.cpu l.regs.epoch None after → ActKeeps m i t p l (drains.started p, after)
 begins_again m i t p l after s w begin n =
-    act_next m i t p (drains.started p) l after (record (seat_of l) { standing = None }) l.cpu l.regs.epoch None
-    (lawful.starts (length m.rows) i (thread_no t) p (seat_of l) (record { cpu = (cpu_of s).0; fenced = true; empty = no_class_empty }) w.part w.seat begin (standing_is m i t p l (cpu.Start s) w) w.here) n refl refl refl (omega arith)
+    act_next m i t p (drains.started p) l after (record (seat_of m.rows l) { standing = None }) l.cpu l.regs.epoch None
+    (lawful.starts (length m.rows) i (thread_no t) p (seat_of m.rows l) (record { cpu = (cpu_of s).0; fenced = true; empty = empty_to_start m.rows s }) w.part w.seat begin (standing_is m i t p l (cpu.Start s) w) w.here) n refl refl refl (omega arith)
 
 taken_next : (m : Limits) (t : ℕ) (l : Local) (xs : List Addr) → l.regs.hand.items ≡ xs → AreRows m.rows → IsCommon m t l → HasHand most_slots l → IsNext m t l.cpu l.regs.epoch None (gives_taken m.rows l xs)
 taken_next m t l [] is rows c n = ends_next m t l rows c (record { begin = n.begin; hand = is; freed = n.freed })
@@ -175,7 +186,7 @@ start_by m i t p l (stopping.Resize r) w shape = begins_again m i t p l _ (stopp
 
 pub start_keeps : (m : Limits) (i t : ℕ) (p : CpuPart) (l : Local) (s : Stopping) → IsAtCpu m i t p l (cpu.Start s) → CpuActKeeps m i t p l (cpu.Start s)
 start_keeps m i t p l s w =
-    let has = held_of m i t p l (cpu_of s) true no_class_empty w.seat (standing_is m i t p l (cpu.Start s) w) w.here in
+    let has = held_of m i t p l (cpu_of s) true (empty_to_start m.rows s) w.seat (standing_is m i t p l (cpu.Start s) w) w.here in
     act_keeps m i t p l (cpu.Start s) (record { stopper = stopper_is m t l p.stopper w.shaped has.stopper; fenced = has.fenced refl }) (start_by m i t p l s w (shape_of m i t p l (cpu.Start s) w))
 
 -- Leave
@@ -186,9 +197,9 @@ leave_by m i t p l (Some move) w is n some =
     let l' : Local = moves_to l move in
     let there : IsMove m (Some move) = subst (λ (o : Option MoveTo). IsMove m o) is s.move in
     let c' : IsCommon m t l' = record { thread = s.thread; class = s.class; home = there; hand = s.hand; loaded = omega (arith, s.loaded); freed = s.freed; ran = omega (arith, s.ran); move = tt; rest = s.rest } in
-    let seat : seats.Seat = record (seat_of l) { regs = rseq.dropped l.regs; cpu = move.cpu.0 } in
-    let keeps = lawful.leaves (length m.rows) i move.cpu.0 (thread_no t) p (seat_of l) (home_of m i t p l cpu.Leave w w.here) in
-    let mine = subst (λ (u : ThreadNo). seats.SeatKeeps (length m.rows) i (thread_no t) p (seat_of l) (rseq.left p u) seat) (sym (thread_is l.regs.thread t s.thread)) keeps in
+    let seat : seats.Seat = record (seat_of m.rows l) { regs = rseq.dropped l.regs; cpu = move.cpu.0 } in
+    let keeps = lawful.leaves (length m.rows) i move.cpu.0 (thread_no t) p (seat_of m.rows l) (home_of m i t p l cpu.Leave w w.here) in
+    let mine = subst (λ (u : ThreadNo). seats.SeatKeeps (length m.rows) i (thread_no t) p (seat_of m.rows l) (rseq.left p u) seat) (sym (thread_is l.regs.thread t s.thread)) keeps in
     act_next m i t p (rseq.left p l.regs.thread) l (ends m.rows l') seat move.cpu l.regs.epoch None mine
     (ends_next m t l' w.rows c' (record { begin = record { pc = refl; nothing = refl }; hand = n.hand; freed = n.freed })) refl refl (sym (standing_is m i t p l cpu.Leave w)) (left_epoch p l.regs.thread)
 

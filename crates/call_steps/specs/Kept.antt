@@ -1,5 +1,5 @@
 -- What the code of a local keeps, and the local that it means.
-use Rattle.std.specs.Prelude.{◌≡◌, ℕ, ◌+◌, ◌%◌, ◌^◌, ◌<◌, ◌≤◌, List, [], ◌∷◌, length, drop, map, take, Option, Some, None, option_map, slice_get}
+use Rattle.std.specs.Prelude.{◌≡◌, ℕ, ◌+◌, ◌%◌, ◌^◌, ◌<◌, ◌≤◌, List, [], ◌∷◌, length, drop, Option, Some, None, option_map, slice_get}
 use Rattle.tc_units.specs.Bag.{Contents}
 use Rattle.tc_units.specs.declared.units.CpuNo.{CpuNo}
 use Rattle.tc_units.specs.declared.spans.SpanRef.{SpanRef}
@@ -16,7 +16,7 @@ use Rattle.call_steps.specs.declared.step.CpuStep.{CpuStep}
 use Rattle.call_steps.specs.declared.step.CpuStep.TheVariants.{Pop, Grow, Stock, Push, PopBatch, Stop, Fence, Take, SetCap, Start, Leave}
 use Rattle.call_steps.specs.declared.step.Step.{Step}
 use Rattle.call_steps.specs.declared.step.Step.TheVariants as step
-use Rattle.call_steps.specs.Local.{Local, Decided, lines_of}
+use Rattle.call_steps.specs.Local.{Local, Decided}
 use Rattle.call_steps.specs.Calls.{under, IsOf}
 
 -- the CPU that a call stops
@@ -66,11 +66,7 @@ abbrev pub HasDomain : Step → ℕ → Type 0
 HasDomain (step.Domain row) domains = 0 < domains
 HasDomain other domains = Unit {0}
 
--- each answer has the trace line of its call
-abbrev pub HasLines : List Planned → List Answered → Type 0
-HasLines script answers = map (λ (a : Answered). a.line) answers ≡ take (length answers) (lines_of script)
-
--- the code of a local: its place in its script is the call under way, which has room for its answer until it is decided, and each answer has its call's line
+-- the code of a local: its place in its script is the call under way, which has room for its answer until it is decided
 pub record IsKept (script : List Planned) (place : ℕ) (now : Step) (answers : Contents Answered) (domains : ℕ) : Type 0 where
   pub within : place ≤ length script
   pub few : length script < 2 ^ 64
@@ -78,7 +74,6 @@ pub record IsKept (script : List Planned) (place : ℕ) (now : Step) (answers : 
   pub room : length answers.items + answers.spare ≡ length script
   pub call : IsOf now (call_at script place)
   pub domain : HasDomain now domains
-  pub lines : HasLines script answers.items
 
 -- the local that it means
 abbrev pub local_of : CpuNo → List Planned → ℕ → Step → Regs → Contents SpanRef → Option MoveTo → ℕ → List Answered → ℕ → Local
@@ -94,5 +89,4 @@ local_of cpu script place now regs freed moved acts answers domains =
       acts = acts;
       answers = decided_by script answers;
       domains = domains;
-      lines = lines_of script;
     }

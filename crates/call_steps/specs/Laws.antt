@@ -41,14 +41,14 @@ pub record IsAtCpu (m : Limits) (i t : ℕ) (p : CpuPart) (l : Local) (row : Cpu
   pub step : l.step ≡ does.Cpu row
   pub here : (at_cpu l.cpu row).0 ≡ i
   pub part : CpuOk (length m.rows) p
-  pub seat : SeatOk i (thread_no t) p (seat_of l)
+  pub seat : SeatOk i (thread_no t) p (seat_of m.rows l)
   pub epoch : p.epoch ≤ MOST_PICKS
   pub acts : l.acts ≤ MOST_PICKS
 
 -- Its act fits, keeps all seats, and leaves the local its shape.
 pub record CpuActKeeps (m : Limits) (i t : ℕ) (p : CpuPart) (l : Local) (row : CpuStep) : Type 0 where
   pub fits : FitsCpu m.rows p l row
-  pub keeps : SeatKeeps (length m.rows) i (thread_no t) p (seat_of l) (cpu_row m.rows p l row).0 (seat_of (cpu_row m.rows p l row).1)
+  pub keeps : SeatKeeps (length m.rows) i (thread_no t) p (seat_of m.rows l) (cpu_row m.rows p l row).0 (seat_of m.rows (cpu_row m.rows p l row).1)
   pub shaped : IsShaped m t (cpu_row m.rows p l row).1
   pub epoch : (cpu_row m.rows p l row).0.epoch ≤ p.epoch + 1
 
@@ -58,7 +58,7 @@ CpuActsKeep = (m : Limits) (i t : ℕ) (p : CpuPart) (l : Local) (row : CpuStep)
 -- An act elsewhere leaves the local its shape, and each CPU sees the thread as before.
 pub record IsKept (m : Limits) (t : ℕ) (l new : Local) : Type 0 where
   pub shaped : IsShaped m t new
-  pub seat : (c : ℕ) (q : CpuPart) → SeatOk c (thread_no t) q (seat_of l) → SeatOk c (thread_no t) q (seat_of new)
+  pub seat : (c : ℕ) (q : CpuPart) → SeatOk c (thread_no t) q (seat_of m.rows l) → SeatOk c (thread_no t) q (seat_of m.rows new)
 
 -- the first page of a new span is a number of 32 bits
 abbrev pub IsLowRun : ShardStep → Type 0

@@ -1,5 +1,5 @@
 -- What one thread has: the state of its call under way, what that has in hand, the calls behind it, and its answers.
-use Rattle.std.specs.Prelude.{ℕ, ◌+◌, List, [], ◌∷◌, ◌++◌, drop, map, Option, Some, None, slice_get}
+use Rattle.std.specs.Prelude.{ℕ, ◌+◌, List, [], ◌∷◌, ◌++◌, drop, Option, Some, None, slice_get}
 use Rattle.std.specs.List.{slice_index_or}
 use Rattle.tc_units.specs.Bag.{Contents}
 use Rattle.tc_units.specs.Classes.{class_of}
@@ -35,7 +35,7 @@ pub record Decided : Type 0 where
 
 -- A thread's local: its CPU, the next act of its call under way, its registers with the objects in hand, the spans that it
 -- has to give back, its pending move, the calls behind that call, how many calls have ended, how many acts it has done,
--- its decided calls in their order, in how many domains the CPUs are, and the trace lines of all its calls.
+-- its decided calls in their order, and in how many domains the CPUs are.
 pub record Local : Type 0 where
   pub cpu : CpuNo
   pub step : Step
@@ -47,7 +47,6 @@ pub record Local : Type 0 where
   pub acts : ℕ
   pub answers : List Decided
   pub domains : ℕ
-  pub lines : List ℕ
 
 -- registers that are set for a sequence of a class
 abbrev pub set_for : Class → Seq → Regs → Regs
@@ -119,10 +118,6 @@ first_regs thread =
       loaded = record { items = []; spare = LOADED_ROOM };
     }
 
--- the trace lines of a script
-abbrev pub lines_of : List Planned → List ℕ
-lines_of script = map (λ (p : Planned). p.line) script
-
 -- a thread without a call
 abbrev pub idle_local : ThreadNo → CpuNo → ℕ → Local
 idle_local thread cpu domains =
@@ -137,12 +132,11 @@ idle_local thread cpu domains =
       acts = 0;
       answers = [];
       domains = domains;
-      lines = [];
     }
 
 -- a thread before its first act
 abbrev pub first_local : List ClassRow → ThreadNo → CpuNo → List Planned → ℕ → Local
-first_local rows thread cpu script domains = next_call rows (record (idle_local thread cpu domains) { lines = lines_of script }) script
+first_local rows thread cpu script domains = next_call rows (idle_local thread cpu domains) script
 
 -- the next act decides the call
 abbrev pub decided : Local → Call → Answer → Local

@@ -1,5 +1,5 @@
 -- What holds of each local by its step: its registers, its hand, the spans that it has to give back, and its seat at the CPUs.
-use Rattle.std.specs.Prelude.{◌≡◌, ℕ, ◌+◌, ◌*◌, ◌<◌, ◌≤◌, Bool, true, false, ◌==◌, List, [], ◌∷◌, length, All, Option, Some, None, is_some}
+use Rattle.std.specs.Prelude.{◌≡◌, ℕ, ◌+◌, ◌*◌, ◌<◌, ◌≤◌, Bool, true, false, ◌==◌, nat_lt, List, [], ◌∷◌, length, All, Option, Some, None, is_some}
 use Rattle.tc_units.specs.Units.{page_bytes}
 use Rattle.tc_units.specs.Classes.{class_of}
 use Rattle.tc_units.specs.declared.units.CpuNo.{CpuNo}
@@ -38,55 +38,76 @@ use Rattle.call_steps.specs.declared.step.MapStep.TheVariants as map
 use Rattle.call_steps.specs.Local.{Local, class_row}
 use Rattle.call_steps.specs.Kept.{cpu_of}
 
--- What a call has done to the CPU that it stopped: behind its Take, at SetCap, a resize knows that its class is empty.
+-- What a call has done to the CPU that it stopped: whether it is fenced, and which classes the call has emptied.
 abbrev pub stands : CpuNo → Bool → (ℕ → Bool) → Option Standing
 stands c fenced empty = Some (record { cpu = c.0; fenced = fenced; empty = empty })
 
+-- no class, the classes below a number, and one class
 abbrev pub no_class_empty : ℕ → Bool
 no_class_empty j = false
 
-abbrev pub giving_standing : Giving → Option Standing
-giving_standing (giving.Drained d) = stands d.cpu true no_class_empty
-giving_standing other = None
+abbrev pub below : ℕ → ℕ → Bool
+below n j = nat_lt j n
 
-abbrev pub onward_standing : Onward → Option Standing
-onward_standing (onward.Drain d) = stands d.cpu true no_class_empty
-onward_standing other = None
+abbrev pub alone : ℕ → ℕ → Bool
+alone k j = j == k
 
-abbrev pub cpu_standing : CpuStep → Option Standing
-cpu_standing (cpu.Fence s) = stands (cpu_of s) false no_class_empty
-cpu_standing (cpu.Take s) = stands (cpu_of s) true no_class_empty
-cpu_standing (cpu.SetCap r) = stands r.cpu true (λ j. j == r.class.0)
-cpu_standing (cpu.Start s) = stands (cpu_of s) true no_class_empty
-cpu_standing other = None
+-- A drain empties one class after another: those below class k, before it takes class k; and all, before it starts the CPU
+-- again. A resize empties its own class.
+abbrev pub empty_to_take : ℕ → Stopping → ℕ → Bool
+empty_to_take k (stopping.Drain d) = below k
+empty_to_take k (stopping.Resize r) = no_class_empty
 
-abbrev pub shard_standing : ShardStep → Option Standing
-shard_standing (shard.Give g) = giving_standing g
-shard_standing other = None
+abbrev pub empty_to_start : List ClassRow → Stopping → ℕ → Bool
+empty_to_start rows (stopping.Drain d) = below (length rows)
+empty_to_start rows (stopping.Resize r) = alone r.class.0
 
-abbrev pub domain_standing : DomainStep → Option Standing
-domain_standing (domain.Put g) = giving_standing g
-domain_standing other = None
+-- by the step of a local whose class is k; a drain that gives away what it took has emptied the classes up to k
+abbrev pub giving_standing : ℕ → Giving → Option Standing
+giving_standing k (giving.Drained d) = stands d.cpu true (below (k + 1))
+giving_standing k other = None
 
-abbrev pub heap_standing : HeapStep → Option Standing
-heap_standing (heap.FreeSpan next) = onward_standing next
-heap_standing other = None
+abbrev pub onward_standing : ℕ → Onward → Option Standing
+onward_standing k (onward.Drain d) = stands d.cpu true (below (k + 1))
+onward_standing k other = None
 
-abbrev pub map_standing : MapStep → Option Standing
-map_standing (map.ClearSpan next) = onward_standing next
-map_standing other = None
+abbrev pub cpu_standing : List ClassRow → ℕ → CpuStep → Option Standing
+cpu_standing rows k (cpu.Fence s) = stands (cpu_of s) false no_class_empty
+cpu_standing rows k (cpu.Take s) = stands (cpu_of s) true (empty_to_take k s)
+cpu_standing rows k (cpu.SetCap r) = stands r.cpu true (alone r.class.0)
+cpu_standing rows k (cpu.Start s) = stands (cpu_of s) true (empty_to_start rows s)
+cpu_standing rows k other = None
 
-abbrev pub standing_of : Step → Option Standing
-standing_of (does.Cpu row) = cpu_standing row
-standing_of (does.Shard row) = shard_standing row
-standing_of (does.Domain row) = domain_standing row
-standing_of (does.Heap row) = heap_standing row
-standing_of (does.Map row) = map_standing row
-standing_of other = None
+abbrev pub shard_standing : ℕ → ShardStep → Option Standing
+shard_standing k (shard.Give g) = giving_standing k g
+shard_standing k other = None
+
+abbrev pub domain_standing : ℕ → DomainStep → Option Standing
+domain_standing k (domain.Put g) = giving_standing k g
+domain_standing k other = None
+
+abbrev pub heap_standing : ℕ → HeapStep → Option Standing
+heap_standing k (heap.FreeSpan next) = onward_standing k next
+heap_standing k other = None
+
+abbrev pub map_standing : ℕ → MapStep → Option Standing
+map_standing k (map.ClearSpan next) = onward_standing k next
+map_standing k other = None
+
+abbrev pub standing_of : List ClassRow → ℕ → Step → Option Standing
+standing_of rows k (does.Cpu row) = cpu_standing rows k row
+standing_of rows k (does.Shard row) = shard_standing k row
+standing_of rows k (does.Domain row) = domain_standing k row
+standing_of rows k (does.Heap row) = heap_standing k row
+standing_of rows k (does.Map row) = map_standing k row
+standing_of rows k other = None
+
+abbrev pub standing_in : List ClassRow → Local → Option Standing
+standing_in rows l = standing_of rows l.regs.class.0 l.step
 
 -- the seat of a local at the CPUs
-abbrev pub seat_of : Local → Seat
-seat_of l = record { regs = l.regs; cpu = l.cpu.0; standing = standing_of l.step }
+abbrev pub seat_of : List ClassRow → Local → Seat
+seat_of rows l = record { regs = l.regs; cpu = l.cpu.0; standing = standing_in rows l }
 
 -- the rows of a class table, as far as the call programs go
 pub record IsClassRow (row : ClassRow) : Type 0 where
@@ -136,6 +157,11 @@ most_slots = 2048
 abbrev pub IsStop : Limits → Local → Stopping → Type 0
 IsStop m l (stopping.Drain d) = (d.cpu.0 < m.cpus) × (d.taken ≤ l.regs.class.0 * most_slots)
 IsStop m l (stopping.Resize r) = (r.cpu.0 < m.cpus) × (l.regs.class ≡ r.class)
+
+-- a drain begins at class 0
+abbrev pub IsAtFirst : Local → Stopping → Type 0
+IsAtFirst l (stopping.Drain d) = l.regs.class.0 ≡ 0
+IsAtFirst l (stopping.Resize r) = Unit {0}
 
 -- what an allocation asks for has the registers' class
 abbrev pub IsAsked : Limits → Local → Asking → Type 0
@@ -187,8 +213,8 @@ CpuShape m l (cpu.Grow a) = HasNone l × IsAsked m l a
 CpuShape m l (cpu.Stock s) = InSequence seq.PushBatch l × (0 < length l.regs.hand.items) × (length l.regs.hand.items ≤ LOADED_ROOM)
 CpuShape m l (cpu.Push f) = InSequence seq.Push l × (l.regs.hand.items ≡ f.addr ∷ [])
 CpuShape m l (cpu.PopBatch f) = InSequence (seq.PopBatch (class_row m.rows l).batch) l × (l.regs.hand.items ≡ f.addr ∷ [])
-CpuShape m l (cpu.Stop s) = HasNone l × IsStop m l s
-CpuShape m l (cpu.Fence s) = HasNone l × IsStop m l s
+CpuShape m l (cpu.Stop s) = HasNone l × IsStop m l s × IsAtFirst l s
+CpuShape m l (cpu.Fence s) = HasNone l × IsStop m l s × IsAtFirst l s
 CpuShape m l (cpu.Take s) = HasNone l × IsStop m l s
 CpuShape m l (cpu.SetCap r) = HasHand most_slots l × (r.cpu.0 < m.cpus) × (l.regs.class ≡ r.class)
 CpuShape m l (cpu.Start (stopping.Drain d)) = HasNone l × (d.cpu.0 < m.cpus)

@@ -1,6 +1,6 @@
 //! What one thread has: its script, the next act of its call under way with what that has in hand, and
 //! its answers.
-ghost use Rattle.std.specs.Prelude.{◌≡◌, ℕ, ◌+◌, ◌-◌, ◌<◌, ◌^◌, [], length, drop, map, take, option_map, slice_get, Option, Some, None, IfOk, is_some, true};
+ghost use Rattle.std.specs.Prelude.{◌≡◌, ℕ, ◌+◌, ◌-◌, ◌<◌, ◌^◌, [], length, drop, map, option_map, slice_get, Option, Some, None, IfOk, is_some, true};
 ghost use Rattle.tc_model.specs.declared.calls.Call as call;
 ghost use Rattle.call_steps.specs.declared.step.Step.TheVariants as does;
 ghost use Rattle.call_steps.specs.declared.step.CpuStep.TheVariants.{Leave};
@@ -127,7 +127,6 @@ impl Local {
     pub fn answers(&self) -> &[Answered]
         ensures acts { map (λ a. a.act) result.now ≡ map (λ d. d.act) self.now.answers }
         ensures answers { map (λ a. a.answer) result.now ≡ map (λ d. d.answer) self.now.answers }
-        ensures lines { map (λ a. a.line) result.now ≡ take (length result.now) self.now.lines }
     {
         self.answers.as_slice()
     }
@@ -208,9 +207,7 @@ impl Local {
         ensures domains { self.new.domains ≡ self.old.domains }
         ensures decided { (call : call.Call) → undecided self.old.step ≡ Some call → self.new ≡ record (decided self.old call answer) { step = does.Cpu Leave } }
     {
-        let line = self.script.as_slice()[self.place].line;
         self.answers.push(Answered {
-            line,
             act: self.acts,
             answer,
         });

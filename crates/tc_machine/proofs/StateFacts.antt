@@ -1,7 +1,7 @@
 -- What a state's clauses need of the machine's run that it keeps.
 use Rattle.std.proofs.Common.{◌≡◌, ℕ, ◌≤◌, ◌<◌, List, [], ◌∷◌, length, Some, refl, ap, sym, subst, ◌∙◌, arith}
-use Rattle.std.specs.Prelude.{All}
-use Rattle.std.proofs.lemmas.List.{length-set}
+use Rattle.std.specs.Prelude.{All, ◌++◌}
+use Rattle.std.proofs.lemmas.List.{length-append, length-set}
 use Rattle.std.proofs.lemmas.List.Elements.{All-append, All-cons, All-nil}
 use Rattle.std.proofs.lemmas.Option.{slice_get_within}
 use Rattle.std.specs.List.{range_with_len, slice_get}
@@ -10,17 +10,18 @@ use Rattle.std.proofs.lemmas.List.FromFn.{length-range_with_len}
 use Rattle.tc_model.specs.declared.config.Config.{Config}
 use Rattle.tc_model.specs.Input.{Input}
 use Rattle.tc_model.specs.Run.{Rules, World, world_of, start, run}
-use Rattle.tc_model.specs.Steps.{moving}
-use Rattle.tc_model.proofs.MovingFacts.{IsKeptWith, run_keeps_with, move_all}
+use Rattle.tc_model.specs.Steps.{AllMove, moving}
+use Rattle.tc_model.proofs.MovingFacts.{IsKeptWith, run_keeps_with, front_moves, move_all}
 use Rattle.call_steps.specs.Local.{Local}
 use Rattle.heap_rules.specs.Heap.{Heap}
 use Rattle.alloc_rules.specs.declared.part.Part.{Part}
 use Rattle.alloc_rules.specs.declared.part.Part.TheVariants as part
-use Rattle.alloc_rules.specs.Law.{HoldsAfter}
+use Rattle.alloc_rules.specs.Law.{AreLawful, HoldsAfter}
 use Rattle.alloc_rules.specs.Machine.{first_of}
 use Rattle.alloc_rules.specs.Machine as allocator
 use Rattle.tc_machine.specs.declared.machine.AllocMachine.{AllocMachine}
 use Rattle.tc_machine.specs.Held.{input_in}
+use Rattle.tc_machine.specs.Lawful.{IsLawful}
 use Rattle.tc_machine.specs.Finish.{heap_place}
 use Rattle.alloc_rules.proofs.Laws.{in_every_order}
 use Rattle.tc_machine.proofs.HeapFacts.{heap_kept, heap_only}
@@ -36,7 +37,22 @@ below_locals input t below = omega (arith, below, locals_count input)
 pub limit_is : (m : AllocMachine) (limit : ℕ) → limit ≡ m.config.events → limit ≡ (input_in m).asked.config.events
 limit_is m limit is = is ∙ ap (λ (config : Config). config.events) m.same_config
 
--- what holds between any two picks
+-- what holds between any two picks of an order
+pub lawful_in : (m : AllocMachine) (order : List ℕ) (limit : ℕ) → moving (allocator.rules (input_in m)) (start (allocator.rules (input_in m))) order ≡ order → length order ≤ limit → limit ≡ m.config.events → IsLawful (input_in m) order
+lawful_in m order limit moves few is =
+    let r : Rules Part Local = allocator.rules (input_in m) in
+    let law : AreLawful (input_in m) = in_every_order (input_in m) m.valid in
+    let most : length order ≤ (input_in m).asked.config.events = omega (arith, few, limit_is m limit is) in
+    record {
+      moves = moves;
+      few = most;
+      rules = law;
+      holds = λ earlier later whole. law.holds earlier (record {
+        moves = front_moves r (start r) earlier later (subst (AllMove r (start r)) (sym whole) (move_all r order moves));
+        few = omega (arith, few, is, m.few, ap length whole, length-append earlier later);
+      });
+    }
+
 pub holds_in : (m : AllocMachine) (order : List ℕ) (limit : ℕ) → moving (allocator.rules (input_in m)) (start (allocator.rules (input_in m))) order ≡ order → length order ≤ limit → limit ≤ 40000000 → HoldsAfter (input_in m) order
 holds_in m order limit moves few most = (in_every_order (input_in m) m.valid).holds order (record { moves = move_all (allocator.rules (input_in m)) order moves; few = omega (arith, few, most) })
 

@@ -7,10 +7,10 @@ ghost use Rattle.tc_model.specs.Replays.{IsFaultAt, is_polite, done_in, HaveEnde
 ghost use Rattle.tc_model.specs.Serial.{completed, followed, IsCutShort};
 ghost use Rattle.tc_model.specs.declared.steps.Stepped.TheVariants as step;
 ghost use Rattle.alloc_rules.specs.Machine as allocator;
-ghost use Rattle.alloc_rules.specs.Law.{HoldsAfter};
 ghost use Rattle.tc_machine.specs.Inputs.{IsRead, input_of};
 ghost use Rattle.tc_machine.specs.Played.{world};
 ghost use Rattle.tc_machine.specs.Held.{input_in};
+ghost use Rattle.tc_machine.specs.Lawful.{IsLawful};
 ghost use Rattle.tc_machine.specs.Finish.{finished_in};
 ghost use Rattle.tc_units.specs.Units.{page_bytes, huge_pages};
 ghost use Rattle.tc_units.specs.Classes.{length_of};
@@ -98,7 +98,7 @@ impl State {
         ensures room { IfOk result (λ s. s ≡ step.Moved → length self.old.order < self.old.input.asked.config.events) }
         ensures fault { IfErr result (IsFaultAt (allocator.rules self.old.input) self.old.input.asked.config.events self.old.order thread.0) }
         ensures same { OnErr result (self.new ≡ self.old) }
-        ensures holds { HoldsAfter self.new.input self.new.order }
+        ensures lawful { IsLawful self.new.input self.new.order }
     {
         self.replay.step(u16::from(thread.0))
     }
@@ -111,7 +111,7 @@ impl State {
         ensures ok { OnOk result (self.new.order ≡ completed (allocator.rules self.old.input) (allocator.turns self.old.input) self.old.input.asked.config.events self.old.order) }
         ensures ended { OnOk result (HaveEnded (allocator.rules self.new.input) (world self.new)) }
         ensures fault { IfErr result (IsCutShort (allocator.rules self.old.input) self.old.input.asked.config.events (completed (allocator.rules self.old.input) (allocator.turns self.old.input) self.old.input.asked.config.events self.old.order) self.new.order) }
-        ensures holds { HoldsAfter self.new.input self.new.order }
+        ensures lawful { IsLawful self.new.input self.new.order }
     {
         self.replay.run_serial()
     }
@@ -125,7 +125,7 @@ impl State {
         ensures ok { OnOk result (self.new.order ≡ completed (allocator.rules self.old.input) (allocator.turns self.old.input) self.old.input.asked.config.events (followed (allocator.rules self.old.input) self.old.input.asked.config.events self.old.order picks.now)) }
         ensures ended { OnOk result (HaveEnded (allocator.rules self.new.input) (world self.new)) }
         ensures fault { IfErr result (IsCutShort (allocator.rules self.old.input) self.old.input.asked.config.events (completed (allocator.rules self.old.input) (allocator.turns self.old.input) self.old.input.asked.config.events (followed (allocator.rules self.old.input) self.old.input.asked.config.events self.old.order picks.now)) self.new.order) }
-        ensures holds { HoldsAfter self.new.input self.new.order }
+        ensures lawful { IsLawful self.new.input self.new.order }
     {
         self.replay.run_order(picks)
     }
@@ -133,9 +133,7 @@ impl State {
     /// The threads of the picks that moved.
     pub fn order(&self) -> &[u16]
         ensures order { result.now ≡ self.now.order }
-        ensures moves { moving (allocator.rules self.now.input) (start (allocator.rules self.now.input)) self.now.order ≡ self.now.order }
-        ensures few { length self.now.order ≤ self.now.input.asked.config.events }
-        ensures holds { HoldsAfter self.now.input self.now.order }
+        ensures lawful { IsLawful self.now.input self.now.order }
     {
         self.replay.order()
     }
@@ -143,9 +141,7 @@ impl State {
     /// The order, without the rest.
     pub fn into_order(self) -> Vec<u16>
         ensures order { result.items ≡ self.order }
-        ensures moves { moving (allocator.rules self.input) (start (allocator.rules self.input)) self.order ≡ self.order }
-        ensures few { length self.order ≤ self.input.asked.config.events }
-        ensures holds { HoldsAfter self.input self.order }
+        ensures lawful { IsLawful self.input self.order }
     {
         let State { replay, alloc: _ } = self;
         replay.into_order()

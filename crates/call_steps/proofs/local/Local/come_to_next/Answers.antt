@@ -3,7 +3,7 @@ use Rattle.std.specs.Prelude.{Option, slice_get}
 use Rattle.tc_model.specs.declared.calls.MoveTo.{MoveTo}
 use Rattle.tc_model.specs.declared.calls.Planned.{Planned}
 use Rattle.rseq_core.specs.declared.regs.Regs.{Regs}
-use Rattle.call_steps.specs.Local.{Local, first_act, regs_by, move_of, next_call, lines_of}
+use Rattle.call_steps.specs.Local.{Local, first_act, regs_by, move_of, next_call}
 use Rattle.call_steps.specs.Calls.{under}
 use Rattle.call_steps.specs.Kept.{decided_by}
 use Rattle.call_steps.specs.declared.step.Step.{Step}
@@ -15,7 +15,7 @@ invariant_of-self c =
     let l = c.self.inside in
     let i = c.self.invariant in
     let decided : under l.step ≡ 1 = ap (λ (m : Local). under m.step) c.self.view_is ∙ c.requires in
-    kept_at c.args.table.now l.script (l.place + 1) _ l.answers l.domains (omega (arith, i.count, i.room, decided)) i.few (omega (arith, i.count, decided)) i.room i.lines
+    kept_at c.args.table.now l.script (l.place + 1) _ l.answers l.domains (omega (arith, i.count, i.room, decided)) i.few (omega (arith, i.count, decided)) i.room
     (c.first_act-self-inside.ensures ∙ ap (first_act c.args.table.now) (c.planned_at-planned.ensures ∙ ap (λ xs. slice_get xs (l.place + 1)) c.as_slice.ensures))
 
 pub returns : goal.returns
@@ -35,7 +35,6 @@ returns c =
       acts = l.acts;
       answers = decided_by l.script l.answers.items;
       domains = l.domains;
-      lines = lines_of l.script;
     } in
     let after : List Planned = drop (l.place + 1 + 1) l.script in
     ap (λ s. made s c.set_regs.new.regs c.move_of-self-inside.result after) (c.first_act-self-inside.ensures ∙ ap (first_act rows) planned)

@@ -1,13 +1,12 @@
-use Rattle.std.proofs.Common.{◌≡◌, ◌+◌, ◌<◌, List, drop, ap, sym, refl, subst, ◌∙◌, arith, length, true}
-use Rattle.std.specs.Prelude.{Some, is_some, slice_get}
+use Rattle.std.proofs.Common.{◌≡◌, ◌+◌, List, drop, ap, ◌∙◌, arith, length, true}
+use Rattle.std.specs.Prelude.{Some, is_some}
 use Rattle.std.proofs.lemmas.List.{length-append}
-use Rattle.std.proofs.lemmas.Option.{slice_get-get_or}
-use Rattle.call_steps.specs.Local.{Local, Decided, decided, lines_of}
+use Rattle.call_steps.specs.Local.{Local, Decided, decided}
 use Rattle.call_steps.specs.Calls.{undecided, under}
 use Rattle.call_steps.specs.declared.step.Step.TheVariants as does
 use Rattle.call_steps.specs.declared.step.CpuStep.TheVariants.{Leave}
-use Rattle.call_steps.specs.Kept.{decided_by, call_at, HasLines}
-use Rattle.call_steps.proofs.ScriptFacts.{decided_more, lines_more, call_within, undecided_under}
+use Rattle.call_steps.specs.Kept.{decided_by, call_at}
+use Rattle.call_steps.proofs.ScriptFacts.{decided_more, undecided_under}
 use Rattle.call_steps.proofs.local.Local.decide.Goals as goal
 
 pub returns-clause-decided : goal.returns-clause-decided
@@ -29,7 +28,6 @@ returns-clause-decided c call is =
       acts = l.acts;
       answers = ds;
       domains = l.domains;
-      lines = lines_of l.script;
     } in
     ap made (ap (decided_by l.script) c.push.ensures.items ∙ decided_more l.script l.answers.items _ call at)
     ∙ ap (λ (m : Local). record (decided m call c.args.answer) { step = does.Cpu Leave }) c.self.view_is
@@ -41,7 +39,6 @@ invariant_of-self c =
     let some : is_some (undecided l.step) ≡ true = ap (λ (m : Local). is_some (undecided m.step)) c.self.view_is ∙ c.requires in
     let place : length l.answers.items ≡ l.place = omega (arith, i.count, undecided_under l.step some) in
     let more : length c.push.new.self.items ≡ length l.answers.items + 1 = ap length c.push.ensures.items ∙ length-append l.answers.items _ in
-    let below : l.place < length c.as_slice.result.now = omega (arith, call_within l.script l.place l.step some i.call, ap length c.as_slice.ensures) in
     record {
       within = i.within;
       few = i.few;
@@ -49,5 +46,4 @@ invariant_of-self c =
       room = omega (arith, more, c.push.ensures.spare, i.room);
       call = λ call is. absurd (cc);
       domain = tt;
-      lines = subst (HasLines l.script) (sym c.push.ensures.items) (lines_more l.script l.answers.items _ _ (ap (slice_get l.script) place ∙ (ap (λ xs. slice_get xs l.place) (sym c.as_slice.ensures) ∙ slice_get-get_or c.as_slice.result.now l.place _ below)) refl i.lines);
     }

@@ -1,4 +1,4 @@
-use Rattle.std.proofs.Common.{sym, subst}
+use Rattle.std.proofs.Common.{◌≡◌, ap, ◌∙◌, sym, subst}
 use Rattle.std.specs.Result.{IfErr, OnOk}
 use Rattle.tc_model.specs.Run.{run}
 use Rattle.tc_model.specs.Replays.{HaveEnded}
@@ -7,7 +7,7 @@ use Rattle.tc_model.specs.Serial.{completed, IsCutShort}
 use Rattle.alloc_rules.specs.Machine as allocator
 use Rattle.tc_machine.specs.Played.{Played}
 use Rattle.tc_machine.specs.Held.{input_in}
-use Rattle.tc_machine.proofs.StateFacts.{limit_is, holds_in}
+use Rattle.tc_machine.proofs.StateFacts.{limit_is, lawful_in}
 use Rattle.tc_machine.proofs.state.State.run_serial.Goals as goal
 
 pub returns-clause-ended : goal.returns-clause-ended
@@ -22,7 +22,8 @@ returns-clause-fault c =
     let fault = subst (λ n. IfErr c.run_serial.result (IsCutShort (allocator.rules i) n (completed (allocator.rules i) (allocator.turns i) n r.order.items) c.run_serial.new.self.order.items)) (limit_is r.machine r.limit c.self.invariant) c.run_serial.ensures.err in
     subst (λ (p : Played). IfErr c.run_serial.result (IsCutShort (allocator.rules p.input) p.input.asked.config.events (completed (allocator.rules p.input) (allocator.turns p.input) p.input.asked.config.events p.order) c.run_serial.new.self.order.items)) c.self.view_is fault
 
-pub returns-clause-holds : goal.returns-clause-holds
-returns-clause-holds c =
+pub returns-clause-lawful : goal.returns-clause-lawful
+returns-clause-lawful c =
     let r = c.run_serial.new.self in
-    holds_in r.machine r.order.items r.limit r.moves r.few r.most
+    let limit : r.limit ≡ r.machine.config.events = c.run_serial.ensures.limit ∙ (c.self.invariant ∙ ap (λ (m : AllocMachine). m.config.events) (sym c.run_serial.ensures.machine)) in
+    lawful_in r.machine r.order.items r.limit r.moves r.few limit

@@ -1,11 +1,12 @@
-use Rattle.std.proofs.Common.{◌≡◌, ap, subst, arith}
+use Rattle.std.proofs.Common.{sym, ◌∙◌, ◌≡◌, ap, subst, arith}
 use Rattle.std.specs.Result.{IfOk, IfErr}
 use Rattle.tc_model.specs.Steps.{stepped}
 use Rattle.tc_model.specs.Replays.{IsFaultAt}
 use Rattle.alloc_rules.specs.Machine as allocator
+use Rattle.tc_machine.specs.declared.machine.AllocMachine.{AllocMachine}
 use Rattle.tc_machine.specs.Played.{Played, world}
 use Rattle.tc_machine.specs.Held.{input_in}
-use Rattle.tc_machine.proofs.StateFacts.{below_locals, limit_is, holds_in}
+use Rattle.tc_machine.proofs.StateFacts.{below_locals, limit_is, lawful_in}
 use Rattle.tc_machine.proofs.state.State.step.Goals as goal
 
 pub step-requires : goal.step-requires
@@ -23,5 +24,8 @@ returns-clause-fault c =
     subst (λ t. IfErr c.step.result (IsFaultAt (allocator.rules c.args.self.now.input) c.args.self.now.input.asked.config.events c.args.self.now.order t)) c.from.ensures
     (subst (λ (p : Played). IfErr c.step.result (IsFaultAt (allocator.rules p.input) p.input.asked.config.events p.order c.from.result)) c.self.view_is fault)
 
-pub returns-clause-holds : goal.returns-clause-holds
-returns-clause-holds c = holds_in c.step.new.self.machine c.step.new.self.order.items c.step.new.self.limit c.step.new.self.moves c.step.new.self.few c.step.new.self.most
+pub returns-clause-lawful : goal.returns-clause-lawful
+returns-clause-lawful c =
+    let r = c.step.new.self in
+    let limit : r.limit ≡ r.machine.config.events = c.step.ensures.limit ∙ (c.self.invariant ∙ ap (λ (m : AllocMachine). m.config.events) (sym c.step.ensures.machine)) in
+    lawful_in r.machine r.order.items r.limit r.moves r.few limit

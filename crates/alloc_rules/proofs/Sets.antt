@@ -1,0 +1,15 @@
+-- What holds of each item of a list in which one was set.
+use Rattle.std.proofs.Common.{◌≡◌, ℕ, List, Some, sym, ap, ◌∙◌, subst, inl, inr}
+use Rattle.std.specs.Prelude.{slice_get, slice_set}
+use Rattle.std.proofs.lemmas.Bool.{cases_eq}
+use Rattle.tc_model.proofs.Lists.{set_here, set_elsewhere}
+
+pub each_set : {X : Type 0} (P : ℕ → X → Type 0) (xs : List X) (t : ℕ) (new old : X) → slice_get xs t ≡ Some old → P t new → ((u : ℕ) (x : X) → (t ≡ u → ⊥) → slice_get xs u ≡ Some x → P u x) → (u : ℕ) (x : X) → slice_get (slice_set xs t new) u ≡ Some x → P u x
+each_set P xs t new old there here others u x is =
+    elim (cases_eq t u) [
+      | inl same ↦
+          let e : Some new ≡ Some x = sym (set_here xs t new old there) ∙ (ap (λ v. slice_get (slice_set xs t new) v) same ∙ is) in
+          let h : new ≡ x = cc in
+          subst (λ v. P v x) same (subst (P t) h here)
+      | inr apart ↦ others u x apart (sym (set_elsewhere xs t u new apart) ∙ is)
+    ]

@@ -1,0 +1,26 @@
+-- Which calls a run told of a thread.
+use Rattle.std.specs.Prelude.{◌≡◌, ℕ, ◌==◌, List, map, filter, take}
+use Rattle.tc_model.specs.declared.calls.Call.{Call}
+use Rattle.tc_model.specs.declared.calls.Planned.{Planned}
+use Rattle.tc_model.specs.declared.answers.CallLine.{CallLine}
+use Rattle.tc_model.specs.Input.{Input, script_of}
+
+-- the lines of a thread among call lines, in their order
+abbrev pub lines_of : ℕ → List CallLine → List CallLine
+lines_of t lines = filter (λ (c : CallLine). c.thread.0 == t) lines
+
+-- the calls of a thread among call lines, in their order
+abbrev pub told_of : ℕ → List CallLine → List Call
+told_of t lines = map (λ (c : CallLine). c.call) (lines_of t lines)
+
+-- the calls of a thread's script, in their order
+abbrev pub calls_in : Input → ℕ → List Call
+calls_in input t = map (λ (p : Planned). p.call) (script_of t input.asked.calls)
+
+-- the calls of thread t among these lines, in their order, are the first n of its script
+abbrev pub TellsFirst : Input → ℕ → ℕ → List CallLine → Type 0
+TellsFirst input t n lines = told_of t lines ≡ take n (calls_in input t)
+
+-- the calls of thread t among these lines, in their order, are its whole script
+abbrev pub TellsScript : Input → ℕ → List CallLine → Type 0
+TellsScript input t lines = told_of t lines ≡ calls_in input t
