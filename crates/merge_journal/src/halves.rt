@@ -14,17 +14,15 @@ fn merge_two(alloc: Global, first: &[Entry], second: &[Entry]) -> Result<Vec<Ent
     requires apart { (a : Entry) (b : Entry) → Has first.now a → Has second.now b → a.ticket ≢ b.ticket }
     ensures { IfOk result (λ es. IsMergeOfTwo first.now second.now es.items) }
 {
-    let mut merged = Vec::new(alloc);
-    merged.reserve(first.len())?;
-    merged.reserve(second.len())?;
+    let mut merged = Vec::with_capacity(alloc, first.len() + second.len())?;
     let mut i = 0;
     let mut j = 0;
     while i < first.len() && j < second.len() {
         if first[i].ticket < second[j].ticket {
-            merged.push(first[i])?;
+            merged.push_reserved(first[i]);
             i += 1;
         } else {
-            merged.push(second[j])?;
+            merged.push_reserved(second[j]);
             j += 1;
         }
     }

@@ -219,6 +219,7 @@ module _ {X P L : Type 0} where
         ends = same_lists parts (run r order).parts (λ i. dite (dec_lt i (length xs))
             (λ less. let x = there_is xs i less in (slice_get-map (λ (x : Stall P). x.part) xs i ∙ ap (option_map (λ (x : Stall P). x.part)) x.1) ∙ sym (law.1.parts i ∙ (q.stalls i x.0 x.1).0))
             (λ past. let c = q.counted in slice_get_past parts i (omega arith) ∙ sym (slice_get_past (run r order).parts i (omega arith))));
+        lists = length-map xs (λ (x : Stall P). x.entries.items) ∙ sym long;
         seats = λ w h. let s = q.seats w h in (s.0, law.1.locals w.thread ∙ s.1);
         all = q.all;
         once = q.once;

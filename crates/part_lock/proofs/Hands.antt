@@ -32,14 +32,15 @@ module _ {X P L : Type 0} (mach : X → Rules P L) (table : TableId) (key : Key 
 
 module _ {X P L : Type 0} (key : Key X) where
   pub joins_none : (me : Mine X P L) → JoinsAll key me [] me
-  joins_none me m is = ([], subst (λ (ks : List (Work X P L)). IsMain key (record m { kept = ks }) me) (sym (append-nil m.kept)) is, refl, refl)
+  joins_none me m is = record { works = []; main = subst (λ (ks : List (Work X P L)). IsMain key (record m { kept = ks }) me) (sym (append-nil m.kept)) is; views = refl; threads = refl; locals = refl }
 
   pub joins_more : (me me' me'' : Mine X P L) (h : PartHand X P L) (hs : List (PartHand X P L)) → Ready key h.thread.0 h.local h.seat.me
       → ((m : Lead X P L) (w : Work X P L) → IsMain key m me → IsReady key h.thread.0 h.local w h.seat.me → IsMain key (one_joined m w) me') → JoinsAll key me' hs me'' → JoinsAll key me (h ∷ hs) me''
   joins_more me me' me'' h hs ready next joins m is =
-      let w : Work X P L = ready.0 in let more = joins (one_joined m w) (next m w is ready.1) in (
-        w ∷ more.0,
-        subst (λ (ks : List (Work X P L)). IsMain key (record m { kept = ks }) me'') (append_snoc m.kept w more.0) more.1,
-        (λ j. ready.1.3 j ∷ more.2 j),
-        (λ j. ready.1.4 j ∷ more.3 j),
-      )
+      let w : Work X P L = ready.0 in let more = joins (one_joined m w) (next m w is ready.1) in record {
+        works = w ∷ more.works;
+        main = subst (λ (ks : List (Work X P L)). IsMain key (record m { kept = ks }) me'') (append_snoc m.kept w more.works) more.main;
+        views = λ j. sym ready.1.0 j ∷ more.views j;
+        threads = λ j. ready.1.3 j ∷ more.threads j;
+        locals = λ j. ready.1.4 j ∷ more.locals j;
+      }

@@ -110,10 +110,10 @@ module _ {X P L : Type 0} where
   ready_again mach key thread w l l' me me' (Halted c) r a = (saw (halt_number c) w, (a.1, r.1, refl, r.3, r.4 ∙ sym a.0, r.5, r.6))
 
   -- the seat of a thread that had none is ready, with the local of the machine's start
-  pub newcomer_is : (mach : X → Rules P L) (key : Key X) (t : ℕ) (m : Lead X P L) (l : L) (v : View X P L) (me : Mine X P L) → v ≡ Leads m → m.machine ≡ key.machine → m.events ≡ key.events → slice_get (mach key.machine).locals t ≡ Some l → me ≡ (newcomer mach t v, []) → Ready key t l me
-  newcomer_is mach key t m l v me is machine events begins next =
+  pub newcomer_is : (mach : X → Rules P L) (key : Key X) (t : ℕ) (m : Lead X P L) (l : L) (v : View X P L) (me : Mine X P L) → v ≡ Leads m → m.machine ≡ key.machine → slice_get (mach key.machine).locals t ≡ Some l → me ≡ (newcomer mach t v, []) → me ≡ (Works (fresh_work t l m), [])
+  newcomer_is mach key t m l v me is machine begins next =
       let at : slice_get (mach m.machine).locals t ≡ Some l = subst (λ (z : X). slice_get (mach z).locals t ≡ Some l) (sym machine) begins in
-      (fresh_work t l m, (next ∙ (ap (λ (z : View X P L). (newcomer mach t z, [])) is ∙ ap (λ (o : Maybe L). (newcomer_with t m o, [])) at), refl, refl, refl, refl, machine, events))
+      next ∙ (ap (λ (z : View X P L). (newcomer mach t z, [])) is ∙ ap (λ (o : Maybe L). (newcomer_with t m o, [])) at)
 
   -- the part that a local wants is there, as a load of the halt word tells
   pub part_there : (mach : X → Rules P L) (n thread found : ℕ) (part : PartNo) (l : L) (key : Key X) (w : Work X P L) (me me' : Mine X P L) → IsReady key thread l w me → Sees mach (step n 0 0 0 none) me found me' → (mach key.machine).want l ≡ Some part → part.0 < n

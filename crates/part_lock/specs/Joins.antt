@@ -6,6 +6,7 @@ use Rattle.atomic_table.specs.Seated.{TableId}
 use Rattle.part_lock.specs.declared.view.Key.{Key}
 use Rattle.part_lock.specs.declared.view.Lead.{Lead}
 use Rattle.part_lock.specs.declared.view.Work.{Work}
+use Rattle.part_lock.specs.declared.view.View.TheVariants.{Works}
 use Rattle.part_lock.specs.declared.board.PartHand.{PartHand}
 use Rattle.part_lock.specs.Lock.{Mine, IsMain}
 use Rattle.part_lock.specs.Turns.{HandFits, HandTurns}
@@ -23,10 +24,21 @@ module _ {X P L : Type 0} where
   abbrev pub all_joined : Lead X P L → List (Work X P L) → Lead X P L
   all_joined m ws = record m { kept = m.kept ++ ws }
 
+  -- what a seat knows that holds nothing
+  abbrev pub at_rest : Work X P L → Mine X P L
+  at_rest w = (Works w, [])
+
+  -- The main seat keeps all that the seats of these hands knew, in their order: each one's thread and local, its entries, and the cause that it met.
+  pub record IsJoined (key : Key X) (m : Lead X P L) (hands : List (PartHand X P L)) (me : Mine X P L) : Type 0 where
+    pub works : List (Work X P L)
+    pub main : IsMain key (all_joined m works) me
+    pub views : map at_rest works ≡ map (λ (h : PartHand X P L). h.seat.me) hands
+    pub threads : map (λ (w : Work X P L). w.thread) works ≡ map (λ (h : PartHand X P L). h.thread.0) hands
+    pub locals : map (λ (w : Work X P L). w.local) works ≡ map (λ (h : PartHand X P L). h.local) hands
+
   -- what the main seat knows before and after the seats of these hands were joined, one after another
   abbrev pub JoinsAll : Key X → Mine X P L → List (PartHand X P L) → Mine X P L → Type 0
-  JoinsAll key me hands me' = (m : Lead X P L) → IsMain key m me
-      → (ws : List (Work X P L)) × IsMain key (all_joined m ws) me' × (map (λ (w : Work X P L). w.thread) ws ≡ map (λ (h : PartHand X P L). h.thread.0) hands) × (map (λ (w : Work X P L). w.local) ws ≡ map (λ (h : PartHand X P L). h.local) hands)
+  JoinsAll key me hands me' = (m : Lead X P L) → IsMain key m me → IsJoined key m hands me'
 
   -- a hand that may take turns at the table, and one turn of it
   abbrev pub Fit : TableId → Key X → PartHand X P L → Type 0

@@ -42,6 +42,10 @@ module _ {X P L : Type 0} where
   abbrev pub Ready : Key X → ℕ → L → Mine X P L → Type 0
   Ready key thread l me = (w : Work X P L) × IsReady key thread l w me
 
+  -- the seat has met no cause yet, and has neither entries nor turns
+  abbrev pub IsFresh : Mine X P L → Type 0
+  IsFresh me = (w : Work X P L) × (me ≡ (Works w, [])) × (w.cause ≡ 0) × (w.made ≡ []) × (w.visits ≡ [])
+
   -- the seat holds the slot i alone, with the value x
   abbrev pub HoldsOnly : ℕ → Stall P → Mine X P L → Type 0
   HoldsOnly i x me = me.1 ≡ (i, x) ∷ []
@@ -54,7 +58,7 @@ module _ {X P L : Type 0} where
     abbrev pub Judges : P → L → ℕ → ℕ → Judged → Type 0
     Judges p l len room Waits = (mach key.machine).waits p l ≡ true
     Judges p l len room Yields = ((mach key.machine).waits p l ≡ false) × ((mach key.machine).yields p l ≡ false)
-    Judges p l len room NoRoom = ((mach key.machine).waits p l ≡ false) × ((mach key.machine).yields p l ≡ true)
+    Judges p l len room NoRoom = ((mach key.machine).waits p l ≡ false) × ((mach key.machine).yields p l ≡ true) × (room ≤ len)
     Judges p l len room Goes = ((mach key.machine).waits p l ≡ false) × ((mach key.machine).yields p l ≡ true) × (len < room)
 
     -- w, ready, has just taken the part, and found x

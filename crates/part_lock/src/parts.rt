@@ -4,7 +4,7 @@ ghost use Rattle.std.specs.Slots.{IsFull, slots_len, slots_items};
 ghost use Rattle.tc_model.specs.Rises.{Has};
 ghost use Rattle.part_lock.specs.Lock.{first_lead, one_more, one_joined, IsMain, part_no};
 ghost use Rattle.part_lock.specs.Closes.{IsClosed};
-ghost use Rattle.part_lock.specs.Turns.{halt_number, IsReady, Ready, Tells};
+ghost use Rattle.part_lock.specs.Turns.{halt_number, IsReady, IsFresh, Ready, Tells};
 ghost use Rattle.part_lock.specs.declared.view.Stage.TheVariants.{Idle};
 ghost use Rattle.part_lock.specs.declared.view.View.TheVariants.{Works};
 
@@ -101,6 +101,7 @@ impl<M: Machine> Parts<M> {
         ensures seat { (main.new.table_id ≡ main.old.table_id) × (result.table_id ≡ main.old.table_id) }
         ensures main { (m : _) → IsMain self.now.key m main.old.me → IsMain self.now.key (one_more T.thread m) main.new.me }
         ensures worker { (l : M.Local) → slice_get (M.rules self.now.key.machine).locals T.thread ≡ Some l → Ready self.now.key T.thread l result.me }
+        ensures fresh { IsFresh result.me }
     {
         let _ = thread;
         self.table.shared.split_seat::<CutFor<M, T>>(main)
@@ -114,6 +115,7 @@ impl<M: Machine> Parts<M> {
         ensures seat { (main.new.table_id ≡ main.old.table_id) × (result.table_id ≡ main.old.table_id) }
         ensures main { (m : _) → IsMain self.now.key m main.old.me → IsMain self.now.key (one_more thread.0 m) main.new.me }
         ensures worker { (l : M.Local) → slice_get (M.rules self.now.key.machine).locals thread.0 ≡ Some l → Ready self.now.key thread.0 l result.me }
+        ensures fresh { IsFresh result.me }
     {
         self.seat_as::<Brand>(main, thread)
     }

@@ -3,6 +3,7 @@ ghost use Rattle.std.specs.Prelude.{◌≡◌, ◌+◌, ◌<◌, ◌≤◌, Some
 ghost use Rattle.tc_model.specs.Rises.{Has};
 ghost use Rattle.part_lock.specs.Lock.{IsMain, first_lead, one_more};
 ghost use Rattle.part_lock.specs.Joins.{Fit, lead_of, numbers};
+ghost use Rattle.part_lock.specs.Turns.{IsFresh};
 ghost use Rattle.replay_workers.specs.Runs.{IsReady as IsWorkerReady};
 
 use crate::board::{PartBoard, PartHand};
@@ -29,6 +30,7 @@ where
     ensures seat { main.new.table_id ≡ main.old.table_id }
     ensures main { (m : _) → IsMain parts.now.key m main.old.me → IsMain parts.now.key (one_more thread.0 m) main.new.me }
     ensures ready { IsWorkerReady (Fit parts.now.table.shared.table_id parts.now.key) result }
+    ensures fresh { IsFresh result.hand.seat.me }
     ensures hand { (result.hand.local ≡ local) × (result.hand.thread ≡ thread) }
 {
     let seat = parts.seat(main, thread);
@@ -62,6 +64,7 @@ where
     ensures seat { main.new.table_id ≡ main.old.table_id }
     ensures main { IsMain parts.now.key (lead_of parts.now.key (numbers (length locals.items))) main.new.me }
     ensures ready { All (IsWorkerReady (Fit parts.now.table.shared.table_id parts.now.key)) result.items }
+    ensures fresh { All (λ w. IsFresh w.hand.seat.me) result.items }
     ensures locals { map (λ w. w.hand.local) result.items ≡ locals.items }
     ensures threads { map (λ w. w.hand.thread.0) result.items ≡ numbers (length locals.items) }
 {
@@ -92,6 +95,7 @@ where
     ensures seat { main.new.table_id ≡ main.old.table_id }
     ensures main { IfOk result (λ _. IsMain parts.now.key (lead_of parts.now.key (numbers (length locals.items))) main.new.me) }
     ensures ready { IfOk result (λ workers. All (IsWorkerReady (Fit parts.now.table.shared.table_id parts.now.key)) workers.items) }
+    ensures fresh { IfOk result (λ workers. All (λ w. IsFresh w.hand.seat.me) workers.items) }
     ensures locals { IfOk result (λ workers. map (λ w. w.hand.local) workers.items ≡ locals.items) }
     ensures threads { IfOk result (λ workers. map (λ w. w.hand.thread.0) workers.items ≡ numbers (length locals.items)) }
     ensures err { IfErr result (λ back. (back ≡ locals) × (main.new ≡ main.old)) }

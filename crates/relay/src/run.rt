@@ -1,25 +1,27 @@
 //! A whole run of a machine by threads: opened, seated, run, joined, closed and merged.
-ghost use Rattle.std.specs.Prelude.{◌≡◌, ◌≤◌, All, length, map, None, IfSome, vec_len};
-ghost use Rattle.replay_workers.specs.Runs.{RanBelow, IsReady, Done};
-ghost use Rattle.tc_model.specs.Rises.{AreApart};
-ghost use Rattle.relay.specs.Ends.{IsRun};
+ghost use Rattle.std.specs.Prelude.{◌≡◌, ◌≤◌, All, length, map, None, Some, IfSome, vec_len};
+ghost use Rattle.replay_workers.specs.Runs.{RanBelow, IsReady, Done, halt_among};
+ghost use Rattle.tc_model.specs.declared.board.Halt.TheVariants as halts;
+ghost use Rattle.tc_model.specs.Rises.{AreApart, IsMerge};
+ghost use Rattle.relay.specs.Ends.{IsRun, AreLasts};
 
 use merge_journal::merge;
 use part_lock::{Closed, PartBoard, Parts, join_all, seat_all};
-use replay_workers::{Worker, halt_of, run_workers};
+use replay_workers::{Worker, halt_of, lasts_of, run_workers};
 use std::alloc::Global;
 use std::sync::Wait;
 use std::thread::Threads;
-use tc_model::{Board, Entry, Halt, Machine};
+use tc_model::{Board, Entry, Halt, Machine, Turn};
 use tc_ports::Gate;
 
-/// What threads left of a machine: its parts, the locals by their threads, the one order of all acts, and
-/// why a worker was halted, if one was.
+/// What threads left of a machine: its parts, the locals by their threads, the one order of all acts, the
+/// last answer of each thread's worker, and why a worker was halted, if one was.
 #[derive(Drop)]
 pub struct Finish<M: Machine> {
     pub closed: Closed<M>,
     pub locals: Vec<M::Local>,
     pub order: Vec<Entry>,
+    pub lasts: Vec<Turn>,
     pub halt: Option<Halt>,
 }
 
@@ -41,8 +43,10 @@ fn run_in<R: Threads + Wait + Sync, B: Board + Sync, G: Gate + Sync>(
 }
 
 /// Runs a machine from its start, a thread for each local. The order is a run of at most `events` polite
-/// picks that move, and the parts and locals are that run's. Where no worker was halted each script has
-/// ended. `None` where memory ran out beside the acts.
+/// picks that move, the merge of the entries of all parts, and the parts and locals are that run's. Where no
+/// worker was halted each script has ended. A halt is that of the workers' last answers: for want of memory
+/// where one of them lacked it, and else for the limit, which the order has reached then. `None` where
+/// memory ran out beside the acts.
 pub fn run_all<R: Threads + Wait + Sync, M: Machine + Drop + Sync, G: Gate + Sync>(
     rt: &R,
     alloc: Global,
@@ -63,6 +67,11 @@ where
     ensures machine { IfSome result (λ e. e.closed.machine ≡ machine) }
     ensures few { IfSome result (λ e. length e.order.items ≤ events) }
     ensures ended { IfSome result (λ e. e.halt ≡ None → All (λ l. (M.rules machine).want l ≡ None) e.locals.items) }
+    ensures lasts { IfSome result (λ e. AreLasts (M.rules machine) e.locals.items e.lasts.items) }
+    ensures halt { IfSome result (λ e. e.halt ≡ halt_among e.lasts.items) }
+    ensures full { IfSome result (λ e. e.halt ≡ Some halts.Full → length e.order.items ≡ events) }
+    ensures lists { IfSome result (λ e. length e.closed.entries.items ≡ length e.closed.parts.items) }
+    ensures merged { IfSome result (λ e. IsMerge (map (λ v. v.items) e.closed.entries.items) e.order.items) }
     ensures apart { IfSome result (λ e. AreApart (map (λ v. v.items) e.closed.entries.items)) }
 {
     let Ok((parts, mut main)) = Parts::open(alloc, machine, parts, events) else {
@@ -75,6 +84,9 @@ where
     let workers = run_in(rt, alloc, &board, gate, workers);
     let PartBoard { parts } = board;
     let halt = halt_of(workers.as_slice());
+    let Ok(lasts) = lasts_of(alloc, workers.as_slice()) else {
+        return None;
+    };
     let Ok(locals) = join_all(alloc, &parts, &mut main, workers) else {
         return None;
     };
@@ -88,6 +100,7 @@ where
         closed,
         locals,
         order,
+        lasts,
         halt,
     })
 }

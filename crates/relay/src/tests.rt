@@ -3,15 +3,19 @@
 ghost use Rattle.std.specs.Prelude.{◌≡◌, ◌<◌, ◌≤◌, length};
 
 use crate::{Finish, Lane, Relay, Runner, run_all};
-use part_lock::{PartBoard, Parts, Step};
+use part_lock::{PartBoard, PartHand, Parts, Step};
 use std::alloc::{AllocError, Global};
 use std::sync::Wait;
 use std::sync::atomic::{AtomicU64, Ordering};
 use std::test::Fail;
 use std::thread::Threads;
-use tc_model::Halt;
+use tc_model::{Board, Halt, Turn};
 use tc_ports::{Gate, OpenGate};
 use tc_units::ThreadNo;
+
+const NO_MEMORY: Turn = Turn::Halted {
+    cause: Halt::Memory,
+};
 
 /// A runner that neither waits nor yields, with memory for all acts.
 fn runner(left: u64) -> Runner
@@ -71,6 +75,24 @@ fn one_step<R: Wait>(
         return Err(AllocError);
     };
     Ok((step, counted(closed.parts.as_slice())))
+}
+
+/// One turn of the one runner's hand, at a board of one lane.
+fn one_turn<R: Wait>(rt: &R, alloc: Global, runner: Runner, events: u64) -> Result<Turn, AllocError>
+    requires events { events ≤ 40000000 }
+{
+    let (relay, lanes, _runners) = Relay::open(alloc, 1, [runner].as_slice())?;
+    let Ok((parts, mut main)) = Parts::open(alloc, relay, lanes, events) else {
+        return Err(AllocError);
+    };
+    let seat = parts.seat(&mut main, ThreadNo(0));
+    let board = PartBoard::new(parts);
+    let mut hand = PartHand {
+        seat,
+        local: runner,
+        thread: ThreadNo(0),
+    };
+    Ok(board.turn(rt, alloc, &mut hand))
 }
 
 /// Whether the entries have the tickets from 0 on, by these threads.
@@ -148,6 +170,8 @@ fn two_and_eight_threads_do_all_acts(rt: HostRuntime) -> Result<(), Fail> {
         assert_eq!(rt; list.len(), 16);
     }
     assert_eq!(rt; end.order.len(), 48);
+    assert_eq!(rt; end.halt, None);
+    assert_eq!(rt; end.lasts.as_slice(), [Turn::Ended; 8].as_slice());
     Ok(())
 }
 
@@ -185,6 +209,7 @@ fn want_of_memory_in_one_worker_ends_all(rt: HostRuntime) -> Result<(), Fail> {
         100,
     )?;
     assert_eq!(rt; end.halt, Some(Halt::Memory));
+    assert!(rt; end.lasts.first().is_some_and(|last| *last == NO_MEMORY));
     assert!(rt; is_order(&end, [0, 0].as_slice()));
     assert_eq!(rt; left_at(&end, 0), 3);
     assert_eq!(rt; left_at(&end, 1), 10);
@@ -232,6 +257,28 @@ fn a_step_says_what_came_of_it(rt: HostRuntime) -> Result<(), Fail> {
     let mut broken = runner(1);
     broken.breaks = 1;
     assert_eq!(rt; one_step(&rt, alloc, broken, 9)?, (Step::Memory, 0));
+    Ok(())
+}
+
+#[test]
+fn a_turn_of_a_hand_says_what_came_of_it(rt: HostRuntime) -> Result<(), Fail> {
+    let alloc = rt.alloc();
+    assert_eq!(rt; one_turn(&rt, alloc, runner(1), 9)?, Turn::Moved);
+    assert_eq!(rt; one_turn(&rt, alloc, runner(0), 9)?, Turn::Ended);
+    let full = Turn::Halted { cause: Halt::Full };
+    assert_eq!(rt; one_turn(&rt, alloc, runner(1), 0)?, full);
+    let mut late = runner(1);
+    late.from = 1;
+    assert_eq!(rt; one_turn(&rt, alloc, late, 9)?, Turn::NotYet);
+    let mut shy = runner(1);
+    shy.shuns = 0;
+    assert_eq!(rt; one_turn(&rt, alloc, shy, 9)?, Turn::Held);
+    // Where it both waits and is shy, it waits.
+    shy.from = 1;
+    assert_eq!(rt; one_turn(&rt, alloc, shy, 9)?, Turn::NotYet);
+    let mut broken = runner(1);
+    broken.breaks = 1;
+    assert_eq!(rt; one_turn(&rt, alloc, broken, 9)?, NO_MEMORY);
     Ok(())
 }
 

@@ -1,5 +1,5 @@
 -- What a worker did: turns of the board, one after another.
-use Rattle.std.specs.Prelude.{◌≡◌, ℕ, zero, suc, ◌+◌, ◌⊎◌, ◌<◌, ◌≤◌, min, Bool, true, false, List, length, slice_index_or, Option, Some, None, if◌then◌else◌}
+use Rattle.std.specs.Prelude.{◌≡◌, ◌≢◌, ℕ, map, zero, suc, ◌+◌, ◌⊎◌, ◌<◌, ◌≤◌, min, Bool, true, false, List, length, slice_index_or, Option, Some, None, if◌then◌else◌}
 use Rattle.std.specs.List.{list_any}
 use Rattle.tc_model.specs.declared.board.Halt.{Halt}
 use Rattle.tc_model.specs.declared.board.Halt.TheVariants.{Memory, Full}
@@ -17,6 +17,14 @@ is_over Held = false
 is_over Ended = true
 is_over (Halted cause) = true
 
+-- how many turns in a row moved nothing, after one more
+abbrev pub idle_after : Turn → ℕ → ℕ
+idle_after Moved n = 0
+idle_after NotYet n = suc n
+idle_after Held n = suc n
+idle_after Ended n = suc n
+idle_after (Halted cause) n = suc n
+
 -- n more, up to the greatest number
 abbrev pub more : ℕ → ℕ → ℕ
 more t zero = t
@@ -27,6 +35,24 @@ module _ {H : Type 0} (turns : H → Turn → H → Type 0) where
   abbrev pub Turns : ℕ → H → Turn → H → Turn → Type 0
   Turns zero h l k m = (h ≡ k) × (l ≡ m)
   Turns (suc n) h l k m = (j : H) × (i : Turn) × Turns n h l j i × (is_over i ≡ false) × turns j m k
+
+module _ {H : Type 0} (turns : H → Turn → H → Type 0) where
+  -- the same, and none of them moved
+  abbrev pub IdleTurns : ℕ → H → Turn → H → Turn → Type 0
+  IdleTurns zero h l k m = (h ≡ k) × (l ≡ m)
+  IdleTurns (suc n) h l k m = (j : H) × (i : Turn) × IdleTurns n h l j i × (is_over i ≡ false) × turns j m k × (m ≢ Moved)
+
+  -- a worker came from one state to another by turns of which the last n moved nothing
+  pub record Waited {B : Type 0} (n : ℕ) (a b : Worker B H) : Type 0 where
+    pub before : ℕ
+    pub hand : H
+    pub last : Turn
+    pub by_turns : Turns turns before a.hand a.last hand last
+    pub idle : IdleTurns n hand last b.hand b.last
+
+  -- it is over, or has waited for n turns at least
+  abbrev pub GivesUpAfter : {B : Type 0} → ℕ → Worker B H → Worker B H → Type 0
+  GivesUpAfter n a b = is_over b.last ≡ false → (m : ℕ) × (n ≤ m) × Waited m a b
 
 module _ {B H : Type 0} (turns : H → Turn → H → Type 0) (thread_of : H → ThreadNo) where
   -- a worker came from one state to another by turns for its own thread, each of them counted
@@ -65,11 +91,19 @@ is_halt_for Memory (Halted Memory) = true
 is_halt_for Full (Halted Full) = true
 is_halt_for cause answer = false
 
-module _ {B H : Type 0} where
-  -- whether a worker was halted for a cause
-  abbrev pub is_any_halted : Halt → List (Worker B H) → Bool
-  is_any_halted cause workers = list_any (λ (w : Worker B H). is_halt_for cause w.last) workers
+-- whether one of these turns was halted for a cause
+abbrev pub is_any_halted : Halt → List Turn → Bool
+is_any_halted cause lasts = list_any (is_halt_for cause) lasts
 
-  -- why workers were halted, where one was: want of memory comes before the limit
+-- why one of these turns was halted, where one was: want of memory comes before the limit
+abbrev pub halt_among : List Turn → Option Halt
+halt_among lasts = if is_any_halted Memory lasts then Some Memory else (if is_any_halted Full lasts then Some Full else None)
+
+module _ {B H : Type 0} where
+  -- the last answers of workers
+  abbrev pub lasts_of : List (Worker B H) → List Turn
+  lasts_of workers = map (λ (w : Worker B H). w.last) workers
+
+  -- why workers were halted, where one was
   abbrev pub halt_of : List (Worker B H) → Option Halt
-  halt_of workers = if is_any_halted Memory workers then Some Memory else (if is_any_halted Full workers then Some Full else None)
+  halt_of workers = halt_among (lasts_of workers)

@@ -1,8 +1,10 @@
 //! Why workers were halted.
 ghost use Rattle.std.specs.Prelude.{◌≡◌};
-ghost use Rattle.replay_workers.specs.Runs.{is_halt_for, is_any_halted, halt_of};
+ghost use Rattle.std.specs.Prelude.{IfOk};
+ghost use Rattle.replay_workers.specs.Runs.{is_halt_for, is_any_halted, halt_of, lasts_of};
 
 use crate::worker::Worker;
+use std::alloc::{AllocError, Global};
 use tc_model::{Board, Halt, Turn};
 
 /// Whether a turn was halted for a cause.
@@ -20,9 +22,19 @@ fn is_halt_for(cause: Halt, answer: Turn) -> bool
 
 /// Whether a worker was halted for a cause.
 fn is_any_halted<B: Board>(workers: &[Worker<B>], cause: Halt) -> bool
-    ensures { result ≡ is_any_halted cause workers.now }
+    ensures { result ≡ is_any_halted cause (lasts_of workers.now) }
 {
-    workers.iter().any(|worker| is_halt_for(cause, worker.last))
+    workers
+        .iter()
+        .map(|worker| worker.last)
+        .any(|last| is_halt_for(cause, last))
+}
+
+/// The last answers of workers, in their order.
+pub fn lasts_of<B: Board>(alloc: Global, workers: &[Worker<B>]) -> Result<Vec<Turn>, AllocError>
+    ensures { IfOk result (λ lasts. lasts.items ≡ lasts_of workers.now) }
+{
+    workers.iter().map(|worker| worker.last).collect(alloc)
 }
 
 /// Why workers were halted, where one was: for want of memory where any was, and else for the limit.

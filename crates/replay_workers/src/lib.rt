@@ -7,6 +7,6 @@ mod run;
 mod tests;
 mod worker;
 
-pub use halt::halt_of;
+pub use halt::{halt_of, lasts_of};
 pub use run::run_workers;
 pub use worker::Worker;

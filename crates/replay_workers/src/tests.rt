@@ -2,7 +2,7 @@
 ghost use Rattle.std.specs.Prelude.{◌≡◌};
 ghost use Rattle.tc_model.specs.declared.board.Turn.TheVariants.{NotYet};
 
-use crate::{Worker, run_workers};
+use crate::{Worker, halt_of, lasts_of, run_workers};
 use std::alloc::Global;
 use std::sync::Wait;
 use std::sync::atomic::{AtomicU64, Ordering};
@@ -113,11 +113,22 @@ impl Gate for Watch<'_> {
     }
 }
 
-/// Holds each thread at its first pass until both stand there, for so many looks.
+/// Holds each thread at its first pass until so many stand there, for so many looks.
 #[derive(Drop)]
 struct Hold {
+    wanted: u64,
     came: AtomicU64,
     met: AtomicU64,
+}
+
+impl Hold {
+    fn of(wanted: u64) -> Hold {
+        Hold {
+            wanted,
+            came: AtomicU64::new(0),
+            met: AtomicU64::new(0),
+        }
+    }
 }
 
 impl Gate for Hold {
@@ -127,7 +138,7 @@ impl Gate for Hold {
         }
         self.came.fetch_add(1, Ordering::SeqCst);
         for _ in 0..2_000_000_000u64 {
-            if self.came.load(Ordering::SeqCst) == 2 {
+            if self.came.load(Ordering::SeqCst) == self.wanted {
                 self.met.fetch_add(1, Ordering::SeqCst);
                 return;
             }
@@ -181,13 +192,51 @@ fn each_turn_comes_after_its_gate_and_none_after_the_end(rt: HostRuntime) -> Res
 fn two_threads_stand_at_the_gate_at_once(rt: HostRuntime) -> Result<(), Fail> {
     let alloc = rt.alloc();
     let script = Script::new();
-    let hold = Hold {
-        came: AtomicU64::new(0),
-        met: AtomicU64::new(0),
-    };
+    let hold = Hold::of(2);
     let mut workers = vec![in alloc; worker(0, 0, 1, Turn::Ended), worker(1, 0, 1, Turn::Ended)]?;
     run_workers(&rt, alloc, &script, &hold, workers.as_mut_slice());
     assert_eq!(rt; hold.met.load(Ordering::SeqCst), 2);
+    Ok(())
+}
+
+#[test]
+fn five_threads_stand_at_one_gate_at_once(rt: HostRuntime) -> Result<(), Fail> {
+    let alloc = rt.alloc();
+    let script = Script::new();
+    let hold = Hold::of(5);
+    let mut workers = vec![in alloc;
+        worker(0, 0, 1, Turn::Ended),
+        worker(1, 0, 1, Turn::Ended),
+        worker(2, 0, 1, Turn::Ended),
+        worker(3, 0, 1, Turn::Ended),
+        worker(4, 0, 1, Turn::Ended),
+    ]?;
+    run_workers(&rt, alloc, &script, &hold, workers.as_mut_slice());
+    assert_eq!(rt; hold.met.load(Ordering::SeqCst), 5);
+    for worker in workers.as_slice() {
+        assert_eq!(rt; worker.turns, 2);
+        assert_eq!(rt; worker.last, Turn::Ended);
+    }
+    Ok(())
+}
+
+#[test]
+fn want_of_memory_stands_before_the_limit(rt: HostRuntime) -> Result<(), Fail> {
+    let alloc = rt.alloc();
+    let full = Turn::Halted { cause: Halt::Full };
+    let memory = Turn::Halted {
+        cause: Halt::Memory,
+    };
+    let script = Script::new();
+    let mut workers = vec![in alloc; worker(0, 0, 1, full), worker(1, 0, 2, memory)]?;
+    run_workers(&rt, alloc, &script, &OpenGate, workers.as_mut_slice());
+    assert_eq!(rt;
+        lasts_of(alloc, workers.as_slice())?.as_slice(),
+        [full, memory].as_slice()
+    );
+    assert_eq!(rt; halt_of(workers.as_slice()), Some(Halt::Memory));
+    assert_eq!(rt; halt_of(&workers.as_slice()[..1]), Some(Halt::Full));
+    assert_eq!(rt; halt_of(&workers.as_slice()[..0]), None);
     Ok(())
 }
 

@@ -1,5 +1,10 @@
 //! The lock round a state, as a board on which each thread's hand takes turns.
-ghost use Rattle.std.specs.Prelude.{◌≡◌, ◌<◌};
+ghost use Rattle.std.specs.Prelude.{◌≡◌, ◌<◌, ◌↔◌, IfSome, IfNone, false};
+ghost use Rattle.tc_model.specs.declared.board.Turn.TheVariants as turn;
+ghost use Rattle.tc_model.specs.Run.{run};
+ghost use Rattle.tc_model.specs.Replays.{is_polite, done_in};
+ghost use Rattle.alloc_rules.specs.Machine as allocator;
+ghost use Rattle.world_lock.specs.Stepping.{IsTurnAt, order_after, halt_after};
 
 use crate::named::Named;
 use crate::world::World;
@@ -51,6 +56,23 @@ impl<N: Named> WorldBoard<N> {
     }
 }
 
+/// One turn of a hand at the state: one step of its thread, and how many of the thread's calls have ended
+/// then.
+fn turn_at<N: Named>(world: &mut World<N>, hand: &mut WorldHand<N>) -> Turn
+    requires { hand.old.thread.0 < N.input.asked.config.threads }
+    ensures halted { IfSome world.old.halt (λ cause. result ≡ turn.Halted cause) }
+    ensures held { IfNone world.old.halt ((result ≡ turn.Held) ↔ (is_polite (allocator.rules N.input) (run (allocator.rules N.input) world.old.order) hand.old.thread.0 ≡ false)) }
+    ensures answer { IfNone world.old.halt (IsTurnAt (allocator.rules N.input) N.input.asked.config.events world.old.order hand.old.thread.0 result) }
+    ensures order { world.new.order ≡ order_after world.old.order hand.old.thread.0 result }
+    ensures halt { world.new.halt ≡ halt_after world.old.halt result }
+    ensures thread { hand.new.thread ≡ hand.old.thread }
+    ensures done { hand.new.done ≡ done_in (allocator.rules N.input) (run (allocator.rules N.input) world.new.order) hand.old.thread.0 }
+{
+    let turn = world.step(hand.thread);
+    hand.done = world.done(hand.thread);
+    turn
+}
+
 impl<N: Named + Send> Board for WorldBoard<N> {
     ghost use Rattle.std.specs.Prelude.{◌≡◌, ◌<◌};
 
@@ -75,8 +97,6 @@ impl<N: Named + Send> Board for WorldBoard<N> {
     /// Waits for the lock, and steps once.
     fn turn<R: Wait>(&self, rt: &R, _alloc: Global, hand: &mut WorldHand<N>) -> Turn {
         let mut world = self.world.lock(rt);
-        let turn = world.step(hand.thread);
-        hand.done = world.done(hand.thread);
-        turn
+        turn_at(&mut *world, hand)
     }
 }

@@ -28,6 +28,9 @@ const HANDED_OVER: &[u8] = b"threads 2\na 0 0 2080768\nf 1 0\n";
 /// Each of two threads frees the other's block.
 const CROSSED: &[u8] = b"threads 2\na 0 0 2080768\na 1 1 2080768\nf 0 1\nf 1 0\n";
 
+/// Two threads at the one CPU, each of which allocates a small object there.
+const AT_ONE_CPU: &[u8] = b"threads 2\na 0 0 16\na 1 1 16\n";
+
 /// The state of two threads at the start of a trace.
 fn opened(rt: &impl Abort, alloc: Global, text: &[u8]) -> Result<State, Fail>
     ensures threads { IfOk result (λ s. s.input.asked.config.threads ≡ 2) }
@@ -151,6 +154,21 @@ fn picks_of_large_calls_are_never_held(rt: HostRuntime) -> Result<(), Fail> {
 }
 
 #[test]
+fn a_thread_is_held_while_another_has_just_switched_in(rt: HostRuntime) -> Result<(), Fail> {
+    let alloc = rt.alloc();
+    // Thread 0 switches in and begins its pop. Until that has ended it isn't polite of thread 1 to switch in.
+    let steps = stepped(&rt, alloc, AT_ONE_CPU, [0u8, 1, 0, 1].as_slice())?;
+    let moved = Turn::Moved;
+    assert_eq!(rt;
+        steps.turns.as_slice(),
+        [moved, Turn::Held, moved, Turn::Held].as_slice()
+    );
+    assert_eq!(rt; steps.state.order(), [0u16, 0].as_slice());
+    assert_eq!(rt; steps.done, (0, 0));
+    Ok(())
+}
+
+#[test]
 fn a_halt_stays_for_its_cause(rt: HostRuntime) -> Result<(), Fail> {
     let alloc = rt.alloc();
     let text = b"threads 2\nevents 4\na 0 0 2080768\nf 1 0\n";
@@ -171,6 +189,10 @@ fn the_order_of_two_workers_replays_to_their_calls(rt: HostRuntime) -> Result<()
     let alloc = rt.alloc();
     let left = run(&rt, alloc, CROSSED)?;
     assert_eq!(rt; left.halt, None);
+    assert_eq!(rt;
+        left.lasts.as_slice(),
+        [Turn::Ended, Turn::Ended].as_slice()
+    );
     assert!(rt; left.state.ended());
     let order = left.state.order();
     assert_eq!(rt; order.len(), 14);

@@ -9,14 +9,18 @@ pub loop-i-preserved-then-first-i : goal.loop-i-preserved-then-first-i
 loop-i-preserved-then-first-i c = record {
   low = omega arith;
   low' = omega arith;
-  leads = step_left c.args.first.now c.args.second.now c.loop-i.merged.items c.push.new.self.items c.loop-i.i c.loop-i.j _ c.requires.rise.0 c.requires.rise.1 c.loop-i-test.true c.if-j-second.true c.if-first-i.true c.loop-i.invariant.leads c.in_ok-push.ensures.items;
+  leads = step_left c.args.first.now c.args.second.now c.loop-i.merged.items c.push_reserved.new.self.items c.loop-i.i c.loop-i.j _ c.requires.rise.0 c.requires.rise.1 c.loop-i-test.true c.if-j-second.true c.if-first-i.true c.loop-i.invariant.leads c.push_reserved.ensures.items;
+  counted = omega (arith, c.loop-i.invariant.counted, c.push_reserved.ensures.len);
+  room = omega (arith, c.loop-i.invariant.room, c.push_reserved.ensures.capacity);
 }
 
 pub loop-i-preserved : goal.loop-i-preserved
 loop-i-preserved c = record {
   low = omega arith;
   low' = omega arith;
-  leads = step_right c.args.first.now c.args.second.now c.loop-i.merged.items c.push-else-first-i.new.self.items c.loop-i.i c.loop-i.j _ c.requires.rise.0 c.requires.rise.1 c.loop-i-test.true c.if-j-second.true c.requires.apart c.if-first-i.false c.loop-i.invariant.leads c.in_ok-push-2.ensures.items;
+  leads = step_right c.args.first.now c.args.second.now c.loop-i.merged.items c.push_reserved-else-first-i.new.self.items c.loop-i.i c.loop-i.j _ c.requires.rise.0 c.requires.rise.1 c.loop-i-test.true c.if-j-second.true c.requires.apart c.if-first-i.false c.loop-i.invariant.leads c.push_reserved-else-first-i.ensures.items;
+  counted = omega (arith, c.loop-i.invariant.counted, c.push_reserved-else-first-i.ensures.len);
+  room = omega (arith, c.loop-i.invariant.room, c.push_reserved-else-first-i.ensures.capacity);
 }
 
 pub returns : goal.returns

@@ -5,6 +5,7 @@ use Rattle.std.proofs.lemmas.List.Elements.{All-nil, All-push}
 use Rattle.replay_workers.specs.Runs.{IsReady as IsWorkerReady}
 use Rattle.part_lock.specs.Lock.{IsMain}
 use Rattle.part_lock.specs.Joins.{Fit, lead_of, numbers}
+use Rattle.part_lock.specs.Turns.{IsFresh}
 use Rattle.part_lock.proofs.Carried.{turned_end, move_step, none_left}
 use Rattle.part_lock.proofs.Numbers.{number_new, numbers_more, at_seam}
 use Rattle.part_lock.proofs.seated.seat_each.Goals as goal
@@ -18,6 +19,7 @@ loop-local-init g c =
       table = refl;
       main = c.requires.main;
       ready = subst (All (IsWorkerReady (Fit c.args.parts.now.table.shared.table_id c.args.parts.now.key))) (sym c.requires.bare) (All-nil (IsWorkerReady (Fit c.args.parts.now.table.shared.table_id c.args.parts.now.key)));
+      fresh = subst (All (λ w. IsFresh w.hand.seat.me)) (sym c.requires.bare) (All-nil (λ w. IsFresh w.hand.seat.me));
       so_far = ap (λ l. map (λ w. w.hand.local) l ++ reverse c.turned-locals.result.items) c.requires.bare ∙ (ap reverse c.turned-locals.ensures ∙ (reverse-reverse c.args.locals.items ∙ c.requires.start));
       threads = ap (map (λ w. w.hand.thread.0)) c.requires.bare;
     }
@@ -54,6 +56,7 @@ loop-local-preserved g c =
       table = c.worker_for.ensures.seat ∙ v.table;
       main = rw add-one (c.worker_for.ensures.main (lead_of c.args.parts.now.key (numbers c.loop-local.thread)) v.main);
       ready = subst (All (IsWorkerReady (Fit c.args.parts.now.table.shared.table_id c.args.parts.now.key))) (sym c.push_reserved.ensures.items) (All-push (IsWorkerReady (Fit c.args.parts.now.table.shared.table_id c.args.parts.now.key)) c.loop-local.workers.items c.worker_for.result v.ready c.worker_for.ensures.ready);
+      fresh = subst (All (λ w. IsFresh w.hand.seat.me)) (sym c.push_reserved.ensures.items) (All-push (λ w. IsFresh w.hand.seat.me) c.loop-local.workers.items c.worker_for.result v.fresh c.worker_for.ensures.fresh);
       so_far = move_step (λ w. w.hand.local) c.loop-local.workers.items c.push_reserved.new.self.items c.worker_for.result c.in-Some.local c.loop-local.locals.items c.pop.new.self.items _ c.push_reserved.ensures.items c.worker_for.ensures.hand.0 turn v.so_far;
       threads = numbers_more (λ w. w.hand.thread.0) c.loop-local.workers.items c.push_reserved.new.self.items c.worker_for.result c.loop-local.thread c.push_reserved.ensures.items (ap (λ t. t.0) c.worker_for.ensures.hand.1) v.threads;
     }

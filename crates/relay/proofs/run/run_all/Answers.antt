@@ -1,12 +1,13 @@
 use Rattle.std.proofs.Common.{◌≡◌, ℕ, All, None, map, length, sym, ap, ◌∙◌, subst}
 use Rattle.std.proofs.lemmas.List.Elements.{All-map}
-use Rattle.replay_workers.specs.Runs.{halt_of}
-use Rattle.relay.proofs.Overs.{all_ended}
+use Rattle.replay_workers.specs.Runs.{halt_of, halt_among, lasts_of}
+use Rattle.part_lock.specs.Lock.{entry_of}
+use Rattle.relay.proofs.Overs.{all_say, all_ended, all_used, causes_of, lasts_are}
 use Rattle.std.proofs.lemmas.List.{length-map}
 use Rattle.tc_model.specs.Rises.{AreApart, IsMerge}
 use Rattle.part_lock.specs.Joins.{numbers, lead_of, all_joined, Turned, Fit}
 use Rattle.relay.proofs.Wholes.{few_of, all_there, length_numbers, threads_stay, map_both, whole}
-use Rattle.relay.specs.Ends.{IsRun}
+use Rattle.relay.specs.Ends.{IsRun, AreLasts}
 use Rattle.relay.proofs.run.run_all.Goals as goal
 
 pub run_in-workers-requires-after_bounds : goal.run_in-workers-requires-after_bounds
@@ -24,14 +25,14 @@ close-requires-clause-main g c =
     let before = c.in-Ok-seat_all.workers.items in let after = c.run_in-workers.result.items in
     let j = c.in-Ok-join_all.ensures.main m c.in-Ok-seat_all.ensures.main in
     let count : length before ≡ n = sym (length-map before (λ w. w.hand.thread.0)) ∙ (ap length c.in-Ok-seat_all.ensures.threads ∙ length_numbers n) in
-    (all_joined m j.0, j.1, all_there c.in-Ok.parts.key n (map (λ w. w.hand) after) j.0 j.2 (length-map after (λ w. w.hand) ∙ (sym c.run_in-workers.ensures.long ∙ count)))
+    (all_joined m j.works, j.main, all_there c.in-Ok.parts.key n (map (λ w. w.hand) after) j.works j.threads (length-map after (λ w. w.hand) ∙ (sym c.run_in-workers.ensures.long ∙ count)))
 
 pub merge-requires : goal.merge-requires
 merge-requires g c =
     let m = lead_of c.in-Ok.parts.key (numbers (length c.args.locals.items)) in
     let j = c.in-Ok-join_all.ensures.main m c.in-Ok-seat_all.ensures.main in
-    let closed = c.in-Ok-close.ensures.closed (all_joined m j.0) j.1 in
-    record { apart = subst (λ l. AreApart (map (λ v. v.items) l)) (sym c.as_slice-2.ensures.value) closed.apart }
+    let closed = c.in-Ok-close.ensures.closed (all_joined m j.works) j.main in
+    record { apart = subst (λ l. AreApart (map (λ v. v.items) l)) (sym c.as_slice-3.ensures.value) closed.apart }
 
 pub returns-clause-run : goal.returns-clause-run
 returns-clause-run g c =
@@ -39,34 +40,70 @@ returns-clause-run g c =
     let n : ℕ = length c.args.locals.items in let m = lead_of key (numbers n) in
     let before = c.in-Ok-seat_all.workers.items in let after = c.run_in-workers.result.items in
     let j = c.in-Ok-join_all.ensures.main m c.in-Ok-seat_all.ensures.main in
-    let closed = c.in-Ok-close.ensures.closed (all_joined m j.0) j.1 in
+    let closed = c.in-Ok-close.ensures.closed (all_joined m j.works) j.main in
     let long = ap (λ x. length (rules x).locals) c.in-Ok.ensures.key.0 ∙ ap length (sym c.requires.locals) in
-    let threads = j.2 ∙ (sym (threads_stay (Turned rules key) (Fit c.in-Ok.parts.table.shared.table_id key) before after c.run_in-workers.ensures.long c.run_in-workers.ensures.each) ∙ c.in-Ok-seat_all.ensures.threads) in
-    let locals = c.in-Ok-join_all.ensures.locals ∙ (sym (map_both (λ w. w.hand) (λ h. h.local) after) ∙ sym j.3) in
-    let merged = subst (λ l. IsMerge (map (λ v. v.items) l) c.in-Ok-merge.order.items) c.as_slice-2.ensures.value c.in-Ok-merge.ensures in
+    let threads = j.threads ∙ (sym (threads_stay (Turned rules key) (Fit c.in-Ok.parts.table.shared.table_id key) before after c.run_in-workers.ensures.long c.run_in-workers.ensures.each) ∙ c.in-Ok-seat_all.ensures.threads) in
+    let locals = c.in-Ok-join_all.ensures.locals ∙ (sym (map_both (λ w. w.hand) (λ h. h.local) after) ∙ sym j.locals) in
+    let merged = subst (λ l. IsMerge (map (λ v. v.items) l) c.in-Ok-merge.order.items) c.as_slice-3.ensures.value c.in-Ok-merge.ensures in
     subst (λ x. IsRun (rules x) c.in-Ok-close.closed.parts.items c.in-Ok-join_all.locals.items c.in-Ok-merge.order.items) c.in-Ok.ensures.key.0
-    (whole rules key n j.0 c.in-Ok-close.closed.parts.items c.in-Ok-join_all.locals.items _ c.in-Ok-merge.order.items long threads locals closed merged)
+    (whole rules key n j.works c.in-Ok-close.closed.parts.items c.in-Ok-join_all.locals.items _ c.in-Ok-merge.order.items long threads locals closed merged)
 
 pub returns-clause-few : goal.returns-clause-few
 returns-clause-few g c =
     let key = c.in-Ok.parts.key in
     let m = lead_of key (numbers (length c.args.locals.items)) in
     let j = c.in-Ok-join_all.ensures.main m c.in-Ok-seat_all.ensures.main in
-    let closed = c.in-Ok-close.ensures.closed (all_joined m j.0) j.1 in
-    let merged = subst (λ l. IsMerge (map (λ v. v.items) l) c.in-Ok-merge.order.items) c.as_slice-2.ensures.value c.in-Ok-merge.ensures in
+    let closed = c.in-Ok-close.ensures.closed (all_joined m j.works) j.main in
+    let merged = subst (λ l. IsMerge (map (λ v. v.items) l) c.in-Ok-merge.order.items) c.as_slice-3.ensures.value c.in-Ok-merge.ensures in
     few_of key.events c.args.events closed.acts c.in-Ok-merge.order.items (closed.merged c.in-Ok-merge.order.items merged) closed.few c.in-Ok.ensures.key.1
 
 pub returns-clause-ended : goal.returns-clause-ended
 returns-clause-ended g c none =
     let rules = g.M.Machine.rules in let key = c.in-Ok.parts.key in
-    let before = c.in-Ok-seat_all.workers.items in let after = c.run_in-workers.result.items in
+    let after = c.run_in-workers.result.items in
+    let say = all_say rules c.in-Ok.parts.table.shared.table_id key c.in-Ok-seat_all.workers.items after c.run_in-workers.ensures.long c.in-Ok-seat_all.ensures.ready c.in-Ok-seat_all.ensures.fresh c.run_in-workers.ensures.each in
     let halt = sym (c.halt_of-halt.ensures ∙ ap halt_of c.as_slice.ensures.value) ∙ none in
-    let ended = all_ended rules c.in-Ok.parts.table.shared.table_id key before after c.run_in-workers.ensures.long c.in-Ok-seat_all.ensures.ready c.run_in-workers.ensures.each c.run_in-workers.ensures.done halt in
+    let ended = all_ended (rules key.machine) after c.run_in-workers.ensures.done halt say.0 in
     let locals = subst (All (λ l. (rules key.machine).want l ≡ None)) (sym c.in-Ok-join_all.ensures.locals) (All-map (λ l. (rules key.machine).want l ≡ None) (λ w. w.hand.local) after ended) in
     subst (λ x. All (λ l. (rules x).want l ≡ None) c.in-Ok-join_all.locals.items) c.in-Ok.ensures.key.0 locals
+
+pub returns-clause-lasts : goal.returns-clause-lasts
+returns-clause-lasts g c =
+    let rules = g.M.Machine.rules in let key = c.in-Ok.parts.key in
+    let after = c.run_in-workers.result.items in
+    let say = all_say rules c.in-Ok.parts.table.shared.table_id key c.in-Ok-seat_all.workers.items after c.run_in-workers.ensures.long c.in-Ok-seat_all.ensures.ready c.in-Ok-seat_all.ensures.fresh c.run_in-workers.ensures.each in
+    let lasts = c.in-Ok-lasts_of.ensures ∙ ap lasts_of c.as_slice-2.ensures.value in
+    let are = subst (AreLasts (rules key.machine) (map (λ w. w.hand.local) after)) (sym lasts) (lasts_are (rules key.machine) after c.run_in-workers.ensures.done say.0) in
+    let local = subst (λ l. AreLasts (rules key.machine) l c.in-Ok-lasts_of.lasts.items) (sym c.in-Ok-join_all.ensures.locals) are in
+    subst (λ x. AreLasts (rules x) c.in-Ok-join_all.locals.items c.in-Ok-lasts_of.lasts.items) c.in-Ok.ensures.key.0 local
+
+pub returns-clause-halt : goal.returns-clause-halt
+returns-clause-halt g c = c.halt_of-halt.ensures ∙ (ap halt_of c.as_slice.ensures.value ∙ sym (ap halt_among (c.in-Ok-lasts_of.ensures ∙ ap lasts_of c.as_slice-2.ensures.value)))
+
+pub returns-clause-full : goal.returns-clause-full
+returns-clause-full g c full =
+    let rules = g.M.Machine.rules in let key = c.in-Ok.parts.key in
+    let m = lead_of key (numbers (length c.args.locals.items)) in
+    let after = c.run_in-workers.result.items in
+    let j = c.in-Ok-join_all.ensures.main m c.in-Ok-seat_all.ensures.main in
+    let closed = c.in-Ok-close.ensures.closed (all_joined m j.works) j.main in
+    let say = all_say rules c.in-Ok.parts.table.shared.table_id key c.in-Ok-seat_all.workers.items after c.run_in-workers.ensures.long c.in-Ok-seat_all.ensures.ready c.in-Ok-seat_all.ensures.fresh c.run_in-workers.ensures.each in
+    let halt = sym (c.halt_of-halt.ensures ∙ ap halt_of c.as_slice.ensures.value) ∙ full in
+    let used = all_used (lasts_of after) j.works key.events (length closed.acts) halt (causes_of after j.works j.views say.1) closed.filled closed.few in
+    let merged = subst (λ l. IsMerge (map (λ v. v.items) l) c.in-Ok-merge.order.items) c.as_slice-3.ensures.value c.in-Ok-merge.ensures in
+    ap length (closed.merged c.in-Ok-merge.order.items merged) ∙ (length-map closed.acts entry_of ∙ (used ∙ c.in-Ok.ensures.key.1))
+
+pub returns-clause-lists : goal.returns-clause-lists
+returns-clause-lists g c =
+    let m = lead_of c.in-Ok.parts.key (numbers (length c.args.locals.items)) in
+    let j = c.in-Ok-join_all.ensures.main m c.in-Ok-seat_all.ensures.main in
+    sym (length-map c.in-Ok-close.closed.entries.items (λ v. v.items)) ∙ (c.in-Ok-close.ensures.closed (all_joined m j.works) j.main).lists
+
+pub returns-clause-merged : goal.returns-clause-merged
+returns-clause-merged g c = subst (λ l. IsMerge (map (λ v. v.items) l) c.in-Ok-merge.order.items) c.as_slice-3.ensures.value c.in-Ok-merge.ensures
 
 pub returns-clause-apart : goal.returns-clause-apart
 returns-clause-apart g c =
     let m = lead_of c.in-Ok.parts.key (numbers (length c.args.locals.items)) in
     let j = c.in-Ok-join_all.ensures.main m c.in-Ok-seat_all.ensures.main in
-    (c.in-Ok-close.ensures.closed (all_joined m j.0) j.1).apart
+    (c.in-Ok-close.ensures.closed (all_joined m j.works) j.main).apart

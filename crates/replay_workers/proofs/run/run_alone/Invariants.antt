@@ -1,8 +1,9 @@
-use Rattle.replay_workers.specs.Runs.{Ran, Stands}
+use Rattle.replay_workers.specs.Runs.{Ran, Waited, Stands}
 use Rattle.replay_workers.proofs.run.run_alone.Given as goal
 
 abbrev pub invariant-loop : goal.invariant-loop
 invariant-loop g l = record {
   ran : Ran (g.B.Board.turns l.board) (g.B.Board.thread_of l.board) l.initial.worker l.worker;
   kept : Stands (g.B.Board.fits l.board) l.worker;
+  waited : Waited (g.B.Board.turns l.board) l.idle l.initial.worker l.worker;
 }
