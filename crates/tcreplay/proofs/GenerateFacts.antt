@@ -14,10 +14,11 @@ use Rattle.tcreplay.specs.declared.run.Ran.{Ran}
 use Rattle.tcreplay.specs.declared.run.Telling.TheVariants.{Summary}
 use Rattle.tcreplay.specs.Tasks.{Workload, InTurn}
 use Rattle.tcreplay.specs.Verdict.{Job, Verdict, and_then, or_end, trace_end, rows_in, asked_of_text, run_verdict, order_of_job}
-use Rattle.tcreplay.specs.Reads.{Reading, Shelving, IsLoad, is_behind_run, seen_job}
+use Rattle.tcreplay.specs.Reads.{IsCounted, Reading, Shelving, IsLoad, is_behind_run, seen_job}
 use Rattle.tcreplay.specs.Ran.{seen_ran, IsRan}
 use Rattle.tcreplay.specs.Writes.{Writing, Ends, TookText, IsRunEnd, IsLastEnd}
-use Rattle.tcreplay.specs.Lawful.{IsLawful, IsOrderOf}
+use Rattle.tc_machine.specs.Lawful.{IsLawful}
+use Rattle.tcreplay.specs.Order.{IsOrderOf}
 use Rattle.tcreplay.specs.Generating.{trace_of, generation_job_with, generation_job, generation_verdict, IsMade, IsGenerationAnswer, IsGenerationEnd, AreWritten, IsGenerationHeadline, HasGenerated}
 use Rattle.tcreplay.proofs.EndFacts.{FailsTable, table_fails}
 use Rattle.tcreplay.proofs.RanFacts.{run_end, order_is, lawful, text_is, have_all_ended, its_run}
@@ -129,7 +130,7 @@ abbrev pub ends_of : Reading → Shelving → Writing → Writing → Ends
 ends_of source files out notes = record { trace = source; files = files; out = out; notes = notes }
 
 module _ (workload : Workload) (source : Reading) (f g : Shelving) (out notes : Writing) where
-  stopped_by : (end : End) (order : List ℕ) (made : IsMade workload f g (Err end)) → IsGenerationAnswer workload made.made.file f g end order → is_barred end ≡ false → is_behind_run end ≡ false → ((end ≡ FileFault → ⊥) → g.faults ≡ f.faults) → HasGenerated workload (ends_of source f out notes) (ends_of source g out notes) end order
+  stopped_by : (end : End) (order : List ℕ) (made : IsMade workload f g (Err end)) → IsGenerationAnswer workload made.made.file f g end order → is_barred end ≡ false → is_behind_run end ≡ false → IsCounted FileFault end f.faults g.faults → HasGenerated workload (ends_of source f out notes) (ends_of source g out notes) end order
   stopped_by end order made answer barred early count = record {
     table = made.made.file;
     told = made.made.told;
@@ -152,9 +153,9 @@ module _ (workload : Workload) (source : Reading) (f g : Shelving) (out notes : 
     | inl e ↦
         let bad : rows_in made.made.file ≡ Err end = table_ends workload end made.valid made.made.file (rows_in made.made.file) refl e.0 in
         let answer : IsGenerationAnswer workload made.made.file f g end order = inl (sym (ap (λ r. (run_verdict Summary r).end) e.0), none ∙ sym (ap (λ r. (run_verdict Summary r).order) e.0)) in
-        stopped_by end order made answer (table_fails is_barred made.made.file end not_barred bad) (table_fails is_behind_run made.made.file end not_run bad) (λ _. e.1)
-    | inr (inl memory) ↦ stopped_by end order made (inr (inl (none, inl memory.0))) (ap is_barred memory.0) (ap is_behind_run memory.0) (λ _. memory.1)
-    | inr (inr failed) ↦ stopped_by end order made (inr (inl (none, inr failed))) (ap is_barred failed.0) (ap is_behind_run failed.0) (λ other. absurd (other failed.0))
+        stopped_by end order made answer (table_fails is_barred made.made.file end not_barred bad) (table_fails is_behind_run made.made.file end not_run bad) (inl e.1)
+    | inr (inl memory) ↦ stopped_by end order made (inr (inl (none, inl memory.0))) (ap is_barred memory.0) (ap is_behind_run memory.0) (inl memory.1)
+    | inr (inr failed) ↦ stopped_by end order made (inr (inl (none, inr failed))) (ap is_barred failed.0) (ap is_behind_run failed.0) (inr failed)
   ]
 
   pub generated_ended : (end answered : End) (order : List ℕ) → answered ≡ end → order ≡ [] → IsMade workload f g (Err end) → HasGenerated workload (ends_of source f out notes) (ends_of source g out notes) answered order
@@ -171,7 +172,7 @@ module _ (workload : Workload) (source : Reading) (f g : Shelving) (out notes : 
     trace = refl;
     files = is.made.files;
     once = is.made.once;
-    file_count = λ _. is.made.step.1;
+    file_count = inl is.made.step.1;
     written = (refl, refl);
     law = λ later. absurd (cc);
     run = λ later. absurd (cc);
@@ -239,7 +240,7 @@ module _ (workload : Workload) (source : Reading) (f g : Shelving) (out written_
     trace = refl;
     files = of.made.files;
     once = of.made.once;
-    file_count = λ _. of.made.step.1;
+    file_count = inl of.made.step.1;
     written = subst (λ (v : Verdict). AreWritten end (trace_of workload) v.text out written_out notes written_notes) (sym verdict_is) (subst (λ t. AreWritten end t ran.text.items out written_out notes written_notes) text_made written);
     law = λ _. of_job (λ (j : Job). IsLawful j.input order) (lawful Summary job ran end order is last same);
     run = λ _. of_job (λ (j : Job). IsOrderOf InTurn j end order) (its_run Summary job ran end order is last same InTurn tt);

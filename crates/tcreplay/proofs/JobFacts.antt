@@ -1,24 +1,24 @@
 -- What the steps of reading come to together.
 use Rattle.std.proofs.Common.{◌≡◌, ℕ, ◌+◌, ◌≤◌, inl, inr, true, false, List, [], Option, Some, None, Result, Ok, Err, refl, sym, ap, subst, ◌∙◌, arith}
-use Rattle.std.specs.Prelude.{IfSome, IsErr, IsErrAnd, is_ok, is_err, Vec, ◌^◌, ◌-◌}
+use Rattle.std.specs.Prelude.{IfSome, IsOk, IsErr, IsErrAnd, is_ok, is_err, is_some, Vec}
 use Rattle.std.specs.Global.{Global}
-use Rattle.std.proofs.Math.Nat.{min-le_left}
 use Rattle.tc_units.specs.declared.spans.ClassRow.{ClassRow}
 use Rattle.tc_model.specs.Input.{Asked}
 use Rattle.tc_ports.specs.Faults.{one_more, Rose}
 use Rattle.tc_ports.specs.Shelves.{Files}
+use Rattle.tc_ports.specs.Told.{LostAtMost}
 use Rattle.trace_reader.specs.declared.trace.Trace.{Trace}
 use Rattle.tc_machine.specs.Inputs.{asked_of}
 use Rattle.tcreplay.specs.declared.outcome.End.{End}
-use Rattle.tcreplay.specs.declared.outcome.End.TheVariants.{Done, WriteFault, Full, ReadFault, FileFault}
+use Rattle.tcreplay.specs.declared.outcome.End.TheVariants.{Done, WriteFault, Full, Memory, TooLong, ReadFault, FileFault}
 use Rattle.tcreplay.specs.declared.input.Job.{Job}
 use Rattle.tcreplay.specs.Tasks.{Replay, Schedule, InTurn, ByFile, ByThreads, file_of}
 use Rattle.tcreplay.specs.Verdict as verdict
 use Rattle.tcreplay.specs.Verdict.{Given, and_then, or_end, within, file_within, table_limit, trace_limit, table_end, rows_in, asked_in, picks_in, picks_or, job_with, job_of}
-use Rattle.tcreplay.specs.Reads.{Reading, Shelving, IsFile, IsStep, IsLoad, ArePicks, IsTraceRead, HaveCome, CutOff, HasRead, IsJobOf, IsJobRead, asked_by, order_loads, loads_behind, is_behind_trace, is_behind_run}
+use Rattle.tcreplay.specs.Reads.{Reading, Shelving, IsFile, IsStep, IsLoad, ArePicks, IsTraceRead, HaveCome, CutOff, HasRead, IsAllRead, IsJobOf, IsJobRead, IsCounted, asked_by, loads_behind, most_gone, is_of_file, is_behind_trace, is_behind_run}
 use Rattle.tcreplay.proofs.EndFacts.{FailsTable, FailsJob, table_fails, job_fails}
 use Rattle.tcreplay.proofs.LoadFacts.{some_file, some_file_is}
-use Rattle.tcreplay.proofs.TraceFacts.{some_text, some_text_is, lost_none}
+use Rattle.tcreplay.proofs.TraceFacts.{some_text, some_text_is, lost_none, lost_more}
 
 -- no end of a class table comes behind the trace
 not_behind : FailsTable is_behind_trace
@@ -51,28 +51,33 @@ stops_early replay given t u f g end answer later =
     ] in
     let e : false ≡ true = sym early ∙ later in cc
 
--- a step that ended with another fault than that of its end left the count of faults
-step_count : {A B : Type 0} (seen : B → A) (verdict : Result A End) (fault end : End) (old new : ℕ) → IsStep seen verdict fault old new (Err end) → (end ≡ fault → ⊥) → new ≡ old
-step_count seen verdict fault end old new (inl e) other = e.1
-step_count seen verdict fault end old new (inr (inl memory)) other = memory.1
-step_count seen verdict fault end old new (inr (inr failed)) other = absurd (other failed.0)
+-- a step that ended left the count of faults, or it failed
+step_count : {A B : Type 0} (seen : B → A) (verdict : Result A End) (fault end : End) (old new : ℕ) → IsStep seen verdict fault old new (Err end) → IsCounted fault end old new
+step_count seen verdict fault end old new (inl e) = inl e.1
+step_count seen verdict fault end old new (inr (inl memory)) = inl memory.1
+step_count seen verdict fault end old new (inr (inr failed)) = inr failed
+
+-- no end of a file is want of memory, or a fault of the source
+memory_not : (end : End) → end ≡ Memory → is_of_file end ≡ true → ⊥
+memory_not end is file = let e : false ≡ true = sym (ap is_of_file is) ∙ file in cc
+
+source_not : (end : End) → end ≡ ReadFault → is_of_file end ≡ true → ⊥
+source_not end is file = let e : false ≡ true = sym (ap is_of_file is) ∙ file in cc
+
+-- where nothing of the trace is gone that the limit doesn't allow, no more is gone than at any end
+gone_least : (end : End) → trace_limit ≤ most_gone end
+gone_least (TooLong limit) = omega arith
+gone_least end = omega arith
+
+pub gone_for : (left rest : Option (List ℕ)) (end : End) → LostAtMost left rest trace_limit → LostAtMost left rest (most_gone end)
+gone_for left rest end lost = lost_more left rest trace_limit (most_gone end) (gone_least end) lost
 
 -- before a run no picks came
 none_came : (schedule : Schedule) (job : Result verdict.Job End) → HaveCome schedule job []
 none_came InTurn job = refl
 none_came (ByFile order) job = refl
-none_came (ByThreads locks) (Ok job) = record { polite = tt; few = omega arith }
+none_came (ByThreads locks) (Ok job) = record { polite = tt; few = omega arith; switches = λ c. omega arith }
 none_came (ByThreads locks) (Err end) = refl
-
--- one load and two loads, of at most so many
-one_load : (loads old new : ℕ) → new ≡ one_more old → new ≤ old + (1 + loads)
-one_load loads old new once = let m = min-le_left (old + 1) (2 ^ 64 - 1) in omega (arith, once, m)
-
-two_loads : (old between new : ℕ) → between ≡ one_more old → new ≡ one_more between → new ≤ old + 2
-two_loads old between new first second =
-    let m = min-le_left (old + 1) (2 ^ 64 - 1) in
-    let n = min-le_left (between + 1) (2 ^ 64 - 1) in
-    omega (arith, first, second, m, n)
 
 not_err : {A : Type 0} (r : Result A End) (a : A) → r ≡ Ok a → IsErr r → ⊥
 not_err r a is err = let e : true ≡ false = sym err ∙ ap is_err is in cc
@@ -85,6 +90,26 @@ some_order files (Some name) = some_file files name
 some_order_is : (files : Option Files) (order : Option (List ℕ)) → IfSome order (λ name. IsFile files name (some_order files order))
 some_order_is files None = tt
 some_order_is files (Some name) = some_file_is files name
+
+-- a class table that is good, in a load that didn't fail, ends nothing but for want of memory
+then_ok : {A B : Type 0} (first : Option (List ℕ) → Result A End) (next : A → Result B End) (file : Option (List ℕ)) → IsOk (and_then next (first file)) → IsOk (first file)
+then_ok {A} {B} first next file good = of_result (first file) good
+  where
+    of_result : (r : Result A End) → IsOk (and_then next r) → IsOk r
+    of_result (Ok a) good = refl
+    of_result (Err e) good = good
+
+table_only : (file : Option (List ℕ)) (end : End) (f g : Shelving) → is_of_file end ≡ true → IsOk (rows_in file) → (Rose f.faults g.faults → ⊥) → IsStep (λ (rows : List ClassRow). rows) (rows_in file) FileFault f.faults g.faults (Err end) → ⊥
+table_only file end f g is good whole (inl e) = let wrong : false ≡ true = sym (ap is_ok e.0) ∙ good in cc
+table_only file end f g is good whole (inr (inl memory)) = memory_not end memory.0 is
+table_only file end f g is good whole (inr (inr failed)) = whole failed.1
+
+-- and so does a trace that is good
+trace_only : (rows : List ClassRow) (file : Option (List ℕ)) (text : List ℕ) (end : End) (t u : Reading) → rows_in file ≡ Ok rows → is_of_file end ≡ true → IsOk (and_then (λ rows. asked_in rows text) (rows_in file)) → IsStep asked_of (asked_in rows text) ReadFault t.faults u.faults (Err end) → ⊥
+trace_only rows file text end t u table is good (inl e) =
+    let wrong : false ≡ true = sym (ap is_ok (ap (and_then (λ rows. asked_in rows text)) table ∙ e.0)) ∙ good in cc
+trace_only rows file text end t u table is good (inr (inl memory)) = memory_not end memory.0 is
+trace_only rows file text end t u table is good (inr (inr failed)) = source_not end failed.0 is
 
 -- the class table ends the work
 table_stops : (replay : Replay) (t : Reading) (f g : Shelving) (end : End) → IsLoad (λ (rows : List ClassRow). rows) rows_in replay.classes f g (Err end) → IsJobRead replay t t f g (Err end)
@@ -106,14 +131,15 @@ table_stops replay t f g end load =
       answer = answer;
       read = record {
         files = load.files;
-        loads = one_load (order_loads (file_of replay.schedule) (asked_by given)) f.loads g.loads load.once;
-        loaded = λ later. absurd (stops_early replay given t t f g end answer later);
+        loads = inl load.once;
+        behind_run = λ later. absurd (stops_early replay given t t f g end answer later);
+        behind_file = λ file good whole. absurd (table_only load.file end f g file (then_ok rows_in (λ rows. asked_in rows given.trace) load.file good) whole load.step);
         file_count = step_count (λ (rows : List ClassRow). rows) (rows_in load.file) FileFault end f.faults g.faults load.step;
         untouched = λ _. refl;
-        lost = lost_none t.left (trace_limit + 1);
+        lost = lost_none t.left (most_gone end);
         reads = omega arith;
         drained = λ is. absurd (behind end early is);
-        trace_count = λ _. refl;
+        trace_count = inl refl;
       };
     }
 
@@ -132,9 +158,10 @@ trace_stops replay t u f g rows end load trace =
       answer = answer;
       read = record {
         files = load.files;
-        loads = one_load (order_loads (file_of replay.schedule) (asked_by given)) f.loads g.loads load.once;
-        loaded = λ later. absurd (stops_early replay given t u f g end answer later);
-        file_count = λ _. load.step.1;
+        loads = inl load.once;
+        behind_run = λ later. absurd (stops_early replay given t u f g end answer later);
+        behind_file = λ file good _. absurd (trace_only rows load.file trace.text end t u load.step.0 file good trace.step);
+        file_count = inl load.step.1;
         untouched = λ err. absurd (not_err (rows_in load.file) rows load.step.0 err);
         lost = trace.lost;
         reads = trace.reads;
@@ -155,27 +182,26 @@ order_told : (order : Option (List ℕ)) (name : List ℕ) (first second : Optio
 order_told order name first second file named same told =
     subst (λ (o : Option (List ℕ)). IfSome o (λ name. IsFile first name file)) (sym named) (subst (λ (files : Option Files). IsFile files name file) same told)
 
-loads_two : (order : Option (List ℕ)) (asked : Result Asked End) (name : List ℕ) (a : Asked) → order ≡ Some name → asked ≡ Ok a → 1 + order_loads order asked ≡ 2
-loads_two order asked name a named is = ap (λ o. 1 + order_loads o asked) named ∙ ap (λ r. 1 + order_loads (Some name) r) is
-
 -- the picks of a named order
 named_picks : (replay : Replay) (name : List ℕ) (threads : ℕ) (file : Option (List ℕ)) → file_of replay.schedule ≡ Some name → picks_or (file_of replay.schedule) threads file [] ≡ picks_in threads file
 named_picks replay name threads file named = ap (λ o. picks_or o threads file []) named
 
 -- what was read behind a good trace, with the order file or without
-behind_order : (replay : Replay) (name : List ℕ) (t u : Reading) (f g h : Shelving) (rows : List ClassRow) (trace : Trace) (given : Given) (end : End) → file_of replay.schedule ≡ Some name → rows_in given.table ≡ Ok rows → asked_in rows given.trace ≡ Ok (asked_of trace) → g.files ≡ f.files → h.files ≡ g.files → g.loads ≡ one_more f.loads → h.loads ≡ one_more g.loads → ((end ≡ FileFault → ⊥) → h.faults ≡ f.faults) → IsTraceRead rows t u (Ok trace) → HasRead replay given t u f h end
+behind_order : (replay : Replay) (name : List ℕ) (t u : Reading) (f g h : Shelving) (rows : List ClassRow) (trace : Trace) (given : Given) (end : End) → file_of replay.schedule ≡ Some name → rows_in given.table ≡ Ok rows → asked_in rows given.trace ≡ Ok (asked_of trace) → g.files ≡ f.files → h.files ≡ g.files → g.loads ≡ one_more f.loads → h.loads ≡ one_more g.loads → IsCounted FileFault end f.faults h.faults → IsTraceRead rows t u (Ok trace) → HasRead replay given t u f h end
 behind_order replay name t u f g h rows trace given end named good asked first second one two count read =
-    let both : 1 + order_loads (file_of replay.schedule) (asked_by given) ≡ 2 = loads_two (file_of replay.schedule) (asked_by given) name (asked_of trace) named (asked_is given.table given.trace rows trace good asked) in
+    let drained = read.drained refl in
+    let all : IsAllRead replay u f h = record { drained = drained; loads = two ∙ (ap one_more one ∙ sym (ap (λ o. loads_behind o f.loads) named)) } in
     record {
       files = second ∙ first;
-      loads = subst (λ n. h.loads ≤ f.loads + n) (sym both) (two_loads f.loads g.loads h.loads one two);
-      loaded = λ _. two ∙ ap one_more one ∙ sym (ap (λ o. loads_behind o f.loads) named);
+      loads = inr (record { twice = two ∙ ap one_more one; named = ap is_some named; good = ap is_ok (asked_is given.table given.trace rows trace good asked); drained = drained });
+      behind_run = λ _. all;
+      behind_file = λ _ _ _. all;
       file_count = count;
       untouched = λ err. absurd (not_err (rows_in given.table) rows good err);
-      lost = read.lost;
+      lost = gone_for t.left u.left end read.lost;
       reads = read.reads;
-      drained = λ _. read.drained refl;
-      trace_count = λ _. read.step.1;
+      drained = λ _. drained;
+      trace_count = inl read.step.1;
     }
 
 -- the order file ends the work
@@ -192,7 +218,7 @@ order_stops replay name t u f g h rows trace end named load read order =
       given = given;
       told = record { table = load.told; trace = read.told; order = order_told (file_of replay.schedule) name f.files g.files order.file named load.files order.told; came = none_came replay.schedule (job_of replay given) };
       answer = answer;
-      read = behind_order replay name t u f g h rows trace given end named load.step.0 read.step.0 load.files order.files load.once order.once (λ other. step_count (λ (v : Vec ℕ Global). v.items) (picks_in threads order.file) FileFault end g.faults h.faults order.step other ∙ load.step.1) read;
+      read = behind_order replay name t u f g h rows trace given end named load.step.0 read.step.0 load.files order.files load.once order.once (subst (λ n. IsCounted FileFault end n h.faults) load.step.1 (step_count (λ (v : Vec ℕ Global). v.items) (picks_in threads order.file) FileFault end g.faults h.faults order.step)) read;
     }
 
 -- all is there, without an order file
@@ -207,14 +233,15 @@ reads_without replay t u f g rows trace picks unnamed load read none =
           ∙ ap (λ picks. Ok (record { input = record { rows = rows; asked = asked_of trace }; picks = picks })) (sym none);
       read = record {
         files = load.files;
-        loads = one_load (order_loads (file_of replay.schedule) (asked_by given)) f.loads g.loads load.once;
-        loaded = λ _. load.once ∙ sym (ap (λ o. loads_behind o f.loads) unnamed);
-        file_count = λ _. load.step.1;
+        loads = inl load.once;
+        behind_run = λ _. record { drained = read.drained refl; loads = load.once ∙ sym (ap (λ o. loads_behind o f.loads) unnamed) };
+        behind_file = λ file. absurd (cc);
+        file_count = inl load.step.1;
         untouched = λ err. absurd (not_err (rows_in load.file) rows load.step.0 err);
         lost = read.lost;
         reads = read.reads;
         drained = λ _. read.drained refl;
-        trace_count = λ _. read.step.1;
+        trace_count = inl read.step.1;
       };
     }
 
@@ -227,7 +254,7 @@ reads_with replay name t u f g h rows trace picks named load read order =
       told = record { table = load.told; trace = read.told; order = order_told (file_of replay.schedule) name f.files g.files order.file named load.files order.told; came = none_came replay.schedule (job_of replay given) };
       answer = job_is replay given rows trace load.step.0 read.step.0
           ∙ ap (and_then (λ picks. Ok (record { input = record { rows = rows; asked = asked_of trace }; picks = picks }))) (named_picks replay name trace.config.threads order.file named ∙ order.step.0);
-      read = behind_order replay name t u f g h rows trace given Done named load.step.0 read.step.0 load.files order.files load.once order.once (λ _. order.step.1 ∙ load.step.1) read;
+      read = behind_order replay name t u f g h rows trace given Done named load.step.0 read.step.0 load.files order.files load.once order.once (inl (order.step.1 ∙ load.step.1)) read;
     }
 
 -- with or without an order file

@@ -1,9 +1,14 @@
 -- What holds of a run from what it came to, and of its end and its order.
-use Rattle.std.proofs.Common.{◌≡◌, ℕ, Bool, true, false, List, sym, ap, subst, ◌∙◌, inl, inr}
+use Rattle.std.proofs.Common.{◌≡◌, ℕ, ◌<◌, Bool, true, false, List, [], sym, ap, subst, ◌∙◌, inl, inr}
+use Rattle.std.proofs.lemmas.List.{append-nil}
 use Rattle.tc_model.specs.Input.{Input}
-use Rattle.tc_model.specs.Run.{run}
+use Rattle.tc_model.specs.Run.{World, run}
 use Rattle.tc_model.specs.Replays.{HaveEnded}
+use Rattle.call_steps.specs.Local.{Local}
+use Rattle.alloc_rules.specs.declared.part.Part.{Part}
 use Rattle.alloc_rules.specs.Machine.{rules}
+use Rattle.alloc_rules.specs.Law.{calls}
+use Rattle.alloc_rules.specs.Told.{TellsScript}
 use Rattle.tc_machine.specs.Finish.{finished_in}
 use Rattle.tcreplay.specs.declared.outcome.End.{End}
 use Rattle.tcreplay.specs.declared.outcome.End.TheVariants.{Done, WriteFault}
@@ -13,7 +18,8 @@ use Rattle.tcreplay.specs.Tasks.{Schedule}
 use Rattle.tcreplay.specs.Verdict.{Job, Verdict, told_by, have_ended, order_of_job}
 use Rattle.tcreplay.specs.Ran.{IsRan}
 use Rattle.tcreplay.specs.Writes.{IsRunEnd, IsLastEnd}
-use Rattle.tcreplay.specs.Lawful.{IsLawful, IsCompleted, IsFilled, IsOrderOf}
+use Rattle.tc_machine.specs.Lawful.{IsLawful}
+use Rattle.tcreplay.specs.Order.{IsCompleted, IsFilled, IsOrderOf}
 use Rattle.tcreplay.proofs.Ended.{ended_from}
 use Rattle.tcreplay.proofs.RunFacts.{verdict_if, its_order, its_end}
 
@@ -56,6 +62,12 @@ module _ (telling : Telling) (job : Job) (ran : Ran) (end : End) (order : List �
 
   pub have_all_ended : end ≡ Done → HaveEnded (rules job.input) (run (rules job.input) order)
   have_all_ended done = ended_from (rules job.input) (run (rules job.input) order) (ap (λ o. have_ended (rules job.input) (run (rules job.input) o)) order_is ∙ all_ended done)
+
+  -- the calls that are told of each thread are its whole script
+  pub told_scripts : end ≡ Done → (t : ℕ) → t < job.input.asked.config.threads → TellsScript job.input t (finished_in job.input order).calls
+  told_scripts done t within =
+      let h = lawful.holds order [] (append-nil order) in
+      subst (TellsScript job.input t) (sym (ap (λ (w : World Part Local). calls w.locals order) h.is)) (h.all_told (have_all_ended done) t within)
 
   pub its_run : (schedule : Schedule) → IsCompleted schedule job whole → IsOrderOf schedule job end order
   its_run schedule made = record { whole = order_is; completed = subst (IsCompleted schedule job) (sym order_is) made; filled = filled last }

@@ -1,11 +1,12 @@
 -- What a run comes to, from what the machine says of it.
 use Rattle.std.proofs.Common.{◌≡◌, ℕ, ◌+◌, ◌≤◌, Bool, true, false, cond, List, [], ◌∷◌, ◌++◌, length, Result, Ok, Err, refl, sym, ap, subst, ◌∙◌, arith, nat_lt}
-use Rattle.std.specs.Prelude.{IfOk}
+use Rattle.std.specs.Prelude.{IfErr, IfOk}
 use Rattle.std.specs.declared.alloc.AllocError.{AllocError}
 use Rattle.std.proofs.lemmas.Bool.Decides.{nat_tests}
 use Rattle.std.proofs.lemmas.List.{append-nil, append_assoc, length-append}
 use Rattle.std.proofs.lemmas.List.Sums.{fold-append}
 use Rattle.tc_model.specs.declared.answers.Finished.{Finished}
+use Rattle.tc_model.specs.declared.steps.StepFault.{StepFault}
 use Rattle.tc_model.specs.Input.{Input}
 use Rattle.tc_model.specs.Run.{Rules, start, run, pick}
 use Rattle.tc_model.specs.Steps.{stepped, order_with}
@@ -20,7 +21,7 @@ use Rattle.tcreplay.specs.declared.run.Ran.{Ran}
 use Rattle.tcreplay.specs.declared.run.Telling.{Telling}
 use Rattle.tcreplay.specs.Verdict.{Job, Verdict, have_ended, judged, order_of_job, told_by}
 use Rattle.tcreplay.specs.Reads.{IsMadeOf}
-use Rattle.tcreplay.specs.Lawful.{IsFilled}
+use Rattle.tcreplay.specs.Order.{IsFilled}
 use Rattle.tcreplay.specs.Ran.{IsRan}
 use Rattle.tcreplay.proofs.Ended.{ended_true, not_ended}
 
@@ -65,6 +66,10 @@ told_full telling input whole order items text ticket limit given empty =
     let seen : Verdict = record { end = Full ticket; order = items; text = text } in
     let here : seen ≡ at_limit input order = ap (λ n. let v : Verdict = record { end = Full n; order = items; text = text } in v) limit.ticket_is ∙ (ap (λ o. let v : Verdict = record { end = Full input.asked.config.events; order = o; text = text } in v) given ∙ ap (λ t. let v : Verdict = record { end = Full input.asked.config.events; order = order; text = t } in v) empty) in
     here ∙ sym (ap (λ b. verdict_if b telling input order) going)
+
+-- what holds of a fault holds of the one that came
+pub cut_by : {A : Type 0} (r : Result A StepFault) (P : StepFault → Type 0) (found fault : StepFault) → r ≡ Err found → found ≡ fault → IfErr r P → P fault
+cut_by {A} r P found fault is same holds = subst P same (subst (λ (x : Result A StepFault). IfErr x P) is holds)
 
 -- at the limit an order has as many picks as may move
 pub filled_at : (input : Input) (whole order : List ℕ) (ticket : ℕ) → IsAtLimit (rules input) input.asked.config.events whole order ticket → IsFilled input (Full ticket) order

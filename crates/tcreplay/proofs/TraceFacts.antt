@@ -27,8 +27,18 @@ pub lost_none : (left : Option (List ℕ)) (most : ℕ) → LostAtMost left left
 lost_none None most = refl
 lost_none (Some bytes) most = (0, omega arith, refl)
 
+-- what has lost at most so many has lost at most more
+pub lost_more : (left rest : Option (List ℕ)) (most more : ℕ) → most ≤ more → LostAtMost left rest most → LostAtMost left rest more
+lost_more None rest most more fits lost = lost
+lost_more (Some bytes) rest most more fits lost = (lost.0, omega (arith, lost.1), lost.2)
+
+-- a limit that was passed is gone, and one byte more
+pub lost_passed : (left rest : Option (List ℕ)) (limit : ℕ) → PassedLimit left rest limit → LostAtMost left rest (limit + 1)
+lost_passed None rest limit passed = passed
+lost_passed (Some bytes) rest limit passed = (limit + 1, omega arith, passed.1)
+
 -- what was read to its end has lost no more than it had
-pub lost_all : (left rest : Option (List ℕ)) (text : List ℕ) (limit : ℕ) → length text ≤ limit → IfSome left (λ bytes. text ≡ bytes) → IfSome rest (λ bytes. bytes ≡ []) → (IsNone rest ↔ IsNone left) → LostAtMost left rest (limit + 1)
+pub lost_all : (left rest : Option (List ℕ)) (text : List ℕ) (limit : ℕ) → length text ≤ limit → IfSome left (λ bytes. text ≡ bytes) → IfSome rest (λ bytes. bytes ≡ []) → (IsNone rest ↔ IsNone left) → LostAtMost left rest limit
 lost_all None None text limit short told end tells = refl
 lost_all None (Some bytes) text limit short told end tells = absurd (let e = tells.1 refl in cc)
 lost_all (Some bytes) None text limit short told end tells = absurd (let e = tells.0 refl in cc)

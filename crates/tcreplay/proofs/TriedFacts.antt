@@ -16,25 +16,27 @@ use Rattle.tcreplay.specs.Verdict.{Given, Verdict, and_then, rows_in, asked_in, 
 use Rattle.tcreplay.specs.Reads.{Reading, Shelving, IsMadeOf, HaveCome, AreGiven, HasRead, IsJobRead, CutOff, is_behind_run, seen_job}
 use Rattle.tcreplay.specs.Ran.{seen_ran, IsRan, IsRanByThreads}
 use Rattle.tcreplay.specs.Writes.{Writing, IsWritten, IsLastEnd}
-use Rattle.tcreplay.specs.Lawful.{IsLawful, IsCompleted, IsOrderOf}
+use Rattle.tc_machine.specs.Lawful.{IsLawful}
+use Rattle.tcreplay.specs.Order.{IsCompleted, IsOrderOf}
 use Rattle.tcreplay.specs.Replayed.{IsAnswer, IsHeadline, HasTried, verdict_on}
 use Rattle.tcreplay.proofs.EndFacts.{job_fails}
-use Rattle.tcreplay.proofs.JobFacts.{not_run, cut_early}
+use Rattle.tcreplay.proofs.JobFacts.{not_run, cut_early, gone_for}
 use Rattle.tcreplay.proofs.RunFacts.{completed_is}
-use Rattle.tcreplay.proofs.RanFacts.{order_is, lawful, text_is, have_all_ended, its_run}
+use Rattle.tcreplay.proofs.RanFacts.{order_is, lawful, text_is, have_all_ended, told_scripts, its_run}
 
 -- what was read without a refusal was read for any end
 read_for : (replay : Replay) (given : Given) (t u : Reading) (f g : Shelving) (end : End) → HasRead replay given t u f g Done → HasRead replay given t u f g end
 read_for replay given t u f g end read = record {
   files = read.files;
   loads = read.loads;
-  loaded = λ _. read.loaded refl;
-  file_count = λ _. read.file_count (λ e. cc);
+  behind_run = λ _. read.behind_run refl;
+  behind_file = λ _ _ _. read.behind_run refl;
+  file_count = elim read.file_count [ inl same ↦ inl same | inr failed ↦ absurd (cc) ];
   untouched = read.untouched;
-  lost = read.lost;
+  lost = gone_for t.left u.left end read.lost;
   reads = read.reads;
   drained = λ _. read.drained refl;
-  trace_count = λ _. read.trace_count (λ e. cc);
+  trace_count = elim read.trace_count [ inl same ↦ inl same | inr failed ↦ absurd (cc) ];
 }
 
 -- before a run nothing is written
@@ -67,6 +69,10 @@ tried_stopped replay t u f g out end order none read =
       run = λ later. absurd (not_later end early later);
       headline = λ done. absurd (not_later end early (ap is_behind_run done));
     }
+
+-- the same of what is answered then
+pub tried_at : (replay : Replay) (t u : Reading) (f g : Shelving) (out : Writing) (end answered : End) (order : List ℕ) → answered ≡ end → order ≡ [] → IsJobRead replay t u f g (Err end) → HasTried replay t u f g out out answered order
+tried_at replay t u f g out end answered order same none read = subst (λ e. HasTried replay t u f g out out e order) (sym same) (tried_stopped replay t u f g out end order none read)
 
 -- memory ran out in the run
 pub tried_memory : (replay : Replay) (t u : Reading) (f g : Shelving) (out : Writing) (job : Job) (order : List ℕ) → order ≡ [] → IsJobRead replay t u f g (Ok job) → HasTried replay t u f g out out Memory order
@@ -104,6 +110,7 @@ module _ (replay : Replay) (given : Given) (t u : Reading) (f g : Shelving) (bef
     asked = asked;
     order_is = order_is telling job ran end order is last same;
     ended = have_all_ended telling job ran end order is last same done;
+    told = told_scripts telling job ran end order is last same done;
     text = subst (Took before.taken after.taken) (text_is telling job ran end order is last same done) (took end ran.text.items before after done written);
     law = lawful telling job ran end order is last same;
   }
@@ -185,5 +192,5 @@ tried_threads replay locks t u f g before after job ran end order threads read b
     let none : file_of replay.schedule ≡ None = no_file replay.schedule locks threads in
     let asked : job_of replay given ≡ Ok (job_behind (seen_job job) came) = behind_rows replay read.given came (seen_job job) none (rows_in read.given.table) read.answer in
     let told : AreGiven replay f.files t.left given = record { table = read.told.table; trace = read.told.trace; order = read.told.order; came = subst (λ j. HaveCome replay.schedule j came) (sym asked) (came_is replay.schedule locks (seen_job job) came threads by_threads.made) } in
-    let had : HasRead replay given t u f g Done = record { files = read.read.files; loads = read.read.loads; loaded = read.read.loaded; file_count = read.read.file_count; untouched = read.read.untouched; lost = read.read.lost; reads = read.read.reads; drained = read.read.drained; trace_count = read.read.trace_count } in
+    let had : HasRead replay given t u f g Done = record { files = read.read.files; loads = elim read.read.loads [ inl once ↦ inl once | inr two ↦ inr (record { twice = two.twice; named = two.named; good = two.good; drained = two.drained }) ]; behind_run = read.read.behind_run; behind_file = read.read.behind_file; file_count = read.read.file_count; untouched = read.read.untouched; lost = read.read.lost; reads = read.read.reads; drained = read.read.drained; trace_count = read.read.trace_count } in
     tried_by replay given t u f g before after (job_behind (seen_job job) came) ran end order told asked had by_threads.whole (completed_by replay.schedule locks (seen_job job) came threads by_threads.made) last same written

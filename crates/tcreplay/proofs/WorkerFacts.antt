@@ -1,11 +1,15 @@
 -- What threads left of a run, and what it comes to once it is completed.
-use Rattle.std.proofs.Common.{◌≡◌, ℕ, ◌≤◌, ◌-◌, List, length, Result, Ok, Err, sym, ap, subst, ◌∙◌, arith}
-use Rattle.std.specs.Prelude.{IfOk}
+use Rattle.std.proofs.Common.{◌≡◌, ℕ, ◌≤◌, ◌-◌, List, length, Result, Ok, Err, refl, sym, ap, subst, ◌∙◌, arith}
+use Rattle.std.specs.Prelude.{IfOk, All, Option, Some, None}
 use Rattle.std.specs.List.{range_with_len}
 use Rattle.std.specs.declared.alloc.AllocError.{AllocError}
 use Rattle.std.proofs.lemmas.List.{length-append, length-map}
 use Rattle.std.proofs.lemmas.List.FromFn.{length-range_with_len}
 use Rattle.tc_model.specs.declared.board.Entry.{Entry}
+use Rattle.tc_model.specs.declared.board.Halt.{Halt}
+use Rattle.tc_model.specs.declared.board.Halt.TheVariants.{Memory, Full}
+use Rattle.tc_model.specs.declared.board.Turn.{Turn}
+use Rattle.tc_model.specs.declared.board.Turn.TheVariants.{Ended}
 use Rattle.tc_model.specs.Input.{Input}
 use Rattle.tc_model.specs.Run.{Rules, World, world_of, start, run}
 use Rattle.tc_model.specs.Steps.{moving}
@@ -16,10 +20,13 @@ use Rattle.tc_model.proofs.MovingFacts.{moving_all}
 use Rattle.call_steps.specs.Local.{Local}
 use Rattle.alloc_rules.specs.declared.part.Part.{Part}
 use Rattle.alloc_rules.specs.Machine.{rules, turns, first_of}
-use Rattle.tc_machine.specs.Played.{Played}
+use Rattle.replay_workers.specs.Runs.{halt_among}
 use Rattle.relay.specs.Ends.{IsRun, threads_in}
 use Rattle.tcreplay.specs.declared.run.Ran.{Ran}
 use Rattle.tcreplay.specs.declared.run.Telling.{Telling}
+use Rattle.tcreplay.specs.declared.words.Locks.TheVariants.{Parts}
+use Rattle.tcreplay.specs.declared.workers.Came.{Came}
+use Rattle.tcreplay.specs.Came.{IsLeft}
 use Rattle.tcreplay.specs.Reads.{IsMadeOf}
 use Rattle.tcreplay.specs.Ran.{IsRan, IsRanByThreads}
 use Rattle.tcreplay.proofs.RunFacts.{same_run, completed_is}
@@ -49,14 +56,27 @@ by_threads telling other input came order ran same is polite ran_so =
     let here : IsRan telling input whole ran = same_run telling other input order whole ran same is ran_so in
     let long = length-append came (completion (rules input) (turns input) (input.asked.config.events - length came) (run (rules input) came)) in
     let few : length came ≤ input.asked.config.events = (let most = here.law.few in omega (arith, long, most)) in
-    let made : IsMadeOf input came = record { polite = polite; few = few } in
+    let behind = here.law.holds came (completion (rules input) (turns input) (input.asked.config.events - length came) (run (rules input) came)) refl in
+    let made : IsMadeOf input came = record { polite = polite; few = few; switches = behind.switches polite } in
     record { came = came; made = made; whole = subst (λ o. IsRan telling input o ran) (completed_is input came made) here }
 
 pub by_threads_result : (telling : Telling) (other input : Input) (came order : List ℕ) (result : Result Ran AllocError) → other ≡ input → order ≡ completed (rules input) (turns input) input.asked.config.events came → IsPolite (rules input) (start (rules input)) came → IfOk result (IsRan telling other order) → IfOk result (IsRanByThreads telling input)
 by_threads_result telling other input came order (Ok ran) same is polite ran_so = by_threads telling other input came order ran same is polite ran_so
 by_threads_result telling other input came order (Err e) same is polite ran_so = tt
 
--- what holds of an order holds of a state that has it
-pub order_of_left : {E : Type 0} (P : List ℕ → Type 0) (order : List ℕ) (result : Result Played E) → IfOk result (λ state. state.order ≡ order) → P order → IfOk result (λ state. P state.order)
-order_of_left P order (Ok state) is holds = subst P (sym is) holds
-order_of_left P order (Err e) is holds = tt
+-- what was left under part locks
+pub parts_left : (input other : Input) (es : List Entry) (lasts : List Turn) (halt : Option Halt) (result : Result Came AllocError)
+    → other ≡ input → IsPolite (rules input) (start (rules input)) (threads_in es) → halt ≡ halt_among lasts → (halt_among lasts ≡ None → All (λ last. last ≡ Ended) lasts)
+    → (halt ≡ Some Full → length es ≡ input.asked.config.events)
+    → IfOk result (λ c. c.state.input ≡ other) → IfOk result (λ c. c.state.order ≡ threads_in es) → IfOk result (λ c. c.locks ≡ Parts) → IfOk result (λ c. c.lasts.items ≡ lasts)
+    → IfOk result (λ c. c.halt ≡ halt) → IfOk result (λ c. c.halt ≡ Some Memory → ⊥) → IfOk result (IsLeft input Parts)
+parts_left input other es lasts halt (Ok c) same polite is over full i o k l h enough = record {
+  input_is = i ∙ same;
+  locks_are = k;
+  polite = subst (IsPolite (rules input) (start (rules input))) (sym o) polite;
+  halt_is = h ∙ (is ∙ ap halt_among (sym l));
+  enough = enough;
+  over = λ none. subst (All (λ last. last ≡ Ended)) (sym l) (over (sym is ∙ (sym h ∙ none)));
+  full = λ _ at_limit. ap length o ∙ (length-map es (λ (e : Entry). e.thread.0) ∙ full (sym h ∙ at_limit));
+}
+parts_left input other es lasts halt (Err e) same polite is over full i o k l h enough = tt

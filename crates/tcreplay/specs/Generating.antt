@@ -17,9 +17,10 @@ use Rattle.tcreplay.specs.declared.outcome.End.{End}
 use Rattle.tcreplay.specs.declared.outcome.End.TheVariants.{Done, BadTable, WriteFault, Memory, TooLong, Full, FileFault}
 use Rattle.tcreplay.specs.Tasks.{Workload, InTurn}
 use Rattle.tcreplay.specs.Verdict.{Job, Verdict, and_then, rows_in, asked_of_text, order_of_job, run_verdict, summary_in}
-use Rattle.tcreplay.specs.Reads.{Shelving, IsFile, IsLoad, is_behind_run, seen_job}
+use Rattle.tcreplay.specs.Reads.{Shelving, IsFile, IsLoad, IsCounted, is_behind_run, seen_job}
 use Rattle.tcreplay.specs.Writes.{Writing, Ends, TookText, TookPartOf}
-use Rattle.tcreplay.specs.Lawful.{IsLawful, IsOrderOf}
+use Rattle.tc_machine.specs.Lawful.{IsLawful}
+use Rattle.tcreplay.specs.Order.{IsOrderOf}
 
 -- the trace of a workload
 abbrev pub trace_of : Workload → List ℕ
@@ -90,7 +91,7 @@ pub record HasGenerated (workload : Workload) (before after : Ends) (end : End) 
   pub trace : after.trace ≡ before.trace
   pub files : after.files.files ≡ before.files.files
   pub once : after.files.loads ≡ one_more before.files.loads
-  pub file_count : (end ≡ FileFault → ⊥) → after.files.faults ≡ before.files.faults
+  pub file_count : IsCounted FileFault end before.files.faults after.files.faults
   pub written : AreWritten end (trace_of workload) (generation_verdict workload table).text before.out after.out before.notes after.notes
   pub law : is_behind_run end ≡ true → (job : Job) → generation_job workload table ≡ Ok job → IsLawful job.input order
   pub run : is_behind_run end ≡ true → (job : Job) → generation_job workload table ≡ Ok job → IsOrderOf InTurn job end order

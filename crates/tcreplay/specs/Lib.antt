@@ -6,8 +6,9 @@ pub mod Notes
 pub mod Verdict
 pub mod Reads
 pub mod Writes
-pub mod Lawful
+pub mod Order
 pub mod Ran
+pub mod Came
 pub mod Replayed
 pub mod Generating
 pub mod Outcomes

@@ -5,7 +5,8 @@ use Rattle.tcreplay.specs.declared.run.Ran.{Ran}
 use Rattle.tcreplay.specs.declared.run.Telling.{Telling}
 use Rattle.tcreplay.specs.Verdict.{Verdict, order_of_job, judged}
 use Rattle.tcreplay.specs.Reads.{IsMadeOf}
-use Rattle.tcreplay.specs.Lawful.{IsLawful, IsFilled}
+use Rattle.tc_machine.specs.Lawful.{IsLawful}
+use Rattle.tcreplay.specs.Order.{IsFilled}
 
 -- as the verdict has it
 abbrev pub seen_ran : Ran → Verdict

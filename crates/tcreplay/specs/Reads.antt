@@ -14,6 +14,7 @@ use Rattle.tc_ports.specs.declared.shelf.LoadFault.TheVariants as load
 use Rattle.tc_ports.specs.Shelves.{Files}
 use Rattle.trace_reader.specs.declared.trace.Trace.{Trace}
 use Rattle.alloc_rules.specs.Machine as allocator
+use Rattle.alloc_rules.specs.Switches.{SwitchesAreFew}
 use Rattle.tc_machine.specs.Inputs.{IsRead, asked_of, input_of}
 use Rattle.tcreplay.specs.declared.outcome.End.{End}
 use Rattle.tcreplay.specs.declared.outcome.End.TheVariants.{Done, BadTrace, ReadFault, WriteFault, Memory, TooLong, Full, BadOrder, FileFault}
@@ -74,6 +75,16 @@ abbrev pub end_of : {A : Type 0} → Result A End → End
 end_of (Ok gave) = Done
 end_of (Err end) = end
 
+-- a count of faults is what it was, unless the end is this fault: then it rose
+abbrev pub IsCounted : End → End → ℕ → ℕ → Type 0
+IsCounted fault end old new = (new ≡ old) ⊎ ((end ≡ fault) × Rose old new)
+
+-- how many bytes of the trace are gone at most at an end: those of the limit, and one more where that shows that there are
+-- too many
+abbrev pub most_gone : End → ℕ
+most_gone (TooLong limit) = trace_limit + 1
+most_gone end = trace_limit
+
 -- whether an end comes behind the last byte of the trace
 abbrev pub is_behind_trace : End → Bool
 is_behind_trace Done = true
@@ -95,14 +106,16 @@ pub record IsTraceRead (rows : List ClassRow) (before after : Reading) (result :
   pub text : List ℕ
   pub told : IfSome before.left (λ bytes. text ≡ bytes)
   pub step : IsStep asked_of (asked_in rows text) ReadFault before.faults after.faults result
-  pub lost : LostAtMost before.left after.left (trace_limit + 1)
+  pub lost : LostAtMost before.left after.left (most_gone (end_of result))
   pub reads : after.reads ≤ before.reads + trace_limit + 1
   pub drained : is_behind_trace (end_of result) ≡ true → IfSome after.left (λ rest. rest ≡ [])
 
--- Picks that threads made under locks: each of them moved and was polite, and they are no more than may move.
+-- Picks that threads made under locks: each of them moved and was polite, they are no more than may move, and few threads
+-- switched in.
 pub record IsMadeOf (input : Input) (picks : List ℕ) : Type 0 where
   pub polite : IsPolite (allocator.rules input) (start (allocator.rules input)) picks
   pub few : length picks ≤ input.asked.config.events
+  pub switches : SwitchesAreFew (allocator.rules input) picks
 
 -- the picks that came from worker threads; where none are asked for, there are none
 abbrev pub HaveCome : Schedule → Result verdict.Job End → List ℕ → Type 0
@@ -131,31 +144,42 @@ CutOff replay given t u f g ReadFault = Rose t.faults u.faults × IsOk (rows_in 
 CutOff replay given t u f g FileFault = Rose f.faults g.faults × (((g.loads ≡ one_more f.loads) × (u ≡ t)) ⊎ IsOk (asked_by given))
 CutOff replay given t u f g end = ⊥
 
--- how many files are loaded at most: the class table, and the order file behind a good trace where one is named
-abbrev pub order_loads : Option (List ℕ) → Result Asked End → ℕ
-order_loads (Some name) (Ok asked) = 1
-order_loads name asked = 0
-
-abbrev pub most_loads : Replay → Given → ℕ
-most_loads replay given = 1 + order_loads (file_of replay.schedule) (asked_by given)
+-- the order file was loaded behind the class table: one is named, and the trace was good and read to its end
+pub record IsOrderLoaded (replay : Replay) (given : Given) (u : Reading) (f g : Shelving) : Type 0 where
+  pub twice : g.loads ≡ one_more (one_more f.loads)
+  pub named : IsSome (file_of replay.schedule)
+  pub good : IsOk (asked_by given)
+  pub drained : IfSome u.left (λ rest. rest ≡ [])
 
 -- how often files were loaded for a run: the class table once, and the order file once where one is named
 abbrev pub loads_behind : Option (List ℕ) → ℕ → ℕ
 loads_behind None loads = one_more loads
 loads_behind (Some name) loads = one_more (one_more loads)
 
--- What was read at an end: each input once at most, up to its limit, and not before its step; behind a run each file was
--- loaded. A count of faults rose only where that is the end.
+-- the ends of the order file, where class table and trace are good: it isn't there, or it is too long
+abbrev pub is_of_file : End → Bool
+is_of_file FileFault = true
+is_of_file (TooLong limit) = true
+is_of_file end = false
+
+-- all that is read before a run was read: the trace to its end, and each file
+pub record IsAllRead (replay : Replay) (u : Reading) (f g : Shelving) : Type 0 where
+  pub drained : IfSome u.left (λ rest. rest ≡ [])
+  pub loads : g.loads ≡ loads_behind (file_of replay.schedule) f.loads
+
+-- What was read at an end: each input once at most, up to its limit, and not before its step; behind a run, and where the
+-- order file ends the work, all was read. A count of faults rose only where that is the end.
 pub record HasRead (replay : Replay) (given : Given) (t u : Reading) (f g : Shelving) (end : End) : Type 0 where
   pub files : g.files ≡ f.files
-  pub loads : g.loads ≤ f.loads + most_loads replay given
-  pub loaded : is_behind_run end ≡ true → g.loads ≡ loads_behind (file_of replay.schedule) f.loads
-  pub file_count : (end ≡ FileFault → ⊥) → g.faults ≡ f.faults
+  pub loads : (g.loads ≡ one_more f.loads) ⊎ IsOrderLoaded replay given u f g
+  pub behind_run : is_behind_run end ≡ true → IsAllRead replay u f g
+  pub behind_file : is_of_file end ≡ true → IsOk (asked_by given) → (Rose f.faults g.faults → ⊥) → IsAllRead replay u f g
+  pub file_count : IsCounted FileFault end f.faults g.faults
   pub untouched : IsErr (rows_in given.table) → u ≡ t
-  pub lost : LostAtMost t.left u.left (trace_limit + 1)
+  pub lost : LostAtMost t.left u.left (most_gone end)
   pub reads : u.reads ≤ t.reads + trace_limit + 1
   pub drained : is_behind_trace end ≡ true → IfSome u.left (λ rest. rest ≡ [])
-  pub trace_count : (end ≡ ReadFault → ⊥) → u.faults ≡ t.faults
+  pub trace_count : IsCounted ReadFault end t.faults u.faults
 
 -- a job, as the definitions have it
 abbrev pub seen_job : Job → verdict.Job

@@ -1,9 +1,10 @@
 -- What a replay makes of its ends, and what it answers: that is its verdict, or something came between.
-use Rattle.std.specs.Prelude.{◌≡◌, ℕ, ◌⊎◌, true, List, [], Ok}
+use Rattle.std.specs.Prelude.{◌≡◌, ℕ, ◌<◌, ◌⊎◌, true, List, [], Ok}
 use Rattle.tc_model.specs.Run.{run}
 use Rattle.tc_model.specs.Replays.{HaveEnded}
 use Rattle.tc_ports.specs.Told.{Took}
 use Rattle.alloc_rules.specs.Machine as allocator
+use Rattle.alloc_rules.specs.Told.{TellsScript}
 use Rattle.tc_machine.specs.Finish.{finished_in}
 use Rattle.tcreplay.specs.declared.run.Telling.TheVariants.{Whole}
 use Rattle.tcreplay.specs.declared.outcome.End.{End}
@@ -12,7 +13,8 @@ use Rattle.tcreplay.specs.Tasks.{Replay}
 use Rattle.tcreplay.specs.Verdict.{Given, Job, Verdict, job_of, order_of_job, run_verdict, text_with}
 use Rattle.tcreplay.specs.Reads.{Reading, Shelving, AreGiven, CutOff, HasRead, is_behind_run}
 use Rattle.tcreplay.specs.Writes.{Writing, IsWritten}
-use Rattle.tcreplay.specs.Lawful.{IsLawful, IsOrderOf}
+use Rattle.tc_machine.specs.Lawful.{IsLawful}
+use Rattle.tcreplay.specs.Order.{IsOrderOf}
 
 -- what a replay comes to, over what its inputs gave
 abbrev pub verdict_on : Replay → Given → Verdict
@@ -26,12 +28,14 @@ IsAnswer replay given t u f g end order =
     ⊎ ((end ≡ WriteFault) × (order ≡ (verdict_on replay given).order) × ((verdict_on replay given).end ≡ Done)))
 
 -- The headline. What is printed is the text of the order that is answered with it; that order is the order file's, or the
--- worker threads', completed; in it every call has returned; and the machine's law holds for it.
+-- worker threads', completed; in it every call has returned, and the calls that are told of each thread are its whole
+-- script, in its order; and the machine's law holds for it.
 pub record IsHeadline (replay : Replay) (given : Given) (before after : Writing) (order : List ℕ) : Type 0 where
   pub job : Job
   pub asked : job_of replay given ≡ Ok job
   pub order_is : order ≡ order_of_job job
   pub ended : HaveEnded (allocator.rules job.input) (run (allocator.rules job.input) order)
+  pub told : (t : ℕ) → t < job.input.asked.config.threads → TellsScript job.input t (finished_in job.input order).calls
   pub text : Took before.taken after.taken (text_with replay.rows (finished_in job.input order))
   pub law : IsLawful job.input order
 

@@ -1,6 +1,11 @@
 //! Replays a trace of allocator calls over numbered pages.
 #![tactic(auto)]
 
+ghost use Rattle.std.specs.Prelude.{◌≡◌};
+ghost use Rattle.std.specs.Process.{exit_status};
+ghost use Rattle.tcreplay.specs.Status.{status_of};
+ghost use Rattle.tcreplay.specs.Writes.{IsNoted};
+
 mod generate;
 #[cfg(test)]
 mod generate_tests;
@@ -22,7 +27,7 @@ use crate::outcome::End;
 use crate::replay::tcreplay;
 use std::process::ExitCode;
 use std::{env, io};
-use tc_ports::{FileShelf, OpenGate, ReaderSource, WriterSink};
+use tc_ports::{FileShelf, OpenGate, ReaderSource, Sink, WriterSink};
 
 /// The words behind the program's name. Words that are no text are in no grammar.
 fn words_of(rt: &HostRuntime) -> Result<Vec<String>, End> {
@@ -34,15 +39,30 @@ fn words_of(rt: &HostRuntime) -> Result<Vec<String>, End> {
     words.skip(1).collect(rt.alloc()).map_err(|_| End::Memory)
 }
 
+/// The exit code that tells an end.
+fn exit_of(end: End) -> ExitCode
+    ensures { exit_status result ≡ status_of end }
+{
+    ExitCode::from(end.status())
+}
+
+/// Tells why there are no words.
+fn refuse<N: Sink>(notes: &mut N, end: End) -> ExitCode
+    ensures noted { IsNoted end
+        (record { taken = N.taken notes.old; faults = N.faults notes.old; puts = N.puts notes.old })
+        (record { taken = N.taken notes.new; faults = N.faults notes.new; puts = N.puts notes.new }) }
+    ensures exit { exit_status result ≡ status_of end }
+{
+    note(notes, end);
+    exit_of(end)
+}
+
 /// Standard input is the trace, standard output takes the text, and standard error is for notes.
 fn main(rt: HostRuntime) -> ExitCode {
     let mut notes = WriterSink::new(rt.stderr());
     let words = match words_of(&rt) {
         Ok(words) => words,
-        Err(end) => {
-            note(&mut notes, end);
-            return ExitCode::from(end.status());
-        }
+        Err(end) => return refuse(&mut notes, end),
     };
     let mut trace = ReaderSource::new(rt.reader());
     let mut files = FileShelf::new(&rt);
@@ -57,5 +77,5 @@ fn main(rt: HostRuntime) -> ExitCode {
         &mut notes,
         &OpenGate,
     );
-    ExitCode::from(outcome.status)
+    exit_of(outcome.end)
 }

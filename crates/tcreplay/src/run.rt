@@ -1,9 +1,10 @@
 //! Running a job: the order of its picks that moved, and the text of what the run came to.
-ghost use Rattle.std.specs.Prelude.{◌≡◌, ◌≤◌, ◌*◌, ℕ, List, IfOk, IsTrue};
+ghost use Rattle.std.specs.Prelude.{◌≡◌, ◌≤◌, ◌*◌, ℕ, List, IfOk, IfErr, IsOk, OnOk, IsTrue};
 ghost use Rattle.std.specs.List.{list_all};
 ghost use Rattle.tc_units.specs.Units.{page_bytes};
 ghost use Rattle.tc_model.specs.Replays.{HaveEnded};
-ghost use Rattle.tc_model.specs.Serial.{IsAtLimit};
+ghost use Rattle.tc_model.specs.declared.steps.StepFault.TheVariants as faults;
+ghost use Rattle.tc_model.specs.Serial.{IsAtLimit, IsCutShort};
 ghost use Rattle.alloc_rules.specs.Machine as allocator;
 ghost use Rattle.tc_machine.specs.Played.{world};
 ghost use Rattle.usage_report.specs.Report.{can_answer};
@@ -53,7 +54,7 @@ fn told(alloc: Global, finished: &Finished, telling: Telling) -> Result<Vec<u8>,
 }
 
 /// What a run came to whose scripts have all ended.
-pub fn tell(alloc: Global, state: State, telling: Telling) -> Result<Ran, AllocError>
+fn tell(alloc: Global, state: State, telling: Telling) -> Result<Ran, AllocError>
     requires ended { HaveEnded (allocator.rules state.input) (world state) }
     ensures { IfOk result (IsRan telling state.input state.order) }
 {
@@ -68,7 +69,7 @@ pub fn tell(alloc: Global, state: State, telling: Telling) -> Result<Ran, AllocE
 }
 
 /// What a run came to that stands at its limit, where one pick more would move.
-pub fn stop(alloc: Global, state: State, ticket: u64) -> Ran
+fn stop(alloc: Global, state: State, ticket: u64) -> Ran
     requires limit { (whole : List ℕ) × IsAtLimit (allocator.rules state.input) state.input.asked.config.events whole state.order ticket }
     ensures { (telling : Telling) → IsRan telling state.input state.order result }
 {
@@ -77,6 +78,25 @@ pub fn stop(alloc: Global, state: State, ticket: u64) -> Ran
         end: End::Full { ticket },
         order,
         text: Vec::new(alloc),
+    }
+}
+
+/// What a run came to that was to be completed. Where it stands at its limit it is no want of memory that ends it.
+pub fn come_to(
+    alloc: Global,
+    state: State,
+    completed: Result<(), StepFault>,
+    telling: Telling,
+) -> Result<Ran, AllocError>
+    requires ended { OnOk completed (HaveEnded (allocator.rules state.input) (world state)) }
+    requires fault { (whole : List ℕ) × IfErr completed (IsCutShort (allocator.rules state.input) state.input.asked.config.events whole state.order) }
+    ensures ran { (whole : List ℕ) → OnOk completed (state.order ≡ whole) → IfErr completed (IsCutShort (allocator.rules state.input) state.input.asked.config.events whole state.order) → IfOk result (IsRan telling state.input whole) }
+    ensures full { IfErr completed (λ fault. (fault ≡ faults.Memory → ⊥) → IsOk result) }
+{
+    match completed {
+        Ok(()) => tell(alloc, state, telling),
+        Err(StepFault::Full { ticket }) => Ok(stop(alloc, state, ticket)),
+        Err(StepFault::Memory) => Err(AllocError),
     }
 }
 
@@ -91,9 +111,6 @@ pub fn run(alloc: Global, job: Job, telling: Telling) -> Result<Ran, AllocError>
         picks,
     } = job;
     let mut state = State::open(alloc, table, trace)?;
-    match state.run_order(&picks) {
-        Ok(()) => tell(alloc, state, telling),
-        Err(StepFault::Full { ticket }) => Ok(stop(alloc, state, ticket)),
-        Err(StepFault::Memory) => Err(AllocError),
-    }
+    let completed = state.run_order(&picks);
+    come_to(alloc, state, completed, telling)
 }

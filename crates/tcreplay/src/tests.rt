@@ -26,6 +26,15 @@ pub(crate) const ONE_TEXT: &[u8] =
 /// The first 36 of its 73 bytes.
 pub(crate) const ONE_HALF: &[u8] = b"a 0 0 2097152 303104\ncalls 1\nlive 1 ";
 
+/// A small object, which misses everywhere.
+const SMALL: &[u8] = b"a 0 0 10\n";
+
+/// What comes of it: 16 bytes of the first page.
+const SMALL_TEXT: &[u8] = b"a 0 0 2097152 16\ncalls 1\nlive 1 16\nused 1\nresident 256\nfrag 999\n";
+
+/// The first 32 of its 64 bytes.
+const SMALL_HALF: &[u8] = b"a 0 0 2097152 16\ncalls 1\nlive 1 ";
+
 /// Three threads, of which the last one frees what the first one allocates.
 const THREADS: &[u8] = b"threads 3\na 0 0 300000\na 1 1 300000\nf 2 0\n";
 
@@ -199,6 +208,53 @@ fn runs(rt: HostRuntime) -> Result<(), Fail> {
 }
 
 #[test]
+fn picks_of_a_small_object(rt: HostRuntime) -> Result<(), Fail> {
+    let alloc = rt.alloc();
+    let whole = Case {
+        command: SERIAL,
+        trace: SMALL,
+        order: b"",
+        status: 0,
+        end: End::Done,
+        text: SMALL_TEXT,
+        note: b"",
+        picks: &[0; 17],
+    };
+    check(&rt, alloc, &whole)?;
+
+    // Seventeen picks may move, and then five.
+    let enough = Case {
+        trace: b"events 17\na 0 0 10\n",
+        ..whole
+    };
+    check(&rt, alloc, &enough)?;
+    let full = Case {
+        trace: b"events 5\na 0 0 10\n",
+        status: 9,
+        end: End::Full { ticket: 5 },
+        text: b"",
+        note: b"tcreplay: events limit 5\n",
+        picks: &[0; 5],
+        ..whole
+    };
+    check(&rt, alloc, &full)?;
+
+    // Five picks of the thread that waits aren't entered; its free, at the other CPU, then has ten.
+    let waiting = Case {
+        command: ORDER,
+        trace: b"cpus 2\nthreads 2\na 0 0 10\nf 1 0\n",
+        order: b"1 5\n",
+        text: b"a 0 0 2097152 16\nf 1 0 2097152\ncalls 2\nlive 0 0\nused 1\nresident 256\nfrag 1000\n",
+        picks: &[
+            0, 0, 0, 0, 0, 0, 0, 0, 0, 0, 0, 0, 0, 0, 0, 0, 0, 1, 1, 1, 1, 1, 1, 1, 1, 1, 1,
+        ],
+        ..whole
+    };
+    check(&rt, alloc, &waiting)?;
+    Ok(())
+}
+
+#[test]
 fn words_that_are_refused(rt: HostRuntime) -> Result<(), Fail> {
     let alloc = rt.alloc();
     for command in [
@@ -322,15 +378,27 @@ fn failing_ends(rt: HostRuntime) -> Result<(), Fail> {
     assert_case(&rt, &fault, &outcome, &ends);
 
     // The whole text is one put, of which half is taken. The run has ended by then.
-    let mut ends = open(alloc, ONE, b"")?;
+    let mut ends = open(alloc, SMALL, b"")?;
     ends.out = MemSink::new(alloc, 1000, vec![in alloc; 1u64]?)?;
     let outcome = replay(&rt, alloc, SERIAL, &mut ends)?;
     let fault = Case {
-        text: ONE_HALF,
-        picks: &[0, 0, 0],
+        text: SMALL_HALF,
+        picks: &[0; 17],
         ..refused(SERIAL, 6, End::WriteFault, b"tcreplay: write fault\n")
     };
     assert_case(&rt, &fault, &outcome, &ends);
+
+    // Of the note, too, half is taken: 8 of 16 bytes.
+    let mut ends = open(alloc, b"", b"")?;
+    ends.notes = MemSink::new(alloc, 100, vec![in alloc; 1u64]?)?;
+    let alone = "tcreplay serial";
+    let outcome = replay(&rt, alloc, alone, &mut ends)?;
+    assert_case(
+        &rt,
+        &refused(alone, 2, End::Usage, b"tcreplay"),
+        &outcome,
+        &ends,
+    );
     Ok(())
 }
 
@@ -340,7 +408,7 @@ fn pieces(rt: HostRuntime) -> Result<(), Fail> {
     let words = words_of(alloc, SERIAL)?;
     for most in 1..6usize {
         let mut ends = open(alloc, b"", b"")?;
-        ends.trace = MemSource::in_pieces(Vec::from_slice(alloc, ONE)?, Vec::new(alloc), most);
+        ends.trace = MemSource::in_pieces(Vec::from_slice(alloc, SMALL)?, Vec::new(alloc), most);
         let outcome = tcreplay(
             &rt,
             alloc,
@@ -352,7 +420,7 @@ fn pieces(rt: HostRuntime) -> Result<(), Fail> {
             &OpenGate,
         );
         assert_eq!(rt; outcome.end, End::Done);
-        assert_eq!(rt; ends.out.taken(), ONE_TEXT);
+        assert_eq!(rt; ends.out.taken(), SMALL_TEXT);
     }
     Ok(())
 }

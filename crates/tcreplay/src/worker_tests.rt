@@ -303,29 +303,59 @@ fn inputs_and_ends_fail_as_without_threads(rt: HostRuntime) -> Result<(), Fail> 
     Ok(())
 }
 
+/// Runs a trace whose two threads have too few picks: so many moved, whichever they were, and nothing is written.
+fn check_full<R: Threads + Wait + Sync + Abort>(
+    rt: &R,
+    alloc: Global,
+    command: &str,
+    trace: &[u8],
+    ticket: u64,
+) -> Result<(), AllocError> {
+    let mut ends = open(alloc, trace, b"")?;
+    let outcome = replay(rt, alloc, command, &mut ends, &OpenGate)?;
+    assert_eq!(rt; outcome.end, End::Full { ticket });
+    assert_eq!(rt; outcome.status, 9);
+    assert_eq!(rt; outcome.order.as_slice().len() as u64, ticket);
+    assert_eq!(rt; ends.out.taken(), b"".as_slice());
+    Ok(())
+}
+
+/// Runs a trace whose picks suffice in every order, and answers how many moved.
+fn check_fits<R: Threads + Wait + Sync + Abort>(
+    rt: &R,
+    alloc: Global,
+    command: &str,
+    trace: &[u8],
+    live: &[u8],
+) -> Result<usize, AllocError> {
+    let mut ends = open(alloc, trace, b"")?;
+    let outcome = replay(rt, alloc, command, &mut ends, &OpenGate)?;
+    assert_eq!(rt; outcome.end, End::Done);
+    assert!(rt; has(ends.out.taken(), live));
+    Ok(outcome.order.as_slice().len())
+}
+
 #[test]
 fn two_threads_meet_the_limit(rt: HostRuntime) -> Result<(), Fail> {
     let alloc = rt.alloc();
+    let large = b"\ncalls 2\nlive 2 606208\n";
+    let small = b"\ncalls 2\nlive 2 32\n";
     for command in [ONE_LOCK, PART_LOCKS] {
-        // Together they have six acts, of which five may be done.
-        let text = b"threads 2\nevents 5\na 0 0 300000\na 1 1 300000\n";
-        let mut ends = open(alloc, text, b"")?;
-        let outcome = replay(&rt, alloc, command, &mut ends, &OpenGate)?;
-        assert_eq!(rt; outcome.end, End::Full { ticket: 5 });
-        assert_eq!(rt; outcome.status, 9);
-        assert_eq!(rt; outcome.order.as_slice().len(), 5);
-        assert_eq!(rt; ends.out.taken(), b"".as_slice());
-        assert_eq!(rt;
-            ends.notes.taken(),
-            b"tcreplay: events limit 5\n".as_slice()
-        );
+        // Two large blocks have six acts together.
+        let trace = b"threads 2\nevents 5\na 0 0 300000\na 1 1 300000\n";
+        check_full(&rt, alloc, command, trace, 5)?;
+        let trace = b"threads 2\nevents 6\na 0 0 300000\na 1 1 300000\n";
+        assert_eq!(rt; check_fits(&rt, alloc, command, trace, large)?, 6);
 
-        let text = b"threads 2\nevents 6\na 0 0 300000\na 1 1 300000\n";
-        let mut ends = open(alloc, text, b"")?;
-        let outcome = replay(&rt, alloc, command, &mut ends, &OpenGate)?;
-        assert_eq!(rt; outcome.end, End::Done);
-        assert_eq!(rt; outcome.order.as_slice().len(), 6);
-        assert!(rt; has(ends.out.taken(), b"calls 2\nlive 2 606208\n"));
+        // Two small objects at CPUs of their own have 31 acts at least, and 34 at most.
+        let trace = b"cpus 2\nthreads 2\nevents 20\na 0 0 10\na 1 1 10\n";
+        check_full(&rt, alloc, command, trace, 20)?;
+        let trace = b"cpus 2\nthreads 2\nevents 34\na 0 0 10\na 1 1 10\n";
+        assert!(rt; check_fits(&rt, alloc, command, trace, small)? >= 31);
+
+        // At one CPU each of them may come there three times, so they have 38 acts at most.
+        let trace = b"threads 2\nevents 38\na 0 0 10\na 1 1 10\n";
+        assert!(rt; check_fits(&rt, alloc, command, trace, small)? <= 38);
     }
     Ok(())
 }

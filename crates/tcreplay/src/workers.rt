@@ -8,10 +8,12 @@ ghost use Rattle.alloc_rules.specs.Machine as allocator;
 ghost use Rattle.relay.specs.Ends.{IsRun, threads_in};
 ghost use Rattle.tc_machine.specs.Held.{input_in};
 ghost use Rattle.tcreplay.specs.Reads.{seen_job, IsRunnable};
+ghost use Rattle.tcreplay.specs.Came.{IsLeft};
 ghost use Rattle.tcreplay.specs.Ran.{IsRanByThreads};
+ghost use Rattle.tcreplay.specs.declared.words.Locks.TheVariants.{One, Parts};
 
 use crate::input::Job;
-use crate::run::{Ran, Telling, stop, tell};
+use crate::run::{Ran, Telling, come_to};
 use crate::words::Locks;
 use part_lock::Closed;
 use relay::Finish;
@@ -19,7 +21,7 @@ use std::alloc::{AllocError, Global};
 use std::sync::Wait;
 use std::thread::Threads;
 use tc_machine::{AllocMachine, State};
-use tc_model::{Entry, Halt, StepFault};
+use tc_model::{Entry, Halt, Turn};
 use tc_ports::Gate;
 use world_lock::Left;
 
@@ -44,42 +46,69 @@ fn threads_in(alloc: Global, entries: &[Entry]) -> Result<Vec<u16>, AllocError>
         .collect(alloc)
 }
 
+/// What worker threads left of a state: under which locks they ran, the last answer of each, and why one was halted, if
+/// one was.
+#[derive(Drop)]
+struct Came {
+    state: State,
+    locks: Locks,
+    lasts: Vec<Turn>,
+    halt: Option<Halt>,
+}
+
 /// Runs a state's threads under one lock.
 fn run_under_one_lock<R: Threads + Wait + Sync, G: Gate + Sync>(
     rt: &R,
     alloc: Global,
     gate: &G,
     state: State,
-) -> Result<State, AllocError>
+) -> Result<Came, AllocError>
     requires start { state.order ≡ [] }
-    ensures input { IfOk result (λ left. left.input ≡ state.input) }
-    ensures polite { IfOk result (λ left. IsPolite (allocator.rules state.input) (start (allocator.rules state.input)) left.order) }
+    ensures left { IfOk result (IsLeft state.input One) }
 {
-    let Left { state, halt } = world_lock::run_all(rt, alloc, gate, state)?;
+    let Left { state, lasts, halt } = world_lock::run_all(rt, alloc, gate, state)?;
     unless_memory(halt)?;
-    Ok(state)
+    Ok(Came {
+        state,
+        locks: Locks::One,
+        lasts,
+        halt,
+    })
 }
 
-/// The state that threads left under a lock for each part, in the order of their acts.
-fn gathered(alloc: Global, left: Finish<AllocMachine>) -> Result<State, AllocError>
+/// What threads left under a lock for each part: their acts in order, or want of memory where a worker lacked it.
+fn gathered(alloc: Global, left: Finish<AllocMachine>) -> Result<Came, AllocError>
     requires run { IsRun (allocator.rules (input_in left.closed.machine)) left.closed.parts.items left.locals.items left.order.items }
     requires few { length left.order.items ≤ (input_in left.closed.machine).asked.config.events }
-    ensures input { IfOk result (λ state. state.input ≡ input_in left.closed.machine) }
-    ensures order { IfOk result (λ state. state.order ≡ threads_in left.order.items) }
+    ensures memory { left.halt ≡ Some halts.Memory → IsErr result }
+    ensures enough { IfOk result (λ came. came.halt ≡ Some halts.Memory → ⊥) }
+    ensures input { IfOk result (λ came. came.state.input ≡ input_in left.closed.machine) }
+    ensures order { IfOk result (λ came. came.state.order ≡ threads_in left.order.items) }
+    ensures locks { IfOk result (λ came. came.locks ≡ Parts) }
+    ensures lasts { IfOk result (λ came. came.lasts.items ≡ left.lasts.items) }
+    ensures halt { IfOk result (λ came. came.halt ≡ left.halt) }
 {
     let Finish {
         closed,
         locals,
         order,
-        halt: _,
+        lasts,
+        halt,
     } = left;
+    unless_memory(halt)?;
     let Closed {
         machine,
         parts,
         entries: _,
     } = closed;
     let order = threads_in(alloc, &order)?;
-    Ok(State::gather(alloc, machine, parts, locals, order))
+    let state = State::gather(alloc, machine, parts, locals, order);
+    Ok(Came {
+        state,
+        locks: Locks::Parts,
+        lasts,
+        halt,
+    })
 }
 
 /// Runs a state's threads under a lock for each part. Of its picks at most `events` may move.
@@ -89,19 +118,17 @@ fn run_under_part_locks<R: Threads + Wait + Sync, G: Gate + Sync>(
     gate: &G,
     state: State,
     events: u64,
-) -> Result<State, AllocError>
+) -> Result<Came, AllocError>
     requires start { state.order ≡ [] }
     requires events { events ≡ state.input.asked.config.events }
     requires most { events ≤ 40000000 }
-    ensures input { IfOk result (λ left. left.input ≡ state.input) }
-    ensures polite { IfOk result (λ left. IsPolite (allocator.rules state.input) (start (allocator.rules state.input)) left.order) }
+    ensures left { IfOk result (IsLeft state.input Parts) }
 {
     let _threads = state.threads();
     let (machine, parts, locals) = state.split();
     let Some(left) = relay::run_all(rt, alloc, gate, machine, parts, locals, events) else {
         return Err(AllocError);
     };
-    unless_memory(left.halt)?;
     gathered(alloc, left)
 }
 
@@ -113,12 +140,11 @@ fn run_under<R: Threads + Wait + Sync, G: Gate + Sync>(
     state: State,
     locks: Locks,
     events: u64,
-) -> Result<State, AllocError>
+) -> Result<Came, AllocError>
     requires start { state.order ≡ [] }
     requires events { events ≡ state.input.asked.config.events }
     requires most { events ≤ 40000000 }
-    ensures input { IfOk result (λ left. left.input ≡ state.input) }
-    ensures polite { IfOk result (λ left. IsPolite (allocator.rules state.input) (start (allocator.rules state.input)) left.order) }
+    ensures left { IfOk result (IsLeft state.input locks) }
 {
     match locks {
         Locks::One => run_under_one_lock(rt, alloc, gate, state),
@@ -132,11 +158,8 @@ fn complete(alloc: Global, state: State, telling: Telling) -> Result<Ran, AllocE
     ensures { IfOk result (IsRanByThreads telling state.input) }
 {
     let mut state = state;
-    match state.run_serial() {
-        Ok(()) => tell(alloc, state, telling),
-        Err(StepFault::Full { ticket }) => Ok(stop(alloc, state, ticket)),
-        Err(StepFault::Memory) => Err(AllocError),
-    }
+    let completed = state.run_serial();
+    come_to(alloc, state, completed, telling)
 }
 
 /// Runs a job by a thread for each of its threads, and then what they left.
@@ -158,6 +181,6 @@ pub fn run_by_threads<R: Threads + Wait + Sync, G: Gate + Sync>(
     } = job;
     let events = trace.config.events;
     let state = State::open(alloc, table, trace)?;
-    let state = run_under(rt, alloc, gate, state, locks, events)?;
-    complete(alloc, state, telling)
+    let came = run_under(rt, alloc, gate, state, locks, events)?;
+    complete(alloc, came.state, telling)
 }

@@ -1,7 +1,7 @@
 use Rattle.std.proofs.Common.{inl, inr, refl, ap, subst}
-use Rattle.tc_ports.specs.Whole.{ReadAllCounted, LimitRefused}
+use Rattle.tc_ports.specs.Whole.{ReadAllCounted, ReadAllRefused, PassedLimit}
 use Rattle.tcreplay.specs.Verdict.{and_then, asked_of_text}
-use Rattle.tcreplay.proofs.TraceFacts.{some_text, some_text_is, long_text}
+use Rattle.tcreplay.proofs.TraceFacts.{some_text, some_text_is, long_text, lost_passed}
 use Rattle.tcreplay.proofs.input.load_trace.Goals as goal
 
 pub returns-in-Err-ReadFault-clause-asked : goal.returns-in-Err-ReadFault-clause-asked
@@ -9,19 +9,20 @@ returns-in-Err-ReadFault-clause-asked g c = record {
   text = some_text (g.S.Source.left c.args.source.now);
   told = some_text_is (g.S.Source.left c.args.source.now);
   step = inr (inr (refl, subst (λ f. ReadAllCounted f (g.S.Source.faults c.args.source.now) (g.S.Source.faults c.read_all.new.source)) c.in-Err-ReadFault.field-0-is c.in-Err-ReadFault.ensures.cause));
-  lost = c.in-Err-ReadFault.ensures.lost;
+  lost = subst (λ f. ReadAllRefused f (g.S.Source.left c.args.source.now) (g.S.Source.left c.read_all.new.source) 67108864) c.in-Err-ReadFault.field-0-is c.in-Err-ReadFault.ensures.refused;
   reads = c.in-Err-ReadFault.ensures.reads;
   drained = λ is. absurd (cc);
 }
 
 pub returns-in-Err-TooLong-clause-asked : goal.returns-in-Err-TooLong-clause-asked
 returns-in-Err-TooLong-clause-asked g c =
-    let long = long_text (g.S.Source.left c.args.source.now) (g.S.Source.left c.read_all.new.source) 67108864 (subst (λ f. LimitRefused f (g.S.Source.left c.args.source.now) (g.S.Source.left c.read_all.new.source) 67108864) c.in-Err-TooLong.field-0-is c.in-Err-TooLong.ensures.too_long) in
+    let passed : PassedLimit (g.S.Source.left c.args.source.now) (g.S.Source.left c.read_all.new.source) 67108864 = subst (λ f. ReadAllRefused f (g.S.Source.left c.args.source.now) (g.S.Source.left c.read_all.new.source) 67108864) c.in-Err-TooLong.field-0-is c.in-Err-TooLong.ensures.refused in
+    let long = long_text (g.S.Source.left c.args.source.now) (g.S.Source.left c.read_all.new.source) 67108864 passed in
     record {
       text = long.0;
       told = long.1;
       step = inl (ap (and_then (asked_of_text c.args.table.now)) long.2, subst (λ f. ReadAllCounted f (g.S.Source.faults c.args.source.now) (g.S.Source.faults c.read_all.new.source)) c.in-Err-TooLong.field-0-is c.in-Err-TooLong.ensures.cause);
-      lost = c.in-Err-TooLong.ensures.lost;
+      lost = lost_passed (g.S.Source.left c.args.source.now) (g.S.Source.left c.read_all.new.source) 67108864 passed;
       reads = c.in-Err-TooLong.ensures.reads;
       drained = λ is. absurd (cc);
     }
@@ -31,7 +32,7 @@ returns-in-Err-Memory-clause-asked g c = record {
   text = some_text (g.S.Source.left c.args.source.now);
   told = some_text_is (g.S.Source.left c.args.source.now);
   step = inr (inl (refl, subst (λ f. ReadAllCounted f (g.S.Source.faults c.args.source.now) (g.S.Source.faults c.read_all.new.source)) c.in-Err-Memory.field-0-is c.in-Err-Memory.ensures.cause));
-  lost = c.in-Err-Memory.ensures.lost;
+  lost = subst (λ f. ReadAllRefused f (g.S.Source.left c.args.source.now) (g.S.Source.left c.read_all.new.source) 67108864) c.in-Err-Memory.field-0-is c.in-Err-Memory.ensures.refused;
   reads = c.in-Err-Memory.ensures.reads;
   drained = λ is. absurd (cc);
 }

@@ -1,10 +1,11 @@
-use Rattle.std.proofs.Common.{subst}
+use Rattle.std.proofs.Common.{ap, subst}
+use Rattle.tcreplay.specs.declared.outcome.Outcome.{Outcome}
 use Rattle.tcreplay.specs.Ran.{IsRanByThreads}
 use Rattle.tcreplay.specs.Seen.{seen_replay}
 use Rattle.tcreplay.specs.Reads.{seen_job}
 use Rattle.tcreplay.specs.Verdict.{order_of_job}
 use Rattle.tcreplay.proofs.RanFacts.{run_end}
-use Rattle.tcreplay.proofs.TriedFacts.{tried_threads}
+use Rattle.tcreplay.proofs.TriedFacts.{tried_threads, tried_at}
 use Rattle.tcreplay.proofs.replay.try_threads.Goals as goal
 
 pub write-requires : goal.write-requires
@@ -12,3 +13,8 @@ write-requires g c = let by = c.in-Ok-run_by_threads.ensures in run_end c.tellin
 
 pub returns-clause-tried : goal.returns-clause-tried
 returns-clause-tried g c = tried_threads (seen_replay c.args.replay) c.args.locks _ _ _ _ _ _ c.in-Ok.job c.in-Ok-run_by_threads.ran c.write.result.end c.write.result.order c.requires.threads c.in-Ok.ensures.read (subst (λ t. IsRanByThreads t (seen_job c.in-Ok.job).input c.in-Ok-run_by_threads.ran) c.telling.ensures c.in-Ok-run_by_threads.ensures) c.write.ensures.end c.write.ensures.order c.write.ensures.written
+
+pub returns-in-Err-clause-tried : goal.returns-in-Err-clause-tried
+returns-in-Err-clause-tried g c =
+    let same = c.without_run.ensures in
+    tried_at (seen_replay c.args.replay) _ _ _ _ _ c.in-Err.end c.without_run.result.end c.without_run.result.order (ap (λ (o : Outcome). o.end) same) (ap (λ (o : Outcome). o.order) same) c.in-Err.ensures.read

@@ -6,6 +6,6 @@ returns c telling =
     let limit = c.requires.limit in
     record {
       is = told_full telling c.args.state.input limit.0 c.args.state.order _ _ c.args.ticket limit.1 c.into_order-order.ensures.order c.new.ensures.items;
-      law = record { moves = c.into_order-order.ensures.moves; few = c.into_order-order.ensures.few; holds = c.into_order-order.ensures.holds };
+      law = c.into_order-order.ensures.lawful;
       filled = filled_at c.args.state.input limit.0 c.args.state.order c.args.ticket limit.1;
     }

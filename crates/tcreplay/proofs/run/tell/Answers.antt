@@ -9,6 +9,6 @@ told-requires-clause-answered c = answerable c.args.state.input.asked.config.hug
 pub returns : goal.returns
 returns c = record {
   is = told_done c.args.telling c.args.state.input c.args.state.order _ _ c.in_ok-finished.finished c.requires.ended c.in_ok-finished.ensures.value c.into_order-order.ensures.order c.in_ok-text.ensures;
-  law = record { moves = c.into_order-order.ensures.moves; few = c.into_order-order.ensures.few; holds = c.into_order-order.ensures.holds };
+  law = c.into_order-order.ensures.lawful;
   filled = tt;
 }

@@ -6,4 +6,4 @@ use Rattle.alloc_rules.specs.Machine.{rules}
 use Rattle.tcreplay.proofs.workers.run_by_threads.Goals as goal
 
 pub complete-requires : goal.complete-requires
-complete-requires g c = record { polite = subst (λ (i : Input). IsPolite (rules i) (start (rules i)) c.in_ok-state-2.state.order) (sym c.in_ok-state-2.ensures.input) c.in_ok-state-2.ensures.polite }
+complete-requires g c = record { polite = subst (λ (i : Input). IsPolite (rules i) (start (rules i)) c.in_ok-came.came.state.order) (sym c.in_ok-came.ensures.left.input_is) c.in_ok-came.ensures.left.polite }

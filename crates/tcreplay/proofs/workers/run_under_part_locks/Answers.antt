@@ -1,11 +1,12 @@
-use Rattle.std.proofs.Common.{sym, subst, arith}
+use Rattle.std.proofs.Common.{◌≡◌, Some, sym, ap, ◌∙◌, subst, arith}
+use Rattle.tc_model.specs.declared.board.Halt.TheVariants.{Full}
 use Rattle.tc_model.specs.Input.{Input}
 use Rattle.tc_model.specs.Run.{start}
 use Rattle.tc_model.specs.Chains.{IsPolite}
 use Rattle.alloc_rules.specs.Machine.{rules}
 use Rattle.tc_machine.specs.Held.{input_in}
 use Rattle.relay.specs.Ends.{IsRun, threads_in}
-use Rattle.tcreplay.proofs.WorkerFacts.{few_threads, order_of_left}
+use Rattle.tcreplay.proofs.WorkerFacts.{few_threads, parts_left}
 use Rattle.tcreplay.proofs.workers.run_under_part_locks.Goals as goal
 
 pub run_all-requires-clause-few : goal.run_all-requires-clause-few
@@ -17,8 +18,13 @@ run_all-requires-clause-few g c κs within =
 pub gathered-requires-clause-run : goal.gathered-requires-clause-run
 gathered-requires-clause-run g c = subst (λ m. IsRun (rules (input_in m)) c.in-Some.left.closed.parts.items c.in-Some.left.locals.items c.in-Some.left.order.items) (sym c.in-Some.ensures.machine) c.in-Some.ensures.run
 
-pub returns-clause-polite : goal.returns-clause-polite
-returns-clause-polite g c =
-    let came = threads_in c.in-Some.left.order.items in
-    let polite = subst (λ (i : Input). IsPolite (rules i) (start (rules i)) came) c.split-machine.ensures.input c.in-Some.ensures.run.polite in
-    order_of_left (IsPolite (rules c.args.state.input) (start (rules c.args.state.input))) came c.gathered.result c.gathered.ensures.order polite
+pub returns : goal.returns
+returns g c =
+    let left = c.in-Some.left in
+    let input = c.args.state.input in
+    let polite = subst (λ (i : Input). IsPolite (rules i) (start (rules i)) (threads_in left.order.items)) c.split-machine.ensures.input c.in-Some.ensures.run.polite in
+    let full = λ (is : left.halt ≡ Some Full). c.in-Some.ensures.full is ∙ c.requires.events in
+    record {
+      left = parts_left input (input_in left.closed.machine) left.order.items left.lasts.items left.halt c.gathered.result (ap input_in c.in-Some.ensures.machine ∙ c.split-machine.ensures.input) polite c.in-Some.ensures.halt c.in-Some.ensures.lasts.over full
+          c.gathered.ensures.input c.gathered.ensures.order c.gathered.ensures.locks c.gathered.ensures.lasts c.gathered.ensures.halt c.gathered.ensures.enough;
+    }

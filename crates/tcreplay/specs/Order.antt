@@ -1,23 +1,15 @@
--- What holds of the order of a run.
-use Rattle.std.specs.Prelude.{◌≡◌, ℕ, ◌≤◌, List, length}
+-- Which order a run has.
+use Rattle.std.specs.Prelude.{◌≡◌, ℕ, List, length}
 use Rattle.tc_model.specs.Input.{Input}
 use Rattle.tc_model.specs.declared.steps.Stepped.TheVariants as step
-use Rattle.tc_model.specs.Run.{start, run}
-use Rattle.tc_model.specs.Steps.{stepped, moving}
+use Rattle.tc_model.specs.Run.{run}
+use Rattle.tc_model.specs.Steps.{stepped}
 use Rattle.tc_model.specs.Serial.{completed}
 use Rattle.alloc_rules.specs.Machine as allocator
-use Rattle.alloc_rules.specs.Law.{HoldsAfter}
 use Rattle.tcreplay.specs.declared.outcome.End.{End}
 use Rattle.tcreplay.specs.declared.outcome.End.TheVariants.{Full}
 use Rattle.tcreplay.specs.Tasks.{Schedule, InTurn, ByFile, ByThreads}
 use Rattle.tcreplay.specs.Verdict.{Job, order_of_job}
-
--- the machine's law for an order: each of its picks moves, there are at most as many as may move, and all that holds in
--- every order holds
-pub record IsLawful (input : Input) (order : List ℕ) : Type 0 where
-  pub moves : moving (allocator.rules input) (start (allocator.rules input)) order ≡ order
-  pub few : length order ≤ input.asked.config.events
-  pub holds : HoldsAfter input order
 
 -- The order of a run whose first picks are those of worker threads is these, completed: behind them the thread of the
 -- earliest call in trace order that hasn't ended is picked.
