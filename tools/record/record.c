@@ -7,7 +7,7 @@
    the order: a free takes its place before the block is given back, and an allocation after it was got. So a
    block's free is behind its allocation, and before the allocation that gets the address next.
 
-   Nothing here allocates. tools/record/traces.py reads the log, and has the same numbers. */
+   Nothing here allocates. tools/record/logs.py reads the log, and has the same numbers. */
 #define _GNU_SOURCE
 #include <dlfcn.h>
 #include <errno.h>
@@ -55,6 +55,7 @@ struct log {
     _Atomic uint64_t early;         /* calls before the log was open */
     _Atomic uint64_t threads;
     uint64_t process;
+    uint64_t parent;                /* the process that this one came of */
     char program[NAME_BYTES];
 };
 
@@ -278,6 +279,7 @@ static void write_head(struct log *log, uint64_t capacity)
 {
     log->capacity = capacity;
     log->process = (uint64_t)getpid();
+    log->parent = (uint64_t)getppid();
     log->early = atomic_exchange(&early_calls, 0);
     if (readlink("/proc/self/exe", log->program, NAME_BYTES - 1) < 0)
         log->program[0] = 0;

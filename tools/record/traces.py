@@ -1,6 +1,7 @@
-"""Makes traces of the logs that record.c wrote. `Log` reads one, and `trace_of` makes a trace of it and a report."""
+"""Makes traces of recordings. `trace_of` makes one, with what there is to report of it."""
 import collections
-import struct
+
+import logs
 
 MOST_BYTES = 1 << 40            # the greatest request of a trace
 MOST_LINES = 1000000
@@ -11,35 +12,18 @@ MOST_HUGEPAGES = 4096
 LEAST_HUGEPAGES = 64            # a trace asks for no fewer, unless it is told to
 HUGEPAGE_BYTES = 2097152
 MOST_SEED = 2147483647
-HEADS = 3                       # lines before the calls
+OWN_HEADS = 3                   # cpus, threads and huge
 INSTRUCTIONS = 8                # a preempted call is left before one of its first so many instructions
 
-Options = collections.namedtuple('Options', 'cpus threads lines labels moves seed huge')
-USUAL = Options(cpus=1, threads=MOST_THREADS, lines=MOST_LINES, labels=MOST_LABELS, moves=0, seed=1, huge=None)
+# Heads that may be asked for by name, with their least and greatest values.
+HEADS = {'cache': (0, 4096), 'region': (2, 512), 'slack': (0, 1048576), 'transfer': (0, 4096), 'slab': (1, 2048),
+         'percpu': (0, 268435456), 'events': (1, 40000000), 'window': (0, 65536), 'domains': (0, 64)}
 
-
-class Log:
-    """A log: what its head says, and its notes in order. record.c says what they mean."""
-    HEAD = struct.Struct('<8sQQQQQQQ256s')
-    HEAD_BYTES = 4096
-    NOTE = struct.Struct('<QQII')
-    UNFINISHED, ALLOCATION, ALIGNED, FREE, MOVED, KEPT = range(6)
-
-    def __init__(self, path):
-        self.path = path
-        with open(path, 'rb') as file:
-            head = self.HEAD.unpack(file.read(self.HEAD.size))
-            magic, capacity, self.calls, self.null_frees, self.failures, self.early, _, self.process, program = head
-            if magic != b'tcrecord':
-                raise ValueError('%s is no log' % path)
-            self.kept = min(capacity, self.calls)
-            file.seek(self.HEAD_BYTES)
-            self.bytes = file.read(self.kept * self.NOTE.size)
-        self.program = program.split(b'\0')[0].decode(errors='replace')
-
-    def notes(self):
-        """(address, size, thread, kind) of each call that was kept."""
-        return self.NOTE.iter_unpack(self.bytes)
+Options = collections.namedtuple('Options', 'cpus threads lines labels moves seed huge head skip every')
+USUAL = Options(cpus=1, threads=MOST_THREADS, lines=MOST_LINES, labels=MOST_LABELS, moves=0, seed=1, huge=None, head=(),
+                skip=0, every=1)
+Block = collections.namedtuple('Block', 'label size thread')
+TOO_LARGE, NOT_CHOSEN = 'too large', 'not chosen'
 
 
 class Draws:
@@ -62,73 +46,106 @@ class Maker:
         self.options = options
         self.draws = Draws(options.seed)
         self.lines = []
-        self.numbers = {}       # the log's number of a thread -> the trace's, as they come
-        self.live = {}          # address -> (label, size), or None for a block that was left out
+        self.numbers = {}       # the recording's number of a thread -> the trace's, as they come
+        self.live = {}          # address -> its block, or why that was left out
+        self.skipping = options.skip
         self.labels = 0
         self.live_bytes = 0
         self.peak_bytes = 0
         self.counts = collections.Counter()
         self.steps = {
-            Log.UNFINISHED: self.unfinished, Log.ALLOCATION: self.allocation, Log.ALIGNED: self.aligned,
-            Log.FREE: self.free, Log.MOVED: self.moved, Log.KEPT: self.kept}
+            logs.UNFINISHED: self.unfinished, logs.ALLOCATION: self.allocation, logs.ALIGNED: self.aligned,
+            logs.FREE: self.free, logs.MOVED: self.moved, logs.KEPT: self.kept}
 
     def take(self, address, size, thread, kind):
-        self.steps[kind](address, size, thread)
+        if not self.skipping:
+            self.steps[kind](address, size, thread)
+            return
+        self.skip(address, size, thread, kind)
+        self.skipping -= 1
+        self.counts['skipped'] += 1
+        if not self.skipping:
+            self.begin_at_cut()
+
+    def skip(self, address, size, thread, kind):
+        """Before the cut it only counts which blocks are live."""
+        if kind in (logs.FREE, logs.MOVED):
+            self.live.pop(address, None)
+        elif kind in (logs.ALLOCATION, logs.ALIGNED):
+            self.live.pop(address, None)
+            self.live[address] = Block(None, size, thread)
+
+    def begin_at_cut(self):
+        """The blocks that are live at the cut come first, in the order in which they were allocated."""
+        before, self.live = self.live, {}
+        for address, block in before.items():
+            self.allocation(address, block.size, block.thread)
+        self.counts['live at the cut'] = self.counts['allocations']
 
     def unfinished(self, address, size, thread):
         self.counts['unfinished'] += 1
 
     def kept(self, address, size, thread):
-        """A realloc that failed: the log's head counts it."""
+        """A realloc that failed: the recording's own count has it."""
 
     def aligned(self, address, size, thread):
+        before = self.counts['allocations']
         self.allocation(address, size, thread)
-        self.counts['aligned'] += 1
+        self.counts['aligned'] += self.counts['allocations'] - before
 
     def moved(self, address, size, thread):
         before = self.counts['frees']
         self.free(address, size, thread)
         self.counts['frees by realloc'] += self.counts['frees'] - before
 
+    def is_chosen(self, address):
+        """One block of so many, by its address, so that its free is chosen with it. Addresses are multiples of 16, and
+        are spread by a multiplication, as many are alike in their low bits."""
+        if self.options.every == 1:
+            return True
+        spread = (address >> 4) * 11400714819323198485 % (1 << 64) >> 32
+        return spread % self.options.every == 0
+
     def allocation(self, address, size, thread):
         self.forget(address)
-        if size > MOST_BYTES:
-            self.counts['too large'] += 1
-            self.live[address] = None
+        if size > MOST_BYTES or not self.is_chosen(address):
+            why = TOO_LARGE if size > MOST_BYTES else NOT_CHOSEN
+            self.counts[why] += 1
+            self.live[address] = why
             return
         if self.labels == self.options.labels:
             raise Stopped('the last label is %s' % grouped(self.options.labels - 1))
         self.add(thread, 'a %%d %d %d' % (self.labels, size))
-        self.live[address] = self.labels, size
+        self.live[address] = Block(self.labels, size, thread)
         self.labels += 1
         self.live_bytes += size
         self.peak_bytes = max(self.peak_bytes, self.live_bytes)
         self.counts['allocations'] += 1
 
     def forget(self, address):
-        """A block whose address comes again was freed by a call that isn't in the log. It stays live in the trace."""
-        if self.live.pop(address, None):
+        """A block whose address comes again was freed by a call that isn't recorded. It stays live in the trace."""
+        if isinstance(self.live.pop(address, None), Block):
             self.counts['lost'] += 1
 
     def free(self, address, size, thread):
-        if address not in self.live:
+        block = self.live.get(address)
+        if block is None:
             self.counts['unknown'] += 1
-        elif self.live[address] is None:
-            self.counts['frees of too large'] += 1
-            del self.live[address]
-        else:
-            label, size = self.live[address]
-            self.add(thread, 'f %%d %d' % label)
-            del self.live[address]
-            self.live_bytes -= size
+            return
+        if isinstance(block, Block):
+            self.add(thread, 'f %%d %d' % block.label)
+            self.live_bytes -= block.size
             self.counts['frees'] += 1
+        else:
+            self.counts['frees of ' + block] += 1
+        del self.live[address]
 
     def add(self, thread, line):
         """Adds a call's line, and before it, at the rate that was asked for, one that moves its thread."""
         if thread not in self.numbers and len(self.numbers) == self.options.threads:
             raise Stopped('the most threads are %d' % self.options.threads)
         move = self.drawn_move()
-        if HEADS + len(self.lines) + len(move) + 1 > self.options.lines:
+        if OWN_HEADS + len(self.options.head) + len(self.lines) + len(move) + 1 > self.options.lines:
             raise Stopped('the most lines are %s' % grouped(self.options.lines))
         number = self.numbers.setdefault(thread, len(self.numbers))
         self.lines += [text % number for text in move + [line]]
@@ -144,52 +161,62 @@ class Maker:
         """The arena has room for twice the bytes that were live at once, where nothing else was asked for."""
         wanted = -(-2 * self.peak_bytes // HUGEPAGE_BYTES)
         huge = self.options.huge or min(max(wanted, LEAST_HUGEPAGES), MOST_HUGEPAGES)
-        return ['cpus %d' % self.options.cpus, 'threads %d' % max(1, len(self.numbers)), 'huge %d' % huge]
+        own = ['cpus %d' % self.options.cpus, 'threads %d' % max(1, len(self.numbers)), 'huge %d' % huge]
+        return own + list(self.options.head)
 
 
 def grouped(number):
     return '{:,}'.format(number)
 
 
-def trace_of(log, options):
-    """The text of the trace, and the report as a list of lines."""
+# What there is to say of a trace: its text, the counts by what they count, what was left out, and where it stopped.
+Made = collections.namedtuple('Made', 'text counts left_out remarks peak_bytes stopped after')
+
+
+def trace_of(recording, options):
     maker = Maker(options)
     stop = None
     taken = 0
     try:
-        for note in log.notes():
+        for note in recording.notes():
             maker.take(*note)
             taken += 1
     except Stopped as stopped:
         stop = str(stopped)
-    if not stop and log.kept < log.calls:
-        stop = 'the log has room for %s calls' % grouped(log.kept)
+    if not stop and recording.kept < recording.calls:
+        stop = 'the log has room for %s calls' % grouped(recording.kept)
     lines = maker.heads() + maker.lines
-    text = ''.join(line + '\n' for line in lines)
-    return text, report_of(log, maker, len(lines), stop, log.calls - taken)
+    counts = {'lines': len(lines), **{name: maker.counts[name] for name in ('allocations', 'frees', 'moves')},
+              'threads': len(maker.numbers)}
+    return Made(''.join(line + '\n' for line in lines), counts, left_out(recording, maker), remarks(recording, maker),
+                maker.peak_bytes, stop, recording.calls - taken)
 
 
-def report_of(log, maker, lines, stop, after):
+def left_out(recording, maker):
+    """What was left out, with its number where that isn't 0."""
     counts = maker.counts
-    report = ['lines %s, allocations %s, frees %s, moves %s, threads %s' % tuple(
-        map(grouped, (lines, counts['allocations'], counts['frees'], counts['moves'], len(maker.numbers))))]
-    report += counted(
+    return counted(
+        (recording.null_frees, 'frees of null'),
+        (counts['unknown'], 'frees of blocks whose allocation wasn\'t recorded'),
+        (recording.failures, 'allocations that got nothing'),
+        (counts[TOO_LARGE], 'allocations above 2^40 bytes'),
+        (counts['frees of ' + TOO_LARGE], 'frees of blocks above 2^40 bytes'),
+        (counts[NOT_CHOSEN], 'allocations of blocks that --every leaves out'),
+        (counts['frees of ' + NOT_CHOSEN], 'frees of blocks that --every leaves out'),
+        (recording.early, 'calls before the log was open'),
+        (counts['unfinished'], 'calls that were under way when the process ended'))
+
+
+def remarks(recording, maker):
+    counts = maker.counts
+    return counted(
+        (counts['skipped'], 'calls were skipped; the blocks that were live then come first'),
+        (counts['live at the cut'], 'of these allocations are of blocks that were live at the cut'),
         (counts['frees by realloc'], 'of these frees are by realloc'),
-        (counts['aligned'], 'of these allocations asked for an alignment, which a trace doesn\'t have'))
-    report += counted(
-        (log.null_frees, 'left out: frees of null'),
-        (counts['unknown'], 'left out: frees of blocks whose allocation wasn\'t recorded'),
-        (log.failures, 'left out: allocations that got nothing'),
-        (counts['too large'], 'left out: allocations above 2^40 bytes'),
-        (counts['frees of too large'], 'left out: frees of blocks above 2^40 bytes'),
-        (log.early, 'left out: calls before the log was open'),
-        (counts['unfinished'], 'left out: calls that were under way when the process ended'),
-        (counts['lost'], 'never freed in the trace, though their address was given again'))
-    if stop:
-        report.append('stopped: %s; %s calls came after' % (stop, grouped(after)))
-    return report
+        (counts['aligned'], 'of these allocations asked for an alignment, which a trace doesn\'t have'),
+        (counts['lost'], 'never freed in the trace, though their address was given again')) + [
+            (None, remark) for remark in recording.remarks]
 
 
 def counted(*rows):
-    """A line for each count that isn't 0."""
-    return ['%s %s' % (grouped(count), what) for count, what in rows if count]
+    return [(count, what) for count, what in rows if count]

@@ -1,0 +1,21 @@
+"""The rules of tcreplay once more, told slowly and plainly: an independent voice that shares nothing with the program.
+
+Each rule is a short function over lists, sets and dicts, and each choice is a `min` whose key is the order of the
+choice. Inputs must be valid: none is refused here. A CPU's open mark, and how many instructions a thread ran since it
+was switched in, stand in no rule here: they say only when worker threads give way to each other, and the picks of
+serial and order don't ask that.
+
+    reading     class tables, traces and orders
+    heap        hugepages, and where runs of pages are placed
+    spans       spans of objects, and what stands behind the CPUs
+    slabs       CPUs with their slabs, and threads with their restartable sequences
+    machine     all parts, the calls as acts, and runs in any order, told to a listener
+    holdings    what holds the memory, at any moment of a run
+    text        what is printed
+    made        traces that are made from a seed
+"""
+from .machine import Listener, Replay
+from .made import made_trace
+from .text import answer
+
+__all__ = ['Listener', 'Replay', 'answer', 'made_trace']

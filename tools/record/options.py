@@ -1,0 +1,49 @@
+"""The options of a trace, which recording and importing have in common."""
+import argparse
+
+import traces
+
+
+def number(least, most):
+    """A reader of a number of these."""
+    def read(word):
+        if not word.isdecimal() or not least <= int(word) <= most:
+            raise argparse.ArgumentTypeError('a number from %d to %d is wanted' % (least, most))
+        return int(word)
+    return read
+
+
+def head(word):
+    name, _, value = word.partition(' ')
+    if name not in traces.HEADS:
+        raise argparse.ArgumentTypeError('%s is none of %s' % (name or 'nothing', ', '.join(traces.HEADS)))
+    return '%s %d' % (name, number(*traces.HEADS[name])(value))
+
+
+def add_to(parser):
+    usual = traces.USUAL
+    option = parser.add_argument
+    option('--cpus', metavar='N', type=number(1, traces.MOST_CPUS), default=usual.cpus,
+           help='the head cpus, 1 to 64 (1 if not said)')
+    option('--huge', metavar='N', type=number(1, traces.MOST_HUGEPAGES),
+           help='the head huge, 1 to 4096 (if not said, room for twice the bytes live at once, and at least 64)')
+    option('--head', metavar="'NAME N'", type=head, action='append', default=[],
+           help='a further head of the trace, as \'transfer 16\'; may come several times')
+    option('--skip', metavar='N', type=number(0, 1 << 40), default=usual.skip,
+           help='the trace begins behind so many calls; the blocks that are live then come first (0)')
+    option('--every', metavar='K', type=number(1, 1000000), default=usual.every,
+           help='one block of K, by its address, with its free (1)')
+    option('--moves', metavar='N', type=number(0, 1000), default=usual.moves,
+           help='of a thousand calls, about so many get a line `p`: their thread is preempted and moved (0)')
+    option('--seed', metavar='N', type=number(0, traces.MOST_SEED), default=usual.seed,
+           help='from which those calls, their instructions and CPUs are drawn (1)')
+    option('--threads', metavar='N', type=number(1, traces.MOST_THREADS), default=usual.threads,
+           help='the trace stops where a further thread comes, 1 to 64 (64)')
+    option('--lines', metavar='N', type=number(traces.OWN_HEADS, traces.MOST_LINES), default=usual.lines,
+           help='the trace stops where a call would pass so many lines, 3 to 1000000 (1000000)')
+    option('--labels', metavar='N', type=number(1, traces.MOST_LABELS), default=usual.labels,
+           help='the trace stops where so many labels are used, 1 to 1000000 (1000000)')
+
+
+def of(given):
+    return traces.Options(*(getattr(given, field) for field in traces.Options._fields))
