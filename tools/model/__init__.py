@@ -7,15 +7,19 @@ serial and order don't ask that.
 
     reading     class tables, traces and orders
     heap        hugepages, and where runs of pages are placed
-    spans       spans of objects, and what stands behind the CPUs
+    spans       spans of objects, and what stands behind the front
     slabs       CPUs with their slabs, and threads with their restartable sequences
+    caches      caches of threads, with limits that others may take; and no caches
     machine     all parts, the calls as acts, and runs in any order, told to a listener
     holdings    what holds the memory, at any moment of a run
     text        what is printed
+    profile     the sampled profile of live blocks
+    journal     whether a list of answered calls is legal, whoever wrote it
     made        traces that are made from a seed
 """
+from .journal import audit
 from .machine import Listener, Replay
 from .made import made_trace
 from .text import answer
 
-__all__ = ['Listener', 'Replay', 'answer', 'made_trace']
+__all__ = ['Listener', 'Replay', 'answer', 'audit', 'made_trace']

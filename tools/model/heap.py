@@ -60,9 +60,9 @@ class Hugepage:
     def tier(self):
         return 2 if not self.is_whole() else 1 if self.donated else 0
 
-    def row(self):
-        """Its line in the text."""
-        return 'h %d %s %d %d %d %d %d' % (self.number, self.kind, self.used, len(self.runs), len(self.backed),
+    def row(self, before=0):
+        """Its line in the text, where so many others are numbered before the first of its heap."""
+        return 'h %d %s %d %d %d %d %d' % (before + self.number, self.kind, self.used, len(self.runs), len(self.backed),
                                            self.longest, self.donated)
 
 

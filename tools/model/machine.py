@@ -1,25 +1,43 @@
 """All parts, the calls as acts of threads over them, and runs in any order."""
 import collections
 
-from .heap import PAGE, Heap
+from .caches import CachesOfThreads, NoCaches
+from .heap import PAGE, PAGES, Heap
 from .reading import read_order, read_table, read_trace
-from .slabs import Cpu, Thread
+from .slabs import Cpu, SlabsOfCpus, Thread
 from .spans import Shard, Span, put_whole, take_last
 
 Block = collections.namedtuple('Block', 'address length asked row')    # row is its class, or None of a large one
 
+# What serves small objects first: slabs of CPUs, caches of threads, or nothing.
+FRONTS = {'slabs': SlabsOfCpus, 'caches': CachesOfThreads, 'none': NoCaches}
 
-class World:
-    def __init__(self, table, heads):
-        self.table, self.transfer, self.domains = table, heads['transfer'], heads['domains']
-        self.cpus = [Cpu(heads, table) for _ in range(heads['cpus'])]
-        self.shards = [Shard(self.transfer) for _ in table]
+
+class Node:
+    """The memory of a node: its own heap, map and shards, over addresses that are less by its offset."""
+
+    def __init__(self, number, table, heads):
+        self.number = number
+        self.shards = [Shard(heads['transfer']) for _ in table]
         self.heap = Heap(heads)
         self.map = {}           # page: the run that holds it, and its class, or None
+        self.offset = number * heads['huge'] * PAGES * PAGE
+
+
+class World:
+    def __init__(self, table, heads, front='slabs', nodes=1):
+        self.table, self.transfer = table, heads['transfer']
+        self.cpus = [Cpu(heads, table) for _ in range(heads['cpus'])]
+        self.front = FRONTS[front](heads, table)
+        self.domains = heads['domains'] if self.front.is_of_cpus else 0
+        self.huge = heads['huge']
+        self.nodes = [Node(number, table, heads) for number in range(nodes)]
+        self.heap, self.shards = self.nodes[0].heap, self.nodes[0].shards       # where there is one node
         self.names = {}         # label: the address that was published, or None for null
         self.taken = set()      # the labels of which a free has taken that
         self.caches = {}        # (domain, class): its list
-        self.lines = []         # of the decided calls, in the order of their deciding acts
+        self.lines = []         # of the decided calls, in the order of their deciding acts,
+        self.decided = []       # and these calls
         self.blocks = {}        # label: the block, of each that was allocated and not freed
         self.live_at = set()    # their addresses
         self.live = 0           # their bytes
@@ -27,6 +45,15 @@ class World:
 
     def decide(self, word, thread, *answer):
         self.lines.append(' '.join([word, str(thread.number)] + [str(each) for each in answer]))
+        self.decided.append(thread.calls[thread.ended])
+
+    def home(self, thread):
+        """The node at which a thread allocates and releases, for good."""
+        return self.nodes[thread.number % len(self.cpus) % len(self.nodes)]
+
+    def node_with(self, address):
+        """The node in whose range an address is. The arenas of nodes follow each other."""
+        return self.nodes[(address // (PAGES * PAGE) - 1) // self.huge]
 
     def decide_block(self, thread, label, block):
         """An allocation is answered a block, or None."""
@@ -50,25 +77,25 @@ class World:
 
     # Runs of pages.
 
-    def set_map(self, name, run, row):
+    def set_map(self, name, thread, run, row):
         yield 'page map', name
-        self.map.update({page: (run, row) for page in range(run[0], run[0] + run[1])})
+        thread.node.map.update({page: (run, row) for page in range(run[0], run[0] + run[1])})
 
-    def clear_map(self, name, run):
+    def clear_map(self, name, thread, run):
         yield 'page map', name
         for page in range(run[0], run[0] + run[1]):
-            del self.map[page]
+            del thread.node.map[page]
 
     def free_spans(self, thread):
         """Those that left their shards: each leaves the map, and then it is freed."""
         while thread.on_the_way:
             run = thread.on_the_way[0].run
-            yield from self.clear_map('ClearSpan', run)
+            yield from self.clear_map('ClearSpan', thread, run)
             yield 'page heap', 'FreeSpan'
-            self.heap.free(run)
+            thread.node.heap.free(run)
             del thread.on_the_way[0]
 
-    # Objects behind the CPUs.
+    # Objects behind the front.
 
     def hand_in(self, thread, row):
         """The hand goes to the domain's cache, if there are domains and all fits; else to the shard."""
@@ -78,12 +105,12 @@ class World:
                 thread.hand = []
                 return
         yield 'shard', 'Give'
-        thread.on_the_way = self.shards[row.number].give(thread.hand)
+        thread.on_the_way = thread.node.shards[row.number].give(thread.hand)
         thread.hand = []
 
     def refill(self, thread, row):
         """A batch from the domain's cache, the shard, or a new span. Nothing, where the heap has no run for it."""
-        shard = self.shards[row.number]
+        shard = thread.node.shards[row.number]
         if self.domains:
             yield "domain's cache", 'Take'
             objects = take_last(self.cache_of(thread, row), row.batch)
@@ -94,12 +121,12 @@ class World:
         if objects:
             return objects
         yield 'page heap', 'NewSpan'
-        run = self.heap.new(row.pages)
+        run = thread.node.heap.new(row.pages)
         if run is None:
             return []
         span = Span(run, row)
         thread.on_the_way = [span]
-        yield from self.set_map('SetSpan', run, row)
+        yield from self.set_map('SetSpan', thread, run, row)
         yield 'shard', 'AddFetch'
         thread.on_the_way = []
         return shard.add_fetch(span, row.batch)
@@ -114,16 +141,14 @@ class World:
         return self.allocate_object(thread, label, row, size)
 
     def allocate_object(self, thread, label, row, size):
-        reply, objects = yield from thread.pop('Pop', row, 1)
-        if reply == 'empty':
-            yield from thread.grow(row)
-        if reply != 'popped':
+        objects = yield from self.front.take(thread, row)
+        if not objects:
             objects = yield from self.refill(thread, row)
-        address = objects[0] if objects else None
+        address = objects[0] + thread.node.offset if objects else None
         thread.take_in_hand(row, objects[1:])
         self.decide_block(thread, label, Block(address, row.size, size, row) if objects else None)
         if thread.hand:
-            yield from thread.push('Stock', row)
+            yield from self.front.stock(thread, row)
             if thread.hand:
                 yield from self.hand_in(thread, row)
                 yield from self.free_spans(thread)
@@ -132,11 +157,11 @@ class World:
 
     def allocate_large(self, thread, label, size):
         yield 'page heap', 'New'
-        run = self.heap.new(-(-size // PAGE))
-        address = run[0] * PAGE if run else None
+        run = thread.node.heap.new(-(-size // PAGE))
+        address = run[0] * PAGE + thread.node.offset if run else None
         self.decide_block(thread, label, Block(address, run[1] * PAGE, size, None) if run else None)
         if run:
-            yield from self.set_map('Set', run, None)
+            yield from self.set_map('Set', thread, run, None)
         yield 'names', 'Publish'
         self.names[label] = address
 
@@ -149,31 +174,29 @@ class World:
         if address is None:
             self.decide('f', thread, label, 'none')
             return
+        thread.node = self.node_with(address)
         yield 'page map', 'Lookup'
-        run, row = self.map[address // PAGE]
+        run, row = thread.node.map[(address - thread.node.offset) // PAGE]
         if row is not None:
             yield from self.free_object(thread, label, address, row)
         else:
-            yield from self.clear_map('Clear', run)
+            yield from self.clear_map('Clear', thread, run)
             yield 'page heap', 'GiveBack'
-            self.heap.free(run)
+            thread.node.heap.free(run)
             self.decide_free(thread, label, address)
 
     def free_object(self, thread, label, address, row):
-        """To the CPU's slab. Where that is full, a batch of it goes behind the CPU with the object."""
-        thread.take_in_hand(row, [address])
-        reply = yield from thread.push('Push', row)
-        if reply == 'full':
-            _, popped = yield from thread.pop('PopBatch', row, row.batch)
-            thread.hand += popped
-        if reply != 'pushed':
+        """To the front. What is in hand behind it goes further back."""
+        thread.take_in_hand(row, [address - thread.node.offset])
+        yield from self.front.put(thread, row)
+        if thread.hand:
             yield from self.hand_in(thread, row)
         self.decide_free(thread, label, address)
         yield from self.free_spans(thread)
 
     def release(self, thread, number):
         yield 'page heap', 'Unback'
-        self.decide('r', thread, self.heap.release(number))
+        self.decide('r', thread, thread.node.heap.release(number))
 
     def stop(self, cpu, thread):
         """Stop, and Fence where nobody else had stopped the CPU. Answers who had."""
@@ -225,6 +248,7 @@ class World:
 
     def program(self, thread, call):
         """The acts of a call. A move that is still to come at its end is one more."""
+        thread.node = self.home(thread)
         programs = {'a': self.allocate, 'f': self.free, 'r': self.release, 'd': self.drain, 'z': self.resize}
         yield from programs[call.word](thread, *call.numbers)
         if thread.move is not None:
@@ -249,10 +273,10 @@ class Listener:
 class Replay:
     """A run over the texts of table, trace and order."""
 
-    def __init__(self, table, trace, order='', listener=None):
+    def __init__(self, table, trace, order='', listener=None, front='slabs', nodes=1):
         self.heads, self.calls = read_trace(trace)
         self.order = order
-        self.world = World(read_table(table), self.heads)
+        self.world = World(read_table(table), self.heads, front, nodes)
         scripts = [[] for _ in range(self.heads['threads'])]
         for call in self.calls:
             scripts[call.thread].append(call)
@@ -277,7 +301,7 @@ class Replay:
         thread.program = thread.next_act = None
         if thread.ended < len(thread.calls):
             call = thread.calls[thread.ended]
-            thread.move, thread.executed = call.move, 0
+            thread.move, thread.executed = call.move if self.world.front.is_of_cpus else None, 0
             thread.program = self.world.program(thread, call)
             thread.next_act = next(thread.program)
 

@@ -77,6 +77,7 @@ class Thread:
         self.instruction = None     # what its last act was, where that was one of a sequence or a growth
         self.hand = []              # objects that its call has,
         self.hand_row = None        # all of this class
+        self.node = None            # where its call acts behind the front
         self.on_the_way = []        # spans that its call has: a new one before it joins, or freed ones
 
     def take_in_hand(self, row, objects):
@@ -175,3 +176,30 @@ class Thread:
 
 LAST = {'stopped': 'Header, stopped', 'empty': 'Test, empty', 'full': 'Test, full', 'popped': 'Commit',
         'pushed': 'Commit'}
+
+
+class SlabsOfCpus:
+    """The front of slabs: a thread's objects come from and go to the slab of the CPU at which it is."""
+
+    is_of_cpus = True
+
+    def __init__(self, heads, table):
+        pass
+
+    def take(self, thread, row):
+        """An object, or none. An empty slab grows first."""
+        reply, objects = yield from thread.pop('Pop', row, 1)
+        if reply == 'empty':
+            yield from thread.grow(row)
+        return objects
+
+    def stock(self, thread, row):
+        """The first ones of the hand stay in the slab."""
+        yield from thread.push('Stock', row)
+
+    def put(self, thread, row):
+        """The one object in hand stays. Where the slab is full, a batch of it comes into the hand, too."""
+        reply = yield from thread.push('Push', row)
+        if reply == 'full':
+            _, popped = yield from thread.pop('PopBatch', row, row.batch)
+            thread.hand += popped

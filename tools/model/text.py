@@ -1,5 +1,6 @@
 """What is printed of a run."""
 from .heap import PAGE
+from .profile import profile
 
 
 def fragmentation(resident, live):
@@ -9,16 +10,25 @@ def fragmentation(resident, live):
 
 def summary(replay):
     world = replay.world
-    used, resident = world.heap.used(), world.heap.resident()
+    used = sum(node.heap.used() for node in world.nodes)
+    resident = sum(node.heap.resident() for node in world.nodes)
     return ['calls %d' % len(world.lines), 'live %d %d' % (len(world.blocks), world.live), 'used %d' % used,
             'resident %d' % resident, 'frag %d' % fragmentation(resident, world.live)]
 
 
-def answer(replay, rows):
-    """The status, the text and the notes of a run that has ended."""
+def hugepages(replay):
+    """A line for each, numbered on from node to node."""
+    world = replay.world
+    return [page.row(node.number * world.huge) for node in world.nodes for page in node.heap.at.values()]
+
+
+def answer(replay, rows, sample=None):
+    """The status, the text and the notes of a run that has ended, with a profile where it has a step of bytes."""
     if replay.is_full:
         return 9, '', 'tcreplay: events limit %d\n' % replay.events
     lines = replay.world.lines + summary(replay)
     if rows:
-        lines += [page.row() for page in replay.world.heap.at.values()]
+        lines += hugepages(replay)
+    if sample:
+        lines += profile(replay.world.decided, replay.world.lines, sample)
     return 0, ''.join(line + '\n' for line in lines), ''
