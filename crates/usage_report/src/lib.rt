@@ -11,3 +11,4 @@ mod totals;
 mod words;
 
 pub use text::{report, summary};
+pub use words::{push_counted, push_lettered, push_number};

@@ -1,0 +1,113 @@
+-- What the live samples stand for is within what was asked for, and that within what calls may ask for.
+use Rattle.std.proofs.Common.{refl, ◌≡◌, ℕ, suc, ◌+◌, ◌-◌, ◌*◌, ◌/◌, ◌%◌, ◌^◌, ◌<◌, ◌≤◌, Bool, true, false, not, List, [], ◌∷◌, ◌++◌, length, cond, nat_lt, slice_index, slice_set, sym, ap, ◌∙◌, inl, inr, arith}
+use Rattle.std.specs.List.{filter, sum_by, sum}
+use Rattle.std.proofs.lemmas.Bool.{cases_Bool, cases_lt}
+use Rattle.std.proofs.lemmas.List.Sums.{sum_by-cons, sum_by-append, sum_by-set, sum_by-le-sum_by}
+use Rattle.std.proofs.lemmas.List.Filters.{sum_by-filter_both}
+use Rattle.std.proofs.lemmas.Nat.{div-add-mod', le-div}
+use Rattle.tc_model.specs.Blocks.{frees}
+use Rattle.tc_model.specs.declared.calls.Call.{Call}
+use Rattle.tc_model.specs.declared.calls.Call.TheVariants.{Malloc, Free, Release, Drain, Resize}
+use Rattle.tc_model.specs.declared.answers.Answer.{Answer}
+use Rattle.tc_model.specs.declared.answers.Answer.TheVariants.{Block, NoBlock, Freed, FreedNull, Released, Drained, Busy, CapSet, OverLimit, OverStatic}
+use Rattle.heap_sample.specs.declared.sample.Sample.{Sample}
+use Rattle.heap_sample.specs.Samples.{bytes_asked, sampled, sample_under, weight_of, weight_in, AreSame, IsFresh, most_size, most_calls}
+
+-- the whole steps in a sum
+abbrev pub covered : ℕ → ℕ → ℕ
+covered step n = n / step * step
+
+add_mul : (a b c : ℕ) → (a + b) * c ≡ a * c + b * c
+add_mul a b c = omega arith
+
+-- they are at most the sum, and rise by the weight of a sample
+within : (step n : ℕ) → covered step n ≤ n
+within step n = omega (arith, div-add-mod' n step)
+
+risen : (step before add : ℕ) → 0 < step → covered step before + weight_of step before (before + add) ≡ covered step (before + add)
+risen step before add some =
+    let up : before / step ≤ (before + add) / step = le-div (before / step) (before + add) step some (omega (arith, within step before)) in
+    let d = (before + add) / step - before / step in
+    let whole : (before + add) / step ≡ before / step + d = omega (arith, up) in
+    sym (ap (λ (n : ℕ). n * step) whole ∙ add_mul (before / step) d step)
+
+-- with a sum that rises in a list of them
+module _ (step : ℕ) (asked : List ℕ) (t add : ℕ) (some : 0 < step) (inside : t < length asked) where
+  abbrev pub after : List ℕ
+  after = slice_set asked t (slice_index asked t + add)
+
+  pub covers : sum_by (covered step) asked + weight_of step (slice_index asked t) (slice_index asked t + add) ≡ sum_by (covered step) after
+  covers = omega (arith, sum_by-set (covered step) asked t (slice_index asked t + add) 0 inside, risen step (slice_index asked t) add some)
+
+  pub sums : sum after ≡ sum asked + add
+  sums = omega (arith, sum_by-set (λ (n : ℕ). n) asked t (slice_index asked t + add) 0 inside)
+
+  pub at_most : sum_by (covered step) after ≤ sum after
+  at_most = sum_by-le-sum_by (covered step) (λ (n : ℕ). n) after (λ n. within step n)
+
+-- what a call asks for is at most what a request may
+pub few_bytes : (live : List (ℕ × Sample)) (call : Call) (answer : Answer) → IsFresh live call → bytes_asked call answer ≤ most_size
+few_bytes live (Malloc l n) (Block a len) fresh = fresh.1
+few_bytes live (Malloc l n) NoBlock fresh = omega arith
+few_bytes live (Malloc l n) (Freed a) fresh = omega arith
+few_bytes live (Malloc l n) FreedNull fresh = omega arith
+few_bytes live (Malloc l n) (Released p) fresh = omega arith
+few_bytes live (Malloc l n) (Drained o) fresh = omega arith
+few_bytes live (Malloc l n) (Busy o) fresh = omega arith
+few_bytes live (Malloc l n) CapSet fresh = omega arith
+few_bytes live (Malloc l n) (OverLimit s) fresh = omega arith
+few_bytes live (Malloc l n) (OverStatic s) fresh = omega arith
+few_bytes live (Free l) answer fresh = omega arith
+few_bytes live (Release p) answer fresh = omega arith
+few_bytes live (Drain c) answer fresh = omega arith
+few_bytes live (Resize c k n) answer fresh = omega arith
+
+-- at most one sample comes, of at most its weight
+pub gives : (step before : ℕ) (call : Call) (answer : Answer) → (length (sample_under step before call answer) ≤ 1) × (weight_in (sample_under step before call answer) ≤ weight_of step before (before + bytes_asked call answer))
+gives step before (Malloc l n) (Block a len) =
+    elim (cases_Bool (nat_lt (before / step) ((before + n) / step))) [
+      | inl passed ↦ rw passed (omega arith, omega arith)
+      | inr not_it ↦ rw not_it (omega arith, omega arith)
+    ]
+gives step before (Malloc l n) NoBlock = (omega arith, omega arith)
+gives step before (Malloc l n) (Freed a) = (omega arith, omega arith)
+gives step before (Malloc l n) FreedNull = (omega arith, omega arith)
+gives step before (Malloc l n) (Released p) = (omega arith, omega arith)
+gives step before (Malloc l n) (Drained o) = (omega arith, omega arith)
+gives step before (Malloc l n) (Busy o) = (omega arith, omega arith)
+gives step before (Malloc l n) CapSet = (omega arith, omega arith)
+gives step before (Malloc l n) (OverLimit s) = (omega arith, omega arith)
+gives step before (Malloc l n) (OverStatic s) = (omega arith, omega arith)
+gives step before (Free l) answer = (omega arith, omega arith)
+gives step before (Release p) answer = (omega arith, omega arith)
+gives step before (Drain c) answer = (omega arith, omega arith)
+gives step before (Resize c k n) answer = (omega arith, omega arith)
+
+-- a sum over a filter is at most that over all
+filtered : {X : Type 0} (f : X → ℕ) (q : X → Bool) (xs : List X) → sum_by f (filter q xs) ≤ sum_by f xs
+filtered f q xs = omega (arith, sum_by-filter_both q (λ x. not (q x)) (λ x. refl) f xs)
+
+-- a length as a sum
+counts : {X : Type 0} (xs : List X) → sum_by (λ x. 1) xs ≡ length xs
+counts [] = refl
+counts (x ∷ xs) = omega (arith, sum_by-cons (λ y. 1) x xs, counts xs)
+
+-- The samples behind a call: no more than the calls, and no heavier than the sums.
+module _ (step : ℕ) (asked : List ℕ) (t : ℕ) (call : Call) (answer : Answer) (old new : List (ℕ × Sample)) (some : 0 < step) (inside : t < length asked)
+    (same : AreSame new (sample_under step (slice_index asked t) call answer ++ filter (λ s. not (frees s.0 call)) old)) where
+  abbrev came : List (ℕ × Sample)
+  came = sample_under step (slice_index asked t) call answer
+
+  abbrev left : List (ℕ × Sample)
+  left = filter (λ s. not (frees s.0 call)) old
+
+  pub few : length new ≤ length old + 1
+  few =
+      let one : ℕ × Sample → ℕ = λ s. 1 in
+      omega (arith, same one, sum_by-append one came left, filtered one (λ s. not (frees s.0 call)) old, counts new, counts old, counts came, (gives step (slice_index asked t) call answer).0)
+
+  pub light : weight_in old ≤ sum_by (covered step) asked → weight_in new ≤ sum_by (covered step) (after step asked t (bytes_asked call answer) some inside)
+  light was =
+      let weight : ℕ × Sample → ℕ = λ s. s.1.weight in
+      omega (arith, was, same weight, sum_by-append weight came left, filtered weight (λ s. not (frees s.0 call)) old,
+        (gives step (slice_index asked t) call answer).1, covers step asked t (bytes_asked call answer) some inside)

@@ -1,0 +1,6 @@
+pub mod Bounds
+pub mod CallFacts
+pub mod LiveFacts
+pub mod RowFacts
+pub mod Sampling
+pub mod Threads

@@ -1,0 +1,142 @@
+-- Rows by rising length: with a row more, with one changed and with one fewer.
+use Rattle.std.proofs.Common.{refl, ◌≡◌, ℕ, suc, ◌+◌, ◌-◌, ◌<◌, ◌≤◌, ◌==◌, nat_lt, Bool, true, false, List, [], ◌∷◌, length, get_or, set, cond, All, subst, sym, ap, ◌∙◌, inl, inr, arith, insert, remove}
+use Rattle.std.specs.List.{sum_by, AllPairs}
+use Rattle.std.proofs.lemmas.Bool.{cases_lt, cases_eq, ne_eqb, eq-eqb, lt-ltb, ltb-true}
+use Rattle.std.proofs.lemmas.List.{length-set, get_or-set_same, get_or-set_other, get_or_default}
+use Rattle.std.proofs.lemmas.List.Edits.{length-insert, get_or-insert_below, get_or-insert_at, get_or-insert_above, length-remove, get_or-remove_below, get_or-remove_above}
+use Rattle.std.proofs.lemmas.List.Elements.{All-set}
+use Rattle.std.proofs.lemmas.List.Quantifiers.{all_pairs_remove}
+use Rattle.std.proofs.lemmas.List.Sums.{sum_by-cons, sum_by-remove, sum_by-set}
+use Rattle.std.specs.List.Sorted.{IsPartitionedBy}
+use Rattle.heap_sample.specs.declared.sample.ProfileRow.{ProfileRow}
+use Rattle.heap_sample.specs.Rows.{blocks_at, bytes_at, AreRows, IsPlaceOf, IsRowAt}
+
+-- a sum to which no item adds, and one to which a single item adds
+sum_none : {X : Type 0} (f : X → ℕ) (xs : List X) (d : X) → ((k : ℕ) → k < length xs → f (get_or xs k d) ≡ 0) → sum_by f xs ≡ 0
+sum_none f [] d none = refl
+sum_none f (x ∷ xs) d none =
+    let rest = sum_none f xs d (λ k l. none (suc k) (omega arith)) in
+    let first : f x ≡ 0 = none 0 (omega arith) in
+    omega (arith, sum_by-cons f x xs, first, rest)
+
+sum_one : {X : Type 0} (f : X → ℕ) (xs : List X) (k : ℕ) (d : X) → k < length xs → ((i : ℕ) → i < length xs → (i ≡ k → ⊥) → f (get_or xs i d) ≡ 0) → sum_by f xs ≡ f (get_or xs k d)
+sum_one f xs k d inside others =
+    let left = sum_by-remove f xs k d inside in
+    let size = length-remove xs k inside in
+    let none = sum_none f (remove xs k) d (λ i l. elim (cases_lt i k) [
+      | inl below ↦ ap f (get_or-remove_below xs k d i below inside) ∙ others i (omega (arith, below, inside)) (λ same. omega (arith, below, same))
+      | inr above ↦ ap f (get_or-remove_above xs k d i above inside) ∙ others (i + 1) (omega (arith, size, l)) (λ same. omega (arith, above, same))
+    ]) in
+    omega (arith, left, none)
+
+abbrev pub Rising : List ProfileRow → Type 0
+Rising rows = AllPairs (λ (a b : ProfileRow). a.len < b.len) rows
+
+-- rows that rise are parted by a length
+pub parted : (rows : List ProfileRow) (len : ℕ) → Rising rows → IsPartitionedBy (λ r. nat_lt r.len len) rows
+parted rows len rising i j d le inside below =
+    elim (cases_lt i j) [
+      | inl less ↦ (let up = rising i j d less inside in let low = ltb-true (get_or rows j d).len len below in lt-ltb (get_or rows i d).len len (omega (arith, up, low)))
+      | inr same ↦ (let e : j ≡ i = omega (arith, le, same) in ap (λ (k : ℕ). nat_lt (get_or rows k d).len len) (sym e) ∙ below)
+    ]
+
+module _ (rows : List ProfileRow) (len place : ℕ) (rising : Rising rows) (at : IsPlaceOf rows len place) where
+  -- at a length's place stands its row, if any
+  pub found : (g : ProfileRow → ℕ) (d : ProfileRow) → 0 < sum_by (λ r. cond (r.len == len) (g r) 0) rows → (place < length rows) × ((get_or rows place d).len ≡ len)
+  found g d some =
+      let none : ((k : ℕ) → k < length rows → ((get_or rows k d).len ≡ len → ⊥)) → ⊥ = λ apart.
+      let zero = sum_none (λ (r : ProfileRow). cond (r.len == len) (g r) 0) rows d (λ k l. rw (ne_eqb (get_or rows k d).len len (apart k l)) refl) in
+      omega (arith, some, zero) in
+      elim (cases_lt place (length rows)) [
+        | inr past ↦ absurd (none (λ k l same. omega (arith, at.before k d (omega (arith, l, past)), same)))
+        | inl inside ↦ elim (cases_eq (get_or rows place d).len len) [
+          | inl here ↦ (inside, here)
+          | inr other ↦ absurd (none (λ k l same. elim (cases_lt k place) [
+            | inl before ↦ omega (arith, at.before k d before, same)
+            | inr from ↦ elim (cases_eq k place) [
+              | inl e ↦ other (ap (λ (i : ℕ). (get_or rows i d).len) (sym e) ∙ same)
+              | inr apart ↦ (let least = at.behind place d (omega arith) inside in
+                  let more = rising place k d (omega (arith, from, apart)) l in
+                  omega (arith, least, more, same))
+            ]
+          ]))
+        ]
+      ]
+
+  -- and that row is the only one of its length
+  pub only_one : (g : ProfileRow → ℕ) (d : ProfileRow) → place < length rows → (get_or rows place d).len ≡ len → sum_by (λ r. cond (r.len == len) (g r) 0) rows ≡ g (get_or rows place d)
+  only_one g d inside here =
+      sum_one (λ (r : ProfileRow). cond (r.len == len) (g r) 0) rows place d inside (λ i l apart. elim (cases_lt i place) [
+        | inl before ↦ (let less = at.before i d before in rw (ne_eqb (get_or rows i d).len len (λ same. omega (arith, less, same))) refl)
+        | inr behind ↦ (let more = rising place i d (omega (arith, behind, apart)) l in
+            rw (ne_eqb (get_or rows i d).len len (λ same. omega (arith, more, here, same))) refl)
+      ])
+      ∙ rw (eq-eqb (get_or rows place d).len len here) refl
+
+-- rows with a new one at its length's place
+module _ (rows : List ProfileRow) (place : ℕ) (row : ProfileRow) (at : IsPlaceOf rows row.len place) (other : (d : ProfileRow) → place < length rows → (get_or rows place d).len ≡ row.len → ⊥) (are : AreRows rows) where
+  abbrev now : List ProfileRow
+  now = insert rows place row
+
+  size : length now ≡ length rows + 1
+  size = length-insert rows place row at.within
+
+  below : (k : ℕ) (d : ProfileRow) → k < place → get_or now k d ≡ get_or rows k d
+  below k d l = get_or-insert_below rows place row d k l at.within
+
+  here : (k : ℕ) (d : ProfileRow) → k ≡ place → get_or now k d ≡ row
+  here k d e = ap (λ (i : ℕ). get_or now i d) e ∙ get_or-insert_at rows place row d at.within
+
+  above : (k : ℕ) (d : ProfileRow) → place < k → get_or now k d ≡ get_or rows (k - 1) d
+  above k d l = let e : k - 1 + 1 ≡ k = omega (arith, l) in ap (λ (i : ℕ). get_or now i d) (sym e) ∙ get_or-insert_above rows place row d (k - 1) (omega (arith, l)) at.within
+
+  less_by : {a b x y : ProfileRow} → a ≡ x → b ≡ y → x.len < y.len → a.len < b.len
+  less_by {a} {b} {x} {y} e h l = omega (arith, ap (λ (r : ProfileRow). r.len) e, ap (λ (r : ProfileRow). r.len) h, l)
+
+  -- the rows from the place on are longer
+  longer : (k : ℕ) (d : ProfileRow) → place ≤ k → k < length rows → row.len < (get_or rows k d).len
+  longer k d le l =
+      let least = at.behind place d (omega arith) (omega (arith, le, l)) in
+      let apart = other d (omega (arith, le, l)) in
+      elim (cases_eq (get_or rows place d).len row.len) [
+        | inl e ↦ absurd (apart e)
+        | inr ne ↦ elim (cases_lt place k) [
+          | inl less ↦ (let up = are.rising place k d less l in omega (arith, least, ne, up))
+          | inr same ↦ (let e : k ≡ place = omega (arith, le, same) in let q = ap (λ (i : ℕ). (get_or rows i d).len) e in omega (arith, least, ne, q))
+        ]
+      ]
+
+  pub inserted : 0 < row.blocks → AreRows now
+  inserted some = record {
+    rising = λ i j d less l. elim (cases_lt j place) [
+      | inl early ↦ less_by (below i d (omega (arith, less, early))) (below j d early) (are.rising i j d less (omega (arith, early, at.within)))
+      | inr from ↦ elim (cases_lt place j) [
+        | inl later ↦ elim (cases_lt i place) [
+          | inl before ↦ less_by (below i d before) (above j d later) (are.rising i (j - 1) d (omega (arith, before, later)) (omega (arith, size, l, later)))
+          | inr behind ↦ elim (cases_lt place i) [
+            | inl past ↦ less_by (above i d past) (above j d later) (are.rising (i - 1) (j - 1) d (omega (arith, past, less)) (omega (arith, size, l, later)))
+            | inr at_it ↦ less_by (here i d (omega (arith, behind, at_it))) (above j d later) (longer (j - 1) d (omega (arith, later)) (omega (arith, size, l, later)))
+          ]
+        ]
+        | inr at_it ↦ less_by (below i d (omega (arith, less, at_it))) (here j d (omega (arith, from, at_it))) (at.before i d (omega (arith, less, at_it)))
+      ]
+    ];
+    some = λ k d l. elim (cases_lt k place) [
+      | inl early ↦ subst (λ (r : ProfileRow). 0 < r.blocks) (sym (below k d early)) (are.some k d (omega (arith, early, at.within)))
+      | inr from ↦ elim (cases_lt place k) [
+        | inl later ↦ subst (λ (r : ProfileRow). 0 < r.blocks) (sym (above k d later)) (are.some (k - 1) d (omega (arith, size, l, later)))
+        | inr at_it ↦ subst (λ (r : ProfileRow). 0 < r.blocks) (sym (here k d (omega (arith, from, at_it)))) some
+      ]
+    ];
+  }
+
+-- a length that rows have stands at its place
+pub row_at : (rows : List ProfileRow) (len place : ℕ) → AreRows rows → IsPlaceOf rows len place → 0 < blocks_at len rows → IsRowAt rows len place
+row_at rows len place are at held =
+    let stands = λ (d : ProfileRow). found rows len place are.rising at (λ r. r.blocks) d held in
+    record {
+      inside = (stands (record { len = 0; blocks = 0; bytes = 0 })).0;
+      here = λ d. (stands d).1;
+      blocks = λ d. only_one rows len place are.rising at (λ r. r.blocks) d (stands d).0 (stands d).1;
+      bytes = λ d. only_one rows len place are.rising at (λ r. r.bytes) d (stands d).0 (stands d).1;
+    }

@@ -1,0 +1,246 @@
+-- The samples of calls with one call more: sums, live samples, the peak.
+use Rattle.std.proofs.Common.{refl, ◌≡◌, ℕ, ◌+◌, ◌/◌, ◌<◌, ◌≤◌, Bool, true, false, not, ◌||◌, ◌&&◌, List, [], ◌∷◌, ◌++◌, length, take, cond, nat_lt, slice_index, slice_set, sym, ap, subst, ◌∙◌, inl, inr, arith, ◌==◌, get_or, None, Some}
+use Rattle.std.specs.List.{filter, sum_by, list_any}
+use Rattle.std.proofs.lemmas.Bool.{cases_Bool, cases_lt, cases_eq, eq-eqb, ne_eqb, lt-ltb, le-ltb}
+use Rattle.std.proofs.lemmas.List.{append-nil, append_assoc, length-append, length-set, get_or-set_same, get_or-set_other, take-append-le, take_all}
+use Rattle.std.proofs.lemmas.List.Elements.{filter-append}
+use Rattle.std.proofs.lemmas.List.Folds.{list_any-append}
+use Rattle.std.proofs.lemmas.List.Sums.{sum_by-cons, sum_by-append, sum_by_push, sum_by-le-sum_by, get_or-le-sum_by}
+use Rattle.std.proofs.lemmas.Option.{none-some}
+use Rattle.heap_sample.proofs.LiveFacts.{at_most}
+use Rattle.tc_units.specs.declared.units.Label.{Label}
+use Rattle.tc_model.specs.Blocks.{frees, freed_in, answer_to, allocates}
+use Rattle.tc_model.specs.declared.calls.Call.{Call}
+use Rattle.tc_model.specs.declared.calls.Call.TheVariants.{Malloc, Free, Release, Drain, Resize}
+use Rattle.tc_model.specs.declared.answers.Answer.{Answer}
+use Rattle.tc_model.specs.declared.answers.Answer.TheVariants.{Block, NoBlock, Freed, FreedNull, Released, Drained, Busy, CapSet, OverLimit, OverStatic}
+use Rattle.tc_model.specs.declared.answers.CallLine.{CallLine}
+use Rattle.heap_sample.specs.declared.sample.Sample.{Sample}
+use Rattle.heap_sample.specs.declared.sample.Peak.{Peak}
+use Rattle.heap_sample.specs.Samples.{bytes_asked, asked_by, sampled, sample_under, sample_of, samples_behind, samples, live_samples, weight_in, AreSame, IsPeak, IsNew, IsFirstUse, IsFresh}
+use Rattle.heap_sample.specs.Profiles.{Noted, Follows, IsProfileOf}
+
+-- the samples of calls and one more
+samples_push : (step : ℕ) (earlier calls : List CallLine) (c : CallLine) → samples_behind step earlier (calls ++ c ∷ []) ≡ samples_behind step earlier calls ++ sample_of step (earlier ++ calls) c
+samples_push step earlier [] c = append-nil (sample_of step earlier c) ∙ ap (λ (es : List CallLine). sample_of step es c) (sym (append-nil earlier))
+samples_push step earlier (d ∷ calls) c =
+    ap (λ (ss : List (ℕ × Sample)). sample_of step earlier d ++ ss) (samples_push step (earlier ++ d ∷ []) calls c ∙ ap (λ (es : List CallLine). samples_behind step (earlier ++ d ∷ []) calls ++ sample_of step es c) (append_assoc earlier (d ∷ []) calls))
+    ∙ sym (append_assoc (sample_of step earlier d) (samples_behind step (earlier ++ d ∷ []) calls) (sample_of step (earlier ++ d ∷ calls) c))
+
+-- a sum over a filter is one over all, and a filter by two tests is one behind the other
+sum_filtered : {X : Type 0} (f : X → ℕ) (q : X → Bool) (xs : List X) → sum_by f (filter q xs) ≡ sum_by (λ x. cond (q x) (f x) 0) xs
+sum_filtered f q [] = refl
+sum_filtered {X} f q (x ∷ xs) =
+    let all = sum_by-cons (λ (y : X). cond (q y) (f y) 0) x xs in
+    let rest = sum_filtered f q xs in
+    elim (cases_Bool (q x)) [
+      | inl pass ↦ (let first : filter q (x ∷ xs) ≡ x ∷ filter q xs = rw pass refl in
+          let one : cond {A = ℕ} (q x) (f x) 0 ≡ f x = rw pass refl in
+          omega (arith, ap (sum_by f) first ∙ sum_by-cons f x (filter q xs), rest, all, one))
+      | inr stop ↦ (let first : filter q (x ∷ xs) ≡ filter q xs = rw stop refl in
+          let none : cond {A = ℕ} (q x) (f x) 0 ≡ 0 = rw stop refl in
+          omega (arith, ap (sum_by f) first, rest, all, none))
+    ]
+
+twice : {X : Type 0} (p q r : X → Bool) (xs : List X) → ((x : X) → r x ≡ (p x && q x)) → filter r xs ≡ filter q (filter p xs)
+twice p q r [] both = refl
+twice {X} p q r (x ∷ xs) both =
+    elim (cases_Bool (p x)) [
+      | inl pass ↦ (let same : r x ≡ q x = both x ∙ rw pass refl in rw (pass, same) (ap (λ (ys : List X). cond (q x) (x ∷ ys) ys) (twice p q r xs both)))
+      | inr stop ↦ (let none : r x ≡ false = both x ∙ rw stop refl in rw (stop, none) (twice p q r xs both))
+    ]
+
+-- what a call adds to a thread's sum
+pub asked_push : (thread : ℕ) (calls : List CallLine) (c : CallLine) → asked_by thread (calls ++ c ∷ []) ≡ asked_by thread calls + cond (c.thread.0 == thread) (bytes_asked c.call c.answer) 0
+asked_push thread calls c = sum_by_push (λ (d : CallLine). cond (d.thread.0 == thread) (bytes_asked d.call d.answer) 0) calls c
+
+or_false : (b : Bool) → (b || false) ≡ b
+or_false true = refl
+or_false false = refl
+
+-- a label is freed among calls and one more
+freed_push : (label : ℕ) (calls : List CallLine) (c : CallLine) → freed_in label (calls ++ c ∷ []) ≡ (freed_in label calls || frees label c.call)
+freed_push label calls c = list_any-append (λ (d : CallLine). frees label d.call) calls (c ∷ []) ∙ ap (λ (b : Bool). freed_in label calls || b) (or_false (frees label c.call))
+
+-- the sample of a call is live behind it, where its label is new
+new_lives : (step before : ℕ) (calls : List CallLine) (call : Call) (answer : Answer) → IsFirstUse calls call → filter (λ s. not (freed_in s.0 calls || frees s.0 call)) (sample_under step before call answer) ≡ sample_under step before call answer
+new_lives step before calls (Malloc l n) (Block a len) first =
+    let live : not (freed_in l.0 calls || false) ≡ true = rw first.0.not_freed refl in
+    elim (cases_Bool (nat_lt (before / step) ((before + n) / step))) [
+      | inl passed ↦ rw passed (rw live refl)
+      | inr not_it ↦ rw not_it refl
+    ]
+new_lives step before calls (Malloc l n) NoBlock first = refl
+new_lives step before calls (Malloc l n) (Freed a) first = refl
+new_lives step before calls (Malloc l n) FreedNull first = refl
+new_lives step before calls (Malloc l n) (Released p) first = refl
+new_lives step before calls (Malloc l n) (Drained o) first = refl
+new_lives step before calls (Malloc l n) (Busy o) first = refl
+new_lives step before calls (Malloc l n) CapSet first = refl
+new_lives step before calls (Malloc l n) (OverLimit s) first = refl
+new_lives step before calls (Malloc l n) (OverStatic s) first = refl
+new_lives step before calls (Free l) answer first = refl
+new_lives step before calls (Release p) answer first = refl
+new_lives step before calls (Drain c) answer first = refl
+new_lives step before calls (Resize c k n) answer first = refl
+
+not_or : (a b : Bool) → not (a || b) ≡ (not a && not b)
+not_or true b = refl
+not_or false b = refl
+
+same_filter : {X : Type 0} (p q : X → Bool) (xs : List X) → ((x : X) → p x ≡ q x) → filter p xs ≡ filter q xs
+same_filter p q [] same = refl
+same_filter {X} p q (x ∷ xs) same = rw (same x) (ap (λ (ys : List X). cond (q x) (x ∷ ys) ys) (same_filter p q xs same))
+
+-- the live samples of calls and one more
+pub live_push : (step : ℕ) (calls : List CallLine) (c : CallLine) → IsFirstUse calls c.call → AreSame (live_samples step (calls ++ c ∷ [])) (sample_of step calls c ++ filter (λ s. not (frees s.0 c.call)) (live_samples step calls))
+live_push step calls c first f =
+    let p : ℕ × Sample → Bool = λ s. not (freed_in s.0 calls) in
+    let q : ℕ × Sample → Bool = λ s. not (frees s.0 c.call) in
+    let r : ℕ × Sample → Bool = λ s. not (freed_in s.0 calls || frees s.0 c.call) in
+    let old = samples step calls in
+    let new = sample_of step calls c in
+    let by_tests : live_samples step (calls ++ c ∷ []) ≡ filter r (samples step (calls ++ c ∷ [])) = same_filter _ r (samples step (calls ++ c ∷ [])) (λ s. ap not (freed_push s.0 calls c)) in
+    let parts : filter r (samples step (calls ++ c ∷ [])) ≡ filter q (filter p old) ++ new =
+        ap (filter r) (samples_push step [] calls c) ∙ filter-append r old new
+        ∙ ap (λ (ss : List (ℕ × Sample)). ss ++ filter r new) (twice p q r old (λ s. not_or (freed_in s.0 calls) (frees s.0 c.call)))
+        ∙ ap (λ (ss : List (ℕ × Sample)). filter q (filter p old) ++ ss) (new_lives step (asked_by c.thread.0 calls) calls c.call c.answer first) in
+    omega (arith, ap (sum_by f) (by_tests ∙ parts), sum_by-append f (filter q (filter p old)) new, sum_by-append f new (filter q (filter p old)))
+
+-- samples that are the same stay so where those of a label go
+pub same_kept : (call : Call) (ones others : List (ℕ × Sample)) → AreSame ones others → AreSame (filter (λ s. not (frees s.0 call)) ones) (filter (λ s. not (frees s.0 call)) others)
+same_kept call ones others same f =
+    let q : ℕ × Sample → Bool = λ s. not (frees s.0 call) in
+    sum_filtered f q ones ∙ same (λ s. cond (q s) (f s) 0) ∙ sym (sum_filtered f q others)
+
+-- The peak of calls and one more.
+module _ (step : ℕ) (calls : List CallLine) (c : CallLine) (peak : Peak) (is : IsPeak step calls peak) where
+  abbrev weight : ℕ → ℕ
+  weight k = weight_in (live_samples step (take k (calls ++ c ∷ [])))
+
+  earlier : (k : ℕ) → k ≤ length calls → weight k ≡ weight_in (live_samples step (take k calls))
+  earlier k le = ap (λ (es : List CallLine). weight_in (live_samples step es)) (take-append-le k calls (c ∷ []) le)
+
+  size : length (calls ++ c ∷ []) ≡ length calls + 1
+  size = length-append calls (c ∷ [])
+
+  all : weight (length calls + 1) ≡ weight_in (live_samples step (calls ++ c ∷ []))
+  all = ap (λ (es : List CallLine). weight_in (live_samples step es)) (take_all (length calls + 1) (calls ++ c ∷ []) (omega (arith, size)))
+
+  at_end : (k : ℕ) → k ≡ length calls + 1 → weight k ≡ weight_in (live_samples step (calls ++ c ∷ []))
+  at_end k e = ap weight e ∙ all
+
+  pub risen : (now : ℕ) → now ≡ weight_in (live_samples step (calls ++ c ∷ [])) → peak.bytes < now → IsPeak step (calls ++ c ∷ []) (record { bytes = now; call = length calls + 1 })
+  risen now e more = record {
+      within = omega (arith, size);
+      reached = all ∙ sym e;
+      greatest = λ k le. elim (cases_lt k (length calls + 1)) [
+        | inl l ↦ omega (arith, earlier k (omega (arith, l)), is.greatest k (omega (arith, l)), more)
+        | inr g ↦ omega (arith, at_end k (omega (arith, g, le, size)), e)
+      ];
+      first = λ k l. omega (arith, earlier k (omega (arith, l)), is.greatest k (omega (arith, l)), more)
+    }
+
+  pub stayed : (now : ℕ) → now ≡ weight_in (live_samples step (calls ++ c ∷ [])) → now ≤ peak.bytes → IsPeak step (calls ++ c ∷ []) peak
+  stayed now e less = record {
+      within = omega (arith, size, is.within);
+      reached = earlier peak.call is.within ∙ is.reached;
+      greatest = λ k le. elim (cases_lt k (length calls + 1)) [
+        | inl l ↦ omega (arith, earlier k (omega (arith, l)), is.greatest k (omega (arith, l)))
+        | inr g ↦ omega (arith, at_end k (omega (arith, g, le, size)), e, less)
+      ];
+      first = λ k l. omega (arith, earlier k (omega (arith, l, is.within)), is.first k l)
+    }
+
+-- what a thread's entry is behind a call
+asked_now : (asked : List ℕ) (calls : List CallLine) (c : CallLine) (thread : ℕ) → c.thread.0 < length asked → ((t : ℕ) → t < length asked → slice_index asked t ≡ asked_by t calls) → thread < length asked → slice_index (slice_set asked c.thread.0 (slice_index asked c.thread.0 + bytes_asked c.call c.answer)) thread ≡ asked_by thread (calls ++ c ∷ [])
+asked_now asked calls c thread inside was l =
+    let more = asked_push thread calls c in
+    let add = bytes_asked c.call c.answer in
+    elim (cases_eq thread c.thread.0) [
+      | inl e ↦ (let it : cond {A = ℕ} (c.thread.0 == thread) add 0 ≡ add = rw (eq-eqb c.thread.0 thread (sym e)) refl in
+          let here : slice_index (slice_set asked c.thread.0 (slice_index asked c.thread.0 + add)) thread ≡ slice_index asked c.thread.0 + add =
+              ap (λ (t : ℕ). slice_index (slice_set asked c.thread.0 (slice_index asked c.thread.0 + add)) t) e ∙ get_or-set_same asked c.thread.0 (slice_index asked c.thread.0 + add) 0 inside in
+          let old : slice_index asked c.thread.0 ≡ asked_by thread calls = was c.thread.0 inside ∙ ap (λ (t : ℕ). asked_by t calls) (sym e) in
+          omega (arith, more, it, here, old))
+      | inr other ↦ (let none : cond {A = ℕ} (c.thread.0 == thread) add 0 ≡ 0 = rw (ne_eqb c.thread.0 thread (λ same. other (sym same))) refl in
+          let here : slice_index (slice_set asked c.thread.0 (slice_index asked c.thread.0 + add)) thread ≡ slice_index asked thread = get_or-set_other asked c.thread.0 thread (slice_index asked c.thread.0 + add) 0 other in
+          omega (arith, more, none, here, was thread l))
+    ]
+
+-- a call that follows makes a profile that of the calls with it
+pub followed : (calls : List CallLine) (c : CallLine) (old new : Noted) → c.thread.0 < length old.asked → Follows old c new → IsProfileOf calls old → IsFirstUse calls c.call → IsProfileOf (calls ++ c ∷ []) new
+followed calls c old new inside f is first =
+    let before : slice_index old.asked c.thread.0 ≡ asked_by c.thread.0 calls = is.asked c.thread.0 inside in
+    let sample : sample_under old.step (slice_index old.asked c.thread.0) c.call c.answer ≡ sample_of old.step calls c = ap (λ (n : ℕ). sample_under old.step n c.call c.answer) before in
+    let live : AreSame new.live (live_samples old.step (calls ++ c ∷ [])) = λ g.
+        let q : List (ℕ × Sample) → List (ℕ × Sample) = filter (λ s. not (frees s.0 c.call)) in
+        f.live g
+        ∙ sum_by-append g (sample_under old.step (slice_index old.asked c.thread.0) c.call c.answer) (q old.live)
+        ∙ omega (arith, ap (sum_by g) sample, same_kept c.call old.live (live_samples old.step calls) is.live g, sum_by-append g (sample_of old.step calls c) (q (live_samples old.step calls)), live_push old.step calls c first g) in
+    let weight : weight_in new.live ≡ weight_in (live_samples old.step (calls ++ c ∷ [])) = live (λ s. s.1.weight) in
+    let count : new.calls ≡ length calls + 1 = f.calls ∙ ap (λ (n : ℕ). n + 1) is.count in
+    let peak : IsPeak old.step (calls ++ c ∷ []) new.peak = elim (cases_lt old.peak.bytes (weight_in new.live)) [
+        | inl more ↦ subst (λ (p : Peak). IsPeak old.step (calls ++ c ∷ []) p)
+            (sym (f.peak ∙ rw (lt-ltb old.peak.bytes (weight_in new.live) more) (ap (λ (n : ℕ). record { bytes = weight_in new.live; call = n }) count)))
+            (risen old.step calls c old.peak is.peak (weight_in new.live) weight more)
+        | inr less ↦ subst (λ (p : Peak). IsPeak old.step (calls ++ c ∷ []) p)
+            (sym (f.peak ∙ rw (le-ltb old.peak.bytes (weight_in new.live) less) refl))
+            (stayed old.step calls c old.peak is.peak (weight_in new.live) weight less)
+      ] in
+    record {
+      asked = λ t l. ap (λ (ns : List ℕ). slice_index ns t) f.asked ∙ asked_now old.asked calls c t inside is.asked (subst (λ (n : ℕ). t < n) (ap length f.asked ∙ length-set old.asked c.thread.0 _) l);
+      live = λ g. live g ∙ ap (λ (n : ℕ). sum_by g (live_samples n (calls ++ c ∷ []))) (sym f.step);
+      count = count ∙ sym (length-append calls (c ∷ []));
+      peak = subst (λ (n : ℕ). IsPeak n (calls ++ c ∷ []) new.peak) (sym f.step) peak
+    }
+
+-- how many samples have a label
+abbrev at_label : ℕ → ℕ × Sample → ℕ
+at_label label s = cond (s.0 == label) 1 0
+
+-- a label under which nothing was allocated has no sample
+none_under : (label step before : ℕ) (call : Call) (answer : Answer) → allocates label call ≡ false → sum_by (at_label label) (sample_under step before call answer) ≡ 0
+none_under label step before (Malloc l n) (Block a len) other =
+    elim (cases_Bool (nat_lt (before / step) ((before + n) / step))) [
+      | inl passed ↦ rw passed (rw other refl)
+      | inr not_it ↦ rw not_it refl
+    ]
+none_under label step before (Malloc l n) NoBlock other = refl
+none_under label step before (Malloc l n) (Freed a) other = refl
+none_under label step before (Malloc l n) FreedNull other = refl
+none_under label step before (Malloc l n) (Released p) other = refl
+none_under label step before (Malloc l n) (Drained o) other = refl
+none_under label step before (Malloc l n) (Busy o) other = refl
+none_under label step before (Malloc l n) CapSet other = refl
+none_under label step before (Malloc l n) (OverLimit s) other = refl
+none_under label step before (Malloc l n) (OverStatic s) other = refl
+none_under label step before (Free l) answer other = refl
+none_under label step before (Release p) answer other = refl
+none_under label step before (Drain c) answer other = refl
+none_under label step before (Resize c k n) answer other = refl
+
+no_sample : (label step : ℕ) (earlier calls : List CallLine) → answer_to label calls ≡ None → sum_by (at_label label) (samples_behind step earlier calls) ≡ 0
+no_sample label step earlier [] none = refl
+no_sample label step earlier (c ∷ calls) none =
+    elim (cases_Bool (allocates label c.call)) [
+      | inl is ↦ absurd (none-some c.answer (sym (rw is at none)))
+      | inr other ↦ (let rest = no_sample label step (earlier ++ c ∷ []) calls (rw other at none) in
+          omega (arith, sum_by-append (at_label label) (sample_of step earlier c) (samples_behind step (earlier ++ c ∷ []) calls), none_under label step (asked_by c.thread.0 earlier) c.call c.answer other, rest))
+    ]
+
+-- an allocation's label that is new is none of a live sample
+pub fresh : (calls : List CallLine) (call : Call) (noted : Noted) → IsProfileOf calls noted → IsFirstUse calls call → IsFresh noted.live call
+fresh calls (Malloc l n) noted is first =
+    ((λ has.
+        let one : at_label l.0 (get_or noted.live has.0 has.1) ≡ 1 = ap (at_label l.0) has.3 ∙ rw (eq-eqb has.1.0 l.0 has.4) refl in
+        let some = get_or-le-sum_by (at_label l.0) noted.live has.0 has.1 has.2 in
+        let among = is.live (at_label l.0) in
+        let all = sum_filtered (at_label l.0) (λ s. not (freed_in s.0 calls)) (samples noted.step calls) in
+        let fewer = sum_by-le-sum_by (λ (s : ℕ × Sample). cond (not (freed_in s.0 calls)) (at_label l.0 s) 0) (at_label l.0) (samples noted.step calls) (λ s. at_most (not (freed_in s.0 calls)) (at_label l.0 s)) in
+        let none = no_sample l.0 noted.step [] calls first.0.not_answered in
+        omega (arith, one, some, among, all, fewer, none)), first.1)
+fresh calls (Free l) noted is first = first
+fresh calls (Release p) noted is first = first
+fresh calls (Drain c) noted is first = first
+fresh calls (Resize c k n) noted is first = first

@@ -1,0 +1,5 @@
+pub mod Samples
+pub mod Rows
+pub mod Profiles
+pub mod Lines
+pub mod Law
