@@ -1,7 +1,7 @@
 -- What the live samples stand for is within what was asked for, and that within what calls may ask for.
-use Rattle.std.proofs.Common.{refl, ◌≡◌, ℕ, suc, ◌+◌, ◌-◌, ◌*◌, ◌/◌, ◌%◌, ◌^◌, ◌<◌, ◌≤◌, Bool, true, false, not, List, [], ◌∷◌, ◌++◌, length, cond, nat_lt, slice_index, slice_set, sym, ap, ◌∙◌, inl, inr, arith}
+use Rattle.std.proofs.Common.{refl, ◌≡◌, ℕ, ◌+◌, ◌-◌, ◌*◌, ◌/◌, ◌<◌, ◌≤◌, Bool, not, List, [], ◌∷◌, ◌++◌, length, nat_lt, slice_index, slice_set, sym, ap, ◌∙◌, inl, inr, arith}
 use Rattle.std.specs.List.{filter, sum_by, sum}
-use Rattle.std.proofs.lemmas.Bool.{cases_Bool, cases_lt}
+use Rattle.std.proofs.lemmas.Bool.{cases_Bool}
 use Rattle.std.proofs.lemmas.List.Sums.{sum_by-cons, sum_by-append, sum_by-set, sum_by-le-sum_by}
 use Rattle.std.proofs.lemmas.List.Filters.{sum_by-filter_both}
 use Rattle.std.proofs.lemmas.Nat.{div-add-mod', le-div}
@@ -11,7 +11,7 @@ use Rattle.tc_model.specs.declared.calls.Call.TheVariants.{Malloc, Free, Release
 use Rattle.tc_model.specs.declared.answers.Answer.{Answer}
 use Rattle.tc_model.specs.declared.answers.Answer.TheVariants.{Block, NoBlock, Freed, FreedNull, Released, Drained, Busy, CapSet, OverLimit, OverStatic}
 use Rattle.heap_sample.specs.declared.sample.Sample.{Sample}
-use Rattle.heap_sample.specs.Samples.{bytes_asked, sampled, sample_under, weight_of, weight_in, AreSame, IsFresh, most_size, most_calls}
+use Rattle.heap_sample.specs.Samples.{bytes_asked, sample_under, weight_of, weight_in, AreSame, IsFresh, most_size}
 
 -- the whole steps in a sum
 abbrev pub covered : ℕ → ℕ → ℕ
@@ -109,5 +109,12 @@ module _ (step : ℕ) (asked : List ℕ) (t : ℕ) (call : Call) (answer : Answe
   pub light : weight_in old ≤ sum_by (covered step) asked → weight_in new ≤ sum_by (covered step) (after step asked t (bytes_asked call answer) some inside)
   light was =
       let weight : ℕ × Sample → ℕ = λ s. s.1.weight in
-      omega (arith, was, same weight, sum_by-append weight came left, filtered weight (λ s. not (frees s.0 call)) old,
-        (gives step (slice_index asked t) call answer).1, covers step asked t (bytes_asked call answer) some inside)
+      omega (
+        arith,
+        was,
+        same weight,
+        sum_by-append weight came left,
+        filtered weight (λ s. not (frees s.0 call)) old,
+        (gives step (slice_index asked t) call answer).1,
+        covers step asked t (bytes_asked call answer) some inside,
+      )

@@ -1,5 +1,6 @@
 pub mod Bounds
 pub mod CallFacts
+pub mod FirstUses
 pub mod LiveFacts
 pub mod RowFacts
 pub mod Sampling

@@ -1,8 +1,8 @@
 -- Live samples with one more and one fewer: their rows, and what they stand for.
-use Rattle.std.proofs.Common.{refl, ◌≡◌, ℕ, ◌+◌, ◌<◌, ◌≤◌, ◌==◌, Bool, true, false, not, List, [], ◌∷◌, cond, sym, ap, ◌∙◌, inl, inr, subst, arith, Option, Some, None, unwrap_or, nat_eq, Result, Ok, Err, is_err, IfOk}
-use Rattle.std.specs.List.{sum_by, count_by, filter, IsDistinct, AllByRecursion}
+use Rattle.std.proofs.Common.{refl, ◌≡◌, ℕ, ◌+◌, ◌≤◌, ◌==◌, Bool, true, false, not, List, [], ◌∷◌, cond, sym, ap, ◌∙◌, inl, inr, subst, arith, Option, Some, None, unwrap_or, nat_eq, Result, Ok, Err, is_err, IfOk}
+use Rattle.std.specs.List.{sum_by, filter, IsDistinct, AllByRecursion}
 use Rattle.std.specs.Map.{keys_of, lookup, remove_entry}
-use Rattle.std.proofs.lemmas.Bool.{cases_Bool, true≢false, eqb-true, eq-eqb, ne_eqb, eqb-false}
+use Rattle.std.proofs.lemmas.Bool.{cases_Bool, true≢false, eqb-true}
 use Rattle.std.proofs.lemmas.Option.{none-some}
 use Rattle.std.proofs.lemmas.List.Sums.{sum_by-cons, sum_by-le-sum_by}
 use Rattle.std.proofs.lemmas.List.Sorted.{sum_by-IsPermutation}
@@ -11,7 +11,7 @@ use Rattle.std.specs.HashMap.{HashMap, PutsEntry, get}
 use Rattle.std.proofs.lemmas.Map.Keys.{IsDistinct-head, IsDistinct-tail}
 use Rattle.heap_sample.specs.declared.sample.Sample.{Sample}
 use Rattle.heap_sample.specs.declared.sample.ProfileRow.{ProfileRow}
-use Rattle.heap_sample.specs.Samples.{weight_in, AreSame, HasLabel}
+use Rattle.heap_sample.specs.Samples.{weight_in, HasLabel}
 use Rattle.heap_sample.specs.Rows.{count_of, bytes_of, blocks_at, bytes_at, CountSamples}
 
 -- some samples with one more are others, in any order

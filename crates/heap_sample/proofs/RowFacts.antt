@@ -1,15 +1,12 @@
 -- Rows by rising length: with a row more, with one changed and with one fewer.
-use Rattle.std.proofs.Common.{refl, ◌≡◌, ℕ, suc, ◌+◌, ◌-◌, ◌<◌, ◌≤◌, ◌==◌, nat_lt, Bool, true, false, List, [], ◌∷◌, length, get_or, set, cond, All, subst, sym, ap, ◌∙◌, inl, inr, arith, insert, remove}
+use Rattle.std.proofs.Common.{refl, ◌≡◌, ℕ, suc, ◌+◌, ◌-◌, ◌<◌, ◌≤◌, ◌==◌, nat_lt, List, [], ◌∷◌, length, get_or, cond, subst, sym, ap, ◌∙◌, inl, inr, arith, insert, remove}
 use Rattle.std.specs.List.{sum_by, AllPairs}
 use Rattle.std.proofs.lemmas.Bool.{cases_lt, cases_eq, ne_eqb, eq-eqb, lt-ltb, ltb-true}
-use Rattle.std.proofs.lemmas.List.{length-set, get_or-set_same, get_or-set_other, get_or_default}
 use Rattle.std.proofs.lemmas.List.Edits.{length-insert, get_or-insert_below, get_or-insert_at, get_or-insert_above, length-remove, get_or-remove_below, get_or-remove_above}
-use Rattle.std.proofs.lemmas.List.Elements.{All-set}
-use Rattle.std.proofs.lemmas.List.Quantifiers.{all_pairs_remove}
-use Rattle.std.proofs.lemmas.List.Sums.{sum_by-cons, sum_by-remove, sum_by-set}
+use Rattle.std.proofs.lemmas.List.Sums.{sum_by-cons, sum_by-remove}
 use Rattle.std.specs.List.Sorted.{IsPartitionedBy}
 use Rattle.heap_sample.specs.declared.sample.ProfileRow.{ProfileRow}
-use Rattle.heap_sample.specs.Rows.{blocks_at, bytes_at, AreRows, IsPlaceOf, IsRowAt}
+use Rattle.heap_sample.specs.Rows.{blocks_at, AreRows, IsPlaceOf, IsRowAt}
 
 -- a sum to which no item adds, and one to which a single item adds
 sum_none : {X : Type 0} (f : X → ℕ) (xs : List X) (d : X) → ((k : ℕ) → k < length xs → f (get_or xs k d) ≡ 0) → sum_by f xs ≡ 0

@@ -1,6 +1,6 @@
 -- The samples of calls with one call more: sums, live samples, the peak.
-use Rattle.std.proofs.Common.{refl, ◌≡◌, ℕ, ◌+◌, ◌/◌, ◌<◌, ◌≤◌, Bool, true, false, not, ◌||◌, ◌&&◌, List, [], ◌∷◌, ◌++◌, length, take, cond, nat_lt, slice_index, slice_set, sym, ap, subst, ◌∙◌, inl, inr, arith, ◌==◌, get_or, None, Some}
-use Rattle.std.specs.List.{filter, sum_by, list_any}
+use Rattle.std.proofs.Common.{refl, ◌≡◌, ℕ, ◌+◌, ◌/◌, ◌<◌, ◌≤◌, Bool, true, false, not, ◌||◌, ◌&&◌, List, [], ◌∷◌, ◌++◌, length, take, cond, nat_lt, slice_index, slice_set, sym, ap, subst, ◌∙◌, inl, inr, arith, ◌==◌, get_or, None}
+use Rattle.std.specs.List.{filter, sum_by}
 use Rattle.std.proofs.lemmas.Bool.{cases_Bool, cases_lt, cases_eq, eq-eqb, ne_eqb, lt-ltb, le-ltb}
 use Rattle.std.proofs.lemmas.List.{append-nil, append_assoc, length-append, length-set, get_or-set_same, get_or-set_other, take-append-le, take_all}
 use Rattle.std.proofs.lemmas.List.Elements.{filter-append}
@@ -8,7 +8,6 @@ use Rattle.std.proofs.lemmas.List.Folds.{list_any-append}
 use Rattle.std.proofs.lemmas.List.Sums.{sum_by-cons, sum_by-append, sum_by_push, sum_by-le-sum_by, get_or-le-sum_by}
 use Rattle.std.proofs.lemmas.Option.{none-some}
 use Rattle.heap_sample.proofs.LiveFacts.{at_most}
-use Rattle.tc_units.specs.declared.units.Label.{Label}
 use Rattle.tc_model.specs.Blocks.{frees, freed_in, answer_to, allocates}
 use Rattle.tc_model.specs.declared.calls.Call.{Call}
 use Rattle.tc_model.specs.declared.calls.Call.TheVariants.{Malloc, Free, Release, Drain, Resize}
@@ -17,7 +16,7 @@ use Rattle.tc_model.specs.declared.answers.Answer.TheVariants.{Block, NoBlock, F
 use Rattle.tc_model.specs.declared.answers.CallLine.{CallLine}
 use Rattle.heap_sample.specs.declared.sample.Sample.{Sample}
 use Rattle.heap_sample.specs.declared.sample.Peak.{Peak}
-use Rattle.heap_sample.specs.Samples.{bytes_asked, asked_by, sampled, sample_under, sample_of, samples_behind, samples, live_samples, weight_in, AreSame, IsPeak, IsNew, IsFirstUse, IsFresh}
+use Rattle.heap_sample.specs.Samples.{bytes_asked, asked_by, sample_under, sample_of, samples_behind, samples, live_samples, weight_in, AreSame, IsPeak, IsFirstUse, IsFresh}
 use Rattle.heap_sample.specs.Profiles.{Noted, Follows, IsProfileOf}
 
 -- the samples of calls and one more
@@ -102,9 +101,9 @@ live_push step calls c first f =
     let new = sample_of step calls c in
     let by_tests : live_samples step (calls ++ c ∷ []) ≡ filter r (samples step (calls ++ c ∷ [])) = same_filter _ r (samples step (calls ++ c ∷ [])) (λ s. ap not (freed_push s.0 calls c)) in
     let parts : filter r (samples step (calls ++ c ∷ [])) ≡ filter q (filter p old) ++ new =
-        ap (filter r) (samples_push step [] calls c) ∙ filter-append r old new
-        ∙ ap (λ (ss : List (ℕ × Sample)). ss ++ filter r new) (twice p q r old (λ s. not_or (freed_in s.0 calls) (frees s.0 c.call)))
-        ∙ ap (λ (ss : List (ℕ × Sample)). filter q (filter p old) ++ ss) (new_lives step (asked_by c.thread.0 calls) calls c.call c.answer first) in
+    ap (filter r) (samples_push step [] calls c) ∙ filter-append r old new
+    ∙ ap (λ (ss : List (ℕ × Sample)). ss ++ filter r new) (twice p q r old (λ s. not_or (freed_in s.0 calls) (frees s.0 c.call)))
+    ∙ ap (λ (ss : List (ℕ × Sample)). filter q (filter p old) ++ ss) (new_lives step (asked_by c.thread.0 calls) calls c.call c.answer first) in
     omega (arith, ap (sum_by f) (by_tests ∙ parts), sum_by-append f (filter q (filter p old)) new, sum_by-append f new (filter q (filter p old)))
 
 -- samples that are the same stay so where those of a label go
@@ -132,25 +131,25 @@ module _ (step : ℕ) (calls : List CallLine) (c : CallLine) (peak : Peak) (is :
 
   pub risen : (now : ℕ) → now ≡ weight_in (live_samples step (calls ++ c ∷ [])) → peak.bytes < now → IsPeak step (calls ++ c ∷ []) (record { bytes = now; call = length calls + 1 })
   risen now e more = record {
-      within = omega (arith, size);
-      reached = all ∙ sym e;
-      greatest = λ k le. elim (cases_lt k (length calls + 1)) [
-        | inl l ↦ omega (arith, earlier k (omega (arith, l)), is.greatest k (omega (arith, l)), more)
-        | inr g ↦ omega (arith, at_end k (omega (arith, g, le, size)), e)
-      ];
-      first = λ k l. omega (arith, earlier k (omega (arith, l)), is.greatest k (omega (arith, l)), more)
-    }
+    within = omega (arith, size);
+    reached = all ∙ sym e;
+    greatest = λ k le. elim (cases_lt k (length calls + 1)) [
+      | inl l ↦ omega (arith, earlier k (omega (arith, l)), is.greatest k (omega (arith, l)), more)
+      | inr g ↦ omega (arith, at_end k (omega (arith, g, le, size)), e)
+    ];
+    first = λ k l. omega (arith, earlier k (omega (arith, l)), is.greatest k (omega (arith, l)), more);
+  }
 
   pub stayed : (now : ℕ) → now ≡ weight_in (live_samples step (calls ++ c ∷ [])) → now ≤ peak.bytes → IsPeak step (calls ++ c ∷ []) peak
   stayed now e less = record {
-      within = omega (arith, size, is.within);
-      reached = earlier peak.call is.within ∙ is.reached;
-      greatest = λ k le. elim (cases_lt k (length calls + 1)) [
-        | inl l ↦ omega (arith, earlier k (omega (arith, l)), is.greatest k (omega (arith, l)))
-        | inr g ↦ omega (arith, at_end k (omega (arith, g, le, size)), e, less)
-      ];
-      first = λ k l. omega (arith, earlier k (omega (arith, l, is.within)), is.first k l)
-    }
+    within = omega (arith, size, is.within);
+    reached = earlier peak.call is.within ∙ is.reached;
+    greatest = λ k le. elim (cases_lt k (length calls + 1)) [
+      | inl l ↦ omega (arith, earlier k (omega (arith, l)), is.greatest k (omega (arith, l)))
+      | inr g ↦ omega (arith, at_end k (omega (arith, g, le, size)), e, less)
+    ];
+    first = λ k l. omega (arith, earlier k (omega (arith, l, is.within)), is.first k l);
+  }
 
 -- what a thread's entry is behind a call
 asked_now : (asked : List ℕ) (calls : List CallLine) (c : CallLine) (thread : ℕ) → c.thread.0 < length asked → ((t : ℕ) → t < length asked → slice_index asked t ≡ asked_by t calls) → thread < length asked → slice_index (slice_set asked c.thread.0 (slice_index asked c.thread.0 + bytes_asked c.call c.answer)) thread ≡ asked_by thread (calls ++ c ∷ [])
@@ -160,7 +159,7 @@ asked_now asked calls c thread inside was l =
     elim (cases_eq thread c.thread.0) [
       | inl e ↦ (let it : cond {A = ℕ} (c.thread.0 == thread) add 0 ≡ add = rw (eq-eqb c.thread.0 thread (sym e)) refl in
           let here : slice_index (slice_set asked c.thread.0 (slice_index asked c.thread.0 + add)) thread ≡ slice_index asked c.thread.0 + add =
-              ap (λ (t : ℕ). slice_index (slice_set asked c.thread.0 (slice_index asked c.thread.0 + add)) t) e ∙ get_or-set_same asked c.thread.0 (slice_index asked c.thread.0 + add) 0 inside in
+          ap (λ (t : ℕ). slice_index (slice_set asked c.thread.0 (slice_index asked c.thread.0 + add)) t) e ∙ get_or-set_same asked c.thread.0 (slice_index asked c.thread.0 + add) 0 inside in
           let old : slice_index asked c.thread.0 ≡ asked_by thread calls = was c.thread.0 inside ∙ ap (λ (t : ℕ). asked_by t calls) (sym e) in
           omega (arith, more, it, here, old))
       | inr other ↦ (let none : cond {A = ℕ} (c.thread.0 == thread) add 0 ≡ 0 = rw (ne_eqb c.thread.0 thread (λ same. other (sym same))) refl in
@@ -174,25 +173,25 @@ followed calls c old new inside f is first =
     let before : slice_index old.asked c.thread.0 ≡ asked_by c.thread.0 calls = is.asked c.thread.0 inside in
     let sample : sample_under old.step (slice_index old.asked c.thread.0) c.call c.answer ≡ sample_of old.step calls c = ap (λ (n : ℕ). sample_under old.step n c.call c.answer) before in
     let live : AreSame new.live (live_samples old.step (calls ++ c ∷ [])) = λ g.
-        let q : List (ℕ × Sample) → List (ℕ × Sample) = filter (λ s. not (frees s.0 c.call)) in
-        f.live g
-        ∙ sum_by-append g (sample_under old.step (slice_index old.asked c.thread.0) c.call c.answer) (q old.live)
-        ∙ omega (arith, ap (sum_by g) sample, same_kept c.call old.live (live_samples old.step calls) is.live g, sum_by-append g (sample_of old.step calls c) (q (live_samples old.step calls)), live_push old.step calls c first g) in
+    let q : List (ℕ × Sample) → List (ℕ × Sample) = filter (λ s. not (frees s.0 c.call)) in
+    f.live g
+    ∙ sum_by-append g (sample_under old.step (slice_index old.asked c.thread.0) c.call c.answer) (q old.live)
+    ∙ omega (arith, ap (sum_by g) sample, same_kept c.call old.live (live_samples old.step calls) is.live g, sum_by-append g (sample_of old.step calls c) (q (live_samples old.step calls)), live_push old.step calls c first g) in
     let weight : weight_in new.live ≡ weight_in (live_samples old.step (calls ++ c ∷ [])) = live (λ s. s.1.weight) in
     let count : new.calls ≡ length calls + 1 = f.calls ∙ ap (λ (n : ℕ). n + 1) is.count in
     let peak : IsPeak old.step (calls ++ c ∷ []) new.peak = elim (cases_lt old.peak.bytes (weight_in new.live)) [
-        | inl more ↦ subst (λ (p : Peak). IsPeak old.step (calls ++ c ∷ []) p)
-            (sym (f.peak ∙ rw (lt-ltb old.peak.bytes (weight_in new.live) more) (ap (λ (n : ℕ). record { bytes = weight_in new.live; call = n }) count)))
-            (risen old.step calls c old.peak is.peak (weight_in new.live) weight more)
-        | inr less ↦ subst (λ (p : Peak). IsPeak old.step (calls ++ c ∷ []) p)
-            (sym (f.peak ∙ rw (le-ltb old.peak.bytes (weight_in new.live) less) refl))
-            (stayed old.step calls c old.peak is.peak (weight_in new.live) weight less)
-      ] in
+      | inl more ↦ subst (λ (p : Peak). IsPeak old.step (calls ++ c ∷ []) p)
+          (sym (f.peak ∙ rw (lt-ltb old.peak.bytes (weight_in new.live) more) (ap (λ (n : ℕ). record { bytes = weight_in new.live; call = n }) count)))
+          (risen old.step calls c old.peak is.peak (weight_in new.live) weight more)
+      | inr less ↦ subst (λ (p : Peak). IsPeak old.step (calls ++ c ∷ []) p)
+          (sym (f.peak ∙ rw (le-ltb old.peak.bytes (weight_in new.live) less) refl))
+          (stayed old.step calls c old.peak is.peak (weight_in new.live) weight less)
+    ] in
     record {
       asked = λ t l. ap (λ (ns : List ℕ). slice_index ns t) f.asked ∙ asked_now old.asked calls c t inside is.asked (subst (λ (n : ℕ). t < n) (ap length f.asked ∙ length-set old.asked c.thread.0 _) l);
       live = λ g. live g ∙ ap (λ (n : ℕ). sum_by g (live_samples n (calls ++ c ∷ []))) (sym f.step);
       count = count ∙ sym (length-append calls (c ∷ []));
-      peak = subst (λ (n : ℕ). IsPeak n (calls ++ c ∷ []) new.peak) (sym f.step) peak
+      peak = subst (λ (n : ℕ). IsPeak n (calls ++ c ∷ []) new.peak) (sym f.step) peak;
     }
 
 -- how many samples have a label
@@ -231,15 +230,17 @@ no_sample label step earlier (c ∷ calls) none =
 
 -- an allocation's label that is new is none of a live sample
 pub fresh : (calls : List CallLine) (call : Call) (noted : Noted) → IsProfileOf calls noted → IsFirstUse calls call → IsFresh noted.live call
-fresh calls (Malloc l n) noted is first =
-    ((λ has.
-        let one : at_label l.0 (get_or noted.live has.0 has.1) ≡ 1 = ap (at_label l.0) has.3 ∙ rw (eq-eqb has.1.0 l.0 has.4) refl in
-        let some = get_or-le-sum_by (at_label l.0) noted.live has.0 has.1 has.2 in
-        let among = is.live (at_label l.0) in
-        let all = sum_filtered (at_label l.0) (λ s. not (freed_in s.0 calls)) (samples noted.step calls) in
-        let fewer = sum_by-le-sum_by (λ (s : ℕ × Sample). cond (not (freed_in s.0 calls)) (at_label l.0 s) 0) (at_label l.0) (samples noted.step calls) (λ s. at_most (not (freed_in s.0 calls)) (at_label l.0 s)) in
-        let none = no_sample l.0 noted.step [] calls first.0.not_answered in
-        omega (arith, one, some, among, all, fewer, none)), first.1)
+fresh calls (Malloc l n) noted is first = (
+  (λ has.
+      let one : at_label l.0 (get_or noted.live has.0 has.1) ≡ 1 = ap (at_label l.0) has.3 ∙ rw (eq-eqb has.1.0 l.0 has.4) refl in
+      let some = get_or-le-sum_by (at_label l.0) noted.live has.0 has.1 has.2 in
+      let among = is.live (at_label l.0) in
+      let all = sum_filtered (at_label l.0) (λ s. not (freed_in s.0 calls)) (samples noted.step calls) in
+      let fewer = sum_by-le-sum_by (λ (s : ℕ × Sample). cond (not (freed_in s.0 calls)) (at_label l.0 s) 0) (at_label l.0) (samples noted.step calls) (λ s. at_most (not (freed_in s.0 calls)) (at_label l.0 s)) in
+      let none = no_sample l.0 noted.step [] calls first.0.not_answered in
+      omega (arith, one, some, among, all, fewer, none)),
+  first.1,
+)
 fresh calls (Free l) noted is first = first
 fresh calls (Release p) noted is first = first
 fresh calls (Drain c) noted is first = first

@@ -1,6 +1,6 @@
 -- A thread's samples among all calls are those of its own calls alone.
-use Rattle.std.proofs.Common.{refl, ◌≡◌, ℕ, Bool, true, false, ◌+◌, ◌==◌, List, [], ◌∷◌, ◌++◌, cond, sym, ap, ◌∙◌, inl, inr, arith}
-use Rattle.std.specs.List.{filter, sum_by}
+use Rattle.std.proofs.Common.{refl, ◌≡◌, ℕ, ◌+◌, ◌==◌, List, [], ◌∷◌, ◌++◌, cond, sym, ap, ◌∙◌, inl, inr, arith}
+use Rattle.std.specs.List.{filter}
 use Rattle.std.proofs.lemmas.Bool.{cases_Bool, eqb-true}
 use Rattle.std.proofs.lemmas.List.{append-nil}
 use Rattle.std.proofs.lemmas.List.Elements.{filter-append}

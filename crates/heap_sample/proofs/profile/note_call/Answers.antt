@@ -1,7 +1,6 @@
-use Rattle.std.proofs.Common.{◌≡◌, ℕ, List, ap, sym, ◌∙◌, rules, refl, ◌++◌, not, arith, subst}
+use Rattle.std.proofs.Common.{ap, sym, ◌∙◌, ◌++◌, arith}
 use Rattle.std.proofs.lemmas.Result.{on_ok_weaker}
-use Rattle.std.specs.List.{sum_by, filter}
-use Rattle.heap_sample.specs.declared.sample.Sample.{Sample}
+use Rattle.std.specs.List.{sum_by}
 use Rattle.heap_sample.specs.Samples.{AreSame, sampled}
 use Rattle.heap_sample.proofs.CallFacts.{quiet, unchanged, with_block}
 use Rattle.heap_sample.proofs.profile.note_call.Goals as goal

@@ -1,8 +1,8 @@
-use Rattle.std.proofs.Common.{◌≡◌, ◌<◌, ◌≤◌, ℕ, ◌+◌, List, All, ◌∷◌, ◌++◌, length, take, drop, get_or, subst, sym, ap, ◌∙◌, rules, arith}
+use Rattle.std.proofs.Common.{◌≡◌, ◌<◌, ℕ, ◌+◌, List, All, ◌++◌, length, take, drop, get_or, subst, sym, ap, ◌∙◌, arith}
 use Rattle.std.proofs.lemmas.List.{take-append-drop, drop_more, take_more, take_all, length-take, length-set}
 use Rattle.tc_model.specs.declared.answers.CallLine.{CallLine}
-use Rattle.heap_sample.specs.Samples.{most_calls, IsFirstUse}
-use Rattle.heap_sample.specs.Profiles.{Noted, IsProfileOf, AreFirstUses}
+use Rattle.heap_sample.specs.Samples.{IsFirstUse}
+use Rattle.heap_sample.specs.Profiles.{IsProfileOf, AreFirstUses}
 use Rattle.heap_sample.proofs.Sampling.{fresh}
 use Rattle.heap_sample.proofs.whole.profile_of.Goals as goal
 
@@ -31,10 +31,11 @@ add-requires-clause-few c =
 pub loop-line-preserved : goal.loop-line-preserved
 loop-line-preserved c =
     let f = c.in_ok-add.ensures.follows in
-    let next = c.in_ok-add.ensures.of_calls (take c.loop-line.line-index c.args.lines.now) c.loop-line.invariant.0 (first_at c.args.lines.now c.loop-line.line-index _ c.requires.labels c.loop-line-test.true) in
-    (subst (λ (calls : List CallLine). IsProfileOf calls c.add.new.self) (sym (take_more c.args.lines.now c.loop-line.line-index _ c.loop-line-test.true)) next,
+    let next = c.in_ok-add.ensures.of_calls (take c.loop-line.line-index c.args.lines.now) c.loop-line.invariant.0 (first_at c.args.lines.now c.loop-line.line-index _ c.requires.labels c.loop-line-test.true) in (
+      subst (λ (calls : List CallLine). IsProfileOf calls c.add.new.self) (sym (take_more c.args.lines.now c.loop-line.line-index _ c.loop-line-test.true)) next,
       f.step ∙ c.loop-line.invariant.1,
-      ap length f.asked ∙ length-set c.loop-line.profile.asked _ _ ∙ c.loop-line.invariant.2)
+      ap length f.asked ∙ length-set c.loop-line.profile.asked _ _ ∙ c.loop-line.invariant.2,
+    )
 
 pub returns-clause-step : goal.returns-clause-step
 returns-clause-step c = c.loop-line.invariant.1

@@ -1,10 +1,8 @@
-use Rattle.std.proofs.Common.{◌≡◌, ℕ, ◌+◌, List, ◌∷◌, subst, sym, ap, ◌∙◌, arith, rules, cond, refl, ◌==◌, not}
+use Rattle.std.proofs.Common.{◌≡◌, ℕ, List, sym, ap, ◌∙◌, arith, cond, refl, ◌==◌, not}
 use Rattle.std.specs.List.{sum_by, filter}
 use Rattle.std.proofs.lemmas.Bool.{eq-eqb}
 use Rattle.std.proofs.lemmas.List.Sorted.{sum_by-IsPermutation}
 use Rattle.heap_sample.specs.declared.sample.Sample.{Sample}
-use Rattle.heap_sample.specs.Samples.{weight_in}
-use Rattle.heap_sample.specs.Rows.{bytes_at, blocks_at, bytes_of, count_of}
 use Rattle.heap_sample.proofs.LiveFacts.{none_of, taken_out, as_filter, forgotten, IsOneMore}
 use Rattle.heap_sample.proofs.live.LiveSamples.forget.Goals as goal
 

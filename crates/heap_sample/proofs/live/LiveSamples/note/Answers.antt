@@ -1,11 +1,9 @@
-use Rattle.std.proofs.Common.{◌≡◌, ℕ, ◌+◌, List, ◌∷◌, subst, sym, ap, ◌∙◌, arith, rules, cond, refl, ◌==◌}
+use Rattle.std.proofs.Common.{◌≡◌, ℕ, List, subst, sym, ap, ◌∙◌, arith, cond, refl, ◌==◌}
 use Rattle.std.specs.List.{sum_by}
 use Rattle.std.proofs.lemmas.Bool.{eq-eqb}
-use Rattle.std.proofs.lemmas.List.Sorted.{sum_by-IsPermutation}
 use Rattle.std.proofs.lemmas.List.Sums.{sum_by-cons}
 use Rattle.heap_sample.specs.declared.sample.Sample.{Sample}
 use Rattle.heap_sample.specs.Samples.{weight_in, HasLabel}
-use Rattle.heap_sample.specs.Rows.{bytes_at, blocks_at, bytes_of, count_of}
 use Rattle.heap_sample.proofs.LiveFacts.{part, none_of, noted, put, IsOneMore}
 use Rattle.heap_sample.proofs.live.LiveSamples.note.Goals as goal
 

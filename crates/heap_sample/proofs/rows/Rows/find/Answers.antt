@@ -1,4 +1,3 @@
-use Rattle.std.proofs.Common.{rules}
 use Rattle.heap_sample.proofs.RowFacts.{row_at}
 use Rattle.heap_sample.proofs.rows.Rows.find.Goals as goal
 

@@ -1,0 +1,28 @@
+-- Calls whose labels are new one after another.
+use Rattle.std.proofs.Common.{◌≡◌, ℕ, List, [], ◌∷◌, ◌++◌, length, drop, take, get_or, subst, sym, ap, ◌∙◌, arith}
+use Rattle.std.proofs.lemmas.List.{append-nil, append_assoc, length-append, take-append-drop}
+use Rattle.tc_model.specs.declared.answers.CallLine.{CallLine}
+use Rattle.heap_sample.specs.Samples.{IsFirstUse}
+use Rattle.heap_sample.specs.Profiles.{AreFirstUses}
+
+abbrev pub FirstUsesFrom : List CallLine → List CallLine → Type 0
+FirstUsesFrom before [] = Unit {0}
+FirstUsesFrom before (c ∷ calls) = IsFirstUse before c.call × FirstUsesFrom (before ++ c ∷ []) calls
+
+uses_behind : (before calls : List CallLine) → FirstUsesFrom before calls → (earlier : List CallLine) (c : CallLine) (later : List CallLine) → earlier ++ c ∷ later ≡ calls → IsFirstUse (before ++ earlier) c.call
+uses_behind before [] uses earlier c later is = absurd (omega (arith, ap length is, length-append earlier (c ∷ later)))
+uses_behind before (d ∷ calls) uses [] c later is =
+    subst (λ (x : CallLine). IsFirstUse (before ++ []) x.call) (sym (ap (λ (xs : List CallLine). get_or xs 0 d) is))
+    (subst (λ (xs : List CallLine). IsFirstUse xs d.call) (sym (append-nil before)) uses.0)
+uses_behind before (d ∷ calls) uses (x ∷ earlier) c later is =
+    let first : x ≡ d = ap (λ (xs : List CallLine). get_or xs 0 d) is in
+    let rest = uses_behind (before ++ d ∷ []) calls uses.1 earlier c later (ap (λ (xs : List CallLine). drop 1 xs) is) in
+    subst (λ (xs : List CallLine). IsFirstUse xs c.call) (append_assoc before (d ∷ []) earlier ∙ ap (λ (y : CallLine). before ++ y ∷ earlier) (sym first)) rest
+
+pub first_uses : (calls : List CallLine) → FirstUsesFrom [] calls → AreFirstUses calls
+first_uses calls uses earlier c later is = uses_behind [] calls uses earlier c later is
+
+-- the first ones of such calls are such calls
+pub first_of : (calls : List CallLine) (k : ℕ) → AreFirstUses calls → AreFirstUses (take k calls)
+first_of calls k uses earlier c later is =
+    uses earlier c (later ++ drop k calls) (sym (append_assoc earlier (c ∷ later) (drop k calls)) ∙ ap (λ (xs : List CallLine). xs ++ drop k calls) is ∙ take-append-drop k calls)
