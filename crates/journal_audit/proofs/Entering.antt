@@ -41,28 +41,35 @@ or_true true = refl
 or_true false = refl
 
 -- a label behind a call that is about another one, or about none
-same_label : (calls : List CallLine) (c : CallLine) (l : ℕ) (g : Given) → allocates l c.call ≡ false → frees l c.call ≡ false → IsGiven g (answer_to l calls) (freed_in l calls) → IsGiven g (answer_to l (calls ++ c ∷ [])) (freed_in l (calls ++ c ∷ []))
+same_label : (calls : List CallLine) (c : CallLine) (l : ℕ) (g : Given) → allocates l c.call ≡ false → frees l c.call ≡ false
+    → IsGiven g (answer_to l calls) (freed_in l calls) → IsGiven g (answer_to l (calls ++ c ∷ [])) (freed_in l (calls ++ c ∷ []))
 same_label calls c l g other apart is =
-    let answer : answer_to l (calls ++ c ∷ []) ≡ answer_to l calls = answer_push l calls c ∙ ap (λ b. option_or (answer_to l calls) (cond b (Some c.answer) None)) other ∙ or_none (answer_to l calls) in
+    let answer : answer_to l (calls ++ c ∷ []) ≡ answer_to l calls =
+    answer_push l calls c ∙ ap (λ b. option_or (answer_to l calls) (cond b (Some c.answer) None)) other ∙ or_none (answer_to l calls) in
     let freed : freed_in l (calls ++ c ∷ []) ≡ freed_in l calls = freed_push l calls c ∙ ap (λ b. freed_in l calls || b) apart ∙ or_false (freed_in l calls) in
     subst (λ o. IsGiven g o (freed_in l (calls ++ c ∷ []))) (sym answer) (subst (IsGiven g (answer_to l calls)) (sym freed) is)
 
 -- a label behind its own allocation: its first answer stays
-first_answer : (g : Given) (o : Option Answer) (freed : Bool) (block : Option Place) → IsGiven g o freed → IsGiven (first_given (malloc_given block) g) (option_or o (Some (malloc_answer block))) freed
+first_answer : (g : Given) (o : Option Answer) (freed : Bool) (block : Option Place) → IsGiven g o freed
+    → IsGiven (first_given (malloc_given block) g) (option_or o (Some (malloc_answer block))) freed
 first_answer Unanswered o freed None is = (ap (λ x. option_or x (Some answer.NoBlock)) is.0, is.1)
 first_answer Unanswered o freed (Some place) is = ((place.len, ap (λ x. option_or x (Some (malloc_answer (Some place)))) is.0), is.1)
 first_answer Null o freed block is = (ap (λ x. option_or x (Some (malloc_answer block))) is.0, is.1)
 first_answer (At addr) o freed block is = ((is.0.0, ap (λ x. option_or x (Some (malloc_answer block))) is.0.1), is.1)
 first_answer Freed o freed block is = is
 
-given_push : (calls : List CallLine) (thread : ThreadNo) (act : Act) (c : Call) (l : ℕ) (g : Given) → names act c ≡ true → IsGiven g (answer_to l calls) (freed_in l calls) → IsGiven (given_by c act l g) (answer_to l (calls ++ record { thread = thread; call = c; answer = answer_of act } ∷ [])) (freed_in l (calls ++ record { thread = thread; call = c; answer = answer_of act } ∷ []))
+given_push : (calls : List CallLine) (thread : ThreadNo) (act : Act) (c : Call) (l : ℕ) (g : Given) → names act c ≡ true
+    → IsGiven g (answer_to l calls) (freed_in l calls)
+    → IsGiven (given_by c act l g) (answer_to l (calls ++ record { thread = thread; call = c; answer = answer_of act } ∷ [])) (freed_in l (calls ++ record { thread = thread; call = c; answer = answer_of act } ∷ []))
 given_push calls thread (Malloc m block) (call.Malloc label size) l g named is =
     let c : CallLine = record { thread = thread; call = call.Malloc label size; answer = malloc_answer block } in
     let freed : freed_in l (calls ++ c ∷ []) ≡ freed_in l calls = freed_push l calls c ∙ or_false (freed_in l calls) in
     elim (cases_eq l label.0) [
       | inl mine ↦
-          let told : answer_to l (calls ++ c ∷ []) ≡ option_or (answer_to l calls) (Some (malloc_answer block)) = answer_push l calls c ∙ ap (λ b. option_or (answer_to l calls) (cond b (Some c.answer) None)) (eq-eqb label.0 l (sym mine)) in
-          let now : given_after l label.0 (malloc_given block) g ≡ first_given (malloc_given block) g = ap (λ b. cond b (first_given (malloc_given block) g) g) (eq-eqb l label.0 mine) in
+          let told : answer_to l (calls ++ c ∷ []) ≡ option_or (answer_to l calls) (Some (malloc_answer block)) =
+          answer_push l calls c ∙ ap (λ b. option_or (answer_to l calls) (cond b (Some c.answer) None)) (eq-eqb label.0 l (sym mine)) in
+          let now : given_after l label.0 (malloc_given block) g ≡ first_given (malloc_given block) g =
+          ap (λ b. cond b (first_given (malloc_given block) g) g) (eq-eqb l label.0 mine) in
           subst (λ x. IsGiven x (answer_to l (calls ++ c ∷ [])) (freed_in l (calls ++ c ∷ []))) (sym now)
           (subst (λ o. IsGiven (first_given (malloc_given block) g) o (freed_in l (calls ++ c ∷ []))) (sym told)
           (subst (IsGiven (first_given (malloc_given block) g) (option_or (answer_to l calls) (Some (malloc_answer block)))) (sym freed) (first_answer g (answer_to l calls) (freed_in l calls) block is)))
@@ -74,7 +81,8 @@ given_push calls thread (Free m addr) (call.Free label) l g named is =
     let c : CallLine = record { thread = thread; call = call.Free label; answer = free_answer addr } in
     elim (cases_eq l label.0) [
       | inl mine ↦
-          let freed : freed_in l (calls ++ c ∷ []) ≡ true = freed_push l calls c ∙ ap (λ b. freed_in l calls || b) (eq-eqb label.0 l (sym mine)) ∙ or_true (freed_in l calls) in
+          let freed : freed_in l (calls ++ c ∷ []) ≡ true =
+          freed_push l calls c ∙ ap (λ b. freed_in l calls || b) (eq-eqb label.0 l (sym mine)) ∙ or_true (freed_in l calls) in
           let now : given_by (call.Free label) (Free m addr) l g ≡ Freed = ap (λ b. cond b Freed g) (eq-eqb l label.0 mine) in
           subst (λ x. IsGiven x (answer_to l (calls ++ c ∷ [])) (freed_in l (calls ++ c ∷ []))) (sym now) freed
       | inr other ↦
@@ -92,10 +100,12 @@ pub record Counts (calls : List CallLine) (books : Books) (thread : ℕ) : Type 
   pub is : slice_index books.done.items thread ≡ count_of thread calls
   pub few : slice_index books.done.items thread < 1000000
 
-pub counts : (plan : Plan) (calls : List CallLine) (told : Told) (c : Call) (books : Books) → AreOf plan.scripts calls books → IsTold plan calls told c → Counts calls books told.thread
+pub counts : (plan : Plan) (calls : List CallLine) (told : Told) (c : Call) (books : Books) → AreOf plan.scripts calls books
+    → IsTold plan calls told c → Counts calls books told.thread
 counts plan calls told c books are is =
     let there = has_script plan.scripts calls told.thread c is.next in
-    let same : slice_index books.done.items told.thread ≡ count_of told.thread calls = get_or_from_slice_get books.done.items told.thread (count_of told.thread calls) 0 (are.done told.thread there) in
+    let same : slice_index books.done.items told.thread ≡ count_of told.thread calls =
+    get_or_from_slice_get books.done.items told.thread (count_of told.thread calls) 0 (are.done told.thread there) in
     record {
       there = omega (arith, there, are.threads);
       is = same;
@@ -103,7 +113,12 @@ counts plan calls told c books are is =
     }
 
 -- the books where the call is entered
-pub entered : (plan : Plan) (calls : List CallLine) (told : Told) (c : Call) (old mid new : Books) → AreOf plan.scripts calls old → IsTold plan calls told c → mid.calls ≡ old.calls → mid.done ≡ old.done → mid.live ≡ blocks_with old.live (answer_of told.act) → ((l : ℕ) → given_at mid.answers l ≡ given_by c told.act l (given_at old.answers l)) → new ≡ record mid { calls = mid.calls + 1; done = new.done } → new.done.items ≡ slice_set mid.done.items told.thread (slice_index mid.done.items told.thread + 1) → AreOf plan.scripts (calls ++ line_of told c ∷ []) new
+pub entered : (plan : Plan) (calls : List CallLine) (told : Told) (c : Call) (old mid new : Books) → AreOf plan.scripts calls old
+    → IsTold plan calls told c → mid.calls ≡ old.calls → mid.done ≡ old.done → mid.live ≡ blocks_with old.live (answer_of told.act)
+    → ((l : ℕ) → given_at mid.answers l ≡ given_by c told.act l (given_at old.answers l))
+    → new ≡ record mid { calls = mid.calls + 1; done = new.done }
+    → new.done.items ≡ slice_set mid.done.items told.thread (slice_index mid.done.items told.thread + 1)
+    → AreOf plan.scripts (calls ++ line_of told c ∷ []) new
 entered plan calls told c old mid new are is number same live given whole done =
     let line : CallLine = line_of told c in
     let thread : ℕ = told.thread in

@@ -41,17 +41,20 @@ count_is t calls = length-map (filter (is_by t) calls) (λ (c : CallLine). c.cal
 abbrev IsBegun : Plan → List CallLine → Type 0
 IsBegun plan calls = (t : ℕ) → calls_of t calls ≡ take (count_of t calls) (calls_planned plan t)
 
-planned_at : (plan : Plan) (calls : List CallLine) (t : ℕ) (call : Call) → next_call plan.scripts calls t ≡ Some call → slice_get (calls_planned plan t) (count_of t calls) ≡ Some call
+planned_at : (plan : Plan) (calls : List CallLine) (t : ℕ) (call : Call) → next_call plan.scripts calls t ≡ Some call
+    → slice_get (calls_planned plan t) (count_of t calls) ≡ Some call
 planned_at plan calls t call next = slice_get-map (λ (p : Planned). p.call) (script_at plan.scripts t) (count_of t calls) ∙ next
 
-begun_push : (plan : Plan) (calls : List CallLine) (c : CallLine) → IsBegun plan calls → next_call plan.scripts calls c.thread.0 ≡ Some c.call → IsBegun plan (calls ++ c ∷ [])
+begun_push : (plan : Plan) (calls : List CallLine) (c : CallLine) → IsBegun plan calls → next_call plan.scripts calls c.thread.0 ≡ Some c.call
+    → IsBegun plan (calls ++ c ∷ [])
 begun_push plan calls c begun next t =
     let n : ℕ = count_of t calls in
     let more : calls_of t (calls ++ c ∷ []) ≡ calls_of t calls ++ calls_of t (c ∷ []) = calls_append t calls (c ∷ []) in
     elim (cases_Bool (is_by t c)) [
       | inl mine ↦
           let t_is : c.thread.0 ≡ t = eqb-true c.thread.0 t mine in
-          let there : slice_get (calls_planned plan t) n ≡ Some c.call = planned_at plan calls t c.call (subst (λ (u : ℕ). next_call plan.scripts calls u ≡ Some c.call) t_is next) in
+          let there : slice_get (calls_planned plan t) n ≡ Some c.call =
+          planned_at plan calls t c.call (subst (λ (u : ℕ). next_call plan.scripts calls u ≡ Some c.call) t_is next) in
           let call : calls_of t (c ∷ []) ≡ c.call ∷ [] = ap (λ b. map (λ (d : CallLine). d.call) (cond b (c ∷ []) [])) mine in
           let n' : count_of t (calls ++ c ∷ []) ≡ n + 1 = count_mine t calls c t_is in
           let long : take (n + 1) (calls_planned plan t) ≡ take n (calls_planned plan t) ++ c.call ∷ [] =
@@ -98,18 +101,21 @@ tells plan earlier form c p =
       answer = ap (λ (d : CallLine). d.answer) p.line;
     }
 
-sound_after : (plan : Plan) (earlier : List CallLine) (form : Option Told) (c : CallLine) → IsSound plan.huge (length_of plan.rows) earlier → Passes plan earlier form c → IsSound plan.huge (length_of plan.rows) (earlier ++ c ∷ [])
+sound_after : (plan : Plan) (earlier : List CallLine) (form : Option Told) (c : CallLine) → IsSound plan.huge (length_of plan.rows) earlier
+    → Passes plan earlier form c → IsSound plan.huge (length_of plan.rows) (earlier ++ c ∷ [])
 sound_after plan earlier form c sound p =
     let is = p.line in
     let keeps : Keeps plan earlier p.call (answer_of p.told.act) = subst (λ (d : CallLine). Keeps plan earlier d.call d.answer) is p.keeps in
     subst (λ (d : CallLine). IsSound plan.huge (length_of plan.rows) (earlier ++ d ∷ [])) (sym is) (sound_push plan earlier (record { 0 = p.told.thread }) p.told.act p.call sound p.names_it keeps)
 
-begun_after : (plan : Plan) (earlier : List CallLine) (form : Option Told) (c : CallLine) → IsBegun plan earlier → Passes plan earlier form c → IsBegun plan (earlier ++ c ∷ [])
+begun_after : (plan : Plan) (earlier : List CallLine) (form : Option Told) (c : CallLine) → IsBegun plan earlier → Passes plan earlier form c
+    → IsBegun plan (earlier ++ c ∷ [])
 begun_after plan earlier form c begun p =
     let is = p.line in
     begun_push plan earlier c begun (subst (λ (d : CallLine). next_call plan.scripts earlier d.thread.0 ≡ Some d.call) (sym is) p.next)
 
-yes_from : (plan : Plan) (forms : List (Option Told)) (earlier : List CallLine) (n : ℕ) → IsSound plan.huge (length_of plan.rows) earlier → IsBegun plan earlier → length earlier ≤ 1000000 → audited plan earlier forms ≡ Yes n → Rest plan earlier forms n
+yes_from : (plan : Plan) (forms : List (Option Told)) (earlier : List CallLine) (n : ℕ) → IsSound plan.huge (length_of plan.rows) earlier
+    → IsBegun plan earlier → length earlier ≤ 1000000 → audited plan earlier forms ≡ Yes n → Rest plan earlier forms n
 yes_from plan [] earlier n sound begun few h =
     elim (cases_Bool (has_left plan.scripts earlier)) [
       | inl left ↦
@@ -130,7 +136,9 @@ yes_from plan [] earlier n sound begun few h =
     ]
 yes_from plan (form ∷ forms) earlier n sound begun few h = by_line (λ c sound' begun' few'. yes_from plan forms (earlier ++ c ∷ []) n sound' begun' few') (judged plan earlier form) refl h
   where
-    by_line : ((c : CallLine) → IsSound plan.huge (length_of plan.rows) (earlier ++ c ∷ []) → IsBegun plan (earlier ++ c ∷ []) → length (earlier ++ c ∷ []) ≤ 1000000 → audited plan (earlier ++ c ∷ []) forms ≡ Yes n → Rest plan (earlier ++ c ∷ []) forms n) → (r : Result CallLine AuditWhy) → judged plan earlier form ≡ r → and_then (length earlier + 1) r (λ c. audited plan (earlier ++ c ∷ []) forms) ≡ Yes n → Rest plan earlier (form ∷ forms) n
+    by_line : ((c : CallLine) → IsSound plan.huge (length_of plan.rows) (earlier ++ c ∷ []) → IsBegun plan (earlier ++ c ∷ []) → length (earlier ++ c ∷ []) ≤ 1000000 → audited plan (earlier ++ c ∷ []) forms ≡ Yes n → Rest plan (earlier ++ c ∷ []) forms n)
+        → (r : Result CallLine AuditWhy) → judged plan earlier form ≡ r
+        → and_then (length earlier + 1) r (λ c. audited plan (earlier ++ c ∷ []) forms) ≡ Yes n → Rest plan earlier (form ∷ forms) n
     by_line more (Err reason) is h = absurd (cc)
     by_line more (Ok c) is h =
         let p = passes plan earlier form c is in
@@ -156,14 +164,19 @@ line_is form c t =
     let f : ℕ → Answer → CallLine = λ x a. record { thread = record { 0 = x }; call = c.call; answer = a } in
     ap (λ x. f x c.answer) t.thread ∙ ap (f t.told.thread) t.answer
 
-passes_legal : (plan : Plan) (earlier later : List CallLine) (form : Option Told) (c : CallLine) → Tells form c → calls_of c.thread.0 (earlier ++ c ∷ later) ≡ calls_planned plan c.thread.0 → IsAllowed plan.huge (length_of plan.rows) earlier c.call c.answer → length earlier < 1000000 → Passes plan earlier form c
+passes_legal : (plan : Plan) (earlier later : List CallLine) (form : Option Told) (c : CallLine) → Tells form c
+    → calls_of c.thread.0 (earlier ++ c ∷ later) ≡ calls_planned plan c.thread.0 → IsAllowed plan.huge (length_of plan.rows) earlier c.call c.answer
+    → length earlier < 1000000 → Passes plan earlier form c
 passes_legal plan earlier later form c t order allowed few =
     let thread : ℕ = c.thread.0 in
-    let first : calls_of thread (c ∷ later) ≡ c.call ∷ calls_of thread later = ap (λ b. map (λ (d : CallLine). d.call) (cond b (c ∷ filter (is_by thread) later) (filter (is_by thread) later))) (eq-eqb thread thread refl) in
-    let parts : calls_planned plan thread ≡ calls_of thread earlier ++ c.call ∷ calls_of thread later = sym order ∙ calls_append thread earlier (c ∷ later) ∙ ap (λ xs. calls_of thread earlier ++ xs) first in
+    let first : calls_of thread (c ∷ later) ≡ c.call ∷ calls_of thread later =
+    ap (λ b. map (λ (d : CallLine). d.call) (cond b (c ∷ filter (is_by thread) later) (filter (is_by thread) later))) (eq-eqb thread thread refl) in
+    let parts : calls_planned plan thread ≡ calls_of thread earlier ++ c.call ∷ calls_of thread later =
+    sym order ∙ calls_append thread earlier (c ∷ later) ∙ ap (λ xs. calls_of thread earlier ++ xs) first in
     let there : slice_get (calls_planned plan thread) (count_of thread earlier) ≡ Some c.call =
     ap (slice_get (calls_planned plan thread)) (sym (count_is thread earlier)) ∙ ap (λ xs. slice_get xs (length (calls_of thread earlier))) parts ∙ at_length (calls_of thread earlier) (calls_of thread later) c.call in
-    let next : next_call plan.scripts earlier thread ≡ Some c.call = sym (slice_get-map (λ (p : Planned). p.call) (script_at plan.scripts thread) (count_of thread earlier)) ∙ there in
+    let next : next_call plan.scripts earlier thread ≡ Some c.call =
+    sym (slice_get-map (λ (p : Planned). p.call) (script_at plan.scripts thread) (count_of thread earlier)) ∙ there in
     let keeps = allowed_keeps plan earlier t.told.act c.call t.call (subst (IsAllowed plan.huge (length_of plan.rows) earlier c.call) t.answer allowed) in
     record {
       few = few;
@@ -176,18 +189,24 @@ passes_legal plan earlier later form c t order allowed few =
       keeps = subst (Keeps plan earlier c.call) (sym t.answer) keeps;
     }
 
-legal_from : (plan : Plan) (forms : List (Option Told)) (earlier calls : List CallLine) → AllZip Tells forms calls → ((t : ℕ) → calls_of t (earlier ++ calls) ≡ calls_planned plan t) → IsBlockRun plan.huge (length_of plan.rows) (earlier ++ calls) → length (earlier ++ calls) ≤ 1000000 → audited plan earlier forms ≡ Yes (length (earlier ++ calls))
+legal_from : (plan : Plan) (forms : List (Option Told)) (earlier calls : List CallLine) → AllZip Tells forms calls
+    → ((t : ℕ) → calls_of t (earlier ++ calls) ≡ calls_planned plan t) → IsBlockRun plan.huge (length_of plan.rows) (earlier ++ calls)
+    → length (earlier ++ calls) ≤ 1000000 → audited plan earlier forms ≡ Yes (length (earlier ++ calls))
 legal_from plan [] earlier [] told order run few =
     let same : earlier ++ [] ≡ earlier = append-nil earlier in
-    cond-false _ (No (length earlier + 1) why.Missing) (Yes (length earlier)) (none_left plan earlier (λ t. ap (calls_of t) (sym same) ∙ order t)) ∙ ap (λ xs. Yes (length xs)) (sym same)
+    cond-false _ (No (length earlier + 1) why.Missing) (Yes (length earlier)) (none_left plan earlier (λ t. ap (calls_of t) (sym same) ∙ order t))
+    ∙ ap (λ xs. Yes (length xs)) (sym same)
 legal_from plan [] earlier (c ∷ calls) told order run few = absurd told
 legal_from plan (form ∷ forms) earlier [] told order run few = absurd told
 legal_from plan (form ∷ forms) earlier (c ∷ calls) told order run few =
     let same : (earlier ++ c ∷ []) ++ calls ≡ earlier ++ c ∷ calls = append_assoc earlier (c ∷ []) calls in
     let long : length (earlier ++ c ∷ calls) ≡ length earlier + length (c ∷ calls) = length-append earlier (c ∷ calls) in
     let p = passes_legal plan earlier calls form c told.0 (order c.thread.0) (run earlier c calls refl) (omega (arith, few, long)) in
-    let rest = legal_from plan forms (earlier ++ c ∷ []) calls told.1 (λ t. ap (calls_of t) same ∙ order t) (subst (IsBlockRun plan.huge (length_of plan.rows)) (sym same) run) (omega (arith, ap length same, few)) in
-    ap (λ r. and_then (length earlier + 1) r (λ d. audited plan (earlier ++ d ∷ []) forms)) (judged_ok plan earlier form c p) ∙ rest ∙ ap (λ xs. Yes (length xs)) same
+    let rest =
+    legal_from plan forms (earlier ++ c ∷ []) calls told.1 (λ t. ap (calls_of t) same ∙ order t) (subst (IsBlockRun plan.huge (length_of plan.rows)) (sym same) run) (omega (arith, ap length same, few)) in
+    ap (λ r. and_then (length earlier + 1) r (λ d. audited plan (earlier ++ d ∷ []) forms)) (judged_ok plan earlier form c p)
+    ∙ rest
+    ∙ ap (λ xs. Yes (length xs)) same
 
 yes_is_legal : (plan : Plan) (journal : List (Option Told)) → IsYesOnLegal plan journal (audited plan [] journal)
 yes_is_legal plan journal n = (
@@ -206,6 +225,7 @@ yes_is_legal plan journal n = (
     same_length (form ∷ forms) (c ∷ calls) told = ap (λ k. suc k) (same_length forms calls told.1)
 
 -- so it is of an answer that is the verdict
-pub yes_on_legal : {E : Type 0} (plan : Plan) (journal : List (Option Told)) (r : Result Verdict E) → IfOk r (λ verdict. verdict ≡ audited plan [] journal) → IfOk r (IsYesOnLegal plan journal)
+pub yes_on_legal : {E : Type 0} (plan : Plan) (journal : List (Option Told)) (r : Result Verdict E)
+    → IfOk r (λ verdict. verdict ≡ audited plan [] journal) → IfOk r (IsYesOnLegal plan journal)
 yes_on_legal plan journal (Ok verdict) is = subst (IsYesOnLegal plan journal) (sym is) (yes_is_legal plan journal)
 yes_on_legal plan journal (Err e) is = tt

@@ -20,7 +20,9 @@ abbrev pub extent : ℕ × ℕ → Extent
 extent e = record { addr = e.0; len = e.1 }
 
 -- a block that meets none is inserted as in the list of blocks
-pub inserted : (es : List (ℕ × ℕ)) (addr len : ℕ) → 0 < len → IsSpread (extents_of es) → list_any (meets (record { addr = addr; len = len })) (extents_of es) ≡ false → extents_of (insert_entry nat_cmp es addr len) ≡ with_block (record { addr = addr; len = len }) (extents_of es)
+pub inserted : (es : List (ℕ × ℕ)) (addr len : ℕ) → 0 < len → IsSpread (extents_of es)
+    → list_any (meets (record { addr = addr; len = len })) (extents_of es) ≡ false
+    → extents_of (insert_entry nat_cmp es addr len) ≡ with_block (record { addr = addr; len = len }) (extents_of es)
 inserted [] addr len some spread apart = refl
 inserted (e ∷ es) addr len some spread apart =
     let x : Extent = record { addr = addr; len = len } in
@@ -50,15 +52,18 @@ bytes : (bs : List Extent) → IsSpread bs → All (λ (b : Extent). 0 < b.len) 
 bytes [] spread = All-nil (λ (b : Extent). 0 < b.len)
 bytes (b ∷ bs) spread = All-cons (λ (b : Extent). 0 < b.len) b bs spread.0 (bytes bs spread.2)
 
-pub removed : (es : List (ℕ × ℕ)) (addr : ℕ) → IsSpread (extents_of es) → extents_of (remove_entry (is_at (nat_cmp addr)) es) ≡ without_block addr (extents_of es)
+pub removed : (es : List (ℕ × ℕ)) (addr : ℕ) → IsSpread (extents_of es)
+    → extents_of (remove_entry (is_at (nat_cmp addr)) es) ≡ without_block addr (extents_of es)
 removed [] addr spread = refl
 removed (e ∷ es) addr spread =
     let taken = λ (o : Ordering). extents_of (cond (is_eq o) es (e ∷ remove_entry (is_at (nat_cmp addr)) es)) in
     let left = λ (t : Bool). cond (not t) (extent e ∷ without_block addr (extents_of es)) (without_block addr (extents_of es)) in
-    let apart : (addr ≡ e.0 → ⊥) → without_block addr (extent e ∷ extents_of es) ≡ extent e ∷ without_block addr (extents_of es) = λ other. ap left (ne_eqb e.0 addr (λ same. other (sym same))) in
+    let apart : (addr ≡ e.0 → ⊥) → without_block addr (extent e ∷ extents_of es) ≡ extent e ∷ without_block addr (extents_of es) =
+    λ other. ap left (ne_eqb e.0 addr (λ same. other (sym same))) in
     elim (cases_order addr e.0) [
       | inl same ↦
-          let above = All-weaker (λ (c : Extent). e.0 + e.1 ≤ c.addr) (λ (c : Extent). addr < c.addr) (λ c is. omega (arith, is, same, spread.0)) (extents_of es) spread.1 in
+          let above =
+          All-weaker (λ (c : Extent). e.0 + e.1 ≤ c.addr) (λ (c : Extent). addr < c.addr) (λ c is. omega (arith, is, same, spread.0)) (extents_of es) spread.1 in
           ap taken (sym (nat_cmp_is addr e.0 Equal same)) ∙ sym (ap left (eq-eqb e.0 addr (sym same)) ∙ none_to_take addr (extents_of es) above)
       | inr other ↦
           elim other [
@@ -70,6 +75,16 @@ removed (e ∷ es) addr spread =
 -- The entries that begin before an end.
 abbrev pub before : ℕ → ℕ × ℕ → Bool
 before end e = nat_lt e.0 end
+
+first_in : (end : ℕ) (e : ℕ × ℕ) (es : List (ℕ × ℕ)) → before end e ≡ true → filter (before end) (e ∷ es) ≡ e ∷ filter (before end) es
+first_in end e es first = cond-true (before end e) (e ∷ filter (before end) es) (filter (before end) es) first
+
+left_out : (end : ℕ) (e : ℕ × ℕ) (es : List (ℕ × ℕ)) → before end e ≡ false → filter (before end) (e ∷ es) ≡ filter (before end) es
+left_out end e es behind = cond-false (before end e) (e ∷ filter (before end) es) (filter (before end) es) behind
+
+-- a block whose end is by where a block begins doesn't meet it
+not_met : (x : Extent) (e : ℕ × ℕ) → before (x.addr + x.len) e ≡ false → meets x (extent e) ≡ false
+not_met x e behind = and_right (nat_lt x.addr (e.0 + e.1)) (before (x.addr + x.len) e) behind
 
 pub in_range : (end : ℕ) (es : List (ℕ × ℕ)) → filter (λ (e : ℕ × ℕ). range_contains nat_cmp Unbounded (Excluded end) e.0) es ≡ filter (before end) es
 in_range end es = filter_agree (λ (e : ℕ × ℕ). range_contains nat_cmp Unbounded (Excluded end) e.0) (before end) agree es
@@ -91,30 +106,34 @@ none_met x [] none = refl
 none_met x (e ∷ es) none =
     elim (cases_Bool (before (x.addr + x.len) e)) [
       | inl is ↦
-          let wrong : e ∷ filter (before (x.addr + x.len)) es ≡ [] = sym (cond-true (before (x.addr + x.len) e) (e ∷ filter (before (x.addr + x.len)) es) (filter (before (x.addr + x.len)) es) is) ∙ none in
+          let wrong : e ∷ filter (before (x.addr + x.len)) es ≡ [] =
+          sym (first_in (x.addr + x.len) e es is) ∙ none in
           absurd (cc)
       | inr behind ↦
-          ap (λ b. b || list_any (meets x) (extents_of es)) (and_right (nat_lt x.addr (e.0 + e.1)) (before (x.addr + x.len) e) behind)
-          ∙ none_met x es (sym (cond-false (before (x.addr + x.len) e) (e ∷ filter (before (x.addr + x.len)) es) (filter (before (x.addr + x.len)) es) behind) ∙ none)
+          ap (λ b. b || list_any (meets x) (extents_of es)) (not_met x e behind)
+          ∙ none_met x es (sym (left_out (x.addr + x.len) e es behind) ∙ none)
     ]
 
 -- what holds of all holds of the last of them
-pub of_last : (P : Extent → Type 0) (end : ℕ) (es t : List (ℕ × ℕ)) (last : ℕ × ℕ) → All P (extents_of es) → filter (before end) es ≡ t ++ last ∷ [] → P (extent last)
+pub of_last : (P : Extent → Type 0) (end : ℕ) (es t : List (ℕ × ℕ)) (last : ℕ × ℕ) → All P (extents_of es) → filter (before end) es ≡ t ++ last ∷ []
+    → P (extent last)
 of_last P end [] t last all is = absurd (omega (arith, ap length is, length-append t (last ∷ [])))
 of_last P end (e ∷ es) [] last all is =
     elim (cases_Bool (before end e)) [
       | inl first ↦
-          let parts : e ∷ filter (before end) es ≡ last ∷ [] = sym (cond-true (before end e) (e ∷ filter (before end) es) (filter (before end) es) first) ∙ is in
+          let parts : e ∷ filter (before end) es ≡ last ∷ [] =
+          sym (first_in end e es first) ∙ is in
           let same : e ≡ last = cc in
           subst (λ f. P (extent f)) same (All-head P (extent e) (extents_of es) all)
-      | inr behind ↦ of_last P end es [] last (All-tail P (extent e) (extents_of es) all) (sym (cond-false (before end e) (e ∷ filter (before end) es) (filter (before end) es) behind) ∙ is)
+      | inr behind ↦ of_last P end es [] last (All-tail P (extent e) (extents_of es) all) (sym (left_out end e es behind) ∙ is)
     ]
 of_last P end (e ∷ es) (f ∷ t) last all is =
     elim (cases_Bool (before end e)) [
       | inl first ↦
-          let parts : e ∷ filter (before end) es ≡ f ∷ t ++ last ∷ [] = sym (cond-true (before end e) (e ∷ filter (before end) es) (filter (before end) es) first) ∙ is in
+          let parts : e ∷ filter (before end) es ≡ f ∷ t ++ last ∷ [] =
+          sym (first_in end e es first) ∙ is in
           of_last P end es t last (All-tail P (extent e) (extents_of es) all) cc
-      | inr behind ↦ of_last P end es (f ∷ t) last (All-tail P (extent e) (extents_of es) all) (sym (cond-false (before end e) (e ∷ filter (before end) es) (filter (before end) es) behind) ∙ is)
+      | inr behind ↦ of_last P end es (f ∷ t) last (All-tail P (extent e) (extents_of es) all) (sym (left_out end e es behind) ∙ is)
     ]
 
 -- the last one that begins before a block's end meets it exactly where it ends behind the block's address
@@ -126,18 +145,23 @@ meets_last x b some first =
     ]
 
 -- so it alone tells whether any is met
-pub last_met : (x : Extent) (es t : List (ℕ × ℕ)) (last : ℕ × ℕ) → IsSpread (extents_of es) → filter (before (x.addr + x.len)) es ≡ t ++ last ∷ [] → list_any (meets x) (extents_of es) ≡ nat_lt (x.addr - last.0) last.1
+pub last_met : (x : Extent) (es t : List (ℕ × ℕ)) (last : ℕ × ℕ) → IsSpread (extents_of es) → filter (before (x.addr + x.len)) es ≡ t ++ last ∷ []
+    → list_any (meets x) (extents_of es) ≡ nat_lt (x.addr - last.0) last.1
 last_met x [] t last spread is = absurd (omega (arith, ap length is, length-append t (last ∷ [])))
 last_met x (e ∷ es) [] last spread is =
     elim (cases_Bool (before (x.addr + x.len) e)) [
       | inl first ↦
-          let parts : e ∷ filter (before (x.addr + x.len)) es ≡ last ∷ [] = sym (cond-true (before (x.addr + x.len) e) (e ∷ filter (before (x.addr + x.len)) es) (filter (before (x.addr + x.len)) es) first) ∙ is in
+          let parts : e ∷ filter (before (x.addr + x.len)) es ≡ last ∷ [] =
+          sym (first_in (x.addr + x.len) e es first) ∙ is in
           let same : e ≡ last = cc in
           let none : filter (before (x.addr + x.len)) es ≡ [] = cc in
-          ap (λ b. meets x (extent e) || b) (none_met x es none) ∙ or_false (meets x (extent e)) ∙ meets_last x (extent e) spread.0 first ∙ ap (λ (f : ℕ × ℕ). nat_lt (x.addr - f.0) f.1) same
+          ap (λ b. meets x (extent e) || b) (none_met x es none)
+          ∙ or_false (meets x (extent e))
+          ∙ meets_last x (extent e) spread.0 first
+          ∙ ap (λ (f : ℕ × ℕ). nat_lt (x.addr - f.0) f.1) same
       | inr behind ↦
-          ap (λ b. b || list_any (meets x) (extents_of es)) (and_right (nat_lt x.addr (e.0 + e.1)) (before (x.addr + x.len) e) behind)
-          ∙ last_met x es [] last spread.2 (sym (cond-false (before (x.addr + x.len) e) (e ∷ filter (before (x.addr + x.len)) es) (filter (before (x.addr + x.len)) es) behind) ∙ is)
+          ap (λ b. b || list_any (meets x) (extents_of es)) (not_met x e behind)
+          ∙ last_met x es [] last spread.2 (sym (left_out (x.addr + x.len) e es behind) ∙ is)
     ]
   where
     or_false : (b : Bool) → (b || false) ≡ b
@@ -146,7 +170,8 @@ last_met x (e ∷ es) [] last spread is =
 last_met x (e ∷ es) (f ∷ t) last spread is =
     elim (cases_Bool (before (x.addr + x.len) e)) [
       | inl first ↦
-          let parts : e ∷ filter (before (x.addr + x.len)) es ≡ f ∷ t ++ last ∷ [] = sym (cond-true (before (x.addr + x.len) e) (e ∷ filter (before (x.addr + x.len)) es) (filter (before (x.addr + x.len)) es) first) ∙ is in
+          let parts : e ∷ filter (before (x.addr + x.len)) es ≡ f ∷ t ++ last ∷ [] =
+          sym (first_in (x.addr + x.len) e es first) ∙ is in
           let more : filter (before (x.addr + x.len)) es ≡ t ++ last ∷ [] = cc in
           let rest = last_met x es t last spread.2 more in
           let some : 0 < last.1 = of_last (λ (b : Extent). 0 < b.len) (x.addr + x.len) es t last (bytes (extents_of es) spread.2) more in
@@ -158,8 +183,8 @@ last_met x (e ∷ es) (f ∷ t) last spread is =
             | inr past ↦ ap (λ b. b || list_any (meets x) (extents_of es)) (and_left (nat_lt x.addr (e.0 + e.1)) (before (x.addr + x.len) e) (le-ltb x.addr (e.0 + e.1) past)) ∙ rest
           ]
       | inr behind ↦
-          ap (λ b. b || list_any (meets x) (extents_of es)) (and_right (nat_lt x.addr (e.0 + e.1)) (before (x.addr + x.len) e) behind)
-          ∙ last_met x es (f ∷ t) last spread.2 (sym (cond-false (before (x.addr + x.len) e) (e ∷ filter (before (x.addr + x.len)) es) (filter (before (x.addr + x.len)) es) behind) ∙ is)
+          ap (λ b. b || list_any (meets x) (extents_of es)) (not_met x e behind)
+          ∙ last_met x es (f ∷ t) last spread.2 (sym (left_out (x.addr + x.len) e es behind) ∙ is)
     ]
   where
     or_true : (b : Bool) → (b || true) ≡ true

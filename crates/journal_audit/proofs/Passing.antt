@@ -43,7 +43,8 @@ keeps_all plan earlier call answer h =
     let f = first_of_none (not (frees_own earlier call answer)) why.Address None o.1 in
     record { long = not-false _ l.0; inside = not-false _ a.0; apart = o.0; own = not-false _ f.0 }
 
-pub none_broken : (plan : Plan) (earlier : List CallLine) (call : Call) (answer : Answer) → Keeps plan earlier call answer → broken plan earlier call answer ≡ None
+pub none_broken : (plan : Plan) (earlier : List CallLine) (call : Call) (answer : Answer) → Keeps plan earlier call answer
+    → broken plan earlier call answer ≡ None
 none_broken plan earlier call answer k =
     let long = k.long in
     let inside = k.inside in
@@ -51,7 +52,9 @@ none_broken plan earlier call answer k =
     let own = k.own in
     rw (long, inside, apart, own) refl
 
-by_rules : (plan : Plan) (earlier : List CallLine) (told : Told) (call : Call) (c : CallLine) (reason : Option AuditWhy) → length earlier < 1000000 → next_call plan.scripts earlier told.thread ≡ Some call → names told.act call ≡ true → broken plan earlier call (line_of told call).answer ≡ reason → judged_by (line_of told call) reason ≡ Ok c → Passes plan earlier (Some told) c
+by_rules : (plan : Plan) (earlier : List CallLine) (told : Told) (call : Call) (c : CallLine) (reason : Option AuditWhy) → length earlier < 1000000
+    → next_call plan.scripts earlier told.thread ≡ Some call → names told.act call ≡ true
+    → broken plan earlier call (line_of told call).answer ≡ reason → judged_by (line_of told call) reason ≡ Ok c → Passes plan earlier (Some told) c
 by_rules plan earlier told call c (Some reason) few next is_named none h = absurd (cc)
 by_rules plan earlier told call c None few next is_named none h =
     let same : Ok (line_of told call) ≡ Ok c = h in
@@ -59,7 +62,9 @@ by_rules plan earlier told call c None few next is_named none h =
     let keeps = keeps_all plan earlier call (line_of told call).answer none in
     record { few = few; told = told; form_is = refl; call = call; next = next; names_it = is_named; line = sym e; keeps = subst (λ (d : CallLine). Keeps plan earlier d.call d.answer) e keeps }
 
-by_call : (plan : Plan) (earlier : List CallLine) (told : Told) (c : CallLine) (next : Option Call) → length earlier < 1000000 → next_call plan.scripts earlier told.thread ≡ next → judged_call plan earlier (option_and_then (named told) next) ≡ Ok c → Passes plan earlier (Some told) c
+by_call : (plan : Plan) (earlier : List CallLine) (told : Told) (c : CallLine) (next : Option Call) → length earlier < 1000000
+    → next_call plan.scripts earlier told.thread ≡ next → judged_call plan earlier (option_and_then (named told) next) ≡ Ok c
+    → Passes plan earlier (Some told) c
 by_call plan earlier told c None few is h = absurd (cc)
 by_call plan earlier told c (Some call) few is h =
     elim (cases_Bool (names told.act call)) [
@@ -72,7 +77,8 @@ by_call plan earlier told c (Some call) few is h =
           absurd (cc)
     ]
 
-by_form : (plan : Plan) (earlier : List CallLine) (form : Option Told) (c : CallLine) → length earlier < 1000000 → judged_form plan earlier form ≡ Ok c → Passes plan earlier form c
+by_form : (plan : Plan) (earlier : List CallLine) (form : Option Told) (c : CallLine) → length earlier < 1000000
+    → judged_form plan earlier form ≡ Ok c → Passes plan earlier form c
 by_form plan earlier None c few h = absurd (cc)
 by_form plan earlier (Some told) c few h = by_call plan earlier told c _ few refl h
 
@@ -93,7 +99,8 @@ judged_ok plan earlier form c p =
     let next = p.next in
     let said = p.names_it in
     let line = p.line in
-    let none : broken plan earlier p.call (line_of p.told p.call).answer ≡ None = none_broken plan earlier _ _ (subst (λ (d : CallLine). Keeps plan earlier d.call d.answer) line p.keeps) in
+    let none : broken plan earlier p.call (line_of p.told p.call).answer ≡ None =
+    none_broken plan earlier _ _ (subst (λ (d : CallLine). Keeps plan earlier d.call d.answer) line p.keeps) in
     ap (λ b. cond b (Err why.Lines) (judged_form plan earlier form)) few
     ∙ ap (judged_form plan earlier) is
     ∙ ap (λ o. judged_call plan earlier (option_and_then (named p.told) o)) next
@@ -108,7 +115,8 @@ pub record IsTold (plan : Plan) (earlier : List CallLine) (told : Told) (call : 
   pub names_it : names told.act call ≡ true
   pub keeps : Keeps plan earlier call (answer_of told.act)
 
-pub is_told : (plan : Plan) (earlier : List CallLine) (told : Told) (call : Call) → judged plan earlier (Some told) ≡ Ok (line_of told call) → IsTold plan earlier told call
+pub is_told : (plan : Plan) (earlier : List CallLine) (told : Told) (call : Call) → judged plan earlier (Some told) ≡ Ok (line_of told call)
+    → IsTold plan earlier told call
 is_told plan earlier told call h =
     let p = passes plan earlier (Some told) (line_of told call) h in
     let form = p.form_is in

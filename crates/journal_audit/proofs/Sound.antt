@@ -36,7 +36,8 @@ blocks_push calls c = fold_push (λ blocks (d : CallLine). blocks_with blocks d.
 pub freed_push : (label : ℕ) (calls : List CallLine) (c : CallLine) → freed_in label (calls ++ c ∷ []) ≡ (freed_in label calls || frees label c.call)
 freed_push label calls c = or_push (list_any (λ (d : CallLine). frees label d.call)) (λ (d : CallLine). frees label d.call) refl (λ _ _. refl) calls c
 
-pub answer_push : (label : ℕ) (calls : List CallLine) (c : CallLine) → answer_to label (calls ++ c ∷ []) ≡ option_or (answer_to label calls) (cond (allocates label c.call) (Some c.answer) None)
+pub answer_push : (label : ℕ) (calls : List CallLine) (c : CallLine)
+    → answer_to label (calls ++ c ∷ []) ≡ option_or (answer_to label calls) (cond (allocates label c.call) (Some c.answer) None)
 answer_push label [] c = refl
 answer_push label (d ∷ ds) c =
     elim (allocates label d.call) as (λ t. cond t (Some d.answer) (answer_to label (ds ++ c ∷ [])) ≡ option_or (cond t (Some d.answer) (answer_to label ds)) (cond (allocates label c.call) (Some c.answer) None)) [
@@ -65,12 +66,14 @@ sound_none huge round = record {
 }
 
 -- a block that a label has after a call is one that it had, or the call's
-block_before : (o : Option Answer) (mine : Bool) (new block : Answer) → option_or o (cond mine (Some new) None) ≡ Some block → (o ≡ Some block) ⊎ ((mine ≡ true) × (new ≡ block))
+block_before : (o : Option Answer) (mine : Bool) (new block : Answer) → option_or o (cond mine (Some new) None) ≡ Some block
+    → (o ≡ Some block) ⊎ ((mine ≡ true) × (new ≡ block))
 block_before (Some old) mine new block h = inl h
 block_before None true new block h = inr (refl, cc)
 block_before None false new block h = absurd (cc)
 
-block_of : (calls : List CallLine) (c : CallLine) (label addr len : ℕ) → HasBlock (calls ++ c ∷ []) label addr len → HasBlock calls label addr len ⊎ ((allocates label c.call ≡ true) × (c.answer ≡ answer.Block (record { 0 = addr }) len))
+block_of : (calls : List CallLine) (c : CallLine) (label addr len : ℕ) → HasBlock (calls ++ c ∷ []) label addr len
+    → HasBlock calls label addr len ⊎ ((allocates label c.call ≡ true) × (c.answer ≡ answer.Block (record { 0 = addr }) len))
 block_of calls c label addr len has =
     elim (block_before (answer_to label calls) (allocates label c.call) c.answer (answer.Block (record { 0 = addr }) len) (sym (answer_push label calls c) ∙ has.answered)) [
       | inl old ↦ inl (record { answered = old; kept = (or_parts (freed_in label calls) (frees label c.call) (sym (freed_push label calls c) ∙ has.kept)).0 })
@@ -82,7 +85,9 @@ module _ (huge : ℕ) (round : ℕ → ℕ) (calls : List CallLine) (sound : IsS
   goes_on c = each_of_push (λ earlier (d : CallLine). IsAllowed huge round earlier d.call d.answer) calls c sound.run
 
   -- a call that leaves the blocks as they are
-  quiet : (c : CallLine) → IsAllowed huge round calls c.call c.answer → blocks_with (blocks_after calls) c.answer ≡ blocks_after calls → ((label addr len : ℕ) → allocates label c.call ≡ true → c.answer ≡ answer.Block (record { 0 = addr }) len → ⊥) → IsSound huge round (calls ++ c ∷ [])
+  quiet : (c : CallLine) → IsAllowed huge round calls c.call c.answer → blocks_with (blocks_after calls) c.answer ≡ blocks_after calls
+      → ((label addr len : ℕ) → allocates label c.call ≡ true → c.answer ≡ answer.Block (record { 0 = addr }) len → ⊥)
+      → IsSound huge round (calls ++ c ∷ [])
   quiet c allowed blocks none =
       let same : blocks_after (calls ++ c ∷ []) ≡ blocks_after calls = blocks_push calls c ∙ blocks in
       let old : (label addr len : ℕ) → HasBlock (calls ++ c ∷ []) label addr len → HasBlock calls label addr len =
@@ -139,7 +144,8 @@ module _ (huge : ℕ) (round : ℕ → ℕ) (calls : List CallLine) (sound : IsS
         }
 
   -- a free of a label's own block
-  without_one : (thread : ThreadNo) (label : Label) (addr len : ℕ) → HasBlock calls label.0 addr len → IsSound huge round (calls ++ record { thread = thread; call = call.Free label; answer = answer.Freed (record { 0 = addr }) } ∷ [])
+  without_one : (thread : ThreadNo) (label : Label) (addr len : ℕ) → HasBlock calls label.0 addr len
+      → IsSound huge round (calls ++ record { thread = thread; call = call.Free label; answer = answer.Freed (record { 0 = addr }) } ∷ [])
   without_one thread label addr len has =
       let c : CallLine = record { thread = thread; call = call.Free label; answer = answer.Freed (record { 0 = addr }) } in
       let same : blocks_after (calls ++ c ∷ []) ≡ without_block addr (blocks_after calls) = blocks_push calls c in
@@ -176,7 +182,9 @@ null_at (Some answer.NoBlock) h = refl
 null_at o h = absurd (false≢true h)
 
 -- a call that a line tells, and that keeps the rules, goes on with a run
-pub sound_push : (plan : Plan) (calls : List CallLine) (thread : ThreadNo) (act : Act) (c : Call) → IsSound plan.huge (length_of plan.rows) calls → names act c ≡ true → Keeps plan calls c (answer_of act) → IsSound plan.huge (length_of plan.rows) (calls ++ record { thread = thread; call = c; answer = answer_of act } ∷ [])
+pub sound_push : (plan : Plan) (calls : List CallLine) (thread : ThreadNo) (act : Act) (c : Call) → IsSound plan.huge (length_of plan.rows) calls
+    → names act c ≡ true → Keeps plan calls c (answer_of act)
+    → IsSound plan.huge (length_of plan.rows) (calls ++ record { thread = thread; call = c; answer = answer_of act } ∷ [])
 sound_push plan calls thread (Malloc label (Some place)) (call.Malloc l size) sound named keeps =
     with_one plan.huge (length_of plan.rows) calls sound thread l size place.addr place.len (eqb-true place.len (length_of plan.rows size) keeps.long) (record { inside = in_arena plan.huge place.addr place.len keeps.inside; apart = keeps.apart })
 sound_push plan calls thread (Malloc label None) (call.Malloc l size) sound named keeps =
@@ -205,9 +213,11 @@ sound_push plan calls thread (Resize cpu class cap_ (resized.OverLimit m)) (call
 sound_push plan calls thread act c sound named keeps = absurd (false≢true named)
 
 -- a call that a line tells, and that is allowed, keeps the rules
-pub allowed_keeps : (plan : Plan) (calls : List CallLine) (act : Act) (c : Call) → names act c ≡ true → IsAllowed plan.huge (length_of plan.rows) calls c (answer_of act) → Keeps plan calls c (answer_of act)
+pub allowed_keeps : (plan : Plan) (calls : List CallLine) (act : Act) (c : Call) → names act c ≡ true
+    → IsAllowed plan.huge (length_of plan.rows) calls c (answer_of act) → Keeps plan calls c (answer_of act)
 allowed_keeps plan calls (Malloc label (Some place)) (call.Malloc l size) named allowed = record { long = eq-eqb place.len (length_of plan.rows size) allowed.0; inside = lies_there plan.huge place.addr place.len allowed.1.inside; apart = allowed.1.apart; own = refl }
-allowed_keeps plan calls (Free label (Some addr)) (call.Free l) named allowed = record { long = refl; inside = refl; apart = refl; own = and_from _ _ (ap not allowed.once) (ap (is_block_at addr) allowed.answered ∙ eq-eqb addr addr refl) }
+allowed_keeps plan calls (Free label (Some addr)) (call.Free l) named allowed =
+    record { long = refl; inside = refl; apart = refl; own = and_from _ _ (ap not allowed.once) (ap (is_block_at addr) allowed.answered ∙ eq-eqb addr addr refl) }
 allowed_keeps plan calls (Free label None) (call.Free l) named allowed = record { long = refl; inside = refl; apart = refl; own = and_from _ _ (ap not allowed.once) (ap is_null allowed.answered) }
 allowed_keeps plan calls (Malloc label None) (call.Malloc l size) named allowed = record { long = refl; inside = refl; apart = refl; own = refl }
 allowed_keeps plan calls (Release pages) (call.Release wanted) named allowed = record { long = refl; inside = refl; apart = refl; own = refl }

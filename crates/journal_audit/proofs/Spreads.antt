@@ -29,7 +29,8 @@ spread_with x (b ∷ bs) some apart spread =
       | inl before ↦
           let less = ltb-true x.addr b.addr before in
           let end : x.addr + x.len ≤ b.addr = elim (one_ends x b parts.0) [ inl wrong ↦ absurd (omega (arith, wrong, less)) | inr is ↦ is ] in
-          let first : All (λ (c : Extent). x.addr + x.len ≤ c.addr) (b ∷ bs) = All-cons (λ (c : Extent). x.addr + x.len ≤ c.addr) b bs end (All-weaker (λ (c : Extent). b.addr + b.len ≤ c.addr) (λ (c : Extent). x.addr + x.len ≤ c.addr) (λ c is. omega (arith, is, end)) bs spread.1) in
+          let first : All (λ (c : Extent). x.addr + x.len ≤ c.addr) (b ∷ bs) =
+          All-cons (λ (c : Extent). x.addr + x.len ≤ c.addr) b bs end (All-weaker (λ (c : Extent). b.addr + b.len ≤ c.addr) (λ (c : Extent). x.addr + x.len ≤ c.addr) (λ c is. omega (arith, is, end)) bs spread.1) in
           subst IsSpread (sym (cond-true (nat_lt x.addr b.addr) (x ∷ b ∷ bs) (b ∷ with_block x bs) before)) (some, first, spread)
       | inr behind ↦
           let more = ltb-false x.addr b.addr behind in
@@ -53,7 +54,8 @@ pub record IsFound (x : Extent) (addr : ℕ) (b : Extent) : Type 0 where
   pub some : 0 < b.len
   pub apart : meets x b ≡ false
 
-pub found : (x : Extent) (addr : ℕ) (bs : List Extent) (b : Extent) → IsSpread bs → list_any (meets x) bs ≡ false → find (λ c. c.addr == addr) bs ≡ Some b → IsFound x addr b
+pub found : (x : Extent) (addr : ℕ) (bs : List Extent) (b : Extent) → IsSpread bs → list_any (meets x) bs ≡ false
+    → find (λ c. c.addr == addr) bs ≡ Some b → IsFound x addr b
 found x addr [] b spread apart is = absurd (cc)
 found x addr (c ∷ cs) b spread apart is =
     let parts : (meets x c ≡ false) × (list_any (meets x) cs ≡ false) = or_parts (meets x c) (list_any (meets x) cs) apart in

@@ -35,7 +35,8 @@ has_script scripts calls t call next =
     elim (cases_lt t (length scripts)) [
       | inl there ↦ there
       | inr past ↦
-          let none : next_call scripts calls t ≡ None = ap (λ o. option_map (λ (p : Planned). p.call) (slice_get (option_map_or (λ (s : Script). s.calls) o []) (count_of t calls))) (slice_get_past scripts t past) in
+          let none : next_call scripts calls t ≡ None =
+          ap (λ o. option_map (λ (p : Planned). p.call) (slice_get (option_map_or (λ (s : Script). s.calls) o []) (count_of t calls))) (slice_get_past scripts t past) in
           absurd (let wrong = sym none ∙ next in cc)
     ]
 
@@ -51,7 +52,9 @@ none_below p a (suc n) k none from less =
 
 pub none_in : (p : ℕ → Bool) (a n : ℕ) → ((k : ℕ) → k < a + n → p k ≡ false) → list_any p (range_with_len a n) ≡ false
 none_in p a zero none = refl
-none_in p a (suc n) none = ap (λ b. b || list_any p (range_with_len (a + 1) n)) (none a (omega arith)) ∙ none_in p (a + 1) n (λ k less. none k (omega (arith, less)))
+none_in p a (suc n) none =
+    ap (λ b. b || list_any p (range_with_len (a + 1) n)) (none a (omega arith))
+    ∙ none_in p (a + 1) n (λ k less. none k (omega (arith, less)))
 
 pub any_in : (p : ℕ → Bool) (n k : ℕ) → k < n → p k ≡ true → list_any p (range_with_len 0 n) ≡ true
 any_in p n k less is =

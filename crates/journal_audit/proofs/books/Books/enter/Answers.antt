@@ -10,13 +10,15 @@ note-requires-clause-named c = (is_told c.requires.plan c.requires.calls c.args.
 pub count-requires-clause-there : goal.count-requires-clause-there
 count-requires-clause-there c =
     let r = c.requires in
-    let n = counts r.plan r.calls c.args.entry.told c.args.entry.call c.args.self.now r.are (is_told r.plan r.calls c.args.entry.told c.args.entry.call r.judged_ok) in
+    let n =
+    counts r.plan r.calls c.args.entry.told c.args.entry.call c.args.self.now r.are (is_told r.plan r.calls c.args.entry.told c.args.entry.call r.judged_ok) in
     omega (arith, n.there, ap (λ v. length v.items) c.in_ok-note.ensures.done)
 
 pub count-requires-clause-fits : goal.count-requires-clause-fits
 count-requires-clause-fits c =
     let r = c.requires in
-    let n = counts r.plan r.calls c.args.entry.told c.args.entry.call c.args.self.now r.are (is_told r.plan r.calls c.args.entry.told c.args.entry.call r.judged_ok) in
+    let n =
+    counts r.plan r.calls c.args.entry.told c.args.entry.call c.args.self.now r.are (is_told r.plan r.calls c.args.entry.told c.args.entry.call r.judged_ok) in
     omega (arith, n.few, ap (λ v. slice_index v.items c.args.entry.told.thread) c.in_ok-note.ensures.done)
 
 pub returns : goal.returns

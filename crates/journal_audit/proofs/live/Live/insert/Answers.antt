@@ -24,7 +24,8 @@ returns c =
     let apart : list_any (meets x) (extents_of es) ≡ false = ap (list_any (meets x)) c.self.view_is ∙ c.requires.apart in
     elim c.match-insert.branch [
       | in-Ok w ↦
-          let added : extents_of c.insert.new.self.entries ≡ with_block x c.args.self.now = ap extents_of w.in-Ok.ensures.entries ∙ inserted es c.args.addr c.args.len c.requires.some c.self.invariant apart ∙ ap (with_block x) c.self.view_is in
+          let added : extents_of c.insert.new.self.entries ≡ with_block x c.args.self.now =
+          ap extents_of w.in-Ok.ensures.entries ∙ inserted es c.args.addr c.args.len c.requires.some c.self.invariant apart ∙ ap (with_block x) c.self.view_is in
           rw w.result-is added
       | in-Err w ↦ rw w.result-is tt
     ]
