@@ -1,31 +1,27 @@
 //! What is kept of the calls that the lines so far told, and the rules on the next line.
-ghost use Rattle.std.specs.Prelude.{ℕ, ◌≡◌, ◌^◌, ◌+◌, ◌*◌, ◌<◌, ◌==◌, nat_lt, true, false, if◌then◌else◌};
-ghost use Rattle.std.specs.Prelude.{List, [], ◌∷◌, ◌++◌, length, find, slice_index, slice_set, Some, IfSome, option_map};
+ghost use Rattle.std.specs.Prelude.{ℕ, ◌≡◌, ◌^◌, ◌+◌, ◌<◌, ◌==◌, nat_lt, true, false, if◌then◌else◌};
+ghost use Rattle.std.specs.Prelude.{List, [], ◌∷◌, ◌++◌, length, slice_index, slice_set, Some, IfSome, option_map};
 ghost use Rattle.std.specs.Prelude.{Ok, Err, IfOk, OnOk, MatchResult};
-ghost use Rattle.std.specs.List.{position, list_any, range_with_len};
-ghost use Rattle.tc_units.specs.Units.{page_bytes, pages_holding};
-ghost use Rattle.tc_units.specs.Classes.{serves, length_of};
+ghost use Rattle.std.specs.List.{list_any, range_with_len};
 ghost use Rattle.tc_model.specs.Blocks.{blocks_with};
 ghost use Rattle.tc_model.specs.declared.answers.CallLine.{CallLine as Line};
 ghost use Rattle.tc_model.specs.declared.calls.Script.{Script as Calls};
 ghost use Rattle.journal_audit.specs.Forms.{names, answer_of, malloc_answer, free_answer};
-ghost use Rattle.journal_audit.specs.Rules.{Plan, plan_of, lies_in, next_call, script_at, call_told, line_of, overlaps, frees_own, broken, judged, at_end};
+ghost use Rattle.journal_audit.specs.Rules.{Plan, plan_of, next_call, script_at, call_told, line_of, overlaps, frees_own, broken, judged, at_end};
 ghost use Rattle.journal_audit.specs.Given.{given_at, given_after, given_by, malloc_given};
 ghost use Rattle.journal_audit.specs.Books.{AreOf, AreBooks, IsNext, HasBytes, HasRead};
 
 use crate::answers::{Answers, Given};
 use crate::live::Live;
+use crate::place::{has_length, lies_in};
 use crate::told::{Act, Place, Told};
 use crate::verdict::{AuditWhy, Verdict};
 use std::alloc::{AllocError, Global};
 use tc_model::{Call, Script};
-use tc_units::{ClassRow, HUGE_PAGES, Label, PAGE_BYTES};
+use tc_units::{ClassRow, Label};
 
 /// The most lines of calls.
 const MOST_LINES: u32 = 1_000_000;
-
-/// Bytes of a hugepage.
-const HUGE_BYTES: u64 = PAGE_BYTES * HUGE_PAGES as u64;
 
 /// The calls so far.
 #[derive(Drop)]
@@ -43,47 +39,6 @@ pub struct Books {
 struct Entry {
     told: Told,
     call: Call,
-}
-
-/// The class of a request: the first one whose size holds it.
-fn class_of(rows: &[ClassRow], size: u64) -> Option<usize>
-    ensures { result ≡ position (serves size) rows.now }
-{
-    rows.iter().position(|row| size <= u64::from(row.size))
-}
-
-/// The row of a request's class.
-fn row_of(rows: &[ClassRow], size: u64) -> Option<ClassRow>
-    ensures { result ≡ find (serves size) rows.now }
-{
-    let class = class_of(rows, size)?;
-    Some(rows[class])
-}
-
-/// Whether these are the bytes of whole pages, as many as hold a request.
-fn is_whole_pages(size: u64, len: u64) -> bool
-    ensures { result ≡ (len == pages_holding size * page_bytes) }
-{
-    len % PAGE_BYTES == 0 && len / PAGE_BYTES == size.div_ceil(PAGE_BYTES)
-}
-
-/// Whether a block has the length to which its request is rounded: its class's size, or whole pages
-/// where it has no class.
-fn has_length(rows: &[ClassRow], size: u64, len: u64) -> bool
-    ensures { result ≡ (len == length_of rows.now size) }
-{
-    match row_of(rows, size) {
-        Some(row) => len == u64::from(row.size),
-        None => is_whole_pages(size, len),
-    }
-}
-
-/// Whether a block has a byte and lies in the arena of so many hugepages, which are numbered from 1.
-fn lies_in(huge: u32, addr: u64, len: u64) -> bool
-    ensures { result ≡ lies_in huge addr len }
-{
-    let end = HUGE_BYTES * (u64::from(huge) + 1);
-    0 < len && HUGE_BYTES <= addr && addr <= end && len <= end - addr
 }
 
 impl Books {

@@ -7,6 +7,7 @@ mod books;
 mod journal;
 mod judging;
 mod live;
+mod place;
 #[cfg(test)]
 mod tests;
 mod told;

@@ -5,7 +5,7 @@ use Rattle.std.proofs.lemmas.Bool.{cases_Bool, ltb-true, ltb-false, cond-true}
 use Rattle.std.proofs.lemmas.Option.{cond_some, slice_get_past, slice_get-get_or}
 use Rattle.std.proofs.lemmas.List.Folds.{find_at}
 use Rattle.tc_units.specs.Classes.{serves}
-use Rattle.journal_audit.proofs.books.row_of.Goals as goal
+use Rattle.journal_audit.proofs.place.row_of.Goals as goal
 
 -- where no place passes, none is found
 none_at : {X : Type 0} (p : X → Bool) (xs : List X) → None ≡ position p xs → find p xs ≡ None
