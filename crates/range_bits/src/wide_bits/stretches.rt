@@ -7,8 +7,19 @@ ghost use Rattle.range_bits.specs.Words.{row_of};
 use crate::ranges;
 use crate::words::{end_bit, next_place, set_places};
 
-/// How many of the places from `start` up to `end` are free.
+/// How many of the places from `start` up to `end` are free. Only the words of these places and those
+/// before them are looked at, from the first of these places on.
 pub fn free_between(words: &[u64], start: usize, end: usize) -> usize
+    requires fits { 64 * length words.now < 2 ^ 32 }
+    requires order { start ≤ end }
+    requires inside { end ≤ 64 * length words.now }
+    ensures { result + free_before (row_of words.now) start ≡ free_before (row_of words.now) end }
+{
+    count_free(&words[..end.div_ceil(64)], start, end)
+}
+
+/// How many of the places from `start` up to `end` are free, by one free range after another.
+fn count_free(words: &[u64], start: usize, end: usize) -> usize
     requires fits { 64 * length words.now < 2 ^ 32 }
     requires order { start ≤ end }
     requires inside { end ≤ 64 * length words.now }

@@ -1,7 +1,7 @@
 use Rattle.std.proofs.Common.{◌≡◌, ◌+◌, ◌-◌, ◌≤◌}
 use Rattle.range_bits.specs.Fills.{free_before}
 use Rattle.range_bits.specs.Words.{row_of}
-use Rattle.range_bits.proofs.wide_bits.stretches.free_between.Given as goal
+use Rattle.range_bits.proofs.wide_bits.stretches.count_free.Given as goal
 
 abbrev pub invariant-loop-from : goal.invariant-loop-from
 invariant-loop-from l = record {
