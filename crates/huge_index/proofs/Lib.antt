@@ -1,7 +1,3 @@
-mod Changes
-mod Exchanged
 mod First
-mod Halving
 pub mod Orders
-mod Rekeyed
 pub mod Rows

@@ -1,59 +1,17 @@
--- An index of rows: what it says of them, and how it follows their changes.
-use Rattle.std.proofs.Common.{◌≡◌, ℕ, suc, ◌+◌, ◌<◌, Bool, true, false, not, ◌&&◌, cond, List, [], ◌∷◌, get_or, count_by, All, Contains, IsPermutation, refl, sym, ap, subst, ◌∙◌, inl, inr, arith}
-use Rattle.std.proofs.lemmas.Bool.{cases_Bool, and_parts, and_from, not_from_false, not-true}
-use Rattle.std.proofs.lemmas.List.Sums.{sum_by-cons}
+-- An index of rows: which of them it says serves first.
+use Rattle.std.proofs.Common.{◌≡◌, ℕ, false, List, get_or, Contains, All, ap, subst, sym, ◌∙◌}
 use Rattle.std.proofs.lemmas.List.Elements.{Contains-get_or}
-use Rattle.std.proofs.lemmas.List.Sorted.{sum_by-IsPermutation}
-use Rattle.tc_units.proofs.Counts.{count_some}
+use Rattle.sorted_list.specs.Rows.{IsIndexOf}
+use Rattle.sorted_list.proofs.Rows as keyed
+pub use Rattle.sorted_list.proofs.Rows.{as_many, index_more, index_fewer, index_changed}
 use Rattle.huge_index.specs.declared.key.Key.{Key}
 use Rattle.huge_index.specs.Order.{comes_before, Serves, IsFirstOf}
-use Rattle.huge_index.specs.Rows.{IsIndexOf}
-use Rattle.huge_index.proofs.Orders.{told_apart, not_itself}
-
--- an element that passes, where some are counted
-pub found_some : {X : Type 0} (p : X → Bool) (xs : List X) → 0 < count_by p xs → (x : X) × Contains xs x × (p x ≡ true)
-found_some p [] h = absurd (omega arith)
-found_some p (x ∷ xs) h =
-    let step = sum_by-cons (λ y. cond (p y) 1 0) x xs in
-    elim (cases_Bool (p x)) [
-      | inl t ↦ (x, (0, omega arith, refl), t)
-      | inr f ↦
-          (let none : ◌≡◌ {A = ℕ} (cond (p x) 1 0) 0 = ap (λ (b : Bool). cond b 1 0) f in
-          let rest = found_some p xs (omega arith) in
-          (rest.0, (suc rest.1.0, omega (arith, rest.1.1), rest.1.2), rest.2))
-    ]
-
-pub count_held : {X : Type 0} (p : X → Bool) (xs : List X) (x : X) → Contains xs x → p x ≡ true → 0 < count_by p xs
-count_held p xs x held pass = count_some p xs held.0 x held.1 (ap p held.2 ∙ pass)
-
--- whether two keys are one
-abbrev is_same : Key → Key → Bool
-is_same a b = not (comes_before a b) && not (comes_before b a)
-
-same_itself : (a : Key) → is_same a a ≡ true
-same_itself a = and_from _ _ (not_from_false _ (not_itself a)) (not_from_false _ (not_itself a))
-
-same_keys : (a b : Key) → is_same a b ≡ true → a ≡ b
-same_keys a b h = let parts = and_parts _ _ h in told_apart a b (not-true _ parts.0) (not-true _ parts.1)
+use Rattle.huge_index.specs.Total.{total}
 
 module _ {R : Type 0} (key : R → Key) where
   -- the key of each row is held
   pub key_held : (rows : List R) (keys : List Key) (row : R) → IsIndexOf key rows keys → Contains rows row → Contains keys (key row)
-  key_held rows keys row index held =
-      let some = count_held (λ r. is_same (key row) (key r)) rows row held (same_itself (key row)) in
-      let there = found_some (is_same (key row)) keys (omega (arith, index (is_same (key row)))) in
-      subst (λ (k : Key). Contains keys k) (sym (same_keys (key row) there.0 there.2)) there.1
-
-  -- the row of each key
-  pub row_held : (rows : List R) (keys : List Key) (k : Key) → IsIndexOf key rows keys → Contains keys k → (row : R) × Contains rows row × (key row ≡ k)
-  row_held rows keys k index held =
-      let some = count_held (is_same k) keys k held (same_itself k) in
-      let there = found_some (λ r. is_same k (key r)) rows (omega (arith, index (is_same k))) in
-      (there.0, there.1, sym (same_keys k (key there.0) there.2))
-
-  -- as many keys as rows
-  pub as_many : (rows : List R) (keys : List Key) → IsIndexOf key rows keys → count_by (λ k. true) keys ≡ count_by (λ r. true) rows
-  as_many rows keys index = index (λ k. true)
+  key_held = keyed.key_held comes_before total key
 
   -- where no key serves, no row does
   pub no_row_serves : (rows : List R) (keys : List Key) (tier n : ℕ) → IsIndexOf key rows keys → All (λ k. ¬ (Serves tier n k)) keys → All (λ row. ¬ (Serves tier n (key row))) rows
@@ -69,7 +27,7 @@ module _ {R : Type 0} (key : R → Key) where
 
   pub first_row : (rows : List R) (keys : List Key) (tier n : ℕ) (k : Key) → IsIndexOf key rows keys → IsFirstOf keys tier n k → (row : R) × IsFirstRow rows tier n row × (key row ≡ k)
   first_row rows keys tier n k index is =
-      let at = row_held rows keys k index is.held in
+      let at = keyed.row_held comes_before total key rows keys k index is.held in
       let same : key at.0 ≡ k = at.2 in (
         at.0,
         record {
@@ -82,19 +40,3 @@ module _ {R : Type 0} (key : R → Key) where
         },
         same,
       )
-
-  -- Changes: a row comes, a row leaves, a row becomes another one.
-  pub index_more : (rows rows' : List R) (keys keys' : List Key) (k : Key) → IsIndexOf key rows keys → IsPermutation (k ∷ keys) keys' → ((test : Key → Bool) → count_by (λ row. test (key row)) rows' ≡ cond (test k) 1 0 + count_by (λ row. test (key row)) rows) → IsIndexOf key rows' keys'
-  index_more rows rows' keys keys' k index moved came test =
-      let count = sum_by-IsPermutation (λ x. cond (test x) 1 0) (k ∷ keys) keys' moved in
-      omega (arith, count, sum_by-cons (λ x. cond (test x) 1 0) k keys, index test, came test)
-
-  pub index_fewer : (rows rows' : List R) (keys keys' : List Key) (k : Key) → IsIndexOf key rows keys → IsPermutation keys (k ∷ keys') → ((test : Key → Bool) → cond (test k) 1 0 + count_by (λ row. test (key row)) rows' ≡ count_by (λ row. test (key row)) rows) → IsIndexOf key rows' keys'
-  index_fewer rows rows' keys keys' k index moved gone test =
-      let count = sum_by-IsPermutation (λ x. cond (test x) 1 0) keys (k ∷ keys') moved in
-      omega (arith, count, sum_by-cons (λ x. cond (test x) 1 0) k keys', index test, gone test)
-
-  pub index_changed : (rows rows' : List R) (keys keys' : List Key) (k k' : Key) → IsIndexOf key rows keys → IsPermutation (k' ∷ keys) (k ∷ keys') → ((test : Key → Bool) → cond (test k) 1 0 + count_by (λ row. test (key row)) rows' ≡ cond (test k') 1 0 + count_by (λ row. test (key row)) rows) → IsIndexOf key rows' keys'
-  index_changed rows rows' keys keys' k k' index moved changed test =
-      let count = sum_by-IsPermutation (λ x. cond (test x) 1 0) (k' ∷ keys) (k ∷ keys') moved in
-      omega (arith, count, sum_by-cons (λ x. cond (test x) 1 0) k' keys, sum_by-cons (λ x. cond (test x) 1 0) k keys', index test, changed test)

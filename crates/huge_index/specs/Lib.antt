@@ -1,4 +1,4 @@
 pub mod Contents
 pub mod Order
 pub mod Rows
-pub mod Search
+pub mod Total

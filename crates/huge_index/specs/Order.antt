@@ -1,23 +1,19 @@
 -- The order in which hugepages are preferred.
-use Rattle.std.specs.Prelude.{◌≡◌, ℕ, ◌<◌, ◌≤◌, Bool, false, ◌==◌, ◌||◌, ◌&&◌, nat_lt, List, length, All, Contains}
-use Rattle.std.specs.List.{slice_index_or}
+use Rattle.std.specs.Prelude.{◌≡◌, ℕ, ◌≤◌, Bool, false, nat_lt, List, All, Contains}
+use Rattle.sorted_list.specs.Order.{first_by}
 use Rattle.huge_index.specs.declared.key.Key.{Key}
-
--- of two pairs of measures and what comes after them: the less measure first, and of equal ones what comes after decides
-abbrev pub first_by : ℕ → ℕ → Bool → Bool
-first_by x y rest = nat_lt x y || (x == y && rest)
 
 -- by least tier, then by shortest longest range, then by most runs, then by least number
 abbrev pub comes_before : Key → Key → Bool
 comes_before a b = first_by a.tier b.tier (first_by a.longest b.longest (first_by b.allocs a.allocs (nat_lt a.huge.0 b.huge.0)))
 
--- whether a key is of a lower tier, or of this tier with a longest range below n pages
-abbrev pub is_below : ℕ → ℕ → Key → Bool
-is_below tier n key = first_by key.tier tier (nat_lt key.longest n)
+-- the key before which no key of a tier comes that has a longest range of at least n pages
+abbrev pub least_of : ℕ → ℕ → Key
+least_of tier n = record { tier = tier; longest = n; allocs = 4294967295; huge = record { 0 = 0 } }
 
--- no key comes before an earlier one
-abbrev pub IsInOrder : List Key → Type 0
-IsInOrder keys = (i j : ℕ) (d : Key) → i < j → j < length keys → comes_before (slice_index_or keys j d) (slice_index_or keys i d) ≡ false
+-- some key
+abbrev pub sample : Key
+sample = record { tier = 0; longest = 0; allocs = 0; huge = record { 0 = 0 } }
 
 -- whether a key is of a tier, with a free range of at least n pages
 abbrev pub Serves : ℕ → ℕ → Key → Type 0

@@ -1,6 +1,7 @@
 //! The measures of a hugepage by which it is preferred.
-ghost use Rattle.std.specs.Prelude.{◌≡◌};
+ghost use Rattle.std.specs.Prelude.{◌≡◌, nat_lt};
 
+use sorted_list::SortKey;
 use tc_units::Huge;
 
 /// The measures of a hugepage, and its number.
@@ -16,13 +17,41 @@ pub struct Key {
 }
 
 impl Key {
-    ghost use Rattle.huge_index.specs.Order.{comes_before, is_below};
+    ghost use Rattle.huge_index.specs.Order.{least_of};
 
-    /// Whether this key comes before another one: by least tier, then by shortest longest range, then by
-    /// most runs, then by least number. The order is this project's own.
-    pub fn comes_before(&self, other: Key) -> bool
-        ensures { result ≡ comes_before self.now other }
+    /// The key before which no key of a tier comes that has a longest range of at least `n` pages.
+    pub fn least(tier: u8, n: u32) -> Self
+        ensures { result ≡ least_of tier n }
     {
+        Key {
+            tier,
+            longest: n,
+            allocs: u32::MAX,
+            huge: Huge(0),
+        }
+    }
+}
+
+impl SortKey for Key {
+    ghost use Rattle.huge_index.specs.Order.{comes_before, sample};
+    ghost use Rattle.huge_index.specs.Total.{total};
+
+    ghost before = { comes_before };
+
+    ghost sample = { sample };
+
+    fn sample() -> Key {
+        Key {
+            tier: 0,
+            longest: 0,
+            allocs: 0,
+            huge: Huge(0),
+        }
+    }
+
+    /// By least tier, then by shortest longest range, then by most runs, then by least number. The order
+    /// is this project's own.
+    fn comes_before(&self, other: Key) -> bool {
         self.tier < other.tier
             || self.tier == other.tier
                 && (self.longest < other.longest
@@ -31,10 +60,5 @@ impl Key {
                             || other.allocs == self.allocs && self.huge.0 < other.huge.0))
     }
 
-    /// Whether this key is of a lower tier, or of this tier with a longest range below `n` pages.
-    pub fn is_below(&self, tier: u8, n: u32) -> bool
-        ensures { result ≡ is_below tier n self.now }
-    {
-        self.tier < tier || self.tier == tier && self.longest < n
-    }
+    ghost order = { total };
 }

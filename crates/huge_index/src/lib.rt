@@ -3,10 +3,9 @@
 
 mod index;
 mod key;
-mod steps;
 #[cfg(test)]
 mod tests;
 
 pub use index::HugeIndex;
 pub use key::Key;
-pub use steps::Steps;
+pub use sorted_list::Steps;

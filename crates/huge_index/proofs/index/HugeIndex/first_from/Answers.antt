@@ -1,29 +1,29 @@
-use Rattle.std.proofs.Common.{sym, subst, refl, ◌∙◌}
+use Rattle.std.proofs.Common.{refl, subst}
+use Rattle.sorted_list.specs.Order.{IsFirstFrom}
 use Rattle.huge_index.specs.declared.key.Key.{Key}
-use Rattle.huge_index.specs.Order.{Serves, IsFirstOf}
-use Rattle.huge_index.proofs.First.{first_is, other_tier, none_there}
+use Rattle.huge_index.specs.Contents.{Contents, AreCounted}
+use Rattle.huge_index.specs.Order.{comes_before}
+use Rattle.huge_index.proofs.First.{first_is, other_tier, some_serves}
 use Rattle.huge_index.proofs.index.HugeIndex.first_from.Goals as goal
 
-pub returns-in-Some-clause-found : goal.returns-in-Some-clause-found
-returns-in-Some-clause-found g c =
-    let f = c.in-Some.ensures.found in
-    (c.in-Some.key, refl, first_is c.args.self.now.keys c.args.tier c.args.n f.0 c.in-Some.key c.in-Some.ensures.order f.1 (sym f.2) c.if-key-tier.true)
-
-pub returns-in-Some-clause-none : goal.returns-in-Some-clause-none
-returns-in-Some-clause-none g c =
-    let f = c.in-Some.ensures.found in
+pub returns-then-key-tier-clause-found : goal.returns-then-key-tier-clause-found
+returns-then-key-tier-clause-found g c =
     let keys = c.args.self.now.keys in
-    let key = c.in-Some.key in
-    let first : IsFirstOf keys c.args.tier c.args.n key = first_is keys c.args.tier c.args.n f.0 key c.in-Some.ensures.order f.1 (sym f.2) c.if-key-tier.true in
-    ((λ e. absurd (cc)), (λ none. absurd (none first.held.0 key first.held.1 (subst (λ (k : Key). Serves c.args.tier c.args.n k) (sym first.held.2) first.serves))))
+    let few : AreCounted keys = subst (λ (v : Contents). AreCounted v.keys) c.self.view_is c.self.invariant in
+    let is = subst (λ (from : Key). IsFirstFrom comes_before keys from c.in_ok-key.key) c.least.ensures (subst (λ (v : Contents). IsFirstFrom comes_before v.keys c.least.result c.in_ok-key.key) c.self.view_is c.in_ok-key.ensures.found) in
+    (c.in_ok-key.key, refl, first_is keys c.args.tier c.args.n c.in_ok-key.key few is c.if-key-tier.true)
 
-pub returns-in_default-clause-none : goal.returns-in_default-clause-none
-returns-in_default-clause-none g c =
-    let f = c.in-Some.ensures.found in
-    ((λ _. other_tier c.args.self.now.keys c.args.tier c.args.n f.0 c.in-Some.key c.in-Some.ensures.order f.1 (sym f.2) c.if-key-tier.false), (λ _. refl))
+pub returns-then-key-tier-clause-none : goal.returns-then-key-tier-clause-none
+returns-then-key-tier-clause-none g c =
+    let keys = c.args.self.now.keys in
+    let few : AreCounted keys = subst (λ (v : Contents). AreCounted v.keys) c.self.view_is c.self.invariant in
+    let is = subst (λ (from : Key). IsFirstFrom comes_before keys from c.in_ok-key.key) c.least.ensures (subst (λ (v : Contents). IsFirstFrom comes_before v.keys c.least.result c.in_ok-key.key) c.self.view_is c.in_ok-key.ensures.found) in
+    let first = first_is keys c.args.tier c.args.n c.in_ok-key.key few is c.if-key-tier.true in
+    ((λ e. absurd (cc)), (λ none. absurd (some_serves keys c.args.tier c.args.n c.in_ok-key.key first none)))
 
-pub returns-in_default-2-clause-none : goal.returns-in_default-2-clause-none
-returns-in_default-2-clause-none g c =
-    let f = c.search.ensures.found in
-    let none = c.in_default.is in
-    ((λ _. none_there c.args.self.now.keys c.args.tier c.args.n f.0 f.1 (sym f.2 ∙ none)), (λ _. refl))
+pub returns-else-key-tier-clause-none : goal.returns-else-key-tier-clause-none
+returns-else-key-tier-clause-none g c =
+    let keys = c.args.self.now.keys in
+    let few : AreCounted keys = subst (λ (v : Contents). AreCounted v.keys) c.self.view_is c.self.invariant in
+    let is = subst (λ (from : Key). IsFirstFrom comes_before keys from c.in_ok-key.key) c.least.ensures (subst (λ (v : Contents). IsFirstFrom comes_before v.keys c.least.result c.in_ok-key.key) c.self.view_is c.in_ok-key.ensures.found) in
+    ((λ _. other_tier keys c.args.tier c.args.n c.in_ok-key.key few is c.if-key-tier.false), (λ _. refl))

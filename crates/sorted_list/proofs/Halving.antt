@@ -2,31 +2,27 @@
 use Rattle.std.proofs.Common.{◌≡◌, ℕ, ◌+◌, ◌-◌, ◌*◌, ◌^◌, ◌<◌, ◌≤◌, Bool, true, false, List, length, get_or, sym, ap, ◌∙◌, inl, inr, arith, add-one}
 use Rattle.std.proofs.Math.Nat.{mul-le-mul_left, pow-succ'}
 use Rattle.std.proofs.lemmas.Bool.{cases_lt, cases_Bool}
-use Rattle.huge_index.specs.declared.key.Key.{Key}
-use Rattle.huge_index.specs.Order.{comes_before, IsInOrder}
+use Rattle.sorted_list.specs.Order.{IsOrder, IsInOrder}
 
--- a test that an earlier key passes where a later one does
-abbrev pub IsClosed : (Key → Bool) → Type 0
-IsClosed p = (a b : Key) → comes_before b a ≡ false → p b ≡ true → p a ≡ true
-
--- before a key that passes, all keys do
-pub all_before : (keys : List Key) (p : Key → Bool) (middle : ℕ) → IsClosed p → IsInOrder keys → middle < length keys → ((d : Key) → p (get_or keys middle d) ≡ true) → (i : ℕ) (d : Key) → i < middle + 1 → p (get_or keys i d) ≡ true
-all_before keys p middle closed order inside here i d l =
-    elim (cases_lt i middle) [
-      | inl earlier ↦ closed (get_or keys i d) (get_or keys middle d) (order i middle d earlier inside) (here d)
-      | inr at ↦ (let same : middle ≡ i = omega arith in ap (λ (j : ℕ). p (get_or keys j d)) (sym same) ∙ here d)
-    ]
-
--- behind a key that doesn't, none does
-pub none_behind : (keys : List Key) (p : Key → Bool) (middle : ℕ) → IsClosed p → IsInOrder keys → ((d : Key) → p (get_or keys middle d) ≡ false) → (i : ℕ) (d : Key) → middle ≤ i → i < length keys → p (get_or keys i d) ≡ false
-none_behind keys p middle closed order here i d from inside =
-    elim (cases_lt middle i) [
-      | inl later ↦ elim (cases_Bool (p (get_or keys i d))) [
-        | inl passed ↦ absurd (let c : true ≡ false = sym (closed (get_or keys middle d) (get_or keys i d) (order middle i d later inside) passed) ∙ here d in cc)
-        | inr failed ↦ failed
+module _ {K : Type 0} (before : K → K → Bool) (total : IsOrder K before) (keys : List K) (order : IsInOrder before keys) where
+  -- before a key that comes before another one, all keys do
+  pub all_before : (key : K) (middle : ℕ) → middle < length keys → ((d : K) → before (get_or keys middle d) key ≡ true) → (i : ℕ) (d : K) → i < middle + 1 → before (get_or keys i d) key ≡ true
+  all_before key middle inside here i d l =
+      elim (cases_lt i middle) [
+        | inl earlier ↦ total.passes (get_or keys i d) (get_or keys middle d) key (order i middle d earlier inside) (here d)
+        | inr at ↦ (let same : middle ≡ i = omega arith in ap (λ (j : ℕ). before (get_or keys j d) key) (sym same) ∙ here d)
       ]
-      | inr at ↦ (let same : middle ≡ i = omega arith in ap (λ (j : ℕ). p (get_or keys j d)) (sym same) ∙ here d)
-    ]
+
+  -- behind a key that doesn't, none does
+  pub none_behind : (key : K) (middle : ℕ) → ((d : K) → before (get_or keys middle d) key ≡ false) → (i : ℕ) (d : K) → middle ≤ i → i < length keys → before (get_or keys i d) key ≡ false
+  none_behind key middle here i d from inside =
+      elim (cases_lt middle i) [
+        | inl later ↦ elim (cases_Bool (before (get_or keys i d) key)) [
+          | inl passed ↦ absurd (let c : true ≡ false = sym (total.passes (get_or keys middle d) (get_or keys i d) key (order middle i d later inside) passed) ∙ here d in cc)
+          | inr failed ↦ failed
+        ]
+        | inr at ↦ (let same : middle ≡ i = omega arith in ap (λ (j : ℕ). before (get_or keys j d) key) (sym same) ∙ here d)
+      ]
 
 -- one read more halves what is left
 pub halved : (k size half n : ℕ) → 0 < size → half + half ≤ size → 2 ^ k * size ≤ n → (2 ^ (k + 1) * half ≤ n) × (2 ^ (k + 1) ≤ 2 * n + 1)

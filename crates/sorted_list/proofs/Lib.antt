@@ -1,0 +1,8 @@
+pub mod Changes
+mod Exchanged
+mod Found
+mod Halving
+mod Moves
+pub mod Rows
+mod Slots
+mod Turns

@@ -1,0 +1,54 @@
+use Rattle.std.proofs.Common.{ℕ, ◌<◌, List, length, ap, sym, ◌∙◌, arith}
+use Rattle.std.specs.Prelude.{slice_get}
+use Rattle.std.proofs.lemmas.Option.{slice_get_read}
+use Rattle.sorted_list.specs.Contents.{Contents}
+use Rattle.sorted_list.proofs.Moves.{written, came}
+use Rattle.sorted_list.proofs.Slots.{slot_fits}
+use Rattle.sorted_list.proofs.list.SortedList.insert.Goals as goal
+
+pub index_mut-requires : goal.index_mut-requires
+index_mut-requires g c =
+    let order = c.self.inside.order.items in
+    omega (arith, slot_fits order (length c.self.inside.slots.items) c.self.invariant.once c.self.inside.len c.index-slot.result.now (omega (arith, ap (λ (v : Contents g.row.K.Denot). v.spare) c.self.view_is, c.requires)) (sym c.index-slot.ensures), c.self.inside.slots.ok.0)
+
+pub turn-requires-clause-held : goal.turn-requires-clause-held
+turn-requires-clause-held g c =
+    let order = c.self.inside.order.items in
+    let len = c.self.inside.len in
+    ap (λ (xs : List ℕ). slice_get xs len) c.deref_mut.ensures.value ∙ slice_get_read order (length order) len c.index-slot.result.now (omega arith) (omega (arith, ap (λ (v : Contents g.row.K.Denot). v.spare) c.self.view_is, c.requires)) c.index-slot.ensures
+
+pub invariant_of-self : goal.invariant_of-self
+invariant_of-self g c =
+    let before = g.K.SortKey.before in
+    let slots = c.self.inside.slots.items in
+    let order = c.self.inside.order.items in
+    let len = c.self.inside.len in
+    let slot = c.index-slot.result.now in
+    let same = ap (λ (v : Contents g.row.K.Denot). v.keys) c.self.view_is in
+    let back = written c.self.inside.order.len order c.deref_mut.result.now c.turn.new.order len _ slot c.deref_mut.ensures.len c.deref_mut.ensures.value c.turn.ensures.len c.turn.ensures.after in
+    let room : len < length order = omega (arith, ap (λ (v : Contents g.row.K.Denot). v.spare) c.self.view_is, c.requires) in
+    (came before g.met.K.SortKey.order g.K.SortKey.sample slots order len c.self.invariant c.args.self.now.keys same c.args.key c.place-place.result slot _ c.place-place.ensures.order c.place-place.ensures.place room c.index-slot.ensures back).0
+
+pub returns-clause-keys : goal.returns-clause-keys
+returns-clause-keys g c =
+    let before = g.K.SortKey.before in
+    let slots = c.self.inside.slots.items in
+    let order = c.self.inside.order.items in
+    let len = c.self.inside.len in
+    let slot = c.index-slot.result.now in
+    let same = ap (λ (v : Contents g.row.K.Denot). v.keys) c.self.view_is in
+    let back = written c.self.inside.order.len order c.deref_mut.result.now c.turn.new.order len _ slot c.deref_mut.ensures.len c.deref_mut.ensures.value c.turn.ensures.len c.turn.ensures.after in
+    let room : len < length order = omega (arith, ap (λ (v : Contents g.row.K.Denot). v.spare) c.self.view_is, c.requires) in
+    (came before g.met.K.SortKey.order g.K.SortKey.sample slots order len c.self.invariant c.args.self.now.keys same c.args.key c.place-place.result slot _ c.place-place.ensures.order c.place-place.ensures.place room c.index-slot.ensures back).1
+
+pub returns-clause-held : goal.returns-clause-held
+returns-clause-held g c =
+    let before = g.K.SortKey.before in
+    let slots = c.self.inside.slots.items in
+    let order = c.self.inside.order.items in
+    let len = c.self.inside.len in
+    let slot = c.index-slot.result.now in
+    let same = ap (λ (v : Contents g.row.K.Denot). v.keys) c.self.view_is in
+    let back = written c.self.inside.order.len order c.deref_mut.result.now c.turn.new.order len _ slot c.deref_mut.ensures.len c.deref_mut.ensures.value c.turn.ensures.len c.turn.ensures.after in
+    let room : len < length order = omega (arith, ap (λ (v : Contents g.row.K.Denot). v.spare) c.self.view_is, c.requires) in
+    (came before g.met.K.SortKey.order g.K.SortKey.sample slots order len c.self.invariant c.args.self.now.keys same c.args.key c.place-place.result slot _ c.place-place.ensures.order c.place-place.ensures.place room c.index-slot.ensures back).2

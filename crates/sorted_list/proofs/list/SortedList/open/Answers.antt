@@ -1,0 +1,24 @@
+use Rattle.std.proofs.Common.{◌≡◌, ◌+◌, cond, nat_lt, ◌∷◌, [], ◌++◌, length, ap, sym, ◌∙◌, arith}
+use Rattle.std.proofs.lemmas.List.{length-append}
+use Rattle.sorted_list.specs.Kept.{times}
+use Rattle.sorted_list.proofs.Slots.{counted_more}
+use Rattle.sorted_list.proofs.list.SortedList.open.Goals as goal
+
+pub loop-slot-preserved : goal.loop-slot-preserved
+loop-slot-preserved g c =
+    let items : c.push.new.self.items ≡ c.loop-slot.order.items ++ c.loop-slot.slot ∷ [] = c.in_ok-push.ensures.items in
+    record {
+      once = λ s. ap (times s) items ∙ counted_more c.loop-slot.order.items c.loop-slot.slot s (c.loop-slot.invariant.once s);
+      size = ap length items ∙ length-append c.loop-slot.order.items (c.loop-slot.slot ∷ []) ∙ ap (λ n. n + 1) c.loop-slot.invariant.size;
+    }
+
+pub invariant_of-result : goal.invariant_of-result
+invariant_of-result g c =
+    let size : length c.in_ok-vec.field-0.items ≡ c.loop-slot.slot = omega (arith, c.in_ok-vec.ensures.len, c.in_ok-vec.field-0.ok.0) in
+    record {
+      once = λ s. c.loop-slot.invariant.once s ∙ ap (λ n. cond (nat_lt s n) 1 0) (sym size);
+      sorted = λ i j d less inside. absurd (omega arith);
+      within = omega arith;
+      size = omega (arith, c.loop-slot.invariant.size);
+      most = omega (arith, c.loop-slot.invariant.size);
+    }

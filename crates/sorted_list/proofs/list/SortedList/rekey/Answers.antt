@@ -1,0 +1,59 @@
+use Rattle.std.proofs.Common.{ℕ, List, length, ap, sym, ◌∙◌, arith}
+use Rattle.std.specs.Prelude.{slice_get}
+use Rattle.std.proofs.lemmas.Option.{slice_get_read}
+use Rattle.sorted_list.specs.Contents.{Contents}
+use Rattle.sorted_list.proofs.Changes.{held_at}
+use Rattle.sorted_list.proofs.Moves.{written, changed}
+use Rattle.sorted_list.proofs.Slots.{slot_fits, keys_len}
+use Rattle.sorted_list.proofs.list.SortedList.rekey.Goals as goal
+
+pub index_mut-requires : goal.index_mut-requires
+index_mut-requires g c =
+    let order = c.self.inside.order.items in
+    let now = c.args.self.now.keys in
+    let held = held_at g.K.SortKey.before g.met.K.SortKey.order now c.args.from c.place-place.result c.place-place.ensures.order c.place-place.ensures.place c.requires in
+    let size = keys_len g.K.SortKey.sample c.self.inside.slots.items order c.self.inside.len c.self.invariant.within in
+    let same = ap (λ (v : Contents g.row.K.Denot). length v.keys) c.self.view_is in
+    omega (arith, slot_fits order (length c.self.inside.slots.items) c.self.invariant.once c.place-place.result c.index-slot.result.now (omega (arith, held.0, c.self.invariant.within)) (sym c.index-slot.ensures), c.self.inside.slots.ok.0)
+
+pub turn-requires-clause-held : goal.turn-requires-clause-held
+turn-requires-clause-held g c =
+    let order = c.self.inside.order.items in
+    let now = c.args.self.now.keys in
+    let held = held_at g.K.SortKey.before g.met.K.SortKey.order now c.args.from c.place-place.result c.place-place.ensures.order c.place-place.ensures.place c.requires in
+    let size = keys_len g.K.SortKey.sample c.self.inside.slots.items order c.self.inside.len c.self.invariant.within in
+    let same = ap (λ (v : Contents g.row.K.Denot). length v.keys) c.self.view_is in
+    ap (λ (xs : List ℕ). slice_get xs c.place-place.result) c.deref_mut.ensures.value ∙ slice_get_read order (length order) c.place-place.result c.index-slot.result.now (omega arith) (omega (arith, held.0, c.self.invariant.within)) c.index-slot.ensures
+
+pub invariant_of-self : goal.invariant_of-self
+invariant_of-self g c =
+    let before = g.K.SortKey.before in
+    let slots = c.self.inside.slots.items in
+    let order = c.self.inside.order.items in
+    let len = c.self.inside.len in
+    let slot = c.index-slot.result.now in
+    let same = ap (λ (v : Contents g.row.K.Denot). v.keys) c.self.view_is in
+    let back = written c.self.inside.order.len order c.deref_mut.result.now c.turn.new.order c.place-place.result _ slot c.deref_mut.ensures.len c.deref_mut.ensures.value c.turn.ensures.len c.turn.ensures.after in
+    (changed before g.met.K.SortKey.order g.K.SortKey.sample slots order len c.self.invariant c.args.self.now.keys same c.args.from c.args.to c.place-place.result c.place-target.result slot _ c.place-place.ensures.order c.place-place.ensures.place c.place-target.ensures.place c.requires c.index-slot.ensures back).0
+
+pub returns-clause-keys : goal.returns-clause-keys
+returns-clause-keys g c =
+    let before = g.K.SortKey.before in
+    let slots = c.self.inside.slots.items in
+    let order = c.self.inside.order.items in
+    let len = c.self.inside.len in
+    let slot = c.index-slot.result.now in
+    let same = ap (λ (v : Contents g.row.K.Denot). v.keys) c.self.view_is in
+    let back = written c.self.inside.order.len order c.deref_mut.result.now c.turn.new.order c.place-place.result _ slot c.deref_mut.ensures.len c.deref_mut.ensures.value c.turn.ensures.len c.turn.ensures.after in
+    (changed before g.met.K.SortKey.order g.K.SortKey.sample slots order len c.self.invariant c.args.self.now.keys same c.args.from c.args.to c.place-place.result c.place-target.result slot _ c.place-place.ensures.order c.place-place.ensures.place c.place-target.ensures.place c.requires c.index-slot.ensures back).1
+
+pub returns-clause-held : goal.returns-clause-held
+returns-clause-held g c =
+    let before = g.K.SortKey.before in
+    let slots = c.self.inside.slots.items in
+    let order = c.self.inside.order.items in
+    let len = c.self.inside.len in
+    let slot = c.index-slot.result.now in
+    let same = ap (λ (v : Contents g.row.K.Denot). v.keys) c.self.view_is in
+    let back = written c.self.inside.order.len order c.deref_mut.result.now c.turn.new.order c.place-place.result _ slot c.deref_mut.ensures.len c.deref_mut.ensures.value c.turn.ensures.len c.turn.ensures.after in
+    (changed before g.met.K.SortKey.order g.K.SortKey.sample slots order len c.self.invariant c.args.self.now.keys same c.args.from c.args.to c.place-place.result c.place-target.result slot _ c.place-place.ensures.order c.place-place.ensures.place c.place-target.ensures.place c.requires c.index-slot.ensures back).2

@@ -1,0 +1,234 @@
+//! Keys in order, in room that is made at the opening.
+ghost use Rattle.std.specs.Prelude.{◌≡◌, ◌+◌, ◌-◌, ◌*◌, ◌^◌, ◌<◌, ◌≤◌, ◌↔◌, true, None, [], ◌∷◌, length, slice_get, All, Contains, IsPermutation, IfOk, IfSome, insert, remove, nat_le, if◌then◌else◌};
+
+use crate::key::SortKey;
+use crate::steps::Steps;
+use std::alloc::{AllocError, Global};
+use std::marker::{Brand, Model};
+use std::sync::ledger::{Blank, Ledger};
+
+/// The most keys of a list, so that a slot is numbered by a `u16`.
+const MOST_KEYS: usize = 65_536;
+
+/// Keys in their order. Contracts see them so, and how many more there is room for. Each key lies in a
+/// slot: one that comes or leaves moves numbers of slots, and no other key.
+#[derive(Drop)]
+pub struct SortedList<K: SortKey> {
+    slots: Vec<K>,
+    /// The numbers of all slots: first those of the keys, in the keys' order.
+    order: Vec<u16>,
+    len: usize,
+}
+
+impl<K: SortKey> Model for SortedList<K> {
+    ghost use Rattle.std.specs.Prelude.{◌-◌, length};
+    ghost use Rattle.sorted_list.specs.Contents.{Contents, keys_of};
+    ghost use Rattle.sorted_list.specs.Kept.{IsKept};
+
+    ghost Value = { Contents K };
+
+    ghost view = { λ l. record { keys = keys_of K.sample l.slots.items l.order.items l.len; spare = length l.order.items - l.len } };
+
+    ghost invariant = { λ l. IsKept K.before K.sample l.slots.items l.order.items l.len };
+}
+
+/// Takes the number at a place out, and puts it in before a target: those between the two move by one.
+fn turn(order: &mut [u16], place: usize, target: usize, slot: u16)
+    requires held { slice_get order.old place ≡ Some slot }
+    requires within { target ≤ length order.old }
+    ensures after { order.new ≡ insert (remove order.old place) (if nat_le target place then target else target - 1) slot }
+    ensures len { length order.new ≡ length order.old }
+{
+    if target <= place {
+        order[target..place + 1].rotate_right(1);
+        order[target] = slot;
+    } else {
+        order[place..target].rotate_left(1);
+        order[target - 1] = slot;
+    }
+}
+
+impl<K: SortKey> SortedList<K> {
+    ghost use Rattle.sorted_list.specs.Order.{IsInOrder, IsFirstFrom, IsFirst, IsLast};
+    ghost use Rattle.sorted_list.specs.Search.{IsPlaceOf};
+
+    /// A list without keys, with room for `room` of them. Want of memory is answered for more than 65,536
+    /// too.
+    pub fn open(alloc: Global, room: usize) -> Result<Self, AllocError>
+        ensures keys { IfOk result (λ list. list.keys ≡ []) }
+        ensures spare { IfOk result (λ list. list.spare ≡ room) }
+    {
+        if room > MOST_KEYS {
+            return Err(AllocError);
+        }
+        let mut order = Vec::with_capacity(alloc, room)?;
+        for slot in 0..room {
+            order.push(slot as u16)?;
+        }
+        Ok(SortedList {
+            slots: vec![in alloc; K::sample(); room]?,
+            order,
+            len: 0,
+        })
+    }
+
+    /// How many keys there are.
+    pub fn len(&self) -> usize
+        ensures len { result ≡ length self.now.keys }
+        ensures order { IsInOrder K.before self.now.keys }
+    {
+        self.len
+    }
+
+    /// The key at a place.
+    fn at(&self, place: usize) -> K
+        requires { place < length self.now.keys }
+        ensures { slice_get self.now.keys place ≡ Some result }
+    {
+        self.slots[self.order[place] as usize]
+    }
+
+    /// Reads a key to compare it: the one way to a key from a search, and one step.
+    fn read<L: Ledger>(&self, place: usize, steps: &mut Steps<L>) -> K
+        requires { place < length self.now.keys }
+        ensures key { slice_get self.now.keys place ≡ Some result }
+        ensures step { steps.new ≡ steps.old + 1 }
+    {
+        steps.tick();
+        self.at(place)
+    }
+
+    /// How many keys come before a key.
+    fn search<L: Ledger>(&self, key: K, steps: &mut Steps<L>) -> usize
+        ensures order { IsInOrder K.before self.now.keys }
+        ensures place { IsPlaceOf K.before self.now.keys key result }
+        ensures counted { steps.old ≤ steps.new }
+        ensures cost { 2 ^ (steps.new - steps.old) ≤ 2 * length self.now.keys + 1 }
+    {
+        let mut low = 0;
+        let mut high = self.len();
+        while low < high {
+            let middle = low + (high - low) / 2;
+            if self.read(middle, steps).comes_before(key) {
+                low = middle + 1;
+            } else {
+                high = middle;
+            }
+        }
+        low
+    }
+
+    /// The first key that doesn't come before `from`. At most as many keys are read as the number of keys
+    /// has binary digits.
+    pub fn first_from<L: Ledger>(&self, from: K, steps: &mut Steps<L>) -> Option<K>
+        ensures found { IfSome result (IsFirstFrom K.before self.now.keys from) }
+        ensures none { (result ≡ None) ↔ All (λ key. K.before key from ≡ true) self.now.keys }
+        ensures counted { steps.old ≤ steps.new }
+        ensures cost { 2 ^ (steps.new - steps.old) ≤ 2 * length self.now.keys + 1 }
+    {
+        let place = self.search(from, steps);
+        if place < self.len() {
+            Some(self.at(place))
+        } else {
+            None
+        }
+    }
+
+    /// The same, by steps that are counted on a ledger of its own.
+    fn found_by<L: Ledger>(&self, from: K, blank: Blank) -> Option<K>
+        requires name { blank.name ≡ L.name }
+        requires parts { blank.parts ≡ L.parts }
+        requires some { 0 < L.parts }
+        ensures found { IfSome result (IsFirstFrom K.before self.now.keys from) }
+        ensures none { (result ≡ None) ↔ All (λ key. K.before key from ≡ true) self.now.keys }
+    {
+        self.first_from(from, &mut Steps::<L>::new(blank))
+    }
+
+    /// The first key that doesn't come before `from`, for a caller that counts no steps.
+    pub fn first_at_or_after(&self, from: K) -> Option<K>
+        ensures found { IfSome result (IsFirstFrom K.before self.now.keys from) }
+        ensures none { (result ≡ None) ↔ All (λ key. K.before key from ≡ true) self.now.keys }
+    {
+        self.found_by::<Brand>(from, Blank::new(1))
+    }
+
+    /// The first key.
+    pub fn first(&self) -> Option<K>
+        ensures found { IfSome result (IsFirst K.before self.now.keys) }
+        ensures none { (result ≡ None) ↔ (self.now.keys ≡ []) }
+    {
+        if self.len() == 0 {
+            return None;
+        }
+        Some(self.at(0))
+    }
+
+    /// The last key.
+    pub fn last(&self) -> Option<K>
+        ensures found { IfSome result (IsLast K.before self.now.keys) }
+        ensures none { (result ≡ None) ↔ (self.now.keys ≡ []) }
+    {
+        let place = self.len().checked_sub(1)?;
+        Some(self.at(place))
+    }
+
+    /// How many keys come before a key, by steps that are counted on a ledger of its own.
+    fn place_by<L: Ledger>(&self, key: K, blank: Blank) -> usize
+        requires name { blank.name ≡ L.name }
+        requires parts { blank.parts ≡ L.parts }
+        requires some { 0 < L.parts }
+        ensures order { IsInOrder K.before self.now.keys }
+        ensures place { IsPlaceOf K.before self.now.keys key result }
+    {
+        self.search(key, &mut Steps::<L>::new(blank))
+    }
+
+    /// How many keys come before a key.
+    fn place(&self, key: K) -> usize
+        ensures order { IsInOrder K.before self.now.keys }
+        ensures place { IsPlaceOf K.before self.now.keys key result }
+    {
+        self.place_by::<Brand>(key, Blank::new(1))
+    }
+
+    /// Adds a key.
+    pub fn insert(&mut self, key: K)
+        requires { 0 < self.old.spare }
+        ensures keys { IsPermutation (key ∷ self.old.keys) self.new.keys }
+        ensures held { Contains self.new.keys key }
+        ensures spare { self.new.spare + 1 ≡ self.old.spare }
+    {
+        let place = self.place(key);
+        let slot = self.order[self.len];
+        self.slots[slot as usize] = key;
+        turn(&mut self.order, self.len, place, slot);
+        self.len += 1;
+    }
+
+    /// Takes a key out.
+    pub fn remove(&mut self, key: K)
+        requires { Contains self.old.keys key }
+        ensures keys { IsPermutation self.old.keys (key ∷ self.new.keys) }
+        ensures spare { self.new.spare ≡ self.old.spare + 1 }
+    {
+        let place = self.place(key);
+        let slot = self.order[place];
+        turn(&mut self.order, place, self.len, slot);
+        self.len -= 1;
+    }
+
+    /// Puts a key in place of another one.
+    pub fn rekey(&mut self, from: K, to: K)
+        requires { Contains self.old.keys from }
+        ensures keys { IsPermutation (to ∷ self.old.keys) (from ∷ self.new.keys) }
+        ensures held { Contains self.new.keys to }
+        ensures spare { self.new.spare ≡ self.old.spare }
+    {
+        let place = self.place(from);
+        let target = self.place(to);
+        let slot = self.order[place];
+        self.slots[slot as usize] = to;
+        turn(&mut self.order, place, target, slot);
+    }
+}
