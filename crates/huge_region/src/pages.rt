@@ -5,8 +5,8 @@ ghost use Rattle.std.specs.List.{slice_index_or};
 ghost use Rattle.range_bits.specs.Ranges.{best, longest, used_from, used_count};
 
 use crate::touched::{count_down, count_up, set_all};
+use free_ranges::RangedBits;
 use huge_index::Key;
-use range_bits::WideBits;
 use std::alloc::{AllocError, Global};
 use std::marker::Model;
 use tc_units::{HUGE_PAGES, Huge, RowKind, RowView};
@@ -15,7 +15,7 @@ use tc_units::{HUGE_PAGES, Huge, RowKind, RowView};
 #[derive(Drop)]
 pub struct RegionPages {
     first: Huge,
-    used: WideBits,
+    used: RangedBits,
     allocs: Vec<u32>,
     backed: Vec<bool>,
     longest_range: u32,
@@ -57,7 +57,7 @@ impl RegionPages {
     {
         Ok(RegionPages {
             first: Huge(0),
-            used: WideBits::open(alloc, 4 * width as usize)?,
+            used: RangedBits::open(alloc, 4 * width as usize, width as usize)?,
             allocs: vec![in alloc; 0; width as usize]?,
             backed: vec![in alloc; false; width as usize]?,
             longest_range: HUGE_PAGES * width,

@@ -1,14 +1,16 @@
 //! A region's pages: as many places as a list of words has bits.
 ghost use Rattle.std.specs.Prelude.{◌≡◌, ◌+◌, ◌*◌, ◌≤◌, ◌<◌, ◌↔◌, false, true, None, length, take, drop, replicate, IfOk};
 ghost use Rattle.std.specs.List.{slice_index_or};
-ghost use Rattle.range_bits.specs.Fills.{FillsLast};
+ghost use Rattle.range_bits.specs.Fills.{FillsLast, IsEnd};
 ghost use Rattle.range_bits.specs.Ranges.{free_from, used_from, used_count, longest, best, with_places};
+ghost use Rattle.range_bits.specs.Words.{IsNext};
 
 mod stretches;
 
 use crate::marks::{mark, unmark};
 use crate::ranges;
-use crate::wide_bits::stretches::{fill, fill_last, free_between, longest_in};
+use crate::wide_bits::stretches::{end_place, fill, fill_last, free_between, longest_in};
+use crate::words::next_place;
 use std::alloc::{AllocError, Global};
 use std::marker::Model;
 
@@ -103,6 +105,22 @@ impl WideBits {
         ensures { result ≡ slice_index_or self.now place true }
     {
         self.words[place as usize / 64] >> (place % 64) & 1 == 1
+    }
+
+    /// Where the last used place before a place ends; 0 where there is none.
+    pub fn used_end(&self, before: u32) -> u32
+        requires { before ≤ length self.now }
+        ensures { IsEnd self.now before true result }
+    {
+        end_place(&self.words, before as usize, true) as u32
+    }
+
+    /// The first used place from a place on; the number of places where there is none.
+    pub fn next_used(&self, from: u32) -> u32
+        requires { from ≤ length self.now }
+        ensures { IsNext self.now from true result }
+    {
+        next_place(&self.words, from as usize, true) as u32
     }
 
     /// How many of `n` places are used, from `start` on.

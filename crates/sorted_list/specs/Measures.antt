@@ -64,6 +64,9 @@ pass_last a b p r s t h k rest =
 pass_number : (a b p : ℕ) → nat_lt b a ≡ false → nat_lt b p ≡ true → nat_lt a p ≡ true
 pass_number a b p h k = grind (arith, nat_tests)
 
+pass_back : (a b p : ℕ) → nat_lt a b ≡ false → nat_lt p b ≡ true → nat_lt p a ≡ true
+pass_back a b p h k = grind (arith, nat_tests)
+
 back : (x y : ℕ) (r s : Bool) → first_by x y r ≡ true → (r ≡ true → s ≡ false) → first_by y x s ≡ false
 back x y r s h rest =
     elim (yes x y r h) [
@@ -109,6 +112,10 @@ order_of before alike by one = record { one_way = by.one_way; passes = by.passes
 -- the least number first
 pub by_number : {K : Type 0} (f : K → ℕ) → IsOrderBy K (λ a b. nat_lt (f a) (f b)) (λ a b. f a ≡ f b)
 by_number f = record { one_way = λ a b h. back_number (f a) (f b) h; passes = λ a b c h k. pass_number (f a) (f b) (f c) h k; same = λ a b h k. level_number (f a) (f b) h k }
+
+-- or the greatest
+pub by_greatest : {K : Type 0} (f : K → ℕ) → IsOrderBy K (λ a b. nat_lt (f b) (f a)) (λ a b. f b ≡ f a)
+by_greatest f = record { one_way = λ a b h. back_number (f b) (f a) h; passes = λ a b c h k. pass_back (f a) (f b) (f c) h k; same = λ a b h k. level_number (f b) (f a) h k }
 
 -- a measure before others: the least first, or the greatest
 pub least_first : {K : Type 0} (f : K → ℕ) (rest : K → K → Bool) (alike : K → K → Type 0) → IsOrderBy K rest alike → IsOrderBy K (λ a b. first_by (f a) (f b) (rest a b)) (λ a b. (f a ≡ f b) × alike a b)

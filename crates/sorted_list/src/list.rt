@@ -1,5 +1,5 @@
 //! Keys in order, in room that is made at the opening.
-ghost use Rattle.std.specs.Prelude.{◌≡◌, ◌+◌, ◌-◌, ◌*◌, ◌^◌, ◌<◌, ◌≤◌, ◌↔◌, true, None, [], ◌∷◌, length, slice_get, All, Contains, IsPermutation, IfOk, IfSome, insert, remove, nat_le, if◌then◌else◌};
+ghost use Rattle.std.specs.Prelude.{◌≡◌, ◌+◌, ◌-◌, ◌*◌, ◌^◌, ◌<◌, ◌≤◌, ◌↔◌, true, None, [], ◌∷◌, length, slice_get, All, Contains, IsPermutation, IsTrue, IfOk, IfSome, insert, remove, nat_le, if◌then◌else◌};
 
 use crate::key::SortKey;
 use crate::steps::Steps;
@@ -78,6 +78,13 @@ impl<K: SortKey> SortedList<K> {
         ensures order { IsInOrder K.before self.now.keys }
     {
         self.len
+    }
+
+    /// Whether there is no room for another key.
+    pub fn is_full(&self) -> bool
+        ensures { IsTrue result ↔ (self.now.spare ≡ 0) }
+    {
+        self.len == self.order.len()
     }
 
     /// The key at a place.

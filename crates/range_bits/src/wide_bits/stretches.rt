@@ -46,7 +46,7 @@ pub fn longest_in(words: &[u64], first: usize, count: usize) -> u32
 }
 
 /// Where the last place before a place ends that is used, or that is free; 0 where there is none.
-fn end_place(words: &[u64], before: usize, used: bool) -> usize
+pub fn end_place(words: &[u64], before: usize, used: bool) -> usize
     requires fits { 64 * length words.now < 2 ^ 32 }
     requires inside { before ≤ 64 * length words.now }
     ensures { IsEnd (row_of words.now) before used result }

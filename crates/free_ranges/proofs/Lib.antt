@@ -1,0 +1,5 @@
+mod Found
+mod Listed
+mod Lists
+mod Marked
+mod Pieces

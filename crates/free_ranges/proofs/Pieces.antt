@@ -1,0 +1,81 @@
+-- The ranges that begin in a part of a row.
+use Rattle.std.proofs.Common.{◌≡◌, ℕ, zero, suc, ◌+◌, ◌-◌, ◌<◌, ◌≤◌, ◌==◌, ◌&&◌, ◌||◌, Bool, true, false, not, cond, nat_lt, List, ◌∷◌, length, get_or, drop, count_by, refl, sym, ap, ◌∙◌, inl, inr, arith, eq-eqb}
+use Rattle.std.specs.List.{range_with_len}
+use Rattle.std.proofs.lemmas.Bool.{cases_lt, and_from, and_left, and_right, or_left, or_right, ne_eqb, lt-ltb, le-ltb}
+use Rattle.std.proofs.lemmas.List.Sums.{sum_by-cons}
+use Rattle.range_bits.specs.Ranges.{free_from, begins_range, places}
+use Rattle.range_bits.proofs.Scan.{free_run}
+use Rattle.sorted_list.specs.Rows.{IsIndexOf}
+use Rattle.free_ranges.specs.declared.range.FreeRange.{FreeRange}
+use Rattle.free_ranges.specs.Ranges.{range_at, starts}
+use Rattle.free_ranges.proofs.Lists.{count_filter, count_no_one}
+
+-- whether a range that passes a test begins at a place
+abbrev pub tested : List Bool → (FreeRange → Bool) → ℕ → Bool
+tested row test place = begins_range row place && test (range_at row place)
+
+abbrev pub count_in : List Bool → (FreeRange → Bool) → ℕ → ℕ → ℕ
+count_in row test from to = count_by (tested row test) (range_with_len from (to - from))
+
+-- whether a range of a length counts, where it has places
+abbrev pub counts : (FreeRange → Bool) → ℕ → ℕ → ℕ
+counts test start len = cond (nat_lt 0 len && test (record { len = len; start = start })) 1 0
+
+pub counts_none : (test : FreeRange → Bool) (start len : ℕ) → len ≡ 0 → counts test start len ≡ 0
+counts_none test start len e = ap (λ (b : Bool). cond (b && test (record { len = len; start = start })) 1 0) (le-ltb 0 len (omega arith))
+
+pub counts_some : (test : FreeRange → Bool) (start len : ℕ) → 0 < len → counts test start len ≡ cond (test (record { len = len; start = start })) 1 0
+counts_some test start len some = ap (λ (b : Bool). cond (b && test (record { len = len; start = start })) 1 0) (lt-ltb 0 len some)
+
+-- no range begins at a used place, nor behind a free one
+pub used_begins : (row : List Bool) (p : ℕ) → get_or row p true ≡ true → begins_range row p ≡ false
+used_begins row p used = and_left _ _ (ap not used)
+
+pub behind_free : (row : List Bool) (p : ℕ) → 0 < p → get_or row (p - 1) true ≡ false → begins_range row p ≡ false
+behind_free row p pos free =
+    let first : (p == 0) ≡ false = ne_eqb p 0 (λ e. omega arith) in
+    and_right (not (get_or row p true)) (p == 0 || get_or row (p - 1) true) (ap (λ (b : Bool). b || get_or row (p - 1) true) first ∙ free)
+
+pub begins : (row : List Bool) (p : ℕ) → get_or row p true ≡ false → (0 < p → get_or row (p - 1) true ≡ true) → begins_range row p ≡ true
+begins row p free edge =
+    and_from (not (get_or row p true)) (p == 0 || get_or row (p - 1) true) (ap not free)
+    (elim (cases_lt 0 p) [
+      | inr first ↦ or_left (p == 0) (get_or row (p - 1) true) (eq-eqb p 0 (omega arith))
+      | inl later ↦ or_right (p == 0) (get_or row (p - 1) true) (edge later)
+    ])
+
+not_tested : (row : List Bool) (test : FreeRange → Bool) (p : ℕ) → begins_range row p ≡ false → tested row test p ≡ false
+not_tested row test p none = ap (λ (b : Bool). b && test (range_at row p)) none
+
+-- none begins in a used part
+pub used_part : (row : List Bool) (test : FreeRange → Bool) (from to : ℕ) → ((p : ℕ) → from ≤ p → p < to → get_or row p true ≡ true) → count_in row test from to ≡ 0
+used_part row test from to used = count_no_one (tested row test) from (to - from) (λ p low high. not_tested row test p (used_begins row p (used p low (omega arith))))
+
+-- one begins in a free part between used places, where it has places
+pub free_part : (row : List Bool) (test : FreeRange → Bool) (from to : ℕ) → from ≤ to → to ≤ length row → ((p : ℕ) → from ≤ p → p < to → get_or row p true ≡ false) → (0 < from → get_or row (from - 1) true ≡ true) → (to < length row → get_or row to true ≡ true) → count_in row test from to ≡ counts test from (to - from)
+free_part row test from to order inside free before behind =
+    elim (cases_lt from to) [
+      | inr none ↦
+          (let zero_len : to - from ≡ 0 = omega arith in
+          ap (λ (n : ℕ). count_by (tested row test) (range_with_len from n)) zero_len ∙ sym (counts_none test from (to - from) zero_len))
+      | inl some ↦
+          (let rest : ℕ = to - from - 1 in
+          let whole : to - from ≡ suc rest = omega arith in
+          let next : from + (to - from) ≡ to = omega arith in
+          let len : free_from row from ≡ to - from = free_run row (to - from) from (omega arith) (λ j low high. free j low (omega arith)) (λ l. ap (λ (k : ℕ). get_or row k true) next ∙ behind (omega arith)) in
+          let here : tested row test from ≡ test (record { len = to - from; start = from }) =
+          ap (λ (b : Bool). b && test (range_at row from)) (begins row from (free from (omega arith) some) before)
+          ∙ ap (λ (l : ℕ). test (record { len = l; start = from })) len in
+          let none : count_by (tested row test) (range_with_len (from + 1) rest) ≡ 0 =
+          count_no_one (tested row test) (from + 1) rest (λ p low high. not_tested row test p (behind_free row p (omega arith) (free (p - 1) (omega arith) (omega arith)))) in
+          let step = sum_by-cons (λ (p : ℕ). cond (tested row test p) 1 0) from (range_with_len (from + 1) rest) in
+          let first : ◌≡◌ {A = ℕ} (cond (tested row test from) 1 0) (cond (test (record { len = to - from; start = from })) 1 0) = ap (λ (b : Bool). cond b 1 0) here in
+          let list : count_in row test from to ≡ count_by (tested row test) (from ∷ range_with_len (from + 1) rest) = ap (λ (n : ℕ). count_by (tested row test) (range_with_len from n)) whole in
+          omega (arith, counts_some test from (to - from) (omega arith)))
+    ]
+
+-- the ranges of a whole row
+pub all_parts : (row : List Bool) (test : FreeRange → Bool) → count_by (λ p. test (range_at row p)) (starts row) ≡ count_in row test 0 (length row)
+all_parts row test =
+    let whole : length row ≡ length row - 0 = omega arith in
+    count_filter (begins_range row) (λ p. test (range_at row p)) (places row) ∙ ap (λ (n : ℕ). count_by (tested row test) (range_with_len 0 n)) whole
