@@ -17,7 +17,7 @@ use Rattle.huge_filler.specs.Keys.{key_of, IsKept}
 use Rattle.huge_filler.proofs.Numbered.{weight, numbered-set, numbered-held, numbered-short, numbered-none}
 
 -- a count over all is the length
-count_all : {X : Type 0} (xs : List X) → count_by (λ x. true) xs ≡ length xs
+pub count_all : {X : Type 0} (xs : List X) → count_by (λ x. true) xs ≡ length xs
 count_all [] = refl
 count_all (x ∷ xs) = let step = sum_by-cons (λ y. 1) x xs in let rest = count_all xs in omega arith
 

@@ -1,4 +1,5 @@
 pub mod Choosing
+pub mod Givers
 pub mod Giving
 pub mod Keeping
 pub mod Leaving

@@ -8,7 +8,6 @@ ghost use Rattle.heap_rules.specs.Heap.{run_at};
 ghost use Rattle.tc_units.specs.declared.spans.Run.{Run};
 ghost use Rattle.huge_filler.specs.Filler.{AreFillerPages, page_at, with_page, rows_of, fresh, donated_tail, after_take, unless_last, IsLive, donated_free, place_of, spare_count, only_used, candidate, released, released_count, view_of, FillerPage};
 ghost use Rattle.huge_filler.specs.Given.{given};
-ghost use Rattle.huge_filler.specs.Giving.{spare_of};
 ghost use Rattle.huge_filler.specs.Preferred.{IsPreferred};
 
 use crate::given::Given;
@@ -16,6 +15,7 @@ use crate::giver::Giver;
 use crate::preferred::first_of_tier;
 use crate::row::Row;
 use huge_index::HugeIndex;
+use sorted_list::SortedList;
 use std::alloc::{AllocError, Global};
 use std::marker::Model;
 use tc_units::{HUGE_PAGES, Huge, Page, RowView, Run};
@@ -27,6 +27,8 @@ pub struct HugeFiller {
     /// Hugepage `h` at place `h - 1`.
     rows: Vec<Option<Row>>,
     index: HugeIndex,
+    /// The hugepages in the order in which they give pages up.
+    givers: SortedList<Giver>,
     /// Free pages of donated hugepages.
     donated_free: u64,
 }
@@ -34,13 +36,14 @@ pub struct HugeFiller {
 impl Model for HugeFiller {
     ghost use Rattle.std.specs.Prelude.{List, Option};
     ghost use Rattle.huge_filler.specs.Filler.{FillerPage};
+    ghost use Rattle.huge_filler.specs.Giving.{AreGivers};
     ghost use Rattle.huge_filler.specs.Keys.{IsKept};
 
     ghost Value = { List (Option FillerPage) };
 
     ghost view = { λ f. f.rows.items };
 
-    ghost invariant = { λ f. IsKept f.rows.items f.index f.donated_free };
+    ghost invariant = { λ f. IsKept f.rows.items f.index f.donated_free × AreGivers f.rows.items f.givers };
 }
 
 /// Where a hugepage stands.
@@ -63,6 +66,7 @@ impl HugeFiller {
         Ok(HugeFiller {
             rows,
             index: HugeIndex::open(alloc, huge as usize)?,
+            givers: SortedList::open(alloc, huge as usize)?,
             donated_free: 0,
         })
     }
@@ -110,9 +114,11 @@ impl HugeFiller {
         ensures pages { self.new ≡ slice_set self.old place (Some row) }
         ensures sound { AreFillerPages self.new }
     {
-        let key = row.key(self.number(place));
+        let huge = self.number(place);
+        let key = row.key(huge);
         self.index
             .insert(key.tier, key.longest, key.allocs, key.huge);
+        self.givers.insert(row.giver(huge));
         self.donated_free += u64::from(row.donated_free());
         self.rows[place] = Some(row);
     }
@@ -124,10 +130,13 @@ impl HugeFiller {
         ensures sound { AreFillerPages self.new }
     {
         let row = self.at(place);
-        let key = row.key(self.number(place));
+        let huge = self.number(place);
+        let key = row.key(huge);
+        let giver = row.giver(huge);
         let free = u64::from(row.donated_free());
         self.index
             .remove(key.tier, key.longest, key.allocs, key.huge);
+        self.givers.remove(giver);
         self.donated_free -= free;
         self.rows[place] = None;
     }
@@ -141,8 +150,10 @@ impl HugeFiller {
         let before = self.at(place);
         let huge = self.number(place);
         let key = before.key(huge);
+        let giver = before.giver(huge);
         let free = u64::from(before.donated_free());
         self.index.rekey(key, row.key(huge));
+        self.givers.rekey(giver, row.giver(huge));
         self.donated_free = self.donated_free - free + u64::from(row.donated_free());
         self.rows[place] = Some(row);
     }
@@ -296,35 +307,20 @@ impl HugeFiller {
         spare
     }
 
-    /// The hugepage that gives pages up first, by a look at each.
-    fn first_giver(&self) -> Option<Giver>
-        ensures first { option_map spare_of result ≡ candidate self.now }
-        ensures arena { length self.now ≤ 4096 }
-        ensures sound { AreFillerPages self.now }
-    {
-        let mut found: Option<Giver> = None;
-        for place in (0..self.rows.len()).rev() {
-            if let Some(row) = &self.rows[place] {
-                let giver = Giver {
-                    huge: self.number(place),
-                    used: row.used(),
-                    spare: row.spare(),
-                };
-                found = giver.or_earlier(found);
-            }
-        }
-        found
-    }
-
     /// The hugepage that gives pages up first: of those with a backed page that isn't used, the one with
-    /// fewest used pages, ties by greatest number. Every hugepage is looked at.
+    /// fewest used pages, ties by greatest number.
     pub fn candidate(&self) -> Option<Huge>
         ensures first { option_map (λ h. h.0) result ≡ option_map (λ r. r.number) (candidate self.now) }
         ensures held { IfSome result (λ huge. IsSome (page_at self.now huge.0)) }
         ensures arena { length self.now ≤ 4096 }
         ensures sound { AreFillerPages self.now }
     {
-        self.first_giver().map(|giver| giver.huge)
+        // There are at most 4,096 hugepages.
+        let _ = &self.rows;
+        match self.givers.first() {
+            Some(giver) if !giver.spent => Some(giver.huge),
+            _ => None,
+        }
     }
 
     /// Gives backed pages up until `n` are given or no hugepage has one that isn't used, and says how many.

@@ -2,9 +2,11 @@
 ghost use Rattle.std.specs.Prelude.{◌≡◌, ◌+◌, ◌-◌, ◌≤◌, ◌<◌, true, false, Some, replicate};
 ghost use Rattle.std.specs.List.{list_all, slice_index_or};
 ghost use Rattle.range_bits.specs.Ranges.{free_from, used_from, used_count, longest, best};
-ghost use Rattle.huge_filler.specs.Filler.{fresh, donated_tail, joined, left, only_used, spare_count, free_of_donated, view_of, row_of, tier_of, IsFillerPage};
+ghost use Rattle.huge_filler.specs.Filler.{fresh, donated_tail, joined, left, only_used, spare_count, spare_row, free_of_donated, view_of, row_of, tier_of, IsFillerPage};
+ghost use Rattle.huge_filler.specs.Giving.{giver_of};
 ghost use Rattle.huge_filler.specs.Keys.{key_of};
 
+use crate::giver::Giver;
 use huge_index::Key;
 use range_bits::Bits256;
 use std::marker::Model;
@@ -141,6 +143,17 @@ impl Row {
             tier: self.tier(),
             longest: self.longest(),
             allocs: self.allocs(),
+            huge,
+        }
+    }
+
+    /// When it gives pages up.
+    pub fn giver(&self, huge: Huge) -> Giver
+        ensures { result ≡ giver_of (spare_row huge.0 self.now) }
+    {
+        Giver {
+            spent: self.spare() == 0,
+            used: self.used(),
             huge,
         }
     }

@@ -14,11 +14,11 @@ loop-tier-preserved c = below_more (λ t. All (λ key. ¬ (Serves t c.args.n key
 pub returns-in-Some-clause-found : goal.returns-in-Some-clause-found
 returns-in-Some-clause-found c =
     let found = c.in-Some.ensures.found in
-    subst (λ (pages : List (Option FillerPage)). IsPreferred pages c.args.n c.in-Some.huge) c.self.view_is (preferred_row c.self.inside.rows.items c.self.inside.index.keys c.args.n c.self.invariant.keys c.loop-tier.tier c.in-Some.huge found.0 c.loop-tier.invariant found.1 found.2)
+    subst (λ (pages : List (Option FillerPage)). IsPreferred pages c.args.n c.in-Some.huge) c.self.view_is (preferred_row c.self.inside.rows.items c.self.inside.index.keys c.args.n c.self.invariant.0.keys c.loop-tier.tier c.in-Some.huge found.0 c.loop-tier.invariant found.1 found.2)
 
 pub returns-clause-none : goal.returns-clause-none
 returns-clause-none c =
-    subst (λ (pages : List (Option FillerPage)). list_all (λ row. not (has_room c.args.n row)) (rows_of pages) ≡ true) c.self.view_is (none_has_room c.self.inside.rows.items c.self.inside.index.keys c.args.n c.self.invariant.keys (λ t l. c.loop-tier.invariant t (omega arith)))
+    subst (λ (pages : List (Option FillerPage)). list_all (λ row. not (has_room c.args.n row)) (rows_of pages) ≡ true) c.self.view_is (none_has_room c.self.inside.rows.items c.self.inside.index.keys c.args.n c.self.invariant.0.keys (λ t l. c.loop-tier.invariant t (omega arith)))
 
 pub returns-in-Some-clause-sound : goal.returns-in-Some-clause-sound
-returns-in-Some-clause-sound c = subst AreFillerPages c.self.view_is c.self.invariant.sound
+returns-in-Some-clause-sound c = subst AreFillerPages c.self.view_is c.self.invariant.0.sound

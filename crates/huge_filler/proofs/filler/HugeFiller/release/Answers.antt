@@ -14,7 +14,7 @@ overflow_add-given c =
     let m : ℕ = c.args.n - c.loop-given.given in
     let spare = c.from-given.ensures ∙ c.unback.ensures.count step.page step.row in
     let count = step_count pages m (c.in-Some.huge.0 - 1) step.page step.inside step.here c.loop-given.invariant.sound (omega (arith, c.loop-given-test.true)) step.first in
-    let before : length c.args.self.now ≤ 4096 = subst (λ (ps : List (Option FillerPage)). length ps ≤ 4096) c.self.view_is c.self.invariant.arena in
+    let before : length c.args.self.now ≤ 4096 = subst (λ (ps : List (Option FillerPage)). length ps ≤ 4096) c.self.view_is c.self.invariant.0.arena in
     omega (arith, spare, count, c.loop-given.invariant.count, released_bound c.args.self.now c.args.n before)
 
 pub loop-given-smaller : goal.loop-given-smaller
