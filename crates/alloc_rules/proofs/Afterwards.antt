@@ -34,6 +34,7 @@ use Rattle.rseq_core.specs.declared.cpu_part.CpuPart.{CpuPart}
 use Rattle.cpu_drain.specs.Seats.{IsStopping}
 use Rattle.call_steps.specs.declared.step.Step.{Step}
 use Rattle.call_steps.specs.declared.step.Step.TheVariants as does
+use Rattle.call_steps.specs.declared.step.CpuRow.TheVariants as front
 use Rattle.call_steps.specs.declared.step.CpuStep.TheVariants as cpu
 use Rattle.call_steps.specs.declared.step.HeapStep.TheVariants as heap
 use Rattle.call_steps.specs.declared.step.Stopping.{Stopping}
@@ -135,20 +136,20 @@ module _ (input : Input) (valid : IsValid input) (order : List ℕ) (few : lengt
   asked_some l (does.Heap (heap.GiveBack label run)) n low shape is = absurd (cc)
   asked_some l (does.Heap (heap.FreeSpan next)) n low shape is = absurd (cc)
   asked_some l (does.Heap (heap.Unback pages)) n low shape is = absurd (cc)
-  asked_some l (does.Cpu row) n low shape is = absurd (cc)
+  asked_some l (does.Front (front.Cpu row)) n low shape is = absurd (cc)
+  asked_some l (does.Front (front.Domain row)) n low shape is = absurd (cc)
   asked_some l (does.Shard row) n low shape is = absurd (cc)
   asked_some l (does.Map row) n low shape is = absurd (cc)
   asked_some l (does.Names row) n low shape is = absurd (cc)
-  asked_some l (does.Domain row) n low shape is = absurd (cc)
   asked_some l does.Ended n low shape is = absurd (cc)
 
   -- a thread that is to stop a CPU is the stopper of none
-  no_stopper : (i t : ℕ) (q : CpuPart) (l : Local) → slice_get p.cpus i ≡ Some q → slice_get locals t ≡ Some l → (s : Stopping) → l.step ≡ does.Cpu (cpu.Stop s) → q.stopper ≢ Some l.regs.thread
+  no_stopper : (i t : ℕ) (q : CpuPart) (l : Local) → slice_get p.cpus i ≡ Some q → slice_get locals t ≡ Some l → (s : Stopping) → l.step ≡ does.Front (front.Cpu (cpu.Stop s)) → q.stopper ≢ Some l.regs.thread
   no_stopper i t q l part at s step is =
       let own : l.regs.thread ≡ record { 0 = t } = ap (λ (n : ℕ). record { 0 = n }) (served.works t l at).shaped.thread in
       subst (λ (x : Step). IsStopping i (standing_of input.rows l.regs.class.0 x)) step ((served.seated i t q l part at).stops (is ∙ ap (λ (u : ThreadNo). Some u) own))
 
-  cap_class : (t : ℕ) (l : Local) → slice_get locals t ≡ Some l → (r : Resizing) → l.step ≡ does.Cpu (cpu.SetCap r) → l.regs.class ≡ r.class
+  cap_class : (t : ℕ) (l : Local) → slice_get locals t ≡ Some l → (r : Resizing) → l.step ≡ does.Front (front.Cpu (cpu.SetCap r)) → l.regs.class ≡ r.class
   cap_class t l at r step = (subst (StepShape (limits_in input) l) step (served.works t l at).shaped.step).2
 
   -- a block of a live run or of an object, in whichever order runs and spans stand

@@ -22,6 +22,7 @@ use Rattle.rseq_core.specs.declared.cpu_part.CpuPart.{CpuPart}
 use Rattle.call_steps.specs.declared.step.Asking.{Asking}
 use Rattle.call_steps.specs.declared.step.Step.{Step}
 use Rattle.call_steps.specs.declared.step.Step.TheVariants as does
+use Rattle.call_steps.specs.declared.step.CpuRow.TheVariants as front
 use Rattle.call_steps.specs.declared.step.CpuStep.TheVariants as cpu
 use Rattle.call_steps.specs.declared.step.HeapStep.TheVariants as heap
 use Rattle.call_steps.specs.declared.step.Stopping.{Stopping}
@@ -69,11 +70,11 @@ none_by_step rows h l (does.Heap (heap.NewSpan a)) n law is =
 none_by_step rows h l (does.Heap (heap.GiveBack label run)) n law is = absurd (cc)
 none_by_step rows h l (does.Heap (heap.FreeSpan next)) n law is = absurd (cc)
 none_by_step rows h l (does.Heap (heap.Unback pages)) n law is = absurd (cc)
-none_by_step rows h l (does.Cpu row) n law is = absurd (cc)
+none_by_step rows h l (does.Front (front.Cpu row)) n law is = absurd (cc)
+none_by_step rows h l (does.Front (front.Domain row)) n law is = absurd (cc)
 none_by_step rows h l (does.Shard row) n law is = absurd (cc)
 none_by_step rows h l (does.Map row) n law is = absurd (cc)
 none_by_step rows h l (does.Names row) n law is = absurd (cc)
-none_by_step rows h l (does.Domain row) n law is = absurd (cc)
 none_by_step rows h l does.Ended n law is = absurd (cc)
 
 pub answers_none : (rows : List ClassRow) (h : heaps.Heap) (l : Local) → ((n : ℕ) → pages_asked rows l l.step ≡ Some n → (new h n ≡ None) ↔ (none_fits h n ≡ true)) → AnswersNone rows h l
@@ -99,7 +100,7 @@ busy_of rows p l s owner (Some u) =
     let law = decides_by l (ends rows (decided l (call_of s) (Busy u))) (call_of s) (Busy u) (Busy owner) told in
     (λ d. let same : Busy u ≡ Busy owner = law.0 d in cc, λ is. law.1 cc)
 
-pub answers_busy : (rows : List ClassRow) (p : CpuPart) (l : Local) → ((s : Stopping) → l.step ≡ does.Cpu (cpu.Stop s) → p.stopper ≢ Some l.regs.thread) → AnswersBusy rows p l
+pub answers_busy : (rows : List ClassRow) (p : CpuPart) (l : Local) → ((s : Stopping) → l.step ≡ does.Front (front.Cpu (cpu.Stop s)) → p.stopper ≢ Some l.regs.thread) → AnswersBusy rows p l
 answers_busy rows p l other s owner step =
     let law : Decides l (cpu_after rows p l l.step).1 (Busy owner) ↔ (p.stopper ≡ Some owner) = subst (λ (x : Step). Decides l (cpu_after rows p l x).1 (Busy owner) ↔ (p.stopper ≡ Some owner)) (sym step) (busy_of rows p l s owner p.stopper) in
     (λ d. (law.0 d, λ same. other s step (law.0 d ∙ ap (λ (u : ThreadNo). Some u) same)), λ is. law.1 is.0)
@@ -142,10 +143,10 @@ answer_by true b slab k n over more = rw over refl
 answer_by false true slab k n over more = rw (over, more) refl
 answer_by false false slab k n over more = rw (over, more) refl
 
-pub answers_cap : (rows : List ClassRow) (p : CpuPart) (l : Local) → ((r : Resizing) → l.step ≡ does.Cpu (cpu.SetCap r) → l.regs.class ≡ r.class) → AnswersCap rows p l
+pub answers_cap : (rows : List ClassRow) (p : CpuPart) (l : Local) → ((r : Resizing) → l.step ≡ does.Front (front.Cpu (cpu.SetCap r)) → l.regs.class ≡ r.class) → AnswersCap rows p l
 answers_cap rows p l class r step =
     let own : Class = l.regs.class in
     let a : Bool = ltb p.slab.most r.cap in
     let b : Bool = ltb p.slab.limit (bytes_with p.slab own r.cap) in
-    let told : DecidesCap l (cpu_after rows p l (does.Cpu (cpu.SetCap r))).1 p.slab own r.cap = cap_by l _ p.slab own r.cap (Resize r.cpu r.class r.cap) a b refl refl (ap (λ (x : Answer). l.answers ++ record { act = l.acts; call = Resize r.cpu r.class r.cap; answer = x } ∷ []) (answer_by a b p.slab own.0 r.cap refl refl)) in
+    let told : DecidesCap l (cpu_after rows p l (does.Front (front.Cpu (cpu.SetCap r)))).1 p.slab own r.cap = cap_by l _ p.slab own r.cap (Resize r.cpu r.class r.cap) a b refl refl (ap (λ (x : Answer). l.answers ++ record { act = l.acts; call = Resize r.cpu r.class r.cap; answer = x } ∷ []) (answer_by a b p.slab own.0 r.cap refl refl)) in
     subst (λ (k : Class). DecidesCap l (cpu_after rows p l l.step).1 p.slab k r.cap) (class r step) (subst (λ (x : Step). DecidesCap l (cpu_after rows p l x).1 p.slab own r.cap) (sym step) told)

@@ -53,6 +53,7 @@ use Rattle.call_steps.specs.declared.step.Stopping.TheVariants as stopping
 use Rattle.call_steps.specs.declared.step.Giving.TheVariants as giving
 use Rattle.call_steps.specs.declared.step.Step.{Step}
 use Rattle.call_steps.specs.declared.step.Step.TheVariants as does
+use Rattle.call_steps.specs.declared.step.CpuRow.TheVariants as front
 use Rattle.call_steps.specs.declared.step.CpuStep.{CpuStep}
 use Rattle.call_steps.specs.declared.step.CpuStep.TheVariants.{Pop, Grow, Stock, Push, PopBatch, Stop, Fence, Take, SetCap, Start, Leave}
 use Rattle.call_steps.specs.Local.{Local, goes, decided, ends, no_class, class_row}
@@ -147,7 +148,7 @@ cap_other r (Some (fault.OverLimit sum)) = tt
 
 module _ (m : Setup) (limits : HeapConfig) (cpus : ℕ) (p : Parts) (locals : List Local) (b : Books) (calls : List CallLine) (t : ℕ) (l : Local) (c : ℕ) (q : CpuPart) (before : IsBefore m limits cpus p locals b calls t l) (at : slice_get p.cpus c ≡ Some q) where
   abbrev at_step : CpuStep → Local
-  at_step row = record l { step = does.Cpu row }
+  at_step row = record l { step = does.Front (front.Cpu row) }
 
   abbrev with_cpu : CpuPart → Parts
   with_cpu new = with_stores p (slice_set p.cpus c new) p.shards p.domains
@@ -166,8 +167,8 @@ module _ (m : Setup) (limits : HeapConfig) (cpus : ℕ) (p : Parts) (locals : Li
   stock_still : (new : CpuPart) → ((j : ℕ) → held (row_at new.slab j) ≡ held (row_at q.slab j)) → stock_of p ≡ stock_of (with_cpu new)
   stock_still new rows = stock_same p (slice_set p.cpus c new) (λ j n. let e = cpu_stored p c q new at j n in omega (arith, e, ap (objects_at n) (rows j)))
 
-  frees_now : (row : CpuStep) → l.step ≡ does.Cpu row → HasFreed row l.regs.hand.items
-  frees_now row is = freeing m limits cpus p locals b calls t l before (does.Cpu row) is
+  frees_now : (row : CpuStep) → l.step ≡ does.Front (front.Cpu row) → HasFreed row l.regs.hand.items
+  frees_now row is = freeing m limits cpus p locals b calls t l before (does.Front (front.Cpu row)) is
 
   -- the call goes on with its hand, about the same
   on : (row : CpuStep) (new : CpuPart) (after : Local) (regs : Regs) → Shifts l.regs.class.0 q new l.regs.hand.items regs.hand.items → regs.class ≡ l.regs.class → HasFreed row regs.hand.items → Goes after (bare (cpu_doing row) regs.class.0 regs.hand.items l.rest) (l.acts + 1) l.answers → Does m (with_cpu new) b (at_step row) after
@@ -178,7 +179,7 @@ module _ (m : Setup) (limits : HeapConfig) (cpus : ℕ) (p : Parts) (locals : Li
   -- leaving for the CPU of a move
   leaves_does : (row : CpuStep) (move : MoveTo) → HasFreed row l.regs.hand.items → Does m (with_cpu (leaves q (at_step row) move).0) b (at_step row) (leaves q (at_step row) move).1
   leaves_does row move frees =
-      on row (left q l.regs.thread) (goes (moves_to (at_step row) move) (does.Cpu row)) (dropped l.regs) (still l.regs.class.0 q (left q l.regs.thread) l.regs.hand.items l.regs.hand.items (slab_same q (left q l.regs.thread) (left_slab q l.regs.thread)) refl) refl frees
+      on row (left q l.regs.thread) (goes (moves_to (at_step row) move) (does.Front (front.Cpu row))) (dropped l.regs) (still l.regs.class.0 q (left q l.regs.thread) l.regs.hand.items l.regs.hand.items (slab_same q (left q l.regs.thread) (left_slab q l.regs.thread)) refl) refl frees
       (record { account = refl; acts = refl; answers = refl })
 
   -- the registers of a sequence keep their class
@@ -204,14 +205,14 @@ module _ (m : Setup) (limits : HeapConfig) (cpus : ℕ) (p : Parts) (locals : Li
       says_other m p locals b before.books (slice_set p.cpus c new) p.shards p.domains (cut new) (at_step row) (ends m.rows then) (quiet l.regs.class.0 l.rest) (said ∷ []) (ap (λ (d : Doing). bare d l.regs.class.0 l.regs.hand.items l.rest) doing ∙ ap (λ (h : List Addr). bare Other l.regs.class.0 h l.rest) none)
       (stock_still new rows) (One said other) (subst (λ (xs : List Planned). WeighSame (quiet l.regs.class.0 xs) (account_of (ends m.rows then))) rest closes.weighs) (omega (arith, closes.acts, acts)) (closes.answers ∙ answers)
 
-  grow_goes : (l1 : Local) (regs : Regs) (asking : Asking) → l1.step ≡ does.Cpu (Grow asking) → (a : Grew) → Goes (grew_to (with_regs l1 regs) asking a) (bare (Asks asking.label asking.size) regs.class.0 regs.hand.items l1.rest) (l1.acts + 1) l1.answers
+  grow_goes : (l1 : Local) (regs : Regs) (asking : Asking) → l1.step ≡ does.Front (front.Cpu (Grow asking)) → (a : Grew) → Goes (grew_to (with_regs l1 regs) asking a) (bare (Asks asking.label asking.size) regs.class.0 regs.hand.items l1.rest) (l1.acts + 1) l1.answers
   grow_goes l1 regs asking is grew.In = record { account = ap (λ (s : Step). account_of (goes (with_regs l1 regs) s)) is; acts = refl; answers = refl }
   grow_goes l1 regs asking is grew.Back = record { account = ap (λ (s : Step). account_of (goes (with_regs l1 regs) s)) is; acts = refl; answers = refl }
   grow_goes l1 regs asking is grew.Done = looks_as (with_regs l1 regs) asking
 
   stop_does : (s : Stopping) → l.regs.hand.items ≡ [] → (o : Option ThreadNo) → Does m (with_cpu (stops m.rows q (at_step (Stop s)) s o).0) b (at_step (Stop s)) (stops m.rows q (at_step (Stop s)) s o).1
   stop_does s none None =
-      on (Stop s) (drains.stopped q l.regs.thread) (goes (at_step (Stop s)) (does.Cpu (Fence s))) l.regs (still l.regs.class.0 q (drains.stopped q l.regs.thread) l.regs.hand.items l.regs.hand.items (slab_same q (drains.stopped q l.regs.thread) (stopped_slab q.stopper q l.regs.thread)) refl) refl (λ label o doing. cc) (record { account = refl; acts = refl; answers = refl })
+      on (Stop s) (drains.stopped q l.regs.thread) (goes (at_step (Stop s)) (does.Front (front.Cpu (Fence s)))) l.regs (still l.regs.class.0 q (drains.stopped q l.regs.thread) l.regs.hand.items l.regs.hand.items (slab_same q (drains.stopped q l.regs.thread) (stopped_slab q.stopper q l.regs.thread)) refl) refl (λ label o doing. cc) (record { account = refl; acts = refl; answers = refl })
   stop_does s none (Some owner) = says_quiet (Stop s) q (decided (at_step (Stop s)) (call_of s) (Busy owner)) (record { call = call_of s; answer = Busy owner }) (λ j. refl) none refl (busy_other s owner) refl refl refl none
 
   -- taking a class
@@ -243,7 +244,7 @@ module _ (m : Setup) (limits : HeapConfig) (cpus : ℕ) (p : Parts) (locals : Li
 
   take_moves : (s : Stopping) → Does m (with_cpu (drains.taken q l.regs.class.0)) b (at_step (Take s)) (took m.rows (with_hand (at_step (Take s)) taken_hand) s)
   take_moves (stopping.Drain d) = drained_does d taken_hand.items refl
-  take_moves (stopping.Resize r) = took_as (Take (stopping.Resize r)) (goes (with_hand (at_step (Take (stopping.Resize r))) taken_hand) (does.Cpu (SetCap r))) refl (weighs_same (bare Other l.regs.class.0 taken_hand.items l.rest)) refl refl
+  take_moves (stopping.Resize r) = took_as (Take (stopping.Resize r)) (goes (with_hand (at_step (Take (stopping.Resize r))) taken_hand) (does.Front (front.Cpu (SetCap r)))) refl (weighs_same (bare Other l.regs.class.0 taken_hand.items l.rest)) refl refl
 
   -- the start of a resize, and leaving at a call's end
   start_gives : (r : Resizing) (hand : List Addr) → l.regs.hand.items ≡ hand → Does m (with_cpu (drains.started q)) b (at_step (Start (stopping.Resize r))) (gives_taken m.rows (at_step (Start (stopping.Resize r))) hand)
@@ -287,8 +288,8 @@ module _ (m : Setup) (limits : HeapConfig) (cpus : ℕ) (p : Parts) (locals : Li
       then_does row after frees goes = on row it.cpu after it.regs shifts class frees goes
 
       -- one act of a sequence, by what it answers
-      goes_on : (row : CpuStep) → HasFreed row l.regs.hand.items → MovesNone (row_at q.slab l.regs.class.0) (row_at it.cpu.slab l.regs.class.0) l.regs it.regs → Does m (with_cpu it.cpu) b (at_step row) (goes (then row) (does.Cpu row))
-      goes_on row frees moves = then_does row (goes (then row) (does.Cpu row)) (stays_same row frees moves.hand) (record { account = refl; acts = refl; answers = refl })
+      goes_on : (row : CpuStep) → HasFreed row l.regs.hand.items → MovesNone (row_at q.slab l.regs.class.0) (row_at it.cpu.slab l.regs.class.0) l.regs it.regs → Does m (with_cpu it.cpu) b (at_step row) (goes (then row) (does.Front (front.Cpu row)))
+      goes_on row frees moves = then_does row (goes (then row) (does.Front (front.Cpu row))) (stays_same row frees moves.hand) (record { account = refl; acts = refl; answers = refl })
 
       answers : (row : CpuStep) (a : Instructed) → AnswerMoves a (row_at q.slab l.regs.class.0) (row_at it.cpu.slab l.regs.class.0) l.regs it.regs → HasFreed row l.regs.hand.items → ((r : Reply) → a ≡ Done r → Moves r → DoesReply row r) → Does m (with_cpu it.cpu) b (at_step row) (instructed_to m.rows (then row) row a)
       answers row In moves frees reply = goes_on row frees moves
@@ -316,7 +317,7 @@ module _ (m : Setup) (limits : HeapConfig) (cpus : ℕ) (p : Parts) (locals : Li
           let want : wanted l.regs.seq l.regs.hand.items ≡ 1 = ap (λ (s : Seq). wanted s l.regs.hand.items) shape.0.seq in
           let hand : it.regs.hand.items ≡ moves.got = moves.hand ∙ ap (λ (h : List Addr). h ++ moves.got) shape.1 in
           pops_some asking shape.1 shape.2 moves.got hand (moves.some (omega (arith, want)))
-      pop_replies asking shape Empty moves = then_does (Pop asking) (goes (then (Pop asking)) (does.Cpu (Grow asking))) (λ label o doing. cc) (record { account = refl; acts = refl; answers = refl })
+      pop_replies asking shape Empty moves = then_does (Pop asking) (goes (then (Pop asking)) (does.Front (front.Cpu (Grow asking)))) (λ label o doing. cc) (record { account = refl; acts = refl; answers = refl })
       pop_replies asking shape Stopped moves = looks_does asking
       pop_replies asking shape Full moves = looks_does asking
       pop_replies asking shape (Pushed n) moves = looks_does asking
@@ -355,7 +356,7 @@ module _ (m : Setup) (limits : HeapConfig) (cpus : ℕ) (p : Parts) (locals : Li
       batch_replies f pops frees Empty is moves = free_gives (PopBatch f) f refl (stays_same (PopBatch f) frees moves.hand)
       batch_replies f pops frees Popped is moves = free_gives (PopBatch f) f refl (stays_in (PopBatch f) frees moves.got moves.hand)
 
-    cpu_does : (row : CpuStep) → l.step ≡ does.Cpu row → CpuShape (limits_of m cpus) l row → Does m (with_cpu (cpu_row m.rows q (at_step row) row).0) b (at_step row) (cpu_row m.rows q (at_step row) row).1
+    cpu_does : (row : CpuStep) → l.step ≡ does.Front (front.Cpu row) → CpuShape (limits_of m cpus) l row → Does m (with_cpu (cpu_row m.rows q (at_step row) row).0) b (at_step row) (cpu_row m.rows q (at_step row) row).1
     cpu_does (Pop asking) is shape =
         let want : wanted l.regs.seq l.regs.hand.items ≡ 1 = ap (λ (s : Seq). wanted s l.regs.hand.items) shape.0.seq in
         let none : length l.regs.hand.items ≡ 0 = ap (λ (h : List Addr). length h) shape.1 in
@@ -380,7 +381,7 @@ module _ (m : Setup) (limits : HeapConfig) (cpus : ℕ) (p : Parts) (locals : Li
         on (Grow asking) x.cpu (grew_to (with_regs (at_step (Grow asking)) x.regs) asking x.answer) x.regs (still l.regs.class.0 q x.cpu l.regs.hand.items x.regs.hand.items g.rows g.hand) g.same.class (λ label o doing. cc) (grow_goes (at_step (Grow asking)) x.regs asking refl x.answer)
     cpu_does (Stop s) is shape = stop_does s shape.0.hand q.stopper
     cpu_does (Fence s) is shape =
-        on (Fence s) (drains.fenced q) (goes (at_step (Fence s)) (does.Cpu (Take s))) l.regs (still l.regs.class.0 q (drains.fenced q) l.regs.hand.items l.regs.hand.items (λ j. refl) refl) refl (λ label o doing. cc) (record { account = refl; acts = refl; answers = refl })
+        on (Fence s) (drains.fenced q) (goes (at_step (Fence s)) (does.Front (front.Cpu (Take s)))) l.regs (still l.regs.class.0 q (drains.fenced q) l.regs.hand.items l.regs.hand.items (λ j. refl) refl) refl (λ label o doing. cc) (record { account = refl; acts = refl; answers = refl })
     cpu_does (Take s) is shape = take_moves s
     cpu_does (SetCap r) is shape =
         says_other m p locals b before.books (slice_set p.cpus c (drains.capped q l.regs.class.0 r.cap)) p.shards p.domains (cut (drains.capped q l.regs.class.0 r.cap)) (at_step (SetCap r)) (cpu_row m.rows q (at_step (SetCap r)) (SetCap r)).1 (bare Other l.regs.class.0 l.regs.hand.items l.rest)

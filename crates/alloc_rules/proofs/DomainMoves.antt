@@ -18,6 +18,7 @@ use Rattle.call_steps.specs.declared.step.Giving.{Giving}
 use Rattle.call_steps.specs.declared.step.Giving.TheVariants as giving
 use Rattle.call_steps.specs.declared.step.Step.{Step}
 use Rattle.call_steps.specs.declared.step.Step.TheVariants as does
+use Rattle.call_steps.specs.declared.step.CpuRow.TheVariants as front
 use Rattle.call_steps.specs.declared.step.ShardStep.TheVariants as shard
 use Rattle.call_steps.specs.declared.step.DomainStep.{DomainStep}
 use Rattle.call_steps.specs.declared.step.DomainStep.TheVariants.{Take, Put}
@@ -39,7 +40,7 @@ use Rattle.alloc_rules.proofs.Goings.{carries_as, gets_object, gives_hand}
 
 module _ (m : Setup) (limits : HeapConfig) (cpus : ℕ) (p : Parts) (locals : List Local) (b : Books) (calls : List CallLine) (t : ℕ) (l : Local) (d : ℕ) (caches : List Transfer) (before : IsBefore m limits cpus p locals b calls t l) (at : slice_get p.domains d ≡ Some caches) where
   abbrev at_step : DomainStep → Local
-  at_step row = record l { step = does.Domain row }
+  at_step row = record l { step = does.Front (front.Domain row) }
 
   abbrev here : Transfer
   here = cache_at caches l.regs.class.0
@@ -96,12 +97,12 @@ module _ (m : Setup) (limits : HeapConfig) (cpus : ℕ) (p : Parts) (locals : Li
         by giving.Resized move = gives_hand m p locals b before.books p.cpus p.shards (domains_with put_here) (cut put_here) (at_step (Put giving.Resized)) giving.Resized l.freed l.regs.class.0 l.regs.hand.items refl refl move
 
   -- or the shard is to get it
-  passes_does : (g : Giving) → l.step ≡ does.Domain (Put g) → Does m (with_cache here) b (at_step (Put g)) (goes (at_step (Put g)) (does.Shard (shard.Give g)))
+  passes_does : (g : Giving) → l.step ≡ does.Front (front.Domain (Put g)) → Does m (with_cache here) b (at_step (Put g)) (goes (at_step (Put g)) (does.Shard (shard.Give g)))
   passes_does g is =
       carries_as m p locals b before.books p.cpus p.shards (domains_with here) (cut here) (at_step (Put g)) (goes (at_step (Put g)) (does.Shard (shard.Give g))) (giving_doing g) l.regs.class.0 l.regs.hand.items l.regs.hand.items l.rest refl
-      (objects here l.regs.hand.items l.regs.hand.items (λ n. refl)) (λ label o doing. freeing m limits cpus p locals b calls t l before (does.Domain (Put g)) is label o doing) (record { account = refl; acts = refl; answers = refl })
+      (objects here l.regs.hand.items l.regs.hand.items (λ n. refl)) (λ label o doing. freeing m limits cpus p locals b calls t l before (does.Front (front.Domain (Put g))) is label o doing) (record { account = refl; acts = refl; answers = refl })
 
-  domain_does : (row : DomainStep) → l.step ≡ does.Domain row → DomainShape (limits_of m cpus) l row → Does m (with_cache (domain_row m.rows here (at_step row) row).0) b (at_step row) (domain_row m.rows here (at_step row) row).1
+  domain_does : (row : DomainStep) → l.step ≡ does.Front (front.Domain row) → DomainShape (limits_of m cpus) l row → Does m (with_cache (domain_row m.rows here (at_step row) row).0) b (at_step row) (domain_row m.rows here (at_step row) row).1
   domain_does (Take asking) is shape = takes_does asking shape.0.hand shape.1 (without_last (class_row m.rows l).batch here.objects) (last_first (class_row m.rows l).batch here.objects) (λ n. objects_last n (class_row m.rows l).batch here.objects)
   domain_does (Put g) is shape =
       cond_both (fits_into here l.regs.hand.items) (put_here, given m.rows (at_step (Put g)) g) (here, goes (at_step (Put g)) (does.Shard (shard.Give g))) (λ (x : Transfer × Local). Does m (with_cache x.0) b (at_step (Put g)) x.1) (λ e. puts_does g) (λ e. passes_does g is)

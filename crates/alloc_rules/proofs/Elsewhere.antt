@@ -51,6 +51,7 @@ use Rattle.call_steps.specs.declared.step.Onward.{Onward}
 use Rattle.call_steps.specs.declared.step.Onward.TheVariants as onward
 use Rattle.call_steps.specs.declared.step.Step.{Step}
 use Rattle.call_steps.specs.declared.step.Step.TheVariants as does
+use Rattle.call_steps.specs.declared.step.CpuRow.TheVariants as front
 use Rattle.call_steps.specs.declared.step.CpuStep.{CpuStep}
 use Rattle.call_steps.specs.declared.step.CpuStep.TheVariants as cpu
 use Rattle.call_steps.specs.declared.step.ShardStep.{ShardStep}
@@ -113,7 +114,7 @@ module _ (rows : List ClassRow) where
   stocks_goes x s [] = record { ended = omega arith; answers = refl }
   stocks_goes x s (a ∷ others) = record { ended = omega arith; answers = refl }
 
-  drains_goes : (x : Local) (d : Draining) (b : Bool) → GoesAs x (cond b (goes (record x { regs = record x.regs { class = record { 0 = x.regs.class.0 + 1 } } }) (does.Cpu (cpu.Take (stopping.Drain d)))) (goes x (does.Cpu (cpu.Start (stopping.Drain d)))))
+  drains_goes : (x : Local) (d : Draining) (b : Bool) → GoesAs x (cond b (goes (record x { regs = record x.regs { class = record { 0 = x.regs.class.0 + 1 } } }) (does.Front (front.Cpu (cpu.Take (stopping.Drain d))))) (goes x (does.Front (front.Cpu (cpu.Start (stopping.Drain d))))))
   drains_goes x d true = record { ended = omega arith; answers = refl }
   drains_goes x d false = record { ended = omega arith; answers = refl }
 
@@ -276,14 +277,14 @@ module _ (rows : List ClassRow) where
   grew_leaves l a grew.Back = quiet l _ (omega arith) refl
   grew_leaves l a grew.Done = quiet l _ (omega arith) refl
 
-  stop_leaves : (p : CpuPart) (l : Local) (s : Stopping) (o : Option ThreadNo) → Leaves (does.Cpu (cpu.Stop s)) l (stops rows p l s o).1
-  stop_leaves p l s None = leaves_of (does.Cpu (cpu.Stop s)) l _ (quiet l _ (omega arith) refl)
-  stop_leaves p l s (Some owner) = let g = ends_goes rows (decided l (call_of s) (Busy owner)) in refuses (does.Cpu (cpu.Stop s)) l _ (call_of s) (Busy owner) refl g.ended g.answers
+  stop_leaves : (p : CpuPart) (l : Local) (s : Stopping) (o : Option ThreadNo) → Leaves (does.Front (front.Cpu (cpu.Stop s))) l (stops rows p l s o).1
+  stop_leaves p l s None = leaves_of (does.Front (front.Cpu (cpu.Stop s))) l _ (quiet l _ (omega arith) refl)
+  stop_leaves p l s (Some owner) = let g = ends_goes rows (decided l (call_of s) (Busy owner)) in refuses (does.Front (front.Cpu (cpu.Stop s))) l _ (call_of s) (Busy owner) refl g.ended g.answers
 
-  cap_leaves : (l : Local) (r : Resizing) (o : Option CapFault) → Leaves (does.Cpu (cpu.SetCap r)) l (goes (decided l (Resize r.cpu r.class r.cap) (cap_answer o)) (does.Cpu (cpu.Start (stopping.Resize r))))
-  cap_leaves l r None = leaves_of (does.Cpu (cpu.SetCap r)) l _ (says l _ (Resize r.cpu r.class r.cap) CapSet refl (omega arith) refl)
-  cap_leaves l r (Some (fault.OverStatic cap)) = refuses (does.Cpu (cpu.SetCap r)) l _ (Resize r.cpu r.class r.cap) (OverStatic cap) refl (omega arith) refl
-  cap_leaves l r (Some (fault.OverLimit sum)) = refuses (does.Cpu (cpu.SetCap r)) l _ (Resize r.cpu r.class r.cap) (OverLimit sum) refl (omega arith) refl
+  cap_leaves : (l : Local) (r : Resizing) (o : Option CapFault) → Leaves (does.Front (front.Cpu (cpu.SetCap r))) l (goes (decided l (Resize r.cpu r.class r.cap) (cap_answer o)) (does.Front (front.Cpu (cpu.Start (stopping.Resize r)))))
+  cap_leaves l r None = leaves_of (does.Front (front.Cpu (cpu.SetCap r))) l _ (says l _ (Resize r.cpu r.class r.cap) CapSet refl (omega arith) refl)
+  cap_leaves l r (Some (fault.OverStatic cap)) = refuses (does.Front (front.Cpu (cpu.SetCap r))) l _ (Resize r.cpu r.class r.cap) (OverStatic cap) refl (omega arith) refl
+  cap_leaves l r (Some (fault.OverLimit sum)) = refuses (does.Front (front.Cpu (cpu.SetCap r))) l _ (Resize r.cpu r.class r.cap) (OverLimit sum) refl (omega arith) refl
 
   drained_leaves : (l : Local) (d : Draining) (hand : List Addr) → Plain l (drained rows l d hand)
   drained_leaves l d [] = let g = drains_goes l d (ltb (l.regs.class.0 + 1) (length rows)) in quiet l _ g.ended g.answers
@@ -305,72 +306,72 @@ module _ (rows : List ClassRow) where
   left_leaves p l None = ends_quietly l
   left_leaves p l (Some move) = from l (moves_to l move) _ refl refl refl (ends_quietly (moves_to l move))
 
-  cpu_leaves : (p : CpuPart) (l : Local) (row : CpuStep) → Leaves (does.Cpu row) l (cpu_row rows p l row).1
-  cpu_leaves p l (cpu.Pop a) = leaves_of (does.Cpu (cpu.Pop a)) l _ (sequence_leaves p l (cpu.Pop a) (due l.moved l.regs.ran))
-  cpu_leaves p l (cpu.Grow a) = leaves_of (does.Cpu (cpu.Grow a)) l _ (from l (with_regs l (rseq.grew_here p l.regs).regs) _ refl refl refl (grew_leaves (with_regs l (rseq.grew_here p l.regs).regs) a (rseq.grew_here p l.regs).answer))
-  cpu_leaves p l (cpu.Stock s) = leaves_of (does.Cpu (cpu.Stock s)) l _ (sequence_leaves p l (cpu.Stock s) (due l.moved l.regs.ran))
-  cpu_leaves p l (cpu.Push f) = leaves_of (does.Cpu (cpu.Push f)) l _ (sequence_leaves p l (cpu.Push f) (due l.moved l.regs.ran))
-  cpu_leaves p l (cpu.PopBatch f) = leaves_of (does.Cpu (cpu.PopBatch f)) l _ (sequence_leaves p l (cpu.PopBatch f) (due l.moved l.regs.ran))
+  cpu_leaves : (p : CpuPart) (l : Local) (row : CpuStep) → Leaves (does.Front (front.Cpu row)) l (cpu_row rows p l row).1
+  cpu_leaves p l (cpu.Pop a) = leaves_of (does.Front (front.Cpu (cpu.Pop a))) l _ (sequence_leaves p l (cpu.Pop a) (due l.moved l.regs.ran))
+  cpu_leaves p l (cpu.Grow a) = leaves_of (does.Front (front.Cpu (cpu.Grow a))) l _ (from l (with_regs l (rseq.grew_here p l.regs).regs) _ refl refl refl (grew_leaves (with_regs l (rseq.grew_here p l.regs).regs) a (rseq.grew_here p l.regs).answer))
+  cpu_leaves p l (cpu.Stock s) = leaves_of (does.Front (front.Cpu (cpu.Stock s))) l _ (sequence_leaves p l (cpu.Stock s) (due l.moved l.regs.ran))
+  cpu_leaves p l (cpu.Push f) = leaves_of (does.Front (front.Cpu (cpu.Push f))) l _ (sequence_leaves p l (cpu.Push f) (due l.moved l.regs.ran))
+  cpu_leaves p l (cpu.PopBatch f) = leaves_of (does.Front (front.Cpu (cpu.PopBatch f))) l _ (sequence_leaves p l (cpu.PopBatch f) (due l.moved l.regs.ran))
   cpu_leaves p l (cpu.Stop s) = stop_leaves p l s p.stopper
-  cpu_leaves p l (cpu.Fence s) = leaves_of (does.Cpu (cpu.Fence s)) l _ (quiet l _ (omega arith) refl)
-  cpu_leaves p l (cpu.Take s) = leaves_of (does.Cpu (cpu.Take s)) l _ (from l (with_hand l (drains.taken_to p l.regs.class.0 l.regs.hand)) _ refl refl refl (took_leaves (with_hand l (drains.taken_to p l.regs.class.0 l.regs.hand)) s))
+  cpu_leaves p l (cpu.Fence s) = leaves_of (does.Front (front.Cpu (cpu.Fence s))) l _ (quiet l _ (omega arith) refl)
+  cpu_leaves p l (cpu.Take s) = leaves_of (does.Front (front.Cpu (cpu.Take s))) l _ (from l (with_hand l (drains.taken_to p l.regs.class.0 l.regs.hand)) _ refl refl refl (took_leaves (with_hand l (drains.taken_to p l.regs.class.0 l.regs.hand)) s))
   cpu_leaves p l (cpu.SetCap r) = cap_leaves l r (cap_fault p.slab l.regs.class.0 r.cap)
-  cpu_leaves p l (cpu.Start s) = leaves_of (does.Cpu (cpu.Start s)) l _ (started_leaves l s)
-  cpu_leaves p l cpu.Leave = leaves_of (does.Cpu cpu.Leave) l _ (left_leaves p l l.moved)
+  cpu_leaves p l (cpu.Start s) = leaves_of (does.Front (front.Cpu (cpu.Start s))) l _ (started_leaves l s)
+  cpu_leaves p l cpu.Leave = leaves_of (does.Front (front.Cpu cpu.Leave)) l _ (left_leaves p l l.moved)
 
   -- a step on another kind of part changes nothing
   cpu_after_leaves : (p : CpuPart) (l : Local) (s : Step) → Leaves s l (cpu_after rows p l s).1
-  cpu_after_leaves p l (does.Cpu row) = cpu_leaves p l row
+  cpu_after_leaves p l (does.Front (front.Cpu row)) = cpu_leaves p l row
+  cpu_after_leaves p l (does.Front (front.Domain row)) = leaves_of (does.Front (front.Domain row)) l l (quiet l l (omega arith) refl)
   cpu_after_leaves p l (does.Shard row) = leaves_of (does.Shard row) l l (quiet l l (omega arith) refl)
   cpu_after_leaves p l (does.Heap row) = leaves_of (does.Heap row) l l (quiet l l (omega arith) refl)
   cpu_after_leaves p l (does.Map row) = leaves_of (does.Map row) l l (quiet l l (omega arith) refl)
   cpu_after_leaves p l (does.Names row) = leaves_of (does.Names row) l l (quiet l l (omega arith) refl)
-  cpu_after_leaves p l (does.Domain row) = leaves_of (does.Domain row) l l (quiet l l (omega arith) refl)
   cpu_after_leaves p l does.Ended = leaves_of does.Ended l l (quiet l l (omega arith) refl)
 
   shard_after_leaves : (x : shards.Shard) (l : Local) (s : Step) → Leaves s l (shard_after rows x l s).1
-  shard_after_leaves x l (does.Cpu row) = leaves_of (does.Cpu row) l l (quiet l l (omega arith) refl)
+  shard_after_leaves x l (does.Front (front.Cpu row)) = leaves_of (does.Front (front.Cpu row)) l l (quiet l l (omega arith) refl)
+  shard_after_leaves x l (does.Front (front.Domain row)) = leaves_of (does.Front (front.Domain row)) l l (quiet l l (omega arith) refl)
   shard_after_leaves x l (does.Shard row) = leaves_of (does.Shard row) l _ (shard_leaves x l row)
   shard_after_leaves x l (does.Heap row) = leaves_of (does.Heap row) l l (quiet l l (omega arith) refl)
   shard_after_leaves x l (does.Map row) = leaves_of (does.Map row) l l (quiet l l (omega arith) refl)
   shard_after_leaves x l (does.Names row) = leaves_of (does.Names row) l l (quiet l l (omega arith) refl)
-  shard_after_leaves x l (does.Domain row) = leaves_of (does.Domain row) l l (quiet l l (omega arith) refl)
   shard_after_leaves x l does.Ended = leaves_of does.Ended l l (quiet l l (omega arith) refl)
 
   heap_after_leaves : (h : heaps.Heap) (l : Local) (s : Step) → Leaves s l (heap_after rows h l s).1
-  heap_after_leaves h l (does.Cpu row) = leaves_of (does.Cpu row) l l (quiet l l (omega arith) refl)
+  heap_after_leaves h l (does.Front (front.Cpu row)) = leaves_of (does.Front (front.Cpu row)) l l (quiet l l (omega arith) refl)
+  heap_after_leaves h l (does.Front (front.Domain row)) = leaves_of (does.Front (front.Domain row)) l l (quiet l l (omega arith) refl)
   heap_after_leaves h l (does.Shard row) = leaves_of (does.Shard row) l l (quiet l l (omega arith) refl)
   heap_after_leaves h l (does.Heap row) = heap_leaves h l row
   heap_after_leaves h l (does.Map row) = leaves_of (does.Map row) l l (quiet l l (omega arith) refl)
   heap_after_leaves h l (does.Names row) = leaves_of (does.Names row) l l (quiet l l (omega arith) refl)
-  heap_after_leaves h l (does.Domain row) = leaves_of (does.Domain row) l l (quiet l l (omega arith) refl)
   heap_after_leaves h l does.Ended = leaves_of does.Ended l l (quiet l l (omega arith) refl)
 
   map_after_leaves : (m : SpanMap) (l : Local) (s : Step) → Leaves s l (map_after m l s).1
-  map_after_leaves m l (does.Cpu row) = leaves_of (does.Cpu row) l l (quiet l l (omega arith) refl)
+  map_after_leaves m l (does.Front (front.Cpu row)) = leaves_of (does.Front (front.Cpu row)) l l (quiet l l (omega arith) refl)
+  map_after_leaves m l (does.Front (front.Domain row)) = leaves_of (does.Front (front.Domain row)) l l (quiet l l (omega arith) refl)
   map_after_leaves m l (does.Shard row) = leaves_of (does.Shard row) l l (quiet l l (omega arith) refl)
   map_after_leaves m l (does.Heap row) = leaves_of (does.Heap row) l l (quiet l l (omega arith) refl)
   map_after_leaves m l (does.Map row) = leaves_of (does.Map row) l _ (map_leaves m l row)
   map_after_leaves m l (does.Names row) = leaves_of (does.Names row) l l (quiet l l (omega arith) refl)
-  map_after_leaves m l (does.Domain row) = leaves_of (does.Domain row) l l (quiet l l (omega arith) refl)
   map_after_leaves m l does.Ended = leaves_of does.Ended l l (quiet l l (omega arith) refl)
 
   names_after_leaves : (ns : List NameState) (l : Local) (s : Step) → Leaves s l (names_after rows ns l s).1
-  names_after_leaves ns l (does.Cpu row) = leaves_of (does.Cpu row) l l (quiet l l (omega arith) refl)
+  names_after_leaves ns l (does.Front (front.Cpu row)) = leaves_of (does.Front (front.Cpu row)) l l (quiet l l (omega arith) refl)
+  names_after_leaves ns l (does.Front (front.Domain row)) = leaves_of (does.Front (front.Domain row)) l l (quiet l l (omega arith) refl)
   names_after_leaves ns l (does.Shard row) = leaves_of (does.Shard row) l l (quiet l l (omega arith) refl)
   names_after_leaves ns l (does.Heap row) = leaves_of (does.Heap row) l l (quiet l l (omega arith) refl)
   names_after_leaves ns l (does.Map row) = leaves_of (does.Map row) l l (quiet l l (omega arith) refl)
   names_after_leaves ns l (does.Names row) = leaves_of (does.Names row) l _ (names_leaves ns l row)
-  names_after_leaves ns l (does.Domain row) = leaves_of (does.Domain row) l l (quiet l l (omega arith) refl)
   names_after_leaves ns l does.Ended = leaves_of does.Ended l l (quiet l l (omega arith) refl)
 
   domain_after_leaves : (t : Transfer) (l : Local) (s : Step) → Leaves s l (domain_after rows t l s).1
-  domain_after_leaves t l (does.Cpu row) = leaves_of (does.Cpu row) l l (quiet l l (omega arith) refl)
+  domain_after_leaves t l (does.Front (front.Cpu row)) = leaves_of (does.Front (front.Cpu row)) l l (quiet l l (omega arith) refl)
+  domain_after_leaves t l (does.Front (front.Domain row)) = leaves_of (does.Front (front.Domain row)) l _ (domain_leaves t l row)
   domain_after_leaves t l (does.Shard row) = leaves_of (does.Shard row) l l (quiet l l (omega arith) refl)
   domain_after_leaves t l (does.Heap row) = leaves_of (does.Heap row) l l (quiet l l (omega arith) refl)
   domain_after_leaves t l (does.Map row) = leaves_of (does.Map row) l l (quiet l l (omega arith) refl)
   domain_after_leaves t l (does.Names row) = leaves_of (does.Names row) l l (quiet l l (omega arith) refl)
-  domain_after_leaves t l (does.Domain row) = leaves_of (does.Domain row) l _ (domain_leaves t l row)
   domain_after_leaves t l does.Ended = leaves_of does.Ended l l (quiet l l (omega arith) refl)
 
   after_leaves : (p : Part) (l : Local) → Leaves l.step l (after rows p l).1

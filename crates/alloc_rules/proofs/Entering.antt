@@ -25,6 +25,7 @@ use Rattle.call_steps.specs.declared.step.CpuStep.{CpuStep}
 use Rattle.call_steps.specs.declared.step.CpuStep.TheVariants.{Pop, Grow, Stock, Push, PopBatch, Stop, Fence, Take, SetCap, Start, Leave}
 use Rattle.call_steps.specs.declared.step.Step.{Step}
 use Rattle.call_steps.specs.declared.step.Step.TheVariants as does
+use Rattle.call_steps.specs.declared.step.CpuRow.TheVariants as front
 use Rattle.call_steps.specs.Local.{Local, goes, no_class, class_row}
 use Rattle.call_steps.specs.CpuActs.{with_regs, due, instructed_to, instructs, sequence_by, grows, stops, cpu_row, runs_open, yields_to_enter, yields_for}
 use Rattle.call_steps.specs.Acts.{cpu_after}
@@ -57,11 +58,11 @@ executed_few count Commit few = omega arith
 
 -- a step is a sequence or a growth, before which its thread switches in at its own CPU
 abbrev pub HasToEnter : Step → Type 0
-HasToEnter (does.Cpu (Pop a)) = Unit {0}
-HasToEnter (does.Cpu (Grow a)) = Unit {0}
-HasToEnter (does.Cpu (Stock s)) = Unit {0}
-HasToEnter (does.Cpu (Push f)) = Unit {0}
-HasToEnter (does.Cpu (PopBatch f)) = Unit {0}
+HasToEnter (does.Front (front.Cpu (Pop a))) = Unit {0}
+HasToEnter (does.Front (front.Cpu (Grow a))) = Unit {0}
+HasToEnter (does.Front (front.Cpu (Stock s))) = Unit {0}
+HasToEnter (does.Front (front.Cpu (Push f))) = Unit {0}
+HasToEnter (does.Front (front.Cpu (PopBatch f))) = Unit {0}
 HasToEnter other = ⊥
 
 -- A polite act In: no sequence that was begun there goes on.
@@ -202,27 +203,27 @@ module _ (m : Limits) (t : ℕ) (p : CpuPart) (l : Local) (table : AreRows m.row
   few_batch : (class_row m.rows l).batch ≤ LOADED_ROOM
   few_batch = (table.each l.regs.class.0 no_class shaped.class).few
 
-  stops_as : (s : Stopping) → l.step ≡ does.Cpu (Stop s) → (o : Option ThreadNo) → p.stopper ≡ o → DoesAs neither p l (stops m.rows p l s o)
-  stops_as s is None none = still (stops m.rows p l s None) (away_by (does.Cpu (Stop s)) is (λ has. has)) (ap (λ (o : Option ThreadNo). (drains.stopped_by o p l.regs.thread).running) none) (ap (λ (o : Option ThreadNo). (drains.stopped_by o p l.regs.thread).is_open) none) (ap (λ (o : Option ThreadNo). (drains.stopped_by o p l.regs.thread).ran) none)
-  stops_as s is (Some u) some = still (stops m.rows p l s (Some u)) (away_by (does.Cpu (Stop s)) is (λ has. has)) refl refl refl
+  stops_as : (s : Stopping) → l.step ≡ does.Front (front.Cpu (Stop s)) → (o : Option ThreadNo) → p.stopper ≡ o → DoesAs neither p l (stops m.rows p l s o)
+  stops_as s is None none = still (stops m.rows p l s None) (away_by (does.Front (front.Cpu (Stop s))) is (λ has. has)) (ap (λ (o : Option ThreadNo). (drains.stopped_by o p l.regs.thread).running) none) (ap (λ (o : Option ThreadNo). (drains.stopped_by o p l.regs.thread).is_open) none) (ap (λ (o : Option ThreadNo). (drains.stopped_by o p l.regs.thread).ran) none)
+  stops_as s is (Some u) some = still (stops m.rows p l s (Some u)) (away_by (does.Front (front.Cpu (Stop s))) is (λ has. has)) refl refl refl
 
-  row_as : (row : CpuStep) → l.step ≡ does.Cpu row → At (does.Cpu row) → As (does.Cpu row)
-  row_as (Pop a) is shape polite = sequence_as m.rows p l (Pop a) (has_by (does.Cpu (Pop a)) is tt) (omega (arith, wants l seq.Pop shape.0.seq)) (due l.moved l.regs.ran) polite
-  row_as (Grow a) is shape polite = grows_as m.rows p l (has_by (does.Cpu (Grow a)) is tt) polite a (runs p.running l.regs.thread) (eqb l.regs.epoch p.epoch) refl
-  row_as (Stock s) is shape polite = sequence_as m.rows p l (Stock s) (has_by (does.Cpu (Stock s)) is tt) (omega (arith, wants l seq.PushBatch shape.0.seq, shape.2)) (due l.moved l.regs.ran) polite
-  row_as (Push f) is shape polite = sequence_as m.rows p l (Push f) (has_by (does.Cpu (Push f)) is tt) (omega (arith, wants l seq.Push shape.0.seq)) (due l.moved l.regs.ran) polite
-  row_as (PopBatch f) is shape polite = sequence_as m.rows p l (PopBatch f) (has_by (does.Cpu (PopBatch f)) is tt) (omega (arith, wants l (seq.PopBatch (class_row m.rows l).batch) shape.0.seq, few_batch)) (due l.moved l.regs.ran) polite
+  row_as : (row : CpuStep) → l.step ≡ does.Front (front.Cpu row) → At (does.Front (front.Cpu row)) → As (does.Front (front.Cpu row))
+  row_as (Pop a) is shape polite = sequence_as m.rows p l (Pop a) (has_by (does.Front (front.Cpu (Pop a))) is tt) (omega (arith, wants l seq.Pop shape.0.seq)) (due l.moved l.regs.ran) polite
+  row_as (Grow a) is shape polite = grows_as m.rows p l (has_by (does.Front (front.Cpu (Grow a))) is tt) polite a (runs p.running l.regs.thread) (eqb l.regs.epoch p.epoch) refl
+  row_as (Stock s) is shape polite = sequence_as m.rows p l (Stock s) (has_by (does.Front (front.Cpu (Stock s))) is tt) (omega (arith, wants l seq.PushBatch shape.0.seq, shape.2)) (due l.moved l.regs.ran) polite
+  row_as (Push f) is shape polite = sequence_as m.rows p l (Push f) (has_by (does.Front (front.Cpu (Push f))) is tt) (omega (arith, wants l seq.Push shape.0.seq)) (due l.moved l.regs.ran) polite
+  row_as (PopBatch f) is shape polite = sequence_as m.rows p l (PopBatch f) (has_by (does.Front (front.Cpu (PopBatch f))) is tt) (omega (arith, wants l (seq.PopBatch (class_row m.rows l).batch) shape.0.seq, few_batch)) (due l.moved l.regs.ran) polite
   row_as (Stop s) is shape polite = stops_as s is p.stopper refl
-  row_as (Fence s) is shape polite = still (cpu_row m.rows p l (Fence s)) (away_by (does.Cpu (Fence s)) is (λ has. has)) refl refl refl
-  row_as (Take s) is shape polite = still (cpu_row m.rows p l (Take s)) (away_by (does.Cpu (Take s)) is (λ has. has)) refl refl refl
-  row_as (SetCap r) is shape polite = still (cpu_row m.rows p l (SetCap r)) (away_by (does.Cpu (SetCap r)) is (λ has. has)) refl refl refl
-  row_as (Start s) is shape polite = still (cpu_row m.rows p l (Start s)) (away_by (does.Cpu (Start s)) is (λ has. has)) refl refl refl
+  row_as (Fence s) is shape polite = still (cpu_row m.rows p l (Fence s)) (away_by (does.Front (front.Cpu (Fence s))) is (λ has. has)) refl refl refl
+  row_as (Take s) is shape polite = still (cpu_row m.rows p l (Take s)) (away_by (does.Front (front.Cpu (Take s))) is (λ has. has)) refl refl refl
+  row_as (SetCap r) is shape polite = still (cpu_row m.rows p l (SetCap r)) (away_by (does.Front (front.Cpu (SetCap r))) is (λ has. has)) refl refl refl
+  row_as (Start s) is shape polite = still (cpu_row m.rows p l (Start s)) (away_by (does.Front (front.Cpu (Start s))) is (λ has. has)) refl refl refl
   row_as Leave is shape polite = tt
 
   step_as : (s : Step) → l.step ≡ s → At s → As s
-  step_as (does.Cpu row) is shape polite = row_as row is shape polite
+  step_as (does.Front (front.Cpu row)) is shape polite = row_as row is shape polite
+  step_as (does.Front (front.Domain row)) is shape polite = still (p, l) (away_by (does.Front (front.Domain row)) is (λ has. has)) refl refl refl
   step_as (does.Shard row) is shape polite = still (p, l) (away_by (does.Shard row) is (λ has. has)) refl refl refl
-  step_as (does.Domain row) is shape polite = still (p, l) (away_by (does.Domain row) is (λ has. has)) refl refl refl
   step_as (does.Heap row) is shape polite = still (p, l) (away_by (does.Heap row) is (λ has. has)) refl refl refl
   step_as (does.Map row) is shape polite = still (p, l) (away_by (does.Map row) is (λ has. has)) refl refl refl
   step_as (does.Names row) is shape polite = still (p, l) (away_by (does.Names row) is (λ has. has)) refl refl refl

@@ -32,6 +32,7 @@ use Rattle.call_steps.specs.declared.step.Giving.{Giving}
 use Rattle.call_steps.specs.declared.step.Giving.TheVariants as giving
 use Rattle.call_steps.specs.declared.step.MapStep.TheVariants as map
 use Rattle.call_steps.specs.declared.step.Step.TheVariants as step
+use Rattle.call_steps.specs.declared.step.CpuRow.TheVariants as front
 use Rattle.call_steps.specs.declared.step.ShardStep.TheVariants as shard
 use Rattle.call_steps.specs.declared.step.DomainStep.TheVariants as domain
 use Rattle.call_steps.specs.Local.{Local, Decided, decided, goes, ends, class_row}
@@ -49,14 +50,14 @@ pub record Goes (after : Local) (a : Account) (count : ℕ) (told : List Decided
   pub acts : after.acts ≡ count
   pub answers : after.answers ≡ told
 
-looks_by : (l : Local) (asking : Asking) (b : Bool) → Goes (goes l (cond b (step.Shard (shard.Fetch asking)) (step.Domain (domain.Take asking)))) (bare (Asks asking.label asking.size) l.regs.class.0 l.regs.hand.items l.rest) (l.acts + 1) l.answers
+looks_by : (l : Local) (asking : Asking) (b : Bool) → Goes (goes l (cond b (step.Shard (shard.Fetch asking)) (step.Front (front.Domain (domain.Take asking))))) (bare (Asks asking.label asking.size) l.regs.class.0 l.regs.hand.items l.rest) (l.acts + 1) l.answers
 looks_by l asking true = record { account = refl; acts = refl; answers = refl }
 looks_by l asking false = record { account = refl; acts = refl; answers = refl }
 
 pub looks_as : (l : Local) (asking : Asking) → Goes (looks_on l asking) (bare (Asks asking.label asking.size) l.regs.class.0 l.regs.hand.items l.rest) (l.acts + 1) l.answers
 looks_as l asking = looks_by l asking (eqb l.domains 0)
 
-gives_by : (l : Local) (g : Giving) (b : Bool) → Goes (goes l (cond b (step.Shard (shard.Give g)) (step.Domain (domain.Put g)))) (bare (giving_doing g) l.regs.class.0 l.regs.hand.items l.rest) (l.acts + 1) l.answers
+gives_by : (l : Local) (g : Giving) (b : Bool) → Goes (goes l (cond b (step.Shard (shard.Give g)) (step.Front (front.Domain (domain.Put g))))) (bare (giving_doing g) l.regs.class.0 l.regs.hand.items l.rest) (l.acts + 1) l.answers
 gives_by l g true = record { account = refl; acts = refl; answers = refl }
 gives_by l g false = record { account = refl; acts = refl; answers = refl }
 
@@ -94,7 +95,7 @@ ends_as rows l k none = let counts = ends_counts rows l in record { weighs = wei
 
 pub drains_as : (rows : List ClassRow) (l : Local) (d : Draining) (k : ℕ) → l.regs.hand.items ≡ [] → Closes (drains_on rows l d) k l.rest (l.acts + 1) l.answers
 drains_as rows l d k none =
-    cond_both (ltb (l.regs.class.0 + 1) (length rows)) (goes (record l { regs = record l.regs { class = record { 0 = l.regs.class.0 + 1 } } }) (step.Cpu (cpu.Take (stopping.Drain d)))) (goes l (step.Cpu (cpu.Start (stopping.Drain d)))) (λ (x : Local). Closes x k l.rest (l.acts + 1) l.answers)
+    cond_both (ltb (l.regs.class.0 + 1) (length rows)) (goes (record l { regs = record l.regs { class = record { 0 = l.regs.class.0 + 1 } } }) (step.Front (front.Cpu (cpu.Take (stopping.Drain d))))) (goes l (step.Front (front.Cpu (cpu.Start (stopping.Drain d))))) (λ (x : Local). Closes x k l.rest (l.acts + 1) l.answers)
     (λ e. record { weighs = weighs_quiet k (l.regs.class.0 + 1) l.regs.hand.items l.rest none; acts = refl; answers = refl })
     (λ e. record { weighs = weighs_quiet k l.regs.class.0 l.regs.hand.items l.rest none; acts = refl; answers = refl })
 

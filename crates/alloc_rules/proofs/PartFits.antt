@@ -38,6 +38,7 @@ use Rattle.call_steps.specs.declared.step.DomainStep.{DomainStep}
 use Rattle.call_steps.specs.declared.step.DomainStep.TheVariants as domain
 use Rattle.call_steps.specs.declared.step.Step.{Step}
 use Rattle.call_steps.specs.declared.step.Step.TheVariants as does
+use Rattle.call_steps.specs.declared.step.CpuRow.TheVariants as front
 use Rattle.call_steps.specs.Local.{Local, no_class, class_row}
 use Rattle.call_steps.specs.Fits.{FitsBatch, FitsHeap, FitsMap, FitsNames, FitsDomain, FirstLives, FirstIsThere}
 use Rattle.call_steps.specs.Shapes.{IsClassRow, AreRows}
@@ -185,6 +186,6 @@ module _ (m : Setup) (limits : HeapConfig) (cpus : ℕ) (p : Parts) (locals : Li
       let row = row_at_class m.rows l before.rows before.shaped.class in
       record { class = before.shaped.class; some = row.batch; room = omega (arith, row.few, before.shaped.hand, ap length none) }
 
-  pub domain_fits : (row : DomainStep) (x : Transfer) → Before (does.Domain row) → FitsDomain m.rows x (at (does.Domain row)) row
-  domain_fits (domain.Take a) x before = (batch_fits (does.Domain (domain.Take a)) before before.shaped.step.0.hand, before.shaped.step.0.hand)
+  pub domain_fits : (row : DomainStep) (x : Transfer) → Before (does.Front (front.Domain row)) → FitsDomain m.rows x (at (does.Front (front.Domain row))) row
+  domain_fits (domain.Take a) x before = (batch_fits (does.Front (front.Domain (domain.Take a))) before before.shaped.step.0.hand, before.shaped.step.0.hand)
   domain_fits (domain.Put g) x before = before.shaped.step.0.freed

@@ -54,6 +54,7 @@ use Rattle.call_steps.specs.declared.step.Onward.{Onward}
 use Rattle.call_steps.specs.declared.step.Onward.TheVariants as onward
 use Rattle.call_steps.specs.declared.step.Step.{Step}
 use Rattle.call_steps.specs.declared.step.Step.TheVariants as does
+use Rattle.call_steps.specs.declared.step.CpuRow.TheVariants as front
 use Rattle.call_steps.specs.declared.step.CpuStep.{CpuStep}
 use Rattle.call_steps.specs.declared.step.CpuStep.TheVariants as cpu
 use Rattle.call_steps.specs.declared.step.ShardStep.{ShardStep}
@@ -84,12 +85,12 @@ first_some h (s ∷ others) lives = omega arith
 
 -- a step of a call counts as its call says
 under_is : (s : Step) → is_under_way s ≡ true → under s ≡ without_call (undecided s)
-under_is (does.Cpu row) way = refl
+under_is (does.Front (front.Cpu row)) way = refl
+under_is (does.Front (front.Domain row)) way = refl
 under_is (does.Shard row) way = refl
 under_is (does.Heap row) way = refl
 under_is (does.Map row) way = refl
 under_is (does.Names row) way = refl
-under_is (does.Domain row) way = refl
 under_is does.Ended way = absurd (false≢true way)
 
 -- within a call of a local: another one that has decided no more than this
@@ -123,7 +124,7 @@ module _ (rows : List ClassRow) (l : Local) where
 
   closed_by : (x : Local) (new : List Decided) → IsFrom l x new → Of None new → (move : Option MoveTo) → Path rows l (closes rows x move)
   closed_by x new from of None = Comes new from.answers from.domains (ap (λ n. n + 1) from.ended) (ap (drop 1) from.rest) (ap (λ xs. first_act rows (slice_get xs 0)) from.rest) (closes_of new of)
-  closed_by x new from of (Some move) = Stays new from.answers from.domains from.ended from.rest refl tt (goes_of (does.Cpu cpu.Leave) refl new of)
+  closed_by x new from of (Some move) = Stays new from.answers from.domains from.ended from.rest refl tt (goes_of (does.Front (front.Cpu cpu.Leave)) refl new of)
 
   over : (x : Local) (new : List Decided) → IsFrom l x new → Of None new → Path rows l (ends rows x)
   over x new from of = closed_by (record x { acts = x.acts + 1 }) new (record { answers = from.answers; domains = from.domains; ended = from.ended; rest = from.rest }) of x.moved
@@ -142,7 +143,7 @@ module _ (rows : List ClassRow) (l : Local) where
   -- the hand is the answer's, and the rest's
   stocked : (x : Local) (new : List Decided) (s : Serving) (others : List Addr) → IsFrom l x new → Of None new → Path rows l (stocks x s others)
   stocked x new s [] from of = go x new (does.Names (names.Publish s.label (Some s.addr))) from refl tt of
-  stocked x new s (a ∷ others) from of = Stays new from.answers from.domains from.ended from.rest refl tt (goes_of (does.Cpu (cpu.Stock s)) refl new of)
+  stocked x new s (a ∷ others) from of = Stays new from.answers from.domains from.ended from.rest refl tt (goes_of (does.Front (front.Cpu (cpu.Stock s))) refl new of)
 
   cond_way : (b : Bool) (one two : Step) → is_under_way one ≡ true → is_under_way two ≡ true → is_under_way (cond b one two) ≡ true
   cond_way true one two w v = w
@@ -162,17 +163,17 @@ module _ (rows : List ClassRow) (l : Local) where
 
   looks : (x : Local) (a : Asking) → IsFrom l x [] → Of (Some (calls.asks a)) [] → Path rows l (looks_on x a)
   looks x a from of =
-      let next : Step = cond (x.domains == 0) (does.Shard (shard.Fetch a)) (does.Domain (domain.Take a)) in
-      go x [] next from (cond_way (x.domains == 0) (does.Shard (shard.Fetch a)) (does.Domain (domain.Take a)) refl refl) (cond_has x.domains (does.Shard (shard.Fetch a)) (does.Domain (domain.Take a)) (x.domains == 0) refl tt (λ some. some)) (subst (λ o. Of o []) (cond_call (x.domains == 0) (does.Shard (shard.Fetch a)) (does.Domain (domain.Take a)) (Some (calls.asks a)) refl refl) of)
+      let next : Step = cond (x.domains == 0) (does.Shard (shard.Fetch a)) (does.Front (front.Domain (domain.Take a))) in
+      go x [] next from (cond_way (x.domains == 0) (does.Shard (shard.Fetch a)) (does.Front (front.Domain (domain.Take a))) refl refl) (cond_has x.domains (does.Shard (shard.Fetch a)) (does.Front (front.Domain (domain.Take a))) (x.domains == 0) refl tt (λ some. some)) (subst (λ o. Of o []) (cond_call (x.domains == 0) (does.Shard (shard.Fetch a)) (does.Front (front.Domain (domain.Take a))) (Some (calls.asks a)) refl refl) of)
 
   gives_on : (x : Local) (g : Giving) → IsFrom l x [] → Of (of_giving g) [] → Path rows l (gives x g)
   gives_on x g from of =
-      let next : Step = cond (x.domains == 0) (does.Shard (shard.Give g)) (does.Domain (domain.Put g)) in
-      go x [] next from (cond_way (x.domains == 0) (does.Shard (shard.Give g)) (does.Domain (domain.Put g)) refl refl) (cond_has x.domains (does.Shard (shard.Give g)) (does.Domain (domain.Put g)) (x.domains == 0) refl tt (λ some. some)) (subst (λ o. Of o []) (cond_call (x.domains == 0) (does.Shard (shard.Give g)) (does.Domain (domain.Put g)) (of_giving g) refl refl) of)
+      let next : Step = cond (x.domains == 0) (does.Shard (shard.Give g)) (does.Front (front.Domain (domain.Put g))) in
+      go x [] next from (cond_way (x.domains == 0) (does.Shard (shard.Give g)) (does.Front (front.Domain (domain.Put g))) refl refl) (cond_has x.domains (does.Shard (shard.Give g)) (does.Front (front.Domain (domain.Put g))) (x.domains == 0) refl tt (λ some. some)) (subst (λ o. Of o []) (cond_call (x.domains == 0) (does.Shard (shard.Give g)) (does.Front (front.Domain (domain.Put g))) (of_giving g) refl refl) of)
 
-  drains_by : (x : Local) (new : List Decided) (d : Draining) → IsFrom l x new → Of (Some (calls.drains d)) new → (b : Bool) → Path rows l (cond b (goes (record x { regs = record x.regs { class = record { 0 = x.regs.class.0 + 1 } } }) (does.Cpu (cpu.Take (stopping.Drain d)))) (goes x (does.Cpu (cpu.Start (stopping.Drain d)))))
-  drains_by x new d from of true = Stays new from.answers from.domains from.ended from.rest refl tt (goes_of (does.Cpu (cpu.Take (stopping.Drain d))) refl new of)
-  drains_by x new d from of false = Stays new from.answers from.domains from.ended from.rest refl tt (goes_of (does.Cpu (cpu.Start (stopping.Drain d))) refl new of)
+  drains_by : (x : Local) (new : List Decided) (d : Draining) → IsFrom l x new → Of (Some (calls.drains d)) new → (b : Bool) → Path rows l (cond b (goes (record x { regs = record x.regs { class = record { 0 = x.regs.class.0 + 1 } } }) (does.Front (front.Cpu (cpu.Take (stopping.Drain d))))) (goes x (does.Front (front.Cpu (cpu.Start (stopping.Drain d))))))
+  drains_by x new d from of true = Stays new from.answers from.domains from.ended from.rest refl tt (goes_of (does.Front (front.Cpu (cpu.Take (stopping.Drain d)))) refl new of)
+  drains_by x new d from of false = Stays new from.answers from.domains from.ended from.rest refl tt (goes_of (does.Front (front.Cpu (cpu.Start (stopping.Drain d)))) refl new of)
 
   goes_to : (x : Local) (new : List Decided) (next : Onward) → IsFrom l x new → Of (of_onward next) new → Path rows l (goes_onward rows x next)
   goes_to x new (onward.Publish s) from of = go x new (does.Names (names.Publish s.label (Some s.addr))) from refl tt of
@@ -296,7 +297,7 @@ module _ (rows : List ClassRow) (l : Local) where
 
   -- the cache of a domain
   abbrev on_domain : DomainStep → Local
-  on_domain row = record l { step = does.Domain row }
+  on_domain row = record l { step = does.Front (front.Domain row) }
 
   takes_path : (a : Asking) (objects : List Addr) → Path rows (on_domain (domain.Take a)) (takes rows (on_domain (domain.Take a)) a objects)
   unfolding Of
@@ -319,7 +320,7 @@ module _ (rows : List ClassRow) (l : Local) where
 
   -- a CPU
   abbrev on_cpu : CpuStep → Local
-  on_cpu row = record l { step = does.Cpu row }
+  on_cpu row = record l { step = does.Front (front.Cpu row) }
 
   module _ (regs : Regs) where
     abbrev after : CpuStep → Local

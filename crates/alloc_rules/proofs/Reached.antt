@@ -15,6 +15,7 @@ use Rattle.holdings.specs.Books.{Books}
 use Rattle.holdings.specs.Facts.{Facts}
 use Rattle.call_steps.specs.declared.step.Step.{Step}
 use Rattle.call_steps.specs.declared.step.Step.TheVariants as does
+use Rattle.call_steps.specs.declared.step.CpuRow.TheVariants as front
 use Rattle.call_steps.specs.declared.step.CpuStep.{CpuStep}
 use Rattle.call_steps.specs.declared.step.ShardStep.{ShardStep}
 use Rattle.call_steps.specs.declared.step.DomainStep.{DomainStep}
@@ -72,7 +73,7 @@ module _ (input : Input) (valid : IsValid input) (p : Parts) (locals : List Loca
   left_by : (ps : List Part) (new : Parts) (k : Local) → ps ≡ parts_of new → record { parts = ps; locals = slice_set locals t k } ≡ world_of (parts_of new) (slice_set locals t k)
   left_by ps new k is = ap (λ xs. world_of xs (slice_set locals t k)) is
 
-  cpu_reached : (row : CpuStep) → l.step ≡ does.Cpu row → Reached (at_cpu l.cpu row).0
+  cpu_reached : (row : CpuStep) → l.step ≡ does.Front (front.Cpu row) → Reached (at_cpu l.cpu row).0
   cpu_reached row step =
       let c : ℕ = (at_cpu l.cpu row).0 in
       let shaped = (works t l local).shaped in
@@ -162,7 +163,7 @@ module _ (input : Input) (valid : IsValid input) (p : Parts) (locals : List Loca
         };
       })
 
-  domain_reached : (row : DomainStep) → l.step ≡ does.Domain row → Reached (input.asked.config.cpus + length input.rows + 3 + l.cpu.0 % l.domains * length input.rows + l.regs.class.0)
+  domain_reached : (row : DomainStep) → l.step ≡ does.Front (front.Domain row) → Reached (input.asked.config.cpus + length input.rows + 3 + l.cpu.0 % l.domains * length input.rows + l.regs.class.0)
   domain_reached row step =
       let k : ℕ = l.regs.class.0 in
       let m : ℕ = length input.rows in
@@ -196,10 +197,10 @@ module _ (input : Input) (valid : IsValid input) (p : Parts) (locals : List Loca
   at_place i place is reached = let e : (let n : PartNo = record { 0 = i } in n) ≡ place = cc in subst (λ (n : PartNo). Reached n.0) e reached
 
   pub reached : (s : Step) → l.step ≡ s → (place : PartNo) → option_map (number_of input.asked.config.cpus (length input.rows)) (target_at l s) ≡ Some place → Reached place.0
-  reached (does.Cpu row) step place want = at_place (at_cpu l.cpu row).0 place want (cpu_reached row step)
+  reached (does.Front (front.Cpu row)) step place want = at_place (at_cpu l.cpu row).0 place want (cpu_reached row step)
+  reached (does.Front (front.Domain row)) step place want = at_place (input.asked.config.cpus + length input.rows + 3 + l.cpu.0 % l.domains * length input.rows + l.regs.class.0) place want (domain_reached row step)
   reached (does.Shard row) step place want = at_place (input.asked.config.cpus + l.regs.class.0) place want (shard_reached row step)
   reached (does.Heap row) step place want = at_place (input.asked.config.cpus + length input.rows) place want (heap_reached row step)
   reached (does.Map row) step place want = at_place (input.asked.config.cpus + length input.rows + 1) place want (map_reached row step)
   reached (does.Names row) step place want = at_place (input.asked.config.cpus + length input.rows + 2) place want (names_reached row step)
-  reached (does.Domain row) step place want = at_place (input.asked.config.cpus + length input.rows + 3 + l.cpu.0 % l.domains * length input.rows + l.regs.class.0) place want (domain_reached row step)
   reached does.Ended step place want = absurd (cc)

@@ -25,6 +25,7 @@ use Rattle.holdings.specs.Accounts.{got, is_out, is_unpublished}
 use Rattle.holdings.proofs.Sums.{bit_is}
 use Rattle.call_steps.specs.declared.step.Step.{Step}
 use Rattle.call_steps.specs.declared.step.Step.TheVariants as does
+use Rattle.call_steps.specs.declared.step.CpuRow.TheVariants as front
 use Rattle.call_steps.specs.declared.step.NamesStep.TheVariants as names
 use Rattle.call_steps.specs.Local.{Local}
 use Rattle.call_steps.specs.Calls.{undecided}
@@ -89,12 +90,12 @@ moves_there r w t l n part local wants there goes = ap (stepped_by r w) local �
 
 -- a call under way wants a part
 pub wants_by : (cpus classes : ℕ) (l : Local) (s : Step) → is_under_way s ≡ true → (n : PartNo) × (option_map (number_of cpus classes) (target_at l s) ≡ Some n)
-wants_by cpus classes l (does.Cpu row) way = (_, refl)
+wants_by cpus classes l (does.Front (front.Cpu row)) way = (_, refl)
+wants_by cpus classes l (does.Front (front.Domain row)) way = (_, refl)
 wants_by cpus classes l (does.Shard row) way = (_, refl)
 wants_by cpus classes l (does.Heap row) way = (_, refl)
 wants_by cpus classes l (does.Map row) way = (_, refl)
 wants_by cpus classes l (does.Names row) way = (_, refl)
-wants_by cpus classes l (does.Domain row) way = (_, refl)
 wants_by cpus classes l does.Ended way = absurd (cc)
 
 -- only names are waited for
@@ -121,11 +122,11 @@ names_there p cpus classes n ns c k is there =
 
 -- a step of a call whose label is out doesn't wait
 goes_by : (p : Parts) (cpus classes : ℕ) (l : Local) (n : PartNo) (ns : List NameState) (s : Step) (c : Call) (o : Option Call) → length p.cpus ≡ cpus → length p.shards ≡ classes → option_map (number_of cpus classes) (target_at l s) ≡ Some n → slice_get (parts_of p) n.0 ≡ Some (Names ns) → ((d : Call) → undecided s ≡ Some d → o ≡ Some d) → o ≡ Some c → ((label : Label) → c ≡ Free label → is_out (state_of p.names label.0) ≡ true) → waits_for ns s ≡ false
-goes_by p cpus classes l n ns (does.Cpu row) c o few many wants there call is out = refl
+goes_by p cpus classes l n ns (does.Front (front.Cpu row)) c o few many wants there call is out = refl
+goes_by p cpus classes l n ns (does.Front (front.Domain row)) c o few many wants there call is out = refl
 goes_by p cpus classes l n ns (does.Shard row) c o few many wants there call is out = refl
 goes_by p cpus classes l n ns (does.Heap row) c o few many wants there call is out = refl
 goes_by p cpus classes l n ns (does.Map row) c o few many wants there call is out = refl
-goes_by p cpus classes l n ns (does.Domain row) c o few many wants there call is out = refl
 goes_by p cpus classes l n ns does.Ended c o few many wants there call is out = refl
 goes_by p cpus classes l n ns (does.Names (names.Publish label value)) c o few many wants there call is out = refl
 goes_by p cpus classes l n ns (does.Names (names.Take label)) c o few many wants there call is out =

@@ -17,6 +17,7 @@ use Rattle.tc_model.specs.Serial.{next_turn, AreThreads, NeverWaits, Rises, Ends
 use Rattle.tc_model.proofs.RisesBy.{rises_by, turns_none}
 use Rattle.call_steps.specs.declared.step.Step.{Step}
 use Rattle.call_steps.specs.declared.step.Step.TheVariants as does
+use Rattle.call_steps.specs.declared.step.CpuRow.TheVariants as front
 use Rattle.call_steps.specs.Local.{Local}
 use Rattle.call_steps.specs.Kept.{call_at}
 use Rattle.alloc_rules.specs.declared.part.Part.{Part}
@@ -60,12 +61,12 @@ never_waits served ready input valid order t of =
 
 -- where each call has ended, each script has
 ended_by : (cpus classes : ℕ) (l : Local) (s : Step) → l.step ≡ s → is_under_way s ≡ false → place_of cpus classes l ≡ None
-ended_by cpus classes l (does.Cpu row) is way = absurd (cc)
+ended_by cpus classes l (does.Front (front.Cpu row)) is way = absurd (cc)
+ended_by cpus classes l (does.Front (front.Domain row)) is way = absurd (cc)
 ended_by cpus classes l (does.Shard row) is way = absurd (cc)
 ended_by cpus classes l (does.Heap row) is way = absurd (cc)
 ended_by cpus classes l (does.Map row) is way = absurd (cc)
 ended_by cpus classes l (does.Names row) is way = absurd (cc)
-ended_by cpus classes l (does.Domain row) is way = absurd (cc)
 ended_by cpus classes l does.Ended is way = rw is refl
 
 -- a step of no call

@@ -25,6 +25,7 @@ use Rattle.holdings.specs.Books.{Books}
 use Rattle.holdings.specs.Facts.{Facts}
 use Rattle.call_steps.specs.declared.step.Step.{Step}
 use Rattle.call_steps.specs.declared.step.Step.TheVariants as does
+use Rattle.call_steps.specs.declared.step.CpuRow.TheVariants as front
 use Rattle.call_steps.specs.declared.step.CpuStep.{CpuStep}
 use Rattle.call_steps.specs.declared.step.CpuStep.TheVariants as cpu
 use Rattle.call_steps.specs.declared.step.ShardStep.{ShardStep}
@@ -135,7 +136,7 @@ module _ (input : Input) (valid : IsValid input) (p : Parts) (locals : List Loca
       each_set (λ v x. SeatOk i (thread_no v) q (seat_of input.rows x)) locals t after' l local (kept i q (seated i t q l at local)) (λ v x apart is. seated i v q x at is) u k
 
   -- at a CPU
-  at_cpu_part : (row : CpuStep) (c : ℕ) (q : CpuPart) → l.step ≡ does.Cpu row → (at_cpu l.cpu row).0 ≡ c → slice_get p.cpus c ≡ Some q → IsAtCpu (limits_in input) c t q l row
+  at_cpu_part : (row : CpuStep) (c : ℕ) (q : CpuPart) → l.step ≡ does.Front (front.Cpu row) → (at_cpu l.cpu row).0 ≡ c → slice_get p.cpus c ≡ Some q → IsAtCpu (limits_in input) c t q l row
   at_cpu_part row c q step here at =
       record {
         rows = valid.rows;
@@ -156,10 +157,10 @@ module _ (input : Input) (valid : IsValid input) (p : Parts) (locals : List Loca
       (λ j y away there. each_set (λ v z. SeatOk j (thread_no v) y (seat_of input.rows z)) locals t after' l local (keeps.elsewhere j y (λ same. away (sym same)) (seated j t y l there local)) (λ v z apart is. seated j v y z there is))
       i x at_i u k
 
-  pub cpu_fit : (row : CpuStep) (c : ℕ) (q : CpuPart) → l.step ≡ does.Cpu row → (at_cpu l.cpu row).0 ≡ c → slice_get p.cpus c ≡ Some q → FitsCpu input.rows q l row
+  pub cpu_fit : (row : CpuStep) (c : ℕ) (q : CpuPart) → l.step ≡ does.Front (front.Cpu row) → (at_cpu l.cpu row).0 ≡ c → slice_get p.cpus c ≡ Some q → FitsCpu input.rows q l row
   cpu_fit row c q step here at = (cpu_acts_keep (limits_in input) c t q l row (at_cpu_part row c q step here at)).fits
 
-  pub cpu_acted : (row : CpuStep) (c : ℕ) (q : CpuPart) → l.step ≡ does.Cpu row → (at_cpu l.cpu row).0 ≡ c → slice_get p.cpus c ≡ Some q → Acted (record p { cpus = slice_set p.cpus c (cpu_row input.rows q l row).0 }) (cpu_row input.rows q l row).1
+  pub cpu_acted : (row : CpuStep) (c : ℕ) (q : CpuPart) → l.step ≡ does.Front (front.Cpu row) → (at_cpu l.cpu row).0 ≡ c → slice_get p.cpus c ≡ Some q → Acted (record p { cpus = slice_set p.cpus c (cpu_row input.rows q l row).0 }) (cpu_row input.rows q l row).1
   cpu_acted row c q step here at =
       let k : CpuActKeeps (limits_in input) c t q l row = cpu_acts_keep (limits_in input) c t q l row (at_cpu_part row c q step here at) in
       let thread : l.regs.thread ≡ thread_no t = ap (λ (n : ℕ). let x : ThreadNo = record { 0 = n } in x) (works t l local).shaped.thread in
@@ -208,8 +209,8 @@ module _ (input : Input) (valid : IsValid input) (p : Parts) (locals : List Loca
   pub shard_fit : (row : ShardStep) (x : Shard) → l.step ≡ does.Shard row → slice_get p.shards l.regs.class.0 ≡ Some x → FitsShard input.rows x l row
   shard_fit row x step at = shard_acts_fit (setup_of input) (heap_config input.asked.config) input.asked.config.cpus p locals b (calls locals order) t l x row before step at
 
-  pub domain_fit : (row : DomainStep) (c : Transfer) → l.step ≡ does.Domain row → FitsDomain input.rows c l row
-  domain_fit row c step = subst (λ (y : Local). FitsDomain input.rows c y row) (ap (λ s. record l { step = s }) (sym step)) (domain_fits (setup_of input) (heap_config input.asked.config) input.asked.config.cpus p locals b (calls locals order) t l row c (with_step (does.Domain row) step))
+  pub domain_fit : (row : DomainStep) (c : Transfer) → l.step ≡ does.Front (front.Domain row) → FitsDomain input.rows c l row
+  domain_fit row c step = subst (λ (y : Local). FitsDomain input.rows c y row) (ap (λ s. record l { step = s }) (sym step)) (domain_fits (setup_of input) (heap_config input.asked.config) input.asked.config.cpus p locals b (calls locals order) t l row c (with_step (does.Front (front.Domain row)) step))
 
   pub heap_fit : (row : HeapStep) → l.step ≡ does.Heap row → FitsHeap input.rows p.heap l row
   heap_fit row step =
@@ -266,9 +267,9 @@ module _ (input : Input) (valid : IsValid input) (p : Parts) (locals : List Loca
       }
 
   -- at the cache of a domain
-  pub domain_acted : (row : DomainStep) (d : ℕ) (caches : List Transfer) → l.step ≡ does.Domain row → slice_get p.domains d ≡ Some caches → Acted (record p { domains = slice_set p.domains d (slice_set caches l.regs.class.0 (domain_row input.rows (cache_at caches l.regs.class.0) l row).0) }) (domain_row input.rows (cache_at caches l.regs.class.0) l row).1
+  pub domain_acted : (row : DomainStep) (d : ℕ) (caches : List Transfer) → l.step ≡ does.Front (front.Domain row) → slice_get p.domains d ≡ Some caches → Acted (record p { domains = slice_set p.domains d (slice_set caches l.regs.class.0 (domain_row input.rows (cache_at caches l.regs.class.0) l row).0) }) (domain_row input.rows (cache_at caches l.regs.class.0) l row).1
   domain_acted row d caches step at =
-      let here : record l { step = does.Domain row } ≡ l = ap (λ s. record l { step = s }) (sym step) in
+      let here : record l { step = does.Front (front.Domain row) } ≡ l = ap (λ s. record l { step = s }) (sym step) in
       let m = setup_of input in
       let limits = heap_config input.asked.config in
       let cpus = input.asked.config.cpus in

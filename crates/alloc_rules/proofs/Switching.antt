@@ -15,6 +15,7 @@ use Rattle.tc_model.proofs.Lists.{set_here, set_elsewhere}
 use Rattle.rseq_core.specs.declared.cpu_part.CpuPart.{CpuPart}
 use Rattle.call_steps.specs.declared.step.Step.{Step}
 use Rattle.call_steps.specs.declared.step.Step.TheVariants as does
+use Rattle.call_steps.specs.declared.step.CpuRow.TheVariants as front
 use Rattle.call_steps.specs.declared.step.CpuStep.TheVariants.{Pop, Grow, Stock, Push, PopBatch}
 use Rattle.call_steps.specs.Local.{Local}
 use Rattle.call_steps.specs.Laws.{thread_no}
@@ -52,11 +53,11 @@ Balance c ins ends w = (ins ≤ ends) ⊎ HasEntered c ins ends w
 
 -- the part that a thread wants before it enters is its own CPU
 home_by : (cpus classes : ℕ) (l : Local) (s : Step) → l.step ≡ s → HasToEnter s → place_of cpus classes l ≡ Some (number l.cpu.0)
-home_by cpus classes l (does.Cpu (Pop a)) is has = rw is
-home_by cpus classes l (does.Cpu (Grow a)) is has = rw is
-home_by cpus classes l (does.Cpu (Stock s)) is has = rw is
-home_by cpus classes l (does.Cpu (Push f)) is has = rw is
-home_by cpus classes l (does.Cpu (PopBatch f)) is has = rw is
+home_by cpus classes l (does.Front (front.Cpu (Pop a))) is has = rw is
+home_by cpus classes l (does.Front (front.Cpu (Grow a))) is has = rw is
+home_by cpus classes l (does.Front (front.Cpu (Stock s))) is has = rw is
+home_by cpus classes l (does.Front (front.Cpu (Push f))) is has = rw is
+home_by cpus classes l (does.Front (front.Cpu (PopBatch f))) is has = rw is
 home_by cpus classes l other is has = absurd has
 
 -- An act of thread t, of this local.

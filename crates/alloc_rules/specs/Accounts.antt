@@ -7,6 +7,7 @@ use Rattle.holdings.specs.Runs.{address_of, run_of, large, small}
 use Rattle.holdings.specs.Accounts.{Doing, Account, Asks, Publishes, Takes, Holds, Frees, Other}
 use Rattle.call_steps.specs.declared.step.Step.{Step}
 use Rattle.call_steps.specs.declared.step.Step.TheVariants as does
+use Rattle.call_steps.specs.declared.step.CpuRow.TheVariants as front
 use Rattle.call_steps.specs.declared.step.Giving.{Giving}
 use Rattle.call_steps.specs.declared.step.Giving.TheVariants as giving
 use Rattle.call_steps.specs.declared.step.Onward.{Onward}
@@ -73,9 +74,9 @@ names_doing (names.Publish label value) = Publishes label value
 names_doing (names.Take label) = Takes label
 
 abbrev pub doing_of : Step → Doing
-doing_of (does.Cpu row) = cpu_doing row
+doing_of (does.Front (front.Cpu row)) = cpu_doing row
+doing_of (does.Front (front.Domain row)) = domain_doing row
 doing_of (does.Shard row) = shard_doing row
-doing_of (does.Domain row) = domain_doing row
 doing_of (does.Heap row) = heap_doing row
 doing_of (does.Map row) = map_doing row
 doing_of (does.Names row) = names_doing row

@@ -18,6 +18,7 @@ use Rattle.call_steps.specs.declared.step.HeapStep.{HeapStep}
 use Rattle.call_steps.specs.declared.step.MapStep.{MapStep}
 use Rattle.call_steps.specs.declared.step.NamesStep.{NamesStep}
 use Rattle.call_steps.specs.declared.step.Step.TheVariants as does
+use Rattle.call_steps.specs.declared.step.CpuRow.TheVariants as front
 use Rattle.call_steps.specs.Local.{Local}
 use Rattle.call_steps.specs.CpuActs.{cpu_row}
 use Rattle.call_steps.specs.ShardActs.{shard_row, domain_row}
@@ -45,7 +46,7 @@ pub record IsBefore (m : Setup) (limits : HeapConfig) (cpus : ℕ) (p : Parts) (
 
 -- The acts at a CPU: the thread's registers agree with the row where it is current.
 abbrev pub CpuActsMove : Type 0
-CpuActsMove = (m : Setup) (limits : HeapConfig) (cpus : ℕ) (p : Parts) (locals : List Local) (b : Books) (calls : List CallLine) (t : ℕ) (l : Local) (c : ℕ) (q : CpuPart) (row : CpuStep) → IsBefore m limits cpus p locals b calls t l → l.step ≡ does.Cpu row → slice_get p.cpus c ≡ Some q
+CpuActsMove = (m : Setup) (limits : HeapConfig) (cpus : ℕ) (p : Parts) (locals : List Local) (b : Books) (calls : List CallLine) (t : ℕ) (l : Local) (c : ℕ) (q : CpuPart) (row : CpuStep) → IsBefore m limits cpus p locals b calls t l → l.step ≡ does.Front (front.Cpu row) → slice_get p.cpus c ≡ Some q
     → (IsCurrent l.regs.thread q l.regs → Agrees (is_pop l.regs.seq) (row_at q.slab l.regs.class.0) l.regs l.regs.pc) → Does m (record p { cpus = slice_set p.cpus c (cpu_row m.rows q l row).0 }) b l (cpu_row m.rows q l row).1
 
 -- The acts at the shard of the thread's class, which its act fits.
@@ -59,7 +60,7 @@ ShardActsFit = (m : Setup) (limits : HeapConfig) (cpus : ℕ) (p : Parts) (local
 
 -- The acts at the cache of the thread's class in a domain.
 abbrev pub DomainActsMove : Type 0
-DomainActsMove = (m : Setup) (limits : HeapConfig) (cpus : ℕ) (p : Parts) (locals : List Local) (b : Books) (calls : List CallLine) (t : ℕ) (l : Local) (d : ℕ) (caches : List Transfer) (row : DomainStep) → IsBefore m limits cpus p locals b calls t l → l.step ≡ does.Domain row → slice_get p.domains d ≡ Some caches
+DomainActsMove = (m : Setup) (limits : HeapConfig) (cpus : ℕ) (p : Parts) (locals : List Local) (b : Books) (calls : List CallLine) (t : ℕ) (l : Local) (d : ℕ) (caches : List Transfer) (row : DomainStep) → IsBefore m limits cpus p locals b calls t l → l.step ≡ does.Front (front.Domain row) → slice_get p.domains d ≡ Some caches
     → Does m (record p { domains = slice_set p.domains d (slice_set caches l.regs.class.0 (domain_row m.rows (cache_at caches l.regs.class.0) l row).0) }) b l (domain_row m.rows (cache_at caches l.regs.class.0) l row).1
 
 -- The acts at the heap, the map and the names.

@@ -14,6 +14,7 @@ use Rattle.cpu_slab.specs.Growth.{used}
 use Rattle.rseq_core.specs.declared.cpu_part.CpuPart.{CpuPart}
 use Rattle.call_steps.specs.declared.step.Step.{Step}
 use Rattle.call_steps.specs.declared.step.Step.TheVariants as does
+use Rattle.call_steps.specs.declared.step.CpuRow.TheVariants as front
 use Rattle.call_steps.specs.declared.step.CpuStep.TheVariants as cpu
 use Rattle.call_steps.specs.declared.step.HeapStep.TheVariants as heap
 use Rattle.call_steps.specs.declared.step.Stopping.{Stopping}
@@ -40,7 +41,7 @@ AnswersNone rows heap l = (n : ℕ) → pages_asked rows l l.step ≡ Some n →
 
 -- An act that is to stop a CPU answers busy exactly where another thread is the stopper there, and names that one.
 abbrev pub AnswersBusy : List ClassRow → CpuPart → Local → Type 0
-AnswersBusy rows p l = (s : Stopping) (owner : ThreadNo) → l.step ≡ does.Cpu (cpu.Stop s) → Decides l (after rows (part.Cpu p) l).1 (Busy owner) ↔ ((p.stopper ≡ Some owner) × (owner ≢ l.regs.thread))
+AnswersBusy rows p l = (s : Stopping) (owner : ThreadNo) → l.step ≡ does.Front (front.Cpu (cpu.Stop s)) → Decides l (after rows (part.Cpu p) l).1 (Busy owner) ↔ ((p.stopper ≡ Some owner) × (owner ≢ l.regs.thread))
 
 -- the bytes of all capacities of a CPU, with that of one class set to so many objects
 abbrev pub bytes_with : CpuSlab → Class → ℕ → ℕ
@@ -54,7 +55,7 @@ pub record DecidesCap (before after : Local) (slab : CpuSlab) (k : Class) (n : �
   pub set : Decides before after CapSet ↔ ((n ≤ slab.most) × (bytes_with slab k n ≤ slab.limit))
 
 abbrev pub AnswersCap : List ClassRow → CpuPart → Local → Type 0
-AnswersCap rows p l = (r : Resizing) → l.step ≡ does.Cpu (cpu.SetCap r) → DecidesCap l (after rows (part.Cpu p) l).1 p.slab r.class r.cap
+AnswersCap rows p l = (r : Resizing) → l.step ≡ does.Front (front.Cpu (cpu.SetCap r)) → DecidesCap l (after rows (part.Cpu p) l).1 p.slab r.class r.cap
 
 -- whether an answer refuses its call
 abbrev pub is_refusal : Answer → Bool
@@ -73,9 +74,9 @@ is_refusal (OverStatic most) = true
 abbrev pub may_refuse : Step → Answer → Bool
 may_refuse (does.Heap (heap.New label size)) NoBlock = true
 may_refuse (does.Heap (heap.NewSpan asking)) NoBlock = true
-may_refuse (does.Cpu (cpu.Stop s)) (Busy owner) = true
-may_refuse (does.Cpu (cpu.SetCap r)) (OverLimit sum) = true
-may_refuse (does.Cpu (cpu.SetCap r)) (OverStatic most) = true
+may_refuse (does.Front (front.Cpu (cpu.Stop s))) (Busy owner) = true
+may_refuse (does.Front (front.Cpu (cpu.SetCap r))) (OverLimit sum) = true
+may_refuse (does.Front (front.Cpu (cpu.SetCap r))) (OverStatic most) = true
 may_refuse step answer = false
 
 -- No act, at whatever part, refuses a call but where its step may.

@@ -13,6 +13,7 @@ use Rattle.call_steps.specs.declared.step.CpuStep.{CpuStep}
 use Rattle.call_steps.specs.declared.step.CpuStep.TheVariants.{Pop, Grow, Stock, Push, PopBatch, Stop, Fence, Take, SetCap, Start, Leave}
 use Rattle.call_steps.specs.declared.step.Step.{Step}
 use Rattle.call_steps.specs.declared.step.Step.TheVariants as step
+use Rattle.call_steps.specs.declared.step.CpuRow.TheVariants as front
 use Rattle.call_steps.specs.Local.{Local}
 use Rattle.call_steps.specs.CpuActs.{due}
 use Rattle.alloc_rules.specs.declared.part.Part.{Part}
@@ -55,7 +56,7 @@ row_kind p l (Start s) = neither
 row_kind p l Leave = closes
 
 abbrev pub step_kind : CpuPart → Local → Step → Kind
-step_kind p l (step.Cpu row) = row_kind p l row
+step_kind p l (step.Front (front.Cpu row)) = row_kind p l row
 step_kind p l other = neither
 
 -- the act of a local at a part, which may be none or no CPU

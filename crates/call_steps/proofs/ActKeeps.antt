@@ -12,6 +12,7 @@ use Rattle.cpu_drain.specs.Seats.{Standing, Seat, CpuOk, IsHeld, Holds, SeatOk, 
 use Rattle.cpu_drain.specs.Laws.{IsHome}
 use Rattle.cpu_drain.proofs.Lawful.{sets}
 use Rattle.call_steps.specs.declared.step.Step.TheVariants as does
+use Rattle.call_steps.specs.declared.step.CpuRow.TheVariants as front
 use Rattle.call_steps.specs.declared.step.CpuStep.{CpuStep}
 use Rattle.call_steps.specs.Local.{Local}
 use Rattle.call_steps.specs.Shapes.{stands, seat_of, standing_of, standing_in, cpu_standing, Limits, IsShaped, CpuShape}
@@ -46,7 +47,7 @@ pub agrees_of : (m : Limits) (i t : ℕ) (p : CpuPart) (l : Local) (row : CpuSte
 agrees_of m i t p l row w e = w.seat.agrees (subst (λ (u : ThreadNo). IsCurrent u p l.regs) (thread_is l.regs.thread t w.shaped.thread) e)
 
 pub shape_of : (m : Limits) (i t : ℕ) (p : CpuPart) (l : Local) (row : CpuStep) → IsAtCpu m i t p l row → CpuShape m l row
-shape_of m i t p l row w = shape_at m t l (does.Cpu row) w.shaped w.step
+shape_of m i t p l row w = shape_at m t l (does.Front (front.Cpu row)) w.shaped w.step
 
 -- the standing at a step
 pub standing_is : (m : Limits) (i t : ℕ) (p : CpuPart) (l : Local) (row : CpuStep) → IsAtCpu m i t p l row → standing_in m.rows l ≡ cpu_standing m.rows l.regs.class.0 row

@@ -37,6 +37,7 @@ use Rattle.call_steps.specs.declared.step.Asking.{Asking}
 use Rattle.call_steps.specs.declared.step.Onward.{Onward}
 use Rattle.call_steps.specs.declared.step.Onward.TheVariants as onward
 use Rattle.call_steps.specs.declared.step.Step.TheVariants as does
+use Rattle.call_steps.specs.declared.step.CpuRow.TheVariants as front
 use Rattle.call_steps.specs.declared.step.CpuStep.TheVariants as cpu
 use Rattle.call_steps.specs.declared.step.ShardStep.{ShardStep}
 use Rattle.call_steps.specs.declared.step.ShardStep.TheVariants as shard
@@ -123,7 +124,7 @@ domain_next m t x l (domain.Put g) rows c shape =
 
 pub domain_acts_keep : DomainActsKeep
 domain_acts_keep m t x l row rows shaped is few fits =
-    kept m t l _ (domain_standing l.regs.class.0 row) (ap (standing_of m.rows l.regs.class.0) is) (domain_next m t x l row rows (common_of m t l shaped) (shape_at m t l (does.Domain row) shaped is))
+    kept m t l _ (domain_standing l.regs.class.0 row) (ap (standing_of m.rows l.regs.class.0) is) (domain_next m t x l row rows (common_of m t l shaped) (shape_at m t l (does.Front (front.Domain row)) shaped is))
 
 -- the heap
 new_next : (m : Limits) (t : ℕ) (h : heaps.Heap) (l : Local) (label : Label) (size : ℕ) (o : Option Placed) → IsCommon m t l → HasNone l → IsNext m t l.cpu l.regs.epoch None (after_new h l label size o).1
@@ -162,7 +163,7 @@ found_kind : (m : Limits) (t : ℕ) (l : Local) (label : Label) (addr : Addr) (s
 found_kind m t l label addr span (Small k) there space c n =
     let l' : Local = with_regs l (record (set_for k seq.Push l.regs) { hand = appended l.regs.hand (addr ∷ []) }) in
     let c' : IsCommon m t l' = record { thread = c.thread; class = there; home = c.home; hand = omega (arith, c.hand, length-append l.regs.hand.items (addr ∷ [])); loaded = c.loaded; freed = c.freed; ran = c.ran; move = c.move; rest = c.rest } in
-    goes_next m t l' (does.Cpu (cpu.Push (record { label = label; addr = addr }))) c' (record { pc = refl; nothing = n.begin.nothing }) (record { seq = refl; freed = n.freed }, ap (λ xs. xs ++ addr ∷ []) n.hand)
+    goes_next m t l' (does.Front (front.Cpu (cpu.Push (record { label = label; addr = addr })))) c' (record { pc = refl; nothing = n.begin.nothing }) (record { seq = refl; freed = n.freed }, ap (λ xs. xs ++ addr ∷ []) n.hand)
 found_kind m t l label addr span Large there space c n = goes_next m t l (does.Map (map.Clear label (run_of span))) c n.begin (none_still l (does.Map (map.Clear label (run_of span))) n)
 
 found_next : (m : Limits) (t : ℕ) (l : Local) (label : Label) (addr : Addr) (o : Option SpanRef) (span : SpanRef) → o ≡ Some span → IsKindThere m span.kind → 0 < l.regs.hand.spare → IsCommon m t l → HasNone l → IsNext m t l.cpu l.regs.epoch None (after_lookup l label addr o)

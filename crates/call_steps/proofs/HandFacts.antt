@@ -14,6 +14,7 @@ use Rattle.rseq_core.specs.Bags.{without_first, appended}
 use Rattle.call_steps.specs.declared.step.Asking.{Asking}
 use Rattle.call_steps.specs.declared.step.Step.{Step}
 use Rattle.call_steps.specs.declared.step.Step.TheVariants as does
+use Rattle.call_steps.specs.declared.step.CpuRow.TheVariants as front
 use Rattle.call_steps.specs.declared.step.CpuStep.TheVariants as cpu
 use Rattle.call_steps.specs.declared.step.NamesStep.TheVariants as names
 use Rattle.call_steps.specs.Local.{Local, set_for, decided, goes, no_class, class_row}
@@ -32,9 +33,9 @@ serves_one rows l asking a hand is room none =
     ap (λ h. goes (decided (with_hand l h) (Malloc asking.label asking.size) (Block a (class_row rows l).size)) (does.Names (names.Publish asking.label (Some a)))) (without_is l.regs.hand hand a is room)
     ∙ sym (ap (serves_first rows l asking) (is ∙ ap (λ xs. a ∷ xs) none))
 
-pub serves_more : (rows : List ClassRow) (l : Local) (asking : Asking) (a b : Addr) (hand : Contents Addr) (others : List Addr) → l.regs.hand.items ≡ a ∷ hand.items → hand.spare ≡ l.regs.hand.spare + 1 → hand.items ≡ b ∷ others → goes (starts (decided (with_hand l hand) (Malloc asking.label asking.size) (Block a (class_row rows l).size)) seq.PushBatch) (does.Cpu (cpu.Stock (record { label = asking.label; addr = a }))) ≡ serves rows l asking
+pub serves_more : (rows : List ClassRow) (l : Local) (asking : Asking) (a b : Addr) (hand : Contents Addr) (others : List Addr) → l.regs.hand.items ≡ a ∷ hand.items → hand.spare ≡ l.regs.hand.spare + 1 → hand.items ≡ b ∷ others → goes (starts (decided (with_hand l hand) (Malloc asking.label asking.size) (Block a (class_row rows l).size)) seq.PushBatch) (does.Front (front.Cpu (cpu.Stock (record { label = asking.label; addr = a })))) ≡ serves rows l asking
 serves_more rows l asking a b hand others is room some =
-    ap (λ h. goes (starts (decided (with_hand l h) (Malloc asking.label asking.size) (Block a (class_row rows l).size)) seq.PushBatch) (does.Cpu (cpu.Stock (record { label = asking.label; addr = a })))) (without_is l.regs.hand hand a is room)
+    ap (λ h. goes (starts (decided (with_hand l h) (Malloc asking.label asking.size) (Block a (class_row rows l).size)) seq.PushBatch) (does.Front (front.Cpu (cpu.Stock (record { label = asking.label; addr = a }))))) (without_is l.regs.hand hand a is room)
     ∙ sym (ap (serves_first rows l asking) (is ∙ ap (λ xs. a ∷ xs) some))
 
 -- a bag with more items is one with these behind it
@@ -65,10 +66,10 @@ serves_one_by rows l l' asking a hand row len next at size is room none goes_to 
     ∙ (ap (goes (decided (with_hand l hand) (Malloc asking.label asking.size) (Block a (class_row rows l).size))) goes_to
     ∙ serves_one rows l asking a hand is room (none_by hand.items none)))
 
-pub serves_more_by : (rows : List ClassRow) (l l' : Local) (asking : Asking) (a : Addr) (hand : Contents Addr) (row : ClassRow) (len : ℕ) (regs : Regs) → slice_get rows l.regs.class.0 ≡ Some row → len ≡ row.size → l.regs.hand.items ≡ a ∷ hand.items → hand.spare ≡ l.regs.hand.spare + 1 → (length hand.items == 0) ≡ false → regs ≡ set_for l.regs.class seq.PushBatch (record l.regs { hand = hand }) → l' ≡ goes (decided (record l { regs = regs }) (Malloc asking.label asking.size) (Block a len)) (does.Cpu (cpu.Stock (record { label = asking.label; addr = a }))) → l' ≡ serves rows l asking
+pub serves_more_by : (rows : List ClassRow) (l l' : Local) (asking : Asking) (a : Addr) (hand : Contents Addr) (row : ClassRow) (len : ℕ) (regs : Regs) → slice_get rows l.regs.class.0 ≡ Some row → len ≡ row.size → l.regs.hand.items ≡ a ∷ hand.items → hand.spare ≡ l.regs.hand.spare + 1 → (length hand.items == 0) ≡ false → regs ≡ set_for l.regs.class seq.PushBatch (record l.regs { hand = hand }) → l' ≡ goes (decided (record l { regs = regs }) (Malloc asking.label asking.size) (Block a len)) (does.Front (front.Cpu (cpu.Stock (record { label = asking.label; addr = a })))) → l' ≡ serves rows l asking
 serves_more_by rows l l' asking a hand row len regs at size is room some set made =
     let o = some_by hand.items some in
     made
-    ∙ (ap (λ r. goes (decided (record l { regs = r }) (Malloc asking.label asking.size) (Block a len)) (does.Cpu (cpu.Stock (record { label = asking.label; addr = a })))) set
-    ∙ (ap (λ n. goes (starts (decided (with_hand l hand) (Malloc asking.label asking.size) (Block a n)) seq.PushBatch) (does.Cpu (cpu.Stock (record { label = asking.label; addr = a })))) (size ∙ ap (λ (r : ClassRow). r.size) (sym (row_is rows l row at)))
+    ∙ (ap (λ r. goes (decided (record l { regs = r }) (Malloc asking.label asking.size) (Block a len)) (does.Front (front.Cpu (cpu.Stock (record { label = asking.label; addr = a }))))) set
+    ∙ (ap (λ n. goes (starts (decided (with_hand l hand) (Malloc asking.label asking.size) (Block a n)) seq.PushBatch) (does.Front (front.Cpu (cpu.Stock (record { label = asking.label; addr = a }))))) (size ∙ ap (λ (r : ClassRow). r.size) (sym (row_is rows l row at)))
     ∙ serves_more rows l asking a o.first hand o.more is room o.are))

@@ -36,6 +36,7 @@ use Rattle.call_steps.specs.declared.step.Onward.{Onward}
 use Rattle.call_steps.specs.declared.step.Onward.TheVariants as onward
 use Rattle.call_steps.specs.declared.step.Step.{Step}
 use Rattle.call_steps.specs.declared.step.Step.TheVariants as does
+use Rattle.call_steps.specs.declared.step.CpuRow.TheVariants as front
 use Rattle.call_steps.specs.declared.step.CpuStep.TheVariants as cpu
 use Rattle.call_steps.specs.declared.step.ShardStep.TheVariants as shard
 use Rattle.call_steps.specs.declared.step.DomainStep.TheVariants as domain
@@ -113,22 +114,22 @@ publishes_next m t l s c n = goes_next m t l (does.Names (names.Publish s.label 
 
 pub looks_next : (m : Limits) (t : ℕ) (l : Local) (a : Asking) → IsCommon m t l → HasNone l → IsAsked m l a → IsNext m t l.cpu l.regs.epoch None (looks_on l a)
 looks_next m t l a c n asked =
-    cond_both (eqb l.domains 0) (does.Shard (shard.Fetch a)) (does.Domain (domain.Take a)) (λ (next : Step). IsNext m t l.cpu l.regs.epoch None (goes l next))
+    cond_both (eqb l.domains 0) (does.Shard (shard.Fetch a)) (does.Front (front.Domain (domain.Take a))) (λ (next : Step). IsNext m t l.cpu l.regs.epoch None (goes l next))
     (λ e. goes_next m t l (does.Shard (shard.Fetch a)) c n.begin (none_still l (does.Shard (shard.Fetch a)) n, asked))
-    (λ e. goes_next m t l (does.Domain (domain.Take a)) c n.begin (none_still l (does.Domain (domain.Take a)) n, asked))
+    (λ e. goes_next m t l (does.Front (front.Domain (domain.Take a))) c n.begin (none_still l (does.Front (front.Domain (domain.Take a))) n, asked))
 
 pub gives_next : (m : Limits) (t : ℕ) (l : Local) (g : Giving) → IsCommon m t l → HasHand most_slots l → IsGiving m l g → IsNext m t l.cpu l.regs.epoch (giving_standing l.regs.class.0 g) (gives l g)
 gives_next m t l g c n is =
-    cond_both (eqb l.domains 0) (does.Shard (shard.Give g)) (does.Domain (domain.Put g)) (λ (next : Step). IsNext m t l.cpu l.regs.epoch (giving_standing l.regs.class.0 g) (goes l next))
+    cond_both (eqb l.domains 0) (does.Shard (shard.Give g)) (does.Front (front.Domain (domain.Put g))) (λ (next : Step). IsNext m t l.cpu l.regs.epoch (giving_standing l.regs.class.0 g) (goes l next))
     (λ e. goes_next m t l (does.Shard (shard.Give g)) c n.begin (hand_still l (does.Shard (shard.Give g)) n, giving_still m l (does.Shard (shard.Give g)) g is))
-    (λ e. goes_next m t l (does.Domain (domain.Put g)) c n.begin (hand_still l (does.Domain (domain.Put g)) n, giving_still m l (does.Domain (domain.Put g)) g is))
+    (λ e. goes_next m t l (does.Front (front.Domain (domain.Put g))) c n.begin (hand_still l (does.Front (front.Domain (domain.Put g))) n, giving_still m l (does.Front (front.Domain (domain.Put g))) g is))
 
 pub drains_next : (m : Limits) (t : ℕ) (l : Local) (d : Draining) → IsCommon m t l → HasNone l → d.cpu.0 < m.cpus → d.taken ≤ (l.regs.class.0 + 1) * most_slots → IsNext m t l.cpu l.regs.epoch (stands d.cpu true (below (l.regs.class.0 + 1))) (drains_on m.rows l d)
 drains_next m t l d c n there few =
     let k : Class = record { 0 = l.regs.class.0 + 1 } in
     let l' : Local = record l { regs = record l.regs { class = k } } in
-    let next : Step = does.Cpu (cpu.Take (stopping.Drain d)) in
-    let start : Step = does.Cpu (cpu.Start (stopping.Drain d)) in
+    let next : Step = does.Front (front.Cpu (cpu.Take (stopping.Drain d))) in
+    let start : Step = does.Front (front.Cpu (cpu.Start (stopping.Drain d))) in
     cond_both (ltb k.0 (length m.rows)) (goes l' next) (goes l start) (IsNext m t l.cpu l.regs.epoch (stands d.cpu true (below k.0)))
     (λ e.
     (let c' : IsCommon m t l' = record { thread = c.thread; class = ltb-true k.0 (length m.rows) e; home = c.home; hand = c.hand; loaded = c.loaded; freed = c.freed; ran = c.ran; move = c.move; rest = c.rest } in
@@ -161,7 +162,7 @@ malloc_next : (m : Limits) (t : ℕ) (l : Local) (label : Label) (size : ℕ) (o
     → IsNext m t l.cpu l.regs.epoch None (record l { step = first_of_malloc o label size; regs = record (regs_of_malloc o l.regs) { ran = 0 }; moved = moved; rest = rest; ended = ended; acts = l.acts + 1 })
 malloc_next m t l label size None moved rest ended of c n move planned = fresh_next m t l (does.Heap (heap.New label size)) l.regs.class l.regs.seq l.regs.pc 0 moved rest ended c n c.class n.begin.pc (omega arith) move planned (λ none. (none, of))
 malloc_next m t l label size (Some k) moved rest ended of c n move planned =
-    fresh_next m t l (does.Cpu (cpu.Pop (record { label = label; size = size }))) k seq.Pop Begin 0 moved rest ended c n (class_low m.rows size k of) refl (omega arith) move planned (λ none. (record { seq = refl; freed = none.freed }, none.hand, of))
+    fresh_next m t l (does.Front (front.Cpu (cpu.Pop (record { label = label; size = size })))) k seq.Pop Begin 0 moved rest ended c n (class_low m.rows size k of) refl (omega arith) move planned (λ none. (record { seq = refl; freed = none.freed }, none.hand, of))
 
 call_next : (m : Limits) (t : ℕ) (l : Local) (call : Call) (moved : Option MoveTo) (rest : List Planned) (ended : ℕ) → AreRows m.rows → IsCommon m t l → HasNone l → IsCallThere m call → IsMove m moved → All (IsPlanned m) rest
     → IsNext m t l.cpu l.regs.epoch None (record l { step = first_of_call m.rows call; regs = fresh_regs m.rows call l.regs; moved = moved; rest = rest; ended = ended; acts = l.acts + 1 })
@@ -169,9 +170,9 @@ call_next m t l (Malloc label size) moved rest ended rows c n there move planned
 call_next m t l (Free label) moved rest ended rows c n there move planned = fresh_next m t l (does.Names (names.Take label)) l.regs.class l.regs.seq l.regs.pc 0 moved rest ended c n c.class n.begin.pc (omega arith) move planned (λ none. none)
 call_next m t l (Release pages) moved rest ended rows c n there move planned = fresh_next m t l (does.Heap (heap.Unback pages)) l.regs.class l.regs.seq l.regs.pc 0 moved rest ended c n c.class n.begin.pc (omega arith) move planned (λ none. none)
 call_next m t l (Drain c) moved rest ended rows common n there move planned =
-    fresh_next m t l (does.Cpu (cpu.Stop (stopping.Drain (record { cpu = c; taken = 0 })))) (record { 0 = 0 }) seq.Pop Begin 0 moved rest ended common n rows.some refl (omega arith) move planned (λ none. (none, (there, omega arith), refl))
+    fresh_next m t l (does.Front (front.Cpu (cpu.Stop (stopping.Drain (record { cpu = c; taken = 0 }))))) (record { 0 = 0 }) seq.Pop Begin 0 moved rest ended common n rows.some refl (omega arith) move planned (λ none. (none, (there, omega arith), refl))
 call_next m t l (Resize c class cap) moved rest ended rows common n there move planned =
-    fresh_next m t l (does.Cpu (cpu.Stop (stopping.Resize (record { cpu = c; class = class; cap = cap })))) class seq.Pop Begin 0 moved rest ended common n there.1 refl (omega arith) move planned (λ none. (none, (there.0, refl), tt))
+    fresh_next m t l (does.Front (front.Cpu (cpu.Stop (stopping.Resize (record { cpu = c; class = class; cap = cap }))))) class seq.Pop Begin 0 moved rest ended common n there.1 refl (omega arith) move planned (λ none. (none, (there.0, refl), tt))
 
 -- the thread comes to the first of these calls
 come_next : (m : Limits) (t : ℕ) (l : Local) (calls : List Planned) (ended : ℕ) → AreRows m.rows → IsCommon m t l → HasNone l → All (IsPlanned m) calls → IsNext m t l.cpu l.regs.epoch None (next_call m.rows (record l { ended = ended; acts = l.acts + 1 }) calls)
@@ -183,7 +184,7 @@ come_next m t l (p ∷ ps) ended rows c n planned =
 -- the call ends, or its thread is to leave first
 closes_next : (m : Limits) (t : ℕ) (l : Local) (o : Option MoveTo) → l.moved ≡ o → AreRows m.rows → IsCommon m t l → HasNone l → IsNext m t l.cpu l.regs.epoch None (closes m.rows (record l { acts = l.acts + 1 }) o)
 closes_next m t l None is rows c n = come_next m t l l.rest (l.ended + 1) rows c n c.rest
-closes_next m t l (Some move) is rows c n = goes_next m t l (does.Cpu cpu.Leave) c n.begin (none_still l (does.Cpu cpu.Leave) n, ap (λ (o : Option MoveTo). is_some o) is)
+closes_next m t l (Some move) is rows c n = goes_next m t l (does.Front (front.Cpu cpu.Leave)) c n.begin (none_still l (does.Front (front.Cpu cpu.Leave)) n, ap (λ (o : Option MoveTo). is_some o) is)
 
 pub ends_next : (m : Limits) (t : ℕ) (l : Local) → AreRows m.rows → IsCommon m t l → HasNone l → IsNext m t l.cpu l.regs.epoch None (ends m.rows l)
 ends_next m t l rows c n = closes_next m t l l.moved refl rows c n
@@ -194,7 +195,7 @@ stocks_next m t l s [] is few c begin none = publishes_next m t l s c (record { 
 stocks_next m t l s (a ∷ others) is few c begin none =
     let l' : Local = record l { regs = record l.regs { seq = seq.PushBatch; pc = Begin } } in
     let c' : IsCommon m t l' = record { thread = c.thread; class = c.class; home = c.home; hand = c.hand; loaded = c.loaded; freed = c.freed; ran = c.ran; move = c.move; rest = c.rest } in
-    goes_next m t l' (does.Cpu (cpu.Stock s)) c' (record { pc = refl; nothing = begin.nothing }) (record { seq = refl; freed = none }, (let e = ap length is in omega arith), (let e = ap length is in omega (arith, few)))
+    goes_next m t l' (does.Front (front.Cpu (cpu.Stock s))) c' (record { pc = refl; nothing = begin.nothing }) (record { seq = refl; freed = none }, (let e = ap length is in omega arith), (let e = ap length is in omega (arith, few)))
 
 pub serves_next : (m : Limits) (t : ℕ) (l : Local) (a : Asking) (xs : List Addr) → l.regs.hand.items ≡ xs → 0 < length xs → length xs ≤ LOADED_ROOM → IsCommon m t l → IsAtBegin l.regs → l.freed.items ≡ [] → IsNext m t l.cpu l.regs.epoch None (serves_first m.rows l a xs)
 serves_next m t l a [] is some few c begin none = absurd (omega arith)

@@ -15,6 +15,7 @@ use Rattle.call_steps.specs.Local.{Decided, first_of_malloc, first_of_call, firs
 use Rattle.call_steps.specs.Calls.{undecided, under, without_call, IsOf}
 use Rattle.call_steps.specs.declared.step.Step.{Step}
 use Rattle.call_steps.specs.declared.step.Step.TheVariants as does
+use Rattle.call_steps.specs.declared.step.CpuRow.TheVariants as front
 use Rattle.call_steps.specs.Kept.{decided_by, call_at, HasDomain, IsKept}
 
 without : (o : Option Call) → is_some o ≡ true → without_call o ≡ 0
@@ -23,12 +24,12 @@ without (Some call) is = refl
 
 -- a call that isn't decided isn't counted as one that is
 pub undecided_under : (s : Step) → is_some (undecided s) ≡ true → under s ≡ 0
-undecided_under (does.Cpu row) is = without (undecided (does.Cpu row)) is
+undecided_under (does.Front (front.Cpu row)) is = without (undecided (does.Front (front.Cpu row))) is
+undecided_under (does.Front (front.Domain row)) is = without (undecided (does.Front (front.Domain row))) is
 undecided_under (does.Shard row) is = without (undecided (does.Shard row)) is
 undecided_under (does.Heap row) is = without (undecided (does.Heap row)) is
 undecided_under (does.Map row) is = without (undecided (does.Map row)) is
 undecided_under (does.Names row) is = without (undecided (does.Names row)) is
-undecided_under (does.Domain row) is = without (undecided (does.Domain row)) is
 undecided_under does.Ended is = absurd (cc)
 
 -- the first act of a call is of that call, and decides nothing before it is done

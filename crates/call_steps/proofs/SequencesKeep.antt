@@ -32,6 +32,7 @@ use Rattle.call_steps.specs.declared.step.Freeing.{Freeing}
 use Rattle.call_steps.specs.declared.step.Giving.TheVariants as giving
 use Rattle.call_steps.specs.declared.step.Step.{Step}
 use Rattle.call_steps.specs.declared.step.Step.TheVariants as does
+use Rattle.call_steps.specs.declared.step.CpuRow.TheVariants as front
 use Rattle.call_steps.specs.declared.step.CpuStep.{CpuStep}
 use Rattle.call_steps.specs.declared.step.CpuStep.TheVariants as cpu
 use Rattle.call_steps.specs.Local.{Local, no_class, class_row, goes}
@@ -67,7 +68,7 @@ abbrev pub Replies : Limits → ℕ → Local → CpuStep → Type 0
 Replies m t l row = (old new : SlabRow) (r : Regs) (o : Reply) → ReplyMoves o old new l.regs r → AreAtBegin r → AreOfSame l.regs r → IsCommon m t (with_regs l r) → IsNext m t l.cpu r.epoch None (replied m.rows (with_regs l r) row o)
 
 -- a sequence that goes on, or is at its begin again
-still_keeps : (m : Limits) (i t : ℕ) (p new : CpuPart) (l : Local) (row : CpuStep) (r : Regs) → l.step ≡ does.Cpu row → r.class ≡ l.regs.class → IsCommon m t (with_regs l r) → CpuShape m (goes (with_regs l r) l.step) row → seats.SeatKeeps (length m.rows) i (thread_no t) p (seat_of m.rows l) new (seats.with_regs (seat_of m.rows l) r) → new.epoch ≤ p.epoch + 1 → ActKeeps m i t p l (new, goes (with_regs l r) l.step)
+still_keeps : (m : Limits) (i t : ℕ) (p new : CpuPart) (l : Local) (row : CpuStep) (r : Regs) → l.step ≡ does.Front (front.Cpu row) → r.class ≡ l.regs.class → IsCommon m t (with_regs l r) → CpuShape m (goes (with_regs l r) l.step) row → seats.SeatKeeps (length m.rows) i (thread_no t) p (seat_of m.rows l) new (seats.with_regs (seat_of m.rows l) r) → new.epoch ≤ p.epoch + 1 → ActKeeps m i t p l (new, goes (with_regs l r) l.step)
 still_keeps m i t p new l row r is class c shape keeps low =
     record {
       keeps = subst (λ (v : seats.Seat). seats.SeatKeeps (length m.rows) i (thread_no t) p (seat_of m.rows l) new v) (ap (λ (k : Class). let v : seats.Seat = record { regs = r; cpu = l.cpu.0; standing = standing_of m.rows k.0 l.step } in v) (sym class)) keeps;
@@ -75,7 +76,7 @@ still_keeps m i t p new l row r is class c shape keeps low =
       epoch = low;
     }
 
-answer_keeps : (m : Limits) (i t : ℕ) (p new : CpuPart) (l : Local) (row : CpuStep) (r : Regs) (a : Instructed) → IsShaped m t l → l.step ≡ does.Cpu row → cpu_standing m.rows l.regs.class.0 row ≡ None → Stays m l row → Replies m t l row → (is_pop l.regs.seq ≡ true → HasRoom l.regs) → Instructs p l.regs (record { cpu = new; regs = r; answer = a }) → seats.SeatKeeps (length m.rows) i (thread_no t) p (seat_of m.rows l) new (seats.with_regs (seat_of m.rows l) r)
+answer_keeps : (m : Limits) (i t : ℕ) (p new : CpuPart) (l : Local) (row : CpuStep) (r : Regs) (a : Instructed) → IsShaped m t l → l.step ≡ does.Front (front.Cpu row) → cpu_standing m.rows l.regs.class.0 row ≡ None → Stays m l row → Replies m t l row → (is_pop l.regs.seq ≡ true → HasRoom l.regs) → Instructs p l.regs (record { cpu = new; regs = r; answer = a }) → seats.SeatKeeps (length m.rows) i (thread_no t) p (seat_of m.rows l) new (seats.with_regs (seat_of m.rows l) r)
     → ActKeeps m i t p l (new, instructed_to m.rows (with_regs l r) row a)
 answer_keeps m i t p new l row r answer.In s is none stays replies rooms x keeps = still_keeps m i t p new l row r is (x.same rooms).class (regs_common m t l r s (x.same rooms) x.ran) (stays (goes (with_regs l r) l.step) (x.same rooms).seq (x.same rooms).class x.moves.hand refl) keeps x.epoch
 answer_keeps m i t p new l row r answer.Back s is none stays replies rooms x keeps = still_keeps m i t p new l row r is (x.same rooms).class (regs_common m t l r s (x.same rooms) x.ran) (stays (goes (with_regs l r) l.step) (x.same rooms).seq (x.same rooms).class x.moves.hand refl) keeps x.epoch
@@ -170,7 +171,7 @@ pop_replies m t l a shape old new r reply.Popped moves begin same c =
     serves_next m t (with_regs l r) a r.hand.items refl (omega (arith, ap length moves.hand, size, got)) (omega (arith, ap length moves.hand, size, moves.few, one, ap length shape.1)) c (record { pc = begin.pc; nothing = begin.nothing }) shape.0.freed
 pop_replies m t l a shape old new r reply.Empty moves begin same c =
     let n : HasNone (with_regs l r) = pop_none m l a r shape begin moves.hand in
-    goes_next m t (with_regs l r) (does.Cpu (cpu.Grow a)) c n.begin (none_still (with_regs l r) (does.Cpu (cpu.Grow a)) n, pop_asked m l a r shape.2 same.class)
+    goes_next m t (with_regs l r) (does.Front (front.Cpu (cpu.Grow a))) c n.begin (none_still (with_regs l r) (does.Front (front.Cpu (cpu.Grow a))) n, pop_asked m l a r shape.2 same.class)
 pop_replies m t l a shape old new r reply.Stopped moves begin same c = looks_next m t (with_regs l r) a c (pop_none m l a r shape begin moves.hand) (pop_asked m l a r shape.2 same.class)
 pop_replies m t l a shape old new r reply.Full moves begin same c = looks_next m t (with_regs l r) a c (pop_none m l a r shape begin moves.hand) (pop_asked m l a r shape.2 same.class)
 pop_replies m t l a shape old new r (reply.Pushed n) moves begin same c = absurd (no_push l.regs.seq seq.Pop shape.0.seq refl moves.pushes)
@@ -231,7 +232,7 @@ push_replies m t l f rows shape old new r (reply.Pushed n) moves begin same c =
 push_replies m t l f rows shape old new r reply.Full moves begin same c =
     let l' : Local = starts (with_regs l r) (seq.PopBatch (class_row m.rows (with_regs l r)).batch) in
     let c' : IsCommon m t l' = record { thread = c.thread; class = c.class; home = c.home; hand = c.hand; loaded = c.loaded; freed = c.freed; ran = c.ran; move = c.move; rest = c.rest } in
-    goes_next m t l' (does.Cpu (cpu.PopBatch f)) c' (record { pc = refl; nothing = begin.nothing }) (record { seq = refl; freed = shape.0.freed }, moves.hand ∙ shape.1)
+    goes_next m t l' (does.Front (front.Cpu (cpu.PopBatch f))) c' (record { pc = refl; nothing = begin.nothing }) (record { seq = refl; freed = shape.0.freed }, moves.hand ∙ shape.1)
 push_replies m t l f rows shape old new r reply.Stopped moves begin same c = freed_next m t (with_regs l r) f [] (moves.hand ∙ shape.1) (omega arith) c (record { pc = begin.pc; nothing = begin.nothing }) shape.0.freed
 push_replies m t l f rows shape old new r reply.Empty moves begin same c = freed_next m t (with_regs l r) f [] (moves.hand ∙ shape.1) (omega arith) c (record { pc = begin.pc; nothing = begin.nothing }) shape.0.freed
 push_replies m t l f rows shape old new r reply.Popped moves begin same c = absurd (no_pop l.regs.seq seq.Push shape.0.seq refl moves.pops)
@@ -265,7 +266,7 @@ batch_keeps m i t p l f w =
     row_keeps m i t p l (cpu.PopBatch f) w w.here refl (batch_stays m l f shape) (batch_replies m t l f (batch_wants m t l f w.rows c shape) shape) (λ pops. batch_rooms m t l f w.rows c shape)
 
 -- Grow
-grew_keeps : (m : Limits) (i t : ℕ) (p new : CpuPart) (l : Local) (a : Asking) (r : Regs) (o : Grew) → IsShaped m t l → l.step ≡ does.Cpu (cpu.Grow a) → CpuShape m l (cpu.Grow a) → Grows p l.regs (record { cpu = new; regs = r; answer = o }) → seats.SeatKeeps (length m.rows) i (thread_no t) p (seat_of m.rows l) new (seats.with_regs (seat_of m.rows l) r) → ActKeeps m i t p l (new, grew_to (with_regs l r) a o)
+grew_keeps : (m : Limits) (i t : ℕ) (p new : CpuPart) (l : Local) (a : Asking) (r : Regs) (o : Grew) → IsShaped m t l → l.step ≡ does.Front (front.Cpu (cpu.Grow a)) → CpuShape m l (cpu.Grow a) → Grows p l.regs (record { cpu = new; regs = r; answer = o }) → seats.SeatKeeps (length m.rows) i (thread_no t) p (seat_of m.rows l) new (seats.with_regs (seat_of m.rows l) r) → ActKeeps m i t p l (new, grew_to (with_regs l r) a o)
 grew_keeps m i t p new l a r grew.In s is shape x keeps =
     let begin = x.begins (record { pc = shape.0.begin.pc; nothing = shape.0.begin.nothing }) in
     still_keeps m i t p new l (cpu.Grow a) r is x.same.class (regs_common m t l r s x.same (omega (arith, x.ran))) (record { begin = record { pc = begin.pc; nothing = begin.nothing }; hand = x.hand ∙ shape.0.hand; freed = shape.0.freed }, pop_asked m l a r shape.1 x.same.class) keeps x.epoch

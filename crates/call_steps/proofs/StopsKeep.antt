@@ -26,6 +26,7 @@ use Rattle.call_steps.specs.declared.step.Stopping.TheVariants as stopping
 use Rattle.call_steps.specs.declared.step.Giving.TheVariants as giving
 use Rattle.call_steps.specs.declared.step.Step.{Step}
 use Rattle.call_steps.specs.declared.step.Step.TheVariants as does
+use Rattle.call_steps.specs.declared.step.CpuRow.TheVariants as front
 use Rattle.call_steps.specs.declared.step.CpuStep.{CpuStep}
 use Rattle.call_steps.specs.declared.step.CpuStep.TheVariants as cpu
 use Rattle.call_steps.specs.Local.{Local, Decided, goes, ends}
@@ -54,7 +55,7 @@ stopped_epoch (Some u) p t = omega arith
 stop_by : (m : Limits) (i t : ℕ) (p : CpuPart) (l : Local) (s : Stopping) (o : Option ThreadNo) → IsAtCpu m i t p l (cpu.Stop s) → p.stopper ≡ o → ActKeeps m i t p l (stops m.rows p l s o)
 stop_by m i t p l s None w none =
     let shape : CpuShape m l (cpu.Stop s) = shape_of m i t p l (cpu.Stop s) w in
-    let next : Step = does.Cpu (cpu.Fence s) in
+    let next : Step = does.Front (front.Cpu (cpu.Fence s)) in
     let nowhere : standing_in m.rows l ≡ None = standing_is m i t p l (cpu.Stop s) w in
     let keeps = lawful.stops (length m.rows) i (thread_no t) p (seat_of m.rows l) w.part w.seat shape.0.begin.pc nowhere none in
     let mine = subst (λ (u : ThreadNo). seats.SeatKeeps (length m.rows) i (thread_no t) p (seat_of m.rows l) (drains.stopped p u) (seats.standing_at (seat_of m.rows l) i false (λ j. false))) (sym (thread_is l.regs.thread t w.shaped.thread)) keeps in
@@ -79,7 +80,7 @@ nothing_taken l (stopping.Resize r) is = refl
 pub fence_keeps : (m : Limits) (i t : ℕ) (p : CpuPart) (l : Local) (s : Stopping) → IsAtCpu m i t p l (cpu.Fence s) → CpuActKeeps m i t p l (cpu.Fence s)
 fence_keeps m i t p l s w =
     let shape : CpuShape m l (cpu.Fence s) = shape_of m i t p l (cpu.Fence s) w in
-    let next : Step = does.Cpu (cpu.Take s) in
+    let next : Step = does.Front (front.Cpu (cpu.Take s)) in
     let is = standing_is m i t p l (cpu.Fence s) w in
     let has = held_of m i t p l (cpu_of s) false no_class_empty w.seat is w.here in
     act_keeps m i t p l (cpu.Fence s) (stopper_is m t l p.stopper w.shaped has.stopper, omega (arith, w.epoch))
@@ -112,7 +113,7 @@ drained_next m t l d (x ∷ xs) is few rows c begin freed there taken =
 
 took_next : (m : Limits) (t : ℕ) (l : Local) (s : Stopping) → length l.regs.hand.items ≤ most_slots → AreRows m.rows → IsCommon m t l → IsAtBegin l.regs → l.freed.items ≡ [] → IsStop m l s → IsNext m t l.cpu l.regs.epoch (stands (cpu_of s) true (empty_of l.regs.class.0 s)) (took m.rows l s)
 took_next m t l (stopping.Drain d) few rows c begin freed is = drained_next m t l d l.regs.hand.items refl few rows c begin freed is.0 is.1
-took_next m t l (stopping.Resize r) few rows c begin freed is = goes_next m t l (does.Cpu (cpu.SetCap r)) c begin (record { begin = begin; few = few; freed = freed }, is.0, is.1)
+took_next m t l (stopping.Resize r) few rows c begin freed is = goes_next m t l (does.Front (front.Cpu (cpu.SetCap r))) c begin (record { begin = begin; few = few; freed = freed }, is.0, is.1)
 
 stop_handed : (m : Limits) (l : Local) (h : Contents Addr) (s : Stopping) → IsStop m l s → IsStop m (with_hand l h) s
 stop_handed m l h (stopping.Drain d) is = is
@@ -150,9 +151,9 @@ take_keeps m i t p l s w =
     (took_next m t l' s (omega (arith, all, x.few)) w.rows c' (record { pc = shape.0.begin.pc; nothing = shape.0.begin.nothing }) shape.0.freed (stop_handed m l h s shape.1)) refl refl (stands_at (cpu_of s) i true (empty_of k s) w.here) (omega arith))
 
 -- SetCap
-resized_next : (m : Limits) (t : ℕ) (l : Local) (r : Resizing) (answers : List Decided) → IsCommon m t l → HasHand most_slots l → r.cpu.0 < m.cpus → IsNext m t l.cpu l.regs.epoch (stands r.cpu true (alone r.class.0)) (goes (record l { answers = answers }) (does.Cpu (cpu.Start (stopping.Resize r))))
+resized_next : (m : Limits) (t : ℕ) (l : Local) (r : Resizing) (answers : List Decided) → IsCommon m t l → HasHand most_slots l → r.cpu.0 < m.cpus → IsNext m t l.cpu l.regs.epoch (stands r.cpu true (alone r.class.0)) (goes (record l { answers = answers }) (does.Front (front.Cpu (cpu.Start (stopping.Resize r)))))
 resized_next m t l r answers c n there =
-    goes_next m t (record l { answers = answers }) (does.Cpu (cpu.Start (stopping.Resize r))) (record { thread = c.thread; class = c.class; home = c.home; hand = c.hand; loaded = c.loaded; freed = c.freed; ran = c.ran; move = c.move; rest = c.rest }) n.begin (record { begin = n.begin; few = n.few; freed = n.freed }, there)
+    goes_next m t (record l { answers = answers }) (does.Front (front.Cpu (cpu.Start (stopping.Resize r)))) (record { thread = c.thread; class = c.class; home = c.home; hand = c.hand; loaded = c.loaded; freed = c.freed; ran = c.ran; move = c.move; rest = c.rest }) n.begin (record { begin = n.begin; few = n.few; freed = n.freed }, there)
 
 pub set_cap_keeps : (m : Limits) (i t : ℕ) (p : CpuPart) (l : Local) (r : Resizing) → IsAtCpu m i t p l (cpu.SetCap r) → CpuActKeeps m i t p l (cpu.SetCap r)
 set_cap_keeps m i t p l r w =
@@ -164,7 +165,7 @@ set_cap_keeps m i t p l r w =
     let has = held_of m i t p l r.cpu true mark w.seat is w.here in
     let there : k < length p.slab.rows = omega (arith, w.part.classes, c.class) in
     let zero : (row_at p.slab k).top ≡ 0 = (has.empty k (eq-eqb k r.class.0 (ap (λ (j : Class). j.0) shape.2))).1 in
-    let next : Step = does.Cpu (cpu.Start (stopping.Resize r)) in
+    let next : Step = does.Front (front.Cpu (cpu.Start (stopping.Resize r))) in
     act_keeps m i t p l (cpu.SetCap r) (record { fenced = record { stopper = stopper_is m t l p.stopper w.shaped has.stopper; fenced = has.fenced refl }; there = there; empty = zero })
     (act_next m i t p (drains.capped p k r.cap) l (cpu_row m.rows p l (cpu.SetCap r)).1 (seats.standing_at (seat_of m.rows l) i true mark) l.cpu l.regs.epoch (standing_of m.rows l.regs.class.0 next)
     (lawful.sets_cap (length m.rows) i k r.cap (thread_no t) p (seat_of m.rows l) mark w.part w.seat (record { pc = shape.0.begin.pc; old = record { cpu = r.cpu.0; fenced = true; empty = mark }; is = is; here = w.here; fenced = refl }) c.class zero (λ j known. (has.empty j known).1))

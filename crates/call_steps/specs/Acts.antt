@@ -29,6 +29,7 @@ use Rattle.call_steps.specs.declared.step.Asking.{Asking}
 use Rattle.call_steps.specs.declared.step.Onward.{Onward}
 use Rattle.call_steps.specs.declared.step.Step.{Step}
 use Rattle.call_steps.specs.declared.step.Step.TheVariants as step
+use Rattle.call_steps.specs.declared.step.CpuRow.TheVariants as front
 use Rattle.call_steps.specs.declared.step.CpuStep.TheVariants as cpu
 use Rattle.call_steps.specs.declared.step.ShardStep.TheVariants as shard
 use Rattle.call_steps.specs.declared.step.HeapStep.{HeapStep}
@@ -70,7 +71,7 @@ heap_row rows heap l (Unback pages) = ((release heap pages).heap, ends rows (dec
 
 -- Lookup finds the span that holds the address: an object is to be pushed, and a large block's span is to be cleared.
 abbrev pub found : Local → Label → Addr → SpanRef → SpanKind → Local
-found l label addr span (Small k) = goes (with_regs l (record (set_for k seq.Push l.regs) { hand = appended l.regs.hand (addr ∷ []) })) (step.Cpu (cpu.Push (record { label = label; addr = addr })))
+found l label addr span (Small k) = goes (with_regs l (record (set_for k seq.Push l.regs) { hand = appended l.regs.hand (addr ∷ []) })) (step.Front (front.Cpu (cpu.Push (record { label = label; addr = addr }))))
 found l label addr span Large = goes l (step.Map (Clear label (run_of span)))
 
 abbrev pub after_lookup : Local → Label → Addr → Option SpanRef → Local
@@ -104,7 +105,7 @@ names_row rows names l (Take label) = after_take rows names l label (state_of na
 
 -- The act of a local at a part: it is at the part that its step wants.
 abbrev pub cpu_after : List ClassRow → CpuPart → Local → Step → CpuPart × Local
-cpu_after rows p l (step.Cpu row) = cpu_row rows p l row
+cpu_after rows p l (step.Front (front.Cpu row)) = cpu_row rows p l row
 cpu_after rows p l other = (p, l)
 
 abbrev pub shard_after : List ClassRow → Shard → Local → Step → Shard × Local
@@ -124,7 +125,7 @@ names_after rows names l (step.Names row) = names_row rows names l row
 names_after rows names l other = (names, l)
 
 abbrev pub domain_after : List ClassRow → Transfer → Local → Step → Transfer × Local
-domain_after rows t l (step.Domain row) = domain_row rows t l row
+domain_after rows t l (step.Front (front.Domain row)) = domain_row rows t l row
 domain_after rows t l other = (t, l)
 
 -- A local waits where its next act takes a label that isn't published.

@@ -14,6 +14,7 @@ use Rattle.call_steps.specs.declared.step.Onward.{Onward}
 use Rattle.call_steps.specs.declared.step.Onward.TheVariants as onward
 use Rattle.call_steps.specs.declared.step.Step.{Step}
 use Rattle.call_steps.specs.declared.step.Step.TheVariants as step
+use Rattle.call_steps.specs.declared.step.CpuRow.TheVariants as front
 use Rattle.call_steps.specs.declared.step.CpuStep.{CpuStep}
 use Rattle.call_steps.specs.declared.step.CpuStep.TheVariants.{Pop, Grow, Stock, Push, PopBatch, Stop, Fence, Take, SetCap, Start, Leave}
 use Rattle.call_steps.specs.declared.step.ShardStep.{ShardStep}
@@ -99,12 +100,12 @@ of_names (names.Take label) = Some (Free label)
 
 -- the call under way, while it isn't decided
 abbrev pub undecided : Step → Option Call
-undecided (step.Cpu row) = of_cpu row
+undecided (step.Front (front.Cpu row)) = of_cpu row
+undecided (step.Front (front.Domain row)) = of_domain row
 undecided (step.Shard row) = of_shard row
 undecided (step.Heap row) = of_heap row
 undecided (step.Map row) = of_map row
 undecided (step.Names row) = of_names row
-undecided (step.Domain row) = of_domain row
 undecided step.Ended = None
 
 -- how many calls are under way and decided

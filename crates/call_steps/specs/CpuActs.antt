@@ -31,6 +31,7 @@ use Rattle.call_steps.specs.declared.step.Stopping.TheVariants as stopping
 use Rattle.call_steps.specs.declared.step.Giving.TheVariants as giving
 use Rattle.call_steps.specs.declared.step.Step.{Step}
 use Rattle.call_steps.specs.declared.step.Step.TheVariants as step
+use Rattle.call_steps.specs.declared.step.CpuRow.TheVariants as front
 use Rattle.call_steps.specs.declared.step.CpuStep.{CpuStep}
 use Rattle.call_steps.specs.declared.step.CpuStep.TheVariants.{Pop, Grow, Stock, Push, PopBatch, Stop, Fence, Take, SetCap, Start, Leave}
 use Rattle.call_steps.specs.Local.{Local, decided, goes, ends, class_row}
@@ -58,7 +59,7 @@ leaves p l move = (rseq.left p l.regs.thread, goes (moves_to l move) l.step)
 -- the rows of the call programs by what a sequence replied
 abbrev pub after_pop : List ClassRow → Local → Asking → Reply → Local
 after_pop rows l asking reply.Popped = serves rows l asking
-after_pop rows l asking reply.Empty = goes l (step.Cpu (Grow asking))
+after_pop rows l asking reply.Empty = goes l (step.Front (front.Cpu (Grow asking)))
 after_pop rows l asking reply.Stopped = looks_on l asking
 after_pop rows l asking reply.Full = looks_on l asking
 after_pop rows l asking (reply.Pushed n) = looks_on l asking
@@ -73,7 +74,7 @@ after_stock l s = gives_rest l s l.regs.hand.items
 
 abbrev pub after_push : List ClassRow → Local → Freeing → Reply → Local
 after_push rows l f (reply.Pushed n) = ends rows (decided l (Free f.label) (Freed f.addr))
-after_push rows l f reply.Full = goes (starts l (seq.PopBatch (class_row rows l).batch)) (step.Cpu (PopBatch f))
+after_push rows l f reply.Full = goes (starts l (seq.PopBatch (class_row rows l).batch)) (step.Front (front.Cpu (PopBatch f)))
 after_push rows l f reply.Stopped = gives l (giving.Freed f)
 after_push rows l f reply.Empty = gives l (giving.Freed f)
 after_push rows l f reply.Popped = gives l (giving.Freed f)
@@ -119,7 +120,7 @@ call_of (stopping.Drain d) = Drain d.cpu
 call_of (stopping.Resize r) = Resize r.cpu r.class r.cap
 
 abbrev pub stops : List ClassRow → CpuPart → Local → Stopping → Option ThreadNo → CpuPart × Local
-stops rows p l s None = (drains.stopped p l.regs.thread, goes l (step.Cpu (Fence s)))
+stops rows p l s None = (drains.stopped p l.regs.thread, goes l (step.Front (front.Cpu (Fence s))))
 stops rows p l s (Some owner) = (p, ends rows (decided l (call_of s) (Busy owner)))
 
 -- what it does with the objects of a class that it took
@@ -129,7 +130,7 @@ drained rows l d (a ∷ others) = gives l (giving.Drained (record d { taken = d.
 
 abbrev pub took : List ClassRow → Local → Stopping → Local
 took rows l (stopping.Drain d) = drained rows l d l.regs.hand.items
-took rows l (stopping.Resize r) = goes l (step.Cpu (SetCap r))
+took rows l (stopping.Resize r) = goes l (step.Front (front.Cpu (SetCap r)))
 
 -- what a capacity answers
 abbrev pub cap_answer : Option CapFault → Answer
@@ -159,9 +160,9 @@ cpu_row rows p l (Stock s) = sequence rows p l (Stock s)
 cpu_row rows p l (Push f) = sequence rows p l (Push f)
 cpu_row rows p l (PopBatch f) = sequence rows p l (PopBatch f)
 cpu_row rows p l (Stop s) = stops rows p l s p.stopper
-cpu_row rows p l (Fence s) = (drains.fenced p, goes l (step.Cpu (Take s)))
+cpu_row rows p l (Fence s) = (drains.fenced p, goes l (step.Front (front.Cpu (Take s))))
 cpu_row rows p l (Take s) = (drains.taken p l.regs.class.0, took rows (with_hand l (drains.taken_to p l.regs.class.0 l.regs.hand)) s)
-cpu_row rows p l (SetCap r) = (drains.capped p l.regs.class.0 r.cap, goes (decided l (Resize r.cpu r.class r.cap) (cap_answer (cap_fault p.slab l.regs.class.0 r.cap))) (step.Cpu (Start (stopping.Resize r))))
+cpu_row rows p l (SetCap r) = (drains.capped p l.regs.class.0 r.cap, goes (decided l (Resize r.cpu r.class r.cap) (cap_answer (cap_fault p.slab l.regs.class.0 r.cap))) (step.Front (front.Cpu (Start (stopping.Resize r)))))
 cpu_row rows p l (Start s) = (drains.started p, started rows l s)
 cpu_row rows p l Leave = left_for rows p l l.moved
 
@@ -181,5 +182,5 @@ yields_row p l (PopBatch f) = is_some (due l.moved l.regs.ran) || yields_to_ente
 yields_row p l other = true
 
 abbrev pub yields_for : CpuPart → Local → Step → Bool
-yields_for p l (step.Cpu row) = yields_row p l row
+yields_for p l (step.Front (front.Cpu row)) = yields_row p l row
 yields_for p l other = true

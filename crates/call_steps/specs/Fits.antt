@@ -37,6 +37,7 @@ use Rattle.call_steps.specs.declared.step.NamesStep.{NamesStep}
 use Rattle.call_steps.specs.declared.step.NamesStep.TheVariants.{Publish, Take}
 use Rattle.call_steps.specs.declared.step.Step.{Step}
 use Rattle.call_steps.specs.declared.step.Step.TheVariants as step
+use Rattle.call_steps.specs.declared.step.CpuRow.TheVariants as front
 use Rattle.call_steps.specs.Local.{Local, class_row}
 use Rattle.holdings.specs.Runs.{large, small, run_of}
 
@@ -158,7 +159,7 @@ FitsNames names (Take label) = (label.0 < length names) × (state_of names label
 
 -- the step is on this kind of part and fits it
 abbrev pub FitsCpuStep : List ClassRow → CpuPart → Local → Step → Type 0
-FitsCpuStep rows p l (step.Cpu row) = FitsCpu rows p l row
+FitsCpuStep rows p l (step.Front (front.Cpu row)) = FitsCpu rows p l row
 FitsCpuStep rows p l other = ⊥
 
 abbrev pub FitsShardStep : List ClassRow → Shard → Local → Step → Type 0
@@ -166,7 +167,7 @@ FitsShardStep rows s l (step.Shard row) = FitsShard rows s l row
 FitsShardStep rows s l other = ⊥
 
 abbrev pub FitsDomainStep : List ClassRow → Transfer → Local → Step → Type 0
-FitsDomainStep rows t l (step.Domain row) = FitsDomain rows t l row
+FitsDomainStep rows t l (step.Front (front.Domain row)) = FitsDomain rows t l row
 FitsDomainStep rows t l other = ⊥
 
 abbrev pub FitsHeapStep : List ClassRow → heaps.Heap → Local → Step → Type 0

@@ -18,6 +18,7 @@ use Rattle.call_steps.specs.declared.step.Giving.TheVariants.{Rest, Freed as Bac
 use Rattle.call_steps.specs.declared.step.Onward.{Onward}
 use Rattle.call_steps.specs.declared.step.Onward.TheVariants as onward
 use Rattle.call_steps.specs.declared.step.Step.TheVariants as step
+use Rattle.call_steps.specs.declared.step.CpuRow.TheVariants as front
 use Rattle.call_steps.specs.declared.step.CpuStep.TheVariants as cpu
 use Rattle.call_steps.specs.declared.step.ShardStep.TheVariants as shard
 use Rattle.call_steps.specs.declared.step.DomainStep.TheVariants as domain
@@ -39,7 +40,7 @@ publishes l s = goes l (step.Names (names.Publish s.label (Some s.addr)))
 -- with what it fetched besides it stocks its CPU first
 abbrev pub stocks : Local → Serving → List Addr → Local
 stocks l s [] = publishes l s
-stocks l s (a ∷ others) = goes (starts l seq.PushBatch) (step.Cpu (cpu.Stock s))
+stocks l s (a ∷ others) = goes (starts l seq.PushBatch) (step.Front (front.Cpu (cpu.Stock s)))
 
 -- An allocation is decided by the objects that came to its hand: the first is its answer, and the others are left in hand.
 abbrev pub serves_first : List ClassRow → Local → Asking → List Addr → Local
@@ -52,17 +53,17 @@ serves rows l asking = serves_first rows l asking l.regs.hand.items
 
 -- an allocation that found nothing at its CPU looks in the cache of its domain, where there are domains, and else in the shard
 abbrev pub looks_on : Local → Asking → Local
-looks_on l asking = goes l (if l.domains == 0 then step.Shard (shard.Fetch asking) else step.Domain (domain.Take asking))
+looks_on l asking = goes l (if l.domains == 0 then step.Shard (shard.Fetch asking) else step.Front (front.Domain (domain.Take asking)))
 
 -- the hand is given away: to the cache of the domain, where there are domains, and else to the shard
 abbrev pub gives : Local → Giving → Local
-gives l giving = goes l (if l.domains == 0 then step.Shard (shard.Give giving) else step.Domain (domain.Put giving))
+gives l giving = goes l (if l.domains == 0 then step.Shard (shard.Give giving) else step.Front (front.Domain (domain.Put giving)))
 
 -- a drain takes the next class, and starts the CPU again behind the last one
 abbrev pub drains_on : List ClassRow → Local → Draining → Local
 drains_on rows l d =
-    if nat_lt (l.regs.class.0 + 1) (length rows) then goes (record l { regs = record l.regs { class = record { 0 = l.regs.class.0 + 1 } } }) (step.Cpu (cpu.Take (stopping.Drain d)))
-    else goes l (step.Cpu (cpu.Start (stopping.Drain d)))
+    if nat_lt (l.regs.class.0 + 1) (length rows) then goes (record l { regs = record l.regs { class = record { 0 = l.regs.class.0 + 1 } } }) (step.Front (front.Cpu (cpu.Take (stopping.Drain d))))
+    else goes l (step.Front (front.Cpu (cpu.Start (stopping.Drain d))))
 
 -- what comes once no span is left to give back
 abbrev pub goes_onward : List ClassRow → Local → Onward → Local

@@ -16,6 +16,7 @@ use Rattle.call_steps.specs.declared.step.CpuStep.{CpuStep}
 use Rattle.call_steps.specs.declared.step.CpuStep.TheVariants.{Pop, Grow, Stock, Push, PopBatch, Stop, Fence, Take, SetCap, Start, Leave}
 use Rattle.call_steps.specs.declared.step.Step.{Step}
 use Rattle.call_steps.specs.declared.step.Step.TheVariants as step
+use Rattle.call_steps.specs.declared.step.CpuRow.TheVariants as front
 use Rattle.call_steps.specs.Local.{Local, Decided}
 use Rattle.call_steps.specs.Calls.{under, IsOf}
 
@@ -40,12 +41,12 @@ at_cpu own Leave = own
 
 -- the part that the next act is on; CPU c is in domain c mod domains
 abbrev pub target_at : Local → Step → Option Target
-target_at l (step.Cpu row) = Some (target.Cpu (at_cpu l.cpu row))
+target_at l (step.Front (front.Cpu row)) = Some (target.Cpu (at_cpu l.cpu row))
+target_at l (step.Front (front.Domain row)) = Some (target.Domain (l.cpu.0 % l.domains) l.regs.class)
 target_at l (step.Shard row) = Some (target.Shard l.regs.class)
 target_at l (step.Heap row) = Some target.Heap
 target_at l (step.Map row) = Some target.Map
 target_at l (step.Names row) = Some target.Names
-target_at l (step.Domain row) = Some (target.Domain (l.cpu.0 % l.domains) l.regs.class)
 target_at l step.Ended = None
 
 abbrev pub target_of : Local → Option Target
@@ -63,7 +64,7 @@ call_at script j = option_map (λ p. p.call) (slice_get script j)
 
 -- the cache of a domain is wanted only where there are domains
 abbrev pub HasDomain : Step → ℕ → Type 0
-HasDomain (step.Domain row) domains = 0 < domains
+HasDomain (step.Front (front.Domain row)) domains = 0 < domains
 HasDomain other domains = Unit {0}
 
 -- the code of a local: its place in its script is the call under way, which has room for its answer until it is decided

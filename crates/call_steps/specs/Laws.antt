@@ -23,6 +23,7 @@ use Rattle.call_steps.specs.declared.step.MapStep.{MapStep}
 use Rattle.call_steps.specs.declared.step.MapStep.TheVariants as map
 use Rattle.call_steps.specs.declared.step.NamesStep.{NamesStep}
 use Rattle.call_steps.specs.declared.step.Step.TheVariants as does
+use Rattle.call_steps.specs.declared.step.CpuRow.TheVariants as front
 use Rattle.call_steps.specs.Local.{Local, class_row}
 use Rattle.call_steps.specs.Kept.{at_cpu}
 use Rattle.call_steps.specs.CpuActs.{cpu_row}
@@ -38,7 +39,7 @@ thread_no t = record { 0 = t }
 pub record IsAtCpu (m : Limits) (i t : ℕ) (p : CpuPart) (l : Local) (row : CpuStep) : Type 0 where
   pub rows : AreRows m.rows
   pub shaped : IsShaped m t l
-  pub step : l.step ≡ does.Cpu row
+  pub step : l.step ≡ does.Front (front.Cpu row)
   pub here : (at_cpu l.cpu row).0 ≡ i
   pub part : CpuOk (length m.rows) p
   pub seat : SeatOk i (thread_no t) p (seat_of m.rows l)
@@ -69,7 +70,7 @@ abbrev pub ShardActsKeep : Type 0
 ShardActsKeep = (m : Limits) (t : ℕ) (s : Shard) (l : Local) (row : ShardStep) → AreRows m.rows → IsShaped m t l → l.step ≡ does.Shard row → l.acts ≤ MOST_PICKS → IsSound s.central → s.central.row ≡ class_row m.rows l → IsLowRun row → FitsShard m.rows s l row → IsKept m t l (shard_row m.rows s l row).1
 
 abbrev pub DomainActsKeep : Type 0
-DomainActsKeep = (m : Limits) (t : ℕ) (c : Transfer) (l : Local) (row : DomainStep) → AreRows m.rows → IsShaped m t l → l.step ≡ does.Domain row → l.acts ≤ MOST_PICKS → FitsDomain m.rows c l row → IsKept m t l (domain_row m.rows c l row).1
+DomainActsKeep = (m : Limits) (t : ℕ) (c : Transfer) (l : Local) (row : DomainStep) → AreRows m.rows → IsShaped m t l → l.step ≡ does.Front (front.Domain row) → l.acts ≤ MOST_PICKS → FitsDomain m.rows c l row → IsKept m t l (domain_row m.rows c l row).1
 
 abbrev pub HeapActsKeep : Type 0
 HeapActsKeep = (m : Limits) (t : ℕ) (h : heaps.Heap) (l : Local) (row : HeapStep) → AreRows m.rows → IsShaped m t l → l.step ≡ does.Heap row → l.acts ≤ MOST_PICKS → FitsHeap m.rows h l row → IsKept m t l (heap_row m.rows h l row).1

@@ -22,6 +22,7 @@ use Rattle.rseq_core.specs.declared.regs.Regs.{Regs}
 use Rattle.rseq_core.specs.declared.regs.TheConstants.{HAND_ROOM, LOADED_ROOM}
 use Rattle.call_steps.specs.declared.step.Step.{Step}
 use Rattle.call_steps.specs.declared.step.Step.TheVariants as step
+use Rattle.call_steps.specs.declared.step.CpuRow.TheVariants as front
 use Rattle.call_steps.specs.declared.step.CpuStep.TheVariants.{Pop, Stop, Leave}
 use Rattle.call_steps.specs.declared.step.HeapStep.TheVariants.{New, Unback}
 use Rattle.call_steps.specs.declared.step.NamesStep.TheVariants.{Take}
@@ -55,14 +56,14 @@ set_for class s r = record r { class = class; seq = s; pc = Begin }
 -- the first act of a call
 abbrev pub first_of_malloc : Option Class → Label → ℕ → Step
 first_of_malloc None label size = step.Heap (New label size)
-first_of_malloc (Some k) label size = step.Cpu (Pop (record { label = label; size = size }))
+first_of_malloc (Some k) label size = step.Front (front.Cpu (Pop (record { label = label; size = size })))
 
 abbrev pub first_of_call : List ClassRow → Call → Step
 first_of_call rows (Malloc label size) = first_of_malloc (class_of rows size) label size
 first_of_call rows (Free label) = step.Names (Take label)
 first_of_call rows (Release pages) = step.Heap (Unback pages)
-first_of_call rows (Drain cpu) = step.Cpu (Stop (stopping.Drain (record { cpu = cpu; taken = 0 })))
-first_of_call rows (Resize cpu class cap) = step.Cpu (Stop (stopping.Resize (record { cpu = cpu; class = class; cap = cap })))
+first_of_call rows (Drain cpu) = step.Front (front.Cpu (Stop (stopping.Drain (record { cpu = cpu; taken = 0 }))))
+first_of_call rows (Resize cpu class cap) = step.Front (front.Cpu (Stop (stopping.Resize (record { cpu = cpu; class = class; cap = cap }))))
 
 -- the registers at the begin of a call: it has executed no instruction, and they are set for its class where it has one
 abbrev pub regs_of_malloc : Option Class → Regs → Regs
@@ -149,7 +150,7 @@ goes l next = record l { step = next; acts = l.acts + 1 }
 -- an act that ends the call: with a move pending the thread is to leave before it comes to the next one
 abbrev pub closes : List ClassRow → Local → Option MoveTo → Local
 closes rows l None = next_call rows (record l { ended = l.ended + 1 }) l.rest
-closes rows l (Some move) = record l { step = step.Cpu Leave }
+closes rows l (Some move) = record l { step = step.Front (front.Cpu Leave) }
 
 abbrev pub ends : List ClassRow → Local → Local
 ends rows l = closes rows (record l { acts = l.acts + 1 }) l.moved

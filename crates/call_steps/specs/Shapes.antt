@@ -25,6 +25,7 @@ use Rattle.call_steps.specs.declared.step.Onward.{Onward}
 use Rattle.call_steps.specs.declared.step.Onward.TheVariants as onward
 use Rattle.call_steps.specs.declared.step.Step.{Step}
 use Rattle.call_steps.specs.declared.step.Step.TheVariants as does
+use Rattle.call_steps.specs.declared.step.CpuRow.TheVariants as front
 use Rattle.call_steps.specs.declared.step.CpuStep.{CpuStep}
 use Rattle.call_steps.specs.declared.step.CpuStep.TheVariants as cpu
 use Rattle.call_steps.specs.declared.step.ShardStep.{ShardStep}
@@ -95,9 +96,9 @@ map_standing k (map.ClearSpan next) = onward_standing k next
 map_standing k other = None
 
 abbrev pub standing_of : List ClassRow → ℕ → Step → Option Standing
-standing_of rows k (does.Cpu row) = cpu_standing rows k row
+standing_of rows k (does.Front (front.Cpu row)) = cpu_standing rows k row
+standing_of rows k (does.Front (front.Domain row)) = domain_standing k row
 standing_of rows k (does.Shard row) = shard_standing k row
-standing_of rows k (does.Domain row) = domain_standing k row
 standing_of rows k (does.Heap row) = heap_standing k row
 standing_of rows k (does.Map row) = map_standing k row
 standing_of rows k other = None
@@ -245,9 +246,9 @@ MapShape m l (map.Clear label run) = HasNone l
 MapShape m l (map.ClearSpan next) = HasSpans l × IsOnward m l next
 
 abbrev pub StepShape : Limits → Local → Step → Type 0
-StepShape m l (does.Cpu row) = CpuShape m l row
+StepShape m l (does.Front (front.Cpu row)) = CpuShape m l row
+StepShape m l (does.Front (front.Domain row)) = DomainShape m l row
 StepShape m l (does.Shard row) = ShardShape m l row
-StepShape m l (does.Domain row) = DomainShape m l row
 StepShape m l (does.Heap row) = HeapShape m l row
 StepShape m l (does.Map row) = MapShape m l row
 StepShape m l (does.Names row) = HasNone l

@@ -2,6 +2,7 @@
 //! of a thread that stops it.
 ghost use Rattle.std.specs.Prelude.{◌≡◌, ◌≢◌, ◌<◌, ◌+◌, ◌-◌, ◌^◌, [], length, Some, is_some, true};
 ghost use Rattle.call_steps.specs.declared.step.Step.TheVariants as does;
+ghost use Rattle.call_steps.specs.declared.step.CpuRow.TheVariants as front;
 ghost use Rattle.call_steps.specs.declared.step.CpuStep.TheVariants.{Pop, Grow, Stock, Push, Stop, Take, SetCap, Start, Leave};
 ghost use Rattle.call_steps.specs.declared.step.Stopping.TheVariants as stopping;
 ghost use Rattle.rseq_core.specs.Acts as rseq;
@@ -11,7 +12,9 @@ ghost use Rattle.call_steps.specs.Fits.{FitsCpuStep, FitsSequence, FitsSetCap, P
 
 use crate::hands::publish;
 use crate::local::Local;
-use crate::step::{Asking, CpuStep, Draining, Freeing, Giving, Resizing, Serving, Step, Stopping};
+use crate::step::{
+    Asking, CpuRow, CpuStep, Draining, Freeing, Giving, Resizing, Serving, Step, Stopping,
+};
 use cpu_drain::{StopAnswer, fence, set_cap, start, stop, take_class};
 use cpu_slab::CapFault;
 use rseq_core::{CpuPart, Grew, Instructed, Reply, Seq, grow_here, instruct, leave};
@@ -30,24 +33,24 @@ pub fn act_cpu(table: &ClassTable, cpu: &mut CpuPart, local: &mut Local)
 {
     let thread = local.regs.thread;
     match local.step() {
-        Step::Cpu(CpuStep::Grow(asking)) => grow(cpu, local, asking),
-        Step::Cpu(CpuStep::Stop(stopping)) => stop_cpu(table, cpu, local, stopping),
-        Step::Cpu(CpuStep::Fence(stopping)) => {
+        Step::Front(CpuRow::Cpu(CpuStep::Grow(asking))) => grow(cpu, local, asking),
+        Step::Front(CpuRow::Cpu(CpuStep::Stop(stopping))) => stop_cpu(table, cpu, local, stopping),
+        Step::Front(CpuRow::Cpu(CpuStep::Fence(stopping))) => {
             fence(cpu, thread);
-            local.go(Step::Cpu(CpuStep::Take(stopping)));
+            local.go(Step::Front(CpuRow::Cpu(CpuStep::Take(stopping))));
         }
-        Step::Cpu(CpuStep::Take(stopping)) => {
+        Step::Front(CpuRow::Cpu(CpuStep::Take(stopping))) => {
             let class = local.regs.class;
             take_class(cpu, thread, class, &mut local.regs.hand);
             took(table, local, stopping);
         }
-        Step::Cpu(CpuStep::SetCap(resizing)) => resize(cpu, local, resizing),
-        Step::Cpu(CpuStep::Start(stopping)) => {
+        Step::Front(CpuRow::Cpu(CpuStep::SetCap(resizing))) => resize(cpu, local, resizing),
+        Step::Front(CpuRow::Cpu(CpuStep::Start(stopping))) => {
             start(cpu, thread);
             started(table, local, stopping);
         }
-        Step::Cpu(CpuStep::Leave) => leave_and_end(table, cpu, local),
-        Step::Cpu(row) => sequence(table, cpu, local, row),
+        Step::Front(CpuRow::Cpu(CpuStep::Leave)) => leave_and_end(table, cpu, local),
+        Step::Front(CpuRow::Cpu(row)) => sequence(table, cpu, local, row),
         _ => unreachable!(),
     }
 }
@@ -69,7 +72,7 @@ fn sequence(table: &ClassTable, cpu: &mut CpuPart, local: &mut Local, row: CpuSt
     requires fits { FitsSequence table.now cpu.old local.old }
     requires pops { IsPop row → PopsSome cpu.old local.old }
     requires acts { local.old.acts < 2 ^ 64 - 1 }
-    requires step { local.old.step ≡ does.Cpu row }
+    requires step { local.old.step ≡ does.Front (front.Cpu row) }
     requires row { IsSequence row }
     ensures cpu { cpu.new ≡ (sequence table.now cpu.old local.old row).0 }
     ensures local { local.new ≡ (sequence table.now cpu.old local.old row).1 }
@@ -90,7 +93,7 @@ fn sequence(table: &ClassTable, cpu: &mut CpuPart, local: &mut Local, row: CpuSt
 fn go_on(table: &ClassTable, local: &mut Local, row: CpuStep, reply: Reply)
     requires class { local.old.regs.class.0 < length table.now }
     requires acts { local.old.acts < 2 ^ 64 - 1 }
-    requires step { local.old.step ≡ does.Cpu row }
+    requires step { local.old.step ≡ does.Front (front.Cpu row) }
     requires row { IsSequence row }
     requires some { HasPopped row reply local.old }
     ensures { local.new ≡ replied table.now local.old row reply }
@@ -108,13 +111,13 @@ fn go_on(table: &ClassTable, local: &mut Local, row: CpuStep, reply: Reply)
 fn popped(table: &ClassTable, local: &mut Local, asking: Asking, reply: Reply)
     requires class { local.old.regs.class.0 < length table.now }
     requires acts { local.old.acts < 2 ^ 64 - 1 }
-    requires step { local.old.step ≡ does.Cpu (Pop asking) }
+    requires step { local.old.step ≡ does.Front (front.Cpu (Pop asking)) }
     requires some { HasPopped (Pop asking) reply local.old }
     ensures { local.new ≡ after_pop table.now local.old asking reply }
 {
     match reply {
         Reply::Popped => local.serve(table, asking),
-        Reply::Empty => local.go(Step::Cpu(CpuStep::Grow(asking))),
+        Reply::Empty => local.go(Step::Front(CpuRow::Cpu(CpuStep::Grow(asking)))),
         _ => local.look_on(asking),
     }
 }
@@ -122,7 +125,7 @@ fn popped(table: &ClassTable, local: &mut Local, asking: Asking, reply: Reply)
 /// An allocation has pushed all that it fetched besides, or gives the rest away.
 fn stocked(local: &mut Local, serving: Serving)
     requires acts { local.old.acts < 2 ^ 64 - 1 }
-    requires step { local.old.step ≡ does.Cpu (Stock serving) }
+    requires step { local.old.step ≡ does.Front (front.Cpu (Stock serving)) }
     ensures { local.new ≡ after_stock local.old serving }
 {
     if local.regs.hand.as_slice().is_empty() {
@@ -136,7 +139,7 @@ fn stocked(local: &mut Local, serving: Serving)
 fn pushed(table: &ClassTable, local: &mut Local, freeing: Freeing, reply: Reply)
     requires class { local.old.regs.class.0 < length table.now }
     requires acts { local.old.acts < 2 ^ 64 - 1 }
-    requires step { local.old.step ≡ does.Cpu (Push freeing) }
+    requires step { local.old.step ≡ does.Front (front.Cpu (Push freeing)) }
     ensures { local.new ≡ after_push table.now local.old freeing reply }
 {
     match reply {
@@ -148,7 +151,7 @@ fn pushed(table: &ClassTable, local: &mut Local, freeing: Freeing, reply: Reply)
             let class = local.regs.class;
             let want = u32::from(table.row(class).batch);
             local.regs.start(class, Seq::PopBatch { want });
-            local.go(Step::Cpu(CpuStep::PopBatch(freeing)));
+            local.go(Step::Front(CpuRow::Cpu(CpuStep::PopBatch(freeing))));
         }
         _ => local.give_away(Giving::Freed(freeing)),
     }
@@ -159,7 +162,7 @@ fn grow(cpu: &mut CpuPart, local: &mut Local, asking: Asking)
     requires class { local.old.regs.class.0 < length cpu.old.slab.rows }
     requires epoch { cpu.old.epoch < 2 ^ 64 - 1 }
     requires acts { local.old.acts < 2 ^ 64 - 1 }
-    requires step { local.old.step ≡ does.Cpu (Grow asking) }
+    requires step { local.old.step ≡ does.Front (front.Cpu (Grow asking)) }
     ensures cpu { cpu.new ≡ (grows cpu.old local.old asking (rseq.grew_here cpu.old local.old.regs)).0 }
     ensures local { local.new ≡ (grows cpu.old local.old asking (rseq.grew_here cpu.old local.old.regs)).1 }
 {
@@ -173,12 +176,12 @@ fn grow(cpu: &mut CpuPart, local: &mut Local, asking: Asking)
 fn stop_cpu(table: &ClassTable, cpu: &mut CpuPart, local: &mut Local, stopping: Stopping)
     requires other { cpu.old.stopper ≢ Some local.old.regs.thread }
     requires acts { local.old.acts < 2 ^ 64 - 1 }
-    requires step { local.old.step ≡ does.Cpu (Stop stopping) }
+    requires step { local.old.step ≡ does.Front (front.Cpu (Stop stopping)) }
     ensures cpu { cpu.new ≡ (stops table.now cpu.old local.old stopping cpu.old.stopper).0 }
     ensures local { local.new ≡ (stops table.now cpu.old local.old stopping cpu.old.stopper).1 }
 {
     match stop(cpu, local.regs.thread) {
-        StopAnswer::Stopped => local.go(Step::Cpu(CpuStep::Fence(stopping))),
+        StopAnswer::Stopped => local.go(Step::Front(CpuRow::Cpu(CpuStep::Fence(stopping)))),
         StopAnswer::Busy { owner } => local.end_deciding(table, Answer::Busy { owner }),
     }
 }
@@ -186,20 +189,20 @@ fn stop_cpu(table: &ClassTable, cpu: &mut CpuPart, local: &mut Local, stopping: 
 /// A drain gives away what it took of a class, and a resize sets the capacity first.
 fn took(table: &ClassTable, local: &mut Local, stopping: Stopping)
     requires acts { local.old.acts < 2 ^ 64 - 1 }
-    requires step { local.old.step ≡ does.Cpu (Take stopping) }
+    requires step { local.old.step ≡ does.Front (front.Cpu (Take stopping)) }
     requires few { taken_by stopping + length local.old.regs.hand.items < 2 ^ 64 }
     ensures { local.new ≡ took table.now local.old stopping }
 {
     match stopping {
         Stopping::Drain(draining) => drained(table, local, draining),
-        Stopping::Resize(resizing) => local.go(Step::Cpu(CpuStep::SetCap(resizing))),
+        Stopping::Resize(resizing) => local.go(Step::Front(CpuRow::Cpu(CpuStep::SetCap(resizing)))),
     }
 }
 
 /// A drain gives away what it took of a class, and counts it.
 fn drained(table: &ClassTable, local: &mut Local, draining: Draining)
     requires acts { local.old.acts < 2 ^ 64 - 1 }
-    requires step { local.old.step ≡ does.Cpu (Take (stopping.Drain draining)) }
+    requires step { local.old.step ≡ does.Front (front.Cpu (Take (stopping.Drain draining))) }
     requires few { draining.taken + length local.old.regs.hand.items < 2 ^ 64 }
     ensures { local.new ≡ drained table.now local.old draining local.old.regs.hand.items }
 {
@@ -216,7 +219,7 @@ fn drained(table: &ClassTable, local: &mut Local, draining: Draining)
 fn resize(cpu: &mut CpuPart, local: &mut Local, resizing: Resizing)
     requires fits { FitsSetCap cpu.old local.old }
     requires acts { local.old.acts < 2 ^ 64 - 1 }
-    requires step { local.old.step ≡ does.Cpu (SetCap resizing) }
+    requires step { local.old.step ≡ does.Front (front.Cpu (SetCap resizing)) }
     ensures cpu { cpu.new ≡ (cpu_row [] cpu.old local.old (SetCap resizing)).0 }
     ensures local { local.new ≡ (cpu_row [] cpu.old local.old (SetCap resizing)).1 }
 {
@@ -227,14 +230,14 @@ fn resize(cpu: &mut CpuPart, local: &mut Local, resizing: Resizing)
     };
     local.go_deciding(
         answer,
-        Step::Cpu(CpuStep::Start(Stopping::Resize(resizing))),
+        Step::Front(CpuRow::Cpu(CpuStep::Start(Stopping::Resize(resizing)))),
     );
 }
 
 /// A drain ends, and a resize gives away what it took.
 fn started(table: &ClassTable, local: &mut Local, stopping: Stopping)
     requires acts { local.old.acts < 2 ^ 64 - 1 }
-    requires step { local.old.step ≡ does.Cpu (Start stopping) }
+    requires step { local.old.step ≡ does.Front (front.Cpu (Start stopping)) }
     ensures { local.new ≡ started table.now local.old stopping }
 {
     match stopping {
@@ -252,7 +255,7 @@ fn leave_and_end(table: &ClassTable, cpu: &mut CpuPart, local: &mut Local)
     requires moved { is_some local.old.moved ≡ true }
     requires epoch { cpu.old.epoch < 2 ^ 64 - 1 }
     requires acts { local.old.acts < 2 ^ 64 - 1 }
-    requires step { local.old.step ≡ does.Cpu Leave }
+    requires step { local.old.step ≡ does.Front (front.Cpu Leave) }
     ensures cpu { cpu.new ≡ (left_for table.now cpu.old local.old local.old.moved).0 }
     ensures local { local.new ≡ (left_for table.now cpu.old local.old local.old.moved).1 }
 {
@@ -273,9 +276,12 @@ pub fn yields(cpu: &CpuPart, local: &Local) -> bool
     ensures { result ≡ yields_for cpu.now local.now local.now.step }
 {
     match local.step() {
-        Step::Cpu(CpuStep::Grow(_)) => may_enter(cpu, local),
-        Step::Cpu(CpuStep::Pop(_) | CpuStep::Stock(_) | CpuStep::Push(_) | CpuStep::PopBatch(_)) =>
-            due(local).is_some() || may_enter(cpu, local),
+        Step::Front(CpuRow::Cpu(CpuStep::Grow(_))) => may_enter(cpu, local),
+        Step::Front(
+            CpuRow::Cpu(
+                CpuStep::Pop(_) | CpuStep::Stock(_) | CpuStep::Push(_) | CpuStep::PopBatch(_),
+            ),
+        ) => due(local).is_some() || may_enter(cpu, local),
         _ => true,
     }
 }

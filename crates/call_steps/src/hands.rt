@@ -7,8 +7,8 @@ ghost use Rattle.call_steps.specs.Hands.{serves, looks_on, gives, drains_on, goe
 
 use crate::local::Local;
 use crate::step::{
-    Asking, CpuStep, DomainStep, Draining, Giving, MapStep, NamesStep, Onward, Serving, ShardStep,
-    Step, Stopping,
+    Asking, CpuRow, CpuStep, DomainStep, Draining, Giving, MapStep, NamesStep, Onward, Serving,
+    ShardStep, Step, Stopping,
 };
 use rseq_core::Seq;
 use size_classes::ClassTable;
@@ -39,7 +39,7 @@ impl Local {
             self.go_deciding(answer, publish(serving));
         } else {
             self.regs.start(class, Seq::PushBatch);
-            self.go_deciding(answer, Step::Cpu(CpuStep::Stock(serving)));
+            self.go_deciding(answer, Step::Front(CpuRow::Cpu(CpuStep::Stock(serving))));
         }
     }
 
@@ -53,7 +53,7 @@ impl Local {
         if self.domains == 0 {
             self.go(Step::Shard(ShardStep::Fetch(asking)));
         } else {
-            self.go(Step::Domain(DomainStep::Take(asking)));
+            self.go(Step::Front(CpuRow::Domain(DomainStep::Take(asking))));
         }
     }
 
@@ -67,7 +67,7 @@ impl Local {
         if self.domains == 0 {
             self.go(Step::Shard(ShardStep::Give(giving)));
         } else {
-            self.go(Step::Domain(DomainStep::Put(giving)));
+            self.go(Step::Front(CpuRow::Domain(DomainStep::Put(giving))));
         }
     }
 
@@ -81,9 +81,9 @@ impl Local {
         let stopping = Stopping::Drain(draining);
         if u32::from(self.regs.class.0) + 1 < table.len() {
             self.regs.class = Class(self.regs.class.0 + 1);
-            self.go(Step::Cpu(CpuStep::Take(stopping)));
+            self.go(Step::Front(CpuRow::Cpu(CpuStep::Take(stopping))));
         } else {
-            self.go(Step::Cpu(CpuStep::Start(stopping)));
+            self.go(Step::Front(CpuRow::Cpu(CpuStep::Start(stopping))));
         }
     }
 

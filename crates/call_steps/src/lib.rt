@@ -22,6 +22,6 @@ pub use map::act_map;
 pub use names::{act_names, waits};
 pub use shard::{act_domain, act_shard};
 pub use step::{
-    Asking, CpuStep, DomainStep, Draining, Freeing, Giving, HeapStep, MapStep, NamesStep, Onward,
-    Resizing, Serving, ShardStep, Step, Stopping, Target,
+    Asking, CpuRow, CpuStep, DomainStep, Draining, Freeing, Giving, HeapStep, MapStep, NamesStep,
+    Onward, Resizing, Serving, ShardStep, Step, Stopping, Target,
 };

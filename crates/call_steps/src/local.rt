@@ -3,13 +3,14 @@
 ghost use Rattle.std.specs.Prelude.{◌≡◌, ℕ, ◌+◌, ◌-◌, ◌<◌, ◌^◌, [], length, drop, map, option_map, slice_get, Option, Some, None, IfOk, is_some, true};
 ghost use Rattle.tc_model.specs.declared.calls.Call as call;
 ghost use Rattle.call_steps.specs.declared.step.Step.TheVariants as does;
+ghost use Rattle.call_steps.specs.declared.step.CpuRow.TheVariants as front;
 ghost use Rattle.call_steps.specs.declared.step.CpuStep.TheVariants.{Leave};
 ghost use Rattle.call_steps.specs.Local.{next_call, first_of_call, regs_of_call, fresh_regs, first_act, regs_by, move_of, first_local, goes, ends, decided, told};
 ghost use Rattle.call_steps.specs.Calls.{undecided, under};
 ghost use Rattle.call_steps.specs.Kept.{cpu_of, at_cpu, target_of, HasDomain};
 
 use crate::step::{
-    Asking, CpuStep, Draining, HeapStep, NamesStep, Resizing, Step, Stopping, Target,
+    Asking, CpuRow, CpuStep, Draining, HeapStep, NamesStep, Resizing, Step, Stopping, Target,
 };
 use rseq_core::{HAND_ROOM, Regs, Seq};
 use size_classes::ClassTable;
@@ -89,12 +90,12 @@ impl Local {
         ensures { result ≡ target_of self.now }
     {
         match self.step {
-            Step::Cpu(row) => Some(Target::Cpu(at_cpu(self.cpu, row))),
+            Step::Front(CpuRow::Cpu(row)) => Some(Target::Cpu(at_cpu(self.cpu, row))),
             Step::Shard(_) => Some(Target::Shard(self.regs.class)),
             Step::Heap(_) => Some(Target::Heap),
             Step::Map(_) => Some(Target::Map),
             Step::Names(_) => Some(Target::Names),
-            Step::Domain(_) => Some(Target::Domain {
+            Step::Front(CpuRow::Domain(_)) => Some(Target::Domain {
                 domain: self.cpu.0 % self.domains,
                 class: self.regs.class,
             }),
@@ -176,7 +177,7 @@ impl Local {
     {
         self.acts += 1;
         match self.moved {
-            Some(_) => self.step = Step::Cpu(CpuStep::Leave),
+            Some(_) => self.step = Step::Front(CpuRow::Cpu(CpuStep::Leave)),
             None => self.come_to_next(table),
         }
     }
@@ -202,16 +203,16 @@ impl Local {
     /// The next act decides the call under way, of which nothing is left to do then but to end.
     pub(crate) fn decide(&mut self, answer: Answer)
         requires { is_some (undecided self.old.step) ≡ true }
-        ensures step { self.new.step ≡ does.Cpu Leave }
+        ensures step { self.new.step ≡ does.Front (front.Cpu Leave) }
         ensures acts { self.new.acts ≡ self.old.acts }
         ensures domains { self.new.domains ≡ self.old.domains }
-        ensures decided { (call : call.Call) → undecided self.old.step ≡ Some call → self.new ≡ record (decided self.old call answer) { step = does.Cpu Leave } }
+        ensures decided { (call : call.Call) → undecided self.old.step ≡ Some call → self.new ≡ record (decided self.old call answer) { step = does.Front (front.Cpu Leave) } }
     {
         self.answers.push(Answered {
             act: self.acts,
             answer,
         });
-        self.step = Step::Cpu(CpuStep::Leave);
+        self.step = Step::Front(CpuRow::Cpu(CpuStep::Leave));
     }
 
     /// The call under way has ended, and the thread comes to the next one.
@@ -250,16 +251,16 @@ fn first_of_call(table: &ClassTable, call: Call) -> Step
 {
     match call {
         Call::Malloc { label, size } => match table.class_of(size) {
-            Some(_) => Step::Cpu(CpuStep::Pop(Asking { label, size })),
+            Some(_) => Step::Front(CpuRow::Cpu(CpuStep::Pop(Asking { label, size }))),
             None => Step::Heap(HeapStep::New { label, size }),
         },
         Call::Free { label } => Step::Names(NamesStep::Take { label }),
         Call::Release { pages } => Step::Heap(HeapStep::Unback { pages }),
         Call::Drain { cpu } => {
-            Step::Cpu(CpuStep::Stop(Stopping::Drain(Draining { cpu, taken: 0 })))
+            Step::Front(CpuRow::Cpu(CpuStep::Stop(Stopping::Drain(Draining { cpu, taken: 0 }))))
         }
         Call::Resize { cpu, class, cap } => {
-            Step::Cpu(CpuStep::Stop(Stopping::Resize(Resizing { cpu, class, cap })))
+            Step::Front(CpuRow::Cpu(CpuStep::Stop(Stopping::Resize(Resizing { cpu, class, cap }))))
         }
     }
 }

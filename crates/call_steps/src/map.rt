@@ -7,7 +7,7 @@ ghost use Rattle.call_steps.specs.Fits.{FitsMapStep};
 
 use crate::heap::run_of;
 use crate::local::Local;
-use crate::step::{CpuStep, Freeing, HeapStep, MapStep, NamesStep, ShardStep, Step};
+use crate::step::{CpuRow, CpuStep, Freeing, HeapStep, MapStep, NamesStep, ShardStep, Step};
 use page_map::PageMap;
 use rseq_core::Seq;
 use std::alloc::AllocError;
@@ -74,7 +74,7 @@ fn find(local: &mut Local, label: Label, addr: Addr, span: SpanRef)
         SpanKind::Small(class) => {
             local.regs.start(class, Seq::Push);
             local.regs.hand.push(addr);
-            local.go(Step::Cpu(CpuStep::Push(Freeing { label, addr })));
+            local.go(Step::Front(CpuRow::Cpu(CpuStep::Push(Freeing { label, addr }))));
         }
         SpanKind::Large => {
             let run = run_of(span);

@@ -4,6 +4,7 @@ ghost use Rattle.transfer_cache.specs.Transfer.{last_first, without_last};
 ghost use Rattle.class_shard.specs.Shard.{fetched, after_fetch, after_give, freed_by};
 ghost use Rattle.holdings.specs.Runs.{small};
 ghost use Rattle.call_steps.specs.declared.step.Step.TheVariants as does;
+ghost use Rattle.call_steps.specs.declared.step.CpuRow.TheVariants as front;
 ghost use Rattle.call_steps.specs.declared.step.ShardStep.TheVariants.{Fetch, AddFetch, Give};
 ghost use Rattle.call_steps.specs.declared.step.DomainStep.TheVariants as cached;
 ghost use Rattle.call_steps.specs.Local.{class_row};
@@ -14,7 +15,7 @@ ghost use Rattle.call_steps.specs.Fits.{FitsBatch, FitsAdd, FitsGive, FitsShardS
 
 use crate::local::Local;
 use crate::map::span_of;
-use crate::step::{Asking, DomainStep, Giving, HeapStep, ShardStep, Step};
+use crate::step::{Asking, CpuRow, DomainStep, Giving, HeapStep, ShardStep, Step};
 use class_shard::ClassShard;
 use size_classes::ClassTable;
 use std::alloc::AllocError;
@@ -106,8 +107,8 @@ pub fn act_domain(table: &ClassTable, cache: &mut TransferCache, local: &mut Loc
     ensures local { local.new ≡ (domain_after table.now cache.old local.old local.old.step).1 }
 {
     match local.step() {
-        Step::Domain(DomainStep::Take(asking)) => take(table, cache, local, asking),
-        Step::Domain(DomainStep::Put(giving)) => put(table, cache, local, giving),
+        Step::Front(CpuRow::Domain(DomainStep::Take(asking))) => take(table, cache, local, asking),
+        Step::Front(CpuRow::Domain(DomainStep::Put(giving))) => put(table, cache, local, giving),
         _ => unreachable!(),
     }
 }
@@ -117,7 +118,7 @@ fn take(table: &ClassTable, cache: &mut TransferCache, local: &mut Local, asking
     requires batch { FitsBatch table.now local.old }
     requires empty { local.old.regs.hand.items ≡ [] }
     requires acts { local.old.acts < 2 ^ 64 - 1 }
-    requires step { local.old.step ≡ does.Domain (cached.Take asking) }
+    requires step { local.old.step ≡ does.Front (front.Domain (cached.Take asking)) }
     ensures cache { cache.new ≡ record cache.old { objects = without_last (class_row table.now local.old).batch cache.old.objects } }
     ensures local { local.new ≡ takes table.now local.old asking (last_first (class_row table.now local.old).batch cache.old.objects) }
 {
@@ -135,7 +136,7 @@ fn take(table: &ClassTable, cache: &mut TransferCache, local: &mut Local, asking
 fn put(table: &ClassTable, cache: &mut TransferCache, local: &mut Local, giving: Giving)
     requires none { local.old.freed.items ≡ [] }
     requires acts { local.old.acts < 2 ^ 64 - 1 }
-    requires step { local.old.step ≡ does.Domain (cached.Put giving) }
+    requires step { local.old.step ≡ does.Front (front.Domain (cached.Put giving)) }
     ensures cache { cache.new ≡ (domain_row table.now cache.old local.old (cached.Put giving)).0 }
     ensures local { local.new ≡ (domain_row table.now cache.old local.old (cached.Put giving)).1 }
 {

@@ -129,6 +129,13 @@ pub enum DomainStep {
     Put(Giving),
 }
 
+/// A row of the call programs at the per-CPU caches: at a CPU, or at the transfer cache of a domain.
+#[derive(Clone, Copy, Debug, PartialEq, Eq)]
+pub enum CpuRow {
+    Cpu(CpuStep),
+    Domain(DomainStep),
+}
+
 /// A row of the call programs at the page heap.
 #[derive(Clone, Copy, Debug, PartialEq, Eq)]
 pub enum HeapStep {
@@ -171,12 +178,11 @@ pub enum NamesStep {
 /// The next act of a thread, by the part that it is on.
 #[derive(Clone, Copy, Debug, PartialEq, Eq)]
 pub enum Step {
-    Cpu(CpuStep),
+    Front(CpuRow),
     Shard(ShardStep),
     Heap(HeapStep),
     Map(MapStep),
     Names(NamesStep),
-    Domain(DomainStep),
     /// The script has ended.
     Ended,
 }

@@ -1,6 +1,6 @@
 //! How calls begin, with steps that were worked out by hand.
 use crate::{
-    Asking, CpuStep, Draining, HeapStep, Local, NamesStep, Resizing, Step, Stopping, Target,
+    Asking, CpuRow, CpuStep, Draining, HeapStep, Local, NamesStep, Resizing, Step, Stopping, Target,
 };
 use size_classes::ClassTable;
 use std::alloc::{AllocError, Global};
@@ -39,7 +39,7 @@ fn a_call_begins_at_its_part(rt: HostRuntime) -> Result<(), Fail> {
         (
             Call::Malloc { label, size: 17 },
             Target::Cpu(CpuNo(3)),
-            Step::Cpu(CpuStep::Pop(Asking { label, size: 17 })),
+            Step::Front(CpuRow::Cpu(CpuStep::Pop(Asking { label, size: 17 }))),
         ),
         (
             Call::Malloc { label, size: 8193 },
@@ -59,12 +59,12 @@ fn a_call_begins_at_its_part(rt: HostRuntime) -> Result<(), Fail> {
         (
             Call::Drain { cpu },
             Target::Cpu(cpu),
-            Step::Cpu(CpuStep::Stop(drain)),
+            Step::Front(CpuRow::Cpu(CpuStep::Stop(drain))),
         ),
         (
             Call::Resize { cpu, class, cap: 9 },
             Target::Cpu(cpu),
-            Step::Cpu(CpuStep::Stop(resize)),
+            Step::Front(CpuRow::Cpu(CpuStep::Stop(resize))),
         ),
     ];
     for (call, target, step) in cases {

@@ -3,7 +3,7 @@ ghost use Rattle.std.specs.Prelude.{◌≡◌, [], IfOk};
 
 use crate::State;
 use call_steps::{
-    Asking, CpuStep, Freeing, HeapStep, MapStep, NamesStep, Serving, ShardStep, Step,
+    Asking, CpuRow, CpuStep, Freeing, HeapStep, MapStep, NamesStep, Serving, ShardStep, Step,
 };
 use size_classes::ClassTable;
 use std::alloc::{AllocError, Global};
@@ -651,15 +651,15 @@ fn an_object_comes_and_goes_act_by_act(rt: HostRuntime) -> Result<(), Fail> {
     let asking = Asking { label, size: 10 };
     let serving = Serving { label, addr };
     let value = Some(addr);
-    let pop = Step::Cpu(CpuStep::Pop(asking));
-    let stock = Step::Cpu(CpuStep::Stock(serving));
-    let push = Step::Cpu(CpuStep::Push(Freeing { label, addr }));
+    let pop = Step::Front(CpuRow::Cpu(CpuStep::Pop(asking)));
+    let stock = Step::Front(CpuRow::Cpu(CpuStep::Stock(serving)));
+    let push = Step::Front(CpuRow::Cpu(CpuStep::Push(Freeing { label, addr })));
     let steps = [
         // It switches in, begins, reads the header and finds no object there, nor in the shard.
         pop,
         pop,
         pop,
-        Step::Cpu(CpuStep::Grow(asking)),
+        Step::Front(CpuRow::Cpu(CpuStep::Grow(asking))),
         Step::Shard(ShardStep::Fetch(asking)),
         // A new span gives a batch of four, three of which are pushed.
         Step::Heap(HeapStep::NewSpan(asking)),

@@ -4,6 +4,7 @@ use Rattle.std.proofs.lemmas.List.{length-append}
 use Rattle.call_steps.specs.Local.{Local, Decided, decided}
 use Rattle.call_steps.specs.Calls.{undecided, under}
 use Rattle.call_steps.specs.declared.step.Step.TheVariants as does
+use Rattle.call_steps.specs.declared.step.CpuRow.TheVariants as front
 use Rattle.call_steps.specs.declared.step.CpuStep.TheVariants.{Leave}
 use Rattle.call_steps.specs.Kept.{decided_by, call_at}
 use Rattle.call_steps.proofs.ScriptFacts.{decided_more, undecided_under}
@@ -19,7 +20,7 @@ returns-clause-decided c call is =
     let made : List Decided → Local =
     λ ds. record {
       cpu = l.cpu;
-      step = does.Cpu Leave;
+      step = does.Front (front.Cpu Leave);
       regs = l.regs;
       freed = l.freed;
       moved = l.moved;
@@ -30,7 +31,7 @@ returns-clause-decided c call is =
       domains = l.domains;
     } in
     ap made (ap (decided_by l.script) c.push.ensures.items ∙ decided_more l.script l.answers.items _ call at)
-    ∙ ap (λ (m : Local). record (decided m call c.args.answer) { step = does.Cpu Leave }) c.self.view_is
+    ∙ ap (λ (m : Local). record (decided m call c.args.answer) { step = does.Front (front.Cpu Leave) }) c.self.view_is
 
 pub invariant_of-self : goal.invariant_of-self
 invariant_of-self c =
