@@ -57,9 +57,11 @@ use Rattle.call_steps.specs.declared.step.CpuRow.TheVariants as front
 use Rattle.call_steps.specs.declared.step.CpuStep.{CpuStep}
 use Rattle.call_steps.specs.declared.step.CpuStep.TheVariants.{Pop, Grow, Stock, Push, PopBatch, Stop, Fence, Take, SetCap, Start, Leave}
 use Rattle.call_steps.specs.Local.{Local, goes, decided, ends, no_class, class_row}
-use Rattle.call_steps.specs.Hands.{serves, looks_on, gives, drains_on, with_hand}
-use Rattle.call_steps.specs.CpuActs.{with_regs, due, leaves, moves_to, gives_rest, replied, instructed_to, sequence_by, grew_to, call_of, stops, drained, took, cap_answer, gives_taken, left_for, cpu_row}
+use Rattle.call_steps.specs.Hands.{serves, looks_on, gives, comes_to, with_hand}
+use Rattle.call_steps.specs.CpuActs.{with_regs, due, leaves, moves_to, gives_rest, replied, instructed_to, sequence_by, grew_to, call_of, stops, drains_on, drained, took, cap_answer, gives_taken, left_for, cpu_row}
+use Rattle.call_steps.specs.Calls.{HasNoLabel, about_cpu}
 use Rattle.call_steps.specs.Shapes.{StepShape, CpuShape}
+use Rattle.call_steps.proofs.NextShapes.{drains_about}
 use Rattle.holdings.proofs.Sums.{of_all}
 use Rattle.alloc_rules.specs.Machine.{Parts}
 use Rattle.alloc_rules.specs.Accounts.{account_of, cpu_doing}
@@ -70,7 +72,7 @@ use Rattle.alloc_rules.proofs.Counting.{objects_append, objects_cut, objects_rev
 use Rattle.alloc_rules.proofs.Stored.{with_stores, cpu_stored, stores_move, stock_same}
 use Rattle.alloc_rules.proofs.CutOf.{cut_of}
 use Rattle.alloc_rules.proofs.Freeing.{freeing}
-use Rattle.alloc_rules.proofs.Goings.{Goes, looks_as, gives_as, Closes, ends_as, drains_as, carries, gets_object, frees_object, says_other}
+use Rattle.alloc_rules.proofs.Goings.{Goes, looks_as, gives_as, Closes, ends_as, other_doing, comes_as, carries, gets_object, frees_object, says_other}
 
 -- what a reply, and an answer, moves between a row and the hand
 reply_moves : (reply : Reply) (old new : SlabRow) (r after : Regs) → ReplyMoves reply old new r after → (n : ℕ) → objects_at n (held new) + objects_at n after.hand.items ≡ objects_at n (held old) + objects_at n r.hand.items
@@ -232,25 +234,28 @@ module _ (m : Setup) (limits : HeapConfig) (cpus : ℕ) (p : Parts) (locals : Li
       carries m p locals b before.books (slice_set p.cpus c (drains.taken q l.regs.class.0)) p.shards p.domains (cut (drains.taken q l.regs.class.0)) (at_step row) after Other l.regs.class.0 l.regs.hand.items taken_hand.items l.rest (ap (λ (d : Doing). bare d l.regs.class.0 l.regs.hand.items l.rest) doing)
       (objects (drains.taken q l.regs.class.0) l.regs.hand.items taken_hand.items take_shifts) (λ label o is. cc) weighs acts answers
 
-  drained_does : (d : Draining) (hand : List Addr) → taken_hand.items ≡ hand → Does m (with_cpu (drains.taken q l.regs.class.0)) b (at_step (Take (stopping.Drain d))) (drained m.rows (with_hand (at_step (Take (stopping.Drain d))) taken_hand) d hand)
-  drained_does d [] is =
+  drained_does : (d : Draining) (next : Class × CpuStep) (hand : List Addr) → HasNoLabel (about_cpu next.1) → taken_hand.items ≡ hand → Does m (with_cpu (drains.taken q l.regs.class.0)) b (at_step (Take (stopping.Drain d))) (drained (with_hand (at_step (Take (stopping.Drain d))) taken_hand) hand next)
+  drained_does d next [] other is =
       let l1 : Local = with_hand (at_step (Take (stopping.Drain d))) taken_hand in
-      let closes = drains_as m.rows l1 d l.regs.class.0 is in
-      took_as (Take (stopping.Drain d)) (drains_on m.rows l1 d) refl (subst (λ (h : List Addr). WeighSame (bare Other l.regs.class.0 h l.rest) (account_of (drains_on m.rows l1 d))) (sym is) closes.weighs) closes.acts closes.answers
-  drained_does d (a ∷ others) is =
+      let closes = comes_as l1 next.0 next.1 l.regs.class.0 other is in
+      took_as (Take (stopping.Drain d)) (comes_to l1 next.0 next.1) refl (subst (λ (h : List Addr). WeighSame (bare Other l.regs.class.0 h l.rest) (account_of (comes_to l1 next.0 next.1))) (sym is) closes.weighs) closes.acts closes.answers
+  drained_does d next (a ∷ others) other is =
       let l1 : Local = with_hand (at_step (Take (stopping.Drain d))) taken_hand in
-      let g = gives_as l1 (giving.Drained (record d { taken = d.taken + length (a ∷ others) })) in
-      took_as (Take (stopping.Drain d)) (drained m.rows l1 d (a ∷ others)) refl (weighs_is (bare Other l.regs.class.0 taken_hand.items l.rest) (account_of (drained m.rows l1 d (a ∷ others))) g.account) g.acts g.answers
+      let g = gives_as l1 (giving.Row next.0 next.1) in
+      let account = g.account ∙ ap (λ (x : Doing). bare x l.regs.class.0 taken_hand.items l.rest) (other_doing (about_cpu next.1) other) in
+      took_as (Take (stopping.Drain d)) (drained l1 (a ∷ others) next) refl (weighs_is (bare Other l.regs.class.0 taken_hand.items l.rest) (account_of (drained l1 (a ∷ others) next)) account) g.acts g.answers
 
   take_moves : (s : Stopping) → Does m (with_cpu (drains.taken q l.regs.class.0)) b (at_step (Take s)) (took m.rows (with_hand (at_step (Take s)) taken_hand) s)
-  take_moves (stopping.Drain d) = drained_does d taken_hand.items refl
+  take_moves (stopping.Drain d) =
+      let d' : Draining = record d { taken = d.taken + length taken_hand.items } in
+      drained_does d (drains_on m.rows l.regs.class d') taken_hand.items (subst HasNoLabel (sym (drains_about m.rows l.regs.class d')) tt) refl
   take_moves (stopping.Resize r) = took_as (Take (stopping.Resize r)) (goes (with_hand (at_step (Take (stopping.Resize r))) taken_hand) (does.Front (front.Cpu (SetCap r)))) refl (weighs_same (bare Other l.regs.class.0 taken_hand.items l.rest)) refl refl
 
   -- the start of a resize, and leaving at a call's end
   start_gives : (r : Resizing) (hand : List Addr) → l.regs.hand.items ≡ hand → Does m (with_cpu (drains.started q)) b (at_step (Start (stopping.Resize r))) (gives_taken m.rows (at_step (Start (stopping.Resize r))) hand)
   start_gives r [] is = quiets (Start (stopping.Resize r)) (drains.started q) (ends m.rows (at_step (Start (stopping.Resize r)))) (λ j. refl) is refl (ends_as m.rows (at_step (Start (stopping.Resize r))) l.regs.class.0 is)
   start_gives r (a ∷ others) is =
-      on (Start (stopping.Resize r)) (drains.started q) (gives (at_step (Start (stopping.Resize r))) giving.Resized) l.regs (still l.regs.class.0 q (drains.started q) l.regs.hand.items l.regs.hand.items (λ j. refl) refl) refl (λ label o doing. cc) (gives_as (at_step (Start (stopping.Resize r))) giving.Resized)
+      on (Start (stopping.Resize r)) (drains.started q) (gives (at_step (Start (stopping.Resize r))) giving.End) l.regs (still l.regs.class.0 q (drains.started q) l.regs.hand.items l.regs.hand.items (λ j. refl) refl) refl (λ label o doing. cc) (gives_as (at_step (Start (stopping.Resize r))) giving.End)
 
   leave_does : l.regs.hand.items ≡ [] → (o : Option MoveTo) → Does m (with_cpu (left_for m.rows q (at_step Leave) o).0) b (at_step Leave) (left_for m.rows q (at_step Leave) o).1
   leave_does none None = quiets Leave q (ends m.rows (at_step Leave)) (λ j. refl) none refl (ends_as m.rows (at_step Leave) l.regs.class.0 none)

@@ -7,7 +7,7 @@ use Rattle.tc_units.specs.Classes.{class_of}
 use Rattle.tc_units.specs.declared.units.Addr.{Addr}
 use Rattle.tc_model.specs.declared.answers.CallLine.{CallLine}
 use Rattle.heap_rules.specs.declared.config.HeapConfig.{HeapConfig}
-use Rattle.rseq_core.specs.Bags.{appended}
+use Rattle.rseq_core.specs.Bags.{appended, emptied}
 use Rattle.transfer_cache.specs.Transfer.{Transfer, last_first, without_last}
 use Rattle.holdings.specs.Runs.{objects_at}
 use Rattle.holdings.specs.Accounts.{Asks}
@@ -23,9 +23,9 @@ use Rattle.call_steps.specs.declared.step.ShardStep.TheVariants as shard
 use Rattle.call_steps.specs.declared.step.DomainStep.{DomainStep}
 use Rattle.call_steps.specs.declared.step.DomainStep.TheVariants.{Take, Put}
 use Rattle.call_steps.specs.Local.{Local, goes, class_row}
-use Rattle.call_steps.specs.Hands.{given}
+use Rattle.call_steps.specs.Hands.{with_hand, with_freed, decides_free, behind, goes_onward, given}
 use Rattle.call_steps.specs.ShardActs.{takes, fits_into, put_in, domain_row}
-use Rattle.call_steps.specs.Shapes.{StepShape, DomainShape}
+use Rattle.call_steps.specs.Shapes.{StepShape, DomainShape, IsGiving}
 use Rattle.holdings.proofs.Sums.{of_all}
 use Rattle.alloc_rules.specs.Machine.{Parts}
 use Rattle.alloc_rules.specs.Accounts.{giving_doing}
@@ -86,15 +86,16 @@ module _ (m : Setup) (limits : HeapConfig) (cpus : ℕ) (p : Parts) (locals : Li
   abbrev put_here : Transfer
   put_here = put_in here l.regs.hand.items
 
-  puts_does : (g : Giving) → Does m (with_cache put_here) b (at_step (Put g)) (given m.rows (at_step (Put g)) g)
-  puts_does g =
-      let move = objects put_here l.regs.hand.items [] (λ n. omega (arith, objects_append n here.objects l.regs.hand.items)) in
-      by g move where
-        by : (g : Giving) → MoveObjects (stock_of p) (stock_of (with_cache put_here)) l.regs.class.0 l.regs.hand.items [] [] → Does m (with_cache put_here) b (at_step (Put g)) (given m.rows (at_step (Put g)) g)
-        by (giving.Rest s) move = gives_hand m p locals b before.books p.cpus p.shards (domains_with put_here) (cut put_here) (at_step (Put (giving.Rest s))) (giving.Rest s) l.freed l.regs.class.0 l.regs.hand.items refl refl move
-        by (giving.Freed f) move = gives_hand m p locals b before.books p.cpus p.shards (domains_with put_here) (cut put_here) (at_step (Put (giving.Freed f))) (giving.Freed f) l.freed l.regs.class.0 l.regs.hand.items refl refl move
-        by (giving.Drained x) move = gives_hand m p locals b before.books p.cpus p.shards (domains_with put_here) (cut put_here) (at_step (Put (giving.Drained x))) (giving.Drained x) l.freed l.regs.class.0 l.regs.hand.items refl refl move
-        by giving.Resized move = gives_hand m p locals b before.books p.cpus p.shards (domains_with put_here) (cut put_here) (at_step (Put giving.Resized)) giving.Resized l.freed l.regs.class.0 l.regs.hand.items refl refl move
+  gives_here : (g : Giving) → IsGiving (limits_of m cpus) l.regs.hand.items g → Does m (with_cache put_here) b (at_step (Put g)) (goes_onward m.rows (with_freed (decides_free (with_hand (at_step (Put g)) (emptied l.regs.hand)) g) l.freed) (behind g))
+  gives_here g gives =
+      gives_hand m p locals b before.books p.cpus p.shards (domains_with put_here) (cut put_here) (limits_of m cpus) (at_step (Put g)) g l.freed l.regs.class.0 l.regs.hand.items gives refl refl
+      (objects put_here l.regs.hand.items [] (λ n. omega (arith, objects_append n here.objects l.regs.hand.items)))
+
+  puts_does : (g : Giving) → IsGiving (limits_of m cpus) l.regs.hand.items g → Does m (with_cache put_here) b (at_step (Put g)) (given m.rows (at_step (Put g)) g)
+  puts_does (giving.Rest s) gives = gives_here (giving.Rest s) gives
+  puts_does (giving.Freed f) gives = gives_here (giving.Freed f) gives
+  puts_does (giving.Row k row) gives = gives_here (giving.Row k row) gives
+  puts_does giving.End gives = gives_here giving.End gives
 
   -- or the shard is to get it
   passes_does : (g : Giving) → l.step ≡ does.Front (front.Domain (Put g)) → Does m (with_cache here) b (at_step (Put g)) (goes (at_step (Put g)) (does.Shard (shard.Give g)))
@@ -105,7 +106,7 @@ module _ (m : Setup) (limits : HeapConfig) (cpus : ℕ) (p : Parts) (locals : Li
   domain_does : (row : DomainStep) → l.step ≡ does.Front (front.Domain row) → DomainShape (limits_of m cpus) l row → Does m (with_cache (domain_row m.rows here (at_step row) row).0) b (at_step row) (domain_row m.rows here (at_step row) row).1
   domain_does (Take asking) is shape = takes_does asking shape.0.hand shape.1 (without_last (class_row m.rows l).batch here.objects) (last_first (class_row m.rows l).batch here.objects) (λ n. objects_last n (class_row m.rows l).batch here.objects)
   domain_does (Put g) is shape =
-      cond_both (fits_into here l.regs.hand.items) (put_here, given m.rows (at_step (Put g)) g) (here, goes (at_step (Put g)) (does.Shard (shard.Give g))) (λ (x : Transfer × Local). Does m (with_cache x.0) b (at_step (Put g)) x.1) (λ e. puts_does g) (λ e. passes_does g is)
+      cond_both (fits_into here l.regs.hand.items) (put_here, given m.rows (at_step (Put g)) g) (here, goes (at_step (Put g)) (does.Shard (shard.Give g))) (λ (x : Transfer × Local). Does m (with_cache x.0) b (at_step (Put g)) x.1) (λ e. puts_does g shape.1) (λ e. passes_does g is)
 
 pub domain_acts_move : DomainActsMove
 domain_acts_move m limits cpus p locals b calls t l d caches row before is at =

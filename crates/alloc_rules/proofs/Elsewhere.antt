@@ -5,6 +5,7 @@ use Rattle.std.proofs.lemmas.Bool.{false≢true}
 use Rattle.tc_units.specs.Units.{page_bytes, pages_holding}
 use Rattle.tc_units.specs.Bag.{Contents}
 use Rattle.tc_units.specs.declared.units.Addr.{Addr}
+use Rattle.tc_units.specs.declared.units.Class.{Class}
 use Rattle.tc_units.specs.declared.units.Label.{Label}
 use Rattle.tc_units.specs.declared.units.ThreadNo.{ThreadNo}
 use Rattle.tc_units.specs.declared.spans.SpanRef.{SpanRef}
@@ -41,7 +42,6 @@ use Rattle.holdings.specs.Runs.{small, address_of}
 use Rattle.call_steps.specs.declared.step.Asking.{Asking}
 use Rattle.call_steps.specs.declared.step.Serving.{Serving}
 use Rattle.call_steps.specs.declared.step.Freeing.{Freeing}
-use Rattle.call_steps.specs.declared.step.Draining.{Draining}
 use Rattle.call_steps.specs.declared.step.Stopping.{Stopping}
 use Rattle.call_steps.specs.declared.step.Resizing.{Resizing}
 use Rattle.call_steps.specs.declared.step.Stopping.TheVariants as stopping
@@ -66,7 +66,7 @@ use Rattle.call_steps.specs.declared.step.NamesStep.{NamesStep}
 use Rattle.call_steps.specs.declared.step.NamesStep.TheVariants as names
 use Rattle.call_steps.specs.Local.{Local, decided, goes, ends, class_row, Decided}
 use Rattle.call_steps.specs.Hands.{with_hand, stocks, serves_first, goes_onward, given, given_back, clears, with_freed}
-use Rattle.call_steps.specs.CpuActs.{call_of, due, with_regs, moves_to, after_pop, gives_rest, after_push, replied, instructed_to, sequence_by, grew_to, stops, drained, took, gives_taken, started, left_for, cpu_row, cap_answer}
+use Rattle.call_steps.specs.CpuActs.{call_of, due, with_regs, moves_to, after_pop, gives_rest, after_push, replied, instructed_to, sequence_by, grew_to, stops, drains_on, drained, took, gives_taken, started, left_for, cpu_row, cap_answer}
 use Rattle.call_steps.specs.ShardActs.{with_more, fetches, takes, with_spans_behind, fits_into, put_in, shard_row, domain_row}
 use Rattle.call_steps.specs.Acts.{after_new, after_new_span, frees_span, without_first_span, heap_row, found, after_lookup, clears_span, map_row, after_take, names_row, cpu_after, shard_after, heap_after, map_after, names_after, domain_after}
 use Rattle.alloc_rules.specs.declared.part.Part.{Part}
@@ -114,13 +114,9 @@ module _ (rows : List ClassRow) where
   stocks_goes x s [] = record { ended = omega arith; answers = refl }
   stocks_goes x s (a ∷ others) = record { ended = omega arith; answers = refl }
 
-  drains_goes : (x : Local) (d : Draining) (b : Bool) → GoesAs x (cond b (goes (record x { regs = record x.regs { class = record { 0 = x.regs.class.0 + 1 } } }) (does.Front (front.Cpu (cpu.Take (stopping.Drain d))))) (goes x (does.Front (front.Cpu (cpu.Start (stopping.Drain d))))))
-  drains_goes x d true = record { ended = omega arith; answers = refl }
-  drains_goes x d false = record { ended = omega arith; answers = refl }
-
   onward_goes : (x : Local) (next : Onward) → GoesAs x (goes_onward rows x next)
   onward_goes x (onward.Publish s) = record { ended = omega arith; answers = refl }
-  onward_goes x (onward.Drain d) = drains_goes x d (ltb (x.regs.class.0 + 1) (length rows))
+  onward_goes x (onward.Row k row) = record { ended = omega arith; answers = refl }
   onward_goes x onward.End = ends_goes rows x
 
   clears_goes : (x : Local) (next : Onward) (spans : List SpanRef) → GoesAs x (clears rows x next spans)
@@ -143,16 +139,16 @@ module _ (rows : List ClassRow) where
   given_leaves : (x : Local) (g : Giving) → Plain x (given rows x g)
   given_leaves x (giving.Rest s) = quiet x _ (omega arith) refl
   given_leaves x (giving.Freed f) = from x (with_hand x (emptied x.regs.hand)) _ refl refl refl (ends_saying (with_hand x (emptied x.regs.hand)) (Free f.label) (Freed f.addr) refl)
-  given_leaves x (giving.Drained d) = let g = drains_goes (with_hand x (emptied x.regs.hand)) d (ltb (x.regs.class.0 + 1) (length rows)) in quiet x _ g.ended g.answers
-  given_leaves x giving.Resized = from x (with_hand x (emptied x.regs.hand)) _ refl refl refl (ends_quietly (with_hand x (emptied x.regs.hand)))
+  given_leaves x (giving.Row k row) = quiet x _ (omega arith) refl
+  given_leaves x giving.End = from x (with_hand x (emptied x.regs.hand)) _ refl refl refl (ends_quietly (with_hand x (emptied x.regs.hand)))
 
   given_back_leaves : (x : Local) (g : Giving) (freed : Contents SpanRef) → Plain x (given_back rows x g freed)
   given_back_leaves x (giving.Rest s) freed = let g = clears_goes (with_freed (with_hand x (emptied x.regs.hand)) freed) (onward.Publish s) freed.items in quiet x _ g.ended g.answers
   given_back_leaves x (giving.Freed f) freed =
       let g = clears_goes (with_freed (decided (with_hand x (emptied x.regs.hand)) (Free f.label) (Freed f.addr)) freed) onward.End freed.items in
       says x _ (Free f.label) (Freed f.addr) refl g.ended g.answers
-  given_back_leaves x (giving.Drained d) freed = let g = clears_goes (with_freed (with_hand x (emptied x.regs.hand)) freed) (onward.Drain d) freed.items in quiet x _ g.ended g.answers
-  given_back_leaves x giving.Resized freed = let g = clears_goes (with_freed (with_hand x (emptied x.regs.hand)) freed) onward.End freed.items in quiet x _ g.ended g.answers
+  given_back_leaves x (giving.Row k row) freed = let g = clears_goes (with_freed (with_hand x (emptied x.regs.hand)) freed) (onward.Row k row) freed.items in quiet x _ g.ended g.answers
+  given_back_leaves x giving.End freed = let g = clears_goes (with_freed (with_hand x (emptied x.regs.hand)) freed) onward.End freed.items in quiet x _ g.ended g.answers
 
   -- the page heap
   frees_leaves : (h : heaps.Heap) (l : Local) (next : Onward) (xs : List SpanRef) → Plain l (frees_span rows h l next xs).1
@@ -286,12 +282,12 @@ module _ (rows : List ClassRow) where
   cap_leaves l r (Some (fault.OverStatic cap)) = refuses (does.Front (front.Cpu (cpu.SetCap r))) l _ (Resize r.cpu r.class r.cap) (OverStatic cap) refl (omega arith) refl
   cap_leaves l r (Some (fault.OverLimit sum)) = refuses (does.Front (front.Cpu (cpu.SetCap r))) l _ (Resize r.cpu r.class r.cap) (OverLimit sum) refl (omega arith) refl
 
-  drained_leaves : (l : Local) (d : Draining) (hand : List Addr) → Plain l (drained rows l d hand)
-  drained_leaves l d [] = let g = drains_goes l d (ltb (l.regs.class.0 + 1) (length rows)) in quiet l _ g.ended g.answers
-  drained_leaves l d (o ∷ others) = quiet l _ (omega arith) refl
+  drained_leaves : (l : Local) (next : Class × CpuStep) (hand : List Addr) → Plain l (drained l hand next)
+  drained_leaves l next [] = quiet l _ (omega arith) refl
+  drained_leaves l next (o ∷ others) = quiet l _ (omega arith) refl
 
   took_leaves : (l : Local) (s : Stopping) → Plain l (took rows l s)
-  took_leaves l (stopping.Drain d) = drained_leaves l d l.regs.hand.items
+  took_leaves l (stopping.Drain d) = drained_leaves l (drains_on rows l.regs.class (record d { taken = d.taken + length l.regs.hand.items })) l.regs.hand.items
   took_leaves l (stopping.Resize r) = quiet l _ (omega arith) refl
 
   taken_leaves : (l : Local) (hand : List Addr) → Plain l (gives_taken rows l hand)

@@ -25,9 +25,7 @@ use Rattle.holdings.specs.Moves.{Said, SaysOther, Move, MovesHand, FreesObject, 
 use Rattle.call_steps.specs.declared.step.Asking.{Asking}
 use Rattle.call_steps.specs.declared.step.Serving.{Serving}
 use Rattle.call_steps.specs.declared.step.Freeing.{Freeing}
-use Rattle.call_steps.specs.declared.step.Draining.{Draining}
-use Rattle.call_steps.specs.declared.step.Stopping.TheVariants as stopping
-use Rattle.call_steps.specs.declared.step.CpuStep.TheVariants as cpu
+use Rattle.call_steps.specs.declared.step.CpuStep.{CpuStep}
 use Rattle.call_steps.specs.declared.step.Giving.{Giving}
 use Rattle.call_steps.specs.declared.step.Giving.TheVariants as giving
 use Rattle.call_steps.specs.declared.step.MapStep.TheVariants as map
@@ -36,10 +34,13 @@ use Rattle.call_steps.specs.declared.step.CpuRow.TheVariants as front
 use Rattle.call_steps.specs.declared.step.ShardStep.TheVariants as shard
 use Rattle.call_steps.specs.declared.step.DomainStep.TheVariants as domain
 use Rattle.call_steps.specs.Local.{Local, Decided, decided, goes, ends, class_row}
-use Rattle.call_steps.specs.Hands.{with_hand as to_hand, with_freed, decides_free, behind, goes_onward, publishes, drains_on, stocks, serves, serves_first, looks_on, gives}
+use Rattle.call_steps.specs.Hands.{with_hand as to_hand, with_freed, decides_free, behind, goes_onward, publishes, comes_to, stocks, serves, serves_first, looks_on, gives}
 use Rattle.call_steps.specs.CpuActs.{with_regs}
 use Rattle.alloc_rules.specs.Machine.{Parts}
-use Rattle.alloc_rules.specs.Accounts.{account_of, giving_doing}
+use Rattle.call_steps.specs.Calls as about
+use Rattle.call_steps.specs.Calls.{About, HasNoLabel, about_cpu}
+use Rattle.call_steps.specs.Shapes.{Limits, IsGiving}
+use Rattle.alloc_rules.specs.Accounts.{account_of, doing_about, cpu_doing, giving_doing}
 use Rattle.alloc_rules.specs.Stocks.{stock_of, AreBooksOf, decided_at, Does}
 use Rattle.alloc_rules.proofs.Weighing.{bare, quiet, weighs_is, weighs_quiet, weighs_next, ends_counts}
 use Rattle.alloc_rules.proofs.Stored.{with_stores, settled, does_by}
@@ -84,7 +85,7 @@ serves_as rows l asking o others is =
       answers = ap (λ (x : Local). x.answers) first ∙ at.answers;
     }
 
--- a call ends, or a drain goes on, with nothing in hand: the account that it has then weighs as one about nothing
+-- a call ends with nothing in hand: the account that it has then weighs as one about nothing
 pub record Closes (after : Local) (k : ℕ) (todo : List Planned) (count : ℕ) (told : List Decided) : Type 0 where
   pub weighs : WeighSame (quiet k todo) (account_of after)
   pub acts : after.acts ≡ count
@@ -93,11 +94,17 @@ pub record Closes (after : Local) (k : ℕ) (todo : List Planned) (count : ℕ) 
 pub ends_as : (rows : List ClassRow) (l : Local) (k : ℕ) → l.regs.hand.items ≡ [] → Closes (ends rows l) k l.rest (l.acts + 1) l.answers
 ends_as rows l k none = let counts = ends_counts rows l in record { weighs = weighs_next rows l k none; acts = counts.0; answers = counts.1 }
 
-pub drains_as : (rows : List ClassRow) (l : Local) (d : Draining) (k : ℕ) → l.regs.hand.items ≡ [] → Closes (drains_on rows l d) k l.rest (l.acts + 1) l.answers
-drains_as rows l d k none =
-    cond_both (ltb (l.regs.class.0 + 1) (length rows)) (goes (record l { regs = record l.regs { class = record { 0 = l.regs.class.0 + 1 } } }) (step.Front (front.Cpu (cpu.Take (stopping.Drain d))))) (goes l (step.Front (front.Cpu (cpu.Start (stopping.Drain d))))) (λ (x : Local). Closes x k l.rest (l.acts + 1) l.answers)
-    (λ e. record { weighs = weighs_quiet k (l.regs.class.0 + 1) l.regs.hand.items l.rest none; acts = refl; answers = refl })
-    (λ e. record { weighs = weighs_quiet k l.regs.class.0 l.regs.hand.items l.rest none; acts = refl; answers = refl })
+-- so does one that comes to a row without a label
+pub other_doing : (a : About) → HasNoLabel a → doing_about a ≡ Other
+other_doing (about.Asks a) other = absurd other
+other_doing (about.Publishes s) other = absurd other
+other_doing (about.Frees f) other = absurd other
+other_doing (about.Other call) other = refl
+
+pub comes_as : (l : Local) (j : Class) (row : CpuStep) (k : ℕ) → HasNoLabel (about_cpu row) → l.regs.hand.items ≡ [] → Closes (comes_to l j row) k l.rest (l.acts + 1) l.answers
+comes_as l j row k other none =
+    let weighs = subst (λ (d : Doing). WeighSame (quiet k l.rest) (bare d j.0 l.regs.hand.items l.rest)) (sym (other_doing (about_cpu row) other)) (weighs_quiet k j.0 l.regs.hand.items l.rest none) in
+    record { weighs = weighs; acts = refl; answers = refl }
 
 -- an allocation with a new span that is to be added to its shard
 abbrev pub adding : Local → Asking → Run → List Addr → Account
@@ -167,15 +174,15 @@ module _ (m : Setup) (p : Parts) (locals : List Local) (b : Books) (books : AreB
       frees_spans l (ends m.rows then) f k hand [] l.rest is move closes.weighs closes.acts closes.answers
 
   -- a hand is given away: no span leaves, and the call ends or goes on
-  pub gives_hand : (l : Local) (g : Giving) (bag : Contents SpanRef) (k : ℕ) (hand : List Addr) → l.regs.class.0 ≡ k → account_of l ≡ bare (giving_doing g) k hand l.rest → MoveObjects (stock_of p) (stock_of new) k hand [] [] → Does m new b l (goes_onward m.rows (with_freed (decides_free (to_hand l (emptied l.regs.hand)) g) bag) (behind g))
-  gives_hand l (giving.Rest s) bag k hand class is move =
+  pub gives_hand : (limits : Limits) (l : Local) (g : Giving) (bag : Contents SpanRef) (k : ℕ) (hand : List Addr) → IsGiving limits hand g → l.regs.class.0 ≡ k → account_of l ≡ bare (giving_doing g) k hand l.rest → MoveObjects (stock_of p) (stock_of new) k hand [] [] → Does m new b l (goes_onward m.rows (with_freed (decides_free (to_hand l (emptied l.regs.hand)) g) bag) (behind g))
+  gives_hand limits l (giving.Rest s) bag k hand gives class is move =
       carries l (publishes (with_freed (to_hand l (emptied l.regs.hand)) bag) s) (Publishes s.label (Some s.addr)) k hand [] l.rest is move (λ label o doing. cc)
       (weighs_is (bare (Publishes s.label (Some s.addr)) k [] l.rest) (bare (Publishes s.label (Some s.addr)) l.regs.class.0 [] l.rest) (ap (λ (j : ℕ). bare (Publishes s.label (Some s.addr)) j [] l.rest) class)) refl refl
-  gives_hand l (giving.Freed f) bag k hand class is move = frees_object l (record l.regs { hand = emptied l.regs.hand }) bag f k hand is refl move
-  gives_hand l (giving.Drained d) bag k hand class is move =
-      let closes = drains_as m.rows (with_freed (to_hand l (emptied l.regs.hand)) bag) d k refl in
-      carries l (drains_on m.rows (with_freed (to_hand l (emptied l.regs.hand)) bag) d) Other k hand [] l.rest is move (λ label o doing. cc) closes.weighs closes.acts closes.answers
-  gives_hand l giving.Resized bag k hand class is move =
+  gives_hand limits l (giving.Freed f) bag k hand gives class is move = frees_object l (record l.regs { hand = emptied l.regs.hand }) bag f k hand is refl move
+  gives_hand limits l (giving.Row j row) bag k hand gives class is move =
+      let closes = comes_as (with_freed (to_hand l (emptied l.regs.hand)) bag) j row k gives.other refl in
+      carries l (comes_to (with_freed (to_hand l (emptied l.regs.hand)) bag) j row) Other k hand [] l.rest (is ∙ ap (λ (d : Doing). bare d k hand l.rest) (other_doing (about_cpu row) gives.other)) move (λ label o doing. cc) closes.weighs closes.acts closes.answers
+  gives_hand limits l giving.End bag k hand gives class is move =
       let closes = ends_as m.rows (with_freed (to_hand l (emptied l.regs.hand)) bag) k refl in
       carries l (ends m.rows (with_freed (to_hand l (emptied l.regs.hand)) bag)) Other k hand [] l.rest is move (λ label o doing. cc) closes.weighs closes.acts closes.answers
 
@@ -190,15 +197,16 @@ module _ (m : Setup) (p : Parts) (locals : List Local) (b : Books) (books : AreB
       (ap (λ (i : ℕ). let x : Account = record { doing = d; class = i; hand = []; off = []; apart = items; mapped = items; clears = []; todo = todo } in x) class
       ∙ ap (λ (xs : List SpanRef). let x : Account = record { doing = d; class = k; hand = []; off = []; apart = xs; mapped = xs; clears = []; todo = todo } in x) more)
 
-  pub gives_spans : (l : Local) (g : Giving) (bag : Contents SpanRef) (k : ℕ) (hand : List Addr) (freed : List SpanRef) → l.regs.class.0 ≡ k → bag.items ≡ freed → account_of l ≡ bare (giving_doing g) k hand l.rest → MoveObjects (stock_of p) (stock_of new) k hand [] freed → Does m new b l (clearing_it l g bag)
-  gives_spans l (giving.Rest s) bag k hand freed class are is move =
+  pub gives_spans : (limits : Limits) (l : Local) (g : Giving) (bag : Contents SpanRef) (k : ℕ) (hand : List Addr) (freed : List SpanRef) → IsGiving limits hand g → l.regs.class.0 ≡ k → bag.items ≡ freed → account_of l ≡ bare (giving_doing g) k hand l.rest → MoveObjects (stock_of p) (stock_of new) k hand [] freed → Does m new b l (clearing_it l g bag)
+  gives_spans limits l (giving.Rest s) bag k hand freed gives class are is move =
       carries_spans l (clearing_it l (giving.Rest s) bag) (Publishes s.label (Some s.addr)) k hand [] freed l.rest is move (λ label o doing. cc) (spans_weigh (Publishes s.label (Some s.addr)) k l.regs.class.0 hand freed bag.items l.rest class are) refl refl
-  gives_spans l (giving.Freed f) bag k hand freed class are is move =
+  gives_spans limits l (giving.Freed f) bag k hand freed gives class are is move =
       frees_spans l (clearing_it l (giving.Freed f) bag) f k hand freed l.rest is move (spans_weigh Other k l.regs.class.0 hand freed bag.items l.rest class are) refl refl
-  gives_spans l (giving.Drained d) bag k hand freed class are is move =
-      carries_spans l (clearing_it l (giving.Drained d) bag) Other k hand [] freed l.rest is move (λ label o doing. cc) (spans_weigh Other k l.regs.class.0 hand freed bag.items l.rest class are) refl refl
-  gives_spans l giving.Resized bag k hand freed class are is move =
-      carries_spans l (clearing_it l giving.Resized bag) Other k hand [] freed l.rest is move (λ label o doing. cc) (spans_weigh Other k l.regs.class.0 hand freed bag.items l.rest class are) refl refl
+  gives_spans limits l (giving.Row j row) bag k hand freed gives class are is move =
+      let d : Doing = cpu_doing row in
+      carries_spans l (clearing_it l (giving.Row j row) bag) d k hand [] freed l.rest is move (λ label o doing. (let e = other_doing (about_cpu row) gives.other in cc)) (spans_weigh d k l.regs.class.0 hand freed bag.items l.rest class are) refl refl
+  gives_spans limits l giving.End bag k hand freed gives class are is move =
+      carries_spans l (clearing_it l giving.End bag) Other k hand [] freed l.rest is move (λ label o doing. cc) (spans_weigh Other k l.regs.class.0 hand freed bag.items l.rest class are) refl refl
 
   -- no object moves, and something may be decided that is of no label
   pub says_other : (l after : Local) (a : Account) (said : List Said) → account_of l ≡ a → stock_of p ≡ stock_of new → SaysOther said → WeighSame a (account_of after) → after.acts ≡ l.acts + 1 → after.answers ≡ l.answers ++ decided_at l.acts said → Does m new b l after

@@ -32,9 +32,10 @@ use Rattle.call_steps.specs.Hands.{with_freed, clears}
 use Rattle.call_steps.specs.Acts.{heap_row, after_new, after_new_span, frees_span, without_first_span}
 use Rattle.call_steps.specs.Fits.{FitsHeap, FirstLives}
 use Rattle.alloc_rules.specs.Machine.{Parts}
+use Rattle.call_steps.specs.Shapes.{IsOnward}
 use Rattle.alloc_rules.specs.Accounts.{account_of, onward_doing, first_run}
 use Rattle.alloc_rules.specs.Stocks.{AreBooksOf, Does}
-use Rattle.alloc_rules.specs.Acts.{IsBefore, HeapActsMove}
+use Rattle.alloc_rules.specs.Acts.{limits_of, IsBefore, HeapActsMove}
 use Rattle.alloc_rules.proofs.Weighing.{bare, weighs_same, ends_counts}
 use Rattle.alloc_rules.proofs.Onwards.{Counts, weighs_end, onward_weighs}
 use Rattle.alloc_rules.proofs.Moved.{moved_by, no_row_length}
@@ -136,9 +137,9 @@ module _ (m : Setup) (limits : HeapConfig) (cpus : ℕ) (p : Parts) (locals : Li
       }
 
   -- what is left to give back
-  clears_weighs : (l' : Local) (next : Onward) (xs : List SpanRef) → l'.freed.items ≡ xs → l'.regs.hand.items ≡ [] → WeighSame (record (bare (onward_doing next) l'.regs.class.0 l'.regs.hand.items l'.rest) { apart = xs; mapped = xs }) (account_of (clears m.rows l' next xs)) × Counts l' (clears m.rows l' next xs)
-  clears_weighs l' next [] is none = onward_weighs m.rows l' next none
-  clears_weighs l' next (s ∷ others) is none =
+  clears_weighs : (l' : Local) (next : Onward) (xs : List SpanRef) → IsOnward (limits_of m cpus) next → l'.freed.items ≡ xs → l'.regs.hand.items ≡ [] → WeighSame (record (bare (onward_doing next) l'.regs.class.0 l'.regs.hand.items l'.rest) { apart = xs; mapped = xs }) (account_of (clears m.rows l' next xs)) × Counts l' (clears m.rows l' next xs)
+  clears_weighs l' next [] on is none = onward_weighs m.rows (limits_of m cpus) l' next on none
+  clears_weighs l' next (s ∷ others) on is none =
       let wanted : List SpanRef → Account = λ xs. record (bare (onward_doing next) l'.regs.class.0 l'.regs.hand.items l'.rest) { apart = xs; mapped = xs } in
       (subst (λ (xs : List SpanRef). WeighSame (wanted xs) (account_of (clears m.rows l' next (s ∷ others)))) is (weighs_same _), record { acts = refl; answers = refl })
 
@@ -148,7 +149,7 @@ module _ (m : Setup) (limits : HeapConfig) (cpus : ℕ) (p : Parts) (locals : Li
   frees next before (s ∷ others) is lives =
       let books = before.books in
       let l' : Local = with_freed (at (FreeSpan next)) (without_first_span l.freed others) in
-      let after = clears_weighs l' next others refl before.shaped.step.0.hand in
+      let after = clears_weighs l' next others before.shaped.step.1 refl before.shaped.step.0.hand in
       record {
         heap = less (run_of s) b.heap;
         spans = b.spans;

@@ -6,6 +6,7 @@ use Rattle.std.proofs.lemmas.Bool.{false≢true}
 use Rattle.std.proofs.lemmas.List.{append-nil, length-append}
 use Rattle.tc_units.specs.Units.{page_bytes, pages_holding}
 use Rattle.tc_units.specs.declared.units.Addr.{Addr}
+use Rattle.tc_units.specs.declared.units.Class.{Class}
 use Rattle.tc_units.specs.declared.units.Label.{Label}
 use Rattle.tc_units.specs.declared.units.ThreadNo.{ThreadNo}
 use Rattle.tc_units.specs.declared.spans.SpanRef.{SpanRef}
@@ -69,14 +70,15 @@ use Rattle.call_steps.specs.declared.step.NamesStep.{NamesStep}
 use Rattle.call_steps.specs.declared.step.NamesStep.TheVariants as names
 use Rattle.call_steps.specs.Local.{Local, Decided, first_act, decided, goes, closes, ends, class_row}
 use Rattle.call_steps.specs.Hands.{with_hand, given, given_back, stocks, serves_first, looks_on, gives, goes_onward, clears, with_freed}
-use Rattle.call_steps.specs.CpuActs.{call_of, cap_answer, due, with_regs, moves_to, after_pop, gives_rest, after_push, replied, instructed_to, sequence_by, grew_to, stops, drained, took, gives_taken, started, left_for, cpu_row}
+use Rattle.call_steps.specs.CpuActs.{call_of, cap_answer, due, with_regs, moves_to, after_pop, gives_rest, after_push, replied, instructed_to, sequence_by, grew_to, stops, drains_on, drained, took, gives_taken, started, left_for, cpu_row}
 use Rattle.call_steps.specs.ShardActs.{with_more, fetches, takes, with_spans_behind, fits_into, put_in, shard_row, domain_row}
 use Rattle.call_steps.specs.Acts.{after_new, after_new_span, frees_span, without_first_span, heap_row, found, after_lookup, clears_span, map_row, after_take, names_row, waits_row}
 use Rattle.call_steps.specs.Fits.{FitsHeap, FitsMap, FitsNames, FitsCpu, IsSequence, HasPopped, PopsSome, FirstLives, FirstIsThere}
 use Rattle.holdings.specs.Accounts.{is_unpublished}
 use Rattle.call_steps.specs.Kept.{HasDomain}
 use Rattle.call_steps.specs.Calls as calls
-use Rattle.call_steps.specs.Calls.{undecided, under, without_call, of_giving, of_onward}
+use Rattle.call_steps.specs.Calls.{undecided, under, without_call, about_cpu, about_giving, about_onward, call_about}
+use Rattle.call_steps.proofs.NextShapes.{drains_about}
 use Rattle.alloc_rules.specs.Scripts.{GoesOn, Closes, Path, Stays, Comes, is_under_way}
 
 first_some : (h : heaps.Heap) (xs : List SpanRef) → FirstLives h xs → 0 < length xs
@@ -166,21 +168,17 @@ module _ (rows : List ClassRow) (l : Local) where
       let next : Step = cond (x.domains == 0) (does.Shard (shard.Fetch a)) (does.Front (front.Domain (domain.Take a))) in
       go x [] next from (cond_way (x.domains == 0) (does.Shard (shard.Fetch a)) (does.Front (front.Domain (domain.Take a))) refl refl) (cond_has x.domains (does.Shard (shard.Fetch a)) (does.Front (front.Domain (domain.Take a))) (x.domains == 0) refl tt (λ some. some)) (subst (λ o. Of o []) (cond_call (x.domains == 0) (does.Shard (shard.Fetch a)) (does.Front (front.Domain (domain.Take a))) (Some (calls.asks a)) refl refl) of)
 
-  gives_on : (x : Local) (g : Giving) → IsFrom l x [] → Of (of_giving g) [] → Path rows l (gives x g)
+  gives_on : (x : Local) (g : Giving) → IsFrom l x [] → Of (call_about (about_giving g)) [] → Path rows l (gives x g)
   gives_on x g from of =
       let next : Step = cond (x.domains == 0) (does.Shard (shard.Give g)) (does.Front (front.Domain (domain.Put g))) in
-      go x [] next from (cond_way (x.domains == 0) (does.Shard (shard.Give g)) (does.Front (front.Domain (domain.Put g))) refl refl) (cond_has x.domains (does.Shard (shard.Give g)) (does.Front (front.Domain (domain.Put g))) (x.domains == 0) refl tt (λ some. some)) (subst (λ o. Of o []) (cond_call (x.domains == 0) (does.Shard (shard.Give g)) (does.Front (front.Domain (domain.Put g))) (of_giving g) refl refl) of)
+      go x [] next from (cond_way (x.domains == 0) (does.Shard (shard.Give g)) (does.Front (front.Domain (domain.Put g))) refl refl) (cond_has x.domains (does.Shard (shard.Give g)) (does.Front (front.Domain (domain.Put g))) (x.domains == 0) refl tt (λ some. some)) (subst (λ o. Of o []) (cond_call (x.domains == 0) (does.Shard (shard.Give g)) (does.Front (front.Domain (domain.Put g))) (call_about (about_giving g)) refl refl) of)
 
-  drains_by : (x : Local) (new : List Decided) (d : Draining) → IsFrom l x new → Of (Some (calls.drains d)) new → (b : Bool) → Path rows l (cond b (goes (record x { regs = record x.regs { class = record { 0 = x.regs.class.0 + 1 } } }) (does.Front (front.Cpu (cpu.Take (stopping.Drain d))))) (goes x (does.Front (front.Cpu (cpu.Start (stopping.Drain d))))))
-  drains_by x new d from of true = Stays new from.answers from.domains from.ended from.rest refl tt (goes_of (does.Front (front.Cpu (cpu.Take (stopping.Drain d)))) refl new of)
-  drains_by x new d from of false = Stays new from.answers from.domains from.ended from.rest refl tt (goes_of (does.Front (front.Cpu (cpu.Start (stopping.Drain d)))) refl new of)
-
-  goes_to : (x : Local) (new : List Decided) (next : Onward) → IsFrom l x new → Of (of_onward next) new → Path rows l (goes_onward rows x next)
+  goes_to : (x : Local) (new : List Decided) (next : Onward) → IsFrom l x new → Of (call_about (about_onward next)) new → Path rows l (goes_onward rows x next)
   goes_to x new (onward.Publish s) from of = go x new (does.Names (names.Publish s.label (Some s.addr))) from refl tt of
-  goes_to x new (onward.Drain d) from of = drains_by x new d from of (ltb (x.regs.class.0 + 1) (length rows))
+  goes_to x new (onward.Row k row) from of = Stays new from.answers from.domains from.ended from.rest refl tt (goes_of (does.Front (front.Cpu row)) refl new of)
   goes_to x new onward.End from of = over x new from of
 
-  cleared : (x : Local) (new : List Decided) (next : Onward) (spans : List SpanRef) → IsFrom l x new → Of (of_onward next) new → Path rows l (clears rows x next spans)
+  cleared : (x : Local) (new : List Decided) (next : Onward) (spans : List SpanRef) → IsFrom l x new → Of (call_about (about_onward next)) new → Path rows l (clears rows x next spans)
   cleared x new next [] from of = goes_to x new next from of
   cleared x new next (s ∷ others) from of = go x new (does.Map (map.ClearSpan next)) from refl tt of
 
@@ -283,8 +281,8 @@ module _ (rows : List ClassRow) (l : Local) where
   unfolding Of
   given_path (giving.Rest s) freed = cleared rows (on_shard (shard.Give (giving.Rest s))) (with_freed (with_hand (on_shard (shard.Give (giving.Rest s))) (emptied l.regs.hand)) freed) [] (onward.Publish s) freed.items (record { answers = silent; domains = refl; ended = refl; rest = refl }) (refl, refl)
   given_path (giving.Freed f) freed = cleared rows (on_shard (shard.Give (giving.Freed f))) (with_freed (decided (with_hand (on_shard (shard.Give (giving.Freed f))) (emptied l.regs.hand)) (Free f.label) (Freed f.addr)) freed) (record { act = l.acts; call = Free f.label; answer = Freed f.addr } ∷ []) onward.End freed.items (record { answers = refl; domains = refl; ended = refl; rest = refl }) (refl, refl)
-  given_path (giving.Drained d) freed = cleared rows (on_shard (shard.Give (giving.Drained d))) (with_freed (with_hand (on_shard (shard.Give (giving.Drained d))) (emptied l.regs.hand)) freed) [] (onward.Drain d) freed.items (record { answers = silent; domains = refl; ended = refl; rest = refl }) (refl, refl)
-  given_path giving.Resized freed = cleared rows (on_shard (shard.Give giving.Resized)) (with_freed (with_hand (on_shard (shard.Give giving.Resized)) (emptied l.regs.hand)) freed) [] onward.End freed.items (record { answers = silent; domains = refl; ended = refl; rest = refl }) (refl, refl)
+  given_path (giving.Row k row) freed = cleared rows (on_shard (shard.Give (giving.Row k row))) (with_freed (with_hand (on_shard (shard.Give (giving.Row k row))) (emptied l.regs.hand)) freed) [] (onward.Row k row) freed.items (record { answers = silent; domains = refl; ended = refl; rest = refl }) (refl, refl)
+  given_path giving.End freed = cleared rows (on_shard (shard.Give giving.End)) (with_freed (with_hand (on_shard (shard.Give giving.End)) (emptied l.regs.hand)) freed) [] onward.End freed.items (record { answers = silent; domains = refl; ended = refl; rest = refl }) (refl, refl)
 
   pub shard_path : (s : shards.Shard) (row : ShardStep) → AddsSome rows s (on_shard row) row → Path rows (on_shard row) (shard_row rows s (on_shard row) row).1
   unfolding Of
@@ -311,8 +309,8 @@ module _ (rows : List ClassRow) (l : Local) where
   put_path t g false = go rows (on_domain (domain.Put g)) (on_domain (domain.Put g)) [] (does.Shard (shard.Give g)) (record { answers = silent; domains = refl; ended = refl; rest = refl }) refl tt (refl, refl)
   put_path t (giving.Rest s) true = goes_to rows (on_domain (domain.Put (giving.Rest s))) (with_hand (on_domain (domain.Put (giving.Rest s))) (emptied l.regs.hand)) [] (onward.Publish s) (record { answers = silent; domains = refl; ended = refl; rest = refl }) (refl, refl)
   put_path t (giving.Freed f) true = goes_to rows (on_domain (domain.Put (giving.Freed f))) (decided (with_hand (on_domain (domain.Put (giving.Freed f))) (emptied l.regs.hand)) (Free f.label) (Freed f.addr)) (record { act = l.acts; call = Free f.label; answer = Freed f.addr } ∷ []) onward.End (record { answers = refl; domains = refl; ended = refl; rest = refl }) (refl, refl)
-  put_path t (giving.Drained d) true = goes_to rows (on_domain (domain.Put (giving.Drained d))) (with_hand (on_domain (domain.Put (giving.Drained d))) (emptied l.regs.hand)) [] (onward.Drain d) (record { answers = silent; domains = refl; ended = refl; rest = refl }) (refl, refl)
-  put_path t giving.Resized true = goes_to rows (on_domain (domain.Put giving.Resized)) (with_hand (on_domain (domain.Put giving.Resized)) (emptied l.regs.hand)) [] onward.End (record { answers = silent; domains = refl; ended = refl; rest = refl }) (refl, refl)
+  put_path t (giving.Row k row) true = goes_to rows (on_domain (domain.Put (giving.Row k row))) (with_hand (on_domain (domain.Put (giving.Row k row))) (emptied l.regs.hand)) [] (onward.Row k row) (record { answers = silent; domains = refl; ended = refl; rest = refl }) (refl, refl)
+  put_path t giving.End true = goes_to rows (on_domain (domain.Put giving.End)) (with_hand (on_domain (domain.Put giving.End)) (emptied l.regs.hand)) [] onward.End (record { answers = silent; domains = refl; ended = refl; rest = refl }) (refl, refl)
 
   pub domain_path : (t : Transfer) (row : DomainStep) → Path rows (on_domain row) (domain_row rows t (on_domain row) row).1
   domain_path t (domain.Take a) = takes_path a (last_first (class_row rows l).batch t.objects)
@@ -376,18 +374,18 @@ module _ (rows : List ClassRow) (l : Local) where
     grew_path a grew.Back = Stays [] silent refl refl refl refl tt (refl, refl)
     grew_path a grew.Done = looks rows (on_cpu (cpu.Grow a)) (after (cpu.Grow a)) a (quiet (cpu.Grow a)) (refl, refl)
 
-    drained_path : (d : Draining) (hand : List Addr) → Path rows (on_cpu (cpu.Take (stopping.Drain d))) (drained rows (after (cpu.Take (stopping.Drain d))) d hand)
+    drained_path : (d : Draining) (next : Class × CpuStep) (hand : List Addr) → about_cpu next.1 ≡ calls.Other (Some (Drain d.cpu)) → Path rows (on_cpu (cpu.Take (stopping.Drain d))) (drained (after (cpu.Take (stopping.Drain d))) hand next)
     unfolding Of
-    drained_path d [] = drains_by rows (on_cpu (cpu.Take (stopping.Drain d))) (after (cpu.Take (stopping.Drain d))) [] d (quiet (cpu.Take (stopping.Drain d))) (refl, refl) (ltb (regs.class.0 + 1) (length rows))
-    drained_path d (o ∷ others) = gives_on rows (on_cpu (cpu.Take (stopping.Drain d))) (after (cpu.Take (stopping.Drain d))) (giving.Drained (record d { taken = d.taken + length (o ∷ others) })) (quiet (cpu.Take (stopping.Drain d))) (refl, refl)
+    drained_path d next [] about = Stays [] silent refl refl refl refl tt (goes_of rows (on_cpu (cpu.Take (stopping.Drain d))) (does.Front (front.Cpu next.1)) refl [] (sym (ap call_about about), sym (ap (λ a. without_call (call_about a)) about)))
+    drained_path d next (o ∷ others) about = gives_on rows (on_cpu (cpu.Take (stopping.Drain d))) (after (cpu.Take (stopping.Drain d))) (giving.Row next.0 next.1) (quiet (cpu.Take (stopping.Drain d))) (sym (ap call_about about), sym (ap (λ a. without_call (call_about a)) about))
 
     taken_path : (r : Resizing) (hand : List Addr) → Path rows (on_cpu (cpu.Start (stopping.Resize r))) (gives_taken rows (after (cpu.Start (stopping.Resize r))) hand)
     unfolding Of
     taken_path r [] = over rows (on_cpu (cpu.Start (stopping.Resize r))) (after (cpu.Start (stopping.Resize r))) [] (quiet (cpu.Start (stopping.Resize r))) (refl, refl)
-    taken_path r (o ∷ others) = gives_on rows (on_cpu (cpu.Start (stopping.Resize r))) (after (cpu.Start (stopping.Resize r))) giving.Resized (quiet (cpu.Start (stopping.Resize r))) (refl, refl)
+    taken_path r (o ∷ others) = gives_on rows (on_cpu (cpu.Start (stopping.Resize r))) (after (cpu.Start (stopping.Resize r))) giving.End (quiet (cpu.Start (stopping.Resize r))) (refl, refl)
 
     took_path : (s : Stopping) → Path rows (on_cpu (cpu.Take s)) (took rows (after (cpu.Take s)) s)
-    took_path (stopping.Drain d) = drained_path d regs.hand.items
+    took_path (stopping.Drain d) = let d' : Draining = record d { taken = d.taken + length regs.hand.items } in drained_path d (drains_on rows regs.class d') regs.hand.items (drains_about rows regs.class d')
     took_path (stopping.Resize r) = Stays [] silent refl refl refl refl tt (refl, refl)
 
     started_path : (s : Stopping) → Path rows (on_cpu (cpu.Start s)) (started rows (after (cpu.Start s)) s)

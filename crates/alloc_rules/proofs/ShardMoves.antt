@@ -43,7 +43,7 @@ use Rattle.call_steps.specs.Local.{Local, goes, class_row}
 use Rattle.call_steps.specs.Hands.{with_hand, with_freed, decides_free, behind, clears, serves}
 use Rattle.call_steps.specs.ShardActs.{with_more, fetches, with_spans_behind, shard_row}
 use Rattle.call_steps.specs.Fits.{FitsAdd, FitsGive}
-use Rattle.call_steps.specs.Shapes.{StepShape, ShardShape}
+use Rattle.call_steps.specs.Shapes.{StepShape, ShardShape, IsGiving}
 use Rattle.alloc_rules.specs.Machine.{Parts}
 use Rattle.alloc_rules.specs.Stocks.{no_shard, shard_at, stock_of, IsShardOf, Does}
 use Rattle.alloc_rules.specs.Acts.{limits_of, IsBefore, ShardActsMove}
@@ -250,7 +250,7 @@ module _ (m : Setup) (limits : HeapConfig) (cpus : ℕ) (p : Parts) (locals : Li
         (subst (λ (h : List Addr). AddSpan (stock_of p) (stock_of (with_shard added)) l.regs.class.0 span h) are adds_span)
 
   -- Give
-  module _ (g : Giving) (is : l.step ≡ does.Shard (Give g)) (no_span : l.freed.items ≡ []) where
+  module _ (g : Giving) (is : l.step ≡ does.Shard (Give g)) (no_span : l.freed.items ≡ []) (gives : IsGiving (limits_of m cpus) l.regs.hand.items g) where
     abbrev given : Shard
     given = after_give l.regs.hand.items x
 
@@ -292,10 +292,10 @@ module _ (m : Setup) (limits : HeapConfig) (cpus : ℕ) (p : Parts) (locals : Li
 
     give_does : (bag : Contents SpanRef) (items : List SpanRef) → bag.items ≡ items → freed ≡ items → Does m (with_shard given) b (at_step (Give g)) (clears m.rows (with_freed (decides_free (with_hand (at_step (Give g)) (emptied l.regs.hand)) g) bag) (behind g) items)
     give_does bag [] are left =
-        gives_hand m p locals b before.books p.cpus (shards_with given) p.domains give_cut (at_step (Give g)) g bag l.regs.class.0 l.regs.hand.items refl refl
+        gives_hand m p locals b before.books p.cpus (shards_with given) p.domains give_cut (limits_of m cpus) (at_step (Give g)) g bag l.regs.class.0 l.regs.hand.items gives refl refl
         (subst (λ (ss : List SpanRef). MoveObjects (stock_of p) (stock_of (with_shard given)) l.regs.class.0 l.regs.hand.items [] ss) left (objects given l.regs.hand.items [] freed give_changes))
     give_does bag (s ∷ more) are left =
-        gives_spans m p locals b before.books p.cpus (shards_with given) p.domains give_cut (at_step (Give g)) g bag l.regs.class.0 l.regs.hand.items (s ∷ more) refl are refl
+        gives_spans m p locals b before.books p.cpus (shards_with given) p.domains give_cut (limits_of m cpus) (at_step (Give g)) g bag l.regs.class.0 l.regs.hand.items (s ∷ more) gives refl are refl
         (subst (λ (ss : List SpanRef). MoveObjects (stock_of p) (stock_of (with_shard given)) l.regs.class.0 l.regs.hand.items [] ss) left (objects given l.regs.hand.items [] freed give_changes))
 
     give_all : Does m (with_shard given) b (at_step (Give g)) (shard_row m.rows x (at_step (Give g)) (Give g)).1
@@ -306,13 +306,13 @@ module _ (m : Setup) (limits : HeapConfig) (cpus : ℕ) (p : Parts) (locals : Li
   shard_does : (row : ShardStep) → l.step ≡ does.Shard row → ShardShape (limits_of m cpus) l row → Does m (with_shard (shard_row m.rows x (at_step row) row).0) b (at_step row) (shard_row m.rows x (at_step row) row).1
   shard_does (Fetch asking) is shape = fetch_does asking shape.0.hand shape.1 list_of refl
   shard_does (AddFetch asking run) is shape = add_does asking run is shape.0.hand shape.1 (came asking run is shape.0.hand shape.1) refl (is_added asking run is shape.0.hand shape.1).some
-  shard_does (Give g) is shape = give_all g is shape.0.freed
+  shard_does (Give g) is shape = give_all g is shape.0.freed shape.1
 
   -- the shard stays its class's, a new span's first page is a low number, and a new span brings an object at least
   pub shard_stays : (row : ShardStep) → l.step ≡ does.Shard row → ShardShape (limits_of m cpus) l row → IsShardOf m.rows l.regs.class.0 (shard_row m.rows x (at_step row) row).0 × IsLowRun row × AddsSome m.rows x l row
   shard_stays (Fetch asking) is shape = (fetched_of, tt, tt)
   shard_stays (AddFetch asking run) is shape = (added_of asking run is shape.0.hand shape.1, is_low asking run is shape.0.hand shape.1, (is_added asking run is shape.0.hand shape.1).some)
-  shard_stays (Give g) is shape = (given_of g is shape.0.freed, tt, tt)
+  shard_stays (Give g) is shape = (given_of g is shape.0.freed shape.1, tt, tt)
 
 pub shard_acts_move : ShardActsMove
 shard_acts_move m limits cpus p locals b calls t l x row before is at =

@@ -4,6 +4,7 @@ use Rattle.std.specs.Prelude.{slice_get, slice_set}
 use Rattle.std.proofs.lemmas.List.{length-set}
 use Rattle.std.proofs.lemmas.List.Sums.{count_by-le-length}
 use Rattle.std.proofs.lemmas.List.Elements.{All-set}
+use Rattle.tc_units.specs.declared.units.Class.{Class}
 use Rattle.tc_units.specs.declared.units.Label.{Label}
 use Rattle.tc_model.specs.declared.calls.Call.TheVariants.{Malloc}
 use Rattle.transfer_cache.specs.Transfer.{Transfer}
@@ -69,9 +70,9 @@ use Rattle.alloc_rules.proofs.ShardMoves.{shard_stays, shard_acts_move}
 use Rattle.alloc_rules.proofs.Serving.{ArePlaced, AreSeated, IsAtWork, IsActed}
 
 -- the CPU of an act is there
-stop_low : (m : Limits) (l : Local) (s : Stopping) → IsStop m l s → (cpu_of s).0 < m.cpus
-stop_low m l (stopping.Drain d) is = is.0
-stop_low m l (stopping.Resize r) is = is.0
+stop_low : (m : Limits) (k : Class) (s : Stopping) → IsStop m k s → (cpu_of s).0 < m.cpus
+stop_low m k (stopping.Drain d) is = is.0
+stop_low m k (stopping.Resize r) is = is.0
 
 start_low : (m : Limits) (l : Local) (s : Stopping) → CpuShape m l (cpu.Start s) → (cpu_of s).0 < m.cpus
 start_low m l (stopping.Drain d) is = is.1
@@ -83,9 +84,9 @@ cpu_low m l (cpu.Grow a) home shape = home
 cpu_low m l (cpu.Stock s) home shape = home
 cpu_low m l (cpu.Push f) home shape = home
 cpu_low m l (cpu.PopBatch f) home shape = home
-cpu_low m l (cpu.Stop s) home shape = stop_low m l s shape.1
-cpu_low m l (cpu.Fence s) home shape = stop_low m l s shape.1
-cpu_low m l (cpu.Take s) home shape = stop_low m l s shape.1
+cpu_low m l (cpu.Stop s) home shape = stop_low m l.regs.class s shape.1
+cpu_low m l (cpu.Fence s) home shape = stop_low m l.regs.class s shape.1
+cpu_low m l (cpu.Take s) home shape = stop_low m l.regs.class s shape.1
 cpu_low m l (cpu.SetCap r) home shape = shape.1
 cpu_low m l (cpu.Start s) home shape = start_low m l s shape
 cpu_low m l cpu.Leave home shape = home

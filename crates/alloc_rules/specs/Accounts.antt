@@ -9,15 +9,11 @@ use Rattle.call_steps.specs.declared.step.Step.{Step}
 use Rattle.call_steps.specs.declared.step.Step.TheVariants as does
 use Rattle.call_steps.specs.declared.step.CpuRow.TheVariants as front
 use Rattle.call_steps.specs.declared.step.Giving.{Giving}
-use Rattle.call_steps.specs.declared.step.Giving.TheVariants as giving
 use Rattle.call_steps.specs.declared.step.Onward.{Onward}
-use Rattle.call_steps.specs.declared.step.Onward.TheVariants as onward
 use Rattle.call_steps.specs.declared.step.CpuStep.{CpuStep}
-use Rattle.call_steps.specs.declared.step.CpuStep.TheVariants as cpu
 use Rattle.call_steps.specs.declared.step.ShardStep.{ShardStep}
 use Rattle.call_steps.specs.declared.step.ShardStep.TheVariants as shard
 use Rattle.call_steps.specs.declared.step.DomainStep.{DomainStep}
-use Rattle.call_steps.specs.declared.step.DomainStep.TheVariants as domain
 use Rattle.call_steps.specs.declared.step.HeapStep.{HeapStep}
 use Rattle.call_steps.specs.declared.step.HeapStep.TheVariants as heap
 use Rattle.call_steps.specs.declared.step.MapStep.{MapStep}
@@ -25,26 +21,24 @@ use Rattle.call_steps.specs.declared.step.MapStep.TheVariants as mapped
 use Rattle.call_steps.specs.declared.step.NamesStep.{NamesStep}
 use Rattle.call_steps.specs.declared.step.NamesStep.TheVariants as names
 use Rattle.call_steps.specs.Local.{Local}
+use Rattle.call_steps.specs.Calls as about
+use Rattle.call_steps.specs.Calls.{About, about_cpu, about_giving, about_domain, about_onward}
 
 -- what a step is about with a label, by the part that it is on
+abbrev pub doing_about : About → Doing
+doing_about (about.Asks a) = Asks a.label a.size
+doing_about (about.Publishes s) = Publishes s.label (Some s.addr)
+doing_about (about.Frees f) = Frees f.label f.addr
+doing_about (about.Other call) = Other
+
 abbrev pub giving_doing : Giving → Doing
-giving_doing (giving.Rest s) = Publishes s.label (Some s.addr)
-giving_doing (giving.Freed f) = Frees f.label f.addr
-giving_doing (giving.Drained d) = Other
-giving_doing giving.Resized = Other
+giving_doing g = doing_about (about_giving g)
 
 abbrev pub onward_doing : Onward → Doing
-onward_doing (onward.Publish s) = Publishes s.label (Some s.addr)
-onward_doing (onward.Drain d) = Other
-onward_doing onward.End = Other
+onward_doing next = doing_about (about_onward next)
 
 abbrev pub cpu_doing : CpuStep → Doing
-cpu_doing (cpu.Pop a) = Asks a.label a.size
-cpu_doing (cpu.Grow a) = Asks a.label a.size
-cpu_doing (cpu.Stock s) = Publishes s.label (Some s.addr)
-cpu_doing (cpu.Push f) = Frees f.label f.addr
-cpu_doing (cpu.PopBatch f) = Frees f.label f.addr
-cpu_doing other = Other
+cpu_doing row = doing_about (about_cpu row)
 
 abbrev pub shard_doing : ShardStep → Doing
 shard_doing (shard.Fetch a) = Asks a.label a.size
@@ -52,8 +46,7 @@ shard_doing (shard.AddFetch a run) = Asks a.label a.size
 shard_doing (shard.Give g) = giving_doing g
 
 abbrev pub domain_doing : DomainStep → Doing
-domain_doing (domain.Take a) = Asks a.label a.size
-domain_doing (domain.Put g) = giving_doing g
+domain_doing row = doing_about (about_domain row)
 
 abbrev pub heap_doing : HeapStep → Doing
 heap_doing (heap.New label size) = Asks label size

@@ -35,7 +35,6 @@ use Rattle.cpu_drain.specs.Seats.{Standing, Seat, SeatOk}
 use Rattle.cpu_drain.proofs.Seated.{set_keeps}
 use Rattle.call_steps.specs.declared.step.Asking.{Asking}
 use Rattle.call_steps.specs.declared.step.Onward.{Onward}
-use Rattle.call_steps.specs.declared.step.Onward.TheVariants as onward
 use Rattle.call_steps.specs.declared.step.Step.TheVariants as does
 use Rattle.call_steps.specs.declared.step.CpuRow.TheVariants as front
 use Rattle.call_steps.specs.declared.step.CpuStep.TheVariants as cpu
@@ -57,7 +56,7 @@ use Rattle.call_steps.specs.CpuActs.{with_regs}
 use Rattle.call_steps.specs.Fits.{FitsShard, FitsMap}
 use Rattle.call_steps.specs.Shapes.{seat_of, standing_of, standing_in, shard_standing, domain_standing, heap_standing, map_standing, giving_standing, onward_standing, IsClassRow, AreRows, Limits, IsAsked, IsOnward, HasNone, HasSpans, ShardShape, DomainShape, HeapShape, MapShape, IsShaped}
 use Rattle.call_steps.specs.Laws.{thread_no, IsKept, IsLowRun, ShardActsKeep, DomainActsKeep, HeapActsKeep, IsKindThere, IsFoundClass, MapActsKeep, NamesActsKeep}
-use Rattle.call_steps.proofs.NextShapes.{IsCommon, common_of, IsNext, seat_is, shape_at, row_there, decided_ends, goes_next, none_still, hand_still, giving_still, onward_still, spans_still, serves_next, ends_next, clears_next, given_back_next, given_next}
+use Rattle.call_steps.proofs.NextShapes.{IsCommon, common_of, IsNext, seat_is, shape_at, row_there, decided_ends, goes_next, none_still, hand_still, spans_still, serves_next, ends_next, clears_next, given_back_next, given_next}
 
 seen : (m : Limits) (t : ℕ) (l after : Local) (c : ℕ) (q : CpuPart) → IsNext m t l.cpu l.regs.epoch (standing_in m.rows l) after → SeatOk c (thread_no t) q (seat_of m.rows l) → SeatOk c (thread_no t) q (seat_of m.rows after)
 seen m t l after c q n pair =
@@ -83,7 +82,7 @@ fetches_next : (m : Limits) (t : ℕ) (l : Local) (a : Asking) (xs : List Addr) 
 fetches_next m t l a [] c n asked few = goes_next m t l (does.Heap (heap.NewSpan a)) c n.begin (none_still l (does.Heap (heap.NewSpan a)) n, asked)
 fetches_next m t l a (x ∷ xs) c n asked few = more_next m t l a (x ∷ xs) c n (omega arith) few
 
-shard_next : (m : Limits) (t : ℕ) (s : shards.Shard) (l : Local) (row : ShardStep) → AreRows m.rows → IsCommon m t l → ShardShape m l row → IsSound s.central → s.central.row ≡ class_row m.rows l → IsLowRun row → FitsShard m.rows s l row → IsNext m t l.cpu l.regs.epoch (shard_standing l.regs.class.0 row) (shard_row m.rows s l row).1
+shard_next : (m : Limits) (t : ℕ) (s : shards.Shard) (l : Local) (row : ShardStep) → AreRows m.rows → IsCommon m t l → ShardShape m l row → IsSound s.central → s.central.row ≡ class_row m.rows l → IsLowRun row → FitsShard m.rows s l row → IsNext m t l.cpu l.regs.epoch (shard_standing m.rows row) (shard_row m.rows s l row).1
 shard_next m t s l (shard.Fetch a) rows c shape sound same low fits =
     let is : IsClassRow (class_row m.rows l) = row_there m t l rows c in
     let n : ℕ = (class_row m.rows l).batch in
@@ -104,27 +103,27 @@ shard_next m t s l (shard.Give g) rows c shape sound same low fits =
 
 pub shard_acts_keep : ShardActsKeep
 shard_acts_keep m t s l row rows shaped is few sound same low fits =
-    kept m t l _ (shard_standing l.regs.class.0 row) (ap (standing_of m.rows l.regs.class.0) is) (shard_next m t s l row rows (common_of m t l shaped) (shape_at m t l (does.Shard row) shaped is) sound same low fits)
+    kept m t l _ (shard_standing m.rows row) (ap (standing_of m.rows l.regs.class.0) is) (shard_next m t s l row rows (common_of m t l shaped) (shape_at m t l (does.Shard row) shaped is) sound same low fits)
 
 -- caches of domains
 takes_next : (m : Limits) (t : ℕ) (l : Local) (a : Asking) (xs : List Addr) → IsCommon m t l → HasNone l → IsAsked m l a → length xs ≤ LOADED_ROOM → IsNext m t l.cpu l.regs.epoch None (takes m.rows l a xs)
 takes_next m t l a [] c n asked few = goes_next m t l (does.Shard (shard.Fetch a)) c n.begin (none_still l (does.Shard (shard.Fetch a)) n, asked)
 takes_next m t l a (x ∷ xs) c n asked few = more_next m t l a (x ∷ xs) c n (omega arith) few
 
-domain_next : (m : Limits) (t : ℕ) (x : Transfer) (l : Local) (row : DomainStep) → AreRows m.rows → IsCommon m t l → DomainShape m l row → IsNext m t l.cpu l.regs.epoch (domain_standing l.regs.class.0 row) (domain_row m.rows x l row).1
+domain_next : (m : Limits) (t : ℕ) (x : Transfer) (l : Local) (row : DomainStep) → AreRows m.rows → IsCommon m t l → DomainShape m l row → IsNext m t l.cpu l.regs.epoch (domain_standing m.rows row) (domain_row m.rows x l row).1
 domain_next m t x l (domain.Take a) rows c shape =
     let is : IsClassRow (class_row m.rows l) = row_there m t l rows c in
     let n : ℕ = (class_row m.rows l).batch in
     let early : List Addr = drop (length x.objects - n) x.objects in
     takes_next m t l a (last_first n x.objects) c shape.0 shape.1 (omega (arith, is.few, length-reverse early, length-drop (length x.objects - n) x.objects))
 domain_next m t x l (domain.Put g) rows c shape =
-    cond_both (fits_into x l.regs.hand.items) (put_in x l.regs.hand.items, given m.rows l g) (x, goes l (does.Shard (shard.Give g))) (λ (z : Transfer × Local). IsNext m t l.cpu l.regs.epoch (giving_standing l.regs.class.0 g) z.1)
+    cond_both (fits_into x l.regs.hand.items) (put_in x l.regs.hand.items, given m.rows l g) (x, goes l (does.Shard (shard.Give g))) (λ (z : Transfer × Local). IsNext m t l.cpu l.regs.epoch (giving_standing m.rows g) z.1)
     (λ e. given_next m t l g rows c shape.0 shape.1)
-    (λ e. goes_next m t l (does.Shard (shard.Give g)) c shape.0.begin (hand_still l (does.Shard (shard.Give g)) shape.0, giving_still m l (does.Shard (shard.Give g)) g shape.1))
+    (λ e. goes_next m t l (does.Shard (shard.Give g)) c shape.0.begin (hand_still l (does.Shard (shard.Give g)) shape.0, shape.1))
 
 pub domain_acts_keep : DomainActsKeep
 domain_acts_keep m t x l row rows shaped is few fits =
-    kept m t l _ (domain_standing l.regs.class.0 row) (ap (standing_of m.rows l.regs.class.0) is) (domain_next m t x l row rows (common_of m t l shaped) (shape_at m t l (does.Front (front.Domain row)) shaped is))
+    kept m t l _ (domain_standing m.rows row) (ap (standing_of m.rows l.regs.class.0) is) (domain_next m t x l row rows (common_of m t l shaped) (shape_at m t l (does.Front (front.Domain row)) shaped is))
 
 -- the heap
 new_next : (m : Limits) (t : ℕ) (h : heaps.Heap) (l : Local) (label : Label) (size : ℕ) (o : Option Placed) → IsCommon m t l → HasNone l → IsNext m t l.cpu l.regs.epoch None (after_new h l label size o).1
@@ -135,19 +134,14 @@ span_next : (m : Limits) (t : ℕ) (h : heaps.Heap) (l : Local) (a : Asking) (o 
 span_next m t h l a None c n asked = goes_next m t (decided l (Malloc a.label a.size) NoBlock) (does.Names (names.Publish a.label None)) (record { thread = c.thread; class = c.class; home = c.home; hand = c.hand; loaded = c.loaded; freed = c.freed; ran = c.ran; move = c.move; rest = c.rest }) n.begin (record { begin = n.begin; hand = n.hand; freed = n.freed })
 span_next m t h l a (Some p) c n asked = goes_next m t l (does.Map (map.SetSpan a p.run)) c n.begin (none_still l (does.Map (map.SetSpan a p.run)) n, asked)
 
-onward_freed : (m : Limits) (l : Local) (freed : Contents SpanRef) (o : Onward) → IsOnward m l o → IsOnward m (with_freed l freed) o
-onward_freed m l freed (onward.Publish s) is = is
-onward_freed m l freed (onward.Drain d) is = is
-onward_freed m l freed onward.End is = is
-
-frees_next : (m : Limits) (t : ℕ) (h : heaps.Heap) (l : Local) (o : Onward) (spans : List SpanRef) → l.freed.items ≡ spans → AreRows m.rows → IsCommon m t l → HasSpans l → IsOnward m l o → IsNext m t l.cpu l.regs.epoch (onward_standing l.regs.class.0 o) (frees_span m.rows h l o spans).1
+frees_next : (m : Limits) (t : ℕ) (h : heaps.Heap) (l : Local) (o : Onward) (spans : List SpanRef) → l.freed.items ≡ spans → AreRows m.rows → IsCommon m t l → HasSpans l → IsOnward m o → IsNext m t l.cpu l.regs.epoch (onward_standing m.rows o) (frees_span m.rows h l o spans).1
 frees_next m t h l o [] freed rows c n is = absurd (let e = ap length freed in omega (arith, n.some))
 frees_next m t h l o (s ∷ others) freed rows c n is =
     let l' : Local = with_freed l (without_first_span l.freed others) in
     let c' : IsCommon m t l' = record { thread = c.thread; class = c.class; home = c.home; hand = c.hand; loaded = c.loaded; freed = (let e = ap length freed in omega (arith, c.freed)); ran = c.ran; move = c.move; rest = c.rest } in
-    clears_next m t l' o others refl rows c' n.begin n.hand (onward_freed m l (without_first_span l.freed others) o is)
+    clears_next m t l' o others refl rows c' n.begin n.hand is
 
-heap_next : (m : Limits) (t : ℕ) (h : heaps.Heap) (l : Local) (row : HeapStep) → AreRows m.rows → IsCommon m t l → HeapShape m l row → IsNext m t l.cpu l.regs.epoch (heap_standing l.regs.class.0 row) (heap_row m.rows h l row).1
+heap_next : (m : Limits) (t : ℕ) (h : heaps.Heap) (l : Local) (row : HeapStep) → AreRows m.rows → IsCommon m t l → HeapShape m l row → IsNext m t l.cpu l.regs.epoch (heap_standing m.rows row) (heap_row m.rows h l row).1
 heap_next m t h l (heap.New label size) rows c shape = new_next m t h l label size _ c shape.0
 heap_next m t h l (heap.NewSpan a) rows c shape = span_next m t h l a _ c shape.0 shape.1
 heap_next m t h l (heap.GiveBack label run) rows c shape = decided_ends m t l _ rows c shape refl
@@ -156,7 +150,7 @@ heap_next m t h l (heap.Unback pages) rows c shape = decided_ends m t l _ rows c
 
 pub heap_acts_keep : HeapActsKeep
 heap_acts_keep m t h l row rows shaped is few fits =
-    kept m t l _ (heap_standing l.regs.class.0 row) (ap (standing_of m.rows l.regs.class.0) is) (heap_next m t h l row rows (common_of m t l shaped) (shape_at m t l (does.Heap row) shaped is))
+    kept m t l _ (heap_standing m.rows row) (ap (standing_of m.rows l.regs.class.0) is) (heap_next m t h l row rows (common_of m t l shaped) (shape_at m t l (does.Heap row) shaped is))
 
 -- the map
 found_kind : (m : Limits) (t : ℕ) (l : Local) (label : Label) (addr : Addr) (span : SpanRef) (k : SpanKind) → IsKindThere m k → 0 < l.regs.hand.spare → IsCommon m t l → HasNone l → IsNext m t l.cpu l.regs.epoch None (found l label addr span k)
@@ -170,11 +164,11 @@ found_next : (m : Limits) (t : ℕ) (l : Local) (label : Label) (addr : Addr) (o
 found_next m t l label addr None span is there space c n = absurd (cc)
 found_next m t l label addr (Some x) span is there space c n = let same : x ≡ span = (cc) in found_kind m t l label addr x x.kind (subst (λ (y : SpanRef). IsKindThere m y.kind) (sym same) there) space c n
 
-clear_next : (m : Limits) (t : ℕ) (x : SpanMap) (l : Local) (o : Onward) (spans : List SpanRef) → l.freed.items ≡ spans → IsCommon m t l → HasSpans l → IsOnward m l o → IsNext m t l.cpu l.regs.epoch (onward_standing l.regs.class.0 o) (clears_span x l o spans).1
+clear_next : (m : Limits) (t : ℕ) (x : SpanMap) (l : Local) (o : Onward) (spans : List SpanRef) → l.freed.items ≡ spans → IsCommon m t l → HasSpans l → IsOnward m o → IsNext m t l.cpu l.regs.epoch (onward_standing m.rows o) (clears_span x l o spans).1
 clear_next m t x l o [] freed c n is = absurd (let e = ap length freed in omega (arith, n.some))
-clear_next m t x l o (s ∷ others) freed c n is = goes_next m t l (does.Heap (heap.FreeSpan o)) c n.begin (spans_still l (does.Heap (heap.FreeSpan o)) n, onward_still m l (does.Heap (heap.FreeSpan o)) o is)
+clear_next m t x l o (s ∷ others) freed c n is = goes_next m t l (does.Heap (heap.FreeSpan o)) c n.begin (spans_still l (does.Heap (heap.FreeSpan o)) n, is)
 
-map_next : (m : Limits) (t : ℕ) (x : SpanMap) (l : Local) (row : MapStep) → IsCommon m t l → MapShape m l row → FitsMap x l row → IsFoundClass m x row → IsNext m t l.cpu l.regs.epoch (map_standing l.regs.class.0 row) (map_row x l row).1
+map_next : (m : Limits) (t : ℕ) (x : SpanMap) (l : Local) (row : MapStep) → IsCommon m t l → MapShape m l row → FitsMap x l row → IsFoundClass m x row → IsNext m t l.cpu l.regs.epoch (map_standing m.rows row) (map_row x l row).1
 map_next m t x l (map.Set label run) c shape fits there = goes_next m t l (does.Names (names.Publish label (Some (address_of run)))) c shape.begin (none_still l (does.Names (names.Publish label (Some (address_of run)))) shape)
 map_next m t x l (map.SetSpan a run) c shape fits there = goes_next m t l (does.Shard (shard.AddFetch a run)) c shape.0.begin (none_still l (does.Shard (shard.AddFetch a run)) shape.0, shape.1)
 map_next m t x l (map.Lookup label addr) c shape fits there = found_next m t l label addr (find (holds (addr.0 / page_bytes)) x.spans) fits.0 fits.1 (there fits.0 fits.1) fits.3 c shape
@@ -183,7 +177,7 @@ map_next m t x l (map.ClearSpan o) c shape fits there = clear_next m t x l o l.f
 
 pub map_acts_keep : MapActsKeep
 map_acts_keep m t x l row rows shaped is few fits there =
-    kept m t l _ (map_standing l.regs.class.0 row) (ap (standing_of m.rows l.regs.class.0) is) (map_next m t x l row (common_of m t l shaped) (shape_at m t l (does.Map row) shaped is) fits there)
+    kept m t l _ (map_standing m.rows row) (ap (standing_of m.rows l.regs.class.0) is) (map_next m t x l row (common_of m t l shaped) (shape_at m t l (does.Map row) shaped is) fits there)
 
 -- the names
 take_kept : (m : Limits) (t : ℕ) (all : List NameState) (l : Local) (label : Label) (o : NameState) → AreRows m.rows → IsShaped m t l → standing_in m.rows l ≡ None → HasNone l → IsKept m t l (after_take m.rows all l label o).1

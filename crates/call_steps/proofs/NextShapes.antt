@@ -37,6 +37,7 @@ use Rattle.call_steps.specs.declared.step.Onward.TheVariants as onward
 use Rattle.call_steps.specs.declared.step.Step.{Step}
 use Rattle.call_steps.specs.declared.step.Step.TheVariants as does
 use Rattle.call_steps.specs.declared.step.CpuRow.TheVariants as front
+use Rattle.call_steps.specs.declared.step.CpuStep.{CpuStep}
 use Rattle.call_steps.specs.declared.step.CpuStep.TheVariants as cpu
 use Rattle.call_steps.specs.declared.step.ShardStep.TheVariants as shard
 use Rattle.call_steps.specs.declared.step.DomainStep.TheVariants as domain
@@ -44,8 +45,10 @@ use Rattle.call_steps.specs.declared.step.HeapStep.TheVariants as heap
 use Rattle.call_steps.specs.declared.step.MapStep.TheVariants as map
 use Rattle.call_steps.specs.declared.step.NamesStep.TheVariants as names
 use Rattle.call_steps.specs.Local.{Local, no_class, class_row, first_of_malloc, regs_of_malloc, first_of_call, fresh_regs, next_call, decided, goes, closes, ends}
-use Rattle.call_steps.specs.Hands.{with_hand, publishes, stocks, serves_first, looks_on, gives, drains_on, goes_onward, behind, decides_free, given, clears, with_freed, given_back}
-use Rattle.call_steps.specs.Shapes.{IsClassRow, seat_of, stands, below, giving_standing, onward_standing, standing_of, standing_in, AreRows, Limits, IsMove, IsCallThere, IsPlanned, IsAtBegin, most_slots, IsStop, IsAtFirst, IsAsked, IsGiving, IsOnward, HasHand, HasNone, HasSpans, StepShape, IsShaped}
+use Rattle.call_steps.specs.Hands.{with_hand, publishes, stocks, serves_first, looks_on, gives, comes_to, goes_onward, behind, decides_free, given, clears, with_freed, given_back}
+use Rattle.call_steps.specs.Calls.{Other, about_cpu}
+use Rattle.call_steps.specs.CpuActs.{drains_on}
+use Rattle.call_steps.specs.Shapes.{IsClassRow, seat_of, stands, below, cpu_standing, giving_standing, onward_standing, standing_of, standing_in, AreRows, Limits, IsMove, IsCallThere, IsPlanned, IsAtBegin, most_slots, IsStop, IsAtFirst, IsAsked, IsToCome, IsGiving, IsOnward, HasHand, HasNone, HasSpans, StepShape, IsShaped}
 
 -- all of a shape but the step's, within an act
 pub record IsCommon (m : Limits) (t : ℕ) (l : Local) : Type 0 where
@@ -90,25 +93,6 @@ hand_still l next n = record { begin = n.begin; few = n.few; freed = n.freed }
 pub spans_still : (l : Local) (next : Step) → HasSpans l → HasSpans (goes l next)
 spans_still l next n = record { begin = n.begin; hand = n.hand; some = n.some }
 
-pub stop_still : (m : Limits) (l : Local) (next : Step) (s : Stopping) → IsStop m l s → IsStop m (goes l next) s
-stop_still m l next (stopping.Drain d) is = is
-stop_still m l next (stopping.Resize r) is = is
-
-pub first_still : (l : Local) (next : Step) (s : Stopping) → IsAtFirst l s → IsAtFirst (goes l next) s
-first_still l next (stopping.Drain d) is = is
-first_still l next (stopping.Resize r) is = is
-
-pub giving_still : (m : Limits) (l : Local) (next : Step) (g : Giving) → IsGiving m l g → IsGiving m (goes l next) g
-giving_still m l next (giving.Rest s) is = is
-giving_still m l next (giving.Freed f) is = is
-giving_still m l next (giving.Drained d) is = is
-giving_still m l next giving.Resized is = is
-
-pub onward_still : (m : Limits) (l : Local) (next : Step) (o : Onward) → IsOnward m l o → IsOnward m (goes l next) o
-onward_still m l next (onward.Publish s) is = is
-onward_still m l next (onward.Drain d) is = is
-onward_still m l next onward.End is = is
-
 pub publishes_next : (m : Limits) (t : ℕ) (l : Local) (s : Serving) → IsCommon m t l → HasNone l → IsNext m t l.cpu l.regs.epoch None (publishes l s)
 publishes_next m t l s c n = goes_next m t l (does.Names (names.Publish s.label (Some s.addr))) c n.begin (none_still l (does.Names (names.Publish s.label (Some s.addr))) n)
 
@@ -118,25 +102,40 @@ looks_next m t l a c n asked =
     (λ e. goes_next m t l (does.Shard (shard.Fetch a)) c n.begin (none_still l (does.Shard (shard.Fetch a)) n, asked))
     (λ e. goes_next m t l (does.Front (front.Domain (domain.Take a))) c n.begin (none_still l (does.Front (front.Domain (domain.Take a))) n, asked))
 
-pub gives_next : (m : Limits) (t : ℕ) (l : Local) (g : Giving) → IsCommon m t l → HasHand most_slots l → IsGiving m l g → IsNext m t l.cpu l.regs.epoch (giving_standing l.regs.class.0 g) (gives l g)
+pub gives_next : (m : Limits) (t : ℕ) (l : Local) (g : Giving) → IsCommon m t l → HasHand most_slots l → IsGiving m l.regs.hand.items g → IsNext m t l.cpu l.regs.epoch (giving_standing m.rows g) (gives l g)
 gives_next m t l g c n is =
-    cond_both (eqb l.domains 0) (does.Shard (shard.Give g)) (does.Front (front.Domain (domain.Put g))) (λ (next : Step). IsNext m t l.cpu l.regs.epoch (giving_standing l.regs.class.0 g) (goes l next))
-    (λ e. goes_next m t l (does.Shard (shard.Give g)) c n.begin (hand_still l (does.Shard (shard.Give g)) n, giving_still m l (does.Shard (shard.Give g)) g is))
-    (λ e. goes_next m t l (does.Front (front.Domain (domain.Put g))) c n.begin (hand_still l (does.Front (front.Domain (domain.Put g))) n, giving_still m l (does.Front (front.Domain (domain.Put g))) g is))
+    cond_both (eqb l.domains 0) (does.Shard (shard.Give g)) (does.Front (front.Domain (domain.Put g))) (λ (next : Step). IsNext m t l.cpu l.regs.epoch (giving_standing m.rows g) (goes l next))
+    (λ e. goes_next m t l (does.Shard (shard.Give g)) c n.begin (hand_still l (does.Shard (shard.Give g)) n, is))
+    (λ e. goes_next m t l (does.Front (front.Domain (domain.Put g))) c n.begin (hand_still l (does.Front (front.Domain (domain.Put g))) n, is))
 
-pub drains_next : (m : Limits) (t : ℕ) (l : Local) (d : Draining) → IsCommon m t l → HasNone l → d.cpu.0 < m.cpus → d.taken ≤ (l.regs.class.0 + 1) * most_slots → IsNext m t l.cpu l.regs.epoch (stands d.cpu true (below (l.regs.class.0 + 1))) (drains_on m.rows l d)
-drains_next m t l d c n there few =
-    let k : Class = record { 0 = l.regs.class.0 + 1 } in
+-- the call comes to a row that was to come behind a giving
+pub comes_next : (m : Limits) (t : ℕ) (l : Local) (k : Class) (row : CpuStep) → IsCommon m t l → HasNone l → IsToCome m k row → IsNext m t l.cpu l.regs.epoch (cpu_standing m.rows k.0 row) (comes_to l k row)
+comes_next m t l k row c n is =
     let l' : Local = record l { regs = record l.regs { class = k } } in
-    let next : Step = does.Front (front.Cpu (cpu.Take (stopping.Drain d))) in
-    let start : Step = does.Front (front.Cpu (cpu.Start (stopping.Drain d))) in
-    cond_both (ltb k.0 (length m.rows)) (goes l' next) (goes l start) (IsNext m t l.cpu l.regs.epoch (stands d.cpu true (below k.0)))
+    let next : Step = does.Front (front.Cpu row) in
+    let begin : IsAtBegin l'.regs = record { pc = n.begin.pc; nothing = n.begin.nothing } in
+    let c' : IsCommon m t l' = record { thread = c.thread; class = is.class; home = c.home; hand = c.hand; loaded = c.loaded; freed = c.freed; ran = c.ran; move = c.move; rest = c.rest } in
+    goes_next m t l' next c' begin (is.shape (goes l' next) (record { begin = begin; hand = n.hand; freed = n.freed }) refl)
+
+-- the row with which a drain goes on is about it
+pub drains_about : (rows : List ClassRow) (k : Class) (d : Draining) → about_cpu (drains_on rows k d).1 ≡ Other (Some (Drain d.cpu))
+drains_about rows k d =
+    let after : Class = record { 0 = k.0 + 1 } in
+    cond_both (ltb after.0 (length rows)) (after, cpu.Take (stopping.Drain d)) (k, cpu.Start (stopping.Drain d)) (λ (next : Class × CpuStep). about_cpu next.1 ≡ Other (Some (Drain d.cpu))) (λ e. refl) (λ e. refl)
+
+-- and is one that was to come, where it has emptied the classes up to k
+pub record IsDrainNext (m : Limits) (k : Class) (d : Draining) (next : Class × CpuStep) : Type 0 where
+  pub come : IsToCome m next.0 next.1
+  pub stand : cpu_standing m.rows next.0.0 next.1 ≡ stands d.cpu true (below (k.0 + 1))
+
+pub drains_come : (m : Limits) (k : Class) (d : Draining) → k.0 < length m.rows → d.cpu.0 < m.cpus → d.taken ≤ (k.0 + 1) * most_slots → IsDrainNext m k d (drains_on m.rows k d)
+drains_come m k d low there few =
+    let after : Class = record { 0 = k.0 + 1 } in
+    cond_both (ltb after.0 (length m.rows)) (after, cpu.Take (stopping.Drain d)) (k, cpu.Start (stopping.Drain d)) (λ (next : Class × CpuStep). IsDrainNext m k d next)
+    (λ e. record { come = record { class = ltb-true after.0 (length m.rows) e; other = tt; shape = λ l n same. (n, subst (λ (j : Class). IsStop m j (stopping.Drain d)) (sym same) (there, few)) }; stand = refl })
     (λ e.
-    (let c' : IsCommon m t l' = record { thread = c.thread; class = ltb-true k.0 (length m.rows) e; home = c.home; hand = c.hand; loaded = c.loaded; freed = c.freed; ran = c.ran; move = c.move; rest = c.rest } in
-    goes_next m t l' next c' (record { pc = n.begin.pc; nothing = n.begin.nothing }) (record { begin = record { pc = n.begin.pc; nothing = n.begin.nothing }; hand = n.hand; freed = n.freed }, (there, few))))
-    (λ e.
-    (let last : length m.rows ≡ k.0 = omega (arith, ltb-false k.0 (length m.rows) e, c.class) in
-    subst (λ (j : ℕ). IsNext m t l.cpu l.regs.epoch (stands d.cpu true (below j)) (goes l start)) last (goes_next m t l start c n.begin (none_still l start n, there))))
+    (let last : length m.rows ≡ after.0 = omega (arith, ltb-false after.0 (length m.rows) e, low) in
+    record { come = record { class = low; other = tt; shape = λ l n same. (n, there) }; stand = ap (λ (j : ℕ). stands d.cpu true (below j)) last }))
 
 -- The first step of a call, with its registers.
 pub fresh_next : (m : Limits) (t : ℕ) (l : Local) (next : Step) (k : Class) (s : Seq) (pc : Pc) (ran : ℕ) (moved : Option MoveTo) (rest : List Planned) (ended : ℕ) → IsCommon m t l → HasNone l → k.0 < length m.rows → pc ≡ Begin → ran ≤ l.acts + 1 → IsMove m moved → All (IsPlanned m) rest
@@ -206,14 +205,14 @@ serves_next m t l a (x ∷ others) is some few c begin none =
     stocks_next m t l' (record { label = a.label; addr = x }) others (ap (drop 1) is) (omega (arith, few)) c' (record { pc = begin.pc; nothing = begin.nothing }) none
 
 -- what comes once no span is left to give back
-pub onward_next : (m : Limits) (t : ℕ) (l : Local) (o : Onward) → AreRows m.rows → IsCommon m t l → HasNone l → IsOnward m l o → IsNext m t l.cpu l.regs.epoch (onward_standing l.regs.class.0 o) (goes_onward m.rows l o)
+pub onward_next : (m : Limits) (t : ℕ) (l : Local) (o : Onward) → AreRows m.rows → IsCommon m t l → HasNone l → IsOnward m o → IsNext m t l.cpu l.regs.epoch (onward_standing m.rows o) (goes_onward m.rows l o)
 onward_next m t l (onward.Publish s) rows c n is = publishes_next m t l s c n
-onward_next m t l (onward.Drain d) rows c n is = drains_next m t l d c n is.0 is.1
+onward_next m t l (onward.Row k row) rows c n is = comes_next m t l k row c n is
 onward_next m t l onward.End rows c n is = ends_next m t l rows c n
 
-pub clears_next : (m : Limits) (t : ℕ) (l : Local) (o : Onward) (spans : List SpanRef) → l.freed.items ≡ spans → AreRows m.rows → IsCommon m t l → IsAtBegin l.regs → l.regs.hand.items ≡ [] → IsOnward m l o → IsNext m t l.cpu l.regs.epoch (onward_standing l.regs.class.0 o) (clears m.rows l o spans)
+pub clears_next : (m : Limits) (t : ℕ) (l : Local) (o : Onward) (spans : List SpanRef) → l.freed.items ≡ spans → AreRows m.rows → IsCommon m t l → IsAtBegin l.regs → l.regs.hand.items ≡ [] → IsOnward m o → IsNext m t l.cpu l.regs.epoch (onward_standing m.rows o) (clears m.rows l o spans)
 clears_next m t l o [] freed rows c begin hand is = onward_next m t l o rows c (record { begin = begin; hand = hand; freed = freed }) is
-clears_next m t l o (s ∷ others) freed rows c begin hand is = goes_next m t l (does.Map (map.ClearSpan o)) c begin (record { begin = begin; hand = hand; some = (let e = ap length freed in omega arith) }, onward_still m l (does.Map (map.ClearSpan o)) o is)
+clears_next m t l o (s ∷ others) freed rows c begin hand is = goes_next m t l (does.Map (map.ClearSpan o)) c begin (record { begin = begin; hand = hand; some = (let e = ap length freed in omega arith) }, is)
 
 -- the hand is given, which frees these spans
 abbrev gave : Local → Giving → Contents SpanRef → Local
@@ -222,26 +221,26 @@ gave l g freed = with_freed (decides_free (with_hand l (emptied l.regs.hand)) g)
 gave_common : (m : Limits) (t : ℕ) (l : Local) (g : Giving) (freed : Contents SpanRef) → IsCommon m t l → length freed.items + freed.spare ≡ HAND_ROOM → IsCommon m t (gave l g freed)
 gave_common m t l (giving.Rest s) freed c size = record { thread = c.thread; class = c.class; home = c.home; hand = omega (arith, c.hand); loaded = c.loaded; freed = size; ran = c.ran; move = c.move; rest = c.rest }
 gave_common m t l (giving.Freed f) freed c size = record { thread = c.thread; class = c.class; home = c.home; hand = omega (arith, c.hand); loaded = c.loaded; freed = size; ran = c.ran; move = c.move; rest = c.rest }
-gave_common m t l (giving.Drained d) freed c size = record { thread = c.thread; class = c.class; home = c.home; hand = omega (arith, c.hand); loaded = c.loaded; freed = size; ran = c.ran; move = c.move; rest = c.rest }
-gave_common m t l giving.Resized freed c size = record { thread = c.thread; class = c.class; home = c.home; hand = omega (arith, c.hand); loaded = c.loaded; freed = size; ran = c.ran; move = c.move; rest = c.rest }
+gave_common m t l (giving.Row k row) freed c size = record { thread = c.thread; class = c.class; home = c.home; hand = omega (arith, c.hand); loaded = c.loaded; freed = size; ran = c.ran; move = c.move; rest = c.rest }
+gave_common m t l giving.End freed c size = record { thread = c.thread; class = c.class; home = c.home; hand = omega (arith, c.hand); loaded = c.loaded; freed = size; ran = c.ran; move = c.move; rest = c.rest }
 
-pub given_back_next : (m : Limits) (t : ℕ) (l : Local) (g : Giving) (freed : Contents SpanRef) → AreRows m.rows → IsCommon m t l → IsAtBegin l.regs → length freed.items + freed.spare ≡ HAND_ROOM → IsGiving m l g → IsNext m t l.cpu l.regs.epoch (giving_standing l.regs.class.0 g) (given_back m.rows l g freed)
+pub given_back_next : (m : Limits) (t : ℕ) (l : Local) (g : Giving) (freed : Contents SpanRef) → AreRows m.rows → IsCommon m t l → IsAtBegin l.regs → length freed.items + freed.spare ≡ HAND_ROOM → IsGiving m l.regs.hand.items g → IsNext m t l.cpu l.regs.epoch (giving_standing m.rows g) (given_back m.rows l g freed)
 given_back_next m t l (giving.Rest s) freed rows c begin size is = clears_next m t (gave l (giving.Rest s) freed) (onward.Publish s) freed.items refl rows (gave_common m t l (giving.Rest s) freed c size) (record { pc = begin.pc; nothing = begin.nothing }) refl tt
 given_back_next m t l (giving.Freed f) freed rows c begin size is = clears_next m t (gave l (giving.Freed f) freed) onward.End freed.items refl rows (gave_common m t l (giving.Freed f) freed c size) (record { pc = begin.pc; nothing = begin.nothing }) refl tt
-given_back_next m t l (giving.Drained d) freed rows c begin size is = clears_next m t (gave l (giving.Drained d) freed) (onward.Drain d) freed.items refl rows (gave_common m t l (giving.Drained d) freed c size) (record { pc = begin.pc; nothing = begin.nothing }) refl is
-given_back_next m t l giving.Resized freed rows c begin size is = clears_next m t (gave l giving.Resized freed) onward.End freed.items refl rows (gave_common m t l giving.Resized freed c size) (record { pc = begin.pc; nothing = begin.nothing }) refl tt
+given_back_next m t l (giving.Row k row) freed rows c begin size is = clears_next m t (gave l (giving.Row k row) freed) (onward.Row k row) freed.items refl rows (gave_common m t l (giving.Row k row) freed c size) (record { pc = begin.pc; nothing = begin.nothing }) refl is
+given_back_next m t l giving.End freed rows c begin size is = clears_next m t (gave l giving.End freed) onward.End freed.items refl rows (gave_common m t l giving.End freed c size) (record { pc = begin.pc; nothing = begin.nothing }) refl tt
 
-given_keeps : (m : Limits) (t : ℕ) (l : Local) (g : Giving) → AreRows m.rows → IsCommon m t l → IsAtBegin l.regs → IsGiving m l g → IsNext m t l.cpu l.regs.epoch (giving_standing l.regs.class.0 g) (clears m.rows (decides_free (with_hand l (emptied l.regs.hand)) g) (behind g) l.freed.items)
+given_keeps : (m : Limits) (t : ℕ) (l : Local) (g : Giving) → AreRows m.rows → IsCommon m t l → IsAtBegin l.regs → IsGiving m l.regs.hand.items g → IsNext m t l.cpu l.regs.epoch (giving_standing m.rows g) (clears m.rows (decides_free (with_hand l (emptied l.regs.hand)) g) (behind g) l.freed.items)
 given_keeps m t l (giving.Rest s) rows c begin is = given_back_next m t l (giving.Rest s) l.freed rows c begin c.freed is
 given_keeps m t l (giving.Freed f) rows c begin is = given_back_next m t l (giving.Freed f) l.freed rows c begin c.freed is
-given_keeps m t l (giving.Drained d) rows c begin is = given_back_next m t l (giving.Drained d) l.freed rows c begin c.freed is
-given_keeps m t l giving.Resized rows c begin is = given_back_next m t l giving.Resized l.freed rows c begin c.freed is
+given_keeps m t l (giving.Row k row) rows c begin is = given_back_next m t l (giving.Row k row) l.freed rows c begin c.freed is
+given_keeps m t l giving.End rows c begin is = given_back_next m t l giving.End l.freed rows c begin c.freed is
 
 -- the hand is given to the cache of a domain
-pub given_next : (m : Limits) (t : ℕ) (l : Local) (g : Giving) → AreRows m.rows → IsCommon m t l → HasHand most_slots l → IsGiving m l g → IsNext m t l.cpu l.regs.epoch (giving_standing l.regs.class.0 g) (given m.rows l g)
+pub given_next : (m : Limits) (t : ℕ) (l : Local) (g : Giving) → AreRows m.rows → IsCommon m t l → HasHand most_slots l → IsGiving m l.regs.hand.items g → IsNext m t l.cpu l.regs.epoch (giving_standing m.rows g) (given m.rows l g)
 given_next m t l g rows c n is =
     let l' : Local = decides_free (with_hand l (emptied l.regs.hand)) g in
-    subst (λ (xs : List SpanRef). IsNext m t l.cpu l.regs.epoch (giving_standing l.regs.class.0 g) (clears m.rows l' (behind g) xs)) n.freed (given_keeps m t l g rows c n.begin is)
+    subst (λ (xs : List SpanRef). IsNext m t l.cpu l.regs.epoch (giving_standing m.rows g) (clears m.rows l' (behind g) xs)) n.freed (given_keeps m t l g rows c n.begin is)
 
 -- the seat of the next local
 pub seat_is : (m : Limits) (t : ℕ) (home : CpuNo) (epoch : ℕ) (o : Option Standing) (after : Local) → IsNext m t home epoch o after → (let v : Seat = record { regs = after.regs; cpu = home.0; standing = o } in v) ≡ seat_of m.rows after

@@ -122,3 +122,13 @@ pub left_behind : (script : List Planned) (n : ℕ) → drop (n + 1) script ≡ 
 left_behind [] n = drop_all (n + 1) [] (omega arith) ∙ sym (ap (drop 1) (drop_all n [] (omega arith)))
 left_behind (p ∷ ps) zero = refl
 left_behind (p ∷ ps) (suc n) = ap (λ k. drop k (p ∷ ps)) (let e : suc n + 1 ≡ suc (n + 1) = omega arith in e) ∙ left_behind ps n
+
+-- a call under way is one of the script
+call_low : (script : List Planned) (j : ℕ) (call : Call) → call_at script j ≡ Some call → j < length script
+call_low [] j call at = absurd (cc)
+call_low (p ∷ ps) zero call at = omega arith
+call_low (p ∷ ps) (suc j) call at = let low = call_low ps j call at in omega (arith, low)
+
+pub under_way_low : (script : List Planned) (j : ℕ) (o : Option Call) → is_some o ≡ true → ((call : Call) → o ≡ Some call → call_at script j ≡ Some call) → j < length script
+under_way_low script j None some of = absurd (cc)
+under_way_low script j (Some call) some of = call_low script j call (of call refl)

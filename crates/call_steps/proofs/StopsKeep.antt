@@ -32,11 +32,11 @@ use Rattle.call_steps.specs.declared.step.CpuStep.TheVariants as cpu
 use Rattle.call_steps.specs.Local.{Local, Decided, goes, ends}
 use Rattle.call_steps.specs.Hands.{with_hand}
 use Rattle.call_steps.specs.Kept.{cpu_of}
-use Rattle.call_steps.specs.CpuActs.{moves_to, stops, drained, took, gives_taken, started, left_for, cpu_row}
+use Rattle.call_steps.specs.CpuActs.{moves_to, stops, drains_on, drained, took, gives_taken, started, left_for, cpu_row}
 use Rattle.call_steps.specs.Fits.{taken_by, FitsCpu}
-use Rattle.call_steps.specs.Shapes.{stands, no_class_empty, below, alone, empty_to_take, empty_to_start, standing_of, standing_in, seat_of, AreRows, Limits, IsMove, most_slots, IsStop, IsAtFirst, IsAtBegin, HasHand, HasNone, CpuShape, IsShaped}
+use Rattle.call_steps.specs.Shapes.{stands, no_class_empty, below, alone, empty_to_take, empty_to_start, cpu_standing, standing_of, standing_in, seat_of, AreRows, Limits, IsMove, most_slots, IsStop, IsAtFirst, IsAtBegin, HasHand, HasNone, CpuShape, IsShaped}
 use Rattle.call_steps.specs.Laws.{thread_no, IsAtCpu, CpuActKeeps}
-use Rattle.call_steps.proofs.NextShapes.{IsCommon, common_of, IsNext, goes_next, none_still, stop_still, first_still, gives_next, drains_next, ends_next, decided_ends}
+use Rattle.call_steps.proofs.NextShapes.{IsCommon, common_of, IsNext, goes_next, none_still, gives_next, comes_next, IsDrainNext, drains_come, ends_next, decided_ends}
 use Rattle.call_steps.proofs.ActKeeps.{ActKeeps, thread_is, act_next, same_keeps, home_of, shape_of, standing_is, stands_at, held_of, left_epoch}
 
 -- the act fits, and keeps
@@ -60,7 +60,7 @@ stop_by m i t p l s None w none =
     let keeps = lawful.stops (length m.rows) i (thread_no t) p (seat_of m.rows l) w.part w.seat shape.0.begin.pc nowhere none in
     let mine = subst (λ (u : ThreadNo). seats.SeatKeeps (length m.rows) i (thread_no t) p (seat_of m.rows l) (drains.stopped p u) (seats.standing_at (seat_of m.rows l) i false (λ j. false))) (sym (thread_is l.regs.thread t w.shaped.thread)) keeps in
     act_next m i t p (drains.stopped p l.regs.thread) l (goes l next) (seats.standing_at (seat_of m.rows l) i false (λ j. false)) l.cpu l.regs.epoch (standing_of m.rows l.regs.class.0 next) mine
-    (goes_next m t l next (common_of m t l w.shaped) shape.0.begin (none_still l next shape.0, stop_still m l next s shape.1, first_still l next s shape.2)) refl refl (stands_at (cpu_of s) i false no_class_empty w.here) (stopped_epoch p.stopper p l.regs.thread)
+    (goes_next m t l next (common_of m t l w.shaped) shape.0.begin (none_still l next shape.0, shape.1, shape.2)) refl refl (stands_at (cpu_of s) i false no_class_empty w.here) (stopped_epoch p.stopper p l.regs.thread)
 stop_by m i t p l s (Some owner) w is =
     let shape : CpuShape m l (cpu.Stop s) = shape_of m i t p l (cpu.Stop s) w in
     act_next m i t p p l _ (seat_of m.rows l) l.cpu l.regs.epoch None (same_keeps (length m.rows) i (thread_no t) p (seat_of m.rows l) w.part w.seat)
@@ -73,9 +73,9 @@ stop_keeps m i t p l s w =
     (stop_by m i t p l s p.stopper w refl)
 
 -- Fence: a drain is to take class 0 then, below which there is none
-nothing_taken : (l : Local) (s : Stopping) → IsAtFirst l s → empty_to_take l.regs.class.0 s ≡ no_class_empty
-nothing_taken l (stopping.Drain d) is = ap below is ∙ fun_ext (λ j. le-ltb j 0 (omega arith))
-nothing_taken l (stopping.Resize r) is = refl
+nothing_taken : (k : Class) (s : Stopping) → IsAtFirst k s → empty_to_take k.0 s ≡ no_class_empty
+nothing_taken k (stopping.Drain d) is = ap below is ∙ fun_ext (λ j. le-ltb j 0 (omega arith))
+nothing_taken k (stopping.Resize r) is = refl
 
 pub fence_keeps : (m : Limits) (i t : ℕ) (p : CpuPart) (l : Local) (s : Stopping) → IsAtCpu m i t p l (cpu.Fence s) → CpuActKeeps m i t p l (cpu.Fence s)
 fence_keeps m i t p l s w =
@@ -86,18 +86,18 @@ fence_keeps m i t p l s w =
     act_keeps m i t p l (cpu.Fence s) (stopper_is m t l p.stopper w.shaped has.stopper, omega (arith, w.epoch))
     (act_next m i t p (drains.fenced p) l (goes l next) (seats.standing_at (seat_of m.rows l) i true (λ j. false)) l.cpu l.regs.epoch (standing_of m.rows l.regs.class.0 next)
     (lawful.fences (length m.rows) i (thread_no t) p (seat_of m.rows l) (record { cpu = (cpu_of s).0; fenced = false; empty = no_class_empty }) w.part w.seat shape.0.begin.pc is w.here)
-    (goes_next m t l next (common_of m t l w.shaped) shape.0.begin (none_still l next shape.0, stop_still m l next s shape.1)) refl refl (ap (stands (cpu_of s) true) (nothing_taken l s shape.2) ∙ stands_at (cpu_of s) i true no_class_empty w.here) (omega arith))
+    (goes_next m t l next (common_of m t l w.shaped) shape.0.begin (none_still l next shape.0, shape.1)) refl refl (ap (stands (cpu_of s) true) (nothing_taken l.regs.class s shape.2) ∙ stands_at (cpu_of s) i true no_class_empty w.here) (omega arith))
 
 -- Take: which classes the thread knows to be empty behind it
 abbrev empty_of : ℕ → Stopping → ℕ → Bool
 empty_of k (stopping.Drain d) = below (k + 1)
 empty_of k (stopping.Resize r) = alone r.class.0
 
-known_before : (m : Limits) (l : Local) (s : Stopping) → IsStop m l s → (j : ℕ) → empty_of l.regs.class.0 s j ≡ true → (l.regs.class.0 ≡ j → ⊥) → empty_to_take l.regs.class.0 s j ≡ true
+known_before : (m : Limits) (l : Local) (s : Stopping) → IsStop m l.regs.class s → (j : ℕ) → empty_of l.regs.class.0 s j ≡ true → (l.regs.class.0 ≡ j → ⊥) → empty_to_take l.regs.class.0 s j ≡ true
 known_before m l (stopping.Drain d) is j known apart = lt-ltb j l.regs.class.0 (omega (arith, ltb-true j (l.regs.class.0 + 1) known, apart))
 known_before m l (stopping.Resize r) is j known apart = absurd (apart (ap (λ (c : Class). c.0) is.1 ∙ sym (eqb-true j r.class.0 known)))
 
-is_empty : (m : Limits) (l : Local) (p : CpuPart) (s : Stopping) → Takes p l.regs.class.0 l.regs.hand → l.regs.class.0 < length p.slab.rows → IsStop m l s → ((j : ℕ) → empty_to_take l.regs.class.0 s j ≡ true → (row_at p.slab j).top ≡ 0) → (j : ℕ) → empty_of l.regs.class.0 s j ≡ true → (row_at (drains.taken p l.regs.class.0).slab j).top ≡ 0
+is_empty : (m : Limits) (l : Local) (p : CpuPart) (s : Stopping) → Takes p l.regs.class.0 l.regs.hand → l.regs.class.0 < length p.slab.rows → IsStop m l.regs.class s → ((j : ℕ) → empty_to_take l.regs.class.0 s j ≡ true → (row_at p.slab j).top ≡ 0) → (j : ℕ) → empty_of l.regs.class.0 s j ≡ true → (row_at (drains.taken p l.regs.class.0).slab j).top ≡ 0
 is_empty m l p s x low is before j known =
     let k : ℕ = l.regs.class.0 in
     let new : SlabRow = record (row_at p.slab k) { top = 0 } in
@@ -106,22 +106,20 @@ is_empty m l p s x low is before j known =
       | inr apart ↦ ap (λ (row : SlabRow). row.top) (x.others j (λ same. apart (sym same))) ∙ before j (known_before m l s is j known apart)
     ]
 
-drained_next : (m : Limits) (t : ℕ) (l : Local) (d : Draining) (xs : List Addr) → l.regs.hand.items ≡ xs → length xs ≤ most_slots → AreRows m.rows → IsCommon m t l → IsAtBegin l.regs → l.freed.items ≡ [] → d.cpu.0 < m.cpus → d.taken ≤ l.regs.class.0 * most_slots → IsNext m t l.cpu l.regs.epoch (stands d.cpu true (below (l.regs.class.0 + 1))) (drained m.rows l d xs)
-drained_next m t l d [] is few rows c begin freed there taken = drains_next m t l d c (record { begin = begin; hand = is; freed = freed }) there (omega (arith, taken))
-drained_next m t l d (x ∷ xs) is few rows c begin freed there taken =
-    gives_next m t l (giving.Drained (record d { taken = d.taken + length (x ∷ xs) })) c (record { begin = begin; few = omega (arith, ap length is, few); freed = freed }) (there, omega (arith, taken, few))
+drained_next : (m : Limits) (t : ℕ) (l : Local) (d : Draining) (next : Class × CpuStep) (xs : List Addr) → l.regs.hand.items ≡ xs → length xs ≤ most_slots → IsCommon m t l → IsAtBegin l.regs → l.freed.items ≡ [] → IsDrainNext m l.regs.class d next → IsNext m t l.cpu l.regs.epoch (cpu_standing m.rows next.0.0 next.1) (drained l xs next)
+drained_next m t l d next [] is few c begin freed x = comes_next m t l next.0 next.1 c (record { begin = begin; hand = is; freed = freed }) x.come
+drained_next m t l d next (y ∷ ys) is few c begin freed x = gives_next m t l (giving.Row next.0 next.1) c (record { begin = begin; few = omega (arith, ap length is, few); freed = freed }) x.come
 
-took_next : (m : Limits) (t : ℕ) (l : Local) (s : Stopping) → length l.regs.hand.items ≤ most_slots → AreRows m.rows → IsCommon m t l → IsAtBegin l.regs → l.freed.items ≡ [] → IsStop m l s → IsNext m t l.cpu l.regs.epoch (stands (cpu_of s) true (empty_of l.regs.class.0 s)) (took m.rows l s)
-took_next m t l (stopping.Drain d) few rows c begin freed is = drained_next m t l d l.regs.hand.items refl few rows c begin freed is.0 is.1
+took_next : (m : Limits) (t : ℕ) (l : Local) (s : Stopping) → length l.regs.hand.items ≤ most_slots → AreRows m.rows → IsCommon m t l → IsAtBegin l.regs → l.freed.items ≡ [] → IsStop m l.regs.class s → IsNext m t l.cpu l.regs.epoch (stands (cpu_of s) true (empty_of l.regs.class.0 s)) (took m.rows l s)
+took_next m t l (stopping.Drain d) few rows c begin freed is =
+    let d' : Draining = record d { taken = d.taken + length l.regs.hand.items } in
+    let x = drains_come m l.regs.class d' c.class is.0 (omega (arith, is.1, few)) in
+    subst (λ (o : Option seats.Standing). IsNext m t l.cpu l.regs.epoch o (took m.rows l (stopping.Drain d))) x.stand (drained_next m t l d' (drains_on m.rows l.regs.class d') l.regs.hand.items refl few c begin freed x)
 took_next m t l (stopping.Resize r) few rows c begin freed is = goes_next m t l (does.Front (front.Cpu (cpu.SetCap r))) c begin (record { begin = begin; few = few; freed = freed }, is.0, is.1)
 
-stop_handed : (m : Limits) (l : Local) (h : Contents Addr) (s : Stopping) → IsStop m l s → IsStop m (with_hand l h) s
-stop_handed m l h (stopping.Drain d) is = is
-stop_handed m l h (stopping.Resize r) is = is
-
-taken_few : (m : Limits) (l : Local) (s : Stopping) → AreRows m.rows → l.regs.class.0 < length m.rows → IsStop m l s → taken_by s ≤ 120 * most_slots
-taken_few m l (stopping.Drain d) rows low is = omega (arith, is.1, rows.few, low)
-taken_few m l (stopping.Resize r) rows low is = omega arith
+taken_few : (m : Limits) (k : Class) (s : Stopping) → AreRows m.rows → k.0 < length m.rows → IsStop m k s → taken_by s ≤ 120 * most_slots
+taken_few m k (stopping.Drain d) rows low is = omega (arith, is.1, rows.few, low)
+taken_few m k (stopping.Resize r) rows low is = omega arith
 
 pub take_keeps : (m : Limits) (i t : ℕ) (p : CpuPart) (l : Local) (s : Stopping) → IsAtCpu m i t p l (cpu.Take s) → CpuActKeeps m i t p l (cpu.Take s)
 take_keeps m i t p l s w =
@@ -144,11 +142,11 @@ take_keeps m i t p l s w =
       there = there;
       room = omega (arith, x.all, x.few, none, c.hand);
       empty = shape.0.hand;
-      few = omega (arith, x.all, x.few, taken_few m l s w.rows c.class shape.1);
+      few = omega (arith, x.all, x.few, taken_few m l.regs.class s w.rows c.class shape.1);
     })
     (act_next m i t p (drains.taken p k) l (took m.rows l' s) (seats.standing_at (seats.with_regs (seat_of m.rows l) (record l.regs { hand = h })) i true (empty_of k s)) l.cpu l.regs.epoch (stands (cpu_of s) true (empty_of k s))
     (lawful.takes (length m.rows) i k (thread_no t) p (seat_of m.rows l) h (empty_of k s) w.part w.seat (record { pc = shape.0.begin.pc; old = record { cpu = (cpu_of s).0; fenced = true; empty = empty_to_take k s }; is = is; here = w.here; fenced = refl }) c.class (is_empty m l p s x there shape.1 (λ j known. (has.empty j known).1)))
-    (took_next m t l' s (omega (arith, all, x.few)) w.rows c' (record { pc = shape.0.begin.pc; nothing = shape.0.begin.nothing }) shape.0.freed (stop_handed m l h s shape.1)) refl refl (stands_at (cpu_of s) i true (empty_of k s) w.here) (omega arith))
+    (took_next m t l' s (omega (arith, all, x.few)) w.rows c' (record { pc = shape.0.begin.pc; nothing = shape.0.begin.nothing }) shape.0.freed shape.1) refl refl (stands_at (cpu_of s) i true (empty_of k s) w.here) (omega arith))
 
 -- SetCap
 resized_next : (m : Limits) (t : ℕ) (l : Local) (r : Resizing) (answers : List Decided) → IsCommon m t l → HasHand most_slots l → r.cpu.0 < m.cpus → IsNext m t l.cpu l.regs.epoch (stands r.cpu true (alone r.class.0)) (goes (record l { answers = answers }) (does.Front (front.Cpu (cpu.Start (stopping.Resize r)))))
@@ -179,7 +177,7 @@ begins_again m i t p l after s w begin n =
 
 taken_next : (m : Limits) (t : ℕ) (l : Local) (xs : List Addr) → l.regs.hand.items ≡ xs → AreRows m.rows → IsCommon m t l → HasHand most_slots l → IsNext m t l.cpu l.regs.epoch None (gives_taken m.rows l xs)
 taken_next m t l [] is rows c n = ends_next m t l rows c (record { begin = n.begin; hand = is; freed = n.freed })
-taken_next m t l (x ∷ xs) is rows c n = gives_next m t l giving.Resized c n tt
+taken_next m t l (x ∷ xs) is rows c n = gives_next m t l giving.End c n tt
 
 start_by : (m : Limits) (i t : ℕ) (p : CpuPart) (l : Local) (s : Stopping) → IsAtCpu m i t p l (cpu.Start s) → CpuShape m l (cpu.Start s) → ActKeeps m i t p l (drains.started p, started m.rows l s)
 start_by m i t p l (stopping.Drain d) w shape = begins_again m i t p l _ (stopping.Drain d) w shape.0.begin.pc (decided_ends m t l _ w.rows (common_of m t l w.shaped) shape.0 refl)

@@ -3,13 +3,12 @@ use Rattle.std.specs.Prelude.{◌≡◌, ℕ, Option, Some, None}
 use Rattle.tc_model.specs.declared.calls.Call.{Call}
 use Rattle.tc_model.specs.declared.calls.Call.TheVariants.{Malloc, Free, Release, Drain, Resize}
 use Rattle.call_steps.specs.declared.step.Asking.{Asking}
+use Rattle.call_steps.specs.declared.step.Serving.{Serving}
 use Rattle.call_steps.specs.declared.step.Freeing.{Freeing}
-use Rattle.call_steps.specs.declared.step.Draining.{Draining}
-use Rattle.call_steps.specs.declared.step.Resizing.{Resizing}
 use Rattle.call_steps.specs.declared.step.Stopping.{Stopping}
 use Rattle.call_steps.specs.declared.step.Stopping.TheVariants as stopping
 use Rattle.call_steps.specs.declared.step.Giving.{Giving}
-use Rattle.call_steps.specs.declared.step.Giving.TheVariants.{Rest, Freed, Drained, Resized}
+use Rattle.call_steps.specs.declared.step.Giving.TheVariants as giving
 use Rattle.call_steps.specs.declared.step.Onward.{Onward}
 use Rattle.call_steps.specs.declared.step.Onward.TheVariants as onward
 use Rattle.call_steps.specs.declared.step.Step.{Step}
@@ -36,55 +35,69 @@ asks a = Malloc a.label a.size
 abbrev pub frees : Freeing → Call
 frees f = Free f.label
 
-abbrev pub drains : Draining → Call
-drains d = Drain d.cpu
+-- What a row is about that may have objects in hand: an allocation that isn't decided, one that is to be published, a free
+-- that isn't decided, or a call without a label, with that call while it isn't decided.
+pub data About : Type 0 where
+  Asks : Asking → About
+  Publishes : Serving → About
+  Frees : Freeing → About
+  Other : Option Call → About
 
-abbrev pub resizes : Resizing → Call
-resizes r = Resize r.cpu r.class r.cap
+abbrev pub about_start : Stopping → About
+about_start (stopping.Drain d) = Other (Some (Drain d.cpu))
+about_start (stopping.Resize r) = Other None
 
-abbrev pub of_start : Stopping → Option Call
-of_start (stopping.Drain d) = Some (drains d)
-of_start (stopping.Resize r) = None
+abbrev pub about_cpu : CpuStep → About
+about_cpu (Pop a) = Asks a
+about_cpu (Grow a) = Asks a
+about_cpu (Stock s) = Publishes s
+about_cpu (Push f) = Frees f
+about_cpu (PopBatch f) = Frees f
+about_cpu (Stop s) = Other (Some (call_of s))
+about_cpu (Fence s) = Other (Some (call_of s))
+about_cpu (Take s) = Other (Some (call_of s))
+about_cpu (SetCap r) = Other (Some (Resize r.cpu r.class r.cap))
+about_cpu (Start s) = about_start s
+about_cpu Leave = Other None
 
-abbrev pub of_giving : Giving → Option Call
-of_giving (Rest s) = None
-of_giving (Freed f) = Some (frees f)
-of_giving (Drained d) = Some (drains d)
-of_giving Resized = None
+abbrev pub about_giving : Giving → About
+about_giving (giving.Rest s) = Publishes s
+about_giving (giving.Freed f) = Frees f
+about_giving (giving.Row k row) = about_cpu row
+about_giving giving.End = Other None
 
-abbrev pub of_onward : Onward → Option Call
-of_onward (onward.Publish s) = None
-of_onward (onward.Drain d) = Some (drains d)
-of_onward onward.End = None
+abbrev pub about_domain : DomainStep → About
+about_domain (domain.Take a) = Asks a
+about_domain (domain.Put g) = about_giving g
+
+abbrev pub about_onward : Onward → About
+about_onward (onward.Publish s) = Publishes s
+about_onward (onward.Row k row) = about_cpu row
+about_onward onward.End = Other None
+
+-- a call without a label
+abbrev pub HasNoLabel : About → Type 0
+HasNoLabel (Other o) = Unit {0}
+HasNoLabel about = ⊥
+
+-- the call that a row is about, while it isn't decided
+abbrev pub call_about : About → Option Call
+call_about (Asks a) = Some (asks a)
+call_about (Publishes s) = None
+call_about (Frees f) = Some (frees f)
+call_about (Other o) = o
 
 -- the call that this act or a later one decides, by the part that it is on
-abbrev pub of_cpu : CpuStep → Option Call
-of_cpu (Pop a) = Some (asks a)
-of_cpu (Grow a) = Some (asks a)
-of_cpu (Stock s) = None
-of_cpu (Push f) = Some (frees f)
-of_cpu (PopBatch f) = Some (frees f)
-of_cpu (Stop s) = Some (call_of s)
-of_cpu (Fence s) = Some (call_of s)
-of_cpu (Take s) = Some (call_of s)
-of_cpu (SetCap r) = Some (resizes r)
-of_cpu (Start s) = of_start s
-of_cpu Leave = None
-
 abbrev pub of_shard : ShardStep → Option Call
 of_shard (Fetch a) = Some (asks a)
 of_shard (AddFetch a run) = Some (asks a)
-of_shard (Give g) = of_giving g
-
-abbrev pub of_domain : DomainStep → Option Call
-of_domain (domain.Take a) = Some (asks a)
-of_domain (domain.Put g) = of_giving g
+of_shard (Give g) = call_about (about_giving g)
 
 abbrev pub of_heap : HeapStep → Option Call
 of_heap (New label size) = Some (Malloc label size)
 of_heap (NewSpan a) = Some (asks a)
 of_heap (GiveBack label run) = Some (Free label)
-of_heap (FreeSpan next) = of_onward next
+of_heap (FreeSpan next) = call_about (about_onward next)
 of_heap (Unback pages) = Some (Release pages)
 
 abbrev pub of_map : MapStep → Option Call
@@ -92,7 +105,7 @@ of_map (Set label run) = None
 of_map (SetSpan a run) = Some (asks a)
 of_map (Lookup label addr) = Some (Free label)
 of_map (Clear label run) = Some (Free label)
-of_map (ClearSpan next) = of_onward next
+of_map (ClearSpan next) = call_about (about_onward next)
 
 abbrev pub of_names : NamesStep → Option Call
 of_names (names.Publish label value) = None
@@ -100,8 +113,8 @@ of_names (names.Take label) = Some (Free label)
 
 -- the call under way, while it isn't decided
 abbrev pub undecided : Step → Option Call
-undecided (step.Front (front.Cpu row)) = of_cpu row
-undecided (step.Front (front.Domain row)) = of_domain row
+undecided (step.Front (front.Cpu row)) = call_about (about_cpu row)
+undecided (step.Front (front.Domain row)) = call_about (about_domain row)
 undecided (step.Shard row) = of_shard row
 undecided (step.Heap row) = of_heap row
 undecided (step.Map row) = of_map row

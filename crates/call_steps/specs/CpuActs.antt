@@ -1,6 +1,7 @@
 -- The acts at a CPU: the thread's own, which it may leave for another CPU before an instruction, and those of a thread that stops it.
 use Rattle.std.specs.Prelude.{ℕ, ◌+◌, Bool, true, not, ◌==◌, ◌&&◌, ◌||◌, nat_lt, List, [], ◌∷◌, length, Option, Some, None, is_some, if◌then◌else◌}
 use Rattle.tc_units.specs.declared.units.Addr.{Addr}
+use Rattle.tc_units.specs.declared.units.Class.{Class}
 use Rattle.tc_units.specs.declared.units.ThreadNo.{ThreadNo}
 use Rattle.tc_units.specs.declared.spans.ClassRow.{ClassRow}
 use Rattle.tc_model.specs.declared.calls.Call.{Call}
@@ -35,7 +36,7 @@ use Rattle.call_steps.specs.declared.step.CpuRow.TheVariants as front
 use Rattle.call_steps.specs.declared.step.CpuStep.{CpuStep}
 use Rattle.call_steps.specs.declared.step.CpuStep.TheVariants.{Pop, Grow, Stock, Push, PopBatch, Stop, Fence, Take, SetCap, Start, Leave}
 use Rattle.call_steps.specs.Local.{Local, decided, goes, ends, class_row}
-use Rattle.call_steps.specs.Hands.{with_hand, starts, publishes, serves, looks_on, gives, drains_on}
+use Rattle.call_steps.specs.Hands.{with_hand, starts, publishes, serves, looks_on, gives, comes_to}
 
 -- The thread's own acts. Its move comes before the next instruction: it is the one that the move names.
 abbrev pub is_due : MoveTo → ℕ → Bool
@@ -123,13 +124,17 @@ abbrev pub stops : List ClassRow → CpuPart → Local → Stopping → Option T
 stops rows p l s None = (drains.stopped p l.regs.thread, goes l (step.Front (front.Cpu (Fence s))))
 stops rows p l s (Some owner) = (p, ends rows (decided l (call_of s) (Busy owner)))
 
+-- a drain takes the next class, and starts the CPU again behind the last one
+abbrev pub drains_on : List ClassRow → Class → Draining → Class × CpuStep
+drains_on rows k d = if nat_lt (k.0 + 1) (length rows) then (record { 0 = k.0 + 1 }, Take (stopping.Drain d)) else (k, Start (stopping.Drain d))
+
 -- what it does with the objects of a class that it took
-abbrev pub drained : List ClassRow → Local → Draining → List Addr → Local
-drained rows l d [] = drains_on rows l d
-drained rows l d (a ∷ others) = gives l (giving.Drained (record d { taken = d.taken + length (a ∷ others) }))
+abbrev pub drained : Local → List Addr → Class × CpuStep → Local
+drained l [] next = comes_to l next.0 next.1
+drained l (a ∷ others) next = gives l (giving.Row next.0 next.1)
 
 abbrev pub took : List ClassRow → Local → Stopping → Local
-took rows l (stopping.Drain d) = drained rows l d l.regs.hand.items
+took rows l (stopping.Drain d) = drained l l.regs.hand.items (drains_on rows l.regs.class (record d { taken = d.taken + length l.regs.hand.items }))
 took rows l (stopping.Resize r) = goes l (step.Front (front.Cpu (SetCap r)))
 
 -- what a capacity answers
@@ -141,7 +146,7 @@ cap_answer (Some (fault.OverLimit sum)) = OverLimit sum
 -- behind the start a resize gives away what it took
 abbrev pub gives_taken : List ClassRow → Local → List Addr → Local
 gives_taken rows l [] = ends rows l
-gives_taken rows l (a ∷ others) = gives l giving.Resized
+gives_taken rows l (a ∷ others) = gives l giving.End
 
 abbrev pub started : List ClassRow → Local → Stopping → Local
 started rows l (stopping.Drain d) = ends rows (decided l (Drain d.cpu) (Drained d.taken))

@@ -1,7 +1,8 @@
 -- How a call goes on with the objects that it has in hand.
-use Rattle.std.specs.Prelude.{◌+◌, ◌==◌, nat_lt, List, [], ◌∷◌, length, Some, if◌then◌else◌}
+use Rattle.std.specs.Prelude.{◌==◌, List, [], ◌∷◌, Some, if◌then◌else◌}
 use Rattle.tc_units.specs.Bag.{Contents}
 use Rattle.tc_units.specs.declared.units.Addr.{Addr}
+use Rattle.tc_units.specs.declared.units.Class.{Class}
 use Rattle.tc_units.specs.declared.spans.ClassRow.{ClassRow}
 use Rattle.tc_units.specs.declared.spans.SpanRef.{SpanRef}
 use Rattle.tc_model.specs.declared.calls.Call.TheVariants.{Malloc, Free}
@@ -11,14 +12,13 @@ use Rattle.rseq_core.specs.declared.sequence.Seq.TheVariants as seq
 use Rattle.rseq_core.specs.Bags.{emptied, without_first}
 use Rattle.call_steps.specs.declared.step.Asking.{Asking}
 use Rattle.call_steps.specs.declared.step.Serving.{Serving}
-use Rattle.call_steps.specs.declared.step.Draining.{Draining}
-use Rattle.call_steps.specs.declared.step.Stopping.TheVariants as stopping
 use Rattle.call_steps.specs.declared.step.Giving.{Giving}
-use Rattle.call_steps.specs.declared.step.Giving.TheVariants.{Rest, Freed as Back, Drained, Resized}
+use Rattle.call_steps.specs.declared.step.Giving.TheVariants as giving
 use Rattle.call_steps.specs.declared.step.Onward.{Onward}
 use Rattle.call_steps.specs.declared.step.Onward.TheVariants as onward
 use Rattle.call_steps.specs.declared.step.Step.TheVariants as step
 use Rattle.call_steps.specs.declared.step.CpuRow.TheVariants as front
+use Rattle.call_steps.specs.declared.step.CpuStep.{CpuStep}
 use Rattle.call_steps.specs.declared.step.CpuStep.TheVariants as cpu
 use Rattle.call_steps.specs.declared.step.ShardStep.TheVariants as shard
 use Rattle.call_steps.specs.declared.step.DomainStep.TheVariants as domain
@@ -59,30 +59,28 @@ looks_on l asking = goes l (if l.domains == 0 then step.Shard (shard.Fetch askin
 abbrev pub gives : Local → Giving → Local
 gives l giving = goes l (if l.domains == 0 then step.Shard (shard.Give giving) else step.Front (front.Domain (domain.Put giving)))
 
--- a drain takes the next class, and starts the CPU again behind the last one
-abbrev pub drains_on : List ClassRow → Local → Draining → Local
-drains_on rows l d =
-    if nat_lt (l.regs.class.0 + 1) (length rows) then goes (record l { regs = record l.regs { class = record { 0 = l.regs.class.0 + 1 } } }) (step.Front (front.Cpu (cpu.Take (stopping.Drain d))))
-    else goes l (step.Front (front.Cpu (cpu.Start (stopping.Drain d))))
+-- the call goes on with a row at a CPU, for this class
+abbrev pub comes_to : Local → Class → CpuStep → Local
+comes_to l k row = goes (record l { regs = record l.regs { class = k } }) (step.Front (front.Cpu row))
 
 -- what comes once no span is left to give back
 abbrev pub goes_onward : List ClassRow → Local → Onward → Local
 goes_onward rows l (onward.Publish s) = publishes l s
-goes_onward rows l (onward.Drain d) = drains_on rows l d
+goes_onward rows l (onward.Row k row) = comes_to l k row
 goes_onward rows l onward.End = ends rows l
 
 -- what a call goes on with behind a giving, which decides a free
 abbrev pub behind : Giving → Onward
-behind (Rest s) = onward.Publish s
-behind (Back f) = onward.End
-behind (Drained d) = onward.Drain d
-behind Resized = onward.End
+behind (giving.Rest s) = onward.Publish s
+behind (giving.Freed f) = onward.End
+behind (giving.Row k row) = onward.Row k row
+behind giving.End = onward.End
 
 abbrev pub decides_free : Local → Giving → Local
-decides_free l (Rest s) = l
-decides_free l (Back f) = decided l (Free f.label) (Freed f.addr)
-decides_free l (Drained d) = l
-decides_free l Resized = l
+decides_free l (giving.Rest s) = l
+decides_free l (giving.Freed f) = decided l (Free f.label) (Freed f.addr)
+decides_free l (giving.Row k row) = l
+decides_free l giving.End = l
 
 -- the hand was given to the cache of the domain
 abbrev pub given : List ClassRow → Local → Giving → Local

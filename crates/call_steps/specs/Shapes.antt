@@ -3,6 +3,7 @@ use Rattle.std.specs.Prelude.{◌≡◌, ℕ, ◌+◌, ◌*◌, ◌<◌, ◌≤�
 use Rattle.tc_units.specs.Units.{page_bytes}
 use Rattle.tc_units.specs.Classes.{class_of}
 use Rattle.tc_units.specs.declared.units.CpuNo.{CpuNo}
+use Rattle.tc_units.specs.declared.units.Class.{Class}
 use Rattle.tc_units.specs.declared.units.Addr.{Addr}
 use Rattle.tc_units.specs.declared.spans.ClassRow.{ClassRow}
 use Rattle.tc_model.specs.declared.calls.Call.{Call}
@@ -38,6 +39,7 @@ use Rattle.call_steps.specs.declared.step.MapStep.{MapStep}
 use Rattle.call_steps.specs.declared.step.MapStep.TheVariants as map
 use Rattle.call_steps.specs.Local.{Local, class_row}
 use Rattle.call_steps.specs.Kept.{cpu_of}
+use Rattle.call_steps.specs.Calls.{HasNoLabel, about_cpu}
 
 -- What a call has done to the CPU that it stopped: whether it is fenced, and which classes the call has emptied.
 abbrev pub stands : CpuNo → Bool → (ℕ → Bool) → Option Standing
@@ -63,15 +65,7 @@ abbrev pub empty_to_start : List ClassRow → Stopping → ℕ → Bool
 empty_to_start rows (stopping.Drain d) = below (length rows)
 empty_to_start rows (stopping.Resize r) = alone r.class.0
 
--- by the step of a local whose class is k; a drain that gives away what it took has emptied the classes up to k
-abbrev pub giving_standing : ℕ → Giving → Option Standing
-giving_standing k (giving.Drained d) = stands d.cpu true (below (k + 1))
-giving_standing k other = None
-
-abbrev pub onward_standing : ℕ → Onward → Option Standing
-onward_standing k (onward.Drain d) = stands d.cpu true (below (k + 1))
-onward_standing k other = None
-
+-- by the step of a local whose class is k
 abbrev pub cpu_standing : List ClassRow → ℕ → CpuStep → Option Standing
 cpu_standing rows k (cpu.Fence s) = stands (cpu_of s) false no_class_empty
 cpu_standing rows k (cpu.Take s) = stands (cpu_of s) true (empty_to_take k s)
@@ -79,28 +73,37 @@ cpu_standing rows k (cpu.SetCap r) = stands r.cpu true (alone r.class.0)
 cpu_standing rows k (cpu.Start s) = stands (cpu_of s) true (empty_to_start rows s)
 cpu_standing rows k other = None
 
-abbrev pub shard_standing : ℕ → ShardStep → Option Standing
-shard_standing k (shard.Give g) = giving_standing k g
-shard_standing k other = None
+-- while its hand is given away a call stands as at the row that comes behind that
+abbrev pub giving_standing : List ClassRow → Giving → Option Standing
+giving_standing rows (giving.Row k row) = cpu_standing rows k.0 row
+giving_standing rows other = None
 
-abbrev pub domain_standing : ℕ → DomainStep → Option Standing
-domain_standing k (domain.Put g) = giving_standing k g
-domain_standing k other = None
+abbrev pub onward_standing : List ClassRow → Onward → Option Standing
+onward_standing rows (onward.Row k row) = cpu_standing rows k.0 row
+onward_standing rows other = None
 
-abbrev pub heap_standing : ℕ → HeapStep → Option Standing
-heap_standing k (heap.FreeSpan next) = onward_standing k next
-heap_standing k other = None
+abbrev pub shard_standing : List ClassRow → ShardStep → Option Standing
+shard_standing rows (shard.Give g) = giving_standing rows g
+shard_standing rows other = None
 
-abbrev pub map_standing : ℕ → MapStep → Option Standing
-map_standing k (map.ClearSpan next) = onward_standing k next
-map_standing k other = None
+abbrev pub domain_standing : List ClassRow → DomainStep → Option Standing
+domain_standing rows (domain.Put g) = giving_standing rows g
+domain_standing rows other = None
+
+abbrev pub heap_standing : List ClassRow → HeapStep → Option Standing
+heap_standing rows (heap.FreeSpan next) = onward_standing rows next
+heap_standing rows other = None
+
+abbrev pub map_standing : List ClassRow → MapStep → Option Standing
+map_standing rows (map.ClearSpan next) = onward_standing rows next
+map_standing rows other = None
 
 abbrev pub standing_of : List ClassRow → ℕ → Step → Option Standing
 standing_of rows k (does.Front (front.Cpu row)) = cpu_standing rows k row
-standing_of rows k (does.Front (front.Domain row)) = domain_standing k row
-standing_of rows k (does.Shard row) = shard_standing k row
-standing_of rows k (does.Heap row) = heap_standing k row
-standing_of rows k (does.Map row) = map_standing k row
+standing_of rows k (does.Front (front.Domain row)) = domain_standing rows row
+standing_of rows k (does.Shard row) = shard_standing rows row
+standing_of rows k (does.Heap row) = heap_standing rows row
+standing_of rows k (does.Map row) = map_standing rows row
 standing_of rows k other = None
 
 abbrev pub standing_in : List ClassRow → Local → Option Standing
@@ -155,14 +158,14 @@ pub record IsAtBegin (r : Regs) : Type 0 where
 abbrev pub most_slots : ℕ
 most_slots = 2048
 
-abbrev pub IsStop : Limits → Local → Stopping → Type 0
-IsStop m l (stopping.Drain d) = (d.cpu.0 < m.cpus) × (d.taken ≤ l.regs.class.0 * most_slots)
-IsStop m l (stopping.Resize r) = (r.cpu.0 < m.cpus) × (l.regs.class ≡ r.class)
+abbrev pub IsStop : Limits → Class → Stopping → Type 0
+IsStop m k (stopping.Drain d) = (d.cpu.0 < m.cpus) × (d.taken ≤ k.0 * most_slots)
+IsStop m k (stopping.Resize r) = (r.cpu.0 < m.cpus) × (k ≡ r.class)
 
 -- a drain begins at class 0
-abbrev pub IsAtFirst : Local → Stopping → Type 0
-IsAtFirst l (stopping.Drain d) = l.regs.class.0 ≡ 0
-IsAtFirst l (stopping.Resize r) = Unit {0}
+abbrev pub IsAtFirst : Class → Stopping → Type 0
+IsAtFirst k (stopping.Drain d) = k.0 ≡ 0
+IsAtFirst k (stopping.Resize r) = Unit {0}
 
 -- what an allocation asks for has the registers' class
 abbrev pub IsAsked : Limits → Local → Asking → Type 0
@@ -172,17 +175,6 @@ IsAsked m l a = class_of m.rows a.size ≡ Some l.regs.class
 abbrev pub BeginsWith : Addr → List Addr → Type 0
 BeginsWith a [] = ⊥
 BeginsWith a (x ∷ others) = x ≡ a
-
-abbrev pub IsGiving : Limits → Local → Giving → Type 0
-IsGiving m l (giving.Rest s) = Unit {0}
-IsGiving m l (giving.Freed f) = BeginsWith f.addr l.regs.hand.items
-IsGiving m l (giving.Drained d) = (d.cpu.0 < m.cpus) × (d.taken ≤ (l.regs.class.0 + 1) * most_slots)
-IsGiving m l giving.Resized = Unit {0}
-
-abbrev pub IsOnward : Limits → Local → Onward → Type 0
-IsOnward m l (onward.Publish s) = Unit {0}
-IsOnward m l (onward.Drain d) = (d.cpu.0 < m.cpus) × (d.taken ≤ (l.regs.class.0 + 1) * most_slots)
-IsOnward m l onward.End = Unit {0}
 
 -- at most so many objects are in hand, with no span to give back, and no sequence under way
 pub record HasHand (most : ℕ) (l : Local) : Type 0 where
@@ -214,28 +206,46 @@ CpuShape m l (cpu.Grow a) = HasNone l × IsAsked m l a
 CpuShape m l (cpu.Stock s) = InSequence seq.PushBatch l × (0 < length l.regs.hand.items) × (length l.regs.hand.items ≤ LOADED_ROOM)
 CpuShape m l (cpu.Push f) = InSequence seq.Push l × (l.regs.hand.items ≡ f.addr ∷ [])
 CpuShape m l (cpu.PopBatch f) = InSequence (seq.PopBatch (class_row m.rows l).batch) l × (l.regs.hand.items ≡ f.addr ∷ [])
-CpuShape m l (cpu.Stop s) = HasNone l × IsStop m l s × IsAtFirst l s
-CpuShape m l (cpu.Fence s) = HasNone l × IsStop m l s × IsAtFirst l s
-CpuShape m l (cpu.Take s) = HasNone l × IsStop m l s
+CpuShape m l (cpu.Stop s) = HasNone l × IsStop m l.regs.class s × IsAtFirst l.regs.class s
+CpuShape m l (cpu.Fence s) = HasNone l × IsStop m l.regs.class s × IsAtFirst l.regs.class s
+CpuShape m l (cpu.Take s) = HasNone l × IsStop m l.regs.class s
 CpuShape m l (cpu.SetCap r) = HasHand most_slots l × (r.cpu.0 < m.cpus) × (l.regs.class ≡ r.class)
 CpuShape m l (cpu.Start (stopping.Drain d)) = HasNone l × (d.cpu.0 < m.cpus)
 CpuShape m l (cpu.Start (stopping.Resize r)) = HasHand most_slots l × (r.cpu.0 < m.cpus)
 CpuShape m l cpu.Leave = HasNone l × (is_some l.moved ≡ true)
 
+-- A row that comes once a hand is given away: it is of a call without a label, and has its shape with nothing in hand.
+pub record IsToCome (m : Limits) (k : Class) (row : CpuStep) : Type 0 where
+  pub class : k.0 < length m.rows
+  pub other : HasNoLabel (about_cpu row)
+  pub shape : (l : Local) → HasNone l → l.regs.class ≡ k → CpuShape m l row
+
+-- what is given away, and what comes then
+abbrev pub IsGiving : Limits → List Addr → Giving → Type 0
+IsGiving m hand (giving.Rest s) = Unit {0}
+IsGiving m hand (giving.Freed f) = BeginsWith f.addr hand
+IsGiving m hand (giving.Row k row) = IsToCome m k row
+IsGiving m hand giving.End = Unit {0}
+
+abbrev pub IsOnward : Limits → Onward → Type 0
+IsOnward m (onward.Publish s) = Unit {0}
+IsOnward m (onward.Row k row) = IsToCome m k row
+IsOnward m onward.End = Unit {0}
+
 abbrev pub ShardShape : Limits → Local → ShardStep → Type 0
 ShardShape m l (shard.Fetch a) = HasNone l × IsAsked m l a
 ShardShape m l (shard.AddFetch a run) = HasNone l × IsAsked m l a
-ShardShape m l (shard.Give g) = HasHand most_slots l × IsGiving m l g
+ShardShape m l (shard.Give g) = HasHand most_slots l × IsGiving m l.regs.hand.items g
 
 abbrev pub DomainShape : Limits → Local → DomainStep → Type 0
 DomainShape m l (domain.Take a) = HasNone l × IsAsked m l a
-DomainShape m l (domain.Put g) = HasHand most_slots l × IsGiving m l g
+DomainShape m l (domain.Put g) = HasHand most_slots l × IsGiving m l.regs.hand.items g
 
 abbrev pub HeapShape : Limits → Local → HeapStep → Type 0
 HeapShape m l (heap.New label size) = HasNone l × (class_of m.rows size ≡ None)
 HeapShape m l (heap.NewSpan a) = HasNone l × IsAsked m l a
 HeapShape m l (heap.GiveBack label run) = HasNone l
-HeapShape m l (heap.FreeSpan next) = HasSpans l × IsOnward m l next
+HeapShape m l (heap.FreeSpan next) = HasSpans l × IsOnward m next
 HeapShape m l (heap.Unback pages) = HasNone l
 
 abbrev pub MapShape : Limits → Local → MapStep → Type 0
@@ -243,7 +253,7 @@ MapShape m l (map.Set label run) = HasNone l
 MapShape m l (map.SetSpan a run) = HasNone l × IsAsked m l a
 MapShape m l (map.Lookup label addr) = HasNone l
 MapShape m l (map.Clear label run) = HasNone l
-MapShape m l (map.ClearSpan next) = HasSpans l × IsOnward m l next
+MapShape m l (map.ClearSpan next) = HasSpans l × IsOnward m next
 
 abbrev pub StepShape : Limits → Local → Step → Type 0
 StepShape m l (does.Front (front.Cpu row)) = CpuShape m l row

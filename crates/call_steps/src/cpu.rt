@@ -6,7 +6,9 @@ ghost use Rattle.call_steps.specs.declared.step.CpuRow.TheVariants as front;
 ghost use Rattle.call_steps.specs.declared.step.CpuStep.TheVariants.{Pop, Grow, Stock, Push, Stop, Take, SetCap, Start, Leave};
 ghost use Rattle.call_steps.specs.declared.step.Stopping.TheVariants as stopping;
 ghost use Rattle.rseq_core.specs.Acts as rseq;
-ghost use Rattle.call_steps.specs.CpuActs.{due, sequence, replied, after_pop, after_stock, after_push, grows, stops, took, drained, started, left_for, cpu_row, yields_to_enter, yields_for};
+ghost use Rattle.call_steps.specs.CpuActs.{due, sequence, replied, after_pop, after_stock, after_push, grows, stops, drains_on, took, started, left_for, cpu_row, yields_to_enter, yields_for};
+ghost use Rattle.tc_model.specs.declared.calls.Call.TheVariants.{Drain};
+ghost use Rattle.call_steps.specs.Calls.{Other, about_cpu};
 ghost use Rattle.call_steps.specs.Acts.{cpu_after};
 ghost use Rattle.call_steps.specs.Fits.{FitsCpuStep, FitsSequence, FitsSetCap, PopsSome, HasPopped, IsSequence, IsPop, taken_by};
 
@@ -20,6 +22,7 @@ use cpu_slab::CapFault;
 use rseq_core::{CpuPart, Grew, Instructed, Reply, Seq, grow_here, instruct, leave};
 use size_classes::ClassTable;
 use tc_model::{Answer, MoveTo};
+use tc_units::Class;
 
 /// Executed instructions since a switch from which on a thread that runs is polite to be switched out.
 const LONG_RUN: u32 = 256;
@@ -204,14 +207,28 @@ fn drained(table: &ClassTable, local: &mut Local, draining: Draining)
     requires acts { local.old.acts < 2 ^ 64 - 1 }
     requires step { local.old.step ≡ does.Front (front.Cpu (Take (stopping.Drain draining))) }
     requires few { draining.taken + length local.old.regs.hand.items < 2 ^ 64 }
-    ensures { local.new ≡ drained table.now local.old draining local.old.regs.hand.items }
+    ensures { local.new ≡ took table.now local.old (stopping.Drain draining) }
 {
     let came = local.regs.hand.as_slice().len();
+    let taken = draining.taken + came as u64;
+    let (class, row) = drain_on(table, local.regs.class, Draining { taken, ..draining });
     if came == 0 {
-        local.drain_on(table, draining);
+        local.go_to(class, row);
     } else {
-        let taken = draining.taken + came as u64;
-        local.give_away(Giving::Drained(Draining { taken, ..draining }));
+        local.give_away(Giving::Row { class, row });
+    }
+}
+
+/// A drain takes the next class, and starts the CPU again behind the last one.
+fn drain_on(table: &ClassTable, class: Class, draining: Draining) -> (Class, CpuStep)
+    ensures next { result ≡ drains_on table.now class draining }
+    ensures about { about_cpu result.1 ≡ Other (Some (Drain draining.cpu)) }
+{
+    let stopping = Stopping::Drain(draining);
+    if u32::from(class.0) + 1 < table.len() {
+        (Class(class.0 + 1), CpuStep::Take(stopping))
+    } else {
+        (class, CpuStep::Start(stopping))
     }
 }
 
@@ -246,7 +263,7 @@ fn started(table: &ClassTable, local: &mut Local, stopping: Stopping)
             local.end_deciding(table, Answer::Drained { objects });
         }
         Stopping::Resize(_) if local.regs.hand.as_slice().is_empty() => local.end(table),
-        Stopping::Resize(_) => local.give_away(Giving::Resized),
+        Stopping::Resize(_) => local.give_away(Giving::End),
     }
 }
 

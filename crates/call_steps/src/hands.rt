@@ -2,12 +2,12 @@
 ghost use Rattle.std.specs.Prelude.{◌≡◌, ◌-◌, ◌<◌, ◌^◌, length, Some};
 ghost use Rattle.call_steps.specs.declared.step.Step.TheVariants as does;
 ghost use Rattle.call_steps.specs.declared.step.NamesStep.TheVariants as named;
-ghost use Rattle.call_steps.specs.Calls.{undecided, under, asks, drains, of_giving, of_onward, without_call};
-ghost use Rattle.call_steps.specs.Hands.{serves, looks_on, gives, drains_on, goes_onward, clears, decides_free, behind};
+ghost use Rattle.call_steps.specs.Calls.{undecided, under, asks, about_cpu, about_giving, about_onward, call_about, without_call};
+ghost use Rattle.call_steps.specs.Hands.{serves, looks_on, gives, comes_to, goes_onward, clears, decides_free, behind};
 
 use crate::local::Local;
 use crate::step::{
-    Asking, CpuRow, CpuStep, DomainStep, Draining, Giving, MapStep, NamesStep, Onward, Serving,
+    Asking, CpuRow, CpuStep, DomainStep, Giving, MapStep, NamesStep, Onward, Serving,
     ShardStep, Step, Stopping,
 };
 use rseq_core::Seq;
@@ -60,8 +60,8 @@ impl Local {
     /// The hand is to be given away: to the cache of the domain, or to the shard.
     pub(crate) fn give_away(&mut self, giving: Giving)
         requires acts { self.old.acts < 2 ^ 64 - 1 }
-        requires call { undecided self.old.step ≡ of_giving giving }
-        requires under { under self.old.step ≡ without_call (of_giving giving) }
+        requires call { undecided self.old.step ≡ call_about (about_giving giving) }
+        requires under { under self.old.step ≡ without_call (call_about (about_giving giving)) }
         ensures { self.new ≡ gives self.old giving }
     {
         if self.domains == 0 {
@@ -71,32 +71,27 @@ impl Local {
         }
     }
 
-    /// A drain takes the next class, and starts the CPU again behind the last one.
-    pub(crate) fn drain_on(&mut self, table: &ClassTable, draining: Draining)
+    /// The call goes on with a row at a CPU, for this class.
+    pub(crate) fn go_to(&mut self, class: Class, row: CpuStep)
         requires acts { self.old.acts < 2 ^ 64 - 1 }
-        requires call { undecided self.old.step ≡ Some (drains draining) }
-        requires under { under self.old.step ≡ 0 }
-        ensures { self.new ≡ drains_on table.now self.old draining }
+        requires call { undecided self.old.step ≡ call_about (about_cpu row) }
+        requires under { under self.old.step ≡ without_call (call_about (about_cpu row)) }
+        ensures { self.new ≡ comes_to self.old class row }
     {
-        let stopping = Stopping::Drain(draining);
-        if u32::from(self.regs.class.0) + 1 < table.len() {
-            self.regs.class = Class(self.regs.class.0 + 1);
-            self.go(Step::Front(CpuRow::Cpu(CpuStep::Take(stopping))));
-        } else {
-            self.go(Step::Front(CpuRow::Cpu(CpuStep::Start(stopping))));
-        }
+        self.regs.class = class;
+        self.go(Step::Front(CpuRow::Cpu(row)));
     }
 
     /// The call goes on, which has no span to give back.
     pub(crate) fn go_onward(&mut self, table: &ClassTable, onward: Onward)
         requires acts { self.old.acts < 2 ^ 64 - 1 }
-        requires call { undecided self.old.step ≡ of_onward onward }
-        requires under { under self.old.step ≡ without_call (of_onward onward) }
+        requires call { undecided self.old.step ≡ call_about (about_onward onward) }
+        requires under { under self.old.step ≡ without_call (call_about (about_onward onward)) }
         ensures { self.new ≡ goes_onward table.now self.old onward }
     {
         match onward {
             Onward::Publish(serving) => self.go(publish(serving)),
-            Onward::Drain(draining) => self.drain_on(table, draining),
+            Onward::Row { class, row } => self.go_to(class, row),
             Onward::End => self.end(table),
         }
     }
@@ -104,8 +99,8 @@ impl Local {
     /// The call gives the spans that left a shard back, if any, and goes on.
     pub(crate) fn clear(&mut self, table: &ClassTable, onward: Onward)
         requires acts { self.old.acts < 2 ^ 64 - 1 }
-        requires call { undecided self.old.step ≡ of_onward onward }
-        requires under { under self.old.step ≡ without_call (of_onward onward) }
+        requires call { undecided self.old.step ≡ call_about (about_onward onward) }
+        requires under { under self.old.step ≡ without_call (call_about (about_onward onward)) }
         ensures { self.new ≡ clears table.now self.old onward self.old.freed.items }
     {
         if self.freed.as_slice().is_empty() {
@@ -119,8 +114,8 @@ impl Local {
     /// any, and goes on.
     pub(crate) fn go_on_behind(&mut self, table: &ClassTable, giving: Giving)
         requires acts { self.old.acts < 2 ^ 64 - 1 }
-        requires call { undecided self.old.step ≡ of_giving giving }
-        requires under { under self.old.step ≡ without_call (of_giving giving) }
+        requires call { undecided self.old.step ≡ call_about (about_giving giving) }
+        requires under { under self.old.step ≡ without_call (call_about (about_giving giving)) }
         ensures { self.new ≡ clears table.now (decides_free self.old giving) (behind giving) self.old.freed.items }
     {
         match giving {
@@ -129,8 +124,8 @@ impl Local {
                 self.decide(Answer::Freed { addr: freeing.addr });
                 self.clear(table, Onward::End);
             }
-            Giving::Drained(draining) => self.clear(table, Onward::Drain(draining)),
-            Giving::Resized => self.clear(table, Onward::End),
+            Giving::Row { class, row } => self.clear(table, Onward::Row { class, row }),
+            Giving::End => self.clear(table, Onward::End),
         }
     }
 }

@@ -58,17 +58,17 @@ pub enum Stopping {
     Resize(Resizing),
 }
 
-/// Whose objects a hand gives away.
+/// Whose objects a hand gives away, and what comes behind that.
 #[derive(Clone, Copy, Debug, PartialEq, Eq)]
 pub enum Giving {
-    /// What an allocation fetched beside its own object.
+    /// What an allocation fetched beside its own object, which it publishes then.
     Rest(Serving),
-    /// The object of a free, and what the free popped.
+    /// The object of a free, and what the free popped. This decides the free, which ends.
     Freed(Freeing),
-    /// What a drain took of one class.
-    Drained(Draining),
-    /// What a resize took. The call was decided before.
-    Resized,
+    /// What a call took that goes on with a row at a CPU, for this class.
+    Row { class: Class, row: CpuStep },
+    /// What a call took that was decided before, and ends.
+    End,
 }
 
 /// What comes once the spans that left a shard are given back.
@@ -76,8 +76,8 @@ pub enum Giving {
 pub enum Onward {
     /// An allocation publishes its object.
     Publish(Serving),
-    /// A drain goes on with the next class.
-    Drain(Draining),
+    /// The call goes on with a row at a CPU, for this class.
+    Row { class: Class, row: CpuStep },
     /// The call ends, which was decided before.
     End,
 }

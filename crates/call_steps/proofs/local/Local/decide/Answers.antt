@@ -1,4 +1,4 @@
-use Rattle.std.proofs.Common.{◌≡◌, ◌+◌, List, drop, ap, ◌∙◌, arith, length, true}
+use Rattle.std.proofs.Common.{◌≡◌, ◌<◌, ◌+◌, List, drop, ap, ◌∙◌, arith, length, true}
 use Rattle.std.specs.Prelude.{Some, is_some}
 use Rattle.std.proofs.lemmas.List.{length-append}
 use Rattle.call_steps.specs.Local.{Local, Decided, decided}
@@ -7,8 +7,16 @@ use Rattle.call_steps.specs.declared.step.Step.TheVariants as does
 use Rattle.call_steps.specs.declared.step.CpuRow.TheVariants as front
 use Rattle.call_steps.specs.declared.step.CpuStep.TheVariants.{Leave}
 use Rattle.call_steps.specs.Kept.{decided_by, call_at}
-use Rattle.call_steps.proofs.ScriptFacts.{decided_more, undecided_under}
+use Rattle.call_steps.proofs.ScriptFacts.{decided_more, undecided_under, under_way_low}
 use Rattle.call_steps.proofs.local.Local.decide.Goals as goal
+
+pub push-requires : goal.push-requires
+push-requires c =
+    let l = c.self.inside in
+    let i = c.self.invariant in
+    let some : is_some (undecided l.step) ≡ true = ap (λ (m : Local). is_some (undecided m.step)) c.self.view_is ∙ c.requires in
+    let low : l.place < length l.script = under_way_low l.script l.place (undecided l.step) some i.call in
+    omega (arith, i.count, i.room, undecided_under l.step some, low)
 
 pub returns-clause-decided : goal.returns-clause-decided
 returns-clause-decided c call is =
