@@ -28,7 +28,9 @@ use Rattle.call_steps.specs.declared.step.HeapStep.TheVariants as heap
 use Rattle.call_steps.specs.declared.step.Stopping.{Stopping}
 use Rattle.call_steps.specs.declared.step.Resizing.{Resizing}
 use Rattle.call_steps.specs.Local.{Local, Decided, closes, ends, decided, class_row}
-use Rattle.call_steps.specs.CpuActs.{call_of, cap_answer, stops}
+use Rattle.call_steps.specs.Calls.{call_of}
+use Rattle.call_steps.specs.CpuActs.{cap_answer, stops}
+use Rattle.call_steps.specs.Follows.{follows}
 use Rattle.call_steps.specs.Acts.{after_new, after_new_span, heap_after, cpu_after}
 use Rattle.alloc_rules.specs.Answers.{Decides, pages_asked, AnswersNone, AnswersBusy, bytes_with, DecidesCap, AnswersCap}
 
@@ -90,10 +92,10 @@ closes_goes rows x None = record { ended = omega arith; answers = refl }
 closes_goes rows x (Some move) = record { ended = omega arith; answers = refl }
 
 pub ends_goes : (rows : List ClassRow) (x : Local) → GoesAs x (ends rows x)
-ends_goes rows x = let g = closes_goes rows (record x { acts = x.acts + 1 }) x.moved in record { ended = g.ended; answers = g.answers }
+ends_goes rows x = let g = closes_goes rows (record x { acts = x.acts + 1 }) x.seat.moved in record { ended = g.ended; answers = g.answers }
 
 -- busy, by who is the stopper
-busy_of : (rows : List ClassRow) (p : CpuPart) (l : Local) (s : Stopping) (owner : ThreadNo) (o : Option ThreadNo) → Decides l (stops rows p l s o).1 (Busy owner) ↔ (o ≡ Some owner)
+busy_of : (rows : List ClassRow) (p : CpuPart) (l : Local) (s : Stopping) (owner : ThreadNo) (o : Option ThreadNo) → Decides l (follows rows l (Some (call_of s)) (stops p l.regs.thread s o).1) (Busy owner) ↔ (o ≡ Some owner)
 busy_of rows p l s owner None = (λ d. absurd (decides_none l _ (Busy owner) refl d), λ is. absurd (cc))
 busy_of rows p l s owner (Some u) =
     let told : (ends rows (decided l (call_of s) (Busy u))).answers ≡ l.answers ++ record { act = l.acts; call = call_of s; answer = Busy u } ∷ [] = (ends_goes rows (decided l (call_of s) (Busy u))).answers in

@@ -16,7 +16,6 @@ use Rattle.tc_model.specs.declared.answers.Answer.TheVariants.{Drained, Busy}
 use Rattle.tc_model.specs.declared.answers.CallLine.{CallLine}
 use Rattle.heap_rules.specs.declared.config.HeapConfig.{HeapConfig}
 use Rattle.cpu_slab.specs.declared.slab.CapFault.{CapFault}
-use Rattle.cpu_slab.specs.declared.slab.CapFault.TheVariants as fault
 use Rattle.cpu_slab.specs.Slots.{SlabRow, CpuSlab, no_row, row_at, held}
 use Rattle.cpu_slab.specs.Caps.{cap_fault, set_unless}
 use Rattle.cpu_slab.proofs.SlabFacts.{row_same, row_other}
@@ -26,6 +25,7 @@ use Rattle.rseq_core.specs.declared.regs.TheConstants.{LOADED_ROOM}
 use Rattle.rseq_core.specs.declared.sequence.Pc.{Pc}
 use Rattle.rseq_core.specs.declared.sequence.Pc.TheVariants.{Begin, Header, Test, Copy, Commit}
 use Rattle.rseq_core.specs.declared.sequence.Seq.{Seq}
+use Rattle.rseq_core.specs.declared.sequence.Seq.TheVariants as seq
 use Rattle.rseq_core.specs.declared.sequence.Reply.{Reply}
 use Rattle.rseq_core.specs.declared.sequence.Reply.TheVariants.{Popped, Pushed, Empty, Full, Stopped}
 use Rattle.rseq_core.specs.declared.answers.Instructed.{Instructed}
@@ -57,11 +57,13 @@ use Rattle.call_steps.specs.declared.step.CpuRow.TheVariants as front
 use Rattle.call_steps.specs.declared.step.CpuStep.{CpuStep}
 use Rattle.call_steps.specs.declared.step.CpuStep.TheVariants.{Pop, Grow, Stock, Push, PopBatch, Stop, Fence, Take, SetCap, Start, Leave}
 use Rattle.call_steps.specs.Local.{Local, goes, decided, ends, no_class, class_row}
-use Rattle.call_steps.specs.Hands.{serves, looks_on, gives, comes_to, with_hand}
-use Rattle.call_steps.specs.CpuActs.{with_regs, due, leaves, moves_to, gives_rest, replied, instructed_to, sequence_by, grew_to, call_of, stops, drains_on, drained, took, cap_answer, gives_taken, left_for, cpu_row}
-use Rattle.call_steps.specs.Calls.{HasNoLabel, about_cpu}
+use Rattle.call_steps.specs.Hands.{serves, starts, comes_to, with_hand, with_regs}
+use Rattle.call_steps.specs.CpuActs.{looks_on, gives, at_cpu_next, due, leaves, moves_to, after_stock, replied, instructed_to, sequence_by, grew_to, stops, drains_on, drained, took, cap_answer, gives_taken, left_for}
+use Rattle.call_steps.specs.Follows.{follows, with_next, cpu_row}
+use Rattle.call_steps.specs.Calls.{HasNoLabel, asks, frees, call_of, about_cpu, call_about}
 use Rattle.call_steps.specs.Shapes.{StepShape, CpuShape}
 use Rattle.call_steps.proofs.NextShapes.{drains_about}
+use Rattle.call_steps.proofs.Nexts.{busy_other, cap_other}
 use Rattle.holdings.proofs.Sums.{of_all}
 use Rattle.alloc_rules.specs.Machine.{Parts}
 use Rattle.alloc_rules.specs.Accounts.{account_of, cpu_doing}
@@ -138,16 +140,6 @@ stopped_slab : (o : Option ThreadNo) (q : CpuPart) (t : ThreadNo) → (drains.st
 stopped_slab None q t = refl
 stopped_slab (Some u) q t = refl
 
--- a refusal to stop, a drain and a capacity are of no label
-busy_other : (s : Stopping) (owner : ThreadNo) → IsOther (call_of s) (Busy owner)
-busy_other (stopping.Drain d) owner = tt
-busy_other (stopping.Resize r) owner = tt
-
-cap_other : (r : Resizing) (o : Option CapFault) → IsOther (Resize r.cpu r.class r.cap) (cap_answer o)
-cap_other r None = tt
-cap_other r (Some (fault.OverStatic most)) = tt
-cap_other r (Some (fault.OverLimit sum)) = tt
-
 module _ (m : Setup) (limits : HeapConfig) (cpus : ℕ) (p : Parts) (locals : List Local) (b : Books) (calls : List CallLine) (t : ℕ) (l : Local) (c : ℕ) (q : CpuPart) (before : IsBefore m limits cpus p locals b calls t l) (at : slice_get p.cpus c ≡ Some q) where
   abbrev at_step : CpuStep → Local
   at_step row = record l { step = does.Front (front.Cpu row) }
@@ -179,9 +171,9 @@ module _ (m : Setup) (limits : HeapConfig) (cpus : ℕ) (p : Parts) (locals : Li
       (weighs_is (bare (cpu_doing row) l.regs.class.0 regs.hand.items l.rest) (account_of after) (goes.account ∙ ap (λ (k : Class). bare (cpu_doing row) k.0 regs.hand.items l.rest) class)) goes.acts goes.answers
 
   -- leaving for the CPU of a move
-  leaves_does : (row : CpuStep) (move : MoveTo) → HasFreed row l.regs.hand.items → Does m (with_cpu (leaves q (at_step row) move).0) b (at_step row) (leaves q (at_step row) move).1
+  leaves_does : (row : CpuStep) (move : MoveTo) → HasFreed row l.regs.hand.items → (let x = with_next m.rows (at_step row) (about_cpu row) (leaves q l.seat l.regs move (at_cpu_next row)) in Does m (with_cpu x.0) b (at_step row) x.1)
   leaves_does row move frees =
-      on row (left q l.regs.thread) (goes (moves_to (at_step row) move) (does.Front (front.Cpu row))) (dropped l.regs) (still l.regs.class.0 q (left q l.regs.thread) l.regs.hand.items l.regs.hand.items (slab_same q (left q l.regs.thread) (left_slab q l.regs.thread)) refl) refl frees
+      on row (left q l.regs.thread) (goes (record l { seat = moves_to l.seat move; regs = dropped l.regs }) (does.Front (front.Cpu row))) (dropped l.regs) (still l.regs.class.0 q (left q l.regs.thread) l.regs.hand.items l.regs.hand.items (slab_same q (left q l.regs.thread) (left_slab q l.regs.thread)) refl) refl frees
       (record { account = refl; acts = refl; answers = refl })
 
   -- the registers of a sequence keep their class
@@ -207,12 +199,12 @@ module _ (m : Setup) (limits : HeapConfig) (cpus : ℕ) (p : Parts) (locals : Li
       says_other m p locals b before.books (slice_set p.cpus c new) p.shards p.domains (cut new) (at_step row) (ends m.rows then) (quiet l.regs.class.0 l.rest) (said ∷ []) (ap (λ (d : Doing). bare d l.regs.class.0 l.regs.hand.items l.rest) doing ∙ ap (λ (h : List Addr). bare Other l.regs.class.0 h l.rest) none)
       (stock_still new rows) (One said other) (subst (λ (xs : List Planned). WeighSame (quiet l.regs.class.0 xs) (account_of (ends m.rows then))) rest closes.weighs) (omega (arith, closes.acts, acts)) (closes.answers ∙ answers)
 
-  grow_goes : (l1 : Local) (regs : Regs) (asking : Asking) → l1.step ≡ does.Front (front.Cpu (Grow asking)) → (a : Grew) → Goes (grew_to (with_regs l1 regs) asking a) (bare (Asks asking.label asking.size) regs.class.0 regs.hand.items l1.rest) (l1.acts + 1) l1.answers
-  grow_goes l1 regs asking is grew.In = record { account = ap (λ (s : Step). account_of (goes (with_regs l1 regs) s)) is; acts = refl; answers = refl }
-  grow_goes l1 regs asking is grew.Back = record { account = ap (λ (s : Step). account_of (goes (with_regs l1 regs) s)) is; acts = refl; answers = refl }
-  grow_goes l1 regs asking is grew.Done = looks_as (with_regs l1 regs) asking
+  grow_goes : (l1 : Local) (asking : Asking) (a : Grew) → Goes (follows m.rows l1 (Some (asks asking)) (grew_to l1.seat asking a)) (bare (Asks asking.label asking.size) l1.regs.class.0 l1.regs.hand.items l1.rest) (l1.acts + 1) l1.answers
+  grow_goes l1 asking grew.In = record { account = refl; acts = refl; answers = refl }
+  grow_goes l1 asking grew.Back = record { account = refl; acts = refl; answers = refl }
+  grow_goes l1 asking grew.Done = looks_as m.rows l1 asking (Some (asks asking))
 
-  stop_does : (s : Stopping) → l.regs.hand.items ≡ [] → (o : Option ThreadNo) → Does m (with_cpu (stops m.rows q (at_step (Stop s)) s o).0) b (at_step (Stop s)) (stops m.rows q (at_step (Stop s)) s o).1
+  stop_does : (s : Stopping) → l.regs.hand.items ≡ [] → (o : Option ThreadNo) → (let n = stops q l.regs.thread s o in Does m (with_cpu n.0) b (at_step (Stop s)) (follows m.rows (at_step (Stop s)) (Some (call_of s)) n.1))
   stop_does s none None =
       on (Stop s) (drains.stopped q l.regs.thread) (goes (at_step (Stop s)) (does.Front (front.Cpu (Fence s)))) l.regs (still l.regs.class.0 q (drains.stopped q l.regs.thread) l.regs.hand.items l.regs.hand.items (slab_same q (drains.stopped q l.regs.thread) (stopped_slab q.stopper q l.regs.thread)) refl) refl (λ label o doing. cc) (record { account = refl; acts = refl; answers = refl })
   stop_does s none (Some owner) = says_quiet (Stop s) q (decided (at_step (Stop s)) (call_of s) (Busy owner)) (record { call = call_of s; answer = Busy owner }) (λ j. refl) none refl (busy_other s owner) refl refl refl none
@@ -234,32 +226,33 @@ module _ (m : Setup) (limits : HeapConfig) (cpus : ℕ) (p : Parts) (locals : Li
       carries m p locals b before.books (slice_set p.cpus c (drains.taken q l.regs.class.0)) p.shards p.domains (cut (drains.taken q l.regs.class.0)) (at_step row) after Other l.regs.class.0 l.regs.hand.items taken_hand.items l.rest (ap (λ (d : Doing). bare d l.regs.class.0 l.regs.hand.items l.rest) doing)
       (objects (drains.taken q l.regs.class.0) l.regs.hand.items taken_hand.items take_shifts) (λ label o is. cc) weighs acts answers
 
-  drained_does : (d : Draining) (next : Class × CpuStep) (hand : List Addr) → HasNoLabel (about_cpu next.1) → taken_hand.items ≡ hand → Does m (with_cpu (drains.taken q l.regs.class.0)) b (at_step (Take (stopping.Drain d))) (drained (with_hand (at_step (Take (stopping.Drain d))) taken_hand) hand next)
+  drained_does : (d : Draining) (next : Class × CpuStep) (hand : List Addr) → HasNoLabel (about_cpu next.1) → taken_hand.items ≡ hand → Does m (with_cpu (drains.taken q l.regs.class.0)) b (at_step (Take (stopping.Drain d))) (let n = drained l.seat (record l.regs { hand = taken_hand }) hand next in follows m.rows (with_regs (at_step (Take (stopping.Drain d))) n.0) (Some (Drain d.cpu)) n.1)
   drained_does d next [] other is =
       let l1 : Local = with_hand (at_step (Take (stopping.Drain d))) taken_hand in
       let closes = comes_as l1 next.0 next.1 l.regs.class.0 other is in
       took_as (Take (stopping.Drain d)) (comes_to l1 next.0 next.1) refl (subst (λ (h : List Addr). WeighSame (bare Other l.regs.class.0 h l.rest) (account_of (comes_to l1 next.0 next.1))) (sym is) closes.weighs) closes.acts closes.answers
   drained_does d next (a ∷ others) other is =
       let l1 : Local = with_hand (at_step (Take (stopping.Drain d))) taken_hand in
-      let g = gives_as l1 (giving.Row next.0 next.1) in
+      let g = gives_as m.rows l1 (giving.Row next.0 next.1) (Some (Drain d.cpu)) in
+      let after : Local = follows m.rows l1 (Some (Drain d.cpu)) (gives l.seat (giving.Row next.0 next.1)) in
       let account = g.account ∙ ap (λ (x : Doing). bare x l.regs.class.0 taken_hand.items l.rest) (other_doing (about_cpu next.1) other) in
-      took_as (Take (stopping.Drain d)) (drained l1 (a ∷ others) next) refl (weighs_is (bare Other l.regs.class.0 taken_hand.items l.rest) (account_of (drained l1 (a ∷ others) next)) account) g.acts g.answers
+      took_as (Take (stopping.Drain d)) after refl (weighs_is (bare Other l.regs.class.0 taken_hand.items l.rest) (account_of after) account) g.acts g.answers
 
-  take_moves : (s : Stopping) → Does m (with_cpu (drains.taken q l.regs.class.0)) b (at_step (Take s)) (took m.rows (with_hand (at_step (Take s)) taken_hand) s)
+  take_moves : (s : Stopping) → Does m (with_cpu (drains.taken q l.regs.class.0)) b (at_step (Take s)) (let n = took m.rows l.seat (record l.regs { hand = taken_hand }) s in follows m.rows (with_regs (at_step (Take s)) n.0) (Some (call_of s)) n.1)
   take_moves (stopping.Drain d) =
       let d' : Draining = record d { taken = d.taken + length taken_hand.items } in
       drained_does d (drains_on m.rows l.regs.class d') taken_hand.items (subst HasNoLabel (sym (drains_about m.rows l.regs.class d')) tt) refl
   take_moves (stopping.Resize r) = took_as (Take (stopping.Resize r)) (goes (with_hand (at_step (Take (stopping.Resize r))) taken_hand) (does.Front (front.Cpu (SetCap r)))) refl (weighs_same (bare Other l.regs.class.0 taken_hand.items l.rest)) refl refl
 
   -- the start of a resize, and leaving at a call's end
-  start_gives : (r : Resizing) (hand : List Addr) → l.regs.hand.items ≡ hand → Does m (with_cpu (drains.started q)) b (at_step (Start (stopping.Resize r))) (gives_taken m.rows (at_step (Start (stopping.Resize r))) hand)
+  start_gives : (r : Resizing) (hand : List Addr) → l.regs.hand.items ≡ hand → Does m (with_cpu (drains.started q)) b (at_step (Start (stopping.Resize r))) (follows m.rows (at_step (Start (stopping.Resize r))) None (gives_taken l.seat hand))
   start_gives r [] is = quiets (Start (stopping.Resize r)) (drains.started q) (ends m.rows (at_step (Start (stopping.Resize r)))) (λ j. refl) is refl (ends_as m.rows (at_step (Start (stopping.Resize r))) l.regs.class.0 is)
   start_gives r (a ∷ others) is =
-      on (Start (stopping.Resize r)) (drains.started q) (gives (at_step (Start (stopping.Resize r))) giving.End) l.regs (still l.regs.class.0 q (drains.started q) l.regs.hand.items l.regs.hand.items (λ j. refl) refl) refl (λ label o doing. cc) (gives_as (at_step (Start (stopping.Resize r))) giving.End)
+      on (Start (stopping.Resize r)) (drains.started q) (follows m.rows (at_step (Start (stopping.Resize r))) None (gives l.seat giving.End)) l.regs (still l.regs.class.0 q (drains.started q) l.regs.hand.items l.regs.hand.items (λ j. refl) refl) refl (λ label o doing. cc) (gives_as m.rows (at_step (Start (stopping.Resize r))) giving.End None)
 
-  leave_does : l.regs.hand.items ≡ [] → (o : Option MoveTo) → Does m (with_cpu (left_for m.rows q (at_step Leave) o).0) b (at_step Leave) (left_for m.rows q (at_step Leave) o).1
+  leave_does : l.regs.hand.items ≡ [] → (o : Option MoveTo) → (let x = with_next m.rows (at_step Leave) (about_cpu Leave) (left_for q l.seat l.regs o) in Does m (with_cpu x.0) b (at_step Leave) x.1)
   leave_does none None = quiets Leave q (ends m.rows (at_step Leave)) (λ j. refl) none refl (ends_as m.rows (at_step Leave) l.regs.class.0 none)
-  leave_does none (Some move) = quiets Leave (left q l.regs.thread) (ends m.rows (moves_to (at_step Leave) move)) (slab_same q (left q l.regs.thread) (left_slab q l.regs.thread)) none refl (ends_as m.rows (moves_to (at_step Leave) move) l.regs.class.0 none)
+  leave_does none (Some move) = quiets Leave (left q l.regs.thread) (ends m.rows (record (at_step Leave) { seat = moves_to l.seat move; regs = dropped l.regs })) (slab_same q (left q l.regs.thread) (left_slab q l.regs.thread)) none refl (ends_as m.rows (record (at_step Leave) { seat = moves_to l.seat move; regs = dropped l.regs }) l.regs.class.0 none)
 
   module _ (agrees : IsCurrent l.regs.thread q l.regs → Agrees (is_pop l.regs.seq) (row_at q.slab l.regs.class.0) l.regs l.regs.pc) where
     done : Instructs q l.regs (instructed q l.regs)
@@ -276,7 +269,7 @@ module _ (m : Setup) (limits : HeapConfig) (cpus : ℕ) (p : Parts) (locals : Li
     Moves r = ReplyMoves r (row_at q.slab l.regs.class.0) (row_at it.cpu.slab l.regs.class.0) l.regs it.regs
 
     abbrev DoesReply : CpuStep → Reply → Type 0
-    DoesReply row r = Does m (with_cpu it.cpu) b (at_step row) (replied m.rows (then row) row r)
+    DoesReply row r = Does m (with_cpu it.cpu) b (at_step row) (let n = replied m.rows l.seat it.regs row r in follows m.rows (with_regs (at_step row) n.0) (call_about (about_cpu row)) n.1)
 
     shifts : Shifts l.regs.class.0 q it.cpu l.regs.hand.items it.regs.hand.items
     shifts = record { others = λ j n other. ap (λ (r : SlabRow). objects_at n (held r)) (done.others j other); own = answer_moves it.answer (row_at q.slab l.regs.class.0) (row_at it.cpu.slab l.regs.class.0) l.regs it.regs done.moves }
@@ -296,13 +289,13 @@ module _ (m : Setup) (limits : HeapConfig) (cpus : ℕ) (p : Parts) (locals : Li
       goes_on : (row : CpuStep) → HasFreed row l.regs.hand.items → MovesNone (row_at q.slab l.regs.class.0) (row_at it.cpu.slab l.regs.class.0) l.regs it.regs → Does m (with_cpu it.cpu) b (at_step row) (goes (then row) (does.Front (front.Cpu row)))
       goes_on row frees moves = then_does row (goes (then row) (does.Front (front.Cpu row))) (stays_same row frees moves.hand) (record { account = refl; acts = refl; answers = refl })
 
-      answers : (row : CpuStep) (a : Instructed) → AnswerMoves a (row_at q.slab l.regs.class.0) (row_at it.cpu.slab l.regs.class.0) l.regs it.regs → HasFreed row l.regs.hand.items → ((r : Reply) → a ≡ Done r → Moves r → DoesReply row r) → Does m (with_cpu it.cpu) b (at_step row) (instructed_to m.rows (then row) row a)
+      answers : (row : CpuStep) (a : Instructed) → AnswerMoves a (row_at q.slab l.regs.class.0) (row_at it.cpu.slab l.regs.class.0) l.regs it.regs → HasFreed row l.regs.hand.items → ((r : Reply) → a ≡ Done r → Moves r → DoesReply row r) → Does m (with_cpu it.cpu) b (at_step row) (let n = instructed_to m.rows l.seat it.regs row a in follows m.rows (with_regs (at_step row) n.0) (call_about (about_cpu row)) n.1)
       answers row In moves frees reply = goes_on row frees moves
       answers row Back moves frees reply = goes_on row frees moves
       answers row Ran moves frees reply = goes_on row frees moves
       answers row (Done r) moves frees reply = reply r refl moves
 
-      sequences : (row : CpuStep) → HasFreed row l.regs.hand.items → ((r : Reply) → it.answer ≡ Done r → Moves r → DoesReply row r) → (o : Option MoveTo) → Does m (with_cpu (sequence_by m.rows q (at_step row) row o).0) b (at_step row) (sequence_by m.rows q (at_step row) row o).1
+      sequences : (row : CpuStep) → HasFreed row l.regs.hand.items → ((r : Reply) → it.answer ≡ Done r → Moves r → DoesReply row r) → (o : Option MoveTo) → (let x = with_next m.rows (at_step row) (about_cpu row) (sequence_by m.rows q l.seat l.regs row o) in Does m (with_cpu x.0) b (at_step row) x.1)
       sequences row frees reply None = answers row it.answer done.moves frees reply
       sequences row frees reply (Some move) = leaves_does row move frees
 
@@ -314,8 +307,8 @@ module _ (m : Setup) (limits : HeapConfig) (cpus : ℕ) (p : Parts) (locals : Li
           (subst (λ (h : List Addr). MoveObjects (stock_of p) (stock_of (with_cpu it.cpu)) l.regs.class.0 h (o ∷ others) []) none
           (subst (λ (h : List Addr). MoveObjects (stock_of p) (stock_of (with_cpu it.cpu)) l.regs.class.0 l.regs.hand.items h []) hand (objects it.cpu l.regs.hand.items it.regs.hand.items shifts)))
 
-      looks_does : (asking : Asking) → Does m (with_cpu it.cpu) b (at_step (Pop asking)) (looks_on (then (Pop asking)) asking)
-      looks_does asking = then_does (Pop asking) (looks_on (then (Pop asking)) asking) (λ label o doing. cc) (looks_as (then (Pop asking)) asking)
+      looks_does : (asking : Asking) → Does m (with_cpu it.cpu) b (at_step (Pop asking)) (follows m.rows (then (Pop asking)) (Some (asks asking)) (looks_on l.seat asking))
+      looks_does asking = then_does (Pop asking) (follows m.rows (then (Pop asking)) (Some (asks asking)) (looks_on l.seat asking)) (λ label o doing. cc) (looks_as m.rows (then (Pop asking)) asking (Some (asks asking)))
 
       pop_replies : (asking : Asking) → CpuShape (limits_of m cpus) l (Pop asking) → (r : Reply) → Moves r → DoesReply (Pop asking) r
       pop_replies asking shape Popped moves =
@@ -328,18 +321,18 @@ module _ (m : Setup) (limits : HeapConfig) (cpus : ℕ) (p : Parts) (locals : Li
       pop_replies asking shape (Pushed n) moves = looks_does asking
 
       -- it stocks its CPU
-      stock_goes : (l1 : Local) (s : Serving) (hand : List Addr) → Goes (gives_rest l1 s hand) (bare (Publishes s.label (Some s.addr)) l1.regs.class.0 l1.regs.hand.items l1.rest) (l1.acts + 1) l1.answers
+      stock_goes : (l1 : Local) (s : Serving) (hand : List Addr) → Goes (follows m.rows l1 None (after_stock l1.seat s hand)) (bare (Publishes s.label (Some s.addr)) l1.regs.class.0 l1.regs.hand.items l1.rest) (l1.acts + 1) l1.answers
       stock_goes l1 s [] = record { account = refl; acts = refl; answers = refl }
-      stock_goes l1 s (a ∷ others) = gives_as l1 (giving.Rest s)
+      stock_goes l1 s (a ∷ others) = gives_as m.rows l1 (giving.Rest s) None
 
       stock_replies : (s : Serving) (r : Reply) → DoesReply (Stock s) r
-      stock_replies s r = then_does (Stock s) (gives_rest (then (Stock s)) s it.regs.hand.items) (λ label o doing. cc) (stock_goes (then (Stock s)) s it.regs.hand.items)
+      stock_replies s r = then_does (Stock s) (follows m.rows (then (Stock s)) None (after_stock l.seat s it.regs.hand.items)) (λ label o doing. cc) (stock_goes (then (Stock s)) s it.regs.hand.items)
 
       -- a free pushes its object, or gives it away with those that it popped
-      free_gives : (row : CpuStep) (f : Freeing) → cpu_doing row ≡ Frees f.label f.addr → HasFreed row it.regs.hand.items → Does m (with_cpu it.cpu) b (at_step row) (gives (then row) (giving.Freed f))
-      free_gives row f doing frees =
-          let g = gives_as (then row) (giving.Freed f) in
-          then_does row (gives (then row) (giving.Freed f)) frees (record { account = g.account ∙ ap (λ (d : Doing). bare d it.regs.class.0 it.regs.hand.items l.rest) (sym doing); acts = g.acts; answers = g.answers })
+      free_gives : (row : CpuStep) (f : Freeing) → cpu_doing row ≡ Frees f.label f.addr → HasFreed row it.regs.hand.items → Does m (with_cpu it.cpu) b (at_step row) (follows m.rows (then row) (Some (frees f)) (gives l.seat (giving.Freed f)))
+      free_gives row f doing has =
+          let g = gives_as m.rows (then row) (giving.Freed f) (Some (frees f)) in
+          then_does row (follows m.rows (then row) (Some (frees f)) (gives l.seat (giving.Freed f))) has (record { account = g.account ∙ ap (λ (d : Doing). bare d it.regs.class.0 it.regs.hand.items l.rest) (sym doing); acts = g.acts; answers = g.answers })
 
       push_replies : (f : Freeing) → CpuShape (limits_of m cpus) l (Push f) → HasFreed (Push f) l.regs.hand.items → (r : Reply) → Moves r → DoesReply (Push f) r
       push_replies f shape frees (Pushed n) moves =
@@ -349,7 +342,7 @@ module _ (m : Setup) (limits : HeapConfig) (cpus : ℕ) (p : Parts) (locals : Li
           let none : it.regs.hand.items ≡ [] = moves.hand ∙ drop_all n l.regs.hand.items (omega (arith, one, some)) in
           frees_object m p locals b before.books (slice_set p.cpus c it.cpu) p.shards p.domains (cut it.cpu) (at_step (Push f)) it.regs l.freed f l.regs.class.0 l.regs.hand.items refl none
           (subst (λ (h : List Addr). MoveObjects (stock_of p) (stock_of (with_cpu it.cpu)) l.regs.class.0 l.regs.hand.items h []) none (objects it.cpu l.regs.hand.items it.regs.hand.items shifts))
-      push_replies f shape frees Full moves = then_does (Push f) (replied m.rows (then (Push f)) (Push f) Full) (stays_same (Push f) frees moves.hand) (record { account = refl; acts = refl; answers = refl })
+      push_replies f shape frees Full moves = then_does (Push f) (goes (starts (then (Push f)) (seq.PopBatch (class_row m.rows (then (Push f))).batch)) (does.Front (front.Cpu (PopBatch f)))) (stays_same (Push f) frees moves.hand) (record { account = refl; acts = refl; answers = refl })
       push_replies f shape frees Stopped moves = free_gives (Push f) f refl (stays_same (Push f) frees moves.hand)
       push_replies f shape frees Empty moves = free_gives (Push f) f refl (stays_same (Push f) frees moves.hand)
       push_replies f shape frees Popped moves = free_gives (Push f) f refl (stays_in (Push f) frees moves.got moves.hand)
@@ -366,24 +359,24 @@ module _ (m : Setup) (limits : HeapConfig) (cpus : ℕ) (p : Parts) (locals : Li
         let want : wanted l.regs.seq l.regs.hand.items ≡ 1 = ap (λ (s : Seq). wanted s l.regs.hand.items) shape.0.seq in
         let none : length l.regs.hand.items ≡ 0 = ap (λ (h : List Addr). length h) shape.1 in
         let class = (done.same (λ e. rooms (omega (arith, want)) (omega (arith, none)))).class in
-        sequences class (Pop asking) (frees_now (Pop asking) is) (λ r e moves. pop_replies class asking shape r moves) (due l.moved l.regs.ran)
+        sequences class (Pop asking) (frees_now (Pop asking) is) (λ r e moves. pop_replies class asking shape r moves) (due l.seat.moved l.regs.ran)
     cpu_does (Stock s) is shape =
         let pushes : is_pop l.regs.seq ≡ false = ap is_pop shape.0.seq in
         let class = (done.same (λ e. absurd (cc))).class in
-        sequences class (Stock s) (frees_now (Stock s) is) (λ r e moves. stock_replies class s r) (due l.moved l.regs.ran)
+        sequences class (Stock s) (frees_now (Stock s) is) (λ r e moves. stock_replies class s r) (due l.seat.moved l.regs.ran)
     cpu_does (Push f) is shape =
         let pushes : is_pop l.regs.seq ≡ false = ap is_pop shape.0.seq in
         let class = (done.same (λ e. absurd (cc))).class in
-        sequences class (Push f) (frees_now (Push f) is) (λ r e moves. push_replies class f shape (frees_now (Push f) is) r moves) (due l.moved l.regs.ran)
+        sequences class (Push f) (frees_now (Push f) is) (λ r e moves. push_replies class f shape (frees_now (Push f) is) r moves) (due l.seat.moved l.regs.ran)
     cpu_does (PopBatch f) is shape =
         let want : wanted l.regs.seq l.regs.hand.items ≡ (class_row m.rows l).batch = ap (λ (s : Seq). wanted s l.regs.hand.items) shape.0.seq in
         let one : length l.regs.hand.items ≡ 1 = ap (λ (h : List Addr). length h) shape.1 in
         let class = (done.same (λ e. rooms (omega (arith, want, batch_few)) (omega (arith, one)))).class in
-        sequences class (PopBatch f) (frees_now (PopBatch f) is) (λ r e moves. batch_replies class f (ap is_pop shape.0.seq) (frees_now (PopBatch f) is) r e moves) (due l.moved l.regs.ran)
+        sequences class (PopBatch f) (frees_now (PopBatch f) is) (λ r e moves. batch_replies class f (ap is_pop shape.0.seq) (frees_now (PopBatch f) is) r e moves) (due l.seat.moved l.regs.ran)
     cpu_does (Grow asking) is shape =
         let x = grew_here q l.regs in
         let g = grow_does (length m.rows) q l.regs sound before.shaped.class in
-        on (Grow asking) x.cpu (grew_to (with_regs (at_step (Grow asking)) x.regs) asking x.answer) x.regs (still l.regs.class.0 q x.cpu l.regs.hand.items x.regs.hand.items g.rows g.hand) g.same.class (λ label o doing. cc) (grow_goes (at_step (Grow asking)) x.regs asking refl x.answer)
+        on (Grow asking) x.cpu (follows m.rows (with_regs (at_step (Grow asking)) x.regs) (Some (asks asking)) (grew_to l.seat asking x.answer)) x.regs (still l.regs.class.0 q x.cpu l.regs.hand.items x.regs.hand.items g.rows g.hand) g.same.class (λ label o doing. cc) (grow_goes (with_regs (at_step (Grow asking)) x.regs) asking x.answer)
     cpu_does (Stop s) is shape = stop_does s shape.0.hand q.stopper
     cpu_does (Fence s) is shape =
         on (Fence s) (drains.fenced q) (goes (at_step (Fence s)) (does.Front (front.Cpu (Take s)))) l.regs (still l.regs.class.0 q (drains.fenced q) l.regs.hand.items l.regs.hand.items (λ j. refl) refl) refl (λ label o doing. cc) (record { account = refl; acts = refl; answers = refl })
@@ -397,7 +390,7 @@ module _ (m : Setup) (limits : HeapConfig) (cpus : ℕ) (p : Parts) (locals : Li
     cpu_does (Start (stopping.Drain d)) is shape =
         says_quiet (Start (stopping.Drain d)) (drains.started q) (decided (at_step (Start (stopping.Drain d))) (Drain d.cpu) (Drained d.taken)) (record { call = Drain d.cpu; answer = Drained d.taken }) (λ j. refl) shape.0.hand refl tt refl refl refl shape.0.hand
     cpu_does (Start (stopping.Resize r)) is shape = start_gives r l.regs.hand.items refl
-    cpu_does Leave is shape = leave_does shape.0.hand l.moved
+    cpu_does Leave is shape = leave_does shape.0.hand l.seat.moved
 
 pub cpu_acts_move : CpuActsMove
 cpu_acts_move m limits cpus p locals b calls t l c q row before is at agrees =

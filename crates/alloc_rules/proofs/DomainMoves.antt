@@ -5,8 +5,10 @@ use Rattle.std.proofs.lemmas.Bool.{cond_both}
 use Rattle.std.proofs.lemmas.List.{get_or-set_same, get_or-set_other}
 use Rattle.tc_units.specs.Classes.{class_of}
 use Rattle.tc_units.specs.declared.units.Addr.{Addr}
+use Rattle.tc_units.specs.declared.spans.SpanRef.{SpanRef}
 use Rattle.tc_model.specs.declared.answers.CallLine.{CallLine}
 use Rattle.heap_rules.specs.declared.config.HeapConfig.{HeapConfig}
+use Rattle.rseq_core.specs.declared.regs.Regs.{Regs}
 use Rattle.rseq_core.specs.Bags.{appended, emptied}
 use Rattle.transfer_cache.specs.Transfer.{Transfer, last_first, without_last}
 use Rattle.holdings.specs.Runs.{objects_at}
@@ -15,7 +17,8 @@ use Rattle.holdings.specs.Books.{Setup, Books, IsCut}
 use Rattle.holdings.specs.Moves.{MoveObjects}
 use Rattle.call_steps.specs.declared.step.Asking.{Asking}
 use Rattle.call_steps.specs.declared.step.Giving.{Giving}
-use Rattle.call_steps.specs.declared.step.Giving.TheVariants as giving
+use Rattle.call_steps.specs.declared.step.Next.{Next}
+use Rattle.call_steps.specs.declared.step.Next.TheVariants as next
 use Rattle.call_steps.specs.declared.step.Step.{Step}
 use Rattle.call_steps.specs.declared.step.Step.TheVariants as does
 use Rattle.call_steps.specs.declared.step.CpuRow.TheVariants as front
@@ -23,8 +26,10 @@ use Rattle.call_steps.specs.declared.step.ShardStep.TheVariants as shard
 use Rattle.call_steps.specs.declared.step.DomainStep.{DomainStep}
 use Rattle.call_steps.specs.declared.step.DomainStep.TheVariants.{Take, Put}
 use Rattle.call_steps.specs.Local.{Local, goes, class_row}
-use Rattle.call_steps.specs.Hands.{with_hand, with_freed, decides_free, behind, goes_onward, given}
-use Rattle.call_steps.specs.ShardActs.{takes, fits_into, put_in, domain_row}
+use Rattle.call_steps.specs.Calls.{asks, about_giving, call_about}
+use Rattle.call_steps.specs.Hands.{with_hand, with_regs, decides_free, behind, clears, gave}
+use Rattle.call_steps.specs.CpuActs.{takes, fits_into, put_in}
+use Rattle.call_steps.specs.Follows.{follows, domain_row}
 use Rattle.call_steps.specs.Shapes.{StepShape, DomainShape, IsGiving}
 use Rattle.holdings.proofs.Sums.{of_all}
 use Rattle.alloc_rules.specs.Machine.{Parts}
@@ -72,7 +77,7 @@ module _ (m : Setup) (limits : HeapConfig) (cpus : ℕ) (p : Parts) (locals : Li
 
   -- a take gives the last objects of the cache
   takes_does : (asking : Asking) → l.regs.hand.items ≡ [] → class_of m.rows asking.size ≡ Some l.regs.class → (kept list : List Addr) → ((n : ℕ) → objects_at n kept + objects_at n list ≡ objects_at n here.objects)
-      → Does m (with_cache (record { objects = kept; room = here.room })) b (at_step (Take asking)) (takes m.rows (at_step (Take asking)) asking list)
+      → Does m (with_cache (record { objects = kept; room = here.room })) b (at_step (Take asking)) (let n = takes l.regs asking list in follows m.rows (with_regs (at_step (Take asking)) n.0) (Some (asks asking)) n.1)
   takes_does asking none asked kept [] moves =
       let new : Transfer = record { objects = kept; room = here.room } in
       carries_as m p locals b before.books p.cpus p.shards (domains_with new) (cut new) (at_step (Take asking)) (goes (at_step (Take asking)) (does.Shard (shard.Fetch asking))) (Asks asking.label asking.size) l.regs.class.0 l.regs.hand.items l.regs.hand.items l.rest refl
@@ -86,16 +91,12 @@ module _ (m : Setup) (limits : HeapConfig) (cpus : ℕ) (p : Parts) (locals : Li
   abbrev put_here : Transfer
   put_here = put_in here l.regs.hand.items
 
-  gives_here : (g : Giving) → IsGiving (limits_of m cpus) l.regs.hand.items g → Does m (with_cache put_here) b (at_step (Put g)) (goes_onward m.rows (with_freed (decides_free (with_hand (at_step (Put g)) (emptied l.regs.hand)) g) l.freed) (behind g))
-  gives_here g gives =
-      gives_hand m p locals b before.books p.cpus p.shards (domains_with put_here) (cut put_here) (limits_of m cpus) (at_step (Put g)) g l.freed l.regs.class.0 l.regs.hand.items gives refl refl
-      (objects put_here l.regs.hand.items [] (λ n. omega (arith, objects_append n here.objects l.regs.hand.items)))
-
-  puts_does : (g : Giving) → IsGiving (limits_of m cpus) l.regs.hand.items g → Does m (with_cache put_here) b (at_step (Put g)) (given m.rows (at_step (Put g)) g)
-  puts_does (giving.Rest s) gives = gives_here (giving.Rest s) gives
-  puts_does (giving.Freed f) gives = gives_here (giving.Freed f) gives
-  puts_does (giving.Row k row) gives = gives_here (giving.Row k row) gives
-  puts_does giving.End gives = gives_here giving.End gives
+  puts_does : (g : Giving) → l.freed.items ≡ [] → IsGiving (limits_of m cpus) l.regs.hand.items g → Does m (with_cache put_here) b (at_step (Put g)) (gave m.rows (with_hand (at_step (Put g)) (emptied l.regs.hand)) g)
+  puts_does g none gives =
+      let l' : Local = with_hand (at_step (Put g)) (emptied l.regs.hand) in
+      let move = objects put_here l.regs.hand.items [] (λ n. omega (arith, objects_append n here.objects l.regs.hand.items)) in
+      subst (λ (xs : List SpanRef). Does m (with_cache put_here) b (at_step (Put g)) (clears m.rows (decides_free l' g) (behind g) xs)) (sym none)
+      (gives_hand m p locals b before.books p.cpus p.shards (domains_with put_here) (cut put_here) (limits_of m cpus) (at_step (Put g)) g l.freed l.regs.class.0 l.regs.hand.items gives refl refl move)
 
   -- or the shard is to get it
   passes_does : (g : Giving) → l.step ≡ does.Front (front.Domain (Put g)) → Does m (with_cache here) b (at_step (Put g)) (goes (at_step (Put g)) (does.Shard (shard.Give g)))
@@ -106,7 +107,8 @@ module _ (m : Setup) (limits : HeapConfig) (cpus : ℕ) (p : Parts) (locals : Li
   domain_does : (row : DomainStep) → l.step ≡ does.Front (front.Domain row) → DomainShape (limits_of m cpus) l row → Does m (with_cache (domain_row m.rows here (at_step row) row).0) b (at_step row) (domain_row m.rows here (at_step row) row).1
   domain_does (Take asking) is shape = takes_does asking shape.0.hand shape.1 (without_last (class_row m.rows l).batch here.objects) (last_first (class_row m.rows l).batch here.objects) (λ n. objects_last n (class_row m.rows l).batch here.objects)
   domain_does (Put g) is shape =
-      cond_both (fits_into here l.regs.hand.items) (put_here, given m.rows (at_step (Put g)) g) (here, goes (at_step (Put g)) (does.Shard (shard.Give g))) (λ (x : Transfer × Local). Does m (with_cache x.0) b (at_step (Put g)) x.1) (λ e. puts_does g shape.1) (λ e. passes_does g is)
+      cond_both (fits_into here l.regs.hand.items) (put_here, record l.regs { hand = emptied l.regs.hand }, next.Gave g) (here, l.regs, next.Give g)
+      (λ (x : Transfer × Regs × Next). Does m (with_cache x.0) b (at_step (Put g)) (follows m.rows (with_regs (at_step (Put g)) x.1) (call_about (about_giving g)) x.2)) (λ e. puts_does g shape.0.freed shape.1) (λ e. passes_does g is)
 
 pub domain_acts_move : DomainActsMove
 domain_acts_move m limits cpus p locals b calls t l d caches row before is at =

@@ -1,22 +1,18 @@
 -- What no act does: it lowers no number of ended calls, and refuses a call only where its step may.
-use Rattle.std.proofs.Common.{◌≡◌, ℕ, ◌+◌, ◌*◌, ◌/◌, ◌≤◌, Bool, true, false, cond, ltb, List, [], ◌∷◌, ◌++◌, length, Option, Some, None, refl, sym, ap, ◌∙◌, arith}
+use Rattle.std.proofs.Common.{◌≡◌, ℕ, ◌*◌, ◌/◌, ◌≤◌, true, false, List, [], ◌∷◌, ◌++◌, Option, Some, None, refl, sym, ap, ◌∙◌, arith}
 use Rattle.std.specs.Prelude.{find}
 use Rattle.std.proofs.lemmas.Bool.{false≢true}
 use Rattle.tc_units.specs.Units.{page_bytes, pages_holding}
-use Rattle.tc_units.specs.Bag.{Contents}
 use Rattle.tc_units.specs.declared.units.Addr.{Addr}
-use Rattle.tc_units.specs.declared.units.Class.{Class}
 use Rattle.tc_units.specs.declared.units.Label.{Label}
-use Rattle.tc_units.specs.declared.units.ThreadNo.{ThreadNo}
 use Rattle.tc_units.specs.declared.spans.SpanRef.{SpanRef}
 use Rattle.tc_units.specs.declared.spans.SpanKind.{SpanKind}
 use Rattle.tc_units.specs.declared.spans.SpanKind.TheVariants.{Small, Large}
 use Rattle.tc_units.specs.declared.spans.ClassRow.{ClassRow}
 use Rattle.tc_model.specs.declared.calls.Call.{Call}
-use Rattle.tc_model.specs.declared.calls.Call.TheVariants.{Malloc, Free, Release, Drain, Resize}
-use Rattle.tc_model.specs.declared.calls.MoveTo.{MoveTo}
+use Rattle.tc_model.specs.declared.calls.Call.TheVariants.{Malloc, Free, Release}
 use Rattle.tc_model.specs.declared.answers.Answer.{Answer}
-use Rattle.tc_model.specs.declared.answers.Answer.TheVariants.{Block, Freed, FreedNull, Released, Drained, Busy, NoBlock, CapSet, OverLimit, OverStatic}
+use Rattle.tc_model.specs.declared.answers.Answer.TheVariants.{Block, Freed, FreedNull, Released, NoBlock}
 use Rattle.tc_model.specs.Run.{run}
 use Rattle.page_map.specs.Spans.{SpanMap, holds}
 use Rattle.name_table.specs.declared.table.NameState.{NameState}
@@ -26,56 +22,47 @@ use Rattle.heap_rules.specs.Heap as heaps
 use Rattle.heap_rules.specs.New.{Placed, new}
 use Rattle.heap_rules.specs.Release.{release}
 use Rattle.rseq_core.specs.declared.cpu_part.CpuPart.{CpuPart}
-use Rattle.rseq_core.specs.declared.sequence.Reply.{Reply}
-use Rattle.rseq_core.specs.declared.sequence.Reply.TheVariants as reply
-use Rattle.rseq_core.specs.declared.answers.Instructed.{Instructed}
-use Rattle.rseq_core.specs.declared.answers.Instructed.TheVariants as instructed
-use Rattle.rseq_core.specs.declared.answers.Grew.{Grew}
-use Rattle.rseq_core.specs.declared.answers.Grew.TheVariants as grew
-use Rattle.rseq_core.specs.Acts as rseq
+use Rattle.rseq_core.specs.declared.regs.Regs.{Regs}
 use Rattle.rseq_core.specs.Bags.{without_first, emptied}
-use Rattle.cpu_drain.specs.Drains as drains
-use Rattle.transfer_cache.specs.Transfer.{Transfer, last_first}
+use Rattle.transfer_cache.specs.Transfer.{Transfer}
 use Rattle.central_free.specs.Central.{opening}
 use Rattle.class_shard.specs.Shard as shards
 use Rattle.holdings.specs.Runs.{small, address_of}
 use Rattle.call_steps.specs.declared.step.Asking.{Asking}
 use Rattle.call_steps.specs.declared.step.Serving.{Serving}
-use Rattle.call_steps.specs.declared.step.Freeing.{Freeing}
-use Rattle.call_steps.specs.declared.step.Stopping.{Stopping}
-use Rattle.call_steps.specs.declared.step.Resizing.{Resizing}
-use Rattle.call_steps.specs.declared.step.Stopping.TheVariants as stopping
 use Rattle.call_steps.specs.declared.step.Giving.{Giving}
 use Rattle.call_steps.specs.declared.step.Giving.TheVariants as giving
 use Rattle.call_steps.specs.declared.step.Onward.{Onward}
 use Rattle.call_steps.specs.declared.step.Onward.TheVariants as onward
 use Rattle.call_steps.specs.declared.step.Step.{Step}
 use Rattle.call_steps.specs.declared.step.Step.TheVariants as does
+use Rattle.call_steps.specs.declared.step.Next.{Next}
+use Rattle.call_steps.specs.declared.step.Next.TheVariants as next
+use Rattle.call_steps.specs.declared.step.CpuRow.{CpuRow}
 use Rattle.call_steps.specs.declared.step.CpuRow.TheVariants as front
 use Rattle.call_steps.specs.declared.step.CpuStep.{CpuStep}
-use Rattle.call_steps.specs.declared.step.CpuStep.TheVariants as cpu
 use Rattle.call_steps.specs.declared.step.ShardStep.{ShardStep}
 use Rattle.call_steps.specs.declared.step.ShardStep.TheVariants as shard
 use Rattle.call_steps.specs.declared.step.DomainStep.{DomainStep}
-use Rattle.call_steps.specs.declared.step.DomainStep.TheVariants as domain
 use Rattle.call_steps.specs.declared.step.HeapStep.{HeapStep}
 use Rattle.call_steps.specs.declared.step.HeapStep.TheVariants as heap
 use Rattle.call_steps.specs.declared.step.MapStep.{MapStep}
 use Rattle.call_steps.specs.declared.step.MapStep.TheVariants as mapped
 use Rattle.call_steps.specs.declared.step.NamesStep.{NamesStep}
 use Rattle.call_steps.specs.declared.step.NamesStep.TheVariants as names
-use Rattle.call_steps.specs.Local.{Local, decided, goes, ends, class_row, Decided}
-use Rattle.call_steps.specs.Hands.{with_hand, stocks, serves_first, goes_onward, given, given_back, clears, with_freed}
-use Rattle.call_steps.specs.CpuActs.{call_of, due, with_regs, moves_to, after_pop, gives_rest, after_push, replied, instructed_to, sequence_by, grew_to, stops, drains_on, drained, took, gives_taken, started, left_for, cpu_row, cap_answer}
-use Rattle.call_steps.specs.ShardActs.{with_more, fetches, takes, with_spans_behind, fits_into, put_in, shard_row, domain_row}
+use Rattle.call_steps.specs.Local.{Local, decided, ends, class_row, Decided}
+use Rattle.call_steps.specs.Calls.{about_row, call_about}
+use Rattle.call_steps.specs.Hands.{with_hand, stocks, serves_first, goes_onward, gave, clears, with_freed}
+use Rattle.call_steps.specs.CpuActs.{Left, cpu_acts, domain_acts}
+use Rattle.call_steps.specs.Follows.{ComesWith, says as says_in, goes_or_ends, follows, with_next, cpu_row, domain_row}
+use Rattle.call_steps.proofs.Nexts.{cpu_comes, domain_comes}
+use Rattle.call_steps.specs.ShardActs.{with_more, fetches, with_spans_behind, shard_row}
 use Rattle.call_steps.specs.Acts.{after_new, after_new_span, frees_span, without_first_span, heap_row, found, after_lookup, clears_span, map_row, after_take, names_row, cpu_after, shard_after, heap_after, map_after, names_after, domain_after}
 use Rattle.alloc_rules.specs.declared.part.Part.{Part}
 use Rattle.alloc_rules.specs.declared.part.Part.TheVariants as part
 use Rattle.alloc_rules.specs.Machine.{after}
-use Rattle.cpu_slab.specs.declared.slab.CapFault.{CapFault}
-use Rattle.cpu_slab.specs.declared.slab.CapFault.TheVariants as fault
-use Rattle.cpu_slab.specs.Caps.{cap_fault}
-use Rattle.alloc_rules.specs.Answers.{Decides, is_refusal, may_refuse, RefusesThere}
+use Rattle.call_steps.specs.Refusals.{is_refusal, may_refuse}
+use Rattle.alloc_rules.specs.Answers.{Decides, RefusesThere}
 use Rattle.alloc_rules.proofs.Answering.{GoesAs, ends_goes, decides_by, decides_none}
 
 -- An act leaves no fewer ended calls, and refused none.
@@ -136,19 +123,13 @@ module _ (rows : List ClassRow) where
       let g = stocks_goes (decided (with_hand x (without_first 1 x.regs.hand)) (Malloc a.label a.size) (Block o (class_row rows x).size)) (record { label = a.label; addr = o }) others in
       says x _ (Malloc a.label a.size) (Block o (class_row rows x).size) refl g.ended g.answers
 
-  given_leaves : (x : Local) (g : Giving) → Plain x (given rows x g)
-  given_leaves x (giving.Rest s) = quiet x _ (omega arith) refl
-  given_leaves x (giving.Freed f) = from x (with_hand x (emptied x.regs.hand)) _ refl refl refl (ends_saying (with_hand x (emptied x.regs.hand)) (Free f.label) (Freed f.addr) refl)
-  given_leaves x (giving.Row k row) = quiet x _ (omega arith) refl
-  given_leaves x giving.End = from x (with_hand x (emptied x.regs.hand)) _ refl refl refl (ends_quietly (with_hand x (emptied x.regs.hand)))
-
-  given_back_leaves : (x : Local) (g : Giving) (freed : Contents SpanRef) → Plain x (given_back rows x g freed)
-  given_back_leaves x (giving.Rest s) freed = let g = clears_goes (with_freed (with_hand x (emptied x.regs.hand)) freed) (onward.Publish s) freed.items in quiet x _ g.ended g.answers
-  given_back_leaves x (giving.Freed f) freed =
-      let g = clears_goes (with_freed (decided (with_hand x (emptied x.regs.hand)) (Free f.label) (Freed f.addr)) freed) onward.End freed.items in
+  gave_leaves : (x : Local) (g : Giving) → Plain x (gave rows x g)
+  gave_leaves x (giving.Rest s) = let g = clears_goes x (onward.Publish s) x.freed.items in quiet x _ g.ended g.answers
+  gave_leaves x (giving.Freed f) =
+      let g = clears_goes (decided x (Free f.label) (Freed f.addr)) onward.End x.freed.items in
       says x _ (Free f.label) (Freed f.addr) refl g.ended g.answers
-  given_back_leaves x (giving.Row k row) freed = let g = clears_goes (with_freed (with_hand x (emptied x.regs.hand)) freed) (onward.Row k row) freed.items in quiet x _ g.ended g.answers
-  given_back_leaves x giving.End freed = let g = clears_goes (with_freed (with_hand x (emptied x.regs.hand)) freed) onward.End freed.items in quiet x _ g.ended g.answers
+  gave_leaves x (giving.Row k row) = let g = clears_goes x (onward.Row k row) x.freed.items in quiet x _ g.ended g.answers
+  gave_leaves x giving.End = let g = clears_goes x onward.End x.freed.items in quiet x _ g.ended g.answers
 
   -- the page heap
   frees_leaves : (h : heaps.Heap) (l : Local) (next : Onward) (xs : List SpanRef) → Plain l (frees_span rows h l next xs).1
@@ -211,109 +192,45 @@ module _ (rows : List ClassRow) where
   shard_leaves s l (shard.AddFetch a run) =
       let x : Local = with_more l (opening (small l.regs.class run) s.central.row.size (class_row rows l).batch) in
       from l x _ refl refl refl (serves_leaves x a x.regs.hand.items)
-  shard_leaves s l (shard.Give g) = given_back_leaves l g (with_spans_behind l.freed (shards.freed_by l.regs.hand.items s))
+  shard_leaves s l (shard.Give g) =
+      let x : Local = with_freed (with_hand l (emptied l.regs.hand)) (with_spans_behind l.freed (shards.freed_by l.regs.hand.items s)) in
+      from l x _ refl refl refl (gave_leaves x g)
 
-  -- the cache of a domain
-  takes_leaves : (l : Local) (a : Asking) (objects : List Addr) → Plain l (takes rows l a objects)
-  takes_leaves l a [] = quiet l _ (omega arith) refl
-  takes_leaves l a (o ∷ others) = from l (with_more l (o ∷ others)) _ refl refl refl (serves_leaves (with_more l (o ∷ others)) a (with_more l (o ∷ others)).regs.hand.items)
+  -- an act of the per-CPU caches, by what comes behind it
+  tells : (s : Step) (l y : Local) (call : Call) (answer : Answer) → (is_refusal answer ≡ true → may_refuse s answer ≡ true) → l.ended ≤ y.ended → y.answers ≡ l.answers ++ record { act = l.acts; call = call; answer = answer } ∷ [] → Leaves s l y
+  tells s l y call answer may ended is =
+      record {
+        ended = ended;
+        there = λ x refusal none d. (let same : answer ≡ x = (decides_by l y call answer x is).0 d in absurd (false≢true (sym none ∙ (ap (may_refuse s) (sym same) ∙ may (ap is_refusal same ∙ refusal)))));
+      }
 
-  put_leaves : (t : Transfer) (l : Local) (g : Giving) (b : Bool) → Plain l (cond {A = Transfer × Local} b (put_in t l.regs.hand.items, given rows l g) (t, goes l (does.Shard (shard.Give g)))).1
-  put_leaves t l g true = given_leaves l g
-  put_leaves t l g false = quiet l _ (omega arith) refl
+  decides_leaves : (s : Step) (x : Local) (call : Option Call) (answer : Answer) (row : Option CpuRow) → (is_refusal answer ≡ true → may_refuse s answer ≡ true) → Leaves s x (goes_or_ends rows (says_in x call answer) row)
+  decides_leaves s x None answer None may = leaves_of s x _ (ends_quietly x)
+  decides_leaves s x None answer (Some row) may = leaves_of s x _ (quiet x _ (omega arith) refl)
+  decides_leaves s x (Some call) answer None may = let g = ends_goes rows (decided x call answer) in tells s x _ call answer may g.ended g.answers
+  decides_leaves s x (Some call) answer (Some row) may = tells s x _ call answer may (omega arith) refl
 
-  domain_leaves : (t : Transfer) (l : Local) (row : DomainStep) → Plain l (domain_row rows t l row).1
-  domain_leaves t l (domain.Take a) = takes_leaves l a (last_first (class_row rows l).batch t.objects)
-  domain_leaves t l (domain.Put g) = put_leaves t l g (fits_into t l.regs.hand.items)
+  follows_leaves : (row : CpuRow) (x : Local) (domains : ℕ) (r : Regs) (n : Next) → ComesWith (λ y. Unit {0}) row domains r n → Leaves (does.Front row) x (follows rows x (call_about (about_row row)) n)
+  follows_leaves row x domains r (next.Row to) may = leaves_of (does.Front row) x _ (quiet x _ (omega arith) refl)
+  follows_leaves row x domains r (next.Serve a) may = leaves_of (does.Front row) x _ (serves_leaves x a x.regs.hand.items)
+  follows_leaves row x domains r (next.Fetch a) may = leaves_of (does.Front row) x _ (quiet x _ (omega arith) refl)
+  follows_leaves row x domains r (next.Give g) may = leaves_of (does.Front row) x _ (quiet x _ (omega arith) refl)
+  follows_leaves row x domains r (next.Gave g) may = leaves_of (does.Front row) x _ (gave_leaves x g)
+  follows_leaves row x domains r (next.Publish s) may = leaves_of (does.Front row) x _ (quiet x _ (omega arith) refl)
+  follows_leaves row x domains r (next.Freed f) may = leaves_of (does.Front row) x _ (ends_saying x (Free f.label) (Freed f.addr) refl)
+  follows_leaves row x domains r (next.Decide answer to) may = decides_leaves (does.Front row) x (call_about (about_row row)) answer to may.1
+  follows_leaves row x domains r next.End may = leaves_of (does.Front row) x _ (ends_quietly x)
 
-  -- a CPU
-  pop_leaves : (l : Local) (a : Asking) (r : Reply) → Plain l (after_pop rows l a r)
-  pop_leaves l a reply.Popped = serves_leaves l a l.regs.hand.items
-  pop_leaves l a reply.Empty = quiet l _ (omega arith) refl
-  pop_leaves l a reply.Stopped = quiet l _ (omega arith) refl
-  pop_leaves l a reply.Full = quiet l _ (omega arith) refl
-  pop_leaves l a (reply.Pushed n) = quiet l _ (omega arith) refl
-
-  rest_leaves : (l : Local) (s : Serving) (hand : List Addr) → Plain l (gives_rest l s hand)
-  rest_leaves l s [] = quiet l _ (omega arith) refl
-  rest_leaves l s (o ∷ others) = quiet l _ (omega arith) refl
-
-  push_leaves : (l : Local) (f : Freeing) (r : Reply) → Plain l (after_push rows l f r)
-  push_leaves l f (reply.Pushed n) = ends_saying l (Free f.label) (Freed f.addr) refl
-  push_leaves l f reply.Full = quiet l _ (omega arith) refl
-  push_leaves l f reply.Stopped = quiet l _ (omega arith) refl
-  push_leaves l f reply.Empty = quiet l _ (omega arith) refl
-  push_leaves l f reply.Popped = quiet l _ (omega arith) refl
-
-  replied_leaves : (l : Local) (row : CpuStep) (r : Reply) → Plain l (replied rows l row r)
-  replied_leaves l (cpu.Pop a) r = pop_leaves l a r
-  replied_leaves l (cpu.Stock s) r = rest_leaves l s l.regs.hand.items
-  replied_leaves l (cpu.Push f) r = push_leaves l f r
-  replied_leaves l (cpu.PopBatch f) r = quiet l _ (omega arith) refl
-  replied_leaves l (cpu.Grow a) r = quiet l l (omega arith) refl
-  replied_leaves l (cpu.Stop s) r = quiet l l (omega arith) refl
-  replied_leaves l (cpu.Fence s) r = quiet l l (omega arith) refl
-  replied_leaves l (cpu.Take s) r = quiet l l (omega arith) refl
-  replied_leaves l (cpu.SetCap x) r = quiet l l (omega arith) refl
-  replied_leaves l (cpu.Start s) r = quiet l l (omega arith) refl
-  replied_leaves l cpu.Leave r = quiet l l (omega arith) refl
-
-  instructed_leaves : (l : Local) (row : CpuStep) (x : Instructed) → Plain l (instructed_to rows l row x)
-  instructed_leaves l row instructed.In = quiet l _ (omega arith) refl
-  instructed_leaves l row instructed.Back = quiet l _ (omega arith) refl
-  instructed_leaves l row instructed.Ran = quiet l _ (omega arith) refl
-  instructed_leaves l row (instructed.Done r) = replied_leaves l row r
-
-  sequence_leaves : (p : CpuPart) (l : Local) (row : CpuStep) (o : Option MoveTo) → Plain l (sequence_by rows p l row o).1
-  sequence_leaves p l row None = from l (with_regs l (rseq.instructed p l.regs).regs) _ refl refl refl (instructed_leaves (with_regs l (rseq.instructed p l.regs).regs) row (rseq.instructed p l.regs).answer)
-  sequence_leaves p l row (Some move) = quiet l _ (omega arith) refl
-
-  grew_leaves : (l : Local) (a : Asking) (x : Grew) → Plain l (grew_to l a x)
-  grew_leaves l a grew.In = quiet l _ (omega arith) refl
-  grew_leaves l a grew.Back = quiet l _ (omega arith) refl
-  grew_leaves l a grew.Done = quiet l _ (omega arith) refl
-
-  stop_leaves : (p : CpuPart) (l : Local) (s : Stopping) (o : Option ThreadNo) → Leaves (does.Front (front.Cpu (cpu.Stop s))) l (stops rows p l s o).1
-  stop_leaves p l s None = leaves_of (does.Front (front.Cpu (cpu.Stop s))) l _ (quiet l _ (omega arith) refl)
-  stop_leaves p l s (Some owner) = let g = ends_goes rows (decided l (call_of s) (Busy owner)) in refuses (does.Front (front.Cpu (cpu.Stop s))) l _ (call_of s) (Busy owner) refl g.ended g.answers
-
-  cap_leaves : (l : Local) (r : Resizing) (o : Option CapFault) → Leaves (does.Front (front.Cpu (cpu.SetCap r))) l (goes (decided l (Resize r.cpu r.class r.cap) (cap_answer o)) (does.Front (front.Cpu (cpu.Start (stopping.Resize r)))))
-  cap_leaves l r None = leaves_of (does.Front (front.Cpu (cpu.SetCap r))) l _ (says l _ (Resize r.cpu r.class r.cap) CapSet refl (omega arith) refl)
-  cap_leaves l r (Some (fault.OverStatic cap)) = refuses (does.Front (front.Cpu (cpu.SetCap r))) l _ (Resize r.cpu r.class r.cap) (OverStatic cap) refl (omega arith) refl
-  cap_leaves l r (Some (fault.OverLimit sum)) = refuses (does.Front (front.Cpu (cpu.SetCap r))) l _ (Resize r.cpu r.class r.cap) (OverLimit sum) refl (omega arith) refl
-
-  drained_leaves : (l : Local) (next : Class × CpuStep) (hand : List Addr) → Plain l (drained l hand next)
-  drained_leaves l next [] = quiet l _ (omega arith) refl
-  drained_leaves l next (o ∷ others) = quiet l _ (omega arith) refl
-
-  took_leaves : (l : Local) (s : Stopping) → Plain l (took rows l s)
-  took_leaves l (stopping.Drain d) = drained_leaves l (drains_on rows l.regs.class (record d { taken = d.taken + length l.regs.hand.items })) l.regs.hand.items
-  took_leaves l (stopping.Resize r) = quiet l _ (omega arith) refl
-
-  taken_leaves : (l : Local) (hand : List Addr) → Plain l (gives_taken rows l hand)
-  taken_leaves l [] = ends_quietly l
-  taken_leaves l (o ∷ others) = quiet l _ (omega arith) refl
-
-  started_leaves : (l : Local) (s : Stopping) → Plain l (started rows l s)
-  started_leaves l (stopping.Drain d) = ends_saying l (Drain d.cpu) (Drained d.taken) refl
-  started_leaves l (stopping.Resize r) = taken_leaves l l.regs.hand.items
-
-  left_leaves : (p : CpuPart) (l : Local) (o : Option MoveTo) → Plain l (left_for rows p l o).1
-  left_leaves p l None = ends_quietly l
-  left_leaves p l (Some move) = from l (moves_to l move) _ refl refl refl (ends_quietly (moves_to l move))
+  front_leaves : {P : Type 0} (l : Local) (row : CpuRow) (x : Left P) → ComesWith (λ y. Unit {0}) row x.seat.domains x.regs x.next → Leaves (does.Front row) l (with_next rows l (about_row row) x).1
+  front_leaves l row x may =
+      let leaves = follows_leaves row (record l { seat = x.seat; regs = x.regs }) x.seat.domains x.regs x.next may in
+      record { ended = leaves.ended; there = λ a refusal none d. leaves.there a refusal none (record { call = d.call; answers = d.answers }) }
 
   cpu_leaves : (p : CpuPart) (l : Local) (row : CpuStep) → Leaves (does.Front (front.Cpu row)) l (cpu_row rows p l row).1
-  cpu_leaves p l (cpu.Pop a) = leaves_of (does.Front (front.Cpu (cpu.Pop a))) l _ (sequence_leaves p l (cpu.Pop a) (due l.moved l.regs.ran))
-  cpu_leaves p l (cpu.Grow a) = leaves_of (does.Front (front.Cpu (cpu.Grow a))) l _ (from l (with_regs l (rseq.grew_here p l.regs).regs) _ refl refl refl (grew_leaves (with_regs l (rseq.grew_here p l.regs).regs) a (rseq.grew_here p l.regs).answer))
-  cpu_leaves p l (cpu.Stock s) = leaves_of (does.Front (front.Cpu (cpu.Stock s))) l _ (sequence_leaves p l (cpu.Stock s) (due l.moved l.regs.ran))
-  cpu_leaves p l (cpu.Push f) = leaves_of (does.Front (front.Cpu (cpu.Push f))) l _ (sequence_leaves p l (cpu.Push f) (due l.moved l.regs.ran))
-  cpu_leaves p l (cpu.PopBatch f) = leaves_of (does.Front (front.Cpu (cpu.PopBatch f))) l _ (sequence_leaves p l (cpu.PopBatch f) (due l.moved l.regs.ran))
-  cpu_leaves p l (cpu.Stop s) = stop_leaves p l s p.stopper
-  cpu_leaves p l (cpu.Fence s) = leaves_of (does.Front (front.Cpu (cpu.Fence s))) l _ (quiet l _ (omega arith) refl)
-  cpu_leaves p l (cpu.Take s) = leaves_of (does.Front (front.Cpu (cpu.Take s))) l _ (from l (with_hand l (drains.taken_to p l.regs.class.0 l.regs.hand)) _ refl refl refl (took_leaves (with_hand l (drains.taken_to p l.regs.class.0 l.regs.hand)) s))
-  cpu_leaves p l (cpu.SetCap r) = cap_leaves l r (cap_fault p.slab l.regs.class.0 r.cap)
-  cpu_leaves p l (cpu.Start s) = leaves_of (does.Front (front.Cpu (cpu.Start s))) l _ (started_leaves l s)
-  cpu_leaves p l cpu.Leave = leaves_of (does.Front (front.Cpu cpu.Leave)) l _ (left_leaves p l l.moved)
+  cpu_leaves p l row = front_leaves l (front.Cpu row) (cpu_acts rows p l.seat l.regs row) (cpu_comes (λ y. Unit {0}) rows l.seat p l.regs row (λ a is done. tt)).0
+
+  domain_leaves : (t : Transfer) (l : Local) (row : DomainStep) → Leaves (does.Front (front.Domain row)) l (domain_row rows t l row).1
+  domain_leaves t l row = front_leaves l (front.Domain row) (domain_acts rows t l.seat l.regs row) (domain_comes (λ y. Unit {0}) rows l.seat t l.regs row (λ a objects is some. tt)).0
 
   -- a step on another kind of part changes nothing
   cpu_after_leaves : (p : CpuPart) (l : Local) (s : Step) → Leaves s l (cpu_after rows p l s).1
@@ -363,7 +280,7 @@ module _ (rows : List ClassRow) where
 
   domain_after_leaves : (t : Transfer) (l : Local) (s : Step) → Leaves s l (domain_after rows t l s).1
   domain_after_leaves t l (does.Front (front.Cpu row)) = leaves_of (does.Front (front.Cpu row)) l l (quiet l l (omega arith) refl)
-  domain_after_leaves t l (does.Front (front.Domain row)) = leaves_of (does.Front (front.Domain row)) l _ (domain_leaves t l row)
+  domain_after_leaves t l (does.Front (front.Domain row)) = domain_leaves t l row
   domain_after_leaves t l (does.Shard row) = leaves_of (does.Shard row) l l (quiet l l (omega arith) refl)
   domain_after_leaves t l (does.Heap row) = leaves_of (does.Heap row) l l (quiet l l (omega arith) refl)
   domain_after_leaves t l (does.Map row) = leaves_of (does.Map row) l l (quiet l l (omega arith) refl)

@@ -27,7 +27,10 @@ use Rattle.call_steps.specs.declared.step.Step.{Step}
 use Rattle.call_steps.specs.declared.step.Step.TheVariants as does
 use Rattle.call_steps.specs.declared.step.CpuRow.TheVariants as front
 use Rattle.call_steps.specs.Local.{Local, goes, no_class, class_row}
-use Rattle.call_steps.specs.CpuActs.{with_regs, due, instructed_to, instructs, sequence_by, grows, stops, cpu_row, runs_open, yields_to_enter, yields_for}
+use Rattle.call_steps.specs.CpuActs.{due, instructed_to, instructs, sequence_by, grows, stops, runs_open, yields_to_enter, yields_for}
+use Rattle.call_steps.specs.Calls.{call_of, about_cpu, call_about}
+use Rattle.call_steps.specs.Hands.{with_regs}
+use Rattle.call_steps.specs.Follows.{follows, with_next, cpu_row}
 use Rattle.call_steps.specs.Acts.{cpu_after}
 use Rattle.call_steps.specs.Shapes.{Limits, AreRows, StepShape, IsShaped}
 use Rattle.alloc_rules.specs.Switches.{Kind, enters, closes, neither, instructed_kind, sequence_kind, growth_kind, step_kind}
@@ -70,7 +73,7 @@ pub record Enters (p : CpuPart) (l : Local) (x : CpuPart × Local) : Type 0 wher
   pub has : HasToEnter l.step
   pub closed : runs_open p ≡ false
   pub cpu : x.0 ≡ entered p l.regs.thread
-  pub home : x.1.cpu ≡ l.cpu
+  pub home : x.1.seat.cpu ≡ l.seat.cpu
   pub step : x.1.step ≡ l.step
   pub begin : x.1.regs.pc ≡ Begin
 
@@ -81,7 +84,7 @@ pub record Executes (p : CpuPart) (l : Local) (x : CpuPart × Local) : Type 0 wh
   pub same : x.0.running ≡ p.running
   pub marked : p.is_open ≡ true → x.0.is_open ≡ true
   pub ran : x.0.ran ≤ p.ran + 1
-  pub home : x.1.cpu ≡ l.cpu
+  pub home : x.1.seat.cpu ≡ l.seat.cpu
   pub step : x.1.step ≡ l.step
   pub few : CopiesFew l.regs.count l.regs.pc → CopiesFew x.1.regs.count x.1.regs.pc × (executed x.1.regs.count x.1.regs.pc ≡ executed l.regs.count l.regs.pc + 1)
 
@@ -136,22 +139,22 @@ polite_closed false true polite other = absurd (cc)
 polite_closed false false polite other = refl
 
 module _ (rows : List ClassRow) (p : CpuPart) (l : Local) (has : HasToEnter l.step) (polite : yields_to_enter p l ≡ true) where
-  enters_as : (regs : Regs) (next : Local) → regs.pc ≡ Begin → next ≡ goes (with_regs l regs) l.step → runs p.running l.regs.thread ≡ false → Enters p l (entered p l.regs.thread, next)
-  enters_as regs next begin is other =
+  enters_as : (row : CpuStep) (regs : Regs) (next : Local) → l.step ≡ does.Front (front.Cpu row) → regs.pc ≡ Begin → next ≡ goes (with_regs l regs) (does.Front (front.Cpu row)) → runs p.running l.regs.thread ≡ false → Enters p l (entered p l.regs.thread, next)
+  enters_as row regs next own begin is other =
       record {
         has = has;
         closed = polite_closed (runs p.running l.regs.thread) (runs_open p) polite other;
         cpu = refl;
-        home = ap (λ (k : Local). k.cpu) is;
-        step = ap (λ (k : Local). k.step) is;
+        home = ap (λ (k : Local). k.seat.cpu) is;
+        step = ap (λ (k : Local). k.step) is ∙ sym own;
         begin = ap (λ (k : Local). k.regs.pc) is ∙ begin;
       }
 
-  module _ (row : CpuStep) (few : wanted l.regs.seq l.regs.hand.items ≤ LOADED_ROOM) where
+  module _ (row : CpuStep) (own : l.step ≡ does.Front (front.Cpu row)) (few : wanted l.regs.seq l.regs.hand.items ≤ LOADED_ROOM) where
     abbrev c : Cell
     c = instruction p l.regs
 
-    executes_as : runs p.running l.regs.thread ≡ true → (o : Option Reply) → c.reply ≡ o → DoesAs (instructed_kind (answered o)) p l (with_cell p l.regs c, instructed_to rows (with_regs l c.regs) row (answered o))
+    executes_as : runs p.running l.regs.thread ≡ true → (o : Option Reply) → c.reply ≡ o → DoesAs (instructed_kind (answered o)) p l (with_cell p l.regs c, (let n = instructed_to rows l.seat c.regs row (answered o) in follows rows (with_regs l n.0) (call_about (about_cpu row)) n.1))
     executes_as here None is =
         inl (record {
           has = has;
@@ -160,25 +163,25 @@ module _ (rows : List ClassRow) (p : CpuPart) (l : Local) (has : HasToEnter l.st
           marked = open_stays l.regs.pc c.reply p.is_open is;
           ran = omega arith;
           home = refl;
-          step = refl;
+          step = sym own;
           few = cell_few (stands p.stopper) (is_pop l.regs.seq) (row_at p.slab l.regs.class.0) l.regs l.regs.pc few is;
         })
     executes_as here (Some r) is = tt
 
-    instructs_as : (a b : Bool) → runs p.running l.regs.thread ≡ a → let x = instructed_by (arrival a b) p l.regs in DoesAs (instructed_kind x.answer) p l (instructs rows p l row x)
-    instructs_as false b is = enters_as (entering p l.regs) (goes (with_regs l (entering p l.regs)) l.step) refl refl is
+    instructs_as : (a b : Bool) → runs p.running l.regs.thread ≡ a → let x = instructed_by (arrival a b) p l.regs in DoesAs (instructed_kind x.answer) p l (with_next rows l (about_cpu row) (instructs rows l.seat row x))
+    instructs_as false b is = enters_as row (entering p l.regs) (goes (with_regs l (entering p l.regs)) (does.Front (front.Cpu row))) own refl refl is
     instructs_as true false is = tt
     instructs_as true true is = executes_as is c.reply refl
 
-  grows_as : (asking : Asking) (a b : Bool) → runs p.running l.regs.thread ≡ a → let x = grew_by (arrival a b) p l.regs in DoesAs (growth_kind x.answer) p l (grows p l asking x)
-  grows_as asking false b is = enters_as (entering p l.regs) (goes (with_regs l (entering p l.regs)) l.step) refl refl is
-  grows_as asking true false is = tt
-  grows_as asking true true is = tt
+  grows_as : (asking : Asking) (a b : Bool) → l.step ≡ does.Front (front.Cpu (Grow asking)) → runs p.running l.regs.thread ≡ a → let x = grew_by (arrival a b) p l.regs in DoesAs (growth_kind x.answer) p l (with_next rows l (about_cpu (Grow asking)) (grows l.seat asking x))
+  grows_as asking false b own is = enters_as (Grow asking) (entering p l.regs) (goes (with_regs l (entering p l.regs)) (does.Front (front.Cpu (Grow asking)))) own refl refl is
+  grows_as asking true false own is = tt
+  grows_as asking true true own is = tt
 
 -- with a move that is due the thread leaves
-sequence_as : (rows : List ClassRow) (p : CpuPart) (l : Local) (row : CpuStep) → HasToEnter l.step → wanted l.regs.seq l.regs.hand.items ≤ LOADED_ROOM → (o : Option MoveTo) → (is_some o || yields_to_enter p l) ≡ true → DoesAs (sequence_kind p l o) p l (sequence_by rows p l row o)
-sequence_as rows p l row has few None polite = instructs_as rows p l has polite row few (runs p.running l.regs.thread) (eqb l.regs.epoch p.epoch) refl
-sequence_as rows p l row has few (Some move) polite = tt
+sequence_as : (rows : List ClassRow) (p : CpuPart) (l : Local) (row : CpuStep) → l.step ≡ does.Front (front.Cpu row) → HasToEnter l.step → wanted l.regs.seq l.regs.hand.items ≤ LOADED_ROOM → (o : Option MoveTo) → (is_some o || yields_to_enter p l) ≡ true → DoesAs (sequence_kind p l o) p l (with_next rows l (about_cpu row) (sequence_by rows p l.seat l.regs row o))
+sequence_as rows p l row own has few None polite = instructs_as rows p l has polite row own few (runs p.running l.regs.thread) (eqb l.regs.epoch p.epoch) refl
+sequence_as rows p l row own has few (Some move) polite = tt
 
 -- what a sequence of a shaped local is for
 wants : (l : Local) (s : Seq) → l.regs.seq ≡ s → wanted l.regs.seq l.regs.hand.items ≡ wanted s l.regs.hand.items
@@ -203,16 +206,16 @@ module _ (m : Limits) (t : ℕ) (p : CpuPart) (l : Local) (table : AreRows m.row
   few_batch : (class_row m.rows l).batch ≤ LOADED_ROOM
   few_batch = (table.each l.regs.class.0 no_class shaped.class).few
 
-  stops_as : (s : Stopping) → l.step ≡ does.Front (front.Cpu (Stop s)) → (o : Option ThreadNo) → p.stopper ≡ o → DoesAs neither p l (stops m.rows p l s o)
-  stops_as s is None none = still (stops m.rows p l s None) (away_by (does.Front (front.Cpu (Stop s))) is (λ has. has)) (ap (λ (o : Option ThreadNo). (drains.stopped_by o p l.regs.thread).running) none) (ap (λ (o : Option ThreadNo). (drains.stopped_by o p l.regs.thread).is_open) none) (ap (λ (o : Option ThreadNo). (drains.stopped_by o p l.regs.thread).ran) none)
-  stops_as s is (Some u) some = still (stops m.rows p l s (Some u)) (away_by (does.Front (front.Cpu (Stop s))) is (λ has. has)) refl refl refl
+  stops_as : (s : Stopping) → l.step ≡ does.Front (front.Cpu (Stop s)) → (o : Option ThreadNo) → p.stopper ≡ o → (let n = stops p l.regs.thread s o in DoesAs neither p l (n.0, follows m.rows l (Some (call_of s)) n.1))
+  stops_as s is None none = still ((stops p l.regs.thread s None).0, follows m.rows l (Some (call_of s)) (stops p l.regs.thread s None).1) (away_by (does.Front (front.Cpu (Stop s))) is (λ has. has)) (ap (λ (o : Option ThreadNo). (drains.stopped_by o p l.regs.thread).running) none) (ap (λ (o : Option ThreadNo). (drains.stopped_by o p l.regs.thread).is_open) none) (ap (λ (o : Option ThreadNo). (drains.stopped_by o p l.regs.thread).ran) none)
+  stops_as s is (Some u) some = still (p, follows m.rows l (Some (call_of s)) (stops p l.regs.thread s (Some u)).1) (away_by (does.Front (front.Cpu (Stop s))) is (λ has. has)) refl refl refl
 
   row_as : (row : CpuStep) → l.step ≡ does.Front (front.Cpu row) → At (does.Front (front.Cpu row)) → As (does.Front (front.Cpu row))
-  row_as (Pop a) is shape polite = sequence_as m.rows p l (Pop a) (has_by (does.Front (front.Cpu (Pop a))) is tt) (omega (arith, wants l seq.Pop shape.0.seq)) (due l.moved l.regs.ran) polite
-  row_as (Grow a) is shape polite = grows_as m.rows p l (has_by (does.Front (front.Cpu (Grow a))) is tt) polite a (runs p.running l.regs.thread) (eqb l.regs.epoch p.epoch) refl
-  row_as (Stock s) is shape polite = sequence_as m.rows p l (Stock s) (has_by (does.Front (front.Cpu (Stock s))) is tt) (omega (arith, wants l seq.PushBatch shape.0.seq, shape.2)) (due l.moved l.regs.ran) polite
-  row_as (Push f) is shape polite = sequence_as m.rows p l (Push f) (has_by (does.Front (front.Cpu (Push f))) is tt) (omega (arith, wants l seq.Push shape.0.seq)) (due l.moved l.regs.ran) polite
-  row_as (PopBatch f) is shape polite = sequence_as m.rows p l (PopBatch f) (has_by (does.Front (front.Cpu (PopBatch f))) is tt) (omega (arith, wants l (seq.PopBatch (class_row m.rows l).batch) shape.0.seq, few_batch)) (due l.moved l.regs.ran) polite
+  row_as (Pop a) is shape polite = sequence_as m.rows p l (Pop a) is (has_by (does.Front (front.Cpu (Pop a))) is tt) (omega (arith, wants l seq.Pop shape.0.seq)) (due l.seat.moved l.regs.ran) polite
+  row_as (Grow a) is shape polite = grows_as m.rows p l (has_by (does.Front (front.Cpu (Grow a))) is tt) polite a (runs p.running l.regs.thread) (eqb l.regs.epoch p.epoch) is refl
+  row_as (Stock s) is shape polite = sequence_as m.rows p l (Stock s) is (has_by (does.Front (front.Cpu (Stock s))) is tt) (omega (arith, wants l seq.PushBatch shape.0.seq, shape.2)) (due l.seat.moved l.regs.ran) polite
+  row_as (Push f) is shape polite = sequence_as m.rows p l (Push f) is (has_by (does.Front (front.Cpu (Push f))) is tt) (omega (arith, wants l seq.Push shape.0.seq)) (due l.seat.moved l.regs.ran) polite
+  row_as (PopBatch f) is shape polite = sequence_as m.rows p l (PopBatch f) is (has_by (does.Front (front.Cpu (PopBatch f))) is tt) (omega (arith, wants l (seq.PopBatch (class_row m.rows l).batch) shape.0.seq, few_batch)) (due l.seat.moved l.regs.ran) polite
   row_as (Stop s) is shape polite = stops_as s is p.stopper refl
   row_as (Fence s) is shape polite = still (cpu_row m.rows p l (Fence s)) (away_by (does.Front (front.Cpu (Fence s))) is (λ has. has)) refl refl refl
   row_as (Take s) is shape polite = still (cpu_row m.rows p l (Take s)) (away_by (does.Front (front.Cpu (Take s))) is (λ has. has)) refl refl refl

@@ -124,7 +124,7 @@ inside_first rows thread cpu script domains names =
 -- Its shape.
 module _ (m : Limits) (t : ℕ) (thread : ThreadNo) (cpu : CpuNo) (domains : ℕ) (own : thread.0 ≡ t) (rows : AreRows m.rows) (home : cpu.0 < m.cpus) where
   abbrev at_first : Step → Regs → Option MoveTo → List Planned → Local
-  at_first next regs moved rest = record (idle_local thread cpu domains) { step = next; regs = regs; moved = moved; rest = rest }
+  at_first next regs moved rest = record (idle_local thread cpu domains) { step = next; regs = regs; seat = record { cpu = cpu; moved = moved; domains = domains }; rest = rest }
 
   abbrev regs_with : Class → Regs
   regs_with k = record (first_regs thread) { class = k }

@@ -1,5 +1,5 @@
 -- Where a call goes on with its hand: the account that it has then, its acts and its answers; and an allocation that gets an object.
-use Rattle.std.proofs.Common.{◌≡◌, ℕ, ◌+◌, ◌<◌, Bool, true, false, cond, eqb, ltb, List, [], ◌∷◌, ◌++◌, length, drop, Some, refl, sym, ap, ◌∙◌, subst}
+use Rattle.std.proofs.Common.{◌≡◌, ℕ, ◌+◌, ◌<◌, eqb, List, [], ◌∷◌, ◌++◌, drop, Option, Some, refl, sym, ap, ◌∙◌, subst}
 use Rattle.std.proofs.lemmas.Bool.{cond_both}
 use Rattle.std.proofs.lemmas.List.{append-nil}
 use Rattle.tc_units.specs.Bag.{Contents}
@@ -10,6 +10,7 @@ use Rattle.tc_units.specs.declared.units.Label.{Label}
 use Rattle.tc_units.specs.declared.spans.ClassRow.{ClassRow}
 use Rattle.tc_units.specs.declared.spans.Run.{Run}
 use Rattle.tc_units.specs.declared.spans.SpanRef.{SpanRef}
+use Rattle.tc_model.specs.declared.calls.Call.{Call}
 use Rattle.tc_model.specs.declared.calls.Call.TheVariants.{Malloc, Free}
 use Rattle.tc_model.specs.declared.calls.Planned.{Planned}
 use Rattle.tc_model.specs.declared.answers.Answer.TheVariants.{Block, Freed}
@@ -29,13 +30,15 @@ use Rattle.call_steps.specs.declared.step.CpuStep.{CpuStep}
 use Rattle.call_steps.specs.declared.step.Giving.{Giving}
 use Rattle.call_steps.specs.declared.step.Giving.TheVariants as giving
 use Rattle.call_steps.specs.declared.step.MapStep.TheVariants as map
+use Rattle.call_steps.specs.declared.step.Next.{Next}
+use Rattle.call_steps.specs.declared.step.Next.TheVariants as next
 use Rattle.call_steps.specs.declared.step.Step.TheVariants as step
 use Rattle.call_steps.specs.declared.step.CpuRow.TheVariants as front
-use Rattle.call_steps.specs.declared.step.ShardStep.TheVariants as shard
 use Rattle.call_steps.specs.declared.step.DomainStep.TheVariants as domain
 use Rattle.call_steps.specs.Local.{Local, Decided, decided, goes, ends, class_row}
-use Rattle.call_steps.specs.Hands.{with_hand as to_hand, with_freed, decides_free, behind, goes_onward, publishes, comes_to, stocks, serves, serves_first, looks_on, gives}
-use Rattle.call_steps.specs.CpuActs.{with_regs}
+use Rattle.call_steps.specs.Hands.{with_hand as to_hand, with_freed, decides_free, behind, goes_onward, publishes, comes_to, stocks, serves, serves_first, with_regs}
+use Rattle.call_steps.specs.CpuActs.{looks_on, gives}
+use Rattle.call_steps.specs.Follows.{follows}
 use Rattle.alloc_rules.specs.Machine.{Parts}
 use Rattle.call_steps.specs.Calls as about
 use Rattle.call_steps.specs.Calls.{About, HasNoLabel, about_cpu}
@@ -51,19 +54,15 @@ pub record Goes (after : Local) (a : Account) (count : ℕ) (told : List Decided
   pub acts : after.acts ≡ count
   pub answers : after.answers ≡ told
 
-looks_by : (l : Local) (asking : Asking) (b : Bool) → Goes (goes l (cond b (step.Shard (shard.Fetch asking)) (step.Front (front.Domain (domain.Take asking))))) (bare (Asks asking.label asking.size) l.regs.class.0 l.regs.hand.items l.rest) (l.acts + 1) l.answers
-looks_by l asking true = record { account = refl; acts = refl; answers = refl }
-looks_by l asking false = record { account = refl; acts = refl; answers = refl }
+pub looks_as : (rows : List ClassRow) (l : Local) (asking : Asking) (call : Option Call) → Goes (follows rows l call (looks_on l.seat asking)) (bare (Asks asking.label asking.size) l.regs.class.0 l.regs.hand.items l.rest) (l.acts + 1) l.answers
+looks_as rows l asking call =
+    cond_both (eqb l.seat.domains 0) (next.Fetch asking) (next.Row (front.Domain (domain.Take asking))) (λ (n : Next). Goes (follows rows l call n) (bare (Asks asking.label asking.size) l.regs.class.0 l.regs.hand.items l.rest) (l.acts + 1) l.answers)
+    (λ e. record { account = refl; acts = refl; answers = refl }) (λ e. record { account = refl; acts = refl; answers = refl })
 
-pub looks_as : (l : Local) (asking : Asking) → Goes (looks_on l asking) (bare (Asks asking.label asking.size) l.regs.class.0 l.regs.hand.items l.rest) (l.acts + 1) l.answers
-looks_as l asking = looks_by l asking (eqb l.domains 0)
-
-gives_by : (l : Local) (g : Giving) (b : Bool) → Goes (goes l (cond b (step.Shard (shard.Give g)) (step.Front (front.Domain (domain.Put g))))) (bare (giving_doing g) l.regs.class.0 l.regs.hand.items l.rest) (l.acts + 1) l.answers
-gives_by l g true = record { account = refl; acts = refl; answers = refl }
-gives_by l g false = record { account = refl; acts = refl; answers = refl }
-
-pub gives_as : (l : Local) (g : Giving) → Goes (gives l g) (bare (giving_doing g) l.regs.class.0 l.regs.hand.items l.rest) (l.acts + 1) l.answers
-gives_as l g = gives_by l g (eqb l.domains 0)
+pub gives_as : (rows : List ClassRow) (l : Local) (g : Giving) (call : Option Call) → Goes (follows rows l call (gives l.seat g)) (bare (giving_doing g) l.regs.class.0 l.regs.hand.items l.rest) (l.acts + 1) l.answers
+gives_as rows l g call =
+    cond_both (eqb l.seat.domains 0) (next.Give g) (next.Row (front.Domain (domain.Put g))) (λ (n : Next). Goes (follows rows l call n) (bare (giving_doing g) l.regs.class.0 l.regs.hand.items l.rest) (l.acts + 1) l.answers)
+    (λ e. record { account = refl; acts = refl; answers = refl }) (λ e. record { account = refl; acts = refl; answers = refl })
 
 stocks_as : (l : Local) (s : Serving) (others : List Addr) → Goes (stocks l s others) (bare (Publishes s.label (Some s.addr)) l.regs.class.0 l.regs.hand.items l.rest) (l.acts + 1) l.answers
 stocks_as l s [] = record { account = refl; acts = refl; answers = refl }
@@ -174,7 +173,7 @@ module _ (m : Setup) (p : Parts) (locals : List Local) (b : Books) (books : AreB
       frees_spans l (ends m.rows then) f k hand [] l.rest is move closes.weighs closes.acts closes.answers
 
   -- a hand is given away: no span leaves, and the call ends or goes on
-  pub gives_hand : (limits : Limits) (l : Local) (g : Giving) (bag : Contents SpanRef) (k : ℕ) (hand : List Addr) → IsGiving limits hand g → l.regs.class.0 ≡ k → account_of l ≡ bare (giving_doing g) k hand l.rest → MoveObjects (stock_of p) (stock_of new) k hand [] [] → Does m new b l (goes_onward m.rows (with_freed (decides_free (to_hand l (emptied l.regs.hand)) g) bag) (behind g))
+  pub gives_hand : (limits : Limits) (l : Local) (g : Giving) (bag : Contents SpanRef) (k : ℕ) (hand : List Addr) → IsGiving limits hand g → l.regs.class.0 ≡ k → account_of l ≡ bare (giving_doing g) k hand l.rest → MoveObjects (stock_of p) (stock_of new) k hand [] [] → Does m new b l (goes_onward m.rows (decides_free (with_freed (to_hand l (emptied l.regs.hand)) bag) g) (behind g))
   gives_hand limits l (giving.Rest s) bag k hand gives class is move =
       carries l (publishes (with_freed (to_hand l (emptied l.regs.hand)) bag) s) (Publishes s.label (Some s.addr)) k hand [] l.rest is move (λ label o doing. cc)
       (weighs_is (bare (Publishes s.label (Some s.addr)) k [] l.rest) (bare (Publishes s.label (Some s.addr)) l.regs.class.0 [] l.rest) (ap (λ (j : ℕ). bare (Publishes s.label (Some s.addr)) j [] l.rest) class)) refl refl
@@ -188,7 +187,7 @@ module _ (m : Setup) (p : Parts) (locals : List Local) (b : Books) (books : AreB
 
   -- spans leave with that: they are to be cleared
   abbrev clearing_it : Local → Giving → Contents SpanRef → Local
-  clearing_it l g bag = goes (with_freed (decides_free (to_hand l (emptied l.regs.hand)) g) bag) (step.Map (map.ClearSpan (behind g)))
+  clearing_it l g bag = goes (decides_free (with_freed (to_hand l (emptied l.regs.hand)) bag) g) (step.Map (map.ClearSpan (behind g)))
 
   pub spans_weigh : (d : Doing) (k j : ℕ) (hand : List Addr) (freed items : List SpanRef) (todo : List Planned) → j ≡ k → items ≡ freed → WeighSame (with_hand (bare d k hand todo) [] freed) (record { doing = d; class = j; hand = []; off = []; apart = items; mapped = items; clears = []; todo = todo })
   spans_weigh d k j hand freed items todo class are =

@@ -16,6 +16,7 @@ use Rattle.cpu_slab.specs.Caps.{cap_fault, set_unless}
 use Rattle.cpu_slab.specs.Growth.{used, unused, rise, wider, narrower, victim, taken_from, widened, roomy, growth, grown}
 use Rattle.rseq_core.specs.declared.cpu_part.CpuPart.{CpuPart}
 use Rattle.rseq_core.specs.declared.regs.Regs.{Regs}
+use Rattle.rseq_core.specs.Bags.{emptied}
 use Rattle.rseq_core.specs.declared.sequence.Pc.{Pc}
 use Rattle.rseq_core.specs.declared.sequence.Pc.TheVariants.{Begin, Header, Test, Copy, Commit}
 use Rattle.rseq_core.specs.declared.sequence.Reply.TheVariants.{Empty, Full}
@@ -29,14 +30,15 @@ use Rattle.call_steps.specs.declared.step.CpuStep.{CpuStep}
 use Rattle.call_steps.specs.declared.step.CpuStep.TheVariants as cpu
 use Rattle.call_steps.specs.declared.step.ShardStep.{ShardStep}
 use Rattle.call_steps.specs.declared.step.ShardStep.TheVariants as shard
+use Rattle.call_steps.specs.declared.step.Next.{Next}
+use Rattle.call_steps.specs.declared.step.Next.TheVariants as next
 use Rattle.call_steps.specs.declared.step.DomainStep.{DomainStep}
 use Rattle.call_steps.specs.declared.step.DomainStep.TheVariants as domain
 use Rattle.call_steps.specs.declared.step.Stopping.{Stopping}
-use Rattle.call_steps.specs.declared.step.Step.TheVariants as step
-use Rattle.call_steps.specs.Local.{Local, class_row, goes}
-use Rattle.call_steps.specs.Hands.{given}
-use Rattle.call_steps.specs.CpuActs.{due, sequence_by, stops, left_for, cpu_row}
-use Rattle.call_steps.specs.ShardActs.{shard_row, fits_into, put_in, domain_row}
+use Rattle.call_steps.specs.Local.{Local, class_row}
+use Rattle.call_steps.specs.CpuActs.{due, sequence_by, stops, left_for, fits_into, put_in}
+use Rattle.call_steps.specs.ShardActs.{shard_row}
+use Rattle.call_steps.specs.Follows.{cpu_row, domain_row}
 use Rattle.alloc_rules.specs.Heads.{slab_class, IsSlabOf, HasRoom}
 
 -- Slabs: a row of the same class takes the place of another
@@ -109,7 +111,7 @@ module _ (rows : List ClassRow) (c : Config) where
   left_is : (p : CpuPart) (t : ThreadNo) → Is p.slab → Is (rseq.left p t).slab
   left_is p t is = cond_both (rseq.runs p.running t) (record p { running = None; epoch = p.epoch + 1; is_open = false }) p (λ (q : CpuPart). Is q.slab) (λ e. is) (λ e. is)
 
-  sequence_is : (p : CpuPart) (l : Local) (row : CpuStep) (o : Option MoveTo) → Is p.slab → Is (sequence_by rows p l row o).0.slab
+  sequence_is : (p : CpuPart) (l : Local) (row : CpuStep) (o : Option MoveTo) → Is p.slab → Is (sequence_by rows p l.seat l.regs row o).part.slab
   sequence_is p l row None is = instructed_is (rseq.runs p.running l.regs.thread) (eqb l.regs.epoch p.epoch) p l.regs is
   sequence_is p l row (Some move) is = left_is p l.regs.thread is
 
@@ -117,7 +119,7 @@ module _ (rows : List ClassRow) (c : Config) where
   stopped_is p t None is = is
   stopped_is p t (Some v) is = is
 
-  stops_is : (p : CpuPart) (l : Local) (s : Stopping) (o : Option ThreadNo) → Is p.slab → Is (stops rows p l s o).0.slab
+  stops_is : (p : CpuPart) (l : Local) (s : Stopping) (o : Option ThreadNo) → Is p.slab → Is (stops p l.regs.thread s o).0.slab
   stops_is p l s None is = stopped_is p l.regs.thread p.stopper is
   stops_is p l s (Some owner) is = is
 
@@ -125,22 +127,22 @@ module _ (rows : List ClassRow) (c : Config) where
   capped_is slab k n None is = row_set slab k (record (row_at slab k) { cap = n }) refl is
   capped_is slab k n (Some fault) is = is
 
-  leaves_is : (p : CpuPart) (l : Local) (o : Option MoveTo) → Is p.slab → Is (left_for rows p l o).0.slab
+  leaves_is : (p : CpuPart) (l : Local) (o : Option MoveTo) → Is p.slab → Is (left_for p l.seat l.regs o).part.slab
   leaves_is p l None is = is
   leaves_is p l (Some move) is = left_is p l.regs.thread is
 
   pub slab_stays : (p : CpuPart) (l : Local) (row : CpuStep) → Is p.slab → Is (cpu_row rows p l row).0.slab
-  slab_stays p l (cpu.Pop a) is = sequence_is p l (cpu.Pop a) (due l.moved l.regs.ran) is
+  slab_stays p l (cpu.Pop a) is = sequence_is p l (cpu.Pop a) (due l.seat.moved l.regs.ran) is
   slab_stays p l (cpu.Grow a) is = grew_is (rseq.runs p.running l.regs.thread) (eqb l.regs.epoch p.epoch) p l.regs is
-  slab_stays p l (cpu.Stock s) is = sequence_is p l (cpu.Stock s) (due l.moved l.regs.ran) is
-  slab_stays p l (cpu.Push f) is = sequence_is p l (cpu.Push f) (due l.moved l.regs.ran) is
-  slab_stays p l (cpu.PopBatch f) is = sequence_is p l (cpu.PopBatch f) (due l.moved l.regs.ran) is
+  slab_stays p l (cpu.Stock s) is = sequence_is p l (cpu.Stock s) (due l.seat.moved l.regs.ran) is
+  slab_stays p l (cpu.Push f) is = sequence_is p l (cpu.Push f) (due l.seat.moved l.regs.ran) is
+  slab_stays p l (cpu.PopBatch f) is = sequence_is p l (cpu.PopBatch f) (due l.seat.moved l.regs.ran) is
   slab_stays p l (cpu.Stop s) is = stops_is p l s p.stopper is
   slab_stays p l (cpu.Fence s) is = is
   slab_stays p l (cpu.Take s) is = row_set p.slab l.regs.class.0 (record (row_at p.slab l.regs.class.0) { top = 0 }) refl is
   slab_stays p l (cpu.SetCap r) is = capped_is p.slab l.regs.class.0 r.cap (cap_fault p.slab l.regs.class.0 r.cap) is
   slab_stays p l (cpu.Start s) is = is
-  slab_stays p l cpu.Leave is = leaves_is p l l.moved is
+  slab_stays p l cpu.Leave is = leaves_is p l l.seat.moved is
 
 -- Transfer lists and caches: objects are taken from one, or come to it where they fit.
 taken_room : (room n : ℕ) (t : Transfer) → HasRoom room t → HasRoom room (record { objects = without_last n t.objects; room = t.room })
@@ -162,4 +164,4 @@ pub cache_stays : (rows : List ClassRow) (room : ℕ) (t : Transfer) (l : Local)
 cache_stays rows room t l (domain.Take a) has = taken_room room (class_row rows l).batch t has
 cache_stays rows room t l (domain.Put g) has =
     let list : List Addr = l.regs.hand.items in
-    cond_both (fits_into t list) (put_in t list, given rows l g) (t, goes l (step.Shard (shard.Give g))) (λ (z : Transfer × Local). HasRoom room z.0) (λ e. put_room room t list e has) (λ e. has)
+    cond_both (fits_into t list) (put_in t list, record l.regs { hand = emptied l.regs.hand }, next.Gave g) (t, l.regs, next.Give g) (λ (z : Transfer × Regs × Next). HasRoom room z.0) (λ e. put_room room t list e has) (λ e. has)

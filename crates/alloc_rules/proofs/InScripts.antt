@@ -186,11 +186,11 @@ module _ (rows : List ClassRow) (names names' : List NameState) (script : List P
   path_in (Comes new answers domains ended rest step closes) = comes_in new answers ended rest step closes
 
 -- and the number of domains stays
-pub path_domains : {rows : List ClassRow} {l after : Local} → Path rows l after → after.domains ≡ l.domains
+pub path_domains : {rows : List ClassRow} {l after : Local} → Path rows l after → after.seat.domains ≡ l.seat.domains
 path_domains (Stays new answers domains ended rest on has goes) = domains
 path_domains (Comes new answers domains ended rest step closes) = domains
 
 -- the cache of a domain is wanted only where there are domains
-pub path_has : {rows : List ClassRow} {l after : Local} → Path rows l after → HasDomain after.step after.domains
+pub path_has : {rows : List ClassRow} {l after : Local} → Path rows l after → HasDomain after.step after.seat.domains
 path_has (Stays new answers domains ended rest on has goes) = has
-path_has {rows} {l} {after} (Comes new answers domains ended rest step closes) = subst (λ s. HasDomain s after.domains) (sym step) (first_domain rows (slice_get l.rest 0) after.domains)
+path_has {rows} {l} {after} (Comes new answers domains ended rest step closes) = subst (λ s. HasDomain s after.seat.domains) (sym step) (first_domain rows (slice_get l.rest 0) after.seat.domains)

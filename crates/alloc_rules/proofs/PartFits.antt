@@ -18,7 +18,6 @@ use Rattle.name_table.specs.declared.table.NameState.{NameState}
 use Rattle.name_table.specs.declared.table.NameState.TheVariants as name
 use Rattle.name_table.specs.Names.{state_of}
 use Rattle.heap_rules.specs.declared.config.HeapConfig.{HeapConfig}
-use Rattle.transfer_cache.specs.Transfer.{Transfer}
 use Rattle.holdings.specs.Runs.{run_of, large, bit, same_run, same_span, runs_like, spans_like}
 use Rattle.holdings.specs.Accounts.{unpublished, untaken, is_out, is_taken}
 use Rattle.holdings.specs.Books.{Setup, Books, class_number}
@@ -181,11 +180,11 @@ module _ (m : Setup) (limits : HeapConfig) (cpus : ℕ) (p : Parts) (locals : Li
             omega (arith, before.facts.taken label.0, least (untaken label.0) b.accounts t (account_of (at s)) (mine s before), own, e)),
       )
 
-  pub batch_fits : (s : Step) (before : Before s) → l.regs.hand.items ≡ [] → FitsBatch m.rows (at s)
+  pub batch_fits : (s : Step) (before : Before s) → l.regs.hand.items ≡ [] → FitsBatch m.rows l.regs
   batch_fits s before none =
       let row = row_at_class m.rows l before.rows before.shaped.class in
       record { class = before.shaped.class; some = row.batch; room = omega (arith, row.few, before.shaped.hand, ap length none) }
 
-  pub domain_fits : (row : DomainStep) (x : Transfer) → Before (does.Front (front.Domain row)) → FitsDomain m.rows x (at (does.Front (front.Domain row))) row
-  domain_fits (domain.Take a) x before = (batch_fits (does.Front (front.Domain (domain.Take a))) before before.shaped.step.0.hand, before.shaped.step.0.hand)
-  domain_fits (domain.Put g) x before = before.shaped.step.0.freed
+  pub domain_fits : (row : DomainStep) → Before (does.Front (front.Domain row)) → FitsDomain m.rows l.regs row
+  domain_fits (domain.Take a) before = (batch_fits (does.Front (front.Domain (domain.Take a))) before before.shaped.step.0.hand, before.shaped.step.0.hand)
+  domain_fits (domain.Put g) before = tt

@@ -24,8 +24,8 @@ use Rattle.call_steps.specs.declared.step.MapStep.{MapStep}
 use Rattle.call_steps.specs.declared.step.NamesStep.{NamesStep}
 use Rattle.call_steps.specs.Local.{Local, Decided}
 use Rattle.call_steps.specs.Kept.{HasDomain, at_cpu, target_at}
-use Rattle.call_steps.specs.CpuActs.{cpu_row}
-use Rattle.call_steps.specs.ShardActs.{shard_row, domain_row}
+use Rattle.call_steps.specs.ShardActs.{shard_row}
+use Rattle.call_steps.specs.Follows.{cpu_row, domain_row}
 use Rattle.call_steps.specs.Acts.{cpu_after, shard_after, heap_after, map_after, names_after, domain_after, heap_row, map_row, names_row, waits_for}
 use Rattle.call_steps.specs.Fits.{FitsCpuStep, FitsShardStep, FitsHeapStep, FitsMapStep, FitsNamesStep, FitsDomainStep}
 use Rattle.call_steps.specs.Shapes.{StepShape}
@@ -73,9 +73,9 @@ module _ (input : Input) (valid : IsValid input) (p : Parts) (locals : List Loca
   left_by : (ps : List Part) (new : Parts) (k : Local) → ps ≡ parts_of new → record { parts = ps; locals = slice_set locals t k } ≡ world_of (parts_of new) (slice_set locals t k)
   left_by ps new k is = ap (λ xs. world_of xs (slice_set locals t k)) is
 
-  cpu_reached : (row : CpuStep) → l.step ≡ does.Front (front.Cpu row) → Reached (at_cpu l.cpu row).0
+  cpu_reached : (row : CpuStep) → l.step ≡ does.Front (front.Cpu row) → Reached (at_cpu l.seat.cpu row).0
   cpu_reached row step =
-      let c : ℕ = (at_cpu l.cpu row).0 in
+      let c : ℕ = (at_cpu l.seat.cpu row).0 in
       let shaped = (works t l local).shaped in
       let low : c < length p.cpus = omega (arith, placed.cpus, cpu_low (limits_in input) l row shaped.home (subst (λ (s : Step). StepShape (limits_in input) l s) step shaped.step)) in
       let found = there_is p.cpus c low in
@@ -163,14 +163,14 @@ module _ (input : Input) (valid : IsValid input) (p : Parts) (locals : List Loca
         };
       })
 
-  domain_reached : (row : DomainStep) → l.step ≡ does.Front (front.Domain row) → Reached (input.asked.config.cpus + length input.rows + 3 + l.cpu.0 % l.domains * length input.rows + l.regs.class.0)
+  domain_reached : (row : DomainStep) → l.step ≡ does.Front (front.Domain row) → Reached (input.asked.config.cpus + length input.rows + 3 + l.seat.cpu.0 % l.seat.domains * length input.rows + l.regs.class.0)
   domain_reached row step =
       let k : ℕ = l.regs.class.0 in
       let m : ℕ = length input.rows in
-      let d : ℕ = l.cpu.0 % l.domains in
+      let d : ℕ = l.seat.cpu.0 % l.seat.domains in
       let work = works t l local in
       let some : 0 < input.asked.config.domains = subst (λ (s : Step). HasDomain s input.asked.config.domains) step work.has in
-      let below : d < l.domains = mod-lt l.cpu.0 {m = l.domains} (omega (arith, some, work.domains)) in
+      let below : d < l.seat.domains = mod-lt l.seat.cpu.0 {m = l.seat.domains} (omega (arith, some, work.domains)) in
       let low : d < length p.domains = omega (arith, below, placed.domains, work.domains) in
       let found = there_is p.domains d low in
       let caches : List Transfer = found.0 in
@@ -183,7 +183,7 @@ module _ (input : Input) (valid : IsValid input) (p : Parts) (locals : List Loca
       subst Reached number (record {
         part = Domain c;
         there = get_domain p m d k caches placed.ok.classes placed.ok.domains found.1 class ∙ ap (option_map Domain) here;
-        fit = fits_by (Domain c) (subst (FitsDomainStep input.rows c l) (sym step) (domain_fit input valid p locals b order t l placed books facts seated works of local few row c step));
+        fit = fits_by (Domain c) (subst (FitsDomainStep input.rows l) (sym step) (domain_fit input valid p locals b order t l placed books facts seated works of local few row step));
         goes = λ goes. record {
           parts = _;
           left = (domain_row input.rows c l row).1;
@@ -197,8 +197,8 @@ module _ (input : Input) (valid : IsValid input) (p : Parts) (locals : List Loca
   at_place i place is reached = let e : (let n : PartNo = record { 0 = i } in n) ≡ place = cc in subst (λ (n : PartNo). Reached n.0) e reached
 
   pub reached : (s : Step) → l.step ≡ s → (place : PartNo) → option_map (number_of input.asked.config.cpus (length input.rows)) (target_at l s) ≡ Some place → Reached place.0
-  reached (does.Front (front.Cpu row)) step place want = at_place (at_cpu l.cpu row).0 place want (cpu_reached row step)
-  reached (does.Front (front.Domain row)) step place want = at_place (input.asked.config.cpus + length input.rows + 3 + l.cpu.0 % l.domains * length input.rows + l.regs.class.0) place want (domain_reached row step)
+  reached (does.Front (front.Cpu row)) step place want = at_place (at_cpu l.seat.cpu row).0 place want (cpu_reached row step)
+  reached (does.Front (front.Domain row)) step place want = at_place (input.asked.config.cpus + length input.rows + 3 + l.seat.cpu.0 % l.seat.domains * length input.rows + l.regs.class.0) place want (domain_reached row step)
   reached (does.Shard row) step place want = at_place (input.asked.config.cpus + l.regs.class.0) place want (shard_reached row step)
   reached (does.Heap row) step place want = at_place (input.asked.config.cpus + length input.rows) place want (heap_reached row step)
   reached (does.Map row) step place want = at_place (input.asked.config.cpus + length input.rows + 1) place want (map_reached row step)

@@ -62,7 +62,7 @@ AreSeated rows p locals = (i t : ℕ) (q : CpuPart) (l : Local) → slice_get p.
 -- A local alone: it has its shape, it is in its script, and its acts are its thread's picks.
 pub record IsAtWork (input : Input) (names : List NameState) (order : List ℕ) (t : ℕ) (l : Local) : Type 0 where
   pub shaped : IsShaped (limits_in input) t l
-  pub domains : l.domains ≡ input.asked.config.domains
+  pub domains : l.seat.domains ≡ input.asked.config.domains
   pub has : HasDomain l.step input.asked.config.domains
   pub inside : IsIn names (script_of t input.asked.calls) l
   pub acts : l.acts ≡ picks_of t order

@@ -64,7 +64,7 @@ module _ (m : Setup) (limits : HeapConfig) (cpus : ℕ) (p : Parts) (locals : Li
   pub class_row_is : IsClassRow (class_row m.rows l)
   class_row_is = before.rows.each l.regs.class.0 no_class before.shaped.class
 
-  batch_fits : l.regs.hand.items ≡ [] → FitsBatch m.rows l
+  batch_fits : l.regs.hand.items ≡ [] → FitsBatch m.rows l.regs
   batch_fits none =
       let empty : length l.regs.hand.items ≡ 0 = ap (λ (h : List Addr). length h) none in
       record { class = before.shaped.class; some = class_row_is.batch; room = omega (arith, empty, class_row_is.few, before.shaped.hand) }

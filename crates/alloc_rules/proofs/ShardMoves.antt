@@ -290,7 +290,7 @@ module _ (m : Setup) (limits : HeapConfig) (cpus : ℕ) (p : Parts) (locals : Li
     give_cut : IsCut m.rows (stock_of (with_shard given))
     give_cut = cut given given_of
 
-    give_does : (bag : Contents SpanRef) (items : List SpanRef) → bag.items ≡ items → freed ≡ items → Does m (with_shard given) b (at_step (Give g)) (clears m.rows (with_freed (decides_free (with_hand (at_step (Give g)) (emptied l.regs.hand)) g) bag) (behind g) items)
+    give_does : (bag : Contents SpanRef) (items : List SpanRef) → bag.items ≡ items → freed ≡ items → Does m (with_shard given) b (at_step (Give g)) (clears m.rows (decides_free (with_freed (with_hand (at_step (Give g)) (emptied l.regs.hand)) bag) g) (behind g) items)
     give_does bag [] are left =
         gives_hand m p locals b before.books p.cpus (shards_with given) p.domains give_cut (limits_of m cpus) (at_step (Give g)) g bag l.regs.class.0 l.regs.hand.items gives refl refl
         (subst (λ (ss : List SpanRef). MoveObjects (stock_of p) (stock_of (with_shard given)) l.regs.class.0 l.regs.hand.items [] ss) left (objects given l.regs.hand.items [] freed give_changes))

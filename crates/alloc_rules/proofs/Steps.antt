@@ -9,6 +9,10 @@ use Rattle.tc_units.specs.declared.units.Label.{Label}
 use Rattle.tc_model.specs.declared.calls.Call.TheVariants.{Malloc}
 use Rattle.transfer_cache.specs.Transfer.{Transfer}
 use Rattle.class_shard.specs.Shard.{Shard}
+use Rattle.page_map.specs.Spans.{SpanMap, IsWellFormed}
+use Rattle.name_table.specs.declared.table.NameState.{NameState}
+use Rattle.heap_rules.specs.Heap as heaps
+use Rattle.heap_rules.specs.Sound as heaps_sound
 use Rattle.heap_rules.specs.declared.config.HeapConfig.{HeapConfig}
 use Rattle.holdings.proofs.Sums.{of_all}
 use Rattle.alloc_rules.proofs.Sizes.{request_low}
@@ -40,8 +44,8 @@ use Rattle.call_steps.specs.declared.step.Stopping.TheVariants as stopping
 use Rattle.call_steps.specs.Local.{Local, Decided}
 use Rattle.call_steps.specs.Calls.{undecided}
 use Rattle.call_steps.specs.Kept.{cpu_of, at_cpu}
-use Rattle.call_steps.specs.CpuActs.{cpu_row}
-use Rattle.call_steps.specs.ShardActs.{shard_row, domain_row}
+use Rattle.call_steps.specs.ShardActs.{shard_row}
+use Rattle.call_steps.specs.Follows.{cpu_row, domain_row}
 use Rattle.call_steps.specs.Acts.{heap_row, map_row, names_row, waits_row}
 use Rattle.call_steps.specs.Fits.{FitsCpu, FitsShard, FitsDomain, FitsHeap, FitsMap, FitsNames}
 use Rattle.call_steps.specs.Laws.{thread_no, IsAtCpu, CpuActKeeps, IsKept}
@@ -78,7 +82,7 @@ start_low : (m : Limits) (l : Local) (s : Stopping) → CpuShape m l (cpu.Start 
 start_low m l (stopping.Drain d) is = is.1
 start_low m l (stopping.Resize r) is = is.1
 
-pub cpu_low : (m : Limits) (l : Local) (row : CpuStep) → l.cpu.0 < m.cpus → CpuShape m l row → (at_cpu l.cpu row).0 < m.cpus
+pub cpu_low : (m : Limits) (l : Local) (row : CpuStep) → l.seat.cpu.0 < m.cpus → CpuShape m l row → (at_cpu l.seat.cpu row).0 < m.cpus
 cpu_low m l (cpu.Pop a) home shape = home
 cpu_low m l (cpu.Grow a) home shape = home
 cpu_low m l (cpu.Stock s) home shape = home
@@ -137,7 +141,7 @@ module _ (input : Input) (valid : IsValid input) (p : Parts) (locals : List Loca
       each_set (λ v x. SeatOk i (thread_no v) q (seat_of input.rows x)) locals t after' l local (kept i q (seated i t q l at local)) (λ v x apart is. seated i v q x at is) u k
 
   -- at a CPU
-  at_cpu_part : (row : CpuStep) (c : ℕ) (q : CpuPart) → l.step ≡ does.Front (front.Cpu row) → (at_cpu l.cpu row).0 ≡ c → slice_get p.cpus c ≡ Some q → IsAtCpu (limits_in input) c t q l row
+  at_cpu_part : (row : CpuStep) (c : ℕ) (q : CpuPart) → l.step ≡ does.Front (front.Cpu row) → (at_cpu l.seat.cpu row).0 ≡ c → slice_get p.cpus c ≡ Some q → IsAtCpu (limits_in input) c t q l row
   at_cpu_part row c q step here at =
       record {
         rows = valid.rows;
@@ -158,10 +162,10 @@ module _ (input : Input) (valid : IsValid input) (p : Parts) (locals : List Loca
       (λ j y away there. each_set (λ v z. SeatOk j (thread_no v) y (seat_of input.rows z)) locals t after' l local (keeps.elsewhere j y (λ same. away (sym same)) (seated j t y l there local)) (λ v z apart is. seated j v y z there is))
       i x at_i u k
 
-  pub cpu_fit : (row : CpuStep) (c : ℕ) (q : CpuPart) → l.step ≡ does.Front (front.Cpu row) → (at_cpu l.cpu row).0 ≡ c → slice_get p.cpus c ≡ Some q → FitsCpu input.rows q l row
+  pub cpu_fit : (row : CpuStep) (c : ℕ) (q : CpuPart) → l.step ≡ does.Front (front.Cpu row) → (at_cpu l.seat.cpu row).0 ≡ c → slice_get p.cpus c ≡ Some q → FitsCpu input.rows q l.seat l.regs row
   cpu_fit row c q step here at = (cpu_acts_keep (limits_in input) c t q l row (at_cpu_part row c q step here at)).fits
 
-  pub cpu_acted : (row : CpuStep) (c : ℕ) (q : CpuPart) → l.step ≡ does.Front (front.Cpu row) → (at_cpu l.cpu row).0 ≡ c → slice_get p.cpus c ≡ Some q → Acted (record p { cpus = slice_set p.cpus c (cpu_row input.rows q l row).0 }) (cpu_row input.rows q l row).1
+  pub cpu_acted : (row : CpuStep) (c : ℕ) (q : CpuPart) → l.step ≡ does.Front (front.Cpu row) → (at_cpu l.seat.cpu row).0 ≡ c → slice_get p.cpus c ≡ Some q → Acted (record p { cpus = slice_set p.cpus c (cpu_row input.rows q l row).0 }) (cpu_row input.rows q l row).1
   cpu_acted row c q step here at =
       let k : CpuActKeeps (limits_in input) c t q l row = cpu_acts_keep (limits_in input) c t q l row (at_cpu_part row c q step here at) in
       let thread : l.regs.thread ≡ thread_no t = ap (λ (n : ℕ). let x : ThreadNo = record { 0 = n } in x) (works t l local).shaped.thread in
@@ -172,7 +176,7 @@ module _ (input : Input) (valid : IsValid input) (p : Parts) (locals : List Loca
       let after' : Local = (cpu_row input.rows q l row).1 in
       record {
         does = moves;
-        path = subst (λ (x : Local). FitsCpu input.rows q x row → Path input.rows x (cpu_row input.rows q x row).1) (ap (λ s. record l { step = s }) (sym step)) (cpu_path input.rows l q row) k.fits;
+        path = subst (λ (x : Local). Path input.rows x (cpu_row input.rows q x row).1) (ap (λ s. record l { step = s }) (sym step)) (cpu_path input.rows l q row k.fits);
         way = ap is_under_way step;
         placed = record {
           ok = record {
@@ -206,12 +210,23 @@ module _ (input : Input) (valid : IsValid input) (p : Parts) (locals : List Loca
   same_epochs : (i : ℕ) (q : CpuPart) → slice_get p.cpus i ≡ Some q → q.epoch ≤ length order + 1
   same_epochs i q is = omega (arith, placed.epochs i q is)
 
+  -- nor a shard or a cache
+  placed_elsewhere : (heap : heaps.Heap) (map : SpanMap) (names : List NameState) → heaps_sound.IsSound heap → heap.config ≡ heap_config input.asked.config → IsWellFormed map → map.huge ≡ input.asked.config.huge → ArePlaced input (record p { heap = heap; map = map; names = names }) (length order + 1)
+  placed_elsewhere heap map names sound config well huge =
+      record {
+        ok = record { cpus = placed.ok.cpus; classes = placed.ok.classes; shards = placed.ok.shards; domains = placed.ok.domains; heap = sound; config = config; map = well; huge = huge };
+        cpus = placed.cpus;
+        domains = placed.domains;
+        epochs = same_epochs;
+        heads = placed.heads;
+      }
+
   -- what the acts elsewhere fit
   pub shard_fit : (row : ShardStep) (x : Shard) → l.step ≡ does.Shard row → slice_get p.shards l.regs.class.0 ≡ Some x → FitsShard input.rows x l row
   shard_fit row x step at = shard_acts_fit (setup_of input) (heap_config input.asked.config) input.asked.config.cpus p locals b (calls locals order) t l x row before step at
 
-  pub domain_fit : (row : DomainStep) (c : Transfer) → l.step ≡ does.Front (front.Domain row) → FitsDomain input.rows c l row
-  domain_fit row c step = subst (λ (y : Local). FitsDomain input.rows c y row) (ap (λ s. record l { step = s }) (sym step)) (domain_fits (setup_of input) (heap_config input.asked.config) input.asked.config.cpus p locals b (calls locals order) t l row c (with_step (does.Front (front.Domain row)) step))
+  pub domain_fit : (row : DomainStep) → l.step ≡ does.Front (front.Domain row) → FitsDomain input.rows l.regs row
+  domain_fit row step = domain_fits (setup_of input) (heap_config input.asked.config) input.asked.config.cpus p locals b (calls locals order) t l row (with_step (does.Front (front.Domain row)) step)
 
   pub heap_fit : (row : HeapStep) → l.step ≡ does.Heap row → FitsHeap input.rows p.heap l row
   heap_fit row step =
@@ -275,12 +290,12 @@ module _ (input : Input) (valid : IsValid input) (p : Parts) (locals : List Loca
       let limits = heap_config input.asked.config in
       let cpus = input.asked.config.cpus in
       let c : Transfer = cache_at caches l.regs.class.0 in
-      let fits : FitsDomain input.rows c l row = domain_fit row c step in
+      let fits : FitsDomain input.rows l.regs row = domain_fit row step in
       let kept : IsKept (limits_in input) t l (domain_row input.rows c l row).1 = domain_acts_keep (limits_in input) t c l row valid.rows (works t l local).shaped step acts_low fits in
       let new : List Transfer = slice_set caches l.regs.class.0 (domain_row input.rows c l row).0 in
       record {
         does = domain_acts_move m limits cpus p locals b (calls locals order) t l d caches row before step at;
-        path = subst (λ (y : Local). Path input.rows y (domain_row input.rows c y row).1) here (domain_path input.rows l c row);
+        path = subst (λ (y : Local). Path input.rows y (domain_row input.rows c y row).1) here (domain_path input.rows l c row fits);
         way = ap is_under_way step;
         placed = record {
           ok = record {
@@ -323,22 +338,7 @@ module _ (input : Input) (valid : IsValid input) (p : Parts) (locals : List Loca
         does = heap_acts_move m limits cpus p locals b (calls locals order) t l row before step fits;
         path = subst (λ (y : Local). Path input.rows y (heap_row input.rows p.heap y row).1) here (heap_path input.rows l p.heap row (subst (λ (y : Local). FitsHeap input.rows p.heap y row) (sym here) fits));
         way = ap is_under_way step;
-        placed = record {
-          ok = record {
-            cpus = placed.ok.cpus;
-            classes = placed.ok.classes;
-            shards = placed.ok.shards;
-            domains = placed.ok.domains;
-            heap = stays.sound;
-            config = stays.config ∙ placed.ok.config;
-            map = placed.ok.map;
-            huge = placed.ok.huge;
-          };
-          cpus = placed.cpus;
-          domains = placed.domains;
-          epochs = same_epochs;
-          heads = placed.heads;
-        };
+        placed = placed_elsewhere (heap_row input.rows p.heap l row).0 p.map p.names stays.sound (stays.config ∙ placed.ok.config) placed.ok.map placed.ok.huge;
         shaped = kept.shaped;
         seated = seats_kept (heap_row input.rows p.heap l row).1 kept.seat;
       }
@@ -358,22 +358,7 @@ module _ (input : Input) (valid : IsValid input) (p : Parts) (locals : List Loca
         does = map_acts_move m limits cpus p locals b (calls locals order) t l row before step fits;
         path = subst (λ (y : Local). Path input.rows y (map_row p.map y row).1) here (map_path input.rows l p.map row (subst (λ (y : Local). FitsMap p.map y row) (sym here) fits));
         way = ap is_under_way step;
-        placed = record {
-          ok = record {
-            cpus = placed.ok.cpus;
-            classes = placed.ok.classes;
-            shards = placed.ok.shards;
-            domains = placed.ok.domains;
-            heap = placed.ok.heap;
-            config = placed.ok.config;
-            map = stays.well;
-            huge = stays.huge ∙ placed.ok.huge;
-          };
-          cpus = placed.cpus;
-          domains = placed.domains;
-          epochs = same_epochs;
-          heads = placed.heads;
-        };
+        placed = placed_elsewhere p.heap (map_row p.map l row).0 p.names placed.ok.heap placed.ok.config stays.well (stays.huge ∙ placed.ok.huge);
         shaped = kept.shaped;
         seated = seats_kept (map_row p.map l row).1 kept.seat;
       }
@@ -391,22 +376,7 @@ module _ (input : Input) (valid : IsValid input) (p : Parts) (locals : List Loca
         does = names_acts_move m limits cpus p locals b (calls locals order) t l row before step fits goes;
         path = subst (λ (y : Local). Path input.rows y (names_row input.rows p.names y row).1) here (names_path input.rows l p.names row fits goes);
         way = ap is_under_way step;
-        placed = record {
-          ok = record {
-            cpus = placed.ok.cpus;
-            classes = placed.ok.classes;
-            shards = placed.ok.shards;
-            domains = placed.ok.domains;
-            heap = placed.ok.heap;
-            config = placed.ok.config;
-            map = placed.ok.map;
-            huge = placed.ok.huge;
-          };
-          cpus = placed.cpus;
-          domains = placed.domains;
-          epochs = same_epochs;
-          heads = placed.heads;
-        };
+        placed = placed_elsewhere p.heap p.map (names_row input.rows p.names l row).0 placed.ok.heap placed.ok.config placed.ok.map placed.ok.huge;
         shaped = kept.shaped;
         seated = seats_kept (names_row input.rows p.names l row).1 kept.seat;
       }

@@ -41,7 +41,7 @@ pub record HasEntered (c ins ends : ℕ) (w : World Part Local) : Type 0 where
   pub mine : slice_get w.locals thread ≡ Some local
   pub runs : cpu.running ≡ Some (thread_no thread)
   pub marked : cpu.is_open ≡ true
-  pub home : local.cpu.0 ≡ c
+  pub home : local.seat.cpu.0 ≡ c
   pub has : HasToEnter local.step
   pub few : CopiesFew local.regs.count local.regs.pc
   pub ran : cpu.ran ≤ executed local.regs.count local.regs.pc
@@ -52,7 +52,7 @@ abbrev pub Balance : ℕ → ℕ → ℕ → World Part Local → Type 0
 Balance c ins ends w = (ins ≤ ends) ⊎ HasEntered c ins ends w
 
 -- the part that a thread wants before it enters is its own CPU
-home_by : (cpus classes : ℕ) (l : Local) (s : Step) → l.step ≡ s → HasToEnter s → place_of cpus classes l ≡ Some (number l.cpu.0)
+home_by : (cpus classes : ℕ) (l : Local) (s : Step) → l.step ≡ s → HasToEnter s → place_of cpus classes l ≡ Some (number l.seat.cpu.0)
 home_by cpus classes l (does.Front (front.Cpu (Pop a))) is has = rw is
 home_by cpus classes l (does.Front (front.Cpu (Grow a))) is has = rw is
 home_by cpus classes l (does.Front (front.Cpu (Stock s))) is has = rw is
@@ -72,10 +72,10 @@ module _ (input : Input) (c ins ends : ℕ) (w : World Part Local) (t : ℕ) (l 
   other_place : (place : PartNo) → place_of input.asked.config.cpus (length input.rows) l ≡ Some place → (place.0 ≡ c → ⊥) → (e : HasEntered c ins ends w) → e.thread ≡ t → ⊥
   other_place place want apart e same =
       let own : e.local ≡ l = is_own e same in
-      let home : place_of input.asked.config.cpus (length input.rows) l ≡ Some (number l.cpu.0) = home_by input.asked.config.cpus (length input.rows) l l.step refl (subst (λ (k : Local). HasToEnter k.step) own e.has) in
-      let at : Some place ≡ Some (number l.cpu.0) = sym want ∙ home in
-      let is : place ≡ number l.cpu.0 = (cc) in
-      apart (ap (λ (n : PartNo). n.0) is ∙ (ap (λ (k : Local). k.cpu.0) (sym own) ∙ e.home))
+      let home : place_of input.asked.config.cpus (length input.rows) l ≡ Some (number l.seat.cpu.0) = home_by input.asked.config.cpus (length input.rows) l l.step refl (subst (λ (k : Local). HasToEnter k.step) own e.has) in
+      let at : Some place ≡ Some (number l.seat.cpu.0) = sym want ∙ home in
+      let is : place ≡ number l.seat.cpu.0 = (cc) in
+      apart (ap (λ (n : PartNo). n.0) is ∙ (ap (λ (k : Local). k.seat.cpu.0) (sym own) ∙ e.home))
 
   stays_elsewhere : (place : PartNo) (pair : Part × Local) → place_of input.asked.config.cpus (length input.rows) l ≡ Some place → (place.0 ≡ c → ⊥) → Balance c ins ends w → Balance c (ins + 0) (ends + 0) (with_pair w place.0 t pair)
   stays_elsewhere place pair want apart (inl few) = inl (omega arith)
@@ -106,11 +106,11 @@ module _ (input : Input) (c ins ends : ℕ) (w : World Part Local) (t : ℕ) (l 
     runs_own : Some l.regs.thread ≡ Some (thread_no t)
     runs_own = ap (λ n. Some (thread_no n)) thread
 
-    home_of : HasToEnter l.step → l.cpu.0 ≡ c
+    home_of : HasToEnter l.step → l.seat.cpu.0 ≡ c
     home_of has =
-        let home : place_of input.asked.config.cpus (length input.rows) l ≡ Some (number l.cpu.0) = home_by input.asked.config.cpus (length input.rows) l l.step refl has in
-        let at : Some place ≡ Some (number l.cpu.0) = sym want ∙ home in
-        let is : place ≡ number l.cpu.0 = (cc) in
+        let home : place_of input.asked.config.cpus (length input.rows) l ≡ Some (number l.seat.cpu.0) = home_by input.asked.config.cpus (length input.rows) l l.step refl has in
+        let at : Some place ≡ Some (number l.seat.cpu.0) = sym want ∙ home in
+        let is : place ≡ number l.seat.cpu.0 = (cc) in
         ap (λ (n : PartNo). n.0) (sym is) ∙ here
 
     runs_by : (e : HasEntered c ins ends w) → p.running ≡ Some (thread_no e.thread)

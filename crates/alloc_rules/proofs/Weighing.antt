@@ -58,9 +58,9 @@ begun k j hand d p rest none asks publishes takes value loosely =
 
 module _ (rows : List ClassRow) (l : Local) (k : ℕ) (none : l.regs.hand.items ≡ []) where
   abbrev at_call : Call → Option MoveTo → List Planned → Local
-  at_call call moved rest = record l { step = first_of_call rows call; regs = fresh_regs rows call l.regs; moved = moved; rest = rest }
+  at_call call moved rest = record l { step = first_of_call rows call; regs = fresh_regs rows call l.regs; seat = record l.seat { moved = moved }; rest = rest }
 
-  malloc_weighs : (label : Label) (size : ℕ) (p : Planned) (rest : List Planned) (c : Option Class) → WeighSame (quiet k (record p { call = Malloc label size } ∷ rest)) (account_of (record l { step = first_of_malloc c label size; regs = record (regs_of_malloc c l.regs) { ran = 0 }; moved = p.moved; rest = rest }))
+  malloc_weighs : (label : Label) (size : ℕ) (p : Planned) (rest : List Planned) (c : Option Class) → WeighSame (quiet k (record p { call = Malloc label size } ∷ rest)) (account_of (record l { step = first_of_malloc c label size; regs = record (regs_of_malloc c l.regs) { ran = 0 }; seat = record l.seat { moved = p.moved }; rest = rest }))
   malloc_weighs label size p rest None = begun k l.regs.class.0 l.regs.hand.items (Asks label size) (record p { call = Malloc label size }) rest none (λ x. refl) (λ x. refl) (λ x. refl) (λ x v. refl) (λ n. refl)
   malloc_weighs label size p rest (Some c) = begun k c.0 l.regs.hand.items (Asks label size) (record p { call = Malloc label size }) rest none (λ x. refl) (λ x. refl) (λ x. refl) (λ x v. refl) (λ n. refl)
 
@@ -81,7 +81,7 @@ closes_weighs rows l k none None = script_weighs rows (record l { ended = l.ende
 closes_weighs rows l k none (Some move) = weighs_quiet k l.regs.class.0 l.regs.hand.items l.rest none
 
 pub weighs_next : (rows : List ClassRow) (l : Local) (k : ℕ) → l.regs.hand.items ≡ [] → WeighSame (quiet k l.rest) (account_of (ends rows l))
-weighs_next rows l k none = closes_weighs rows (record l { acts = l.acts + 1 }) k none l.moved
+weighs_next rows l k none = closes_weighs rows (record l { acts = l.acts + 1 }) k none l.seat.moved
 
 -- that is one act more, with no further answer
 closes_counts : (rows : List ClassRow) (l : Local) (move : Option MoveTo) → ((closes rows l move).acts ≡ l.acts) × ((closes rows l move).answers ≡ l.answers)
@@ -89,4 +89,4 @@ closes_counts rows l None = (refl, refl)
 closes_counts rows l (Some move) = (refl, refl)
 
 pub ends_counts : (rows : List ClassRow) (l : Local) → ((ends rows l).acts ≡ l.acts + 1) × ((ends rows l).answers ≡ l.answers)
-ends_counts rows l = closes_counts rows (record l { acts = l.acts + 1 }) l.moved
+ends_counts rows l = closes_counts rows (record l { acts = l.acts + 1 }) l.seat.moved

@@ -20,8 +20,8 @@ use Rattle.call_steps.specs.declared.step.NamesStep.{NamesStep}
 use Rattle.call_steps.specs.declared.step.Step.TheVariants as does
 use Rattle.call_steps.specs.declared.step.CpuRow.TheVariants as front
 use Rattle.call_steps.specs.Local.{Local}
-use Rattle.call_steps.specs.CpuActs.{cpu_row}
-use Rattle.call_steps.specs.ShardActs.{shard_row, domain_row}
+use Rattle.call_steps.specs.ShardActs.{shard_row}
+use Rattle.call_steps.specs.Follows.{cpu_row, domain_row}
 use Rattle.call_steps.specs.Acts.{heap_row, map_row, names_row, waits_row}
 use Rattle.call_steps.specs.Fits.{FitsShard, FitsHeap, FitsMap, FitsNames}
 use Rattle.call_steps.specs.Shapes.{Limits, AreRows, IsShaped}

@@ -1,12 +1,12 @@
 -- Where an act refuses a call: none of an allocation, busy of a drain or a resize, and what a capacity is answered.
-use Rattle.std.specs.Prelude.{◌≡◌, ◌≢◌, ℕ, ◌<◌, ◌≤◌, ◌↔◌, Bool, true, false, List, [], ◌∷◌, ◌++◌, Option, Some, None}
+use Rattle.std.specs.Prelude.{◌≡◌, ◌≢◌, ℕ, ◌<◌, ◌≤◌, ◌↔◌, true, false, List, [], ◌∷◌, ◌++◌, Option, Some, None}
 use Rattle.tc_units.specs.Units.{pages_holding}
 use Rattle.tc_units.specs.declared.units.Class.{Class}
 use Rattle.tc_units.specs.declared.units.ThreadNo.{ThreadNo}
 use Rattle.tc_units.specs.declared.spans.ClassRow.{ClassRow}
 use Rattle.tc_model.specs.declared.calls.Call.{Call}
 use Rattle.tc_model.specs.declared.answers.Answer.{Answer}
-use Rattle.tc_model.specs.declared.answers.Answer.TheVariants.{Block, NoBlock, Freed, FreedNull, Released, Drained, Busy, CapSet, OverLimit, OverStatic}
+use Rattle.tc_model.specs.declared.answers.Answer.TheVariants.{NoBlock, Busy, CapSet, OverLimit, OverStatic}
 use Rattle.heap_rules.specs.Heap.{Heap}
 use Rattle.heap_rules.specs.New.{none_fits}
 use Rattle.cpu_slab.specs.Slots.{CpuSlab, with_cap}
@@ -20,6 +20,7 @@ use Rattle.call_steps.specs.declared.step.HeapStep.TheVariants as heap
 use Rattle.call_steps.specs.declared.step.Stopping.{Stopping}
 use Rattle.call_steps.specs.declared.step.Resizing.{Resizing}
 use Rattle.call_steps.specs.Local.{Local, class_row}
+use Rattle.call_steps.specs.Refusals.{is_refusal, may_refuse}
 use Rattle.alloc_rules.specs.declared.part.Part.{Part}
 use Rattle.alloc_rules.specs.declared.part.Part.TheVariants as part
 use Rattle.alloc_rules.specs.Machine.{after}
@@ -56,28 +57,6 @@ pub record DecidesCap (before after : Local) (slab : CpuSlab) (k : Class) (n : �
 
 abbrev pub AnswersCap : List ClassRow → CpuPart → Local → Type 0
 AnswersCap rows p l = (r : Resizing) → l.step ≡ does.Front (front.Cpu (cpu.SetCap r)) → DecidesCap l (after rows (part.Cpu p) l).1 p.slab r.class r.cap
-
--- whether an answer refuses its call
-abbrev pub is_refusal : Answer → Bool
-is_refusal (Block addr len) = false
-is_refusal NoBlock = true
-is_refusal (Freed addr) = false
-is_refusal FreedNull = false
-is_refusal (Released pages) = false
-is_refusal (Drained objects) = false
-is_refusal (Busy owner) = true
-is_refusal CapSet = false
-is_refusal (OverLimit sum) = true
-is_refusal (OverStatic most) = true
-
--- which steps may refuse their call, and how
-abbrev pub may_refuse : Step → Answer → Bool
-may_refuse (does.Heap (heap.New label size)) NoBlock = true
-may_refuse (does.Heap (heap.NewSpan asking)) NoBlock = true
-may_refuse (does.Front (front.Cpu (cpu.Stop s))) (Busy owner) = true
-may_refuse (does.Front (front.Cpu (cpu.SetCap r))) (OverLimit sum) = true
-may_refuse (does.Front (front.Cpu (cpu.SetCap r))) (OverStatic most) = true
-may_refuse step answer = false
 
 -- No act, at whatever part, refuses a call but where its step may.
 abbrev pub RefusesThere : List ClassRow → Local → Type 0

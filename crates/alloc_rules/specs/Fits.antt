@@ -13,7 +13,7 @@ fits_step rows (Shard s) l = FitsShardStep rows s l l.step
 fits_step rows (Heap heap) l = FitsHeapStep rows heap l l.step
 fits_step rows (Map map) l = FitsMapStep map l l.step
 fits_step rows (Names names) l = FitsNamesStep names l.step
-fits_step rows (Domain t) l = FitsDomainStep rows t l l.step
+fits_step rows (Domain t) l = FitsDomainStep rows l l.step
 
 pub record Fits (rows : List ClassRow) (part : Part) (l : Local) : Type 0 where
   pub step : fits_step rows part l

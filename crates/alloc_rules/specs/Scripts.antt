@@ -45,5 +45,5 @@ Closes s (d ∷ []) = undecided s ≡ Some d.call
 Closes s (d ∷ e ∷ more) = ⊥
 
 pub data Path (rows : List ClassRow) (l after : Local) : Type 0 where
-  Stays : (new : List Decided) → after.answers ≡ l.answers ++ new → after.domains ≡ l.domains → after.ended ≡ l.ended → after.rest ≡ l.rest → is_under_way after.step ≡ true → HasDomain after.step after.domains → GoesOn l.step after.step new → Path rows l after
-  Comes : (new : List Decided) → after.answers ≡ l.answers ++ new → after.domains ≡ l.domains → after.ended ≡ l.ended + 1 → after.rest ≡ drop 1 l.rest → after.step ≡ first_act rows (slice_get l.rest 0) → Closes l.step new → Path rows l after
+  Stays : (new : List Decided) → after.answers ≡ l.answers ++ new → after.seat.domains ≡ l.seat.domains → after.ended ≡ l.ended → after.rest ≡ l.rest → is_under_way after.step ≡ true → HasDomain after.step after.seat.domains → GoesOn l.step after.step new → Path rows l after
+  Comes : (new : List Decided) → after.answers ≡ l.answers ++ new → after.seat.domains ≡ l.seat.domains → after.ended ≡ l.ended + 1 → after.rest ≡ drop 1 l.rest → after.step ≡ first_act rows (slice_get l.rest 0) → Closes l.step new → Path rows l after

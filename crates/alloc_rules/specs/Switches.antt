@@ -43,11 +43,11 @@ growth_kind grew.Back = closes
 growth_kind grew.Done = closes
 
 abbrev pub row_kind : CpuPart → Local → CpuStep → Kind
-row_kind p l (Pop a) = sequence_kind p l (due l.moved l.regs.ran)
+row_kind p l (Pop a) = sequence_kind p l (due l.seat.moved l.regs.ran)
 row_kind p l (Grow a) = growth_kind (grew_here p l.regs).answer
-row_kind p l (Stock s) = sequence_kind p l (due l.moved l.regs.ran)
-row_kind p l (Push f) = sequence_kind p l (due l.moved l.regs.ran)
-row_kind p l (PopBatch f) = sequence_kind p l (due l.moved l.regs.ran)
+row_kind p l (Stock s) = sequence_kind p l (due l.seat.moved l.regs.ran)
+row_kind p l (Push f) = sequence_kind p l (due l.seat.moved l.regs.ran)
+row_kind p l (PopBatch f) = sequence_kind p l (due l.seat.moved l.regs.ran)
 row_kind p l (Stop s) = neither
 row_kind p l (Fence s) = neither
 row_kind p l (Take s) = neither

@@ -40,7 +40,7 @@ pub same_keeps : (k i : ℕ) (t : ThreadNo) (p : CpuPart) (s : Seat) → CpuOk k
 same_keeps k i t p s part pair = record { part = part; both = pair; others = λ u v apart other. other; elsewhere = λ c q apart other. other }
 
 -- a thread at its own CPU
-pub home_of : (m : Limits) (i t : ℕ) (p : CpuPart) (l : Local) (row : CpuStep) → IsAtCpu m i t p l row → l.cpu.0 ≡ i → IsHome (length m.rows) i (thread_no t) p (seat_of m.rows l)
+pub home_of : (m : Limits) (i t : ℕ) (p : CpuPart) (l : Local) (row : CpuStep) → IsAtCpu m i t p l row → l.seat.cpu.0 ≡ i → IsHome (length m.rows) i (thread_no t) p (seat_of m.rows l)
 home_of m i t p l row w here = record { part = w.part; pair = w.seat; cpu = here; thread = thread_is l.regs.thread t w.shaped.thread; class = w.shaped.class }
 
 pub agrees_of : (m : Limits) (i t : ℕ) (p : CpuPart) (l : Local) (row : CpuStep) → IsAtCpu m i t p l row → IsCurrent l.regs.thread p l.regs → Agrees (is_pop l.regs.seq) (row_at p.slab l.regs.class.0) l.regs l.regs.pc

@@ -6,3 +6,4 @@ pub mod ActKeeps
 pub mod SequencesKeep
 pub mod StopsKeep
 pub mod CpuKeeps
+pub mod Nexts

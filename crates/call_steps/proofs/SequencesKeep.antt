@@ -5,6 +5,7 @@ use Rattle.std.proofs.lemmas.List.{length-append, length-drop}
 use Rattle.tc_units.specs.declared.units.Addr.{Addr}
 use Rattle.tc_units.specs.declared.units.Class.{Class}
 use Rattle.tc_units.specs.declared.units.ThreadNo.{ThreadNo}
+use Rattle.tc_units.specs.declared.spans.ClassRow.{ClassRow}
 use Rattle.tc_model.specs.declared.calls.MoveTo.{MoveTo}
 use Rattle.cpu_slab.specs.Slots.{SlabRow, row_at}
 use Rattle.cpu_slab.proofs.SlabFacts.{row_sound}
@@ -36,10 +37,12 @@ use Rattle.call_steps.specs.declared.step.CpuRow.TheVariants as front
 use Rattle.call_steps.specs.declared.step.CpuStep.{CpuStep}
 use Rattle.call_steps.specs.declared.step.CpuStep.TheVariants as cpu
 use Rattle.call_steps.specs.Local.{Local, no_class, class_row, goes}
-use Rattle.call_steps.specs.Hands.{starts, looks_on, gives}
-use Rattle.call_steps.specs.CpuActs.{is_due, due, with_regs, moves_to, leaves, gives_rest, replied, instructed_to, sequence_by, sequence, grew_to, grows}
+use Rattle.call_steps.specs.Calls.{asks, frees, about_cpu, call_about}
+use Rattle.call_steps.specs.Hands.{with_regs, starts}
+use Rattle.call_steps.specs.CpuActs.{looks_on, gives, at_cpu_next, is_due, due, moves_to, leaves, after_stock, replied, instructed_to, sequence_by, sequence, grew_to, grows}
+use Rattle.call_steps.specs.Follows.{follows, with_next}
 use Rattle.call_steps.specs.Fits.{FitsSequence, PopsSome}
-use Rattle.call_steps.specs.Shapes.{standing_of, cpu_standing, seat_of, AreRows, Limits, IsMove, most_slots, IsAsked, BeginsWith, IsAtBegin, HasNone, CpuShape, StepShape, IsShaped}
+use Rattle.call_steps.specs.Shapes.{standing_of, cpu_standing, seat_of, AreRows, Limits, IsMove, most_slots, IsAsked, BeginsWith, IsAtBegin, HasNone, CpuShape, IsShaped}
 use Rattle.call_steps.specs.Laws.{thread_no, IsAtCpu}
 use Rattle.call_steps.proofs.NextShapes.{IsCommon, common_of, IsNext, goes_next, none_still, looks_next, publishes_next, gives_next, serves_next, decided_ends, row_there}
 use Rattle.call_steps.proofs.ActKeeps.{ActKeeps, thread_is, act_next, home_of, agrees_of, shape_of, left_epoch}
@@ -63,26 +66,34 @@ regs_common m t l r s same ran =
 abbrev pub Stays : Limits → Local → CpuStep → Type 0
 Stays m l row = (new : Local) → new.regs.seq ≡ l.regs.seq → new.regs.class ≡ l.regs.class → new.regs.hand.items ≡ l.regs.hand.items → new.freed.items ≡ l.freed.items → CpuShape m new row
 
--- what a call does with a reply leaves its local a shape
+-- what a call does with a reply, and with an instruction
+abbrev replied_in : List ClassRow → Local → CpuStep → Reply → Local
+replied_in rows l row o = let n = replied rows l.seat l.regs row o in follows rows (with_regs l n.0) (call_about (about_cpu row)) n.1
+
+abbrev instructed_in : List ClassRow → Local → CpuStep → Instructed → Local
+instructed_in rows l row a = let n = instructed_to rows l.seat l.regs row a in follows rows (with_regs l n.0) (call_about (about_cpu row)) n.1
+
+-- the first leaves its local a shape
 abbrev pub Replies : Limits → ℕ → Local → CpuStep → Type 0
-Replies m t l row = (old new : SlabRow) (r : Regs) (o : Reply) → ReplyMoves o old new l.regs r → AreAtBegin r → AreOfSame l.regs r → IsCommon m t (with_regs l r) → IsNext m t l.cpu r.epoch None (replied m.rows (with_regs l r) row o)
+Replies m t l row = (old new : SlabRow) (r : Regs) (o : Reply) → ReplyMoves o old new l.regs r → AreAtBegin r → AreOfSame l.regs r → IsCommon m t (with_regs l r) → IsNext m t l.seat.cpu r.epoch None (replied_in m.rows (with_regs l r) row o)
 
 -- a sequence that goes on, or is at its begin again
-still_keeps : (m : Limits) (i t : ℕ) (p new : CpuPart) (l : Local) (row : CpuStep) (r : Regs) → l.step ≡ does.Front (front.Cpu row) → r.class ≡ l.regs.class → IsCommon m t (with_regs l r) → CpuShape m (goes (with_regs l r) l.step) row → seats.SeatKeeps (length m.rows) i (thread_no t) p (seat_of m.rows l) new (seats.with_regs (seat_of m.rows l) r) → new.epoch ≤ p.epoch + 1 → ActKeeps m i t p l (new, goes (with_regs l r) l.step)
+still_keeps : (m : Limits) (i t : ℕ) (p new : CpuPart) (l : Local) (row : CpuStep) (r : Regs) → l.step ≡ does.Front (front.Cpu row) → r.class ≡ l.regs.class → IsCommon m t (with_regs l r) → CpuShape m (goes (with_regs l r) (does.Front (front.Cpu row))) row → seats.SeatKeeps (length m.rows) i (thread_no t) p (seat_of m.rows l) new (seats.with_regs (seat_of m.rows l) r) → new.epoch ≤ p.epoch + 1 → ActKeeps m i t p l (new, goes (with_regs l r) (does.Front (front.Cpu row)))
 still_keeps m i t p new l row r is class c shape keeps low =
+    let stand : Class → Step → seats.Seat = λ k s. record { regs = r; cpu = l.seat.cpu.0; standing = standing_of m.rows k.0 s } in
     record {
-      keeps = subst (λ (v : seats.Seat). seats.SeatKeeps (length m.rows) i (thread_no t) p (seat_of m.rows l) new v) (ap (λ (k : Class). let v : seats.Seat = record { regs = r; cpu = l.cpu.0; standing = standing_of m.rows k.0 l.step } in v) (sym class)) keeps;
-      shaped = record { thread = c.thread; class = c.class; home = c.home; hand = c.hand; loaded = c.loaded; freed = c.freed; ran = c.ran; move = c.move; rest = c.rest; step = subst (λ (s : Step). StepShape m (goes (with_regs l r) l.step) s) (sym is) shape };
+      keeps = subst (λ (v : seats.Seat). seats.SeatKeeps (length m.rows) i (thread_no t) p (seat_of m.rows l) new v) (ap (λ (k : Class). stand k l.step) (sym class) ∙ ap (stand r.class) is) keeps;
+      shaped = record { thread = c.thread; class = c.class; home = c.home; hand = c.hand; loaded = c.loaded; freed = c.freed; ran = c.ran; move = c.move; rest = c.rest; step = shape };
       epoch = low;
     }
 
 answer_keeps : (m : Limits) (i t : ℕ) (p new : CpuPart) (l : Local) (row : CpuStep) (r : Regs) (a : Instructed) → IsShaped m t l → l.step ≡ does.Front (front.Cpu row) → cpu_standing m.rows l.regs.class.0 row ≡ None → Stays m l row → Replies m t l row → (is_pop l.regs.seq ≡ true → HasRoom l.regs) → Instructs p l.regs (record { cpu = new; regs = r; answer = a }) → seats.SeatKeeps (length m.rows) i (thread_no t) p (seat_of m.rows l) new (seats.with_regs (seat_of m.rows l) r)
-    → ActKeeps m i t p l (new, instructed_to m.rows (with_regs l r) row a)
-answer_keeps m i t p new l row r answer.In s is none stays replies rooms x keeps = still_keeps m i t p new l row r is (x.same rooms).class (regs_common m t l r s (x.same rooms) x.ran) (stays (goes (with_regs l r) l.step) (x.same rooms).seq (x.same rooms).class x.moves.hand refl) keeps x.epoch
-answer_keeps m i t p new l row r answer.Back s is none stays replies rooms x keeps = still_keeps m i t p new l row r is (x.same rooms).class (regs_common m t l r s (x.same rooms) x.ran) (stays (goes (with_regs l r) l.step) (x.same rooms).seq (x.same rooms).class x.moves.hand refl) keeps x.epoch
-answer_keeps m i t p new l row r answer.Ran s is none stays replies rooms x keeps = still_keeps m i t p new l row r is (x.same rooms).class (regs_common m t l r s (x.same rooms) x.ran) (stays (goes (with_regs l r) l.step) (x.same rooms).seq (x.same rooms).class x.moves.hand refl) keeps x.epoch
+    → ActKeeps m i t p l (new, instructed_in m.rows (with_regs l r) row a)
+answer_keeps m i t p new l row r answer.In s is none stays replies rooms x keeps = still_keeps m i t p new l row r is (x.same rooms).class (regs_common m t l r s (x.same rooms) x.ran) (stays (goes (with_regs l r) (does.Front (front.Cpu row))) (x.same rooms).seq (x.same rooms).class x.moves.hand refl) keeps x.epoch
+answer_keeps m i t p new l row r answer.Back s is none stays replies rooms x keeps = still_keeps m i t p new l row r is (x.same rooms).class (regs_common m t l r s (x.same rooms) x.ran) (stays (goes (with_regs l r) (does.Front (front.Cpu row))) (x.same rooms).seq (x.same rooms).class x.moves.hand refl) keeps x.epoch
+answer_keeps m i t p new l row r answer.Ran s is none stays replies rooms x keeps = still_keeps m i t p new l row r is (x.same rooms).class (regs_common m t l r s (x.same rooms) x.ran) (stays (goes (with_regs l r) (does.Front (front.Cpu row))) (x.same rooms).seq (x.same rooms).class x.moves.hand refl) keeps x.epoch
 answer_keeps m i t p new l row r (answer.Done o) s is none stays replies rooms x keeps =
-    act_next m i t p new l (replied m.rows (with_regs l r) row o) (seats.with_regs (seat_of m.rows l) r) l.cpu r.epoch None keeps
+    act_next m i t p new l (replied_in m.rows (with_regs l r) row o) (seats.with_regs (seat_of m.rows l) r) l.seat.cpu r.epoch None keeps
     (replies (row_at p.slab l.regs.class.0) (row_at new.slab l.regs.class.0) r o x.moves x.begins (x.same rooms) (regs_common m t l r s (x.same rooms) x.ran)) refl refl (sym (ap (standing_of m.rows l.regs.class.0) is ∙ none)) x.epoch
 
 -- the thread's move
@@ -90,21 +101,23 @@ due_is : (o : Option MoveTo) (ran : ℕ) (move : MoveTo) → due o ran ≡ Some 
 due_is None ran move is = is
 due_is (Some x) ran move is = cond_both (is_due x ran) (Some x) None (λ (o : Option MoveTo). o ≡ Some move → Some x ≡ Some move) (λ e same. same) (λ e none. absurd (cc)) is
 
-leaves_keeps : (m : Limits) (i t : ℕ) (p : CpuPart) (l : Local) (row : CpuStep) (move : MoveTo) → IsAtCpu m i t p l row → l.cpu.0 ≡ i → l.moved ≡ Some move → Stays m l row → ActKeeps m i t p l (leaves p l move)
+leaves_keeps : (m : Limits) (i t : ℕ) (p : CpuPart) (l : Local) (row : CpuStep) (move : MoveTo) → IsAtCpu m i t p l row → l.seat.cpu.0 ≡ i → l.seat.moved ≡ Some move → Stays m l row → ActKeeps m i t p l (with_next m.rows l (about_cpu row) (leaves p l.seat l.regs move (at_cpu_next row)))
 leaves_keeps m i t p l row move w here is stays =
     let u : ThreadNo = l.regs.thread in
     let s = w.shaped in
     let keeps = lawful.leaves (length m.rows) i move.cpu.0 (thread_no t) p (seat_of m.rows l) (home_of m i t p l row w here) in
     let there : IsMove m (Some move) = subst (λ (o : Option MoveTo). IsMove m o) is s.move in
-    let new : Local = goes (moves_to l move) l.step in
+    let new : Local = goes (record l { seat = moves_to l.seat move; regs = rseq.dropped l.regs }) (does.Front (front.Cpu row)) in
+    let stand : Step → seats.Seat = λ x. record { regs = rseq.dropped l.regs; cpu = move.cpu.0; standing = standing_of m.rows l.regs.class.0 x } in
+    let mine = subst (λ (v : ThreadNo). seats.SeatKeeps (length m.rows) i (thread_no t) p (seat_of m.rows l) (rseq.left p v) (stand l.step)) (sym (thread_is u t s.thread)) keeps in
     record {
-      keeps = subst (λ (v : ThreadNo). seats.SeatKeeps (length m.rows) i (thread_no t) p (seat_of m.rows l) (rseq.left p v) (seat_of m.rows new)) (sym (thread_is u t s.thread)) keeps;
-      shaped = record { thread = s.thread; class = s.class; home = there; hand = s.hand; loaded = omega (arith, s.loaded); freed = s.freed; ran = omega (arith, s.ran); move = tt; rest = s.rest; step = subst (λ (x : Step). StepShape m new x) (sym w.step) (stays new refl refl refl refl) };
+      keeps = subst (λ (x : Step). seats.SeatKeeps (length m.rows) i (thread_no t) p (seat_of m.rows l) (rseq.left p u) (stand x)) w.step mine;
+      shaped = record { thread = s.thread; class = s.class; home = there; hand = s.hand; loaded = omega (arith, s.loaded); freed = s.freed; ran = omega (arith, s.ran); move = tt; rest = s.rest; step = stays new refl refl refl refl };
       epoch = left_epoch p u;
     }
 
-sequence_keeps : (m : Limits) (i t : ℕ) (p : CpuPart) (l : Local) (row : CpuStep) → IsAtCpu m i t p l row → l.cpu.0 ≡ i → cpu_standing m.rows l.regs.class.0 row ≡ None → Stays m l row → Replies m t l row → (is_pop l.regs.seq ≡ true → HasRoom l.regs) → (o : Option MoveTo) → due l.moved l.regs.ran ≡ o → ActKeeps m i t p l (sequence_by m.rows p l row o)
-sequence_keeps m i t p l row w here none stays replies rooms (Some move) is = leaves_keeps m i t p l row move w here (due_is l.moved l.regs.ran move is) stays
+sequence_keeps : (m : Limits) (i t : ℕ) (p : CpuPart) (l : Local) (row : CpuStep) → IsAtCpu m i t p l row → l.seat.cpu.0 ≡ i → cpu_standing m.rows l.regs.class.0 row ≡ None → Stays m l row → Replies m t l row → (is_pop l.regs.seq ≡ true → HasRoom l.regs) → (o : Option MoveTo) → due l.seat.moved l.regs.ran ≡ o → ActKeeps m i t p l (with_next m.rows l (about_cpu row) (sequence_by m.rows p l.seat l.regs row o))
+sequence_keeps m i t p l row w here none stays replies rooms (Some move) is = leaves_keeps m i t p l row move w here (due_is l.seat.moved l.regs.ran move is) stays
 sequence_keeps m i t p l row w here none stays replies rooms None is =
     let x = rseq.instructed p l.regs in
     answer_keeps m i t p x.cpu l row x.regs x.answer w.shaped w.step none stays replies rooms
@@ -112,7 +125,7 @@ sequence_keeps m i t p l row w here none stays replies rooms None is =
     (lawful.instructs (length m.rows) i (thread_no t) p (seat_of m.rows l) (home_of m i t p l row w here))
 
 -- the act fits
-sequence_fits : (m : Limits) (i t : ℕ) (p : CpuPart) (l : Local) (row : CpuStep) → IsAtCpu m i t p l row → (is_pop l.regs.seq ≡ true → HasRoom l.regs) → FitsSequence m.rows p l
+sequence_fits : (m : Limits) (i t : ℕ) (p : CpuPart) (l : Local) (row : CpuStep) → IsAtCpu m i t p l row → (is_pop l.regs.seq ≡ true → HasRoom l.regs) → FitsSequence m.rows p l.regs
 sequence_fits m i t p l row w rooms =
     let there : l.regs.class.0 < length p.slab.rows = omega (arith, w.part.classes, w.shaped.class) in
     record {
@@ -124,11 +137,11 @@ sequence_fits m i t p l row w rooms =
     }
 
 pub record RowKeeps (m : Limits) (i t : ℕ) (p : CpuPart) (l : Local) (row : CpuStep) : Type 0 where
-  pub fits : FitsSequence m.rows p l
-  pub act : ActKeeps m i t p l (sequence m.rows p l row)
+  pub fits : FitsSequence m.rows p l.regs
+  pub act : ActKeeps m i t p l (with_next m.rows l (about_cpu row) (sequence m.rows p l.seat l.regs row))
 
-row_keeps : (m : Limits) (i t : ℕ) (p : CpuPart) (l : Local) (row : CpuStep) → IsAtCpu m i t p l row → l.cpu.0 ≡ i → cpu_standing m.rows l.regs.class.0 row ≡ None → Stays m l row → Replies m t l row → (is_pop l.regs.seq ≡ true → HasRoom l.regs) → RowKeeps m i t p l row
-row_keeps m i t p l row w here none stays replies rooms = record { fits = sequence_fits m i t p l row w rooms; act = sequence_keeps m i t p l row w here none stays replies rooms (due l.moved l.regs.ran) refl }
+row_keeps : (m : Limits) (i t : ℕ) (p : CpuPart) (l : Local) (row : CpuStep) → IsAtCpu m i t p l row → l.seat.cpu.0 ≡ i → cpu_standing m.rows l.regs.class.0 row ≡ None → Stays m l row → Replies m t l row → (is_pop l.regs.seq ≡ true → HasRoom l.regs) → RowKeeps m i t p l row
+row_keeps m i t p l row w here none stays replies rooms = record { fits = sequence_fits m i t p l row w rooms; act = sequence_keeps m i t p l row w here none stays replies rooms (due l.seat.moved l.regs.ran) refl }
 
 -- which way a sequence goes
 way_apart : (s x : Seq) (b : Bool) → s ≡ x → is_pop x ≡ b → (c : Bool) → is_pop s ≡ c → b ≡ c
@@ -172,8 +185,8 @@ pop_replies m t l a shape old new r reply.Popped moves begin same c =
 pop_replies m t l a shape old new r reply.Empty moves begin same c =
     let n : HasNone (with_regs l r) = pop_none m l a r shape begin moves.hand in
     goes_next m t (with_regs l r) (does.Front (front.Cpu (cpu.Grow a))) c n.begin (none_still (with_regs l r) (does.Front (front.Cpu (cpu.Grow a))) n, pop_asked m l a r shape.2 same.class)
-pop_replies m t l a shape old new r reply.Stopped moves begin same c = looks_next m t (with_regs l r) a c (pop_none m l a r shape begin moves.hand) (pop_asked m l a r shape.2 same.class)
-pop_replies m t l a shape old new r reply.Full moves begin same c = looks_next m t (with_regs l r) a c (pop_none m l a r shape begin moves.hand) (pop_asked m l a r shape.2 same.class)
+pop_replies m t l a shape old new r reply.Stopped moves begin same c = looks_next m t (with_regs l r) a (Some (asks a)) c (pop_none m l a r shape begin moves.hand) (pop_asked m l a r shape.2 same.class)
+pop_replies m t l a shape old new r reply.Full moves begin same c = looks_next m t (with_regs l r) a (Some (asks a)) c (pop_none m l a r shape begin moves.hand) (pop_asked m l a r shape.2 same.class)
 pop_replies m t l a shape old new r (reply.Pushed n) moves begin same c = absurd (no_push l.regs.seq seq.Pop shape.0.seq refl moves.pushes)
 
 pops_some : (p : CpuPart) (l : Local) (old new : SlabRow) (x : rseq.Acted Instructed) → l.regs.seq ≡ seq.Pop → AnswerMoves x.answer old new l.regs x.regs → x.answer ≡ answer.Done reply.Popped → 0 < length x.regs.hand.items
@@ -182,12 +195,13 @@ pops_some p l old new x is moves done =
     let got : 0 < length up.got = up.some (omega (arith, wants l seq.Pop is)) in
     omega (arith, ap length up.hand, length-append l.regs.hand.items up.got, got)
 
-pub pop_keeps : (m : Limits) (i t : ℕ) (p : CpuPart) (l : Local) (a : Asking) → IsAtCpu m i t p l (cpu.Pop a) → RowKeeps m i t p l (cpu.Pop a) × PopsSome p l
+pub pop_keeps : (m : Limits) (i t : ℕ) (p : CpuPart) (l : Local) (a : Asking) → IsAtCpu m i t p l (cpu.Pop a) → RowKeeps m i t p l (cpu.Pop a) × PopsSome p l.regs
 pop_keeps m i t p l a w =
     let shape : CpuShape m l (cpu.Pop a) = shape_of m i t p l (cpu.Pop a) w in
-    let x = rseq.instructed p l.regs in (
+    let x = rseq.instructed p l.regs in
+    let moved = instruct_does (length m.rows) p l.regs w.part w.shaped.class (agrees_of m i t p l (cpu.Pop a) w) in (
       row_keeps m i t p l (cpu.Pop a) w w.here refl (pop_stays m l a shape) (pop_replies m t l a shape) (λ pops. pop_rooms m t l a w.shaped shape),
-      pops_some p l (row_at p.slab l.regs.class.0) (row_at x.cpu.slab l.regs.class.0) x shape.0.seq (instruct_does (length m.rows) p l.regs w.part w.shaped.class (agrees_of m i t p l (cpu.Pop a) w)).moves,
+      λ done. (pops_some p l (row_at p.slab l.regs.class.0) (row_at x.cpu.slab l.regs.class.0) x shape.0.seq moved.moves done, moved.class),
     )
 
 -- Stock
@@ -202,9 +216,9 @@ reply_few old new r after reply.Full moves = omega (arith, ap length moves.hand)
 reply_few old new r after reply.Popped moves = omega (arith, ap length moves.hand, length-append r.hand.items moves.got, moves.few)
 reply_few old new r after (reply.Pushed n) moves = omega (arith, ap length moves.hand, length-drop n r.hand.items)
 
-rest_next : (m : Limits) (t : ℕ) (l : Local) (s : Serving) (xs : List Addr) → l.regs.hand.items ≡ xs → length l.regs.hand.items ≤ most_slots → IsCommon m t l → IsAtBegin l.regs → l.freed.items ≡ [] → IsNext m t l.cpu l.regs.epoch None (gives_rest l s xs)
+rest_next : (m : Limits) (t : ℕ) (l : Local) (s : Serving) (xs : List Addr) → l.regs.hand.items ≡ xs → length l.regs.hand.items ≤ most_slots → IsCommon m t l → IsAtBegin l.regs → l.freed.items ≡ [] → IsNext m t l.seat.cpu l.regs.epoch None (follows m.rows l None (after_stock l.seat s xs))
 rest_next m t l s [] is few c begin freed = publishes_next m t l s c (record { begin = begin; hand = is; freed = freed })
-rest_next m t l s (x ∷ xs) is few c begin freed = gives_next m t l (giving.Rest s) c (record { begin = begin; few = few; freed = freed }) tt
+rest_next m t l s (x ∷ xs) is few c begin freed = gives_next m t l (giving.Rest s) None c (record { begin = begin; few = few; freed = freed }) tt
 
 stock_replies : (m : Limits) (t : ℕ) (l : Local) (s : Serving) → CpuShape m l (cpu.Stock s) → Replies m t l (cpu.Stock s)
 stock_replies m t l s shape old new r o moves begin same c =
@@ -220,8 +234,8 @@ push_stays : (m : Limits) (l : Local) (f : Freeing) → CpuShape m l (cpu.Push f
 push_stays m l f shape new e class hand freed = (record { seq = e ∙ shape.0.seq; freed = freed ∙ shape.0.freed }, hand ∙ shape.1)
 
 -- the object of a free is given away with what is behind it
-freed_next : (m : Limits) (t : ℕ) (l : Local) (f : Freeing) (others : List Addr) → l.regs.hand.items ≡ f.addr ∷ others → length others < most_slots → IsCommon m t l → IsAtBegin l.regs → l.freed.items ≡ [] → IsNext m t l.cpu l.regs.epoch None (gives l (giving.Freed f))
-freed_next m t l f others is few c begin freed = gives_next m t l (giving.Freed f) c (record { begin = begin; few = omega (arith, ap length is, few); freed = freed }) (begins_by f.addr l.regs.hand.items others is)
+freed_next : (m : Limits) (t : ℕ) (l : Local) (f : Freeing) (others : List Addr) → l.regs.hand.items ≡ f.addr ∷ others → length others < most_slots → IsCommon m t l → IsAtBegin l.regs → l.freed.items ≡ [] → IsNext m t l.seat.cpu l.regs.epoch None (follows m.rows l (Some (frees f)) (gives l.seat (giving.Freed f)))
+freed_next m t l f others is few c begin freed = gives_next m t l (giving.Freed f) (Some (frees f)) c (record { begin = begin; few = omega (arith, ap length is, few); freed = freed }) (begins_by f.addr l.regs.hand.items others is)
 
 push_replies : (m : Limits) (t : ℕ) (l : Local) (f : Freeing) → AreRows m.rows → CpuShape m l (cpu.Push f) → Replies m t l (cpu.Push f)
 push_replies m t l f rows shape old new r (reply.Pushed n) moves begin same c =
@@ -266,7 +280,7 @@ batch_keeps m i t p l f w =
     row_keeps m i t p l (cpu.PopBatch f) w w.here refl (batch_stays m l f shape) (batch_replies m t l f (batch_wants m t l f w.rows c shape) shape) (λ pops. batch_rooms m t l f w.rows c shape)
 
 -- Grow
-grew_keeps : (m : Limits) (i t : ℕ) (p new : CpuPart) (l : Local) (a : Asking) (r : Regs) (o : Grew) → IsShaped m t l → l.step ≡ does.Front (front.Cpu (cpu.Grow a)) → CpuShape m l (cpu.Grow a) → Grows p l.regs (record { cpu = new; regs = r; answer = o }) → seats.SeatKeeps (length m.rows) i (thread_no t) p (seat_of m.rows l) new (seats.with_regs (seat_of m.rows l) r) → ActKeeps m i t p l (new, grew_to (with_regs l r) a o)
+grew_keeps : (m : Limits) (i t : ℕ) (p new : CpuPart) (l : Local) (a : Asking) (r : Regs) (o : Grew) → IsShaped m t l → l.step ≡ does.Front (front.Cpu (cpu.Grow a)) → CpuShape m l (cpu.Grow a) → Grows p l.regs (record { cpu = new; regs = r; answer = o }) → seats.SeatKeeps (length m.rows) i (thread_no t) p (seat_of m.rows l) new (seats.with_regs (seat_of m.rows l) r) → ActKeeps m i t p l (new, follows m.rows (with_regs l r) (Some (asks a)) (grew_to l.seat a o))
 grew_keeps m i t p new l a r grew.In s is shape x keeps =
     let begin = x.begins (record { pc = shape.0.begin.pc; nothing = shape.0.begin.nothing }) in
     still_keeps m i t p new l (cpu.Grow a) r is x.same.class (regs_common m t l r s x.same (omega (arith, x.ran))) (record { begin = record { pc = begin.pc; nothing = begin.nothing }; hand = x.hand ∙ shape.0.hand; freed = shape.0.freed }, pop_asked m l a r shape.1 x.same.class) keeps x.epoch
@@ -275,10 +289,10 @@ grew_keeps m i t p new l a r grew.Back s is shape x keeps =
     still_keeps m i t p new l (cpu.Grow a) r is x.same.class (regs_common m t l r s x.same (omega (arith, x.ran))) (record { begin = record { pc = begin.pc; nothing = begin.nothing }; hand = x.hand ∙ shape.0.hand; freed = shape.0.freed }, pop_asked m l a r shape.1 x.same.class) keeps x.epoch
 grew_keeps m i t p new l a r grew.Done s is shape x keeps =
     let begin = x.begins (record { pc = shape.0.begin.pc; nothing = shape.0.begin.nothing }) in
-    act_next m i t p new l (looks_on (with_regs l r) a) (seats.with_regs (seat_of m.rows l) r) l.cpu r.epoch None keeps
-    (looks_next m t (with_regs l r) a (regs_common m t l r s x.same (omega (arith, x.ran))) (record { begin = record { pc = begin.pc; nothing = begin.nothing }; hand = x.hand ∙ shape.0.hand; freed = shape.0.freed }) (pop_asked m l a r shape.1 x.same.class)) refl refl (sym (ap (standing_of m.rows l.regs.class.0) is)) x.epoch
+    act_next m i t p new l (follows m.rows (with_regs l r) (Some (asks a)) (looks_on l.seat a)) (seats.with_regs (seat_of m.rows l) r) l.seat.cpu r.epoch None keeps
+    (looks_next m t (with_regs l r) a (Some (asks a)) (regs_common m t l r s x.same (omega (arith, x.ran))) (record { begin = record { pc = begin.pc; nothing = begin.nothing }; hand = x.hand ∙ shape.0.hand; freed = shape.0.freed }) (pop_asked m l a r shape.1 x.same.class)) refl refl (sym (ap (standing_of m.rows l.regs.class.0) is)) x.epoch
 
-pub grow_keeps : (m : Limits) (i t : ℕ) (p : CpuPart) (l : Local) (a : Asking) → IsAtCpu m i t p l (cpu.Grow a) → ActKeeps m i t p l (grows p l a (rseq.grew_here p l.regs))
+pub grow_keeps : (m : Limits) (i t : ℕ) (p : CpuPart) (l : Local) (a : Asking) → IsAtCpu m i t p l (cpu.Grow a) → ActKeeps m i t p l (with_next m.rows l (about_cpu (cpu.Grow a)) (grows l.seat a (rseq.grew_here p l.regs)))
 grow_keeps m i t p l a w =
     let x = rseq.grew_here p l.regs in
     let shape : CpuShape m l (cpu.Grow a) = shape_of m i t p l (cpu.Grow a) w in

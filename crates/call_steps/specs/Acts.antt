@@ -39,9 +39,9 @@ use Rattle.call_steps.specs.declared.step.MapStep.TheVariants.{Set, SetSpan, Loo
 use Rattle.call_steps.specs.declared.step.NamesStep.{NamesStep}
 use Rattle.call_steps.specs.declared.step.NamesStep.TheVariants.{Publish, Take}
 use Rattle.call_steps.specs.Local.{Local, set_for, decided, goes, ends, class_row}
-use Rattle.call_steps.specs.Hands.{with_freed, clears}
-use Rattle.call_steps.specs.CpuActs.{cpu_row, with_regs}
-use Rattle.call_steps.specs.ShardActs.{shard_row, domain_row}
+use Rattle.call_steps.specs.Hands.{with_regs, with_freed, clears}
+use Rattle.call_steps.specs.ShardActs.{shard_row}
+use Rattle.call_steps.specs.Follows.{cpu_row, domain_row}
 
 -- New decides an allocation: its block is the new run, or there is none.
 abbrev pub after_new : heaps.Heap → Local → Label → ℕ → Option Placed → heaps.Heap × Local

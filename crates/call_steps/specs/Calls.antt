@@ -13,6 +13,7 @@ use Rattle.call_steps.specs.declared.step.Onward.{Onward}
 use Rattle.call_steps.specs.declared.step.Onward.TheVariants as onward
 use Rattle.call_steps.specs.declared.step.Step.{Step}
 use Rattle.call_steps.specs.declared.step.Step.TheVariants as step
+use Rattle.call_steps.specs.declared.step.CpuRow.{CpuRow}
 use Rattle.call_steps.specs.declared.step.CpuRow.TheVariants as front
 use Rattle.call_steps.specs.declared.step.CpuStep.{CpuStep}
 use Rattle.call_steps.specs.declared.step.CpuStep.TheVariants.{Pop, Grow, Stock, Push, PopBatch, Stop, Fence, Take, SetCap, Start, Leave}
@@ -26,7 +27,6 @@ use Rattle.call_steps.specs.declared.step.MapStep.{MapStep}
 use Rattle.call_steps.specs.declared.step.MapStep.TheVariants.{Set, SetSpan, Lookup, Clear, ClearSpan}
 use Rattle.call_steps.specs.declared.step.NamesStep.{NamesStep}
 use Rattle.call_steps.specs.declared.step.NamesStep.TheVariants as names
-use Rattle.call_steps.specs.CpuActs.{call_of}
 
 -- the calls of what a call has under way
 abbrev pub asks : Asking → Call
@@ -42,6 +42,11 @@ pub data About : Type 0 where
   Publishes : Serving → About
   Frees : Freeing → About
   Other : Option Call → About
+
+-- the call that stops a CPU
+abbrev pub call_of : Stopping → Call
+call_of (stopping.Drain d) = Drain d.cpu
+call_of (stopping.Resize r) = Resize r.cpu r.class r.cap
 
 abbrev pub about_start : Stopping → About
 about_start (stopping.Drain d) = Other (Some (Drain d.cpu))
@@ -69,6 +74,10 @@ about_giving giving.End = Other None
 abbrev pub about_domain : DomainStep → About
 about_domain (domain.Take a) = Asks a
 about_domain (domain.Put g) = about_giving g
+
+abbrev pub about_row : CpuRow → About
+about_row (front.Cpu row) = about_cpu row
+about_row (front.Domain row) = about_domain row
 
 abbrev pub about_onward : Onward → About
 about_onward (onward.Publish s) = Publishes s
@@ -113,8 +122,7 @@ of_names (names.Take label) = Some (Free label)
 
 -- the call under way, while it isn't decided
 abbrev pub undecided : Step → Option Call
-undecided (step.Front (front.Cpu row)) = call_about (about_cpu row)
-undecided (step.Front (front.Domain row)) = call_about (about_domain row)
+undecided (step.Front row) = call_about (about_row row)
 undecided (step.Shard row) = of_shard row
 undecided (step.Heap row) = of_heap row
 undecided (step.Map row) = of_map row

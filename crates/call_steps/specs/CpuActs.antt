@@ -1,14 +1,12 @@
--- The acts at a CPU: the thread's own, which it may leave for another CPU before an instruction, and those of a thread that stops it.
-use Rattle.std.specs.Prelude.{ℕ, ◌+◌, Bool, true, not, ◌==◌, ◌&&◌, ◌||◌, nat_lt, List, [], ◌∷◌, length, Option, Some, None, is_some, if◌then◌else◌}
+-- The acts of the per-CPU caches: what an act leaves of its part, of the thread's seat and of its registers, and what comes behind it.
+use Rattle.std.specs.Prelude.{ℕ, ◌+◌, ◌++◌, Bool, true, not, ◌==◌, ◌&&◌, ◌||◌, nat_lt, nat_le, List, [], ◌∷◌, length, Option, Some, None, is_some, if◌then◌else◌}
 use Rattle.tc_units.specs.declared.units.Addr.{Addr}
 use Rattle.tc_units.specs.declared.units.Class.{Class}
 use Rattle.tc_units.specs.declared.units.ThreadNo.{ThreadNo}
 use Rattle.tc_units.specs.declared.spans.ClassRow.{ClassRow}
-use Rattle.tc_model.specs.declared.calls.Call.{Call}
-use Rattle.tc_model.specs.declared.calls.Call.TheVariants.{Free, Drain, Resize}
 use Rattle.tc_model.specs.declared.calls.MoveTo.{MoveTo}
 use Rattle.tc_model.specs.declared.answers.Answer.{Answer}
-use Rattle.tc_model.specs.declared.answers.Answer.TheVariants.{Freed, Drained, Busy, CapSet, OverLimit, OverStatic}
+use Rattle.tc_model.specs.declared.answers.Answer.TheVariants.{Drained, Busy, CapSet, OverLimit, OverStatic}
 use Rattle.cpu_slab.specs.declared.slab.CapFault.{CapFault}
 use Rattle.cpu_slab.specs.declared.slab.CapFault.TheVariants as fault
 use Rattle.cpu_slab.specs.Caps.{cap_fault}
@@ -22,21 +20,49 @@ use Rattle.rseq_core.specs.declared.answers.Instructed.TheVariants as instructed
 use Rattle.rseq_core.specs.declared.answers.Grew.{Grew}
 use Rattle.rseq_core.specs.declared.answers.Grew.TheVariants as grew
 use Rattle.rseq_core.specs.Acts as rseq
+use Rattle.rseq_core.specs.Bags.{appended, emptied}
 use Rattle.cpu_drain.specs.Drains as drains
+use Rattle.transfer_cache.specs.Transfer.{Transfer, last_first, without_last}
+use Rattle.call_steps.specs.declared.seat.CpuSeat.{CpuSeat}
 use Rattle.call_steps.specs.declared.step.Asking.{Asking}
 use Rattle.call_steps.specs.declared.step.Serving.{Serving}
 use Rattle.call_steps.specs.declared.step.Freeing.{Freeing}
 use Rattle.call_steps.specs.declared.step.Draining.{Draining}
 use Rattle.call_steps.specs.declared.step.Stopping.{Stopping}
 use Rattle.call_steps.specs.declared.step.Stopping.TheVariants as stopping
+use Rattle.call_steps.specs.declared.step.Giving.{Giving}
 use Rattle.call_steps.specs.declared.step.Giving.TheVariants as giving
+use Rattle.call_steps.specs.declared.step.Next.{Next}
+use Rattle.call_steps.specs.declared.step.Next.TheVariants as next
 use Rattle.call_steps.specs.declared.step.Step.{Step}
 use Rattle.call_steps.specs.declared.step.Step.TheVariants as step
 use Rattle.call_steps.specs.declared.step.CpuRow.TheVariants as front
 use Rattle.call_steps.specs.declared.step.CpuStep.{CpuStep}
 use Rattle.call_steps.specs.declared.step.CpuStep.TheVariants.{Pop, Grow, Stock, Push, PopBatch, Stop, Fence, Take, SetCap, Start, Leave}
-use Rattle.call_steps.specs.Local.{Local, decided, goes, ends, class_row}
-use Rattle.call_steps.specs.Hands.{with_hand, starts, publishes, serves, looks_on, gives, comes_to}
+use Rattle.call_steps.specs.declared.step.DomainStep.{DomainStep}
+use Rattle.call_steps.specs.declared.step.DomainStep.TheVariants as domain
+use Rattle.call_steps.specs.Local.{Local, set_for, row_of}
+
+pub record Left (P : Type 0) : Type 0 where
+  pub part : P
+  pub seat : CpuSeat
+  pub regs : Regs
+  pub next : Next
+
+abbrev pub leaving : {P : Type 0} → P → CpuSeat → Regs → Next → Left P
+leaving p v r n = record { part = p; seat = v; regs = r; next = n }
+
+-- an allocation that found nothing at its CPU looks in the cache of its domain, where there are domains, and else in the shard
+abbrev pub looks_on : CpuSeat → Asking → Next
+looks_on v asking = if v.domains == 0 then next.Fetch asking else next.Row (front.Domain (domain.Take asking))
+
+-- the hand is given away: to the cache of the domain, where there are domains, and else to the shard
+abbrev pub gives : CpuSeat → Giving → Next
+gives v g = if v.domains == 0 then next.Give g else next.Row (front.Domain (domain.Put g))
+
+-- a row at a CPU comes next
+abbrev pub at_cpu_next : CpuStep → Next
+at_cpu_next row = next.Row (front.Cpu row)
 
 -- The thread's own acts. Its move comes before the next instruction: it is the one that the move names.
 abbrev pub is_due : MoveTo → ℕ → Bool
@@ -46,96 +72,88 @@ abbrev pub due : Option MoveTo → ℕ → Option MoveTo
 due None ran = None
 due (Some move) ran = if is_due move ran then Some move else None
 
--- a local with other registers
-abbrev pub with_regs : Local → Regs → Local
-with_regs l regs = record l { regs = regs }
+-- the thread leaves for the CPU of its move, and nothing is loaded
+abbrev pub moves_to : CpuSeat → MoveTo → CpuSeat
+moves_to v move = record v { cpu = move.cpu; moved = None }
 
--- the thread is at the CPU of its move, and nothing is loaded
-abbrev pub moves_to : Local → MoveTo → Local
-moves_to l move = record l { cpu = move.cpu; moved = None; regs = rseq.dropped l.regs }
-
-abbrev pub leaves : CpuPart → Local → MoveTo → CpuPart × Local
-leaves p l move = (rseq.left p l.regs.thread, goes (moves_to l move) l.step)
+abbrev pub leaves : CpuPart → CpuSeat → Regs → MoveTo → Next → Left CpuPart
+leaves p v r move n = leaving (rseq.left p r.thread) (moves_to v move) (rseq.dropped r) n
 
 -- the rows of the call programs by what a sequence replied
-abbrev pub after_pop : List ClassRow → Local → Asking → Reply → Local
-after_pop rows l asking reply.Popped = serves rows l asking
-after_pop rows l asking reply.Empty = goes l (step.Front (front.Cpu (Grow asking)))
-after_pop rows l asking reply.Stopped = looks_on l asking
-after_pop rows l asking reply.Full = looks_on l asking
-after_pop rows l asking (reply.Pushed n) = looks_on l asking
-
-abbrev pub gives_rest : Local → Serving → List Addr → Local
-gives_rest l s [] = publishes l s
-gives_rest l s (a ∷ others) = gives l (giving.Rest s)
+abbrev pub after_pop : CpuSeat → Asking → Reply → Next
+after_pop v asking reply.Popped = next.Serve asking
+after_pop v asking reply.Empty = at_cpu_next (Grow asking)
+after_pop v asking reply.Stopped = looks_on v asking
+after_pop v asking reply.Full = looks_on v asking
+after_pop v asking (reply.Pushed n) = looks_on v asking
 
 -- all is pushed, or the rest is given away
-abbrev pub after_stock : Local → Serving → Local
-after_stock l s = gives_rest l s l.regs.hand.items
+abbrev pub after_stock : CpuSeat → Serving → List Addr → Next
+after_stock v s [] = next.Publish s
+after_stock v s (a ∷ others) = gives v (giving.Rest s)
 
-abbrev pub after_push : List ClassRow → Local → Freeing → Reply → Local
-after_push rows l f (reply.Pushed n) = ends rows (decided l (Free f.label) (Freed f.addr))
-after_push rows l f reply.Full = goes (starts l (seq.PopBatch (class_row rows l).batch)) (step.Front (front.Cpu (PopBatch f)))
-after_push rows l f reply.Stopped = gives l (giving.Freed f)
-after_push rows l f reply.Empty = gives l (giving.Freed f)
-after_push rows l f reply.Popped = gives l (giving.Freed f)
+abbrev pub after_push : List ClassRow → CpuSeat → Regs → Freeing → Reply → Regs × Next
+after_push rows v r f (reply.Pushed n) = (r, next.Freed f)
+after_push rows v r f reply.Full = (set_for r.class (seq.PopBatch (row_of rows r.class).batch) r, at_cpu_next (PopBatch f))
+after_push rows v r f reply.Stopped = (r, gives v (giving.Freed f))
+after_push rows v r f reply.Empty = (r, gives v (giving.Freed f))
+after_push rows v r f reply.Popped = (r, gives v (giving.Freed f))
 
 -- what the call does with the reply of its sequence
-abbrev pub replied : List ClassRow → Local → CpuStep → Reply → Local
-replied rows l (Pop asking) r = after_pop rows l asking r
-replied rows l (Stock s) r = after_stock l s
-replied rows l (Push f) r = after_push rows l f r
-replied rows l (PopBatch f) r = gives l (giving.Freed f)
-replied rows l other r = l
+abbrev pub replied : List ClassRow → CpuSeat → Regs → CpuStep → Reply → Regs × Next
+replied rows v r (Pop asking) o = (r, after_pop v asking o)
+replied rows v r (Stock s) o = (r, after_stock v s r.hand.items)
+replied rows v r (Push f) o = after_push rows v r f o
+replied rows v r (PopBatch f) o = (r, gives v (giving.Freed f))
+replied rows v r other o = (r, at_cpu_next other)
 
 -- a sequence goes on, or its call does
-abbrev pub instructed_to : List ClassRow → Local → CpuStep → Instructed → Local
-instructed_to rows l row instructed.In = goes l l.step
-instructed_to rows l row instructed.Back = goes l l.step
-instructed_to rows l row instructed.Ran = goes l l.step
-instructed_to rows l row (instructed.Done r) = replied rows l row r
+abbrev pub instructed_to : List ClassRow → CpuSeat → Regs → CpuStep → Instructed → Regs × Next
+instructed_to rows v r row instructed.In = (r, at_cpu_next row)
+instructed_to rows v r row instructed.Back = (r, at_cpu_next row)
+instructed_to rows v r row instructed.Ran = (r, at_cpu_next row)
+instructed_to rows v r row (instructed.Done o) = replied rows v r row o
 
-abbrev pub instructs : List ClassRow → CpuPart → Local → CpuStep → rseq.Acted Instructed → CpuPart × Local
-instructs rows p l row x = (x.cpu, instructed_to rows (with_regs l x.regs) row x.answer)
+abbrev pub instructs : List ClassRow → CpuSeat → CpuStep → rseq.Acted Instructed → Left CpuPart
+instructs rows v row x = let n = instructed_to rows v x.regs row x.answer in leaving x.cpu v n.0 n.1
 
 -- an act of a thread with a sequence: it leaves, switches in, goes back, or executes one instruction
-abbrev pub sequence_by : List ClassRow → CpuPart → Local → CpuStep → Option MoveTo → CpuPart × Local
-sequence_by rows p l row None = instructs rows p l row (rseq.instructed p l.regs)
-sequence_by rows p l row (Some move) = leaves p l move
+abbrev pub sequence_by : List ClassRow → CpuPart → CpuSeat → Regs → CpuStep → Option MoveTo → Left CpuPart
+sequence_by rows p v r row None = instructs rows v row (rseq.instructed p r)
+sequence_by rows p v r row (Some move) = leaves p v r move (at_cpu_next row)
 
-abbrev pub sequence : List ClassRow → CpuPart → Local → CpuStep → CpuPart × Local
-sequence rows p l row = sequence_by rows p l row (due l.moved l.regs.ran)
+abbrev pub sequence : List ClassRow → CpuPart → CpuSeat → Regs → CpuStep → Left CpuPart
+sequence rows p v r row = sequence_by rows p v r row (due v.moved r.ran)
 
 -- an act of a thread with a growth to do
-abbrev pub grew_to : Local → Asking → Grew → Local
-grew_to l asking grew.In = goes l l.step
-grew_to l asking grew.Back = goes l l.step
-grew_to l asking grew.Done = looks_on l asking
+abbrev pub grew_to : CpuSeat → Asking → Grew → Next
+grew_to v asking grew.In = at_cpu_next (Grow asking)
+grew_to v asking grew.Back = at_cpu_next (Grow asking)
+grew_to v asking grew.Done = looks_on v asking
 
-abbrev pub grows : CpuPart → Local → Asking → rseq.Acted Grew → CpuPart × Local
-grows p l asking x = (x.cpu, grew_to (with_regs l x.regs) asking x.answer)
+abbrev pub grows : CpuSeat → Asking → rseq.Acted Grew → Left CpuPart
+grows v asking x = leaving x.cpu v x.regs (grew_to v asking x.answer)
 
--- The acts of a thread that stops the CPU. The call that it does them for
-abbrev pub call_of : Stopping → Call
-call_of (stopping.Drain d) = Drain d.cpu
-call_of (stopping.Resize r) = Resize r.cpu r.class r.cap
+-- The acts of a thread that stops the CPU.
+abbrev pub stops : CpuPart → ThreadNo → Stopping → Option ThreadNo → CpuPart × Next
+stops p t s None = (drains.stopped p t, at_cpu_next (Fence s))
+stops p t s (Some owner) = (p, next.Decide (Busy owner) None)
 
-abbrev pub stops : List ClassRow → CpuPart → Local → Stopping → Option ThreadNo → CpuPart × Local
-stops rows p l s None = (drains.stopped p l.regs.thread, goes l (step.Front (front.Cpu (Fence s))))
-stops rows p l s (Some owner) = (p, ends rows (decided l (call_of s) (Busy owner)))
-
--- a drain takes the next class, and starts the CPU again behind the last one
+-- a drain takes the next class, or starts the CPU again behind the last one
 abbrev pub drains_on : List ClassRow → Class → Draining → Class × CpuStep
 drains_on rows k d = if nat_lt (k.0 + 1) (length rows) then (record { 0 = k.0 + 1 }, Take (stopping.Drain d)) else (k, Start (stopping.Drain d))
 
--- what it does with the objects of a class that it took
-abbrev pub drained : Local → List Addr → Class × CpuStep → Local
-drained l [] next = comes_to l next.0 next.1
-drained l (a ∷ others) next = gives l (giving.Row next.0 next.1)
+-- what it does with the objects of a class that it took: a drain goes on where there are none
+abbrev pub drained : CpuSeat → Regs → List Addr → Class × CpuStep → Regs × Next
+drained v r [] to = (record r { class = to.0 }, at_cpu_next to.1)
+drained v r (a ∷ others) to = (r, gives v (giving.Row to.0 to.1))
 
-abbrev pub took : List ClassRow → Local → Stopping → Local
-took rows l (stopping.Drain d) = drained l l.regs.hand.items (drains_on rows l.regs.class (record d { taken = d.taken + length l.regs.hand.items }))
-took rows l (stopping.Resize r) = goes l (step.Front (front.Cpu (SetCap r)))
+abbrev pub took : List ClassRow → CpuSeat → Regs → Stopping → Regs × Next
+took rows v r (stopping.Drain d) = drained v r r.hand.items (drains_on rows r.class (record d { taken = d.taken + length r.hand.items }))
+took rows v r (stopping.Resize x) = (r, at_cpu_next (SetCap x))
+
+abbrev pub takes_class : List ClassRow → CpuPart → CpuSeat → Regs → Stopping → Left CpuPart
+takes_class rows p v r s = let n = took rows v (record r { hand = drains.taken_to p r.class.0 r.hand }) s in leaving (drains.taken p r.class.0) v n.0 n.1
 
 -- what a capacity answers
 abbrev pub cap_answer : Option CapFault → Answer
@@ -144,32 +162,54 @@ cap_answer (Some (fault.OverStatic cap)) = OverStatic cap
 cap_answer (Some (fault.OverLimit sum)) = OverLimit sum
 
 -- behind the start a resize gives away what it took
-abbrev pub gives_taken : List ClassRow → Local → List Addr → Local
-gives_taken rows l [] = ends rows l
-gives_taken rows l (a ∷ others) = gives l giving.End
+abbrev pub gives_taken : CpuSeat → List Addr → Next
+gives_taken v [] = next.End
+gives_taken v (a ∷ others) = gives v giving.End
 
-abbrev pub started : List ClassRow → Local → Stopping → Local
-started rows l (stopping.Drain d) = ends rows (decided l (Drain d.cpu) (Drained d.taken))
-started rows l (stopping.Resize r) = gives_taken rows l l.regs.hand.items
+abbrev pub started : CpuSeat → List Addr → Stopping → Next
+started v hand (stopping.Drain d) = next.Decide (Drained d.taken) None
+started v hand (stopping.Resize x) = gives_taken v hand
 
 -- the thread leaves for the CPU of its move, and its call ends
-abbrev pub left_for : List ClassRow → CpuPart → Local → Option MoveTo → CpuPart × Local
-left_for rows p l None = (p, ends rows l)
-left_for rows p l (Some move) = (rseq.left p l.regs.thread, ends rows (moves_to l move))
+abbrev pub left_for : CpuPart → CpuSeat → Regs → Option MoveTo → Left CpuPart
+left_for p v r None = leaving p v r next.End
+left_for p v r (Some move) = leaves p v r move next.End
 
 -- the acts at a CPU
-abbrev pub cpu_row : List ClassRow → CpuPart → Local → CpuStep → CpuPart × Local
-cpu_row rows p l (Pop asking) = sequence rows p l (Pop asking)
-cpu_row rows p l (Grow asking) = grows p l asking (rseq.grew_here p l.regs)
-cpu_row rows p l (Stock s) = sequence rows p l (Stock s)
-cpu_row rows p l (Push f) = sequence rows p l (Push f)
-cpu_row rows p l (PopBatch f) = sequence rows p l (PopBatch f)
-cpu_row rows p l (Stop s) = stops rows p l s p.stopper
-cpu_row rows p l (Fence s) = (drains.fenced p, goes l (step.Front (front.Cpu (Take s))))
-cpu_row rows p l (Take s) = (drains.taken p l.regs.class.0, took rows (with_hand l (drains.taken_to p l.regs.class.0 l.regs.hand)) s)
-cpu_row rows p l (SetCap r) = (drains.capped p l.regs.class.0 r.cap, goes (decided l (Resize r.cpu r.class r.cap) (cap_answer (cap_fault p.slab l.regs.class.0 r.cap))) (step.Front (front.Cpu (Start (stopping.Resize r)))))
-cpu_row rows p l (Start s) = (drains.started p, started rows l s)
-cpu_row rows p l Leave = left_for rows p l l.moved
+abbrev pub cpu_acts : List ClassRow → CpuPart → CpuSeat → Regs → CpuStep → Left CpuPart
+cpu_acts rows p v r (Pop asking) = sequence rows p v r (Pop asking)
+cpu_acts rows p v r (Grow asking) = grows v asking (rseq.grew_here p r)
+cpu_acts rows p v r (Stock s) = sequence rows p v r (Stock s)
+cpu_acts rows p v r (Push f) = sequence rows p v r (Push f)
+cpu_acts rows p v r (PopBatch f) = sequence rows p v r (PopBatch f)
+cpu_acts rows p v r (Stop s) = let n = stops p r.thread s p.stopper in leaving n.0 v r n.1
+cpu_acts rows p v r (Fence s) = leaving (drains.fenced p) v r (at_cpu_next (Take s))
+cpu_acts rows p v r (Take s) = takes_class rows p v r s
+cpu_acts rows p v r (SetCap x) = leaving (drains.capped p r.class.0 x.cap) v r (next.Decide (cap_answer (cap_fault p.slab r.class.0 x.cap)) (Some (front.Cpu (Start (stopping.Resize x)))))
+cpu_acts rows p v r (Start s) = leaving (drains.started p) v r (started v r.hand.items s)
+cpu_acts rows p v r Leave = left_for p v r v.moved
+
+-- The cache of a domain gives the last of its objects, last first, or none where it holds none.
+abbrev pub takes : Regs → Asking → List Addr → Regs × Next
+takes r asking [] = (r, next.Fetch asking)
+takes r asking (a ∷ others) = (record r { hand = appended r.hand (a ∷ others) }, next.Serve asking)
+
+-- whether a whole list fits into a cache
+abbrev pub fits_into : Transfer → List Addr → Bool
+fits_into t objects = nat_le (length t.objects + length objects) t.room
+
+abbrev pub put_in : Transfer → List Addr → Transfer
+put_in t objects = record { objects = t.objects ++ objects; room = t.room }
+
+-- the hand is put there where it fits, and else it goes to the shard
+abbrev pub puts : Transfer → Regs → Giving → Transfer × Regs × Next
+puts t r g = if fits_into t r.hand.items then (put_in t r.hand.items, record r { hand = emptied r.hand }, next.Gave g) else (t, r, next.Give g)
+
+-- the acts at the cache of a domain
+abbrev pub domain_acts : List ClassRow → Transfer → CpuSeat → Regs → DomainStep → Left Transfer
+domain_acts rows t v r (domain.Take asking) =
+    let n = takes r asking (last_first (row_of rows r.class).batch t.objects) in leaving (record { objects = without_last (row_of rows r.class).batch t.objects; room = t.room }) v n.0 n.1
+domain_acts rows t v r (domain.Put g) = let n = puts t r g in leaving n.0 v n.1 n.2
 
 -- Yielding: a thread isn't polite to switch in where another runs whose sequence is open and hasn't executed 256 instructions yet.
 abbrev pub runs_open : CpuPart → Bool
@@ -179,11 +219,11 @@ abbrev pub yields_to_enter : CpuPart → Local → Bool
 yields_to_enter p l = rseq.runs p.running l.regs.thread || not (runs_open p)
 
 abbrev pub yields_row : CpuPart → Local → CpuStep → Bool
-yields_row p l (Pop asking) = is_some (due l.moved l.regs.ran) || yields_to_enter p l
+yields_row p l (Pop asking) = is_some (due l.seat.moved l.regs.ran) || yields_to_enter p l
 yields_row p l (Grow asking) = yields_to_enter p l
-yields_row p l (Stock s) = is_some (due l.moved l.regs.ran) || yields_to_enter p l
-yields_row p l (Push f) = is_some (due l.moved l.regs.ran) || yields_to_enter p l
-yields_row p l (PopBatch f) = is_some (due l.moved l.regs.ran) || yields_to_enter p l
+yields_row p l (Stock s) = is_some (due l.seat.moved l.regs.ran) || yields_to_enter p l
+yields_row p l (Push f) = is_some (due l.seat.moved l.regs.ran) || yields_to_enter p l
+yields_row p l (PopBatch f) = is_some (due l.seat.moved l.regs.ran) || yields_to_enter p l
 yields_row p l other = true
 
 abbrev pub yields_for : CpuPart → Local → Step → Bool

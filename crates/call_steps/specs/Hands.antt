@@ -1,5 +1,5 @@
 -- How a call goes on with the objects that it has in hand.
-use Rattle.std.specs.Prelude.{◌==◌, List, [], ◌∷◌, Some, if◌then◌else◌}
+use Rattle.std.specs.Prelude.{List, [], ◌∷◌, Some}
 use Rattle.tc_units.specs.Bag.{Contents}
 use Rattle.tc_units.specs.declared.units.Addr.{Addr}
 use Rattle.tc_units.specs.declared.units.Class.{Class}
@@ -7,6 +7,7 @@ use Rattle.tc_units.specs.declared.spans.ClassRow.{ClassRow}
 use Rattle.tc_units.specs.declared.spans.SpanRef.{SpanRef}
 use Rattle.tc_model.specs.declared.calls.Call.TheVariants.{Malloc, Free}
 use Rattle.tc_model.specs.declared.answers.Answer.TheVariants.{Block, Freed}
+use Rattle.rseq_core.specs.declared.regs.Regs.{Regs}
 use Rattle.rseq_core.specs.declared.sequence.Seq.{Seq}
 use Rattle.rseq_core.specs.declared.sequence.Seq.TheVariants as seq
 use Rattle.rseq_core.specs.Bags.{emptied, without_first}
@@ -20,15 +21,16 @@ use Rattle.call_steps.specs.declared.step.Step.TheVariants as step
 use Rattle.call_steps.specs.declared.step.CpuRow.TheVariants as front
 use Rattle.call_steps.specs.declared.step.CpuStep.{CpuStep}
 use Rattle.call_steps.specs.declared.step.CpuStep.TheVariants as cpu
-use Rattle.call_steps.specs.declared.step.ShardStep.TheVariants as shard
-use Rattle.call_steps.specs.declared.step.DomainStep.TheVariants as domain
 use Rattle.call_steps.specs.declared.step.MapStep.TheVariants as map
 use Rattle.call_steps.specs.declared.step.NamesStep.TheVariants as names
 use Rattle.call_steps.specs.Local.{Local, set_for, decided, goes, ends, class_row}
 
--- a local with another hand, and one whose registers are set for a sequence of its class
+-- a local with another hand, one with other registers, and one whose registers are set for a sequence of its class
 abbrev pub with_hand : Local → Contents Addr → Local
 with_hand l hand = record l { regs = record l.regs { hand = hand } }
+
+abbrev pub with_regs : Local → Regs → Local
+with_regs l regs = record l { regs = regs }
 
 abbrev pub starts : Local → Seq → Local
 starts l s = record l { regs = set_for l.regs.class s l.regs }
@@ -50,14 +52,6 @@ serves_first rows l asking (a ∷ others) =
 
 abbrev pub serves : List ClassRow → Local → Asking → Local
 serves rows l asking = serves_first rows l asking l.regs.hand.items
-
--- an allocation that found nothing at its CPU looks in the cache of its domain, where there are domains, and else in the shard
-abbrev pub looks_on : Local → Asking → Local
-looks_on l asking = goes l (if l.domains == 0 then step.Shard (shard.Fetch asking) else step.Front (front.Domain (domain.Take asking)))
-
--- the hand is given away: to the cache of the domain, where there are domains, and else to the shard
-abbrev pub gives : Local → Giving → Local
-gives l giving = goes l (if l.domains == 0 then step.Shard (shard.Give giving) else step.Front (front.Domain (domain.Put giving)))
 
 -- the call goes on with a row at a CPU, for this class
 abbrev pub comes_to : Local → Class → CpuStep → Local
@@ -82,18 +76,18 @@ decides_free l (giving.Freed f) = decided l (Free f.label) (Freed f.addr)
 decides_free l (giving.Row k row) = l
 decides_free l giving.End = l
 
--- the hand was given to the cache of the domain
-abbrev pub given : List ClassRow → Local → Giving → Local
-given rows l giving = goes_onward rows (decides_free (with_hand l (emptied l.regs.hand)) giving) (behind giving)
-
 -- spans are left to give back, or not
 abbrev pub clears : List ClassRow → Local → Onward → List SpanRef → Local
 clears rows l next [] = goes_onward rows l next
 clears rows l next (s ∷ others) = goes l (step.Map (map.ClearSpan next))
 
--- the hand was given to the shard, which these spans left
+-- the hand was given: spans may be left to give back
+abbrev pub gave : List ClassRow → Local → Giving → Local
+gave rows l g = clears rows (decides_free l g) (behind g) l.freed.items
+
+-- it was given to the shard, which these spans left
 abbrev pub with_freed : Local → Contents SpanRef → Local
 with_freed l freed = record l { freed = freed }
 
 abbrev pub given_back : List ClassRow → Local → Giving → Contents SpanRef → Local
-given_back rows l giving freed = clears rows (with_freed (decides_free (with_hand l (emptied l.regs.hand)) giving) freed) (behind giving) freed.items
+given_back rows l g freed = gave rows (with_freed (with_hand l (emptied l.regs.hand)) freed) g

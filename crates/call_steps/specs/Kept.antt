@@ -5,7 +5,6 @@ use Rattle.tc_units.specs.declared.units.CpuNo.{CpuNo}
 use Rattle.tc_units.specs.declared.spans.SpanRef.{SpanRef}
 use Rattle.tc_model.specs.declared.answers.Answered.{Answered}
 use Rattle.tc_model.specs.declared.calls.Call.{Call}
-use Rattle.tc_model.specs.declared.calls.MoveTo.{MoveTo}
 use Rattle.tc_model.specs.declared.calls.Planned.{Planned}
 use Rattle.rseq_core.specs.declared.regs.Regs.{Regs}
 use Rattle.call_steps.specs.declared.step.Target.{Target}
@@ -14,6 +13,7 @@ use Rattle.call_steps.specs.declared.step.Stopping.{Stopping}
 use Rattle.call_steps.specs.declared.step.Stopping.TheVariants as stopping
 use Rattle.call_steps.specs.declared.step.CpuStep.{CpuStep}
 use Rattle.call_steps.specs.declared.step.CpuStep.TheVariants.{Pop, Grow, Stock, Push, PopBatch, Stop, Fence, Take, SetCap, Start, Leave}
+use Rattle.call_steps.specs.declared.seat.CpuSeat.{CpuSeat}
 use Rattle.call_steps.specs.declared.step.Step.{Step}
 use Rattle.call_steps.specs.declared.step.Step.TheVariants as step
 use Rattle.call_steps.specs.declared.step.CpuRow.TheVariants as front
@@ -41,8 +41,8 @@ at_cpu own Leave = own
 
 -- the part that the next act is on; CPU c is in domain c mod domains
 abbrev pub target_at : Local → Step → Option Target
-target_at l (step.Front (front.Cpu row)) = Some (target.Cpu (at_cpu l.cpu row))
-target_at l (step.Front (front.Domain row)) = Some (target.Domain (l.cpu.0 % l.domains) l.regs.class)
+target_at l (step.Front (front.Cpu row)) = Some (target.Cpu (at_cpu l.seat.cpu row))
+target_at l (step.Front (front.Domain row)) = Some (target.Domain (l.seat.cpu.0 % l.seat.domains) l.regs.class)
 target_at l (step.Shard row) = Some (target.Shard l.regs.class)
 target_at l (step.Heap row) = Some target.Heap
 target_at l (step.Map row) = Some target.Map
@@ -77,17 +77,15 @@ pub record IsKept (script : List Planned) (place : ℕ) (now : Step) (answers : 
   pub domain : HasDomain now domains
 
 -- the local that it means
-abbrev pub local_of : CpuNo → List Planned → ℕ → Step → Regs → Contents SpanRef → Option MoveTo → ℕ → List Answered → ℕ → Local
-local_of cpu script place now regs freed moved acts answers domains =
+abbrev pub local_of : CpuSeat → List Planned → ℕ → Step → Regs → Contents SpanRef → ℕ → List Answered → Local
+local_of seat script place now regs freed acts answers =
     record {
-      cpu = cpu;
+      seat = seat;
       step = now;
       regs = regs;
       freed = freed;
-      moved = moved;
       rest = drop (place + 1) script;
       ended = place;
       acts = acts;
       answers = decided_by script answers;
-      domains = domains;
     }

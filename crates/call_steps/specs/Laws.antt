@@ -26,8 +26,8 @@ use Rattle.call_steps.specs.declared.step.Step.TheVariants as does
 use Rattle.call_steps.specs.declared.step.CpuRow.TheVariants as front
 use Rattle.call_steps.specs.Local.{Local, class_row}
 use Rattle.call_steps.specs.Kept.{at_cpu}
-use Rattle.call_steps.specs.CpuActs.{cpu_row}
-use Rattle.call_steps.specs.ShardActs.{shard_row, domain_row}
+use Rattle.call_steps.specs.ShardActs.{shard_row}
+use Rattle.call_steps.specs.Follows.{cpu_row, domain_row}
 use Rattle.call_steps.specs.Acts.{heap_row, map_row, names_row}
 use Rattle.call_steps.specs.Fits.{FitsCpu, FitsShard, FitsDomain, FitsHeap, FitsMap, FitsNames}
 use Rattle.call_steps.specs.Shapes.{Limits, AreRows, IsShaped, seat_of}
@@ -40,7 +40,7 @@ pub record IsAtCpu (m : Limits) (i t : ℕ) (p : CpuPart) (l : Local) (row : Cpu
   pub rows : AreRows m.rows
   pub shaped : IsShaped m t l
   pub step : l.step ≡ does.Front (front.Cpu row)
-  pub here : (at_cpu l.cpu row).0 ≡ i
+  pub here : (at_cpu l.seat.cpu row).0 ≡ i
   pub part : CpuOk (length m.rows) p
   pub seat : SeatOk i (thread_no t) p (seat_of m.rows l)
   pub epoch : p.epoch ≤ MOST_PICKS
@@ -48,7 +48,7 @@ pub record IsAtCpu (m : Limits) (i t : ℕ) (p : CpuPart) (l : Local) (row : Cpu
 
 -- Its act fits, keeps all seats, and leaves the local its shape.
 pub record CpuActKeeps (m : Limits) (i t : ℕ) (p : CpuPart) (l : Local) (row : CpuStep) : Type 0 where
-  pub fits : FitsCpu m.rows p l row
+  pub fits : FitsCpu m.rows p l.seat l.regs row
   pub keeps : SeatKeeps (length m.rows) i (thread_no t) p (seat_of m.rows l) (cpu_row m.rows p l row).0 (seat_of m.rows (cpu_row m.rows p l row).1)
   pub shaped : IsShaped m t (cpu_row m.rows p l row).1
   pub epoch : (cpu_row m.rows p l row).0.epoch ≤ p.epoch + 1
@@ -70,7 +70,7 @@ abbrev pub ShardActsKeep : Type 0
 ShardActsKeep = (m : Limits) (t : ℕ) (s : Shard) (l : Local) (row : ShardStep) → AreRows m.rows → IsShaped m t l → l.step ≡ does.Shard row → l.acts ≤ MOST_PICKS → IsSound s.central → s.central.row ≡ class_row m.rows l → IsLowRun row → FitsShard m.rows s l row → IsKept m t l (shard_row m.rows s l row).1
 
 abbrev pub DomainActsKeep : Type 0
-DomainActsKeep = (m : Limits) (t : ℕ) (c : Transfer) (l : Local) (row : DomainStep) → AreRows m.rows → IsShaped m t l → l.step ≡ does.Front (front.Domain row) → l.acts ≤ MOST_PICKS → FitsDomain m.rows c l row → IsKept m t l (domain_row m.rows c l row).1
+DomainActsKeep = (m : Limits) (t : ℕ) (c : Transfer) (l : Local) (row : DomainStep) → AreRows m.rows → IsShaped m t l → l.step ≡ does.Front (front.Domain row) → l.acts ≤ MOST_PICKS → FitsDomain m.rows l.regs row → IsKept m t l (domain_row m.rows c l row).1
 
 abbrev pub HeapActsKeep : Type 0
 HeapActsKeep = (m : Limits) (t : ℕ) (h : heaps.Heap) (l : Local) (row : HeapStep) → AreRows m.rows → IsShaped m t l → l.step ≡ does.Heap row → l.acts ≤ MOST_PICKS → FitsHeap m.rows h l row → IsKept m t l (heap_row m.rows h l row).1

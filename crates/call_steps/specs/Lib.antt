@@ -3,6 +3,8 @@ pub mod Calls
 pub mod Hands
 pub mod CpuActs
 pub mod ShardActs
+pub mod Refusals
+pub mod Follows
 pub mod Acts
 pub mod Fits
 pub mod Kept

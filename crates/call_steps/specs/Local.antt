@@ -20,6 +20,7 @@ use Rattle.rseq_core.specs.declared.sequence.Seq.TheVariants as seq
 use Rattle.rseq_core.specs.declared.sequence.Pc.TheVariants.{Begin}
 use Rattle.rseq_core.specs.declared.regs.Regs.{Regs}
 use Rattle.rseq_core.specs.declared.regs.TheConstants.{HAND_ROOM, LOADED_ROOM}
+use Rattle.call_steps.specs.declared.seat.CpuSeat.{CpuSeat}
 use Rattle.call_steps.specs.declared.step.Step.{Step}
 use Rattle.call_steps.specs.declared.step.Step.TheVariants as step
 use Rattle.call_steps.specs.declared.step.CpuRow.TheVariants as front
@@ -34,20 +35,18 @@ pub record Decided : Type 0 where
   pub call : Call
   pub answer : Answer
 
--- A thread's local: its CPU, the next act of its call under way, its registers with the objects in hand, the spans that it
--- has to give back, its pending move, the calls behind that call, how many calls have ended, how many acts it has done,
--- its decided calls in their order, and in how many domains the CPUs are.
+-- A thread's local: its seat at the per-CPU caches, the next act of its call under way, its registers with the objects in
+-- hand, the spans that it has to give back, the calls behind that call, how many calls have ended, how many acts it has
+-- done, and its decided calls in their order.
 pub record Local : Type 0 where
-  pub cpu : CpuNo
+  pub seat : CpuSeat
   pub step : Step
   pub regs : Regs
   pub freed : Contents SpanRef
-  pub moved : Option MoveTo
   pub rest : List Planned
   pub ended : ℕ
   pub acts : ℕ
   pub answers : List Decided
-  pub domains : ℕ
 
 -- registers that are set for a sequence of a class
 abbrev pub set_for : Class → Seq → Regs → Regs
@@ -99,7 +98,7 @@ next_call rows l calls =
     record l {
       step = first_act rows (slice_get calls 0);
       regs = regs_by rows (slice_get calls 0) l.regs;
-      moved = move_of (slice_get calls 0);
+      seat = record l.seat { moved = move_of (slice_get calls 0) };
       rest = drop 1 calls;
     }
 
@@ -123,16 +122,14 @@ first_regs thread =
 abbrev pub idle_local : ThreadNo → CpuNo → ℕ → Local
 idle_local thread cpu domains =
     record {
-      cpu = cpu;
+      seat = record { cpu = cpu; moved = None; domains = domains };
       step = step.Ended;
       regs = first_regs thread;
       freed = record { items = []; spare = HAND_ROOM };
-      moved = None;
       rest = [];
       ended = 0;
       acts = 0;
       answers = [];
-      domains = domains;
     }
 
 -- a thread before its first act
@@ -153,15 +150,18 @@ closes rows l None = next_call rows (record l { ended = l.ended + 1 }) l.rest
 closes rows l (Some move) = record l { step = step.Front (front.Cpu Leave) }
 
 abbrev pub ends : List ClassRow → Local → Local
-ends rows l = closes rows (record l { acts = l.acts + 1 }) l.moved
+ends rows l = closes rows (record l { acts = l.acts + 1 }) l.seat.moved
 
 -- a row without objects, for a class that isn't there
 abbrev pub no_class : ClassRow
 no_class = record { size = 0; pages = 0; batch = 0 }
 
--- the row of the thread's class
+-- the row of a class, and that of the thread's class
+abbrev pub row_of : List ClassRow → Class → ClassRow
+row_of rows k = slice_index_or rows k.0 no_class
+
 abbrev pub class_row : List ClassRow → Local → ClassRow
-class_row rows l = slice_index_or rows l.regs.class.0 no_class
+class_row rows l = row_of rows l.regs.class
 
 -- how a decided call of a thread is told
 abbrev pub told : ℕ → Decided → CallLine

@@ -111,7 +111,7 @@ standing_in rows l = standing_of rows l.regs.class.0 l.step
 
 -- the seat of a local at the CPUs
 abbrev pub seat_of : List ClassRow → Local → Seat
-seat_of rows l = record { regs = l.regs; cpu = l.cpu.0; standing = standing_in rows l }
+seat_of rows l = record { regs = l.regs; cpu = l.seat.cpu.0; standing = standing_in rows l }
 
 -- the rows of a class table, as far as the call programs go
 pub record IsClassRow (row : ClassRow) : Type 0 where
@@ -212,7 +212,7 @@ CpuShape m l (cpu.Take s) = HasNone l × IsStop m l.regs.class s
 CpuShape m l (cpu.SetCap r) = HasHand most_slots l × (r.cpu.0 < m.cpus) × (l.regs.class ≡ r.class)
 CpuShape m l (cpu.Start (stopping.Drain d)) = HasNone l × (d.cpu.0 < m.cpus)
 CpuShape m l (cpu.Start (stopping.Resize r)) = HasHand most_slots l × (r.cpu.0 < m.cpus)
-CpuShape m l cpu.Leave = HasNone l × (is_some l.moved ≡ true)
+CpuShape m l cpu.Leave = HasNone l × (is_some l.seat.moved ≡ true)
 
 -- A row that comes once a hand is given away: it is of a call without a label, and has its shape with nothing in hand.
 pub record IsToCome (m : Limits) (k : Class) (row : CpuStep) : Type 0 where
@@ -269,11 +269,11 @@ StepShape m l does.Ended = HasNone l
 pub record IsShaped (m : Limits) (t : ℕ) (l : Local) : Type 0 where
   pub thread : l.regs.thread.0 ≡ t
   pub class : l.regs.class.0 < length m.rows
-  pub home : l.cpu.0 < m.cpus
+  pub home : l.seat.cpu.0 < m.cpus
   pub hand : room l.regs.hand ≡ HAND_ROOM
   pub loaded : room l.regs.loaded ≡ LOADED_ROOM
   pub freed : length l.freed.items + l.freed.spare ≡ HAND_ROOM
   pub ran : l.regs.ran ≤ l.acts
-  pub move : IsMove m l.moved
+  pub move : IsMove m l.seat.moved
   pub rest : All (IsPlanned m) l.rest
   pub step : StepShape m l l.step

@@ -1,11 +1,10 @@
--- The acts at the shard of the thread's class, and at the transfer cache of its class and domain.
-use Rattle.std.specs.Prelude.{◌+◌, ◌-◌, ◌++◌, Bool, nat_le, List, [], ◌∷◌, length, if◌then◌else◌}
+-- The acts at the shard of the thread's class.
+use Rattle.std.specs.Prelude.{◌-◌, ◌++◌, List, [], ◌∷◌, length}
 use Rattle.tc_units.specs.Bag.{Contents}
 use Rattle.tc_units.specs.declared.units.Addr.{Addr}
 use Rattle.tc_units.specs.declared.spans.SpanRef.{SpanRef}
 use Rattle.tc_units.specs.declared.spans.ClassRow.{ClassRow}
 use Rattle.rseq_core.specs.Bags.{appended}
-use Rattle.transfer_cache.specs.Transfer.{Transfer, last_first, without_last}
 use Rattle.central_free.specs.Central.{opened, opening, with_span}
 use Rattle.class_shard.specs.Shard as shards
 use Rattle.holdings.specs.Runs.{small}
@@ -13,11 +12,9 @@ use Rattle.call_steps.specs.declared.step.Asking.{Asking}
 use Rattle.call_steps.specs.declared.step.Step.TheVariants as step
 use Rattle.call_steps.specs.declared.step.ShardStep.{ShardStep}
 use Rattle.call_steps.specs.declared.step.ShardStep.TheVariants.{Fetch, AddFetch, Give}
-use Rattle.call_steps.specs.declared.step.DomainStep.{DomainStep}
-use Rattle.call_steps.specs.declared.step.DomainStep.TheVariants as domain
 use Rattle.call_steps.specs.declared.step.HeapStep.TheVariants as heap
 use Rattle.call_steps.specs.Local.{Local, goes, class_row}
-use Rattle.call_steps.specs.Hands.{with_hand, serves, given, given_back}
+use Rattle.call_steps.specs.Hands.{with_hand, serves, given_back}
 
 -- a local with these objects behind those in hand
 abbrev pub with_more : Local → List Addr → Local
@@ -42,21 +39,3 @@ abbrev pub shard_row : List ClassRow → shards.Shard → Local → ShardStep �
 shard_row rows s l (Fetch asking) = (shards.after_fetch (class_row rows l).batch s, fetches rows l asking (shards.fetched (class_row rows l).batch s))
 shard_row rows s l (AddFetch asking run) = adds rows s l asking (small l.regs.class run)
 shard_row rows s l (Give giving) = (shards.after_give l.regs.hand.items s, given_back rows l giving (with_spans_behind l.freed (shards.freed_by l.regs.hand.items s)))
-
--- The cache of a domain gives the last of its objects, last first, or none where it holds none.
-abbrev pub takes : List ClassRow → Local → Asking → List Addr → Local
-takes rows l asking [] = goes l (step.Shard (Fetch asking))
-takes rows l asking (a ∷ others) = serves rows (with_more l (a ∷ others)) asking
-
--- whether a whole list fits into a cache
-abbrev pub fits_into : Transfer → List Addr → Bool
-fits_into t objects = nat_le (length t.objects + length objects) t.room
-
-abbrev pub put_in : Transfer → List Addr → Transfer
-put_in t objects = record { objects = t.objects ++ objects; room = t.room }
-
--- the acts at the cache of a domain
-abbrev pub domain_row : List ClassRow → Transfer → Local → DomainStep → Transfer × Local
-domain_row rows t l (domain.Take asking) = (record { objects = without_last (class_row rows l).batch t.objects; room = t.room }, takes rows l asking (last_first (class_row rows l).batch t.objects))
-domain_row rows t l (domain.Put giving) =
-    if fits_into t l.regs.hand.items then (put_in t l.regs.hand.items, given rows l giving) else (t, goes l (step.Shard (Give giving)))

@@ -1,28 +1,29 @@
 //! The acts at a CPU: the thread's own, which it may leave for another CPU before an instruction, and those
 //! of a thread that stops it.
-ghost use Rattle.std.specs.Prelude.{◌≡◌, ◌≢◌, ◌<◌, ◌+◌, ◌-◌, ◌^◌, [], length, Some, is_some, true};
-ghost use Rattle.call_steps.specs.declared.step.Step.TheVariants as does;
-ghost use Rattle.call_steps.specs.declared.step.CpuRow.TheVariants as front;
-ghost use Rattle.call_steps.specs.declared.step.CpuStep.TheVariants.{Pop, Grow, Stock, Push, Stop, Take, SetCap, Start, Leave};
-ghost use Rattle.call_steps.specs.declared.step.Stopping.TheVariants as stopping;
-ghost use Rattle.rseq_core.specs.Acts as rseq;
-ghost use Rattle.call_steps.specs.CpuActs.{due, sequence, replied, after_pop, after_stock, after_push, grows, stops, drains_on, took, started, left_for, cpu_row, yields_to_enter, yields_for};
+ghost use Rattle.std.specs.Prelude.{◌≡◌, ◌≢◌, ◌<◌, ◌+◌, ◌-◌, ◌^◌, length, None, Some, is_some, true};
 ghost use Rattle.tc_model.specs.declared.calls.Call.TheVariants.{Drain};
-ghost use Rattle.call_steps.specs.Calls.{Other, about_cpu};
+ghost use Rattle.cpu_slab.specs.Caps.{cap_fault};
+ghost use Rattle.rseq_core.specs.Acts as rseq;
+ghost use Rattle.cpu_drain.specs.Drains as drains;
+ghost use Rattle.call_steps.specs.declared.step.CpuRow.TheVariants as front;
+ghost use Rattle.call_steps.specs.declared.step.CpuStep.TheVariants.{Start};
+ghost use Rattle.call_steps.specs.declared.step.Next.TheVariants as next;
+ghost use Rattle.call_steps.specs.declared.step.Stopping.TheVariants as stopping;
+ghost use Rattle.call_steps.specs.CpuActs.{due, cpu_acts, sequence, replied, after_pop, after_stock, after_push, grew_to, stops, drains_on, took, cap_answer, started, left_for, yields_to_enter, yields_for};
 ghost use Rattle.call_steps.specs.Acts.{cpu_after};
-ghost use Rattle.call_steps.specs.Fits.{FitsCpuStep, FitsSequence, FitsSetCap, PopsSome, HasPopped, IsSequence, IsPop, taken_by};
+ghost use Rattle.call_steps.specs.Fits.{FitsCpu, FitsCpuStep, FitsSequence, FitsSetCap, IsSequence, taken_by};
 
-use crate::hands::publish;
 use crate::local::Local;
+use crate::seat::CpuSeat;
 use crate::step::{
-    Asking, CpuRow, CpuStep, Draining, Freeing, Giving, Resizing, Serving, Step, Stopping,
+    Asking, CpuRow, CpuStep, Draining, Freeing, Giving, Next, Resizing, Serving, Step, Stopping,
 };
 use cpu_drain::{StopAnswer, fence, set_cap, start, stop, take_class};
 use cpu_slab::CapFault;
-use rseq_core::{CpuPart, Grew, Instructed, Reply, Seq, grow_here, instruct, leave};
+use rseq_core::{CpuPart, Grew, Instructed, Regs, Reply, Seq, grow_here, instruct, leave};
 use size_classes::ClassTable;
 use tc_model::{Answer, MoveTo};
-use tc_units::Class;
+use tc_units::{Class, ThreadNo};
 
 /// Executed instructions since a switch from which on a thread that runs is polite to be switched out.
 const LONG_RUN: u32 = 256;
@@ -34,195 +35,215 @@ pub fn act_cpu(table: &ClassTable, cpu: &mut CpuPart, local: &mut Local)
     ensures cpu { cpu.new ≡ (cpu_after table.now cpu.old local.old local.old.step).0 }
     ensures local { local.new ≡ (cpu_after table.now cpu.old local.old local.old.step).1 }
 {
-    let thread = local.regs.thread;
     match local.step() {
-        Step::Front(CpuRow::Cpu(CpuStep::Grow(asking))) => grow(cpu, local, asking),
-        Step::Front(CpuRow::Cpu(CpuStep::Stop(stopping))) => stop_cpu(table, cpu, local, stopping),
-        Step::Front(CpuRow::Cpu(CpuStep::Fence(stopping))) => {
-            fence(cpu, thread);
-            local.go(Step::Front(CpuRow::Cpu(CpuStep::Take(stopping))));
+        Step::Front(CpuRow::Cpu(row)) => {
+            let next = act(table, cpu, &mut local.seat, &mut local.regs, row);
+            local.enter(table, next);
         }
-        Step::Front(CpuRow::Cpu(CpuStep::Take(stopping))) => {
-            let class = local.regs.class;
-            take_class(cpu, thread, class, &mut local.regs.hand);
-            took(table, local, stopping);
-        }
-        Step::Front(CpuRow::Cpu(CpuStep::SetCap(resizing))) => resize(cpu, local, resizing),
-        Step::Front(CpuRow::Cpu(CpuStep::Start(stopping))) => {
-            start(cpu, thread);
-            started(table, local, stopping);
-        }
-        Step::Front(CpuRow::Cpu(CpuStep::Leave)) => leave_and_end(table, cpu, local),
-        Step::Front(CpuRow::Cpu(row)) => sequence(table, cpu, local, row),
         _ => unreachable!(),
     }
 }
 
-/// The thread's move, where it comes before the next instruction.
-fn due(local: &Local) -> Option<MoveTo>
-    requires { local.now.regs.ran < 2 ^ 32 - 1 }
-    ensures { result ≡ due local.now.moved local.now.regs.ran }
+/// The act of a row, and what comes behind it.
+fn act(
+    table: &ClassTable,
+    cpu: &mut CpuPart,
+    seat: &mut CpuSeat,
+    regs: &mut Regs,
+    row: CpuStep,
+) -> Next
+    requires { FitsCpu table.now cpu.old seat.old regs.old row }
+    ensures cpu { cpu.new ≡ (cpu_acts table.now cpu.old seat.old regs.old row).part }
+    ensures seat { seat.new ≡ (cpu_acts table.now cpu.old seat.old regs.old row).seat }
+    ensures regs { regs.new ≡ (cpu_acts table.now cpu.old seat.old regs.old row).regs }
+    ensures next { result ≡ (cpu_acts table.now cpu.old seat.old regs.old row).next }
+    ensures domains { seat.new.domains ≡ seat.old.domains }
 {
-    match local.moved {
-        Some(to) if to.before == local.regs.ran + 1 => Some(to),
+    let thread = regs.thread;
+    match row {
+        CpuStep::Grow(asking) => grow(cpu, seat, regs, asking),
+        CpuStep::Stop(stopping) => stop_cpu(cpu, thread, stopping),
+        CpuStep::Fence(stopping) => {
+            fence(cpu, thread);
+            Next::Row(CpuRow::Cpu(CpuStep::Take(stopping)))
+        }
+        CpuStep::Take(stopping) => {
+            let class = regs.class;
+            take_class(cpu, thread, class, &mut regs.hand);
+            took(table, seat, regs, stopping)
+        }
+        CpuStep::SetCap(resizing) => resize(cpu, regs, resizing),
+        CpuStep::Start(stopping) => {
+            start(cpu, thread);
+            started(seat, regs, stopping)
+        }
+        CpuStep::Leave => leave_at_end(cpu, seat, regs),
+        row => sequence(table, cpu, seat, regs, row),
+    }
+}
+
+/// The thread's move, where it comes before the next instruction.
+fn due(seat: &CpuSeat, ran: u32) -> Option<MoveTo>
+    requires { ran < 2 ^ 32 - 1 }
+    ensures { result ≡ due seat.now.moved ran }
+{
+    match seat.moved {
+        Some(to) if to.before == ran + 1 => Some(to),
         _ => None,
     }
 }
 
 /// A thread with a sequence leaves for the CPU of its move, switches in, goes back, or executes one
 /// instruction.
-fn sequence(table: &ClassTable, cpu: &mut CpuPart, local: &mut Local, row: CpuStep)
-    requires fits { FitsSequence table.now cpu.old local.old }
-    requires pops { IsPop row → PopsSome cpu.old local.old }
-    requires acts { local.old.acts < 2 ^ 64 - 1 }
-    requires step { local.old.step ≡ does.Front (front.Cpu row) }
+fn sequence(
+    table: &ClassTable,
+    cpu: &mut CpuPart,
+    seat: &mut CpuSeat,
+    regs: &mut Regs,
+    row: CpuStep,
+) -> Next
+    requires fits { FitsSequence table.now cpu.old regs.old }
     requires row { IsSequence row }
-    ensures cpu { cpu.new ≡ (sequence table.now cpu.old local.old row).0 }
-    ensures local { local.new ≡ (sequence table.now cpu.old local.old row).1 }
+    ensures cpu { cpu.new ≡ (sequence table.now cpu.old seat.old regs.old row).part }
+    ensures seat { seat.new ≡ (sequence table.now cpu.old seat.old regs.old row).seat }
+    ensures regs { regs.new ≡ (sequence table.now cpu.old seat.old regs.old row).regs }
+    ensures next { result ≡ (sequence table.now cpu.old seat.old regs.old row).next }
+    ensures domains { seat.new.domains ≡ seat.old.domains }
 {
-    if let Some(to) = due(local) {
-        leave(cpu, &mut local.regs);
-        local.arrive(to.cpu);
-        local.go(local.step());
-        return;
+    if let Some(to) = due(seat, regs.ran) {
+        leave(cpu, regs);
+        seat.arrive(to.cpu);
+        return Next::Row(CpuRow::Cpu(row));
     }
-    match instruct(cpu, &mut local.regs) {
-        Instructed::Done(reply) => go_on(table, local, row, reply),
-        _ => local.go(local.step()),
+    match instruct(cpu, regs) {
+        Instructed::Done(reply) => go_on(table, seat, regs, row, reply),
+        _ => Next::Row(CpuRow::Cpu(row)),
     }
 }
 
 /// The call goes on by what its sequence replied.
-fn go_on(table: &ClassTable, local: &mut Local, row: CpuStep, reply: Reply)
-    requires class { local.old.regs.class.0 < length table.now }
-    requires acts { local.old.acts < 2 ^ 64 - 1 }
-    requires step { local.old.step ≡ does.Front (front.Cpu row) }
+fn go_on(table: &ClassTable, seat: &CpuSeat, regs: &mut Regs, row: CpuStep, reply: Reply) -> Next
+    requires class { regs.old.class.0 < length table.now }
     requires row { IsSequence row }
-    requires some { HasPopped row reply local.old }
-    ensures { local.new ≡ replied table.now local.old row reply }
+    ensures regs { regs.new ≡ (replied table.now seat.now regs.old row reply).0 }
+    ensures next { result ≡ (replied table.now seat.now regs.old row reply).1 }
 {
     match row {
-        CpuStep::Pop(asking) => popped(table, local, asking, reply),
-        CpuStep::Stock(serving) => stocked(local, serving),
-        CpuStep::Push(freeing) => pushed(table, local, freeing, reply),
-        CpuStep::PopBatch(freeing) => local.give_away(Giving::Freed(freeing)),
+        CpuStep::Pop(asking) => popped(seat, asking, reply),
+        CpuStep::Stock(serving) => stocked(seat, regs, serving),
+        CpuStep::Push(freeing) => pushed(table, seat, regs, freeing, reply),
+        CpuStep::PopBatch(freeing) => seat.give_away(Giving::Freed(freeing)),
         _ => unreachable!(),
     }
 }
 
 /// An allocation has its object, or lets its class grow, or looks elsewhere.
-fn popped(table: &ClassTable, local: &mut Local, asking: Asking, reply: Reply)
-    requires class { local.old.regs.class.0 < length table.now }
-    requires acts { local.old.acts < 2 ^ 64 - 1 }
-    requires step { local.old.step ≡ does.Front (front.Cpu (Pop asking)) }
-    requires some { HasPopped (Pop asking) reply local.old }
-    ensures { local.new ≡ after_pop table.now local.old asking reply }
+fn popped(seat: &CpuSeat, asking: Asking, reply: Reply) -> Next
+    ensures { result ≡ after_pop seat.now asking reply }
 {
     match reply {
-        Reply::Popped => local.serve(table, asking),
-        Reply::Empty => local.go(Step::Front(CpuRow::Cpu(CpuStep::Grow(asking)))),
-        _ => local.look_on(asking),
+        Reply::Popped => Next::Serve(asking),
+        Reply::Empty => Next::Row(CpuRow::Cpu(CpuStep::Grow(asking))),
+        _ => seat.look_on(asking),
     }
 }
 
 /// An allocation has pushed all that it fetched besides, or gives the rest away.
-fn stocked(local: &mut Local, serving: Serving)
-    requires acts { local.old.acts < 2 ^ 64 - 1 }
-    requires step { local.old.step ≡ does.Front (front.Cpu (Stock serving)) }
-    ensures { local.new ≡ after_stock local.old serving }
+fn stocked(seat: &CpuSeat, regs: &Regs, serving: Serving) -> Next
+    ensures { result ≡ after_stock seat.now serving regs.now.hand.items }
 {
-    if local.regs.hand.as_slice().is_empty() {
-        local.go(publish(serving));
+    if regs.hand.as_slice().is_empty() {
+        Next::Publish(serving)
     } else {
-        local.give_away(Giving::Rest(serving));
+        seat.give_away(Giving::Rest(serving))
     }
 }
 
 /// A free has pushed its object, or pops a batch to give it away too, or gives its object away.
-fn pushed(table: &ClassTable, local: &mut Local, freeing: Freeing, reply: Reply)
-    requires class { local.old.regs.class.0 < length table.now }
-    requires acts { local.old.acts < 2 ^ 64 - 1 }
-    requires step { local.old.step ≡ does.Front (front.Cpu (Push freeing)) }
-    ensures { local.new ≡ after_push table.now local.old freeing reply }
+fn pushed(
+    table: &ClassTable,
+    seat: &CpuSeat,
+    regs: &mut Regs,
+    freeing: Freeing,
+    reply: Reply,
+) -> Next
+    requires class { regs.old.class.0 < length table.now }
+    ensures regs { regs.new ≡ (after_push table.now seat.now regs.old freeing reply).0 }
+    ensures next { result ≡ (after_push table.now seat.now regs.old freeing reply).1 }
 {
     match reply {
-        Reply::Pushed { .. } => {
-            let addr = freeing.addr;
-            local.end_deciding(table, Answer::Freed { addr });
-        }
+        Reply::Pushed { .. } => Next::Freed(freeing),
         Reply::Full => {
-            let class = local.regs.class;
+            let class = regs.class;
             let want = u32::from(table.row(class).batch);
-            local.regs.start(class, Seq::PopBatch { want });
-            local.go(Step::Front(CpuRow::Cpu(CpuStep::PopBatch(freeing))));
+            regs.start(class, Seq::PopBatch { want });
+            Next::Row(CpuRow::Cpu(CpuStep::PopBatch(freeing)))
         }
-        _ => local.give_away(Giving::Freed(freeing)),
+        _ => seat.give_away(Giving::Freed(freeing)),
     }
 }
 
 /// A thread with a growth to do switches in, goes back, or lets its class grow.
-fn grow(cpu: &mut CpuPart, local: &mut Local, asking: Asking)
-    requires class { local.old.regs.class.0 < length cpu.old.slab.rows }
+fn grow(cpu: &mut CpuPart, seat: &CpuSeat, regs: &mut Regs, asking: Asking) -> Next
+    requires class { regs.old.class.0 < length cpu.old.slab.rows }
     requires epoch { cpu.old.epoch < 2 ^ 64 - 1 }
-    requires acts { local.old.acts < 2 ^ 64 - 1 }
-    requires step { local.old.step ≡ does.Front (front.Cpu (Grow asking)) }
-    ensures cpu { cpu.new ≡ (grows cpu.old local.old asking (rseq.grew_here cpu.old local.old.regs)).0 }
-    ensures local { local.new ≡ (grows cpu.old local.old asking (rseq.grew_here cpu.old local.old.regs)).1 }
+    ensures cpu { cpu.new ≡ (rseq.grew_here cpu.old regs.old).cpu }
+    ensures regs { regs.new ≡ (rseq.grew_here cpu.old regs.old).regs }
+    ensures next { result ≡ grew_to seat.now asking (rseq.grew_here cpu.old regs.old).answer }
 {
-    match grow_here(cpu, &mut local.regs) {
-        Grew::Done => local.look_on(asking),
-        _ => local.go(local.step()),
+    match grow_here(cpu, regs) {
+        Grew::Done => seat.look_on(asking),
+        _ => Next::Row(CpuRow::Cpu(CpuStep::Grow(asking))),
     }
 }
 
 /// A drain or a resize stops a CPU, or ends where another thread has.
-fn stop_cpu(table: &ClassTable, cpu: &mut CpuPart, local: &mut Local, stopping: Stopping)
-    requires other { cpu.old.stopper ≢ Some local.old.regs.thread }
-    requires acts { local.old.acts < 2 ^ 64 - 1 }
-    requires step { local.old.step ≡ does.Front (front.Cpu (Stop stopping)) }
-    ensures cpu { cpu.new ≡ (stops table.now cpu.old local.old stopping cpu.old.stopper).0 }
-    ensures local { local.new ≡ (stops table.now cpu.old local.old stopping cpu.old.stopper).1 }
+fn stop_cpu(cpu: &mut CpuPart, thread: ThreadNo, stopping: Stopping) -> Next
+    requires { cpu.old.stopper ≢ Some thread }
+    ensures cpu { cpu.new ≡ (stops cpu.old thread stopping cpu.old.stopper).0 }
+    ensures next { result ≡ (stops cpu.old thread stopping cpu.old.stopper).1 }
 {
-    match stop(cpu, local.regs.thread) {
-        StopAnswer::Stopped => local.go(Step::Front(CpuRow::Cpu(CpuStep::Fence(stopping)))),
-        StopAnswer::Busy { owner } => local.end_deciding(table, Answer::Busy { owner }),
+    match stop(cpu, thread) {
+        StopAnswer::Stopped => Next::Row(CpuRow::Cpu(CpuStep::Fence(stopping))),
+        StopAnswer::Busy { owner } => {
+            let answer = Answer::Busy { owner };
+            Next::Decide { answer, row: None }
+        }
     }
 }
 
 /// A drain gives away what it took of a class, and a resize sets the capacity first.
-fn took(table: &ClassTable, local: &mut Local, stopping: Stopping)
-    requires acts { local.old.acts < 2 ^ 64 - 1 }
-    requires step { local.old.step ≡ does.Front (front.Cpu (Take stopping)) }
-    requires few { taken_by stopping + length local.old.regs.hand.items < 2 ^ 64 }
-    ensures { local.new ≡ took table.now local.old stopping }
+fn took(table: &ClassTable, seat: &CpuSeat, regs: &mut Regs, stopping: Stopping) -> Next
+    requires { taken_by stopping + length regs.old.hand.items < 2 ^ 64 }
+    ensures regs { regs.new ≡ (took table.now seat.now regs.old stopping).0 }
+    ensures next { result ≡ (took table.now seat.now regs.old stopping).1 }
 {
     match stopping {
-        Stopping::Drain(draining) => drained(table, local, draining),
-        Stopping::Resize(resizing) => local.go(Step::Front(CpuRow::Cpu(CpuStep::SetCap(resizing)))),
+        Stopping::Drain(draining) => drained(table, seat, regs, draining),
+        Stopping::Resize(resizing) => Next::Row(CpuRow::Cpu(CpuStep::SetCap(resizing))),
     }
 }
 
 /// A drain gives away what it took of a class, and counts it.
-fn drained(table: &ClassTable, local: &mut Local, draining: Draining)
-    requires acts { local.old.acts < 2 ^ 64 - 1 }
-    requires step { local.old.step ≡ does.Front (front.Cpu (Take (stopping.Drain draining))) }
-    requires few { draining.taken + length local.old.regs.hand.items < 2 ^ 64 }
-    ensures { local.new ≡ took table.now local.old (stopping.Drain draining) }
+fn drained(table: &ClassTable, seat: &CpuSeat, regs: &mut Regs, draining: Draining) -> Next
+    requires { draining.taken + length regs.old.hand.items < 2 ^ 64 }
+    ensures regs { regs.new ≡ (took table.now seat.now regs.old (stopping.Drain draining)).0 }
+    ensures next { result ≡ (took table.now seat.now regs.old (stopping.Drain draining)).1 }
 {
-    let came = local.regs.hand.as_slice().len();
+    let came = regs.hand.as_slice().len();
     let taken = draining.taken + came as u64;
-    let (class, row) = drain_on(table, local.regs.class, Draining { taken, ..draining });
+    let (class, row) = drain_on(table, regs.class, Draining { taken, ..draining });
     if came == 0 {
-        local.go_to(class, row);
+        regs.class = class;
+        Next::Row(CpuRow::Cpu(row))
     } else {
-        local.give_away(Giving::Row { class, row });
+        seat.give_away(Giving::Row { class, row })
     }
 }
 
 /// A drain takes the next class, and starts the CPU again behind the last one.
 fn drain_on(table: &ClassTable, class: Class, draining: Draining) -> (Class, CpuStep)
-    ensures next { result ≡ drains_on table.now class draining }
-    ensures about { about_cpu result.1 ≡ Other (Some (Drain draining.cpu)) }
+    ensures { result ≡ drains_on table.now class draining }
 {
     let stopping = Stopping::Drain(draining);
     if u32::from(class.0) + 1 < table.len() {
@@ -233,54 +254,53 @@ fn drain_on(table: &ClassTable, class: Class, draining: Draining) -> (Class, Cpu
 }
 
 /// A resize sets the capacity of the class, or that is refused.
-fn resize(cpu: &mut CpuPart, local: &mut Local, resizing: Resizing)
-    requires fits { FitsSetCap cpu.old local.old }
-    requires acts { local.old.acts < 2 ^ 64 - 1 }
-    requires step { local.old.step ≡ does.Front (front.Cpu (SetCap resizing)) }
-    ensures cpu { cpu.new ≡ (cpu_row [] cpu.old local.old (SetCap resizing)).0 }
-    ensures local { local.new ≡ (cpu_row [] cpu.old local.old (SetCap resizing)).1 }
+fn resize(cpu: &mut CpuPart, regs: &Regs, resizing: Resizing) -> Next
+    requires { FitsSetCap cpu.old regs.now }
+    ensures cpu { cpu.new ≡ drains.capped cpu.old regs.now.class.0 resizing.cap }
+    ensures next { result ≡ next.Decide (cap_answer (cap_fault cpu.old.slab regs.now.class.0 resizing.cap)) (Some (front.Cpu (Start (stopping.Resize resizing)))) }
 {
-    let answer = match set_cap(cpu, local.regs.thread, local.regs.class, resizing.cap) {
+    let answer = match set_cap(cpu, regs.thread, regs.class, resizing.cap) {
         Ok(()) => Answer::CapSet,
         Err(CapFault::OverStatic { cap }) => Answer::OverStatic { cap },
         Err(CapFault::OverLimit { sum }) => Answer::OverLimit { sum },
     };
-    local.go_deciding(
+    let row = CpuStep::Start(Stopping::Resize(resizing));
+    Next::Decide {
         answer,
-        Step::Front(CpuRow::Cpu(CpuStep::Start(Stopping::Resize(resizing)))),
-    );
+        row: Some(CpuRow::Cpu(row)),
+    }
 }
 
 /// A drain ends, and a resize gives away what it took.
-fn started(table: &ClassTable, local: &mut Local, stopping: Stopping)
-    requires acts { local.old.acts < 2 ^ 64 - 1 }
-    requires step { local.old.step ≡ does.Front (front.Cpu (Start stopping)) }
-    ensures { local.new ≡ started table.now local.old stopping }
+fn started(seat: &CpuSeat, regs: &Regs, stopping: Stopping) -> Next
+    ensures { result ≡ started seat.now regs.now.hand.items stopping }
 {
     match stopping {
         Stopping::Drain(draining) => {
             let objects = draining.taken;
-            local.end_deciding(table, Answer::Drained { objects });
+            let answer = Answer::Drained { objects };
+            Next::Decide { answer, row: None }
         }
-        Stopping::Resize(_) if local.regs.hand.as_slice().is_empty() => local.end(table),
-        Stopping::Resize(_) => local.give_away(Giving::End),
+        Stopping::Resize(_) if regs.hand.as_slice().is_empty() => Next::End,
+        Stopping::Resize(_) => seat.give_away(Giving::End),
     }
 }
 
 /// The thread leaves for the CPU of its move, and its call ends.
-fn leave_and_end(table: &ClassTable, cpu: &mut CpuPart, local: &mut Local)
-    requires moved { is_some local.old.moved ≡ true }
+fn leave_at_end(cpu: &mut CpuPart, seat: &mut CpuSeat, regs: &mut Regs) -> Next
+    requires moved { is_some seat.old.moved ≡ true }
     requires epoch { cpu.old.epoch < 2 ^ 64 - 1 }
-    requires acts { local.old.acts < 2 ^ 64 - 1 }
-    requires step { local.old.step ≡ does.Front (front.Cpu Leave) }
-    ensures cpu { cpu.new ≡ (left_for table.now cpu.old local.old local.old.moved).0 }
-    ensures local { local.new ≡ (left_for table.now cpu.old local.old local.old.moved).1 }
+    ensures cpu { cpu.new ≡ (left_for cpu.old seat.old regs.old seat.old.moved).part }
+    ensures seat { seat.new ≡ (left_for cpu.old seat.old regs.old seat.old.moved).seat }
+    ensures regs { regs.new ≡ (left_for cpu.old seat.old regs.old seat.old.moved).regs }
+    ensures next { result ≡ next.End }
+    ensures domains { seat.new.domains ≡ seat.old.domains }
 {
-    match local.moved {
+    match seat.moved {
         Some(to) => {
-            leave(cpu, &mut local.regs);
-            local.arrive(to.cpu);
-            local.end(table);
+            leave(cpu, regs);
+            seat.arrive(to.cpu);
+            Next::End
         }
         None => unreachable!(),
     }
@@ -292,13 +312,14 @@ pub fn yields(cpu: &CpuPart, local: &Local) -> bool
     requires { local.now.regs.ran < 2 ^ 32 - 1 }
     ensures { result ≡ yields_for cpu.now local.now local.now.step }
 {
-    match local.step() {
-        Step::Front(CpuRow::Cpu(CpuStep::Grow(_))) => may_enter(cpu, local),
-        Step::Front(
-            CpuRow::Cpu(
-                CpuStep::Pop(_) | CpuStep::Stock(_) | CpuStep::Push(_) | CpuStep::PopBatch(_),
-            ),
-        ) => due(local).is_some() || may_enter(cpu, local),
+    let Step::Front(CpuRow::Cpu(row)) = local.step() else {
+        return true;
+    };
+    match row {
+        CpuStep::Grow(_) => may_enter(cpu, local),
+        CpuStep::Pop(_) | CpuStep::Stock(_) | CpuStep::Push(_) | CpuStep::PopBatch(_) => {
+            due(&local.seat, local.regs.ran).is_some() || may_enter(cpu, local)
+        }
         _ => true,
     }
 }

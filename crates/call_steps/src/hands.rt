@@ -1,14 +1,15 @@
 //! How a call goes on with the objects that it has in hand.
-ghost use Rattle.std.specs.Prelude.{◌≡◌, ◌-◌, ◌<◌, ◌^◌, length, Some};
+ghost use Rattle.std.specs.Prelude.{◌≡◌, ◌-◌, ◌<◌, ◌^◌, length, Some, is_some, true};
+ghost use Rattle.call_steps.specs.declared.step.Next.TheVariants as next;
 ghost use Rattle.call_steps.specs.declared.step.Step.TheVariants as does;
 ghost use Rattle.call_steps.specs.declared.step.NamesStep.TheVariants as named;
 ghost use Rattle.call_steps.specs.Calls.{undecided, under, asks, about_cpu, about_giving, about_onward, call_about, without_call};
-ghost use Rattle.call_steps.specs.Hands.{serves, looks_on, gives, comes_to, goes_onward, clears, decides_free, behind};
+ghost use Rattle.call_steps.specs.Hands.{serves, comes_to, goes_onward, clears, gave};
+ghost use Rattle.call_steps.specs.Follows.{MayGoOnDecided, MayFollow, follows};
 
 use crate::local::Local;
 use crate::step::{
-    Asking, CpuRow, CpuStep, DomainStep, Giving, MapStep, NamesStep, Onward, Serving,
-    ShardStep, Step, Stopping,
+    Asking, CpuRow, CpuStep, Giving, MapStep, NamesStep, Next, Onward, Serving, ShardStep, Step,
 };
 use rseq_core::Seq;
 use size_classes::ClassTable;
@@ -40,34 +41,6 @@ impl Local {
         } else {
             self.regs.start(class, Seq::PushBatch);
             self.go_deciding(answer, Step::Front(CpuRow::Cpu(CpuStep::Stock(serving))));
-        }
-    }
-
-    /// An allocation that found nothing at its CPU looks in the cache of its domain, or in the shard.
-    pub(crate) fn look_on(&mut self, asking: Asking)
-        requires acts { self.old.acts < 2 ^ 64 - 1 }
-        requires asks { undecided self.old.step ≡ Some (asks asking) }
-        requires under { under self.old.step ≡ 0 }
-        ensures { self.new ≡ looks_on self.old asking }
-    {
-        if self.domains == 0 {
-            self.go(Step::Shard(ShardStep::Fetch(asking)));
-        } else {
-            self.go(Step::Front(CpuRow::Domain(DomainStep::Take(asking))));
-        }
-    }
-
-    /// The hand is to be given away: to the cache of the domain, or to the shard.
-    pub(crate) fn give_away(&mut self, giving: Giving)
-        requires acts { self.old.acts < 2 ^ 64 - 1 }
-        requires call { undecided self.old.step ≡ call_about (about_giving giving) }
-        requires under { under self.old.step ≡ without_call (call_about (about_giving giving)) }
-        ensures { self.new ≡ gives self.old giving }
-    {
-        if self.domains == 0 {
-            self.go(Step::Shard(ShardStep::Give(giving)));
-        } else {
-            self.go(Step::Front(CpuRow::Domain(DomainStep::Put(giving))));
         }
     }
 
@@ -116,7 +89,7 @@ impl Local {
         requires acts { self.old.acts < 2 ^ 64 - 1 }
         requires call { undecided self.old.step ≡ call_about (about_giving giving) }
         requires under { under self.old.step ≡ without_call (call_about (about_giving giving)) }
-        ensures { self.new ≡ clears table.now (decides_free self.old giving) (behind giving) self.old.freed.items }
+        ensures { self.new ≡ gave table.now self.old giving }
     {
         match giving {
             Giving::Rest(serving) => self.clear(table, Onward::Publish(serving)),
@@ -126,6 +99,42 @@ impl Local {
             }
             Giving::Row { class, row } => self.clear(table, Onward::Row { class, row }),
             Giving::End => self.clear(table, Onward::End),
+        }
+    }
+
+    /// What comes behind an act of the per-CPU caches. The calls alone decide, change steps and begin the
+    /// next call.
+    pub(crate) fn enter(&mut self, table: &ClassTable, next: Next)
+        requires acts { self.old.acts < 2 ^ 64 - 1 }
+        requires next { MayFollow table.now self.old.step self.old.seat.domains self.old.regs next }
+        ensures { self.new ≡ follows table.now self.old (undecided self.old.step) next }
+    {
+        match next {
+            Next::Row(row) => self.go(Step::Front(row)),
+            Next::Serve(asking) => self.serve(table, asking),
+            Next::Fetch(asking) => self.go(Step::Shard(ShardStep::Fetch(asking))),
+            Next::Give(giving) => self.go(Step::Shard(ShardStep::Give(giving))),
+            Next::Gave(giving) => self.go_on_behind(table, giving),
+            Next::Publish(serving) => self.go(publish(serving)),
+            Next::Freed(freeing) => {
+                let addr = freeing.addr;
+                self.end_deciding(table, Answer::Freed { addr });
+            }
+            Next::Decide { answer, row } => self.decide_with(table, answer, row),
+            Next::End => self.end(table),
+        }
+    }
+
+    /// The call is decided, and goes on with a row, or ends.
+    fn decide_with(&mut self, table: &ClassTable, answer: Answer, row: Option<CpuRow>)
+        requires acts { self.old.acts < 2 ^ 64 - 1 }
+        requires undecided { is_some (undecided self.old.step) ≡ true }
+        requires row { MayGoOnDecided self.old.seat.domains row }
+        ensures { self.new ≡ follows table.now self.old (undecided self.old.step) (next.Decide answer row) }
+    {
+        match row {
+            Some(row) => self.go_deciding(answer, Step::Front(row)),
+            None => self.end_deciding(table, answer),
         }
     }
 }

@@ -3,25 +3,29 @@
 #![tactic(auto)]
 
 mod cpu;
+mod domain;
 mod hands;
 mod heap;
 mod laws;
 mod local;
 mod map;
 mod names;
+mod seat;
 mod shard;
 mod step;
 #[cfg(test)]
 mod tests;
 
 pub use cpu::{act_cpu, yields};
+pub use domain::act_domain;
 pub use heap::act_heap;
 pub use laws::{acts_keep_shapes, cpu_acts_keep};
 pub use local::Local;
 pub use map::act_map;
 pub use names::{act_names, waits};
-pub use shard::{act_domain, act_shard};
+pub use seat::CpuSeat;
+pub use shard::act_shard;
 pub use step::{
     Asking, CpuRow, CpuStep, DomainStep, Draining, Freeing, Giving, HeapStep, MapStep, NamesStep,
-    Onward, Resizing, Serving, ShardStep, Step, Stopping, Target,
+    Next, Onward, Resizing, Serving, ShardStep, Step, Stopping, Target,
 };

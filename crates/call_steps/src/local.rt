@@ -9,6 +9,7 @@ ghost use Rattle.call_steps.specs.Local.{next_call, first_of_call, regs_of_call,
 ghost use Rattle.call_steps.specs.Calls.{undecided, under};
 ghost use Rattle.call_steps.specs.Kept.{cpu_of, at_cpu, target_of, HasDomain};
 
+use crate::seat::CpuSeat;
 use crate::step::{
     Asking, CpuRow, CpuStep, Draining, HeapStep, NamesStep, Resizing, Step, Stopping, Target,
 };
@@ -23,7 +24,7 @@ use tc_units::{Bag, Class, CpuNo, Listed, SpanRef, ThreadNo};
 /// the answers of the calls that were decided.
 #[derive(Drop)]
 pub struct Local {
-    pub(crate) cpu: CpuNo,
+    pub(crate) seat: CpuSeat,
     script: Listed<Planned>,
     /// Calls that have ended.
     place: usize,
@@ -32,13 +33,9 @@ pub struct Local {
     pub(crate) regs: Regs,
     /// Spans that left a shard and are to be given back.
     pub(crate) freed: Bag<SpanRef>,
-    /// The move of the call that is still to come.
-    pub(crate) moved: Option<MoveTo>,
     /// Acts that the thread has done.
     acts: u64,
     answers: Bag<Answered>,
-    /// Domains of CPUs; with 0 there are none.
-    pub(crate) domains: u8,
 }
 
 impl Model for Local {
@@ -47,9 +44,9 @@ impl Model for Local {
 
     ghost Value = { meant.Local };
 
-    ghost view = { λ l. local_of l.cpu l.script l.place l.step l.regs l.freed l.moved l.acts l.answers.items l.domains };
+    ghost view = { λ l. local_of l.seat l.script l.place l.step l.regs l.freed l.acts l.answers.items };
 
-    ghost invariant = { λ l. IsKept l.script l.place l.step l.answers l.domains };
+    ghost invariant = { λ l. IsKept l.script l.place l.step l.answers l.seat.domains };
 }
 
 impl Local {
@@ -71,17 +68,20 @@ impl Local {
         let mut regs = Regs::open(alloc, thread)?;
         let first = calls.as_slice().first().copied();
         set_regs(table, first, &mut regs);
-        Ok(Local {
+        let seat = CpuSeat {
             cpu,
+            moved: move_of(first),
+            domains,
+        };
+        Ok(Local {
+            seat,
             script: calls,
             place: 0,
             step: first_act(table, first),
             regs,
             freed,
-            moved: move_of(first),
             acts: 0,
             answers,
-            domains,
         })
     }
 
@@ -90,13 +90,13 @@ impl Local {
         ensures { result ≡ target_of self.now }
     {
         match self.step {
-            Step::Front(CpuRow::Cpu(row)) => Some(Target::Cpu(at_cpu(self.cpu, row))),
+            Step::Front(CpuRow::Cpu(row)) => Some(Target::Cpu(at_cpu(self.seat.cpu, row))),
             Step::Shard(_) => Some(Target::Shard(self.regs.class)),
             Step::Heap(_) => Some(Target::Heap),
             Step::Map(_) => Some(Target::Map),
             Step::Names(_) => Some(Target::Names),
             Step::Front(CpuRow::Domain(_)) => Some(Target::Domain {
-                domain: self.cpu.0 % self.domains,
+                domain: self.seat.cpu.0 % self.seat.domains,
                 class: self.regs.class,
             }),
             Step::Ended => None,
@@ -149,7 +149,7 @@ impl Local {
         requires acts { self.old.acts < 2 ^ 64 - 1 }
         requires under { under next ≡ under self.old.step }
         requires call { undecided next ≡ undecided self.old.step }
-        requires domain { HasDomain next self.old.domains }
+        requires domain { HasDomain next self.old.seat.domains }
         ensures { self.new ≡ goes self.old next }
     {
         self.step = next;
@@ -161,7 +161,7 @@ impl Local {
         requires acts { self.old.acts < 2 ^ 64 - 1 }
         requires undecided { is_some (undecided self.old.step) ≡ true }
         requires decided { (under next ≡ 1) × (undecided next ≡ None) }
-        requires domain { HasDomain next self.old.domains }
+        requires domain { HasDomain next self.old.seat.domains }
         ensures { (call : call.Call) → undecided self.old.step ≡ Some call → self.new ≡ goes (decided self.old call answer) next }
     {
         self.decide(answer);
@@ -176,7 +176,7 @@ impl Local {
         ensures { self.new ≡ ends table.now self.old }
     {
         self.acts += 1;
-        match self.moved {
+        match self.seat.moved {
             Some(_) => self.step = Step::Front(CpuRow::Cpu(CpuStep::Leave)),
             None => self.come_to_next(table),
         }
@@ -192,20 +192,12 @@ impl Local {
         self.end(table);
     }
 
-    /// The thread goes on at the CPU of its move, which has taken place then.
-    pub(crate) fn arrive(&mut self, cpu: CpuNo)
-        ensures { self.new ≡ record self.old { cpu = cpu; moved = None } }
-    {
-        self.cpu = cpu;
-        self.moved = None;
-    }
-
     /// The next act decides the call under way, of which nothing is left to do then but to end.
     pub(crate) fn decide(&mut self, answer: Answer)
         requires { is_some (undecided self.old.step) ≡ true }
         ensures step { self.new.step ≡ does.Front (front.Cpu Leave) }
         ensures acts { self.new.acts ≡ self.old.acts }
-        ensures domains { self.new.domains ≡ self.old.domains }
+        ensures seat { self.new.seat ≡ self.old.seat }
         ensures decided { (call : call.Call) → undecided self.old.step ≡ Some call → self.new ≡ record (decided self.old call answer) { step = does.Front (front.Cpu Leave) } }
     {
         self.answers.push(Answered {
@@ -224,7 +216,7 @@ impl Local {
         let planned = planned_at(self.script.as_slice(), self.place);
         set_regs(table, planned, &mut self.regs);
         self.step = first_act(table, planned);
-        self.moved = move_of(planned);
+        self.seat.moved = move_of(planned);
     }
 }
 

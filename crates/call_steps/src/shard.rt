@@ -1,26 +1,22 @@
-//! The acts at the shard of the thread's class, and at the transfer cache of its class and domain.
+//! The acts at the shard of the thread's class.
 ghost use Rattle.std.specs.Prelude.{◌≡◌, ◌<◌, ◌-◌, ◌^◌, [], OnOk, OnErr};
-ghost use Rattle.transfer_cache.specs.Transfer.{last_first, without_last};
 ghost use Rattle.class_shard.specs.Shard.{fetched, after_fetch, after_give, freed_by};
 ghost use Rattle.holdings.specs.Runs.{small};
 ghost use Rattle.call_steps.specs.declared.step.Step.TheVariants as does;
-ghost use Rattle.call_steps.specs.declared.step.CpuRow.TheVariants as front;
 ghost use Rattle.call_steps.specs.declared.step.ShardStep.TheVariants.{Fetch, AddFetch, Give};
-ghost use Rattle.call_steps.specs.declared.step.DomainStep.TheVariants as cached;
 ghost use Rattle.call_steps.specs.Local.{class_row};
 ghost use Rattle.call_steps.specs.Hands.{given_back};
-ghost use Rattle.call_steps.specs.ShardActs.{fetches, adds, takes, with_spans_behind, domain_row};
-ghost use Rattle.call_steps.specs.Acts.{shard_after, domain_after};
-ghost use Rattle.call_steps.specs.Fits.{FitsBatch, FitsAdd, FitsGive, FitsShardStep, FitsDomainStep};
+ghost use Rattle.call_steps.specs.ShardActs.{fetches, adds, with_spans_behind};
+ghost use Rattle.call_steps.specs.Acts.{shard_after};
+ghost use Rattle.call_steps.specs.Fits.{FitsBatch, FitsAdd, FitsGive, FitsShardStep};
 
 use crate::local::Local;
 use crate::map::span_of;
-use crate::step::{Asking, CpuRow, DomainStep, Giving, HeapStep, ShardStep, Step};
+use crate::step::{Asking, Giving, HeapStep, ShardStep, Step};
 use class_shard::ClassShard;
 use size_classes::ClassTable;
 use std::alloc::AllocError;
 use tc_units::{Run, SpanKind};
-use transfer_cache::TransferCache;
 
 /// The act at the shard of its class that the thread does next. Where memory is wanting, all is as before.
 pub fn act_shard(
@@ -45,7 +41,7 @@ pub fn act_shard(
 
 /// An allocation fetches a batch, or asks for a new span.
 fn fetch(table: &ClassTable, shard: &mut ClassShard, local: &mut Local, asking: Asking)
-    requires batch { FitsBatch table.now local.old }
+    requires batch { FitsBatch table.now local.old.regs }
     requires empty { local.old.regs.hand.items ≡ [] }
     requires acts { local.old.acts < 2 ^ 64 - 1 }
     requires step { local.old.step ≡ does.Shard (Fetch asking) }
@@ -97,53 +93,4 @@ fn give(table: &ClassTable, shard: &mut ClassShard, local: &mut Local, giving: G
     shard.give(local.regs.hand.as_slice(), &mut local.freed);
     local.regs.hand.clear();
     local.go_on_behind(table, giving);
-}
-
-/// The act at the cache of its class and domain that the thread does next.
-pub fn act_domain(table: &ClassTable, cache: &mut TransferCache, local: &mut Local)
-    requires fits { FitsDomainStep table.now cache.old local.old local.old.step }
-    requires acts { local.old.acts < 2 ^ 64 - 1 }
-    ensures cache { cache.new ≡ (domain_after table.now cache.old local.old local.old.step).0 }
-    ensures local { local.new ≡ (domain_after table.now cache.old local.old local.old.step).1 }
-{
-    match local.step() {
-        Step::Front(CpuRow::Domain(DomainStep::Take(asking))) => take(table, cache, local, asking),
-        Step::Front(CpuRow::Domain(DomainStep::Put(giving))) => put(table, cache, local, giving),
-        _ => unreachable!(),
-    }
-}
-
-/// An allocation takes a batch, or looks in the shard.
-fn take(table: &ClassTable, cache: &mut TransferCache, local: &mut Local, asking: Asking)
-    requires batch { FitsBatch table.now local.old }
-    requires empty { local.old.regs.hand.items ≡ [] }
-    requires acts { local.old.acts < 2 ^ 64 - 1 }
-    requires step { local.old.step ≡ does.Front (front.Domain (cached.Take asking)) }
-    ensures cache { cache.new ≡ record cache.old { objects = without_last (class_row table.now local.old).batch cache.old.objects } }
-    ensures local { local.new ≡ takes table.now local.old asking (last_first (class_row table.now local.old).batch cache.old.objects) }
-{
-    let class = local.regs.class;
-    let batch = u32::from(table.row(class).batch);
-    cache.take(batch, &mut local.regs.hand);
-    if local.regs.hand.as_slice().is_empty() {
-        local.go(Step::Shard(ShardStep::Fetch(asking)));
-    } else {
-        local.serve(table, asking);
-    }
-}
-
-/// The hand is put there where it fits, and else it goes to the shard.
-fn put(table: &ClassTable, cache: &mut TransferCache, local: &mut Local, giving: Giving)
-    requires none { local.old.freed.items ≡ [] }
-    requires acts { local.old.acts < 2 ^ 64 - 1 }
-    requires step { local.old.step ≡ does.Front (front.Domain (cached.Put giving)) }
-    ensures cache { cache.new ≡ (domain_row table.now cache.old local.old (cached.Put giving)).0 }
-    ensures local { local.new ≡ (domain_row table.now cache.old local.old (cached.Put giving)).1 }
-{
-    if cache.put(local.regs.hand.as_slice()) {
-        local.regs.hand.clear();
-        local.go_on_behind(table, giving);
-    } else {
-        local.go(Step::Shard(ShardStep::Give(giving)));
-    }
 }

@@ -1,4 +1,5 @@
 //! The state of a call: its next act, with what the call has in hand beside the thread's registers.
+use tc_model::Answer;
 use tc_units::{Addr, Class, CpuNo, Label, Run};
 
 /// The part that an act is on.
@@ -134,6 +135,29 @@ pub enum DomainStep {
 pub enum CpuRow {
     Cpu(CpuStep),
     Domain(DomainStep),
+}
+
+/// What comes behind an act of the per-CPU caches.
+#[derive(Clone, Copy, Debug, PartialEq, Eq)]
+pub enum Next {
+    /// Another row of theirs.
+    Row(CpuRow),
+    /// The allocation is decided by the objects in hand: the first is its answer.
+    Serve(Asking),
+    /// The allocation fetches from the shard.
+    Fetch(Asking),
+    /// The hand is given to the shard.
+    Give(Giving),
+    /// The hand was given to the caches.
+    Gave(Giving),
+    /// The allocation, which was decided, publishes its object.
+    Publish(Serving),
+    /// The free is decided and ends.
+    Freed(Freeing),
+    /// The call is decided, and goes on with a row, or ends.
+    Decide { answer: Answer, row: Option<CpuRow> },
+    /// The call ends, which was decided before.
+    End,
 }
 
 /// A row of the call programs at the page heap.

@@ -15,7 +15,7 @@ invariant_of-self c =
     let l = c.self.inside in
     let i = c.self.invariant in
     let decided : under l.step ≡ 1 = ap (λ (m : Local). under m.step) c.self.view_is ∙ c.requires in
-    kept_at c.args.table.now l.script (l.place + 1) _ l.answers l.domains (omega (arith, i.count, i.room, decided)) i.few (omega (arith, i.count, decided)) i.room
+    kept_at c.args.table.now l.script (l.place + 1) _ l.answers l.seat.domains (omega (arith, i.count, i.room, decided)) i.few (omega (arith, i.count, decided)) i.room
     (c.first_act-self-inside.ensures ∙ ap (first_act c.args.table.now) (c.planned_at-planned.ensures ∙ ap (λ xs. slice_get xs (l.place + 1)) c.as_slice.ensures))
 
 pub returns : goal.returns
@@ -25,16 +25,14 @@ returns c =
     let planned = c.planned_at-planned.ensures ∙ (ap (λ xs. slice_get xs (l.place + 1)) c.as_slice.ensures ∙ first_left l.script (l.place + 1)) in
     let made : Step → Regs → Option MoveTo → List Planned → Local =
     λ step regs moved rest. record {
-      cpu = l.cpu;
+      seat = record l.seat { moved = moved };
       step = step;
       regs = regs;
       freed = l.freed;
-      moved = moved;
       rest = rest;
       ended = l.place + 1;
       acts = l.acts;
       answers = decided_by l.script l.answers.items;
-      domains = l.domains;
     } in
     let after : List Planned = drop (l.place + 1 + 1) l.script in
     ap (λ s. made s c.set_regs.new.regs c.move_of-self-inside.result after) (c.first_act-self-inside.ensures ∙ ap (first_act rows) planned)

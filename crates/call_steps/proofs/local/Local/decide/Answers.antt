@@ -27,16 +27,14 @@ returns-clause-decided c call is =
     let at : call_at l.script (length l.answers.items) ≡ Some call = ap (call_at l.script) place ∙ c.self.invariant.call call asked in
     let made : List Decided → Local =
     λ ds. record {
-      cpu = l.cpu;
+      seat = l.seat;
       step = does.Front (front.Cpu Leave);
       regs = l.regs;
       freed = l.freed;
-      moved = l.moved;
       rest = drop (l.place + 1) l.script;
       ended = l.place;
       acts = l.acts;
       answers = ds;
-      domains = l.domains;
     } in
     ap made (ap (decided_by l.script) c.push.ensures.items ∙ decided_more l.script l.answers.items _ call at)
     ∙ ap (λ (m : Local). record (decided m call c.args.answer) { step = does.Front (front.Cpu Leave) }) c.self.view_is
