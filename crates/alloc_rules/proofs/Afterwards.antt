@@ -45,7 +45,7 @@ use Rattle.call_steps.specs.Shapes.{StepShape, standing_of}
 use Rattle.alloc_rules.specs.declared.part.Part.{Part}
 use Rattle.alloc_rules.specs.Machine.{Parts, place_of, rules}
 use Rattle.alloc_rules.specs.Accounts.{account_of}
-use Rattle.alloc_rules.specs.Told.{lines_of, TellsFirst, TellsScript}
+use Rattle.alloc_rules.specs.Told.{lines_by, TellsFirst, TellsScript}
 use Rattle.alloc_rules.specs.Scripts.{is_under_way}
 use Rattle.alloc_rules.specs.Stocks.{stock_of, AreBooksOf}
 use Rattle.alloc_rules.specs.Valid.{IsValid, limits_in}
@@ -170,7 +170,7 @@ module _ (input : Input) (valid : IsValid input) (order : List ℕ) (few : lengt
   first_told : (t : ℕ) (l : Local) → slice_get locals t ≡ Some l → TellsFirst input t (l.ended + under l.step) (calls locals order)
   first_told t l at =
       let inside = (served.works t l at).inside in
-      tells_first (script_of t input.asked.calls) t l (lines_of t (calls locals order)) (l.ended + under l.step) (served.tells t l at) inside.decided inside.count
+      tells_first (script_of t input.asked.calls) t l (lines_by t (calls locals order)) (l.ended + under l.step) (served.tells t l at) inside.decided inside.count
 
   whole_told : (t : ℕ) (l : Local) → slice_get locals t ≡ Some l → is_under_way l.step ≡ false → TellsScript input t (calls locals order)
   whole_told t l at way =

@@ -30,7 +30,7 @@ use Rattle.call_steps.specs.Shapes.{IsShaped, seat_of}
 use Rattle.alloc_rules.specs.declared.part.Part.{Part}
 use Rattle.alloc_rules.specs.Machine.{Parts, parts_of, heap_config}
 use Rattle.alloc_rules.specs.Heads.{IsSlabOf, HasRoom}
-use Rattle.alloc_rules.specs.Told.{lines_of}
+use Rattle.alloc_rules.specs.Told.{lines_by}
 use Rattle.alloc_rules.specs.Accounts.{account_of}
 use Rattle.alloc_rules.specs.Stocks.{stock_of, ArePartsOk, AreBooksOf, Does, decided_at}
 use Rattle.alloc_rules.specs.Scripts.{IsIn, Path, is_under_way}
@@ -70,7 +70,7 @@ pub record IsAtWork (input : Input) (names : List NameState) (order : List ℕ) 
 
 -- of each thread its decided calls are told
 abbrev pub AllTell : List Local → List CallLine → Type 0
-AllTell locals all = (t : ℕ) (l : Local) → slice_get locals t ≡ Some l → lines_of t all ≡ map (told t) l.answers
+AllTell locals all = (t : ℕ) (l : Local) → slice_get locals t ≡ Some l → lines_by t all ≡ map (told t) l.answers
 
 -- a world is that of parts and locals in which all this holds
 pub record IsServed (input : Input) (w : World Part Local) (order : List ℕ) : Type 0 where
@@ -194,21 +194,21 @@ module _ (input : Input) (p : Parts) (locals : List Local) (b : Books) (order : 
     calls_now = calls-step (λ (k : Local). k.answers) (λ (x : Decided). x.act) told locals order t l after (decided_at l.acts acted.does.said) of local acted.does.answers at_pick ∙ ap (λ xs. calls locals order ++ xs) (told_lines t l.acts acted.does.said)
 
     -- what is told then of a thread
-    lines_now : (u : ℕ) → lines_of u (calls (slice_set locals t after) (order ++ t ∷ [])) ≡ lines_of u (calls locals order) ++ lines_of u (lines t acted.does.said)
-    lines_now u = ap (lines_of u) calls_now ∙ filter-append (λ (c : CallLine). eqb c.thread.0 u) (calls locals order) (lines t acted.does.said)
+    lines_now : (u : ℕ) → lines_by u (calls (slice_set locals t after) (order ++ t ∷ [])) ≡ lines_by u (calls locals order) ++ lines_by u (lines t acted.does.said)
+    lines_now u = ap (lines_by u) calls_now ∙ filter-append (λ (c : CallLine). eqb c.thread.0 u) (calls locals order) (lines t acted.does.said)
 
-    this_tells : AllTell locals (calls locals order) → lines_of t (calls (slice_set locals t after) (order ++ t ∷ [])) ≡ map (told t) after.answers
+    this_tells : AllTell locals (calls locals order) → lines_by t (calls (slice_set locals t after) (order ++ t ∷ [])) ≡ map (told t) after.answers
     this_tells tells =
         let said : List Said = acted.does.said in
         lines_now t
-        ∙ (ap (λ xs. xs ++ lines_of t (lines t said)) (tells t l local)
+        ∙ (ap (λ xs. xs ++ lines_by t (lines t said)) (tells t l local)
         ∙ (ap (λ xs. map (told t) l.answers ++ xs) (own_lines t said ∙ sym (told_lines t l.acts said))
         ∙ (sym (map-append (told t) l.answers (decided_at l.acts said)) ∙ ap (map (told t)) (sym acted.does.answers))))
 
     all_tell : AllTell locals (calls locals order) → AllTell (slice_set locals t after) (calls (slice_set locals t after) (order ++ t ∷ []))
     all_tell tells =
-        each_set (λ u k. lines_of u (calls (slice_set locals t after) (order ++ t ∷ [])) ≡ map (told u) k.answers) locals t after l local (this_tells tells)
-        (λ u k apart old. lines_now u ∙ (ap (λ xs. lines_of u (calls locals order) ++ xs) (others_lines t u acted.does.said apart) ∙ (append-nil (lines_of u (calls locals order)) ∙ tells u k old)))
+        each_set (λ u k. lines_by u (calls (slice_set locals t after) (order ++ t ∷ [])) ≡ map (told u) k.answers) locals t after l local (this_tells tells)
+        (λ u k apart old. lines_now u ∙ (ap (λ xs. lines_by u (calls locals order) ++ xs) (others_lines t u acted.does.said apart) ∙ (append-nil (lines_by u (calls locals order)) ∙ tells u k old)))
 
     pub served : (w : World Part Local) → w ≡ world_of (parts_of new) (slice_set locals t after) → length locals ≡ input.asked.config.threads → AllTell locals (calls locals order) → IsServed input w (order ++ t ∷ [])
     served w is count tells =

@@ -9,14 +9,14 @@ use Rattle.tc_model.specs.declared.calls.Planned.{Planned}
 use Rattle.holdings.specs.Moves.{Said, lines}
 use Rattle.call_steps.specs.Local.{Local, Decided, told}
 use Rattle.call_steps.specs.Kept.{call_at}
-use Rattle.alloc_rules.specs.Told.{lines_of}
+use Rattle.alloc_rules.specs.Told.{lines_by}
 
 -- what an act decides is told of its thread
-pub own_lines : (t : ℕ) (said : List Said) → lines_of t (lines t said) ≡ lines t said
+pub own_lines : (t : ℕ) (said : List Said) → lines_by t (lines t said) ≡ lines t said
 own_lines t [] = refl
 own_lines t (s ∷ more) = rw (eq-eqb t t refl) (ap (λ (xs : List CallLine). record { thread = record { 0 = t }; call = s.call; answer = s.answer } ∷ xs) (own_lines t more))
 
-pub others_lines : (t u : ℕ) (said : List Said) → (t ≡ u → ⊥) → lines_of u (lines t said) ≡ []
+pub others_lines : (t u : ℕ) (said : List Said) → (t ≡ u → ⊥) → lines_by u (lines t said) ≡ []
 others_lines t u [] apart = refl
 others_lines t u (s ∷ more) apart = rw (ne_eqb t u apart) (others_lines t u more apart)
 

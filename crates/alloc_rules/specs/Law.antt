@@ -35,7 +35,7 @@ use Rattle.call_steps.specs.Shapes.{seat_of}
 use Rattle.alloc_rules.specs.Machine.{Parts, parts_of, heap_config, rules, turns}
 use Rattle.alloc_rules.specs.Fits.{Fits}
 use Rattle.alloc_rules.specs.Heads.{AreAsMany, IsSlabOf, HasRoom}
-use Rattle.alloc_rules.specs.Told.{lines_of, TellsFirst, TellsScript}
+use Rattle.alloc_rules.specs.Told.{lines_by, TellsFirst, TellsScript}
 use Rattle.alloc_rules.specs.Accounts.{account_of}
 use Rattle.alloc_rules.specs.Stocks.{stock_of, IsShardOf}
 use Rattle.alloc_rules.specs.Valid.{IsValid}
@@ -81,7 +81,7 @@ pub record HoldsAfter (input : Input) (order : List ℕ) : Type 0 where
   -- each thread's decided calls are the first ones of its script, each once; a call that has ended was decided
   pub decided : (t : ℕ) (l : Local) → slice_get locals t ≡ Some l → IsAmong (script_of t input.asked.calls) l
   -- the lines that are told of a thread are its decided calls with their answers, each once, in their order
-  pub answers_are_told : (t : ℕ) (l : Local) → slice_get locals t ≡ Some l → lines_of t (calls locals order) ≡ map (told t) l.answers
+  pub answers_are_told : (t : ℕ) (l : Local) → slice_get locals t ≡ Some l → lines_by t (calls locals order) ≡ map (told t) l.answers
   -- so the calls that are told of it are the first ones of its script: those that ended, and the one under way once it is decided
   pub told_first : (t : ℕ) (l : Local) → slice_get locals t ≡ Some l → TellsFirst input t (l.ended + under l.step) (calls locals order)
   -- and where its script has ended they are its whole script

@@ -6,12 +6,12 @@ use Rattle.tc_model.specs.declared.answers.CallLine.{CallLine}
 use Rattle.tc_model.specs.Input.{Input, script_of}
 
 -- the lines of a thread among call lines, in their order
-abbrev pub lines_of : ℕ → List CallLine → List CallLine
-lines_of t lines = filter (λ (c : CallLine). c.thread.0 == t) lines
+abbrev pub lines_by : ℕ → List CallLine → List CallLine
+lines_by t lines = filter (λ (c : CallLine). c.thread.0 == t) lines
 
 -- the calls of a thread among call lines, in their order
 abbrev pub told_of : ℕ → List CallLine → List Call
-told_of t lines = map (λ (c : CallLine). c.call) (lines_of t lines)
+told_of t lines = map (λ (c : CallLine). c.call) (lines_by t lines)
 
 -- the calls of a thread's script, in their order
 abbrev pub calls_in : Input → ℕ → List Call
