@@ -1,5 +1,5 @@
 -- Free places of a row, counted as far as a place, and what comes into use by a stretch.
-use Rattle.std.proofs.Common.{◌≡◌, ℕ, zero, suc, ◌+◌, ◌-◌, ◌<◌, ◌≤◌, Bool, true, false, not, cond, List, [], ◌∷◌, ◌++◌, length, get_or, take, drop, replicate, min, sym, ap, ◌∙◌, inl, inr, arith, add-zero}
+use Rattle.std.proofs.Common.{◌≡◌, ℕ, zero, suc, ◌+◌, ◌-◌, ◌*◌, ◌<◌, ◌≤◌, Bool, true, false, not, cond, List, [], ◌∷◌, ◌++◌, length, get_or, take, drop, replicate, min, sym, ap, ◌∙◌, inl, inr, arith, add-zero}
 use Rattle.std.specs.List.{sum_by, prefix_len}
 use Rattle.std.proofs.lemmas.Bool.{cases_lt}
 use Rattle.std.proofs.lemmas.List.{append_assoc, drop_at, take_all, length-take-le, length-drop, drop-drop}
@@ -139,3 +139,15 @@ used_then row start n some free =
     let inside = free_inside row start n some free in
     let behind : drop start (with_places row start n true) ≡ rest = ap (drop start) (append_assoc (take start row) (replicate n true) (drop (start + n) row)) ∙ drop_at (take start row) rest start (length-take-le start row (omega arith)) in
     omega (arith, ap (prefix_len (λ used. used)) behind, used_before n (drop (start + n) row))
+
+-- what is used where a stretch is put into a state
+pub put_count : (row : List Bool) (start n : ℕ) (used : Bool) → start + n ≤ length row → used_count (with_places row start n used) + n + free_before row start ≡ used_count row + free_before row (start + n) + cond used n 0
+put_count row start n used inside =
+    let placed : used_count (with_places row start n used) ≡ used_count (take start row) + n * used_one used + used_count (drop (start + n) row) =
+    omega (arith, sum_by-append used_one (take start row ++ replicate n used) (drop (start + n) row), sum_by-append used_one (take start row) (replicate n used), sum_by-replicate used_one n used) in
+    let of_state : n * used_one used ≡ cond used n 0 = elim used as (λ b. n * used_one b ≡ cond b n 0) [ true ↦ omega arith | false ↦ omega arith ] in
+    let front = used_and_free (take start row) in
+    let front_size : length (take start row) ≡ start = length-take-le start row (omega arith) in
+    let back = used_and_free (drop (start + n) row) in
+    let whole = used_and_free row in
+    omega (arith, free_behind row (start + n), length-drop (start + n) row)

@@ -133,3 +133,44 @@ fn as_by_every_place(rt: HostRuntime) {
         }
     }
 }
+
+/// Puts places that are in the row into a state.
+fn put(bits: &mut WideBits, start: u16, n: u16, used: bool) {
+    let (start, n) = (u32::from(start), u32::from(n));
+    if start + n <= bits.places() {
+        bits.put(start, n, used);
+    }
+}
+
+/// Where the best range of some words of the row begins.
+fn best_in(bits: &WideBits, first: u8, words: u8, n: u32) -> Option<u32> {
+    if n == 0 || 64 * (u32::from(first) + u32::from(words)) > bits.places() {
+        return None;
+    }
+    bits.best_in(usize::from(first), usize::from(words), n)
+}
+
+#[test]
+fn a_part_of_a_row(rt: HostRuntime) -> Result<(), Fail> {
+    let mut bits = WideBits::open(rt.alloc(), 4)?;
+    // Used are 10 to 199, and then, by words, 10 to 63, none, 128 to 149, and 192 to 199.
+    put(&mut bits, 10, 190, true);
+    assert_eq!(rt; bits.used(), 190);
+    put(&mut bits, 150, 42, false);
+    put(&mut bits, 60, 68, false);
+    put(&mut bits, 60, 4, true);
+    put(&mut bits, 70, 0, true);
+    assert_eq!(rt; bits.used(), 84);
+    // In words 1 and 2, free are places 0 to 63 and 86 to 127, counted from 64 on.
+    assert_eq!(rt; best_in(&bits, 1, 2, 1), Some(86));
+    assert_eq!(rt; best_in(&bits, 1, 2, 42), Some(86));
+    assert_eq!(rt; best_in(&bits, 1, 2, 43), Some(0));
+    assert_eq!(rt; best_in(&bits, 1, 2, 65), None);
+    assert_eq!(rt; best_in(&bits, 0, 1, 10), Some(0));
+    assert_eq!(rt; best_in(&bits, 3, 1, 56), Some(8));
+    put(&mut bits, 0, 256, false);
+    assert_eq!(rt; bits.longest(), 256);
+    put(&mut bits, 0, 256, true);
+    assert_eq!(rt; bits.used(), 256);
+    Ok(())
+}

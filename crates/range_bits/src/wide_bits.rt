@@ -5,10 +5,12 @@ ghost use Rattle.range_bits.specs.Fills.{FillsLast, IsEnd};
 ghost use Rattle.range_bits.specs.Ranges.{free_from, used_from, used_count, longest, best, with_places};
 ghost use Rattle.range_bits.specs.Words.{IsNext};
 
+mod parts;
 mod stretches;
 
 use crate::marks::{mark, unmark};
 use crate::ranges;
+use crate::wide_bits::parts::{best_in, put};
 use crate::wide_bits::stretches::{end_place, fill, fill_last, free_between, longest_in};
 use crate::words::next_place;
 use std::alloc::{AllocError, Global};
@@ -155,5 +157,27 @@ impl WideBits {
         let came = fill_last(&mut self.words, most);
         self.used += came;
         came
+    }
+    /// Makes `n` places used or free, from `start` on, whatever they were.
+    pub fn put(&mut self, start: u32, n: u32, used: bool)
+        requires { start + n ≤ length self.old }
+        ensures { self.new ≡ with_places self.old start n used }
+    {
+        let free = put(&mut self.words, start, n, used);
+        self.used = if used {
+            self.used + free
+        } else {
+            self.used - (n - free)
+        };
+    }
+
+    /// Where the shortest maximal free range of at least `n` places begins in `words` words, from word
+    /// `first` on, the first one where several are as short. Places are counted from that word on.
+    pub fn best_in(&self, first: usize, words: usize, n: u32) -> Option<u32>
+        requires inside { 64 * (first + words) ≤ length self.now }
+        requires some { 0 < n }
+        ensures { result ≡ best (take (64 * words) (drop (64 * first) self.now)) n }
+    {
+        best_in(&self.words, first, words, n)
     }
 }
