@@ -1,0 +1,268 @@
+-- What bits say of each hugepage, and tables whose hugepages change.
+use Rattle.std.proofs.Common.{◌≡◌, ℕ, ◌+◌, ◌-◌, ◌*◌, ◌/◌, ◌%◌, ◌<◌, ◌≤◌, Bool, true, false, ◌||◌, cond, eqb, List, [], ◌∷◌, length, get_or, take, drop, map, refl, sym, ap, ◌∙◌, inl, inr, arith}
+use Rattle.std.specs.List.{list_all, range_with_len}
+use Rattle.std.proofs.lemmas.Bool.{cases_Bool, cases_eq, eq-eqb, ne_eqb, false≢true, false_from_ne_true}
+use Rattle.std.proofs.lemmas.List.{same_lists, get_or_default, length-replicate, length-take-le, length-drop, get_or-take, get_or-drop}
+use Rattle.std.proofs.lemmas.List.Sums.{sum_by-cons, count_by-le-length}
+use Rattle.std.proofs.lemmas.List.FromFn.{length-map-range_with_len, get_or-map-range_with_len}
+use Rattle.range_bits.specs.Ranges.{used_count, with_places}
+use Rattle.range_bits.proofs.Placing.{get_or-with_places}
+use Rattle.heap_rules.specs.Heap.{Hugepage, untouched, each, spans, whole, pages_of, backs, holds, run_at, is_free, is_filler, is_region}
+use Rattle.heap_rules.specs.New.{run_page, region_page, filler_page, more_backed}
+use Rattle.heap_rules.specs.Free.{emptied}
+use Rattle.heap_rules.specs.Sound.{IsPageOf}
+use Rattle.heap_rules.proofs.Places.{at, at-place, at-next, length-each, at-each, page_of, backs-map, backs-whole}
+use Rattle.heap_rules.proofs.Fits.{spans_parts, spans_from, holds_parts}
+use Rattle.huge_table.specs.Table.{Table, IsSpan, bit, by_bits, kind_by, free_page, is_even, with_backing, region_freed, of_filler, hugepage_of, table_of, over_span, is_between}
+use Rattle.huge_table.specs.declared.table.HugeTable.TheInside.{Inside}
+
+pub at-table : (t : Inside) (h : ℕ) → 0 < h → h ≤ t.huge → at (table_of t).pages h ≡ hugepage_of t h
+at-table t h some inside = at-place (table_of t).pages h some ∙ get_or-map-range_with_len (hugepage_of t) 1 t.huge (h - 1) h untouched (omega arith) (omega arith)
+
+-- lists of hugepages that are alike at each number
+pub same_pages : (xs ys : List Hugepage) → length xs ≡ length ys → ((h : ℕ) → 0 < h → h ≤ length xs → at xs h ≡ at ys h) → xs ≡ ys
+same_pages xs ys size same = same_lists xs ys size (λ k d l.
+    get_or_default xs k d untouched l
+    ∙ sym (at-next xs k) ∙ same (1 + k) (omega arith) (omega arith) ∙ at-next ys k
+    ∙ get_or_default ys k untouched d (omega arith))
+
+-- what a change makes of a list, by what it makes of each hugepage
+pub each_is : (f : ℕ → Hugepage → Hugepage) (xs ys : List Hugepage) → length ys ≡ length xs → ((h : ℕ) → 0 < h → h ≤ length xs → f h (at xs h) ≡ at ys h) → each f xs ≡ ys
+each_is f xs ys size same =
+    let size' = length-each f xs in
+    same_pages (each f xs) ys (size' ∙ sym size) (λ h some l. at-each f xs h some (omega arith) ∙ same h some (omega arith))
+
+pub each_where : (f g : ℕ → Hugepage → Hugepage) (xs : List Hugepage) → ((h : ℕ) → 0 < h → h ≤ length xs → f h (at xs h) ≡ g h (at xs h)) → each f xs ≡ each g xs
+each_where f g xs same = each_is f xs (each g xs) (length-each g xs) (λ h some l. same h some l ∙ sym (at-each g xs h some l))
+
+-- a change after a change
+pub each_each : (f g : ℕ → Hugepage → Hugepage) (xs : List Hugepage) → each f (each g xs) ≡ each (λ h x. f h (g h x)) xs
+each_each f g xs =
+    let size = length-each g xs in
+    each_is f (each g xs) (each (λ h x. f h (g h x)) xs) (length-each (λ h x. f h (g h x)) xs ∙ sym size) (λ h some l. ap (f h) (at-each g xs h some (omega arith)) ∙ sym (at-each (λ h x. f h (g h x)) xs h some (omega arith)))
+
+-- Bits of which each hugepage is what a change makes of it.
+pub changed : (t u : Inside) (first many : ℕ) (f : Hugepage → Hugepage) → u.huge ≡ t.huge → ((h : ℕ) → 0 < h → h ≤ t.huge → hugepage_of u h ≡ cond (spans many h first) (f (hugepage_of t h)) (hugepage_of t h)) → (table_of u).pages ≡ (over_span first many f (table_of t)).pages
+changed t u first many f same all =
+    let old = (table_of t).pages in
+    let size = length-map-range_with_len (hugepage_of t) 1 t.huge in
+    let size' = length-map-range_with_len (hugepage_of u) 1 u.huge in
+    sym (each_is (λ h x. cond (spans many h first) (f x) x) old (table_of u).pages (omega arith) (λ h some l.
+    ap (λ x. cond (spans many h first) (f x) x) (at-table t h some (omega arith))
+    ∙ sym (all h some (omega arith))
+    ∙ sym (at-table u h some (omega arith))))
+
+-- a bit of a row of which adjacent places changed
+pub span_bit : (row : List Bool) (first many : ℕ) (v : Bool) (h : ℕ) → first + many ≤ length row → bit (with_places row first many v) h ≡ cond (spans many h first) v (bit row h)
+span_bit row first many v h fits = get_or-with_places row first many v h false fits
+
+pub put_bit : (row' row : List Bool) (first many : ℕ) (v : Bool) → row' ≡ with_places row first many v → first + many ≤ length row → (h : ℕ) → bit row' h ≡ cond (spans many h first) v (bit row h)
+put_bit row' row first many v e fits h = ap (λ (r : List Bool). bit r h) e ∙ span_bit row first many v h fits
+
+-- What new bits say of the hugepages of a span, and of others.
+pub take_is : (p g s b : Bool) (x : Hugepage) → by_bits (cond p true g) (cond p false s) b x ≡ cond p run_page (by_bits g s b x)
+take_is true g s b x = refl
+take_is false g s b x = refl
+
+pub give_is : (p g s b : Bool) (x : Hugepage) → by_bits (cond p false g) (cond p false s) (cond p true b) x ≡ cond p (free_page true) (by_bits g s b x)
+give_is true g s b x = refl
+give_is false g s b x = refl
+
+-- the filler's hugepages are no others
+pub gather_is : (p g s b d : Bool) (bs : List Bool) (h : ℕ) → (p ≡ true → is_free (by_bits g s b (of_filler d bs h)) ≡ true) → by_bits (cond p true g) (cond p true s) b (of_filler d bs h) ≡ cond p (region_page (by_bits g s b (of_filler d bs h))) (by_bits g s b (of_filler d bs h))
+gather_is false g s b d bs h e = refl
+gather_is true false false b d bs h e = refl
+gather_is true false true b d bs h e = absurd (false≢true (e refl))
+gather_is true true false b d bs h e = absurd (false≢true (e refl))
+gather_is true true true b d bs h e = absurd (false≢true (e refl))
+
+pub scatter_is : (p g s b d : Bool) (bs : List Bool) (h : ℕ) → (p ≡ true → is_region (by_bits g s b (of_filler d bs h)) ≡ true) → by_bits (cond p false g) (cond p false s) b (of_filler d bs h) ≡ cond p (region_freed (by_bits g s b (of_filler d bs h))) (by_bits g s b (of_filler d bs h))
+scatter_is false g s b d bs h e = refl
+scatter_is true false false b d bs h e = absurd (false≢true (e refl))
+scatter_is true false true b d bs h e = absurd (false≢true (e refl))
+scatter_is true true false b d bs h e = absurd (false≢true (e refl))
+scatter_is true true true b d bs h e = refl
+
+pub back_is : (p g s b v d : Bool) (bs : List Bool) (h : ℕ) → (p ≡ true → is_even (by_bits g s b (of_filler d bs h)) ≡ true) → by_bits g s (cond p v b) (of_filler d bs h) ≡ cond p (with_backing v (by_bits g s b (of_filler d bs h))) (by_bits g s b (of_filler d bs h))
+back_is false g s b v d bs h e = refl
+back_is true false false b v d bs h e = refl
+back_is true false true b v d bs h e = absurd (false≢true (e refl))
+back_is true true false b v d bs h e = absurd (false≢true (e refl))
+back_is true true true b v d bs h e = refl
+
+pub adopt_is : (p g s b d : Bool) (x y : Hugepage) → y ≡ cond p (filler_page d) x → by_bits (cond p false g) (cond p true s) b y ≡ cond p (filler_page d) (by_bits g s b x)
+adopt_is true g s b d x y e = e
+adopt_is false g s b d x y e = ap (by_bits g s b) e
+
+-- a hugepage of the filler by its own bits
+pub filler_bits : (g s b d : Bool) (bs : List Bool) (h : ℕ) → is_filler (by_bits g s b (of_filler d bs h)) ≡ true → (g ≡ false) × (s ≡ true)
+filler_bits false false b d bs h e = absurd (false≢true e)
+filler_bits false true b d bs h e = (refl, refl)
+filler_bits true false b d bs h e = absurd (false≢true e)
+filler_bits true true b d bs h e = absurd (false≢true e)
+
+pub own_is : (p g s b d : Bool) (bs : List Bool) (h : ℕ) (f : Hugepage → Hugepage) (y : Hugepage) → (p ≡ true → is_filler (by_bits g s b (of_filler d bs h)) ≡ true) → y ≡ cond p (f (of_filler d bs h)) (of_filler d bs h) → by_bits g s b y ≡ cond p (f (by_bits g s b (of_filler d bs h))) (by_bits g s b (of_filler d bs h))
+own_is true g s b d bs h f y e same = let own = filler_bits g s b d bs h (e refl) in rw (own.0, own.1) same
+own_is false g s b d bs h f y e same = ap (by_bits g s b) same
+
+pub empty_is : (p g s b v d : Bool) (bs : List Bool) (h : ℕ) → (p ≡ true → is_filler (by_bits g s b (of_filler d bs h)) ≡ true) → (p ≡ true → v ≡ list_all (λ x. x) (map (bit bs) (pages_of h))) → by_bits (cond p false g) (cond p false s) (cond p v b) (of_filler d bs h) ≡ cond p (emptied (by_bits g s b (of_filler d bs h))) (by_bits g s b (of_filler d bs h))
+empty_is true g s b v d bs h e all = let own = filler_bits g s b d bs h (e refl) in rw (own.0, own.1, all refl) refl
+empty_is false g s b v d bs h e all = refl
+
+-- what holds of each hugepage of a span holds of its bits
+pub spanned : (t : Inside) (now : Table) (first many : ℕ) (test : Hugepage → Bool) → table_of t ≡ now → IsSpan now first many test → (h : ℕ) → 0 < h → h ≤ t.huge → spans many h first ≡ true → test (hugepage_of t h) ≡ true
+spanned t now first many test view span h some inside e =
+    let parts = spans_parts many h first e in
+    ap test (sym (at-table t h some inside) ∙ ap (λ (x : Table). at x.pages h) view) ∙ span.all h parts.0 parts.1
+
+-- a row of a hugepage's pages, place by place
+pub row_is : (f : ℕ → Bool) (h : ℕ) (ys : List Bool) → length ys ≡ 256 → ((page : ℕ) → IsPageOf h page → f page ≡ get_or ys (page % 256) false) → map f (pages_of h) ≡ ys
+row_is f h ys size same =
+    let len = length-map-range_with_len f (256 * h) 256 in
+    same_lists (map f (pages_of h)) ys (len ∙ sym size) (λ k d l. (let e : (256 * h + k) % 256 ≡ k = omega arith in
+    get_or-map-range_with_len f (256 * h) 256 k (256 * h + k) d (omega arith) refl
+    ∙ same (256 * h + k) (record { from = omega arith; to = omega arith })
+    ∙ ap (λ i. get_or ys i false) e
+    ∙ get_or_default ys k false d (omega arith)))
+
+pub over_pages : (f g : ℕ → Bool) (h : ℕ) → ((page : ℕ) → IsPageOf h page → f page ≡ g page) → map f (pages_of h) ≡ map g (pages_of h)
+over_pages f g h same = row_is f h (map g (pages_of h)) (length-map-range_with_len g (256 * h) 256) (λ page own. same page own ∙ sym (backs-map g h page own))
+
+-- the pages of the hugepages of a span
+pub span_pages : (bs : List Bool) (first many h : ℕ) (v : Bool) → 256 * first + 256 * many ≤ length bs → map (bit (with_places bs (256 * first) (256 * many) v)) (pages_of h) ≡ cond (spans many h first) (whole v) (map (bit bs) (pages_of h))
+span_pages bs first many h v fits = elim (cases_Bool (spans many h first)) [
+  | inl t ↦
+      (let parts = spans_parts many h first t in
+      row_is _ h (whole v) (length-replicate 256 v) (λ page own.
+      get_or-with_places bs (256 * first) (256 * many) v page false fits
+      ∙ ap (λ b. cond b v (bit bs page)) (spans_from (256 * many) page (256 * first) (omega (arith, own.from)) (omega (arith, own.to)))
+      ∙ sym (backs-whole v page))
+      ∙ sym (ap (λ b. cond b (whole v) (map (bit bs) (pages_of h))) t))
+  | inr f ↦
+      over_pages _ (bit bs) h (λ page own.
+      get_or-with_places bs (256 * first) (256 * many) v page false fits
+      ∙ ap (λ b. cond b v (bit bs page)) (false_from_ne_true _ (λ e. (let parts = spans_parts (256 * many) page (256 * first) e in false≢true (sym f ∙ spans_from many h first (omega (arith, own.from, own.to)) (omega (arith, own.from, own.to)))))))
+      ∙ sym (ap (λ b. cond b (whole v) (map (bit bs) (pages_of h))) f)
+]
+
+-- A table of new bits of which each hugepage of a span is changed.
+pub over : (t u : Inside) (now : Table) (first many : ℕ) (f : Hugepage → Hugepage) → table_of t ≡ now → u.huge ≡ t.huge → record (table_of u) { pages = (table_of t).pages } ≡ table_of t → ((h : ℕ) → 0 < h → h ≤ t.huge → hugepage_of u h ≡ cond (spans many h first) (f (hugepage_of t h)) (hugepage_of t h)) → table_of u ≡ over_span first many f now
+over t u now first many f view same rest all =
+    ap (λ (xs : List Hugepage). record (table_of u) { pages = xs }) (changed t u first many f same all)
+    ∙ ap (λ (x : Table). record x { pages = (over_span first many f (table_of t)).pages }) rest
+    ∙ ap (over_span first many f) view
+
+-- hugepages that the filler gets, and pages of one of its own that are backed
+pub filler_put : (bs new : List Bool) (first many h : ℕ) (v d d' : Bool) → d' ≡ cond (spans many h first) v d → new ≡ with_places bs (256 * first) (256 * many) true → 256 * first + 256 * many ≤ length bs → of_filler d' new h ≡ cond (spans many h first) (filler_page v) (of_filler d bs h)
+filler_put bs new first many h v d d' donated e fits =
+    let pages = ap (λ (row : List Bool). map (bit row) (pages_of h)) e ∙ span_pages bs first many h true fits in
+    ap (λ (b : Bool). of_filler b new h) donated
+    ∙ ap (λ (row : List Bool). record (of_filler (cond (spans many h first) v d) bs h) { backed = row }) pages
+    ∙ elim (spans many h first) as (λ p. record (of_filler (cond p v d) bs h) { backed = cond p (whole true) (map (bit bs) (pages_of h)) } ≡ cond p (filler_page v) (of_filler d bs h)) [ true ↦ refl | false ↦ refl ]
+
+pub filler_backs : (bs new : List Bool) (first n h : ℕ) (d : Bool) → new ≡ with_places bs first n true → first % 256 + n ≤ 256 → first + n ≤ length bs → of_filler d new h ≡ cond (spans 1 h (first / 256)) (more_backed (run_at first n) (first / 256) (of_filler d bs h)) (of_filler d bs h)
+filler_backs bs new first n h d e ends fits = ap (λ (row : List Bool). of_filler d row h) e ∙ elim (cases_Bool (spans 1 h (first / 256))) [
+  | inl t ↦
+      (let parts = spans_parts 1 h (first / 256) t in
+      let here : h ≡ first / 256 = omega arith in
+      ap (λ (row : List Bool). record (of_filler d bs h) { backed = row }) (over_pages _ (λ page. backs (of_filler d bs h) page || holds page (run_at first n)) h (λ page own.
+      get_or-with_places bs first n true page false fits
+      ∙ or_set (holds page (run_at first n)) (bit bs page)
+      ∙ ap (λ v. v || holds page (run_at first n)) (sym (backs-map (bit bs) h page own)))
+      ∙ ap (λ k. map (λ page. backs (of_filler d bs h) page || holds page (run_at first n)) (pages_of k)) here)
+      ∙ sym (ap (λ b. cond b (more_backed (run_at first n) (first / 256) (of_filler d bs h)) (of_filler d bs h)) t))
+  | inr f ↦
+      ap (λ (row : List Bool). record (of_filler d bs h) { backed = row }) (over_pages _ (bit bs) h (λ page own.
+      get_or-with_places bs first n true page false fits
+      ∙ ap (λ s. cond s true (bit bs page)) (false_from_ne_true (holds page (run_at first n)) (λ s. (let parts = holds_parts page (run_at first n) s in false≢true (sym f ∙ spans_from 1 h (first / 256) (omega (arith, own.from, own.to)) (omega (arith, own.from, own.to))))))))
+      ∙ sym (ap (λ b. cond b (more_backed (run_at first n) (first / 256) (of_filler d bs h)) (of_filler d bs h)) f)
+] where
+  or_set : (s v : Bool) → cond s true v ≡ (v || s)
+  or_set true true = refl
+  or_set true false = refl
+  or_set false true = refl
+  or_set false false = refl
+
+-- a slice of a row, place by place
+pub slice_is : (row : List Bool) (s n : ℕ) → s + n ≤ length row → take n (drop s row) ≡ map (bit row) (range_with_len s n)
+slice_is row s n fits =
+    let rest = length-drop s row in
+    let size = length-take-le n (drop s row) (omega arith) in
+    let size' = length-map-range_with_len (bit row) s n in
+    same_lists (take n (drop s row)) (map (bit row) (range_with_len s n)) (size ∙ sym size') (λ k d l.
+    get_or-take n (drop s row) k d (omega arith)
+    ∙ get_or-drop s row k d
+    ∙ get_or_default row (s + k) d false (omega arith)
+    ∙ sym (get_or-map-range_with_len (bit row) s n k (s + k) d (omega arith) refl))
+
+-- all places are used exactly where their number is used
+all_or_fewer : (row : List Bool) → (list_all (λ b. b) row ≡ true → used_count row ≡ length row) × (list_all (λ b. b) row ≡ false → used_count row < length row)
+all_or_fewer [] = ((λ e. refl), (λ e. absurd (false≢true (sym e))))
+all_or_fewer (true ∷ row) =
+    let step = sum_by-cons (λ b. cond b 1 0) true row in
+    let rest = all_or_fewer row in
+    ((λ e. omega (arith, rest.0 e)), (λ e. omega (arith, rest.1 e)))
+all_or_fewer (false ∷ row) =
+    let step = sum_by-cons (λ b. cond b 1 0) false row in
+    let most = count_by-le-length (λ b. b) row in
+    ((λ e. absurd (false≢true e)), (λ e. omega arith))
+
+pub whole_exactly : (row : List Bool) (n : ℕ) → length row ≡ n → eqb (used_count row) n ≡ list_all (λ b. b) row
+whole_exactly row n size =
+    let is = all_or_fewer row in
+    elim (cases_Bool (list_all (λ b. b) row)) [
+      | inl all ↦ eq-eqb (used_count row) n (is.0 all ∙ size) ∙ sym all
+      | inr some ↦ ne_eqb (used_count row) n (λ e. let fewer = is.1 some in omega arith) ∙ sym some
+    ]
+
+-- one place, by its number and by the next one's
+pub one_place : (first page : ℕ) → is_between first (first + 1) page ≡ eqb first page
+one_place first page = elim (cases_eq first page) [
+  | inl same ↦ spans_from 1 page first (omega arith) (omega arith) ∙ sym (eq-eqb first page same)
+  | inr other ↦ false_from_ne_true _ (λ e. (let parts = spans_parts 1 page first e in other (omega arith))) ∙ sym (ne_eqb first page other)
+]
+
+pub last_place : (end page : ℕ) → 0 < end → is_between (end - 1) (end - 1 + 1) page ≡ eqb end (page + 1)
+last_place end page some = one_place (end - 1) page ∙ elim (cases_eq (end - 1) page) [
+  | inl same ↦ eq-eqb (end - 1) page same ∙ sym (eq-eqb end (page + 1) (omega arith))
+  | inr other ↦ ne_eqb (end - 1) page other ∙ sym (ne_eqb end (page + 1) (λ e. other (omega arith)))
+]
+
+-- no hugepage is changed
+pub over_none : (t : Table) (a : ℕ) (f : Hugepage → Hugepage) → t ≡ over_span a 0 f t
+over_none t a f = ap (λ (xs : List Hugepage). record t { pages = xs }) (sym (each_is (λ h x. cond (spans 0 h a) (f x) x) t.pages t.pages refl (λ h _ _. (let x = at t.pages h in
+    ap (λ b. cond b (f x) x) (false_from_ne_true (spans 0 h a) (λ e. (let parts = spans_parts 0 h a e in absurd (omega arith))))))))
+
+-- hugepages that a change before them leaves as they were
+pub span_after : (s t : Table) (a many : ℕ) (f : Hugepage → Hugepage) (b m : ℕ) (test : Hugepage → Bool) → s ≡ over_span a many f t → a + many ≤ b → IsSpan t b m test → IsSpan s b m test
+span_after s t a many f b m test e far span =
+    let size = ap (λ (x : Table). length x.pages) e ∙ length-each (λ h x. cond (spans many h a) (f x) x) t.pages in
+    record {
+      from = span.from;
+      to = omega (arith, span.to);
+      all = λ h x y. (
+          let old = at t.pages h in
+          ap test (ap (λ (z : Table). at z.pages h) e
+          ∙ at-each (λ k z. cond (spans many k a) (f z) z) t.pages h (omega (arith, span.from)) (omega (arith, span.to))
+          ∙ ap (λ p. cond p (f old) old) (false_from_ne_true (spans many h a) (λ p. (let parts = spans_parts many h a p in absurd (omega arith)))))
+          ∙ span.all h x y);
+    }
+
+pub span_same : (s t : Table) (b m : ℕ) (test : Hugepage → Bool) → s.pages ≡ t.pages → IsSpan t b m test → IsSpan s b m test
+span_same s t b m test e span = let size = ap length e in record { from = span.from; to = omega (arith, span.to); all = λ h x y. ap (λ xs. test (at xs h)) e ∙ span.all h x y }
+
+-- what bits say that a hugepage serves, and whether a page of it is backed
+pub kind_is : (g s b d : Bool) (bs : List Bool) (h : ℕ) → kind_by g s ≡ (by_bits g s b (of_filler d bs h)).kind
+kind_is false false b d bs h = refl
+kind_is true false b d bs h = refl
+kind_is false true b d bs h = refl
+kind_is true true b d bs h = refl
+
+pub at-now : (t : Inside) (now : Table) (h : ℕ) → table_of t ≡ now → 0 < h → h ≤ t.huge → at now.pages h ≡ hugepage_of t h
+at-now t now h view some inside = sym (ap (λ (x : Table). at x.pages h) view) ∙ at-table t h some inside
+
+pub backs_is : (g s b d : Bool) (bs : List Bool) (page : ℕ) → cond s (cond g b (bit bs page)) (g || b) ≡ backs (by_bits g s b (of_filler d bs (page / 256))) page
+backs_is false false b d bs page = sym (backs-whole b page)
+backs_is true false b d bs page = sym (backs-whole true page)
+backs_is false true b d bs page = sym (backs-map (bit bs) (page / 256) page (page_of page))
+backs_is true true b d bs page = sym (backs-whole b page)

@@ -1,0 +1,18 @@
+use Rattle.std.proofs.Common.{ℕ, true, false, refl, arith}
+use Rattle.heap_rules.specs.Heap.{spans}
+use Rattle.huge_table.specs.Table.{bit, free_page, of_filler}
+use Rattle.huge_table.proofs.Sizes.{arena}
+use Rattle.huge_table.proofs.Pages.{over, put_bit, give_is}
+use Rattle.huge_table.proofs.table.HugeTable.give.Goals as goal
+
+pub returns : goal.returns
+returns c =
+    let t = c.self.inside in
+    let first : ℕ = c.args.first in
+    let many : ℕ = c.args.many in
+    let size = arena t c.args.self.now c.self.view_is in
+    let grouped = put_bit c.put.new.self t.grouped first many false c.put.ensures (omega arith) in
+    let shared = put_bit c.put-2.new.self t.shared first many false c.put-2.ensures (omega arith) in
+    let backed = put_bit c.put-3.new.self t.backed first many true c.put-3.ensures (omega arith) in
+    over t (record t { grouped = c.put.new.self; shared = c.put-2.new.self; backed = c.put-3.new.self }) c.args.self.now first many (λ _. free_page true) c.self.view_is refl refl (λ h _ _.
+    rw (grouped h, shared h, backed h) (give_is (spans many h first) (bit t.grouped h) (bit t.shared h) (bit t.backed h) (of_filler (bit t.donated h) t.page_backed h)))

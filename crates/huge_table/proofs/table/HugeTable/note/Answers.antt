@@ -1,0 +1,35 @@
+use Rattle.std.proofs.Common.{◌≡◌, ℕ, ◌+◌, ◌-◌, Bool, false, cond, eqb, ap, ◌∙◌, arith}
+use Rattle.range_bits.proofs.Placing.{get_or-with_places}
+use Rattle.huge_table.specs.Table.{Table, bit, is_between}
+use Rattle.huge_table.specs.declared.table.HugeTable.TheInside.{Inside}
+use Rattle.huge_table.proofs.Sizes.{arena}
+use Rattle.huge_table.proofs.Pages.{one_place, last_place}
+use Rattle.huge_table.proofs.table.HugeTable.note.Goals as goal
+
+pub returns-clause-noted : goal.returns-clause-noted
+returns-clause-noted c =
+    let t = c.self.inside in
+    let first : ℕ = c.args.first in
+    let n : ℕ = c.args.n in
+    let skipped : ℕ = c.args.skipped in
+    let v : Bool = c.args.state in
+    let size = arena t c.args.self.now c.self.view_is in
+    let end : first + skipped + (n - skipped) ≡ first + n = omega arith in
+    let last : first + n - 1 + 1 ≡ first + n = omega arith in
+    record {
+      used = λ page.
+          ap (λ row. bit row page) c.put.ensures
+          ∙ get_or-with_places t.used (first + skipped) (n - skipped) v page false (omega (arith, c.self.invariant.used))
+          ∙ ap (λ (to : ℕ). cond (is_between (first + skipped) to page) v (bit t.used page)) end
+          ∙ ap (λ (x : Table). cond (is_between (first + skipped) (first + n) page) v (bit x.used page)) c.self.view_is;
+      begins = λ page.
+          ap (λ row. bit row page) c.put-2.ensures
+          ∙ get_or-with_places t.begins first 1 v page false (omega (arith, c.self.invariant.begins))
+          ∙ ap (λ b. cond b v (bit t.begins page)) (one_place first page)
+          ∙ ap (λ (x : Table). cond (eqb first page) v (bit x.begins page)) c.self.view_is;
+      ends = λ page.
+          ap (λ row. bit row page) c.put-3.ensures
+          ∙ get_or-with_places t.ends (first + n - 1) 1 v page false (omega (arith, c.self.invariant.ends))
+          ∙ ap (λ b. cond b v (bit t.ends page)) (last_place (first + n) page (omega arith))
+          ∙ ap (λ (x : Table). cond (eqb (first + n) (page + 1)) v (bit x.ends page)) c.self.view_is;
+    }

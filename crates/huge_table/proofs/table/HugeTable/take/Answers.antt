@@ -1,0 +1,18 @@
+use Rattle.std.proofs.Common.{ℕ, true, false, refl, arith}
+use Rattle.heap_rules.specs.Heap.{spans}
+use Rattle.heap_rules.specs.New.{run_page}
+use Rattle.huge_table.specs.Table.{bit, of_filler}
+use Rattle.huge_table.proofs.Sizes.{arena}
+use Rattle.huge_table.proofs.Pages.{over, put_bit, take_is}
+use Rattle.huge_table.proofs.table.HugeTable.take.Goals as goal
+
+pub returns : goal.returns
+returns c =
+    let t = c.self.inside in
+    let first : ℕ = c.args.first in
+    let many : ℕ = c.args.many in
+    let size = arena t c.args.self.now c.self.view_is in
+    let grouped = put_bit c.put.new.self t.grouped first many true c.put.ensures (omega arith) in
+    let shared = put_bit c.put-2.new.self t.shared first many false c.put-2.ensures (omega arith) in
+    over t (record t { grouped = c.put.new.self; shared = c.put-2.new.self }) c.args.self.now first many (λ _. run_page) c.self.view_is refl refl (λ h _ _.
+    rw (grouped h, shared h) (take_is (spans many h first) (bit t.grouped h) (bit t.shared h) (bit t.backed h) (of_filler (bit t.donated h) t.page_backed h)))

@@ -1,0 +1,7 @@
+//! What each hugepage of an arena is, once: free, the filler's, a run's or a region's, which of its pages
+//! are backed and used, and where runs begin and end.
+#![tactic(auto)]
+
+mod table;
+
+pub use table::HugeTable;
