@@ -6,3 +6,4 @@ pub mod Steps
 pub mod Wholes
 pub mod Leaves
 pub mod Stays
+pub mod Spares

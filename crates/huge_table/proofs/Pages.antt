@@ -1,7 +1,7 @@
 -- What bits say of each hugepage, and tables whose hugepages change.
 use Rattle.std.proofs.Common.{◌≡◌, ℕ, ◌+◌, ◌-◌, ◌*◌, ◌/◌, ◌%◌, ◌<◌, ◌≤◌, Bool, true, false, ◌||◌, cond, eqb, List, [], ◌∷◌, length, get_or, take, drop, map, refl, sym, ap, ◌∙◌, inl, inr, arith}
 use Rattle.std.specs.List.{list_all, range_with_len}
-use Rattle.std.proofs.lemmas.Bool.{cases_Bool, cases_eq, eq-eqb, ne_eqb, false≢true, false_from_ne_true}
+use Rattle.std.proofs.lemmas.Bool.{cases_Bool, cases_eq, and_from, and_parts, le-leb, lt-ltb, leb-true, ltb-true, eq-eqb, ne_eqb, false≢true, false_from_ne_true}
 use Rattle.std.proofs.lemmas.List.{same_lists, get_or_default, length-replicate, length-take-le, length-drop, get_or-take, get_or-drop}
 use Rattle.std.proofs.lemmas.List.Sums.{sum_by-cons, count_by-le-length}
 use Rattle.std.proofs.lemmas.List.FromFn.{length-map-range_with_len, get_or-map-range_with_len}
@@ -266,3 +266,9 @@ backs_is false false b d bs page = sym (backs-whole b page)
 backs_is true false b d bs page = sym (backs-whole true page)
 backs_is false true b d bs page = sym (backs-map (bit bs) (page / 256) page (page_of page))
 backs_is true true b d bs page = sym (backs-whole b page)
+
+pub between_yes : (from to k : ℕ) → from ≤ k → k < to → is_between from to k ≡ true
+between_yes from to k a b = and_from _ _ (le-leb from k a) (lt-ltb k to b)
+
+pub between_parts : (from to k : ℕ) → is_between from to k ≡ true → (from ≤ k) × (k < to)
+between_parts from to k e = let parts = and_parts _ _ e in (leb-true from k parts.0, ltb-true k to parts.1)

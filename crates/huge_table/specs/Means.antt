@@ -7,6 +7,7 @@ use Rattle.tc_units.specs.declared.rows.RowKind.{RowKind}
 use Rattle.tc_units.specs.declared.rows.RowKind.TheVariants as kind
 use Rattle.heap_rules.specs.Heap.{Heap, Hugepage, hugepage, each, spans, is_used, region_row}
 use Rattle.heap_rules.specs.Settle.{unbacked}
+use Rattle.heap_rules.specs.Release.{only_used}
 use Rattle.huge_table.specs.Table.{Table, bit}
 
 -- whether the used pages of a hugepage are noted: of all but a run's
@@ -39,6 +40,10 @@ pub record Means (table : Table) (heap : Heap) : Type 0 where
 -- a heap of which adjacent hugepages lose their backing
 abbrev pub unbacked_span : Heap → ℕ → ℕ → Heap
 unbacked_span heap first many = record heap { hugepages = each (λ h x. if spans many h first then unbacked x else x) heap.hugepages }
+
+-- a heap of which a hugepage of the filler backs its used pages alone
+abbrev pub used_alone : Heap → ℕ → Heap
+used_alone heap at = record heap { hugepages = each (λ h x. if spans 1 h at then only_used heap.runs h x else x) heap.hugepages }
 
 -- whether a region has a used page; all regions have one, or all but one
 abbrev pub has_used : Heap → ℕ → Bool

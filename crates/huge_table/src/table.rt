@@ -11,8 +11,9 @@ ghost use Rattle.heap_rules.specs.New.{run_page, filler_page, region_page, more_
 ghost use Rattle.heap_rules.specs.Free.{emptied, left, given_back, without_unused_regions};
 ghost use Rattle.heap_rules.specs.Sound.{AreRunsSound, IsSound};
 ghost use Rattle.heap_rules.specs.Choice.{hugepages_for};
+ghost use Rattle.heap_rules.specs.Release.{spare_pages};
 ghost use Rattle.huge_table.specs.Table.{at, kind_by, IsSpan, IsNoted, HasBits, over_span, free_page, is_even, with_backing, region_freed, reached_by, noted_row, emptied_where};
-ghost use Rattle.huge_table.specs.Means.{Means, AllUsed, IsEnding, is_run, is_shared, unbacked_span};
+ghost use Rattle.huge_table.specs.Means.{Means, AllUsed, IsEnding, is_run, is_shared, unbacked_span, used_alone};
 
 use range_bits::WideBits;
 use std::alloc::{AllocError, Global};
@@ -214,6 +215,19 @@ impl HugeTable {
         ensures { (heap : Heap) → Means self.old heap → Means self.new (unbacked_span heap first.0 many) }
     {
         self.back(u32::from(first.0), many, false);
+    }
+
+    /// A hugepage of the filler backs its used pages alone. Answers how many pages lose their backing.
+    pub fn only_used(&mut self, huge: Huge) -> u32
+        requires { IsSpan self.old huge.0 1 is_filler }
+        ensures heap { (heap : Heap) → Means self.old heap → Means self.new (used_alone heap huge.0) }
+        ensures pages { (heap : Heap) → Means self.old heap → result ≡ spare_pages heap huge.0 }
+    {
+        let place = u32::from(huge.0);
+        let before = self.page_backed.used_in(HUGE_PAGES * place, HUGE_PAGES);
+        self.page_backed
+            .keep_used(&self.used, 4 * usize::from(huge.0), 4);
+        before - self.page_backed.used_in(HUGE_PAGES * place, HUGE_PAGES)
     }
 
     /// What a hugepage serves.

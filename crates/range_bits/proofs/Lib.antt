@@ -1,5 +1,6 @@
 pub mod BitFacts
 pub mod Counts
+mod Cuts
 mod EndBits
 pub mod Existence
 pub mod Filling

@@ -1,5 +1,5 @@
 -- Places that come into use whatever they were: a stretch of them, or the last free ones.
-use Rattle.std.specs.Prelude.{◌≡◌, ℕ, ◌-◌, ◌<◌, ◌≤◌, Bool, true, not, List, length, take, drop, count_by}
+use Rattle.std.specs.Prelude.{◌≡◌, ℕ, ◌-◌, ◌<◌, ◌≤◌, Bool, true, false, not, ◌&&◌, nat_le, nat_lt, List, length, take, drop, count_by, if◌then◌else◌}
 use Rattle.std.specs.List.{slice_index_or}
 use Rattle.range_bits.specs.Ranges.{with_places}
 
@@ -29,3 +29,8 @@ pub record FillsLast (old new : List Bool) (most many : ℕ) : Type 0 where
   pub start : ℕ
   pub tail : IsTail old most start many
   pub filled : new ≡ with_places old start (length old - start) true
+
+-- A row of which the places from one up to another stay used only where another row uses them too.
+pub record StaysUsed (old other new : List Bool) (from to : ℕ) : Type 0 where
+  pub len : length new ≡ length old
+  pub each : (k : ℕ) → slice_index_or new k false ≡ (if nat_le from k && nat_lt k to then slice_index_or old k false && slice_index_or other k false else slice_index_or old k false)

@@ -1,7 +1,7 @@
 //! A region's pages: as many places as a list of words has bits.
 ghost use Rattle.std.specs.Prelude.{◌≡◌, ◌+◌, ◌*◌, ◌≤◌, ◌<◌, ◌↔◌, false, true, None, length, take, drop, replicate, IfOk};
 ghost use Rattle.std.specs.List.{slice_index_or};
-ghost use Rattle.range_bits.specs.Fills.{FillsLast, IsEnd};
+ghost use Rattle.range_bits.specs.Fills.{FillsLast, IsEnd, StaysUsed};
 ghost use Rattle.range_bits.specs.Ranges.{free_from, used_from, used_count, longest, best, with_places};
 ghost use Rattle.range_bits.specs.Words.{IsNext};
 
@@ -10,7 +10,7 @@ mod stretches;
 
 use crate::marks::{mark, unmark};
 use crate::ranges;
-use crate::wide_bits::parts::{best_in, put};
+use crate::wide_bits::parts::{best_in, keep_used, put};
 use crate::wide_bits::stretches::{end_place, fill, fill_last, free_between, longest_in};
 use crate::words::next_place;
 use std::alloc::{AllocError, Global};
@@ -179,5 +179,13 @@ impl WideBits {
         ensures { result ≡ best (take (64 * words) (drop (64 * first) self.now)) n }
     {
         best_in(&self.words, first, words, n)
+    }
+    /// Frees those places of `words` words, from word `first` on, that are free in another row.
+    pub fn keep_used(&mut self, other: &WideBits, first: usize, words: usize)
+        requires inside { 64 * (first + words) ≤ length self.old }
+        requires other { 64 * (first + words) ≤ length other.now }
+        ensures { StaysUsed self.old other.now self.new (64 * first) (64 * (first + words)) }
+    {
+        self.used -= keep_used(&mut self.words, &other.words, first, words);
     }
 }

@@ -1,0 +1,33 @@
+use Rattle.std.proofs.Common.{◌≡◌, ℕ, ◌+◌, ◌-◌, ◌*◌, ◌≤◌, List, Bool, take, drop, subst, ap, ◌∙◌, arith}
+use Rattle.range_bits.specs.Ranges.{used_count}
+use Rattle.range_bits.specs.Fills.{StaysUsed}
+use Rattle.huge_table.proofs.Spares.{spared_means, spared_count, spared_fewer}
+use Rattle.huge_table.proofs.table.HugeTable.only_used.Goals as goal
+
+cut : (bs used new : List Bool) (k h : ℕ) → k ≡ h → StaysUsed bs used new (64 * (4 * k)) (64 * (4 * k + 4)) → StaysUsed bs used new (64 * (4 * h)) (64 * (4 * h + 4))
+cut bs used new k h e stays = subst (λ (i : ℕ). StaysUsed bs used new (64 * (4 * i)) (64 * (4 * i + 4))) e stays
+
+counted : (row : List Bool) (place h m : ℕ) → place ≡ h → m ≡ used_count (take 256 (drop (256 * place) row)) → m ≡ used_count (take 256 (drop (256 * h) row))
+counted row place h m e count = count ∙ ap (λ (k : ℕ). used_count (take 256 (drop (256 * k) row))) e
+
+given : (a b s x y : ℕ) → b ≡ y → a ≡ x → x + s ≡ y → b - a ≡ s
+given a b s x y p q r = omega arith
+
+pub overflow_sub-result : goal.overflow_sub-result
+overflow_sub-result c =
+    let t = c.self.inside in
+    let h : ℕ = c.args.huge.0 in
+    let before = counted t.page_backed c.from-place.result h c.used_in-before.result c.from-place.ensures c.used_in-before.ensures in
+    let after = counted c.keep_used.new.self c.from-place.result h c.used_in.result c.from-place.ensures c.used_in.ensures in
+    omega (arith, before, after, spared_fewer t c.args.self.now c.self.invariant c.self.view_is h c.requires c.keep_used.new.self (cut c.self.inside.page_backed c.self.inside.used c.keep_used.new.self c.from.result c.args.huge.0 c.from.ensures c.keep_used.ensures))
+
+pub returns-clause-heap : goal.returns-clause-heap
+returns-clause-heap c heap means = spared_means c.self.inside c.args.self.now c.self.invariant c.self.view_is c.args.huge.0 c.requires c.keep_used.new.self (cut c.self.inside.page_backed c.self.inside.used c.keep_used.new.self c.from.result c.args.huge.0 c.from.ensures c.keep_used.ensures) heap means
+
+pub returns-clause-pages : goal.returns-clause-pages
+returns-clause-pages c heap means =
+    let t = c.self.inside in
+    let h : ℕ = c.args.huge.0 in
+    let before = counted t.page_backed c.from-place.result h c.used_in-before.result c.from-place.ensures c.used_in-before.ensures in
+    let after = counted c.keep_used.new.self c.from-place.result h c.used_in.result c.from-place.ensures c.used_in.ensures in
+    given _ _ _ _ _ before after (spared_count t c.args.self.now c.self.invariant c.self.view_is h c.requires c.keep_used.new.self (cut c.self.inside.page_backed c.self.inside.used c.keep_used.new.self c.from.result c.args.huge.0 c.from.ensures c.keep_used.ensures) heap means)
