@@ -94,7 +94,7 @@ emptied_shared : (b : Bool) (x : Hugepage) → is_shared x ≡ true → is_share
 emptied_shared true x e = refl
 emptied_shared false x e = e
 
-is_Run : (k : RowKind) → not (shares k) ≡ true → k ≡ kind.Run
+pub is_Run : (k : RowKind) → not (shares k) ≡ true → k ≡ kind.Run
 is_Run kind.Free e = absurd (false≢true e)
 is_Run kind.Filler e = absurd (false≢true e)
 is_Run kind.Run e = refl

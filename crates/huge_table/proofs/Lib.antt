@@ -7,3 +7,5 @@ pub mod Wholes
 pub mod Leaves
 pub mod Stays
 pub mod Spares
+pub mod Allocs
+pub mod Measures

@@ -1,19 +1,22 @@
 -- What bits say of each hugepage, and tables whose hugepages change.
-use Rattle.std.proofs.Common.{◌≡◌, ℕ, ◌+◌, ◌-◌, ◌*◌, ◌/◌, ◌%◌, ◌<◌, ◌≤◌, Bool, true, false, ◌||◌, cond, eqb, List, [], ◌∷◌, length, get_or, take, drop, map, refl, sym, ap, ◌∙◌, inl, inr, arith}
+use Rattle.std.proofs.Common.{◌≡◌, ℕ, ◌+◌, ◌-◌, ◌*◌, ◌/◌, ◌%◌, ◌<◌, ◌≤◌, Bool, true, false, ◌&&◌, ◌||◌, not, cond, eqb, List, [], ◌∷◌, length, get_or, take, drop, map, refl, sym, ap, ◌∙◌, inl, inr, arith}
 use Rattle.std.specs.List.{list_all, range_with_len}
 use Rattle.std.proofs.lemmas.Bool.{cases_Bool, cases_eq, and_from, and_parts, le-leb, lt-ltb, leb-true, ltb-true, eq-eqb, ne_eqb, false≢true, false_from_ne_true}
 use Rattle.std.proofs.lemmas.List.{same_lists, get_or_default, length-replicate, length-take-le, length-drop, get_or-take, get_or-drop}
 use Rattle.std.proofs.lemmas.List.Sums.{sum_by-cons, count_by-le-length}
 use Rattle.std.proofs.lemmas.List.FromFn.{length-map-range_with_len, get_or-map-range_with_len}
+use Rattle.tc_units.specs.declared.rows.RowKind.{RowKind}
+use Rattle.tc_units.specs.declared.rows.RowKind.TheVariants as kind
 use Rattle.range_bits.specs.Ranges.{used_count, with_places}
 use Rattle.range_bits.proofs.Placing.{get_or-with_places}
-use Rattle.heap_rules.specs.Heap.{Hugepage, untouched, each, spans, whole, pages_of, backs, holds, run_at, is_free, is_filler, is_region}
+use Rattle.heap_rules.specs.Heap.{Hugepage, untouched, each, spans, whole, pages_of, backs, backed_count, holds, run_at, is_free, is_filler, is_region}
 use Rattle.heap_rules.specs.New.{run_page, region_page, filler_page, more_backed}
 use Rattle.heap_rules.specs.Free.{emptied}
 use Rattle.heap_rules.specs.Sound.{IsPageOf}
 use Rattle.heap_rules.proofs.Places.{at, at-place, at-next, length-each, at-each, page_of, backs-map, backs-whole}
 use Rattle.heap_rules.proofs.Fits.{spans_parts, spans_from, holds_parts}
-use Rattle.huge_table.specs.Table.{Table, IsSpan, bit, by_bits, kind_by, free_page, is_even, with_backing, region_freed, of_filler, hugepage_of, table_of, over_span, is_between}
+use Rattle.huge_table.specs.Table.{Table, IsSpan, bit, by_bits, kind_by, of_kind, free_page, is_even, with_backing, region_freed, of_filler, hugepage_of, table_of, over_span, is_between}
+use Rattle.huge_table.specs.Means.{shares}
 use Rattle.huge_table.specs.declared.table.HugeTable.TheInside.{Inside}
 
 pub at-table : (t : Inside) (h : ℕ) → 0 < h → h ≤ t.huge → at (table_of t).pages h ≡ hugepage_of t h
@@ -261,14 +264,37 @@ kind_is true true b d bs h = refl
 pub at-now : (t : Inside) (now : Table) (h : ℕ) → table_of t ≡ now → 0 < h → h ≤ t.huge → at now.pages h ≡ hugepage_of t h
 at-now t now h view some inside = sym (ap (λ (x : Table). at x.pages h) view) ∙ at-table t h some inside
 
-pub backs_is : (g s b d : Bool) (bs : List Bool) (page : ℕ) → cond s (cond g b (bit bs page)) (g || b) ≡ backs (by_bits g s b (of_filler d bs (page / 256))) page
-backs_is false false b d bs page = sym (backs-whole b page)
-backs_is true false b d bs page = sym (backs-whole true page)
-backs_is false true b d bs page = sym (backs-map (bit bs) (page / 256) page (page_of page))
-backs_is true true b d bs page = sym (backs-whole b page)
-
 pub between_yes : (from to k : ℕ) → from ≤ k → k < to → is_between from to k ≡ true
 between_yes from to k a b = and_from _ _ (le-leb from k a) (lt-ltb k to b)
 
 pub between_parts : (from to k : ℕ) → is_between from to k ≡ true → (from ≤ k) × (k < to)
 between_parts from to k e = let parts = and_parts _ _ e in (leb-true from k parts.0, ltb-true k to parts.1)
+
+-- what a hugepage's own bits say of it
+pub run_is : (k : RowKind) → of_kind k true false false ≡ not (shares k)
+run_is kind.Free = refl
+run_is kind.Filler = refl
+run_is kind.Run = refl
+run_is kind.Region = refl
+
+pub donated_is : (g s b d : Bool) (bs : List Bool) (h : ℕ) → of_kind (by_bits g s b (of_filler d bs h)).kind false false d ≡ (by_bits g s b (of_filler d bs h)).donated
+donated_is false false b d bs h = refl
+donated_is true false b d bs h = refl
+donated_is false true b d bs h = refl
+donated_is true true b d bs h = refl
+
+pub backs_is : (g s b d : Bool) (bs : List Bool) (page : ℕ) → of_kind (by_bits g s b (of_filler d bs (page / 256))).kind true b (bit bs page) ≡ backs (by_bits g s b (of_filler d bs (page / 256))) page
+backs_is false false b d bs page = sym (backs-whole b page)
+backs_is true false b d bs page = sym (backs-whole true page)
+backs_is false true b d bs page = sym (backs-map (bit bs) (page / 256) page (page_of page))
+backs_is true true b d bs page = sym (backs-whole b page)
+
+even_count : (b : Bool) → cond b 256 0 ≡ used_count (whole b)
+even_count true = refl
+even_count false = refl
+
+pub backed_is : (g s b d : Bool) (bs : List Bool) (h m : ℕ) → m ≡ used_count (map (bit bs) (pages_of h)) → of_kind (by_bits g s b (of_filler d bs h)).kind 256 (cond b 256 0) m ≡ backed_count (by_bits g s b (of_filler d bs h))
+backed_is false false b d bs h m e = even_count b
+backed_is true false b d bs h m e = even_count true
+backed_is false true b d bs h m e = e
+backed_is true true b d bs h m e = even_count b

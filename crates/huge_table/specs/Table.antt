@@ -39,6 +39,13 @@ by_bits grouped shared backed x = if shared then (if grouped then part_of_region
 abbrev pub kind_by : Bool → Bool → RowKind
 kind_by grouped shared = if shared then (if grouped then kind.Region else kind.Filler) else (if grouped then kind.Run else kind.Free)
 
+-- what holds of a hugepage that one run has, of one that is free or a region's, or of one of the filler
+abbrev pub of_kind : {X : Type 0} → RowKind → X → X → X → X
+of_kind kind.Free run even own = even
+of_kind kind.Filler run even own = own
+of_kind kind.Run run even own = run
+of_kind kind.Region run even own = even
+
 abbrev pub hugepage_of : Inside → ℕ → Hugepage
 hugepage_of t h = by_bits (bit t.grouped h) (bit t.shared h) (bit t.backed h) (of_filler (bit t.donated h) t.page_backed h)
 

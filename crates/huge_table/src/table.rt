@@ -1,24 +1,25 @@
 //! The one table of hugepages: bitmaps for what they are, with the pages that runs have beside them.
 #![tactic(auto, using(crate::proofs::Sizes::arena))]
 
-ghost use Rattle.std.specs.Prelude.{◌≡◌, ℕ, ◌+◌, ◌-◌, ◌*◌, ◌/◌, ◌%◌, ◌<◌, ◌≤◌, ◌==◌, ◌||◌, true, false, length, IfOk, Contains, if◌then◌else◌};
+ghost use Rattle.std.specs.Prelude.{◌≡◌, ℕ, ◌+◌, ◌-◌, ◌*◌, ◌/◌, ◌%◌, ◌<◌, ◌≤◌, ◌==◌, ◌||◌, true, false, not, ◌&&◌, length, IfOk, Contains, if◌then◌else◌};
 ghost use Rattle.range_bits.specs.Ranges.{best};
 ghost use Rattle.range_bits.specs.Ranges as ranges;
 ghost use Rattle.tc_units.specs.Units.{huge_pages};
+ghost use Rattle.tc_units.specs.declared.rows.RowKind.TheVariants as kind;
 ghost use Rattle.heap_rules.specs.declared.config.HeapConfig.{HeapConfig};
-ghost use Rattle.heap_rules.specs.Heap.{Heap, hugepage, opened, is_free, is_filler, is_region, run_at, used_row, used_count, longest_range, is_backed};
+ghost use Rattle.heap_rules.specs.Heap.{Heap, hugepage, opened, is_free, is_filler, is_region, run_at, used_row, used_count, longest_range, allocation_count, backed_count, is_backed, row_of};
 ghost use Rattle.heap_rules.specs.New.{run_page, filler_page, region_page, more_backed, in_filler, in_fresh, in_region, in_free, with_new_region};
 ghost use Rattle.heap_rules.specs.Free.{emptied, left, given_back, without_unused_regions};
 ghost use Rattle.heap_rules.specs.Sound.{AreRunsSound, IsSound};
 ghost use Rattle.heap_rules.specs.Choice.{hugepages_for};
 ghost use Rattle.heap_rules.specs.Release.{spare_pages};
-ghost use Rattle.huge_table.specs.Table.{at, kind_by, IsSpan, IsNoted, HasBits, over_span, free_page, is_even, with_backing, region_freed, reached_by, noted_row, emptied_where};
+ghost use Rattle.huge_table.specs.Table.{at, kind_by, of_kind, IsSpan, IsNoted, HasBits, over_span, free_page, is_even, with_backing, region_freed, reached_by, noted_row, emptied_where};
 ghost use Rattle.huge_table.specs.Means.{Means, AllUsed, IsEnding, is_run, is_shared, unbacked_span, used_alone};
 
 use range_bits::WideBits;
 use std::alloc::{AllocError, Global};
 use std::marker::Model;
-use tc_units::{HUGE_PAGES, Huge, Page, RowKind, Run};
+use tc_units::{HUGE_PAGES, Huge, Page, RowKind, RowView, Run, huge_of};
 
 /// What each hugepage of an arena is.
 #[derive(Drop)]
@@ -63,14 +64,42 @@ fn kind_of(grouped: bool, shared: bool) -> RowKind
     }
 }
 
-/// Whether a page is backed, by whether its hugepage is as a whole, and whether the page is by itself.
-fn backed_by(grouped: bool, shared: bool, whole: bool, own: bool) -> bool
-    ensures { result ≡ (if shared then (if grouped then whole else own) else (grouped || whole)) }
+/// What holds of a hugepage that one run has, of one that is free or a region's, or of one of the filler.
+fn by_kind<T: Copy + Drop>(kind: RowKind, run: T, even: T, own: T) -> T
+    ensures { result ≡ of_kind kind run even own }
 {
-    if shared && !grouped {
-        own
-    } else {
-        whole || grouped && !shared
+    match kind {
+        RowKind::Run => run,
+        RowKind::Filler => own,
+        RowKind::Free | RowKind::Region => even,
+    }
+}
+
+/// How many runs reach into a hugepage, by whether its first page is used, and whether a run begins there.
+fn reaching_in(used: bool, begins: bool) -> u32
+    ensures { result ≡ (if used && not begins then 1 else 0) }
+{
+    u32::from(used && !begins)
+}
+
+/// How many pages a hugepage has that is backed whole or not at all.
+fn whole_pages(backed: bool) -> u32
+    ensures { result ≡ (if backed then huge_pages else 0) }
+{
+    if backed { HUGE_PAGES } else { 0 }
+}
+
+/// How a hugepage is shown that one run has whole.
+fn run_row() -> RowView
+    ensures { result ≡ record { kind = kind.Run; used = huge_pages; allocs = 1; backed = huge_pages; longest = 0; donated = false } }
+{
+    RowView {
+        kind: RowKind::Run,
+        used: HUGE_PAGES,
+        allocs: 1,
+        backed: HUGE_PAGES,
+        longest: 0,
+        donated: false,
     }
 }
 
@@ -274,21 +303,77 @@ impl HugeTable {
         self.used.best_in(4 * usize::from(huge.0), 4, n)
     }
 
+    /// How many live runs have a page of a hugepage, where it isn't one run's.
+    pub fn allocs(&self, huge: Huge) -> u32
+        requires low { 0 < huge.0 }
+        requires high { huge.0 ≤ length self.now.pages }
+        ensures { (heap : Heap) → IsSound heap → Means self.now heap → is_shared (hugepage heap huge.0) ≡ true
+            → result ≡ allocation_count heap.runs huge.0 }
+    {
+        let first = HUGE_PAGES * u32::from(huge.0);
+        let begin = self.begins.used_in(first, HUGE_PAGES);
+        begin + reaching_in(self.used.is_used(first), self.begins.is_used(first))
+    }
+
+    /// Whether one run has a hugepage whole.
+    fn is_run(&self, huge: Huge) -> bool
+        requires low { 0 < huge.0 }
+        requires high { huge.0 ≤ length self.now.pages }
+        ensures { result ≡ is_run (at self.now huge.0) }
+    {
+        by_kind(self.kind(huge), true, false, false)
+    }
+
+    /// Whether a hugepage is the donated tail of a larger run.
+    fn is_donated(&self, huge: Huge) -> bool
+        requires low { 0 < huge.0 }
+        requires high { huge.0 ≤ length self.now.pages }
+        ensures { result ≡ (at self.now huge.0).donated }
+    {
+        let own = self.donated.is_used(u32::from(huge.0));
+        by_kind(self.kind(huge), false, false, own)
+    }
+
+    /// How many pages of a hugepage are backed.
+    fn backed_pages(&self, huge: Huge) -> u32
+        requires low { 0 < huge.0 }
+        requires high { huge.0 ≤ length self.now.pages }
+        ensures { result ≡ backed_count (at self.now huge.0) }
+    {
+        let place = u32::from(huge.0);
+        let even = whole_pages(self.backed.is_used(place));
+        let own = self.page_backed.used_in(HUGE_PAGES * place, HUGE_PAGES);
+        by_kind(self.kind(huge), HUGE_PAGES, even, own)
+    }
+
+    /// The measures of a hugepage.
+    pub fn row(&self, huge: Huge) -> RowView
+        requires low { 0 < huge.0 }
+        requires high { huge.0 ≤ length self.now.pages }
+        ensures { (heap : Heap) → IsSound heap → Means self.now heap → result ≡ row_of heap huge.0 }
+    {
+        if self.is_run(huge) {
+            return run_row();
+        }
+        RowView {
+            kind: self.kind(huge),
+            used: self.used(huge),
+            allocs: self.allocs(huge),
+            backed: self.backed_pages(huge),
+            longest: self.longest(huge),
+            donated: self.is_donated(huge),
+        }
+    }
+
     /// Whether a page is backed.
     pub fn is_backed(&self, page: Page) -> bool
         requires low { huge_pages ≤ page.0 }
         requires high { page.0 < huge_pages * (length self.now.pages + 1) }
         ensures { (heap : Heap) → Means self.now heap → result ≡ is_backed heap page.0 }
     {
-        let place = page.0 / HUGE_PAGES;
-        let whole = self.backed.is_used(place);
+        let whole = self.backed.is_used(page.0 / HUGE_PAGES);
         let own = self.page_backed.is_used(page.0);
-        backed_by(
-            self.grouped.is_used(place),
-            self.shared.is_used(place),
-            whole,
-            own,
-        )
+        by_kind(self.kind(huge_of(page)), true, whole, own)
     }
 
     /// Hugepages become one run's, whatever they were.

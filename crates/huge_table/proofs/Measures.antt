@@ -1,0 +1,76 @@
+-- The measures of a hugepage.
+use Rattle.std.proofs.Common.{◌≡◌, ℕ, ◌+◌, ◌*◌, ◌/◌, ◌%◌, ◌<◌, ◌≤◌, Bool, true, false, not, cond, length, get_or, replicate, count_by, max, All, Contains, refl, sym, ap, ◌∙◌, arith}
+use Rattle.std.proofs.lemmas.Bool.{false≢true, false_from_ne_true}
+use Rattle.std.proofs.lemmas.List.{length-replicate}
+use Rattle.std.proofs.lemmas.List.Elements.{All-contains, Contains-get_or}
+use Rattle.tc_units.specs.declared.spans.Run.{Run}
+use Rattle.tc_units.specs.declared.rows.RowKind.{RowKind}
+use Rattle.tc_units.specs.declared.rows.RowKind.TheVariants as kind
+use Rattle.tc_units.specs.declared.rows.RowView.{RowView}
+use Rattle.tc_units.proofs.Counts.{count_le, count_some}
+use Rattle.range_bits.specs.Ranges.{longest}
+use Rattle.heap_rules.specs.Heap.{Heap, Hugepage, hugepage, whole, holds, reaches, is_used, is_kind_filler, used_row, used_count, allocation_count, backed_count, longest_range, row_of}
+use Rattle.heap_rules.specs.Sound.{IsInside, IsHugepageOf, HasOneRun, IsSound}
+use Rattle.heap_rules.proofs.Places.{backs-whole}
+use Rattle.heap_rules.proofs.Live.{counts_used}
+use Rattle.heap_rules.proofs.Fits.{serves_at, holds_from, reaches_parts, reaches_from}
+use Rattle.heap_rules.proofs.Left.{same_member}
+use Rattle.huge_table.specs.Means.{is_run, shares}
+use Rattle.huge_table.proofs.Pages.{row_is}
+use Rattle.huge_table.proofs.Leaves.{is_Run}
+
+made : RowKind → ℕ → ℕ → ℕ → ℕ → Bool → RowView
+made kind used allocs backed longest donated = record { kind = kind; used = used; allocs = allocs; backed = backed; longest = longest; donated = donated }
+
+pub same_view : (a b : RowView) → a.kind ≡ b.kind → a.used ≡ b.used → a.allocs ≡ b.allocs → a.backed ≡ b.backed → a.longest ≡ b.longest → a.donated ≡ b.donated → a ≡ b
+unfolding made
+same_view a b p q r s t u =
+    ap (λ z. made z a.used a.allocs a.backed a.longest a.donated) p
+    ∙ ap (λ z. made b.kind z a.allocs a.backed a.longest a.donated) q
+    ∙ ap (λ z. made b.kind b.used z a.backed a.longest a.donated) r
+    ∙ ap (λ z. made b.kind b.used b.allocs z a.longest a.donated) s
+    ∙ ap (λ z. made b.kind b.used b.allocs b.backed z a.donated) t
+    ∙ ap (λ z. made b.kind b.used b.allocs b.backed b.longest z) u
+
+module _ (heap : Heap) (sound : IsSound heap) (h : ℕ) (one : HasOneRun heap.runs h) where
+  holds_all : (page : ℕ) → 256 * h ≤ page → page < 256 * h + 256 → holds page one.run ≡ true
+  holds_all page a b = holds_from page one.run (omega (arith, one.from)) (omega (arith, one.to))
+
+  pub all_used : used_row heap.runs h ≡ whole true
+  all_used = row_is (is_used heap.runs) h (whole true) (length-replicate 256 true) (λ page own.
+      counts_used heap.runs page (count_some (holds page) heap.runs one.live.0 one.run one.live.1 (ap (holds page) one.live.2 ∙ holds_all page own.from own.to))
+      ∙ sym (backs-whole true page))
+
+  -- the one run is the only one that reaches the hugepage
+  pub one_alloc : allocation_count heap.runs h ≡ 1
+  one_alloc =
+      let le = count_le (reaches h) (holds (256 * h)) heap.runs (λ k d l e. (let r = get_or heap.runs k d in
+      let inside = sound.runs.inside k d l in
+      let parts = reaches_parts h r e in
+      let q : ℕ = max r.first.0 (256 * h) in
+      let its : holds q r ≡ true = holds_from q r (omega arith) (omega (arith, inside.some)) in
+      let mine : holds q one.run ≡ true = holds_all q (omega arith) (omega arith) in
+      let is = same_member (holds q) heap.runs one.run r one.live (Contains-get_or heap.runs k d l) mine its (sound.runs.disjoint q) in
+      ap (holds (256 * h)) (sym is) ∙ holds_all (256 * h) (omega arith) (omega arith))) in
+      let most = sound.runs.disjoint (256 * h) in
+      let some = count_some (reaches h) heap.runs one.live.0 one.run one.live.1 (ap (reaches h) one.live.2 ∙ reaches_from h one.run (omega (arith, one.from)) (omega (arith, one.to))) in
+      exactly _ _ le most some
+    where
+      exactly : (a b : ℕ) → a ≤ b → b ≤ 1 → 0 < a → a ≡ 1
+      exactly a b p q r = omega arith
+
+-- A hugepage that one run has whole.
+pub run_row_is : (heap : Heap) (h : ℕ) (row : RowView) → IsSound heap → 0 < h → h ≤ length heap.hugepages → is_run (hugepage heap h) ≡ true → row ≡ record { kind = kind.Run; used = 256; allocs = 1; backed = 256; longest = 0; donated = false } → row ≡ row_of heap h
+run_row_is heap h row sound some inside run e =
+    let x = hugepage heap h in
+    let of_run = is_Run x.kind run in
+    let arena = sound.runs.arena in
+    let own : IsHugepageOf heap.config.huge h = record { from = some; to = omega arith } in
+    let fit = sound.runs.fit h own in
+    let serves = serves_at heap.runs heap.regions heap.config.region h x kind.Run of_run fit in
+    e ∙ same_view _ (row_of heap h) (sym of_run)
+    (sym (ap (λ r. count_by (λ b. b) r) (all_used heap sound h serves.0)))
+    (sym (one_alloc heap sound h serves.0))
+    (sym (ap (λ r. count_by (λ b. b) r) serves.1))
+    (sym (ap longest (all_used heap sound h serves.0)))
+    (sym (false_from_ne_true x.donated (λ d. false≢true (sym (ap is_kind_filler of_run) ∙ fit.donated d))))

@@ -1,0 +1,64 @@
+use Rattle.std.proofs.Common.{◌≡◌, ℕ, ◌+◌, ◌*◌, ◌/◌, ◌≤◌, Bool, true, false, ◌&&◌, not, cond, List, length, Fits, w32, take, drop, map, ap, ◌∙◌, arith}
+use Rattle.std.specs.List.{list_any}
+use Rattle.std.proofs.lemmas.List.{get_or_default, length-take-le, length-drop}
+use Rattle.std.proofs.lemmas.List.Sums.{count_by-le-length}
+use Rattle.range_bits.specs.Ranges.{used_count}
+use Rattle.heap_rules.specs.Heap.{hugepage, is_used, pages_of}
+use Rattle.huge_table.specs.Table.{Table, bit}
+use Rattle.huge_table.specs.Means.{is_shared, begins_on}
+use Rattle.huge_table.proofs.Sizes.{arena}
+use Rattle.huge_table.proofs.Pages.{slice_is, over_pages}
+use Rattle.huge_table.proofs.Allocs.{allocs_are}
+use Rattle.huge_table.proofs.table.HugeTable.allocs.Goals as goal
+
+most : (b : Bool) (m : ℕ) → m ≡ cond b 1 0 → m ≤ 1
+most true m e = omega arith
+most false m e = omega arith
+
+few : (row : List Bool) (s m : ℕ) → s + 256 ≤ length row → m ≡ used_count (take 256 (drop s row)) → m ≤ 256
+few row s m fits e =
+    let size : length (take 256 (drop s row)) ≡ 256 = length-take-le 256 (drop s row) (omega (arith, length-drop s row)) in
+    let le = count_by-le-length (λ b. b) (take 256 (drop s row)) in
+    bound _ _ _ e size le
+  where
+    bound : (m n k : ℕ) → m ≡ n → k ≡ 256 → n ≤ k → m ≤ 256
+    bound m n k p q r = omega arith
+
+pub overflow_add-result : goal.overflow_add-result
+overflow_add-result c =
+    let size = arena c.self.inside c.args.self.now c.self.view_is in
+    let begin = few c.self.inside.begins (256 * c.from-first.result) c.used_in-begin.result (omega (arith, c.self.invariant.begins, c.from-first.ensures)) c.used_in-begin.ensures in
+    let one = most (c.is_used.result && not c.is_used-2.result) c.reaching_in.result c.reaching_in.ensures in
+    sum_fits c.used_in-begin.result c.reaching_in.result begin one
+  where
+    sum_fits : (a b : ℕ) → a ≤ 256 → b ≤ 1 → Fits w32 (a + b)
+    sum_fits a b p q = omega arith
+
+pub returns : goal.returns
+returns c heap sound means shared =
+    let t = c.self.inside in
+    let now = c.args.self.now in
+    let h : ℕ = c.args.huge.0 in
+    let size = arena t now c.self.view_is in
+    let at_h : 256 * h / 256 ≡ h = omega arith in
+    let used : c.is_used.result ≡ is_used heap.runs (256 * h) =
+    c.is_used.ensures ∙ get_or_default t.used (256 * c.from-first.result) true false (omega (arith, c.self.invariant.used, c.from-first.ensures))
+    ∙ ap (λ (k : ℕ). bit t.used (256 * k)) c.from-first.ensures
+    ∙ ap (λ (x : Table). bit x.used (256 * h)) c.self.view_is
+    ∙ means.used (256 * h)
+    ∙ ap (λ k. is_shared (hugepage heap k) && is_used heap.runs (256 * h)) at_h
+    ∙ ap (λ b. b && is_used heap.runs (256 * h)) shared in
+    let begins : c.is_used-2.result ≡ list_any (begins_on (256 * h)) heap.runs =
+    c.is_used-2.ensures ∙ get_or_default t.begins (256 * c.from-first.result) true false (omega (arith, c.self.invariant.begins, c.from-first.ensures))
+    ∙ ap (λ (k : ℕ). bit t.begins (256 * k)) c.from-first.ensures
+    ∙ ap (λ (x : Table). bit x.begins (256 * h)) c.self.view_is
+    ∙ means.begins (256 * h) in
+    let begun : c.used_in-begin.result ≡ used_count (map (λ page. list_any (begins_on page) heap.runs) (pages_of h)) =
+    c.used_in-begin.ensures
+    ∙ ap (λ (k : ℕ). used_count (take 256 (drop (256 * k) t.begins))) c.from-first.ensures
+    ∙ ap used_count (slice_is t.begins (256 * h) 256 (omega (arith, c.self.invariant.begins)) ∙ over_pages (bit t.begins) (λ page. list_any (begins_on page) heap.runs) h (λ page own. ap (λ (x : Table). bit x.begins page) c.self.view_is ∙ means.begins page)) in
+    let one = c.reaching_in.ensures ∙ ap (λ (u : Bool). cond (u && not c.is_used-2.result) 1 0) used ∙ ap (λ (b : Bool). cond (is_used heap.runs (256 * h) && not b) 1 0) begins in
+    together _ _ _ _ _ begun one (allocs_are heap sound h)
+  where
+    together : (a b c d e : ℕ) → a ≡ c → b ≡ d → c + d ≡ e → a + b ≡ e
+    together a b c d e p q r = omega arith
