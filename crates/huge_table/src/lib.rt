@@ -3,5 +3,7 @@
 #![tactic(auto)]
 
 mod table;
+#[cfg(test)]
+mod tests;
 
 pub use table::HugeTable;

@@ -259,6 +259,14 @@ impl HugeTable {
         before - self.page_backed.used_in(HUGE_PAGES * place, HUGE_PAGES)
     }
 
+    /// How many hugepages the arena has.
+    pub fn huge(&self) -> u32
+        ensures value { result ≡ length self.now.pages }
+        ensures most { result ≤ 4096 }
+    {
+        self.huge
+    }
+
     /// What a hugepage serves.
     pub fn kind(&self, huge: Huge) -> RowKind
         requires low { 0 < huge.0 }
