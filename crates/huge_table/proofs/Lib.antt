@@ -9,3 +9,4 @@ pub mod Stays
 pub mod Spares
 pub mod Allocs
 pub mod Measures
+pub mod Told

@@ -91,6 +91,14 @@ enum Step {
     EndRegion(u16, u32),
     Unback(u16, u32),
     OnlyUsed(u16),
+    /// A hugepage serves a kind, with these measures: used, allocs, backed, longest.
+    Row(u16, RowKind, [u32; 4]),
+    /// A hugepage is the donated tail of a run, with these measures.
+    Tail(u16, [u32; 4]),
+    /// The best range of a hugepage for so many pages begins at this page of it, or there is none: 256.
+    Best(u16, u32, u32),
+    /// Whether a page is backed.
+    Backed(u32, bool),
 }
 
 /// A run by its first page and its pages.
@@ -213,12 +221,6 @@ fn row(kind: RowKind, measures: [u32; 4], donated: bool) -> RowView {
     }
 }
 
-/// Does a step, which has to be one that may be done.
-fn done(rt: &impl Abort, table: &mut HugeTable, step: Step) {
-    let may = comes(table, step) || leaves(table, step) || changes(table, step);
-    assert!(rt; may, "{step:?}");
-}
-
 /// The measures of a hugepage of the arena, and free ones of any other.
 fn row_of(table: &HugeTable, huge: u16) -> RowView {
     if huge == 0 || u32::from(huge) > table.huge() {
@@ -240,175 +242,151 @@ fn is_backed(table: &HugeTable, page: u32) -> bool {
     page >= HUGE_PAGES && page < HUGE_PAGES * (table.huge() + 1) && table.is_backed(Page(page))
 }
 
-#[test]
-fn an_arena_of_one_hugepage(rt: HostRuntime) -> Result<(), Fail> {
-    let mut table = HugeTable::open(rt.alloc(), 1)?;
-    let untouched = row(RowKind::Free, [0, 0, 0, 256], false);
-    assert_eq!(rt; row_of(&table, 1), untouched);
-    let steps = [
-        (Step::JoinFresh(1, 3), RowKind::Filler, [3, 1, 256, 253]),
-        // Free are 3 to 9 and 15 to 255: 7 and 241 pages.
-        (Step::Join(256 + 10, 5), RowKind::Filler, [8, 2, 256, 241]),
-        (Step::Leave(256, 3), RowKind::Filler, [5, 1, 256, 241]),
-        (Step::OnlyUsed(1), RowKind::Filler, [5, 1, 5, 241]),
-        // Free are 0 to 9 and 15 to 249: 10 and 235 pages.
-        (Step::Join(256 + 250, 6), RowKind::Filler, [11, 2, 11, 235]),
-        (Step::Leave(256 + 10, 5), RowKind::Filler, [6, 1, 11, 250]),
-        // Not all of its pages were backed, so it keeps no backing.
-        (Step::Leave(256 + 250, 6), RowKind::Free, [0, 0, 0, 256]),
-        (Step::TakeRun(1, 256), RowKind::Run, [256, 1, 256, 0]),
-        (Step::GiveRun(256, 256), RowKind::Free, [0, 0, 256, 256]),
-        (Step::Unback(1, 1), RowKind::Free, [0, 0, 0, 256]),
-        (Step::JoinFresh(1, 256), RowKind::Filler, [256, 1, 256, 0]),
-        (Step::Leave(256, 256), RowKind::Free, [0, 0, 256, 256]),
-    ];
-    for (step, kind, measures) in steps {
-        done(&rt, &mut table, step);
-        assert_eq!(rt; row_of(&table, 1), row(kind, measures, false), "{step:?}");
+/// Does a step, which has to be one that may be done, or asserts what it says.
+fn done(rt: &impl Abort, table: &mut HugeTable, step: Step) {
+    match step {
+        Step::Row(huge, kind, measures) => {
+            assert_eq!(rt; row_of(table, huge), row(kind, measures, false), "{step:?}");
+        }
+        Step::Tail(huge, measures) => {
+            let tail = row(RowKind::Filler, measures, true);
+            assert_eq!(rt; row_of(table, huge), tail, "{step:?}");
+        }
+        Step::Best(huge, n, start) => {
+            assert_eq!(rt;
+                best(table, huge, n).unwrap_or(HUGE_PAGES),
+                start,
+                "{step:?}"
+            );
+        }
+        Step::Backed(page, backed) => {
+            assert_eq!(rt; is_backed(table, page), backed, "{step:?}");
+        }
+        _ => {
+            let may = comes(table, step) || leaves(table, step) || changes(table, step);
+            assert!(rt; may, "{step:?}");
+        }
     }
-    Ok(())
 }
 
-#[test]
-fn ranges_and_backed_pages_of_a_hugepage(rt: HostRuntime) -> Result<(), Fail> {
-    let mut table = HugeTable::open(rt.alloc(), 64)?;
-    for step in [
-        Step::JoinFresh(64, 3),
-        Step::Join(64 * 256 + 10, 5),
-        Step::Leave(64 * 256, 3),
-        Step::OnlyUsed(64),
-    ] {
-        done(&rt, &mut table, step);
+/// Does steps one after another.
+fn play(rt: &impl Abort, table: &mut HugeTable, steps: &[Step]) {
+    for step in steps {
+        done(rt, table, *step);
     }
+}
+
+/// An arena of one hugepage.
+const ONE: [Step; 24] = [
+    Step::Row(1, RowKind::Free, [0, 0, 0, 256]),
+    Step::JoinFresh(1, 3),
+    Step::Row(1, RowKind::Filler, [3, 1, 256, 253]),
+    Step::Join(256 + 10, 5),
+    // Free are 3 to 9 and 15 to 255: 7 and 241 pages.
+    Step::Row(1, RowKind::Filler, [8, 2, 256, 241]),
+    Step::Leave(256, 3),
+    Step::OnlyUsed(1),
+    Step::Row(1, RowKind::Filler, [5, 1, 5, 241]),
     // Free are 0 to 9 and 15 to 255.
-    assert_eq!(rt; best(&table, 64, 1), Some(0));
-    assert_eq!(rt; best(&table, 64, 10), Some(0));
-    assert_eq!(rt; best(&table, 64, 11), Some(15));
-    assert_eq!(rt; best(&table, 64, 242), None);
-    assert!(rt; !is_backed(&table, 64 * 256 + 9));
-    assert!(rt; is_backed(&table, 64 * 256 + 10));
-    assert!(rt; is_backed(&table, 64 * 256 + 14));
-    assert!(rt; !is_backed(&table, 64 * 256 + 15));
-    assert!(rt; !is_backed(&table, 63 * 256));
-    done(&rt, &mut table, Step::TakeRun(63, 256));
-    assert!(rt; is_backed(&table, 63 * 256));
-    done(&rt, &mut table, Step::GiveRun(63 * 256, 256));
-    assert!(rt; is_backed(&table, 63 * 256 + 255));
-    Ok(())
-}
+    Step::Best(1, 10, 0),
+    Step::Best(1, 11, 15),
+    Step::Best(1, 242, 256),
+    Step::Backed(256 + 9, false),
+    Step::Backed(256 + 10, true),
+    Step::Join(256 + 250, 6),
+    // Free are 0 to 9 and 15 to 249: 10 and 235 pages.
+    Step::Row(1, RowKind::Filler, [11, 2, 11, 235]),
+    Step::Leave(256 + 10, 5),
+    Step::Leave(256 + 250, 6),
+    // Not all of its pages were backed, so it keeps no backing.
+    Step::Row(1, RowKind::Free, [0, 0, 0, 256]),
+    Step::TakeRun(1, 256),
+    Step::Row(1, RowKind::Run, [256, 1, 256, 0]),
+    Step::GiveRun(256, 256),
+    Step::Backed(511, true),
+    Step::Unback(1, 1),
+    Step::Row(1, RowKind::Free, [0, 0, 0, 256]),
+];
 
-#[test]
-fn runs_at_both_ends_of_the_arena(rt: HostRuntime) -> Result<(), Fail> {
-    let mut table = HugeTable::open(rt.alloc(), 4096)?;
-    let whole = row(RowKind::Run, [256, 1, 256, 0], false);
-    let free = row(RowKind::Free, [0, 0, 256, 256], false);
-    done(&rt, &mut table, Step::TakeRun(1, 300));
-    assert_eq!(rt; row_of(&table, 1), whole);
+/// Runs at both ends of an arena of 4,096 hugepages.
+const ENDS: [Step; 24] = [
+    Step::TakeRun(1, 300),
+    Step::Row(1, RowKind::Run, [256, 1, 256, 0]),
     // 300 = 256 + 44, and 256 - 44 = 212.
-    assert_eq!(rt;
-        row_of(&table, 2),
-        row(RowKind::Filler, [44, 1, 256, 212], true)
-    );
-    done(&rt, &mut table, Step::Join(2 * 256 + 44, 212));
-    assert_eq!(rt;
-        row_of(&table, 2),
-        row(RowKind::Filler, [256, 2, 256, 0], true)
-    );
-    done(&rt, &mut table, Step::TakeRun(4095, 512));
-    assert!(rt; !comes(&mut table, Step::TakeRun(4094, 512)));
-    for huge in [4095, 4096] {
-        assert_eq!(rt; row_of(&table, huge), whole, "{huge}");
-    }
+    Step::Tail(2, [44, 1, 256, 212]),
+    Step::Join(2 * 256 + 44, 212),
+    Step::Tail(2, [256, 2, 256, 0]),
+    Step::TakeRun(4095, 512),
+    Step::Row(4096, RowKind::Run, [256, 1, 256, 0]),
     // The tail stays with the run that came into it, and keeps its mark.
-    done(&rt, &mut table, Step::GiveRun(256, 300));
-    assert_eq!(rt; row_of(&table, 1), free);
-    assert_eq!(rt;
-        row_of(&table, 2),
-        row(RowKind::Filler, [212, 1, 256, 44], true)
-    );
-    done(&rt, &mut table, Step::Leave(2 * 256 + 44, 212));
-    done(&rt, &mut table, Step::GiveRun(4095 * 256, 512));
-    for huge in [2, 4095, 4096] {
-        assert_eq!(rt; row_of(&table, huge), free, "{huge}");
-    }
+    Step::GiveRun(256, 300),
+    Step::Row(1, RowKind::Free, [0, 0, 256, 256]),
+    Step::Tail(2, [212, 1, 256, 44]),
+    Step::Leave(2 * 256 + 44, 212),
+    Step::Row(2, RowKind::Free, [0, 0, 256, 256]),
+    Step::GiveRun(4095 * 256, 512),
+    Step::Row(4096, RowKind::Free, [0, 0, 256, 256]),
     // A tail that nothing else uses is free with its run.
-    done(&rt, &mut table, Step::TakeRun(4095, 257));
-    assert_eq!(rt;
-        row_of(&table, 4096),
-        row(RowKind::Filler, [1, 1, 256, 255], true)
-    );
-    done(&rt, &mut table, Step::GiveRun(4095 * 256, 257));
-    assert_eq!(rt; row_of(&table, 4096), free);
+    Step::TakeRun(4095, 257),
+    Step::Tail(4096, [1, 1, 256, 255]),
+    Step::GiveRun(4095 * 256, 257),
+    Step::Row(4096, RowKind::Free, [0, 0, 256, 256]),
     // The whole arena: 4,096 times 256 pages.
-    done(&rt, &mut table, Step::TakeRun(1, 1_048_576));
-    for huge in [1, 64, 2048, 4096] {
-        assert_eq!(rt; row_of(&table, huge), whole, "{huge}");
-    }
-    done(&rt, &mut table, Step::GiveRun(256, 1_048_576));
-    for huge in [1, 64, 2048, 4096] {
-        assert_eq!(rt; row_of(&table, huge), free, "{huge}");
-    }
-    Ok(())
-}
+    Step::TakeRun(1, 1_048_576),
+    Step::Row(2048, RowKind::Run, [256, 1, 256, 0]),
+    Step::Row(4096, RowKind::Run, [256, 1, 256, 0]),
+    Step::GiveRun(256, 1_048_576),
+    Step::Row(3, RowKind::Free, [0, 0, 256, 256]),
+    Step::Row(4096, RowKind::Free, [0, 0, 256, 256]),
+];
 
-#[test]
-fn a_region_of_64_hugepages_at_the_end(rt: HostRuntime) -> Result<(), Fail> {
-    let mut table = HugeTable::open(rt.alloc(), 4096)?;
-    let first = 4033 * 256;
-    let region = |measures: [u32; 4]| row(RowKind::Region, measures, false);
-    for step in [
-        Step::TakeRun(4033, 256),
-        Step::GiveRun(first, 256),
-        Step::OpenRegion(4033, 64),
-    ] {
-        done(&rt, &mut table, step);
-    }
+/// A region of 64 hugepages at the end of an arena of 4,096.
+const REGION: [Step; 24] = [
+    Step::TakeRun(4033, 256),
+    Step::GiveRun(4033 * 256, 256),
+    Step::OpenRegion(4033, 64),
     // The one that was backed stays so.
-    assert_eq!(rt; row_of(&table, 4033), region([0, 0, 256, 256]));
-    assert_eq!(rt; row_of(&table, 4034), region([0, 0, 0, 256]));
+    Step::Row(4033, RowKind::Region, [0, 0, 256, 256]),
+    Step::Row(4034, RowKind::Region, [0, 0, 0, 256]),
     // Pages 200 to 499: 56 in the first hugepage, and 244 in the next one, of which 12 are free.
-    done(&rt, &mut table, Step::JoinRegion(first + 200, 300));
-    assert_eq!(rt; row_of(&table, 4033), region([56, 1, 256, 200]));
-    assert_eq!(rt; row_of(&table, 4034), region([244, 1, 256, 12]));
-    done(&rt, &mut table, Step::JoinRegion(first + 500, 12));
-    assert_eq!(rt; row_of(&table, 4034), region([256, 2, 256, 0]));
-    done(&rt, &mut table, Step::JoinRegion(4096 * 256 + 255, 1));
-    assert_eq!(rt; row_of(&table, 4096), region([1, 1, 256, 255]));
-    done(&rt, &mut table, Step::LeaveRegion(first + 200, 300));
-    assert_eq!(rt; row_of(&table, 4033), region([0, 0, 256, 256]));
-    assert_eq!(rt; row_of(&table, 4034), region([12, 1, 256, 244]));
-    for step in [
-        Step::LeaveRegion(first + 500, 12),
-        Step::LeaveRegion(4096 * 256 + 255, 1),
-        Step::Unback(4034, 1),
-    ] {
-        done(&rt, &mut table, step);
-    }
-    assert_eq!(rt; row_of(&table, 4034), region([0, 0, 0, 256]));
-    done(&rt, &mut table, Step::EndRegion(4033, 64));
-    for (huge, backed) in [(4033, 256), (4034, 0), (4035, 0), (4096, 256)] {
-        let free = row(RowKind::Free, [0, 0, backed, 256], false);
-        assert_eq!(rt; row_of(&table, huge), free, "{huge}");
-    }
-    Ok(())
-}
+    Step::JoinRegion(4033 * 256 + 200, 300),
+    Step::Row(4033, RowKind::Region, [56, 1, 256, 200]),
+    Step::Row(4034, RowKind::Region, [244, 1, 256, 12]),
+    Step::JoinRegion(4033 * 256 + 500, 12),
+    Step::Row(4034, RowKind::Region, [256, 2, 256, 0]),
+    Step::JoinRegion(4096 * 256 + 255, 1),
+    Step::Row(4096, RowKind::Region, [1, 1, 256, 255]),
+    Step::LeaveRegion(4033 * 256 + 200, 300),
+    Step::Row(4033, RowKind::Region, [0, 0, 256, 256]),
+    Step::Row(4034, RowKind::Region, [12, 1, 256, 244]),
+    Step::LeaveRegion(4033 * 256 + 500, 12),
+    Step::LeaveRegion(4096 * 256 + 255, 1),
+    Step::Unback(4034, 1),
+    Step::Row(4034, RowKind::Region, [0, 0, 0, 256]),
+    Step::EndRegion(4033, 64),
+    Step::Row(4033, RowKind::Free, [0, 0, 256, 256]),
+    Step::Row(4034, RowKind::Free, [0, 0, 0, 256]),
+    Step::Row(4035, RowKind::Free, [0, 0, 0, 256]),
+    Step::Row(4096, RowKind::Free, [0, 0, 256, 256]),
+];
+
+/// A region of both hugepages of an arena of two.
+const BOTH: [Step; 7] = [
+    Step::OpenRegion(1, 2),
+    Step::JoinRegion(256, 512),
+    Step::Row(1, RowKind::Region, [256, 1, 256, 0]),
+    Step::Row(2, RowKind::Region, [256, 1, 256, 0]),
+    Step::LeaveRegion(256, 512),
+    Step::EndRegion(1, 2),
+    Step::Row(2, RowKind::Free, [0, 0, 256, 256]),
+];
 
 #[test]
-fn a_region_of_two_hugepages_at_the_begin(rt: HostRuntime) -> Result<(), Fail> {
-    let mut table = HugeTable::open(rt.alloc(), 2)?;
-    done(&rt, &mut table, Step::OpenRegion(1, 2));
-    assert!(rt; !comes(&mut table, Step::JoinFresh(2, 1)));
-    done(&rt, &mut table, Step::JoinRegion(256, 512));
-    for huge in [1, 2] {
-        let used = row(RowKind::Region, [256, 1, 256, 0], false);
-        assert_eq!(rt; row_of(&table, huge), used, "{huge}");
-    }
-    done(&rt, &mut table, Step::LeaveRegion(256, 512));
-    done(&rt, &mut table, Step::EndRegion(1, 2));
-    for huge in [1, 2] {
-        let free = row(RowKind::Free, [0, 0, 256, 256], false);
-        assert_eq!(rt; row_of(&table, huge), free, "{huge}");
-    }
+fn tables_by_hand(rt: HostRuntime) -> Result<(), Fail> {
+    play(&rt, &mut HugeTable::open(rt.alloc(), 1)?, &ONE);
+    play(&rt, &mut HugeTable::open(rt.alloc(), 4096)?, &ENDS);
+    play(&rt, &mut HugeTable::open(rt.alloc(), 4096)?, &REGION);
+    play(&rt, &mut HugeTable::open(rt.alloc(), 2)?, &BOTH);
     Ok(())
 }
 
@@ -417,11 +395,7 @@ fn a_region_of_two_hugepages_at_the_begin(rt: HostRuntime) -> Result<(), Fail> {
 #[test]
 fn memory_that_runs_out(rt: HostRuntime) -> Result<(), Fail> {
     if let Ok(mut table) = HugeTable::open(rt.alloc(), 4096) {
-        done(&rt, &mut table, Step::TakeRun(4096, 256));
-        assert_eq!(rt;
-            row_of(&table, 4096),
-            row(RowKind::Run, [256, 1, 256, 0], false)
-        );
+        play(&rt, &mut table, &ENDS);
     }
     Ok(())
 }
