@@ -1,12 +1,12 @@
 -- How many runs have a page of a hugepage: those that begin in it, and one that reaches into it.
-use Rattle.std.proofs.Common.{◌≡◌, ℕ, zero, suc, ◌+◌, ◌*◌, ◌/◌, ◌<◌, ◌≤◌, ◌==◌, Bool, true, false, ◌&&◌, not, cond, eqb, nat_lt, List, length, map, get_or, count_by, All, refl, sym, ap, ◌∙◌, inl, inr, arith}
-use Rattle.std.specs.List.{list_any, range_with_len, sum_by}
-use Rattle.std.proofs.lemmas.Bool.{cases_Bool, cases_lt, eqb-true, eq-eqb, ne_eqb, and_from, and_parts, and_left, and_right, not_from_false, lt-ltb, false≢true, false_from_ne_true}
+use Rattle.std.proofs.Common.{◌≡◌, ℕ, zero, suc, ◌+◌, ◌*◌, ◌<◌, ◌≤◌, ◌==◌, Bool, true, false, ◌&&◌, not, cond, nat_lt, List, map, get_or, count_by, refl, sym, ap, ◌∙◌, inl, inr, arith}
+use Rattle.std.specs.List.{list_any, range_with_len}
+use Rattle.std.proofs.lemmas.Bool.{cases_Bool, cases_lt, eqb-true, eq-eqb, ne_eqb, and_from, and_parts, and_left, not_from_false, lt-ltb, false≢true, false_from_ne_true}
 use Rattle.std.proofs.lemmas.Bool.Decides.{nat_tests}
 use Rattle.std.proofs.lemmas.List.FromFn.{sum_by-map-range_with_len_more}
 use Rattle.tc_units.specs.declared.spans.Run.{Run}
 use Rattle.tc_units.proofs.Counts.{any_is_count, count_le, count_none}
-use Rattle.heap_rules.specs.Heap.{Heap, hugepage, holds, reaches, is_used, allocation_count, pages_of}
+use Rattle.heap_rules.specs.Heap.{Heap, holds, reaches, is_used, allocation_count, pages_of}
 use Rattle.heap_rules.specs.Sound.{IsInside, IsSound}
 use Rattle.heap_rules.proofs.Accounts.{sum-adds}
 use Rattle.heap_rules.proofs.Fits.{holds_parts, holds_from, reaches_parts, reaches_from}

@@ -1,6 +1,6 @@
 -- A run leaves, and its hugepages become free where they serve nothing more.
-use Rattle.std.proofs.Common.{◌≡◌, ℕ, ◌+◌, ◌-◌, ◌*◌, ◌/◌, ◌%◌, ◌<◌, ◌≤◌, ◌==◌, Bool, true, false, not, ◌&&◌, cond, eqb, nat_lt, List, [], ◌∷◌, length, take, drop, get_or, map, filter, count_by, All, Contains, refl, sym, ap, subst, ◌∙◌, inl, inr, arith}
-use Rattle.std.specs.List.{list_any, range_with_len}
+use Rattle.std.proofs.Common.{◌≡◌, ℕ, ◌+◌, ◌*◌, ◌/◌, ◌%◌, ◌<◌, ◌≤◌, ◌==◌, Bool, true, false, not, ◌&&◌, cond, eqb, nat_lt, List, [], ◌∷◌, length, get_or, map, filter, All, Contains, refl, sym, ap, subst, ◌∙◌, inl, inr, arith}
+use Rattle.std.specs.List.{list_any}
 use Rattle.std.proofs.lemmas.Bool.{cases_Bool, cases_lt, cases_eq, eq-eqb, ne_eqb, le-leb, and_left, and_right, false≢true, false_from_ne_true}
 use Rattle.std.proofs.lemmas.List.Elements.{All-head, All-tail, All-contains, Contains-get_or}
 use Rattle.std.proofs.lemmas.List.Folds.{list_any_at}
@@ -10,12 +10,11 @@ use Rattle.tc_units.specs.declared.rows.RowKind.{RowKind}
 use Rattle.tc_units.specs.declared.rows.RowKind.TheVariants as kind
 use Rattle.tc_units.proofs.Counts.{count_none}
 use Rattle.range_bits.specs.Ranges.{used_count}
-use Rattle.heap_rules.specs.Heap.{Heap, Hugepage, hugepage, untouched, each, spans, reaches, holds, is_used, is_filler, is_region, is_kind_filler, is_kind_region, used_row, allocation_count, run_at, without_run, pages_of, region_row}
-use Rattle.heap_rules.specs.Heap as heap_rules
-use Rattle.heap_rules.specs.Free.{emptied, left_by, left, used_regions, given_back}
-use Rattle.heap_rules.specs.Sound.{IsPageOf, IsHugepageOf, HasNoUsed, IsRegion, IsSound}
+use Rattle.heap_rules.specs.Heap.{Heap, Hugepage, hugepage, each, spans, reaches, holds, is_used, is_filler, is_region, is_kind_region, used_row, allocation_count, run_at, without_run, pages_of}
+use Rattle.heap_rules.specs.Free.{left_by, left, used_regions, given_back}
+use Rattle.heap_rules.specs.Sound.{IsPageOf, IsRegion, IsSound}
 use Rattle.heap_rules.proofs.Places.{at, length-each, page_of}
-use Rattle.heap_rules.proofs.Fits.{reaches_parts, holds_reaches, spans_parts, spans_from, serves_at, is_Region}
+use Rattle.heap_rules.proofs.Fits.{reaches_parts, holds_reaches, spans_from, serves_at, is_Region}
 use Rattle.heap_rules.proofs.Fillers.{is_Filler}
 use Rattle.heap_rules.proofs.Left.{used_rest, left_runs, none_reach, some_reach, own_run}
 use Rattle.heap_rules.proofs.Ended.{range_used}
@@ -24,7 +23,7 @@ use Rattle.huge_table.specs.Table.{Table, IsSpan, IsNoted, HasBits, bit, is_betw
 use Rattle.huge_table.specs.Means.{Means, AllUsed, has_used, is_shared, is_run, shares}
 use Rattle.huge_table.proofs.Pages.{each_is, slice_is, over_pages}
 use Rattle.huge_table.proofs.Shared.{filler_shared, region_shared}
-use Rattle.huge_table.proofs.Steps.{AreChanged, without_changed, stepped, shared_means, shared_step, all_of, at-heap, is_over, over_reached, noted_before, spans_reaches}
+use Rattle.huge_table.proofs.Steps.{without_changed, stepped, shared_means, shared_step, all_of, at-heap, is_over, over_reached, noted_before}
 use Rattle.huge_table.proofs.Wholes.{two_spans}
 
 filter_all : {X : Type 0} (p : X → Bool) (xs : List X) → All (λ x. p x ≡ true) xs → filter p xs ≡ xs

@@ -1,21 +1,20 @@
 -- The measures of a hugepage.
-use Rattle.std.proofs.Common.{◌≡◌, ℕ, ◌+◌, ◌*◌, ◌/◌, ◌%◌, ◌<◌, ◌≤◌, Bool, true, false, not, cond, length, get_or, replicate, count_by, max, All, Contains, refl, sym, ap, ◌∙◌, arith}
+use Rattle.std.proofs.Common.{◌≡◌, ℕ, ◌+◌, ◌*◌, ◌<◌, ◌≤◌, Bool, true, false, length, get_or, count_by, max, sym, ap, ◌∙◌, arith}
 use Rattle.std.proofs.lemmas.Bool.{false≢true, false_from_ne_true}
 use Rattle.std.proofs.lemmas.List.{length-replicate}
-use Rattle.std.proofs.lemmas.List.Elements.{All-contains, Contains-get_or}
-use Rattle.tc_units.specs.declared.spans.Run.{Run}
+use Rattle.std.proofs.lemmas.List.Elements.{Contains-get_or}
 use Rattle.tc_units.specs.declared.rows.RowKind.{RowKind}
 use Rattle.tc_units.specs.declared.rows.RowKind.TheVariants as kind
 use Rattle.tc_units.specs.declared.rows.RowView.{RowView}
 use Rattle.tc_units.proofs.Counts.{count_le, count_some}
 use Rattle.range_bits.specs.Ranges.{longest}
-use Rattle.heap_rules.specs.Heap.{Heap, Hugepage, hugepage, whole, holds, reaches, is_used, is_kind_filler, used_row, used_count, allocation_count, backed_count, longest_range, row_of}
-use Rattle.heap_rules.specs.Sound.{IsInside, IsHugepageOf, HasOneRun, IsSound}
+use Rattle.heap_rules.specs.Heap.{Heap, hugepage, whole, holds, reaches, is_used, is_kind_filler, used_row, allocation_count, row_of}
+use Rattle.heap_rules.specs.Sound.{IsHugepageOf, HasOneRun, IsSound}
 use Rattle.heap_rules.proofs.Places.{backs-whole}
 use Rattle.heap_rules.proofs.Live.{counts_used}
 use Rattle.heap_rules.proofs.Fits.{serves_at, holds_from, reaches_parts, reaches_from}
 use Rattle.heap_rules.proofs.Left.{same_member}
-use Rattle.huge_table.specs.Means.{is_run, shares}
+use Rattle.huge_table.specs.Means.{is_run}
 use Rattle.huge_table.proofs.Pages.{row_is}
 use Rattle.huge_table.proofs.Leaves.{is_Run}
 

@@ -1,12 +1,12 @@
 -- A table at its opening.
-use Rattle.std.proofs.Common.{◌≡◌, ℕ, ◌+◌, ◌-◌, ◌/◌, false, Bool, get_or, replicate, refl, sym, ◌∙◌, inl, inr, arith}
+use Rattle.std.proofs.Common.{◌≡◌, ℕ, ◌-◌, ◌/◌, false, Bool, get_or, replicate, refl, sym, ◌∙◌, inl, inr, arith}
 use Rattle.std.proofs.lemmas.Bool.{cases_lt, and_right}
 use Rattle.std.proofs.lemmas.List.{length-replicate, get_or-replicate, get_or_past}
 use Rattle.std.proofs.lemmas.List.FromFn.{length-map-range_with_len}
 use Rattle.heap_rules.specs.declared.config.HeapConfig.{HeapConfig}
 use Rattle.heap_rules.specs.Heap.{Hugepage, hugepage, untouched, opened}
 use Rattle.heap_rules.proofs.Places.{at-place}
-use Rattle.huge_table.specs.Table.{bit, by_bits, of_filler, hugepage_of, table_of, free_page}
+use Rattle.huge_table.specs.Table.{bit, by_bits, of_filler, hugepage_of, table_of}
 use Rattle.huge_table.specs.Means.{Means, is_shared}
 use Rattle.huge_table.specs.declared.table.HugeTable.TheInside.{Inside}
 use Rattle.huge_table.proofs.Pages.{same_pages, at-table}

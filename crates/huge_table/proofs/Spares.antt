@@ -1,10 +1,9 @@
 -- A hugepage of the filler backs its used pages alone.
-use Rattle.std.proofs.Common.{◌≡◌, ℕ, ◌+◌, ◌*◌, ◌/◌, ◌<◌, ◌≤◌, Bool, true, false, ◌&&◌, not, cond, List, length, take, drop, map, count_by, refl, sym, subst, ap, ◌∙◌, inl, inr, arith}
+use Rattle.std.proofs.Common.{◌≡◌, ℕ, ◌+◌, ◌*◌, ◌/◌, ◌≤◌, Bool, true, false, ◌&&◌, cond, List, length, take, drop, map, refl, sym, subst, ap, ◌∙◌, inl, inr, arith}
 use Rattle.std.proofs.lemmas.Bool.{cases_Bool, false≢true, false_from_ne_true}
-use Rattle.std.proofs.lemmas.List.FromFn.{length-map-range_with_len}
 use Rattle.range_bits.specs.Ranges.{used_count}
 use Rattle.range_bits.specs.Fills.{StaysUsed}
-use Rattle.heap_rules.specs.Heap.{Heap, Hugepage, hugepage, each, spans, backs, is_used, is_filler, pages_of}
+use Rattle.heap_rules.specs.Heap.{Heap, Hugepage, hugepage, spans, backs, is_used, is_filler, pages_of}
 use Rattle.heap_rules.specs.Release.{only_used, spare_pages}
 use Rattle.heap_rules.specs.Sound.{IsPageOf}
 use Rattle.heap_rules.proofs.Places.{at, backs-map}

@@ -1,20 +1,19 @@
 -- Hugepages change while no run comes or leaves: regions open and end, and backing is lost.
-use Rattle.std.proofs.Common.{◌≡◌, ℕ, zero, suc, ◌+◌, ◌/◌, ◌<◌, ◌≤◌, Bool, true, false, not, ◌&&◌, cond, List, length, get_or, Contains, refl, sym, ap, subst, ◌∙◌, inl, inr, arith}
+use Rattle.std.proofs.Common.{◌≡◌, ℕ, zero, suc, ◌/◌, ◌<◌, ◌≤◌, Bool, true, false, not, ◌&&◌, cond, List, length, get_or, Contains, refl, sym, ap, subst, ◌∙◌, inl, inr, arith}
 use Rattle.std.specs.List.{list_any}
-use Rattle.std.proofs.lemmas.Bool.{cases_Bool, cases_lt, cases_eq, and_from, and_parts, and_left, not-true, not-false, not_from_false, false≢true, false_from_ne_true}
+use Rattle.std.proofs.lemmas.Bool.{cases_Bool, cases_lt, and_from, and_parts, not-true, not_from_false, false≢true, false_from_ne_true}
 use Rattle.std.proofs.lemmas.List.{get_or_past}
 use Rattle.std.proofs.lemmas.List.Elements.{All-filter, filter_passes, Contains-get_or}
 use Rattle.std.proofs.lemmas.List.Folds.{Any-from_list_any, list_any_at}
-use Rattle.tc_units.specs.declared.rows.RowKind.{RowKind}
 use Rattle.tc_units.specs.declared.rows.RowKind.TheVariants as kind
 use Rattle.heap_rules.proofs.Left.{same_member}
-use Rattle.heap_rules.specs.Heap.{Heap, Hugepage, hugepage, untouched, each, spans, is_used, is_free, is_region, region_row}
+use Rattle.heap_rules.specs.Heap.{Heap, Hugepage, hugepage, untouched, each, spans, is_used, is_free, is_region}
 use Rattle.heap_rules.specs.New.{region_page, with_region, with_new_region}
 use Rattle.heap_rules.specs.Free.{used_regions, without_unused_regions}
 use Rattle.heap_rules.specs.Settle.{unbacked}
 use Rattle.heap_rules.specs.Sound.{IsHugepageOf, LiesInRegion, AreRunsSound}
 use Rattle.heap_rules.proofs.Places.{at, at-each, length-each}
-use Rattle.heap_rules.proofs.Fits.{spans_parts, spans_from, serves_at, is_Region}
+use Rattle.heap_rules.proofs.Fits.{spans_parts, serves_at, is_Region}
 use Rattle.heap_rules.proofs.Live.{filter_holds}
 use Rattle.huge_table.specs.Table.{Table, IsSpan, region_freed, over_span}
 use Rattle.huge_table.specs.Means.{Means, IsEnding, has_used, is_shared, unbacked_span}

@@ -1,5 +1,5 @@
 -- A run comes or leaves: what is noted changes as the heap's runs do.
-use Rattle.std.proofs.Common.{◌≡◌, ℕ, zero, suc, ◌+◌, ◌*◌, ◌/◌, ◌<◌, ◌≤◌, ◌==◌, Bool, true, false, not, ◌&&◌, cond, nat_le, nat_lt, List, length, take, drop, count_by, get_or, All, Contains, refl, sym, ap, subst, ◌∙◌, add-zero, inl, inr, arith}
+use Rattle.std.proofs.Common.{◌≡◌, ℕ, zero, suc, ◌+◌, ◌*◌, ◌/◌, ◌<◌, ◌≤◌, ◌==◌, Bool, true, false, ◌&&◌, cond, nat_le, nat_lt, List, length, take, drop, count_by, get_or, Contains, refl, sym, ap, subst, ◌∙◌, add-zero, inl, inr, arith}
 use Rattle.std.specs.List.{list_any}
 use Rattle.std.proofs.lemmas.Bool.{cases_Bool, cases_lt, and_parts, eqb-true, leb-true, ltb-true, lt-ltb, false≢true, false_from_ne_true}
 use Rattle.std.proofs.lemmas.List.{get_or_past}
@@ -7,7 +7,7 @@ use Rattle.tc_units.specs.declared.spans.Run.{Run}
 use Rattle.tc_units.proofs.Counts.{any_is_count, count_le, one-true, one-false}
 use Rattle.heap_rules.specs.Heap.{Heap, Hugepage, hugepage, untouched, each, holds, reaches, spans, is_used, used_row, run_at, with_run, without_run}
 use Rattle.heap_rules.specs.New.{placed}
-use Rattle.heap_rules.specs.Sound.{IsInside, IsHugepageOf, IsSound}
+use Rattle.heap_rules.specs.Sound.{IsInside, IsSound}
 use Rattle.heap_rules.proofs.Places.{at, at-each, length-each, page_of}
 use Rattle.heap_rules.proofs.Live.{count-with}
 use Rattle.heap_rules.proofs.Fits.{holds_from, reaches_parts, reaches_from, unreached_unheld, spans_parts, spans_from}

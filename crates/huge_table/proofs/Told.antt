@@ -1,7 +1,7 @@
 -- The runs that a table notes are those of its heap.
-use Rattle.std.proofs.Common.{◌≡◌, ℕ, zero, suc, ◌+◌, ◌-◌, ◌*◌, ◌<◌, ◌≤◌, ◌==◌, Bool, true, false, ◌||◌, not, cond, List, [], ◌∷◌, length, get_or, drop, filter, map, All, Contains, refl, sym, subst, ap, ◌∙◌, inl, inr, arith}
+use Rattle.std.proofs.Common.{◌≡◌, ℕ, zero, suc, ◌+◌, ◌-◌, ◌<◌, ◌≤◌, ◌==◌, Bool, true, false, ◌||◌, not, cond, List, [], ◌∷◌, length, get_or, drop, filter, map, All, Contains, refl, sym, subst, ap, ◌∙◌, inl, inr, arith}
 use Rattle.std.specs.List.{list_any, range_with_len, prefix_len}
-use Rattle.std.proofs.lemmas.Bool.{cases_Bool, cases_lt, cases_eq, eqb-true, eq-eqb, ne_eqb, lt-ltb, le-ltb, false≢true, false_from_ne_true}
+use Rattle.std.proofs.lemmas.Bool.{cases_lt, cases_eq, eqb-true, eq-eqb, ne_eqb, lt-ltb, le-ltb, false≢true, false_from_ne_true}
 use Rattle.std.proofs.lemmas.List.{get_or-drop, length-drop}
 use Rattle.std.proofs.lemmas.List.Elements.{All-head, All-tail, All-contains, Contains-get_or}
 use Rattle.std.proofs.lemmas.List.Folds.{Any-from_list_any, list_any_at}
@@ -9,7 +9,7 @@ use Rattle.std.proofs.lemmas.List.Sums.{prefix_len_passes}
 use Rattle.tc_units.specs.declared.spans.Run.{Run}
 use Rattle.heap_rules.specs.Heap.{Heap, run_at, holds, with_run, without_run}
 use Rattle.heap_rules.specs.Sound.{IsInside, IsSound}
-use Rattle.heap_rules.proofs.Fits.{holds_from, holds_parts}
+use Rattle.heap_rules.proofs.Fits.{holds_from}
 use Rattle.heap_rules.proofs.Left.{same_member}
 use Rattle.heap_rules.proofs.Longest.{prefix_long}
 use Rattle.huge_table.specs.Table.{Table, bit}

@@ -1,5 +1,5 @@
 -- Runs of whole hugepages, with a tail, come and leave.
-use Rattle.std.proofs.Common.{◌≡◌, ℕ, ◌+◌, ◌-◌, ◌*◌, ◌/◌, ◌<◌, ◌≤◌, Bool, true, false, ◌&&◌, cond, nat_lt, List, length, refl, sym, ap, ◌∙◌, inl, inr, arith}
+use Rattle.std.proofs.Common.{◌≡◌, ℕ, ◌+◌, ◌-◌, ◌*◌, ◌/◌, ◌<◌, ◌≤◌, true, false, ◌&&◌, cond, nat_lt, length, sym, ap, ◌∙◌, inl, inr, arith}
 use Rattle.std.proofs.lemmas.Bool.{cases_Bool, cases_lt, le-leb, leb-true, and_right, false≢true, false_from_ne_true}
 use Rattle.tc_units.specs.declared.spans.Run.{Run}
 use Rattle.tc_units.specs.declared.rows.RowKind.TheVariants as kind
@@ -7,7 +7,7 @@ use Rattle.heap_rules.specs.Heap.{Heap, Hugepage, hugepage, each, spans, reaches
 use Rattle.heap_rules.specs.New.{run_page, filler_page, run_or_tail, in_free}
 use Rattle.heap_rules.specs.Choice.{hugepages_for}
 use Rattle.heap_rules.specs.Sound.{IsSound}
-use Rattle.heap_rules.proofs.Places.{at, page_of}
+use Rattle.heap_rules.proofs.Places.{at}
 use Rattle.heap_rules.proofs.Fits.{reaches_parts, spans_parts, spans_from, serves_at, is_Free}
 use Rattle.huge_table.specs.Table.{Table, IsSpan, IsNoted, is_between, over_span}
 use Rattle.huge_table.specs.Means.{Means, is_shared}

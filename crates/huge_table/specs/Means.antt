@@ -1,5 +1,5 @@
 -- The heap that a table means, with the runs, regions and counts beside it.
-use Rattle.std.specs.Prelude.{◌≡◌, ℕ, ◌+◌, ◌/◌, Bool, false, true, ◌==◌, ◌&&◌, not, List, Contains, if◌then◌else◌}
+use Rattle.std.specs.Prelude.{◌≡◌, ℕ, ◌+◌, ◌/◌, Bool, false, true, ◌==◌, ◌&&◌, not, Contains, if◌then◌else◌}
 use Rattle.std.specs.List.{list_any}
 use Rattle.tc_units.specs.Units.{huge_pages}
 use Rattle.tc_units.specs.declared.spans.Run.{Run}

@@ -1,4 +1,4 @@
-use Rattle.std.proofs.Common.{ℕ, ◌+◌, ◌<◌, ◌≤◌, not, length, ap, ◌∙◌, arith}
+use Rattle.std.proofs.Common.{not, ap, ◌∙◌, arith}
 use Rattle.heap_rules.specs.Heap.{is_kind_free, is_kind_filler, is_kind_region}
 use Rattle.huge_table.specs.Means.{shares}
 use Rattle.huge_table.proofs.tests.are.Goals as goal

@@ -1,4 +1,4 @@
-use Rattle.std.proofs.Common.{ℕ, ◌*◌, true, false, refl, arith}
+use Rattle.std.proofs.Common.{ℕ, true, false, refl, arith}
 use Rattle.heap_rules.specs.Heap.{spans}
 use Rattle.heap_rules.specs.New.{filler_page}
 use Rattle.huge_table.specs.Table.{bit, of_filler}

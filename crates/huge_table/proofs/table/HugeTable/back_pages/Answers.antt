@@ -1,4 +1,4 @@
-use Rattle.std.proofs.Common.{ℕ, ◌+◌, ◌/◌, ◌≤◌, refl, arith}
+use Rattle.std.proofs.Common.{ℕ, ◌/◌, ◌≤◌, refl, arith}
 use Rattle.heap_rules.specs.Heap.{spans, is_filler, run_at}
 use Rattle.heap_rules.specs.New.{more_backed}
 use Rattle.huge_table.specs.Table.{bit, of_filler}

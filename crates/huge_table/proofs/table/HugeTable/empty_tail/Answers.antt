@@ -1,4 +1,4 @@
-use Rattle.std.proofs.Common.{◌≡◌, ℕ, ◌≤◌, Bool, eqb, ap, ◌∙◌, sym, arith}
+use Rattle.std.proofs.Common.{◌≡◌, ℕ, ◌≤◌, eqb, ap, ◌∙◌, arith}
 use Rattle.range_bits.specs.Ranges.{used_count}
 use Rattle.huge_table.specs.Table.{emptied_where, noted_row, over_span}
 use Rattle.huge_table.proofs.Pages.{over_none}

@@ -1,4 +1,4 @@
-use Rattle.std.proofs.Common.{ℕ, true, false, refl, arith}
+use Rattle.std.proofs.Common.{ℕ, true, refl, arith}
 use Rattle.heap_rules.specs.Heap.{spans, is_free}
 use Rattle.heap_rules.specs.New.{region_page}
 use Rattle.huge_table.specs.Table.{bit}

@@ -1,8 +1,8 @@
-use Rattle.std.proofs.Common.{◌≡◌, ℕ, ◌+◌, ◌-◌, ◌*◌, ◌/◌, ◌<◌, ◌≤◌, Bool, true, false, length, eqb, refl, subst, sym, ap, ◌∙◌, arith}
+use Rattle.std.proofs.Common.{ℕ, ◌+◌, ◌-◌, ◌*◌, ◌/◌, ◌<◌, ◌≤◌, true, false, eqb, refl, arith}
 use Rattle.range_bits.specs.Ranges.{used_count}
 use Rattle.heap_rules.specs.Heap.{Hugepage, is_filler}
 use Rattle.heap_rules.specs.Choice.{hugepages_for}
-use Rattle.huge_table.specs.Table.{Table, IsSpan, free_page, emptied_where, noted_row, over_span}
+use Rattle.huge_table.specs.Table.{free_page, emptied_where, noted_row}
 use Rattle.huge_table.proofs.Pages.{span_after, span_same}
 use Rattle.huge_table.proofs.Shared.{span_of}
 use Rattle.huge_table.proofs.Steps.{noted_before}

@@ -1,4 +1,4 @@
-use Rattle.std.proofs.Common.{◌≡◌, ℕ, ◌/◌, true, refl, ap, sym, ◌∙◌, arith}
+use Rattle.std.proofs.Common.{◌≡◌, ℕ, ◌/◌, ap, arith}
 use Rattle.heap_rules.specs.Heap.{is_filler, run_at}
 use Rattle.heap_rules.specs.New.{more_backed}
 use Rattle.heap_rules.proofs.Fits.{reaches_parts}

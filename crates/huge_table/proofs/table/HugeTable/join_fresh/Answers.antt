@@ -1,8 +1,7 @@
-use Rattle.std.proofs.Common.{◌≡◌, ℕ, ◌+◌, ◌*◌, ◌≤◌, length, true, false, refl, subst, sym, ap, ◌∙◌, arith}
+use Rattle.std.proofs.Common.{ℕ, ◌*◌, true, false, refl, subst, ap, ◌∙◌, arith}
 use Rattle.heap_rules.specs.Heap.{is_free}
-use Rattle.heap_rules.specs.New.{filler_page, in_fresh}
+use Rattle.heap_rules.specs.New.{filler_page}
 use Rattle.huge_table.specs.Table.{over_span, IsNoted}
-use Rattle.huge_table.specs.Means.{Means}
 use Rattle.huge_table.proofs.Sizes.{length-over}
 use Rattle.huge_table.proofs.Steps.{comes}
 use Rattle.huge_table.proofs.Shared.{free_shared}

@@ -1,4 +1,3 @@
-use Rattle.std.proofs.Common.{ℕ, ◌/◌}
 use Rattle.huge_table.proofs.Leaves.{filler_means}
 use Rattle.huge_table.proofs.table.HugeTable.leave.Goals as goal
 

@@ -1,4 +1,4 @@
-use Rattle.std.proofs.Common.{◌≡◌, ℕ, ◌/◌, Contains, subst, sym, arith}
+use Rattle.std.proofs.Common.{Contains, subst, sym, arith}
 use Rattle.heap_rules.specs.Heap.{Heap}
 use Rattle.heap_rules.specs.Free.{left}
 use Rattle.heap_rules.specs.Sound.{IsSound}

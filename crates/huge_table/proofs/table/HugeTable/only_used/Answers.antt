@@ -1,4 +1,4 @@
-use Rattle.std.proofs.Common.{◌≡◌, ℕ, ◌+◌, ◌-◌, ◌*◌, ◌≤◌, List, Bool, take, drop, subst, ap, ◌∙◌, arith}
+use Rattle.std.proofs.Common.{◌≡◌, ℕ, ◌+◌, ◌-◌, ◌*◌, List, Bool, take, drop, subst, ap, ◌∙◌, arith}
 use Rattle.range_bits.specs.Ranges.{used_count}
 use Rattle.range_bits.specs.Fills.{StaysUsed}
 use Rattle.huge_table.proofs.Spares.{spared_means, spared_count, spared_fewer}

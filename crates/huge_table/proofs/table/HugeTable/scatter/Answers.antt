@@ -1,4 +1,4 @@
-use Rattle.std.proofs.Common.{ℕ, true, false, refl, arith}
+use Rattle.std.proofs.Common.{ℕ, false, refl, arith}
 use Rattle.heap_rules.specs.Heap.{spans, is_region}
 use Rattle.huge_table.specs.Table.{bit, region_freed}
 use Rattle.huge_table.proofs.Sizes.{arena}

@@ -1,4 +1,4 @@
-use Rattle.std.proofs.Common.{◌≡◌, ℕ, ◌+◌, ◌-◌, ◌*◌, ◌/◌, ◌≤◌, length, true, refl, subst, sym, ap, ◌∙◌, arith}
+use Rattle.std.proofs.Common.{ℕ, ◌+◌, ◌-◌, ◌*◌, ◌/◌, true, refl, subst, sym, ap, ◌∙◌, arith}
 use Rattle.heap_rules.specs.New.{run_page, filler_page, run_or_tail}
 use Rattle.huge_table.specs.Table.{Table, IsNoted, over_span}
 use Rattle.huge_table.proofs.Sizes.{length-over}
