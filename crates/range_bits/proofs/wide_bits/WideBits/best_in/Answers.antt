@@ -1,4 +1,4 @@
-use Rattle.std.proofs.Common.{◌*◌, List, Bool, ℕ, length, ap, arith}
+use Rattle.std.proofs.Common.{List, Bool, ℕ, length, ap, arith}
 use Rattle.range_bits.proofs.RowFacts.{length-row_of}
 use Rattle.range_bits.proofs.wide_bits.WideBits.best_in.Goals as goal
 

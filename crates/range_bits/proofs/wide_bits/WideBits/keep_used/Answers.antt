@@ -1,5 +1,4 @@
-use Rattle.std.proofs.Common.{◌≡◌, ℕ, ◌*◌, List, Bool, length, sym, ap, ◌∙◌, arith}
-use Rattle.range_bits.specs.Words.{row_of}
+use Rattle.std.proofs.Common.{ℕ, List, Bool, length, ap, arith}
 use Rattle.range_bits.proofs.RowFacts.{length-row_of}
 use Rattle.range_bits.proofs.wide_bits.WideBits.keep_used.Goals as goal
 

@@ -1,4 +1,4 @@
-use Rattle.std.proofs.Common.{◌≡◌, ℕ, ◌+◌, ◌*◌, ◌≤◌, arith}
+use Rattle.std.proofs.Common.{◌+◌, ◌*◌, arith}
 use Rattle.range_bits.specs.Words.{row_of}
 use Rattle.range_bits.proofs.RowFacts.{length-row_of}
 use Rattle.range_bits.proofs.Cuts.{cut_counts}
