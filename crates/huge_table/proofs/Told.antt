@@ -85,11 +85,13 @@ told ends test (r ∷ runs) a (suc n) o low is same = elim (cases_eq r.first.0 a
   next f h = omega arith
 
 -- A live run by its begin and the first end from there on.
-module _ (table : Table) (heap : Heap) (sound : IsSound heap) (places : HasPlaces table heap) (means : Means table heap) where
+module _ (table : Table) (heap : Heap) (sound : IsSound heap) (places : HasPlaces table) (means : Means table heap) where
   run_is : (r : Run) → Contains heap.runs r → run_from table.ends r.first.0 ≡ r
   run_is r live =
       let inside = All-contains (IsInside heap.config.huge) heap.runs r sound.runs.inside live in
       let rest = drop r.first.0 table.ends in
+      let arena = sound.runs.arena in
+      let same_size = ap length means.pages in
       let size = length-drop r.first.0 table.ends in
       let far : r.pages - 1 ≤ prefix_len not rest = prefix_long not rest (r.pages - 1) false (omega (arith, inside.to, places.ends)) (λ k h.
       ap not (get_or-drop r.first.0 table.ends k false ∙ means.ends (r.first.0 + k) ∙ false_from_ne_true _ (λ t. (let any = Any-from_list_any (ends_on (r.first.0 + k)) heap.runs t in
@@ -113,7 +115,7 @@ module _ (table : Table) (heap : Heap) (sound : IsSound heap) (places : HasPlace
 
   runs_are : AreInOrder heap.runs → runs_of table ≡ heap.runs
   runs_are order = told table.ends (bit table.begins) heap.runs 0 (length table.begins) order
-      (λ k d l. (let inside = sound.runs.inside k d l in omega (arith, inside.some, inside.to, places.begins)))
+      (λ k d l. (let inside = sound.runs.inside k d l in let arena = sound.runs.arena in let size = ap length means.pages in omega (arith, inside.some, inside.to, places.begins)))
       (λ k d l. run_is (get_or heap.runs k d) (Contains-get_or heap.runs k d l))
       (λ page _. means.begins page)
 

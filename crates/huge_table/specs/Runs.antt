@@ -23,14 +23,14 @@ AreInOrderFrom page (run ∷ runs) = (page ≤ run.first.0) × AreInOrderFrom (r
 abbrev pub AreInOrder : List Run → Type 0
 AreInOrder runs = AreInOrderFrom 0 runs
 
--- there are bits for where each run of a heap begins and ends
-pub record HasPlaces (table : Table) (heap : Heap) : Type 0 where
-  pub begins : huge_pages * (heap.config.huge + 1) ≤ length table.begins
-  pub ends : huge_pages * (heap.config.huge + 1) ≤ length table.ends
+-- there are bits for where runs begin and end on each page of the arena
+pub record HasPlaces (table : Table) : Type 0 where
+  pub begins : huge_pages * (length table.pages + 1) ≤ length table.begins
+  pub ends : huge_pages * (length table.pages + 1) ≤ length table.ends
 
 -- The table tells the live runs of a sound heap in their order; and runs stay in order when one comes or leaves.
 pub record RunsAreTold : Type 0 where
-  pub told : (table : Table) (heap : Heap) → IsSound heap → AreInOrder heap.runs → HasPlaces table heap → Means table heap → runs_of table ≡ heap.runs
+  pub told : (table : Table) (heap : Heap) → IsSound heap → AreInOrder heap.runs → HasPlaces table → Means table heap → runs_of table ≡ heap.runs
   pub ordered : (table : Table) → AreInOrder (runs_of table)
   pub with_one : (run : Run) (runs : List Run) → AreInOrder runs → list_any (begins_on run.first.0) runs ≡ false → AreInOrder (with_run run runs)
   pub without_one : (run : Run) (runs : List Run) → AreInOrder runs → AreInOrder (without_run run runs)

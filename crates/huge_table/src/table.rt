@@ -14,6 +14,7 @@ ghost use Rattle.heap_rules.specs.Sound.{AreRunsSound, IsSound};
 ghost use Rattle.heap_rules.specs.Choice.{hugepages_for};
 ghost use Rattle.heap_rules.specs.Release.{spare_pages};
 ghost use Rattle.huge_table.specs.Table.{at, kind_by, of_kind, IsSpan, IsNoted, HasBits, over_span, free_page, is_even, with_backing, region_freed, reached_by, noted_row, emptied_where};
+ghost use Rattle.huge_table.specs.Runs.{HasPlaces};
 ghost use Rattle.huge_table.specs.Means.{Means, AllUsed, IsEnding, is_run, is_shared, unbacked_span, used_alone};
 
 use range_bits::WideBits;
@@ -263,6 +264,7 @@ impl HugeTable {
     pub fn huge(&self) -> u32
         ensures value { result ≡ length self.now.pages }
         ensures most { result ≤ 4096 }
+        ensures places { HasPlaces self.now }
     {
         self.huge
     }
