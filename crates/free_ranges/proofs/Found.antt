@@ -64,7 +64,7 @@ least_place f p a (suc n) s low high pass least ties =
     ]
 
 -- the range of a held key
-ranged : (row : List Bool) (keys : List FreeRange) (key : FreeRange) → IsIndexOf (range_at row) (starts row) keys → Contains keys key → (s : ℕ) × (s < length row) × (begins_range row s ≡ true) × (range_at row s ≡ key)
+pub ranged : (row : List Bool) (keys : List FreeRange) (key : FreeRange) → IsIndexOf (range_at row) (starts row) keys → Contains keys key → (s : ℕ) × (s < length row) × (begins_range row s ≡ true) × (range_at row s ≡ key)
 ranged row keys key index held =
     let at = row_held comes_before total (range_at row) (starts row) keys key index held in
     let k : ℕ = at.1.0 in

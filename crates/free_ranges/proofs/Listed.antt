@@ -1,21 +1,25 @@
 -- What a mark or an unmark makes of the listed ranges.
-use Rattle.std.proofs.Common.{◌≡◌, ◌≢◌, ℕ, ◌+◌, ◌-◌, ◌<◌, ◌≤◌, ◌==◌, ◌&&◌, Bool, true, false, not, cond, List, [], ◌∷◌, drop, length, get_or, count_by, Contains, IsPermutation, replicate, refl, sym, ap, subst, ◌∙◌, inl, inr, arith, eq-eqb, eqb-true}
+use Rattle.std.proofs.Common.{◌≡◌, ◌≢◌, ℕ, ◌+◌, ◌-◌, ◌<◌, ◌≤◌, ◌==◌, ◌&&◌, ◌||◌, ◌⊎◌, Bool, true, false, not, cond, List, [], ◌∷◌, drop, length, get_or, count_by, Contains, IsPermutation, Some, replicate, refl, sym, ap, subst, ◌∙◌, inl, inr, arith, eq-eqb, eqb-true}
 use Rattle.std.proofs.lemmas.Bool.{cases_lt, and_from, and_parts, and_left, ne_eqb}
-use Rattle.std.proofs.lemmas.List.{same_lists, get_or-drop, get_or-replicate, length-replicate}
-use Rattle.std.proofs.lemmas.List.Sums.{sum_by-cons, prefix_len_passes, prefix_len-le-length}
+use Rattle.std.proofs.lemmas.List.{same_lists, get_or-drop, get_or-replicate, length-replicate, length-drop}
+use Rattle.std.proofs.lemmas.List.Sums.{sum_by-cons, prefix_len_passes, prefix_len_stops}
 use Rattle.std.proofs.lemmas.List.Sorted.{sum_by-IsPermutation}
 use Rattle.range_bits.specs.Fills.{IsEnd}
-use Rattle.range_bits.specs.Ranges.{free_from, used_from, begins_range, with_places}
+use Rattle.range_bits.specs.Ranges.{free_from, used_from, begins_range, with_places, best}
 use Rattle.range_bits.specs.Words.{IsNext}
 use Rattle.range_bits.proofs.Counts.{free_inside, used_inside}
 use Rattle.range_bits.proofs.Filling.{length-with_places, place_before, place_in, place_behind}
 use Rattle.range_bits.proofs.RangeLemmas.{free_at}
 use Rattle.range_bits.proofs.Scan.{free_run}
+use Rattle.range_bits.proofs.RangeFacts.{free_is_inside}
+use Rattle.sorted_list.specs.Measures.{not_yes}
+use Rattle.sorted_list.specs.Order.{IsFirstFrom}
+use Rattle.sorted_list.specs.Rows.{IsIndexOf}
 use Rattle.sorted_list.proofs.Rows.{found_some, count_held}
 use Rattle.free_ranges.specs.declared.range.FreeRange.{FreeRange}
-use Rattle.free_ranges.specs.Ranges.{Listing, IsListed, range_at, starts}
-use Rattle.free_ranges.proofs.Found.{is_start, listed}
-use Rattle.free_ranges.proofs.Marked.{IsRoom, parted}
+use Rattle.free_ranges.specs.Ranges.{Listing, IsListed, comes_before, range_at, starts}
+use Rattle.free_ranges.proofs.Found.{is_start, listed, ranged, best_found}
+use Rattle.free_ranges.proofs.Marked.{IsRoom, parted, is_used}
 use Rattle.free_ranges.proofs.Pieces.{count_in, counts, counts_none, counts_some, all_parts, free_part, begins}
 
 -- a range that comes, and one that goes
@@ -167,3 +171,32 @@ room_listed row begin start n end room l is all =
     let len : free_from row begin ≡ end - begin = free_run row (end - begin) begin (omega (arith, room.inside)) (λ j low high. room.free j low (omega arith)) (λ l. ap (λ (i : ℕ). get_or row i true) at ∙ room.behind (omega arith)) in
     let P : ℕ → Type 0 = λ m. Contains l.ranges (record { len = m; start = begin }) in
     subst P len (listed row l.ranges begin (is all) (omega (arith, room.order, room.within, room.inside, room.some)) (begins row begin (room.free begin (omega arith) (omega (arith, room.order, room.within, room.some))) room.before))
+
+or_cases : (a b : Bool) → (a || b) ≡ true → (a ≡ true) ⊎ (b ≡ true)
+or_cases true b e = inl refl
+or_cases false b e = inr e
+
+-- the tightest range, by its key, from its begin on
+pub room_tightest : (row : List Bool) (keys : List FreeRange) (n : ℕ) (key : FreeRange) → 1 ≤ n → IsIndexOf (range_at row) (starts row) keys → IsFirstFrom comes_before keys (record { len = n; start = 0 }) key → IsRoom row key.start key.start n (key.start + key.len)
+room_tightest row keys n key some index is =
+    let at = ranged row keys key index is.held in
+    let s : ℕ = at.0 in
+    let P : FreeRange → Type 0 = λ r. IsRoom row r.start r.start n (r.start + r.len) in
+    let long : n ≤ free_from row s = elim (not_yes key.len n _ is.behind) [ inl l ↦ omega (arith, ap (λ (r : FreeRange). r.len) at.3) | inr e ↦ omega (arith, e.0, ap (λ (r : FreeRange). r.len) at.3) ] in
+    let parts = and_parts (not (get_or row s true)) (s == 0 || get_or row (s - 1) true) at.2 in
+    let inside : s + free_from row s ≤ length row = free_is_inside row s (omega (arith, at.1)) in
+    subst P at.3 (record {
+      order = omega arith;
+      some = some;
+      within = omega arith;
+      inside = inside;
+      free = λ p low high. (let e : s + (p - s) ≡ p = omega arith in ap (λ (k : ℕ). get_or row k true) (sym e) ∙ free_at row s (free_from row s) (p - s) true (omega arith) (omega arith));
+      before = λ pos. elim (or_cases (s == 0) (get_or row (s - 1) true) parts.1) [ inl first ↦ absurd (omega (arith, eqb-true s 0 first)) | inr used ↦ used ];
+      behind = λ l.
+          let size = length-drop s row in
+          sym (get_or-drop s row (free_from row s) true) ∙ is_used _ (prefix_len_stops not (drop s row) true (omega arith));
+    })
+
+-- the key of the tightest range, by where it begins
+pub key_tightest : (row : List Bool) (keys : List FreeRange) (n start : ℕ) (key : FreeRange) → IsIndexOf (range_at row) (starts row) keys → IsFirstFrom comes_before keys (record { len = n; start = 0 }) key → best row n ≡ Some start → key.start ≡ start
+key_tightest row keys n start key index is e = let same : Some key.start ≡ Some start = sym (best_found row keys n key index is) ∙ e in cc

@@ -23,7 +23,7 @@ pub record IsRoom (row : List Bool) (begin start n end : ℕ) : Type 0 where
   pub before : 0 < begin → get_or row (begin - 1) true ≡ true
   pub behind : end < length row → get_or row end true ≡ true
 
-is_used : (used : Bool) → not used ≡ false → used ≡ true
+pub is_used : (used : Bool) → not used ≡ false → used ≡ true
 is_used true h = refl
 is_used false h = sym h
 

@@ -1,5 +1,5 @@
 //! A row of places with its free ranges in the order of their lengths.
-ghost use Rattle.std.specs.Prelude.{◌≡◌, ◌+◌, ◌*◌, ◌<◌, ◌≤◌, ◌↔◌, true, false, None, length, take, drop, replicate, IfOk};
+ghost use Rattle.std.specs.Prelude.{◌≡◌, ◌+◌, ◌*◌, ◌<◌, ◌≤◌, ◌↔◌, true, false, Some, None, length, take, drop, replicate, IfOk};
 ghost use Rattle.std.specs.List.{slice_index_or};
 ghost use Rattle.range_bits.specs.Ranges.{free_from, used_from, used_count, longest, best, with_places};
 
@@ -90,6 +90,28 @@ impl RangedBits {
         self.ranges.remove(begin, end - begin);
         self.ranges.add(begin, start - begin);
         self.ranges.add(start + n, end - (start + n));
+    }
+
+    /// Makes the first `n` places of the tightest free range used, which begins at `start`. Where the range
+    /// ends is known from the list.
+    pub fn mark_tightest(&mut self, start: u32, n: u32)
+        requires some { 1 ≤ n }
+        requires tightest { best self.old n ≡ Some start }
+        ensures { self.new ≡ with_places self.old start n true }
+    {
+        if !self.ranges.is_complete() {
+            self.mark(start, n);
+            return;
+        }
+        let len = match self.ranges.tightest(n) {
+            Some(range) => range.len,
+            None => unreachable!(),
+        };
+        // The places are numbered by a `u32`.
+        let _ = self.bits.places();
+        self.bits.mark(start, n);
+        self.ranges.remove(start, len);
+        self.ranges.add(start + n, len - n);
     }
 
     /// Makes `n` used places free, from `start` on.

@@ -105,7 +105,7 @@ impl RegionPages {
             None => unreachable!(),
         };
         let (from, to) = reach(start, n);
-        self.used.mark(start, n);
+        self.used.mark_tightest(start, n);
         count_up(&mut self.allocs, from, to);
         set_all(&mut self.backed, from, to, true);
         self.longest_range = self.used.longest();
