@@ -6,7 +6,7 @@ use crate::sample::{ProfileRow, Sample};
 use std::alloc::{AllocError, Global};
 use std::marker::Model;
 
-/// The rows of lengths that have samples. Contracts see them with the room for one more.
+/// The rows of lengths that have samples. Contracts see them as a list, by rising length.
 #[derive(Drop)]
 pub struct Rows {
     rows: Vec<ProfileRow>,
