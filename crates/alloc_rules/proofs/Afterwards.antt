@@ -32,19 +32,20 @@ use Rattle.tc_units.specs.Units.{page_bytes, pages_holding}
 use Rattle.tc_units.specs.declared.units.ThreadNo.{ThreadNo}
 use Rattle.rseq_core.specs.declared.cpu_part.CpuPart.{CpuPart}
 use Rattle.cpu_drain.specs.Seats.{IsStopping}
-use Rattle.call_steps.specs.declared.step.Step.{Step}
+use Rattle.call_steps.specs.PerCpu.{CpuLocal as Local, Step}
 use Rattle.call_steps.specs.declared.step.Step.TheVariants as does
 use Rattle.call_steps.specs.declared.step.CpuRow.TheVariants as front
 use Rattle.call_steps.specs.declared.step.CpuStep.TheVariants as cpu
 use Rattle.call_steps.specs.declared.step.HeapStep.TheVariants as heap
 use Rattle.call_steps.specs.declared.step.Stopping.{Stopping}
 use Rattle.call_steps.specs.declared.step.Resizing.{Resizing}
-use Rattle.call_steps.specs.Local.{Local, class_row}
+use Rattle.call_steps.specs.Local.{class_row}
 use Rattle.call_steps.specs.Calls.{under}
 use Rattle.call_steps.specs.Shapes.{StepShape, standing_of}
-use Rattle.alloc_rules.specs.declared.part.Part.{Part}
+use Rattle.call_steps.specs.CpuRows.{about_row}
+use Rattle.alloc_rules.specs.PerCpu.{Part}
 use Rattle.alloc_rules.specs.Machine.{Parts, place_of, rules}
-use Rattle.alloc_rules.specs.Accounts.{account_of}
+use Rattle.alloc_rules.specs.CpuAccounts.{account_of}
 use Rattle.alloc_rules.specs.Told.{lines_by, TellsFirst, TellsScript}
 use Rattle.alloc_rules.specs.Scripts.{is_under_way}
 use Rattle.alloc_rules.specs.Stocks.{stock_of, AreBooksOf}
@@ -53,7 +54,7 @@ use Rattle.alloc_rules.specs.Answers.{pages_asked}
 use Rattle.alloc_rules.specs.Law.{calls, setup_of, books_of, HoldsAfter}
 use Rattle.alloc_rules.proofs.PartFits.{row_at_class, some_size}
 use Rattle.alloc_rules.proofs.Answering.{answers_none, answers_busy, answers_cap}
-use Rattle.alloc_rules.proofs.Elsewhere.{refuses_there}
+use Rattle.alloc_rules.proofs.CpuElsewhere.{refuses_there}
 use Rattle.alloc_rules.proofs.Reached.{there_is}
 use Rattle.alloc_rules.proofs.SerialGoes.{wants_by}
 use Rattle.alloc_rules.proofs.Serving.{IsServed}
@@ -167,15 +168,15 @@ module _ (input : Input) (valid : IsValid input) (order : List ℕ) (few : lengt
       ]
 
   -- the calls that are told of a thread
-  first_told : (t : ℕ) (l : Local) → slice_get locals t ≡ Some l → TellsFirst input t (l.ended + under l.step) (calls locals order)
+  first_told : (t : ℕ) (l : Local) → slice_get locals t ≡ Some l → TellsFirst input t (l.ended + under about_row l.step) (calls locals order)
   first_told t l at =
       let inside = (served.works t l at).inside in
-      tells_first (script_of t input.asked.calls) t l (lines_by t (calls locals order)) (l.ended + under l.step) (served.tells t l at) inside.decided inside.count
+      tells_first (script_of t input.asked.calls) t l (lines_by t (calls locals order)) (l.ended + under about_row l.step) (served.tells t l at) inside.decided inside.count
 
   whole_told : (t : ℕ) (l : Local) → slice_get locals t ≡ Some l → is_under_way l.step ≡ false → TellsScript input t (calls locals order)
   whole_told t l at way =
       let script : List Planned = script_of t input.asked.calls in
-      first_told t l at ∙ takes_all script l.ended (l.ended + under l.step) ((served.works t l at).inside.none way) (omega arith)
+      first_told t l at ∙ takes_all script l.ended (l.ended + under about_row l.step) ((served.works t l at).inside.none way) (omega arith)
 
   -- a thread that wants no part has no call under way
   wants_none : (l : Local) → place_of input.asked.config.cpus (length input.rows) l ≡ None → is_under_way l.step ≡ false

@@ -20,22 +20,24 @@ use Rattle.cpu_slab.specs.Slots.{CpuSlab}
 use Rattle.cpu_slab.specs.Caps.{cap_fault}
 use Rattle.rseq_core.specs.declared.cpu_part.CpuPart.{CpuPart}
 use Rattle.call_steps.specs.declared.step.Asking.{Asking}
-use Rattle.call_steps.specs.declared.step.Step.{Step}
+use Rattle.call_steps.specs.PerCpu.{CpuLocal as Local, Step}
 use Rattle.call_steps.specs.declared.step.Step.TheVariants as does
 use Rattle.call_steps.specs.declared.step.CpuRow.TheVariants as front
 use Rattle.call_steps.specs.declared.step.CpuStep.TheVariants as cpu
 use Rattle.call_steps.specs.declared.step.HeapStep.TheVariants as heap
 use Rattle.call_steps.specs.declared.step.Stopping.{Stopping}
 use Rattle.call_steps.specs.declared.step.Resizing.{Resizing}
-use Rattle.call_steps.specs.Local.{Local, Decided, closes, ends, decided, class_row}
-use Rattle.call_steps.specs.Calls.{call_of}
+use Rattle.call_steps.specs.Fronts.{FrontCalls}
+use Rattle.call_steps.specs.Local.{Local as AnyLocal, Decided, closes, ends, decided, class_row}
 use Rattle.call_steps.specs.CpuActs.{cap_answer, stops}
 use Rattle.call_steps.specs.Follows.{follows}
-use Rattle.call_steps.specs.Acts.{after_new, after_new_span, heap_after, cpu_after}
+use Rattle.call_steps.specs.Acts.{after_new, after_new_span, heap_after}
+use Rattle.call_steps.specs.CpuCalls.{cpu_calls, cpu_after}
+use Rattle.call_steps.specs.CpuRows.{call_of}
 use Rattle.alloc_rules.specs.Answers.{Decides, pages_asked, AnswersNone, AnswersBusy, bytes_with, DecidesCap, AnswersCap}
 
 -- one answer more is the one that was decided, and none where the answers are as before
-pub decides_by : (l next : Local) (call : Call) (x y : Answer) → next.answers ≡ l.answers ++ record { act = l.acts; call = call; answer = x } ∷ [] → Decides l next y ↔ (x ≡ y)
+pub decides_by : {V R : Type 0} (l next : AnyLocal V R) (call : Call) (x y : Answer) → next.answers ≡ l.answers ++ record { act = l.acts; call = call; answer = x } ∷ [] → Decides l next y ↔ (x ≡ y)
 decides_by l next call x y is = (
   λ d.
       let own : Decided = record { act = l.acts; call = call; answer = x } in
@@ -46,7 +48,7 @@ decides_by l next call x y is = (
   λ same. record { call = call; answers = is ∙ ap (λ (a : Answer). l.answers ++ record { act = l.acts; call = call; answer = a } ∷ []) same },
 )
 
-pub decides_none : (l next : Local) (y : Answer) → next.answers ≡ l.answers → Decides l next y → ⊥
+pub decides_none : {V R : Type 0} (l next : AnyLocal V R) (y : Answer) → next.answers ≡ l.answers → Decides l next y → ⊥
 decides_none l next y same d = absurd (omega (arith, ap length (sym same ∙ d.answers), length-append l.answers (record { act = l.acts; call = d.call; answer = y } ∷ [])))
 
 -- none, by what the heap gives
@@ -62,7 +64,7 @@ module _ (h : heaps.Heap) (l : Local) (b : Bool) where
   none_of_span a None law = (λ d. law.0 refl, λ is. record { call = Malloc a.label a.size; answers = refl })
   none_of_span a (Some x) law = (λ d. absurd (decides_none l _ NoBlock refl d), λ is. let wrong : Some x ≡ None = law.1 is in absurd (cc))
 
-none_by_step : (rows : List ClassRow) (h : heaps.Heap) (l : Local) (s : Step) (n : ℕ) → ((new h n ≡ None) ↔ (none_fits h n ≡ true)) → pages_asked rows l s ≡ Some n → Decides l (heap_after rows h l s).1 NoBlock ↔ (none_fits h n ≡ true)
+none_by_step : (rows : List ClassRow) (h : heaps.Heap) (l : Local) (s : Step) (n : ℕ) → ((new h n ≡ None) ↔ (none_fits h n ≡ true)) → pages_asked rows l s ≡ Some n → Decides l (heap_after (cpu_calls rows) h l s).1 NoBlock ↔ (none_fits h n ≡ true)
 none_by_step rows h l (does.Heap (heap.New label size)) n law is =
     let e : pages_holding size ≡ n = cc in
     none_of_block h l (none_fits h n) label size (new h (pages_holding size)) (subst (λ k. (new h k ≡ None) ↔ (none_fits h n ≡ true)) (sym e) law)
@@ -83,23 +85,23 @@ pub answers_none : (rows : List ClassRow) (h : heaps.Heap) (l : Local) → ((n :
 answers_none rows h l law n is = none_by_step rows h l l.step n (law n is) is
 
 -- A local that goes on as another did: with its answers, and no fewer ended calls. A call that ends does.
-pub record GoesAs (x y : Local) : Type 0 where
+pub record GoesAs {V R : Type 0} (x y : AnyLocal V R) : Type 0 where
   pub ended : x.ended ≤ y.ended
   pub answers : y.answers ≡ x.answers
 
-closes_goes : (rows : List ClassRow) (x : Local) (m : Option MoveTo) → GoesAs x (closes rows x m)
-closes_goes rows x None = record { ended = omega arith; answers = refl }
-closes_goes rows x (Some move) = record { ended = omega arith; answers = refl }
+closes_goes : {V R : Type 0} (e : FrontCalls V R) (x : AnyLocal V R) (row : Option R) → GoesAs x (closes e x row)
+closes_goes e x None = record { ended = omega arith; answers = refl }
+closes_goes e x (Some row) = record { ended = omega arith; answers = refl }
 
-pub ends_goes : (rows : List ClassRow) (x : Local) → GoesAs x (ends rows x)
-ends_goes rows x = let g = closes_goes rows (record x { acts = x.acts + 1 }) x.seat.moved in record { ended = g.ended; answers = g.answers }
+pub ends_goes : {V R : Type 0} (e : FrontCalls V R) (x : AnyLocal V R) → GoesAs x (ends e x)
+ends_goes e x = let g = closes_goes e (record x { acts = x.acts + 1 }) (e.last x.seat) in record { ended = g.ended; answers = g.answers }
 
 -- busy, by who is the stopper
-busy_of : (rows : List ClassRow) (p : CpuPart) (l : Local) (s : Stopping) (owner : ThreadNo) (o : Option ThreadNo) → Decides l (follows rows l (Some (call_of s)) (stops p l.regs.thread s o).1) (Busy owner) ↔ (o ≡ Some owner)
+busy_of : (rows : List ClassRow) (p : CpuPart) (l : Local) (s : Stopping) (owner : ThreadNo) (o : Option ThreadNo) → Decides l (follows (cpu_calls rows) l (Some (call_of s)) (stops p l.regs.thread s o).1) (Busy owner) ↔ (o ≡ Some owner)
 busy_of rows p l s owner None = (λ d. absurd (decides_none l _ (Busy owner) refl d), λ is. absurd (cc))
 busy_of rows p l s owner (Some u) =
-    let told : (ends rows (decided l (call_of s) (Busy u))).answers ≡ l.answers ++ record { act = l.acts; call = call_of s; answer = Busy u } ∷ [] = (ends_goes rows (decided l (call_of s) (Busy u))).answers in
-    let law = decides_by l (ends rows (decided l (call_of s) (Busy u))) (call_of s) (Busy u) (Busy owner) told in
+    let told : (ends (cpu_calls rows) (decided l (call_of s) (Busy u))).answers ≡ l.answers ++ record { act = l.acts; call = call_of s; answer = Busy u } ∷ [] = (ends_goes (cpu_calls rows) (decided l (call_of s) (Busy u))).answers in
+    let law = decides_by l (ends (cpu_calls rows) (decided l (call_of s) (Busy u))) (call_of s) (Busy u) (Busy owner) told in
     (λ d. let same : Busy u ≡ Busy owner = law.0 d in cc, λ is. law.1 cc)
 
 pub answers_busy : (rows : List ClassRow) (p : CpuPart) (l : Local) → ((s : Stopping) → l.step ≡ does.Front (front.Cpu (cpu.Stop s)) → p.stopper ≢ Some l.regs.thread) → AnswersBusy rows p l

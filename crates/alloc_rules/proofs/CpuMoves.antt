@@ -51,22 +51,24 @@ use Rattle.call_steps.specs.declared.step.Resizing.{Resizing}
 use Rattle.call_steps.specs.declared.step.Stopping.{Stopping}
 use Rattle.call_steps.specs.declared.step.Stopping.TheVariants as stopping
 use Rattle.call_steps.specs.declared.step.Giving.TheVariants as giving
-use Rattle.call_steps.specs.declared.step.Step.{Step}
+use Rattle.call_steps.specs.PerCpu.{CpuLocal as Local, Step}
 use Rattle.call_steps.specs.declared.step.Step.TheVariants as does
 use Rattle.call_steps.specs.declared.step.CpuRow.TheVariants as front
 use Rattle.call_steps.specs.declared.step.CpuStep.{CpuStep}
 use Rattle.call_steps.specs.declared.step.CpuStep.TheVariants.{Pop, Grow, Stock, Push, PopBatch, Stop, Fence, Take, SetCap, Start, Leave}
-use Rattle.call_steps.specs.Local.{Local, goes, decided, ends, no_class, class_row}
-use Rattle.call_steps.specs.Hands.{serves, starts, comes_to, with_hand, with_regs}
+use Rattle.call_steps.specs.Local.{goes, decided, ends, no_class, class_row}
+use Rattle.call_steps.specs.Hands.{serves, comes_to, with_hand, with_regs}
 use Rattle.call_steps.specs.CpuActs.{looks_on, gives, at_cpu_next, due, leaves, moves_to, after_stock, replied, instructed_to, sequence_by, grew_to, stops, drains_on, drained, took, cap_answer, gives_taken, left_for}
-use Rattle.call_steps.specs.Follows.{follows, with_next, cpu_row}
-use Rattle.call_steps.specs.Calls.{HasNoLabel, asks, frees, call_of, about_cpu, call_about}
+use Rattle.call_steps.specs.Follows.{follows}
+use Rattle.call_steps.specs.CpuCalls.{cpu_calls, with_next, cpu_row, starts}
+use Rattle.call_steps.specs.Calls.{HasNoLabel, asks, frees, call_about}
 use Rattle.call_steps.specs.Shapes.{StepShape, CpuShape}
 use Rattle.call_steps.proofs.NextShapes.{drains_about}
 use Rattle.call_steps.proofs.Nexts.{busy_other, cap_other}
+use Rattle.call_steps.specs.CpuRows.{about_cpu, call_of}
 use Rattle.holdings.proofs.Sums.{of_all}
 use Rattle.alloc_rules.specs.Machine.{Parts}
-use Rattle.alloc_rules.specs.Accounts.{account_of, cpu_doing}
+use Rattle.alloc_rules.specs.CpuAccounts.{account_of, cpu_doing}
 use Rattle.alloc_rules.specs.Stocks.{in_slab, stock_of, decided_at, Does}
 use Rattle.alloc_rules.specs.Acts.{limits_of, IsBefore, CpuActsMove}
 use Rattle.alloc_rules.proofs.Weighing.{bare, quiet, weighs_same, weighs_is}
@@ -193,18 +195,18 @@ module _ (m : Setup) (limits : HeapConfig) (cpus : ℕ) (p : Parts) (locals : Li
       (objects new [] [] (still l.regs.class.0 q new [] [] rows refl)) (λ label o is. cc) closes.weighs closes.acts closes.answers
 
   -- it ends with an answer that is of no label
-  says_quiet : (row : CpuStep) (new : CpuPart) (then : Local) (said : Said) → ((j : ℕ) → held (row_at new.slab j) ≡ held (row_at q.slab j)) → l.regs.hand.items ≡ [] → cpu_doing row ≡ Other → IsOther said.call said.answer → then.rest ≡ l.rest → then.acts ≡ l.acts → then.answers ≡ l.answers ++ decided_at l.acts (said ∷ []) → then.regs.hand.items ≡ [] → Does m (with_cpu new) b (at_step row) (ends m.rows then)
+  says_quiet : (row : CpuStep) (new : CpuPart) (then : Local) (said : Said) → ((j : ℕ) → held (row_at new.slab j) ≡ held (row_at q.slab j)) → l.regs.hand.items ≡ [] → cpu_doing row ≡ Other → IsOther said.call said.answer → then.rest ≡ l.rest → then.acts ≡ l.acts → then.answers ≡ l.answers ++ decided_at l.acts (said ∷ []) → then.regs.hand.items ≡ [] → Does m (with_cpu new) b (at_step row) (ends (cpu_calls m.rows) then)
   says_quiet row new then said rows none doing other rest acts answers empty =
       let closes = ends_as m.rows then l.regs.class.0 empty in
-      says_other m p locals b before.books (slice_set p.cpus c new) p.shards p.domains (cut new) (at_step row) (ends m.rows then) (quiet l.regs.class.0 l.rest) (said ∷ []) (ap (λ (d : Doing). bare d l.regs.class.0 l.regs.hand.items l.rest) doing ∙ ap (λ (h : List Addr). bare Other l.regs.class.0 h l.rest) none)
-      (stock_still new rows) (One said other) (subst (λ (xs : List Planned). WeighSame (quiet l.regs.class.0 xs) (account_of (ends m.rows then))) rest closes.weighs) (omega (arith, closes.acts, acts)) (closes.answers ∙ answers)
+      says_other m p locals b before.books (slice_set p.cpus c new) p.shards p.domains (cut new) (at_step row) (ends (cpu_calls m.rows) then) (quiet l.regs.class.0 l.rest) (said ∷ []) (ap (λ (d : Doing). bare d l.regs.class.0 l.regs.hand.items l.rest) doing ∙ ap (λ (h : List Addr). bare Other l.regs.class.0 h l.rest) none)
+      (stock_still new rows) (One said other) (subst (λ (xs : List Planned). WeighSame (quiet l.regs.class.0 xs) (account_of (ends (cpu_calls m.rows) then))) rest closes.weighs) (omega (arith, closes.acts, acts)) (closes.answers ∙ answers)
 
-  grow_goes : (l1 : Local) (asking : Asking) (a : Grew) → Goes (follows m.rows l1 (Some (asks asking)) (grew_to l1.seat asking a)) (bare (Asks asking.label asking.size) l1.regs.class.0 l1.regs.hand.items l1.rest) (l1.acts + 1) l1.answers
+  grow_goes : (l1 : Local) (asking : Asking) (a : Grew) → Goes (follows (cpu_calls m.rows) l1 (Some (asks asking)) (grew_to l1.seat asking a)) (bare (Asks asking.label asking.size) l1.regs.class.0 l1.regs.hand.items l1.rest) (l1.acts + 1) l1.answers
   grow_goes l1 asking grew.In = record { account = refl; acts = refl; answers = refl }
   grow_goes l1 asking grew.Back = record { account = refl; acts = refl; answers = refl }
   grow_goes l1 asking grew.Done = looks_as m.rows l1 asking (Some (asks asking))
 
-  stop_does : (s : Stopping) → l.regs.hand.items ≡ [] → (o : Option ThreadNo) → (let n = stops q l.regs.thread s o in Does m (with_cpu n.0) b (at_step (Stop s)) (follows m.rows (at_step (Stop s)) (Some (call_of s)) n.1))
+  stop_does : (s : Stopping) → l.regs.hand.items ≡ [] → (o : Option ThreadNo) → (let n = stops q l.regs.thread s o in Does m (with_cpu n.0) b (at_step (Stop s)) (follows (cpu_calls m.rows) (at_step (Stop s)) (Some (call_of s)) n.1))
   stop_does s none None =
       on (Stop s) (drains.stopped q l.regs.thread) (goes (at_step (Stop s)) (does.Front (front.Cpu (Fence s)))) l.regs (still l.regs.class.0 q (drains.stopped q l.regs.thread) l.regs.hand.items l.regs.hand.items (slab_same q (drains.stopped q l.regs.thread) (stopped_slab q.stopper q l.regs.thread)) refl) refl (λ label o doing. cc) (record { account = refl; acts = refl; answers = refl })
   stop_does s none (Some owner) = says_quiet (Stop s) q (decided (at_step (Stop s)) (call_of s) (Busy owner)) (record { call = call_of s; answer = Busy owner }) (λ j. refl) none refl (busy_other s owner) refl refl refl none
@@ -226,33 +228,33 @@ module _ (m : Setup) (limits : HeapConfig) (cpus : ℕ) (p : Parts) (locals : Li
       carries m p locals b before.books (slice_set p.cpus c (drains.taken q l.regs.class.0)) p.shards p.domains (cut (drains.taken q l.regs.class.0)) (at_step row) after Other l.regs.class.0 l.regs.hand.items taken_hand.items l.rest (ap (λ (d : Doing). bare d l.regs.class.0 l.regs.hand.items l.rest) doing)
       (objects (drains.taken q l.regs.class.0) l.regs.hand.items taken_hand.items take_shifts) (λ label o is. cc) weighs acts answers
 
-  drained_does : (d : Draining) (next : Class × CpuStep) (hand : List Addr) → HasNoLabel (about_cpu next.1) → taken_hand.items ≡ hand → Does m (with_cpu (drains.taken q l.regs.class.0)) b (at_step (Take (stopping.Drain d))) (let n = drained l.seat (record l.regs { hand = taken_hand }) hand next in follows m.rows (with_regs (at_step (Take (stopping.Drain d))) n.0) (Some (Drain d.cpu)) n.1)
+  drained_does : (d : Draining) (next : Class × CpuStep) (hand : List Addr) → HasNoLabel (about_cpu next.1) → taken_hand.items ≡ hand → Does m (with_cpu (drains.taken q l.regs.class.0)) b (at_step (Take (stopping.Drain d))) (let n = drained l.seat (record l.regs { hand = taken_hand }) hand next in follows (cpu_calls m.rows) (with_regs (at_step (Take (stopping.Drain d))) n.0) (Some (Drain d.cpu)) n.1)
   drained_does d next [] other is =
       let l1 : Local = with_hand (at_step (Take (stopping.Drain d))) taken_hand in
-      let closes = comes_as l1 next.0 next.1 l.regs.class.0 other is in
-      took_as (Take (stopping.Drain d)) (comes_to l1 next.0 next.1) refl (subst (λ (h : List Addr). WeighSame (bare Other l.regs.class.0 h l.rest) (account_of (comes_to l1 next.0 next.1))) (sym is) closes.weighs) closes.acts closes.answers
+      let closes = comes_as l1 next.0 (front.Cpu next.1) l.regs.class.0 other is in
+      took_as (Take (stopping.Drain d)) (comes_to l1 next.0 (front.Cpu next.1)) refl (subst (λ (h : List Addr). WeighSame (bare Other l.regs.class.0 h l.rest) (account_of (comes_to l1 next.0 (front.Cpu next.1)))) (sym is) closes.weighs) closes.acts closes.answers
   drained_does d next (a ∷ others) other is =
       let l1 : Local = with_hand (at_step (Take (stopping.Drain d))) taken_hand in
       let g = gives_as m.rows l1 (giving.Row next.0 next.1) (Some (Drain d.cpu)) in
-      let after : Local = follows m.rows l1 (Some (Drain d.cpu)) (gives l.seat (giving.Row next.0 next.1)) in
+      let after : Local = follows (cpu_calls m.rows) l1 (Some (Drain d.cpu)) (gives l.seat (giving.Row next.0 next.1)) in
       let account = g.account ∙ ap (λ (x : Doing). bare x l.regs.class.0 taken_hand.items l.rest) (other_doing (about_cpu next.1) other) in
       took_as (Take (stopping.Drain d)) after refl (weighs_is (bare Other l.regs.class.0 taken_hand.items l.rest) (account_of after) account) g.acts g.answers
 
-  take_moves : (s : Stopping) → Does m (with_cpu (drains.taken q l.regs.class.0)) b (at_step (Take s)) (let n = took m.rows l.seat (record l.regs { hand = taken_hand }) s in follows m.rows (with_regs (at_step (Take s)) n.0) (Some (call_of s)) n.1)
+  take_moves : (s : Stopping) → Does m (with_cpu (drains.taken q l.regs.class.0)) b (at_step (Take s)) (let n = took m.rows l.seat (record l.regs { hand = taken_hand }) s in follows (cpu_calls m.rows) (with_regs (at_step (Take s)) n.0) (Some (call_of s)) n.1)
   take_moves (stopping.Drain d) =
       let d' : Draining = record d { taken = d.taken + length taken_hand.items } in
       drained_does d (drains_on m.rows l.regs.class d') taken_hand.items (subst HasNoLabel (sym (drains_about m.rows l.regs.class d')) tt) refl
   take_moves (stopping.Resize r) = took_as (Take (stopping.Resize r)) (goes (with_hand (at_step (Take (stopping.Resize r))) taken_hand) (does.Front (front.Cpu (SetCap r)))) refl (weighs_same (bare Other l.regs.class.0 taken_hand.items l.rest)) refl refl
 
   -- the start of a resize, and leaving at a call's end
-  start_gives : (r : Resizing) (hand : List Addr) → l.regs.hand.items ≡ hand → Does m (with_cpu (drains.started q)) b (at_step (Start (stopping.Resize r))) (follows m.rows (at_step (Start (stopping.Resize r))) None (gives_taken l.seat hand))
-  start_gives r [] is = quiets (Start (stopping.Resize r)) (drains.started q) (ends m.rows (at_step (Start (stopping.Resize r)))) (λ j. refl) is refl (ends_as m.rows (at_step (Start (stopping.Resize r))) l.regs.class.0 is)
+  start_gives : (r : Resizing) (hand : List Addr) → l.regs.hand.items ≡ hand → Does m (with_cpu (drains.started q)) b (at_step (Start (stopping.Resize r))) (follows (cpu_calls m.rows) (at_step (Start (stopping.Resize r))) None (gives_taken l.seat hand))
+  start_gives r [] is = quiets (Start (stopping.Resize r)) (drains.started q) (ends (cpu_calls m.rows) (at_step (Start (stopping.Resize r)))) (λ j. refl) is refl (ends_as m.rows (at_step (Start (stopping.Resize r))) l.regs.class.0 is)
   start_gives r (a ∷ others) is =
-      on (Start (stopping.Resize r)) (drains.started q) (follows m.rows (at_step (Start (stopping.Resize r))) None (gives l.seat giving.End)) l.regs (still l.regs.class.0 q (drains.started q) l.regs.hand.items l.regs.hand.items (λ j. refl) refl) refl (λ label o doing. cc) (gives_as m.rows (at_step (Start (stopping.Resize r))) giving.End None)
+      on (Start (stopping.Resize r)) (drains.started q) (follows (cpu_calls m.rows) (at_step (Start (stopping.Resize r))) None (gives l.seat giving.End)) l.regs (still l.regs.class.0 q (drains.started q) l.regs.hand.items l.regs.hand.items (λ j. refl) refl) refl (λ label o doing. cc) (gives_as m.rows (at_step (Start (stopping.Resize r))) giving.End None)
 
   leave_does : l.regs.hand.items ≡ [] → (o : Option MoveTo) → (let x = with_next m.rows (at_step Leave) (about_cpu Leave) (left_for q l.seat l.regs o) in Does m (with_cpu x.0) b (at_step Leave) x.1)
-  leave_does none None = quiets Leave q (ends m.rows (at_step Leave)) (λ j. refl) none refl (ends_as m.rows (at_step Leave) l.regs.class.0 none)
-  leave_does none (Some move) = quiets Leave (left q l.regs.thread) (ends m.rows (record (at_step Leave) { seat = moves_to l.seat move; regs = dropped l.regs })) (slab_same q (left q l.regs.thread) (left_slab q l.regs.thread)) none refl (ends_as m.rows (record (at_step Leave) { seat = moves_to l.seat move; regs = dropped l.regs }) l.regs.class.0 none)
+  leave_does none None = quiets Leave q (ends (cpu_calls m.rows) (at_step Leave)) (λ j. refl) none refl (ends_as m.rows (at_step Leave) l.regs.class.0 none)
+  leave_does none (Some move) = quiets Leave (left q l.regs.thread) (ends (cpu_calls m.rows) (record (at_step Leave) { seat = moves_to l.seat move; regs = dropped l.regs })) (slab_same q (left q l.regs.thread) (left_slab q l.regs.thread)) none refl (ends_as m.rows (record (at_step Leave) { seat = moves_to l.seat move; regs = dropped l.regs }) l.regs.class.0 none)
 
   module _ (agrees : IsCurrent l.regs.thread q l.regs → Agrees (is_pop l.regs.seq) (row_at q.slab l.regs.class.0) l.regs l.regs.pc) where
     done : Instructs q l.regs (instructed q l.regs)
@@ -269,7 +271,7 @@ module _ (m : Setup) (limits : HeapConfig) (cpus : ℕ) (p : Parts) (locals : Li
     Moves r = ReplyMoves r (row_at q.slab l.regs.class.0) (row_at it.cpu.slab l.regs.class.0) l.regs it.regs
 
     abbrev DoesReply : CpuStep → Reply → Type 0
-    DoesReply row r = Does m (with_cpu it.cpu) b (at_step row) (let n = replied m.rows l.seat it.regs row r in follows m.rows (with_regs (at_step row) n.0) (call_about (about_cpu row)) n.1)
+    DoesReply row r = Does m (with_cpu it.cpu) b (at_step row) (let n = replied m.rows l.seat it.regs row r in follows (cpu_calls m.rows) (with_regs (at_step row) n.0) (call_about (about_cpu row)) n.1)
 
     shifts : Shifts l.regs.class.0 q it.cpu l.regs.hand.items it.regs.hand.items
     shifts = record { others = λ j n other. ap (λ (r : SlabRow). objects_at n (held r)) (done.others j other); own = answer_moves it.answer (row_at q.slab l.regs.class.0) (row_at it.cpu.slab l.regs.class.0) l.regs it.regs done.moves }
@@ -289,7 +291,7 @@ module _ (m : Setup) (limits : HeapConfig) (cpus : ℕ) (p : Parts) (locals : Li
       goes_on : (row : CpuStep) → HasFreed row l.regs.hand.items → MovesNone (row_at q.slab l.regs.class.0) (row_at it.cpu.slab l.regs.class.0) l.regs it.regs → Does m (with_cpu it.cpu) b (at_step row) (goes (then row) (does.Front (front.Cpu row)))
       goes_on row frees moves = then_does row (goes (then row) (does.Front (front.Cpu row))) (stays_same row frees moves.hand) (record { account = refl; acts = refl; answers = refl })
 
-      answers : (row : CpuStep) (a : Instructed) → AnswerMoves a (row_at q.slab l.regs.class.0) (row_at it.cpu.slab l.regs.class.0) l.regs it.regs → HasFreed row l.regs.hand.items → ((r : Reply) → a ≡ Done r → Moves r → DoesReply row r) → Does m (with_cpu it.cpu) b (at_step row) (let n = instructed_to m.rows l.seat it.regs row a in follows m.rows (with_regs (at_step row) n.0) (call_about (about_cpu row)) n.1)
+      answers : (row : CpuStep) (a : Instructed) → AnswerMoves a (row_at q.slab l.regs.class.0) (row_at it.cpu.slab l.regs.class.0) l.regs it.regs → HasFreed row l.regs.hand.items → ((r : Reply) → a ≡ Done r → Moves r → DoesReply row r) → Does m (with_cpu it.cpu) b (at_step row) (let n = instructed_to m.rows l.seat it.regs row a in follows (cpu_calls m.rows) (with_regs (at_step row) n.0) (call_about (about_cpu row)) n.1)
       answers row In moves frees reply = goes_on row frees moves
       answers row Back moves frees reply = goes_on row frees moves
       answers row Ran moves frees reply = goes_on row frees moves
@@ -300,15 +302,15 @@ module _ (m : Setup) (limits : HeapConfig) (cpus : ℕ) (p : Parts) (locals : Li
       sequences row frees reply (Some move) = leaves_does row move frees
 
       -- by the reply: an allocation pops
-      pops_some : (asking : Asking) → l.regs.hand.items ≡ [] → class_of m.rows asking.size ≡ Some l.regs.class → (got : List Addr) → it.regs.hand.items ≡ got → 0 < length got → Does m (with_cpu it.cpu) b (at_step (Pop asking)) (serves m.rows (then (Pop asking)) asking)
+      pops_some : (asking : Asking) → l.regs.hand.items ≡ [] → class_of m.rows asking.size ≡ Some l.regs.class → (got : List Addr) → it.regs.hand.items ≡ got → 0 < length got → Does m (with_cpu it.cpu) b (at_step (Pop asking)) (serves (cpu_calls m.rows) (then (Pop asking)) asking)
       pops_some asking none asked [] hand some = absurd (omega arith)
       pops_some asking none asked (o ∷ others) hand some =
           gets_object m p locals b before.books (slice_set p.cpus c it.cpu) p.shards p.domains (cut it.cpu) (at_step (Pop asking)) it.regs asking o others (ap (λ (h : List Addr). bare (Asks asking.label asking.size) l.regs.class.0 h l.rest) none) class hand asked
           (subst (λ (h : List Addr). MoveObjects (stock_of p) (stock_of (with_cpu it.cpu)) l.regs.class.0 h (o ∷ others) []) none
           (subst (λ (h : List Addr). MoveObjects (stock_of p) (stock_of (with_cpu it.cpu)) l.regs.class.0 l.regs.hand.items h []) hand (objects it.cpu l.regs.hand.items it.regs.hand.items shifts)))
 
-      looks_does : (asking : Asking) → Does m (with_cpu it.cpu) b (at_step (Pop asking)) (follows m.rows (then (Pop asking)) (Some (asks asking)) (looks_on l.seat asking))
-      looks_does asking = then_does (Pop asking) (follows m.rows (then (Pop asking)) (Some (asks asking)) (looks_on l.seat asking)) (λ label o doing. cc) (looks_as m.rows (then (Pop asking)) asking (Some (asks asking)))
+      looks_does : (asking : Asking) → Does m (with_cpu it.cpu) b (at_step (Pop asking)) (follows (cpu_calls m.rows) (then (Pop asking)) (Some (asks asking)) (looks_on l.seat asking))
+      looks_does asking = then_does (Pop asking) (follows (cpu_calls m.rows) (then (Pop asking)) (Some (asks asking)) (looks_on l.seat asking)) (λ label o doing. cc) (looks_as m.rows (then (Pop asking)) asking (Some (asks asking)))
 
       pop_replies : (asking : Asking) → CpuShape (limits_of m cpus) l (Pop asking) → (r : Reply) → Moves r → DoesReply (Pop asking) r
       pop_replies asking shape Popped moves =
@@ -321,18 +323,18 @@ module _ (m : Setup) (limits : HeapConfig) (cpus : ℕ) (p : Parts) (locals : Li
       pop_replies asking shape (Pushed n) moves = looks_does asking
 
       -- it stocks its CPU
-      stock_goes : (l1 : Local) (s : Serving) (hand : List Addr) → Goes (follows m.rows l1 None (after_stock l1.seat s hand)) (bare (Publishes s.label (Some s.addr)) l1.regs.class.0 l1.regs.hand.items l1.rest) (l1.acts + 1) l1.answers
+      stock_goes : (l1 : Local) (s : Serving) (hand : List Addr) → Goes (follows (cpu_calls m.rows) l1 None (after_stock l1.seat s hand)) (bare (Publishes s.label (Some s.addr)) l1.regs.class.0 l1.regs.hand.items l1.rest) (l1.acts + 1) l1.answers
       stock_goes l1 s [] = record { account = refl; acts = refl; answers = refl }
       stock_goes l1 s (a ∷ others) = gives_as m.rows l1 (giving.Rest s) None
 
       stock_replies : (s : Serving) (r : Reply) → DoesReply (Stock s) r
-      stock_replies s r = then_does (Stock s) (follows m.rows (then (Stock s)) None (after_stock l.seat s it.regs.hand.items)) (λ label o doing. cc) (stock_goes (then (Stock s)) s it.regs.hand.items)
+      stock_replies s r = then_does (Stock s) (follows (cpu_calls m.rows) (then (Stock s)) None (after_stock l.seat s it.regs.hand.items)) (λ label o doing. cc) (stock_goes (then (Stock s)) s it.regs.hand.items)
 
       -- a free pushes its object, or gives it away with those that it popped
-      free_gives : (row : CpuStep) (f : Freeing) → cpu_doing row ≡ Frees f.label f.addr → HasFreed row it.regs.hand.items → Does m (with_cpu it.cpu) b (at_step row) (follows m.rows (then row) (Some (frees f)) (gives l.seat (giving.Freed f)))
+      free_gives : (row : CpuStep) (f : Freeing) → cpu_doing row ≡ Frees f.label f.addr → HasFreed row it.regs.hand.items → Does m (with_cpu it.cpu) b (at_step row) (follows (cpu_calls m.rows) (then row) (Some (frees f)) (gives l.seat (giving.Freed f)))
       free_gives row f doing has =
           let g = gives_as m.rows (then row) (giving.Freed f) (Some (frees f)) in
-          then_does row (follows m.rows (then row) (Some (frees f)) (gives l.seat (giving.Freed f))) has (record { account = g.account ∙ ap (λ (d : Doing). bare d it.regs.class.0 it.regs.hand.items l.rest) (sym doing); acts = g.acts; answers = g.answers })
+          then_does row (follows (cpu_calls m.rows) (then row) (Some (frees f)) (gives l.seat (giving.Freed f))) has (record { account = g.account ∙ ap (λ (d : Doing). bare d it.regs.class.0 it.regs.hand.items l.rest) (sym doing); acts = g.acts; answers = g.answers })
 
       push_replies : (f : Freeing) → CpuShape (limits_of m cpus) l (Push f) → HasFreed (Push f) l.regs.hand.items → (r : Reply) → Moves r → DoesReply (Push f) r
       push_replies f shape frees (Pushed n) moves =
@@ -376,7 +378,7 @@ module _ (m : Setup) (limits : HeapConfig) (cpus : ℕ) (p : Parts) (locals : Li
     cpu_does (Grow asking) is shape =
         let x = grew_here q l.regs in
         let g = grow_does (length m.rows) q l.regs sound before.shaped.class in
-        on (Grow asking) x.cpu (follows m.rows (with_regs (at_step (Grow asking)) x.regs) (Some (asks asking)) (grew_to l.seat asking x.answer)) x.regs (still l.regs.class.0 q x.cpu l.regs.hand.items x.regs.hand.items g.rows g.hand) g.same.class (λ label o doing. cc) (grow_goes (with_regs (at_step (Grow asking)) x.regs) asking x.answer)
+        on (Grow asking) x.cpu (follows (cpu_calls m.rows) (with_regs (at_step (Grow asking)) x.regs) (Some (asks asking)) (grew_to l.seat asking x.answer)) x.regs (still l.regs.class.0 q x.cpu l.regs.hand.items x.regs.hand.items g.rows g.hand) g.same.class (λ label o doing. cc) (grow_goes (with_regs (at_step (Grow asking)) x.regs) asking x.answer)
     cpu_does (Stop s) is shape = stop_does s shape.0.hand q.stopper
     cpu_does (Fence s) is shape =
         on (Fence s) (drains.fenced q) (goes (at_step (Fence s)) (does.Front (front.Cpu (Take s)))) l.regs (still l.regs.class.0 q (drains.fenced q) l.regs.hand.items l.regs.hand.items (λ j. refl) refl) refl (λ label o doing. cc) (record { account = refl; acts = refl; answers = refl })

@@ -12,28 +12,32 @@ use Rattle.rseq_core.specs.declared.regs.Regs.{Regs}
 use Rattle.rseq_core.specs.Bags.{appended, emptied}
 use Rattle.transfer_cache.specs.Transfer.{Transfer, last_first, without_last}
 use Rattle.holdings.specs.Runs.{objects_at}
-use Rattle.holdings.specs.Accounts.{Asks}
+use Rattle.holdings.specs.Accounts.{Doing, Asks}
 use Rattle.holdings.specs.Books.{Setup, Books, IsCut}
 use Rattle.holdings.specs.Moves.{MoveObjects}
 use Rattle.call_steps.specs.declared.step.Asking.{Asking}
 use Rattle.call_steps.specs.declared.step.Giving.{Giving}
-use Rattle.call_steps.specs.declared.step.Next.{Next}
+use Rattle.call_steps.specs.declared.step.CpuStep.{CpuStep}
+use Rattle.call_steps.specs.PerCpu.{CpuLocal as Local, Next, Step}
 use Rattle.call_steps.specs.declared.step.Next.TheVariants as next
-use Rattle.call_steps.specs.declared.step.Step.{Step}
 use Rattle.call_steps.specs.declared.step.Step.TheVariants as does
 use Rattle.call_steps.specs.declared.step.CpuRow.TheVariants as front
 use Rattle.call_steps.specs.declared.step.ShardStep.TheVariants as shard
 use Rattle.call_steps.specs.declared.step.DomainStep.{DomainStep}
 use Rattle.call_steps.specs.declared.step.DomainStep.TheVariants.{Take, Put}
-use Rattle.call_steps.specs.Local.{Local, goes, class_row}
-use Rattle.call_steps.specs.Calls.{asks, about_giving, call_about}
+use Rattle.call_steps.specs.Local.{goes, class_row}
+use Rattle.call_steps.specs.Calls.{About, asks, about_giving, call_about}
 use Rattle.call_steps.specs.Hands.{with_hand, with_regs, decides_free, behind, clears, gave}
 use Rattle.call_steps.specs.CpuActs.{takes, fits_into, put_in}
-use Rattle.call_steps.specs.Follows.{follows, domain_row}
+use Rattle.call_steps.specs.Follows.{follows}
+use Rattle.call_steps.specs.CpuCalls.{cpu_calls, domain_row}
 use Rattle.call_steps.specs.Shapes.{StepShape, DomainShape, IsGiving}
+use Rattle.call_steps.proofs.Nexts.{row_about}
+use Rattle.call_steps.specs.CpuRows.{about_cpu, as_row}
 use Rattle.holdings.proofs.Sums.{of_all}
 use Rattle.alloc_rules.specs.Machine.{Parts}
-use Rattle.alloc_rules.specs.Accounts.{giving_doing}
+use Rattle.alloc_rules.specs.Accounts.{doing_about}
+use Rattle.alloc_rules.specs.CpuAccounts.{giving_doing}
 use Rattle.alloc_rules.specs.Stocks.{no_cache, cache_at, in_caches, stock_of, Does}
 use Rattle.alloc_rules.specs.Acts.{limits_of, IsBefore, DomainActsMove}
 use Rattle.alloc_rules.proofs.Weighing.{bare}
@@ -77,7 +81,7 @@ module _ (m : Setup) (limits : HeapConfig) (cpus : ℕ) (p : Parts) (locals : Li
 
   -- a take gives the last objects of the cache
   takes_does : (asking : Asking) → l.regs.hand.items ≡ [] → class_of m.rows asking.size ≡ Some l.regs.class → (kept list : List Addr) → ((n : ℕ) → objects_at n kept + objects_at n list ≡ objects_at n here.objects)
-      → Does m (with_cache (record { objects = kept; room = here.room })) b (at_step (Take asking)) (let n = takes l.regs asking list in follows m.rows (with_regs (at_step (Take asking)) n.0) (Some (asks asking)) n.1)
+      → Does m (with_cache (record { objects = kept; room = here.room })) b (at_step (Take asking)) (let n = takes l.regs asking list in follows (cpu_calls m.rows) (with_regs (at_step (Take asking)) n.0) (Some (asks asking)) n.1)
   takes_does asking none asked kept [] moves =
       let new : Transfer = record { objects = kept; room = here.room } in
       carries_as m p locals b before.books p.cpus p.shards (domains_with new) (cut new) (at_step (Take asking)) (goes (at_step (Take asking)) (does.Shard (shard.Fetch asking))) (Asks asking.label asking.size) l.regs.class.0 l.regs.hand.items l.regs.hand.items l.rest refl
@@ -91,24 +95,28 @@ module _ (m : Setup) (limits : HeapConfig) (cpus : ℕ) (p : Parts) (locals : Li
   abbrev put_here : Transfer
   put_here = put_in here l.regs.hand.items
 
-  puts_does : (g : Giving) → l.freed.items ≡ [] → IsGiving (limits_of m cpus) l.regs.hand.items g → Does m (with_cache put_here) b (at_step (Put g)) (gave m.rows (with_hand (at_step (Put g)) (emptied l.regs.hand)) g)
+  given_is : (g : Giving CpuStep) (hand : List Addr) → bare (doing_about (about_giving about_cpu g)) l.regs.class.0 hand l.rest ≡ bare (giving_doing (as_row g)) l.regs.class.0 hand l.rest
+  given_is g hand = ap (λ (a : About). bare (doing_about a) l.regs.class.0 hand l.rest) (sym (row_about g))
+
+  puts_does : (g : Giving CpuStep) → l.freed.items ≡ [] → IsGiving (limits_of m cpus) l.regs.hand.items (as_row g) → Does m (with_cache put_here) b (at_step (Put g)) (gave (cpu_calls m.rows) (with_hand (at_step (Put g)) (emptied l.regs.hand)) (as_row g))
   puts_does g none gives =
       let l' : Local = with_hand (at_step (Put g)) (emptied l.regs.hand) in
       let move = objects put_here l.regs.hand.items [] (λ n. omega (arith, objects_append n here.objects l.regs.hand.items)) in
-      subst (λ (xs : List SpanRef). Does m (with_cache put_here) b (at_step (Put g)) (clears m.rows (decides_free l' g) (behind g) xs)) (sym none)
-      (gives_hand m p locals b before.books p.cpus p.shards (domains_with put_here) (cut put_here) (limits_of m cpus) (at_step (Put g)) g l.freed l.regs.class.0 l.regs.hand.items gives refl refl move)
+      subst (λ (xs : List SpanRef). Does m (with_cache put_here) b (at_step (Put g)) (clears (cpu_calls m.rows) (decides_free l' (as_row g)) (behind (as_row g)) xs)) (sym none)
+      (gives_hand m p locals b before.books p.cpus p.shards (domains_with put_here) (cut put_here) (limits_of m cpus) (at_step (Put g)) (as_row g) l.freed l.regs.class.0 l.regs.hand.items gives refl (given_is g l.regs.hand.items) move)
 
   -- or the shard is to get it
-  passes_does : (g : Giving) → l.step ≡ does.Front (front.Domain (Put g)) → Does m (with_cache here) b (at_step (Put g)) (goes (at_step (Put g)) (does.Shard (shard.Give g)))
+  passes_does : (g : Giving CpuStep) → l.step ≡ does.Front (front.Domain (Put g)) → Does m (with_cache here) b (at_step (Put g)) (goes (at_step (Put g)) (does.Shard (shard.Give (as_row g))))
   passes_does g is =
-      carries_as m p locals b before.books p.cpus p.shards (domains_with here) (cut here) (at_step (Put g)) (goes (at_step (Put g)) (does.Shard (shard.Give g))) (giving_doing g) l.regs.class.0 l.regs.hand.items l.regs.hand.items l.rest refl
-      (objects here l.regs.hand.items l.regs.hand.items (λ n. refl)) (λ label o doing. freeing m limits cpus p locals b calls t l before (does.Front (front.Domain (Put g))) is label o doing) (record { account = refl; acts = refl; answers = refl })
+      let d : Doing = doing_about (about_giving about_cpu g) in
+      carries_as m p locals b before.books p.cpus p.shards (domains_with here) (cut here) (at_step (Put g)) (goes (at_step (Put g)) (does.Shard (shard.Give (as_row g)))) d l.regs.class.0 l.regs.hand.items l.regs.hand.items l.rest refl
+      (objects here l.regs.hand.items l.regs.hand.items (λ n. refl)) (λ label o doing. freeing m limits cpus p locals b calls t l before (does.Front (front.Domain (Put g))) is label o doing) (record { account = sym (given_is g l.regs.hand.items); acts = refl; answers = refl })
 
   domain_does : (row : DomainStep) → l.step ≡ does.Front (front.Domain row) → DomainShape (limits_of m cpus) l row → Does m (with_cache (domain_row m.rows here (at_step row) row).0) b (at_step row) (domain_row m.rows here (at_step row) row).1
   domain_does (Take asking) is shape = takes_does asking shape.0.hand shape.1 (without_last (class_row m.rows l).batch here.objects) (last_first (class_row m.rows l).batch here.objects) (λ n. objects_last n (class_row m.rows l).batch here.objects)
   domain_does (Put g) is shape =
-      cond_both (fits_into here l.regs.hand.items) (put_here, record l.regs { hand = emptied l.regs.hand }, next.Gave g) (here, l.regs, next.Give g)
-      (λ (x : Transfer × Regs × Next). Does m (with_cache x.0) b (at_step (Put g)) (follows m.rows (with_regs (at_step (Put g)) x.1) (call_about (about_giving g)) x.2)) (λ e. puts_does g shape.0.freed shape.1) (λ e. passes_does g is)
+      cond_both (fits_into here l.regs.hand.items) (put_here, record l.regs { hand = emptied l.regs.hand }, next.Gave (as_row g)) (here, l.regs, next.Give (as_row g))
+      (λ (x : Transfer × Regs × Next). Does m (with_cache x.0) b (at_step (Put g)) (follows (cpu_calls m.rows) (with_regs (at_step (Put g)) x.1) (call_about (about_giving about_cpu g)) x.2)) (λ e. puts_does g shape.0.freed shape.1) (λ e. passes_does g is)
 
 pub domain_acts_move : DomainActsMove
 domain_acts_move m limits cpus p locals b calls t l d caches row before is at =

@@ -1,5 +1,5 @@
--- What no act does: it lowers no number of ended calls, and refuses a call only where its step may.
-use Rattle.std.proofs.Common.{◌≡◌, ℕ, ◌*◌, ◌/◌, ◌≤◌, true, false, List, [], ◌∷◌, ◌++◌, Option, Some, None, refl, sym, ap, ◌∙◌, arith}
+-- What no act does, over any front-end: it lowers no number of ended calls, and refuses a call only where its step may.
+use Rattle.std.proofs.Common.{◌≡◌, ℕ, ◌*◌, ◌/◌, ◌≤◌, Bool, true, false, List, [], ◌∷◌, ◌++◌, Option, Some, None, refl, sym, ap, ◌∙◌, arith}
 use Rattle.std.specs.Prelude.{find}
 use Rattle.std.proofs.lemmas.Bool.{false≢true}
 use Rattle.tc_units.specs.Units.{page_bytes, pages_holding}
@@ -8,12 +8,10 @@ use Rattle.tc_units.specs.declared.units.Label.{Label}
 use Rattle.tc_units.specs.declared.spans.SpanRef.{SpanRef}
 use Rattle.tc_units.specs.declared.spans.SpanKind.{SpanKind}
 use Rattle.tc_units.specs.declared.spans.SpanKind.TheVariants.{Small, Large}
-use Rattle.tc_units.specs.declared.spans.ClassRow.{ClassRow}
 use Rattle.tc_model.specs.declared.calls.Call.{Call}
 use Rattle.tc_model.specs.declared.calls.Call.TheVariants.{Malloc, Free, Release}
 use Rattle.tc_model.specs.declared.answers.Answer.{Answer}
 use Rattle.tc_model.specs.declared.answers.Answer.TheVariants.{Block, Freed, FreedNull, Released, NoBlock}
-use Rattle.tc_model.specs.Run.{run}
 use Rattle.page_map.specs.Spans.{SpanMap, holds}
 use Rattle.name_table.specs.declared.table.NameState.{NameState}
 use Rattle.name_table.specs.declared.table.NameState.TheVariants as name
@@ -21,109 +19,99 @@ use Rattle.name_table.specs.Names.{state_of}
 use Rattle.heap_rules.specs.Heap as heaps
 use Rattle.heap_rules.specs.New.{Placed, new}
 use Rattle.heap_rules.specs.Release.{release}
-use Rattle.rseq_core.specs.declared.cpu_part.CpuPart.{CpuPart}
 use Rattle.rseq_core.specs.declared.regs.Regs.{Regs}
 use Rattle.rseq_core.specs.Bags.{without_first, emptied}
-use Rattle.transfer_cache.specs.Transfer.{Transfer}
 use Rattle.central_free.specs.Central.{opening}
 use Rattle.class_shard.specs.Shard as shards
 use Rattle.holdings.specs.Runs.{small, address_of}
 use Rattle.call_steps.specs.declared.step.Asking.{Asking}
 use Rattle.call_steps.specs.declared.step.Serving.{Serving}
 use Rattle.call_steps.specs.declared.step.Giving.{Giving}
-use Rattle.call_steps.specs.declared.step.Giving.TheVariants as giving
 use Rattle.call_steps.specs.declared.step.Onward.{Onward}
-use Rattle.call_steps.specs.declared.step.Onward.TheVariants as onward
 use Rattle.call_steps.specs.declared.step.Step.{Step}
-use Rattle.call_steps.specs.declared.step.Step.TheVariants as does
 use Rattle.call_steps.specs.declared.step.Next.{Next}
-use Rattle.call_steps.specs.declared.step.Next.TheVariants as next
-use Rattle.call_steps.specs.declared.step.CpuRow.{CpuRow}
-use Rattle.call_steps.specs.declared.step.CpuRow.TheVariants as front
-use Rattle.call_steps.specs.declared.step.CpuStep.{CpuStep}
 use Rattle.call_steps.specs.declared.step.ShardStep.{ShardStep}
-use Rattle.call_steps.specs.declared.step.ShardStep.TheVariants as shard
-use Rattle.call_steps.specs.declared.step.DomainStep.{DomainStep}
 use Rattle.call_steps.specs.declared.step.HeapStep.{HeapStep}
-use Rattle.call_steps.specs.declared.step.HeapStep.TheVariants as heap
 use Rattle.call_steps.specs.declared.step.MapStep.{MapStep}
+use Rattle.call_steps.specs.declared.step.Giving.TheVariants as giving
+use Rattle.call_steps.specs.declared.step.Onward.TheVariants as onward
+use Rattle.call_steps.specs.declared.step.Step.TheVariants as does
+use Rattle.call_steps.specs.declared.step.Next.TheVariants as next
+use Rattle.call_steps.specs.declared.step.ShardStep.TheVariants as shard
+use Rattle.call_steps.specs.declared.step.HeapStep.TheVariants as heap
 use Rattle.call_steps.specs.declared.step.MapStep.TheVariants as mapped
 use Rattle.call_steps.specs.declared.step.NamesStep.{NamesStep}
 use Rattle.call_steps.specs.declared.step.NamesStep.TheVariants as names
+use Rattle.call_steps.specs.Fronts.{FrontCalls}
 use Rattle.call_steps.specs.Local.{Local, decided, ends, class_row, Decided}
-use Rattle.call_steps.specs.Calls.{about_row, call_about}
+use Rattle.call_steps.specs.Calls.{About, call_about}
 use Rattle.call_steps.specs.Hands.{with_hand, stocks, serves_first, goes_onward, gave, clears, with_freed}
-use Rattle.call_steps.specs.CpuActs.{Left, cpu_acts, domain_acts}
-use Rattle.call_steps.specs.Follows.{ComesWith, says as says_in, goes_or_ends, follows, with_next, cpu_row, domain_row}
-use Rattle.call_steps.proofs.Nexts.{cpu_comes, domain_comes}
+use Rattle.call_steps.specs.Follows.{ComesWith, says as says_in, goes_or_ends, follows}
 use Rattle.call_steps.specs.ShardActs.{with_more, fetches, with_spans_behind, shard_row}
-use Rattle.call_steps.specs.Acts.{after_new, after_new_span, frees_span, without_first_span, heap_row, found, after_lookup, clears_span, map_row, after_take, names_row, cpu_after, shard_after, heap_after, map_after, names_after, domain_after}
-use Rattle.alloc_rules.specs.declared.part.Part.{Part}
-use Rattle.alloc_rules.specs.declared.part.Part.TheVariants as part
-use Rattle.alloc_rules.specs.Machine.{after}
+use Rattle.call_steps.specs.Acts.{after_new, after_new_span, frees_span, without_first_span, heap_row, found, after_lookup, clears_span, map_row, after_take, names_row, shard_after, heap_after, map_after, names_after}
 use Rattle.call_steps.specs.Refusals.{is_refusal, may_refuse}
-use Rattle.alloc_rules.specs.Answers.{Decides, RefusesThere}
+use Rattle.alloc_rules.specs.Answers.{Decides}
 use Rattle.alloc_rules.proofs.Answering.{GoesAs, ends_goes, decides_by, decides_none}
 
 -- An act leaves no fewer ended calls, and refused none.
-record Plain (l y : Local) : Type 0 where
-  ended : l.ended ≤ y.ended
-  plain : (x : Answer) → is_refusal x ≡ true → Decides l y x → ⊥
+pub record Plain {V R : Type 0} (l y : Local V R) : Type 0 where
+  pub ended : l.ended ≤ y.ended
+  pub plain : (x : Answer) → is_refusal x ≡ true → Decides l y x → ⊥
 
 -- it answered nothing, or something else
-quiet : (l y : Local) → l.ended ≤ y.ended → y.answers ≡ l.answers → Plain l y
+pub quiet : {V R : Type 0} (l y : Local V R) → l.ended ≤ y.ended → y.answers ≡ l.answers → Plain l y
 quiet l y ended same = record { ended = ended; plain = λ x refusal. decides_none l y x same }
 
-says : (l y : Local) (call : Call) (answer : Answer) → is_refusal answer ≡ false → l.ended ≤ y.ended → y.answers ≡ l.answers ++ record { act = l.acts; call = call; answer = answer } ∷ [] → Plain l y
+says : {V R : Type 0} (l y : Local V R) (call : Call) (answer : Answer) → is_refusal answer ≡ false → l.ended ≤ y.ended → y.answers ≡ l.answers ++ record { act = l.acts; call = call; answer = answer } ∷ [] → Plain l y
 says l y call answer other ended is = record { ended = ended; plain = λ x refusal d. absurd (false≢true (sym other ∙ (ap is_refusal ((decides_by l y call answer x is).0 d) ∙ refusal))) }
 
 -- so it is for a local with other registers
-from : (l x y : Local) → x.answers ≡ l.answers → x.acts ≡ l.acts → x.ended ≡ l.ended → Plain x y → Plain l y
+from : {V R : Type 0} (l x y : Local V R) → x.answers ≡ l.answers → x.acts ≡ l.acts → x.ended ≡ l.ended → Plain x y → Plain l y
 from l x y answers acts ended leaves = record {
   ended = omega (arith, ended, leaves.ended);
   plain = λ a refusal d. leaves.plain a refusal (record { call = d.call; answers = d.answers ∙ (ap (λ (ds : List Decided). ds ++ record { act = l.acts; call = d.call; answer = a } ∷ []) (sym answers) ∙ ap (λ n. x.answers ++ record { act = n; call = d.call; answer = a } ∷ []) (sym acts)) });
 }
 
 -- An act of a step leaves no fewer ended calls, and refused a call only as its step may.
-record Leaves (s : Step) (l y : Local) : Type 0 where
-  ended : l.ended ≤ y.ended
-  there : (x : Answer) → is_refusal x ≡ true → may_refuse s x ≡ false → Decides l y x → ⊥
+pub record Leaves {V R : Type 0} (refuses : R → Answer → Bool) (s : Step R) (l y : Local V R) : Type 0 where
+  pub ended : l.ended ≤ y.ended
+  pub there : (x : Answer) → is_refusal x ≡ true → may_refuse refuses s x ≡ false → Decides l y x → ⊥
 
-leaves_of : (s : Step) (l y : Local) → Plain l y → Leaves s l y
-leaves_of s l y is = record { ended = is.ended; there = λ x refusal _. is.plain x refusal }
+pub leaves_of : {V R : Type 0} (refuses : R → Answer → Bool) (s : Step R) (l y : Local V R) → Plain l y → Leaves refuses s l y
+leaves_of refuses s l y is = record { ended = is.ended; there = λ x refusal _. is.plain x refusal }
 
-refuses : (s : Step) (l y : Local) (call : Call) (answer : Answer) → may_refuse s answer ≡ true → l.ended ≤ y.ended → y.answers ≡ l.answers ++ record { act = l.acts; call = call; answer = answer } ∷ [] → Leaves s l y
-refuses s l y call answer may ended is = record { ended = ended; there = λ x refusal none d. absurd (false≢true (sym none ∙ (ap (may_refuse s) (sym ((decides_by l y call answer x is).0 d)) ∙ may))) }
+refused : {V R : Type 0} (refuses : R → Answer → Bool) (s : Step R) (l y : Local V R) (call : Call) (answer : Answer) → may_refuse refuses s answer ≡ true → l.ended ≤ y.ended → y.answers ≡ l.answers ++ record { act = l.acts; call = call; answer = answer } ∷ [] → Leaves refuses s l y
+refused refuses s l y call answer may ended is = record { ended = ended; there = λ x refusal none d. absurd (false≢true (sym none ∙ (ap (may_refuse refuses s) (sym ((decides_by l y call answer x is).0 d)) ∙ may))) }
 
-module _ (rows : List ClassRow) where
+module _ {V R : Type 0} (e : FrontCalls V R) (about : R → About) (refuses : R → Answer → Bool) where
   -- the ways in which a call goes on
-  stocks_goes : (x : Local) (s : Serving) (others : List Addr) → GoesAs x (stocks x s others)
+  stocks_goes : (x : Local V R) (s : Serving) (others : List Addr) → GoesAs x (stocks e x s others)
   stocks_goes x s [] = record { ended = omega arith; answers = refl }
   stocks_goes x s (a ∷ others) = record { ended = omega arith; answers = refl }
 
-  onward_goes : (x : Local) (next : Onward) → GoesAs x (goes_onward rows x next)
+  onward_goes : (x : Local V R) (next : Onward R) → GoesAs x (goes_onward e x next)
   onward_goes x (onward.Publish s) = record { ended = omega arith; answers = refl }
   onward_goes x (onward.Row k row) = record { ended = omega arith; answers = refl }
-  onward_goes x onward.End = ends_goes rows x
+  onward_goes x onward.End = ends_goes e x
 
-  clears_goes : (x : Local) (next : Onward) (spans : List SpanRef) → GoesAs x (clears rows x next spans)
+  clears_goes : (x : Local V R) (next : Onward R) (spans : List SpanRef) → GoesAs x (clears e x next spans)
   clears_goes x next [] = onward_goes x next
   clears_goes x next (s ∷ others) = record { ended = omega arith; answers = refl }
 
   -- an act that decides a call and ends it
-  ends_saying : (l : Local) (call : Call) (answer : Answer) → is_refusal answer ≡ false → Plain l (ends rows (decided l call answer))
-  ends_saying l call answer other = let g = ends_goes rows (decided l call answer) in says l _ call answer other g.ended g.answers
+  ends_saying : (l : Local V R) (call : Call) (answer : Answer) → is_refusal answer ≡ false → Plain l (ends e (decided l call answer))
+  ends_saying l call answer other = let g = ends_goes e (decided l call answer) in says l _ call answer other g.ended g.answers
 
-  ends_quietly : (l : Local) → Plain l (ends rows l)
-  ends_quietly l = let g = ends_goes rows l in quiet l _ g.ended g.answers
+  ends_quietly : (l : Local V R) → Plain l (ends e l)
+  ends_quietly l = let g = ends_goes e l in quiet l _ g.ended g.answers
 
-  serves_leaves : (x : Local) (a : Asking) (hand : List Addr) → Plain x (serves_first rows x a hand)
+  serves_leaves : (x : Local V R) (a : Asking) (hand : List Addr) → Plain x (serves_first e x a hand)
   serves_leaves x a [] = quiet x x (omega arith) refl
   serves_leaves x a (o ∷ others) =
-      let g = stocks_goes (decided (with_hand x (without_first 1 x.regs.hand)) (Malloc a.label a.size) (Block o (class_row rows x).size)) (record { label = a.label; addr = o }) others in
-      says x _ (Malloc a.label a.size) (Block o (class_row rows x).size) refl g.ended g.answers
+      let g = stocks_goes (decided (with_hand x (without_first 1 x.regs.hand)) (Malloc a.label a.size) (Block o (class_row e.rows x).size)) (record { label = a.label; addr = o }) others in
+      says x _ (Malloc a.label a.size) (Block o (class_row e.rows x).size) refl g.ended g.answers
 
-  gave_leaves : (x : Local) (g : Giving) → Plain x (gave rows x g)
+  gave_leaves : (x : Local V R) (g : Giving R) → Plain x (gave e x g)
   gave_leaves x (giving.Rest s) = let g = clears_goes x (onward.Publish s) x.freed.items in quiet x _ g.ended g.answers
   gave_leaves x (giving.Freed f) =
       let g = clears_goes (decided x (Free f.label) (Freed f.addr)) onward.End x.freed.items in
@@ -132,39 +120,39 @@ module _ (rows : List ClassRow) where
   gave_leaves x giving.End = let g = clears_goes x onward.End x.freed.items in quiet x _ g.ended g.answers
 
   -- the page heap
-  frees_leaves : (h : heaps.Heap) (l : Local) (next : Onward) (xs : List SpanRef) → Plain l (frees_span rows h l next xs).1
+  frees_leaves : (h : heaps.Heap) (l : Local V R) (next : Onward R) (xs : List SpanRef) → Plain l (frees_span e h l next xs).1
   frees_leaves h l next [] = quiet l l (omega arith) refl
   frees_leaves h l next (s ∷ others) = let g = clears_goes (with_freed l (without_first_span l.freed others)) next others in quiet l _ g.ended g.answers
 
-  new_leaves : (h : heaps.Heap) (l : Local) (label : Label) (size : ℕ) (o : Option Placed) → Leaves (does.Heap (heap.New label size)) l (after_new h l label size o).1
-  new_leaves h l label size None = refuses (does.Heap (heap.New label size)) l _ (Malloc label size) NoBlock refl (omega arith) refl
-  new_leaves h l label size (Some x) = leaves_of (does.Heap (heap.New label size)) l _ (says l _ (Malloc label size) (Block (address_of x.run) (x.run.pages * page_bytes)) refl (omega arith) refl)
+  new_leaves : (h : heaps.Heap) (l : Local V R) (label : Label) (size : ℕ) (o : Option Placed) → Leaves refuses (does.Heap (heap.New label size)) l (after_new h l label size o).1
+  new_leaves h l label size None = refused refuses (does.Heap (heap.New label size)) l _ (Malloc label size) NoBlock refl (omega arith) refl
+  new_leaves h l label size (Some x) = leaves_of refuses (does.Heap (heap.New label size)) l _ (says l _ (Malloc label size) (Block (address_of x.run) (x.run.pages * page_bytes)) refl (omega arith) refl)
 
-  span_leaves : (h : heaps.Heap) (l : Local) (a : Asking) (o : Option Placed) → Leaves (does.Heap (heap.NewSpan a)) l (after_new_span h l a o).1
-  span_leaves h l a None = refuses (does.Heap (heap.NewSpan a)) l _ (Malloc a.label a.size) NoBlock refl (omega arith) refl
-  span_leaves h l a (Some x) = leaves_of (does.Heap (heap.NewSpan a)) l _ (quiet l _ (omega arith) refl)
+  span_leaves : (h : heaps.Heap) (l : Local V R) (a : Asking) (o : Option Placed) → Leaves refuses (does.Heap (heap.NewSpan a)) l (after_new_span h l a o).1
+  span_leaves h l a None = refused refuses (does.Heap (heap.NewSpan a)) l _ (Malloc a.label a.size) NoBlock refl (omega arith) refl
+  span_leaves h l a (Some x) = leaves_of refuses (does.Heap (heap.NewSpan a)) l _ (quiet l _ (omega arith) refl)
 
-  heap_leaves : (h : heaps.Heap) (l : Local) (row : HeapStep) → Leaves (does.Heap row) l (heap_row rows h l row).1
+  heap_leaves : (h : heaps.Heap) (l : Local V R) (row : HeapStep R) → Leaves refuses (does.Heap row) l (heap_row e h l row).1
   heap_leaves h l (heap.New label size) = new_leaves h l label size (new h (pages_holding size))
-  heap_leaves h l (heap.NewSpan a) = span_leaves h l a (new h (class_row rows l).pages)
-  heap_leaves h l (heap.GiveBack label run) = leaves_of (does.Heap (heap.GiveBack label run)) l _ (ends_saying l (Free label) (Freed (address_of run)) refl)
-  heap_leaves h l (heap.FreeSpan next) = leaves_of (does.Heap (heap.FreeSpan next)) l _ (frees_leaves h l next l.freed.items)
-  heap_leaves h l (heap.Unback pages) = leaves_of (does.Heap (heap.Unback pages)) l _ (ends_saying l (Release pages) (Released (release h pages).pages) refl)
+  heap_leaves h l (heap.NewSpan a) = span_leaves h l a (new h (class_row e.rows l).pages)
+  heap_leaves h l (heap.GiveBack label run) = leaves_of refuses (does.Heap (heap.GiveBack label run)) l _ (ends_saying l (Free label) (Freed (address_of run)) refl)
+  heap_leaves h l (heap.FreeSpan next) = leaves_of refuses (does.Heap (heap.FreeSpan next)) l _ (frees_leaves h l next l.freed.items)
+  heap_leaves h l (heap.Unback pages) = leaves_of refuses (does.Heap (heap.Unback pages)) l _ (ends_saying l (Release pages) (Released (release h pages).pages) refl)
 
   -- the page map
-  found_leaves : (l : Local) (label : Label) (addr : Addr) (span : SpanRef) (kind : SpanKind) → Plain l (found l label addr span kind)
+  found_leaves : (l : Local V R) (label : Label) (addr : Addr) (span : SpanRef) (kind : SpanKind) → Plain l (found e l label addr span kind)
   found_leaves l label addr span (Small k) = quiet l _ (omega arith) refl
   found_leaves l label addr span Large = quiet l _ (omega arith) refl
 
-  lookup_leaves : (l : Local) (label : Label) (addr : Addr) (o : Option SpanRef) → Plain l (after_lookup l label addr o)
+  lookup_leaves : (l : Local V R) (label : Label) (addr : Addr) (o : Option SpanRef) → Plain l (after_lookup e l label addr o)
   lookup_leaves l label addr None = quiet l l (omega arith) refl
   lookup_leaves l label addr (Some span) = found_leaves l label addr span span.kind
 
-  clears_span_leaves : (m : SpanMap) (l : Local) (next : Onward) (xs : List SpanRef) → Plain l (clears_span m l next xs).1
+  clears_span_leaves : (m : SpanMap) (l : Local V R) (next : Onward R) (xs : List SpanRef) → Plain l (clears_span m l next xs).1
   clears_span_leaves m l next [] = quiet l l (omega arith) refl
   clears_span_leaves m l next (s ∷ others) = quiet l _ (omega arith) refl
 
-  map_leaves : (m : SpanMap) (l : Local) (row : MapStep) → Plain l (map_row m l row).1
+  map_leaves : (m : SpanMap) (l : Local V R) (row : MapStep R) → Plain l (map_row e m l row).1
   map_leaves m l (mapped.Set label run) = quiet l _ (omega arith) refl
   map_leaves m l (mapped.SetSpan a run) = quiet l _ (omega arith) refl
   map_leaves m l (mapped.Lookup label addr) = lookup_leaves l label addr (find (holds (addr.0 / page_bytes)) m.spans)
@@ -172,131 +160,83 @@ module _ (rows : List ClassRow) where
   map_leaves m l (mapped.ClearSpan next) = clears_span_leaves m l next l.freed.items
 
   -- the names
-  take_leaves : (ns : List NameState) (l : Local) (label : Label) (s : NameState) → Plain l (after_take rows ns l label s).1
+  take_leaves : (ns : List NameState) (l : Local V R) (label : Label) (s : NameState) → Plain l (after_take e ns l label s).1
   take_leaves ns l label name.Unpublished = quiet l l (omega arith) refl
   take_leaves ns l label name.Taken = quiet l l (omega arith) refl
   take_leaves ns l label (name.Published None) = ends_saying l (Free label) FreedNull refl
   take_leaves ns l label (name.Published (Some addr)) = quiet l _ (omega arith) refl
 
-  names_leaves : (ns : List NameState) (l : Local) (row : NamesStep) → Plain l (names_row rows ns l row).1
+  names_leaves : (ns : List NameState) (l : Local V R) (row : NamesStep) → Plain l (names_row e ns l row).1
   names_leaves ns l (names.Publish label value) = ends_quietly l
   names_leaves ns l (names.Take label) = take_leaves ns l label (state_of ns label.0)
 
   -- a shard
-  fetch_leaves : (l : Local) (a : Asking) (objects : List Addr) → Plain l (fetches rows l a objects)
+  fetch_leaves : (l : Local V R) (a : Asking) (objects : List Addr) → Plain l (fetches e l a objects)
   fetch_leaves l a [] = quiet l _ (omega arith) refl
   fetch_leaves l a (o ∷ others) = from l (with_more l (o ∷ others)) _ refl refl refl (serves_leaves (with_more l (o ∷ others)) a (with_more l (o ∷ others)).regs.hand.items)
 
-  shard_leaves : (s : shards.Shard) (l : Local) (row : ShardStep) → Plain l (shard_row rows s l row).1
-  shard_leaves s l (shard.Fetch a) = fetch_leaves l a (shards.fetched (class_row rows l).batch s)
+  shard_leaves : (s : shards.Shard) (l : Local V R) (row : ShardStep R) → Plain l (shard_row e s l row).1
+  shard_leaves s l (shard.Fetch a) = fetch_leaves l a (shards.fetched (class_row e.rows l).batch s)
   shard_leaves s l (shard.AddFetch a run) =
-      let x : Local = with_more l (opening (small l.regs.class run) s.central.row.size (class_row rows l).batch) in
+      let x : Local V R = with_more l (opening (small l.regs.class run) s.central.row.size (class_row e.rows l).batch) in
       from l x _ refl refl refl (serves_leaves x a x.regs.hand.items)
   shard_leaves s l (shard.Give g) =
-      let x : Local = with_freed (with_hand l (emptied l.regs.hand)) (with_spans_behind l.freed (shards.freed_by l.regs.hand.items s)) in
+      let x : Local V R = with_freed (with_hand l (emptied l.regs.hand)) (with_spans_behind l.freed (shards.freed_by l.regs.hand.items s)) in
       from l x _ refl refl refl (gave_leaves x g)
 
   -- an act of the per-CPU caches, by what comes behind it
-  tells : (s : Step) (l y : Local) (call : Call) (answer : Answer) → (is_refusal answer ≡ true → may_refuse s answer ≡ true) → l.ended ≤ y.ended → y.answers ≡ l.answers ++ record { act = l.acts; call = call; answer = answer } ∷ [] → Leaves s l y
+  tells : (s : Step R) (l y : Local V R) (call : Call) (answer : Answer) → (is_refusal answer ≡ true → may_refuse refuses s answer ≡ true) → l.ended ≤ y.ended → y.answers ≡ l.answers ++ record { act = l.acts; call = call; answer = answer } ∷ [] → Leaves refuses s l y
   tells s l y call answer may ended is =
       record {
         ended = ended;
-        there = λ x refusal none d. (let same : answer ≡ x = (decides_by l y call answer x is).0 d in absurd (false≢true (sym none ∙ (ap (may_refuse s) (sym same) ∙ may (ap is_refusal same ∙ refusal)))));
+        there = λ x refusal none d. (let same : answer ≡ x = (decides_by l y call answer x is).0 d in absurd (false≢true (sym none ∙ (ap (may_refuse refuses s) (sym same) ∙ may (ap is_refusal same ∙ refusal)))));
       }
 
-  decides_leaves : (s : Step) (x : Local) (call : Option Call) (answer : Answer) (row : Option CpuRow) → (is_refusal answer ≡ true → may_refuse s answer ≡ true) → Leaves s x (goes_or_ends rows (says_in x call answer) row)
-  decides_leaves s x None answer None may = leaves_of s x _ (ends_quietly x)
-  decides_leaves s x None answer (Some row) may = leaves_of s x _ (quiet x _ (omega arith) refl)
-  decides_leaves s x (Some call) answer None may = let g = ends_goes rows (decided x call answer) in tells s x _ call answer may g.ended g.answers
+  decides_leaves : (s : Step R) (x : Local V R) (call : Option Call) (answer : Answer) (row : Option R) → (is_refusal answer ≡ true → may_refuse refuses s answer ≡ true) → Leaves refuses s x (goes_or_ends e (says_in x call answer) row)
+  decides_leaves s x None answer None may = leaves_of refuses s x _ (ends_quietly x)
+  decides_leaves s x None answer (Some row) may = leaves_of refuses s x _ (quiet x _ (omega arith) refl)
+  decides_leaves s x (Some call) answer None may = let g = ends_goes e (decided x call answer) in tells s x _ call answer may g.ended g.answers
   decides_leaves s x (Some call) answer (Some row) may = tells s x _ call answer may (omega arith) refl
 
-  follows_leaves : (row : CpuRow) (x : Local) (domains : ℕ) (r : Regs) (n : Next) → ComesWith (λ y. Unit {0}) row domains r n → Leaves (does.Front row) x (follows rows x (call_about (about_row row)) n)
-  follows_leaves row x domains r (next.Row to) may = leaves_of (does.Front row) x _ (quiet x _ (omega arith) refl)
-  follows_leaves row x domains r (next.Serve a) may = leaves_of (does.Front row) x _ (serves_leaves x a x.regs.hand.items)
-  follows_leaves row x domains r (next.Fetch a) may = leaves_of (does.Front row) x _ (quiet x _ (omega arith) refl)
-  follows_leaves row x domains r (next.Give g) may = leaves_of (does.Front row) x _ (quiet x _ (omega arith) refl)
-  follows_leaves row x domains r (next.Gave g) may = leaves_of (does.Front row) x _ (gave_leaves x g)
-  follows_leaves row x domains r (next.Publish s) may = leaves_of (does.Front row) x _ (quiet x _ (omega arith) refl)
-  follows_leaves row x domains r (next.Freed f) may = leaves_of (does.Front row) x _ (ends_saying x (Free f.label) (Freed f.addr) refl)
-  follows_leaves row x domains r (next.Decide answer to) may = decides_leaves (does.Front row) x (call_about (about_row row)) answer to may.1
-  follows_leaves row x domains r next.End may = leaves_of (does.Front row) x _ (ends_quietly x)
+  pub follows_leaves : (row : R) (x : Local V R) (r : Regs) (n : Next R) → ComesWith about refuses (λ y. Unit {0}) row r n → Leaves refuses (does.Front row) x (follows e x (call_about (about row)) n)
+  follows_leaves row x r (next.Row to) may = leaves_of refuses (does.Front row) x _ (quiet x _ (omega arith) refl)
+  follows_leaves row x r (next.Serve a) may = leaves_of refuses (does.Front row) x _ (serves_leaves x a x.regs.hand.items)
+  follows_leaves row x r (next.Fetch a) may = leaves_of refuses (does.Front row) x _ (quiet x _ (omega arith) refl)
+  follows_leaves row x r (next.Give g) may = leaves_of refuses (does.Front row) x _ (quiet x _ (omega arith) refl)
+  follows_leaves row x r (next.Gave g) may = leaves_of refuses (does.Front row) x _ (gave_leaves x g)
+  follows_leaves row x r (next.Publish s) may = leaves_of refuses (does.Front row) x _ (quiet x _ (omega arith) refl)
+  follows_leaves row x r (next.Freed f) may = leaves_of refuses (does.Front row) x _ (ends_saying x (Free f.label) (Freed f.addr) refl)
+  follows_leaves row x r (next.Decide answer to) may = decides_leaves (does.Front row) x (call_about (about row)) answer to may.1
+  follows_leaves row x r next.End may = leaves_of refuses (does.Front row) x _ (ends_quietly x)
 
-  front_leaves : {P : Type 0} (l : Local) (row : CpuRow) (x : Left P) → ComesWith (λ y. Unit {0}) row x.seat.domains x.regs x.next → Leaves (does.Front row) l (with_next rows l (about_row row) x).1
-  front_leaves l row x may =
-      let leaves = follows_leaves row (record l { seat = x.seat; regs = x.regs }) x.seat.domains x.regs x.next may in
-      record { ended = leaves.ended; there = λ a refusal none d. leaves.there a refusal none (record { call = d.call; answers = d.answers }) }
+  pub shard_after_leaves : (x : shards.Shard) (l : Local V R) (s : Step R) → Leaves refuses s l (shard_after e x l s).1
+  shard_after_leaves x l (does.Front row) = leaves_of refuses (does.Front row) l l (quiet l l (omega arith) refl)
+  shard_after_leaves x l (does.Shard row) = leaves_of refuses (does.Shard row) l _ (shard_leaves x l row)
+  shard_after_leaves x l (does.Heap row) = leaves_of refuses (does.Heap row) l l (quiet l l (omega arith) refl)
+  shard_after_leaves x l (does.Map row) = leaves_of refuses (does.Map row) l l (quiet l l (omega arith) refl)
+  shard_after_leaves x l (does.Names row) = leaves_of refuses (does.Names row) l l (quiet l l (omega arith) refl)
+  shard_after_leaves x l does.Ended = leaves_of refuses does.Ended l l (quiet l l (omega arith) refl)
 
-  cpu_leaves : (p : CpuPart) (l : Local) (row : CpuStep) → Leaves (does.Front (front.Cpu row)) l (cpu_row rows p l row).1
-  cpu_leaves p l row = front_leaves l (front.Cpu row) (cpu_acts rows p l.seat l.regs row) (cpu_comes (λ y. Unit {0}) rows l.seat p l.regs row (λ a is done. tt)).0
-
-  domain_leaves : (t : Transfer) (l : Local) (row : DomainStep) → Leaves (does.Front (front.Domain row)) l (domain_row rows t l row).1
-  domain_leaves t l row = front_leaves l (front.Domain row) (domain_acts rows t l.seat l.regs row) (domain_comes (λ y. Unit {0}) rows l.seat t l.regs row (λ a objects is some. tt)).0
-
-  -- a step on another kind of part changes nothing
-  cpu_after_leaves : (p : CpuPart) (l : Local) (s : Step) → Leaves s l (cpu_after rows p l s).1
-  cpu_after_leaves p l (does.Front (front.Cpu row)) = cpu_leaves p l row
-  cpu_after_leaves p l (does.Front (front.Domain row)) = leaves_of (does.Front (front.Domain row)) l l (quiet l l (omega arith) refl)
-  cpu_after_leaves p l (does.Shard row) = leaves_of (does.Shard row) l l (quiet l l (omega arith) refl)
-  cpu_after_leaves p l (does.Heap row) = leaves_of (does.Heap row) l l (quiet l l (omega arith) refl)
-  cpu_after_leaves p l (does.Map row) = leaves_of (does.Map row) l l (quiet l l (omega arith) refl)
-  cpu_after_leaves p l (does.Names row) = leaves_of (does.Names row) l l (quiet l l (omega arith) refl)
-  cpu_after_leaves p l does.Ended = leaves_of does.Ended l l (quiet l l (omega arith) refl)
-
-  shard_after_leaves : (x : shards.Shard) (l : Local) (s : Step) → Leaves s l (shard_after rows x l s).1
-  shard_after_leaves x l (does.Front (front.Cpu row)) = leaves_of (does.Front (front.Cpu row)) l l (quiet l l (omega arith) refl)
-  shard_after_leaves x l (does.Front (front.Domain row)) = leaves_of (does.Front (front.Domain row)) l l (quiet l l (omega arith) refl)
-  shard_after_leaves x l (does.Shard row) = leaves_of (does.Shard row) l _ (shard_leaves x l row)
-  shard_after_leaves x l (does.Heap row) = leaves_of (does.Heap row) l l (quiet l l (omega arith) refl)
-  shard_after_leaves x l (does.Map row) = leaves_of (does.Map row) l l (quiet l l (omega arith) refl)
-  shard_after_leaves x l (does.Names row) = leaves_of (does.Names row) l l (quiet l l (omega arith) refl)
-  shard_after_leaves x l does.Ended = leaves_of does.Ended l l (quiet l l (omega arith) refl)
-
-  heap_after_leaves : (h : heaps.Heap) (l : Local) (s : Step) → Leaves s l (heap_after rows h l s).1
-  heap_after_leaves h l (does.Front (front.Cpu row)) = leaves_of (does.Front (front.Cpu row)) l l (quiet l l (omega arith) refl)
-  heap_after_leaves h l (does.Front (front.Domain row)) = leaves_of (does.Front (front.Domain row)) l l (quiet l l (omega arith) refl)
-  heap_after_leaves h l (does.Shard row) = leaves_of (does.Shard row) l l (quiet l l (omega arith) refl)
+  pub heap_after_leaves : (h : heaps.Heap) (l : Local V R) (s : Step R) → Leaves refuses s l (heap_after e h l s).1
+  heap_after_leaves h l (does.Front row) = leaves_of refuses (does.Front row) l l (quiet l l (omega arith) refl)
+  heap_after_leaves h l (does.Shard row) = leaves_of refuses (does.Shard row) l l (quiet l l (omega arith) refl)
   heap_after_leaves h l (does.Heap row) = heap_leaves h l row
-  heap_after_leaves h l (does.Map row) = leaves_of (does.Map row) l l (quiet l l (omega arith) refl)
-  heap_after_leaves h l (does.Names row) = leaves_of (does.Names row) l l (quiet l l (omega arith) refl)
-  heap_after_leaves h l does.Ended = leaves_of does.Ended l l (quiet l l (omega arith) refl)
+  heap_after_leaves h l (does.Map row) = leaves_of refuses (does.Map row) l l (quiet l l (omega arith) refl)
+  heap_after_leaves h l (does.Names row) = leaves_of refuses (does.Names row) l l (quiet l l (omega arith) refl)
+  heap_after_leaves h l does.Ended = leaves_of refuses does.Ended l l (quiet l l (omega arith) refl)
 
-  map_after_leaves : (m : SpanMap) (l : Local) (s : Step) → Leaves s l (map_after m l s).1
-  map_after_leaves m l (does.Front (front.Cpu row)) = leaves_of (does.Front (front.Cpu row)) l l (quiet l l (omega arith) refl)
-  map_after_leaves m l (does.Front (front.Domain row)) = leaves_of (does.Front (front.Domain row)) l l (quiet l l (omega arith) refl)
-  map_after_leaves m l (does.Shard row) = leaves_of (does.Shard row) l l (quiet l l (omega arith) refl)
-  map_after_leaves m l (does.Heap row) = leaves_of (does.Heap row) l l (quiet l l (omega arith) refl)
-  map_after_leaves m l (does.Map row) = leaves_of (does.Map row) l _ (map_leaves m l row)
-  map_after_leaves m l (does.Names row) = leaves_of (does.Names row) l l (quiet l l (omega arith) refl)
-  map_after_leaves m l does.Ended = leaves_of does.Ended l l (quiet l l (omega arith) refl)
+  pub map_after_leaves : (m : SpanMap) (l : Local V R) (s : Step R) → Leaves refuses s l (map_after e m l s).1
+  map_after_leaves m l (does.Front row) = leaves_of refuses (does.Front row) l l (quiet l l (omega arith) refl)
+  map_after_leaves m l (does.Shard row) = leaves_of refuses (does.Shard row) l l (quiet l l (omega arith) refl)
+  map_after_leaves m l (does.Heap row) = leaves_of refuses (does.Heap row) l l (quiet l l (omega arith) refl)
+  map_after_leaves m l (does.Map row) = leaves_of refuses (does.Map row) l _ (map_leaves m l row)
+  map_after_leaves m l (does.Names row) = leaves_of refuses (does.Names row) l l (quiet l l (omega arith) refl)
+  map_after_leaves m l does.Ended = leaves_of refuses does.Ended l l (quiet l l (omega arith) refl)
 
-  names_after_leaves : (ns : List NameState) (l : Local) (s : Step) → Leaves s l (names_after rows ns l s).1
-  names_after_leaves ns l (does.Front (front.Cpu row)) = leaves_of (does.Front (front.Cpu row)) l l (quiet l l (omega arith) refl)
-  names_after_leaves ns l (does.Front (front.Domain row)) = leaves_of (does.Front (front.Domain row)) l l (quiet l l (omega arith) refl)
-  names_after_leaves ns l (does.Shard row) = leaves_of (does.Shard row) l l (quiet l l (omega arith) refl)
-  names_after_leaves ns l (does.Heap row) = leaves_of (does.Heap row) l l (quiet l l (omega arith) refl)
-  names_after_leaves ns l (does.Map row) = leaves_of (does.Map row) l l (quiet l l (omega arith) refl)
-  names_after_leaves ns l (does.Names row) = leaves_of (does.Names row) l _ (names_leaves ns l row)
-  names_after_leaves ns l does.Ended = leaves_of does.Ended l l (quiet l l (omega arith) refl)
-
-  domain_after_leaves : (t : Transfer) (l : Local) (s : Step) → Leaves s l (domain_after rows t l s).1
-  domain_after_leaves t l (does.Front (front.Cpu row)) = leaves_of (does.Front (front.Cpu row)) l l (quiet l l (omega arith) refl)
-  domain_after_leaves t l (does.Front (front.Domain row)) = domain_leaves t l row
-  domain_after_leaves t l (does.Shard row) = leaves_of (does.Shard row) l l (quiet l l (omega arith) refl)
-  domain_after_leaves t l (does.Heap row) = leaves_of (does.Heap row) l l (quiet l l (omega arith) refl)
-  domain_after_leaves t l (does.Map row) = leaves_of (does.Map row) l l (quiet l l (omega arith) refl)
-  domain_after_leaves t l (does.Names row) = leaves_of (does.Names row) l l (quiet l l (omega arith) refl)
-  domain_after_leaves t l does.Ended = leaves_of does.Ended l l (quiet l l (omega arith) refl)
-
-  after_leaves : (p : Part) (l : Local) → Leaves l.step l (after rows p l).1
-  after_leaves (part.Cpu p) l = cpu_after_leaves p l l.step
-  after_leaves (part.Shard x) l = shard_after_leaves x l l.step
-  after_leaves (part.Heap h) l = heap_after_leaves h l l.step
-  after_leaves (part.Map m) l = map_after_leaves m l l.step
-  after_leaves (part.Names ns) l = names_after_leaves ns l l.step
-  after_leaves (part.Domain t) l = domain_after_leaves t l l.step
-
-  pub after_rises : (p : Part) (l : Local) → l.ended ≤ (after rows p l).1.ended
-  after_rises p l = (after_leaves p l).ended
-
-  pub refuses_there : (l : Local) → RefusesThere rows l
-  refuses_there l p = (after_leaves p l).there
+  pub names_after_leaves : (ns : List NameState) (l : Local V R) (s : Step R) → Leaves refuses s l (names_after e ns l s).1
+  names_after_leaves ns l (does.Front row) = leaves_of refuses (does.Front row) l l (quiet l l (omega arith) refl)
+  names_after_leaves ns l (does.Shard row) = leaves_of refuses (does.Shard row) l l (quiet l l (omega arith) refl)
+  names_after_leaves ns l (does.Heap row) = leaves_of refuses (does.Heap row) l l (quiet l l (omega arith) refl)
+  names_after_leaves ns l (does.Map row) = leaves_of refuses (does.Map row) l l (quiet l l (omega arith) refl)
+  names_after_leaves ns l (does.Names row) = leaves_of refuses (does.Names row) l _ (names_leaves ns l row)
+  names_after_leaves ns l does.Ended = leaves_of refuses does.Ended l l (quiet l l (omega arith) refl)

@@ -23,16 +23,17 @@ use Rattle.call_steps.specs.declared.step.Asking.{Asking}
 use Rattle.call_steps.specs.declared.step.Stopping.{Stopping}
 use Rattle.call_steps.specs.declared.step.CpuStep.{CpuStep}
 use Rattle.call_steps.specs.declared.step.CpuStep.TheVariants.{Pop, Grow, Stock, Push, PopBatch, Stop, Fence, Take, SetCap, Start, Leave}
-use Rattle.call_steps.specs.declared.step.Step.{Step}
+use Rattle.call_steps.specs.PerCpu.{CpuLocal as Local, Step}
 use Rattle.call_steps.specs.declared.step.Step.TheVariants as does
 use Rattle.call_steps.specs.declared.step.CpuRow.TheVariants as front
-use Rattle.call_steps.specs.Local.{Local, goes, no_class, class_row}
+use Rattle.call_steps.specs.Local.{goes, no_class, class_row}
 use Rattle.call_steps.specs.CpuActs.{due, instructed_to, instructs, sequence_by, grows, stops, runs_open, yields_to_enter, yields_for}
-use Rattle.call_steps.specs.Calls.{call_of, about_cpu, call_about}
+use Rattle.call_steps.specs.Calls.{call_about}
 use Rattle.call_steps.specs.Hands.{with_regs}
-use Rattle.call_steps.specs.Follows.{follows, with_next, cpu_row}
-use Rattle.call_steps.specs.Acts.{cpu_after}
+use Rattle.call_steps.specs.Follows.{follows}
+use Rattle.call_steps.specs.CpuCalls.{cpu_calls, with_next, cpu_row, cpu_after}
 use Rattle.call_steps.specs.Shapes.{Limits, AreRows, StepShape, IsShaped}
+use Rattle.call_steps.specs.CpuRows.{about_cpu, call_of}
 use Rattle.alloc_rules.specs.Switches.{Kind, enters, closes, neither, instructed_kind, sequence_kind, growth_kind, step_kind}
 
 -- how many instructions of a sequence were executed before its next one, where it copies so many objects
@@ -154,7 +155,7 @@ module _ (rows : List ClassRow) (p : CpuPart) (l : Local) (has : HasToEnter l.st
     abbrev c : Cell
     c = instruction p l.regs
 
-    executes_as : runs p.running l.regs.thread ≡ true → (o : Option Reply) → c.reply ≡ o → DoesAs (instructed_kind (answered o)) p l (with_cell p l.regs c, (let n = instructed_to rows l.seat c.regs row (answered o) in follows rows (with_regs l n.0) (call_about (about_cpu row)) n.1))
+    executes_as : runs p.running l.regs.thread ≡ true → (o : Option Reply) → c.reply ≡ o → DoesAs (instructed_kind (answered o)) p l (with_cell p l.regs c, (let n = instructed_to rows l.seat c.regs row (answered o) in follows (cpu_calls rows) (with_regs l n.0) (call_about (about_cpu row)) n.1))
     executes_as here None is =
         inl (record {
           has = has;
@@ -206,9 +207,9 @@ module _ (m : Limits) (t : ℕ) (p : CpuPart) (l : Local) (table : AreRows m.row
   few_batch : (class_row m.rows l).batch ≤ LOADED_ROOM
   few_batch = (table.each l.regs.class.0 no_class shaped.class).few
 
-  stops_as : (s : Stopping) → l.step ≡ does.Front (front.Cpu (Stop s)) → (o : Option ThreadNo) → p.stopper ≡ o → (let n = stops p l.regs.thread s o in DoesAs neither p l (n.0, follows m.rows l (Some (call_of s)) n.1))
-  stops_as s is None none = still ((stops p l.regs.thread s None).0, follows m.rows l (Some (call_of s)) (stops p l.regs.thread s None).1) (away_by (does.Front (front.Cpu (Stop s))) is (λ has. has)) (ap (λ (o : Option ThreadNo). (drains.stopped_by o p l.regs.thread).running) none) (ap (λ (o : Option ThreadNo). (drains.stopped_by o p l.regs.thread).is_open) none) (ap (λ (o : Option ThreadNo). (drains.stopped_by o p l.regs.thread).ran) none)
-  stops_as s is (Some u) some = still (p, follows m.rows l (Some (call_of s)) (stops p l.regs.thread s (Some u)).1) (away_by (does.Front (front.Cpu (Stop s))) is (λ has. has)) refl refl refl
+  stops_as : (s : Stopping) → l.step ≡ does.Front (front.Cpu (Stop s)) → (o : Option ThreadNo) → p.stopper ≡ o → (let n = stops p l.regs.thread s o in DoesAs neither p l (n.0, follows (cpu_calls m.rows) l (Some (call_of s)) n.1))
+  stops_as s is None none = still ((stops p l.regs.thread s None).0, follows (cpu_calls m.rows) l (Some (call_of s)) (stops p l.regs.thread s None).1) (away_by (does.Front (front.Cpu (Stop s))) is (λ has. has)) (ap (λ (o : Option ThreadNo). (drains.stopped_by o p l.regs.thread).running) none) (ap (λ (o : Option ThreadNo). (drains.stopped_by o p l.regs.thread).is_open) none) (ap (λ (o : Option ThreadNo). (drains.stopped_by o p l.regs.thread).ran) none)
+  stops_as s is (Some u) some = still (p, follows (cpu_calls m.rows) l (Some (call_of s)) (stops p l.regs.thread s (Some u)).1) (away_by (does.Front (front.Cpu (Stop s))) is (λ has. has)) refl refl refl
 
   row_as : (row : CpuStep) → l.step ≡ does.Front (front.Cpu row) → At (does.Front (front.Cpu row)) → As (does.Front (front.Cpu row))
   row_as (Pop a) is shape polite = sequence_as m.rows p l (Pop a) is (has_by (does.Front (front.Cpu (Pop a))) is tt) (omega (arith, wants l seq.Pop shape.0.seq)) (due l.seat.moved l.regs.ran) polite

@@ -45,17 +45,20 @@ use Rattle.holdings.specs.Books.{Books, class_number}
 use Rattle.holdings.specs.Laws.{HasNothing, IsFirst}
 use Rattle.holdings.specs.Facts.{Facts}
 use Rattle.holdings.proofs.Start.{holds_at_first}
-use Rattle.call_steps.specs.declared.step.Step.{Step}
+use Rattle.call_steps.specs.declared.seat.CpuSeat.{CpuSeat}
+use Rattle.call_steps.specs.CpuCalls.{with_move, cpu_calls}
+use Rattle.call_steps.specs.PerCpu.{CpuLocal as Local, Step}
 use Rattle.call_steps.specs.declared.step.Step.TheVariants as does
-use Rattle.call_steps.specs.Local.{Local, Decided, told, first_of_malloc, first_of_call, first_act, regs_of_malloc, regs_of_call, fresh_regs, regs_by, first_regs, idle_local, first_local}
+use Rattle.call_steps.specs.Local.{Decided, told, first_of_malloc, first_of_call, first_act, regs_of_malloc, regs_of_call, fresh_regs, regs_by, first_regs, idle_local, first_local}
 use Rattle.call_steps.specs.Kept.{call_at}
 use Rattle.call_steps.specs.Laws.{thread_no}
 use Rattle.call_steps.specs.Shapes.{Limits, AreRows, IsClassRow, IsPlanned, IsCallThere, IsMove, HasNone, StepShape, IsShaped, standing_of, seat_of}
-use Rattle.call_steps.proofs.ScriptFacts.{first_is_of, first_under, first_domain}
+use Rattle.call_steps.proofs.ScriptFacts.{first_is_of, first_under}
 use Rattle.call_steps.proofs.NextShapes.{class_low}
-use Rattle.alloc_rules.specs.Machine.{heap_config, first_of, first_cpu, first_shard, first_shards, first_caches, first_parts, rules}
+use Rattle.alloc_rules.specs.Machine.{first_seat, heap_config, first_of, first_cpu, first_shard, first_shards, first_caches, first_parts, rules}
 use Rattle.alloc_rules.specs.Heads.{slab_class, table_class, IsSlabOf, HasRoom}
-use Rattle.alloc_rules.specs.Accounts.{account_of, doing_of, off_of, apart_of, mapped_of, clears_of}
+use Rattle.alloc_rules.specs.Accounts.{off_of, apart_of, mapped_of, clears_of}
+use Rattle.alloc_rules.specs.CpuAccounts.{account_of, doing_of}
 use Rattle.alloc_rules.specs.Stocks.{shard_at, cache_at, in_slab, in_caches, stored_in, stock_of, IsShardOf}
 use Rattle.alloc_rules.specs.Scripts.{IsIn, is_under_way}
 use Rattle.alloc_rules.specs.Valid.{limits_in, IsValid}
@@ -76,20 +79,20 @@ record IsFresh (s : Step) (rest script : List Planned) : Type 0 where
   pub standing : (rows : List ClassRow) (k : ℕ) → standing_of rows k s ≡ None
   pub way : is_under_way s ≡ is_some (call_at script 0)
 
-fresh_malloc : (c : Option Class) (label : Label) (size : ℕ) (rest : List Planned) (line : Planned) → line.call ≡ Malloc label size → IsFresh (first_of_malloc c label size) rest (line ∷ rest)
-fresh_malloc None label size rest line is = record { asks = λ x. let e : _ = ap (got x) is in omega (arith, e); publishes = λ x. refl; takes = λ x. let e : _ = ap (put x) is in omega (arith, e); value = λ x v. refl; off = refl; apart = λ k. refl; mapped = λ k. refl; clears = refl; standing = λ rows k. refl; way = refl }
-fresh_malloc (Some c) label size rest line is = record { asks = λ x. let e : _ = ap (got x) is in omega (arith, e); publishes = λ x. refl; takes = λ x. let e : _ = ap (put x) is in omega (arith, e); value = λ x v. refl; off = refl; apart = λ k. refl; mapped = λ k. refl; clears = refl; standing = λ rows k. refl; way = refl }
+fresh_malloc : (rows : List ClassRow) (v : CpuSeat) (c : Option Class) (label : Label) (size : ℕ) (rest : List Planned) (line : Planned) → line.call ≡ Malloc label size → IsFresh (first_of_malloc (cpu_calls rows) v c label size) rest (line ∷ rest)
+fresh_malloc rows v None label size rest line is = record { asks = λ x. let e : _ = ap (got x) is in omega (arith, e); publishes = λ x. refl; takes = λ x. let e : _ = ap (put x) is in omega (arith, e); value = λ x v. refl; off = refl; apart = λ k. refl; mapped = λ k. refl; clears = refl; standing = λ rows k. refl; way = refl }
+fresh_malloc rows v (Some c) label size rest line is = record { asks = λ x. let e : _ = ap (got x) is in omega (arith, e); publishes = λ x. refl; takes = λ x. let e : _ = ap (put x) is in omega (arith, e); value = λ x v. refl; off = refl; apart = λ k. refl; mapped = λ k. refl; clears = refl; standing = λ rows k. refl; way = refl }
 
-fresh_call : (rows : List ClassRow) (c : Call) (rest : List Planned) (line : Planned) → line.call ≡ c → IsFresh (first_of_call rows c) rest (line ∷ rest)
-fresh_call rows (Malloc label size) rest line is = fresh_malloc (class_of rows size) label size rest line is
-fresh_call rows (Free label) rest line is = record { asks = λ x. let e : _ = ap (got x) is in omega (arith, e); publishes = λ x. refl; takes = λ x. let e : _ = ap (put x) is in omega (arith, e); value = λ x v. refl; off = refl; apart = λ k. refl; mapped = λ k. refl; clears = refl; standing = λ rows k. refl; way = refl }
-fresh_call rows (Release pages) rest line is = record { asks = λ x. let e : _ = ap (got x) is in omega (arith, e); publishes = λ x. refl; takes = λ x. let e : _ = ap (put x) is in omega (arith, e); value = λ x v. refl; off = refl; apart = λ k. refl; mapped = λ k. refl; clears = refl; standing = λ rows k. refl; way = refl }
-fresh_call rows (Drain cpu) rest line is = record { asks = λ x. let e : _ = ap (got x) is in omega (arith, e); publishes = λ x. refl; takes = λ x. let e : _ = ap (put x) is in omega (arith, e); value = λ x v. refl; off = refl; apart = λ k. refl; mapped = λ k. refl; clears = refl; standing = λ rows k. refl; way = refl }
-fresh_call rows (Resize cpu class cap) rest line is = record { asks = λ x. let e : _ = ap (got x) is in omega (arith, e); publishes = λ x. refl; takes = λ x. let e : _ = ap (put x) is in omega (arith, e); value = λ x v. refl; off = refl; apart = λ k. refl; mapped = λ k. refl; clears = refl; standing = λ rows k. refl; way = refl }
+fresh_call : (rows : List ClassRow) (v : CpuSeat) (c : Call) (rest : List Planned) (line : Planned) → line.call ≡ c → IsFresh (first_of_call (cpu_calls rows) v c) rest (line ∷ rest)
+fresh_call rows v (Malloc label size) rest line is = fresh_malloc rows v (class_of rows size) label size rest line is
+fresh_call rows v (Free label) rest line is = record { asks = λ x. let e : _ = ap (got x) is in omega (arith, e); publishes = λ x. refl; takes = λ x. let e : _ = ap (put x) is in omega (arith, e); value = λ x v. refl; off = refl; apart = λ k. refl; mapped = λ k. refl; clears = refl; standing = λ rows k. refl; way = refl }
+fresh_call rows v (Release pages) rest line is = record { asks = λ x. let e : _ = ap (got x) is in omega (arith, e); publishes = λ x. refl; takes = λ x. let e : _ = ap (put x) is in omega (arith, e); value = λ x v. refl; off = refl; apart = λ k. refl; mapped = λ k. refl; clears = refl; standing = λ rows k. refl; way = refl }
+fresh_call rows v (Drain cpu) rest line is = record { asks = λ x. let e : _ = ap (got x) is in omega (arith, e); publishes = λ x. refl; takes = λ x. let e : _ = ap (put x) is in omega (arith, e); value = λ x v. refl; off = refl; apart = λ k. refl; mapped = λ k. refl; clears = refl; standing = λ rows k. refl; way = refl }
+fresh_call rows v (Resize cpu class cap) rest line is = record { asks = λ x. let e : _ = ap (got x) is in omega (arith, e); publishes = λ x. refl; takes = λ x. let e : _ = ap (put x) is in omega (arith, e); value = λ x v. refl; off = refl; apart = λ k. refl; mapped = λ k. refl; clears = refl; standing = λ rows k. refl; way = refl }
 
-fresh_first : (rows : List ClassRow) (script : List Planned) → IsFresh (first_act rows (slice_get script 0)) (drop 1 script) script
-fresh_first rows [] = record { asks = λ x. refl; publishes = λ x. refl; takes = λ x. refl; value = λ x v. refl; off = refl; apart = λ k. refl; mapped = λ k. refl; clears = refl; standing = λ rows k. refl; way = refl }
-fresh_first rows (p ∷ ps) = fresh_call rows p.call ps p refl
+fresh_first : (rows : List ClassRow) (v : CpuSeat) (script : List Planned) → IsFresh (first_act (cpu_calls rows) v (slice_get script 0)) (drop 1 script) script
+fresh_first rows v [] = record { asks = λ x. refl; publishes = λ x. refl; takes = λ x. refl; value = λ x v. refl; off = refl; apart = λ k. refl; mapped = λ k. refl; clears = refl; standing = λ rows k. refl; way = refl }
+fresh_first rows v (p ∷ ps) = fresh_call rows v p.call ps p refl
 
 -- Where the thread of a script is at the start.
 rest_behind : (script : List Planned) (j : ℕ) → slice_get (drop 1 script) j ≡ slice_get script (0 + 1 + j)
@@ -100,31 +103,31 @@ no_call : (o : Option Call) → is_some o ≡ false → o ≡ None
 no_call None is = refl
 no_call (Some c) is = absurd (false≢true (sym is))
 
-asks_now : (rows : List ClassRow) (script : List Planned) (label : Label) (size : ℕ) → call_at script 0 ≡ Some (Malloc label size) → 0 < asking label.0 (doing_of (first_act rows (slice_get script 0))) + publishing label.0 (doing_of (first_act rows (slice_get script 0)))
-asks_now rows [] label size is = absurd (cc)
-asks_now rows (p ∷ ps) label size is =
+asks_now : (rows : List ClassRow) (v : CpuSeat) (script : List Planned) (label : Label) (size : ℕ) → call_at script 0 ≡ Some (Malloc label size) → 0 < asking label.0 (doing_of (first_act (cpu_calls rows) v (slice_get script 0))) + publishing label.0 (doing_of (first_act (cpu_calls rows) v (slice_get script 0)))
+asks_now rows v [] label size is = absurd (cc)
+asks_now rows v (p ∷ ps) label size is =
     let call : p.call ≡ Malloc label size = cc in
     let e : got label.0 p.call ≡ 1 = ap (got label.0) call ∙ ap bit (eq-eqb label.0 label.0 refl) in
-    omega (arith, e, (fresh_first rows (p ∷ ps)).asks label.0)
+    omega (arith, e, (fresh_first rows v (p ∷ ps)).asks label.0)
 
-pub inside_first : (rows : List ClassRow) (thread : ThreadNo) (cpu : CpuNo) (script : List Planned) (domains : ℕ) (names : List NameState) → IsIn names script (first_local rows thread cpu script domains)
-inside_first rows thread cpu script domains names =
-    let f = fresh_first rows script in
+pub inside_first : (rows : List ClassRow) (thread : ThreadNo) (v : CpuSeat) (script : List Planned) (names : List NameState) → IsIn names script (first_local (cpu_calls rows) thread v script)
+inside_first rows thread v script names =
+    let f = fresh_first rows (with_move v (slice_get script 0)) script in
     record {
       rest = rest_behind script;
-      call = first_is_of rows (slice_get script 0);
+      call = first_is_of rows (with_move v (slice_get script 0)) (slice_get script 0);
       some = λ on. sym f.way ∙ on;
       none = λ off. no_call (call_at script 0) (sym f.way ∙ off);
       out = λ j label size below is. absurd (omega (arith, below));
-      now = λ label size is. inr (asks_now rows script label size is);
-      count = let u = first_under rows (slice_get script 0) in omega (arith, u);
+      now = λ label size is. inr (asks_now rows (with_move v (slice_get script 0)) script label size is);
+      count = let u = first_under rows (with_move v (slice_get script 0)) (slice_get script 0) in omega (arith, u);
       decided = λ j d is. absurd (cc);
     }
 
 -- Its shape.
-module _ (m : Limits) (t : ℕ) (thread : ThreadNo) (cpu : CpuNo) (domains : ℕ) (own : thread.0 ≡ t) (rows : AreRows m.rows) (home : cpu.0 < m.cpus) where
+module _ (m : Limits) (t : ℕ) (thread : ThreadNo) (v : CpuSeat) (own : thread.0 ≡ t) (rows : AreRows m.rows) (home : v.cpu.0 < m.cpus) where
   abbrev at_first : Step → Regs → Option MoveTo → List Planned → Local
-  at_first next regs moved rest = record (idle_local thread cpu domains) { step = next; regs = regs; seat = record { cpu = cpu; moved = moved; domains = domains }; rest = rest }
+  at_first next regs moved rest = record (idle_local thread v) { step = next; regs = regs; seat = record v { moved = moved }; rest = rest }
 
   abbrev regs_with : Class → Regs
   regs_with k = record (first_regs thread) { class = k }
@@ -133,43 +136,43 @@ module _ (m : Limits) (t : ℕ) (thread : ThreadNo) (cpu : CpuNo) (domains : ℕ
   shape_by next k moved rest low move planned shape =
       record { thread = own; class = low; home = home; hand = omega arith; loaded = omega arith; freed = omega arith; ran = omega arith; move = move; rest = planned; step = shape (record { begin = record { pc = refl; nothing = refl }; hand = refl; freed = refl }) }
 
-  shape_malloc : (label : Label) (size : ℕ) (o : Option Class) (moved : Option MoveTo) (rest : List Planned) → class_of m.rows size ≡ o → IsMove m moved → All (IsPlanned m) rest → IsShaped m t (at_first (first_of_malloc o label size) (record (regs_of_malloc o (first_regs thread)) { ran = 0 }) moved rest)
-  shape_malloc label size None moved rest of move planned = shape_by (first_of_malloc None label size) (class_number 0) moved rest rows.some move planned (λ n. (n, of))
-  shape_malloc label size (Some k) moved rest of move planned = shape_by (first_of_malloc (Some k) label size) k moved rest (class_low m.rows size k of) move planned (λ n. (record { seq = refl; freed = refl }, refl, of))
+  shape_malloc : (label : Label) (size : ℕ) (o : Option Class) (moved : Option MoveTo) (rest : List Planned) → class_of m.rows size ≡ o → IsMove m moved → All (IsPlanned m) rest → IsShaped m t (at_first (first_of_malloc (cpu_calls m.rows) (record v { moved = moved }) o label size) (record (regs_of_malloc (cpu_calls m.rows) o (first_regs thread)) { ran = 0 }) moved rest)
+  shape_malloc label size None moved rest of move planned = shape_by (first_of_malloc (cpu_calls m.rows) (record v { moved = moved }) None label size) (class_number 0) moved rest rows.some move planned (λ n. (n, of))
+  shape_malloc label size (Some k) moved rest of move planned = shape_by (first_of_malloc (cpu_calls m.rows) (record v { moved = moved }) (Some k) label size) k moved rest (class_low m.rows size k of) move planned (λ n. (record { seq = refl; freed = refl }, refl, of))
 
-  shape_call : (call : Call) (moved : Option MoveTo) (rest : List Planned) → IsCallThere m call → IsMove m moved → All (IsPlanned m) rest → IsShaped m t (at_first (first_of_call m.rows call) (fresh_regs m.rows call (first_regs thread)) moved rest)
+  shape_call : (call : Call) (moved : Option MoveTo) (rest : List Planned) → IsCallThere m call → IsMove m moved → All (IsPlanned m) rest → IsShaped m t (at_first (first_of_call (cpu_calls m.rows) (record v { moved = moved }) call) (fresh_regs (cpu_calls m.rows) call (first_regs thread)) moved rest)
   shape_call (Malloc label size) moved rest there move planned = shape_malloc label size (class_of m.rows size) moved rest refl move planned
-  shape_call (Free label) moved rest there move planned = shape_by (first_of_call m.rows (Free label)) (class_number 0) moved rest rows.some move planned (λ n. n)
-  shape_call (Release pages) moved rest there move planned = shape_by (first_of_call m.rows (Release pages)) (class_number 0) moved rest rows.some move planned (λ n. n)
-  shape_call (Drain c) moved rest there move planned = shape_by (first_of_call m.rows (Drain c)) (class_number 0) moved rest rows.some move planned (λ n. (n, (there, omega arith), refl))
-  shape_call (Resize c class cap) moved rest there move planned = shape_by (first_of_call m.rows (Resize c class cap)) class moved rest there.1 move planned (λ n. (n, (there.0, refl), tt))
+  shape_call (Free label) moved rest there move planned = shape_by (first_of_call (cpu_calls m.rows) (record v { moved = moved }) (Free label)) (class_number 0) moved rest rows.some move planned (λ n. n)
+  shape_call (Release pages) moved rest there move planned = shape_by (first_of_call (cpu_calls m.rows) (record v { moved = moved }) (Release pages)) (class_number 0) moved rest rows.some move planned (λ n. n)
+  shape_call (Drain c) moved rest there move planned = shape_by (first_of_call (cpu_calls m.rows) (record v { moved = moved }) (Drain c)) (class_number 0) moved rest rows.some move planned (λ n. (n, (there, omega arith), refl))
+  shape_call (Resize c class cap) moved rest there move planned = shape_by (first_of_call (cpu_calls m.rows) (record v { moved = moved }) (Resize c class cap)) class moved rest there.1 move planned (λ n. (n, (there.0, refl), tt))
 
-  pub shaped_first : (script : List Planned) → All (IsPlanned m) script → IsShaped m t (first_local m.rows thread cpu script domains)
+  pub shaped_first : (script : List Planned) → All (IsPlanned m) script → IsShaped m t (first_local (cpu_calls m.rows) thread v script)
   shaped_first [] planned = shape_by does.Ended (class_number 0) None [] rows.some tt planned (λ n. n)
   shaped_first (p ∷ ps) planned =
       let first : IsPlanned m p = All-head (IsPlanned m) p ps planned in
       shape_call p.call p.moved ps first.call first.move (All-tail (IsPlanned m) p ps planned)
 
 -- It has nothing.
-hand_malloc : (o : Option Class) (r : Regs) → r.hand.items ≡ [] → (regs_of_malloc o r).hand.items ≡ []
-hand_malloc None r none = none
-hand_malloc (Some k) r none = none
+hand_malloc : (rows : List ClassRow) (o : Option Class) (r : Regs) → r.hand.items ≡ [] → (regs_of_malloc (cpu_calls rows) o r).hand.items ≡ []
+hand_malloc rows None r none = none
+hand_malloc rows (Some k) r none = none
 
-hand_call : (rows : List ClassRow) (c : Call) (r : Regs) → r.hand.items ≡ [] → (regs_of_call rows c r).hand.items ≡ []
-hand_call rows (Malloc label size) r none = hand_malloc (class_of rows size) r none
+hand_call : (rows : List ClassRow) (c : Call) (r : Regs) → r.hand.items ≡ [] → (regs_of_call (cpu_calls rows) c r).hand.items ≡ []
+hand_call rows (Malloc label size) r none = hand_malloc rows (class_of rows size) r none
 hand_call rows (Free label) r none = none
 hand_call rows (Release pages) r none = none
 hand_call rows (Drain cpu) r none = none
 hand_call rows (Resize cpu class cap) r none = none
 
-hand_first : (rows : List ClassRow) (o : Option Planned) (r : Regs) → r.hand.items ≡ [] → (regs_by rows o r).hand.items ≡ []
+hand_first : (rows : List ClassRow) (o : Option Planned) (r : Regs) → r.hand.items ≡ [] → (regs_by (cpu_calls rows) o r).hand.items ≡ []
 hand_first rows None r none = none
 hand_first rows (Some p) r none = hand_call rows p.call r none
 
-nothing_first : (rows : List ClassRow) (thread : ThreadNo) (cpu : CpuNo) (script : List Planned) (domains : ℕ) → HasNothing (account_of (first_local rows thread cpu script domains))
-nothing_first rows thread cpu script domains =
-    let f = fresh_first rows script in
-    let k : Class = (first_local rows thread cpu script domains).regs.class in
+nothing_first : (rows : List ClassRow) (thread : ThreadNo) (v : CpuSeat) (script : List Planned) → HasNothing (account_of (first_local (cpu_calls rows) thread v script))
+nothing_first rows thread v script =
+    let f = fresh_first rows (with_move v (slice_get script 0)) script in
+    let k : Class = (first_local (cpu_calls rows) thread v script).regs.class in
     record { value = f.value; hand = hand_first rows (slice_get script 0) (first_regs thread) refl; off = f.off; apart = f.apart k; mapped = f.mapped k; clears = f.clears }
 
 -- the local of thread t
@@ -192,7 +195,7 @@ own_local input t l is =
 all_nothing : (input : Input) → All HasNothing (map account_of (first_locals input))
 all_nothing input =
     let numbers : List ℕ = range_with_len 0 input.asked.config.threads in
-    All-map HasNothing account_of (first_locals input) (All-map (λ (l : Local). HasNothing (account_of l)) (first_of input) numbers (λ k d low. let t : ℕ = get_or numbers k d in nothing_first input.rows (record { 0 = t }) (record { 0 = t % input.asked.config.cpus }) (script_of t input.asked.calls) input.asked.config.domains))
+    All-map HasNothing account_of (first_locals input) (All-map (λ (l : Local). HasNothing (account_of l)) (first_of input) numbers (λ k d low. let t : ℕ = get_or numbers k d in nothing_first input.rows (record { 0 = t }) (first_seat input.asked.config t) (script_of t input.asked.calls)))
 
 first_sum : (input : Input) (f : Account → ℕ) (g : List Planned → ℕ) → ((t : ℕ) → f (account_of (first_of input t)) ≡ g (script_of t input.asked.calls)) → sum_by f (map account_of (first_locals input)) ≡ in_scripts g input
 first_sum input f g same =
@@ -243,7 +246,7 @@ is_first : (input : Input) → IsValid input → IsFirst (setup_of input) (first
 is_first input valid =
     let c = input.asked.config in
     let once = valid_once input valid in
-    let f = λ (t : ℕ). fresh_first input.rows (script_of t input.asked.calls) in
+    let f = λ (t : ℕ). fresh_first input.rows (first_of input t).seat (script_of t input.asked.calls) in
     record {
       objects = λ k n. no_objects c.transfer 0 k n input.rows;
       stored = no_stored input;
@@ -341,7 +344,7 @@ placed_first input valid =
 -- No thread runs at a CPU, and none has stopped one.
 seat_first : (input : Input) (i t : ℕ) → SeatOk i (thread_no t) (first_cpu input) (seat_of input.rows (first_of input t))
 seat_first input i t =
-    let f = fresh_first input.rows (script_of t input.asked.calls) in
+    let f = fresh_first input.rows (first_of input t).seat (script_of t input.asked.calls) in
     record {
       home = λ on. absurd (cc);
       behind = λ on. absurd (cc);
@@ -361,13 +364,11 @@ work_first : (input : Input) (t : ℕ) → IsValid input → IsAtWork input (fir
 work_first input t valid =
     let c = input.asked.config in
     let thread : ThreadNo = record { 0 = t } in
-    let cpu : CpuNo = record { 0 = t % c.cpus } in
     let script : List Planned = script_of t input.asked.calls in
     record {
-      shaped = shaped_first (limits_in input) t thread cpu c.domains refl valid.rows (mod-lt t valid.limits.cpus) script (valid_planned input t valid);
+      shaped = shaped_first (limits_in input) t thread (first_seat c t) refl valid.rows (mod-lt t valid.limits.cpus) script (valid_planned input t valid);
       domains = refl;
-      has = first_domain input.rows (slice_get script 0) c.domains;
-      inside = inside_first input.rows thread cpu script c.domains (first_parts input).names;
+      inside = inside_first input.rows thread (first_seat c t) script (first_parts input).names;
       acts = refl;
       rising = tt;
     }

@@ -9,10 +9,9 @@ use Rattle.heap_rules.specs.declared.config.HeapConfig.{HeapConfig}
 use Rattle.holdings.specs.Runs.{objects_at}
 use Rattle.holdings.specs.Accounts.{Account, Frees}
 use Rattle.holdings.specs.Books.{Setup, Books}
-use Rattle.call_steps.specs.declared.step.Step.{Step}
-use Rattle.call_steps.specs.Local.{Local}
+use Rattle.call_steps.specs.PerCpu.{CpuLocal as Local, Step}
 use Rattle.alloc_rules.specs.Machine.{Parts}
-use Rattle.alloc_rules.specs.Accounts.{account_of, doing_of}
+use Rattle.alloc_rules.specs.CpuAccounts.{account_of, doing_of}
 use Rattle.alloc_rules.specs.Acts.{IsBefore}
 
 module _ (m : Setup) (limits : HeapConfig) (cpus : ℕ) (p : Parts) (locals : List Local) (b : Books) (calls : List CallLine) (t : ℕ) (l : Local) (before : IsBefore m limits cpus p locals b calls t l) where

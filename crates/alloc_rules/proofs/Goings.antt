@@ -23,27 +23,33 @@ use Rattle.holdings.specs.Runs.{objects_at, small}
 use Rattle.holdings.specs.Accounts.{Account, Doing, Asks, Publishes, Frees, Other, WeighSame}
 use Rattle.holdings.specs.Books.{Setup, Stock, Books, IsCut, size_of}
 use Rattle.holdings.specs.Moves.{Said, SaysOther, Move, MovesHand, FreesObject, GetsObject, GetsFirst, Rests, MoveObjects, AddSpan, with_hand}
+use Rattle.call_steps.specs.CpuCalls.{cpu_calls}
 use Rattle.call_steps.specs.declared.step.Asking.{Asking}
 use Rattle.call_steps.specs.declared.step.Serving.{Serving}
 use Rattle.call_steps.specs.declared.step.Freeing.{Freeing}
 use Rattle.call_steps.specs.declared.step.CpuStep.{CpuStep}
 use Rattle.call_steps.specs.declared.step.Giving.{Giving}
+use Rattle.call_steps.specs.PerCpu.{CpuLocal as Local, Next}
 use Rattle.call_steps.specs.declared.step.Giving.TheVariants as giving
 use Rattle.call_steps.specs.declared.step.MapStep.TheVariants as map
-use Rattle.call_steps.specs.declared.step.Next.{Next}
 use Rattle.call_steps.specs.declared.step.Next.TheVariants as next
 use Rattle.call_steps.specs.declared.step.Step.TheVariants as step
+use Rattle.call_steps.specs.declared.step.CpuRow.{CpuRow}
 use Rattle.call_steps.specs.declared.step.CpuRow.TheVariants as front
 use Rattle.call_steps.specs.declared.step.DomainStep.TheVariants as domain
-use Rattle.call_steps.specs.Local.{Local, Decided, decided, goes, ends, class_row}
+use Rattle.call_steps.specs.Local.{Decided, decided, goes, ends, class_row}
 use Rattle.call_steps.specs.Hands.{with_hand as to_hand, with_freed, decides_free, behind, goes_onward, publishes, comes_to, stocks, serves, serves_first, with_regs}
 use Rattle.call_steps.specs.CpuActs.{looks_on, gives}
 use Rattle.call_steps.specs.Follows.{follows}
 use Rattle.alloc_rules.specs.Machine.{Parts}
 use Rattle.call_steps.specs.Calls as about
-use Rattle.call_steps.specs.Calls.{About, HasNoLabel, about_cpu}
+use Rattle.call_steps.specs.Calls.{About, HasNoLabel}
 use Rattle.call_steps.specs.Shapes.{Limits, IsGiving}
-use Rattle.alloc_rules.specs.Accounts.{account_of, doing_about, cpu_doing, giving_doing}
+use Rattle.call_steps.proofs.Nexts.{row_about}
+use Rattle.call_steps.proofs.NextShapes.{later_other}
+use Rattle.call_steps.specs.CpuRows.{about_row, as_row}
+use Rattle.alloc_rules.specs.Accounts.{doing_about}
+use Rattle.alloc_rules.specs.CpuAccounts.{account_of, giving_doing}
 use Rattle.alloc_rules.specs.Stocks.{stock_of, AreBooksOf, decided_at, Does}
 use Rattle.alloc_rules.proofs.Weighing.{bare, quiet, weighs_is, weighs_quiet, weighs_next, ends_counts}
 use Rattle.alloc_rules.proofs.Stored.{with_stores, settled, does_by}
@@ -54,29 +60,31 @@ pub record Goes (after : Local) (a : Account) (count : ℕ) (told : List Decided
   pub acts : after.acts ≡ count
   pub answers : after.answers ≡ told
 
-pub looks_as : (rows : List ClassRow) (l : Local) (asking : Asking) (call : Option Call) → Goes (follows rows l call (looks_on l.seat asking)) (bare (Asks asking.label asking.size) l.regs.class.0 l.regs.hand.items l.rest) (l.acts + 1) l.answers
+pub looks_as : (rows : List ClassRow) (l : Local) (asking : Asking) (call : Option Call) → Goes (follows (cpu_calls rows) l call (looks_on l.seat asking)) (bare (Asks asking.label asking.size) l.regs.class.0 l.regs.hand.items l.rest) (l.acts + 1) l.answers
 looks_as rows l asking call =
-    cond_both (eqb l.seat.domains 0) (next.Fetch asking) (next.Row (front.Domain (domain.Take asking))) (λ (n : Next). Goes (follows rows l call n) (bare (Asks asking.label asking.size) l.regs.class.0 l.regs.hand.items l.rest) (l.acts + 1) l.answers)
+    cond_both (eqb l.seat.domains 0) (next.Fetch asking) (next.Row (front.Domain (domain.Take asking))) (λ (n : Next). Goes (follows (cpu_calls rows) l call n) (bare (Asks asking.label asking.size) l.regs.class.0 l.regs.hand.items l.rest) (l.acts + 1) l.answers)
     (λ e. record { account = refl; acts = refl; answers = refl }) (λ e. record { account = refl; acts = refl; answers = refl })
 
-pub gives_as : (rows : List ClassRow) (l : Local) (g : Giving) (call : Option Call) → Goes (follows rows l call (gives l.seat g)) (bare (giving_doing g) l.regs.class.0 l.regs.hand.items l.rest) (l.acts + 1) l.answers
+pub gives_as : (rows : List ClassRow) (l : Local) (g : Giving CpuStep) (call : Option Call) → Goes (follows (cpu_calls rows) l call (gives l.seat g)) (bare (giving_doing (as_row g)) l.regs.class.0 l.regs.hand.items l.rest) (l.acts + 1) l.answers
 gives_as rows l g call =
-    cond_both (eqb l.seat.domains 0) (next.Give g) (next.Row (front.Domain (domain.Put g))) (λ (n : Next). Goes (follows rows l call n) (bare (giving_doing g) l.regs.class.0 l.regs.hand.items l.rest) (l.acts + 1) l.answers)
-    (λ e. record { account = refl; acts = refl; answers = refl }) (λ e. record { account = refl; acts = refl; answers = refl })
+    let d : Doing = giving_doing (as_row g) in
+    cond_both (eqb l.seat.domains 0) (next.Give (as_row g)) (next.Row (front.Domain (domain.Put g))) (λ (n : Next). Goes (follows (cpu_calls rows) l call n) (bare d l.regs.class.0 l.regs.hand.items l.rest) (l.acts + 1) l.answers)
+    (λ e. record { account = refl; acts = refl; answers = refl })
+    (λ e. record { account = ap (λ (a : About). bare (doing_about a) l.regs.class.0 l.regs.hand.items l.rest) (sym (row_about g)); acts = refl; answers = refl })
 
-stocks_as : (l : Local) (s : Serving) (others : List Addr) → Goes (stocks l s others) (bare (Publishes s.label (Some s.addr)) l.regs.class.0 l.regs.hand.items l.rest) (l.acts + 1) l.answers
-stocks_as l s [] = record { account = refl; acts = refl; answers = refl }
-stocks_as l s (a ∷ others) = record { account = refl; acts = refl; answers = refl }
+stocks_as : (rows : List ClassRow) (l : Local) (s : Serving) (others : List Addr) → Goes (stocks (cpu_calls rows) l s others) (bare (Publishes s.label (Some s.addr)) l.regs.class.0 l.regs.hand.items l.rest) (l.acts + 1) l.answers
+stocks_as rows l s [] = record { account = refl; acts = refl; answers = refl }
+stocks_as rows l s (a ∷ others) = record { account = refl; acts = refl; answers = refl }
 
 -- the first object in hand is an allocation's answer, and the others stay in hand
 pub serves_as : (rows : List ClassRow) (l : Local) (asking : Asking) (o : Addr) (others : List Addr) → l.regs.hand.items ≡ o ∷ others
-    → Goes (serves rows l asking) (bare (Publishes asking.label (Some o)) l.regs.class.0 others l.rest) (l.acts + 1) (l.answers ++ record { act = l.acts; call = Malloc asking.label asking.size; answer = Block o (class_row rows l).size } ∷ [])
+    → Goes (serves (cpu_calls rows) l asking) (bare (Publishes asking.label (Some o)) l.regs.class.0 others l.rest) (l.acts + 1) (l.answers ++ record { act = l.acts; call = Malloc asking.label asking.size; answer = Block o (class_row rows l).size } ∷ [])
 serves_as rows l asking o others is =
     let hand : Contents Addr = without_first 1 l.regs.hand in
     let then : Local = decided (with_regs l (record l.regs { hand = hand })) (Malloc asking.label asking.size) (Block o (class_row rows l).size) in
     let s : Serving = record { label = asking.label; addr = o } in
-    let at = stocks_as then s others in
-    let first : serves rows l asking ≡ stocks then s others = ap (serves_first rows l asking) is in
+    let at = stocks_as rows then s others in
+    let first : serves (cpu_calls rows) l asking ≡ stocks (cpu_calls rows) then s others = ap (serves_first (cpu_calls rows) l asking) is in
     let rest : drop 1 l.regs.hand.items ≡ others = ap (drop 1) is in
     record {
       account = ap account_of first ∙ (at.account ∙ ap (λ (xs : List Addr). bare (Publishes asking.label (Some o)) l.regs.class.0 xs l.rest) rest);
@@ -90,7 +98,7 @@ pub record Closes (after : Local) (k : ℕ) (todo : List Planned) (count : ℕ) 
   pub acts : after.acts ≡ count
   pub answers : after.answers ≡ told
 
-pub ends_as : (rows : List ClassRow) (l : Local) (k : ℕ) → l.regs.hand.items ≡ [] → Closes (ends rows l) k l.rest (l.acts + 1) l.answers
+pub ends_as : (rows : List ClassRow) (l : Local) (k : ℕ) → l.regs.hand.items ≡ [] → Closes (ends (cpu_calls rows) l) k l.rest (l.acts + 1) l.answers
 ends_as rows l k none = let counts = ends_counts rows l in record { weighs = weighs_next rows l k none; acts = counts.0; answers = counts.1 }
 
 -- so does one that comes to a row without a label
@@ -100,9 +108,9 @@ other_doing (about.Publishes s) other = absurd other
 other_doing (about.Frees f) other = absurd other
 other_doing (about.Other call) other = refl
 
-pub comes_as : (l : Local) (j : Class) (row : CpuStep) (k : ℕ) → HasNoLabel (about_cpu row) → l.regs.hand.items ≡ [] → Closes (comes_to l j row) k l.rest (l.acts + 1) l.answers
+pub comes_as : (l : Local) (j : Class) (row : CpuRow) (k : ℕ) → HasNoLabel (about_row row) → l.regs.hand.items ≡ [] → Closes (comes_to l j row) k l.rest (l.acts + 1) l.answers
 comes_as l j row k other none =
-    let weighs = subst (λ (d : Doing). WeighSame (quiet k l.rest) (bare d j.0 l.regs.hand.items l.rest)) (sym (other_doing (about_cpu row) other)) (weighs_quiet k j.0 l.regs.hand.items l.rest none) in
+    let weighs = subst (λ (d : Doing). WeighSame (quiet k l.rest) (bare d j.0 l.regs.hand.items l.rest)) (sym (other_doing (about_row row) other)) (weighs_quiet k j.0 l.regs.hand.items l.rest none) in
     record { weighs = weighs; acts = refl; answers = refl }
 
 -- an allocation with a new span that is to be added to its shard
@@ -133,11 +141,11 @@ module _ (m : Setup) (p : Parts) (locals : List Local) (b : Books) (books : AreB
   got_it l asking o = record { call = Malloc asking.label asking.size; answer = Block o (size_of m.rows l.regs.class.0) }
 
   gets_by : (l : Local) (regs : Regs) (asking : Asking) (o : Addr) (others : List Addr) (a : Account) → account_of l ≡ a → regs.class ≡ l.regs.class → regs.hand.items ≡ o ∷ others
-      → (WeighSame (bare (Publishes asking.label (Some o)) l.regs.class.0 others l.rest) (account_of (serves m.rows (with_regs l regs) asking)) → Move m (settled b p) a (stock_of new) b.heap b.spans p.names (account_of (serves m.rows (with_regs l regs) asking)) (got_it l asking o ∷ []))
-      → Does m new b l (serves m.rows (with_regs l regs) asking)
+      → (WeighSame (bare (Publishes asking.label (Some o)) l.regs.class.0 others l.rest) (account_of (serves (cpu_calls m.rows) (with_regs l regs) asking)) → Move m (settled b p) a (stock_of new) b.heap b.spans p.names (account_of (serves (cpu_calls m.rows) (with_regs l regs) asking)) (got_it l asking o ∷ []))
+      → Does m new b l (serves (cpu_calls m.rows) (with_regs l regs) asking)
   gets_by l regs asking o others a is class hand move =
       let at = serves_as m.rows (with_regs l regs) asking o others hand in
-      let after : Local = serves m.rows (with_regs l regs) asking in
+      let after : Local = serves (cpu_calls m.rows) (with_regs l regs) asking in
       let wanted : Account = bare (Publishes asking.label (Some o)) l.regs.class.0 others l.rest in
       let account : account_of after ≡ wanted = at.account ∙ ap (λ (c : Class). bare (Publishes asking.label (Some o)) c.0 others l.rest) class in
       let answers : after.answers ≡ l.answers ++ record { act = l.acts; call = Malloc asking.label asking.size; answer = Block o (size_of m.rows l.regs.class.0) } ∷ [] =
@@ -145,17 +153,17 @@ module _ (m : Setup) (p : Parts) (locals : List Local) (b : Books) (books : AreB
       does_by m p locals b books cpus shards domains l after a (got_it l asking o ∷ []) is (move (weighs_is wanted (account_of after) account)) at.acts answers
 
   pub gets_object : (l : Local) (regs : Regs) (asking : Asking) (o : Addr) (others : List Addr) → account_of l ≡ bare (Asks asking.label asking.size) l.regs.class.0 [] l.rest → regs.class ≡ l.regs.class → regs.hand.items ≡ o ∷ others → class_of m.rows asking.size ≡ Some l.regs.class
-      → MoveObjects (stock_of p) (stock_of new) l.regs.class.0 [] (o ∷ others) [] → Does m new b l (serves m.rows (with_regs l regs) asking)
+      → MoveObjects (stock_of p) (stock_of new) l.regs.class.0 [] (o ∷ others) [] → Does m new b l (serves (cpu_calls m.rows) (with_regs l regs) asking)
   gets_object l regs asking o others is class hand asked move =
       gets_by l regs asking o others (bare (Asks asking.label asking.size) l.regs.class.0 [] l.rest) is class hand
-      (λ weighs. GetsObject asking.label asking.size (stock_of new) o others (account_of (serves m.rows (with_regs l regs) asking)) refl asked refl move cut weighs)
+      (λ weighs. GetsObject asking.label asking.size (stock_of new) o others (account_of (serves (cpu_calls m.rows) (with_regs l regs) asking)) refl asked refl move cut weighs)
 
   -- with the first objects of a span that it added
   pub gets_first : (l : Local) (regs : Regs) (asking : Asking) (run : Run) (o : Addr) (others : List Addr) → account_of l ≡ adding l asking run [] → regs.class ≡ l.regs.class → regs.hand.items ≡ o ∷ others → class_of m.rows asking.size ≡ Some l.regs.class
-      → AddSpan (stock_of p) (stock_of new) l.regs.class.0 (small l.regs.class run) (o ∷ others) → Does m new b l (serves m.rows (with_regs l regs) asking)
+      → AddSpan (stock_of p) (stock_of new) l.regs.class.0 (small l.regs.class run) (o ∷ others) → Does m new b l (serves (cpu_calls m.rows) (with_regs l regs) asking)
   gets_first l regs asking run o others is class hand asked add =
       gets_by l regs asking o others (adding l asking run []) is class hand
-      (λ weighs. GetsFirst asking.label asking.size (stock_of new) run o others [] [] (account_of (serves m.rows (with_regs l regs) asking)) refl refl asked refl refl refl add cut weighs)
+      (λ weighs. GetsFirst asking.label asking.size (stock_of new) run o others [] [] (account_of (serves (cpu_calls m.rows) (with_regs l regs) asking)) refl refl asked refl refl refl add cut weighs)
 
   -- a free is decided, with an empty hand then
   pub frees_spans : (l after : Local) (f : Freeing) (k : ℕ) (hand : List Addr) (freed : List SpanRef) (todo : List Planned) → account_of l ≡ bare (Frees f.label f.addr) k hand todo → MoveObjects (stock_of p) (stock_of new) k hand [] freed → WeighSame (with_hand (bare Other k hand todo) [] freed) (account_of after)
@@ -166,27 +174,28 @@ module _ (m : Setup) (p : Parts) (locals : List Local) (b : Books) (books : AreB
       (FreesObject f.label f.addr (stock_of new) freed (account_of after) refl move cut refl weighs) acts answers
 
   pub frees_object : (l : Local) (regs : Regs) (freed : Contents SpanRef) (f : Freeing) (k : ℕ) (hand : List Addr) → account_of l ≡ bare (Frees f.label f.addr) k hand l.rest → regs.hand.items ≡ []
-      → MoveObjects (stock_of p) (stock_of new) k hand [] [] → Does m new b l (ends m.rows (decided (record l { regs = regs; freed = freed }) (Free f.label) (Freed f.addr)))
+      → MoveObjects (stock_of p) (stock_of new) k hand [] [] → Does m new b l (ends (cpu_calls m.rows) (decided (record l { regs = regs; freed = freed }) (Free f.label) (Freed f.addr)))
   frees_object l regs freed f k hand is none move =
       let then : Local = decided (record l { regs = regs; freed = freed }) (Free f.label) (Freed f.addr) in
       let closes = ends_as m.rows then k none in
-      frees_spans l (ends m.rows then) f k hand [] l.rest is move closes.weighs closes.acts closes.answers
+      frees_spans l (ends (cpu_calls m.rows) then) f k hand [] l.rest is move closes.weighs closes.acts closes.answers
 
   -- a hand is given away: no span leaves, and the call ends or goes on
-  pub gives_hand : (limits : Limits) (l : Local) (g : Giving) (bag : Contents SpanRef) (k : ℕ) (hand : List Addr) → IsGiving limits hand g → l.regs.class.0 ≡ k → account_of l ≡ bare (giving_doing g) k hand l.rest → MoveObjects (stock_of p) (stock_of new) k hand [] [] → Does m new b l (goes_onward m.rows (decides_free (with_freed (to_hand l (emptied l.regs.hand)) bag) g) (behind g))
+  pub gives_hand : (limits : Limits) (l : Local) (g : Giving CpuRow) (bag : Contents SpanRef) (k : ℕ) (hand : List Addr) → IsGiving limits hand g → l.regs.class.0 ≡ k → account_of l ≡ bare (giving_doing g) k hand l.rest → MoveObjects (stock_of p) (stock_of new) k hand [] [] → Does m new b l (goes_onward (cpu_calls m.rows) (decides_free (with_freed (to_hand l (emptied l.regs.hand)) bag) g) (behind g))
   gives_hand limits l (giving.Rest s) bag k hand gives class is move =
       carries l (publishes (with_freed (to_hand l (emptied l.regs.hand)) bag) s) (Publishes s.label (Some s.addr)) k hand [] l.rest is move (λ label o doing. cc)
       (weighs_is (bare (Publishes s.label (Some s.addr)) k [] l.rest) (bare (Publishes s.label (Some s.addr)) l.regs.class.0 [] l.rest) (ap (λ (j : ℕ). bare (Publishes s.label (Some s.addr)) j [] l.rest) class)) refl refl
   gives_hand limits l (giving.Freed f) bag k hand gives class is move = frees_object l (record l.regs { hand = emptied l.regs.hand }) bag f k hand is refl move
   gives_hand limits l (giving.Row j row) bag k hand gives class is move =
-      let closes = comes_as (with_freed (to_hand l (emptied l.regs.hand)) bag) j row k gives.other refl in
-      carries l (comes_to (with_freed (to_hand l (emptied l.regs.hand)) bag) j row) Other k hand [] l.rest (is ∙ ap (λ (d : Doing). bare d k hand l.rest) (other_doing (about_cpu row) gives.other)) move (λ label o doing. cc) closes.weighs closes.acts closes.answers
+      let other = later_other limits j row gives in
+      let closes = comes_as (with_freed (to_hand l (emptied l.regs.hand)) bag) j row k other refl in
+      carries l (comes_to (with_freed (to_hand l (emptied l.regs.hand)) bag) j row) Other k hand [] l.rest (is ∙ ap (λ (d : Doing). bare d k hand l.rest) (other_doing (about_row row) other)) move (λ label o doing. cc) closes.weighs closes.acts closes.answers
   gives_hand limits l giving.End bag k hand gives class is move =
       let closes = ends_as m.rows (with_freed (to_hand l (emptied l.regs.hand)) bag) k refl in
-      carries l (ends m.rows (with_freed (to_hand l (emptied l.regs.hand)) bag)) Other k hand [] l.rest is move (λ label o doing. cc) closes.weighs closes.acts closes.answers
+      carries l (ends (cpu_calls m.rows) (with_freed (to_hand l (emptied l.regs.hand)) bag)) Other k hand [] l.rest is move (λ label o doing. cc) closes.weighs closes.acts closes.answers
 
   -- spans leave with that: they are to be cleared
-  abbrev clearing_it : Local → Giving → Contents SpanRef → Local
+  abbrev clearing_it : Local → Giving CpuRow → Contents SpanRef → Local
   clearing_it l g bag = goes (decides_free (with_freed (to_hand l (emptied l.regs.hand)) bag) g) (step.Map (map.ClearSpan (behind g)))
 
   pub spans_weigh : (d : Doing) (k j : ℕ) (hand : List Addr) (freed items : List SpanRef) (todo : List Planned) → j ≡ k → items ≡ freed → WeighSame (with_hand (bare d k hand todo) [] freed) (record { doing = d; class = j; hand = []; off = []; apart = items; mapped = items; clears = []; todo = todo })
@@ -196,14 +205,14 @@ module _ (m : Setup) (p : Parts) (locals : List Local) (b : Books) (books : AreB
       (ap (λ (i : ℕ). let x : Account = record { doing = d; class = i; hand = []; off = []; apart = items; mapped = items; clears = []; todo = todo } in x) class
       ∙ ap (λ (xs : List SpanRef). let x : Account = record { doing = d; class = k; hand = []; off = []; apart = xs; mapped = xs; clears = []; todo = todo } in x) more)
 
-  pub gives_spans : (limits : Limits) (l : Local) (g : Giving) (bag : Contents SpanRef) (k : ℕ) (hand : List Addr) (freed : List SpanRef) → IsGiving limits hand g → l.regs.class.0 ≡ k → bag.items ≡ freed → account_of l ≡ bare (giving_doing g) k hand l.rest → MoveObjects (stock_of p) (stock_of new) k hand [] freed → Does m new b l (clearing_it l g bag)
+  pub gives_spans : (limits : Limits) (l : Local) (g : Giving CpuRow) (bag : Contents SpanRef) (k : ℕ) (hand : List Addr) (freed : List SpanRef) → IsGiving limits hand g → l.regs.class.0 ≡ k → bag.items ≡ freed → account_of l ≡ bare (giving_doing g) k hand l.rest → MoveObjects (stock_of p) (stock_of new) k hand [] freed → Does m new b l (clearing_it l g bag)
   gives_spans limits l (giving.Rest s) bag k hand freed gives class are is move =
       carries_spans l (clearing_it l (giving.Rest s) bag) (Publishes s.label (Some s.addr)) k hand [] freed l.rest is move (λ label o doing. cc) (spans_weigh (Publishes s.label (Some s.addr)) k l.regs.class.0 hand freed bag.items l.rest class are) refl refl
   gives_spans limits l (giving.Freed f) bag k hand freed gives class are is move =
       frees_spans l (clearing_it l (giving.Freed f) bag) f k hand freed l.rest is move (spans_weigh Other k l.regs.class.0 hand freed bag.items l.rest class are) refl refl
   gives_spans limits l (giving.Row j row) bag k hand freed gives class are is move =
-      let d : Doing = cpu_doing row in
-      carries_spans l (clearing_it l (giving.Row j row) bag) d k hand [] freed l.rest is move (λ label o doing. (let e = other_doing (about_cpu row) gives.other in cc)) (spans_weigh d k l.regs.class.0 hand freed bag.items l.rest class are) refl refl
+      let d : Doing = doing_about (about_row row) in
+      carries_spans l (clearing_it l (giving.Row j row) bag) d k hand [] freed l.rest is move (λ label o doing. (let e = other_doing (about_row row) (later_other limits j row gives) in cc)) (spans_weigh d k l.regs.class.0 hand freed bag.items l.rest class are) refl refl
   gives_spans limits l giving.End bag k hand freed gives class are is move =
       carries_spans l (clearing_it l giving.End bag) Other k hand [] freed l.rest is move (λ label o doing. cc) (spans_weigh Other k l.regs.class.0 hand freed bag.items l.rest class are) refl refl
 

@@ -26,19 +26,19 @@ use Rattle.transfer_cache.specs.Transfer.{Transfer, without_last}
 use Rattle.central_free.specs.Central.{taken, put_all}
 use Rattle.class_shard.specs.Shard as shards
 use Rattle.cpu_drain.specs.Drains as drains
+use Rattle.call_steps.specs.CpuRows.{as_row}
 use Rattle.call_steps.specs.declared.step.CpuStep.{CpuStep}
 use Rattle.call_steps.specs.declared.step.CpuStep.TheVariants as cpu
-use Rattle.call_steps.specs.declared.step.ShardStep.{ShardStep}
+use Rattle.call_steps.specs.PerCpu.{CpuLocal as Local, ShardStep, Next}
 use Rattle.call_steps.specs.declared.step.ShardStep.TheVariants as shard
-use Rattle.call_steps.specs.declared.step.Next.{Next}
 use Rattle.call_steps.specs.declared.step.Next.TheVariants as next
 use Rattle.call_steps.specs.declared.step.DomainStep.{DomainStep}
 use Rattle.call_steps.specs.declared.step.DomainStep.TheVariants as domain
 use Rattle.call_steps.specs.declared.step.Stopping.{Stopping}
-use Rattle.call_steps.specs.Local.{Local, class_row}
+use Rattle.call_steps.specs.Local.{class_row}
 use Rattle.call_steps.specs.CpuActs.{due, sequence_by, stops, left_for, fits_into, put_in}
 use Rattle.call_steps.specs.ShardActs.{shard_row}
-use Rattle.call_steps.specs.Follows.{cpu_row, domain_row}
+use Rattle.call_steps.specs.CpuCalls.{cpu_calls, cpu_row, domain_row}
 use Rattle.alloc_rules.specs.Heads.{slab_class, IsSlabOf, HasRoom}
 
 -- Slabs: a row of the same class takes the place of another
@@ -151,7 +151,7 @@ taken_room room n t has = record { room = has.room; within = omega (arith, has.w
 put_room : (room : ℕ) (t : Transfer) (list : List Addr) → leb (length t.objects + length list) t.room ≡ true → HasRoom room t → HasRoom room (put_in t list)
 put_room room t list fits has = record { room = has.room; within = omega (arith, has.room, leb-true (length t.objects + length list) t.room fits, length-append t.objects list) }
 
-pub list_stays : (rows : List ClassRow) (room : ℕ) (s : shards.Shard) (l : Local) (row : ShardStep) → HasRoom room s.transfer → HasRoom room (shard_row rows s l row).0.transfer
+pub list_stays : (rows : List ClassRow) (room : ℕ) (s : shards.Shard) (l : Local) (row : ShardStep) → HasRoom room s.transfer → HasRoom room (shard_row (cpu_calls rows) s l row).0.transfer
 list_stays rows room s l (shard.Fetch a) has =
     let n : ℕ = (class_row rows l).batch in
     cond_both (shards.is_idle s) (shards.with_spans s (taken n s.central.spans).spans) (shards.with_objects s (without_last n s.transfer.objects)) (λ (x : shards.Shard). HasRoom room x.transfer) (λ e. has) (λ e. taken_room room n s.transfer has)
@@ -164,4 +164,4 @@ pub cache_stays : (rows : List ClassRow) (room : ℕ) (t : Transfer) (l : Local)
 cache_stays rows room t l (domain.Take a) has = taken_room room (class_row rows l).batch t has
 cache_stays rows room t l (domain.Put g) has =
     let list : List Addr = l.regs.hand.items in
-    cond_both (fits_into t list) (put_in t list, record l.regs { hand = emptied l.regs.hand }, next.Gave g) (t, l.regs, next.Give g) (λ (z : Transfer × Regs × Next). HasRoom room z.0) (λ e. put_room room t list e has) (λ e. has)
+    cond_both (fits_into t list) (put_in t list, record l.regs { hand = emptied l.regs.hand }, next.Gave (as_row g)) (t, l.regs, next.Give (as_row g)) (λ (z : Transfer × Regs × Next). HasRoom room z.0) (λ e. put_room room t list e has) (λ e. has)

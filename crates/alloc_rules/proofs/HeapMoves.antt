@@ -22,18 +22,19 @@ use Rattle.holdings.specs.Accounts.{Account, WeighSame}
 use Rattle.holdings.specs.Books.{Setup, Books}
 use Rattle.holdings.specs.Moves.{GetsNone, GetsRun, GetsSpan, FreesRun, FreesSpan, Rests, One}
 use Rattle.holdings.proofs.Sums.{like, less_counts}
+use Rattle.call_steps.specs.CpuCalls.{cpu_calls}
 use Rattle.call_steps.specs.declared.step.Asking.{Asking}
-use Rattle.call_steps.specs.declared.step.Onward.{Onward}
-use Rattle.call_steps.specs.declared.step.HeapStep.{HeapStep}
+use Rattle.call_steps.specs.PerCpu.{CpuLocal as Local, Onward, HeapStep}
 use Rattle.call_steps.specs.declared.step.HeapStep.TheVariants.{New, NewSpan, GiveBack, FreeSpan, Unback}
 use Rattle.call_steps.specs.declared.step.Step.TheVariants as does
-use Rattle.call_steps.specs.Local.{Local, decided, class_row}
+use Rattle.call_steps.specs.Local.{decided, class_row}
 use Rattle.call_steps.specs.Hands.{with_freed, clears}
 use Rattle.call_steps.specs.Acts.{heap_row, after_new, after_new_span, frees_span, without_first_span}
 use Rattle.call_steps.specs.Fits.{FitsHeap, FirstLives}
 use Rattle.alloc_rules.specs.Machine.{Parts}
 use Rattle.call_steps.specs.Shapes.{IsOnward}
-use Rattle.alloc_rules.specs.Accounts.{account_of, onward_doing, first_run}
+use Rattle.alloc_rules.specs.Accounts.{first_run}
+use Rattle.alloc_rules.specs.CpuAccounts.{account_of, onward_doing}
 use Rattle.alloc_rules.specs.Stocks.{AreBooksOf, Does}
 use Rattle.alloc_rules.specs.Acts.{limits_of, IsBefore, HeapActsMove}
 use Rattle.alloc_rules.proofs.Weighing.{bare, weighs_same, ends_counts}
@@ -121,7 +122,7 @@ module _ (m : Setup) (limits : HeapConfig) (cpus : ℕ) (p : Parts) (locals : Li
       let some : 0 < runs_like r b.heap = omega (arith, there_counted r p.heap.runs there, books.heap r) in
       omega (arith, like-without_run r p.heap.runs q there (one_run p.heap r sound there), ap (runs_like q) rid.runs, less_counts r b.heap some (like q), books.heap q)
 
-  gives_back : (label : Label) (run : Run) → Before (GiveBack label run) → Contains p.heap.runs run → Goal (GiveBack label run) (heap_row m.rows p.heap (at (GiveBack label run)) (GiveBack label run))
+  gives_back : (label : Label) (run : Run) → Before (GiveBack label run) → Contains p.heap.runs run → Goal (GiveBack label run) (heap_row (cpu_calls m.rows) p.heap (at (GiveBack label run)) (GiveBack label run))
   gives_back label run before there =
       let books = before.books in
       let l' : Local = decided (at (GiveBack label run)) (Free label) (Freed (address_of run)) in
@@ -137,14 +138,14 @@ module _ (m : Setup) (limits : HeapConfig) (cpus : ℕ) (p : Parts) (locals : Li
       }
 
   -- what is left to give back
-  clears_weighs : (l' : Local) (next : Onward) (xs : List SpanRef) → IsOnward (limits_of m cpus) next → l'.freed.items ≡ xs → l'.regs.hand.items ≡ [] → WeighSame (record (bare (onward_doing next) l'.regs.class.0 l'.regs.hand.items l'.rest) { apart = xs; mapped = xs }) (account_of (clears m.rows l' next xs)) × Counts l' (clears m.rows l' next xs)
+  clears_weighs : (l' : Local) (next : Onward) (xs : List SpanRef) → IsOnward (limits_of m cpus) next → l'.freed.items ≡ xs → l'.regs.hand.items ≡ [] → WeighSame (record (bare (onward_doing next) l'.regs.class.0 l'.regs.hand.items l'.rest) { apart = xs; mapped = xs }) (account_of (clears (cpu_calls m.rows) l' next xs)) × Counts l' (clears (cpu_calls m.rows) l' next xs)
   clears_weighs l' next [] on is none = onward_weighs m.rows (limits_of m cpus) l' next on none
   clears_weighs l' next (s ∷ others) on is none =
       let wanted : List SpanRef → Account = λ xs. record (bare (onward_doing next) l'.regs.class.0 l'.regs.hand.items l'.rest) { apart = xs; mapped = xs } in
-      (subst (λ (xs : List SpanRef). WeighSame (wanted xs) (account_of (clears m.rows l' next (s ∷ others)))) is (weighs_same _), record { acts = refl; answers = refl })
+      (subst (λ (xs : List SpanRef). WeighSame (wanted xs) (account_of (clears (cpu_calls m.rows) l' next (s ∷ others)))) is (weighs_same _), record { acts = refl; answers = refl })
 
   -- the first of the spans that left a shard is given back
-  frees : (next : Onward) (before : Before (FreeSpan next)) (xs : List SpanRef) → l.freed.items ≡ xs → FirstLives p.heap xs → Goal (FreeSpan next) (frees_span m.rows p.heap (at (FreeSpan next)) next xs)
+  frees : (next : Onward) (before : Before (FreeSpan next)) (xs : List SpanRef) → l.freed.items ≡ xs → FirstLives p.heap xs → Goal (FreeSpan next) (frees_span (cpu_calls m.rows) p.heap (at (FreeSpan next)) next xs)
   frees next before [] is lives = absurd lives
   frees next before (s ∷ others) is lives =
       let books = before.books in
@@ -154,14 +155,14 @@ module _ (m : Setup) (limits : HeapConfig) (cpus : ℕ) (p : Parts) (locals : Li
         heap = less (run_of s) b.heap;
         spans = b.spans;
         said = [];
-        move = moved_by m p locals b books _ _ (less (run_of s) b.heap) b.spans _ (FreesSpan s others _ (ap first_run is) is (ap (drop 1) is) (subst (λ (xs : List SpanRef). WeighSame (record (bare (onward_doing next) l.regs.class.0 l.regs.hand.items l.rest) { apart = others; mapped = xs }) (account_of (clears m.rows l' next others))) (sym (ap (drop 1) is)) after.0));
+        move = moved_by m p locals b books _ _ (less (run_of s) b.heap) b.spans _ (FreesSpan s others _ (ap first_run is) is (ap (drop 1) is) (subst (λ (xs : List SpanRef). WeighSame (record (bare (onward_doing next) l.regs.class.0 l.regs.hand.items l.rest) { apart = others; mapped = xs }) (account_of (clears (cpu_calls m.rows) l' next others))) (sym (ap (drop 1) is)) after.0));
         like_heap = less_like (run_of s) books before.parts.heap lives;
         like_spans = books.spans;
         acts = after.1.acts;
         answers = after.1.answers ∙ sym (append-nil l.answers);
       }
 
-  unbacks : (pages : ℕ) → Before (Unback pages) → Goal (Unback pages) (heap_row m.rows p.heap (at (Unback pages)) (Unback pages))
+  unbacks : (pages : ℕ) → Before (Unback pages) → Goal (Unback pages) (heap_row (cpu_calls m.rows) p.heap (at (Unback pages)) (Unback pages))
   unbacks pages before =
       let books = before.books in
       let l' : Local = decided (at (Unback pages)) (Release pages) (Released (release p.heap pages).pages) in
@@ -177,7 +178,7 @@ module _ (m : Setup) (limits : HeapConfig) (cpus : ℕ) (p : Parts) (locals : Li
         answers = (ends_counts m.rows l').1;
       }
 
-  by_row : (row : HeapStep) → Before row → FitsHeap m.rows p.heap (at row) row → Goal row (heap_row m.rows p.heap (at row) row)
+  by_row : (row : HeapStep) → Before row → FitsHeap m.rows p.heap (at row) row → Goal row (heap_row (cpu_calls m.rows) p.heap (at row) row)
   by_row (New label size) before fits = gets label size before fits.0 (new p.heap (pages_holding size)) refl
   by_row (NewSpan a) before fits = gets_span a before fits.1 (new p.heap (class_row m.rows l).pages) refl
   by_row (GiveBack label run) before fits = gives_back label run before fits
@@ -187,4 +188,4 @@ module _ (m : Setup) (limits : HeapConfig) (cpus : ℕ) (p : Parts) (locals : Li
 pub heap_acts_move : HeapActsMove
 heap_acts_move m limits cpus p locals b calls t l row before step fits =
     let is : record l { step = does.Heap row } ≡ l = ap (λ s. record l { step = s }) (sym step) in
-    subst (λ (x : Local). IsBefore m limits cpus p locals b calls t x → FitsHeap m.rows p.heap x row → Does m (record p { heap = (heap_row m.rows p.heap x row).0 }) b x (heap_row m.rows p.heap x row).1) is (by_row m limits cpus p locals b calls t l row) before fits
+    subst (λ (x : Local). IsBefore m limits cpus p locals b calls t x → FitsHeap m.rows p.heap x row → Does m (record p { heap = (heap_row (cpu_calls m.rows) p.heap x row).0 }) b x (heap_row (cpu_calls m.rows) p.heap x row).1) is (by_row m limits cpus p locals b calls t l row) before fits

@@ -13,13 +13,12 @@ use Rattle.heap_rules.proofs.Given.{new_gives}
 use Rattle.heap_rules.proofs.Ended.{free_leaves}
 use Rattle.heap_rules.proofs.Released.{release_keeps}
 use Rattle.holdings.specs.Runs.{large, small, run_of}
+use Rattle.call_steps.specs.CpuCalls.{cpu_calls}
 use Rattle.call_steps.specs.declared.step.Asking.{Asking}
-use Rattle.call_steps.specs.declared.step.Onward.{Onward}
-use Rattle.call_steps.specs.declared.step.HeapStep.{HeapStep}
+use Rattle.call_steps.specs.PerCpu.{CpuLocal as Local, Onward, HeapStep, MapStep}
 use Rattle.call_steps.specs.declared.step.HeapStep.TheVariants.{New, NewSpan, GiveBack, FreeSpan, Unback}
-use Rattle.call_steps.specs.declared.step.MapStep.{MapStep}
 use Rattle.call_steps.specs.declared.step.MapStep.TheVariants.{Set, SetSpan, Lookup, Clear, ClearSpan}
-use Rattle.call_steps.specs.Local.{Local, class_row}
+use Rattle.call_steps.specs.Local.{class_row}
 use Rattle.call_steps.specs.Acts.{after_new, after_new_span, frees_span, heap_row, clears_span, map_row}
 use Rattle.call_steps.specs.Fits.{FitsHeap, FitsMap, FirstLives}
 use Rattle.alloc_rules.proofs.Placing.{given_at}
@@ -43,11 +42,11 @@ by_span : (rows : List ClassRow) (h : heaps.Heap) (l : Local) (a : Asking) (o : 
 by_span rows h l a None sound region some is = heap_same h sound
 by_span rows h l a (Some x) sound region some is = new_stays h (class_row rows l).pages x sound region some is
 
-by_freed : (rows : List ClassRow) (h : heaps.Heap) (l : Local) (next : Onward) (xs : List SpanRef) → IsSound h → FirstLives h xs → HeapStays h (frees_span rows h l next xs).0
+by_freed : (rows : List ClassRow) (h : heaps.Heap) (l : Local) (next : Onward) (xs : List SpanRef) → IsSound h → FirstLives h xs → HeapStays h (frees_span (cpu_calls rows) h l next xs).0
 by_freed rows h l next [] sound lives = absurd lives
 by_freed rows h l next (s ∷ others) sound lives = let rid = free_leaves h (run_of s) sound lives in record { sound = rid.sound; config = rid.config }
 
-pub heap_stays : (rows : List ClassRow) (h : heaps.Heap) (l : Local) (row : HeapStep) → IsSound h → 2 ≤ h.config.region → FitsHeap rows h l row → HeapStays h (heap_row rows h l row).0
+pub heap_stays : (rows : List ClassRow) (h : heaps.Heap) (l : Local) (row : HeapStep) → IsSound h → 2 ≤ h.config.region → FitsHeap rows h l row → HeapStays h (heap_row (cpu_calls rows) h l row).0
 heap_stays rows h l (New label size) sound region fits = by_new h l label size (new h (pages_holding size)) sound region fits.0 refl
 heap_stays rows h l (NewSpan a) sound region fits = by_span rows h l a (new h (class_row rows l).pages) sound region fits.1 refl
 heap_stays rows h l (GiveBack label run) sound region fits = let rid = free_leaves h run sound fits in record { sound = rid.sound; config = rid.config }
@@ -63,9 +62,9 @@ by_clear : (x : SpanMap) (l : Local) (next : Onward) (xs : List SpanRef) → IsW
 by_clear x l next [] well = record { well = well; huge = refl }
 by_clear x l next (s ∷ others) well = record { well = without_span-well_formed x.huge s x.spans well; huge = refl }
 
-pub map_stays : (x : SpanMap) (l : Local) (row : MapStep) → IsWellFormed x → FitsMap x l row → MapStays x (map_row x l row).0
-map_stays x l (Set label run) well fits = record { well = with_span-well_formed x.huge (large run) x.spans fits.0 fits.1 well; huge = refl }
-map_stays x l (SetSpan a run) well fits = record { well = with_span-well_formed x.huge (small l.regs.class run) x.spans fits.0 fits.1 well; huge = refl }
-map_stays x l (Lookup label addr) well fits = record { well = well; huge = refl }
-map_stays x l (Clear label run) well fits = record { well = without_span-well_formed x.huge (large run) x.spans well; huge = refl }
-map_stays x l (ClearSpan next) well fits = by_clear x l next l.freed.items well
+pub map_stays : (rows : List ClassRow) (x : SpanMap) (l : Local) (row : MapStep) → IsWellFormed x → FitsMap x l row → MapStays x (map_row (cpu_calls rows) x l row).0
+map_stays rows x l (Set label run) well fits = record { well = with_span-well_formed x.huge (large run) x.spans fits.0 fits.1 well; huge = refl }
+map_stays rows x l (SetSpan a run) well fits = record { well = with_span-well_formed x.huge (small l.regs.class run) x.spans fits.0 fits.1 well; huge = refl }
+map_stays rows x l (Lookup label addr) well fits = record { well = well; huge = refl }
+map_stays rows x l (Clear label run) well fits = record { well = without_span-well_formed x.huge (large run) x.spans well; huge = refl }
+map_stays rows x l (ClearSpan next) well fits = by_clear x l next l.freed.items well

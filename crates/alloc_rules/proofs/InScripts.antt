@@ -14,12 +14,15 @@ use Rattle.name_table.specs.declared.table.NameState.{NameState}
 use Rattle.name_table.specs.Names.{state_of}
 use Rattle.holdings.specs.Runs.{bit}
 use Rattle.holdings.specs.Accounts.{asking, publishing, unpublished, got, gets, is_out}
-use Rattle.call_steps.specs.declared.step.Step.{Step}
-use Rattle.call_steps.specs.Local.{Local, Decided, first_of_malloc, first_of_call, first_act}
+use Rattle.call_steps.specs.declared.seat.CpuSeat.{CpuSeat}
+use Rattle.call_steps.specs.CpuCalls.{cpu_calls}
+use Rattle.call_steps.specs.PerCpu.{CpuLocal as Local, Step}
+use Rattle.call_steps.specs.Local.{Decided, first_of_malloc, first_of_call, first_act}
 use Rattle.call_steps.specs.Calls.{undecided, under}
-use Rattle.call_steps.specs.Kept.{call_at, HasDomain}
-use Rattle.call_steps.proofs.ScriptFacts.{undecided_under, first_is_of, first_under, first_domain}
-use Rattle.alloc_rules.specs.Accounts.{account_of, doing_of}
+use Rattle.call_steps.specs.Kept.{call_at}
+use Rattle.call_steps.proofs.ScriptFacts.{undecided_under, first_is_of, first_under}
+use Rattle.call_steps.specs.CpuRows.{about_row}
+use Rattle.alloc_rules.specs.CpuAccounts.{account_of, doing_of}
 use Rattle.alloc_rules.specs.Scripts.{IsIn, GoesOn, Closes, Path, Stays, Comes, is_under_way}
 
 -- Labels that are out stay out; and what a local is still to publish stays so, or is out.
@@ -30,33 +33,33 @@ abbrev pub KeepsUnpublished : List NameState → Local → Local → Type 0
 KeepsUnpublished names l after = (x : ℕ) → (unpublished x (account_of after) ≡ unpublished x (account_of l)) ⊎ (is_out (state_of names x) ≡ true)
 
 -- the first act of the next call
-first_malloc : (x : ℕ) (c : Option Class) (label : Label) (size : ℕ) → (asking x (doing_of (first_of_malloc c label size)) ≡ bit (eqb label.0 x)) × (publishing x (doing_of (first_of_malloc c label size)) ≡ 0) × (is_under_way (first_of_malloc c label size) ≡ true)
-first_malloc x None label size = (refl, refl, refl)
-first_malloc x (Some k) label size = (refl, refl, refl)
+first_malloc : (rows : List ClassRow) (v : CpuSeat) (x : ℕ) (c : Option Class) (label : Label) (size : ℕ) → (asking x (doing_of (first_of_malloc (cpu_calls rows) v c label size)) ≡ bit (eqb label.0 x)) × (publishing x (doing_of (first_of_malloc (cpu_calls rows) v c label size)) ≡ 0) × (is_under_way (first_of_malloc (cpu_calls rows) v c label size) ≡ true)
+first_malloc rows v x None label size = (refl, refl, refl)
+first_malloc rows v x (Some k) label size = (refl, refl, refl)
 
-first_weighs : (rows : List ClassRow) (x : ℕ) (c : Call) (rest : List Planned) (line : Planned) → line.call ≡ c → (asking x (doing_of (first_of_call rows c)) + gets x rest ≡ gets x (line ∷ rest)) × (publishing x (doing_of (first_of_call rows c)) ≡ 0) × (is_under_way (first_of_call rows c) ≡ true)
-first_weighs rows x (Malloc label size) rest line is = let f = first_malloc x (class_of rows size) label size in (omega (arith, f.0, ap (got x) is), f.1, f.2)
-first_weighs rows x (Free label) rest line is = (omega (arith, ap (got x) is), refl, refl)
-first_weighs rows x (Release pages) rest line is = (omega (arith, ap (got x) is), refl, refl)
-first_weighs rows x (Drain cpu) rest line is = (omega (arith, ap (got x) is), refl, refl)
-first_weighs rows x (Resize cpu class most) rest line is = (omega (arith, ap (got x) is), refl, refl)
+first_weighs : (rows : List ClassRow) (v : CpuSeat) (x : ℕ) (c : Call) (rest : List Planned) (line : Planned) → line.call ≡ c → (asking x (doing_of (first_of_call (cpu_calls rows) v c)) + gets x rest ≡ gets x (line ∷ rest)) × (publishing x (doing_of (first_of_call (cpu_calls rows) v c)) ≡ 0) × (is_under_way (first_of_call (cpu_calls rows) v c) ≡ true)
+first_weighs rows v x (Malloc label size) rest line is = let f = first_malloc rows v x (class_of rows size) label size in (omega (arith, f.0, ap (got x) is), f.1, f.2)
+first_weighs rows v x (Free label) rest line is = (omega (arith, ap (got x) is), refl, refl)
+first_weighs rows v x (Release pages) rest line is = (omega (arith, ap (got x) is), refl, refl)
+first_weighs rows v x (Drain cpu) rest line is = (omega (arith, ap (got x) is), refl, refl)
+first_weighs rows v x (Resize cpu class most) rest line is = (omega (arith, ap (got x) is), refl, refl)
 
-next_weighs : (rows : List ClassRow) (x : ℕ) (rest : List Planned) → (asking x (doing_of (first_act rows (slice_get rest 0))) + gets x (drop 1 rest) ≡ gets x rest) × (publishing x (doing_of (first_act rows (slice_get rest 0))) ≡ 0)
-next_weighs rows x [] = (refl, refl)
-next_weighs rows x (p ∷ rest) = let f = first_weighs rows x p.call rest p refl in (f.0, f.1)
+next_weighs : (rows : List ClassRow) (v : CpuSeat) (x : ℕ) (rest : List Planned) → (asking x (doing_of (first_act (cpu_calls rows) v (slice_get rest 0))) + gets x (drop 1 rest) ≡ gets x rest) × (publishing x (doing_of (first_act (cpu_calls rows) v (slice_get rest 0))) ≡ 0)
+next_weighs rows v x [] = (refl, refl)
+next_weighs rows v x (p ∷ rest) = let f = first_weighs rows v x p.call rest p refl in (f.0, f.1)
 
-next_way : (rows : List ClassRow) (o : Option Planned) → is_under_way (first_act rows o) ≡ is_some (option_map (λ (p : Planned). p.call) o)
-next_way rows None = refl
-next_way rows (Some p) = (first_weighs rows 0 p.call [] p refl).2
+next_way : (rows : List ClassRow) (v : CpuSeat) (o : Option Planned) → is_under_way (first_act (cpu_calls rows) v o) ≡ is_some (option_map (λ (p : Planned). p.call) o)
+next_way rows v None = refl
+next_way rows v (Some p) = (first_weighs rows v 0 p.call [] p refl).2
 
 -- an allocation asks for its label at its first act
-asks_first : (rows : List ClassRow) (o : Option Planned) (label : Label) (size : ℕ) → option_map (λ (p : Planned). p.call) o ≡ Some (Malloc label size) → 0 < asking label.0 (doing_of (first_act rows o))
-asks_first rows None label size is = absurd (cc)
-asks_first rows (Some p) label size is =
+asks_first : (rows : List ClassRow) (v : CpuSeat) (o : Option Planned) (label : Label) (size : ℕ) → option_map (λ (p : Planned). p.call) o ≡ Some (Malloc label size) → 0 < asking label.0 (doing_of (first_act (cpu_calls rows) v o))
+asks_first rows v None label size is = absurd (cc)
+asks_first rows v (Some p) label size is =
     let call : p.call ≡ Malloc label size = cc in
-    let f = first_malloc label.0 (class_of rows size) label size in
+    let f = first_malloc rows v label.0 (class_of rows size) label size in
     let own : bit (eqb label.0 label.0) ≡ 1 = ap bit (eq-eqb label.0 label.0 refl) in
-    let e : asking label.0 (doing_of (first_of_call rows p.call)) ≡ asking label.0 (doing_of (first_of_malloc (class_of rows size) label size)) = ap (λ c. asking label.0 (doing_of (first_of_call rows c))) call in
+    let e : asking label.0 (doing_of (first_of_call (cpu_calls rows) v p.call)) ≡ asking label.0 (doing_of (first_of_malloc (cpu_calls rows) v (class_of rows size) label size)) = ap (λ c. asking label.0 (doing_of (first_of_call (cpu_calls rows) v c))) call in
     omega (arith, e, f.0, own)
 
 pushed : {X : Type 0} (xs : List X) (x y : X) (j : ℕ) → slice_get (xs ++ x ∷ []) j ≡ Some y → (slice_get xs j ≡ Some y) ⊎ ((j ≡ length xs) × (x ≡ y))
@@ -75,7 +78,7 @@ no_call (Some p) is = absurd (false≢true (sym is))
 
 -- what the answers are, as one comes
 module _ (names : List NameState) (script : List Planned) (l : Local) (inside : IsIn names script l) where
-  answered : (new answers : List Decided) → answers ≡ l.answers ++ new → ((d : Decided) → new ≡ d ∷ [] → (under l.step ≡ 0) × (call_at script l.ended ≡ Some d.call)) → (new ≡ []) ⊎ ((d : Decided) × (new ≡ d ∷ [])) → (j : ℕ) (d : Decided) → slice_get answers j ≡ Some d → call_at script j ≡ Some d.call
+  answered : (new answers : List Decided) → answers ≡ l.answers ++ new → ((d : Decided) → new ≡ d ∷ [] → (under about_row l.step ≡ 0) × (call_at script l.ended ≡ Some d.call)) → (new ≡ []) ⊎ ((d : Decided) × (new ≡ d ∷ [])) → (j : ℕ) (d : Decided) → slice_get answers j ≡ Some d → call_at script j ≡ Some d.call
   answered new answers is one few j d at =
       elim few [
         | inl none ↦ inside.decided j d (ap (λ xs. slice_get xs j) (sym (is ∙ ap (λ n. l.answers ++ n) none ∙ append-nil l.answers)) ∙ at)
@@ -91,7 +94,7 @@ module _ (names : List NameState) (script : List Planned) (l : Local) (inside : 
       ]
 
   -- what a deciding act decides is the call here
-  here : (d : Decided) → undecided l.step ≡ Some d.call → (under l.step ≡ 0) × (call_at script l.ended ≡ Some d.call)
+  here : (d : Decided) → undecided about_row l.step ≡ Some d.call → (under about_row l.step ≡ 0) × (call_at script l.ended ≡ Some d.call)
   here d is = (undecided_under l.step (ap is_some is), inside.call d.call is)
 
 goes_few : (s next : Step) (new : List Decided) → GoesOn s next new → (new ≡ []) ⊎ ((d : Decided) × (new ≡ d ∷ []))
@@ -106,17 +109,17 @@ closes_few s (d ∷ e ∷ more) closes = absurd closes
 
 module _ (rows : List ClassRow) (names names' : List NameState) (script : List Planned) (l after : Local) (way : is_under_way l.step ≡ true) (inside : IsIn names script l) (stay : StayOut names names') (keeps : KeepsUnpublished names' l after) where
   -- within a call
-  goes_call : (new : List Decided) → GoesOn l.step after.step new → (c : Call) → undecided after.step ≡ Some c → undecided l.step ≡ Some c
+  goes_call : (new : List Decided) → GoesOn l.step after.step new → (c : Call) → undecided about_row after.step ≡ Some c → undecided about_row l.step ≡ Some c
   goes_call [] goes c is = sym goes.0 ∙ is
   goes_call (d ∷ []) goes c is = let wrong : None ≡ Some c = sym goes.1 ∙ is in absurd (cc)
   goes_call (d ∷ e ∷ more) goes c is = absurd goes
 
-  goes_one : (new : List Decided) → GoesOn l.step after.step new → (d : Decided) → new ≡ d ∷ [] → (under l.step ≡ 0) × (call_at script l.ended ≡ Some d.call)
+  goes_one : (new : List Decided) → GoesOn l.step after.step new → (d : Decided) → new ≡ d ∷ [] → (under about_row l.step ≡ 0) × (call_at script l.ended ≡ Some d.call)
   goes_one [] goes d is = absurd (cc)
   goes_one (x ∷ []) goes d is = let same : x ≡ d = cc in here names script l inside d (goes.0 ∙ ap (λ (y : Decided). Some y.call) same)
   goes_one (x ∷ e ∷ more) goes d is = absurd goes
 
-  goes_count : (new : List Decided) → GoesOn l.step after.step new → length (l.answers ++ new) ≡ l.ended + under after.step
+  goes_count : (new : List Decided) → GoesOn l.step after.step new → length (l.answers ++ new) ≡ l.ended + under about_row after.step
   goes_count [] goes = omega (arith, length-append l.answers [], inside.count, goes.1)
   goes_count (d ∷ []) goes = omega (arith, length-append l.answers (d ∷ []), inside.count, undecided_under l.step (ap is_some goes.0), goes.2)
   goes_count (d ∷ e ∷ more) goes = absurd goes
@@ -138,12 +141,12 @@ module _ (rows : List ClassRow) (names names' : List NameState) (script : List P
                 | inr out ↦ inl out
               ])
         ];
-        count = ap length answers ∙ (goes_count new goes ∙ ap (λ n. n + under after.step) (sym ended));
+        count = ap length answers ∙ (goes_count new goes ∙ ap (λ n. n + under about_row after.step) (sym ended));
         decided = λ j d is. answered names script l inside new after.answers answers (goes_one new goes) (goes_few l.step after.step new goes) j d is;
       }
 
   -- to the next call
-  closes_one : (new : List Decided) → Closes l.step new → (d : Decided) → new ≡ d ∷ [] → (under l.step ≡ 0) × (call_at script l.ended ≡ Some d.call)
+  closes_one : (new : List Decided) → Closes l.step new → (d : Decided) → new ≡ d ∷ [] → (under about_row l.step ≡ 0) × (call_at script l.ended ≡ Some d.call)
   closes_one [] closes d is = absurd (cc)
   closes_one (x ∷ []) closes d is = let same : x ≡ d = cc in here names script l inside d (closes ∙ ap (λ (y : Decided). Some y.call) same)
   closes_one (x ∷ e ∷ more) closes d is = absurd closes
@@ -153,16 +156,16 @@ module _ (rows : List ClassRow) (names names' : List NameState) (script : List P
   closes_count (d ∷ []) closes = omega (arith, length-append l.answers (d ∷ []), inside.count, undecided_under l.step (ap is_some closes))
   closes_count (d ∷ e ∷ more) closes = absurd closes
 
-  comes_in : (new : List Decided) → after.answers ≡ l.answers ++ new → after.ended ≡ l.ended + 1 → after.rest ≡ drop 1 l.rest → after.step ≡ first_act rows (slice_get l.rest 0) → Closes l.step new → IsIn names' script after
+  comes_in : (new : List Decided) → after.answers ≡ l.answers ++ new → after.ended ≡ l.ended + 1 → after.rest ≡ drop 1 l.rest → after.step ≡ first_act (cpu_calls rows) after.seat (slice_get l.rest 0) → Closes l.step new → IsIn names' script after
   comes_in new answers ended rest step closes =
       let o : Option Planned = slice_get l.rest 0 in
       let next : call_at script after.ended ≡ option_map (λ (p : Planned). p.call) o = ap (call_at script) ended ∙ ap (option_map (λ (p : Planned). p.call)) (ap (slice_get script) (let e : l.ended + 1 ≡ l.ended + 1 + 0 = omega arith in e) ∙ sym (inside.rest 0)) in
-      let w = λ (x : ℕ). next_weighs rows x l.rest in
+      let w = λ (x : ℕ). next_weighs rows after.seat x l.rest in
       record {
         rest = λ j. ap (λ xs. slice_get xs j) rest ∙ (rest_behind l.rest j ∙ (inside.rest (1 + j) ∙ ap (slice_get script) (let e : l.ended + 1 + (1 + j) ≡ after.ended + 1 + j = omega (arith, ended) in e)));
-        call = λ c is. next ∙ first_is_of rows o c (sym (ap undecided step) ∙ is);
-        some = λ on. ap is_some next ∙ (sym (next_way rows o) ∙ (sym (ap is_under_way step) ∙ on));
-        none = λ off. next ∙ no_call o (sym (next_way rows o) ∙ (sym (ap is_under_way step) ∙ off));
+        call = λ c is. next ∙ first_is_of rows after.seat o c (sym (ap (undecided about_row) step) ∙ is);
+        some = λ on. ap is_some next ∙ (sym (next_way rows after.seat o) ∙ (sym (ap is_under_way step) ∙ on));
+        none = λ off. next ∙ no_call o (sym (next_way rows after.seat o) ∙ (sym (ap is_under_way step) ∙ off));
         out = λ j label size below is. elim (cases_lt j l.ended) [
           | inl before ↦ stay label.0 (inside.out j label size before is)
           | inr last ↦
@@ -176,21 +179,16 @@ module _ (rows : List ClassRow) (names names' : List NameState) (script : List P
                     ])
               ])
         ];
-        now = λ label size is. inr (omega (arith, asks_first rows o label size (sym next ∙ is), ap (λ s. asking label.0 (doing_of s)) step));
-        count = ap length answers ∙ (closes_count new closes ∙ (let e : l.ended + 1 ≡ after.ended + under after.step = omega (arith, ended, ap under step, first_under rows o) in e));
+        now = λ label size is. inr (omega (arith, asks_first rows after.seat o label size (sym next ∙ is), ap (λ s. asking label.0 (doing_of s)) step));
+        count = ap length answers ∙ (closes_count new closes ∙ (let e : l.ended + 1 ≡ after.ended + under about_row after.step = omega (arith, ended, ap (under about_row) step, first_under rows after.seat o) in e));
         decided = λ j d is. answered names script l inside new after.answers answers (closes_one new closes) (closes_few l.step new closes) j d is;
       }
 
   pub path_in : Path rows l after → IsIn names' script after
-  path_in (Stays new answers domains ended rest on has goes) = stays_in new answers ended rest on goes
+  path_in (Stays new answers domains ended rest on goes) = stays_in new answers ended rest on goes
   path_in (Comes new answers domains ended rest step closes) = comes_in new answers ended rest step closes
 
 -- and the number of domains stays
 pub path_domains : {rows : List ClassRow} {l after : Local} → Path rows l after → after.seat.domains ≡ l.seat.domains
-path_domains (Stays new answers domains ended rest on has goes) = domains
+path_domains (Stays new answers domains ended rest on goes) = domains
 path_domains (Comes new answers domains ended rest step closes) = domains
-
--- the cache of a domain is wanted only where there are domains
-pub path_has : {rows : List ClassRow} {l after : Local} → Path rows l after → HasDomain after.step after.seat.domains
-path_has (Stays new answers domains ended rest on has goes) = has
-path_has {rows} {l} {after} (Comes new answers domains ended rest step closes) = subst (λ s. HasDomain s after.seat.domains) (sym step) (first_domain rows (slice_get l.rest 0) after.seat.domains)

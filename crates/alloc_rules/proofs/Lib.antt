@@ -37,6 +37,7 @@ pub mod Switching
 pub mod SerialGoes
 pub mod Answering
 pub mod Elsewhere
+pub mod CpuElsewhere
 pub mod SerialLaws
 pub mod Laws
 pub mod Same

@@ -23,16 +23,16 @@ use Rattle.holdings.specs.Moves.{SetsRun, SetsSpan, FindsObject, FindsRun, Clear
 use Rattle.holdings.proofs.Sums.{like_span, without_counts}
 use Rattle.holdings.proofs.MapFacts.{is_large}
 use Rattle.holdings.proofs.Finding.{frees_find}
+use Rattle.call_steps.specs.CpuCalls.{cpu_calls}
 use Rattle.call_steps.specs.declared.step.Asking.{Asking}
-use Rattle.call_steps.specs.declared.step.Onward.{Onward}
-use Rattle.call_steps.specs.declared.step.MapStep.{MapStep}
+use Rattle.call_steps.specs.PerCpu.{CpuLocal as Local, Onward, MapStep}
 use Rattle.call_steps.specs.declared.step.MapStep.TheVariants.{Set, SetSpan, Lookup, Clear, ClearSpan}
 use Rattle.call_steps.specs.declared.step.Step.TheVariants as does
-use Rattle.call_steps.specs.Local.{Local}
 use Rattle.call_steps.specs.Acts.{map_row, after_lookup, found, clears_span}
 use Rattle.call_steps.specs.Fits.{FitsMap, FirstIsThere}
 use Rattle.alloc_rules.specs.Machine.{Parts}
-use Rattle.alloc_rules.specs.Accounts.{account_of, first_run, onward_doing}
+use Rattle.alloc_rules.specs.Accounts.{first_run}
+use Rattle.alloc_rules.specs.CpuAccounts.{account_of, onward_doing}
 use Rattle.alloc_rules.specs.Stocks.{AreBooksOf, Does}
 use Rattle.alloc_rules.specs.Acts.{IsBefore, MapActsMove}
 use Rattle.alloc_rules.proofs.Weighing.{bare, weighs_same, weighs_is}
@@ -54,7 +54,7 @@ module _ (m : Setup) (limits : HeapConfig) (cpus : ℕ) (p : Parts) (locals : Li
   abbrev Goal : MapStep → SpanMap × Local → Type 0
   Goal row x = Does m (record p { map = x.0 }) b (at row) x.1
 
-  sets : (label : Label) (run : Run) → Before (Set label run) → Goal (Set label run) (map_row p.map (at (Set label run)) (Set label run))
+  sets : (label : Label) (run : Run) → Before (Set label run) → Goal (Set label run) (map_row (cpu_calls m.rows) p.map (at (Set label run)) (Set label run))
   sets label run before =
       let books = before.books in
       record {
@@ -68,7 +68,7 @@ module _ (m : Setup) (limits : HeapConfig) (cpus : ℕ) (p : Parts) (locals : Li
         answers = sym (append-nil l.answers);
       }
 
-  sets_span : (a : Asking) (run : Run) → Before (SetSpan a run) → Goal (SetSpan a run) (map_row p.map (at (SetSpan a run)) (SetSpan a run))
+  sets_span : (a : Asking) (run : Run) → Before (SetSpan a run) → Goal (SetSpan a run) (map_row (cpu_calls m.rows) p.map (at (SetSpan a run)) (SetSpan a run))
   sets_span a run before =
       let books = before.books in
       record {
@@ -88,7 +88,7 @@ module _ (m : Setup) (limits : HeapConfig) (cpus : ℕ) (p : Parts) (locals : Li
       let some : 0 < spans_like s b.spans = omega (arith, span_counted s p.map.spans there, before.books.spans s) in
       omega (arith, like-without_span s p.map.spans x there (one_first p.map.huge p.map.spans s.first.0 before.parts.map), without_counts s b.spans some (like_span x), before.books.spans x)
 
-  clears_run : (label : Label) (run : Run) → Before (Clear label run) → Contains p.map.spans (large run) → Goal (Clear label run) (map_row p.map (at (Clear label run)) (Clear label run))
+  clears_run : (label : Label) (run : Run) → Before (Clear label run) → Contains p.map.spans (large run) → Goal (Clear label run) (map_row (cpu_calls m.rows) p.map (at (Clear label run)) (Clear label run))
   clears_run label run before there =
       let books = before.books in
       record {
@@ -132,7 +132,7 @@ module _ (m : Setup) (limits : HeapConfig) (cpus : ℕ) (p : Parts) (locals : Li
         | inr run ↦ run.2 ∙ ap (λ (s : SpanRef). address_of (run_of s)) (sym run.1 ∙ same)
       ]
 
-  finds : (label : Label) (addr : Addr) (span : SpanRef) → Before (Lookup label addr) → Contains p.map.spans span → holds (addr.0 / page_bytes) span ≡ true → (kind : SpanKind) → span.kind ≡ kind → Goal (Lookup label addr) (p.map, found (at (Lookup label addr)) label addr span kind)
+  finds : (label : Label) (addr : Addr) (span : SpanRef) → Before (Lookup label addr) → Contains p.map.spans span → holds (addr.0 / page_bytes) span ≡ true → (kind : SpanKind) → span.kind ≡ kind → Goal (Lookup label addr) (p.map, found (cpu_calls m.rows) (at (Lookup label addr)) label addr span kind)
   finds label addr span before there held (Small k) is =
       let books = before.books in
       let none : l.regs.hand.items ≡ [] = before.shaped.step.hand in
@@ -164,11 +164,11 @@ module _ (m : Setup) (limits : HeapConfig) (cpus : ℕ) (p : Parts) (locals : Li
         answers = sym (append-nil l.answers);
       }
 
-  looks_up : (label : Label) (addr : Addr) → Before (Lookup label addr) → (o : Option SpanRef) → find (holds (addr.0 / page_bytes)) p.map.spans ≡ o → FitsMap p.map (at (Lookup label addr)) (Lookup label addr) → Goal (Lookup label addr) (p.map, after_lookup (at (Lookup label addr)) label addr o)
+  looks_up : (label : Label) (addr : Addr) → Before (Lookup label addr) → (o : Option SpanRef) → find (holds (addr.0 / page_bytes)) p.map.spans ≡ o → FitsMap p.map (at (Lookup label addr)) (Lookup label addr) → Goal (Lookup label addr) (p.map, after_lookup (cpu_calls m.rows) (at (Lookup label addr)) label addr o)
   looks_up label addr before None is fits = let wrong : None ≡ Some fits.0 = sym is ∙ fits.1 in absurd (cc)
   looks_up label addr before (Some span) is fits = let there = find_there (holds (addr.0 / page_bytes)) p.map.spans span (sym is) in finds label addr span before there.0 there.1 span.kind refl
 
-  by_row : (row : MapStep) → Before row → FitsMap p.map (at row) row → Goal row (map_row p.map (at row) row)
+  by_row : (row : MapStep) → Before row → FitsMap p.map (at row) row → Goal row (map_row (cpu_calls m.rows) p.map (at row) row)
   by_row (Set label run) before fits = sets label run before
   by_row (SetSpan a run) before fits = sets_span a run before
   by_row (Lookup label addr) before fits = looks_up label addr before (find (holds (addr.0 / page_bytes)) p.map.spans) refl fits
@@ -178,4 +178,4 @@ module _ (m : Setup) (limits : HeapConfig) (cpus : ℕ) (p : Parts) (locals : Li
 pub map_acts_move : MapActsMove
 map_acts_move m limits cpus p locals b calls t l row before step fits =
     let is : record l { step = does.Map row } ≡ l = ap (λ s. record l { step = s }) (sym step) in
-    subst (λ (x : Local). IsBefore m limits cpus p locals b calls t x → FitsMap p.map x row → Does m (record p { map = (map_row p.map x row).0 }) b x (map_row p.map x row).1) is (by_row m limits cpus p locals b calls t l row) before fits
+    subst (λ (x : Local). IsBefore m limits cpus p locals b calls t x → FitsMap p.map x row → Does m (record p { map = (map_row (cpu_calls m.rows) p.map x row).0 }) b x (map_row (cpu_calls m.rows) p.map x row).1) is (by_row m limits cpus p locals b calls t l row) before fits

@@ -14,7 +14,7 @@ use Rattle.name_table.specs.declared.table.NameState.{NameState}
 use Rattle.holdings.specs.Accounts.{Account}
 use Rattle.holdings.specs.Books.{Setup, Stock, Books}
 use Rattle.holdings.specs.Moves.{Said, Move}
-use Rattle.call_steps.specs.Local.{Local}
+use Rattle.call_steps.specs.PerCpu.{CpuLocal as Local}
 use Rattle.alloc_rules.specs.Machine.{Parts}
 use Rattle.alloc_rules.specs.Stocks.{stock_of, AreBooksOf}
 

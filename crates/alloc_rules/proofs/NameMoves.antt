@@ -15,10 +15,12 @@ use Rattle.heap_rules.specs.declared.config.HeapConfig.{HeapConfig}
 use Rattle.holdings.specs.Accounts.{is_unpublished}
 use Rattle.holdings.specs.Books.{Setup, Books}
 use Rattle.holdings.specs.Moves.{Names, TakesNull, TakesAddr}
+use Rattle.call_steps.specs.CpuCalls.{cpu_calls}
 use Rattle.call_steps.specs.declared.step.NamesStep.{NamesStep}
 use Rattle.call_steps.specs.declared.step.NamesStep.TheVariants.{Publish, Take}
 use Rattle.call_steps.specs.declared.step.Step.TheVariants as does
-use Rattle.call_steps.specs.Local.{Local, decided}
+use Rattle.call_steps.specs.PerCpu.{CpuLocal as Local}
+use Rattle.call_steps.specs.Local.{decided}
 use Rattle.call_steps.specs.Acts.{names_row, after_take, waits_row}
 use Rattle.call_steps.specs.Fits.{FitsNames}
 use Rattle.alloc_rules.specs.Machine.{Parts}
@@ -41,7 +43,7 @@ module _ (m : Setup) (limits : HeapConfig) (cpus : ℕ) (p : Parts) (locals : Li
   state_in : (label : Label) (row : NamesStep) → Before row → (s : NameState) → state_of p.names label.0 ≡ s → state_of b.names label.0 ≡ s
   state_in label row before s is = ap (λ (ns : List NameState). state_of ns label.0) before.books.names ∙ is
 
-  publishes : (label : Label) (value : Option Addr) → Before (Publish label value) → state_of p.names label.0 ≡ name.Unpublished → Goal (Publish label value) (names_row m.rows p.names (at (Publish label value)) (Publish label value))
+  publishes : (label : Label) (value : Option Addr) → Before (Publish label value) → state_of p.names label.0 ≡ name.Unpublished → Goal (Publish label value) (names_row (cpu_calls m.rows) p.names (at (Publish label value)) (Publish label value))
   publishes label value before state =
       let books = before.books in
       record {
@@ -55,7 +57,7 @@ module _ (m : Setup) (limits : HeapConfig) (cpus : ℕ) (p : Parts) (locals : Li
         answers = (ends_counts m.rows (at (Publish label value))).1 ∙ sym (append-nil l.answers);
       }
 
-  takes : (label : Label) → Before (Take label) → FitsNames p.names (Take label) → is_unpublished (state_of p.names label.0) ≡ false → (s : NameState) → state_of p.names label.0 ≡ s → Goal (Take label) (after_take m.rows p.names (at (Take label)) label s)
+  takes : (label : Label) → Before (Take label) → FitsNames p.names (Take label) → is_unpublished (state_of p.names label.0) ≡ false → (s : NameState) → state_of p.names label.0 ≡ s → Goal (Take label) (after_take (cpu_calls m.rows) p.names (at (Take label)) label s)
   takes label before fits out name.Unpublished is = absurd (false≢true (sym out ∙ ap is_unpublished is))
   takes label before fits out name.Taken is = absurd (fits.1 is)
   takes label before fits out (name.Published None) is =
@@ -84,11 +86,11 @@ module _ (m : Setup) (limits : HeapConfig) (cpus : ℕ) (p : Parts) (locals : Li
         answers = sym (append-nil l.answers);
       }
 
-  by_row : (row : NamesStep) → Before row → FitsNames p.names row → waits_row p.names row ≡ false → Goal row (names_row m.rows p.names (at row) row)
+  by_row : (row : NamesStep) → Before row → FitsNames p.names row → waits_row p.names row ≡ false → Goal row (names_row (cpu_calls m.rows) p.names (at row) row)
   by_row (Publish label value) before fits out = publishes label value before fits.1
   by_row (Take label) before fits out = takes label before fits out (state_of p.names label.0) refl
 
 pub names_acts_move : NamesActsMove
 names_acts_move m limits cpus p locals b calls t l row before step fits out =
     let is : record l { step = does.Names row } ≡ l = ap (λ s. record l { step = s }) (sym step) in
-    subst (λ (x : Local). IsBefore m limits cpus p locals b calls t x → Does m (record p { names = (names_row m.rows p.names x row).0 }) b x (names_row m.rows p.names x row).1) is (λ before'. by_row m limits cpus p locals b calls t l row before' fits out) before
+    subst (λ (x : Local). IsBefore m limits cpus p locals b calls t x → Does m (record p { names = (names_row (cpu_calls m.rows) p.names x row).0 }) b x (names_row (cpu_calls m.rows) p.names x row).1) is (λ before'. by_row m limits cpus p locals b calls t l row before' fits out) before

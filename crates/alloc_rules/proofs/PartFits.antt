@@ -26,24 +26,22 @@ use Rattle.holdings.proofs.Sums.{least, same_run_refl, same_span_refl}
 use Rattle.holdings.proofs.MapFacts.{one_number}
 use Rattle.holdings.proofs.Held.{offs_live, mapped_are_there, clears_are_there}
 use Rattle.holdings.proofs.Finding.{frees_find}
-use Rattle.call_steps.specs.declared.step.Onward.{Onward}
-use Rattle.call_steps.specs.declared.step.HeapStep.{HeapStep}
+use Rattle.call_steps.specs.PerCpu.{CpuLocal as Local, Onward, HeapStep, MapStep, Step}
 use Rattle.call_steps.specs.declared.step.HeapStep.TheVariants as heap
-use Rattle.call_steps.specs.declared.step.MapStep.{MapStep}
 use Rattle.call_steps.specs.declared.step.MapStep.TheVariants as map
 use Rattle.call_steps.specs.declared.step.NamesStep.{NamesStep}
 use Rattle.call_steps.specs.declared.step.NamesStep.TheVariants as names
 use Rattle.call_steps.specs.declared.step.DomainStep.{DomainStep}
 use Rattle.call_steps.specs.declared.step.DomainStep.TheVariants as domain
-use Rattle.call_steps.specs.declared.step.Step.{Step}
 use Rattle.call_steps.specs.declared.step.Step.TheVariants as does
 use Rattle.call_steps.specs.declared.step.CpuRow.TheVariants as front
-use Rattle.call_steps.specs.Local.{Local, no_class, class_row}
+use Rattle.call_steps.specs.Local.{no_class, class_row}
 use Rattle.call_steps.specs.Fits.{FitsBatch, FitsHeap, FitsMap, FitsNames, FitsDomain, FirstLives, FirstIsThere}
 use Rattle.call_steps.specs.Shapes.{IsClassRow, AreRows}
 use Rattle.call_steps.specs.Laws.{IsFoundClass, IsKindThere}
 use Rattle.alloc_rules.specs.Machine.{Parts}
-use Rattle.alloc_rules.specs.Accounts.{account_of, first_run}
+use Rattle.alloc_rules.specs.Accounts.{first_run}
+use Rattle.alloc_rules.specs.CpuAccounts.{account_of}
 use Rattle.alloc_rules.specs.Acts.{IsBefore, limits_of}
 use Rattle.alloc_rules.proofs.Likes.{counted_there, span_there, span_counted}
 use Rattle.std.proofs.lemmas.List.Elements.{All-contains}

@@ -30,39 +30,34 @@ use Rattle.rseq_core.specs.Bags.{without_first, emptied}
 use Rattle.holdings.specs.Runs.{small, address_of}
 use Rattle.call_steps.specs.declared.step.Asking.{Asking}
 use Rattle.call_steps.specs.declared.step.Serving.{Serving}
-use Rattle.call_steps.specs.declared.step.Giving.{Giving}
+use Rattle.call_steps.specs.PerCpu.{CpuLocal as Local, Giving, Onward, Step, Next, ShardStep, HeapStep, MapStep}
 use Rattle.call_steps.specs.declared.step.Giving.TheVariants as giving
-use Rattle.call_steps.specs.declared.step.Onward.{Onward}
 use Rattle.call_steps.specs.declared.step.Onward.TheVariants as onward
-use Rattle.call_steps.specs.declared.step.Step.{Step}
 use Rattle.call_steps.specs.declared.step.Step.TheVariants as does
-use Rattle.call_steps.specs.declared.step.Next.{Next}
 use Rattle.call_steps.specs.declared.step.Next.TheVariants as next
 use Rattle.call_steps.specs.declared.step.CpuRow.{CpuRow}
 use Rattle.call_steps.specs.declared.step.CpuRow.TheVariants as front
 use Rattle.call_steps.specs.declared.step.CpuStep.{CpuStep}
 use Rattle.call_steps.specs.declared.step.CpuStep.TheVariants as cpu
-use Rattle.call_steps.specs.declared.step.ShardStep.{ShardStep}
 use Rattle.call_steps.specs.declared.step.ShardStep.TheVariants as shard
 use Rattle.call_steps.specs.declared.step.DomainStep.{DomainStep}
-use Rattle.call_steps.specs.declared.step.HeapStep.{HeapStep}
 use Rattle.call_steps.specs.declared.step.HeapStep.TheVariants as heap
-use Rattle.call_steps.specs.declared.step.MapStep.{MapStep}
 use Rattle.call_steps.specs.declared.step.MapStep.TheVariants as map
 use Rattle.call_steps.specs.declared.step.NamesStep.{NamesStep}
 use Rattle.call_steps.specs.declared.step.NamesStep.TheVariants as names
-use Rattle.call_steps.specs.Local.{Local, Decided, first_act, decided, goes, closes, ends, class_row}
+use Rattle.call_steps.specs.Local.{Decided, first_act, decided, goes, closes, ends, class_row}
 use Rattle.call_steps.specs.Hands.{with_hand, stocks, serves_first, goes_onward, gave, clears, with_freed}
 use Rattle.call_steps.specs.CpuActs.{Left, cpu_acts, domain_acts}
 use Rattle.call_steps.specs.ShardActs.{with_more, fetches, with_spans_behind, shard_row}
 use Rattle.call_steps.specs.Acts.{after_new, after_new_span, frees_span, without_first_span, heap_row, found, after_lookup, clears_span, map_row, after_take, names_row, waits_row}
 use Rattle.call_steps.specs.Fits.{FitsHeap, FitsMap, FitsNames, FitsCpu, FitsDomain, FirstLives, FirstIsThere}
 use Rattle.holdings.specs.Accounts.{is_unpublished}
-use Rattle.call_steps.specs.Kept.{HasDomain}
 use Rattle.call_steps.specs.Calls as calls
-use Rattle.call_steps.specs.Calls.{About, undecided, under, without_call, about_row, about_giving, about_onward, call_about}
-use Rattle.call_steps.specs.Follows.{MayDecide, MayGoOnDecided, ComesWith, HasObject, says, goes_or_ends, follows, with_next, cpu_row, domain_row}
+use Rattle.call_steps.specs.Calls.{About, undecided, under, without_call, about_giving, about_onward, call_about}
+use Rattle.call_steps.specs.Follows.{MayDecide, MayGoOnDecided, ComesWith, HasObject, says, goes_or_ends, follows}
+use Rattle.call_steps.specs.CpuCalls.{cpu_refuses, leave_row, with_move, cpu_calls, with_next, cpu_row, domain_row}
 use Rattle.call_steps.proofs.Nexts.{MayCome, cpu_may, domain_may}
+use Rattle.call_steps.specs.CpuRows.{about_row}
 use Rattle.alloc_rules.specs.Scripts.{GoesOn, Closes, Path, Stays, Comes, is_under_way}
 
 first_some : (h : heaps.Heap) (xs : List SpanRef) → FirstLives h xs → 0 < length xs
@@ -70,9 +65,8 @@ first_some h [] lives = absurd lives
 first_some h (s ∷ others) lives = omega arith
 
 -- a step of a call counts as its call says
-under_is : (s : Step) → is_under_way s ≡ true → under s ≡ without_call (undecided s)
-under_is (does.Front (front.Cpu row)) way = refl
-under_is (does.Front (front.Domain row)) way = refl
+under_is : (s : Step) → is_under_way s ≡ true → under about_row s ≡ without_call (undecided about_row s)
+under_is (does.Front row) way = refl
 under_is (does.Shard row) way = refl
 under_is (does.Heap row) way = refl
 under_is (does.Map row) way = refl
@@ -89,11 +83,11 @@ record IsFrom (l x : Local) (new : List Decided) : Type 0 where
 module _ (rows : List ClassRow) (l : Local) where
   -- what the next step may be of, where this was decided
   Of : Option Call → List Decided → Type 0
-  Of o [] = (undecided l.step ≡ o) × (under l.step ≡ without_call o)
-  Of o (d ∷ []) = (undecided l.step ≡ Some d.call) × (o ≡ None)
+  Of o [] = (undecided about_row l.step ≡ o) × (under about_row l.step ≡ without_call o)
+  Of o (d ∷ []) = (undecided about_row l.step ≡ Some d.call) × (o ≡ None)
   Of o (d ∷ e ∷ more) = ⊥
 
-  goes_of : (next : Step) → is_under_way next ≡ true → (new : List Decided) → Of (undecided next) new → GoesOn l.step next new
+  goes_of : (next : Step) → is_under_way next ≡ true → (new : List Decided) → Of (undecided about_row next) new → GoesOn l.step next new
   unfolding Of
   goes_of next way [] of = (sym of.0, under_is next way ∙ sym of.1)
   goes_of next way (d ∷ []) of = (of.0, of.1, under_is next way ∙ ap without_call of.1)
@@ -105,18 +99,18 @@ module _ (rows : List ClassRow) (l : Local) where
   closes_of (d ∷ []) of = of.0
   closes_of (d ∷ e ∷ more) of = absurd of
 
-  go : (x : Local) (new : List Decided) (next : Step) → IsFrom l x new → is_under_way next ≡ true → HasDomain next x.seat.domains → Of (undecided next) new → Path rows l (goes x next)
-  go x new next from way has of = Stays new from.answers from.domains from.ended from.rest way has (goes_of next way new of)
+  go : (x : Local) (new : List Decided) (next : Step) → IsFrom l x new → is_under_way next ≡ true → Of (undecided about_row next) new → Path rows l (goes x next)
+  go x new next from way of = Stays new from.answers from.domains from.ended from.rest way (goes_of next way new of)
 
-  closed_by : (x : Local) (new : List Decided) → IsFrom l x new → Of None new → (move : Option MoveTo) → Path rows l (closes rows x move)
-  closed_by x new from of None = Comes new from.answers from.domains (ap (λ n. n + 1) from.ended) (ap (drop 1) from.rest) (ap (λ xs. first_act rows (slice_get xs 0)) from.rest) (closes_of new of)
-  closed_by x new from of (Some move) = Stays new from.answers from.domains from.ended from.rest refl tt (goes_of (does.Front (front.Cpu cpu.Leave)) refl new of)
+  closed_by : (x : Local) (new : List Decided) → IsFrom l x new → Of None new → (move : Option MoveTo) → Path rows l (closes (cpu_calls rows) x (leave_row move))
+  closed_by x new from of None = Comes new from.answers from.domains (ap (λ n. n + 1) from.ended) (ap (drop 1) from.rest) (ap (λ xs. first_act (cpu_calls rows) (with_move x.seat (slice_get x.rest 0)) (slice_get xs 0)) from.rest) (closes_of new of)
+  closed_by x new from of (Some move) = Stays new from.answers from.domains from.ended from.rest refl (goes_of (does.Front (front.Cpu cpu.Leave)) refl new of)
 
-  over : (x : Local) (new : List Decided) → IsFrom l x new → Of None new → Path rows l (ends rows x)
+  over : (x : Local) (new : List Decided) → IsFrom l x new → Of None new → Path rows l (ends (cpu_calls rows) x)
   over x new from of = closed_by (record x { acts = x.acts + 1 }) new (record { answers = from.answers; domains = from.domains; ended = from.ended; rest = from.rest }) of x.seat.moved
 
   -- one that is decided by the act that ends it
-  ends_deciding : (x : Local) (call : Call) (answer : Answer) → x.answers ≡ l.answers → x.seat.domains ≡ l.seat.domains → x.ended ≡ l.ended → x.rest ≡ l.rest → undecided l.step ≡ Some call → Path rows l (ends rows (decided x call answer))
+  ends_deciding : (x : Local) (call : Call) (answer : Answer) → x.answers ≡ l.answers → x.seat.domains ≡ l.seat.domains → x.ended ≡ l.ended → x.rest ≡ l.rest → undecided about_row l.step ≡ Some call → Path rows l (ends (cpu_calls rows) (decided x call answer))
   unfolding Of
   ends_deciding x call answer answers domains ended rest of =
       let new : List Decided = record { act = x.acts; call = call; answer = answer } ∷ [] in
@@ -127,21 +121,21 @@ module _ (rows : List ClassRow) (l : Local) where
   same x answers domains ended rest = record { answers = answers ∙ sym (append-nil l.answers); domains = domains; ended = ended; rest = rest }
 
   -- the hand is the answer's, and the rest's
-  stocked : (x : Local) (new : List Decided) (s : Serving) (others : List Addr) → IsFrom l x new → Of None new → Path rows l (stocks x s others)
-  stocked x new s [] from of = go x new (does.Names (names.Publish s.label (Some s.addr))) from refl tt of
-  stocked x new s (a ∷ others) from of = Stays new from.answers from.domains from.ended from.rest refl tt (goes_of (does.Front (front.Cpu (cpu.Stock s))) refl new of)
+  stocked : (x : Local) (new : List Decided) (s : Serving) (others : List Addr) → IsFrom l x new → Of None new → Path rows l (stocks (cpu_calls rows) x s others)
+  stocked x new s [] from of = go x new (does.Names (names.Publish s.label (Some s.addr))) from refl of
+  stocked x new s (a ∷ others) from of = Stays new from.answers from.domains from.ended from.rest refl (goes_of (does.Front (front.Cpu (cpu.Stock s))) refl new of)
 
-  goes_to : (x : Local) (new : List Decided) (next : Onward) → IsFrom l x new → Of (call_about (about_onward next)) new → Path rows l (goes_onward rows x next)
-  goes_to x new (onward.Publish s) from of = go x new (does.Names (names.Publish s.label (Some s.addr))) from refl tt of
-  goes_to x new (onward.Row k row) from of = Stays new from.answers from.domains from.ended from.rest refl tt (goes_of (does.Front (front.Cpu row)) refl new of)
+  goes_to : (x : Local) (new : List Decided) (next : Onward) → IsFrom l x new → Of (call_about (about_onward about_row next)) new → Path rows l (goes_onward (cpu_calls rows) x next)
+  goes_to x new (onward.Publish s) from of = go x new (does.Names (names.Publish s.label (Some s.addr))) from refl of
+  goes_to x new (onward.Row k row) from of = Stays new from.answers from.domains from.ended from.rest refl (goes_of (does.Front row) refl new of)
   goes_to x new onward.End from of = over x new from of
 
-  cleared : (x : Local) (new : List Decided) (next : Onward) (spans : List SpanRef) → IsFrom l x new → Of (call_about (about_onward next)) new → Path rows l (clears rows x next spans)
+  cleared : (x : Local) (new : List Decided) (next : Onward) (spans : List SpanRef) → IsFrom l x new → Of (call_about (about_onward about_row next)) new → Path rows l (clears (cpu_calls rows) x next spans)
   cleared x new next [] from of = goes_to x new next from of
-  cleared x new next (s ∷ others) from of = go x new (does.Map (map.ClearSpan next)) from refl tt of
+  cleared x new next (s ∷ others) from of = go x new (does.Map (map.ClearSpan next)) from refl of
 
   -- an allocation is served by what is in hand
-  served : (x : Local) (a : Asking) (hand : List Addr) → x.answers ≡ l.answers → x.seat.domains ≡ l.seat.domains → x.ended ≡ l.ended → x.rest ≡ l.rest → 0 < length hand → Of (Some (calls.asks a)) [] → Path rows l (serves_first rows x a hand)
+  served : (x : Local) (a : Asking) (hand : List Addr) → x.answers ≡ l.answers → x.seat.domains ≡ l.seat.domains → x.ended ≡ l.ended → x.rest ≡ l.rest → 0 < length hand → Of (Some (calls.asks a)) [] → Path rows l (serves_first (cpu_calls rows) x a hand)
   unfolding Of
   served x a [] answers domains ended rest some of = absurd (omega arith)
   served x a (o ∷ others) answers domains ended rest some of =
@@ -149,7 +143,7 @@ module _ (rows : List ClassRow) (l : Local) where
       stocked (decided (with_hand x (without_first 1 x.regs.hand)) (Malloc a.label a.size) (Block o (class_row rows x).size)) new (record { label = a.label; addr = o }) others (record { answers = ap (λ xs. xs ++ new) answers; domains = domains; ended = ended; rest = rest }) (of.0, refl)
 
   -- the hand was given, which decides a free
-  gave_path : (x : Local) (g : Giving) → x.answers ≡ l.answers → x.seat.domains ≡ l.seat.domains → x.ended ≡ l.ended → x.rest ≡ l.rest → Of (call_about (about_giving g)) [] → Path rows l (gave rows x g)
+  gave_path : (x : Local) (g : Giving) → x.answers ≡ l.answers → x.seat.domains ≡ l.seat.domains → x.ended ≡ l.ended → x.rest ≡ l.rest → Of (call_about (about_giving about_row g)) [] → Path rows l (gave (cpu_calls rows) x g)
   unfolding Of
   gave_path x (giving.Rest s) answers domains ended rest of = cleared x [] (onward.Publish s) x.freed.items (same x answers domains ended rest) of
   gave_path x (giving.Freed f) answers domains ended rest of =
@@ -159,26 +153,26 @@ module _ (rows : List ClassRow) (l : Local) where
   gave_path x giving.End answers domains ended rest of = cleared x [] onward.End x.freed.items (same x answers domains ended rest) of
 
   -- a call without a label is decided, and goes on or ends
-  decides_path : (x : Local) (a : About) (answer : Answer) (row : Option CpuRow) → x.answers ≡ l.answers → x.seat.domains ≡ l.seat.domains → x.ended ≡ l.ended → x.rest ≡ l.rest → Of (call_about a) [] → MayDecide a answer → MayGoOnDecided x.seat.domains row → Path rows l (goes_or_ends rows (says x (call_about a) answer) row)
+  decides_path : (x : Local) (a : About) (answer : Answer) (row : Option CpuRow) → x.answers ≡ l.answers → x.seat.domains ≡ l.seat.domains → x.ended ≡ l.ended → x.rest ≡ l.rest → Of (call_about a) [] → MayDecide a answer → MayGoOnDecided about_row row → Path rows l (goes_or_ends (cpu_calls rows) (says x (call_about a) answer) row)
   unfolding Of
   decides_path x (calls.Other (Some call)) answer None answers domains ended rest of decides may = ends_deciding x call answer answers domains ended rest of.0
   decides_path x (calls.Other (Some call)) answer (Some row) answers domains ended rest of decides may =
       let new : List Decided = record { act = x.acts; call = call; answer = answer } ∷ [] in
-      go (decided x call answer) new (does.Front row) (record { answers = ap (λ xs. xs ++ new) answers; domains = domains; ended = ended; rest = rest }) refl may.1 (of.0, ap call_about may.0)
+      go (decided x call answer) new (does.Front row) (record { answers = ap (λ xs. xs ++ new) answers; domains = domains; ended = ended; rest = rest }) refl (of.0, ap call_about may)
   decides_path x (calls.Other None) answer row answers domains ended rest of decides may = absurd decides
   decides_path x (calls.Asks a) answer row answers domains ended rest of decides may = absurd decides
   decides_path x (calls.Publishes s) answer row answers domains ended rest of decides may = absurd decides
   decides_path x (calls.Frees f) answer row answers domains ended rest of decides may = absurd decides
 
   -- what may come behind an act of the per-CPU caches
-  follows_path : (x : Local) (row : CpuRow) (n : Next) → x.answers ≡ l.answers → x.seat.domains ≡ l.seat.domains → x.ended ≡ l.ended → x.rest ≡ l.rest → Of (call_about (about_row row)) [] → ComesWith (HasObject rows) row x.seat.domains x.regs n → Path rows l (follows rows x (call_about (about_row row)) n)
+  follows_path : (x : Local) (row : CpuRow) (n : Next) → x.answers ≡ l.answers → x.seat.domains ≡ l.seat.domains → x.ended ≡ l.ended → x.rest ≡ l.rest → Of (call_about (about_row row)) [] → ComesWith about_row cpu_refuses (HasObject rows) row x.regs n → Path rows l (follows (cpu_calls rows) x (call_about (about_row row)) n)
   unfolding Of
-  follows_path x row (next.Row to) answers domains ended rest of may = go x [] (does.Front to) (same x answers domains ended rest) refl may.1 (subst (λ b. Of (call_about b) []) (sym may.0) of)
+  follows_path x row (next.Row to) answers domains ended rest of may = go x [] (does.Front to) (same x answers domains ended rest) refl (subst (λ b. Of (call_about b) []) (sym may) of)
   follows_path x row (next.Serve asking) answers domains ended rest of may = served x asking x.regs.hand.items answers domains ended rest may.1.0 (subst (λ b. Of (call_about b) []) may.0 of)
-  follows_path x row (next.Fetch asking) answers domains ended rest of may = go x [] (does.Shard (shard.Fetch asking)) (same x answers domains ended rest) refl tt (subst (λ b. Of (call_about b) []) may of)
-  follows_path x row (next.Give g) answers domains ended rest of may = go x [] (does.Shard (shard.Give g)) (same x answers domains ended rest) refl tt (subst (λ b. Of (call_about b) []) may of)
+  follows_path x row (next.Fetch asking) answers domains ended rest of may = go x [] (does.Shard (shard.Fetch asking)) (same x answers domains ended rest) refl (subst (λ b. Of (call_about b) []) may of)
+  follows_path x row (next.Give g) answers domains ended rest of may = go x [] (does.Shard (shard.Give g)) (same x answers domains ended rest) refl (subst (λ b. Of (call_about b) []) may of)
   follows_path x row (next.Gave g) answers domains ended rest of may = gave_path x g answers domains ended rest (subst (λ b. Of (call_about b) []) may of)
-  follows_path x row (next.Publish s) answers domains ended rest of may = go x [] (does.Names (names.Publish s.label (Some s.addr))) (same x answers domains ended rest) refl tt (subst (λ b. Of (call_about b) []) may of)
+  follows_path x row (next.Publish s) answers domains ended rest of may = go x [] (does.Names (names.Publish s.label (Some s.addr))) (same x answers domains ended rest) refl (subst (λ b. Of (call_about b) []) may of)
   follows_path x row (next.Freed f) answers domains ended rest of may = ends_deciding x (Free f.label) (Freed f.addr) answers domains ended rest (of.0 ∙ ap call_about may)
   follows_path x row (next.Decide answer to) answers domains ended rest of may = decides_path x (about_row row) answer to answers domains ended rest of may.0 may.2
   follows_path x row next.End answers domains ended rest of may = over x [] (same x answers domains ended rest) (subst (λ b. Of (call_about b) []) may of)
@@ -197,19 +191,19 @@ module _ (rows : List ClassRow) (l : Local) where
   on_heap row = record l { step = does.Heap row }
 
   new_path : (h : heaps.Heap) (label : Label) (size : ℕ) (o : Option Placed) → Path rows (on_heap (heap.New label size)) (after_new h (on_heap (heap.New label size)) label size o).1
-  new_path h label size None = Stays (record { act = l.acts; call = Malloc label size; answer = NoBlock } ∷ []) refl refl refl refl refl tt (refl, refl, refl)
-  new_path h label size (Some p) = Stays (record { act = l.acts; call = Malloc label size; answer = Block (address_of p.run) (p.run.pages * page_bytes) } ∷ []) refl refl refl refl refl tt (refl, refl, refl)
+  new_path h label size None = Stays (record { act = l.acts; call = Malloc label size; answer = NoBlock } ∷ []) refl refl refl refl refl (refl, refl, refl)
+  new_path h label size (Some p) = Stays (record { act = l.acts; call = Malloc label size; answer = Block (address_of p.run) (p.run.pages * page_bytes) } ∷ []) refl refl refl refl refl (refl, refl, refl)
 
   span_path : (h : heaps.Heap) (a : Asking) (o : Option Placed) → Path rows (on_heap (heap.NewSpan a)) (after_new_span h (on_heap (heap.NewSpan a)) a o).1
-  span_path h a None = Stays (record { act = l.acts; call = Malloc a.label a.size; answer = NoBlock } ∷ []) refl refl refl refl refl tt (refl, refl, refl)
-  span_path h a (Some p) = Stays [] (sym (append-nil l.answers)) refl refl refl refl tt (refl, refl)
+  span_path h a None = Stays (record { act = l.acts; call = Malloc a.label a.size; answer = NoBlock } ∷ []) refl refl refl refl refl (refl, refl, refl)
+  span_path h a (Some p) = Stays [] (sym (append-nil l.answers)) refl refl refl refl (refl, refl)
 
-  free_path : (h : heaps.Heap) (next : Onward) (xs : List SpanRef) → 0 < length xs → Path rows (on_heap (heap.FreeSpan next)) (frees_span rows h (on_heap (heap.FreeSpan next)) next xs).1
+  free_path : (h : heaps.Heap) (next : Onward) (xs : List SpanRef) → 0 < length xs → Path rows (on_heap (heap.FreeSpan next)) (frees_span (cpu_calls rows) h (on_heap (heap.FreeSpan next)) next xs).1
   unfolding Of
   free_path h next [] some = absurd (omega arith)
   free_path h next (s ∷ others) some = let x : Local = with_freed (on_heap (heap.FreeSpan next)) (without_first_span l.freed others) in cleared rows (on_heap (heap.FreeSpan next)) x [] next others (same rows (on_heap (heap.FreeSpan next)) x refl refl refl refl) (refl, refl)
 
-  pub heap_path : (h : heaps.Heap) (row : HeapStep) → FitsHeap rows h (on_heap row) row → Path rows (on_heap row) (heap_row rows h (on_heap row) row).1
+  pub heap_path : (h : heaps.Heap) (row : HeapStep) → FitsHeap rows h (on_heap row) row → Path rows (on_heap row) (heap_row (cpu_calls rows) h (on_heap row) row).1
   unfolding Of
   heap_path h (heap.New label size) fits = new_path h label size (new h (pages_holding size))
   heap_path h (heap.NewSpan a) fits = span_path h a (new h (class_row rows l).pages)
@@ -224,37 +218,37 @@ module _ (rows : List ClassRow) (l : Local) where
   abbrev silent : l.answers ≡ l.answers ++ []
   silent = sym (append-nil l.answers)
 
-  found_path : (label : Label) (addr : Addr) (span : SpanRef) (kind : SpanKind) → Path rows (on_map (map.Lookup label addr)) (found (on_map (map.Lookup label addr)) label addr span kind)
-  found_path label addr span (Small k) = Stays [] silent refl refl refl refl tt (refl, refl)
-  found_path label addr span Large = Stays [] silent refl refl refl refl tt (refl, refl)
+  found_path : (label : Label) (addr : Addr) (span : SpanRef) (kind : SpanKind) → Path rows (on_map (map.Lookup label addr)) (found (cpu_calls rows) (on_map (map.Lookup label addr)) label addr span kind)
+  found_path label addr span (Small k) = Stays [] silent refl refl refl refl (refl, refl)
+  found_path label addr span Large = Stays [] silent refl refl refl refl (refl, refl)
 
-  lookup_path : (x : SpanMap) (label : Label) (addr : Addr) (o : Option SpanRef) → find (holds (addr.0 / page_bytes)) x.spans ≡ o → FitsMap x (on_map (map.Lookup label addr)) (map.Lookup label addr) → Path rows (on_map (map.Lookup label addr)) (after_lookup (on_map (map.Lookup label addr)) label addr o)
+  lookup_path : (x : SpanMap) (label : Label) (addr : Addr) (o : Option SpanRef) → find (holds (addr.0 / page_bytes)) x.spans ≡ o → FitsMap x (on_map (map.Lookup label addr)) (map.Lookup label addr) → Path rows (on_map (map.Lookup label addr)) (after_lookup (cpu_calls rows) (on_map (map.Lookup label addr)) label addr o)
   lookup_path x label addr None is fits = let wrong : None ≡ Some fits.0 = sym is ∙ fits.1 in absurd (cc)
   lookup_path x label addr (Some span) is fits = found_path label addr span span.kind
 
   clear_path : (x : SpanMap) (next : Onward) (xs : List SpanRef) → FirstIsThere x xs → Path rows (on_map (map.ClearSpan next)) (clears_span x (on_map (map.ClearSpan next)) next xs).1
   clear_path x next [] there = absurd there
-  clear_path x next (s ∷ others) there = Stays [] silent refl refl refl refl tt (refl, refl)
+  clear_path x next (s ∷ others) there = Stays [] silent refl refl refl refl (refl, refl)
 
-  pub map_path : (x : SpanMap) (row : MapStep) → FitsMap x (on_map row) row → Path rows (on_map row) (map_row x (on_map row) row).1
-  map_path x (map.Set label run) fits = Stays [] silent refl refl refl refl tt (refl, refl)
-  map_path x (map.SetSpan a run) fits = Stays [] silent refl refl refl refl tt (refl, refl)
+  pub map_path : (x : SpanMap) (row : MapStep) → FitsMap x (on_map row) row → Path rows (on_map row) (map_row (cpu_calls rows) x (on_map row) row).1
+  map_path x (map.Set label run) fits = Stays [] silent refl refl refl refl (refl, refl)
+  map_path x (map.SetSpan a run) fits = Stays [] silent refl refl refl refl (refl, refl)
   map_path x (map.Lookup label addr) fits = lookup_path x label addr (find (holds (addr.0 / page_bytes)) x.spans) refl fits
-  map_path x (map.Clear label run) fits = Stays [] silent refl refl refl refl tt (refl, refl)
+  map_path x (map.Clear label run) fits = Stays [] silent refl refl refl refl (refl, refl)
   map_path x (map.ClearSpan next) fits = clear_path x next l.freed.items fits
 
   -- the names
   abbrev on_names : NamesStep → Local
   on_names row = record l { step = does.Names row }
 
-  take_path : (ns : List NameState) (label : Label) (s : NameState) → is_unpublished s ≡ false → (s ≡ name.Taken → ⊥) → Path rows (on_names (names.Take label)) (after_take rows ns (on_names (names.Take label)) label s).1
+  take_path : (ns : List NameState) (label : Label) (s : NameState) → is_unpublished s ≡ false → (s ≡ name.Taken → ⊥) → Path rows (on_names (names.Take label)) (after_take (cpu_calls rows) ns (on_names (names.Take label)) label s).1
   unfolding Of
   take_path ns label name.Unpublished out fresh = absurd (false≢true (sym out))
   take_path ns label name.Taken out fresh = absurd (fresh refl)
   take_path ns label (name.Published None) out fresh = ends_deciding rows (on_names (names.Take label)) (on_names (names.Take label)) (Free label) FreedNull refl refl refl refl refl
-  take_path ns label (name.Published (Some addr)) out fresh = Stays [] silent refl refl refl refl tt (refl, refl)
+  take_path ns label (name.Published (Some addr)) out fresh = Stays [] silent refl refl refl refl (refl, refl)
 
-  pub names_path : (ns : List NameState) (row : NamesStep) → FitsNames ns row → waits_row ns row ≡ false → Path rows (on_names row) (names_row rows ns (on_names row) row).1
+  pub names_path : (ns : List NameState) (row : NamesStep) → FitsNames ns row → waits_row ns row ≡ false → Path rows (on_names row) (names_row (cpu_calls rows) ns (on_names row) row).1
   unfolding Of
   names_path ns (names.Publish label value) fits out = let x : Local = on_names (names.Publish label value) in over rows x x [] (same rows x x refl refl refl refl) (refl, refl)
   names_path ns (names.Take label) fits out = take_path ns label (state_of ns label.0) out fits.1
@@ -263,14 +257,14 @@ module _ (rows : List ClassRow) (l : Local) where
   abbrev on_shard : ShardStep → Local
   on_shard row = record l { step = does.Shard row }
 
-  fetch_path : (a : Asking) (objects : List Addr) → Path rows (on_shard (shard.Fetch a)) (fetches rows (on_shard (shard.Fetch a)) a objects)
+  fetch_path : (a : Asking) (objects : List Addr) → Path rows (on_shard (shard.Fetch a)) (fetches (cpu_calls rows) (on_shard (shard.Fetch a)) a objects)
   unfolding Of
-  fetch_path a [] = Stays [] silent refl refl refl refl tt (refl, refl)
+  fetch_path a [] = Stays [] silent refl refl refl refl (refl, refl)
   fetch_path a (o ∷ others) =
       let x : Local = with_more (on_shard (shard.Fetch a)) (o ∷ others) in
       served rows (on_shard (shard.Fetch a)) x a x.regs.hand.items refl refl refl refl (some_more l.regs.hand.items o others) (refl, refl)
 
-  pub shard_path : (s : shards.Shard) (row : ShardStep) → AddsSome rows s (on_shard row) row → Path rows (on_shard row) (shard_row rows s (on_shard row) row).1
+  pub shard_path : (s : shards.Shard) (row : ShardStep) → AddsSome rows s (on_shard row) row → Path rows (on_shard row) (shard_row (cpu_calls rows) s (on_shard row) row).1
   unfolding Of
   shard_path s (shard.Fetch a) adds = fetch_path a (shards.fetched (class_row rows l).batch s)
   shard_path s (shard.AddFetch a run) adds =

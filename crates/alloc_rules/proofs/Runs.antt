@@ -7,8 +7,8 @@ use Rattle.tc_model.specs.Input.{Input}
 use Rattle.tc_model.specs.Run.{World, world_of, with_pair, run}
 use Rattle.tc_model.specs.Sound.{FitsThere, IsOrder, IsSound}
 use Rattle.tc_model.proofs.MovingFacts.{IsKeptWith, run_keeps_with}
-use Rattle.call_steps.specs.Local.{Local}
-use Rattle.alloc_rules.specs.declared.part.Part.{Part}
+use Rattle.call_steps.specs.PerCpu.{CpuLocal as Local}
+use Rattle.alloc_rules.specs.PerCpu.{Part}
 use Rattle.alloc_rules.specs.Machine.{parts_of, place_of, after, waits, rules}
 use Rattle.alloc_rules.specs.Fits.{Fits}
 use Rattle.alloc_rules.specs.Valid.{IsValid}

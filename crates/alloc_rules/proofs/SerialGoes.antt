@@ -23,16 +23,18 @@ use Rattle.name_table.specs.declared.table.NameState.TheVariants as name
 use Rattle.name_table.specs.Names.{state_of}
 use Rattle.holdings.specs.Accounts.{got, is_out, is_unpublished}
 use Rattle.holdings.proofs.Sums.{bit_is}
-use Rattle.call_steps.specs.declared.step.Step.{Step}
+use Rattle.call_steps.specs.PerCpu.{CpuLocal as Local, Step}
 use Rattle.call_steps.specs.declared.step.Step.TheVariants as does
 use Rattle.call_steps.specs.declared.step.CpuRow.TheVariants as front
 use Rattle.call_steps.specs.declared.step.NamesStep.TheVariants as names
-use Rattle.call_steps.specs.Local.{Local}
 use Rattle.call_steps.specs.Calls.{undecided}
 use Rattle.call_steps.specs.Kept.{call_at, target_at}
+use Rattle.call_steps.specs.CpuRows.{cpu_place}
 use Rattle.call_steps.specs.Acts.{waits_for}
-use Rattle.alloc_rules.specs.declared.part.Part.{Part}
-use Rattle.alloc_rules.specs.declared.part.Part.TheVariants.{Cpu, Shard, Heap, Map, Names, Domain}
+use Rattle.call_steps.specs.CpuRows.{about_row}
+use Rattle.alloc_rules.specs.PerCpu.{Part, Cpu, Domain}
+use Rattle.alloc_rules.specs.declared.part.Part.TheVariants.{Front, Shard, Heap, Map, Names}
+use Rattle.alloc_rules.specs.declared.part.CpuFrontPart.TheVariants as at
 use Rattle.alloc_rules.specs.Machine.{Parts, parts_of, number, number_of, waits, first_of, rules, turns}
 use Rattle.alloc_rules.specs.Fits.{Fits}
 use Rattle.alloc_rules.specs.Scripts.{IsIn, is_under_way}
@@ -89,9 +91,8 @@ moves_there : {P L : Type 0} (r : Rules P L) (w : World P L) (t : ℕ) (l : L) (
 moves_there r w t l n part local wants there goes = ap (stepped_by r w) local ∙ (ap (stepped_at r w l) wants ∙ (ap (stepped_on r l) there ∙ ap (λ b. cond b step.NotYet step.Moved) goes))
 
 -- a call under way wants a part
-pub wants_by : (cpus classes : ℕ) (l : Local) (s : Step) → is_under_way s ≡ true → (n : PartNo) × (option_map (number_of cpus classes) (target_at l s) ≡ Some n)
-wants_by cpus classes l (does.Front (front.Cpu row)) way = (_, refl)
-wants_by cpus classes l (does.Front (front.Domain row)) way = (_, refl)
+pub wants_by : (cpus classes : ℕ) (l : Local) (s : Step) → is_under_way s ≡ true → (n : PartNo) × (option_map (number_of cpus classes) (target_at (cpu_place cpus classes) l s) ≡ Some n)
+wants_by cpus classes l (does.Front row) way = (_, refl)
 wants_by cpus classes l (does.Shard row) way = (_, refl)
 wants_by cpus classes l (does.Heap row) way = (_, refl)
 wants_by cpus classes l (does.Map row) way = (_, refl)
@@ -100,12 +101,11 @@ wants_by cpus classes l does.Ended way = absurd (cc)
 
 -- only names are waited for
 waits_at : (l : Local) (part : Part) → ((ns : List NameState) → part ≡ Names ns → waits_for ns l.step ≡ false) → waits part l ≡ false
-waits_at l (Cpu q) goes = refl
+waits_at l (Front q) goes = refl
 waits_at l (Shard x) goes = refl
 waits_at l (Heap heap) goes = refl
 waits_at l (Map m) goes = refl
 waits_at l (Names ns) goes = goes ns refl
-waits_at l (Domain x) goes = refl
 
 not_waits : (n : NameState) → is_out n ≡ true → is_unpublished n ≡ false
 not_waits name.Unpublished out = absurd (cc)
@@ -121,9 +121,8 @@ names_there p cpus classes n ns c k is there =
     cc
 
 -- a step of a call whose label is out doesn't wait
-goes_by : (p : Parts) (cpus classes : ℕ) (l : Local) (n : PartNo) (ns : List NameState) (s : Step) (c : Call) (o : Option Call) → length p.cpus ≡ cpus → length p.shards ≡ classes → option_map (number_of cpus classes) (target_at l s) ≡ Some n → slice_get (parts_of p) n.0 ≡ Some (Names ns) → ((d : Call) → undecided s ≡ Some d → o ≡ Some d) → o ≡ Some c → ((label : Label) → c ≡ Free label → is_out (state_of p.names label.0) ≡ true) → waits_for ns s ≡ false
-goes_by p cpus classes l n ns (does.Front (front.Cpu row)) c o few many wants there call is out = refl
-goes_by p cpus classes l n ns (does.Front (front.Domain row)) c o few many wants there call is out = refl
+goes_by : (p : Parts) (cpus classes : ℕ) (l : Local) (n : PartNo) (ns : List NameState) (s : Step) (c : Call) (o : Option Call) → length p.cpus ≡ cpus → length p.shards ≡ classes → option_map (number_of cpus classes) (target_at (cpu_place cpus classes) l s) ≡ Some n → slice_get (parts_of p) n.0 ≡ Some (Names ns) → ((d : Call) → undecided about_row s ≡ Some d → o ≡ Some d) → o ≡ Some c → ((label : Label) → c ≡ Free label → is_out (state_of p.names label.0) ≡ true) → waits_for ns s ≡ false
+goes_by p cpus classes l n ns (does.Front row) c o few many wants there call is out = refl
 goes_by p cpus classes l n ns (does.Shard row) c o few many wants there call is out = refl
 goes_by p cpus classes l n ns (does.Heap row) c o few many wants there call is out = refl
 goes_by p cpus classes l n ns (does.Map row) c o few many wants there call is out = refl

@@ -15,19 +15,18 @@ use Rattle.tc_model.specs.Steps.{stepped}
 use Rattle.tc_model.specs.Replays.{done_by, done_in, HaveEnded}
 use Rattle.tc_model.specs.Serial.{next_turn, AreThreads, NeverWaits, Rises, Ends}
 use Rattle.tc_model.proofs.RisesBy.{rises_by, turns_none}
-use Rattle.call_steps.specs.declared.step.Step.{Step}
+use Rattle.call_steps.specs.PerCpu.{CpuLocal as Local, Step}
 use Rattle.call_steps.specs.declared.step.Step.TheVariants as does
 use Rattle.call_steps.specs.declared.step.CpuRow.TheVariants as front
-use Rattle.call_steps.specs.Local.{Local}
 use Rattle.call_steps.specs.Kept.{call_at}
-use Rattle.alloc_rules.specs.declared.part.Part.{Part}
+use Rattle.alloc_rules.specs.PerCpu.{Part}
 use Rattle.alloc_rules.specs.Machine.{Parts, parts_of, place_of, first_of, rules, turns}
 use Rattle.alloc_rules.specs.Fits.{Fits}
 use Rattle.alloc_rules.specs.Scripts.{IsIn, is_under_way}
 use Rattle.alloc_rules.specs.Valid.{IsValid}
 use Rattle.alloc_rules.proofs.Serving.{IsAtWork, IsServed}
 use Rattle.alloc_rules.proofs.SerialGoes.{script_length, serial_goes}
-use Rattle.alloc_rules.proofs.Elsewhere.{after_rises}
+use Rattle.alloc_rules.proofs.CpuElsewhere.{after_rises}
 
 -- calls are made by threads that there are
 thread_below : (n : ℕ) (cs : List ThreadCall) → ((earlier : List ThreadCall) (c : ThreadCall) (later : List ThreadCall) → earlier ++ c ∷ later ≡ cs → c.thread.0 < n) → (i : ℕ) → i < length (map (λ (c : ThreadCall). c.thread.0) cs) → slice_index (map (λ (c : ThreadCall). c.thread.0) cs) i < n
@@ -61,8 +60,7 @@ never_waits served ready input valid order t of =
 
 -- where each call has ended, each script has
 ended_by : (cpus classes : ℕ) (l : Local) (s : Step) → l.step ≡ s → is_under_way s ≡ false → place_of cpus classes l ≡ None
-ended_by cpus classes l (does.Front (front.Cpu row)) is way = absurd (cc)
-ended_by cpus classes l (does.Front (front.Domain row)) is way = absurd (cc)
+ended_by cpus classes l (does.Front row) is way = absurd (cc)
 ended_by cpus classes l (does.Shard row) is way = absurd (cc)
 ended_by cpus classes l (does.Heap row) is way = absurd (cc)
 ended_by cpus classes l (does.Map row) is way = absurd (cc)

@@ -23,15 +23,15 @@ use Rattle.holdings.specs.Books.{Books}
 use Rattle.holdings.specs.Facts.{Facts}
 use Rattle.holdings.specs.Moves.{Said, books_with, lines}
 use Rattle.holdings.proofs.Moves.{acts_keep}
-use Rattle.call_steps.specs.Local.{Local, Decided, told}
-use Rattle.call_steps.specs.Kept.{HasDomain}
+use Rattle.call_steps.specs.PerCpu.{CpuLocal as Local}
+use Rattle.call_steps.specs.Local.{Decided, told}
 use Rattle.call_steps.specs.Laws.{thread_no}
 use Rattle.call_steps.specs.Shapes.{IsShaped, seat_of}
-use Rattle.alloc_rules.specs.declared.part.Part.{Part}
+use Rattle.alloc_rules.specs.PerCpu.{Part}
 use Rattle.alloc_rules.specs.Machine.{Parts, parts_of, heap_config}
 use Rattle.alloc_rules.specs.Heads.{IsSlabOf, HasRoom}
 use Rattle.alloc_rules.specs.Told.{lines_by}
-use Rattle.alloc_rules.specs.Accounts.{account_of}
+use Rattle.alloc_rules.specs.CpuAccounts.{account_of}
 use Rattle.alloc_rules.specs.Stocks.{stock_of, ArePartsOk, AreBooksOf, Does, decided_at}
 use Rattle.alloc_rules.specs.Scripts.{IsIn, Path, is_under_way}
 use Rattle.alloc_rules.specs.Valid.{limits_in}
@@ -40,7 +40,7 @@ use Rattle.alloc_rules.proofs.Sets.{each_set}
 use Rattle.alloc_rules.proofs.MapMoves.{account_at}
 use Rattle.alloc_rules.proofs.Published.{stays_out, keeps_unpublished, said_few}
 use Rattle.alloc_rules.proofs.Telling.{own_lines, others_lines}
-use Rattle.alloc_rules.proofs.InScripts.{StayOut, path_in, path_domains, path_has}
+use Rattle.alloc_rules.proofs.InScripts.{StayOut, path_in, path_domains}
 
 -- slabs, transfer lists and caches of domains are as the table and the heads say
 pub record AreOfHeads (rows : List ClassRow) (c : Config) (cpus : List CpuPart) (shards : List Shard) (domains : List (List Transfer)) : Type 0 where
@@ -63,7 +63,6 @@ AreSeated rows p locals = (i t : ℕ) (q : CpuPart) (l : Local) → slice_get p.
 pub record IsAtWork (input : Input) (names : List NameState) (order : List ℕ) (t : ℕ) (l : Local) : Type 0 where
   pub shaped : IsShaped (limits_in input) t l
   pub domains : l.seat.domains ≡ input.asked.config.domains
-  pub has : HasDomain l.step input.asked.config.domains
   pub inside : IsIn names (script_of t input.asked.calls) l
   pub acts : l.acts ≡ picks_of t order
   pub rising : AreRising (λ (d : Decided). d.act) 0 l.answers
@@ -166,7 +165,6 @@ module _ (input : Input) (p : Parts) (locals : List Local) (b : Books) (order : 
         record {
           shaped = acted.shaped;
           domains = path_domains acted.path ∙ (works t l local).domains;
-          has = subst (λ n. HasDomain after.step n) (path_domains acted.path ∙ (works t l local).domains) (path_has acted.path);
           inside = path_in input.rows p.names new.names (script_of t input.asked.calls) l after acted.way (works t l local).inside out_stays (keeps_unpublished (setup_of input) b (calls locals order) t (account_of l) facts mine acted.does.move) acted.path;
           acts = acts_now;
           rising = rises_now;
@@ -181,7 +179,6 @@ module _ (input : Input) (p : Parts) (locals : List Local) (b : Books) (order : 
         record {
           shaped = w.shaped;
           domains = w.domains;
-          has = w.has;
           inside = stays_inside p.names new.names (script_of u input.asked.calls) k out_stays w.inside;
           acts = w.acts ∙ sym (picks-push_other u t order apart);
           rising = w.rising;

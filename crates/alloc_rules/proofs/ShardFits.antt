@@ -25,15 +25,15 @@ use Rattle.holdings.proofs.Sums.{least, same_span_refl}
 use Rattle.holdings.proofs.MapFacts.{all_spans, one_number}
 use Rattle.holdings.proofs.Held.{hands_are_taken, mapped_are_there}
 use Rattle.call_steps.specs.declared.step.Asking.{Asking}
-use Rattle.call_steps.specs.declared.step.Step.{Step}
+use Rattle.call_steps.specs.PerCpu.{CpuLocal as Local, Step, ShardStep}
 use Rattle.call_steps.specs.declared.step.Step.TheVariants as does
-use Rattle.call_steps.specs.declared.step.ShardStep.{ShardStep}
 use Rattle.call_steps.specs.declared.step.ShardStep.TheVariants.{Fetch, AddFetch, Give}
-use Rattle.call_steps.specs.Local.{Local, no_class, class_row}
+use Rattle.call_steps.specs.Local.{no_class, class_row}
 use Rattle.call_steps.specs.Fits.{FitsBatch, FitsShard}
 use Rattle.call_steps.specs.Shapes.{IsClassRow, StepShape, ShardShape}
 use Rattle.alloc_rules.specs.Machine.{Parts}
-use Rattle.alloc_rules.specs.Accounts.{account_of, mapped_of}
+use Rattle.alloc_rules.specs.Accounts.{mapped_of}
+use Rattle.alloc_rules.specs.CpuAccounts.{account_of}
 use Rattle.alloc_rules.specs.Stocks.{no_shard, shard_at, stock_of, IsShardOf}
 use Rattle.alloc_rules.specs.Acts.{limits_of, IsBefore, ShardActsFit}
 use Rattle.alloc_rules.proofs.Counting.{objects_count}

@@ -30,16 +30,15 @@ use Rattle.holdings.specs.Books.{Setup, Books, IsCut, class_number}
 use Rattle.holdings.specs.Moves.{MoveObjects, AddSpan}
 use Rattle.holdings.proofs.Sums.{shift}
 use Rattle.holdings.proofs.MapFacts.{all_spans, span_all}
+use Rattle.call_steps.specs.CpuCalls.{cpu_calls}
 use Rattle.call_steps.specs.declared.step.Asking.{Asking}
-use Rattle.call_steps.specs.declared.step.Giving.{Giving}
-use Rattle.call_steps.specs.declared.step.Step.{Step}
+use Rattle.call_steps.specs.PerCpu.{CpuLocal as Local, Giving, Step, ShardStep}
 use Rattle.call_steps.specs.declared.step.Step.TheVariants as does
 use Rattle.call_steps.specs.declared.step.HeapStep.TheVariants as heap
-use Rattle.call_steps.specs.declared.step.ShardStep.{ShardStep}
 use Rattle.call_steps.specs.declared.step.ShardStep.TheVariants.{Fetch, AddFetch, Give}
 use Rattle.call_steps.specs.Laws.{IsLowRun}
 use Rattle.alloc_rules.proofs.Paths.{AddsSome}
-use Rattle.call_steps.specs.Local.{Local, goes, class_row}
+use Rattle.call_steps.specs.Local.{goes, class_row}
 use Rattle.call_steps.specs.Hands.{with_hand, with_freed, decides_free, behind, clears, serves}
 use Rattle.call_steps.specs.ShardActs.{with_more, fetches, with_spans_behind, shard_row}
 use Rattle.call_steps.specs.Fits.{FitsAdd, FitsGive}
@@ -169,7 +168,7 @@ module _ (m : Setup) (limits : HeapConfig) (cpus : ℕ) (p : Parts) (locals : Li
   fetch_cut : IsCut m.rows (stock_of (with_shard fetched_from))
   fetch_cut = cut fetched_from fetched_of
 
-  fetch_does : (asking : Asking) → l.regs.hand.items ≡ [] → class_of m.rows asking.size ≡ Some l.regs.class → (list : List Addr) → list_of ≡ list → Does m (with_shard fetched_from) b (at_step (Fetch asking)) (fetches m.rows (at_step (Fetch asking)) asking list)
+  fetch_does : (asking : Asking) → l.regs.hand.items ≡ [] → class_of m.rows asking.size ≡ Some l.regs.class → (list : List Addr) → list_of ≡ list → Does m (with_shard fetched_from) b (at_step (Fetch asking)) (fetches (cpu_calls m.rows) (at_step (Fetch asking)) asking list)
   fetch_does asking none asked [] is =
       carries_as m p locals b before.books p.cpus (shards_with fetched_from) p.domains fetch_cut (at_step (Fetch asking)) (goes (at_step (Fetch asking)) (does.Heap (heap.NewSpan asking))) (Asks asking.label asking.size) l.regs.class.0 [] [] l.rest
       (ap (λ (h : List Addr). bare (Asks asking.label asking.size) l.regs.class.0 h l.rest) none) (subst (λ (h : List Addr). MoveObjects (stock_of p) (stock_of (with_shard fetched_from)) l.regs.class.0 [] h []) is (objects fetched_from [] list_of [] fetch_changes)) (λ label o doing. cc)
@@ -242,7 +241,7 @@ module _ (m : Setup) (limits : HeapConfig) (cpus : ℕ) (p : Parts) (locals : Li
           starts = λ n. let e = begins added n in omega (arith, e, starts_more n);
         }
 
-    add_does : (list : List Addr) → came ≡ list → 0 < length list → Does m (with_shard added) b (at_step (AddFetch asking run)) (serves m.rows (with_more (at_step (AddFetch asking run)) came) asking)
+    add_does : (list : List Addr) → came ≡ list → 0 < length list → Does m (with_shard added) b (at_step (AddFetch asking run)) (serves (cpu_calls m.rows) (with_more (at_step (AddFetch asking run)) came) asking)
     add_does [] are some = absurd (omega arith)
     add_does (a ∷ more) are some =
         gets_first m p locals b before.books p.cpus (shards_with added) p.domains add_cut (at_step (AddFetch asking run)) (record l.regs { hand = appended l.regs.hand came }) asking run a more
@@ -290,7 +289,7 @@ module _ (m : Setup) (limits : HeapConfig) (cpus : ℕ) (p : Parts) (locals : Li
     give_cut : IsCut m.rows (stock_of (with_shard given))
     give_cut = cut given given_of
 
-    give_does : (bag : Contents SpanRef) (items : List SpanRef) → bag.items ≡ items → freed ≡ items → Does m (with_shard given) b (at_step (Give g)) (clears m.rows (decides_free (with_freed (with_hand (at_step (Give g)) (emptied l.regs.hand)) bag) g) (behind g) items)
+    give_does : (bag : Contents SpanRef) (items : List SpanRef) → bag.items ≡ items → freed ≡ items → Does m (with_shard given) b (at_step (Give g)) (clears (cpu_calls m.rows) (decides_free (with_freed (with_hand (at_step (Give g)) (emptied l.regs.hand)) bag) g) (behind g) items)
     give_does bag [] are left =
         gives_hand m p locals b before.books p.cpus (shards_with given) p.domains give_cut (limits_of m cpus) (at_step (Give g)) g bag l.regs.class.0 l.regs.hand.items gives refl refl
         (subst (λ (ss : List SpanRef). MoveObjects (stock_of p) (stock_of (with_shard given)) l.regs.class.0 l.regs.hand.items [] ss) left (objects given l.regs.hand.items [] freed give_changes))
@@ -298,23 +297,23 @@ module _ (m : Setup) (limits : HeapConfig) (cpus : ℕ) (p : Parts) (locals : Li
         gives_spans m p locals b before.books p.cpus (shards_with given) p.domains give_cut (limits_of m cpus) (at_step (Give g)) g bag l.regs.class.0 l.regs.hand.items (s ∷ more) gives refl are refl
         (subst (λ (ss : List SpanRef). MoveObjects (stock_of p) (stock_of (with_shard given)) l.regs.class.0 l.regs.hand.items [] ss) left (objects given l.regs.hand.items [] freed give_changes))
 
-    give_all : Does m (with_shard given) b (at_step (Give g)) (shard_row m.rows x (at_step (Give g)) (Give g)).1
+    give_all : Does m (with_shard given) b (at_step (Give g)) (shard_row (cpu_calls m.rows) x (at_step (Give g)) (Give g)).1
     give_all =
         let bag : Contents SpanRef = with_spans_behind l.freed freed in
         give_does bag bag.items refl (sym (ap (λ (ss : List SpanRef). ss ++ freed) no_span))
 
-  shard_does : (row : ShardStep) → l.step ≡ does.Shard row → ShardShape (limits_of m cpus) l row → Does m (with_shard (shard_row m.rows x (at_step row) row).0) b (at_step row) (shard_row m.rows x (at_step row) row).1
+  shard_does : (row : ShardStep) → l.step ≡ does.Shard row → ShardShape (limits_of m cpus) l row → Does m (with_shard (shard_row (cpu_calls m.rows) x (at_step row) row).0) b (at_step row) (shard_row (cpu_calls m.rows) x (at_step row) row).1
   shard_does (Fetch asking) is shape = fetch_does asking shape.0.hand shape.1 list_of refl
   shard_does (AddFetch asking run) is shape = add_does asking run is shape.0.hand shape.1 (came asking run is shape.0.hand shape.1) refl (is_added asking run is shape.0.hand shape.1).some
   shard_does (Give g) is shape = give_all g is shape.0.freed shape.1
 
   -- the shard stays its class's, a new span's first page is a low number, and a new span brings an object at least
-  pub shard_stays : (row : ShardStep) → l.step ≡ does.Shard row → ShardShape (limits_of m cpus) l row → IsShardOf m.rows l.regs.class.0 (shard_row m.rows x (at_step row) row).0 × IsLowRun row × AddsSome m.rows x l row
+  pub shard_stays : (row : ShardStep) → l.step ≡ does.Shard row → ShardShape (limits_of m cpus) l row → IsShardOf m.rows l.regs.class.0 (shard_row (cpu_calls m.rows) x (at_step row) row).0 × IsLowRun row × AddsSome m.rows x l row
   shard_stays (Fetch asking) is shape = (fetched_of, tt, tt)
   shard_stays (AddFetch asking run) is shape = (added_of asking run is shape.0.hand shape.1, is_low asking run is shape.0.hand shape.1, (is_added asking run is shape.0.hand shape.1).some)
   shard_stays (Give g) is shape = (given_of g is shape.0.freed shape.1, tt, tt)
 
 pub shard_acts_move : ShardActsMove
 shard_acts_move m limits cpus p locals b calls t l x row before is at =
-    subst (λ (s : Step). Does m (with_stores p p.cpus (slice_set p.shards l.regs.class.0 (shard_row m.rows x (record l { step = s }) row).0) p.domains) b (record l { step = s }) (shard_row m.rows x (record l { step = s }) row).1) (sym is)
+    subst (λ (s : Step). Does m (with_stores p p.cpus (slice_set p.shards l.regs.class.0 (shard_row (cpu_calls m.rows) x (record l { step = s }) row).0) p.domains) b (record l { step = s }) (shard_row (cpu_calls m.rows) x (record l { step = s }) row).1) (sym is)
     (shard_does m limits cpus p locals b calls t l x before at row is (subst (λ (s : Step). StepShape (limits_of m cpus) l s) is before.shaped.step))

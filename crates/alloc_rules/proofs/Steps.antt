@@ -28,30 +28,27 @@ use Rattle.cpu_slab.specs.Slots.{row_at}
 use Rattle.cpu_drain.specs.Seats.{CpuOk, SeatOk, SeatKeeps}
 use Rattle.holdings.specs.Books.{Books}
 use Rattle.holdings.specs.Facts.{Facts}
-use Rattle.call_steps.specs.declared.step.Step.{Step}
+use Rattle.call_steps.specs.PerCpu.{CpuLocal as Local, Step, ShardStep, HeapStep, MapStep}
 use Rattle.call_steps.specs.declared.step.Step.TheVariants as does
 use Rattle.call_steps.specs.declared.step.CpuRow.TheVariants as front
 use Rattle.call_steps.specs.declared.step.CpuStep.{CpuStep}
 use Rattle.call_steps.specs.declared.step.CpuStep.TheVariants as cpu
-use Rattle.call_steps.specs.declared.step.ShardStep.{ShardStep}
 use Rattle.call_steps.specs.declared.step.DomainStep.{DomainStep}
-use Rattle.call_steps.specs.declared.step.HeapStep.{HeapStep}
 use Rattle.call_steps.specs.declared.step.HeapStep.TheVariants as heap
-use Rattle.call_steps.specs.declared.step.MapStep.{MapStep}
 use Rattle.call_steps.specs.declared.step.NamesStep.{NamesStep}
 use Rattle.call_steps.specs.declared.step.Stopping.{Stopping}
 use Rattle.call_steps.specs.declared.step.Stopping.TheVariants as stopping
-use Rattle.call_steps.specs.Local.{Local, Decided}
+use Rattle.call_steps.specs.Local.{Decided}
 use Rattle.call_steps.specs.Calls.{undecided}
-use Rattle.call_steps.specs.Kept.{cpu_of, at_cpu}
 use Rattle.call_steps.specs.ShardActs.{shard_row}
-use Rattle.call_steps.specs.Follows.{cpu_row, domain_row}
+use Rattle.call_steps.specs.CpuCalls.{cpu_calls, cpu_row, domain_row}
 use Rattle.call_steps.specs.Acts.{heap_row, map_row, names_row, waits_row}
 use Rattle.call_steps.specs.Fits.{FitsCpu, FitsShard, FitsDomain, FitsHeap, FitsMap, FitsNames}
 use Rattle.call_steps.specs.Laws.{thread_no, IsAtCpu, CpuActKeeps, IsKept}
 use Rattle.call_steps.specs.Shapes.{Limits, IsStop, CpuShape, ShardShape, StepShape, seat_of}
 use Rattle.call_steps.proofs.CpuKeeps.{cpu_acts_keep}
 use Rattle.call_steps.proofs.ElsewhereKeeps.{shard_acts_keep, domain_acts_keep, heap_acts_keep, map_acts_keep, names_acts_keep}
+use Rattle.call_steps.specs.CpuRows.{about_row, at_cpu, cpu_of}
 use Rattle.alloc_rules.specs.Machine.{Parts, heap_config}
 use Rattle.alloc_rules.specs.Heads.{IsSlabOf, HasRoom}
 use Rattle.alloc_rules.specs.Stocks.{AreBooksOf, IsShardOf, no_cache, cache_at}
@@ -230,7 +227,7 @@ module _ (input : Input) (valid : IsValid input) (p : Parts) (locals : List Loca
 
   pub heap_fit : (row : HeapStep) → l.step ≡ does.Heap row → FitsHeap input.rows p.heap l row
   heap_fit row step =
-      let bound : (label : Label) (size : ℕ) → row ≡ heap.New label size → size ≤ 2 ^ 40 = λ label size is. request_low input valid t l.ended label size ((works t l local).inside.call (Malloc label size) (ap undecided (step ∙ ap (λ r. does.Heap r) is))) in
+      let bound : (label : Label) (size : ℕ) → row ≡ heap.New label size → size ≤ 2 ^ 40 = λ label size is. request_low input valid t l.ended label size ((works t l local).inside.call (Malloc label size) (ap (undecided about_row) (step ∙ ap (λ r. does.Heap r) is))) in
       subst (λ (y : Local). FitsHeap input.rows p.heap y row) (ap (λ s. record l { step = s }) (sym step)) (heap_fits (setup_of input) (heap_config input.asked.config) input.asked.config.cpus p locals b (calls locals order) t l row (with_step (does.Heap row) step) bound)
 
   pub map_fit : (row : MapStep) → l.step ≡ does.Map row → FitsMap p.map l row
@@ -240,7 +237,7 @@ module _ (input : Input) (valid : IsValid input) (p : Parts) (locals : List Loca
   names_fit row step = names_fits (setup_of input) (heap_config input.asked.config) input.asked.config.cpus p locals b (calls locals order) t l row (with_step (does.Names row) step)
 
   -- at the shard of the thread's class
-  pub shard_acted : (row : ShardStep) (x : Shard) → l.step ≡ does.Shard row → slice_get p.shards l.regs.class.0 ≡ Some x → Acted (record p { shards = slice_set p.shards l.regs.class.0 (shard_row input.rows x l row).0 }) (shard_row input.rows x l row).1
+  pub shard_acted : (row : ShardStep) (x : Shard) → l.step ≡ does.Shard row → slice_get p.shards l.regs.class.0 ≡ Some x → Acted (record p { shards = slice_set p.shards l.regs.class.0 (shard_row (cpu_calls input.rows) x l row).0 }) (shard_row (cpu_calls input.rows) x l row).1
   shard_acted row x step at =
       let here : record l { step = does.Shard row } ≡ l = ap (λ s. record l { step = s }) (sym step) in
       let m = setup_of input in
@@ -250,13 +247,13 @@ module _ (input : Input) (valid : IsValid input) (p : Parts) (locals : List Loca
       let shape : ShardShape (limits_in input) l row = subst (λ (s : Step). StepShape (limits_in input) l s) step shaped.step in
       let stays = shard_stays m limits cpus p locals b (calls locals order) t l x before at row step shape in
       let fits : FitsShard input.rows x l row = shard_fit row x step at in
-      let kept : IsKept (limits_in input) t l (shard_row input.rows x l row).1 = shard_acts_keep (limits_in input) t x l row valid.rows shaped step acts_low (placed.ok.shards l.regs.class.0 x at).sound (sym (row_is m limits cpus p locals b (calls locals order) t l x before at)) stays.1 fits in
+      let kept : IsKept (limits_in input) t l (shard_row (cpu_calls input.rows) x l row).1 = shard_acts_keep (limits_in input) t x l row valid.rows shaped step acts_low (placed.ok.shards l.regs.class.0 x at).sound (sym (row_is m limits cpus p locals b (calls locals order) t l x before at)) stays.1 fits in
       let adds : AddsSome input.rows x (record l { step = does.Shard row }) row = subst (λ (y : Local). AddsSome input.rows x y row) (sym here) stays.2 in
-      let new : Shard = (shard_row input.rows x l row).0 in
-      let of_class : IsShardOf input.rows l.regs.class.0 new = subst (λ (y : Local). IsShardOf input.rows l.regs.class.0 (shard_row input.rows x y row).0) here stays.0 in
+      let new : Shard = (shard_row (cpu_calls input.rows) x l row).0 in
+      let of_class : IsShardOf input.rows l.regs.class.0 new = subst (λ (y : Local). IsShardOf input.rows l.regs.class.0 (shard_row (cpu_calls input.rows) x y row).0) here stays.0 in
       record {
         does = shard_acts_move m limits cpus p locals b (calls locals order) t l x row before step at;
-        path = subst (λ (y : Local). Path input.rows y (shard_row input.rows x y row).1) here (shard_path input.rows l x row adds);
+        path = subst (λ (y : Local). Path input.rows y (shard_row (cpu_calls input.rows) x y row).1) here (shard_path input.rows l x row adds);
         way = ap is_under_way step;
         placed = record {
           ok = record {
@@ -279,7 +276,7 @@ module _ (input : Input) (valid : IsValid input) (p : Parts) (locals : List Loca
           };
         };
         shaped = kept.shaped;
-        seated = seats_kept (shard_row input.rows x l row).1 kept.seat;
+        seated = seats_kept (shard_row (cpu_calls input.rows) x l row).1 kept.seat;
       }
 
   -- at the cache of a domain
@@ -325,26 +322,26 @@ module _ (input : Input) (valid : IsValid input) (p : Parts) (locals : List Loca
       }
 
   -- at the page heap
-  pub heap_acted : (row : HeapStep) → l.step ≡ does.Heap row → Acted (record p { heap = (heap_row input.rows p.heap l row).0 }) (heap_row input.rows p.heap l row).1
+  pub heap_acted : (row : HeapStep) → l.step ≡ does.Heap row → Acted (record p { heap = (heap_row (cpu_calls input.rows) p.heap l row).0 }) (heap_row (cpu_calls input.rows) p.heap l row).1
   heap_acted row step =
       let here : record l { step = does.Heap row } ≡ l = ap (λ s. record l { step = s }) (sym step) in
       let m = setup_of input in
       let limits = heap_config input.asked.config in
       let cpus = input.asked.config.cpus in
       let fits : FitsHeap input.rows p.heap l row = heap_fit row step in
-      let kept : IsKept (limits_in input) t l (heap_row input.rows p.heap l row).1 = heap_acts_keep (limits_in input) t p.heap l row valid.rows (works t l local).shaped step acts_low fits in
-      let stays : HeapStays p.heap (heap_row input.rows p.heap l row).0 = heap_stays input.rows p.heap l row placed.ok.heap (omega (arith, valid.limits.region, ap (λ (c : HeapConfig). c.region) placed.ok.config)) fits in
+      let kept : IsKept (limits_in input) t l (heap_row (cpu_calls input.rows) p.heap l row).1 = heap_acts_keep (limits_in input) t p.heap l row valid.rows (works t l local).shaped step acts_low fits in
+      let stays : HeapStays p.heap (heap_row (cpu_calls input.rows) p.heap l row).0 = heap_stays input.rows p.heap l row placed.ok.heap (omega (arith, valid.limits.region, ap (λ (c : HeapConfig). c.region) placed.ok.config)) fits in
       record {
         does = heap_acts_move m limits cpus p locals b (calls locals order) t l row before step fits;
-        path = subst (λ (y : Local). Path input.rows y (heap_row input.rows p.heap y row).1) here (heap_path input.rows l p.heap row (subst (λ (y : Local). FitsHeap input.rows p.heap y row) (sym here) fits));
+        path = subst (λ (y : Local). Path input.rows y (heap_row (cpu_calls input.rows) p.heap y row).1) here (heap_path input.rows l p.heap row (subst (λ (y : Local). FitsHeap input.rows p.heap y row) (sym here) fits));
         way = ap is_under_way step;
-        placed = placed_elsewhere (heap_row input.rows p.heap l row).0 p.map p.names stays.sound (stays.config ∙ placed.ok.config) placed.ok.map placed.ok.huge;
+        placed = placed_elsewhere (heap_row (cpu_calls input.rows) p.heap l row).0 p.map p.names stays.sound (stays.config ∙ placed.ok.config) placed.ok.map placed.ok.huge;
         shaped = kept.shaped;
-        seated = seats_kept (heap_row input.rows p.heap l row).1 kept.seat;
+        seated = seats_kept (heap_row (cpu_calls input.rows) p.heap l row).1 kept.seat;
       }
 
   -- at the page map
-  pub map_acted : (row : MapStep) → l.step ≡ does.Map row → Acted (record p { map = (map_row p.map l row).0 }) (map_row p.map l row).1
+  pub map_acted : (row : MapStep) → l.step ≡ does.Map row → Acted (record p { map = (map_row (cpu_calls input.rows) p.map l row).0 }) (map_row (cpu_calls input.rows) p.map l row).1
   map_acted row step =
       let here : record l { step = does.Map row } ≡ l = ap (λ s. record l { step = s }) (sym step) in
       let m = setup_of input in
@@ -352,31 +349,31 @@ module _ (input : Input) (valid : IsValid input) (p : Parts) (locals : List Loca
       let cpus = input.asked.config.cpus in
       let fits : FitsMap p.map l row = map_fit row step in
       let found = found_class m limits cpus p locals b (calls locals order) t l row (with_step (does.Map row) step) in
-      let kept : IsKept (limits_in input) t l (map_row p.map l row).1 = map_acts_keep (limits_in input) t p.map l row valid.rows (works t l local).shaped step acts_low fits found in
-      let stays : MapStays p.map (map_row p.map l row).0 = map_stays p.map l row placed.ok.map fits in
+      let kept : IsKept (limits_in input) t l (map_row (cpu_calls input.rows) p.map l row).1 = map_acts_keep (limits_in input) t p.map l row valid.rows (works t l local).shaped step acts_low fits found in
+      let stays : MapStays p.map (map_row (cpu_calls input.rows) p.map l row).0 = map_stays input.rows p.map l row placed.ok.map fits in
       record {
         does = map_acts_move m limits cpus p locals b (calls locals order) t l row before step fits;
-        path = subst (λ (y : Local). Path input.rows y (map_row p.map y row).1) here (map_path input.rows l p.map row (subst (λ (y : Local). FitsMap p.map y row) (sym here) fits));
+        path = subst (λ (y : Local). Path input.rows y (map_row (cpu_calls input.rows) p.map y row).1) here (map_path input.rows l p.map row (subst (λ (y : Local). FitsMap p.map y row) (sym here) fits));
         way = ap is_under_way step;
-        placed = placed_elsewhere p.heap (map_row p.map l row).0 p.names placed.ok.heap placed.ok.config stays.well (stays.huge ∙ placed.ok.huge);
+        placed = placed_elsewhere p.heap (map_row (cpu_calls input.rows) p.map l row).0 p.names placed.ok.heap placed.ok.config stays.well (stays.huge ∙ placed.ok.huge);
         shaped = kept.shaped;
-        seated = seats_kept (map_row p.map l row).1 kept.seat;
+        seated = seats_kept (map_row (cpu_calls input.rows) p.map l row).1 kept.seat;
       }
 
   -- at the names, where it doesn't wait
-  pub names_acted : (row : NamesStep) → l.step ≡ does.Names row → waits_row p.names row ≡ false → Acted (record p { names = (names_row input.rows p.names l row).0 }) (names_row input.rows p.names l row).1
+  pub names_acted : (row : NamesStep) → l.step ≡ does.Names row → waits_row p.names row ≡ false → Acted (record p { names = (names_row (cpu_calls input.rows) p.names l row).0 }) (names_row (cpu_calls input.rows) p.names l row).1
   names_acted row step goes =
       let here : record l { step = does.Names row } ≡ l = ap (λ s. record l { step = s }) (sym step) in
       let m = setup_of input in
       let limits = heap_config input.asked.config in
       let cpus = input.asked.config.cpus in
       let fits : FitsNames p.names row = names_fit row step in
-      let kept : IsKept (limits_in input) t l (names_row input.rows p.names l row).1 = names_acts_keep (limits_in input) t p.names l row valid.rows (works t l local).shaped step acts_low fits in
+      let kept : IsKept (limits_in input) t l (names_row (cpu_calls input.rows) p.names l row).1 = names_acts_keep (limits_in input) t p.names l row valid.rows (works t l local).shaped step acts_low fits in
       record {
         does = names_acts_move m limits cpus p locals b (calls locals order) t l row before step fits goes;
-        path = subst (λ (y : Local). Path input.rows y (names_row input.rows p.names y row).1) here (names_path input.rows l p.names row fits goes);
+        path = subst (λ (y : Local). Path input.rows y (names_row (cpu_calls input.rows) p.names y row).1) here (names_path input.rows l p.names row fits goes);
         way = ap is_under_way step;
-        placed = placed_elsewhere p.heap p.map (names_row input.rows p.names l row).0 placed.ok.heap placed.ok.config placed.ok.map placed.ok.huge;
+        placed = placed_elsewhere p.heap p.map (names_row (cpu_calls input.rows) p.names l row).0 placed.ok.heap placed.ok.config placed.ok.map placed.ok.huge;
         shaped = kept.shaped;
-        seated = seats_kept (names_row input.rows p.names l row).1 kept.seat;
+        seated = seats_kept (names_row (cpu_calls input.rows) p.names l row).1 kept.seat;
       }

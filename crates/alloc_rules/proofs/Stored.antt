@@ -12,9 +12,9 @@ use Rattle.holdings.specs.Accounts.{Account}
 use Rattle.holdings.specs.Books.{Setup, Stock, Books}
 use Rattle.holdings.specs.Moves.{Said, Move, MoveObjects}
 use Rattle.holdings.proofs.Sums.{shift}
-use Rattle.call_steps.specs.Local.{Local}
+use Rattle.call_steps.specs.PerCpu.{CpuLocal as Local}
 use Rattle.alloc_rules.specs.Machine.{Parts}
-use Rattle.alloc_rules.specs.Accounts.{account_of}
+use Rattle.alloc_rules.specs.CpuAccounts.{account_of}
 use Rattle.alloc_rules.specs.Stocks.{in_slab, in_caches, stored_in, stock_of, AreBooksOf, decided_at, Does}
 
 -- the parts with other CPUs, shards and domains

@@ -1,5 +1,5 @@
 -- In polite orders few threads switch in: a thread that did goes on until what is open at its CPU comes to an end.
-use Rattle.std.proofs.Common.{◌≡◌, ℕ, ◌+◌, ◌≤◌, ◌⊎◌, true, eqb, ltb, List, [], ◌∷◌, ◌++◌, length, Some, refl, sym, ap, ◌∙◌, subst, inl, inr, arith}
+use Rattle.std.proofs.Common.{◌≡◌, ℕ, ◌+◌, ◌<◌, ◌≤◌, ◌⊎◌, true, eqb, ltb, List, [], ◌∷◌, ◌++◌, length, Some, refl, sym, ap, ◌∙◌, subst, inl, inr, arith}
 use Rattle.std.specs.Prelude.{slice_get}
 use Rattle.std.proofs.lemmas.Bool.{cases_eq, eq-eqb, false_from_ne_true, eqb-true, false≢true, lt-ltb}
 use Rattle.std.proofs.lemmas.List.{length-append}
@@ -13,17 +13,17 @@ use Rattle.tc_model.specs.Chains.{IsPoliteMove, IsPolite}
 use Rattle.tc_model.proofs.MovingFacts.{pick_moves}
 use Rattle.tc_model.proofs.Lists.{set_here, set_elsewhere}
 use Rattle.rseq_core.specs.declared.cpu_part.CpuPart.{CpuPart}
-use Rattle.call_steps.specs.declared.step.Step.{Step}
+use Rattle.call_steps.specs.PerCpu.{CpuLocal as Local, Step}
 use Rattle.call_steps.specs.declared.step.Step.TheVariants as does
 use Rattle.call_steps.specs.declared.step.CpuRow.TheVariants as front
 use Rattle.call_steps.specs.declared.step.CpuStep.TheVariants.{Pop, Grow, Stock, Push, PopBatch}
-use Rattle.call_steps.specs.Local.{Local}
 use Rattle.call_steps.specs.Laws.{thread_no}
-use Rattle.alloc_rules.specs.declared.part.Part.{Part}
-use Rattle.alloc_rules.specs.declared.part.Part.TheVariants.{Cpu, Shard, Heap, Map, Names, Domain}
+use Rattle.alloc_rules.specs.PerCpu.{Part, Cpu, Domain}
+use Rattle.alloc_rules.specs.declared.part.Part.TheVariants.{Front, Shard, Heap, Map, Names}
+use Rattle.alloc_rules.specs.declared.part.CpuFrontPart.TheVariants as at
 use Rattle.alloc_rules.specs.Machine.{number, place_of, after, yields, rules}
 use Rattle.call_steps.specs.CpuActs.{runs_open}
-use Rattle.call_steps.specs.Acts.{cpu_after}
+use Rattle.call_steps.specs.CpuCalls.{cpu_after}
 use Rattle.call_steps.specs.Shapes.{IsShaped}
 use Rattle.alloc_rules.specs.Switches.{Kind, enters, closes, neither, act_kind, kind_at, kind_of, step_kind, entry, closing, count_at, SwitchesAreFew}
 use Rattle.alloc_rules.specs.Valid.{limits_in, IsValid}
@@ -52,16 +52,16 @@ abbrev pub Balance : ℕ → ℕ → ℕ → World Part Local → Type 0
 Balance c ins ends w = (ins ≤ ends) ⊎ HasEntered c ins ends w
 
 -- the part that a thread wants before it enters is its own CPU
-home_by : (cpus classes : ℕ) (l : Local) (s : Step) → l.step ≡ s → HasToEnter s → place_of cpus classes l ≡ Some (number l.seat.cpu.0)
-home_by cpus classes l (does.Front (front.Cpu (Pop a))) is has = rw is
-home_by cpus classes l (does.Front (front.Cpu (Grow a))) is has = rw is
-home_by cpus classes l (does.Front (front.Cpu (Stock s))) is has = rw is
-home_by cpus classes l (does.Front (front.Cpu (Push f))) is has = rw is
-home_by cpus classes l (does.Front (front.Cpu (PopBatch f))) is has = rw is
-home_by cpus classes l other is has = absurd has
+home_by : (cpus classes : ℕ) (l : Local) (s : Step) → l.step ≡ s → HasToEnter s → l.seat.cpu.0 < cpus → place_of cpus classes l ≡ Some (number l.seat.cpu.0)
+home_by cpus classes l (does.Front (front.Cpu (Pop a))) is has low = rw (is, lt-ltb l.seat.cpu.0 cpus low)
+home_by cpus classes l (does.Front (front.Cpu (Grow a))) is has low = rw (is, lt-ltb l.seat.cpu.0 cpus low)
+home_by cpus classes l (does.Front (front.Cpu (Stock s))) is has low = rw (is, lt-ltb l.seat.cpu.0 cpus low)
+home_by cpus classes l (does.Front (front.Cpu (Push f))) is has low = rw (is, lt-ltb l.seat.cpu.0 cpus low)
+home_by cpus classes l (does.Front (front.Cpu (PopBatch f))) is has low = rw (is, lt-ltb l.seat.cpu.0 cpus low)
+home_by cpus classes l other is has low = absurd has
 
 -- An act of thread t, of this local.
-module _ (input : Input) (c ins ends : ℕ) (w : World Part Local) (t : ℕ) (l : Local) (mine : slice_get w.locals t ≡ Some l) where
+module _ (input : Input) (c ins ends : ℕ) (w : World Part Local) (t : ℕ) (l : Local) (mine : slice_get w.locals t ≡ Some l) (low : l.seat.cpu.0 < input.asked.config.cpus) where
   -- the thread that has entered is t, or another, which the act leaves as it is
   is_own : (e : HasEntered c ins ends w) → e.thread ≡ t → e.local ≡ l
   is_own e same =
@@ -72,7 +72,7 @@ module _ (input : Input) (c ins ends : ℕ) (w : World Part Local) (t : ℕ) (l 
   other_place : (place : PartNo) → place_of input.asked.config.cpus (length input.rows) l ≡ Some place → (place.0 ≡ c → ⊥) → (e : HasEntered c ins ends w) → e.thread ≡ t → ⊥
   other_place place want apart e same =
       let own : e.local ≡ l = is_own e same in
-      let home : place_of input.asked.config.cpus (length input.rows) l ≡ Some (number l.seat.cpu.0) = home_by input.asked.config.cpus (length input.rows) l l.step refl (subst (λ (k : Local). HasToEnter k.step) own e.has) in
+      let home : place_of input.asked.config.cpus (length input.rows) l ≡ Some (number l.seat.cpu.0) = home_by input.asked.config.cpus (length input.rows) l l.step refl (subst (λ (k : Local). HasToEnter k.step) own e.has) low in
       let at : Some place ≡ Some (number l.seat.cpu.0) = sym want ∙ home in
       let is : place ≡ number l.seat.cpu.0 = (cc) in
       apart (ap (λ (n : PartNo). n.0) is ∙ (ap (λ (k : Local). k.seat.cpu.0) (sym own) ∙ e.home))
@@ -108,7 +108,7 @@ module _ (input : Input) (c ins ends : ℕ) (w : World Part Local) (t : ℕ) (l 
 
     home_of : HasToEnter l.step → l.seat.cpu.0 ≡ c
     home_of has =
-        let home : place_of input.asked.config.cpus (length input.rows) l ≡ Some (number l.seat.cpu.0) = home_by input.asked.config.cpus (length input.rows) l l.step refl has in
+        let home : place_of input.asked.config.cpus (length input.rows) l ≡ Some (number l.seat.cpu.0) = home_by input.asked.config.cpus (length input.rows) l l.step refl has low in
         let at : Some place ≡ Some (number l.seat.cpu.0) = sym want ∙ home in
         let is : place ≡ number l.seat.cpu.0 = (cc) in
         ap (λ (n : PartNo). n.0) (sym is) ∙ here
@@ -228,12 +228,12 @@ module _ (input : Input) (valid : IsValid input) (c : ℕ) (w : World Part Local
     not_there part there u other (inr e) = let h : Some part ≡ Some (Cpu e.cpu) = sym there ∙ e.there in absurd (other e.cpu (cc))
 
     at_part : (part : Part) → m.place.0 ≡ c → slice_get w.parts c ≡ Some part → yields part m.local ≡ true → Balance c ins ends w → Behind (act_kind m.local (Some part)) (with_pair w c t (after input.rows part m.local))
-    at_part (Cpu p) here there polite b = does_there input c ins ends w t m.local m.local_there m.place m.wants here p there shaped.thread (cpu_after input.rows p m.local m.local.step) (step_kind p m.local m.local.step) (act_as (limits_in input) t p m.local valid.rows shaped polite) b
+    at_part (Front (at.Cpu p)) here there polite b = does_there input c ins ends w t m.local m.local_there shaped.home m.place m.wants here p there shaped.thread (cpu_after input.rows p m.local m.local.step) (step_kind p m.local m.local.step) (act_as (limits_in input) t p m.local valid.rows shaped polite) b
     at_part (Shard s) here there polite b = not_there (Shard s) there _ (λ e is. cc) b
     at_part (Heap h) here there polite b = not_there (Heap h) there _ (λ e is. cc) b
     at_part (Map x) here there polite b = not_there (Map x) there _ (λ e is. cc) b
     at_part (Names n) here there polite b = not_there (Names n) there _ (λ e is. cc) b
-    at_part (Domain d) here there polite b = not_there (Domain d) there _ (λ e is. cc) b
+    at_part (Front (at.Domain d)) here there polite b = not_there (Domain d) there _ (λ e is. cc) b
 
     pub keeps : Balance c ins ends w → Behind (kind_of r w c t) (pick r w t)
     keeps b =
@@ -247,7 +247,7 @@ module _ (input : Input) (valid : IsValid input) (c : ℕ) (w : World Part Local
               (subst (λ (k : Kind). Behind k (with_pair w c t (after input.rows m.part m.local))) kind at)
           | inr apart ↦
               let kind : neither ≡ kind_at w c m.local (Some m.place) = kind_elsewhere w c m.local m.place apart in
-              subst (λ (k : Kind). Behind k (with_pair w m.place.0 t (after input.rows m.part m.local))) kind (stays_elsewhere input c ins ends w t m.local m.local_there m.place (after input.rows m.part m.local) m.wants apart b)
+              subst (λ (k : Kind). Behind k (with_pair w m.place.0 t (after input.rows m.part m.local))) kind (stays_elsewhere input c ins ends w t m.local m.local_there shaped.home m.place (after input.rows m.part m.local) m.wants apart b)
         ]))
 
 few_of : (c ins ends : ℕ) (w : World Part Local) → Balance c ins ends w → ins ≤ ends + 1

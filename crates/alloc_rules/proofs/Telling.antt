@@ -7,7 +7,8 @@ use Rattle.tc_model.specs.declared.answers.CallLine.{CallLine}
 use Rattle.tc_model.specs.declared.calls.Call.{Call}
 use Rattle.tc_model.specs.declared.calls.Planned.{Planned}
 use Rattle.holdings.specs.Moves.{Said, lines}
-use Rattle.call_steps.specs.Local.{Local, Decided, told}
+use Rattle.call_steps.specs.PerCpu.{CpuLocal as Local}
+use Rattle.call_steps.specs.Local.{Decided, told}
 use Rattle.call_steps.specs.Kept.{call_at}
 use Rattle.alloc_rules.specs.Told.{lines_by}
 

@@ -11,8 +11,10 @@ use Rattle.tc_model.specs.declared.calls.MoveTo.{MoveTo}
 use Rattle.tc_model.specs.declared.calls.Planned.{Planned}
 use Rattle.holdings.specs.Runs.{objects_at}
 use Rattle.holdings.specs.Accounts.{Account, Doing, Asks, Takes, Other, WeighSame, asking, publishing, taking, holds, loose, got, put}
-use Rattle.call_steps.specs.Local.{Local, first_of_malloc, first_of_call, regs_of_malloc, fresh_regs, next_call, closes, ends}
-use Rattle.alloc_rules.specs.Accounts.{account_of}
+use Rattle.call_steps.specs.CpuCalls.{leave_row, cpu_calls}
+use Rattle.call_steps.specs.PerCpu.{CpuLocal as Local}
+use Rattle.call_steps.specs.Local.{first_of_malloc, first_of_call, regs_of_malloc, fresh_regs, next_call, closes, ends}
+use Rattle.alloc_rules.specs.CpuAccounts.{account_of}
 
 -- an account that holds no span and no run, and one that has nothing to do with a label either
 abbrev pub bare : Doing → ℕ → List Addr → List Planned → Account
@@ -58,9 +60,9 @@ begun k j hand d p rest none asks publishes takes value loosely =
 
 module _ (rows : List ClassRow) (l : Local) (k : ℕ) (none : l.regs.hand.items ≡ []) where
   abbrev at_call : Call → Option MoveTo → List Planned → Local
-  at_call call moved rest = record l { step = first_of_call rows call; regs = fresh_regs rows call l.regs; seat = record l.seat { moved = moved }; rest = rest }
+  at_call call moved rest = record l { step = first_of_call (cpu_calls rows) (record l.seat { moved = moved }) call; regs = fresh_regs (cpu_calls rows) call l.regs; seat = record l.seat { moved = moved }; rest = rest }
 
-  malloc_weighs : (label : Label) (size : ℕ) (p : Planned) (rest : List Planned) (c : Option Class) → WeighSame (quiet k (record p { call = Malloc label size } ∷ rest)) (account_of (record l { step = first_of_malloc c label size; regs = record (regs_of_malloc c l.regs) { ran = 0 }; seat = record l.seat { moved = p.moved }; rest = rest }))
+  malloc_weighs : (label : Label) (size : ℕ) (p : Planned) (rest : List Planned) (c : Option Class) → WeighSame (quiet k (record p { call = Malloc label size } ∷ rest)) (account_of (record l { step = first_of_malloc (cpu_calls rows) (record l.seat { moved = p.moved }) c label size; regs = record (regs_of_malloc (cpu_calls rows) c l.regs) { ran = 0 }; seat = record l.seat { moved = p.moved }; rest = rest }))
   malloc_weighs label size p rest None = begun k l.regs.class.0 l.regs.hand.items (Asks label size) (record p { call = Malloc label size }) rest none (λ x. refl) (λ x. refl) (λ x. refl) (λ x v. refl) (λ n. refl)
   malloc_weighs label size p rest (Some c) = begun k c.0 l.regs.hand.items (Asks label size) (record p { call = Malloc label size }) rest none (λ x. refl) (λ x. refl) (λ x. refl) (λ x v. refl) (λ n. refl)
 
@@ -71,22 +73,22 @@ module _ (rows : List ClassRow) (l : Local) (k : ℕ) (none : l.regs.hand.items 
   call_weighs (Drain c) p rest = begun k 0 l.regs.hand.items Other (record p { call = Drain c }) rest none (λ x. refl) (λ x. refl) (λ x. refl) (λ x v. refl) (λ n. refl)
   call_weighs (Resize c class most) p rest = begun k class.0 l.regs.hand.items Other (record p { call = Resize c class most }) rest none (λ x. refl) (λ x. refl) (λ x. refl) (λ x v. refl) (λ n. refl)
 
-  script_weighs : (calls : List Planned) → WeighSame (quiet k calls) (account_of (next_call rows l calls))
+  script_weighs : (calls : List Planned) → WeighSame (quiet k calls) (account_of (next_call (cpu_calls rows) l calls))
   script_weighs [] = weighs_quiet k l.regs.class.0 l.regs.hand.items [] none
   script_weighs (p ∷ rest) = call_weighs p.call p rest
 
 -- a call ends: the next one is begun, or the thread leaves for another CPU first
-closes_weighs : (rows : List ClassRow) (l : Local) (k : ℕ) → l.regs.hand.items ≡ [] → (move : Option MoveTo) → WeighSame (quiet k l.rest) (account_of (closes rows l move))
+closes_weighs : (rows : List ClassRow) (l : Local) (k : ℕ) → l.regs.hand.items ≡ [] → (move : Option MoveTo) → WeighSame (quiet k l.rest) (account_of (closes (cpu_calls rows) l (leave_row move)))
 closes_weighs rows l k none None = script_weighs rows (record l { ended = l.ended + 1 }) k none l.rest
 closes_weighs rows l k none (Some move) = weighs_quiet k l.regs.class.0 l.regs.hand.items l.rest none
 
-pub weighs_next : (rows : List ClassRow) (l : Local) (k : ℕ) → l.regs.hand.items ≡ [] → WeighSame (quiet k l.rest) (account_of (ends rows l))
+pub weighs_next : (rows : List ClassRow) (l : Local) (k : ℕ) → l.regs.hand.items ≡ [] → WeighSame (quiet k l.rest) (account_of (ends (cpu_calls rows) l))
 weighs_next rows l k none = closes_weighs rows (record l { acts = l.acts + 1 }) k none l.seat.moved
 
 -- that is one act more, with no further answer
-closes_counts : (rows : List ClassRow) (l : Local) (move : Option MoveTo) → ((closes rows l move).acts ≡ l.acts) × ((closes rows l move).answers ≡ l.answers)
+closes_counts : (rows : List ClassRow) (l : Local) (move : Option MoveTo) → ((closes (cpu_calls rows) l (leave_row move)).acts ≡ l.acts) × ((closes (cpu_calls rows) l (leave_row move)).answers ≡ l.answers)
 closes_counts rows l None = (refl, refl)
 closes_counts rows l (Some move) = (refl, refl)
 
-pub ends_counts : (rows : List ClassRow) (l : Local) → ((ends rows l).acts ≡ l.acts + 1) × ((ends rows l).answers ≡ l.answers)
+pub ends_counts : (rows : List ClassRow) (l : Local) → ((ends (cpu_calls rows) l).acts ≡ l.acts + 1) × ((ends (cpu_calls rows) l).answers ≡ l.answers)
 ends_counts rows l = closes_counts rows (record l { acts = l.acts + 1 }) l.seat.moved

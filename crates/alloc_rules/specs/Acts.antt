@@ -12,16 +12,13 @@ use Rattle.heap_rules.specs.declared.config.HeapConfig.{HeapConfig}
 use Rattle.holdings.specs.Books.{Setup, Books}
 use Rattle.holdings.specs.Facts.{Facts}
 use Rattle.call_steps.specs.declared.step.CpuStep.{CpuStep}
-use Rattle.call_steps.specs.declared.step.ShardStep.{ShardStep}
+use Rattle.call_steps.specs.PerCpu.{CpuLocal as Local, ShardStep, HeapStep, MapStep}
 use Rattle.call_steps.specs.declared.step.DomainStep.{DomainStep}
-use Rattle.call_steps.specs.declared.step.HeapStep.{HeapStep}
-use Rattle.call_steps.specs.declared.step.MapStep.{MapStep}
 use Rattle.call_steps.specs.declared.step.NamesStep.{NamesStep}
 use Rattle.call_steps.specs.declared.step.Step.TheVariants as does
 use Rattle.call_steps.specs.declared.step.CpuRow.TheVariants as front
-use Rattle.call_steps.specs.Local.{Local}
 use Rattle.call_steps.specs.ShardActs.{shard_row}
-use Rattle.call_steps.specs.Follows.{cpu_row, domain_row}
+use Rattle.call_steps.specs.CpuCalls.{cpu_calls, cpu_row, domain_row}
 use Rattle.call_steps.specs.Acts.{heap_row, map_row, names_row, waits_row}
 use Rattle.call_steps.specs.Fits.{FitsShard, FitsHeap, FitsMap, FitsNames}
 use Rattle.call_steps.specs.Shapes.{Limits, AreRows, IsShaped}
@@ -52,7 +49,7 @@ CpuActsMove = (m : Setup) (limits : HeapConfig) (cpus : ℕ) (p : Parts) (locals
 -- The acts at the shard of the thread's class, which its act fits.
 abbrev pub ShardActsMove : Type 0
 ShardActsMove = (m : Setup) (limits : HeapConfig) (cpus : ℕ) (p : Parts) (locals : List Local) (b : Books) (calls : List CallLine) (t : ℕ) (l : Local) (x : Shard) (row : ShardStep) → IsBefore m limits cpus p locals b calls t l → l.step ≡ does.Shard row → slice_get p.shards l.regs.class.0 ≡ Some x
-    → Does m (record p { shards = slice_set p.shards l.regs.class.0 (shard_row m.rows x l row).0 }) b l (shard_row m.rows x l row).1
+    → Does m (record p { shards = slice_set p.shards l.regs.class.0 (shard_row (cpu_calls m.rows) x l row).0 }) b l (shard_row (cpu_calls m.rows) x l row).1
 
 -- That act fits.
 abbrev pub ShardActsFit : Type 0
@@ -65,10 +62,10 @@ DomainActsMove = (m : Setup) (limits : HeapConfig) (cpus : ℕ) (p : Parts) (loc
 
 -- The acts at the heap, the map and the names.
 abbrev pub HeapActsMove : Type 0
-HeapActsMove = (m : Setup) (limits : HeapConfig) (cpus : ℕ) (p : Parts) (locals : List Local) (b : Books) (calls : List CallLine) (t : ℕ) (l : Local) (row : HeapStep) → IsBefore m limits cpus p locals b calls t l → l.step ≡ does.Heap row → FitsHeap m.rows p.heap l row → Does m (record p { heap = (heap_row m.rows p.heap l row).0 }) b l (heap_row m.rows p.heap l row).1
+HeapActsMove = (m : Setup) (limits : HeapConfig) (cpus : ℕ) (p : Parts) (locals : List Local) (b : Books) (calls : List CallLine) (t : ℕ) (l : Local) (row : HeapStep) → IsBefore m limits cpus p locals b calls t l → l.step ≡ does.Heap row → FitsHeap m.rows p.heap l row → Does m (record p { heap = (heap_row (cpu_calls m.rows) p.heap l row).0 }) b l (heap_row (cpu_calls m.rows) p.heap l row).1
 
 abbrev pub MapActsMove : Type 0
-MapActsMove = (m : Setup) (limits : HeapConfig) (cpus : ℕ) (p : Parts) (locals : List Local) (b : Books) (calls : List CallLine) (t : ℕ) (l : Local) (row : MapStep) → IsBefore m limits cpus p locals b calls t l → l.step ≡ does.Map row → FitsMap p.map l row → Does m (record p { map = (map_row p.map l row).0 }) b l (map_row p.map l row).1
+MapActsMove = (m : Setup) (limits : HeapConfig) (cpus : ℕ) (p : Parts) (locals : List Local) (b : Books) (calls : List CallLine) (t : ℕ) (l : Local) (row : MapStep) → IsBefore m limits cpus p locals b calls t l → l.step ≡ does.Map row → FitsMap p.map l row → Does m (record p { map = (map_row (cpu_calls m.rows) p.map l row).0 }) b l (map_row (cpu_calls m.rows) p.map l row).1
 
 abbrev pub NamesActsMove : Type 0
-NamesActsMove = (m : Setup) (limits : HeapConfig) (cpus : ℕ) (p : Parts) (locals : List Local) (b : Books) (calls : List CallLine) (t : ℕ) (l : Local) (row : NamesStep) → IsBefore m limits cpus p locals b calls t l → l.step ≡ does.Names row → FitsNames p.names row → waits_row p.names row ≡ false → Does m (record p { names = (names_row m.rows p.names l row).0 }) b l (names_row m.rows p.names l row).1
+NamesActsMove = (m : Setup) (limits : HeapConfig) (cpus : ℕ) (p : Parts) (locals : List Local) (b : Books) (calls : List CallLine) (t : ℕ) (l : Local) (row : NamesStep) → IsBefore m limits cpus p locals b calls t l → l.step ≡ does.Names row → FitsNames p.names row → waits_row p.names row ≡ false → Does m (record p { names = (names_row (cpu_calls m.rows) p.names l row).0 }) b l (names_row (cpu_calls m.rows) p.names l row).1

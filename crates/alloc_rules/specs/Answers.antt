@@ -12,21 +12,22 @@ use Rattle.heap_rules.specs.New.{none_fits}
 use Rattle.cpu_slab.specs.Slots.{CpuSlab, with_cap}
 use Rattle.cpu_slab.specs.Growth.{used}
 use Rattle.rseq_core.specs.declared.cpu_part.CpuPart.{CpuPart}
-use Rattle.call_steps.specs.declared.step.Step.{Step}
+use Rattle.call_steps.specs.CpuCalls.{cpu_refuses}
+use Rattle.call_steps.specs.PerCpu.{CpuLocal as Local, Step}
 use Rattle.call_steps.specs.declared.step.Step.TheVariants as does
 use Rattle.call_steps.specs.declared.step.CpuRow.TheVariants as front
 use Rattle.call_steps.specs.declared.step.CpuStep.TheVariants as cpu
 use Rattle.call_steps.specs.declared.step.HeapStep.TheVariants as heap
 use Rattle.call_steps.specs.declared.step.Stopping.{Stopping}
 use Rattle.call_steps.specs.declared.step.Resizing.{Resizing}
-use Rattle.call_steps.specs.Local.{Local, class_row}
+use Rattle.call_steps.specs.Local.{Local as AnyLocal, class_row}
 use Rattle.call_steps.specs.Refusals.{is_refusal, may_refuse}
-use Rattle.alloc_rules.specs.declared.part.Part.{Part}
+use Rattle.alloc_rules.specs.PerCpu.{Part, Cpu}
 use Rattle.alloc_rules.specs.declared.part.Part.TheVariants as part
 use Rattle.alloc_rules.specs.Machine.{after}
 
 -- an act decides a call with this answer
-pub record Decides (before after : Local) (answer : Answer) : Type 0 where
+pub record Decides {V R : Type 0} (before after : AnyLocal V R) (answer : Answer) : Type 0 where
   pub call : Call
   pub answers : after.answers ≡ before.answers ++ record { act = before.acts; call = call; answer = answer } ∷ []
 
@@ -42,7 +43,7 @@ AnswersNone rows heap l = (n : ℕ) → pages_asked rows l l.step ≡ Some n →
 
 -- An act that is to stop a CPU answers busy exactly where another thread is the stopper there, and names that one.
 abbrev pub AnswersBusy : List ClassRow → CpuPart → Local → Type 0
-AnswersBusy rows p l = (s : Stopping) (owner : ThreadNo) → l.step ≡ does.Front (front.Cpu (cpu.Stop s)) → Decides l (after rows (part.Cpu p) l).1 (Busy owner) ↔ ((p.stopper ≡ Some owner) × (owner ≢ l.regs.thread))
+AnswersBusy rows p l = (s : Stopping) (owner : ThreadNo) → l.step ≡ does.Front (front.Cpu (cpu.Stop s)) → Decides l (after rows (Cpu p) l).1 (Busy owner) ↔ ((p.stopper ≡ Some owner) × (owner ≢ l.regs.thread))
 
 -- the bytes of all capacities of a CPU, with that of one class set to so many objects
 abbrev pub bytes_with : CpuSlab → Class → ℕ → ℕ
@@ -56,8 +57,8 @@ pub record DecidesCap (before after : Local) (slab : CpuSlab) (k : Class) (n : �
   pub set : Decides before after CapSet ↔ ((n ≤ slab.most) × (bytes_with slab k n ≤ slab.limit))
 
 abbrev pub AnswersCap : List ClassRow → CpuPart → Local → Type 0
-AnswersCap rows p l = (r : Resizing) → l.step ≡ does.Front (front.Cpu (cpu.SetCap r)) → DecidesCap l (after rows (part.Cpu p) l).1 p.slab r.class r.cap
+AnswersCap rows p l = (r : Resizing) → l.step ≡ does.Front (front.Cpu (cpu.SetCap r)) → DecidesCap l (after rows (Cpu p) l).1 p.slab r.class r.cap
 
 -- No act, at whatever part, refuses a call but where its step may.
 abbrev pub RefusesThere : List ClassRow → Local → Type 0
-RefusesThere rows l = (p : Part) (answer : Answer) → is_refusal answer ≡ true → may_refuse l.step answer ≡ false → Decides l (after rows p l).1 answer → ⊥
+RefusesThere rows l = (p : Part) (answer : Answer) → is_refusal answer ≡ true → may_refuse cpu_refuses l.step answer ≡ false → Decides l (after rows p l).1 answer → ⊥

@@ -5,7 +5,7 @@ use Rattle.tc_model.specs.declared.config.Config.{Config}
 use Rattle.tc_model.specs.Input.{Input, labels_of}
 use Rattle.cpu_slab.specs.Slots.{SlabRow, CpuSlab}
 use Rattle.transfer_cache.specs.Transfer.{Transfer}
-use Rattle.call_steps.specs.Local.{Local}
+use Rattle.call_steps.specs.PerCpu.{CpuLocal as Local}
 use Rattle.alloc_rules.specs.Machine.{Parts}
 
 -- there are as many parts, hugepages of the map, names and threads as the table and the heads say

@@ -28,15 +28,17 @@ use Rattle.holdings.specs.Accounts.{Account, loose, in_hand, off_map, transit, u
 use Rattle.holdings.specs.Books.{Setup, Books, class_number, over_classes}
 use Rattle.holdings.specs.Facts.{IsStanding}
 use Rattle.call_steps.specs.declared.step.Step.TheVariants as does
-use Rattle.call_steps.specs.Local.{Local, Decided, told}
+use Rattle.call_steps.specs.PerCpu.{CpuLocal as Local}
+use Rattle.call_steps.specs.Local.{Decided, told}
 use Rattle.call_steps.specs.Calls.{under}
 use Rattle.call_steps.specs.Kept.{call_at}
 use Rattle.call_steps.specs.Shapes.{seat_of}
+use Rattle.call_steps.specs.CpuRows.{about_row}
 use Rattle.alloc_rules.specs.Machine.{Parts, parts_of, heap_config, rules, turns}
 use Rattle.alloc_rules.specs.Fits.{Fits}
 use Rattle.alloc_rules.specs.Heads.{AreAsMany, IsSlabOf, HasRoom}
 use Rattle.alloc_rules.specs.Told.{lines_by, TellsFirst, TellsScript}
-use Rattle.alloc_rules.specs.Accounts.{account_of}
+use Rattle.alloc_rules.specs.CpuAccounts.{account_of}
 use Rattle.alloc_rules.specs.Stocks.{stock_of, IsShardOf}
 use Rattle.alloc_rules.specs.Valid.{IsValid}
 use Rattle.alloc_rules.specs.Answers.{AnswersNone, AnswersBusy, AnswersCap, RefusesThere}
@@ -57,7 +59,7 @@ books_of p locals = record { stock = stock_of p; heap = p.heap.runs; spans = p.m
 -- The decided calls of a local are the first ones of its script: those that ended, and the one under way once it is decided.
 -- A local that has ended stands at its script's end.
 pub record IsAmong (script : List Planned) (l : Local) : Type 0 where
-  pub count : length l.answers ≡ l.ended + under l.step
+  pub count : length l.answers ≡ l.ended + under about_row l.step
   pub each : (j : ℕ) (d : Decided) → slice_get l.answers j ≡ Some d → call_at script j ≡ Some d.call
   pub over : l.step ≡ does.Ended → call_at script l.ended ≡ None
 
@@ -83,7 +85,7 @@ pub record HoldsAfter (input : Input) (order : List ℕ) : Type 0 where
   -- the lines that are told of a thread are its decided calls with their answers, each once, in their order
   pub answers_are_told : (t : ℕ) (l : Local) → slice_get locals t ≡ Some l → lines_by t (calls locals order) ≡ map (told t) l.answers
   -- so the calls that are told of it are the first ones of its script: those that ended, and the one under way once it is decided
-  pub told_first : (t : ℕ) (l : Local) → slice_get locals t ≡ Some l → TellsFirst input t (l.ended + under l.step) (calls locals order)
+  pub told_first : (t : ℕ) (l : Local) → slice_get locals t ≡ Some l → TellsFirst input t (l.ended + under about_row l.step) (calls locals order)
   -- and where its script has ended they are its whole script
   pub told_all : (t : ℕ) (l : Local) → slice_get locals t ≡ Some l → l.step ≡ does.Ended → TellsScript input t (calls locals order)
   -- where all scripts have ended, the calls that are told of each thread are its whole script

@@ -1,7 +1,9 @@
+pub mod PerCpu
 pub mod Machine
 pub mod Fits
 pub mod Heads
 pub mod Accounts
+pub mod CpuAccounts
 pub mod Stocks
 pub mod Acts
 pub mod Valid

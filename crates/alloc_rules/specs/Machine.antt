@@ -1,5 +1,5 @@
 -- The allocator as a machine: its parts by their numbers, its start, and its acts.
-use Rattle.std.specs.Prelude.{ℕ, ◌+◌, ◌*◌, ◌%◌, Bool, true, false, List, [], ◌∷◌, ◌++◌, length, map, replicate, Option, None, option_map}
+use Rattle.std.specs.Prelude.{ℕ, ◌+◌, ◌%◌, nat_lt, if◌then◌else◌, Bool, true, false, List, [], ◌∷◌, ◌++◌, length, map, replicate, Option, None, option_map}
 use Rattle.std.specs.List.{range_with_len, flat_map}
 use Rattle.tc_units.specs.declared.spans.ClassRow.{ClassRow}
 use Rattle.tc_model.specs.declared.config.Config.{Config}
@@ -15,14 +15,19 @@ use Rattle.cpu_slab.specs.Slots as slots
 use Rattle.rseq_core.specs.declared.cpu_part.CpuPart.{CpuPart}
 use Rattle.transfer_cache.specs.Transfer.{Transfer}
 use Rattle.class_shard.specs.Shard.{Shard}
+use Rattle.call_steps.specs.declared.seat.CpuSeat.{CpuSeat}
 use Rattle.call_steps.specs.declared.step.Target.{Target}
 use Rattle.call_steps.specs.declared.step.Target.TheVariants as target
-use Rattle.call_steps.specs.Local.{Local, first_local}
+use Rattle.call_steps.specs.PerCpu.{CpuLocal as Local}
+use Rattle.call_steps.specs.Local.{first_local}
 use Rattle.call_steps.specs.Kept.{target_of}
+use Rattle.call_steps.specs.CpuRows.{cpu_place}
 use Rattle.call_steps.specs.CpuActs.{yields_for}
-use Rattle.call_steps.specs.Acts.{cpu_after, shard_after, heap_after, map_after, names_after, domain_after, waits_for}
-use Rattle.alloc_rules.specs.declared.part.Part.{Part}
-use Rattle.alloc_rules.specs.declared.part.Part.TheVariants.{Cpu, Shard as OfClass, Heap, Map, Names, Domain}
+use Rattle.call_steps.specs.Acts.{shard_after, heap_after, map_after, names_after, waits_for}
+use Rattle.call_steps.specs.CpuCalls.{cpu_calls, cpu_after, domain_after}
+use Rattle.alloc_rules.specs.PerCpu.{Part, Cpu, Domain}
+use Rattle.alloc_rules.specs.declared.part.Part.TheVariants.{Front, Shard as OfClass, Heap, Map, Names}
+use Rattle.alloc_rules.specs.declared.part.CpuFrontPart.TheVariants as at
 
 -- all parts by their types: the CPUs, the shards by classes, the heap, the map, the names, and for each domain its caches by classes
 pub record Parts : Type 0 where
@@ -43,36 +48,35 @@ caches_of domains = flat_map (map Domain) domains
 abbrev pub parts_of : Parts → List Part
 parts_of p = map Cpu p.cpus ++ (map OfClass p.shards ++ (middle_of p ++ caches_of p.domains))
 
--- the number of a part that an act is on, where there are so many CPUs and classes
+-- the number of a part that an act is on, where so many parts of the front-end stand before the shards of so many classes
 abbrev pub number : ℕ → PartNo
 number i = record { 0 = i }
 
 abbrev pub number_of : ℕ → ℕ → Target → PartNo
-number_of cpus classes (target.Cpu c) = number c.0
-number_of cpus classes (target.Shard k) = number (cpus + k.0)
-number_of cpus classes target.Heap = number (cpus + classes)
-number_of cpus classes target.Map = number (cpus + classes + 1)
-number_of cpus classes target.Names = number (cpus + classes + 2)
-number_of cpus classes (target.Domain d k) = number (cpus + classes + 3 + d * classes + k.0)
+number_of split classes (target.Front i) = number (if nat_lt i split then i else i + classes + 3)
+number_of split classes (target.Shard k) = number (split + k.0)
+number_of split classes target.Heap = number (split + classes)
+number_of split classes target.Map = number (split + classes + 1)
+number_of split classes target.Names = number (split + classes + 2)
 
 abbrev pub place_of : ℕ → ℕ → Local → Option PartNo
-place_of cpus classes l = option_map (number_of cpus classes) (target_of l)
+place_of cpus classes l = option_map (number_of cpus classes) (target_of (cpu_place cpus classes) l)
 
 -- the pair that an act leaves, whether it waits, and whether it is polite
 abbrev pub after : List ClassRow → Part → Local → Part × Local
-after rows (Cpu p) l = (Cpu (cpu_after rows p l l.step).0, (cpu_after rows p l l.step).1)
-after rows (OfClass s) l = (OfClass (shard_after rows s l l.step).0, (shard_after rows s l l.step).1)
-after rows (Heap heap) l = (Heap (heap_after rows heap l l.step).0, (heap_after rows heap l l.step).1)
-after rows (Map m) l = (Map (map_after m l l.step).0, (map_after m l l.step).1)
-after rows (Names names) l = (Names (names_after rows names l l.step).0, (names_after rows names l l.step).1)
-after rows (Domain t) l = (Domain (domain_after rows t l l.step).0, (domain_after rows t l l.step).1)
+after rows (Front (at.Cpu p)) l = (Cpu (cpu_after rows p l l.step).0, (cpu_after rows p l l.step).1)
+after rows (OfClass s) l = (OfClass (shard_after (cpu_calls rows) s l l.step).0, (shard_after (cpu_calls rows) s l l.step).1)
+after rows (Heap heap) l = (Heap (heap_after (cpu_calls rows) heap l l.step).0, (heap_after (cpu_calls rows) heap l l.step).1)
+after rows (Map m) l = (Map (map_after (cpu_calls rows) m l l.step).0, (map_after (cpu_calls rows) m l l.step).1)
+after rows (Names names) l = (Names (names_after (cpu_calls rows) names l l.step).0, (names_after (cpu_calls rows) names l l.step).1)
+after rows (Front (at.Domain t)) l = (Domain (domain_after rows t l l.step).0, (domain_after rows t l l.step).1)
 
 abbrev pub waits : Part → Local → Bool
 waits (Names names) l = waits_for names l.step
 waits other l = false
 
 abbrev pub yields : Part → Local → Bool
-yields (Cpu p) l = yields_for p l l.step
+yields (Front (at.Cpu p)) l = yields_for p l l.step
 yields other l = true
 
 -- the limits of the heap of a trace
@@ -80,8 +84,11 @@ abbrev pub heap_config : Config → HeapConfig
 heap_config config = record { huge = config.huge; cache = config.cache; region = config.region; slack = config.slack; window = config.window }
 
 -- a thread of an input: thread t starts at CPU t mod cpus
+abbrev pub first_seat : Config → ℕ → CpuSeat
+first_seat config t = record { cpu = record { 0 = t % config.cpus }; moved = None; domains = config.domains }
+
 abbrev pub first_of : Input → ℕ → Local
-first_of input t = first_local input.rows (record { 0 = t }) (record { 0 = t % input.asked.config.cpus }) (script_of t input.asked.calls) input.asked.config.domains
+first_of input t = first_local (cpu_calls input.rows) (record { 0 = t }) (first_seat input.asked.config t) (script_of t input.asked.calls)
 
 -- the parts at the start
 abbrev pub first_cpu : Input → CpuPart

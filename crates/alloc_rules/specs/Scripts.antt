@@ -8,12 +8,14 @@ use Rattle.tc_model.specs.declared.calls.Planned.{Planned}
 use Rattle.name_table.specs.declared.table.NameState.{NameState}
 use Rattle.name_table.specs.Names.{state_of}
 use Rattle.holdings.specs.Accounts.{asking, publishing, is_out}
-use Rattle.call_steps.specs.declared.step.Step.{Step}
+use Rattle.call_steps.specs.CpuCalls.{cpu_calls}
+use Rattle.call_steps.specs.PerCpu.{CpuLocal as Local, Step}
 use Rattle.call_steps.specs.declared.step.Step.TheVariants as does
-use Rattle.call_steps.specs.Local.{Local, Decided, first_act}
+use Rattle.call_steps.specs.Local.{Decided, first_act}
 use Rattle.call_steps.specs.Calls.{undecided, under}
-use Rattle.call_steps.specs.Kept.{call_at, HasDomain}
-use Rattle.alloc_rules.specs.Accounts.{doing_of}
+use Rattle.call_steps.specs.Kept.{call_at}
+use Rattle.call_steps.specs.CpuRows.{about_row}
+use Rattle.alloc_rules.specs.CpuAccounts.{doing_of}
 
 -- whether a call is under way
 abbrev pub is_under_way : Step → Bool
@@ -25,25 +27,25 @@ is_under_way other = true
 -- script's order.
 pub record IsIn (names : List NameState) (script : List Planned) (l : Local) : Type 0 where
   pub rest : (j : ℕ) → slice_get l.rest j ≡ slice_get script (l.ended + 1 + j)
-  pub call : (c : Call) → undecided l.step ≡ Some c → call_at script l.ended ≡ Some c
+  pub call : (c : Call) → undecided about_row l.step ≡ Some c → call_at script l.ended ≡ Some c
   pub some : is_under_way l.step ≡ true → is_some (call_at script l.ended) ≡ true
   pub none : is_under_way l.step ≡ false → call_at script l.ended ≡ None
   pub out : (j : ℕ) (label : Label) (size : ℕ) → j < l.ended → call_at script j ≡ Some (Malloc label size) → is_out (state_of names label.0) ≡ true
   pub now : (label : Label) (size : ℕ) → call_at script l.ended ≡ Some (Malloc label size) → (is_out (state_of names label.0) ≡ true) ⊎ (0 < asking label.0 (doing_of l.step) + publishing label.0 (doing_of l.step))
-  pub count : length l.answers ≡ l.ended + under l.step
+  pub count : length l.answers ≡ l.ended + under about_row l.step
   pub decided : (j : ℕ) (d : Decided) → slice_get l.answers j ≡ Some d → call_at script j ≡ Some d.call
 
 -- An act within a call decides nothing, or the call under way; one that ends it does so too, or it was decided before.
 abbrev pub GoesOn : Step → Step → List Decided → Type 0
-GoesOn s next [] = (undecided next ≡ undecided s) × (under next ≡ under s)
-GoesOn s next (d ∷ []) = (undecided s ≡ Some d.call) × (undecided next ≡ None) × (under next ≡ 1)
+GoesOn s next [] = (undecided about_row next ≡ undecided about_row s) × (under about_row next ≡ under about_row s)
+GoesOn s next (d ∷ []) = (undecided about_row s ≡ Some d.call) × (undecided about_row next ≡ None) × (under about_row next ≡ 1)
 GoesOn s next (d ∷ e ∷ more) = ⊥
 
 abbrev pub Closes : Step → List Decided → Type 0
-Closes s [] = (under s ≡ 1) × (undecided s ≡ None)
-Closes s (d ∷ []) = undecided s ≡ Some d.call
+Closes s [] = (under about_row s ≡ 1) × (undecided about_row s ≡ None)
+Closes s (d ∷ []) = undecided about_row s ≡ Some d.call
 Closes s (d ∷ e ∷ more) = ⊥
 
 pub data Path (rows : List ClassRow) (l after : Local) : Type 0 where
-  Stays : (new : List Decided) → after.answers ≡ l.answers ++ new → after.seat.domains ≡ l.seat.domains → after.ended ≡ l.ended → after.rest ≡ l.rest → is_under_way after.step ≡ true → HasDomain after.step after.seat.domains → GoesOn l.step after.step new → Path rows l after
-  Comes : (new : List Decided) → after.answers ≡ l.answers ++ new → after.seat.domains ≡ l.seat.domains → after.ended ≡ l.ended + 1 → after.rest ≡ drop 1 l.rest → after.step ≡ first_act rows (slice_get l.rest 0) → Closes l.step new → Path rows l after
+  Stays : (new : List Decided) → after.answers ≡ l.answers ++ new → after.seat.domains ≡ l.seat.domains → after.ended ≡ l.ended → after.rest ≡ l.rest → is_under_way after.step ≡ true → GoesOn l.step after.step new → Path rows l after
+  Comes : (new : List Decided) → after.answers ≡ l.answers ++ new → after.seat.domains ≡ l.seat.domains → after.ended ≡ l.ended + 1 → after.rest ≡ drop 1 l.rest → after.step ≡ first_act (cpu_calls rows) after.seat (slice_get l.rest 0) → Closes l.step new → Path rows l after

@@ -18,9 +18,10 @@ use Rattle.class_shard.specs.Laws.{spans_in, objects_in_spans}
 use Rattle.holdings.specs.Runs.{runs_like, spans_like, spans_at, objects_at}
 use Rattle.holdings.specs.Books.{Setup, Stock, Books, class_number, no_row}
 use Rattle.holdings.specs.Moves.{Said, Move}
-use Rattle.call_steps.specs.Local.{Local, Decided}
+use Rattle.call_steps.specs.PerCpu.{CpuLocal as Local}
+use Rattle.call_steps.specs.Local.{Decided}
 use Rattle.alloc_rules.specs.Machine.{Parts}
-use Rattle.alloc_rules.specs.Accounts.{account_of}
+use Rattle.alloc_rules.specs.CpuAccounts.{account_of}
 
 -- the shard of a class, and the cache of a class in a domain; of a class that isn't there, one without anything
 abbrev pub no_shard : Shard

@@ -11,13 +11,13 @@ use Rattle.rseq_core.specs.declared.answers.Grew.TheVariants as grew
 use Rattle.rseq_core.specs.Acts.{instructed, grew_here}
 use Rattle.call_steps.specs.declared.step.CpuStep.{CpuStep}
 use Rattle.call_steps.specs.declared.step.CpuStep.TheVariants.{Pop, Grow, Stock, Push, PopBatch, Stop, Fence, Take, SetCap, Start, Leave}
-use Rattle.call_steps.specs.declared.step.Step.{Step}
+use Rattle.call_steps.specs.PerCpu.{CpuLocal as Local, Step}
 use Rattle.call_steps.specs.declared.step.Step.TheVariants as step
 use Rattle.call_steps.specs.declared.step.CpuRow.TheVariants as front
-use Rattle.call_steps.specs.Local.{Local}
 use Rattle.call_steps.specs.CpuActs.{due}
-use Rattle.alloc_rules.specs.declared.part.Part.{Part}
-use Rattle.alloc_rules.specs.declared.part.Part.TheVariants.{Cpu}
+use Rattle.alloc_rules.specs.PerCpu.{Part, }
+use Rattle.alloc_rules.specs.declared.part.Part.TheVariants.{Front}
+use Rattle.alloc_rules.specs.declared.part.CpuFrontPart.TheVariants as at
 
 -- what an act is at a CPU: In; an exit, a commit, Grow, Leave or Back, by which what is open there may end; or neither
 pub data Kind : Type 0 where
@@ -61,7 +61,7 @@ step_kind p l other = neither
 
 -- the act of a local at a part, which may be none or no CPU
 abbrev pub act_kind : Local → Option Part → Kind
-act_kind l (Some (Cpu p)) = step_kind p l l.step
+act_kind l (Some (Front (at.Cpu p))) = step_kind p l l.step
 act_kind l other = neither
 
 -- what a pick of a thread is at CPU c

@@ -5,7 +5,7 @@ ghost use Rattle.alloc_rules.specs.Law.{InEveryOrder};
 
 mod part;
 
-pub use part::Part;
+pub use part::{CpuFrontPart, Part};
 
 /// For every class table, every valid trace of calls by any threads, and every order of their picks: each
 /// pick finds a part that fits, whichever instruction an abort, a migration, a stop or a fence comes before,

@@ -14,7 +14,7 @@ use Rattle.cpu_drain.proofs.Lawful.{sets}
 use Rattle.call_steps.specs.declared.step.Step.TheVariants as does
 use Rattle.call_steps.specs.declared.step.CpuRow.TheVariants as front
 use Rattle.call_steps.specs.declared.step.CpuStep.{CpuStep}
-use Rattle.call_steps.specs.Local.{Local}
+use Rattle.call_steps.specs.PerCpu.{CpuLocal as Local}
 use Rattle.call_steps.specs.Shapes.{stands, seat_of, standing_of, standing_in, cpu_standing, Limits, IsShaped, CpuShape}
 use Rattle.call_steps.specs.Laws.{thread_no, IsAtCpu}
 use Rattle.call_steps.proofs.NextShapes.{IsNext, seat_is, shape_at}

@@ -1,5 +1,5 @@
 -- What an act of the per-CPU caches hands on may come next in its call.
-use Rattle.std.proofs.Common.{◌≡◌, refl, ℕ, zero, suc, ◌+◌, ◌<◌, true, false, eqb, List, [], ◌∷◌, length, Option, Some, None, ap, sym, subst, arith}
+use Rattle.std.proofs.Common.{◌≡◌, refl, ℕ, ◌+◌, ◌<◌, true, false, eqb, List, [], ◌∷◌, length, Option, Some, None, ap, sym, subst, ◌∙◌, arith}
 use Rattle.std.specs.Prelude.{is_some}
 use Rattle.std.proofs.lemmas.Bool.{cond_both}
 use Rattle.std.proofs.lemmas.List.{length-append}
@@ -28,6 +28,7 @@ use Rattle.rseq_core.specs.Bags.{appended, emptied}
 use Rattle.cpu_drain.specs.Drains as drains
 use Rattle.transfer_cache.specs.Transfer.{Transfer, last_first}
 use Rattle.holdings.specs.Moves.{IsOther}
+use Rattle.call_steps.specs.CpuCalls.{cpu_refuses, cpu_calls}
 use Rattle.call_steps.specs.declared.seat.CpuSeat.{CpuSeat}
 use Rattle.call_steps.specs.declared.step.Asking.{Asking}
 use Rattle.call_steps.specs.declared.step.Serving.{Serving}
@@ -37,10 +38,9 @@ use Rattle.call_steps.specs.declared.step.Resizing.{Resizing}
 use Rattle.call_steps.specs.declared.step.Stopping.{Stopping}
 use Rattle.call_steps.specs.declared.step.Stopping.TheVariants as stopping
 use Rattle.call_steps.specs.declared.step.Giving.{Giving}
+use Rattle.call_steps.specs.PerCpu.{CpuLocal as Local, Next, Step}
 use Rattle.call_steps.specs.declared.step.Giving.TheVariants as giving
-use Rattle.call_steps.specs.declared.step.Next.{Next}
 use Rattle.call_steps.specs.declared.step.Next.TheVariants as next
-use Rattle.call_steps.specs.declared.step.Step.{Step}
 use Rattle.call_steps.specs.declared.step.Step.TheVariants as does
 use Rattle.call_steps.specs.declared.step.CpuRow.{CpuRow}
 use Rattle.call_steps.specs.declared.step.CpuRow.TheVariants as front
@@ -48,17 +48,21 @@ use Rattle.call_steps.specs.declared.step.CpuStep.{CpuStep}
 use Rattle.call_steps.specs.declared.step.CpuStep.TheVariants as cpu
 use Rattle.call_steps.specs.declared.step.DomainStep.{DomainStep}
 use Rattle.call_steps.specs.declared.step.DomainStep.TheVariants as domain
-use Rattle.call_steps.specs.Local.{Local, row_of, decided, ends}
-use Rattle.call_steps.specs.Calls.{Asks, Other, call_of, about_cpu, about_row, about_giving}
+use Rattle.call_steps.specs.Local.{row_of, decided, ends}
+use Rattle.call_steps.specs.Calls.{Asks, Other, about_giving}
 use Rattle.call_steps.specs.CpuActs.{Left, looks_on, gives, due, after_pop, after_stock, after_push, replied, instructed_to, sequence_by, grew_to, stops, drains_on, drained, took, cap_answer, gives_taken, started, left_for, cpu_acts, takes, fits_into, put_in, domain_acts}
-use Rattle.call_steps.specs.Refusals.{is_refusal, may_refuse}
+use Rattle.call_steps.specs.Refusals.{is_refusal}
 use Rattle.call_steps.specs.Follows.{HasObject, ComesWith, MayFollow, follows}
 use Rattle.call_steps.specs.Fits.{FitsCpu, FitsDomain}
 use Rattle.call_steps.proofs.NextShapes.{drains_about}
+use Rattle.call_steps.specs.CpuRows.{about_cpu, about_row, call_of, as_row}
 
-some_domain : (n : ℕ) → eqb n 0 ≡ false → 0 < n
-some_domain zero is = absurd (cc)
-some_domain (suc n) is = omega arith
+-- what is given away is about the same as the calls have it
+pub row_about : (g : Giving CpuStep) → about_giving about_row (as_row g) ≡ about_giving about_cpu g
+row_about (giving.Rest s) = refl
+row_about (giving.Freed f) = refl
+row_about (giving.Row k row) = refl
+row_about giving.End = refl
 
 -- refusals of a call that stops a CPU, and of a capacity
 pub busy_other : (s : Stopping) (owner : ThreadNo) → IsOther (call_of s) (Busy owner)
@@ -72,18 +76,18 @@ cap_other r (Some (fault.OverLimit sum)) = tt
 
 module _ (Serves : Regs → Type 0) (rows : List ClassRow) (v : CpuSeat) where
   abbrev May : CpuRow → Regs × Next → Type 0
-  May row n = ComesWith Serves row v.domains n.0 n.1
+  May row n = ComesWith about_row cpu_refuses Serves row n.0 n.1
 
   looks_may : (row : CpuRow) (r : Regs) (a : Asking) → about_row row ≡ Asks a → May row (r, looks_on v a)
-  looks_may row r a is = cond_both (eqb v.domains 0) (next.Fetch a) (next.Row (front.Domain (domain.Take a))) (λ (n : Next). May row (r, n)) (λ e. is) (λ e. (sym is, some_domain v.domains e))
+  looks_may row r a is = cond_both (eqb v.domains 0) (next.Fetch a) (next.Row (front.Domain (domain.Take a))) (λ (n : Next). May row (r, n)) (λ e. is) (λ e. sym is)
 
-  gives_may : (row : CpuRow) (r : Regs) (g : Giving) → about_row row ≡ about_giving g → May row (r, gives v g)
-  gives_may row r g is = cond_both (eqb v.domains 0) (next.Give g) (next.Row (front.Domain (domain.Put g))) (λ (n : Next). May row (r, n)) (λ e. is) (λ e. (sym is, some_domain v.domains e))
+  gives_may : (row : CpuRow) (r : Regs) (g : Giving CpuStep) → about_row row ≡ about_giving about_cpu g → May row (r, gives v g)
+  gives_may row r g is = cond_both (eqb v.domains 0) (next.Give (as_row g)) (next.Row (front.Domain (domain.Put g))) (λ (n : Next). May row (r, n)) (λ e. is ∙ sym (row_about g)) (λ e. sym is)
 
   -- a sequence, where a pop that commits serves its allocation
   pop_may : (r : Regs) (a : Asking) (o : Reply) → (o ≡ reply.Popped → Serves r) → May (front.Cpu (cpu.Pop a)) (r, after_pop v a o)
   pop_may r a reply.Popped some = (refl, some refl)
-  pop_may r a reply.Empty some = (refl, tt)
+  pop_may r a reply.Empty some = refl
   pop_may r a reply.Stopped some = looks_may (front.Cpu (cpu.Pop a)) r a refl
   pop_may r a reply.Full some = looks_may (front.Cpu (cpu.Pop a)) r a refl
   pop_may r a (reply.Pushed n) some = looks_may (front.Cpu (cpu.Pop a)) r a refl
@@ -94,7 +98,7 @@ module _ (Serves : Regs → Type 0) (rows : List ClassRow) (v : CpuSeat) where
 
   push_may : (r : Regs) (f : Freeing) (o : Reply) → May (front.Cpu (cpu.Push f)) (after_push rows v r f o)
   push_may r f (reply.Pushed n) = refl
-  push_may r f reply.Full = (refl, tt)
+  push_may r f reply.Full = refl
   push_may r f reply.Stopped = gives_may (front.Cpu (cpu.Push f)) r (giving.Freed f) refl
   push_may r f reply.Empty = gives_may (front.Cpu (cpu.Push f)) r (giving.Freed f) refl
   push_may r f reply.Popped = gives_may (front.Cpu (cpu.Push f)) r (giving.Freed f) refl
@@ -104,39 +108,39 @@ module _ (Serves : Regs → Type 0) (rows : List ClassRow) (v : CpuSeat) where
   replied_may r (cpu.Stock s) o some = stock_may r s r.hand.items
   replied_may r (cpu.Push f) o some = push_may r f o
   replied_may r (cpu.PopBatch f) o some = gives_may (front.Cpu (cpu.PopBatch f)) r (giving.Freed f) refl
-  replied_may r (cpu.Grow a) o some = (refl, tt)
-  replied_may r (cpu.Stop s) o some = (refl, tt)
-  replied_may r (cpu.Fence s) o some = (refl, tt)
-  replied_may r (cpu.Take s) o some = (refl, tt)
-  replied_may r (cpu.SetCap x) o some = (refl, tt)
-  replied_may r (cpu.Start s) o some = (refl, tt)
-  replied_may r cpu.Leave o some = (refl, tt)
+  replied_may r (cpu.Grow a) o some = refl
+  replied_may r (cpu.Stop s) o some = refl
+  replied_may r (cpu.Fence s) o some = refl
+  replied_may r (cpu.Take s) o some = refl
+  replied_may r (cpu.SetCap x) o some = refl
+  replied_may r (cpu.Start s) o some = refl
+  replied_may r cpu.Leave o some = refl
 
   instructed_may : (r : Regs) (row : CpuStep) (x : Instructed) → ((a : Asking) → row ≡ cpu.Pop a → x ≡ instructed.Done reply.Popped → Serves r) → May (front.Cpu row) (instructed_to rows v r row x)
-  instructed_may r row instructed.In some = (refl, tt)
-  instructed_may r row instructed.Back some = (refl, tt)
-  instructed_may r row instructed.Ran some = (refl, tt)
+  instructed_may r row instructed.In some = refl
+  instructed_may r row instructed.Back some = refl
+  instructed_may r row instructed.Ran some = refl
   instructed_may r row (instructed.Done o) some = replied_may r row o (λ a pops popped. some a pops (ap (λ (y : Reply). instructed.Done y) popped))
 
   grew_may : (r : Regs) (a : Asking) (x : Grew) → May (front.Cpu (cpu.Grow a)) (r, grew_to v a x)
-  grew_may r a grew.In = (refl, tt)
-  grew_may r a grew.Back = (refl, tt)
+  grew_may r a grew.In = refl
+  grew_may r a grew.Back = refl
   grew_may r a grew.Done = looks_may (front.Cpu (cpu.Grow a)) r a refl
 
   -- a thread that stops a CPU
   stop_may : (p : CpuPart) (r : Regs) (s : Stopping) (o : Option ThreadNo) → May (front.Cpu (cpu.Stop s)) (r, (stops p r.thread s o).1)
-  stop_may p r s None = (refl, tt)
+  stop_may p r s None = refl
   stop_may p r s (Some owner) = (busy_other s owner, λ refusal. refl, tt)
 
   drained_may : (r : Regs) (d : Draining) (hand : List Addr) (to : Class × CpuStep) → about_cpu to.1 ≡ Other (Some (Drain d.cpu)) → May (front.Cpu (cpu.Take (stopping.Drain d))) (drained v r hand to)
-  drained_may r d [] to is = (is, tt)
+  drained_may r d [] to is = is
   drained_may r d (a ∷ others) to is = gives_may (front.Cpu (cpu.Take (stopping.Drain d))) r (giving.Row to.0 to.1) (sym is)
 
   took_may : (r : Regs) (s : Stopping) → May (front.Cpu (cpu.Take s)) (took rows v r s)
   took_may r (stopping.Drain d) = let d' : Draining = record d { taken = d.taken + length r.hand.items } in drained_may r d r.hand.items (drains_on rows r.class d') (drains_about rows r.class d')
-  took_may r (stopping.Resize x) = (refl, tt)
+  took_may r (stopping.Resize x) = refl
 
-  cap_may : (x : Resizing) (o : Option CapFault) → is_refusal (cap_answer o) ≡ true → may_refuse (does.Front (front.Cpu (cpu.SetCap x))) (cap_answer o) ≡ true
+  cap_may : (x : Resizing) (o : Option CapFault) → is_refusal (cap_answer o) ≡ true → cpu_refuses (front.Cpu (cpu.SetCap x)) (cap_answer o) ≡ true
   cap_may x None refusal = absurd (cc)
   cap_may x (Some (fault.OverStatic most)) refusal = refl
   cap_may x (Some (fault.OverLimit sum)) refusal = refl
@@ -151,11 +155,11 @@ module _ (Serves : Regs → Type 0) (rows : List ClassRow) (v : CpuSeat) where
 
   -- by the move, with which the number of domains stays
   abbrev pub MayCome : {P : Type 0} → CpuRow → Left P → Type 0
-  MayCome row x = ComesWith Serves row x.seat.domains x.regs x.next × (x.seat.domains ≡ v.domains)
+  MayCome row x = ComesWith about_row cpu_refuses Serves row x.regs x.next × (x.seat.domains ≡ v.domains)
 
   sequence_comes : (p : CpuPart) (r : Regs) (row : CpuStep) (o : Option MoveTo) → (let x = rseq.instructed p r in (a : Asking) → row ≡ cpu.Pop a → x.answer ≡ instructed.Done reply.Popped → Serves x.regs) → MayCome (front.Cpu row) (sequence_by rows p v r row o)
   sequence_comes p r row None some = (instructed_may (rseq.instructed p r).regs row (rseq.instructed p r).answer some, refl)
-  sequence_comes p r row (Some move) some = ((refl, tt), refl)
+  sequence_comes p r row (Some move) some = (refl, refl)
 
   leave_comes : (p : CpuPart) (r : Regs) (o : Option MoveTo) → MayCome (front.Cpu cpu.Leave) (left_for p v r o)
   leave_comes p r None = (refl, refl)
@@ -168,9 +172,9 @@ module _ (Serves : Regs → Type 0) (rows : List ClassRow) (v : CpuSeat) where
   cpu_comes p r (cpu.Push f) some = sequence_comes p r (cpu.Push f) (due v.moved r.ran) some
   cpu_comes p r (cpu.PopBatch f) some = sequence_comes p r (cpu.PopBatch f) (due v.moved r.ran) some
   cpu_comes p r (cpu.Stop s) some = (stop_may p r s p.stopper, refl)
-  cpu_comes p r (cpu.Fence s) some = ((refl, tt), refl)
+  cpu_comes p r (cpu.Fence s) some = (refl, refl)
   cpu_comes p r (cpu.Take s) some = (took_may (record r { hand = drains.taken_to p r.class.0 r.hand }) s, refl)
-  cpu_comes p r (cpu.SetCap x) some = ((cap_other x (cap_fault p.slab r.class.0 x.cap), cap_may x (cap_fault p.slab r.class.0 x.cap), (refl, tt)), refl)
+  cpu_comes p r (cpu.SetCap x) some = ((cap_other x (cap_fault p.slab r.class.0 x.cap), cap_may x (cap_fault p.slab r.class.0 x.cap), refl), refl)
   cpu_comes p r (cpu.Start s) some = (started_may r s, refl)
   cpu_comes p r cpu.Leave some = leave_comes p r v.moved
 
@@ -182,7 +186,8 @@ module _ (Serves : Regs → Type 0) (rows : List ClassRow) (v : CpuSeat) where
   pub domain_comes : (t : Transfer) (r : Regs) (row : DomainStep) → ((a : Asking) (objects : List Addr) → row ≡ domain.Take a → 0 < length objects → Serves (record r { hand = appended r.hand objects })) → MayCome (front.Domain row) (domain_acts rows t v r row)
   domain_comes t r (domain.Take a) some = let objects : List Addr = last_first (row_of rows r.class).batch t.objects in (takes_may r a objects (some a objects refl), refl)
   domain_comes t r (domain.Put g) some =
-      (cond_both (fits_into t r.hand.items) (put_in t r.hand.items, record r { hand = emptied r.hand }, next.Gave g) (t, r, next.Give g) (λ (z : Transfer × Regs × Next). May (front.Domain (domain.Put g)) (z.1, z.2)) (λ e. refl) (λ e. refl), refl)
+      (cond_both (fits_into t r.hand.items) (put_in t r.hand.items, record r { hand = emptied r.hand }, next.Gave (as_row g)) (t, r, next.Give (as_row g)) (λ (z : Transfer × Regs × Next). May (front.Domain (domain.Put g)) (z.1, z.2))
+      (λ e. sym (row_about g)) (λ e. sym (row_about g)), refl)
 
 -- Where the act fits, an allocation is served with an object in hand.
 module _ (rows : List ClassRow) (v : CpuSeat) where
@@ -198,13 +203,13 @@ module _ (rows : List ClassRow) (v : CpuSeat) where
       (let own : FitsDomain rows r (domain.Take a) = subst (FitsDomain rows r) is fits in (omega (arith, length-append r.hand.items objects, some), own.0.class)))
 
 -- So it may follow at the row's step.
-pub cpu_follows : (rows : List ClassRow) (p : CpuPart) (v v' : CpuSeat) (r r' : Regs) (row : CpuStep) (s : Step) (n : Next) → s ≡ does.Front (front.Cpu row) → FitsCpu rows p v r row → (let x = cpu_acts rows p v r row in v' ≡ x.seat → r' ≡ x.regs → n ≡ x.next → MayFollow rows s v'.domains r' n)
-cpu_follows rows p v v' r r' row s n is fits seat regs come =
+pub cpu_follows : (rows : List ClassRow) (p : CpuPart) (v : CpuSeat) (r r' : Regs) (row : CpuStep) (s : Step) (n : Next) → s ≡ does.Front (front.Cpu row) → FitsCpu rows p v r row → (let x = cpu_acts rows p v r row in r' ≡ x.regs → n ≡ x.next → MayFollow about_row cpu_refuses rows s r' n)
+cpu_follows rows p v r r' row s n is fits regs come =
     let x = cpu_acts rows p v r row in
-    subst (λ (t : Step). MayFollow rows t v'.domains r' n) (sym is)
-    (subst (λ (u : CpuSeat). ComesWith (HasObject rows) (front.Cpu row) u.domains r' n) (sym seat) (subst (λ (q : Regs). ComesWith (HasObject rows) (front.Cpu row) x.seat.domains q n) (sym regs) (subst (ComesWith (HasObject rows) (front.Cpu row) x.seat.domains x.regs) (sym come) (cpu_may rows v p r row fits).0)))
+    subst (λ (t : Step). MayFollow about_row cpu_refuses rows t r' n) (sym is)
+    (subst (λ (q : Regs). ComesWith about_row cpu_refuses (HasObject rows) (front.Cpu row) q n) (sym regs) (subst (ComesWith about_row cpu_refuses (HasObject rows) (front.Cpu row) x.regs) (sym come) (cpu_may rows v p r row fits).0))
 
 -- A call that was undecided is decided, and ends.
-pub ends_by : (rows : List ClassRow) (l new : Local) (o : Option Call) (answer : Answer) → is_some o ≡ true → ((call : Call) → o ≡ Some call → new ≡ ends rows (decided l call answer)) → new ≡ follows rows l o (next.Decide answer None)
+pub ends_by : (rows : List ClassRow) (l new : Local) (o : Option Call) (answer : Answer) → is_some o ≡ true → ((call : Call) → o ≡ Some call → new ≡ ends (cpu_calls rows) (decided l call answer)) → new ≡ follows (cpu_calls rows) l o (next.Decide answer None)
 ends_by rows l new None answer some made = absurd (cc)
 ends_by rows l new (Some call) answer some made = made call refl

@@ -11,61 +11,48 @@ use Rattle.tc_model.specs.declared.answers.Answered.{Answered}
 use Rattle.tc_model.specs.declared.calls.Call.{Call}
 use Rattle.tc_model.specs.declared.calls.Call.TheVariants.{Malloc, Free, Release, Drain, Resize}
 use Rattle.tc_model.specs.declared.calls.Planned.{Planned}
+use Rattle.call_steps.specs.declared.seat.CpuSeat.{CpuSeat}
+use Rattle.call_steps.specs.CpuCalls.{cpu_calls}
 use Rattle.call_steps.specs.Local.{Decided, first_of_malloc, first_of_call, first_act}
 use Rattle.call_steps.specs.Calls.{undecided, under, without_call, IsOf}
-use Rattle.call_steps.specs.declared.step.Step.{Step}
+use Rattle.call_steps.specs.PerCpu.{Step}
 use Rattle.call_steps.specs.declared.step.Step.TheVariants as does
 use Rattle.call_steps.specs.declared.step.CpuRow.TheVariants as front
-use Rattle.call_steps.specs.Kept.{decided_by, call_at, HasDomain, IsKept}
+use Rattle.call_steps.specs.Kept.{decided_by, call_at, IsKept}
+use Rattle.call_steps.specs.CpuRows.{about_row}
 
 without : (o : Option Call) → is_some o ≡ true → without_call o ≡ 0
 without None is = absurd (cc)
 without (Some call) is = refl
 
 -- a call that isn't decided isn't counted as one that is
-pub undecided_under : (s : Step) → is_some (undecided s) ≡ true → under s ≡ 0
-undecided_under (does.Front (front.Cpu row)) is = without (undecided (does.Front (front.Cpu row))) is
-undecided_under (does.Front (front.Domain row)) is = without (undecided (does.Front (front.Domain row))) is
-undecided_under (does.Shard row) is = without (undecided (does.Shard row)) is
-undecided_under (does.Heap row) is = without (undecided (does.Heap row)) is
-undecided_under (does.Map row) is = without (undecided (does.Map row)) is
-undecided_under (does.Names row) is = without (undecided (does.Names row)) is
+pub undecided_under : (s : Step) → is_some (undecided about_row s) ≡ true → under about_row s ≡ 0
+undecided_under (does.Front row) is = without (undecided about_row (does.Front row)) is
+undecided_under (does.Shard row) is = without (undecided about_row (does.Shard row)) is
+undecided_under (does.Heap row) is = without (undecided about_row (does.Heap row)) is
+undecided_under (does.Map row) is = without (undecided about_row (does.Map row)) is
+undecided_under (does.Names row) is = without (undecided about_row (does.Names row)) is
 undecided_under does.Ended is = absurd (cc)
 
 -- the first act of a call is of that call, and decides nothing before it is done
-of_malloc : (k : Option Class) (label : Label) (size : ℕ) → undecided (first_of_malloc k label size) ≡ Some (Malloc label size)
-of_malloc None label size = refl
-of_malloc (Some k) label size = refl
+of_malloc : (rows : List ClassRow) (v : CpuSeat) (k : Option Class) (label : Label) (size : ℕ) → undecided about_row (first_of_malloc (cpu_calls rows) v k label size) ≡ Some (Malloc label size)
+of_malloc rows v None label size = refl
+of_malloc rows v (Some k) label size = refl
 
-of_call : (rows : List ClassRow) (c : Call) → undecided (first_of_call rows c) ≡ Some c
-of_call rows (Malloc label size) = of_malloc (class_of rows size) label size
-of_call rows (Free label) = refl
-of_call rows (Release pages) = refl
-of_call rows (Drain cpu) = refl
-of_call rows (Resize cpu class cap) = refl
+of_call : (rows : List ClassRow) (v : CpuSeat) (c : Call) → undecided about_row (first_of_call (cpu_calls rows) v c) ≡ Some c
+of_call rows v (Malloc label size) = of_malloc rows v (class_of rows size) label size
+of_call rows v (Free label) = refl
+of_call rows v (Release pages) = refl
+of_call rows v (Drain cpu) = refl
+of_call rows v (Resize cpu class cap) = refl
 
-pub first_is_of : (rows : List ClassRow) (o : Option Planned) → IsOf (first_act rows o) (option_map (λ (p : Planned). p.call) o)
-first_is_of rows None = λ c is. absurd (cc)
-first_is_of rows (Some p) = λ c is. sym (of_call rows p.call) ∙ is
+pub first_is_of : (rows : List ClassRow) (v : CpuSeat) (o : Option Planned) → IsOf about_row (first_act (cpu_calls rows) v o) (option_map (λ (p : Planned). p.call) o)
+first_is_of rows v None = λ c is. absurd (cc)
+first_is_of rows v (Some p) = λ c is. sym (of_call rows v p.call) ∙ is
 
-pub first_under : (rows : List ClassRow) (o : Option Planned) → under (first_act rows o) ≡ 0
-first_under rows None = refl
-first_under rows (Some p) = undecided_under (first_of_call rows p.call) (ap is_some (of_call rows p.call))
-
-domain_malloc : (k : Option Class) (label : Label) (size n : ℕ) → HasDomain (first_of_malloc k label size) n
-domain_malloc None label size n = tt
-domain_malloc (Some k) label size n = tt
-
-domain_call : (rows : List ClassRow) (c : Call) (n : ℕ) → HasDomain (first_of_call rows c) n
-domain_call rows (Malloc label size) n = domain_malloc (class_of rows size) label size n
-domain_call rows (Free label) n = tt
-domain_call rows (Release pages) n = tt
-domain_call rows (Drain cpu) n = tt
-domain_call rows (Resize cpu class cap) n = tt
-
-pub first_domain : (rows : List ClassRow) (o : Option Planned) (n : ℕ) → HasDomain (first_act rows o) n
-first_domain rows None n = tt
-first_domain rows (Some p) n = domain_call rows p.call n
+pub first_under : (rows : List ClassRow) (v : CpuSeat) (o : Option Planned) → under about_row (first_act (cpu_calls rows) v o) ≡ 0
+first_under rows v None = refl
+first_under rows v (Some p) = undecided_under (first_of_call (cpu_calls rows) v p.call) (ap is_some (of_call rows v p.call))
 
 -- one answer more decides the call behind those that were answered
 pub decided_more : (script : List Planned) (answers : List Answered) (a : Answered) (call : Call) → call_at script (length answers) ≡ Some call → decided_by script (answers ++ a ∷ []) ≡ decided_by script answers ++ record { act = a.act; call = call; answer = a.answer } ∷ []
@@ -75,15 +62,14 @@ decided_more (p ∷ ps) [] a call at = cc
 decided_more (p ∷ ps) (b ∷ bs) a call at = ap (λ ds. record { act = b.act; call = p.call; answer = b.answer } ∷ ds) (decided_more ps bs a call at)
 
 -- what the code keeps, once the thread has come to a call
-pub kept_at : (rows : List ClassRow) (script : List Planned) (place : ℕ) (next : Step) (answers : Contents Answered) (domains : ℕ) → place ≤ length script → length script < 2 ^ 64 → length answers.items ≡ place → length answers.items + answers.spare ≡ length script → next ≡ first_act rows (slice_get script place) → IsKept script place next answers domains
-kept_at rows script place next answers domains within few count room is =
+pub kept_at : (rows : List ClassRow) (v : CpuSeat) (script : List Planned) (place : ℕ) (next : Step) (answers : Contents Answered) → place ≤ length script → length script < 2 ^ 64 → length answers.items ≡ place → length answers.items + answers.spare ≡ length script → next ≡ first_act (cpu_calls rows) v (slice_get script place) → IsKept script place next answers
+kept_at rows v script place next answers within few count room is =
     record {
       within = within;
       few = few;
-      count = omega (arith, count, ap under is, first_under rows (slice_get script place));
+      count = omega (arith, count, ap (under about_row) is, first_under rows v (slice_get script place));
       room = room;
-      call = subst (λ s. IsOf s (call_at script place)) (sym is) (first_is_of rows (slice_get script place));
-      domain = subst (λ s. HasDomain s domains) (sym is) (first_domain rows (slice_get script place) domains);
+      call = subst (λ s. IsOf about_row s (call_at script place)) (sym is) (first_is_of rows v (slice_get script place));
     }
 
 -- the decided calls are told by the answers and the script

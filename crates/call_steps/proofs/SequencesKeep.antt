@@ -31,21 +31,23 @@ use Rattle.call_steps.specs.declared.step.Asking.{Asking}
 use Rattle.call_steps.specs.declared.step.Serving.{Serving}
 use Rattle.call_steps.specs.declared.step.Freeing.{Freeing}
 use Rattle.call_steps.specs.declared.step.Giving.TheVariants as giving
-use Rattle.call_steps.specs.declared.step.Step.{Step}
+use Rattle.call_steps.specs.PerCpu.{CpuLocal as Local, Step}
 use Rattle.call_steps.specs.declared.step.Step.TheVariants as does
 use Rattle.call_steps.specs.declared.step.CpuRow.TheVariants as front
 use Rattle.call_steps.specs.declared.step.CpuStep.{CpuStep}
 use Rattle.call_steps.specs.declared.step.CpuStep.TheVariants as cpu
-use Rattle.call_steps.specs.Local.{Local, no_class, class_row, goes}
-use Rattle.call_steps.specs.Calls.{asks, frees, about_cpu, call_about}
-use Rattle.call_steps.specs.Hands.{with_regs, starts}
+use Rattle.call_steps.specs.Local.{no_class, class_row, goes}
+use Rattle.call_steps.specs.Calls.{asks, frees, call_about}
+use Rattle.call_steps.specs.Hands.{with_regs}
 use Rattle.call_steps.specs.CpuActs.{looks_on, gives, at_cpu_next, is_due, due, moves_to, leaves, after_stock, replied, instructed_to, sequence_by, sequence, grew_to, grows}
-use Rattle.call_steps.specs.Follows.{follows, with_next}
+use Rattle.call_steps.specs.Follows.{follows}
+use Rattle.call_steps.specs.CpuCalls.{cpu_calls, with_next, starts}
 use Rattle.call_steps.specs.Fits.{FitsSequence, PopsSome}
 use Rattle.call_steps.specs.Shapes.{standing_of, cpu_standing, seat_of, AreRows, Limits, IsMove, most_slots, IsAsked, BeginsWith, IsAtBegin, HasNone, CpuShape, IsShaped}
 use Rattle.call_steps.specs.Laws.{thread_no, IsAtCpu}
 use Rattle.call_steps.proofs.NextShapes.{IsCommon, common_of, IsNext, goes_next, none_still, looks_next, publishes_next, gives_next, serves_next, decided_ends, row_there}
 use Rattle.call_steps.proofs.ActKeeps.{ActKeeps, thread_is, act_next, home_of, agrees_of, shape_of, left_epoch}
+use Rattle.call_steps.specs.CpuRows.{about_cpu}
 
 -- A local with the registers behind an instruction has all that is common.
 regs_common : (m : Limits) (t : ℕ) (l : Local) (r : Regs) → IsShaped m t l → AreOfSame l.regs r → r.ran ≤ l.regs.ran + 1 → IsCommon m t (with_regs l r)
@@ -68,10 +70,10 @@ Stays m l row = (new : Local) → new.regs.seq ≡ l.regs.seq → new.regs.class
 
 -- what a call does with a reply, and with an instruction
 abbrev replied_in : List ClassRow → Local → CpuStep → Reply → Local
-replied_in rows l row o = let n = replied rows l.seat l.regs row o in follows rows (with_regs l n.0) (call_about (about_cpu row)) n.1
+replied_in rows l row o = let n = replied rows l.seat l.regs row o in follows (cpu_calls rows) (with_regs l n.0) (call_about (about_cpu row)) n.1
 
 abbrev instructed_in : List ClassRow → Local → CpuStep → Instructed → Local
-instructed_in rows l row a = let n = instructed_to rows l.seat l.regs row a in follows rows (with_regs l n.0) (call_about (about_cpu row)) n.1
+instructed_in rows l row a = let n = instructed_to rows l.seat l.regs row a in follows (cpu_calls rows) (with_regs l n.0) (call_about (about_cpu row)) n.1
 
 -- the first leaves its local a shape
 abbrev pub Replies : Limits → ℕ → Local → CpuStep → Type 0
@@ -216,7 +218,7 @@ reply_few old new r after reply.Full moves = omega (arith, ap length moves.hand)
 reply_few old new r after reply.Popped moves = omega (arith, ap length moves.hand, length-append r.hand.items moves.got, moves.few)
 reply_few old new r after (reply.Pushed n) moves = omega (arith, ap length moves.hand, length-drop n r.hand.items)
 
-rest_next : (m : Limits) (t : ℕ) (l : Local) (s : Serving) (xs : List Addr) → l.regs.hand.items ≡ xs → length l.regs.hand.items ≤ most_slots → IsCommon m t l → IsAtBegin l.regs → l.freed.items ≡ [] → IsNext m t l.seat.cpu l.regs.epoch None (follows m.rows l None (after_stock l.seat s xs))
+rest_next : (m : Limits) (t : ℕ) (l : Local) (s : Serving) (xs : List Addr) → l.regs.hand.items ≡ xs → length l.regs.hand.items ≤ most_slots → IsCommon m t l → IsAtBegin l.regs → l.freed.items ≡ [] → IsNext m t l.seat.cpu l.regs.epoch None (follows (cpu_calls m.rows) l None (after_stock l.seat s xs))
 rest_next m t l s [] is few c begin freed = publishes_next m t l s c (record { begin = begin; hand = is; freed = freed })
 rest_next m t l s (x ∷ xs) is few c begin freed = gives_next m t l (giving.Rest s) None c (record { begin = begin; few = few; freed = freed }) tt
 
@@ -234,7 +236,7 @@ push_stays : (m : Limits) (l : Local) (f : Freeing) → CpuShape m l (cpu.Push f
 push_stays m l f shape new e class hand freed = (record { seq = e ∙ shape.0.seq; freed = freed ∙ shape.0.freed }, hand ∙ shape.1)
 
 -- the object of a free is given away with what is behind it
-freed_next : (m : Limits) (t : ℕ) (l : Local) (f : Freeing) (others : List Addr) → l.regs.hand.items ≡ f.addr ∷ others → length others < most_slots → IsCommon m t l → IsAtBegin l.regs → l.freed.items ≡ [] → IsNext m t l.seat.cpu l.regs.epoch None (follows m.rows l (Some (frees f)) (gives l.seat (giving.Freed f)))
+freed_next : (m : Limits) (t : ℕ) (l : Local) (f : Freeing) (others : List Addr) → l.regs.hand.items ≡ f.addr ∷ others → length others < most_slots → IsCommon m t l → IsAtBegin l.regs → l.freed.items ≡ [] → IsNext m t l.seat.cpu l.regs.epoch None (follows (cpu_calls m.rows) l (Some (frees f)) (gives l.seat (giving.Freed f)))
 freed_next m t l f others is few c begin freed = gives_next m t l (giving.Freed f) (Some (frees f)) c (record { begin = begin; few = omega (arith, ap length is, few); freed = freed }) (begins_by f.addr l.regs.hand.items others is)
 
 push_replies : (m : Limits) (t : ℕ) (l : Local) (f : Freeing) → AreRows m.rows → CpuShape m l (cpu.Push f) → Replies m t l (cpu.Push f)
@@ -280,7 +282,7 @@ batch_keeps m i t p l f w =
     row_keeps m i t p l (cpu.PopBatch f) w w.here refl (batch_stays m l f shape) (batch_replies m t l f (batch_wants m t l f w.rows c shape) shape) (λ pops. batch_rooms m t l f w.rows c shape)
 
 -- Grow
-grew_keeps : (m : Limits) (i t : ℕ) (p new : CpuPart) (l : Local) (a : Asking) (r : Regs) (o : Grew) → IsShaped m t l → l.step ≡ does.Front (front.Cpu (cpu.Grow a)) → CpuShape m l (cpu.Grow a) → Grows p l.regs (record { cpu = new; regs = r; answer = o }) → seats.SeatKeeps (length m.rows) i (thread_no t) p (seat_of m.rows l) new (seats.with_regs (seat_of m.rows l) r) → ActKeeps m i t p l (new, follows m.rows (with_regs l r) (Some (asks a)) (grew_to l.seat a o))
+grew_keeps : (m : Limits) (i t : ℕ) (p new : CpuPart) (l : Local) (a : Asking) (r : Regs) (o : Grew) → IsShaped m t l → l.step ≡ does.Front (front.Cpu (cpu.Grow a)) → CpuShape m l (cpu.Grow a) → Grows p l.regs (record { cpu = new; regs = r; answer = o }) → seats.SeatKeeps (length m.rows) i (thread_no t) p (seat_of m.rows l) new (seats.with_regs (seat_of m.rows l) r) → ActKeeps m i t p l (new, follows (cpu_calls m.rows) (with_regs l r) (Some (asks a)) (grew_to l.seat a o))
 grew_keeps m i t p new l a r grew.In s is shape x keeps =
     let begin = x.begins (record { pc = shape.0.begin.pc; nothing = shape.0.begin.nothing }) in
     still_keeps m i t p new l (cpu.Grow a) r is x.same.class (regs_common m t l r s x.same (omega (arith, x.ran))) (record { begin = record { pc = begin.pc; nothing = begin.nothing }; hand = x.hand ∙ shape.0.hand; freed = shape.0.freed }, pop_asked m l a r shape.1 x.same.class) keeps x.epoch
@@ -289,7 +291,7 @@ grew_keeps m i t p new l a r grew.Back s is shape x keeps =
     still_keeps m i t p new l (cpu.Grow a) r is x.same.class (regs_common m t l r s x.same (omega (arith, x.ran))) (record { begin = record { pc = begin.pc; nothing = begin.nothing }; hand = x.hand ∙ shape.0.hand; freed = shape.0.freed }, pop_asked m l a r shape.1 x.same.class) keeps x.epoch
 grew_keeps m i t p new l a r grew.Done s is shape x keeps =
     let begin = x.begins (record { pc = shape.0.begin.pc; nothing = shape.0.begin.nothing }) in
-    act_next m i t p new l (follows m.rows (with_regs l r) (Some (asks a)) (looks_on l.seat a)) (seats.with_regs (seat_of m.rows l) r) l.seat.cpu r.epoch None keeps
+    act_next m i t p new l (follows (cpu_calls m.rows) (with_regs l r) (Some (asks a)) (looks_on l.seat a)) (seats.with_regs (seat_of m.rows l) r) l.seat.cpu r.epoch None keeps
     (looks_next m t (with_regs l r) a (Some (asks a)) (regs_common m t l r s x.same (omega (arith, x.ran))) (record { begin = record { pc = begin.pc; nothing = begin.nothing }; hand = x.hand ∙ shape.0.hand; freed = shape.0.freed }) (pop_asked m l a r shape.1 x.same.class)) refl refl (sym (ap (standing_of m.rows l.regs.class.0) is)) x.epoch
 
 pub grow_keeps : (m : Limits) (i t : ℕ) (p : CpuPart) (l : Local) (a : Asking) → IsAtCpu m i t p l (cpu.Grow a) → ActKeeps m i t p l (with_next m.rows l (about_cpu (cpu.Grow a)) (grows l.seat a (rseq.grew_here p l.regs)))

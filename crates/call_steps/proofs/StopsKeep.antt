@@ -27,22 +27,23 @@ use Rattle.call_steps.specs.declared.step.Resizing.{Resizing}
 use Rattle.call_steps.specs.declared.step.Stopping.{Stopping}
 use Rattle.call_steps.specs.declared.step.Stopping.TheVariants as stopping
 use Rattle.call_steps.specs.declared.step.Giving.TheVariants as giving
-use Rattle.call_steps.specs.declared.step.Step.{Step}
+use Rattle.call_steps.specs.PerCpu.{CpuLocal as Local, Step}
 use Rattle.call_steps.specs.declared.step.Step.TheVariants as does
 use Rattle.call_steps.specs.declared.step.CpuRow.TheVariants as front
 use Rattle.call_steps.specs.declared.step.CpuStep.{CpuStep}
 use Rattle.call_steps.specs.declared.step.CpuStep.TheVariants as cpu
-use Rattle.call_steps.specs.Local.{Local, Decided, goes, ends}
-use Rattle.call_steps.specs.Calls.{call_of, about_start, about_cpu, call_about}
+use Rattle.call_steps.specs.Local.{Decided, goes, ends}
+use Rattle.call_steps.specs.Calls.{call_about}
 use Rattle.call_steps.specs.Hands.{with_hand, with_regs}
-use Rattle.call_steps.specs.Follows.{follows, with_next, cpu_row}
-use Rattle.call_steps.specs.Kept.{cpu_of}
+use Rattle.call_steps.specs.Follows.{follows}
+use Rattle.call_steps.specs.CpuCalls.{cpu_calls, with_next, cpu_row}
 use Rattle.call_steps.specs.CpuActs.{moves_to, stops, drains_on, drained, took, gives_taken, started, left_for}
 use Rattle.call_steps.specs.Fits.{taken_by, FitsCpu}
 use Rattle.call_steps.specs.Shapes.{stands, no_class_empty, below, alone, empty_to_take, empty_to_start, cpu_standing, standing_of, standing_in, seat_of, AreRows, Limits, IsMove, most_slots, IsStop, IsAtFirst, IsAtBegin, HasHand, HasNone, CpuShape, IsShaped}
 use Rattle.call_steps.specs.Laws.{thread_no, IsAtCpu, CpuActKeeps}
 use Rattle.call_steps.proofs.NextShapes.{IsCommon, common_of, IsNext, goes_next, none_still, gives_next, comes_next, IsDrainNext, drains_come, ends_next, decided_ends}
 use Rattle.call_steps.proofs.ActKeeps.{ActKeeps, thread_is, act_next, same_keeps, home_of, shape_of, standing_is, stands_at, held_of, left_epoch}
+use Rattle.call_steps.specs.CpuRows.{about_cpu, about_start, call_of, cpu_of}
 
 -- the act fits, and keeps
 pub act_keeps : (m : Limits) (i t : ℕ) (p : CpuPart) (l : Local) (row : CpuStep) → FitsCpu m.rows p l.seat l.regs row → ActKeeps m i t p l (cpu_row m.rows p l row) → CpuActKeeps m i t p l row
@@ -57,7 +58,7 @@ stopped_epoch : (o : Option ThreadNo) (p : CpuPart) (t : ThreadNo) → (drains.s
 stopped_epoch None p t = omega arith
 stopped_epoch (Some u) p t = omega arith
 
-stop_by : (m : Limits) (i t : ℕ) (p : CpuPart) (l : Local) (s : Stopping) (o : Option ThreadNo) → IsAtCpu m i t p l (cpu.Stop s) → p.stopper ≡ o → (let n = stops p l.regs.thread s o in ActKeeps m i t p l (n.0, follows m.rows l (Some (call_of s)) n.1))
+stop_by : (m : Limits) (i t : ℕ) (p : CpuPart) (l : Local) (s : Stopping) (o : Option ThreadNo) → IsAtCpu m i t p l (cpu.Stop s) → p.stopper ≡ o → (let n = stops p l.regs.thread s o in ActKeeps m i t p l (n.0, follows (cpu_calls m.rows) l (Some (call_of s)) n.1))
 stop_by m i t p l s None w none =
     let shape : CpuShape m l (cpu.Stop s) = shape_of m i t p l (cpu.Stop s) w in
     let next : Step = does.Front (front.Cpu (cpu.Fence s)) in
@@ -111,13 +112,13 @@ is_empty m l p s x low is before j known =
       | inr apart ↦ ap (λ (row : SlabRow). row.top) (x.others j (λ same. apart (sym same))) ∙ before j (known_before m l s is j known apart)
     ]
 
-drained_next : (m : Limits) (t : ℕ) (l : Local) (d : Draining) (next : Class × CpuStep) (xs : List Addr) (call : Option Call) → l.regs.hand.items ≡ xs → length xs ≤ most_slots → IsCommon m t l → IsAtBegin l.regs → l.freed.items ≡ [] → IsDrainNext m l.regs.class d next → IsNext m t l.seat.cpu l.regs.epoch (cpu_standing m.rows next.0.0 next.1) (let n = drained l.seat l.regs xs next in follows m.rows (with_regs l n.0) call n.1)
+drained_next : (m : Limits) (t : ℕ) (l : Local) (d : Draining) (next : Class × CpuStep) (xs : List Addr) (call : Option Call) → l.regs.hand.items ≡ xs → length xs ≤ most_slots → IsCommon m t l → IsAtBegin l.regs → l.freed.items ≡ [] → IsDrainNext m l.regs.class d next → IsNext m t l.seat.cpu l.regs.epoch (cpu_standing m.rows next.0.0 next.1) (let n = drained l.seat l.regs xs next in follows (cpu_calls m.rows) (with_regs l n.0) call n.1)
 drained_next m t l d next [] call is few c begin freed x = comes_next m t l next.0 next.1 c (record { begin = begin; hand = is; freed = freed }) x.come
 drained_next m t l d next (y ∷ ys) call is few c begin freed x = gives_next m t l (giving.Row next.0 next.1) call c (record { begin = begin; few = omega (arith, ap length is, few); freed = freed }) x.come
 
 -- a call goes on behind what it took
 abbrev took_in : List ClassRow → Local → Stopping → Local
-took_in rows l s = let n = took rows l.seat l.regs s in follows rows (with_regs l n.0) (Some (call_of s)) n.1
+took_in rows l s = let n = took rows l.seat l.regs s in follows (cpu_calls rows) (with_regs l n.0) (Some (call_of s)) n.1
 
 took_next : (m : Limits) (t : ℕ) (l : Local) (s : Stopping) → length l.regs.hand.items ≤ most_slots → AreRows m.rows → IsCommon m t l → IsAtBegin l.regs → l.freed.items ≡ [] → IsStop m l.regs.class s → IsNext m t l.seat.cpu l.regs.epoch (stands (cpu_of s) true (empty_of l.regs.class.0 s)) (took_in m.rows l s)
 took_next m t l (stopping.Drain d) few rows c begin freed is =
@@ -184,11 +185,11 @@ begins_again m i t p l after s w begin n =
     act_next m i t p (drains.started p) l after (record (seat_of m.rows l) { standing = None }) l.seat.cpu l.regs.epoch None
     (lawful.starts (length m.rows) i (thread_no t) p (seat_of m.rows l) (record { cpu = (cpu_of s).0; fenced = true; empty = empty_to_start m.rows s }) w.part w.seat begin (standing_is m i t p l (cpu.Start s) w) w.here) n refl refl refl (omega arith)
 
-taken_next : (m : Limits) (t : ℕ) (l : Local) (xs : List Addr) → l.regs.hand.items ≡ xs → AreRows m.rows → IsCommon m t l → HasHand most_slots l → IsNext m t l.seat.cpu l.regs.epoch None (follows m.rows l None (gives_taken l.seat xs))
+taken_next : (m : Limits) (t : ℕ) (l : Local) (xs : List Addr) → l.regs.hand.items ≡ xs → AreRows m.rows → IsCommon m t l → HasHand most_slots l → IsNext m t l.seat.cpu l.regs.epoch None (follows (cpu_calls m.rows) l None (gives_taken l.seat xs))
 taken_next m t l [] is rows c n = ends_next m t l rows c (record { begin = n.begin; hand = is; freed = n.freed })
 taken_next m t l (x ∷ xs) is rows c n = gives_next m t l giving.End None c n tt
 
-start_by : (m : Limits) (i t : ℕ) (p : CpuPart) (l : Local) (s : Stopping) → IsAtCpu m i t p l (cpu.Start s) → CpuShape m l (cpu.Start s) → ActKeeps m i t p l (drains.started p, follows m.rows l (call_about (about_start s)) (started l.seat l.regs.hand.items s))
+start_by : (m : Limits) (i t : ℕ) (p : CpuPart) (l : Local) (s : Stopping) → IsAtCpu m i t p l (cpu.Start s) → CpuShape m l (cpu.Start s) → ActKeeps m i t p l (drains.started p, follows (cpu_calls m.rows) l (call_about (about_start s)) (started l.seat l.regs.hand.items s))
 start_by m i t p l (stopping.Drain d) w shape = begins_again m i t p l _ (stopping.Drain d) w shape.0.begin.pc (decided_ends m t l _ w.rows (common_of m t l w.shaped) shape.0 refl)
 start_by m i t p l (stopping.Resize r) w shape = begins_again m i t p l _ (stopping.Resize r) w shape.0.begin.pc (taken_next m t l l.regs.hand.items refl w.rows (common_of m t l w.shaped) shape.0)
 
@@ -208,7 +209,7 @@ leave_by m i t p l (Some move) w is n some =
     let seat : seats.Seat = record (seat_of m.rows l) { regs = rseq.dropped l.regs; cpu = move.cpu.0 } in
     let keeps = lawful.leaves (length m.rows) i move.cpu.0 (thread_no t) p (seat_of m.rows l) (home_of m i t p l cpu.Leave w w.here) in
     let mine = subst (λ (u : ThreadNo). seats.SeatKeeps (length m.rows) i (thread_no t) p (seat_of m.rows l) (rseq.left p u) seat) (sym (thread_is l.regs.thread t s.thread)) keeps in
-    act_next m i t p (rseq.left p l.regs.thread) l (ends m.rows l') seat move.cpu l.regs.epoch None mine
+    act_next m i t p (rseq.left p l.regs.thread) l (ends (cpu_calls m.rows) l') seat move.cpu l.regs.epoch None mine
     (ends_next m t l' w.rows c' (record { begin = record { pc = refl; nothing = refl }; hand = n.hand; freed = n.freed })) refl refl (sym (standing_is m i t p l cpu.Leave w)) (left_epoch p l.regs.thread)
 
 pub leave_keeps : (m : Limits) (i t : ℕ) (p : CpuPart) (l : Local) → IsAtCpu m i t p l cpu.Leave → CpuActKeeps m i t p l cpu.Leave

@@ -1,4 +1,4 @@
--- The acts at the page heap, at the page map and at the names, and the act of a local at any part.
+-- The acts at the page heap, at the page map and at the names, and the act of a local at any part behind the front-end.
 use Rattle.std.specs.Prelude.{ℕ, ◌+◌, ◌*◌, ◌/◌, Bool, false, List, [], ◌∷◌, find, Option, Some, None, slice_set}
 use Rattle.tc_units.specs.Units.{page_bytes, pages_holding}
 use Rattle.tc_units.specs.Bag.{Contents}
@@ -7,13 +7,9 @@ use Rattle.tc_units.specs.declared.units.Label.{Label}
 use Rattle.tc_units.specs.declared.spans.SpanRef.{SpanRef}
 use Rattle.tc_units.specs.declared.spans.SpanKind.{SpanKind}
 use Rattle.tc_units.specs.declared.spans.SpanKind.TheVariants.{Small, Large}
-use Rattle.tc_units.specs.declared.spans.ClassRow.{ClassRow}
 use Rattle.tc_model.specs.declared.calls.Call.TheVariants.{Malloc, Free, Release}
 use Rattle.tc_model.specs.declared.answers.Answer.TheVariants.{Block, NoBlock, Freed, FreedNull, Released}
-use Rattle.rseq_core.specs.declared.cpu_part.CpuPart.{CpuPart}
-use Rattle.rseq_core.specs.declared.sequence.Seq.TheVariants as seq
 use Rattle.rseq_core.specs.Bags.{appended}
-use Rattle.transfer_cache.specs.Transfer.{Transfer}
 use Rattle.class_shard.specs.Shard.{Shard}
 use Rattle.page_map.specs.Spans.{SpanMap, holds, with_span, without_span}
 use Rattle.name_table.specs.declared.table.NameState.{NameState}
@@ -26,30 +22,30 @@ use Rattle.heap_rules.specs.New.{Placed, new}
 use Rattle.heap_rules.specs.Free.{freed}
 use Rattle.heap_rules.specs.Release.{release}
 use Rattle.call_steps.specs.declared.step.Asking.{Asking}
+use Rattle.call_steps.specs.declared.step.Freeing.{Freeing}
+use Rattle.call_steps.specs.declared.step.Giving.TheVariants as giving
 use Rattle.call_steps.specs.declared.step.Onward.{Onward}
 use Rattle.call_steps.specs.declared.step.Step.{Step}
-use Rattle.call_steps.specs.declared.step.Step.TheVariants as step
-use Rattle.call_steps.specs.declared.step.CpuRow.TheVariants as front
-use Rattle.call_steps.specs.declared.step.CpuStep.TheVariants as cpu
-use Rattle.call_steps.specs.declared.step.ShardStep.TheVariants as shard
 use Rattle.call_steps.specs.declared.step.HeapStep.{HeapStep}
-use Rattle.call_steps.specs.declared.step.HeapStep.TheVariants.{New, NewSpan, GiveBack, FreeSpan, Unback}
 use Rattle.call_steps.specs.declared.step.MapStep.{MapStep}
+use Rattle.call_steps.specs.declared.step.Step.TheVariants as step
+use Rattle.call_steps.specs.declared.step.ShardStep.TheVariants as shard
+use Rattle.call_steps.specs.declared.step.HeapStep.TheVariants.{New, NewSpan, GiveBack, FreeSpan, Unback}
 use Rattle.call_steps.specs.declared.step.MapStep.TheVariants.{Set, SetSpan, Lookup, Clear, ClearSpan}
 use Rattle.call_steps.specs.declared.step.NamesStep.{NamesStep}
 use Rattle.call_steps.specs.declared.step.NamesStep.TheVariants.{Publish, Take}
-use Rattle.call_steps.specs.Local.{Local, set_for, decided, goes, ends, class_row}
+use Rattle.call_steps.specs.Fronts.{FrontCalls}
+use Rattle.call_steps.specs.Local.{Local, step_or, decided, goes, ends, class_row}
 use Rattle.call_steps.specs.Hands.{with_regs, with_freed, clears}
 use Rattle.call_steps.specs.ShardActs.{shard_row}
-use Rattle.call_steps.specs.Follows.{cpu_row, domain_row}
 
 -- New decides an allocation: its block is the new run, or there is none.
-abbrev pub after_new : heaps.Heap → Local → Label → ℕ → Option Placed → heaps.Heap × Local
+abbrev pub after_new : {V R : Type 0} → heaps.Heap → Local V R → Label → ℕ → Option Placed → heaps.Heap × Local V R
 after_new heap l label size None = (heap, goes (decided l (Malloc label size) NoBlock) (step.Names (Publish label None)))
 after_new heap l label size (Some p) = (p.heap, goes (decided l (Malloc label size) (Block (address_of p.run) (p.run.pages * page_bytes))) (step.Map (Set label p.run)))
 
 -- The run of a new span: where there is none, that decides the allocation.
-abbrev pub after_new_span : heaps.Heap → Local → Asking → Option Placed → heaps.Heap × Local
+abbrev pub after_new_span : {V R : Type 0} → heaps.Heap → Local V R → Asking → Option Placed → heaps.Heap × Local V R
 after_new_span heap l asking None = (heap, goes (decided l (Malloc asking.label asking.size) NoBlock) (step.Names (Publish asking.label None)))
 after_new_span heap l asking (Some p) = (p.heap, goes l (step.Map (SetSpan asking p.run)))
 
@@ -57,82 +53,76 @@ after_new_span heap l asking (Some p) = (p.heap, goes l (step.Map (SetSpan askin
 abbrev pub without_first_span : Contents SpanRef → List SpanRef → Contents SpanRef
 without_first_span bag others = record { items = others; spare = bag.spare + 1 }
 
-abbrev pub frees_span : List ClassRow → heaps.Heap → Local → Onward → List SpanRef → heaps.Heap × Local
-frees_span rows heap l next [] = (heap, l)
-frees_span rows heap l next (s ∷ others) = (freed heap (run_of s), clears rows (with_freed l (without_first_span l.freed others)) next others)
+abbrev pub frees_span : {V R : Type 0} → FrontCalls V R → heaps.Heap → Local V R → Onward R → List SpanRef → heaps.Heap × Local V R
+frees_span e heap l next [] = (heap, l)
+frees_span e heap l next (s ∷ others) = (freed heap (run_of s), clears e (with_freed l (without_first_span l.freed others)) next others)
 
 -- the acts at the page heap
-abbrev pub heap_row : List ClassRow → heaps.Heap → Local → HeapStep → heaps.Heap × Local
-heap_row rows heap l (New label size) = after_new heap l label size (new heap (pages_holding size))
-heap_row rows heap l (NewSpan asking) = after_new_span heap l asking (new heap (class_row rows l).pages)
-heap_row rows heap l (GiveBack label run) = (freed heap run, ends rows (decided l (Free label) (Freed (address_of run))))
-heap_row rows heap l (FreeSpan next) = frees_span rows heap l next l.freed.items
-heap_row rows heap l (Unback pages) = ((release heap pages).heap, ends rows (decided l (Release pages) (Released (release heap pages).pages)))
+abbrev pub heap_row : {V R : Type 0} → FrontCalls V R → heaps.Heap → Local V R → HeapStep R → heaps.Heap × Local V R
+heap_row e heap l (New label size) = after_new heap l label size (new heap (pages_holding size))
+heap_row e heap l (NewSpan asking) = after_new_span heap l asking (new heap (class_row e.rows l).pages)
+heap_row e heap l (GiveBack label run) = (freed heap run, ends e (decided l (Free label) (Freed (address_of run))))
+heap_row e heap l (FreeSpan next) = frees_span e heap l next l.freed.items
+heap_row e heap l (Unback pages) = ((release heap pages).heap, ends e (decided l (Release pages) (Released (release heap pages).pages)))
 
 -- Lookup finds the span that holds the address: an object is to be pushed, and a large block's span is to be cleared.
-abbrev pub found : Local → Label → Addr → SpanRef → SpanKind → Local
-found l label addr span (Small k) = goes (with_regs l (record (set_for k seq.Push l.regs) { hand = appended l.regs.hand (addr ∷ []) })) (step.Front (front.Cpu (cpu.Push (record { label = label; addr = addr }))))
-found l label addr span Large = goes l (step.Map (Clear label (run_of span)))
+abbrev pub found : {V R : Type 0} → FrontCalls V R → Local V R → Label → Addr → SpanRef → SpanKind → Local V R
+found e l label addr span (Small k) =
+    let f : Freeing = record { label = label; addr = addr } in
+    goes (with_regs l (e.to_free (record l.regs { class = k; hand = appended l.regs.hand (addr ∷ []) }))) (step_or (step.Shard (shard.Give (giving.Freed f))) (e.free l.seat f))
+found e l label addr span Large = goes l (step.Map (Clear label (run_of span)))
 
-abbrev pub after_lookup : Local → Label → Addr → Option SpanRef → Local
-after_lookup l label addr None = l
-after_lookup l label addr (Some span) = found l label addr span span.kind
+abbrev pub after_lookup : {V R : Type 0} → FrontCalls V R → Local V R → Label → Addr → Option SpanRef → Local V R
+after_lookup e l label addr None = l
+after_lookup e l label addr (Some span) = found e l label addr span span.kind
 
 -- the first of the spans that left a shard is cleared
-abbrev pub clears_span : SpanMap → Local → Onward → List SpanRef → SpanMap × Local
+abbrev pub clears_span : {V R : Type 0} → SpanMap → Local V R → Onward R → List SpanRef → SpanMap × Local V R
 clears_span map l next [] = (map, l)
 clears_span map l next (s ∷ others) = (record map { spans = without_span s map.spans }, goes l (step.Heap (FreeSpan next)))
 
 -- the acts at the page map
-abbrev pub map_row : SpanMap → Local → MapStep → SpanMap × Local
-map_row map l (Set label run) = (record map { spans = with_span (large run) map.spans }, goes l (step.Names (Publish label (Some (address_of run)))))
-map_row map l (SetSpan asking run) = (record map { spans = with_span (small l.regs.class run) map.spans }, goes l (step.Shard (shard.AddFetch asking run)))
-map_row map l (Lookup label addr) = (map, after_lookup l label addr (find (holds (addr.0 / page_bytes)) map.spans))
-map_row map l (Clear label run) = (record map { spans = without_span (large run) map.spans }, goes l (step.Heap (GiveBack label run)))
-map_row map l (ClearSpan next) = clears_span map l next l.freed.items
+abbrev pub map_row : {V R : Type 0} → FrontCalls V R → SpanMap → Local V R → MapStep R → SpanMap × Local V R
+map_row e map l (Set label run) = (record map { spans = with_span (large run) map.spans }, goes l (step.Names (Publish label (Some (address_of run)))))
+map_row e map l (SetSpan asking run) = (record map { spans = with_span (small l.regs.class run) map.spans }, goes l (step.Shard (shard.AddFetch asking run)))
+map_row e map l (Lookup label addr) = (map, after_lookup e l label addr (find (holds (addr.0 / page_bytes)) map.spans))
+map_row e map l (Clear label run) = (record map { spans = without_span (large run) map.spans }, goes l (step.Heap (GiveBack label run)))
+map_row e map l (ClearSpan next) = clears_span map l next l.freed.items
 
 -- Take gives what the label was published with: null decides and ends the free.
-abbrev pub after_take : List ClassRow → List NameState → Local → Label → NameState → List NameState × Local
-after_take rows names l label name.Unpublished = (names, l)
-after_take rows names l label name.Taken = (names, l)
-after_take rows names l label (name.Published None) = (slice_set names label.0 name.Taken, ends rows (decided l (Free label) FreedNull))
-after_take rows names l label (name.Published (Some addr)) = (slice_set names label.0 name.Taken, goes l (step.Map (Lookup label addr)))
+abbrev pub after_take : {V R : Type 0} → FrontCalls V R → List NameState → Local V R → Label → NameState → List NameState × Local V R
+after_take e names l label name.Unpublished = (names, l)
+after_take e names l label name.Taken = (names, l)
+after_take e names l label (name.Published None) = (slice_set names label.0 name.Taken, ends e (decided l (Free label) FreedNull))
+after_take e names l label (name.Published (Some addr)) = (slice_set names label.0 name.Taken, goes l (step.Map (Lookup label addr)))
 
 -- the acts at the names
-abbrev pub names_row : List ClassRow → List NameState → Local → NamesStep → List NameState × Local
-names_row rows names l (Publish label value) = (slice_set names label.0 (name.Published value), ends rows l)
-names_row rows names l (Take label) = after_take rows names l label (state_of names label.0)
+abbrev pub names_row : {V R : Type 0} → FrontCalls V R → List NameState → Local V R → NamesStep → List NameState × Local V R
+names_row e names l (Publish label value) = (slice_set names label.0 (name.Published value), ends e l)
+names_row e names l (Take label) = after_take e names l label (state_of names label.0)
 
 -- The act of a local at a part: it is at the part that its step wants.
-abbrev pub cpu_after : List ClassRow → CpuPart → Local → Step → CpuPart × Local
-cpu_after rows p l (step.Front (front.Cpu row)) = cpu_row rows p l row
-cpu_after rows p l other = (p, l)
+abbrev pub shard_after : {V R : Type 0} → FrontCalls V R → Shard → Local V R → Step R → Shard × Local V R
+shard_after e s l (step.Shard row) = shard_row e s l row
+shard_after e s l other = (s, l)
 
-abbrev pub shard_after : List ClassRow → Shard → Local → Step → Shard × Local
-shard_after rows s l (step.Shard row) = shard_row rows s l row
-shard_after rows s l other = (s, l)
+abbrev pub heap_after : {V R : Type 0} → FrontCalls V R → heaps.Heap → Local V R → Step R → heaps.Heap × Local V R
+heap_after e heap l (step.Heap row) = heap_row e heap l row
+heap_after e heap l other = (heap, l)
 
-abbrev pub heap_after : List ClassRow → heaps.Heap → Local → Step → heaps.Heap × Local
-heap_after rows heap l (step.Heap row) = heap_row rows heap l row
-heap_after rows heap l other = (heap, l)
+abbrev pub map_after : {V R : Type 0} → FrontCalls V R → SpanMap → Local V R → Step R → SpanMap × Local V R
+map_after e map l (step.Map row) = map_row e map l row
+map_after e map l other = (map, l)
 
-abbrev pub map_after : SpanMap → Local → Step → SpanMap × Local
-map_after map l (step.Map row) = map_row map l row
-map_after map l other = (map, l)
-
-abbrev pub names_after : List ClassRow → List NameState → Local → Step → List NameState × Local
-names_after rows names l (step.Names row) = names_row rows names l row
-names_after rows names l other = (names, l)
-
-abbrev pub domain_after : List ClassRow → Transfer → Local → Step → Transfer × Local
-domain_after rows t l (step.Front (front.Domain row)) = domain_row rows t l row
-domain_after rows t l other = (t, l)
+abbrev pub names_after : {V R : Type 0} → FrontCalls V R → List NameState → Local V R → Step R → List NameState × Local V R
+names_after e names l (step.Names row) = names_row e names l row
+names_after e names l other = (names, l)
 
 -- A local waits where its next act takes a label that isn't published.
 abbrev pub waits_row : List NameState → NamesStep → Bool
 waits_row names (Publish label value) = false
 waits_row names (Take label) = is_unpublished (state_of names label.0)
 
-abbrev pub waits_for : List NameState → Step → Bool
+abbrev pub waits_for : {R : Type 0} → List NameState → Step R → Bool
 waits_for names (step.Names row) = waits_row names row
 waits_for names other = false

@@ -31,17 +31,17 @@ use Rattle.call_steps.specs.declared.step.Draining.{Draining}
 use Rattle.call_steps.specs.declared.step.Stopping.{Stopping}
 use Rattle.call_steps.specs.declared.step.Stopping.TheVariants as stopping
 use Rattle.call_steps.specs.declared.step.Giving.{Giving}
+use Rattle.call_steps.specs.PerCpu.{CpuLocal as Local, Next, Step}
 use Rattle.call_steps.specs.declared.step.Giving.TheVariants as giving
-use Rattle.call_steps.specs.declared.step.Next.{Next}
 use Rattle.call_steps.specs.declared.step.Next.TheVariants as next
-use Rattle.call_steps.specs.declared.step.Step.{Step}
 use Rattle.call_steps.specs.declared.step.Step.TheVariants as step
 use Rattle.call_steps.specs.declared.step.CpuRow.TheVariants as front
 use Rattle.call_steps.specs.declared.step.CpuStep.{CpuStep}
 use Rattle.call_steps.specs.declared.step.CpuStep.TheVariants.{Pop, Grow, Stock, Push, PopBatch, Stop, Fence, Take, SetCap, Start, Leave}
 use Rattle.call_steps.specs.declared.step.DomainStep.{DomainStep}
 use Rattle.call_steps.specs.declared.step.DomainStep.TheVariants as domain
-use Rattle.call_steps.specs.Local.{Local, set_for, row_of}
+use Rattle.call_steps.specs.Local.{set_for, row_of}
+use Rattle.call_steps.specs.CpuRows.{as_row}
 
 pub record Left (P : Type 0) : Type 0 where
   pub part : P
@@ -57,8 +57,8 @@ abbrev pub looks_on : CpuSeat → Asking → Next
 looks_on v asking = if v.domains == 0 then next.Fetch asking else next.Row (front.Domain (domain.Take asking))
 
 -- the hand is given away: to the cache of the domain, where there are domains, and else to the shard
-abbrev pub gives : CpuSeat → Giving → Next
-gives v g = if v.domains == 0 then next.Give g else next.Row (front.Domain (domain.Put g))
+abbrev pub gives : CpuSeat → Giving CpuStep → Next
+gives v g = if v.domains == 0 then next.Give (as_row g) else next.Row (front.Domain (domain.Put g))
 
 -- a row at a CPU comes next
 abbrev pub at_cpu_next : CpuStep → Next
@@ -202,8 +202,8 @@ abbrev pub put_in : Transfer → List Addr → Transfer
 put_in t objects = record { objects = t.objects ++ objects; room = t.room }
 
 -- the hand is put there where it fits, and else it goes to the shard
-abbrev pub puts : Transfer → Regs → Giving → Transfer × Regs × Next
-puts t r g = if fits_into t r.hand.items then (put_in t r.hand.items, record r { hand = emptied r.hand }, next.Gave g) else (t, r, next.Give g)
+abbrev pub puts : Transfer → Regs → Giving CpuStep → Transfer × Regs × Next
+puts t r g = if fits_into t r.hand.items then (put_in t r.hand.items, record r { hand = emptied r.hand }, next.Gave (as_row g)) else (t, r, next.Give (as_row g))
 
 -- the acts at the cache of a domain
 abbrev pub domain_acts : List ClassRow → Transfer → CpuSeat → Regs → DomainStep → Left Transfer

@@ -25,20 +25,17 @@ use Rattle.call_steps.specs.declared.step.Stopping.{Stopping}
 use Rattle.call_steps.specs.declared.step.Stopping.TheVariants as stopping
 use Rattle.call_steps.specs.declared.step.CpuStep.{CpuStep}
 use Rattle.call_steps.specs.declared.step.CpuStep.TheVariants as cpu
-use Rattle.call_steps.specs.declared.step.ShardStep.{ShardStep}
+use Rattle.call_steps.specs.PerCpu.{CpuLocal as Local, ShardStep, HeapStep, MapStep, Step}
 use Rattle.call_steps.specs.declared.step.ShardStep.TheVariants.{Fetch, AddFetch, Give}
 use Rattle.call_steps.specs.declared.step.DomainStep.{DomainStep}
 use Rattle.call_steps.specs.declared.step.DomainStep.TheVariants as domain
-use Rattle.call_steps.specs.declared.step.HeapStep.{HeapStep}
 use Rattle.call_steps.specs.declared.step.HeapStep.TheVariants.{New, NewSpan, GiveBack, FreeSpan, Unback}
-use Rattle.call_steps.specs.declared.step.MapStep.{MapStep}
 use Rattle.call_steps.specs.declared.step.MapStep.TheVariants.{Set, SetSpan, Lookup, Clear, ClearSpan}
 use Rattle.call_steps.specs.declared.step.NamesStep.{NamesStep}
 use Rattle.call_steps.specs.declared.step.NamesStep.TheVariants.{Publish, Take}
-use Rattle.call_steps.specs.declared.step.Step.{Step}
 use Rattle.call_steps.specs.declared.step.Step.TheVariants as step
 use Rattle.call_steps.specs.declared.step.CpuRow.TheVariants as front
-use Rattle.call_steps.specs.Local.{Local, row_of, class_row}
+use Rattle.call_steps.specs.Local.{row_of, class_row}
 use Rattle.holdings.specs.Runs.{large, small, run_of}
 
 -- The thread's class is in the table, and there is room in its hand for a batch, which has an object.

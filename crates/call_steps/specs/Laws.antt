@@ -15,22 +15,20 @@ use Rattle.heap_rules.specs.Heap as heaps
 use Rattle.rseq_core.specs.declared.cpu_part.CpuPart.{CpuPart}
 use Rattle.cpu_drain.specs.Seats.{CpuOk, SeatOk, SeatKeeps}
 use Rattle.call_steps.specs.declared.step.CpuStep.{CpuStep}
-use Rattle.call_steps.specs.declared.step.ShardStep.{ShardStep}
+use Rattle.call_steps.specs.PerCpu.{CpuLocal as Local, ShardStep, HeapStep, MapStep}
 use Rattle.call_steps.specs.declared.step.ShardStep.TheVariants as shard
 use Rattle.call_steps.specs.declared.step.DomainStep.{DomainStep}
-use Rattle.call_steps.specs.declared.step.HeapStep.{HeapStep}
-use Rattle.call_steps.specs.declared.step.MapStep.{MapStep}
 use Rattle.call_steps.specs.declared.step.MapStep.TheVariants as map
 use Rattle.call_steps.specs.declared.step.NamesStep.{NamesStep}
 use Rattle.call_steps.specs.declared.step.Step.TheVariants as does
 use Rattle.call_steps.specs.declared.step.CpuRow.TheVariants as front
-use Rattle.call_steps.specs.Local.{Local, class_row}
-use Rattle.call_steps.specs.Kept.{at_cpu}
+use Rattle.call_steps.specs.Local.{class_row}
 use Rattle.call_steps.specs.ShardActs.{shard_row}
-use Rattle.call_steps.specs.Follows.{cpu_row, domain_row}
+use Rattle.call_steps.specs.CpuCalls.{cpu_calls, cpu_row, domain_row}
 use Rattle.call_steps.specs.Acts.{heap_row, map_row, names_row}
 use Rattle.call_steps.specs.Fits.{FitsCpu, FitsShard, FitsDomain, FitsHeap, FitsMap, FitsNames}
 use Rattle.call_steps.specs.Shapes.{Limits, AreRows, IsShaped, seat_of}
+use Rattle.call_steps.specs.CpuRows.{at_cpu}
 
 abbrev pub thread_no : ℕ → ThreadNo
 thread_no t = record { 0 = t }
@@ -67,13 +65,13 @@ IsLowRun (shard.AddFetch a run) = run.first.0 < 2 ^ 32
 IsLowRun other = Unit {0}
 
 abbrev pub ShardActsKeep : Type 0
-ShardActsKeep = (m : Limits) (t : ℕ) (s : Shard) (l : Local) (row : ShardStep) → AreRows m.rows → IsShaped m t l → l.step ≡ does.Shard row → l.acts ≤ MOST_PICKS → IsSound s.central → s.central.row ≡ class_row m.rows l → IsLowRun row → FitsShard m.rows s l row → IsKept m t l (shard_row m.rows s l row).1
+ShardActsKeep = (m : Limits) (t : ℕ) (s : Shard) (l : Local) (row : ShardStep) → AreRows m.rows → IsShaped m t l → l.step ≡ does.Shard row → l.acts ≤ MOST_PICKS → IsSound s.central → s.central.row ≡ class_row m.rows l → IsLowRun row → FitsShard m.rows s l row → IsKept m t l (shard_row (cpu_calls m.rows) s l row).1
 
 abbrev pub DomainActsKeep : Type 0
 DomainActsKeep = (m : Limits) (t : ℕ) (c : Transfer) (l : Local) (row : DomainStep) → AreRows m.rows → IsShaped m t l → l.step ≡ does.Front (front.Domain row) → l.acts ≤ MOST_PICKS → FitsDomain m.rows l.regs row → IsKept m t l (domain_row m.rows c l row).1
 
 abbrev pub HeapActsKeep : Type 0
-HeapActsKeep = (m : Limits) (t : ℕ) (h : heaps.Heap) (l : Local) (row : HeapStep) → AreRows m.rows → IsShaped m t l → l.step ≡ does.Heap row → l.acts ≤ MOST_PICKS → FitsHeap m.rows h l row → IsKept m t l (heap_row m.rows h l row).1
+HeapActsKeep = (m : Limits) (t : ℕ) (h : heaps.Heap) (l : Local) (row : HeapStep) → AreRows m.rows → IsShaped m t l → l.step ≡ does.Heap row → l.acts ≤ MOST_PICKS → FitsHeap m.rows h l row → IsKept m t l (heap_row (cpu_calls m.rows) h l row).1
 
 -- a span that is found is of a class of the table, or of a large block
 abbrev pub IsKindThere : Limits → SpanKind → Type 0
@@ -85,7 +83,7 @@ IsFoundClass m x (map.Lookup label addr) = (span : SpanRef) → find (holds (add
 IsFoundClass m x other = Unit {0}
 
 abbrev pub MapActsKeep : Type 0
-MapActsKeep = (m : Limits) (t : ℕ) (x : SpanMap) (l : Local) (row : MapStep) → AreRows m.rows → IsShaped m t l → l.step ≡ does.Map row → l.acts ≤ MOST_PICKS → FitsMap x l row → IsFoundClass m x row → IsKept m t l (map_row x l row).1
+MapActsKeep = (m : Limits) (t : ℕ) (x : SpanMap) (l : Local) (row : MapStep) → AreRows m.rows → IsShaped m t l → l.step ≡ does.Map row → l.acts ≤ MOST_PICKS → FitsMap x l row → IsFoundClass m x row → IsKept m t l (map_row (cpu_calls m.rows) x l row).1
 
 abbrev pub NamesActsKeep : Type 0
-NamesActsKeep = (m : Limits) (t : ℕ) (names : List NameState) (l : Local) (row : NamesStep) → AreRows m.rows → IsShaped m t l → l.step ≡ does.Names row → l.acts ≤ MOST_PICKS → FitsNames names row → IsKept m t l (names_row m.rows names l row).1
+NamesActsKeep = (m : Limits) (t : ℕ) (names : List NameState) (l : Local) (row : NamesStep) → AreRows m.rows → IsShaped m t l → l.step ≡ does.Names row → l.acts ≤ MOST_PICKS → FitsNames names row → IsKept m t l (names_row (cpu_calls m.rows) names l row).1

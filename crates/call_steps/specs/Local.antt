@@ -5,13 +5,11 @@ use Rattle.tc_units.specs.Bag.{Contents}
 use Rattle.tc_units.specs.Classes.{class_of}
 use Rattle.tc_units.specs.declared.units.Class.{Class}
 use Rattle.tc_units.specs.declared.units.ThreadNo.{ThreadNo}
-use Rattle.tc_units.specs.declared.units.CpuNo.{CpuNo}
 use Rattle.tc_units.specs.declared.units.Label.{Label}
 use Rattle.tc_units.specs.declared.spans.SpanRef.{SpanRef}
 use Rattle.tc_units.specs.declared.spans.ClassRow.{ClassRow}
 use Rattle.tc_model.specs.declared.calls.Call.{Call}
 use Rattle.tc_model.specs.declared.calls.Call.TheVariants.{Malloc, Free, Release, Drain, Resize}
-use Rattle.tc_model.specs.declared.calls.MoveTo.{MoveTo}
 use Rattle.tc_model.specs.declared.calls.Planned.{Planned}
 use Rattle.tc_model.specs.declared.answers.Answer.{Answer}
 use Rattle.tc_model.specs.declared.answers.CallLine.{CallLine}
@@ -20,14 +18,13 @@ use Rattle.rseq_core.specs.declared.sequence.Seq.TheVariants as seq
 use Rattle.rseq_core.specs.declared.sequence.Pc.TheVariants.{Begin}
 use Rattle.rseq_core.specs.declared.regs.Regs.{Regs}
 use Rattle.rseq_core.specs.declared.regs.TheConstants.{HAND_ROOM, LOADED_ROOM}
-use Rattle.call_steps.specs.declared.seat.CpuSeat.{CpuSeat}
+use Rattle.call_steps.specs.declared.step.Asking.{Asking}
 use Rattle.call_steps.specs.declared.step.Step.{Step}
 use Rattle.call_steps.specs.declared.step.Step.TheVariants as step
-use Rattle.call_steps.specs.declared.step.CpuRow.TheVariants as front
-use Rattle.call_steps.specs.declared.step.CpuStep.TheVariants.{Pop, Stop, Leave}
+use Rattle.call_steps.specs.declared.step.ShardStep.TheVariants.{Fetch}
 use Rattle.call_steps.specs.declared.step.HeapStep.TheVariants.{New, Unback}
 use Rattle.call_steps.specs.declared.step.NamesStep.TheVariants.{Take}
-use Rattle.call_steps.specs.declared.step.Stopping.TheVariants as stopping
+use Rattle.call_steps.specs.Fronts.{FrontCalls}
 
 -- a call that was decided, with its answer and the number of the act that decided it among the thread's own acts
 pub record Decided : Type 0 where
@@ -35,12 +32,12 @@ pub record Decided : Type 0 where
   pub call : Call
   pub answer : Answer
 
--- A thread's local: its seat at the per-CPU caches, the next act of its call under way, its registers with the objects in
--- hand, the spans that it has to give back, the calls behind that call, how many calls have ended, how many acts it has
--- done, and its decided calls in their order.
-pub record Local : Type 0 where
-  pub seat : CpuSeat
-  pub step : Step
+-- A thread's local, by the seats and the rows of the front-end: its seat there, the next act of its call under way, its
+-- registers with the objects in hand, the spans that it has to give back, the calls behind that call, how many calls have
+-- ended, how many acts it has done, and its decided calls in their order.
+pub record Local (V R : Type 0) : Type 0 where
+  pub seat : V
+  pub step : Step R
   pub regs : Regs
   pub freed : Contents SpanRef
   pub rest : List Planned
@@ -52,53 +49,54 @@ pub record Local : Type 0 where
 abbrev pub set_for : Class → Seq → Regs → Regs
 set_for class s r = record r { class = class; seq = s; pc = Begin }
 
--- the first act of a call
-abbrev pub first_of_malloc : Option Class → Label → ℕ → Step
-first_of_malloc None label size = step.Heap (New label size)
-first_of_malloc (Some k) label size = step.Front (front.Cpu (Pop (record { label = label; size = size })))
+-- a step of the front-end where it has a row, and else another one
+abbrev pub step_or : {R : Type 0} → Step R → Option R → Step R
+step_or other None = other
+step_or other (Some row) = step.Front row
 
-abbrev pub first_of_call : List ClassRow → Call → Step
-first_of_call rows (Malloc label size) = first_of_malloc (class_of rows size) label size
-first_of_call rows (Free label) = step.Names (Take label)
-first_of_call rows (Release pages) = step.Heap (Unback pages)
-first_of_call rows (Drain cpu) = step.Front (front.Cpu (Stop (stopping.Drain (record { cpu = cpu; taken = 0 }))))
-first_of_call rows (Resize cpu class cap) = step.Front (front.Cpu (Stop (stopping.Resize (record { cpu = cpu; class = class; cap = cap }))))
+-- the first act of a call, of a thread that is seated so
+abbrev pub first_of_malloc : {V R : Type 0} → FrontCalls V R → V → Option Class → Label → ℕ → Step R
+first_of_malloc e v None label size = step.Heap (New label size)
+first_of_malloc e v (Some k) label size = let a : Asking = record { label = label; size = size } in step_or (step.Shard (Fetch a)) (e.first v a)
 
--- the registers at the begin of a call: it has executed no instruction, and they are set for its class where it has one
-abbrev pub regs_of_malloc : Option Class → Regs → Regs
-regs_of_malloc None r = r
-regs_of_malloc (Some k) r = set_for k seq.Pop r
+abbrev pub first_of_call : {V R : Type 0} → FrontCalls V R → V → Call → Step R
+first_of_call e v (Malloc label size) = first_of_malloc e v (class_of e.rows size) label size
+first_of_call e v (Free label) = step.Names (Take label)
+first_of_call e v (Release pages) = step.Heap (Unback pages)
+first_of_call e v (Drain cpu) = step_or step.Ended (e.other v (Drain cpu))
+first_of_call e v (Resize cpu class cap) = step_or step.Ended (e.other v (Resize cpu class cap))
 
-abbrev pub regs_of_call : List ClassRow → Call → Regs → Regs
-regs_of_call rows (Malloc label size) r = regs_of_malloc (class_of rows size) r
-regs_of_call rows (Free label) r = r
-regs_of_call rows (Release pages) r = r
-regs_of_call rows (Drain cpu) r = set_for (record { 0 = 0 }) seq.Pop r
-regs_of_call rows (Resize cpu class cap) r = set_for class seq.Pop r
+-- the registers at the begin of a call: it has executed no instruction, and they are of its class where it has one
+abbrev pub regs_of_malloc : {V R : Type 0} → FrontCalls V R → Option Class → Regs → Regs
+regs_of_malloc e None r = r
+regs_of_malloc e (Some k) r = e.to_first (record r { class = k })
 
-abbrev pub fresh_regs : List ClassRow → Call → Regs → Regs
-fresh_regs rows call r = record (regs_of_call rows call r) { ran = 0 }
+abbrev pub regs_of_call : {V R : Type 0} → FrontCalls V R → Call → Regs → Regs
+regs_of_call e (Malloc label size) r = regs_of_malloc e (class_of e.rows size) r
+regs_of_call e (Free label) r = r
+regs_of_call e (Release pages) r = r
+regs_of_call e (Drain cpu) r = e.to_other (Drain cpu) r
+regs_of_call e (Resize cpu class cap) r = e.to_other (Resize cpu class cap) r
 
--- the first act, the registers and the move of the call that is planned next, or none where the script has ended
-abbrev pub first_act : List ClassRow → Option Planned → Step
-first_act rows None = step.Ended
-first_act rows (Some p) = first_of_call rows p.call
+abbrev pub fresh_regs : {V R : Type 0} → FrontCalls V R → Call → Regs → Regs
+fresh_regs e call r = record (regs_of_call e call r) { ran = 0 }
 
-abbrev pub regs_by : List ClassRow → Option Planned → Regs → Regs
-regs_by rows None r = r
-regs_by rows (Some p) r = fresh_regs rows p.call r
+-- the first act and the registers of the call that is planned next, or none where the script has ended
+abbrev pub first_act : {V R : Type 0} → FrontCalls V R → V → Option Planned → Step R
+first_act e v None = step.Ended
+first_act e v (Some p) = first_of_call e v p.call
 
-abbrev pub move_of : Option Planned → Option MoveTo
-move_of None = None
-move_of (Some p) = p.moved
+abbrev pub regs_by : {V R : Type 0} → FrontCalls V R → Option Planned → Regs → Regs
+regs_by e None r = r
+regs_by e (Some p) r = fresh_regs e p.call r
 
 -- the thread comes to the first of these calls, or its script has ended
-abbrev pub next_call : List ClassRow → Local → List Planned → Local
-next_call rows l calls =
+abbrev pub next_call : {V R : Type 0} → FrontCalls V R → Local V R → List Planned → Local V R
+next_call e l calls =
     record l {
-      step = first_act rows (slice_get calls 0);
-      regs = regs_by rows (slice_get calls 0) l.regs;
-      seat = record l.seat { moved = move_of (slice_get calls 0) };
+      step = first_act e (e.begins l.seat (slice_get calls 0)) (slice_get calls 0);
+      regs = regs_by e (slice_get calls 0) l.regs;
+      seat = e.begins l.seat (slice_get calls 0);
       rest = drop 1 calls;
     }
 
@@ -119,10 +117,10 @@ first_regs thread =
     }
 
 -- a thread without a call
-abbrev pub idle_local : ThreadNo → CpuNo → ℕ → Local
-idle_local thread cpu domains =
+abbrev pub idle_local : {V R : Type 0} → ThreadNo → V → Local V R
+idle_local thread seat =
     record {
-      seat = record { cpu = cpu; moved = None; domains = domains };
+      seat = seat;
       step = step.Ended;
       regs = first_regs thread;
       freed = record { items = []; spare = HAND_ROOM };
@@ -133,24 +131,24 @@ idle_local thread cpu domains =
     }
 
 -- a thread before its first act
-abbrev pub first_local : List ClassRow → ThreadNo → CpuNo → List Planned → ℕ → Local
-first_local rows thread cpu script domains = next_call rows (idle_local thread cpu domains) script
+abbrev pub first_local : {V R : Type 0} → FrontCalls V R → ThreadNo → V → List Planned → Local V R
+first_local e thread seat script = next_call e (idle_local thread seat) script
 
 -- the next act decides the call
-abbrev pub decided : Local → Call → Answer → Local
+abbrev pub decided : {V R : Type 0} → Local V R → Call → Answer → Local V R
 decided l call answer = record l { answers = l.answers ++ record { act = l.acts; call = call; answer = answer } ∷ [] }
 
 -- an act after which the call goes on
-abbrev pub goes : Local → Step → Local
+abbrev pub goes : {V R : Type 0} → Local V R → Step R → Local V R
 goes l next = record l { step = next; acts = l.acts + 1 }
 
--- an act that ends the call: with a move pending the thread is to leave before it comes to the next one
-abbrev pub closes : List ClassRow → Local → Option MoveTo → Local
-closes rows l None = next_call rows (record l { ended = l.ended + 1 }) l.rest
-closes rows l (Some move) = record l { step = step.Front (front.Cpu Leave) }
+-- an act that ends the call: a row of the front-end may come before the next one
+abbrev pub closes : {V R : Type 0} → FrontCalls V R → Local V R → Option R → Local V R
+closes e l None = next_call e (record l { ended = l.ended + 1 }) l.rest
+closes e l (Some row) = record l { step = step.Front row }
 
-abbrev pub ends : List ClassRow → Local → Local
-ends rows l = closes rows (record l { acts = l.acts + 1 }) l.seat.moved
+abbrev pub ends : {V R : Type 0} → FrontCalls V R → Local V R → Local V R
+ends e l = closes e (record l { acts = l.acts + 1 }) (e.last l.seat)
 
 -- a row without objects, for a class that isn't there
 abbrev pub no_class : ClassRow
@@ -160,7 +158,7 @@ no_class = record { size = 0; pages = 0; batch = 0 }
 abbrev pub row_of : List ClassRow → Class → ClassRow
 row_of rows k = slice_index_or rows k.0 no_class
 
-abbrev pub class_row : List ClassRow → Local → ClassRow
+abbrev pub class_row : {V R : Type 0} → List ClassRow → Local V R → ClassRow
 class_row rows l = row_of rows l.regs.class
 
 -- how a decided call of a thread is told

@@ -4,8 +4,6 @@ use Rattle.tc_model.specs.declared.answers.Answer.{Answer}
 use Rattle.tc_model.specs.declared.answers.Answer.TheVariants.{Block, NoBlock, Freed, FreedNull, Released, Drained, Busy, CapSet, OverLimit, OverStatic}
 use Rattle.call_steps.specs.declared.step.Step.{Step}
 use Rattle.call_steps.specs.declared.step.Step.TheVariants as does
-use Rattle.call_steps.specs.declared.step.CpuRow.TheVariants as front
-use Rattle.call_steps.specs.declared.step.CpuStep.TheVariants as cpu
 use Rattle.call_steps.specs.declared.step.HeapStep.TheVariants as heap
 
 -- whether an answer refuses its call
@@ -21,11 +19,9 @@ is_refusal CapSet = false
 is_refusal (OverLimit sum) = true
 is_refusal (OverStatic most) = true
 
--- which steps may refuse their call, and how
-abbrev pub may_refuse : Step → Answer → Bool
-may_refuse (does.Heap (heap.New label size)) NoBlock = true
-may_refuse (does.Heap (heap.NewSpan asking)) NoBlock = true
-may_refuse (does.Front (front.Cpu (cpu.Stop s))) (Busy owner) = true
-may_refuse (does.Front (front.Cpu (cpu.SetCap r))) (OverLimit sum) = true
-may_refuse (does.Front (front.Cpu (cpu.SetCap r))) (OverStatic most) = true
-may_refuse step answer = false
+-- which steps may refuse their call, and how, by the refusals of the front-end's rows
+abbrev pub may_refuse : {R : Type 0} → (R → Answer → Bool) → Step R → Answer → Bool
+may_refuse refuses (does.Front row) answer = refuses row answer
+may_refuse refuses (does.Heap (heap.New label size)) NoBlock = true
+may_refuse refuses (does.Heap (heap.NewSpan asking)) NoBlock = true
+may_refuse refuses step answer = false

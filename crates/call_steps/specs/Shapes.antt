@@ -20,26 +20,22 @@ use Rattle.cpu_drain.specs.Seats.{Standing, Seat}
 use Rattle.call_steps.specs.declared.step.Asking.{Asking}
 use Rattle.call_steps.specs.declared.step.Stopping.{Stopping}
 use Rattle.call_steps.specs.declared.step.Stopping.TheVariants as stopping
-use Rattle.call_steps.specs.declared.step.Giving.{Giving}
+use Rattle.call_steps.specs.PerCpu.{CpuLocal as Local, Giving, Onward, Step, ShardStep, HeapStep, MapStep}
 use Rattle.call_steps.specs.declared.step.Giving.TheVariants as giving
-use Rattle.call_steps.specs.declared.step.Onward.{Onward}
 use Rattle.call_steps.specs.declared.step.Onward.TheVariants as onward
-use Rattle.call_steps.specs.declared.step.Step.{Step}
 use Rattle.call_steps.specs.declared.step.Step.TheVariants as does
+use Rattle.call_steps.specs.declared.step.CpuRow.{CpuRow}
 use Rattle.call_steps.specs.declared.step.CpuRow.TheVariants as front
 use Rattle.call_steps.specs.declared.step.CpuStep.{CpuStep}
 use Rattle.call_steps.specs.declared.step.CpuStep.TheVariants as cpu
-use Rattle.call_steps.specs.declared.step.ShardStep.{ShardStep}
 use Rattle.call_steps.specs.declared.step.ShardStep.TheVariants as shard
 use Rattle.call_steps.specs.declared.step.DomainStep.{DomainStep}
 use Rattle.call_steps.specs.declared.step.DomainStep.TheVariants as domain
-use Rattle.call_steps.specs.declared.step.HeapStep.{HeapStep}
 use Rattle.call_steps.specs.declared.step.HeapStep.TheVariants as heap
-use Rattle.call_steps.specs.declared.step.MapStep.{MapStep}
 use Rattle.call_steps.specs.declared.step.MapStep.TheVariants as map
-use Rattle.call_steps.specs.Local.{Local, class_row}
-use Rattle.call_steps.specs.Kept.{cpu_of}
-use Rattle.call_steps.specs.Calls.{HasNoLabel, about_cpu}
+use Rattle.call_steps.specs.Local.{class_row}
+use Rattle.call_steps.specs.Calls.{HasNoLabel}
+use Rattle.call_steps.specs.CpuRows.{about_cpu, as_row, cpu_of}
 
 -- What a call has done to the CPU that it stopped: whether it is fenced, and which classes the call has emptied.
 abbrev pub stands : CpuNo → Bool → (ℕ → Bool) → Option Standing
@@ -73,13 +69,17 @@ cpu_standing rows k (cpu.SetCap r) = stands r.cpu true (alone r.class.0)
 cpu_standing rows k (cpu.Start s) = stands (cpu_of s) true (empty_to_start rows s)
 cpu_standing rows k other = None
 
--- while its hand is given away a call stands as at the row that comes behind that
+-- while its hand is given away a call stands as at the row that comes behind that, which is at a CPU
+abbrev pub later_standing : List ClassRow → ℕ → CpuRow → Option Standing
+later_standing rows k (front.Cpu row) = cpu_standing rows k row
+later_standing rows k (front.Domain row) = None
+
 abbrev pub giving_standing : List ClassRow → Giving → Option Standing
-giving_standing rows (giving.Row k row) = cpu_standing rows k.0 row
+giving_standing rows (giving.Row k row) = later_standing rows k.0 row
 giving_standing rows other = None
 
 abbrev pub onward_standing : List ClassRow → Onward → Option Standing
-onward_standing rows (onward.Row k row) = cpu_standing rows k.0 row
+onward_standing rows (onward.Row k row) = later_standing rows k.0 row
 onward_standing rows other = None
 
 abbrev pub shard_standing : List ClassRow → ShardStep → Option Standing
@@ -87,7 +87,7 @@ shard_standing rows (shard.Give g) = giving_standing rows g
 shard_standing rows other = None
 
 abbrev pub domain_standing : List ClassRow → DomainStep → Option Standing
-domain_standing rows (domain.Put g) = giving_standing rows g
+domain_standing rows (domain.Put g) = giving_standing rows (as_row g)
 domain_standing rows other = None
 
 abbrev pub heap_standing : List ClassRow → HeapStep → Option Standing
@@ -220,16 +220,20 @@ pub record IsToCome (m : Limits) (k : Class) (row : CpuStep) : Type 0 where
   pub other : HasNoLabel (about_cpu row)
   pub shape : (l : Local) → HasNone l → l.regs.class ≡ k → CpuShape m l row
 
+abbrev pub IsLater : Limits → Class → CpuRow → Type 0
+IsLater m k (front.Cpu row) = IsToCome m k row
+IsLater m k (front.Domain row) = ⊥
+
 -- what is given away, and what comes then
 abbrev pub IsGiving : Limits → List Addr → Giving → Type 0
 IsGiving m hand (giving.Rest s) = Unit {0}
 IsGiving m hand (giving.Freed f) = BeginsWith f.addr hand
-IsGiving m hand (giving.Row k row) = IsToCome m k row
+IsGiving m hand (giving.Row k row) = IsLater m k row
 IsGiving m hand giving.End = Unit {0}
 
 abbrev pub IsOnward : Limits → Onward → Type 0
 IsOnward m (onward.Publish s) = Unit {0}
-IsOnward m (onward.Row k row) = IsToCome m k row
+IsOnward m (onward.Row k row) = IsLater m k row
 IsOnward m onward.End = Unit {0}
 
 abbrev pub ShardShape : Limits → Local → ShardStep → Type 0
@@ -238,8 +242,8 @@ ShardShape m l (shard.AddFetch a run) = HasNone l × IsAsked m l a
 ShardShape m l (shard.Give g) = HasHand most_slots l × IsGiving m l.regs.hand.items g
 
 abbrev pub DomainShape : Limits → Local → DomainStep → Type 0
-DomainShape m l (domain.Take a) = HasNone l × IsAsked m l a
-DomainShape m l (domain.Put g) = HasHand most_slots l × IsGiving m l.regs.hand.items g
+DomainShape m l (domain.Take a) = HasNone l × IsAsked m l a × (0 < l.seat.domains)
+DomainShape m l (domain.Put g) = HasHand most_slots l × IsGiving m l.regs.hand.items (as_row g) × (0 < l.seat.domains)
 
 abbrev pub HeapShape : Limits → Local → HeapStep → Type 0
 HeapShape m l (heap.New label size) = HasNone l × (class_of m.rows size ≡ None)

@@ -10,7 +10,7 @@ ghost use Rattle.call_steps.specs.declared.step.CpuStep.TheVariants.{Start};
 ghost use Rattle.call_steps.specs.declared.step.Next.TheVariants as next;
 ghost use Rattle.call_steps.specs.declared.step.Stopping.TheVariants as stopping;
 ghost use Rattle.call_steps.specs.CpuActs.{due, cpu_acts, sequence, replied, after_pop, after_stock, after_push, grew_to, stops, drains_on, took, cap_answer, started, left_for, yields_to_enter, yields_for};
-ghost use Rattle.call_steps.specs.Acts.{cpu_after};
+ghost use Rattle.call_steps.specs.CpuCalls.{cpu_after};
 ghost use Rattle.call_steps.specs.Fits.{FitsCpu, FitsCpuStep, FitsSequence, FitsSetCap, IsSequence, taken_by};
 
 use crate::local::Local;
@@ -51,13 +51,12 @@ fn act(
     seat: &mut CpuSeat,
     regs: &mut Regs,
     row: CpuStep,
-) -> Next
+) -> Next<CpuRow>
     requires { FitsCpu table.now cpu.old seat.old regs.old row }
     ensures cpu { cpu.new ≡ (cpu_acts table.now cpu.old seat.old regs.old row).part }
     ensures seat { seat.new ≡ (cpu_acts table.now cpu.old seat.old regs.old row).seat }
     ensures regs { regs.new ≡ (cpu_acts table.now cpu.old seat.old regs.old row).regs }
     ensures next { result ≡ (cpu_acts table.now cpu.old seat.old regs.old row).next }
-    ensures domains { seat.new.domains ≡ seat.old.domains }
 {
     let thread = regs.thread;
     match row {
@@ -101,14 +100,13 @@ fn sequence(
     seat: &mut CpuSeat,
     regs: &mut Regs,
     row: CpuStep,
-) -> Next
+) -> Next<CpuRow>
     requires fits { FitsSequence table.now cpu.old regs.old }
     requires row { IsSequence row }
     ensures cpu { cpu.new ≡ (sequence table.now cpu.old seat.old regs.old row).part }
     ensures seat { seat.new ≡ (sequence table.now cpu.old seat.old regs.old row).seat }
     ensures regs { regs.new ≡ (sequence table.now cpu.old seat.old regs.old row).regs }
     ensures next { result ≡ (sequence table.now cpu.old seat.old regs.old row).next }
-    ensures domains { seat.new.domains ≡ seat.old.domains }
 {
     if let Some(to) = due(seat, regs.ran) {
         leave(cpu, regs);
@@ -122,7 +120,7 @@ fn sequence(
 }
 
 /// The call goes on by what its sequence replied.
-fn go_on(table: &ClassTable, seat: &CpuSeat, regs: &mut Regs, row: CpuStep, reply: Reply) -> Next
+fn go_on(table: &ClassTable, seat: &CpuSeat, regs: &mut Regs, row: CpuStep, reply: Reply) -> Next<CpuRow>
     requires class { regs.old.class.0 < length table.now }
     requires row { IsSequence row }
     ensures regs { regs.new ≡ (replied table.now seat.now regs.old row reply).0 }
@@ -138,7 +136,7 @@ fn go_on(table: &ClassTable, seat: &CpuSeat, regs: &mut Regs, row: CpuStep, repl
 }
 
 /// An allocation has its object, or lets its class grow, or looks elsewhere.
-fn popped(seat: &CpuSeat, asking: Asking, reply: Reply) -> Next
+fn popped(seat: &CpuSeat, asking: Asking, reply: Reply) -> Next<CpuRow>
     ensures { result ≡ after_pop seat.now asking reply }
 {
     match reply {
@@ -149,7 +147,7 @@ fn popped(seat: &CpuSeat, asking: Asking, reply: Reply) -> Next
 }
 
 /// An allocation has pushed all that it fetched besides, or gives the rest away.
-fn stocked(seat: &CpuSeat, regs: &Regs, serving: Serving) -> Next
+fn stocked(seat: &CpuSeat, regs: &Regs, serving: Serving) -> Next<CpuRow>
     ensures { result ≡ after_stock seat.now serving regs.now.hand.items }
 {
     if regs.hand.as_slice().is_empty() {
@@ -166,7 +164,7 @@ fn pushed(
     regs: &mut Regs,
     freeing: Freeing,
     reply: Reply,
-) -> Next
+) -> Next<CpuRow>
     requires class { regs.old.class.0 < length table.now }
     ensures regs { regs.new ≡ (after_push table.now seat.now regs.old freeing reply).0 }
     ensures next { result ≡ (after_push table.now seat.now regs.old freeing reply).1 }
@@ -184,7 +182,7 @@ fn pushed(
 }
 
 /// A thread with a growth to do switches in, goes back, or lets its class grow.
-fn grow(cpu: &mut CpuPart, seat: &CpuSeat, regs: &mut Regs, asking: Asking) -> Next
+fn grow(cpu: &mut CpuPart, seat: &CpuSeat, regs: &mut Regs, asking: Asking) -> Next<CpuRow>
     requires class { regs.old.class.0 < length cpu.old.slab.rows }
     requires epoch { cpu.old.epoch < 2 ^ 64 - 1 }
     ensures cpu { cpu.new ≡ (rseq.grew_here cpu.old regs.old).cpu }
@@ -198,7 +196,7 @@ fn grow(cpu: &mut CpuPart, seat: &CpuSeat, regs: &mut Regs, asking: Asking) -> N
 }
 
 /// A drain or a resize stops a CPU, or ends where another thread has.
-fn stop_cpu(cpu: &mut CpuPart, thread: ThreadNo, stopping: Stopping) -> Next
+fn stop_cpu(cpu: &mut CpuPart, thread: ThreadNo, stopping: Stopping) -> Next<CpuRow>
     requires { cpu.old.stopper ≢ Some thread }
     ensures cpu { cpu.new ≡ (stops cpu.old thread stopping cpu.old.stopper).0 }
     ensures next { result ≡ (stops cpu.old thread stopping cpu.old.stopper).1 }
@@ -213,7 +211,7 @@ fn stop_cpu(cpu: &mut CpuPart, thread: ThreadNo, stopping: Stopping) -> Next
 }
 
 /// A drain gives away what it took of a class, and a resize sets the capacity first.
-fn took(table: &ClassTable, seat: &CpuSeat, regs: &mut Regs, stopping: Stopping) -> Next
+fn took(table: &ClassTable, seat: &CpuSeat, regs: &mut Regs, stopping: Stopping) -> Next<CpuRow>
     requires { taken_by stopping + length regs.old.hand.items < 2 ^ 64 }
     ensures regs { regs.new ≡ (took table.now seat.now regs.old stopping).0 }
     ensures next { result ≡ (took table.now seat.now regs.old stopping).1 }
@@ -225,7 +223,7 @@ fn took(table: &ClassTable, seat: &CpuSeat, regs: &mut Regs, stopping: Stopping)
 }
 
 /// A drain gives away what it took of a class, and counts it.
-fn drained(table: &ClassTable, seat: &CpuSeat, regs: &mut Regs, draining: Draining) -> Next
+fn drained(table: &ClassTable, seat: &CpuSeat, regs: &mut Regs, draining: Draining) -> Next<CpuRow>
     requires { draining.taken + length regs.old.hand.items < 2 ^ 64 }
     ensures regs { regs.new ≡ (took table.now seat.now regs.old (stopping.Drain draining)).0 }
     ensures next { result ≡ (took table.now seat.now regs.old (stopping.Drain draining)).1 }
@@ -254,7 +252,7 @@ fn drain_on(table: &ClassTable, class: Class, draining: Draining) -> (Class, Cpu
 }
 
 /// A resize sets the capacity of the class, or that is refused.
-fn resize(cpu: &mut CpuPart, regs: &Regs, resizing: Resizing) -> Next
+fn resize(cpu: &mut CpuPart, regs: &Regs, resizing: Resizing) -> Next<CpuRow>
     requires { FitsSetCap cpu.old regs.now }
     ensures cpu { cpu.new ≡ drains.capped cpu.old regs.now.class.0 resizing.cap }
     ensures next { result ≡ next.Decide (cap_answer (cap_fault cpu.old.slab regs.now.class.0 resizing.cap)) (Some (front.Cpu (Start (stopping.Resize resizing)))) }
@@ -272,7 +270,7 @@ fn resize(cpu: &mut CpuPart, regs: &Regs, resizing: Resizing) -> Next
 }
 
 /// A drain ends, and a resize gives away what it took.
-fn started(seat: &CpuSeat, regs: &Regs, stopping: Stopping) -> Next
+fn started(seat: &CpuSeat, regs: &Regs, stopping: Stopping) -> Next<CpuRow>
     ensures { result ≡ started seat.now regs.now.hand.items stopping }
 {
     match stopping {
@@ -287,14 +285,13 @@ fn started(seat: &CpuSeat, regs: &Regs, stopping: Stopping) -> Next
 }
 
 /// The thread leaves for the CPU of its move, and its call ends.
-fn leave_at_end(cpu: &mut CpuPart, seat: &mut CpuSeat, regs: &mut Regs) -> Next
+fn leave_at_end(cpu: &mut CpuPart, seat: &mut CpuSeat, regs: &mut Regs) -> Next<CpuRow>
     requires moved { is_some seat.old.moved ≡ true }
     requires epoch { cpu.old.epoch < 2 ^ 64 - 1 }
     ensures cpu { cpu.new ≡ (left_for cpu.old seat.old regs.old seat.old.moved).part }
     ensures seat { seat.new ≡ (left_for cpu.old seat.old regs.old seat.old.moved).seat }
     ensures regs { regs.new ≡ (left_for cpu.old seat.old regs.old seat.old.moved).regs }
     ensures next { result ≡ next.End }
-    ensures domains { seat.new.domains ≡ seat.old.domains }
 {
     match seat.moved {
         Some(to) => {

@@ -3,12 +3,12 @@ ghost use Rattle.std.specs.Prelude.{◌≡◌, ◌<◌, ◌-◌, ◌^◌, []};
 ghost use Rattle.transfer_cache.specs.Transfer.{last_first, without_last};
 ghost use Rattle.call_steps.specs.Local.{row_of};
 ghost use Rattle.call_steps.specs.CpuActs.{takes, puts};
-ghost use Rattle.call_steps.specs.Acts.{domain_after};
+ghost use Rattle.call_steps.specs.CpuCalls.{domain_after};
 ghost use Rattle.call_steps.specs.Fits.{FitsBatch, FitsDomainStep};
 
 use crate::local::Local;
-use crate::seat::CpuSeat;
-use crate::step::{Asking, CpuRow, DomainStep, Giving, Next, Step};
+use crate::seat::as_row;
+use crate::step::{Asking, CpuRow, CpuStep, DomainStep, Giving, Next, Step};
 use rseq_core::Regs;
 use size_classes::ClassTable;
 use transfer_cache::TransferCache;
@@ -33,7 +33,7 @@ pub fn act_domain(table: &ClassTable, cache: &mut TransferCache, local: &mut Loc
 }
 
 /// An allocation takes a batch, or looks in the shard.
-fn take(table: &ClassTable, cache: &mut TransferCache, regs: &mut Regs, asking: Asking) -> Next
+fn take(table: &ClassTable, cache: &mut TransferCache, regs: &mut Regs, asking: Asking) -> Next<CpuRow>
     requires batch { FitsBatch table.now regs.old }
     requires empty { regs.old.hand.items ≡ [] }
     ensures cache { cache.new ≡ record cache.old { objects = without_last (row_of table.now regs.old.class).batch cache.old.objects } }
@@ -50,15 +50,15 @@ fn take(table: &ClassTable, cache: &mut TransferCache, regs: &mut Regs, asking: 
 }
 
 /// The hand is put there where it fits, and else it goes to the shard.
-fn put(cache: &mut TransferCache, regs: &mut Regs, giving: Giving) -> Next
+fn put(cache: &mut TransferCache, regs: &mut Regs, giving: Giving<CpuStep>) -> Next<CpuRow>
     ensures cache { cache.new ≡ (puts cache.old regs.old giving).0 }
     ensures regs { regs.new ≡ (puts cache.old regs.old giving).1 }
     ensures next { result ≡ (puts cache.old regs.old giving).2 }
 {
     if cache.put(regs.hand.as_slice()) {
         regs.hand.clear();
-        Next::Gave(giving)
+        Next::Gave(as_row(giving))
     } else {
-        Next::Give(giving)
+        Next::Give(as_row(giving))
     }
 }

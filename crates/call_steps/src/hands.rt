@@ -1,9 +1,11 @@
 //! How a call goes on with the objects that it has in hand.
 ghost use Rattle.std.specs.Prelude.{◌≡◌, ◌-◌, ◌<◌, ◌^◌, length, Some, is_some, true};
+ghost use Rattle.call_steps.specs.CpuCalls.{cpu_calls, cpu_refuses};
 ghost use Rattle.call_steps.specs.declared.step.Next.TheVariants as next;
 ghost use Rattle.call_steps.specs.declared.step.Step.TheVariants as does;
 ghost use Rattle.call_steps.specs.declared.step.NamesStep.TheVariants as named;
-ghost use Rattle.call_steps.specs.Calls.{undecided, under, asks, about_cpu, about_giving, about_onward, call_about, without_call};
+ghost use Rattle.call_steps.specs.Calls.{undecided, under, asks, about_giving, about_onward, call_about, without_call};
+ghost use Rattle.call_steps.specs.CpuRows.{about_row};
 ghost use Rattle.call_steps.specs.Hands.{serves, comes_to, goes_onward, clears, gave};
 ghost use Rattle.call_steps.specs.Follows.{MayGoOnDecided, MayFollow, follows};
 
@@ -23,8 +25,8 @@ impl Local {
         requires acts { self.old.acts < 2 ^ 64 - 1 }
         requires class { self.old.regs.class.0 < length table.now }
         requires some { 0 < length self.old.regs.hand.items }
-        requires asks { undecided self.old.step ≡ Some (asks asking) }
-        ensures { self.new ≡ serves table.now self.old asking }
+        requires asks { undecided about_row self.old.step ≡ Some (asks asking) }
+        ensures { self.new ≡ serves (cpu_calls table.now) self.old asking }
     {
         let Some(addr) = self.regs.hand.take_first() else {
             unreachable!()
@@ -44,23 +46,23 @@ impl Local {
         }
     }
 
-    /// The call goes on with a row at a CPU, for this class.
-    pub(crate) fn go_to(&mut self, class: Class, row: CpuStep)
+    /// The call goes on with a row of the front-end, for this class.
+    pub(crate) fn go_to(&mut self, class: Class, row: CpuRow)
         requires acts { self.old.acts < 2 ^ 64 - 1 }
-        requires call { undecided self.old.step ≡ call_about (about_cpu row) }
-        requires under { under self.old.step ≡ without_call (call_about (about_cpu row)) }
+        requires call { undecided about_row self.old.step ≡ call_about (about_row row) }
+        requires under { under about_row self.old.step ≡ without_call (call_about (about_row row)) }
         ensures { self.new ≡ comes_to self.old class row }
     {
         self.regs.class = class;
-        self.go(Step::Front(CpuRow::Cpu(row)));
+        self.go(Step::Front(row));
     }
 
     /// The call goes on, which has no span to give back.
-    pub(crate) fn go_onward(&mut self, table: &ClassTable, onward: Onward)
+    pub(crate) fn go_onward(&mut self, table: &ClassTable, onward: Onward<CpuRow>)
         requires acts { self.old.acts < 2 ^ 64 - 1 }
-        requires call { undecided self.old.step ≡ call_about (about_onward onward) }
-        requires under { under self.old.step ≡ without_call (call_about (about_onward onward)) }
-        ensures { self.new ≡ goes_onward table.now self.old onward }
+        requires call { undecided about_row self.old.step ≡ call_about (about_onward about_row onward) }
+        requires under { under about_row self.old.step ≡ without_call (call_about (about_onward about_row onward)) }
+        ensures { self.new ≡ goes_onward (cpu_calls table.now) self.old onward }
     {
         match onward {
             Onward::Publish(serving) => self.go(publish(serving)),
@@ -70,11 +72,11 @@ impl Local {
     }
 
     /// The call gives the spans that left a shard back, if any, and goes on.
-    pub(crate) fn clear(&mut self, table: &ClassTable, onward: Onward)
+    pub(crate) fn clear(&mut self, table: &ClassTable, onward: Onward<CpuRow>)
         requires acts { self.old.acts < 2 ^ 64 - 1 }
-        requires call { undecided self.old.step ≡ call_about (about_onward onward) }
-        requires under { under self.old.step ≡ without_call (call_about (about_onward onward)) }
-        ensures { self.new ≡ clears table.now self.old onward self.old.freed.items }
+        requires call { undecided about_row self.old.step ≡ call_about (about_onward about_row onward) }
+        requires under { under about_row self.old.step ≡ without_call (call_about (about_onward about_row onward)) }
+        ensures { self.new ≡ clears (cpu_calls table.now) self.old onward self.old.freed.items }
     {
         if self.freed.as_slice().is_empty() {
             self.go_onward(table, onward);
@@ -85,11 +87,11 @@ impl Local {
 
     /// The hand was given away, which decides a free: the call gives the spans that left a shard back, if
     /// any, and goes on.
-    pub(crate) fn go_on_behind(&mut self, table: &ClassTable, giving: Giving)
+    pub(crate) fn go_on_behind(&mut self, table: &ClassTable, giving: Giving<CpuRow>)
         requires acts { self.old.acts < 2 ^ 64 - 1 }
-        requires call { undecided self.old.step ≡ call_about (about_giving giving) }
-        requires under { under self.old.step ≡ without_call (call_about (about_giving giving)) }
-        ensures { self.new ≡ gave table.now self.old giving }
+        requires call { undecided about_row self.old.step ≡ call_about (about_giving about_row giving) }
+        requires under { under about_row self.old.step ≡ without_call (call_about (about_giving about_row giving)) }
+        ensures { self.new ≡ gave (cpu_calls table.now) self.old giving }
     {
         match giving {
             Giving::Rest(serving) => self.clear(table, Onward::Publish(serving)),
@@ -102,12 +104,12 @@ impl Local {
         }
     }
 
-    /// What comes behind an act of the per-CPU caches. The calls alone decide, change steps and begin the
-    /// next call.
-    pub(crate) fn enter(&mut self, table: &ClassTable, next: Next)
+    /// What comes behind an act of the front-end. The calls alone decide, change steps and begin the next
+    /// call.
+    pub(crate) fn enter(&mut self, table: &ClassTable, next: Next<CpuRow>)
         requires acts { self.old.acts < 2 ^ 64 - 1 }
-        requires next { MayFollow table.now self.old.step self.old.seat.domains self.old.regs next }
-        ensures { self.new ≡ follows table.now self.old (undecided self.old.step) next }
+        requires next { MayFollow about_row cpu_refuses table.now self.old.step self.old.regs next }
+        ensures { self.new ≡ follows (cpu_calls table.now) self.old (undecided about_row self.old.step) next }
     {
         match next {
             Next::Row(row) => self.go(Step::Front(row)),
@@ -128,9 +130,9 @@ impl Local {
     /// The call is decided, and goes on with a row, or ends.
     fn decide_with(&mut self, table: &ClassTable, answer: Answer, row: Option<CpuRow>)
         requires acts { self.old.acts < 2 ^ 64 - 1 }
-        requires undecided { is_some (undecided self.old.step) ≡ true }
-        requires row { MayGoOnDecided self.old.seat.domains row }
-        ensures { self.new ≡ follows table.now self.old (undecided self.old.step) (next.Decide answer row) }
+        requires undecided { is_some (undecided about_row self.old.step) ≡ true }
+        requires row { MayGoOnDecided about_row row }
+        ensures { self.new ≡ follows (cpu_calls table.now) self.old (undecided about_row self.old.step) (next.Decide answer row) }
     {
         match row {
             Some(row) => self.go_deciding(answer, Step::Front(row)),
@@ -140,7 +142,7 @@ impl Local {
 }
 
 /// An allocation publishes its object.
-pub(crate) fn publish(serving: Serving) -> Step
+pub(crate) fn publish(serving: Serving) -> Step<CpuRow>
     ensures { result ≡ does.Names (named.Publish serving.label (Some serving.addr)) }
 {
     Step::Names(NamesStep::Publish {

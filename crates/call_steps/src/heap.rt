@@ -3,13 +3,14 @@ ghost use Rattle.std.specs.Prelude.{◌≡◌, ◌<◌, ◌-◌, ◌*◌, ◌^�
 ghost use Rattle.tc_units.specs.Units.{page_bytes};
 ghost use Rattle.tc_model.specs.declared.answers.Answer.TheVariants.{Block};
 ghost use Rattle.holdings.specs.Runs.{address_of, run_of};
+ghost use Rattle.call_steps.specs.CpuCalls.{cpu_calls};
 ghost use Rattle.call_steps.specs.declared.step.Step.TheVariants as does;
 ghost use Rattle.call_steps.specs.declared.step.NamesStep.TheVariants as named;
 ghost use Rattle.call_steps.specs.Acts.{heap_after};
 ghost use Rattle.call_steps.specs.Fits.{FitsHeapStep};
 
 use crate::local::Local;
-use crate::step::{HeapStep, MapStep, NamesStep, Step};
+use crate::step::{CpuRow, HeapStep, MapStep, NamesStep, Step};
 use page_heap::PageHeap;
 use size_classes::ClassTable;
 use tc_model::Answer;
@@ -21,8 +22,8 @@ use tc_units::{Label, PAGE_BYTES, Run, SpanRef, addr_of, pages_for};
 pub fn act_heap(table: &ClassTable, heap: &mut PageHeap, local: &mut Local)
     requires fits { FitsHeapStep table.now heap.old local.old local.old.step }
     requires acts { local.old.acts < 2 ^ 64 - 1 }
-    ensures heap { heap.new ≡ (heap_after table.now heap.old local.old local.old.step).0 }
-    ensures local { local.new ≡ (heap_after table.now heap.old local.old local.old.step).1 }
+    ensures heap { heap.new ≡ (heap_after (cpu_calls table.now) heap.old local.old local.old.step).0 }
+    ensures local { local.new ≡ (heap_after (cpu_calls table.now) heap.old local.old local.old.step).1 }
 {
     match local.step() {
         Step::Heap(HeapStep::New { label, size }) => match heap.new_run(pages_for(size)) {
@@ -59,7 +60,7 @@ pub fn act_heap(table: &ClassTable, heap: &mut PageHeap, local: &mut Local)
 }
 
 /// An allocation that got nothing publishes null.
-fn publish_null(label: Label) -> Step
+fn publish_null(label: Label) -> Step<CpuRow>
     ensures { result ≡ does.Names (named.Publish label None) }
 {
     Step::Names(NamesStep::Publish { label, value: None })

@@ -1,24 +1,26 @@
 //! What one thread has: its script, the next act of its call under way with what that has in hand, and
 //! its answers.
-ghost use Rattle.std.specs.Prelude.{◌≡◌, ℕ, ◌+◌, ◌-◌, ◌<◌, ◌^◌, [], length, drop, map, option_map, slice_get, Option, Some, None, IfOk, is_some, true};
+ghost use Rattle.std.specs.Prelude.{◌≡◌, ℕ, ◌+◌, ◌-◌, ◌<◌, ◌≤◌, ◌^◌, [], length, drop, map, option_map, slice_get, Option, Some, None, IfOk, is_some, true};
 ghost use Rattle.tc_model.specs.declared.calls.Call as call;
+ghost use Rattle.call_steps.specs.CpuCalls.{cpu_calls};
 ghost use Rattle.call_steps.specs.declared.step.Step.TheVariants as does;
 ghost use Rattle.call_steps.specs.declared.step.CpuRow.TheVariants as front;
 ghost use Rattle.call_steps.specs.declared.step.CpuStep.TheVariants.{Leave};
-ghost use Rattle.call_steps.specs.Local.{next_call, first_of_call, regs_of_call, fresh_regs, first_act, regs_by, move_of, first_local, goes, ends, decided, told};
+ghost use Rattle.call_steps.specs.Local.{next_call, step_or, first_of_call, regs_of_call, first_act, regs_by, first_local, goes, ends, decided, told};
 ghost use Rattle.call_steps.specs.Calls.{undecided, under};
-ghost use Rattle.call_steps.specs.Kept.{cpu_of, at_cpu, target_of, HasDomain};
+ghost use Rattle.call_steps.specs.CpuRows.{about_row, cpu_place};
+ghost use Rattle.call_steps.specs.Kept.{target_of, IsLowWant};
 
-use crate::seat::CpuSeat;
+use crate::seat::{CpuSeat, place};
 use crate::step::{
-    Asking, CpuRow, CpuStep, Draining, HeapStep, NamesStep, Resizing, Step, Stopping, Target,
+    Asking, CpuRow, CpuStep, HeapStep, NamesStep, ShardStep, Step, Target,
 };
 use rseq_core::{HAND_ROOM, Regs, Seq};
 use size_classes::ClassTable;
 use std::alloc::{AllocError, Global};
 use std::marker::Model;
-use tc_model::{Answer, Answered, Call, CallLine, MoveTo, Planned, Script};
-use tc_units::{Bag, Class, CpuNo, Listed, SpanRef, ThreadNo};
+use tc_model::{Answer, Answered, Call, CallLine, Planned, Script};
+use tc_units::{Bag, Class, Listed, SpanRef, ThreadNo};
 
 /// A thread's script, its place in it, the next act of the call there with what the call has in hand, and
 /// the answers of the calls that were decided.
@@ -28,7 +30,7 @@ pub struct Local {
     script: Listed<Planned>,
     /// Calls that have ended.
     place: usize,
-    pub(crate) step: Step,
+    pub(crate) step: Step<CpuRow>,
     /// The registers, with the objects in hand.
     pub(crate) regs: Regs,
     /// Spans that left a shard and are to be given back.
@@ -39,28 +41,27 @@ pub struct Local {
 }
 
 impl Model for Local {
-    ghost use Rattle.call_steps.specs.Local as meant;
+    ghost use Rattle.call_steps.specs.PerCpu as meant;
     ghost use Rattle.call_steps.specs.Kept.{IsKept, local_of};
 
-    ghost Value = { meant.Local };
+    ghost Value = { meant.CpuLocal };
 
     ghost view = { λ l. local_of l.seat l.script l.place l.step l.regs l.freed l.acts l.answers.items };
 
-    ghost invariant = { λ l. IsKept l.script l.place l.step l.answers l.seat.domains };
+    ghost invariant = { λ l. IsKept l.script l.place l.step l.answers };
 }
 
 impl Local {
-    /// A thread before its first act, under this class table and with this number of domains of CPUs. All
-    /// room for its answers, its hand and its spans is taken here.
+    /// A thread before its first act, under this class table and seated so. All room for its answers, its
+    /// hand and its spans is taken here.
     pub fn new(
         alloc: Global,
         table: &ClassTable,
         thread: ThreadNo,
-        cpu: CpuNo,
+        seat: CpuSeat,
         script: Script,
-        domains: u8,
     ) -> Result<Self, AllocError>
-        ensures { IfOk result (λ l. l ≡ first_local table.now thread cpu script.calls domains) }
+        ensures { IfOk result (λ l. l ≡ first_local (cpu_calls table.now) thread seat script.calls) }
     {
         let Script { calls } = script;
         let answers = Bag::open(alloc, calls.as_slice().len())?;
@@ -68,16 +69,12 @@ impl Local {
         let mut regs = Regs::open(alloc, thread)?;
         let first = calls.as_slice().first().copied();
         set_regs(table, first, &mut regs);
-        let seat = CpuSeat {
-            cpu,
-            moved: move_of(first),
-            domains,
-        };
+        let seat = seat.beginning(first);
         Ok(Local {
             seat,
             script: calls,
             place: 0,
-            step: first_act(table, first),
+            step: first_act(table, &seat, first),
             regs,
             freed,
             acts: 0,
@@ -85,26 +82,24 @@ impl Local {
         })
     }
 
-    /// The part that the next act is on. `None` where the script has ended.
-    pub fn want(&self) -> Option<Target>
-        ensures { result ≡ target_of self.now }
+    /// The part that the next act is on, where there are so many CPUs and classes. `None` where the script has ended.
+    pub fn want(&self, cpus: u8, classes: u32) -> Option<Target>
+        requires { classes ≤ 120 }
+        ensures target { result ≡ target_of (cpu_place cpus classes) self.now }
+        ensures low { IsLowWant result }
     {
         match self.step {
-            Step::Front(CpuRow::Cpu(row)) => Some(Target::Cpu(at_cpu(self.seat.cpu, row))),
+            Step::Front(row) => Some(Target::Front(place(cpus, classes, &self.seat, &self.regs, row))),
             Step::Shard(_) => Some(Target::Shard(self.regs.class)),
             Step::Heap(_) => Some(Target::Heap),
             Step::Map(_) => Some(Target::Map),
             Step::Names(_) => Some(Target::Names),
-            Step::Front(CpuRow::Domain(_)) => Some(Target::Domain {
-                domain: self.seat.cpu.0 % self.seat.domains,
-                class: self.regs.class,
-            }),
             Step::Ended => None,
         }
     }
 
     /// The next act.
-    pub fn step(&self) -> Step
+    pub fn step(&self) -> Step<CpuRow>
         ensures { result ≡ self.now.step }
     {
         self.step
@@ -145,11 +140,10 @@ impl Local {
     }
 
     /// The act is done, and the call goes on with `next`.
-    pub(crate) fn go(&mut self, next: Step)
+    pub(crate) fn go(&mut self, next: Step<CpuRow>)
         requires acts { self.old.acts < 2 ^ 64 - 1 }
-        requires under { under next ≡ under self.old.step }
-        requires call { undecided next ≡ undecided self.old.step }
-        requires domain { HasDomain next self.old.seat.domains }
+        requires under { under about_row next ≡ under about_row self.old.step }
+        requires call { undecided about_row next ≡ undecided about_row self.old.step }
         ensures { self.new ≡ goes self.old next }
     {
         self.step = next;
@@ -157,27 +151,25 @@ impl Local {
     }
 
     /// The act is done: it decides the call under way, which goes on with `next`.
-    pub(crate) fn go_deciding(&mut self, answer: Answer, next: Step)
+    pub(crate) fn go_deciding(&mut self, answer: Answer, next: Step<CpuRow>)
         requires acts { self.old.acts < 2 ^ 64 - 1 }
-        requires undecided { is_some (undecided self.old.step) ≡ true }
-        requires decided { (under next ≡ 1) × (undecided next ≡ None) }
-        requires domain { HasDomain next self.old.seat.domains }
-        ensures { (call : call.Call) → undecided self.old.step ≡ Some call → self.new ≡ goes (decided self.old call answer) next }
+        requires undecided { is_some (undecided about_row self.old.step) ≡ true }
+        requires decided { (under about_row next ≡ 1) × (undecided about_row next ≡ None) }
+        ensures { (call : call.Call) → undecided about_row self.old.step ≡ Some call → self.new ≡ goes (decided self.old call answer) next }
     {
         self.decide(answer);
         self.go(next);
     }
 
-    /// The act is done, and the call ends, which was decided before. With a move pending the thread is to
-    /// leave first.
+    /// The act is done, and the call ends, which was decided before. A row of the front-end may come first.
     pub(crate) fn end(&mut self, table: &ClassTable)
         requires acts { self.old.acts < 2 ^ 64 - 1 }
-        requires decided { under self.old.step ≡ 1 }
-        ensures { self.new ≡ ends table.now self.old }
+        requires decided { under about_row self.old.step ≡ 1 }
+        ensures { self.new ≡ ends (cpu_calls table.now) self.old }
     {
         self.acts += 1;
-        match self.seat.moved {
-            Some(_) => self.step = Step::Front(CpuRow::Cpu(CpuStep::Leave)),
+        match self.seat.last() {
+            Some(row) => self.step = Step::Front(row),
             None => self.come_to_next(table),
         }
     }
@@ -185,8 +177,8 @@ impl Local {
     /// The act is done: it decides the call under way and ends it.
     pub(crate) fn end_deciding(&mut self, table: &ClassTable, answer: Answer)
         requires acts { self.old.acts < 2 ^ 64 - 1 }
-        requires undecided { is_some (undecided self.old.step) ≡ true }
-        ensures { (call : call.Call) → undecided self.old.step ≡ Some call → self.new ≡ ends table.now (decided self.old call answer) }
+        requires undecided { is_some (undecided about_row self.old.step) ≡ true }
+        ensures { (call : call.Call) → undecided about_row self.old.step ≡ Some call → self.new ≡ ends (cpu_calls table.now) (decided self.old call answer) }
     {
         self.decide(answer);
         self.end(table);
@@ -194,11 +186,11 @@ impl Local {
 
     /// The next act decides the call under way, of which nothing is left to do then but to end.
     pub(crate) fn decide(&mut self, answer: Answer)
-        requires { is_some (undecided self.old.step) ≡ true }
+        requires { is_some (undecided about_row self.old.step) ≡ true }
         ensures step { self.new.step ≡ does.Front (front.Cpu Leave) }
         ensures acts { self.new.acts ≡ self.old.acts }
         ensures seat { self.new.seat ≡ self.old.seat }
-        ensures decided { (call : call.Call) → undecided self.old.step ≡ Some call → self.new ≡ record (decided self.old call answer) { step = does.Front (front.Cpu Leave) } }
+        ensures decided { (call : call.Call) → undecided about_row self.old.step ≡ Some call → self.new ≡ record (decided self.old call answer) { step = does.Front (front.Cpu Leave) } }
     {
         self.answers.push(Answered {
             act: self.acts,
@@ -209,14 +201,14 @@ impl Local {
 
     /// The call under way has ended, and the thread comes to the next one.
     fn come_to_next(&mut self, table: &ClassTable)
-        requires { under self.old.step ≡ 1 }
-        ensures { self.new ≡ next_call table.now (record self.old { ended = self.old.ended + 1 }) self.old.rest }
+        requires { under about_row self.old.step ≡ 1 }
+        ensures { self.new ≡ next_call (cpu_calls table.now) (record self.old { ended = self.old.ended + 1 }) self.old.rest }
     {
         self.place += 1;
         let planned = planned_at(self.script.as_slice(), self.place);
         set_regs(table, planned, &mut self.regs);
-        self.step = first_act(table, planned);
-        self.seat.moved = move_of(planned);
+        self.seat = self.seat.beginning(planned);
+        self.step = first_act(table, &self.seat, planned);
     }
 }
 
@@ -228,38 +220,46 @@ fn planned_at(script: &[Planned], place: usize) -> Option<Planned>
 }
 
 /// The first act of the call that is planned next.
-fn first_act(table: &ClassTable, planned: Option<Planned>) -> Step
-    ensures { result ≡ first_act table.now planned }
+fn first_act(table: &ClassTable, seat: &CpuSeat, planned: Option<Planned>) -> Step<CpuRow>
+    ensures { result ≡ first_act (cpu_calls table.now) seat.now planned }
 {
     match planned {
-        Some(planned) => first_of_call(table, planned.call),
+        Some(planned) => first_of_call(table, seat, planned.call),
         None => Step::Ended,
     }
 }
 
 /// The first act of a call.
-fn first_of_call(table: &ClassTable, call: Call) -> Step
-    ensures { result ≡ first_of_call table.now call }
+fn first_of_call(table: &ClassTable, seat: &CpuSeat, call: Call) -> Step<CpuRow>
+    ensures { result ≡ first_of_call (cpu_calls table.now) seat.now call }
 {
     match call {
         Call::Malloc { label, size } => match table.class_of(size) {
-            Some(_) => Step::Front(CpuRow::Cpu(CpuStep::Pop(Asking { label, size }))),
+            Some(_) => {
+                let asking = Asking { label, size };
+                step_or(Step::Shard(ShardStep::Fetch(asking)), seat.first(asking))
+            }
             None => Step::Heap(HeapStep::New { label, size }),
         },
         Call::Free { label } => Step::Names(NamesStep::Take { label }),
         Call::Release { pages } => Step::Heap(HeapStep::Unback { pages }),
-        Call::Drain { cpu } => {
-            Step::Front(CpuRow::Cpu(CpuStep::Stop(Stopping::Drain(Draining { cpu, taken: 0 }))))
-        }
-        Call::Resize { cpu, class, cap } => {
-            Step::Front(CpuRow::Cpu(CpuStep::Stop(Stopping::Resize(Resizing { cpu, class, cap }))))
-        }
+        Call::Drain { .. } | Call::Resize { .. } => step_or(Step::Ended, seat.other(call)),
+    }
+}
+
+/// A step of the front-end where it has a row, and else another one.
+pub(crate) fn step_or(other: Step<CpuRow>, row: Option<CpuRow>) -> Step<CpuRow>
+    ensures { result ≡ step_or other row }
+{
+    match row {
+        Some(row) => Step::Front(row),
+        None => other,
     }
 }
 
 /// Sets the registers for the call that is planned next.
 fn set_regs(table: &ClassTable, planned: Option<Planned>, regs: &mut Regs)
-    ensures { regs.new ≡ regs_by table.now planned regs.old }
+    ensures { regs.new ≡ regs_by (cpu_calls table.now) planned regs.old }
 {
     if let Some(planned) = planned {
         set_class(table, planned.call, regs);
@@ -269,7 +269,7 @@ fn set_regs(table: &ClassTable, planned: Option<Planned>, regs: &mut Regs)
 
 /// Sets the registers for the class of a call, where it has one.
 fn set_class(table: &ClassTable, call: Call, regs: &mut Regs)
-    ensures { regs.new ≡ regs_of_call table.now call regs.old }
+    ensures { regs.new ≡ regs_of_call (cpu_calls table.now) call regs.old }
 {
     match call {
         Call::Malloc { size, .. } => {
@@ -280,39 +280,5 @@ fn set_class(table: &ClassTable, call: Call, regs: &mut Regs)
         Call::Drain { .. } => regs.start(Class(0), Seq::Pop),
         Call::Resize { class, .. } => regs.start(class, Seq::Pop),
         Call::Free { .. } | Call::Release { .. } => {}
-    }
-}
-
-/// The move of the call that is planned next.
-fn move_of(planned: Option<Planned>) -> Option<MoveTo>
-    ensures { result ≡ move_of planned }
-{
-    match planned {
-        Some(planned) => planned.moved,
-        None => None,
-    }
-}
-
-/// The CPU that an act is at: the thread's own, or the one that its call stops.
-fn at_cpu(own: CpuNo, row: CpuStep) -> CpuNo
-    ensures { result ≡ at_cpu own row }
-{
-    match row {
-        CpuStep::Stop(stopping)
-        | CpuStep::Fence(stopping)
-        | CpuStep::Take(stopping)
-        | CpuStep::Start(stopping) => cpu_of(stopping),
-        CpuStep::SetCap(resizing) => resizing.cpu,
-        _ => own,
-    }
-}
-
-/// The CPU that a call stops.
-fn cpu_of(stopping: Stopping) -> CpuNo
-    ensures { result ≡ cpu_of stopping }
-{
-    match stopping {
-        Stopping::Drain(draining) => draining.cpu,
-        Stopping::Resize(resizing) => resizing.cpu,
     }
 }

@@ -1,6 +1,7 @@
 //! The acts at the names.
 ghost use Rattle.std.specs.Prelude.{◌≡◌, ◌<◌, ◌-◌, ◌^◌};
 ghost use Rattle.tc_model.specs.Steps.{acted};
+ghost use Rattle.call_steps.specs.CpuCalls.{cpu_calls};
 ghost use Rattle.call_steps.specs.Acts.{names_after, waits_for};
 ghost use Rattle.call_steps.specs.Fits.{FitsNamesStep};
 
@@ -15,8 +16,8 @@ use tc_model::{Acted, Answer};
 pub fn act_names(table: &ClassTable, names: &mut NameTable, local: &mut Local) -> Acted
     requires fits { FitsNamesStep names.old local.old.step }
     requires acts { local.old.acts < 2 ^ 64 - 1 }
-    ensures names { names.new ≡ (names_after table.now names.old local.old local.old.step).0 }
-    ensures local { local.new ≡ (names_after table.now names.old local.old local.old.step).1 }
+    ensures names { names.new ≡ (names_after (cpu_calls table.now) names.old local.old local.old.step).0 }
+    ensures local { local.new ≡ (names_after (cpu_calls table.now) names.old local.old local.old.step).1 }
     ensures answer { result ≡ acted (waits_for names.old local.old.step) }
 {
     match local.step() {

@@ -2,6 +2,7 @@
 ghost use Rattle.std.specs.Prelude.{◌≡◌, ◌<◌, ◌-◌, ◌^◌, [], OnOk, OnErr};
 ghost use Rattle.class_shard.specs.Shard.{fetched, after_fetch, after_give, freed_by};
 ghost use Rattle.holdings.specs.Runs.{small};
+ghost use Rattle.call_steps.specs.CpuCalls.{cpu_calls};
 ghost use Rattle.call_steps.specs.declared.step.Step.TheVariants as does;
 ghost use Rattle.call_steps.specs.declared.step.ShardStep.TheVariants.{Fetch, AddFetch, Give};
 ghost use Rattle.call_steps.specs.Local.{class_row};
@@ -12,7 +13,7 @@ ghost use Rattle.call_steps.specs.Fits.{FitsBatch, FitsAdd, FitsGive, FitsShardS
 
 use crate::local::Local;
 use crate::map::span_of;
-use crate::step::{Asking, Giving, HeapStep, ShardStep, Step};
+use crate::step::{Asking, CpuRow, Giving, HeapStep, ShardStep, Step};
 use class_shard::ClassShard;
 use size_classes::ClassTable;
 use std::alloc::AllocError;
@@ -26,8 +27,8 @@ pub fn act_shard(
 ) -> Result<(), AllocError>
     requires fits { FitsShardStep table.now shard.old local.old local.old.step }
     requires acts { local.old.acts < 2 ^ 64 - 1 }
-    ensures shard { OnOk result (shard.new ≡ (shard_after table.now shard.old local.old local.old.step).0) }
-    ensures local { OnOk result (local.new ≡ (shard_after table.now shard.old local.old local.old.step).1) }
+    ensures shard { OnOk result (shard.new ≡ (shard_after (cpu_calls table.now) shard.old local.old local.old.step).0) }
+    ensures local { OnOk result (local.new ≡ (shard_after (cpu_calls table.now) shard.old local.old local.old.step).1) }
     ensures err { OnErr result ((shard.new ≡ shard.old) × (local.new ≡ local.old)) }
 {
     match local.step() {
@@ -46,7 +47,7 @@ fn fetch(table: &ClassTable, shard: &mut ClassShard, local: &mut Local, asking: 
     requires acts { local.old.acts < 2 ^ 64 - 1 }
     requires step { local.old.step ≡ does.Shard (Fetch asking) }
     ensures shard { shard.new ≡ after_fetch (class_row table.now local.old).batch shard.old }
-    ensures local { local.new ≡ fetches table.now local.old asking (fetched (class_row table.now local.old).batch shard.old) }
+    ensures local { local.new ≡ fetches (cpu_calls table.now) local.old asking (fetched (class_row table.now local.old).batch shard.old) }
 {
     let class = local.regs.class;
     let batch = u32::from(table.row(class).batch);
@@ -70,8 +71,8 @@ fn add(
     requires empty { local.old.regs.hand.items ≡ [] }
     requires acts { local.old.acts < 2 ^ 64 - 1 }
     requires step { local.old.step ≡ does.Shard (AddFetch asking run) }
-    ensures shard { OnOk result (shard.new ≡ (adds table.now shard.old local.old asking (small local.old.regs.class run)).0) }
-    ensures local { OnOk result (local.new ≡ (adds table.now shard.old local.old asking (small local.old.regs.class run)).1) }
+    ensures shard { OnOk result (shard.new ≡ (adds (cpu_calls table.now) shard.old local.old asking (small local.old.regs.class run)).0) }
+    ensures local { OnOk result (local.new ≡ (adds (cpu_calls table.now) shard.old local.old asking (small local.old.regs.class run)).1) }
     ensures err { OnErr result ((shard.new ≡ shard.old) × (local.new ≡ local.old)) }
 {
     let class = local.regs.class;
@@ -83,12 +84,12 @@ fn add(
 }
 
 /// The hand is given to the shard.
-fn give(table: &ClassTable, shard: &mut ClassShard, local: &mut Local, giving: Giving)
+fn give(table: &ClassTable, shard: &mut ClassShard, local: &mut Local, giving: Giving<CpuRow>)
     requires fits { FitsGive shard.old local.old }
     requires acts { local.old.acts < 2 ^ 64 - 1 }
     requires step { local.old.step ≡ does.Shard (Give giving) }
     ensures shard { shard.new ≡ after_give local.old.regs.hand.items shard.old }
-    ensures local { local.new ≡ given_back table.now local.old giving (with_spans_behind local.old.freed (freed_by local.old.regs.hand.items shard.old)) }
+    ensures local { local.new ≡ given_back (cpu_calls table.now) local.old giving (with_spans_behind local.old.freed (freed_by local.old.regs.hand.items shard.old)) }
 {
     shard.give(local.regs.hand.as_slice(), &mut local.freed);
     local.regs.hand.clear();

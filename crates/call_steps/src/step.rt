@@ -5,15 +5,13 @@ use tc_units::{Addr, Class, CpuNo, Label, Run};
 /// The part that an act is on.
 #[derive(Clone, Copy, Debug, PartialEq, Eq)]
 pub enum Target {
-    /// A CPU with its slab.
-    Cpu(CpuNo),
+    /// A part of the front-end, by its number among those.
+    Front(u16),
     /// The shard of a size class.
     Shard(Class),
     Heap,
     Map,
     Names,
-    /// The transfer cache of a size class in a domain of CPUs.
-    Domain { domain: u8, class: Class },
 }
 
 /// An allocation of a small object that isn't decided yet.
@@ -59,26 +57,26 @@ pub enum Stopping {
     Resize(Resizing),
 }
 
-/// Whose objects a hand gives away, and what comes behind that.
+/// Whose objects a hand gives away, and what comes behind that. `R` is a row of the front-end.
 #[derive(Clone, Copy, Debug, PartialEq, Eq)]
-pub enum Giving {
+pub enum Giving<R> {
     /// What an allocation fetched beside its own object, which it publishes then.
     Rest(Serving),
     /// The object of a free, and what the free popped. This decides the free, which ends.
     Freed(Freeing),
-    /// What a call took that goes on with a row at a CPU, for this class.
-    Row { class: Class, row: CpuStep },
+    /// What a call took that goes on with a row of the front-end, for this class.
+    Row { class: Class, row: R },
     /// What a call took that was decided before, and ends.
     End,
 }
 
 /// What comes once the spans that left a shard are given back.
 #[derive(Clone, Copy, Debug, PartialEq, Eq)]
-pub enum Onward {
+pub enum Onward<R> {
     /// An allocation publishes its object.
     Publish(Serving),
-    /// The call goes on with a row at a CPU, for this class.
-    Row { class: Class, row: CpuStep },
+    /// The call goes on with a row of the front-end, for this class.
+    Row { class: Class, row: R },
     /// The call ends, which was decided before.
     End,
 }
@@ -112,13 +110,13 @@ pub enum CpuStep {
 
 /// A row of the call programs at the shard of the thread's class.
 #[derive(Clone, Copy, Debug, PartialEq, Eq)]
-pub enum ShardStep {
+pub enum ShardStep<R> {
     /// An allocation fetches a batch.
     Fetch(Asking),
     /// An allocation adds its new span and takes a batch of it.
     AddFetch { asking: Asking, run: Run },
     /// The hand is given to the shard.
-    Give(Giving),
+    Give(Giving<R>),
 }
 
 /// A row of the call programs at the transfer cache of the thread's class and domain.
@@ -127,7 +125,7 @@ pub enum DomainStep {
     /// An allocation takes a batch.
     Take(Asking),
     /// The hand is put there, where it fits.
-    Put(Giving),
+    Put(Giving<CpuStep>),
 }
 
 /// A row of the call programs at the per-CPU caches: at a CPU, or at the transfer cache of a domain.
@@ -137,32 +135,32 @@ pub enum CpuRow {
     Domain(DomainStep),
 }
 
-/// What comes behind an act of the per-CPU caches.
+/// What comes behind an act of the front-end.
 #[derive(Clone, Copy, Debug, PartialEq, Eq)]
-pub enum Next {
-    /// Another row of theirs.
-    Row(CpuRow),
+pub enum Next<R> {
+    /// Another row of its own.
+    Row(R),
     /// The allocation is decided by the objects in hand: the first is its answer.
     Serve(Asking),
     /// The allocation fetches from the shard.
     Fetch(Asking),
     /// The hand is given to the shard.
-    Give(Giving),
-    /// The hand was given to the caches.
-    Gave(Giving),
+    Give(Giving<R>),
+    /// The front-end took the hand itself.
+    Gave(Giving<R>),
     /// The allocation, which was decided, publishes its object.
     Publish(Serving),
     /// The free is decided and ends.
     Freed(Freeing),
     /// The call is decided, and goes on with a row, or ends.
-    Decide { answer: Answer, row: Option<CpuRow> },
+    Decide { answer: Answer, row: Option<R> },
     /// The call ends, which was decided before.
     End,
 }
 
 /// A row of the call programs at the page heap.
 #[derive(Clone, Copy, Debug, PartialEq, Eq)]
-pub enum HeapStep {
+pub enum HeapStep<R> {
     /// An allocation asks for a run that holds `size` bytes. This decides it.
     New { label: Label, size: u64 },
     /// An allocation of a small object asks for the run of a span. Where there is none, that decides it.
@@ -170,14 +168,14 @@ pub enum HeapStep {
     /// A free gives the run of its block back. This decides and ends it.
     GiveBack { label: Label, run: Run },
     /// The run of the first span that left a shard is given back.
-    FreeSpan(Onward),
+    FreeSpan(Onward<R>),
     /// A release unbacks `pages` pages, where there are so many. This decides and ends it.
     Unback { pages: u64 },
 }
 
 /// A row of the call programs at the page map.
 #[derive(Clone, Copy, Debug, PartialEq, Eq)]
-pub enum MapStep {
+pub enum MapStep<R> {
     /// An allocation sets the span of its run.
     Set { label: Label, run: Run },
     /// An allocation of a small object sets its new span.
@@ -187,7 +185,7 @@ pub enum MapStep {
     /// A free clears the span of its large block.
     Clear { label: Label, run: Run },
     /// The first span that left a shard is cleared.
-    ClearSpan(Onward),
+    ClearSpan(Onward<R>),
 }
 
 /// A row of the call programs at the names.
@@ -201,11 +199,11 @@ pub enum NamesStep {
 
 /// The next act of a thread, by the part that it is on.
 #[derive(Clone, Copy, Debug, PartialEq, Eq)]
-pub enum Step {
-    Front(CpuRow),
-    Shard(ShardStep),
-    Heap(HeapStep),
-    Map(MapStep),
+pub enum Step<R> {
+    Front(R),
+    Shard(ShardStep<R>),
+    Heap(HeapStep<R>),
+    Map(MapStep<R>),
     Names(NamesStep),
     /// The script has ended.
     Ended,

@@ -1,6 +1,6 @@
 //! How calls begin, with steps that were worked out by hand.
 use crate::{
-    Asking, CpuRow, CpuStep, Draining, HeapStep, Local, NamesStep, Resizing, Step, Stopping, Target,
+    Asking, CpuRow, CpuSeat, CpuStep, Draining, HeapStep, Local, NamesStep, Resizing, Step, Stopping, Target,
 };
 use size_classes::ClassTable;
 use std::alloc::{AllocError, Global};
@@ -24,7 +24,12 @@ fn local_of(alloc: Global, table: &ClassTable, call: Call) -> Result<Local, Allo
     let script = Script {
         calls: Listed::new(planned),
     };
-    Local::new(alloc, table, ThreadNo(0), CpuNo(3), script, 2)
+    let seat = CpuSeat {
+        cpu: CpuNo(3),
+        moved: None,
+        domains: 2,
+    };
+    Local::new(alloc, table, ThreadNo(0), seat, script)
 }
 
 #[test]
@@ -38,7 +43,7 @@ fn a_call_begins_at_its_part(rt: HostRuntime) -> Result<(), Fail> {
     let cases = [
         (
             Call::Malloc { label, size: 17 },
-            Target::Cpu(CpuNo(3)),
+            Target::Front(3),
             Step::Front(CpuRow::Cpu(CpuStep::Pop(Asking { label, size: 17 }))),
         ),
         (
@@ -58,18 +63,18 @@ fn a_call_begins_at_its_part(rt: HostRuntime) -> Result<(), Fail> {
         ),
         (
             Call::Drain { cpu },
-            Target::Cpu(cpu),
+            Target::Front(2),
             Step::Front(CpuRow::Cpu(CpuStep::Stop(drain))),
         ),
         (
             Call::Resize { cpu, class, cap: 9 },
-            Target::Cpu(cpu),
+            Target::Front(2),
             Step::Front(CpuRow::Cpu(CpuStep::Stop(resize))),
         ),
     ];
     for (call, target, step) in cases {
         let local = local_of(rt.alloc(), &table, call)?;
-        assert_eq!(rt; local.want(), Some(target), "{call:?}");
+        assert_eq!(rt; local.want(4, table.len()), Some(target), "{call:?}");
         assert_eq!(rt; local.step(), step, "{call:?}");
         assert_eq!(rt;
             (local.done(), local.acts(), local.answers().len()),

@@ -14,8 +14,8 @@ use Rattle.tc_model.specs.Input.{Input}
 use Rattle.tc_model.specs.Run.{World}
 use Rattle.heap_rules.specs.declared.config.HeapConfig.{HeapConfig}
 use Rattle.heap_rules.specs.Heap.{Heap, opened, used_pages, backed_pages, row_of}
-use Rattle.call_steps.specs.Local.{Local}
-use Rattle.alloc_rules.specs.declared.part.Part.{Part}
+use Rattle.call_steps.specs.PerCpu.{CpuLocal as Local}
+use Rattle.alloc_rules.specs.PerCpu.{Part}
 use Rattle.alloc_rules.specs.declared.part.Part.TheVariants as part
 use Rattle.alloc_rules.specs.Machine.{parts_of, heap_config}
 use Rattle.alloc_rules.specs.Law.{calls}

@@ -12,8 +12,8 @@ use Rattle.tc_model.proofs.Lists.{set_here, set_elsewhere}
 use Rattle.tc_model.proofs.MovingFacts.{IsKeptWith, run_keeps_with, move_all}
 use Rattle.heap_rules.specs.Heap.{Heap}
 use Rattle.transfer_cache.specs.Transfer.{Transfer}
-use Rattle.call_steps.specs.Local.{Local}
-use Rattle.alloc_rules.specs.declared.part.Part.{Part}
+use Rattle.call_steps.specs.PerCpu.{CpuLocal as Local}
+use Rattle.alloc_rules.specs.PerCpu.{Part, Cpu, Domain}
 use Rattle.alloc_rules.specs.declared.part.Part.TheVariants as part
 use Rattle.alloc_rules.specs.Machine.{Parts, parts_of, middle_of, caches_of, after, rules, first_parts, first_cpu, first_shards}
 use Rattle.tc_machine.specs.Finish.{heap_place}
@@ -38,22 +38,22 @@ no_heap f heap isnt (x ∷ xs) (suc i) is = no_heap f heap isnt xs i is
 no_heap_in : (heap : Heap) (domains : List (List Transfer)) (i : ℕ) → slice_get (caches_of domains) i ≡ Some (part.Heap heap) → ⊥
 no_heap_in heap [] i is = absurd (cc)
 no_heap_in heap (caches ∷ domains) i is =
-    elim (one_of_both (map part.Domain caches) (caches_of domains) i (part.Heap heap) is) [
-      | inl here ↦ no_heap part.Domain heap (λ x same. absurd (cc)) caches i here
+    elim (one_of_both (map Domain caches) (caches_of domains) i (part.Heap heap) is) [
+      | inl here ↦ no_heap Domain heap (λ x same. absurd (cc)) caches i here
       | inr later ↦ no_heap_in heap domains later.0 later.1
     ]
 
 -- so the heap is the only one
 middle_heap : (p : Parts) (rest : List Part) (i : ℕ) (heap : Heap) → ((j : ℕ) → slice_get rest j ≡ Some (part.Heap heap) → ⊥) → slice_get (part.Heap p.heap ∷ part.Map p.map ∷ part.Names p.names ∷ rest) i ≡ Some (part.Heap heap) → heap ≡ p.heap
-middle_heap p rest zero heap isnt is = let e : part.Heap p.heap ≡ part.Heap heap = cc in cc
-middle_heap p rest (suc zero) heap isnt is = absurd (let e : part.Map p.map ≡ part.Heap heap = cc in cc)
-middle_heap p rest (suc (suc zero)) heap isnt is = absurd (let e : part.Names p.names ≡ part.Heap heap = cc in cc)
+middle_heap p rest zero heap isnt is = let e : ◌≡◌ {A = Part} (part.Heap p.heap) (part.Heap heap) = cc in cc
+middle_heap p rest (suc zero) heap isnt is = absurd (let e : ◌≡◌ {A = Part} (part.Map p.map) (part.Heap heap) = cc in cc)
+middle_heap p rest (suc (suc zero)) heap isnt is = absurd (let e : ◌≡◌ {A = Part} (part.Names p.names) (part.Heap heap) = cc in cc)
 middle_heap p rest (suc (suc (suc i))) heap isnt is = absurd (isnt i is)
 
 pub heap_only : (p : Parts) (i : ℕ) (heap : Heap) → slice_get (parts_of p) i ≡ Some (part.Heap heap) → heap ≡ p.heap
 heap_only p i heap is =
-    elim (one_of_both (map part.Cpu p.cpus) (map part.Shard p.shards ++ (middle_of p ++ caches_of p.domains)) i (part.Heap heap) is) [
-      | inl here ↦ absurd (no_heap part.Cpu heap (λ x same. absurd (cc)) p.cpus i here)
+    elim (one_of_both (map Cpu p.cpus) (map part.Shard p.shards ++ (middle_of p ++ caches_of p.domains)) i (part.Heap heap) is) [
+      | inl here ↦ absurd (no_heap Cpu heap (λ x same. absurd (cc)) p.cpus i here)
       | inr later ↦ elim (one_of_both (map part.Shard p.shards) (middle_of p ++ caches_of p.domains) later.0 (part.Heap heap) later.1) [
         | inl here ↦ absurd (no_heap part.Shard heap (λ x same. absurd (cc)) p.shards later.0 here)
         | inr last ↦ middle_heap p (caches_of p.domains) last.0 heap (λ j there. no_heap_in heap p.domains j there) last.1
@@ -72,20 +72,20 @@ HeapAt place parts = (heap : Heap) × (slice_get parts place ≡ Some (part.Heap
 first_heap : (input : Input) → HeapAt (heap_place input) (parts_of (first_parts input))
 first_heap input =
     let p : Parts = first_parts input in
-    let cpus : length (map part.Cpu p.cpus) ≡ input.asked.config.cpus = length-map p.cpus part.Cpu ∙ length-replicate input.asked.config.cpus (first_cpu input) in
-    let shards : length (map part.Shard p.shards) ≡ length input.rows = length-map p.shards part.Shard ∙ shards_count input.asked.config.transfer 0 input.rows in
+    let cpus : length (map Cpu p.cpus) ≡ input.asked.config.cpus = length-map p.cpus Cpu ∙ length-replicate input.asked.config.cpus (first_cpu input) in
+    let of_class : List Part = map part.Shard p.shards in
+    let shards : length of_class ≡ length input.rows = length-map p.shards part.Shard ∙ shards_count input.asked.config.transfer 0 input.rows in
     let rest : List Part = middle_of p ++ caches_of p.domains in
     let zero_more : length input.rows ≡ length input.rows + 0 = omega arith in
-    (p.heap, behind (map part.Cpu p.cpus) (map part.Shard p.shards ++ rest) input.asked.config.cpus (length input.rows) cpus ∙ (ap (slice_get (map part.Shard p.shards ++ rest)) zero_more ∙ behind (map part.Shard p.shards) rest (length input.rows) 0 shards))
+    (p.heap, behind (map Cpu p.cpus) (map part.Shard p.shards ++ rest) input.asked.config.cpus (length input.rows) cpus ∙ (ap (slice_get (map part.Shard p.shards ++ rest)) zero_more ∙ behind (map part.Shard p.shards) rest (length input.rows) 0 shards))
 
 -- and each act leaves it there
 heap_stays : (rows : List ClassRow) (heap : Heap) (q : Part) (l : Local) → q ≡ part.Heap heap → (x : Heap) × ((after rows q l).0 ≡ part.Heap x)
 heap_stays rows heap (part.Heap h) l is = (_, refl)
-heap_stays rows heap (part.Cpu p) l is = absurd (cc)
+heap_stays rows heap (part.Front q) l is = absurd (cc)
 heap_stays rows heap (part.Shard s) l is = absurd (cc)
 heap_stays rows heap (part.Map m) l is = absurd (cc)
 heap_stays rows heap (part.Names n) l is = absurd (cc)
-heap_stays rows heap (part.Domain t) l is = absurd (cc)
 
 stays_at : (rows : List ClassRow) (place n : ℕ) (parts : List Part) (q : Part) (l : Local) → HeapAt place parts → slice_get parts n ≡ Some q → HeapAt place (slice_set parts n (after rows q l).0)
 stays_at rows place n parts q l at there =

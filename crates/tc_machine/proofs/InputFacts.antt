@@ -13,7 +13,10 @@ use Rattle.tc_model.specs.Input.{Input, Asked, ThreadCall, script_of, scripts_of
 use Rattle.trace_reader.specs.declared.trace.Trace.{Trace}
 use Rattle.trace_reader.specs.Traces.{trace_of}
 use Rattle.trace_reader.specs.Valid.{IsAsked, AreCalls}
-use Rattle.call_steps.specs.Local.{Local, first_local}
+use Rattle.call_steps.specs.CpuCalls.{cpu_calls}
+use Rattle.alloc_rules.specs.Machine.{first_seat}
+use Rattle.call_steps.specs.PerCpu.{CpuLocal as Local}
+use Rattle.call_steps.specs.Local.{first_local}
 use Rattle.tc_model.specs.Run.{world_of, start}
 use Rattle.alloc_rules.specs.Machine.{first_of, parts_of}
 use Rattle.alloc_rules.specs.Machine as allocator
@@ -112,7 +115,7 @@ locals_are : (rows : List ClassRow) (asked : Asked) → locals_at rows asked.con
 locals_are rows asked =
     let input : Input = record { rows = rows; asked = asked } in
     let n : ℕ = asked.config.threads in
-    let local : ℕ → List Planned → Local = λ t ps. first_local rows (record { 0 = t }) (record { 0 = t % asked.config.cpus }) ps asked.config.domains in
+    let local : ℕ → List Planned → Local = λ t ps. first_local (cpu_calls rows) (record { 0 = t }) (first_seat asked.config t) ps in
     ap (λ k. map (local_at rows asked.config (scripts_of asked)) (range_with_len 0 k)) (scripts_count asked)
     ∙ same_below (local_at rows asked.config (scripts_of asked)) (first_of input) n (λ t below. ap (local t) (script_at_is n asked.calls t below))
 

@@ -9,7 +9,7 @@ use Rattle.std.proofs.lemmas.Option.{slice_get_within, get_or_from_slice_get}
 use Rattle.tc_units.specs.declared.spans.ClassRow.{ClassRow}
 use Rattle.size_classes.specs.Rows.{AreRows}
 use Rattle.transfer_cache.specs.Transfer.{Transfer}
-use Rattle.alloc_rules.specs.declared.part.Part.{Part}
+use Rattle.alloc_rules.specs.PerCpu.{Part, Domain}
 use Rattle.alloc_rules.specs.declared.part.Part.TheVariants as part
 use Rattle.alloc_rules.specs.Machine.{caches_of, first_shard, first_shards}
 
@@ -22,12 +22,12 @@ one_more f old now next n x y are is more =
     ∙ ap (λ ys. old ++ ys) (sym (map-append f (replicate n x) (x ∷ [])) ∙ ap (map f) (replicate_more n x)))))
 
 -- the caches of one domain more
-pub domain_more : (old now next : List Part) (n : ℕ) (caches : List Transfer) → now ≡ old ++ caches_of (replicate n caches) → next ≡ now ++ map part.Domain caches → next ≡ old ++ caches_of (replicate (n + 1) caches)
+pub domain_more : (old now next : List Part) (n : ℕ) (caches : List Transfer) → now ≡ old ++ caches_of (replicate n caches) → next ≡ now ++ map Domain caches → next ≡ old ++ caches_of (replicate (n + 1) caches)
 domain_more old now next n caches are more =
-    let d : List Transfer → List Part = map part.Domain in
-    more ∙ (ap (λ ys. ys ++ map part.Domain caches) are
-    ∙ (append_assoc old (caches_of (replicate n caches)) (map part.Domain caches)
-    ∙ ap (λ ys. old ++ ys) (ap (λ ys. flat_map d (replicate n caches) ++ ys) (sym (append-nil (map part.Domain caches))) ∙ (sym (flat_map-append d (replicate n caches) (caches ∷ [])) ∙ ap (flat_map d) (replicate_more n caches)))))
+    let d : List Transfer → List Part = map Domain in
+    more ∙ (ap (λ ys. ys ++ map Domain caches) are
+    ∙ (append_assoc old (caches_of (replicate n caches)) (map Domain caches)
+    ∙ ap (λ ys. old ++ ys) (ap (λ ys. flat_map d (replicate n caches) ++ ys) (sym (append-nil (map Domain caches))) ∙ (sym (flat_map-append d (replicate n caches) (caches ∷ [])) ∙ ap (flat_map d) (replicate_more n caches)))))
 
 -- the shard of one class more
 shards_more : (room k : ℕ) (rows : List ClassRow) (row : ClassRow) → first_shards room k (rows ++ row ∷ []) ≡ first_shards room k rows ++ first_shard room (k + length rows) row ∷ []

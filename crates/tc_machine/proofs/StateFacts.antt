@@ -12,9 +12,9 @@ use Rattle.tc_model.specs.Input.{Input}
 use Rattle.tc_model.specs.Run.{Rules, World, world_of, start, run}
 use Rattle.tc_model.specs.Steps.{AllMove, moving}
 use Rattle.tc_model.proofs.MovingFacts.{IsKeptWith, run_keeps_with, front_moves, move_all}
-use Rattle.call_steps.specs.Local.{Local}
+use Rattle.call_steps.specs.PerCpu.{CpuLocal as Local}
 use Rattle.heap_rules.specs.Heap.{Heap}
-use Rattle.alloc_rules.specs.declared.part.Part.{Part}
+use Rattle.alloc_rules.specs.PerCpu.{Part}
 use Rattle.alloc_rules.specs.declared.part.Part.TheVariants as part
 use Rattle.alloc_rules.specs.Law.{AreLawful, HoldsAfter}
 use Rattle.alloc_rules.specs.Machine.{first_of}

@@ -7,7 +7,7 @@ use Rattle.tc_model.specs.Blocks.{live_count, live_bytes}
 use Rattle.tc_model.specs.Input.{Input}
 use Rattle.tc_model.specs.Run.{run}
 use Rattle.heap_rules.specs.Heap.{Heap, opened, used_pages, backed_pages, row_of}
-use Rattle.alloc_rules.specs.declared.part.Part.{Part}
+use Rattle.alloc_rules.specs.PerCpu.{Part}
 use Rattle.alloc_rules.specs.declared.part.Part.TheVariants as part
 use Rattle.alloc_rules.specs.Machine.{rules, heap_config}
 use Rattle.alloc_rules.specs.Law.{calls}

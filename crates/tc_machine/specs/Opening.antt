@@ -6,8 +6,10 @@ use Rattle.tc_model.specs.declared.config.Config.{Config}
 use Rattle.tc_model.specs.declared.calls.Script.{Script}
 use Rattle.tc_model.specs.Input.{Input}
 use Rattle.name_table.specs.declared.table.NameState.TheVariants as name
-use Rattle.call_steps.specs.Local.{Local, first_local}
-use Rattle.alloc_rules.specs.Machine.{Parts, first_parts}
+use Rattle.call_steps.specs.CpuCalls.{cpu_calls}
+use Rattle.call_steps.specs.PerCpu.{CpuLocal as Local}
+use Rattle.call_steps.specs.Local.{first_local}
+use Rattle.alloc_rules.specs.Machine.{first_seat, Parts, first_parts}
 use Rattle.tc_machine.specs.Inputs.{script_at}
 
 -- what parts are of, beside labels: a class table and limits
@@ -20,7 +22,7 @@ parts_at rows config labels = record (first_parts (limited rows config)) { names
 
 -- a thread for each script, at CPU t mod cpus
 abbrev pub local_at : List ClassRow → Config → List Script → ℕ → Local
-local_at rows config scripts t = first_local rows (record { 0 = t }) (record { 0 = t % config.cpus }) (script_at scripts t) config.domains
+local_at rows config scripts t = first_local (cpu_calls rows) (record { 0 = t }) (first_seat config t) (script_at scripts t)
 
 abbrev pub locals_at : List ClassRow → Config → List Script → List Local
 locals_at rows config scripts = map (local_at rows config scripts) (range_with_len 0 (length scripts))

@@ -7,14 +7,14 @@ ghost use Rattle.tc_model.specs.Blocks.{IsBlockRun};
 ghost use Rattle.tc_machine.specs.Standing.{AreStanding};
 
 use crate::standing::Standing;
-use alloc_rules::Part;
+use alloc_rules::{CpuFrontPart, Part};
 use page_heap::PageHeap;
 use std::alloc::{AllocError, Global};
 use tc_model::CallLine;
 use tc_units::{Huge, RowView};
 
 /// The page heap, which is the part with this number.
-pub fn heap_of(parts: &[Part], place: usize) -> &PageHeap
+pub fn heap_of(parts: &[Part<CpuFrontPart>], place: usize) -> &PageHeap
     requires { (heap : Heap) × (slice_get parts.now place ≡ Some (part.Heap heap)) }
     ensures { slice_get parts.now place ≡ Some (part.Heap result.now) }
 {

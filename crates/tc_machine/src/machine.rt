@@ -1,12 +1,13 @@
 //! The allocator as a machine of parts and locals.
 ghost use Rattle.std.specs.Prelude.{◌≡◌, ◌+◌, ◌≤◌, length, map};
 ghost use Rattle.tc_units.specs.declared.units.ThreadNo.{ThreadNo};
+ghost use Rattle.call_steps.specs.Kept.{IsLowTarget};
 ghost use Rattle.alloc_rules.specs.Machine.{number_of, turns as turns_of_input};
 ghost use Rattle.alloc_rules.specs.Valid.{IsValid};
 ghost use Rattle.alloc_rules.proofs.ValidProp.{valid_prop};
 ghost use Rattle.tc_machine.specs.Inputs.{input_of};
 
-use alloc_rules::Part;
+use alloc_rules::{CpuFrontPart, Part};
 use call_steps::{
     Local, Target, act_cpu, act_domain, act_heap, act_map, act_names, act_shard, waits, yields,
 };
@@ -32,23 +33,22 @@ pub struct AllocMachine {
     pub(crate) ghost valid: { IsValid (input_of table trace.value) } by { valid_prop (input_of table trace.value) },
 }
 
-/// The number of a part, where there are so many CPUs and classes.
-fn number_of(cpus: u8, classes: u32, target: Target) -> PartNo
-    requires { classes ≤ 120 }
-    ensures { result ≡ number_of cpus classes target }
+/// The number of a part, where so many parts of the front-end stand before the shards of so many classes.
+fn number_of(split: u8, classes: u32, target: Target) -> PartNo
+    requires classes { classes ≤ 120 }
+    requires low { IsLowTarget target }
+    ensures { result ≡ number_of split classes target }
 {
-    let shards = u16::from(cpus);
+    let shards = u16::from(split);
     let classes = classes as u16;
     let heap = shards + classes;
     match target {
-        Target::Cpu(cpu) => PartNo(u16::from(cpu.0)),
+        Target::Front(place) if place < shards => PartNo(place),
+        Target::Front(place) => PartNo(place + classes + 3),
         Target::Shard(class) => PartNo(shards + u16::from(class.0)),
         Target::Heap => PartNo(heap),
         Target::Map => PartNo(heap + 1),
         Target::Names => PartNo(heap + 2),
-        Target::Domain { domain, class } => {
-            PartNo(heap + 3 + u16::from(domain) * classes + u16::from(class.0))
-        }
     }
 }
 
@@ -62,7 +62,7 @@ impl AllocMachine {
 }
 
 impl Machine for AllocMachine {
-    type Part = Part;
+    type Part = Part<CpuFrontPart>;
 
     type Local = Local;
 
@@ -76,8 +76,9 @@ impl Machine for AllocMachine {
     ghost fits = { λ m. Fits m.table };
 
     fn want(&self, local: &Local) -> Option<PartNo> {
-        match local.want() {
-            Some(target) => Some(number_of(self.config.cpus, self.table.len(), target)),
+        let classes = self.table.len();
+        match local.want(self.config.cpus, classes) {
+            Some(target) => Some(number_of(self.config.cpus, classes, target)),
             None => None,
         }
     }
@@ -86,28 +87,33 @@ impl Machine for AllocMachine {
         local.done()
     }
 
-    fn waits(&self, part: &Part, local: &Local) -> bool {
+    fn waits(&self, part: &Part<CpuFrontPart>, local: &Local) -> bool {
         match part {
             Part::Names(names) => waits(names, local),
             _ => false,
         }
     }
 
-    fn yields(&self, part: &Part, local: &Local) -> bool {
+    fn yields(&self, part: &Part<CpuFrontPart>, local: &Local) -> bool {
         match part {
-            Part::Cpu(cpu) => yields(cpu, local),
+            Part::Front(CpuFrontPart::Cpu(cpu)) => yields(cpu, local),
             _ => true,
         }
     }
 
-    fn act(&self, _alloc: Global, part: &mut Part, local: &mut Local) -> Result<Acted, AllocError> {
+    fn act(
+        &self,
+        _alloc: Global,
+        part: &mut Part<CpuFrontPart>,
+        local: &mut Local,
+    ) -> Result<Acted, AllocError> {
         match part {
-            Part::Cpu(cpu) => act_cpu(&self.table, cpu, local),
+            Part::Front(CpuFrontPart::Cpu(cpu)) => act_cpu(&self.table, cpu, local),
+            Part::Front(CpuFrontPart::Domain(cache)) => act_domain(&self.table, cache, local),
             Part::Shard(shard) => act_shard(&self.table, shard, local)?,
             Part::Heap(heap) => act_heap(&self.table, heap, local),
-            Part::Map(map) => act_map(map, local)?,
+            Part::Map(map) => act_map(&self.table, map, local)?,
             Part::Names(names) => return Ok(act_names(&self.table, names, local)),
-            Part::Domain(cache) => act_domain(&self.table, cache, local),
         }
         Ok(Acted::Moved)
     }

@@ -3,11 +3,12 @@ ghost use Rattle.std.specs.Prelude.{◌≡◌, ◌<◌, ◌≤◌, ◌++◌, len
 ghost use Rattle.size_classes.specs.Rows.{IsTable};
 ghost use Rattle.trace_reader.specs.Valid.{IsConfig};
 ghost use Rattle.alloc_rules.specs.declared.part.Part.TheVariants as part;
+ghost use Rattle.alloc_rules.specs.PerCpu.{Cpu, Domain};
 ghost use Rattle.alloc_rules.specs.Machine.{parts_of, heap_config, first_cpu, first_shards, first_caches, caches_of, middle_of};
 ghost use Rattle.tc_machine.specs.Opening.{limited, parts_at, locals_at};
 
-use alloc_rules::Part;
-use call_steps::Local;
+use alloc_rules::{CpuFrontPart, Part};
+use call_steps::{CpuSeat, Local};
 use class_shard::ClassShard;
 use cpu_slab::Slab;
 use name_table::NameTable;
@@ -48,14 +49,15 @@ fn add_cpus(
     alloc: Global,
     rows: &[ClassRow],
     config: &Config,
-    parts: &mut Vec<Part>,
+    parts: &mut Vec<Part<CpuFrontPart>>,
 ) -> Result<(), AllocError>
     requires table { IsTable rows.now }
     requires config { IsConfig config.now }
-    ensures { OnOk result (parts.new.items ≡ parts.old.items ++ map part.Cpu (replicate config.now.cpus (first_cpu (limited rows.now config.now)))) }
+    ensures { OnOk result (parts.new.items ≡ parts.old.items ++ map Cpu (replicate config.now.cpus (first_cpu (limited rows.now config.now)))) }
 {
     for _ in 0..config.cpus {
-        parts.push(Part::Cpu(cpu_of(alloc, rows, config)?))?;
+        let cpu = cpu_of(alloc, rows, config)?;
+        parts.push(Part::Front(CpuFrontPart::Cpu(cpu)))?;
     }
     Ok(())
 }
@@ -65,7 +67,7 @@ fn add_shards(
     alloc: Global,
     table: &ClassTable,
     room: u32,
-    parts: &mut Vec<Part>,
+    parts: &mut Vec<Part<CpuFrontPart>>,
 ) -> Result<(), AllocError>
     ensures { OnOk result (parts.new.items ≡ parts.old.items ++ map part.Shard (first_shards room 0 table.now)) }
 {
@@ -83,7 +85,7 @@ fn add_middle(
     table: &ClassTable,
     config: &Config,
     labels: u32,
-    parts: &mut Vec<Part>,
+    parts: &mut Vec<Part<CpuFrontPart>>,
 ) -> Result<(), AllocError>
     requires { IsConfig config.now }
     ensures { OnOk result (parts.new.items ≡ parts.old.items ++ middle_of (parts_at table.now config.now labels)) }
@@ -99,12 +101,13 @@ fn add_caches(
     alloc: Global,
     table: &ClassTable,
     config: &Config,
-    parts: &mut Vec<Part>,
+    parts: &mut Vec<Part<CpuFrontPart>>,
 ) -> Result<(), AllocError>
-    ensures { OnOk result (parts.new.items ≡ parts.old.items ++ map part.Domain (first_caches (limited table.now config.now))) }
+    ensures { OnOk result (parts.new.items ≡ parts.old.items ++ map Domain (first_caches (limited table.now config.now))) }
 {
     for _ in 0..table.len() {
-        parts.push(Part::Domain(TransferCache::open(alloc, config.transfer)?))?;
+        let cache = TransferCache::open(alloc, config.transfer)?;
+        parts.push(Part::Front(CpuFrontPart::Domain(cache)))?;
     }
     Ok(())
 }
@@ -114,7 +117,7 @@ fn add_domains(
     alloc: Global,
     table: &ClassTable,
     config: &Config,
-    parts: &mut Vec<Part>,
+    parts: &mut Vec<Part<CpuFrontPart>>,
 ) -> Result<(), AllocError>
     ensures { OnOk result (parts.new.items ≡ parts.old.items ++ caches_of (replicate config.now.domains (first_caches (limited table.now config.now)))) }
 {
@@ -130,7 +133,7 @@ pub fn parts_of(
     table: &ClassTable,
     config: &Config,
     labels: u32,
-) -> Result<Vec<Part>, AllocError>
+) -> Result<Vec<Part<CpuFrontPart>>, AllocError>
     requires { IsConfig config.now }
     ensures parts { IfOk result (λ parts. parts.items ≡ parts_of (parts_at table.now config.now labels)) }
     ensures table { OnOk result (IsTable table.now) }
@@ -158,7 +161,12 @@ pub fn locals_of(
     for script in scripts {
         let thread = locals.len() as u8;
         let cpu = CpuNo(thread % config.cpus);
-        let local = Local::new(alloc, table, ThreadNo(thread), cpu, script, config.domains)?;
+        let seat = CpuSeat {
+            cpu,
+            moved: None,
+            domains: config.domains,
+        };
+        let local = Local::new(alloc, table, ThreadNo(thread), seat, script)?;
         locals.push(local)?;
     }
     Ok(locals)

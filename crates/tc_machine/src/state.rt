@@ -20,7 +20,7 @@ use crate::finish::{heap_of, rows_of, standing_after};
 use crate::machine::AllocMachine;
 use crate::opening::{locals_of, parts_of};
 use crate::telling::told_calls;
-use alloc_rules::Part;
+use alloc_rules::{CpuFrontPart, Part};
 use call_steps::Local;
 use size_classes::ClassTable;
 use std::alloc::{AllocError, Global};
@@ -171,7 +171,7 @@ impl State {
     }
 
     /// The machine with its parts and locals, at its start.
-    pub fn split(self) -> (AllocMachine, Vec<Part>, Vec<Local>)
+    pub fn split(self) -> (AllocMachine, Vec<Part<CpuFrontPart>>, Vec<Local>)
         requires { self.order ≡ [] }
         ensures input { input_in result.0 ≡ self.input }
         ensures start { world_of result.1.items result.2.items ≡ start (allocator.rules self.input) }
@@ -184,7 +184,7 @@ impl State {
     pub fn gather(
         alloc: Global,
         machine: AllocMachine,
-        parts: Vec<Part>,
+        parts: Vec<Part<CpuFrontPart>>,
         locals: Vec<Local>,
         order: Vec<u16>,
     ) -> State

@@ -2,7 +2,8 @@
 ghost use Rattle.std.specs.Prelude.{◌≡◌, ℕ, ◌+◌, ◌-◌, ◌^◌, ◌<◌, ◌≤◌, List, length, map, All, IfOk, Some, IsTrue, slice_get};
 ghost use Rattle.std.specs.Option.{option_to_list};
 ghost use Rattle.tc_model.specs.Calls.{AreRising};
-ghost use Rattle.call_steps.specs.Local.{Local as Thread, Decided, told};
+ghost use Rattle.call_steps.specs.PerCpu.{CpuLocal as Thread};
+ghost use Rattle.call_steps.specs.Local.{Decided, told};
 ghost use Rattle.alloc_rules.specs.Law.{calls};
 ghost use Rattle.tc_machine.specs.Telling.{decided_at, is_of, IsMark};
 

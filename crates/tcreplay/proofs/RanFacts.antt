@@ -4,8 +4,8 @@ use Rattle.std.proofs.lemmas.List.{append-nil}
 use Rattle.tc_model.specs.Input.{Input}
 use Rattle.tc_model.specs.Run.{World, run}
 use Rattle.tc_model.specs.Replays.{HaveEnded}
-use Rattle.call_steps.specs.Local.{Local}
-use Rattle.alloc_rules.specs.declared.part.Part.{Part}
+use Rattle.call_steps.specs.PerCpu.{CpuLocal as Local}
+use Rattle.alloc_rules.specs.PerCpu.{Part}
 use Rattle.alloc_rules.specs.Machine.{rules}
 use Rattle.alloc_rules.specs.Law.{calls}
 use Rattle.alloc_rules.specs.Told.{TellsScript}

@@ -1,7 +1,7 @@
 use Rattle.std.proofs.Common.{sym, ap, ◌∙◌, subst}
 use Rattle.std.specs.Prelude.{All}
 use Rattle.central_free.specs.Central.{IsTakenIn}
-use Rattle.call_steps.specs.Local.{Local}
+use Rattle.call_steps.specs.PerCpu.{CpuLocal as Local}
 use Rattle.call_steps.proofs.shard.give.Goals as goal
 
 pub give-requires-clause-taken : goal.give-requires-clause-taken

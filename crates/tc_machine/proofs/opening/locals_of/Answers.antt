@@ -5,7 +5,10 @@ use Rattle.std.proofs.lemmas.List.FromFn.{map-range_with_len_more, length-map-ra
 use Rattle.std.proofs.lemmas.Iterator.Adapters.{YieldsList-from_vec}
 use Rattle.std.proofs.lemmas.Iterator.Consumers.{YieldsList-turn, YieldsList-end}
 use Rattle.tc_model.specs.declared.calls.Script.{Script}
-use Rattle.call_steps.specs.Local.{Local, first_local}
+use Rattle.call_steps.specs.CpuCalls.{cpu_calls}
+use Rattle.alloc_rules.specs.Machine.{first_seat}
+use Rattle.call_steps.specs.PerCpu.{CpuLocal as Local}
+use Rattle.call_steps.specs.Local.{first_local}
 use Rattle.tc_machine.specs.Opening.{local_at}
 use Rattle.tc_machine.proofs.opening.locals_of.Goals as goal
 
@@ -24,7 +27,7 @@ loop-script-preserved c =
     let none : Script = record { calls = [] } in
     let script : c.in-Some.script ≡ slice_index_or scripts n none = t.1 ∙ get_or_default scripts n c.in-Some.script none t.0 in
     let thread : c.len-thread.result ≡ n = omega (arith, c.len-thread.ensures, count, c.loop-script.locals.ok) in
-    let made : ℕ → Script → Local = λ k s. first_local c.args.table.now (record { 0 = k }) (record { 0 = k % c.args.config.now.cpus }) s.calls c.args.config.now.domains in
+    let made : ℕ → Script → Local = λ k s. first_local (cpu_calls c.args.table.now) (record { 0 = k }) (first_seat c.args.config.now k) s.calls in
     let new : c.in_ok-local.local ≡ local_at c.args.table.now c.args.config.now scripts n = c.in_ok-local.ensures ∙ ap (λ k. made k c.in-Some.script) thread ∙ ap (made n) script in
     c.in_ok-push.ensures.items
     ∙ ap (λ l. c.loop-script.locals.items ++ l ∷ []) new

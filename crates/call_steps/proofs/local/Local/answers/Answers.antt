@@ -1,6 +1,7 @@
 use Rattle.std.proofs.Common.{ap, map, ◌∙◌, arith}
 use Rattle.tc_model.specs.declared.answers.Answered.{Answered}
-use Rattle.call_steps.specs.Local.{Local, Decided}
+use Rattle.call_steps.specs.PerCpu.{CpuLocal as Local}
+use Rattle.call_steps.specs.Local.{Decided}
 use Rattle.call_steps.proofs.ScriptFacts.{acts_told, answers_told}
 use Rattle.call_steps.proofs.local.Local.answers.Goals as goal
 

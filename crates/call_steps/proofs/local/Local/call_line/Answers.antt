@@ -1,7 +1,8 @@
 use Rattle.std.proofs.Common.{◌≡◌, ap, ◌∙◌, sym, arith, length, ◌<◌, get_or}
 use Rattle.std.specs.Prelude.{Some, option_map, slice_get}
 use Rattle.std.proofs.lemmas.Option.{slice_get-get_or}
-use Rattle.call_steps.specs.Local.{Local, told}
+use Rattle.call_steps.specs.PerCpu.{CpuLocal as Local}
+use Rattle.call_steps.specs.Local.{told}
 use Rattle.call_steps.proofs.ScriptFacts.{answered_within, decided_at}
 use Rattle.call_steps.proofs.local.Local.call_line.Goals as goal
 

@@ -10,7 +10,7 @@ use Rattle.tc_model.specs.declared.config.Config.{Config}
 use Rattle.tc_model.specs.Blocks.{IsBlockRun}
 use Rattle.alloc_rules.specs.declared.part.Part.TheVariants as part
 use Rattle.alloc_rules.specs.Law.{calls}
-use Rattle.call_steps.specs.Local.{Local}
+use Rattle.call_steps.specs.PerCpu.{CpuLocal as Local}
 use Rattle.tc_machine.specs.Held.{input_in}
 use Rattle.tc_machine.specs.Played.{Played}
 use Rattle.tc_machine.specs.Finish.{finished_in, heap_place}
