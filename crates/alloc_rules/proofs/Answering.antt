@@ -10,7 +10,6 @@ use Rattle.tc_units.specs.declared.units.ThreadNo.{ThreadNo}
 use Rattle.tc_units.specs.declared.spans.ClassRow.{ClassRow}
 use Rattle.tc_model.specs.declared.calls.Call.{Call}
 use Rattle.tc_model.specs.declared.calls.Call.TheVariants.{Malloc, Resize}
-use Rattle.tc_model.specs.declared.calls.MoveTo.{MoveTo}
 use Rattle.tc_model.specs.declared.answers.Answer.{Answer}
 use Rattle.tc_model.specs.declared.answers.Answer.TheVariants.{Block, NoBlock, Busy, CapSet, OverLimit, OverStatic}
 use Rattle.heap_rules.specs.Heap as heaps

@@ -1,9 +1,7 @@
 -- So it is of the allocator over the per-CPU caches.
-use Rattle.std.proofs.Common.{◌≡◌, ℕ, ◌*◌, ◌/◌, ◌≤◌, true, false, List, [], ◌∷◌, ◌++◌, Option, Some, None, refl, sym, ap, ◌∙◌, arith}
+use Rattle.std.proofs.Common.{◌≤◌, List, refl, arith}
 use Rattle.tc_units.specs.declared.spans.ClassRow.{ClassRow}
-use Rattle.tc_model.specs.declared.answers.Answer.{Answer}
 use Rattle.rseq_core.specs.declared.cpu_part.CpuPart.{CpuPart}
-use Rattle.rseq_core.specs.declared.regs.Regs.{Regs}
 use Rattle.transfer_cache.specs.Transfer.{Transfer}
 use Rattle.call_steps.specs.PerCpu.{CpuLocal as Local, Step}
 use Rattle.call_steps.specs.declared.step.Step.TheVariants as does
@@ -14,7 +12,7 @@ use Rattle.call_steps.specs.declared.step.DomainStep.{DomainStep}
 use Rattle.call_steps.specs.CpuActs.{Left, cpu_acts, domain_acts}
 use Rattle.call_steps.specs.CpuCalls.{cpu_calls, cpu_refuses, with_next, cpu_row, domain_row, cpu_after, domain_after}
 use Rattle.call_steps.proofs.Nexts.{cpu_comes, domain_comes}
-use Rattle.alloc_rules.specs.PerCpu.{Part, Cpu, Domain}
+use Rattle.alloc_rules.specs.PerCpu.{Part}
 use Rattle.alloc_rules.specs.declared.part.Part.TheVariants as part
 use Rattle.alloc_rules.specs.declared.part.CpuFrontPart.TheVariants as at
 use Rattle.alloc_rules.specs.Machine.{after}

@@ -1,5 +1,5 @@
 -- What holds at the start: each part is as it was opened, and each thread comes to the first call of its script.
-use Rattle.std.proofs.Common.{◌≡◌, ℕ, zero, suc, ◌+◌, ◌%◌, ◌<◌, false, get_or, List, [], ◌∷◌, length, drop, map, replicate, Option, Some, None, refl, sym, ap, ◌∙◌, subst, inr, arith}
+use Rattle.std.proofs.Common.{◌≡◌, ℕ, zero, suc, ◌+◌, ◌<◌, false, get_or, List, [], ◌∷◌, length, drop, map, replicate, Option, Some, None, refl, sym, ap, ◌∙◌, subst, inr, arith}
 use Rattle.std.specs.Prelude.{is_some, option_map, sum_by, All, slice_get}
 use Rattle.std.specs.List.{range_with_len, slice_index_or}
 use Rattle.std.proofs.Math.Nat.{mod-lt}
@@ -12,7 +12,6 @@ use Rattle.std.proofs.lemmas.List.Elements.{All-nil, All-cons, All-map, All-repl
 use Rattle.tc_units.specs.Classes.{class_of}
 use Rattle.tc_units.specs.declared.units.Addr.{Addr}
 use Rattle.tc_units.specs.declared.units.Class.{Class}
-use Rattle.tc_units.specs.declared.units.CpuNo.{CpuNo}
 use Rattle.tc_units.specs.declared.units.Label.{Label}
 use Rattle.tc_units.specs.declared.units.ThreadNo.{ThreadNo}
 use Rattle.tc_units.specs.declared.spans.ClassRow.{ClassRow}

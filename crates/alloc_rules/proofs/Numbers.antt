@@ -10,8 +10,7 @@ use Rattle.rseq_core.specs.declared.cpu_part.CpuPart.{CpuPart}
 use Rattle.transfer_cache.specs.Transfer.{Transfer}
 use Rattle.class_shard.specs.Shard as shards
 use Rattle.alloc_rules.specs.PerCpu.{Part, Cpu, Domain}
-use Rattle.alloc_rules.specs.declared.part.Part.TheVariants.{Front, Shard, Heap, Map, Names}
-use Rattle.alloc_rules.specs.declared.part.CpuFrontPart.TheVariants as at
+use Rattle.alloc_rules.specs.declared.part.Part.TheVariants.{Shard, Heap, Map, Names}
 use Rattle.alloc_rules.specs.Machine.{Parts, parts_of, middle_of, caches_of}
 
 -- of two lists joined, where the first is of images

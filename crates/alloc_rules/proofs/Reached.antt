@@ -32,8 +32,7 @@ use Rattle.call_steps.specs.Shapes.{Limits, StepShape, DomainShape}
 use Rattle.call_steps.specs.CpuRows.{at_cpu, domain_of, cpu_place}
 use Rattle.holdings.proofs.Sums.{of_all}
 use Rattle.alloc_rules.specs.PerCpu.{Part, Cpu, Domain}
-use Rattle.alloc_rules.specs.declared.part.Part.TheVariants.{Front, Shard, Heap, Map, Names}
-use Rattle.alloc_rules.specs.declared.part.CpuFrontPart.TheVariants as at
+use Rattle.alloc_rules.specs.declared.part.Part.TheVariants.{Shard, Heap, Map, Names}
 use Rattle.alloc_rules.specs.Machine.{Parts, parts_of, number, number_of, after, waits}
 use Rattle.alloc_rules.specs.Fits.{Fits, fits_step}
 use Rattle.alloc_rules.specs.Stocks.{AreBooksOf, cache_at, no_cache}

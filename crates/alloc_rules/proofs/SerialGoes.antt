@@ -25,16 +25,14 @@ use Rattle.holdings.specs.Accounts.{got, is_out, is_unpublished}
 use Rattle.holdings.proofs.Sums.{bit_is}
 use Rattle.call_steps.specs.PerCpu.{CpuLocal as Local, Step}
 use Rattle.call_steps.specs.declared.step.Step.TheVariants as does
-use Rattle.call_steps.specs.declared.step.CpuRow.TheVariants as front
 use Rattle.call_steps.specs.declared.step.NamesStep.TheVariants as names
 use Rattle.call_steps.specs.Calls.{undecided}
 use Rattle.call_steps.specs.Kept.{call_at, target_at}
 use Rattle.call_steps.specs.CpuRows.{cpu_place}
 use Rattle.call_steps.specs.Acts.{waits_for}
 use Rattle.call_steps.specs.CpuRows.{about_row}
-use Rattle.alloc_rules.specs.PerCpu.{Part, Cpu, Domain}
+use Rattle.alloc_rules.specs.PerCpu.{Part}
 use Rattle.alloc_rules.specs.declared.part.Part.TheVariants.{Front, Shard, Heap, Map, Names}
-use Rattle.alloc_rules.specs.declared.part.CpuFrontPart.TheVariants as at
 use Rattle.alloc_rules.specs.Machine.{Parts, parts_of, number, number_of, waits, first_of, rules, turns}
 use Rattle.alloc_rules.specs.Fits.{Fits}
 use Rattle.alloc_rules.specs.Scripts.{IsIn, is_under_way}

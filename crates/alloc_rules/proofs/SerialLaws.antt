@@ -17,7 +17,6 @@ use Rattle.tc_model.specs.Serial.{next_turn, AreThreads, NeverWaits, Rises, Ends
 use Rattle.tc_model.proofs.RisesBy.{rises_by, turns_none}
 use Rattle.call_steps.specs.PerCpu.{CpuLocal as Local, Step}
 use Rattle.call_steps.specs.declared.step.Step.TheVariants as does
-use Rattle.call_steps.specs.declared.step.CpuRow.TheVariants as front
 use Rattle.call_steps.specs.Kept.{call_at}
 use Rattle.alloc_rules.specs.PerCpu.{Part}
 use Rattle.alloc_rules.specs.Machine.{Parts, parts_of, place_of, first_of, rules, turns}

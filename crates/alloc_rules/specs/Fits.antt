@@ -4,7 +4,7 @@ use Rattle.tc_units.specs.declared.spans.ClassRow.{ClassRow}
 use Rattle.tc_model.specs.declared.machine.TheConstants.{MOST_PICKS}
 use Rattle.call_steps.specs.PerCpu.{CpuLocal as Local}
 use Rattle.call_steps.specs.Fits.{FitsCpuStep, FitsShardStep, FitsHeapStep, FitsMapStep, FitsNamesStep, FitsDomainStep}
-use Rattle.alloc_rules.specs.PerCpu.{Part, Cpu, Domain}
+use Rattle.alloc_rules.specs.PerCpu.{Part}
 use Rattle.alloc_rules.specs.declared.part.Part.TheVariants.{Front, Shard, Heap, Map, Names}
 use Rattle.alloc_rules.specs.declared.part.CpuFrontPart.TheVariants as at
 

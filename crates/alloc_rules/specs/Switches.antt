@@ -15,7 +15,7 @@ use Rattle.call_steps.specs.PerCpu.{CpuLocal as Local, Step}
 use Rattle.call_steps.specs.declared.step.Step.TheVariants as step
 use Rattle.call_steps.specs.declared.step.CpuRow.TheVariants as front
 use Rattle.call_steps.specs.CpuActs.{due}
-use Rattle.alloc_rules.specs.PerCpu.{Part, }
+use Rattle.alloc_rules.specs.PerCpu.{Part}
 use Rattle.alloc_rules.specs.declared.part.Part.TheVariants.{Front}
 use Rattle.alloc_rules.specs.declared.part.CpuFrontPart.TheVariants as at
 

@@ -1,5 +1,5 @@
 -- What an act of the per-CPU caches hands on may come next in its call.
-use Rattle.std.proofs.Common.{◌≡◌, refl, ℕ, ◌+◌, ◌<◌, true, false, eqb, List, [], ◌∷◌, length, Option, Some, None, ap, sym, subst, ◌∙◌, arith}
+use Rattle.std.proofs.Common.{◌≡◌, refl, ◌+◌, ◌<◌, true, eqb, List, [], ◌∷◌, length, Option, Some, None, ap, sym, subst, ◌∙◌, arith}
 use Rattle.std.specs.Prelude.{is_some}
 use Rattle.std.proofs.lemmas.Bool.{cond_both}
 use Rattle.std.proofs.lemmas.List.{length-append}
@@ -185,9 +185,11 @@ module _ (Serves : Regs → Type 0) (rows : List ClassRow) (v : CpuSeat) where
 
   pub domain_comes : (t : Transfer) (r : Regs) (row : DomainStep) → ((a : Asking) (objects : List Addr) → row ≡ domain.Take a → 0 < length objects → Serves (record r { hand = appended r.hand objects })) → MayCome (front.Domain row) (domain_acts rows t v r row)
   domain_comes t r (domain.Take a) some = let objects : List Addr = last_first (row_of rows r.class).batch t.objects in (takes_may r a objects (some a objects refl), refl)
-  domain_comes t r (domain.Put g) some =
-      (cond_both (fits_into t r.hand.items) (put_in t r.hand.items, record r { hand = emptied r.hand }, next.Gave (as_row g)) (t, r, next.Give (as_row g)) (λ (z : Transfer × Regs × Next). May (front.Domain (domain.Put g)) (z.1, z.2))
-      (λ e. sym (row_about g)) (λ e. sym (row_about g)), refl)
+  domain_comes t r (domain.Put g) some = (
+    cond_both (fits_into t r.hand.items) (put_in t r.hand.items, record r { hand = emptied r.hand }, next.Gave (as_row g)) (t, r, next.Give (as_row g)) (λ (z : Transfer × Regs × Next). May (front.Domain (domain.Put g)) (z.1, z.2))
+        (λ e. sym (row_about g)) (λ e. sym (row_about g)),
+    refl,
+  )
 
 -- Where the act fits, an allocation is served with an object in hand.
 module _ (rows : List ClassRow) (v : CpuSeat) where

@@ -17,7 +17,6 @@ use Rattle.call_steps.specs.Local.{Decided, first_of_malloc, first_of_call, firs
 use Rattle.call_steps.specs.Calls.{undecided, under, without_call, IsOf}
 use Rattle.call_steps.specs.PerCpu.{Step}
 use Rattle.call_steps.specs.declared.step.Step.TheVariants as does
-use Rattle.call_steps.specs.declared.step.CpuRow.TheVariants as front
 use Rattle.call_steps.specs.Kept.{decided_by, call_at, IsKept}
 use Rattle.call_steps.specs.CpuRows.{about_row}
 

@@ -1,6 +1,5 @@
 -- The per-CPU caches as a front-end: with which of their rows calls begin and go on, and what their acts leave.
-use Rattle.std.specs.Prelude.{ℕ, Bool, true, false, List, Option, Some, None}
-use Rattle.tc_units.specs.declared.units.Class.{Class}
+use Rattle.std.specs.Prelude.{Bool, true, false, List, Option, Some, None}
 use Rattle.tc_units.specs.declared.spans.ClassRow.{ClassRow}
 use Rattle.tc_model.specs.declared.calls.Call.{Call}
 use Rattle.tc_model.specs.declared.calls.Call.TheVariants.{Drain, Resize}
@@ -14,9 +13,6 @@ use Rattle.rseq_core.specs.declared.sequence.Seq.{Seq}
 use Rattle.rseq_core.specs.declared.sequence.Seq.TheVariants as seq
 use Rattle.transfer_cache.specs.Transfer.{Transfer}
 use Rattle.call_steps.specs.declared.seat.CpuSeat.{CpuSeat}
-use Rattle.call_steps.specs.declared.step.Asking.{Asking}
-use Rattle.call_steps.specs.declared.step.Serving.{Serving}
-use Rattle.call_steps.specs.declared.step.Freeing.{Freeing}
 use Rattle.call_steps.specs.declared.step.Stopping.TheVariants as stopping
 use Rattle.call_steps.specs.declared.step.Step.TheVariants as step
 use Rattle.call_steps.specs.declared.step.CpuRow.{CpuRow}

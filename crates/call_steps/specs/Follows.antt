@@ -1,5 +1,5 @@
 -- What comes behind an act of the front-end: how the call under way goes on, is decided or ends.
-use Rattle.std.specs.Prelude.{◌≡◌, ℕ, ◌<◌, Bool, true, List, length, Option, Some, None}
+use Rattle.std.specs.Prelude.{◌≡◌, ◌<◌, Bool, true, List, length, Option, Some, None}
 use Rattle.tc_units.specs.declared.spans.ClassRow.{ClassRow}
 use Rattle.tc_model.specs.declared.calls.Call.{Call}
 use Rattle.tc_model.specs.declared.calls.Call.TheVariants.{Free}
@@ -14,7 +14,7 @@ use Rattle.call_steps.specs.declared.step.Step.TheVariants as step
 use Rattle.call_steps.specs.declared.step.ShardStep.TheVariants as shard
 use Rattle.call_steps.specs.Fronts.{FrontCalls}
 use Rattle.call_steps.specs.Local.{Local, decided, goes, ends}
-use Rattle.call_steps.specs.Calls.{About, Asks, Publishes, Frees, Other, about_giving, call_about}
+use Rattle.call_steps.specs.Calls.{About, Asks, Publishes, Frees, Other, about_giving}
 use Rattle.call_steps.specs.Refusals.{is_refusal}
 use Rattle.call_steps.specs.Hands.{publishes, serves, gave}
 

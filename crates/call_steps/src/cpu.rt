@@ -120,7 +120,13 @@ fn sequence(
 }
 
 /// The call goes on by what its sequence replied.
-fn go_on(table: &ClassTable, seat: &CpuSeat, regs: &mut Regs, row: CpuStep, reply: Reply) -> Next<CpuRow>
+fn go_on(
+    table: &ClassTable,
+    seat: &CpuSeat,
+    regs: &mut Regs,
+    row: CpuStep,
+    reply: Reply,
+) -> Next<CpuRow>
     requires class { regs.old.class.0 < length table.now }
     requires row { IsSequence row }
     ensures regs { regs.new ≡ (replied table.now seat.now regs.old row reply).0 }

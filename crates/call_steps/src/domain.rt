@@ -33,7 +33,12 @@ pub fn act_domain(table: &ClassTable, cache: &mut TransferCache, local: &mut Loc
 }
 
 /// An allocation takes a batch, or looks in the shard.
-fn take(table: &ClassTable, cache: &mut TransferCache, regs: &mut Regs, asking: Asking) -> Next<CpuRow>
+fn take(
+    table: &ClassTable,
+    cache: &mut TransferCache,
+    regs: &mut Regs,
+    asking: Asking,
+) -> Next<CpuRow>
     requires batch { FitsBatch table.now regs.old }
     requires empty { regs.old.hand.items ≡ [] }
     ensures cache { cache.new ≡ record cache.old { objects = without_last (row_of table.now regs.old.class).batch cache.old.objects } }

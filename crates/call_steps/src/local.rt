@@ -12,9 +12,7 @@ ghost use Rattle.call_steps.specs.CpuRows.{about_row, cpu_place};
 ghost use Rattle.call_steps.specs.Kept.{target_of, IsLowWant};
 
 use crate::seat::{CpuSeat, place};
-use crate::step::{
-    Asking, CpuRow, CpuStep, HeapStep, NamesStep, ShardStep, Step, Target,
-};
+use crate::step::{Asking, CpuRow, CpuStep, HeapStep, NamesStep, ShardStep, Step, Target};
 use rseq_core::{HAND_ROOM, Regs, Seq};
 use size_classes::ClassTable;
 use std::alloc::{AllocError, Global};
@@ -89,7 +87,9 @@ impl Local {
         ensures low { IsLowWant result }
     {
         match self.step {
-            Step::Front(row) => Some(Target::Front(place(cpus, classes, &self.seat, &self.regs, row))),
+            Step::Front(row) => Some(Target::Front(place(
+                cpus, classes, &self.seat, &self.regs, row,
+            ))),
             Step::Shard(_) => Some(Target::Shard(self.regs.class)),
             Step::Heap(_) => Some(Target::Heap),
             Step::Map(_) => Some(Target::Map),

@@ -27,11 +27,7 @@ pub(crate) fn span_of(run: Run, kind: SpanKind) -> SpanRef
 }
 
 /// The act at the page map that the thread does next. Where memory is wanting, all is as before.
-pub fn act_map(
-    table: &ClassTable,
-    map: &mut PageMap,
-    local: &mut Local,
-) -> Result<(), AllocError>
+pub fn act_map(table: &ClassTable, map: &mut PageMap, local: &mut Local) -> Result<(), AllocError>
     requires fits { FitsMapStep map.old local.old local.old.step }
     requires acts { local.old.acts < 2 ^ 64 - 1 }
     ensures map { OnOk result (map.new ≡ (map_after (cpu_calls table.now) map.old local.old local.old.step).0) }

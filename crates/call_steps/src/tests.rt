@@ -1,6 +1,7 @@
 //! How calls begin, with steps that were worked out by hand.
 use crate::{
-    Asking, CpuRow, CpuSeat, CpuStep, Draining, HeapStep, Local, NamesStep, Resizing, Step, Stopping, Target,
+    Asking, CpuRow, CpuSeat, CpuStep, Draining, HeapStep, Local, NamesStep, Resizing, Step,
+    Stopping, Target,
 };
 use size_classes::ClassTable;
 use std::alloc::{AllocError, Global};
