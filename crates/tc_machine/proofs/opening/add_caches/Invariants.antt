@@ -1,7 +1,6 @@
 use Rattle.std.proofs.Common.{◌≡◌, ◌++◌, [], map}
 use Rattle.std.specs.Prelude.{replicate}
 use Rattle.transfer_cache.specs.Transfer.{Transfer}
-use Rattle.alloc_rules.specs.declared.part.Part.TheVariants as part
 use Rattle.alloc_rules.specs.PerCpu.{Domain}
 use Rattle.tc_machine.proofs.opening.add_caches.Given as goal
 

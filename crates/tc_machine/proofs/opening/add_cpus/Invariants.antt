@@ -1,6 +1,5 @@
 use Rattle.std.proofs.Common.{◌≡◌, ◌++◌, map}
 use Rattle.std.specs.Prelude.{replicate}
-use Rattle.alloc_rules.specs.declared.part.Part.TheVariants as part
 use Rattle.alloc_rules.specs.PerCpu.{Cpu}
 use Rattle.alloc_rules.specs.Machine.{first_cpu}
 use Rattle.tc_machine.specs.Opening.{limited}
