@@ -7,17 +7,20 @@ use Rattle.tcreplay.specs.declared.run.Telling.{Telling}
 use Rattle.tcreplay.specs.declared.run.Telling.TheVariants.{Whole}
 use Rattle.tcreplay.specs.declared.outcome.End.{End}
 use Rattle.tcreplay.specs.declared.outcome.End.TheVariants.{Done, Usage, ReadFault, WriteFault, Memory, FileFault}
-use Rattle.tcreplay.specs.Tasks.{Replay, Workload, Task, ToReplay, ToGenerate, file_of}
+use Rattle.journal_audit.specs.declared.verdict.Verdict as journal
+use Rattle.journal_audit.specs.declared.verdict.Verdict.TheVariants.{Yes, No}
+use Rattle.tcreplay.specs.Tasks.{Replay, Workload, Audit, Task, ToReplay, ToGenerate, ToAudit, file_of}
 use Rattle.alloc_rules.specs.Machine.{rules}
 use Rattle.tc_model.specs.Run.{run}
 use Rattle.tcreplay.specs.Verdict.{Given, Job, and_then, rows_in, asked_in, picks_or, job_with, job_of, run_verdict, have_ended, order_of_job, Verdict}
 use Rattle.tc_ports.specs.Faults.{Rose}
-use Rattle.tcreplay.specs.Reads.{Reading, Shelving, IsFile, HaveCome, AreGiven, CutOff}
+use Rattle.tcreplay.specs.Reads.{Reading, Shelving, IsFile, HaveCome, AreTold, AreGiven, CutOff}
 use Rattle.tcreplay.specs.Writes.{Writing, Ends, IsWritten, IsNoted}
 use Rattle.tcreplay.specs.Generating.{trace_of, generation_verdict, AreWritten, IsGenerationEnd, HasGenerated}
+use Rattle.tcreplay.specs.Auditing.{Case, case_with, case_in, ended_by, verdict_in, case_verdict, audit_verdict, HasAudited}
 use Rattle.tcreplay.specs.Replayed.{HasTried, verdict_on}
-use Rattle.tcreplay.specs.Outcomes.{IsAnswered, IsOutcome, SomeRose, SomeGenerationRose, IsComplete, order_file, given_by}
-use Rattle.tcreplay.proofs.EndFacts.{FailsJob, job_fails}
+use Rattle.tcreplay.specs.Outcomes.{IsAnswered, IsOutcome, SomeRose, SomeGenerationRose, IsComplete, order_file, given_by, audit_given_by}
+use Rattle.tcreplay.proofs.EndFacts.{FailsJob, job_fails, case_fails}
 use Rattle.tcreplay.proofs.RunFacts.{verdict_if}
 
 -- the same step behind a step, and steps that answer alike
@@ -32,18 +35,18 @@ picks_same all (Some name) file threads came told = ap (λ f. picks_or (Some nam
 -- what is told is what was given
 job_same : (replay : Replay) (given : Given) (all : Files) (text : List ℕ) → AreGiven replay (Some all) (Some text) given → job_of replay given ≡ job_of replay (given_by replay all text given.came)
 job_same replay given all text told =
-    ap (λ file. and_then (λ rows. and_then (job_with replay given rows) (asked_in rows given.trace)) (rows_in file)) told.table
-    ∙ (ap (λ bytes. and_then (λ rows. and_then (job_with replay given rows) (asked_in rows bytes)) (rows_in (get all replay.classes))) told.trace
+    ap (λ file. and_then (λ rows. and_then (job_with replay given rows) (asked_in rows given.trace)) (rows_in file)) told.told.table
+    ∙ (ap (λ bytes. and_then (λ rows. and_then (job_with replay given rows) (asked_in rows bytes)) (rows_in (get all replay.classes))) told.told.trace
     ∙ then_same (λ rows. and_then (job_with replay given rows) (asked_in rows text)) (λ rows. and_then (job_with replay (given_by replay all text given.came) rows) (asked_in rows text)) (rows_in (get all replay.classes))
     (λ rows. then_same (job_with replay given rows) (job_with replay (given_by replay all text given.came) rows) (asked_in rows text)
-    (λ asked. ap (and_then (λ picks. Ok (record { input = record { rows = rows; asked = asked }; picks = picks }))) (picks_same all (file_of replay.schedule) given.order asked.config.threads given.came told.order))))
+    (λ asked. ap (and_then (λ picks. Ok (record { input = record { rows = rows; asked = asked }; picks = picks }))) (picks_same all (file_of replay.schedule) given.file asked.config.threads given.came told.told.file))))
 
 -- what came between is want of memory, or a count that rose
-cut_by : (replay : Replay) (given : Given) (before after : Ends) (end : End) → CutOff replay given before.trace after.trace before.files after.files end → (end ≡ Memory) ⊎ SomeRose before after
-cut_by replay given before after Memory cut = inl refl
-cut_by replay given before after ReadFault cut = inr (inl cut.0)
-cut_by replay given before after FileFault cut = inr (inr (inl cut.0))
-cut_by replay given before after end cut = absurd cut
+cut_by : (given : Given) (before after : Ends) (end : End) → CutOff given before.trace after.trace before.files after.files end → (end ≡ Memory) ⊎ SomeRose before after
+cut_by given before after Memory cut = inl refl
+cut_by given before after ReadFault cut = inr (inl cut.0)
+cut_by given before after FileFault cut = inr (inr (inl cut.0))
+cut_by given before after end cut = absurd cut
 
 told_in : (replay : Replay) (given : Given) (before : Ends) (all : Files) (text : List ℕ) → before.files.files ≡ Some all → before.trace.left ≡ Some text → AreGiven replay before.files.files before.trace.left given → AreGiven replay (Some all) (Some text) given
 told_in replay given before all text files left told = subst (λ l. AreGiven replay (Some all) l given) left (subst (λ s. AreGiven replay s before.trace.left given) files told)
@@ -60,7 +63,7 @@ complete_tried replay before after end order tried all text files left =
         end_is = is.0 ∙ ap (λ (v : Verdict). v.end) same;
         order_is = is.1 ∙ ap (λ (v : Verdict). v.order) same;
       })
-      | inr (inl cut) ↦ inr (cut_by replay tried.given before after end cut.1)
+      | inr (inl cut) ↦ inr (cut_by tried.given before after end cut.1)
       | inr (inr failed) ↦ inr (inr (inr (inr (subst (λ e. IsWritten e (verdict_on replay tried.given).text before.out after.out) failed.0 tried.out).rose)))
     ]
 
@@ -84,14 +87,14 @@ run_usage telling replay given (Ok job) is = by_end (have_ended (rules job.input
     by_end true telling job = refl
     by_end false telling job = refl
 
-cut_usage : (replay : Replay) (given : Given) (t u : Reading) (f g : Shelving) (end : End) → CutOff replay given t u f g end → is_usage end ≡ false
-cut_usage replay given t u f g Usage cut = absurd cut
-cut_usage replay given t u f g end cut = refl
+cut_usage : (given : Given) (t u : Reading) (f g : Shelving) (end : End) → CutOff given t u f g end → is_usage end ≡ false
+cut_usage given t u f g Usage cut = absurd cut
+cut_usage given t u f g end cut = refl
 
 tried_usage : (replay : Replay) (t u : Reading) (f g : Shelving) (before after : Writing) (end : End) (order : List ℕ) → HasTried replay t u f g before after end order → is_usage end ≡ false
 tried_usage replay t u f g before after end order tried = elim tried.answer [
   | inl is ↦ ap is_usage is.0 ∙ run_usage (Whole replay.rows) replay tried.given (job_of replay tried.given) refl
-  | inr (inl cut) ↦ cut_usage replay tried.given t u f g end cut.1
+  | inr (inl cut) ↦ cut_usage tried.given t u f g end cut.1
   | inr (inr failed) ↦ ap is_usage failed.0
 ]
 
@@ -130,6 +133,41 @@ generated_usage : (end : End) → IsGenerationEnd end → is_usage end ≡ false
 generated_usage Usage is = absurd is
 generated_usage end is = refl
 
+-- a journal was judged
+case_same : (audit : Audit) (given : Given) (all : Files) (text : List ℕ) → AreTold audit.classes (Some audit.journal) (Some all) (Some text) given → case_in given ≡ case_in (audit_given_by audit all text)
+case_same audit given all text told =
+    ap (λ file. and_then (λ rows. and_then (case_with given rows) (asked_in rows given.trace)) (rows_in file)) told.table
+    ∙ (ap (λ bytes. and_then (λ rows. and_then (case_with given rows) (asked_in rows bytes)) (rows_in (get all audit.classes))) told.trace
+    ∙ ap (λ file. and_then (λ rows. and_then (case_with (record (audit_given_by audit all text) { file = file }) rows) (asked_in rows text)) (rows_in (get all audit.classes))) told.file)
+
+audit_told_in : (audit : Audit) (given : Given) (before : Ends) (all : Files) (text : List ℕ) → before.files.files ≡ Some all → before.trace.left ≡ Some text → AreTold audit.classes (Some audit.journal) before.files.files before.trace.left given → AreTold audit.classes (Some audit.journal) (Some all) (Some text) given
+audit_told_in audit given before all text files left told =
+    subst (λ l. AreTold audit.classes (Some audit.journal) (Some all) l given) left (subst (λ s. AreTold audit.classes (Some audit.journal) s before.trace.left given) files told)
+
+complete_audited : (audit : Audit) (before after : Ends) (end : End) (order : List ℕ) → HasAudited audit before.trace after.trace before.files after.files before.out after.out end order → IsComplete (Some (ToAudit audit)) before after end order
+complete_audited audit before after end order tried all text files left =
+    let told = audit_told_in audit tried.given before all text files left tried.told in
+    elim tried.answer [
+      | inl is ↦ inl (is ∙ ap (λ r. (case_verdict r).end) (case_same audit tried.given all text told))
+      | inr (inl cut) ↦ inr (cut_by tried.given before after end cut)
+      | inr (inr failed) ↦ inr (inr (inr (inr (subst (λ e. IsWritten e (audit_verdict tried.given).text before.out after.out) failed.0 tried.out).rose)))
+    ]
+
+case_usage : (given : Given) (r : Result Case End) → case_in given ≡ r → is_usage (case_verdict r).end ≡ false
+case_usage given (Err end) is = case_fails is_usage given end not_usage is
+case_usage given (Ok case) is = by_verdict (verdict_in case)
+  where
+    by_verdict : (v : journal.Verdict) → is_usage (ended_by v).end ≡ false
+    by_verdict (Yes calls) = refl
+    by_verdict (No line why) = refl
+
+audited_usage : (audit : Audit) (t u : Reading) (f g : Shelving) (before after : Writing) (end : End) (order : List ℕ) → HasAudited audit t u f g before after end order → is_usage end ≡ false
+audited_usage audit t u f g before after end order tried = elim tried.answer [
+  | inl is ↦ ap is_usage is ∙ case_usage tried.given (case_in tried.given) refl
+  | inr (inl cut) ↦ cut_usage tried.given t u f g end cut
+  | inr (inr failed) ↦ ap is_usage failed.0
+]
+
 -- the clauses of the top call, by what the words ask for
 pub usage_by : (asked : Option Task) (before after : Ends) (end : End) (order : List ℕ) → IsAnswered asked before after end order → (end ≡ Usage) ↔ (asked ≡ None)
 usage_by None before after end order refused = (λ _. refl, λ _. refused.usage)
@@ -137,6 +175,8 @@ usage_by (Some (ToReplay replay)) before after end order tried =
     (λ usage. absurd (let e : true ≡ false = sym (ap is_usage usage) ∙ tried_usage replay before.trace after.trace before.files after.files before.out after.out end order tried.0 in cc), λ none. absurd (cc))
 usage_by (Some (ToGenerate workload)) before after end order generated =
     (λ usage. absurd (let e : true ≡ false = sym (ap is_usage usage) ∙ generated_usage end generated.ends in cc), λ none. absurd (cc))
+usage_by (Some (ToAudit audit)) before after end order tried =
+    (λ usage. absurd (let e : true ≡ false = sym (ap is_usage usage) ∙ audited_usage audit before.trace after.trace before.files after.files before.out after.out end order tried.0 in cc), λ none. absurd (cc))
 
 pub usage_is : (asked : Option Task) (before after : Ends) (end : End) (order : List ℕ) → IsOutcome asked before after end order → (end ≡ Usage) ↔ (asked ≡ None)
 usage_is asked before after end order outcome = usage_by asked before (record after { notes = outcome.noted }) end order outcome.answered
@@ -145,6 +185,7 @@ complete_by : (asked : Option Task) (before after : Ends) (noted : Writing) (end
 complete_by None before after noted end order refused told = refused.usage
 complete_by (Some (ToReplay replay)) before after noted end order tried told = complete_tried replay before after end order tried.0
 complete_by (Some (ToGenerate workload)) before after noted end order generated told = complete_generated workload before after noted end order generated told
+complete_by (Some (ToAudit audit)) before after noted end order tried told = complete_audited audit before after end order tried.0
 
 pub complete_is : (asked : Option Task) (before after : Ends) (end : End) (order : List ℕ) → IsOutcome asked before after end order → IsComplete asked before after end order
 complete_is asked before after end order outcome = complete_by asked before after outcome.noted end order outcome.answered outcome.notes

@@ -11,8 +11,10 @@ use Rattle.trace_reader.specs.Reading.{asked_by}
 use Rattle.trace_reader.specs.Orders.{picks_by}
 use Rattle.tcreplay.specs.declared.outcome.End.{End}
 use Rattle.tcreplay.specs.declared.outcome.End.TheVariants.{BadTable, BadTrace, Memory, TooLong, BadOrder, FileFault}
+use Rattle.tc_model.specs.Input.{Asked}
 use Rattle.tcreplay.specs.Tasks.{Replay, file_of}
-use Rattle.tcreplay.specs.Verdict.{Given, and_then, or_end, within, file_within, table_limit, trace_limit, table_end, trace_end, order_end, rows_in, asked_of_text, asked_in, picks_or, job_with, job_of}
+use Rattle.tcreplay.specs.Auditing.{case_of, case_with, case_in}
+use Rattle.tcreplay.specs.Verdict.{Given, and_then, or_end, within, file_within, table_limit, trace_limit, table_end, trace_end, order_end, rows_in, asked_of_text, asked_in, picks_or, job_with, job_of, read_of}
 
 -- a test that no end of the reading passes
 pub record Fails (p : End → Bool) : Type 0 where
@@ -71,11 +73,20 @@ picks_ends p None threads file came fails = tt
 picks_ends p (Some name) threads file came fails =
     then_ends p (λ bytes. or_end order_end (picks_by threads bytes)) (file_within trace_limit file) (file_ends p trace_limit file fails.table.all) (λ bytes. or_ends p order_end (picks_by threads bytes) (λ bad. fails.order bad.line bad.why))
 
+read_ends : {J : Type 0} (p : End → Bool) (behind : Given → List ClassRow → Asked → Result J End) (given : Given) → FailsJob p → ((rows : List ClassRow) (asked : Asked) → Ends p (behind given rows asked)) → Ends p (read_of behind given)
+read_ends p behind given fails later =
+    then_ends p (λ rows. and_then (behind given rows) (asked_in rows given.trace)) (rows_in given.table) (rows_ends p given.table fails.table)
+    (λ rows. then_ends p (behind given rows) (asked_in rows given.trace) (asked_ends p rows given.trace fails) (later rows))
+
 job_ends : (p : End → Bool) (replay : Replay) (given : Given) → FailsJob p → Ends p (job_of replay given)
 job_ends p replay given fails =
-    then_ends p (λ rows. and_then (job_with replay given rows) (asked_in rows given.trace)) (rows_in given.table) (rows_ends p given.table fails.table)
-    (λ rows. then_ends p (job_with replay given rows) (asked_in rows given.trace) (asked_ends p rows given.trace fails)
-    (λ asked. then_ends p (λ picks. Ok (record { input = record { rows = rows; asked = asked }; picks = picks })) (picks_or (file_of replay.schedule) asked.config.threads given.order given.came) (picks_ends p (file_of replay.schedule) asked.config.threads given.order given.came fails) (λ picks. tt)))
+    read_ends p (job_with replay) given fails
+    (λ rows asked. then_ends p (λ picks. Ok (record { input = record { rows = rows; asked = asked }; picks = picks })) (picks_or (file_of replay.schedule) asked.config.threads given.file given.came) (picks_ends p (file_of replay.schedule) asked.config.threads given.file given.came fails) (λ picks. tt))
+
+case_ends : (p : End → Bool) (given : Given) → FailsJob p → Ends p (case_in given)
+case_ends p given fails =
+    read_ends p case_with given fails
+    (λ rows asked. then_ends p (λ journal. Ok (case_of (record { rows = rows; asked = asked }) journal)) (file_within trace_limit given.file) (file_ends p trace_limit given.file fails.table.all) (λ journal. tt))
 
 -- an end that a class table, or the reading, came to fails the test
 pub table_fails : (p : End → Bool) (file : Option (List ℕ)) (end : End) → FailsTable p → rows_in file ≡ Err end → p end ≡ false
@@ -83,3 +94,6 @@ table_fails p file end fails is = subst (Ends p) is (rows_ends p file fails)
 
 pub job_fails : (p : End → Bool) (replay : Replay) (given : Given) (end : End) → FailsJob p → job_of replay given ≡ Err end → p end ≡ false
 job_fails p replay given end fails is = subst (Ends p) is (job_ends p replay given fails)
+
+pub case_fails : (p : End → Bool) (given : Given) (end : End) → FailsJob p → case_in given ≡ Err end → p end ≡ false
+case_fails p given end fails is = subst (Ends p) is (case_ends p given fails)

@@ -8,7 +8,7 @@ use Rattle.tc_ports.specs.Told.{Took}
 use Rattle.trace_reader.specs.Reading.{asked_by}
 use Rattle.tc_machine.specs.Inputs.{asked_of}
 use Rattle.tcreplay.specs.declared.outcome.End.{End}
-use Rattle.tcreplay.specs.declared.outcome.End.TheVariants.{Done, Usage, BadTable, BadTrace, ReadFault, WriteFault, Memory, TooLong, Full, BadOrder, FileFault}
+use Rattle.tcreplay.specs.declared.outcome.End.TheVariants.{Done, Usage, BadTable, BadTrace, ReadFault, WriteFault, Memory, TooLong, Full, BadOrder, FileFault, AuditNo}
 use Rattle.tcreplay.specs.declared.generate.Made.{Made}
 use Rattle.tcreplay.specs.declared.run.Ran.{Ran}
 use Rattle.tcreplay.specs.declared.run.Telling.TheVariants.{Summary}
@@ -86,6 +86,7 @@ is_barred Usage = true
 is_barred (BadTrace line why) = true
 is_barred ReadFault = true
 is_barred (BadOrder line why) = true
+is_barred (AuditNo line why) = true
 is_barred end = false
 
 not_barred : FailsTable is_barred
@@ -103,6 +104,7 @@ generation_end_by (TooLong limit) is = tt
 generation_end_by (Full ticket) is = tt
 generation_end_by (BadOrder line why) is = absurd (cc)
 generation_end_by FileFault is = tt
+generation_end_by (AuditNo line why) is = absurd (cc)
 
 -- a replay that can't begin ends at the class table
 table_ends : (workload : Workload) (end : End) → ((rows : List ClassRow) → IsOk (asked_of_text rows (trace_of workload))) → (file : Option (List ℕ)) (rows : Result (List ClassRow) End) → rows_in file ≡ rows → and_then (generation_job_with workload) rows ≡ Err end → rows_in file ≡ Err end

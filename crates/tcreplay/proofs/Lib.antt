@@ -11,6 +11,7 @@ pub mod NoteFacts
 pub mod EndFacts
 pub mod RanFacts
 pub mod TriedFacts
+pub mod AuditFacts
 pub mod GenerateFacts
 pub mod CompleteFacts
 pub mod WorkerFacts

@@ -1,10 +1,10 @@
 -- What a try at a replay comes to, from what its steps come to.
-use Rattle.std.proofs.Common.{◌≡◌, ℕ, true, false, List, [], Option, Some, None, Result, Ok, Err, refl, sym, ap, subst, ◌∙◌, inl, inr}
+use Rattle.std.proofs.Common.{◌≡◌, ℕ, true, false, List, [], Option, Some, None, Result, Ok, Err, refl, sym, ap, subst, ◌∙◌, inl, inr, arith}
 use Rattle.tc_units.specs.declared.spans.ClassRow.{ClassRow}
 use Rattle.tc_model.specs.Input.{Asked}
 use Rattle.tc_ports.specs.Told.{Took}
 use Rattle.tcreplay.specs.declared.outcome.End.{End}
-use Rattle.tcreplay.specs.declared.outcome.End.TheVariants.{Done, WriteFault, Memory, Full}
+use Rattle.tcreplay.specs.declared.outcome.End.TheVariants.{Done, WriteFault, Memory}
 use Rattle.tcreplay.specs.declared.input.Job.{Job}
 use Rattle.tcreplay.specs.declared.run.Ran.{Ran}
 use Rattle.tcreplay.specs.declared.run.Telling.{Telling}
@@ -13,7 +13,7 @@ use Rattle.tcreplay.specs.declared.words.Locks.{Locks}
 use Rattle.tcreplay.specs.Tasks.{Replay, Schedule, InTurn, ByFile, ByThreads, file_of, locks_in}
 use Rattle.tcreplay.specs.Verdict as verdict
 use Rattle.tcreplay.specs.Verdict.{Given, Verdict, and_then, rows_in, asked_in, picks_or, job_with, have_ended, run_verdict, order_of_job, job_of, text_with}
-use Rattle.tcreplay.specs.Reads.{Reading, Shelving, IsMadeOf, HaveCome, AreGiven, HasRead, IsJobRead, CutOff, is_behind_run, seen_job}
+use Rattle.tcreplay.specs.Reads.{Reading, Shelving, IsMadeOf, HaveCome, AreGiven, HasRead, IsJobRead, is_behind_run, seen_job}
 use Rattle.tcreplay.specs.Ran.{seen_ran, IsRan, IsRanByThreads}
 use Rattle.tcreplay.specs.Writes.{Writing, IsWritten, IsLastEnd}
 use Rattle.tc_machine.specs.Lawful.{IsLawful}
@@ -25,8 +25,8 @@ use Rattle.tcreplay.proofs.RunFacts.{completed_is}
 use Rattle.tcreplay.proofs.RanFacts.{order_is, lawful, text_is, have_all_ended, told_scripts, its_run}
 
 -- what was read without a refusal was read for any end
-read_for : (replay : Replay) (given : Given) (t u : Reading) (f g : Shelving) (end : End) → HasRead replay given t u f g Done → HasRead replay given t u f g end
-read_for replay given t u f g end read = record {
+pub read_for : (file : Option (List ℕ)) (given : Given) (t u : Reading) (f g : Shelving) (end : End) → HasRead file given t u f g Done → HasRead file given t u f g end
+read_for file given t u f g end read = record {
   files = read.files;
   loads = read.loads;
   behind_run = λ _. read.behind_run refl;
@@ -40,20 +40,31 @@ read_for replay given t u f g end read = record {
 }
 
 -- before a run nothing is written
-untouched : (end : End) (text : List ℕ) (out : Writing) → is_behind_run end ≡ false → IsWritten end text out out
+pub untouched : (end : End) (text : List ℕ) (out : Writing) → is_behind_run end ≡ false → IsWritten end text out out
 untouched Done text out early = absurd (cc)
 untouched WriteFault text out early = absurd (cc)
 untouched end text out early = refl
 
-not_later : (end : End) → is_behind_run end ≡ false → is_behind_run end ≡ true → ⊥
+pub not_later : (end : End) → is_behind_run end ≡ false → is_behind_run end ≡ true → ⊥
 not_later end early later = let e : false ≡ true = sym early ∙ later in cc
+
+-- before a run no picks came
+none_came : (schedule : Schedule) (job : Result verdict.Job End) (came : List ℕ) → came ≡ [] → HaveCome schedule job came
+none_came InTurn job came none = none
+none_came (ByFile order) job came none = none
+none_came (ByThreads locks) (Ok job) came none = subst (IsMadeOf job.input) (sym none) (record { polite = tt; few = omega arith; switches = λ c. omega arith })
+none_came (ByThreads locks) (Err end) came none = none
+
+-- what was read is what a replay was given, of which no thread has run
+given_to : (replay : Replay) (t u : Reading) (f g : Shelving) (result : Result Job End) (read : IsJobRead replay t u f g result) → AreGiven replay f.files t.left read.given
+given_to replay t u f g result read = record { told = read.told; came = none_came replay.schedule (job_of replay read.given) read.given.came read.none_came }
 
 -- the reading ended the work
 pub tried_stopped : (replay : Replay) (t u : Reading) (f g : Shelving) (out : Writing) (end : End) (order : List ℕ) → order ≡ [] → IsJobRead replay t u f g (Err end) → HasTried replay t u f g out out end order
 tried_stopped replay t u f g out end order none read =
     let early : is_behind_run end ≡ false = elim read.answer [
       | inl e ↦ job_fails is_behind_run replay read.given end not_run e
-      | inr cut ↦ cut_early replay read.given t u f g end cut
+      | inr cut ↦ cut_early read.given t u f g end cut
     ] in
     let answer : IsAnswer replay read.given t u f g end order = elim read.answer [
       | inl e ↦ inl (sym (ap (λ r. (run_verdict (Whole replay.rows) r).end) e), none ∙ sym (ap (λ r. (run_verdict (Whole replay.rows) r).order) e))
@@ -61,7 +72,7 @@ tried_stopped replay t u f g out end order none read =
     ] in
     record {
       given = read.given;
-      told = read.told;
+      told = given_to replay t u f g (Err end) read;
       answer = answer;
       read = read.read;
       out = untouched end (verdict_on replay read.given).text out early;
@@ -78,9 +89,9 @@ tried_at replay t u f g out end answered order same none read = subst (λ e. Has
 pub tried_memory : (replay : Replay) (t u : Reading) (f g : Shelving) (out : Writing) (job : Job) (order : List ℕ) → order ≡ [] → IsJobRead replay t u f g (Ok job) → HasTried replay t u f g out out Memory order
 tried_memory replay t u f g out job order none read = record {
   given = read.given;
-  told = read.told;
+  told = given_to replay t u f g (Ok job) read;
   answer = inr (inl (none, tt));
-  read = read_for replay read.given t u f g Memory read.read;
+  read = read_for (file_of replay.schedule) read.given t u f g Memory read.read;
   out = refl;
   law = λ later. absurd (cc);
   run = λ later. absurd (cc);
@@ -92,7 +103,7 @@ took : (end : End) (text : List ℕ) (before after : Writing) → end ≡ Done �
 took end text before after done written = (subst (λ e. IsWritten e text before after) done written).taken
 
 module _ (replay : Replay) (given : Given) (t u : Reading) (f g : Shelving) (before after : Writing) (job : verdict.Job) (ran : Ran) (end : End) (order : List ℕ)
-    (told : AreGiven replay f.files t.left given) (asked : job_of replay given ≡ Ok job) (read : HasRead replay given t u f g Done) (is : IsRan (Whole replay.rows) job.input (order_of_job job) ran) (made : IsCompleted replay.schedule job (order_of_job job))
+    (told : AreGiven replay f.files t.left given) (asked : job_of replay given ≡ Ok job) (read : HasRead (file_of replay.schedule) given t u f g Done) (is : IsRan (Whole replay.rows) job.input (order_of_job job) ran) (made : IsCompleted replay.schedule job (order_of_job job))
     (last : IsLastEnd ran.end end) (same : order ≡ ran.order.items) (written : IsWritten end ran.text.items before after) where
   verdict_is : verdict_on replay given ≡ seen_ran ran
   verdict_is = ap (run_verdict (Whole replay.rows)) asked ∙ sym is.is
@@ -127,7 +138,7 @@ module _ (replay : Replay) (given : Given) (t u : Reading) (f g : Shelving) (bef
     given = given;
     told = told;
     answer = answered last;
-    read = read_for replay given t u f g end read;
+    read = read_for (file_of replay.schedule) given t u f g end read;
     out = subst (λ (v : Verdict). IsWritten end v.text before after) (sym verdict_is) written;
     law = λ _. of_job (λ (j : verdict.Job). IsLawful j.input order) (lawful telling job ran end order is last same);
     run = λ _. of_job (λ (j : verdict.Job). IsOrderOf replay.schedule j end order) (its_run telling job ran end order is last same replay.schedule made);
@@ -141,11 +152,11 @@ alone_is (ByFile file) job order alone = tt
 alone_is (ByThreads locks) job order alone = absurd (cc)
 
 pub tried_ran : (replay : Replay) (t u : Reading) (f g : Shelving) (before after : Writing) (job : Job) (ran : Ran) (end : End) (order : List ℕ) → locks_in replay.schedule ≡ None → IsJobRead replay t u f g (Ok job) → IsRan (Whole replay.rows) (seen_job job).input (order_of_job (seen_job job)) ran → IsLastEnd ran.end end → order ≡ ran.order.items → IsWritten end ran.text.items before after → HasTried replay t u f g before after end order
-tried_ran replay t u f g before after job ran end order alone read is last same written = tried_by replay read.given t u f g before after (seen_job job) ran end order read.told read.answer read.read is (alone_is replay.schedule (seen_job job) (order_of_job (seen_job job)) alone) last same written
+tried_ran replay t u f g before after job ran end order alone read is last same written = tried_by replay read.given t u f g before after (seen_job job) ran end order (given_to replay t u f g (Ok job) read) read.answer read.read is (alone_is replay.schedule (seen_job job) (order_of_job (seen_job job)) alone) last same written
 
 -- what was given, with the picks that came
 abbrev given_with : Given → List ℕ → Given
-given_with given came = record { table = given.table; trace = given.trace; order = given.order; came = came }
+given_with given came = record { table = given.table; trace = given.trace; file = given.file; came = came }
 
 abbrev job_behind : verdict.Job → List ℕ → verdict.Job
 job_behind job came = record { input = job.input; picks = came }
@@ -166,9 +177,9 @@ job_came rows asked (Some name) file came none = absurd (cc)
 behind_asked : (replay : Replay) (given : Given) (came : List ℕ) (job : verdict.Job) (rows : List ClassRow) → file_of replay.schedule ≡ None → (asked : Result Asked End) → and_then (job_with replay given rows) asked ≡ Ok job → and_then (job_with replay (given_with given came) rows) asked ≡ Ok (job_behind job came)
 behind_asked replay given came job rows none (Err end) is = absurd (cc)
 behind_asked replay given came job rows none (Ok asked) is =
-    let plain : Ok (job_made rows asked given.came) ≡ Ok job = sym (job_came rows asked (file_of replay.schedule) given.order given.came none) ∙ is in
+    let plain : Ok (job_made rows asked given.came) ≡ Ok job = sym (job_came rows asked (file_of replay.schedule) given.file given.came none) ∙ is in
     let same : job_made rows asked given.came ≡ job = cc in
-    subst (λ (j : verdict.Job). and_then (job_with replay (given_with given came) rows) (Ok asked) ≡ Ok (job_behind j came)) same (job_came rows asked (file_of replay.schedule) given.order came none)
+    subst (λ (j : verdict.Job). and_then (job_with replay (given_with given came) rows) (Ok asked) ≡ Ok (job_behind j came)) same (job_came rows asked (file_of replay.schedule) given.file came none)
 
 behind_rows : (replay : Replay) (given : Given) (came : List ℕ) (job : verdict.Job) → file_of replay.schedule ≡ None → (rows : Result (List ClassRow) End) → and_then (λ rows. and_then (job_with replay given rows) (asked_in rows given.trace)) rows ≡ Ok job → and_then (λ rows. and_then (job_with replay (given_with given came) rows) (asked_in rows given.trace)) rows ≡ Ok (job_behind job came)
 behind_rows replay given came job none (Err end) is = absurd (cc)
@@ -191,6 +202,6 @@ tried_threads replay locks t u f g before after job ran end order threads read b
     let given : Given = given_with read.given came in
     let none : file_of replay.schedule ≡ None = no_file replay.schedule locks threads in
     let asked : job_of replay given ≡ Ok (job_behind (seen_job job) came) = behind_rows replay read.given came (seen_job job) none (rows_in read.given.table) read.answer in
-    let told : AreGiven replay f.files t.left given = record { table = read.told.table; trace = read.told.trace; order = read.told.order; came = subst (λ j. HaveCome replay.schedule j came) (sym asked) (came_is replay.schedule locks (seen_job job) came threads by_threads.made) } in
-    let had : HasRead replay given t u f g Done = record { files = read.read.files; loads = elim read.read.loads [ inl once ↦ inl once | inr two ↦ inr (record { twice = two.twice; named = two.named; good = two.good; drained = two.drained }) ]; behind_run = read.read.behind_run; behind_file = read.read.behind_file; file_count = read.read.file_count; untouched = read.read.untouched; lost = read.read.lost; reads = read.read.reads; drained = read.read.drained; trace_count = read.read.trace_count } in
+    let told : AreGiven replay f.files t.left given = record { told = record { table = read.told.table; trace = read.told.trace; file = read.told.file }; came = subst (λ j. HaveCome replay.schedule j came) (sym asked) (came_is replay.schedule locks (seen_job job) came threads by_threads.made) } in
+    let had : HasRead (file_of replay.schedule) given t u f g Done = record { files = read.read.files; loads = elim read.read.loads [ inl once ↦ inl once | inr two ↦ inr (record { twice = two.twice; named = two.named; good = two.good; drained = two.drained }) ]; behind_run = read.read.behind_run; behind_file = read.read.behind_file; file_count = read.read.file_count; untouched = read.read.untouched; lost = read.read.lost; reads = read.read.reads; drained = read.read.drained; trace_count = read.read.trace_count } in
     tried_by replay given t u f g before after (job_behind (seen_job job) came) ran end order told asked had by_threads.whole (completed_by replay.schedule locks (seen_job job) came threads by_threads.made) last same written

@@ -8,7 +8,7 @@ use Rattle.tcreplay.specs.declared.words.Kind.{Kind}
 use Rattle.tcreplay.specs.declared.words.Kind.TheVariants as kind
 use Rattle.tcreplay.specs.declared.words.Flag.{Flag}
 use Rattle.tcreplay.specs.declared.words.Flag.TheVariants as flag
-use Rattle.tcreplay.specs.Words.{Options, no_options, name_of, locks_of, number_in, once, is_rows, taken_flag, with_rows, with_value, options_of, kind_of, Command, Serial, Order, Workers, Gen, locks_or, command_with, command_of}
+use Rattle.tcreplay.specs.Words.{Options, no_options, name_of, locks_of, number_in, once, is_rows, taken_flag, with_rows, with_value, options_of, kind_of, Command, Serial, Order, Workers, Gen, Audit, locks_or, command_with, command_of}
 use Rattle.tcreplay.specs.declared.task.Task.{Task}
 use Rattle.tcreplay.specs.Tasks.{IsTask, task_of, task_by}
 use Rattle.tcreplay.specs.Seen.{seen_task}
@@ -69,6 +69,7 @@ value_ranged so flag.Rows word are = tt
 value_ranged so flag.Seed word are = mapped (λ n. record so { seed = Some n }) (λ n. (0 ≤ n) × (n ≤ 2147483647)) AreRanged (once so.seed (number_in 0 2147483647 word)) (once_is (λ n. (0 ≤ n) × (n ≤ 2147483647)) so.seed (number_in 0 2147483647 word) (in_range 0 2147483647 word)) (λ n is. record { seed = is; calls = are.calls; threads = are.threads })
 value_ranged so flag.Calls word are = mapped (λ n. record so { calls = Some n }) (λ n. (1 ≤ n) × (n ≤ 500000)) AreRanged (once so.calls (number_in 1 500000 word)) (once_is (λ n. (1 ≤ n) × (n ≤ 500000)) so.calls (number_in 1 500000 word) (in_range 1 500000 word)) (λ n is. record { seed = are.seed; calls = is; threads = are.threads })
 value_ranged so flag.Threads word are = mapped (λ n. record so { threads = Some n }) (λ n. (1 ≤ n) × (n ≤ 64)) AreRanged (once so.threads (number_in 1 64 word)) (once_is (λ n. (1 ≤ n) × (n ≤ 64)) so.threads (number_in 1 64 word) (in_range 1 64 word)) (λ n is. record { seed = are.seed; calls = are.calls; threads = is })
+value_ranged so flag.Journal word are = mapped (λ name. record so { journal = Some name }) (λ _. Unit {0}) AreRanged (once so.journal (name_of word)) (any_one (once so.journal (name_of word))) (λ name _. record { seed = are.seed; calls = are.calls; threads = are.threads })
 
 rows_ranged : (so : Options) → AreRanged so → IfSome (with_rows so) AreRanged
 rows_ranged so are = by_rows so so.rows are
@@ -107,6 +108,9 @@ command_ranged kind.Gen so are =
     (λ seed seeds. behind (λ calls. option_map (λ threads. Gen classes seed calls threads) so.threads) (λ n. (1 ≤ n) × (n ≤ 500000)) IsRangedCommand so.calls are.calls
     (λ calls count. mapped (λ threads. Gen classes seed calls threads) (λ n. (1 ≤ n) × (n ≤ 64)) IsRangedCommand so.threads are.threads
     (λ threads many. record { seed = seeds.1; some_calls = count.0; calls = count.1; some_threads = many.0; threads = many.1 }))))
+command_ranged kind.Audit so are =
+    behind (λ classes. option_map (λ journal. Audit classes journal) so.journal) (λ _. Unit {0}) IsRangedCommand so.classes (any_one so.classes)
+    (λ classes _. mapped (λ journal. Audit classes journal) (λ _. Unit {0}) IsRangedCommand so.journal (any_one so.journal) (λ journal _. tt))
 
 command_of_ranged : (words : List (List ℕ)) → IfSome (command_of words) IsRangedCommand
 command_of_ranged [] = tt

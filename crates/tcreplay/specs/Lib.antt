@@ -11,4 +11,5 @@ pub mod Ran
 pub mod Came
 pub mod Replayed
 pub mod Generating
+pub mod Auditing
 pub mod Outcomes

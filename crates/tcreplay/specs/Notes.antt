@@ -6,8 +6,10 @@ use Rattle.trace_reader.specs.declared.why.LineWhy.{LineWhy}
 use Rattle.trace_reader.specs.declared.why.LineWhy.TheVariants as line
 use Rattle.trace_reader.specs.declared.why.OrderWhy.{OrderWhy}
 use Rattle.trace_reader.specs.declared.why.OrderWhy.TheVariants as order
+use Rattle.journal_audit.specs.declared.verdict.AuditWhy.{AuditWhy}
+use Rattle.journal_audit.specs.declared.verdict.AuditWhy.TheVariants as audit
 use Rattle.tcreplay.specs.declared.outcome.End.{End}
-use Rattle.tcreplay.specs.declared.outcome.End.TheVariants.{Done, Usage, BadTable, BadTrace, ReadFault, WriteFault, Memory, TooLong, Full, BadOrder, FileFault}
+use Rattle.tcreplay.specs.declared.outcome.End.TheVariants.{Done, Usage, BadTable, BadTrace, ReadFault, WriteFault, Memory, TooLong, Full, BadOrder, FileFault, AuditNo}
 
 -- the rule that a record of a class table fails
 abbrev pub row_word : RowWhy → List ℕ
@@ -43,6 +45,17 @@ order_word order.Number = codes "number"
 order_word order.Thread = codes "thread"
 order_word order.Picks = codes "picks"
 
+-- the rule that a journal fails
+abbrev pub audit_word : AuditWhy → List ℕ
+audit_word audit.Lines = codes "lines"
+audit_word audit.Form = codes "form"
+audit_word audit.Order = codes "order"
+audit_word audit.Length = codes "length"
+audit_word audit.Arena = codes "arena"
+audit_word audit.Overlap = codes "overlap"
+audit_word audit.Address = codes "address"
+audit_word audit.Missing = codes "missing"
+
 -- the number of a record or a line, and the rule that it fails
 abbrev pub place_of : List ℕ → ℕ → List ℕ → List ℕ
 place_of what number why = what ++ decimal number ++ codes ": " ++ why
@@ -60,6 +73,7 @@ cause_of (TooLong limit) = codes "longer than " ++ decimal limit ++ codes " byte
 cause_of (Full ticket) = codes "events limit " ++ decimal ticket
 cause_of (BadOrder line why) = place_of (codes "order line ") line (order_word why)
 cause_of FileFault = codes "file fault"
+cause_of (AuditNo line why) = place_of (codes "audit line ") line (audit_word why)
 
 -- the line that tells an end
 abbrev pub note_of : End → List ℕ

@@ -5,12 +5,13 @@ use Rattle.tc_ports.specs.Faults.{Rose}
 use Rattle.tc_ports.specs.Shelves.{Files}
 use Rattle.tcreplay.specs.declared.outcome.End.{End}
 use Rattle.tcreplay.specs.declared.outcome.End.TheVariants.{Usage, Memory}
-use Rattle.tcreplay.specs.Tasks.{Replay, Task, ToReplay, ToGenerate, file_of}
+use Rattle.tcreplay.specs.Tasks.{Replay, Audit, Task, ToReplay, ToGenerate, ToAudit, file_of}
 use Rattle.tcreplay.specs.Verdict.{Given, job_of}
 use Rattle.tcreplay.specs.Reads.{HaveCome}
 use Rattle.tcreplay.specs.Writes.{Writing, Ends, IsNoted}
 use Rattle.tcreplay.specs.Replayed.{HasTried, verdict_on}
 use Rattle.tcreplay.specs.Generating.{HasGenerated, IsGenerationToldBy}
+use Rattle.tcreplay.specs.Auditing.{HasAudited, audit_verdict}
 
 -- the words aren't in the grammar: nothing was read or written
 pub record HasRefused (before after : Ends) (end : End) (order : List ℕ) : Type 0 where
@@ -23,6 +24,7 @@ abbrev pub IsAnswered : Option Task → Ends → Ends → End → List ℕ → T
 IsAnswered None before after end order = HasRefused before after end order
 IsAnswered (Some (ToReplay replay)) before after end order = HasTried replay before.trace after.trace before.files after.files before.out after.out end order × (after.notes ≡ before.notes)
 IsAnswered (Some (ToGenerate workload)) before after end order = HasGenerated workload before after end order
+IsAnswered (Some (ToAudit audit)) before after end order = HasAudited audit before.trace after.trace before.files after.files before.out after.out end order × (after.notes ≡ before.notes)
 
 -- What a call comes to: the words are answered, and behind what `notes` had taken by then the end is told.
 pub record IsOutcome (asked : Option Task) (before after : Ends) (end : End) (order : List ℕ) : Type 0 where
@@ -37,7 +39,7 @@ order_file all (Some name) = get all name
 
 -- what ends that tell their bytes give, where these picks came
 abbrev pub given_by : Replay → Files → List ℕ → List ℕ → Given
-given_by replay all text came = record { table = get all replay.classes; trace = text; order = order_file all (file_of replay.schedule); came = came }
+given_by replay all text came = record { table = get all replay.classes; trace = text; file = order_file all (file_of replay.schedule); came = came }
 
 -- the end and the order are those of the verdict on what these ends tell; of worker threads there are picks with which it
 -- is so
@@ -47,7 +49,14 @@ pub record IsToldBy (replay : Replay) (all : Files) (text : List ℕ) (end : End
   pub end_is : end ≡ (verdict_on replay (given_by replay all text came)).end
   pub order_is : order ≡ (verdict_on replay (given_by replay all text came)).order
 
--- a count of faults rose at one of the ends that a replay, or a generation, can't do without
+-- what ends that tell their bytes give an audit, and that its end is that of the verdict on it
+abbrev pub audit_given_by : Audit → Files → List ℕ → Given
+audit_given_by audit all text = record { table = get all audit.classes; trace = text; file = get all audit.journal; came = [] }
+
+abbrev pub IsAuditToldBy : Audit → Files → List ℕ → End → Type 0
+IsAuditToldBy audit all text end = end ≡ (audit_verdict (audit_given_by audit all text)).end
+
+-- a count of faults rose at one of the ends that a replay or an audit, or a generation, can't do without
 abbrev pub SomeRose : Ends → Ends → Type 0
 SomeRose before after = Rose before.trace.faults after.trace.faults ⊎ (Rose before.files.faults after.files.faults ⊎ Rose before.out.faults after.out.faults)
 
@@ -61,6 +70,9 @@ IsComplete None before after end order = end ≡ Usage
 IsComplete (Some (ToReplay replay)) before after end order =
     (all : Files) (text : List ℕ) → before.files.files ≡ Some all → before.trace.left ≡ Some text →
     IsToldBy replay all text end order ⊎ ((end ≡ Memory) ⊎ SomeRose before after)
+IsComplete (Some (ToAudit audit)) before after end order =
+    (all : Files) (text : List ℕ) → before.files.files ≡ Some all → before.trace.left ≡ Some text →
+    IsAuditToldBy audit all text end ⊎ ((end ≡ Memory) ⊎ SomeRose before after)
 IsComplete (Some (ToGenerate workload)) before after end order =
     (all : Files) → before.files.files ≡ Some all →
     IsGenerationToldBy workload all end order ⊎ ((end ≡ Memory) ⊎ SomeGenerationRose before after)

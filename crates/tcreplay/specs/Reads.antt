@@ -17,10 +17,10 @@ use Rattle.alloc_rules.specs.Machine as allocator
 use Rattle.alloc_rules.specs.Switches.{SwitchesAreFew}
 use Rattle.tc_machine.specs.Inputs.{IsRead, asked_of, input_of}
 use Rattle.tcreplay.specs.declared.outcome.End.{End}
-use Rattle.tcreplay.specs.declared.outcome.End.TheVariants.{Done, BadTrace, ReadFault, WriteFault, Memory, TooLong, Full, BadOrder, FileFault}
+use Rattle.tcreplay.specs.declared.outcome.End.TheVariants.{Done, BadTrace, ReadFault, WriteFault, Memory, TooLong, Full, BadOrder, FileFault, AuditNo}
 use Rattle.tcreplay.specs.declared.input.Job.{Job}
 use Rattle.tcreplay.specs.Tasks.{Replay, Schedule, InTurn, ByFile, ByThreads, file_of}
-use Rattle.tcreplay.specs.Verdict.{Given, trace_limit, rows_in, asked_in, picks_in, job_of, and_then}
+use Rattle.tcreplay.specs.Verdict.{Given, trace_limit, rows_in, asked_in, picks_in, job_of, read_of, and_then}
 use Rattle.tcreplay.specs.Verdict as verdict
 
 -- what a source and a shelf show at a moment: what they tell, the faults so far, and the calls so far
@@ -92,13 +92,15 @@ is_behind_trace WriteFault = true
 is_behind_trace (Full ticket) = true
 is_behind_trace (BadTrace line why) = true
 is_behind_trace (BadOrder line why) = true
+is_behind_trace (AuditNo line why) = true
 is_behind_trace end = false
 
--- whether an end comes behind a run
+-- whether an end comes behind all that is read: behind a run, or behind the judgement of a journal
 abbrev pub is_behind_run : End → Bool
 is_behind_run Done = true
 is_behind_run WriteFault = true
 is_behind_run (Full ticket) = true
+is_behind_run (AuditNo line why) = true
 is_behind_run end = false
 
 -- the trace that was left gave what it asks for under these rows
@@ -124,11 +126,16 @@ HaveCome (ByFile order) job picks = picks ≡ []
 HaveCome (ByThreads locks) (Ok job) picks = IsMadeOf job.input picks
 HaveCome (ByThreads locks) (Err end) picks = picks ≡ []
 
--- what the inputs gave is what they tell, where they tell it, and what came is what worker threads made
-pub record AreGiven (replay : Replay) (files : Option Files) (left : Option (List ℕ)) (given : Given) : Type 0 where
-  pub table : IsFile files replay.classes given.table
+-- what the inputs gave is what they tell, where they tell it: the class table, the trace, and the file that is loaded
+-- behind it, where one is named
+pub record AreTold (classes : List ℕ) (named : Option (List ℕ)) (files : Option Files) (left : Option (List ℕ)) (given : Given) : Type 0 where
+  pub table : IsFile files classes given.table
   pub trace : IfSome left (λ bytes. given.trace ≡ bytes)
-  pub order : IfSome (file_of replay.schedule) (λ name. IsFile files name given.order)
+  pub file : IfSome named (λ name. IsFile files name given.file)
+
+-- and what came is what worker threads made
+pub record AreGiven (replay : Replay) (files : Option Files) (left : Option (List ℕ)) (given : Given) : Type 0 where
+  pub told : AreTold replay.classes (file_of replay.schedule) files left given
   pub came : HaveCome replay.schedule (job_of replay given) given.came
 
 -- what the trace asks for, where the class table and the trace give it
@@ -136,44 +143,45 @@ abbrev pub asked_by : Given → Result Asked End
 asked_by given = and_then (λ rows. asked_in rows given.trace) (rows_in given.table)
 
 -- What may come in place of the definitions' end: memory ran out, or a call of an end failed, so that its count of
--- faults rose, behind steps that gave what it needs. The first load of a replay is that of the class table; the order
--- file is loaded behind a good table and a good trace.
-abbrev pub CutOff : Replay → Given → Reading → Reading → Shelving → Shelving → End → Type 0
-CutOff replay given t u f g Memory = Unit {0}
-CutOff replay given t u f g ReadFault = Rose t.faults u.faults × IsOk (rows_in given.table)
-CutOff replay given t u f g FileFault = Rose f.faults g.faults × (((g.loads ≡ one_more f.loads) × (u ≡ t)) ⊎ IsOk (asked_by given))
-CutOff replay given t u f g end = ⊥
+-- faults rose, behind steps that gave what it needs. The first load is that of the class table; a further file is loaded
+-- behind a good table and a good trace.
+abbrev pub CutOff : Given → Reading → Reading → Shelving → Shelving → End → Type 0
+CutOff given t u f g Memory = Unit {0}
+CutOff given t u f g ReadFault = Rose t.faults u.faults × IsOk (rows_in given.table)
+CutOff given t u f g FileFault = Rose f.faults g.faults × (((g.loads ≡ one_more f.loads) × (u ≡ t)) ⊎ IsOk (asked_by given))
+CutOff given t u f g end = ⊥
 
--- the order file was loaded behind the class table: one is named, and the trace was good and read to its end
-pub record IsOrderLoaded (replay : Replay) (given : Given) (u : Reading) (f g : Shelving) : Type 0 where
+-- a further file was loaded behind the class table: one is named, and the trace was good and read to its end
+pub record IsFileLoaded (file : Option (List ℕ)) (given : Given) (u : Reading) (f g : Shelving) : Type 0 where
   pub twice : g.loads ≡ one_more (one_more f.loads)
-  pub named : IsSome (file_of replay.schedule)
+  pub named : IsSome file
   pub good : IsOk (asked_by given)
   pub drained : IfSome u.left (λ rest. rest ≡ [])
 
--- how often files were loaded for a run: the class table once, and the order file once where one is named
+-- how often files were loaded where all was: the class table once, and a further file once where one is named
 abbrev pub loads_behind : Option (List ℕ) → ℕ → ℕ
 loads_behind None loads = one_more loads
 loads_behind (Some name) loads = one_more (one_more loads)
 
--- the ends of the order file, where class table and trace are good: it isn't there, or it is too long
+-- the ends of a further file, where class table and trace are good: it isn't there, or it is too long
 abbrev pub is_of_file : End → Bool
 is_of_file FileFault = true
 is_of_file (TooLong limit) = true
 is_of_file end = false
 
--- all that is read before a run was read: the trace to its end, and each file
-pub record IsAllRead (replay : Replay) (u : Reading) (f g : Shelving) : Type 0 where
+-- all was read: the trace to its end, and each file
+pub record IsAllRead (file : Option (List ℕ)) (u : Reading) (f g : Shelving) : Type 0 where
   pub drained : IfSome u.left (λ rest. rest ≡ [])
-  pub loads : g.loads ≡ loads_behind (file_of replay.schedule) f.loads
+  pub loads : g.loads ≡ loads_behind file f.loads
 
--- What was read at an end: each input once at most, up to its limit, and not before its step; behind a run, and where the
--- order file ends the work, all was read. A count of faults rose only where that is the end.
-pub record HasRead (replay : Replay) (given : Given) (t u : Reading) (f g : Shelving) (end : End) : Type 0 where
+-- What was read at an end, where a further file is named or none: each input once at most, up to its limit, and not before
+-- its step; behind a run or an audit, and where the further file ends the work, all was read. A count of faults rose only
+-- where that is the end.
+pub record HasRead (file : Option (List ℕ)) (given : Given) (t u : Reading) (f g : Shelving) (end : End) : Type 0 where
   pub files : g.files ≡ f.files
-  pub loads : (g.loads ≡ one_more f.loads) ⊎ IsOrderLoaded replay given u f g
-  pub behind_run : is_behind_run end ≡ true → IsAllRead replay u f g
-  pub behind_file : is_of_file end ≡ true → IsOk (asked_by given) → (Rose f.faults g.faults → ⊥) → IsAllRead replay u f g
+  pub loads : (g.loads ≡ one_more f.loads) ⊎ IsFileLoaded file given u f g
+  pub behind_run : is_behind_run end ≡ true → IsAllRead file u f g
+  pub behind_file : is_of_file end ≡ true → IsOk (asked_by given) → (Rose f.faults g.faults → ⊥) → IsAllRead file u f g
   pub file_count : IsCounted FileFault end f.faults g.faults
   pub untouched : IsErr (rows_in given.table) → u ≡ t
   pub lost : LostAtMost t.left u.left (most_gone end)
@@ -190,13 +198,20 @@ pub record IsRunnable (job : Job) : Type 0 where
   pub read : IsRead (length job.table) job.trace (asked_of job.trace)
   pub picks : All (λ thread. thread < job.trace.config.threads) job.picks.items
 
--- the job that the inputs give, or why there is none
-abbrev pub IsJobOf : Replay → Given → Reading → Reading → Shelving → Shelving → Result Job End → Type 0
-IsJobOf replay given t u f g (Ok job) = job_of replay given ≡ Ok (seen_job job)
-IsJobOf replay given t u f g (Err end) = (job_of replay given ≡ Err end) ⊎ CutOff replay given t u f g end
+-- what the inputs give together, or why they don't
+abbrev pub IsReadAs : {J K : Type 0} → (K → J) → Result J End → Given → Reading → Reading → Shelving → Shelving → Result K End → Type 0
+IsReadAs seen verdict given t u f g (Ok gave) = verdict ≡ Ok (seen gave)
+IsReadAs seen verdict given t u f g (Err end) = (verdict ≡ Err end) ⊎ CutOff given t u f g end
 
-pub record IsJobRead (replay : Replay) (t u : Reading) (f g : Shelving) (result : Result Job End) : Type 0 where
+-- The inputs were read, the class table of this file, the trace, and a further file where one is named, and gave what comes
+-- of them together. No thread has run.
+pub record AreRead {J K : Type 0} (seen : K → J) (verdict : Given → Result J End) (classes : List ℕ) (file : Option (List ℕ)) (t u : Reading) (f g : Shelving) (result : Result K End) : Type 0 where
   pub given : Given
-  pub told : AreGiven replay f.files t.left given
-  pub answer : IsJobOf replay given t u f g result
-  pub read : HasRead replay given t u f g (end_of result)
+  pub told : AreTold classes file f.files t.left given
+  pub none_came : given.came ≡ []
+  pub answer : IsReadAs seen (verdict given) given t u f g result
+  pub read : HasRead file given t u f g (end_of result)
+
+-- of a replay
+abbrev pub IsJobRead : Replay → Reading → Reading → Shelving → Shelving → Result Job End → Type 0
+IsJobRead replay t u f g result = AreRead seen_job (job_of replay) replay.classes (file_of replay.schedule) t u f g result

@@ -9,7 +9,7 @@ use Rattle.tc_machine.specs.Finish.{finished_in}
 use Rattle.tcreplay.specs.declared.run.Telling.TheVariants.{Whole}
 use Rattle.tcreplay.specs.declared.outcome.End.{End}
 use Rattle.tcreplay.specs.declared.outcome.End.TheVariants.{Done, WriteFault}
-use Rattle.tcreplay.specs.Tasks.{Replay}
+use Rattle.tcreplay.specs.Tasks.{Replay, file_of}
 use Rattle.tcreplay.specs.Verdict.{Given, Job, Verdict, job_of, order_of_job, run_verdict, text_with}
 use Rattle.tcreplay.specs.Reads.{Reading, Shelving, AreGiven, CutOff, HasRead, is_behind_run}
 use Rattle.tcreplay.specs.Writes.{Writing, IsWritten}
@@ -24,7 +24,7 @@ verdict_on replay given = run_verdict (Whole replay.rows) (job_of replay given)
 abbrev pub IsAnswer : Replay → Given → Reading → Reading → Shelving → Shelving → End → List ℕ → Type 0
 IsAnswer replay given t u f g end order =
     ((end ≡ (verdict_on replay given).end) × (order ≡ (verdict_on replay given).order))
-    ⊎ (((order ≡ []) × CutOff replay given t u f g end)
+    ⊎ (((order ≡ []) × CutOff given t u f g end)
     ⊎ ((end ≡ WriteFault) × (order ≡ (verdict_on replay given).order) × ((verdict_on replay given).end ≡ Done)))
 
 -- The headline. What is printed is the text of the order that is answered with it; that order is the order file's, or the
@@ -44,7 +44,7 @@ pub record HasTried (replay : Replay) (t u : Reading) (f g : Shelving) (before a
   pub given : Given
   pub told : AreGiven replay f.files t.left given
   pub answer : IsAnswer replay given t u f g end order
-  pub read : HasRead replay given t u f g end
+  pub read : HasRead (file_of replay.schedule) given t u f g end
   pub out : IsWritten end (verdict_on replay given).text before after
   pub law : is_behind_run end ≡ true → (job : Job) → job_of replay given ≡ Ok job → IsLawful job.input order
   pub run : is_behind_run end ≡ true → (job : Job) → job_of replay given ≡ Ok job → IsOrderOf replay.schedule job end order

@@ -5,12 +5,13 @@ use Rattle.tcreplay.specs.Tasks as tasks
 use Rattle.tcreplay.specs.declared.words.Options.{Options}
 use Rattle.tcreplay.specs.declared.task.Replay.{Replay}
 use Rattle.tcreplay.specs.declared.task.Workload.{Workload}
+use Rattle.tcreplay.specs.declared.task.Audit.{Audit}
 use Rattle.tcreplay.specs.declared.task.Task.{Task}
 use Rattle.tcreplay.specs.declared.task.Task.TheVariants as task
 use Rattle.tcreplay.specs.declared.task.Schedule.{Schedule}
 use Rattle.tcreplay.specs.declared.task.Schedule.TheVariants.{InTurn, ByFile, ByThreads}
 use Rattle.tcreplay.specs.declared.words.Command.{Command}
-use Rattle.tcreplay.specs.declared.words.Command.TheVariants.{Serial, Order, Workers, Gen}
+use Rattle.tcreplay.specs.declared.words.Command.TheVariants as command
 
 abbrev pub seen : Options → words.Options
 seen o = record {
@@ -21,13 +22,15 @@ seen o = record {
   seed = o.seed;
   calls = o.calls;
   threads = o.threads;
+  journal = option_map (λ name. name.now) o.journal;
 }
 
 abbrev pub seen_command : Command → words.Command
-seen_command (Serial classes rows) = words.Serial classes.now rows
-seen_command (Order classes order rows) = words.Order classes.now order.now rows
-seen_command (Workers classes locks rows) = words.Workers classes.now locks rows
-seen_command (Gen classes seed calls threads) = words.Gen classes.now seed calls threads
+seen_command (command.Serial classes rows) = words.Serial classes.now rows
+seen_command (command.Order classes order rows) = words.Order classes.now order.now rows
+seen_command (command.Workers classes locks rows) = words.Workers classes.now locks rows
+seen_command (command.Gen classes seed calls threads) = words.Gen classes.now seed calls threads
+seen_command (command.Audit classes journal) = words.Audit classes.now journal.now
 
 abbrev pub seen_schedule : Schedule → tasks.Schedule
 seen_schedule InTurn = tasks.InTurn
@@ -40,6 +43,10 @@ seen_replay r = record { classes = r.classes.now; schedule = seen_schedule r.sch
 abbrev pub seen_workload : Workload → tasks.Workload
 seen_workload r = record { classes = r.classes.now; seed = r.seed; calls = r.calls; threads = r.threads }
 
+abbrev pub seen_audit : Audit → tasks.Audit
+seen_audit a = record { classes = a.classes.now; journal = a.journal.now }
+
 abbrev pub seen_task : Task → tasks.Task
 seen_task (task.Replay replay) = tasks.ToReplay (seen_replay replay)
 seen_task (task.Generate workload) = tasks.ToGenerate (seen_workload workload)
+seen_task (task.Audit audit) = tasks.ToAudit (seen_audit audit)

@@ -1,7 +1,7 @@
 -- The number of each end.
 use Rattle.std.specs.Prelude.{ℕ}
 use Rattle.tcreplay.specs.declared.outcome.End.{End}
-use Rattle.tcreplay.specs.declared.outcome.End.TheVariants.{Done, Usage, BadTable, BadTrace, ReadFault, WriteFault, Memory, TooLong, Full, BadOrder, FileFault}
+use Rattle.tcreplay.specs.declared.outcome.End.TheVariants.{Done, Usage, BadTable, BadTrace, ReadFault, WriteFault, Memory, TooLong, Full, BadOrder, FileFault, AuditNo}
 
 abbrev pub status_of : End → ℕ
 status_of Done = 0
@@ -15,3 +15,4 @@ status_of (TooLong limit) = 8
 status_of (Full ticket) = 9
 status_of (BadOrder line why) = 10
 status_of FileFault = 11
+status_of (AuditNo line why) = 12

@@ -1,6 +1,7 @@
--- What a command comes to: a trace is replayed, or one is generated and replayed.
+-- What a command comes to: a trace is replayed, or one is generated and replayed, or a journal of its calls is judged.
 use Rattle.std.specs.Prelude.{ℕ, ◌≤◌, Bool, List, Option, Some, None, option_map, option_and_then}
 use Rattle.tcreplay.specs.declared.words.Locks.{Locks}
+use Rattle.tcreplay.specs.Words as words
 use Rattle.tcreplay.specs.Words.{Command, Serial, Order, Workers, Gen, command_of}
 
 -- Which picks a replay makes before it goes on in trace order: none, those of an order file, or those of a running thread
@@ -34,16 +35,23 @@ pub record Workload : Type 0 where
   pub calls : ℕ
   pub threads : ℕ
 
+-- the audit of a journal: the file of the class table, and that of the journal
+pub record Audit : Type 0 where
+  pub classes : List ℕ
+  pub journal : List ℕ
+
 -- what a command comes to
 pub data Task : Type 0 where
   ToReplay : Replay → Task
   ToGenerate : Workload → Task
+  ToAudit : Audit → Task
 
 abbrev pub task_of : Command → Task
 task_of (Serial classes rows) = ToReplay (record { classes = classes; schedule = InTurn; rows = rows })
 task_of (Order classes order rows) = ToReplay (record { classes = classes; schedule = ByFile order; rows = rows })
 task_of (Workers classes locks rows) = ToReplay (record { classes = classes; schedule = ByThreads locks; rows = rows })
 task_of (Gen classes seed calls threads) = ToGenerate (record { classes = classes; seed = seed; calls = calls; threads = threads })
+task_of (words.Audit classes journal) = ToAudit (record { classes = classes; journal = journal })
 
 -- what the words ask for, where they are in the grammar
 abbrev pub task_by : List (List ℕ) → Option Task
@@ -53,6 +61,7 @@ task_by words = option_map task_of (command_of words)
 abbrev pub task_locks : Task → Option Locks
 task_locks (ToReplay replay) = locks_in replay.schedule
 task_locks (ToGenerate workload) = None
+task_locks (ToAudit audit) = None
 
 abbrev pub threads_in : Option Task → Option Locks
 threads_in asked = option_and_then task_locks asked
@@ -68,3 +77,4 @@ pub record IsWorkload (workload : Workload) : Type 0 where
 abbrev pub IsTask : Task → Type 0
 IsTask (ToReplay replay) = Unit {0}
 IsTask (ToGenerate workload) = IsWorkload workload
+IsTask (ToAudit audit) = Unit {0}

@@ -75,13 +75,17 @@ order_end bad = BadOrder bad.line bad.why
 abbrev pub picks_in : ℕ → Option (List ℕ) → Result (List ℕ) End
 picks_in threads file = and_then (λ bytes. or_end order_end (picks_by threads bytes)) (file_within trace_limit file)
 
--- what was given: the class table, the trace, the order file, and the picks that worker threads made; a file that isn't
--- there is None
+-- what was given: the class table, the trace, the file that is loaded behind it (an order file, or a journal), and the
+-- picks that worker threads made; a file that isn't there is None
 pub record Given : Type 0 where
   pub table : Option (List ℕ)
   pub trace : List ℕ
-  pub order : Option (List ℕ)
+  pub file : Option (List ℕ)
   pub came : List ℕ
+
+-- what comes of the class table, the trace and what is behind them together
+abbrev pub read_of : {J : Type 0} → (Given → List ClassRow → Asked → Result J End) → Given → Result J End
+read_of behind given = and_then (λ rows. and_then (behind given rows) (asked_in rows given.trace)) (rows_in given.table)
 
 -- what is run, and the picks that come first: those of the order file, where one is named, and else those that came
 pub record Job : Type 0 where
@@ -93,10 +97,10 @@ picks_or None threads file came = Ok came
 picks_or (Some name) threads file came = picks_in threads file
 
 abbrev pub job_with : Replay → Given → List ClassRow → Asked → Result Job End
-job_with replay given rows asked = and_then (λ picks. Ok (record { input = record { rows = rows; asked = asked }; picks = picks })) (picks_or (file_of replay.schedule) asked.config.threads given.order given.came)
+job_with replay given rows asked = and_then (λ picks. Ok (record { input = record { rows = rows; asked = asked }; picks = picks })) (picks_or (file_of replay.schedule) asked.config.threads given.file given.came)
 
 abbrev pub job_of : Replay → Given → Result Job End
-job_of replay given = and_then (λ rows. and_then (job_with replay given rows) (asked_in rows given.trace)) (rows_in given.table)
+job_of replay = read_of (job_with replay)
 
 -- how the work ends where no call of an end fails and memory suffices, the order of the picks that moved, and the text
 pub record Verdict : Type 0 where

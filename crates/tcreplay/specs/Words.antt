@@ -32,6 +32,7 @@ kind_of word =
     else if bytes_eq word (codes "order") then Some kind.Order
     else if bytes_eq word (codes "workers") then Some kind.Workers
     else if bytes_eq word (codes "gen") then Some kind.Gen
+    else if bytes_eq word (codes "audit") then Some kind.Audit
     else None
 
 -- the options
@@ -44,6 +45,7 @@ flag_of word =
     else if bytes_eq word (codes "--seed") then Some flag.Seed
     else if bytes_eq word (codes "--calls") then Some flag.Calls
     else if bytes_eq word (codes "--threads") then Some flag.Threads
+    else if bytes_eq word (codes "--journal") then Some flag.Journal
     else None
 
 -- which options a command takes
@@ -57,6 +59,7 @@ takes kind.Workers flag.Rows = true
 takes kind.Gen flag.Seed = true
 takes kind.Gen flag.Calls = true
 takes kind.Gen flag.Threads = true
+takes kind.Audit flag.Journal = true
 takes kind flag = false
 
 -- the options that came so far
@@ -68,9 +71,10 @@ pub record Options : Type 0 where
   pub seed : Option ℕ
   pub calls : Option ℕ
   pub threads : Option ℕ
+  pub journal : Option (List ℕ)
 
 abbrev pub no_options : Options
-no_options = record { classes = None; order = None; locks = None; rows = false; seed = None; calls = None; threads = None }
+no_options = record { classes = None; order = None; locks = None; rows = false; seed = None; calls = None; threads = None; journal = None }
 
 -- an option comes once, with a value that is its own
 abbrev pub once : {A : Type 0} → Option A → Option A → Option A
@@ -86,6 +90,7 @@ with_value so flag.Rows word = None
 with_value so flag.Seed word = option_map (λ n. record so { seed = Some n }) (once so.seed (number_in 0 2147483647 word))
 with_value so flag.Calls word = option_map (λ n. record so { calls = Some n }) (once so.calls (number_in 1 500000 word))
 with_value so flag.Threads word = option_map (λ n. record so { threads = Some n }) (once so.threads (number_in 1 64 word))
+with_value so flag.Journal word = option_map (λ name. record so { journal = Some name }) (once so.journal (name_of word))
 
 -- the options with the one that has no value
 abbrev pub with_rows : Options → Option Options
@@ -115,6 +120,7 @@ pub data Command : Type 0 where
   Order : List ℕ → List ℕ → Bool → Command
   Workers : List ℕ → Locks → Bool → Command
   Gen : List ℕ → ℕ → ℕ → ℕ → Command
+  Audit : List ℕ → List ℕ → Command
 
 -- the locks of workers are one for each part, unless an option says it
 abbrev pub locks_or : Option Locks → Locks
@@ -127,6 +133,7 @@ command_with kind.Serial so = option_map (λ classes. Serial classes so.rows) so
 command_with kind.Order so = option_and_then (λ classes. option_map (λ order. Order classes order so.rows) so.order) so.classes
 command_with kind.Workers so = option_map (λ classes. Workers classes (locks_or so.locks) so.rows) so.classes
 command_with kind.Gen so = option_and_then (λ classes. option_and_then (λ seed. option_and_then (λ calls. option_map (λ threads. Gen classes seed calls threads) so.threads) so.calls) so.seed) so.classes
+command_with kind.Audit so = option_and_then (λ classes. option_map (λ journal. Audit classes journal) so.journal) so.classes
 
 -- what the words ask for, where they are in the grammar
 abbrev pub command_of : List (List ℕ) → Option Command

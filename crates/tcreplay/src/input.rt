@@ -1,15 +1,16 @@
-//! Reading what a replay works on, each input once and in its turn: the class table, the trace, and the
-//! order file.
-ghost use Rattle.std.specs.Prelude.{◌≡◌, ◌<◌, All, IfOk, List, ℕ, Vec, length, option_map};
+//! Reading what a replay or an audit works on, each input once and in its turn: the class table, the trace,
+//! and then the order file or the journal.
+ghost use Rattle.std.specs.Prelude.{◌≡◌, ◌<◌, All, IfOk, List, ℕ, Some, Vec, length, option_map};
 ghost use Rattle.std.specs.Global.{Global as Memory};
 ghost use Rattle.tc_units.specs.declared.spans.ClassRow.{ClassRow};
 ghost use Rattle.tc_machine.specs.Inputs.{IsRead, asked_of};
 ghost use Rattle.tcreplay.specs.Seen.{seen_replay};
 ghost use Rattle.tcreplay.specs.Verdict.{file_within, rows_in, asked_of_text, picks_in};
-ghost use Rattle.tcreplay.specs.Reads.{load_end, IsLoad, ArePicks, IsPure, IsTraceRead, IsRunnable, IsJobRead};
+ghost use Rattle.tcreplay.specs.Reads.{load_end, IsLoad, ArePicks, IsPure, IsTraceRead, IsRunnable, IsJobRead, AreRead};
+ghost use Rattle.tcreplay.specs.Auditing.{seen_case, case_in};
 
 use crate::outcome::End;
-use crate::task::Replay;
+use crate::task::{Audit, Replay};
 use size_classes::{ClassTable, TableFault};
 use std::alloc::Global;
 use tc_ports::{LoadFault, ReadAllFault, Shelf, Source, read_all};
@@ -18,7 +19,7 @@ use trace_reader::{OrderFault, Trace, TraceFault, read_order, read_trace};
 /// The most bytes of a class table (this project's own limit).
 const MOST_TABLE_BYTES: u64 = 65_536;
 
-/// The most bytes of a trace or an order file (this project's own limit).
+/// The most bytes of a trace, an order file or a journal (this project's own limit).
 const MOST_TRACE_BYTES: u64 = 67_108_864;
 
 /// What is run: a trace under a class table, with an order's picks.
@@ -28,6 +29,14 @@ pub struct Job {
     pub trace: Trace,
     /// The threads that the order file picks; none where no order is named.
     pub picks: Vec<u16>,
+}
+
+/// What is judged: a journal of the calls of a trace, under a class table.
+#[derive(Drop)]
+pub struct AuditJob {
+    pub table: ClassTable,
+    pub trace: Trace,
+    pub journal: Vec<u8>,
 }
 
 /// The end that a fault of a load is.
@@ -156,5 +165,29 @@ pub fn read_job<S: Source, F: Shelf>(
         table,
         trace,
         picks,
+    })
+}
+
+/// What an audit works on. Each step is taken only where no earlier one refused.
+pub fn read_audit<S: Source, F: Shelf>(
+    alloc: Global,
+    audit: Audit,
+    source: &mut S,
+    files: &mut F,
+) -> Result<AuditJob, End>
+    ensures read { AreRead seen_case case_in audit.entry.classes.now (Some audit.entry.journal.now)
+        (record { left = S.left source.old; faults = S.faults source.old; reads = S.reads source.old })
+        (record { left = S.left source.new; faults = S.faults source.new; reads = S.reads source.new })
+        (record { files = F.files files.old; faults = F.faults files.old; loads = F.loads files.old })
+        (record { files = F.files files.new; faults = F.faults files.new; loads = F.loads files.new }) result }
+    ensures valid { IfOk result (λ job. IsRead (length job.table) job.trace (asked_of job.trace)) }
+{
+    let table = load_table(alloc, audit.classes, files)?;
+    let trace = load_trace(alloc, &table, source)?;
+    let journal = load_file(alloc, audit.journal, MOST_TRACE_BYTES, files)?;
+    Ok(AuditJob {
+        table,
+        trace,
+        journal,
     })
 }

@@ -6,6 +6,7 @@ ghost use Rattle.std.specs.Process.{exit_status};
 ghost use Rattle.tcreplay.specs.Status.{status_of};
 ghost use Rattle.tcreplay.specs.Writes.{IsNoted};
 
+mod audit;
 mod generate;
 #[cfg(test)]
 mod generate_tests;

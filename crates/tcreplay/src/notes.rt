@@ -1,11 +1,12 @@
 //! The line that tells an end. Making and writing it takes no memory.
 ghost use Rattle.std.specs.Prelude.{◌≡◌, ◌+◌, ◌≤◌, ◌++◌, length, decimal};
-ghost use Rattle.tcreplay.specs.Notes.{row_word, line_word, order_word, place_of, cause_of, note_of};
+ghost use Rattle.tcreplay.specs.Notes.{row_word, line_word, order_word, audit_word, place_of, cause_of, note_of};
 ghost use Rattle.tcreplay.specs.Writes.{IsNoted};
 
 use crate::outcome::End;
 use arrayvec::ArrayString;
 use itoa::{Buffer, Integer};
+use journal_audit::AuditWhy;
 use size_classes::RowWhy;
 use tc_ports::Sink;
 use trace_reader::{LineWhy, OrderWhy};
@@ -67,6 +68,23 @@ fn order_word(why: OrderWhy) -> &'static str
     }
 }
 
+/// The rule that a journal fails.
+fn audit_word(why: AuditWhy) -> &'static str
+    ensures word { result.now ≡ audit_word why }
+    ensures short { length result.now ≤ 12 }
+{
+    match why {
+        AuditWhy::Lines => "lines",
+        AuditWhy::Form => "form",
+        AuditWhy::Order => "order",
+        AuditWhy::Length => "length",
+        AuditWhy::Arena => "arena",
+        AuditWhy::Overlap => "overlap",
+        AuditWhy::Address => "address",
+        AuditWhy::Missing => "missing",
+    }
+}
+
 /// Appends a number.
 fn push_number<I: Integer>(line: &mut Line, n: I)
     requires { length line.old.bytes + I.MAX_STR_LEN ≤ 64 }
@@ -123,6 +141,12 @@ fn push_cause(line: &mut Line, end: End)
             order_word(why),
         ),
         End::FileFault => line.push_str("file fault"),
+        End::AuditNo { line: number, why } => push_place(
+            line,
+            "audit line ",
+            number,
+            audit_word(why),
+        ),
     }
 }
 

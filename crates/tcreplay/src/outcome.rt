@@ -2,6 +2,7 @@
 ghost use Rattle.std.specs.Prelude.{◌≡◌, []};
 ghost use Rattle.tcreplay.specs.Status.{status_of};
 
+use journal_audit::AuditWhy;
 use size_classes::RowWhy;
 use std::alloc::Global;
 use tc_units::Listed;
@@ -10,7 +11,7 @@ use trace_reader::{LineWhy, OrderWhy};
 /// The end of a call, with its cause.
 #[derive(Clone, Copy, Debug, PartialEq, Eq)]
 pub enum End {
-    /// The run ended and its text was written.
+    /// The run ended and its text was written, or the journal is legal and that was written.
     Done,
     /// The words are not in the grammar.
     Usage,
@@ -20,7 +21,7 @@ pub enum End {
     BadTrace { line: u32, why: LineWhy },
     /// A read of the trace failed.
     ReadFault,
-    /// A write of the text, of a generated trace or of its summary failed.
+    /// A write of the text, of a generated trace or its summary, or of the answer on a journal failed.
     WriteFault,
     /// Memory ran out.
     Memory,
@@ -32,6 +33,8 @@ pub enum End {
     BadOrder { line: u32, why: OrderWhy },
     /// A file isn't there, or its load failed.
     FileFault,
+    /// The journal isn't legal: its first line that fails, from 1, with its first failing rule.
+    AuditNo { line: u32, why: AuditWhy },
 }
 
 impl End {
@@ -51,6 +54,7 @@ impl End {
             End::Full { .. } => 9,
             End::BadOrder { .. } => 10,
             End::FileFault => 11,
+            End::AuditNo { .. } => 12,
         }
     }
 }

@@ -8,6 +8,7 @@ ghost use Rattle.tcreplay.specs.Replayed.{HasTried};
 ghost use Rattle.tcreplay.specs.Outcomes.{IsAnswered, IsOutcome, IsComplete};
 ghost use Rattle.tcreplay.specs.declared.outcome.End.TheVariants as end;
 
+use crate::audit::try_audit;
 use crate::generate::generate;
 use crate::input::read_job;
 use crate::notes::note;
@@ -103,7 +104,7 @@ fn try_threads<R: Threads + Wait + Sync, S: Source, F: Shelf, K: Sink, G: Gate +
     write(out, ran)
 }
 
-/// Answers words that ask for no worker threads: a replay is tried, or a trace is generated.
+/// Answers words that ask for no worker threads: a replay or an audit is tried, or a trace is generated.
 fn answer<S: Source, F: Shelf, K: Sink, N: Sink>(
     alloc: Global,
     words: &[String],
@@ -133,6 +134,7 @@ fn answer<S: Source, F: Shelf, K: Sink, N: Sink>(
     match task_by(words) {
         None => Some(Outcome::without_run(alloc, End::Usage)),
         Some(Task::Generate(workload)) => Some(generate(alloc, workload, files, out, notes)),
+        Some(Task::Audit(audit)) => Some(try_audit(alloc, audit, trace, files, out)),
         Some(Task::Replay(replay)) => match replay.schedule {
             Schedule::ByThreads { .. } => None,
             Schedule::InTurn | Schedule::ByFile { .. } => {
@@ -231,7 +233,7 @@ pub fn replay_alone<S: Source, F: Shelf, K: Sink, N: Sink>(
     Some(outcome)
 }
 
-/// Replays a trace, or generates one, alone where the words ask for no worker threads. Such threads pass `gate` before each
+/// Replays a trace, or generates one, or judges a journal, alone where the words ask for no worker threads. Such threads pass `gate` before each
 /// of their turns. With them this may wait, and what it promises holds if it returns.
 pub fn tcreplay<R: Threads + Wait + Sync, S: Source, F: Shelf, K: Sink, N: Sink, G: Gate + Sync>(
     rt: &R,

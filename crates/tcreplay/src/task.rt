@@ -1,4 +1,5 @@
-//! What a command comes to: a trace is replayed, or one is generated and replayed.
+//! What a command comes to: a trace is replayed, or one is generated and replayed, or a journal of its
+//! calls is judged.
 ghost use Rattle.std.specs.Prelude.{◌≡◌, IfSome, map, option_map, string_bytes};
 ghost use Rattle.tcreplay.specs.declared.run.Telling.TheVariants as telling;
 ghost use Rattle.tcreplay.specs.Tasks.{task_of, task_by, file_of, IsTask};
@@ -59,6 +60,13 @@ pub struct Workload<'a> {
     pub threads: u64,
 }
 
+/// The audit of a journal: the file of the class table under which it is judged, and its own.
+#[derive(Clone, Copy, Debug)]
+pub struct Audit<'a> {
+    pub classes: &'a str,
+    pub journal: &'a str,
+}
+
 /// What a command comes to.
 #[derive(Clone, Copy, Debug)]
 pub enum Task<'a> {
@@ -66,6 +74,8 @@ pub enum Task<'a> {
     Replay(Replay<'a>),
     /// A trace is generated, and replayed in serial.
     Generate(Workload<'a>),
+    /// A journal of a trace's calls is judged.
+    Audit(Audit<'a>),
 }
 
 impl<'a> Task<'a> {
@@ -97,6 +107,9 @@ impl<'a> Task<'a> {
                     calls,
                     threads,
                 });
+            }
+            Command::Audit { classes, journal } => {
+                return Task::Audit(Audit { classes, journal });
             }
         };
         Task::Replay(Replay {

@@ -19,6 +19,7 @@ pub enum Kind {
     Order,
     Workers,
     Gen,
+    Audit,
 }
 
 /// What a word between the others names.
@@ -31,6 +32,7 @@ pub enum Flag {
     Seed,
     Calls,
     Threads,
+    Journal,
 }
 
 /// What the words ask for. Files are named as they were given.
@@ -60,6 +62,11 @@ pub enum Command<'a> {
         calls: u64,
         threads: u64,
     },
+    /// The judgement of a journal of a trace's calls.
+    Audit {
+        classes: &'a str,
+        journal: &'a str,
+    },
 }
 
 /// The greatest seed of a generated trace.
@@ -81,6 +88,7 @@ struct Options<'a> {
     seed: Option<u64>,
     calls: Option<u64>,
     threads: Option<u64>,
+    journal: Option<&'a str>,
 }
 
 /// A word that names a file: it is not empty and does not begin as an option does.
@@ -134,6 +142,7 @@ impl Kind {
             "order" => Some(Kind::Order),
             "workers" => Some(Kind::Workers),
             "gen" => Some(Kind::Gen),
+            "audit" => Some(Kind::Audit),
             _ => None,
         }
     }
@@ -146,8 +155,9 @@ impl Kind {
             Flag::Classes => true,
             Flag::Order => self == Kind::Order,
             Flag::Locks => self == Kind::Workers,
-            Flag::Rows => self != Kind::Gen,
+            Flag::Rows => self != Kind::Gen && self != Kind::Audit,
             Flag::Seed | Flag::Calls | Flag::Threads => self == Kind::Gen,
+            Flag::Journal => self == Kind::Audit,
         }
     }
 
@@ -172,6 +182,7 @@ impl Flag {
             "--seed" => Some(Flag::Seed),
             "--calls" => Some(Flag::Calls),
             "--threads" => Some(Flag::Threads),
+            "--journal" => Some(Flag::Journal),
             _ => None,
         }
     }
@@ -193,6 +204,7 @@ impl<'a> Options<'a> {
         seed: None,
         calls: None,
         threads: None,
+        journal: None,
     };
 
     /// The options with one more, and its value.
@@ -209,6 +221,7 @@ impl<'a> Options<'a> {
             Flag::Threads => {
                 self.threads = Some(once(self.threads, number_in(word, 1, MOST_THREADS))?);
             }
+            Flag::Journal => self.journal = Some(once(self.journal, name_of(word))?),
         }
         Some(self)
     }
@@ -278,6 +291,10 @@ impl<'a> Options<'a> {
                     calls,
                     threads,
                 })
+            }
+            Kind::Audit => {
+                let journal = self.journal?;
+                Some(Command::Audit { classes, journal })
             }
         }
     }
