@@ -1,0 +1,190 @@
+"""Traces, orders and journals that are drawn from seeds, and where program and model differ on them."""
+import concurrent.futures
+import os
+import random
+import subprocess
+import tempfile
+
+import model
+from checks.program import PAGE, PROGRAM
+
+TOY_TABLE = '16,1,4\n64,1,2\n8192,1,2\n'
+EVEN_TABLE = '16,1,4\n32,1,2\n64,1,1\n'       # each class grows by 64 bytes
+SECONDS = 60
+
+
+class Case:
+    """Table, trace and order of a seed. Limits are small, so that all kinds of answers come."""
+
+    def __init__(self, seed):
+        self.draw = random.Random(seed)
+        self.table = self.draw.choice([TOY_TABLE, EVEN_TABLE, self.random_table()])
+        self.classes = [[int(field) for field in row.split(',')] for row in self.table.split()]
+        self.mood = self.draw.choice(['objects', 'objects', 'drains', 'pages', 'both', 'regions'])
+        self.heads = self.random_heads()
+        self.sizes = [self.random_size() for _ in range(self.draw.randint(1, 5))]
+        self.live = []
+        self.label = 0
+        self.trace = self.random_trace()
+        self.order = self.random_order() if self.draw.random() < 0.7 else None
+        if self.draw.random() < 0.1:
+            self.trace = 'events %d\n' % self.random_limit() + self.trace
+
+    def random_table(self):
+        """One class to five, with at most 2048 objects in a span."""
+        draw, rows, size = self.draw, '', 0
+        for _ in range(draw.randint(1, 5)):
+            size += 8 * draw.choice([1, 2, 7, 40, 300, 1024, 3000])
+            least = -(-size // PAGE)
+            pages = min(255, least + draw.choice([0, 0, 0, 1, 2, 30, 254]))
+            pages = max(least, min(pages, 2048 * size // PAGE))
+            rows += '%d,%d,%d\n' % (size, max(pages, 1), draw.choice([1, 2, 3, 4, 8, 128]))
+        return rows
+
+    def random_heads(self):
+        draw = self.draw
+        heads = {'cpus': draw.choice([1, 1, 2, 3, 4]), 'threads': draw.randint(1, 5), 'huge': draw.randint(1, 6),
+                 'cache': draw.randint(0, 3), 'region': draw.randint(2, 4),
+                 'slack': draw.choice([0, 0, 1, 100, 300, 600]), 'transfer': draw.randint(0, 8),
+                 'slab': draw.randint(1, 8), 'percpu': self.random_percpu(),
+                 'window': draw.choice([0, 0, 1, 2, 3, 5]), 'domains': draw.choice([0, 0, 1, 2, 3])}
+        if self.mood == 'regions':
+            heads.update(draw.choice([{'huge': 6, 'region': 4}, {'huge': 9, 'region': 3}]), slack=0)
+        if self.mood == 'drains':
+            heads.update({'cpus': 1, 'threads': draw.randint(2, 4)})
+        for name in ('cache', 'transfer', 'slab', 'percpu'):
+            if draw.random() < 0.1:
+                del heads[name]
+        return heads
+
+    def random_percpu(self):
+        """Bytes of a few objects, so that one class's capacity is short for another's."""
+        few = sum(row[0] * self.draw.randint(0, 4) for row in self.classes)
+        return self.draw.choice([0, few, few, few, 3 * self.classes[-1][0], self.draw.randint(0, 4096)])
+
+    def random_size(self):
+        """Of an object, of some pages, or of a hugepage and more. Many are such that places are equally good, or that
+        a limit is just met."""
+        draw = self.draw
+        kind = draw.random()
+        if self.mood in ('objects', 'drains') or (self.mood == 'both' and kind < 0.5):
+            return draw.choice(self.classes)[0] - draw.randint(0, 7)
+        if self.mood == 'regions' and kind < 0.8:
+            return draw.randint(257, 340) * PAGE
+        if kind < 0.7:
+            return draw.choice([64, 64, 128, 128, 192, draw.randint(1, 255)]) * PAGE
+        if kind < 0.9:
+            pages = draw.choice([draw.randint(257, 384), draw.randint(256, 900), 412, 511, 767])
+            return pages * PAGE - draw.choice([0, 1])
+        return draw.choice([0, 1, 256 * PAGE, 512 * PAGE, 513 * PAGE, 7 * 256 * PAGE, 1 << 40])
+
+    def random_trace(self):
+        draw = self.draw
+        lines = ['%s %d' % head for head in self.heads.items()]
+        weights = {'a': draw.randint(4, 12), 'f': draw.randint(0, 12), 'p': draw.choice([0, 1, 4]),
+                   'd': draw.choice([0, 0, 1, 3]), 'z': draw.choice([0, 0, 1, 3]), 'r': draw.choice([0, 0, 1, 2])}
+        weights.update({'drains': {'d': 6}, 'regions': {'r': 3}}.get(self.mood, {}))
+        for _ in range(draw.randint(1, 50)):
+            word = draw.choices(list(weights), list(weights.values()))[0]
+            if word != 'f' or self.live:
+                lines.append(' '.join(str(field) for field in [word, draw.randrange(self.heads['threads'])] +
+                                      self.random_numbers(word)))
+        return ''.join(line + '\n' for line in lines)
+
+    def random_numbers(self, word):
+        """What stands behind word and thread in a line."""
+        draw, cpu = self.draw, self.draw.randrange(self.heads['cpus'])
+        if word == 'a':
+            self.live.append(self.label)
+            self.label += 1
+            return [self.live[-1], draw.choice(self.sizes) if draw.random() < 0.9 else self.random_size()]
+        if word == 'f':
+            return [self.live.pop(draw.randrange(len(self.live)))]
+        if word == 'p':
+            return [draw.randint(1, 12) if draw.random() < 0.9 else draw.randint(1, 1000000), cpu]
+        if word == 'd':
+            return [cpu]
+        if word == 'z':
+            most = self.heads.get('slab', 2048)
+            number = draw.choice([draw.randint(0, min(most, 9)), most, most + 1])
+            return [cpu, draw.randrange(len(self.classes)), number]
+        return [draw.choice([0, 1, 5, 100, 300, 1000])]
+
+    def random_order(self):
+        """Short cuts, so that threads come between each other's acts."""
+        draw = self.draw
+        most = draw.choice([1, 2, 6, 25])
+        lines = []
+        for _ in range(draw.randint(0, 80)):
+            thread, count = draw.randrange(self.heads['threads']), draw.randint(1, most)
+            lines.append('%d' % thread if count == 1 else '%d %d' % (thread, count))
+        return ''.join(line + '\n' for line in lines)
+
+    def random_limit(self):
+        """As many picks as there are, one less, or fewer."""
+        picks = self.replay().moved
+        return max(1, self.draw.choice([picks, picks - 1, self.draw.randint(0, picks)]))
+
+    def run(self, words, files):
+        """Status, text and notes of the program."""
+        with tempfile.TemporaryDirectory() as folder:
+            for name, text in files.items():
+                with open(os.path.join(folder, name), 'w') as file:
+                    file.write(text)
+            done = subprocess.run([PROGRAM] + words, input=self.trace.encode(), cwd=folder, stdout=subprocess.PIPE,
+                                  stderr=subprocess.PIPE, timeout=SECONDS)
+        return done.returncode, done.stdout.decode('latin-1'), done.stderr.decode('latin-1')
+
+    def program(self):
+        """What the program answers on the trace, and on the journal."""
+        words = ['serial' if self.order is None else 'order', '--classes', 'table', '--rows']
+        words += [] if self.order is None else ['--order', 'order']
+        answer = self.run(words, {'table': self.table, 'order': self.order or ''})
+        self.journal = self.changed(answer[1])
+        words = ['audit', '--classes', 'table', '--journal', 'journal']
+        return answer, self.run(words, {'table': self.table, 'journal': self.journal})
+
+    def changed(self, text):
+        """A text as it is, or with a line left out, told twice or moved, or with a field changed."""
+        lines, draw = text.splitlines(), self.draw
+        kind = draw.choice(['none', 'field', 'field', 'field', 'word', 'gone', 'twice', 'moved'])
+        if lines and kind != 'none':
+            at = draw.randrange(len(lines))
+            fields = lines[at].split(' ')
+            place = draw.randrange(len(fields))
+            if kind == 'field' and fields[place].isdigit():
+                fields[place] = str(max(0, int(fields[place]) + draw.choice([-16, -8, -1, 1, 8, 16, 8192, 1 << 64])))
+            elif kind == 'word':
+                fields[place] = draw.choice(['none', '00', 'ok', 'a', 'f', '0'])
+            lines[at] = ' '.join(fields)
+            if kind in ('gone', 'moved'):
+                line = lines.pop(at)
+            if kind == 'moved':
+                lines.insert(draw.randint(0, len(lines)), line)
+            if kind == 'twice':
+                lines.insert(at, lines[at])
+        return ''.join(line + '\n' for line in lines)
+
+    def replay(self):
+        return model.Replay(self.table, self.trace, self.order or '').run()
+
+    def model(self):
+        """What the model answers on the trace, and on the journal."""
+        verdict, number, *why = model.audit(self.table, self.trace, self.journal)
+        if verdict == 'yes':
+            judged = 0, 'yes %d\n' % number, ''
+        else:
+            judged = 12, '', 'tcreplay: audit line %d: %s\n' % (number, why[0].lower())
+        return model.answer(self.replay(), rows=True), judged
+
+
+def differing(first, count):
+    """Each case on which program and model differ, as (seed, case, the program's answer, the model's)."""
+    with concurrent.futures.ThreadPoolExecutor(4) as pool:
+        for start in range(first, first + count, 100):
+            seeds = range(start, min(start + 100, first + count))
+            cases = [Case(seed) for seed in seeds]
+            for seed, case, answer in zip(seeds, cases, pool.map(Case.program, cases)):
+                expected = case.model()
+                if answer != expected:
+                    yield seed, case, answer, expected

@@ -1,0 +1,99 @@
+"""Inputs at their limits, and just above: lines, bytes, heads, picks, rows."""
+from checks.program import NOTHING, ORDER, SERIAL, SMALL_TABLE, differences, run
+
+
+def check_small(stdin, status, stdout=b'', stderr=b'', table=SMALL_TABLE):
+    return differences(run(SERIAL, stdin, {b'T0.csv': table}), status, stdout, stderr)
+
+
+def most_lines():
+    return check_small(b'huge 4\n' * 1000000, 0, NOTHING)
+
+
+def one_line_too_many():
+    return check_small(b'huge 4\n' * 1000001, 4, stderr=b'tcreplay: trace line 1000001: lines\n')
+
+
+def longest_trace():
+    return check_small(b'x' * 67108864, 4, stderr=b'tcreplay: trace line 1: word\n')
+
+
+def trace_one_byte_too_long():
+    return check_small(b'x' * 67108865, 8, stderr=b'tcreplay: longer than 67108864 bytes\n')
+
+
+def longest_table():
+    return check_small(b'', 0, NOTHING, table=b'16,1,4\n'.ljust(65536, b'\n'))
+
+
+def table_one_byte_too_long():
+    return check_small(b'', 8, stderr=b'tcreplay: longer than 65536 bytes\n',
+                       table=b'16,1,4\n'.ljust(65537, b'\n'))
+
+
+HEADS = [(b'cpus', 1, 64), (b'threads', 1, 64), (b'huge', 1, 4096), (b'cache', 0, 4096),
+         (b'region', 2, 512), (b'slack', 0, 1048576), (b'transfer', 0, 4096), (b'slab', 1, 2048),
+         (b'percpu', 0, 268435456), (b'events', 1, 40000000), (b'window', 0, 65536),
+         (b'domains', 0, 64)]
+
+
+def heads_at_the_ends_of_their_ranges():
+    """The least and the greatest value of each head are read, and what is beyond them is refused."""
+    wrong = []
+    for head, least, most in HEADS:
+        for value in (least, most):
+            wrong += check_small(b'%s %d\n' % (head, value), 0, NOTHING)
+        for value in (least - 1, most + 1):
+            wrong += check_small(b'%s %d\n' % (head, value), 4,
+                                 stderr=b'tcreplay: trace line 1: number\n')
+    return wrong
+
+
+ONE_BLOCK = b'a 0 0 2097152 303104\ncalls 1\nlive 1 303104\nused 37\nresident 256\nfrag 855\n'
+
+
+def check_order(order, status, stdout=b'', stderr=b''):
+    files = {b'T0.csv': SMALL_TABLE, b'O': order}
+    return differences(run(ORDER, b'a 0 0 300000\n', files), status, stdout, stderr)
+
+
+def most_picks():
+    return check_order(b'0 1000000\n' * 40, 0, ONE_BLOCK)
+
+
+def too_many_picks():
+    return check_order(b'0 1000000\n' * 41, 10, stderr=b'tcreplay: order line 41: picks\n')
+
+
+def most_order_lines():
+    return check_order(b'0\n' * 1000000, 0, ONE_BLOCK)
+
+
+def one_order_line_too_many():
+    return check_order(b'0\n' * 1000001, 10, stderr=b'tcreplay: order line 1000001: lines\n')
+
+
+def longest_order():
+    return check_order(b'x' * 67108864, 10, stderr=b'tcreplay: order line 1: number\n')
+
+
+def order_one_byte_too_long():
+    return check_order(b'x' * 67108865, 8, stderr=b'tcreplay: longer than 67108864 bytes\n')
+
+
+def table_of(rows):
+    return b''.join(b'%d,1,1\n' % (8 * row) for row in range(1, rows + 1))
+
+
+def table_of_120_rows():
+    return check_small(b'', 0, NOTHING, table=table_of(120))
+
+
+def table_of_121_rows():
+    return check_small(b'', 3, stderr=b'tcreplay: table row 121: rows\n', table=table_of(121))
+
+
+CASES = [most_lines, one_line_too_many, longest_trace, trace_one_byte_too_long, longest_table,
+         table_one_byte_too_long, table_of_120_rows, table_of_121_rows, heads_at_the_ends_of_their_ranges,
+         most_picks, too_many_picks, most_order_lines, one_order_line_too_many, longest_order,
+         order_one_byte_too_long]
