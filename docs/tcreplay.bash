@@ -4,11 +4,11 @@ _tcreplay() {
     local word=${COMP_WORDS[COMP_CWORD]} before=${COMP_WORDS[COMP_CWORD-1]} options given
     COMPREPLY=()
     if ((COMP_CWORD == 1)); then
-        mapfile -t COMPREPLY < <(compgen -W 'serial order workers gen' -- "$word")
+        mapfile -t COMPREPLY < <(compgen -W 'serial order workers gen audit' -- "$word")
         return
     fi
     case $before in
-    --classes | --order)
+    --classes | --order | --journal)
         compopt -o filenames 2>/dev/null
         mapfile -t COMPREPLY < <(compgen -f -- "$word")
         return
@@ -24,6 +24,7 @@ _tcreplay() {
     order) options='--classes --order --rows' ;;
     workers) options='--classes --locks --rows' ;;
     gen) options='--classes --seed --calls --threads' ;;
+    audit) options='--classes --journal' ;;
     *) return ;;
     esac
     for given in "${COMP_WORDS[@]:2:COMP_CWORD-2}"; do      # each comes once
