@@ -2,12 +2,12 @@
 use Rattle.std.proofs.Common.{◌≡◌, ℕ, zero, suc, ◌+◌, ◌-◌, ◌*◌, ◌<◌, ◌≤◌, Bool, true, false, not, cond, List, [], ◌∷◌, ◌++◌, length, get_or, take, drop, replicate, min, sym, ap, ◌∙◌, inl, inr, arith, add-zero}
 use Rattle.std.specs.List.{sum_by, prefix_len}
 use Rattle.std.proofs.lemmas.Bool.{cases_lt}
-use Rattle.std.proofs.lemmas.List.{append_assoc, drop_at, take_all, length-take-le, length-drop, drop-drop}
+use Rattle.std.proofs.lemmas.List.{append_assoc, drop_at, length-take-le, length-drop, drop-drop}
 use Rattle.std.proofs.lemmas.List.Sums.{sum_by-append, sum_by-take-drop, count_by_more_yes, count_by_more_no, sum_by-cons}
 use Rattle.std.proofs.lemmas.List.Folds.{sum_by-replicate}
 use Rattle.range_bits.specs.Ranges.{free_from, used_from, used_count, with_places}
 use Rattle.range_bits.specs.Words.{IsNext}
-use Rattle.range_bits.specs.Fills.{free_count, free_before, IsEnd}
+use Rattle.range_bits.specs.Fills.{free_count, free_before}
 use Rattle.range_bits.proofs.Counts.{free_inside}
 
 -- used places add none, and free ones all of themselves
@@ -39,9 +39,6 @@ free_up_to row a b order inside free =
     ap (free_before row) (sym to) ∙ free_stretch row a (b - a) (omega arith) (λ k from before. free k from (omega arith))
 
 -- all free places, and used ones, are the places
-pub free_all : (row : List Bool) (n : ℕ) → length row ≤ n → free_before row n ≡ free_count row
-free_all row n past = ap free_count (take_all n row past)
-
 abbrev used_one : Bool → ℕ
 used_one used = cond used 1 0
 
@@ -105,28 +102,6 @@ counted_turn row from first stop end next last some inside f begins s ends =
       ]
     ] in
     (rises, omega arith, order, omega arith)
-
--- one turn from the row's end: the last free place, and the last used one before it
-pub tail_turn : (row : List Bool) (start end begin free left most next : ℕ) → start ≤ length row → 0 < start → 0 < left → IsEnd row start false end → IsEnd row end true begin → free ≡ min (end - begin) left → next ≡ end - free → free_count (drop start row) + left ≡ most → (next < start) × (free_count (drop next row) + (left - free) ≡ most)
-tail_turn row start end begin free left most next inside some more last first f n so_far =
-    let used : free_before row start ≡ free_before row end = used_up_to row end start last.within inside (λ k a b. last.behind k a b) in
-    let stretch : free_before row end ≡ free_before row next + (end - next) = free_up_to row next end (omega arith) (omega (arith, last.within)) (λ k a b. first.behind k (omega arith) b) in
-    let rises : next < start =
-    elim (cases_lt 0 end) [
-      | inr none ↦ omega arith
-      | inl there ↦ elim (cases_lt begin end) [
-        | inl before ↦ omega (arith, last.within)
-        | inr same ↦
-            (let at : begin ≡ end = omega (arith, first.within) in
-            let one : get_or row (begin - 1) true ≡ true = first.there (omega arith) in
-            let one' : get_or row (end - 1) true ≡ true = ap (λ (k : ℕ). get_or row (k - 1) true) (sym at) ∙ one in
-            absurd (let c : true ≡ false = sym one' ∙ last.there there in cc))
-      ]
-    ] in
-    (rises, omega (arith, free_behind row start, free_behind row next, first.within))
-
-pub free_count-le : (row : List Bool) → free_count row ≤ length row
-free_count-le row = omega (arith, used_and_free row)
 
 -- a stretch that came into use is used
 used_before : (n : ℕ) (rest : List Bool) → n ≤ prefix_len (λ used. used) (replicate n true ++ rest)

@@ -1,7 +1,7 @@
 //! A region's pages: as many places as a list of words has bits.
 ghost use Rattle.std.specs.Prelude.{◌≡◌, ◌+◌, ◌*◌, ◌≤◌, ◌<◌, ◌↔◌, false, true, None, length, take, drop, replicate, IfOk};
 ghost use Rattle.std.specs.List.{slice_index_or};
-ghost use Rattle.range_bits.specs.Fills.{FillsLast, IsEnd, StaysUsed};
+ghost use Rattle.range_bits.specs.Fills.{IsEnd, StaysUsed};
 ghost use Rattle.range_bits.specs.Ranges.{free_from, used_from, used_count, longest, best, with_places};
 ghost use Rattle.range_bits.specs.Words.{IsNext};
 
@@ -11,7 +11,7 @@ mod stretches;
 use crate::marks::{mark, unmark};
 use crate::ranges;
 use crate::wide_bits::parts::{best_in, keep_used, put};
-use crate::wide_bits::stretches::{end_place, fill, fill_last, free_between, longest_in};
+use crate::wide_bits::stretches::{end_place, fill, free_between, longest_in};
 use crate::words::next_place;
 use std::alloc::{AllocError, Global};
 use std::marker::Model;
@@ -117,6 +117,14 @@ impl WideBits {
         end_place(&self.words, before as usize, true) as u32
     }
 
+    /// Where the last free place before a place ends; 0 where there is none.
+    pub fn free_end(&self, before: u32) -> u32
+        requires { before ≤ length self.now }
+        ensures { IsEnd self.now before false result }
+    {
+        end_place(&self.words, before as usize, false) as u32
+    }
+
     /// The first used place from a place on; the number of places where there is none.
     pub fn next_used(&self, from: u32) -> u32
         requires { from ≤ length self.now }
@@ -150,14 +158,6 @@ impl WideBits {
         self.used += came;
     }
 
-    /// Makes the last `most` free places used, or all where there are fewer. Answers how many.
-    pub fn fill_last(&mut self, most: u64) -> u32
-        ensures { FillsLast self.old self.new most result }
-    {
-        let came = fill_last(&mut self.words, most);
-        self.used += came;
-        came
-    }
     /// Makes `n` places used or free, from `start` on, whatever they were.
     pub fn put(&mut self, start: u32, n: u32, used: bool)
         requires { start + n ≤ length self.old }

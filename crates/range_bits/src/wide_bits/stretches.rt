@@ -1,6 +1,6 @@
-//! Free places of a row, counted from a place on, and taken from the row's end.
+//! Free places of a row, counted from a place on, and its stretches.
 ghost use Rattle.std.specs.Prelude.{◌≡◌, ℕ, ◌+◌, ◌-◌, ◌*◌, ◌^◌, ◌<◌, ◌≤◌, true, not, length, take, drop};
-ghost use Rattle.range_bits.specs.Fills.{free_before, IsEnd, IsTail, FillsLast};
+ghost use Rattle.range_bits.specs.Fills.{free_before, IsEnd};
 ghost use Rattle.range_bits.specs.Ranges.{longest, used_count, with_places};
 ghost use Rattle.range_bits.specs.Words.{row_of};
 
@@ -63,34 +63,6 @@ pub fn end_place(words: &[u64], before: usize, used: bool) -> usize
     0
 }
 
-/// The last free places of a row.
-#[derive(Clone, Copy)]
-pub struct Tail {
-    /// All free places from here on.
-    pub start: usize,
-    pub free: u64,
-}
-
-/// The last `most` free places, or all where there are fewer.
-pub fn last_free(words: &[u64], most: u64) -> Tail
-    requires fits { 64 * length words.now < 2 ^ 32 }
-    ensures { IsTail (row_of words.now) most result.start result.free }
-{
-    let mut left = most;
-    let mut start = words.len() * 64;
-    while left > 0 && start > 0 {
-        let end = end_place(words, start, false);
-        let begin = end_place(words, end, true);
-        let free = ((end - begin) as u64).min(left);
-        start = end - free as usize;
-        left -= free;
-    }
-    Tail {
-        start,
-        free: most - left,
-    }
-}
-
 /// Makes `n` places used, from `start` on, whatever they were. Answers how many were free.
 pub fn fill(words: &mut [u64], start: u32, n: u32) -> u32
     requires fits { 64 * length words.old < 2 ^ 32 }
@@ -104,17 +76,4 @@ pub fn fill(words: &mut [u64], start: u32, n: u32) -> u32
     let free = free_between(words, from, to);
     set_places(words, from, to, true);
     free as u32
-}
-
-/// Makes the last `most` free places used, or all where there are fewer. Answers how many.
-pub fn fill_last(words: &mut [u64], most: u64) -> u32
-    requires fits { 64 * length words.old < 2 ^ 32 }
-    ensures last { FillsLast (row_of words.old) (row_of words.new) most result }
-    ensures counted { used_count (row_of words.old) + result ≡ used_count (row_of words.new) }
-    ensures len { length words.new ≡ length words.old }
-{
-    let last = last_free(words, most);
-    let places = words.len() * 64;
-    set_places(words, last.start, places, true);
-    last.free as u32
 }

@@ -1,4 +1,4 @@
-use Rattle.std.proofs.Common.{◌≡◌, ℕ, true, List, Bool, length, ap, subst, ◌∙◌, arith}
+use Rattle.std.proofs.Common.{true, List, Bool, length, ap, subst, ◌∙◌, arith}
 use Rattle.range_bits.specs.Words.{row_of, IsNext}
 use Rattle.range_bits.proofs.RowFacts.{length-row_of}
 use Rattle.range_bits.proofs.wide_bits.WideBits.next_used.Goals as goal

@@ -1,4 +1,4 @@
-use Rattle.std.proofs.Common.{◌≡◌, ℕ, true, List, Bool, length, ap, subst, ◌∙◌, arith}
+use Rattle.std.proofs.Common.{true, List, Bool, length, ap, subst, ◌∙◌, arith}
 use Rattle.range_bits.specs.Fills.{IsEnd}
 use Rattle.range_bits.specs.Words.{row_of}
 use Rattle.range_bits.proofs.RowFacts.{length-row_of}
