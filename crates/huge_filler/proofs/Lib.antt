@@ -1,11 +1,4 @@
-pub mod Choosing
-pub mod Givers
-pub mod Giving
-pub mod Keeping
-pub mod Leaving
-pub mod Living
-pub mod Numbered
-pub mod Pages
-pub mod Releasing
-pub mod Taking
-pub mod Walking
+mod Choosing
+mod Giving
+mod Kept
+mod Listed

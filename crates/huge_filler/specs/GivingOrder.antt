@@ -4,7 +4,7 @@ use Rattle.tc_units.specs.declared.units.Huge.{Huge}
 use Rattle.sorted_list.specs.Order.{IsOrder}
 use Rattle.sorted_list.specs.Measures.{order_of, by_greatest, least_first}
 use Rattle.huge_filler.specs.declared.giver.Giver.{Giver}
-use Rattle.huge_filler.specs.Giving.{rank, comes_before}
+use Rattle.huge_filler.specs.Keys.{rank, comes_before}
 
 alike : (a b : Bool) → rank a ≡ rank b → a ≡ b
 alike true true e = refl

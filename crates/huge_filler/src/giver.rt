@@ -15,7 +15,7 @@ pub struct Giver {
 }
 
 impl SortKey for Giver {
-    ghost use Rattle.huge_filler.specs.Giving.{comes_before, sample};
+    ghost use Rattle.huge_filler.specs.Keys.{comes_before, sample};
     ghost use Rattle.huge_filler.specs.GivingOrder.{total};
 
     ghost before = { comes_before };

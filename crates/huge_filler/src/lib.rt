@@ -1,13 +1,12 @@
-//! The hugepages that serve runs below a hugepage, packed as tightly as the stated rule says.
+//! Which hugepage serves a run below a hugepage, and which gives pages up, by measures that it is told.
 #![tactic(auto)]
 
 mod filler;
-mod given;
 mod giver;
+mod measures;
 mod preferred;
-mod row;
 #[cfg(test)]
 mod tests;
 
 pub use filler::HugeFiller;
-pub use given::Given;
+pub use measures::Measures;

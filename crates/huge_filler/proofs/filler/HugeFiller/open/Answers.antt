@@ -1,10 +1,22 @@
-use Rattle.std.proofs.Common.{◌≡◌, ℕ, None, replicate, ap, ◌∙◌, arith}
-use Rattle.huge_filler.proofs.Keeping.{kept_none}
-use Rattle.huge_filler.proofs.Givers.{givers_none}
+use Rattle.std.proofs.Common.{◌≡◌, ℕ, refl, replicate, List, [], ◌∷◌, ◌++◌, Option, None, ap, ◌∙◌, arith}
+use Rattle.std.proofs.lemmas.List.{replicate_more}
+use Rattle.huge_filler.specs.declared.measures.Measures.{Measures}
+use Rattle.huge_filler.specs.Keys.{key_of, giver_of}
+use Rattle.huge_filler.proofs.Kept.{listed_next, kept_none}
 use Rattle.huge_filler.proofs.filler.HugeFiller.open.Goals as goal
 
+pub loop-place-preserved : goal.loop-place-preserved
+loop-place-preserved c =
+    let was = c.loop-place.invariant in
+    record {
+      rows = c.in_ok-push.ensures.items ∙ ap (λ (r : List (Option Measures)). r ++ None ∷ []) was.rows ∙ replicate_more c.loop-place.place None;
+      keys = listed_next key_of c.loop-place.rows.items c.push.new.self.items c.loop-place.place c.loop-place.index.keys c.insert.new.self.keys _ was.rows c.in_ok-push.ensures.items was.keys refl c.insert.ensures.keys;
+      givers = listed_next giver_of c.loop-place.rows.items c.push.new.self.items c.loop-place.place c.loop-place.givers.keys c.insert-in-loop-place.new.self.keys c.giver_of.result was.rows c.in_ok-push.ensures.items was.givers c.giver_of.ensures c.insert-in-loop-place.ensures.keys;
+      room = omega (arith, was.room, c.insert.ensures.spare);
+      also = omega (arith, was.also, c.insert-in-loop-place.ensures.spare);
+    }
+
 pub invariant_of-result : goal.invariant_of-result
-invariant_of-result c = (
-  kept_none c.args.huge c.loop-place.rows.items c.in_ok-open.field-0 c.requires (c.loop-place.invariant ∙ ap (λ (n : ℕ). replicate n None) (let same : c.loop-place._place ≡ c.args.huge = omega arith in same)) c.in_ok-open.ensures.keys c.in_ok-open.ensures.spare,
-  givers_none c.args.huge c.loop-place.rows.items c.in_ok-open-2.field-0 (c.loop-place.invariant ∙ ap (λ (n : ℕ). replicate n None) (let same : c.loop-place._place ≡ c.args.huge = omega arith in same)) c.in_ok-open-2.ensures.keys c.in_ok-open-2.ensures.spare,
-)
+invariant_of-result c =
+    let was = c.loop-place.invariant in
+    kept_none c.loop-place.rows.items c.args.huge c.loop-place.index.keys c.loop-place.givers.keys c.requires (was.rows ∙ ap (λ (n : ℕ). replicate n None) (let same : c.loop-place.place ≡ c.args.huge = omega arith in same)) was.keys was.givers

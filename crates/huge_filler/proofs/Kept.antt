@@ -1,0 +1,80 @@
+-- The lists and the count follow what a hugepage measures.
+use Rattle.std.proofs.Common.{◌≡◌, ℕ, ◌+◌, ◌-◌, ◌<◌, ◌≤◌, ◌*◌, Bool, true, false, cond, List, [], ◌∷◌, ◌++◌, length, get_or, set, replicate, Option, Some, None, IfSome, Contains, IsPermutation, sym, ap, subst, ◌∙◌, inl, inr, arith}
+use Rattle.std.proofs.lemmas.Bool.{cases_eq}
+use Rattle.std.proofs.lemmas.List.{length-set, get_or-set_same, get_or-set_other, get_or_default, get_or-replicate, length-replicate}
+use Rattle.std.proofs.lemmas.List.Sums.{sum_by-set, sum_by-le, get_or-le-sum_by}
+use Rattle.std.proofs.lemmas.List.Folds.{sum_by-replicate}
+use Rattle.heap_rules.proofs.Numbered.{at_number-place}
+use Rattle.sorted_list.specs.Order.{IsOrder}
+use Rattle.huge_index.specs.declared.key.Key.{Key}
+use Rattle.huge_filler.specs.declared.giver.Giver.{Giver}
+use Rattle.huge_filler.specs.declared.measures.Measures.{Measures}
+use Rattle.huge_filler.specs.Measures.{free_of_donated, donated_free}
+use Rattle.huge_filler.specs.Keys.{key_of, giver_of, Lists, IsKept}
+use Rattle.huge_filler.proofs.Listed.{stands, listed_more, listed_set, key_at}
+
+free_le : (o : Option Measures) → free_of_donated o ≤ 256
+free_le None = omega arith
+free_le (Some its) = elim its.donated as (λ b. cond b (256 - its.used) 0 ≤ 256) [ true ↦ omega arith | false ↦ omega arith ]
+
+pub free_bound : (rows : List (Option Measures)) (o : Option Measures) → length rows ≤ 4096 → donated_free rows + free_of_donated o ≤ 1048832
+free_bound rows o few = omega (arith, free_le o, sum_by-le free_of_donated 256 rows (λ k d l. free_le (get_or rows k d)))
+
+-- hugepage h, at place i, with what it measured
+module _ (rows : List (Option Measures)) (h i : ℕ) (o : Option Measures) (some : 0 < h) (within : h ≤ length rows) (at : i ≡ h - 1) (is : o ≡ get_or rows i o) where
+  inside : i < length rows
+  inside = omega arith
+
+  number : 1 + i ≡ h
+  number = omega arith
+
+  here : get_or rows i None ≡ o
+  here = get_or_default rows i None o inside ∙ sym is
+
+  pub is_held : {K : Type 0} (key : ℕ → Option Measures → K) (before : K → K → Bool) (total : IsOrder K before) (keys : List K) (k : K) → Lists key rows keys → k ≡ key h o → Contains keys k
+  is_held {K} key before total keys k lists e =
+      subst (λ (x : K). Contains keys x) (ap (key (1 + i)) here ∙ ap (λ (n : ℕ). key n o) number ∙ sym e) (key_at key before total rows keys lists i inside)
+
+  moved : {K : Type 0} (key : ℕ → Option Measures → K) (after : Option Measures) (keys keys' : List K) (k k' : K) → Lists key rows keys → k ≡ key h o → k' ≡ key h after → IsPermutation (k' ∷ keys) (k ∷ keys') → Lists key (set rows i after) keys'
+  moved {K} key after keys keys' k k' lists e e' turn =
+      listed_set key rows i after keys keys' inside lists
+      (subst (λ (x : K). IsPermutation (x ∷ keys) (key (1 + i) (get_or rows i None) ∷ keys')) (e' ∙ ap (λ (n : ℕ). key n after) (sym number))
+      (subst (λ (x : K). IsPermutation (k' ∷ keys) (x ∷ keys')) (e ∙ ap (λ (n : ℕ). key n o) (sym number) ∙ ap (key (1 + i)) (sym here)) turn))
+
+  pub kept_set : (index index' : List Key) (order order' : List Giver) (donated m n : ℕ) (after : Option Measures) (k k' : Key) (g g' : Giver) → IsKept rows index order donated → IfSome after (λ its. its.tier ≤ 2) → k ≡ key_of h o → k' ≡ key_of h after → IsPermutation (k' ∷ index) (k ∷ index') → g ≡ giver_of h o → g' ≡ giver_of h after → IsPermutation (g' ∷ order) (g ∷ order') → m ≡ free_of_donated o → n ≡ free_of_donated after → IsKept (set rows i after) index' order' (donated - m + n)
+  kept_set index index' order order' donated m n after k k' g g' kept tier e e' turn f f' also less more =
+      record {
+        arena = omega (arith, length-set rows i after, kept.arena);
+        tiers = λ x its there.
+            let now = stands (set rows i after) x its there in
+            elim (cases_eq (x - 1) i) [
+              | inl same ↦
+                  (let got : after ≡ Some its = sym (get_or-set_same rows i after None inside) ∙ ap (λ (j : ℕ). get_or (set rows i after) j None) (sym same) ∙ now.2 in
+                  subst (λ (x : Option Measures). IfSome x (λ y. y.tier ≤ 2)) got tier)
+              | inr other ↦ kept.tiers x its (at_number-place None rows x now.0 ∙ sym (get_or-set_other rows i (x - 1) after None other) ∙ now.2)
+            ];
+        keys = moved key_of after index index' k k' kept.keys e e' turn;
+        givers = moved giver_of after order order' g g' kept.givers f f' also;
+        counted = omega (arith, kept.counted, ap free_of_donated here, get_or-le-sum_by free_of_donated rows i None inside, sum_by-set free_of_donated rows i after None inside);
+      }
+
+-- a hugepage more at the opening
+pub listed_next : {K : Type 0} (key : ℕ → Option Measures → K) (rows rows' : List (Option Measures)) (place : ℕ) (keys keys' : List K) (k : K) → rows ≡ replicate place None → rows' ≡ rows ++ None ∷ [] → Lists key rows keys → k ≡ key (place + 1) None → IsPermutation (k ∷ keys) keys' → Lists key rows' keys'
+listed_next {K} key rows rows' place keys keys' k is more lists e turn =
+    let size : place + 1 ≡ 1 + length rows = omega (arith, ap length is, length-replicate {A = Option Measures} place None) in
+    subst (λ (r : List (Option Measures)). Lists key r keys') (sym more)
+    (listed_more key rows None keys keys' lists (subst (λ (x : K). IsPermutation (x ∷ keys) keys') (e ∙ ap (λ (n : ℕ). key n None) size) turn))
+
+pub kept_none : (rows : List (Option Measures)) (huge : ℕ) (index : List Key) (order : List Giver) → huge ≤ 4096 → rows ≡ replicate huge None → Lists key_of rows index → Lists giver_of rows order → IsKept rows index order 0
+kept_none rows huge index order most is keys givers =
+    let none : huge * 0 ≡ 0 = omega arith in
+    record {
+      arena = omega (arith, ap length is, length-replicate {A = Option Measures} huge None);
+      tiers = λ h its e.
+          let at = stands rows h its e in
+          let free : get_or rows (h - 1) None ≡ None = ap (λ (r : List (Option Measures)). get_or r (h - 1) None) is ∙ get_or-replicate huge (h - 1) None None (omega (arith, at.1, ap length is, length-replicate {A = Option Measures} huge None)) in
+          absurd (let clash : None ≡ Some its = sym free ∙ at.2 in cc);
+      keys = keys;
+      givers = givers;
+      counted = sym (ap donated_free is ∙ sum_by-replicate free_of_donated huge None ∙ none);
+    }
