@@ -1,10 +1,16 @@
 -- What isn't free stays not free and backed, through each change of both rows.
-use Rattle.std.proofs.Common.{◌≡◌, ℕ, ◌+◌, ◌-◌, ◌≤◌, Bool, true, false, cond, List, length, get_or, refl, sym, ap, ◌∙◌, arith}
+use Rattle.std.proofs.Common.{◌≡◌, ℕ, ◌+◌, ◌-◌, ◌<◌, ◌≤◌, Bool, true, false, not, cond, map, count_by, List, [], ◌∷◌, length, get_or, refl, sym, ap, ◌∙◌, inl, inr, arith}
+use Rattle.std.proofs.lemmas.Bool.{cases_lt}
+use Rattle.std.proofs.lemmas.Grind.{get_or_head}
+use Rattle.std.proofs.lemmas.List.{get_or_past}
+use Rattle.std.proofs.lemmas.List.Sums.{sum_by-cons}
 use Rattle.range_bits.specs.Ranges.{with_places}
-use Rattle.range_bits.specs.Fills.{FillsLast}
+use Rattle.range_bits.specs.Fills.{free_count, IsEnd}
 use Rattle.range_bits.proofs.BitFacts.{is_between}
 use Rattle.range_bits.proofs.Placing.{length-with_places, get_or-with_places}
-use Rattle.huge_cache.specs.Cache.{Cache}
+use Rattle.heap_rules.proofs.Numbered.{at_number-place}
+use Rattle.tc_units.specs.declared.units.Huge.{Huge}
+use Rattle.huge_cache.specs.Cache.{Cache, is_backed, IsLastBacked}
 use Rattle.huge_cache.specs.Rows.{IsSound}
 
 abbrev pub cache_of : Cache → List Bool → List Bool → Cache
@@ -14,31 +20,71 @@ one_state : (inside a b t u : Bool) → (a ≡ true → b ≡ true) → (t ≡ t
 one_state true a b t u change before h = change h
 one_state false a b t u change before h = before h
 
-pub sound_placed : (c : Cache) (start n : ℕ) (a b : Bool) → IsSound c → start + n ≤ length c.taken → (a ≡ true → b ≡ true) → IsSound (cache_of c (with_places c.taken start n a) (with_places c.unready start n b))
-sound_placed c start n a b h inside change =
-    let first = length-with_places c.taken start n a inside in
-    let second = length-with_places c.unready start n b (omega (arith, h.lengths)) in
-    record {
-      lengths = omega (arith, h.lengths);
-      small = omega (arith, h.small);
-      unready = λ k taken.
-          get_or-with_places c.unready start n b k true (omega (arith, h.lengths))
-          ∙ one_state (is_between start (start + n) k) a b (get_or c.taken k true) (get_or c.unready k true) change (h.unready k) (sym (get_or-with_places c.taken start n a k true inside) ∙ taken);
-    }
+module _ (c : Cache) (sound : IsSound c) where
+  pub sound_put : (taken unready : List Bool) (start n : ℕ) (a b : Bool) → start + n ≤ length c.taken → (a ≡ true → b ≡ true) → taken ≡ with_places c.taken start n a → unready ≡ with_places c.unready start n b → IsSound (cache_of c taken unready)
+  sound_put taken unready start n a b inside change is also =
+      let also_inside : start + n ≤ length c.unready = omega (arith, sound.lengths) in
+      let size = ap length is ∙ length-with_places c.taken start n a inside in
+      record {
+        lengths = omega (arith, sound.lengths, ap length also, length-with_places c.unready start n b also_inside);
+        small = omega (arith, sound.small);
+        unready = λ k there.
+            ap (λ (r : List Bool). get_or r k true) also
+            ∙ get_or-with_places c.unready start n b k true also_inside
+            ∙ one_state (is_between start (start + n) k) a b (get_or c.taken k true) (get_or c.unready k true) change (sound.unready k) (sym (ap (λ (r : List Bool). get_or r k true) is ∙ get_or-with_places c.taken start n a k true inside) ∙ there);
+      }
 
-more_state : (inside u : Bool) → u ≡ true → cond inside true u ≡ true
-more_state true u h = refl
-more_state false u h = h
+  -- more that isn't backed
+  pub sound_more : (unready : List Bool) (start n : ℕ) → start + n ≤ length c.unready → unready ≡ with_places c.unready start n true → IsSound (cache_of c c.taken unready)
+  sound_more unready start n inside is =
+      record {
+        lengths = omega (arith, sound.lengths, ap length is, length-with_places c.unready start n true inside);
+        small = sound.small;
+        unready = λ k there.
+            ap (λ (r : List Bool). get_or r k true) is
+            ∙ get_or-with_places c.unready start n true k true inside
+            ∙ one_state (is_between start (start + n) k) true true (get_or c.taken k true) (get_or c.unready k true) (λ e. e) (sound.unready k) (elim (is_between start (start + n) k) as (λ b. cond b true (get_or c.taken k true) ≡ true) [ true ↦ refl | false ↦ there ]);
+      }
 
-pub sound_more : (c : Cache) (unready : List Bool) (most many : ℕ) → IsSound c → FillsLast c.unready unready most many → IsSound (cache_of c c.taken unready)
-sound_more c unready most many h f =
-    let n : ℕ = length c.unready - f.start in
-    let inside : f.start + n ≤ length c.unready = omega (arith, f.tail.within) in
+-- the flags 'free and backed' of a row
+pub ready_is : (v : List Bool) → count_by (λ b. b) (map not v) ≡ free_count v
+ready_is [] = refl
+ready_is (x ∷ v) = omega (arith, sum_by-cons (λ (b : Bool). cond b 1 0) (not x) (map not v), sum_by-cons (λ (b : Bool). cond (not b) 1 0) x v, ready_is v)
+
+-- a hugepage is backed where its place isn't used in the row
+pub backed_at : (c : Cache) (h : ℕ) → 0 < h → is_backed c h ≡ not (get_or c.unready (h - 1) true)
+backed_at c h some = ap not (at_number-place true c.unready h some)
+
+pub none_at : (c : Cache) (h : ℕ) → h ≡ 0 → is_backed c h ≡ false
+none_at c h none = ap not (get_or_head true c.unready h true none)
+
+-- and it is one of the arena
+pub backed_inside : (c : Cache) (h : ℕ) → is_backed c h ≡ true → (0 < h) × (h ≤ length c.unready)
+backed_inside c h e =
+    elim (cases_lt 0 h) [
+      | inr none ↦ absurd (let b : false ≡ true = sym (none_at c h (omega arith)) ∙ e in cc)
+      | inl some ↦ elim (cases_lt (length c.unready) h) [
+        | inr inside ↦ (some, inside)
+        | inl past ↦ absurd (let b : false ≡ true = sym (ap not (get_or_past c.unready (h - 1) true (omega arith))) ∙ sym (backed_at c h some) ∙ e in cc)
+      ]
+    ]
+
+-- behind the last free place none is backed
+pub none_behind : (c : Cache) (end h : ℕ) → IsEnd c.unready (length c.unready) false end → end < h → is_backed c h ≡ false
+none_behind c end h is behind =
+    backed_at c h (omega arith) ∙ elim (cases_lt (h - 1) (length c.unready)) [
+      | inl inside ↦ ap not (is.behind (h - 1) (omega arith) inside)
+      | inr past ↦ ap not (get_or_past c.unready (h - 1) true past)
+    ]
+
+pub none_backed : (c : Cache) → IsEnd c.unready (length c.unready) false 0 → (h : ℕ) → is_backed c h ≡ false
+none_backed c is h = elim (cases_lt 0 h) [ inl some ↦ none_behind c 0 h is some | inr none ↦ none_at c h (omega arith) ]
+
+pub last_is : (c : Cache) (end : ℕ) (huge : Huge) → IsEnd c.unready (length c.unready) false end → 0 < end → huge.0 ≡ end → IsLastBacked c huge
+last_is c end huge is some same =
     record {
-      lengths = omega (arith, ap (λ (r : List Bool). length r) f.filled, length-with_places c.unready f.start n true inside, h.lengths);
-      small = h.small;
-      unready = λ k taken.
-          ap (λ (r : List Bool). get_or r k true) f.filled
-          ∙ get_or-with_places c.unready f.start n true k true inside
-          ∙ more_state (is_between f.start (f.start + n) k) (get_or c.unready k true) (h.unready k taken);
+      from = omega arith;
+      to = omega (arith, is.within);
+      backed = ap (is_backed c) same ∙ backed_at c end some ∙ ap not (is.there some);
+      behind = λ h later. none_behind c end h is (omega arith);
     }

@@ -1,13 +1,13 @@
 -- Rows with used places behind the arena's: what each question and change makes of the arena's part.
-use Rattle.std.proofs.Common.{◌≡◌, ℕ, zero, suc, ◌+◌, ◌-◌, ◌<◌, ◌≤◌, ◌==◌, ◌&&◌, ◌||◌, Bool, true, false, not, cond, nat_le, nat_lt, List, [], ◌∷◌, ◌++◌, length, get_or, set, take, drop, replicate, filter, All, refl, sym, ap, ◌∙◌, inl, inr, arith, add-one}
+use Rattle.std.proofs.Common.{◌≡◌, ℕ, zero, suc, ◌+◌, ◌-◌, ◌<◌, ◌≤◌, ◌==◌, ◌&&◌, ◌||◌, Bool, true, false, not, cond, nat_le, nat_lt, List, [], ◌∷◌, ◌++◌, length, get_or, set, take, drop, replicate, filter, All, refl, sym, ap, ◌∙◌, arith, add-one}
 use Rattle.std.specs.List.{prefix_len, range_with_len}
-use Rattle.std.proofs.lemmas.Bool.{cases_lt, and_left, not_from_true}
-use Rattle.std.proofs.lemmas.List.{append_assoc, append-nil, length-append, length-replicate, length-take-le, take-append-le, take_at, drop-append-le, get_or_append_left, get_or-append_right, get_or-replicate, get_or-take, set_split}
-use Rattle.std.proofs.lemmas.List.Sums.{prefix_len-drop_all, sum_by-append}
+use Rattle.std.proofs.lemmas.Bool.{and_left, not_from_true}
+use Rattle.std.proofs.lemmas.List.{append_assoc, append-nil, length-append, length-replicate, length-take-le, take-append-le, take_at, drop-append-le, drop_all, drop-replicate, get_or_append_left, get_or-append_right, get_or-replicate, get_or-take, set_split}
+use Rattle.std.proofs.lemmas.List.Sums.{sum_by-append}
 use Rattle.std.proofs.lemmas.List.Folds.{sum_by-replicate}
 use Rattle.std.proofs.lemmas.List.Elements.{filter-append, All-weaker, All-filter}
-use Rattle.range_bits.specs.Fills.{free_count}
-use Rattle.range_bits.specs.Ranges.{free_from, used_from, used_count, places, begins_range, first_least, best, with_places}
+use Rattle.range_bits.specs.Fills.{free_count, IsEnd}
+use Rattle.range_bits.specs.Ranges.{free_from, used_count, places, begins_range, first_least, best, with_places}
 use Rattle.range_bits.proofs.RangeLemmas.{range-within, filter-agree, filter-none, first_least-agree}
 use Rattle.range_bits.proofs.Scan.{range-append}
 use Rattle.range_bits.proofs.Placing.{length-with_places}
@@ -39,18 +39,6 @@ stretch (false ∷ v) k = ap (λ (n : ℕ). 1 + n) (stretch v k)
 
 pub free_from-padded : (v : List Bool) (k p : ℕ) → p ≤ length v → free_from (v ++ pad k) p ≡ free_from v p
 free_from-padded v k p inside = ap (prefix_len not) (drop-append-le p v (pad k) inside) ∙ stretch (drop p v) k
-
-used_stretch : (v w : List Bool) → prefix_len (λ used. used) v ≤ prefix_len (λ used. used) (v ++ w)
-used_stretch [] w = omega arith
-used_stretch (true ∷ v) w = omega (arith, used_stretch v w)
-used_stretch (false ∷ v) w = omega arith
-
-pub used_from-padded : (v : List Bool) (k p : ℕ) → used_from v p ≤ used_from (v ++ pad k) p
-used_from-padded v k p =
-    elim (cases_lt (length v) p) [
-      | inl past ↦ omega (arith, prefix_len-drop_all (λ used. used) v p (omega arith))
-      | inr inside ↦ (let e : used_from (v ++ pad k) p ≡ prefix_len (λ used. used) (drop p v ++ pad k) = ap (prefix_len (λ used. used)) (drop-append-le p v (pad k) inside) in omega (arith, used_stretch (drop p v) (pad k)))
-    ]
 
 -- counts
 pub used_count-padded : (v : List Bool) (k : ℕ) → used_count (v ++ pad k) ≡ used_count v + k
@@ -138,12 +126,6 @@ changed huge row new start n used h is inside =
 pub best-front : (huge : ℕ) (row : List Bool) (n : ℕ) → IsPadded huge row → best row n ≡ best (take huge row) n
 best-front huge row n h = ap (λ (r : List Bool). best r n) h.padded ∙ best-padded (take huge row) (length row - huge) n
 
-pub free_from-front : (huge : ℕ) (row : List Bool) (p : ℕ) → IsPadded huge row → p ≤ huge → free_from row p ≡ free_from (take huge row) p
-free_from-front huge row p h inside = ap (λ (r : List Bool). free_from r p) h.padded ∙ free_from-padded (take huge row) (length row - huge) p (omega (arith, front_length huge row h))
-
-pub used_from-front : (huge : ℕ) (row : List Bool) (p : ℕ) → IsPadded huge row → used_from (take huge row) p ≤ used_from row p
-used_from-front huge row p h = let e = ap (λ (r : List Bool). used_from r p) h.padded in omega (arith, used_from-padded (take huge row) (length row - huge) p)
-
 pub used_count-front : (huge : ℕ) (row : List Bool) → IsPadded huge row → used_count row ≡ used_count (take huge row) + (length row - huge)
 used_count-front huge row h = ap used_count h.padded ∙ used_count-padded (take huge row) (length row - huge)
 
@@ -152,3 +134,21 @@ free_count-front huge row h = ap free_count h.padded ∙ free_count-padded (take
 
 pub place-front : (huge : ℕ) (row : List Bool) (p : ℕ) (d : Bool) → IsPadded huge row → p < huge → get_or row p d ≡ get_or (take huge row) p d
 place-front huge row p d h inside = sym (get_or-take huge row p d inside)
+
+-- the last free place of a padded row is that of its front
+pub end-front : (len : ℕ) (row : List Bool) (end : ℕ) → IsPadded len row → IsEnd row len false end → IsEnd (take len row) (length (take len row)) false end
+end-front len row end h is =
+    let size = front_length len row h in
+    record {
+      within = omega (arith, is.within);
+      behind = λ k from inside. sym (place-front len row k true h (omega arith)) ∙ is.behind k from (omega arith);
+      there = λ some. sym (place-front len row (end - 1) true h (omega (arith, is.within))) ∙ is.there some;
+    }
+
+-- a row at its opening: all places are used, and then its own become what they are to be
+pub opened : (len n : ℕ) (used : Bool) → len ≤ n → with_places (with_places (replicate n false) 0 n true) 0 len used ≡ replicate len used ++ pad (n - len)
+opened len n used order =
+    let none : 0 + n ≡ n = omega arith in
+    let at : 0 + len ≡ len = omega arith in
+    let all : with_places (replicate n false) 0 n true ≡ pad n = ap (λ (k : ℕ). pad n ++ drop k (replicate n false)) none ∙ ap (λ (r : List Bool). pad n ++ r) (drop_all n (replicate n false) (omega (arith, length-replicate n false))) ∙ append-nil (pad n) in
+    ap (λ (r : List Bool). with_places r 0 len used) all ∙ ap (λ (k : ℕ). replicate len used ++ drop k (pad n)) at ∙ ap (λ (r : List Bool). replicate len used ++ r) (drop-replicate len n true)

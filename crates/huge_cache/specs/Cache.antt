@@ -1,10 +1,9 @@
 -- The free hugepages: which are there, which of them are backed, and how many stay so.
-use Rattle.std.specs.Prelude.{ℕ, ◌-◌, Bool, true, false, ◌||◌, not, List, [], map, replicate, count_by, slice_set, length}
-use Rattle.std.specs.List.{enumerate_from, range_with_len}
+use Rattle.std.specs.Prelude.{◌≡◌, ℕ, ◌-◌, ◌<◌, ◌≤◌, Bool, true, false, not, List, [], map, replicate, count_by, slice_set, length}
+use Rattle.tc_units.specs.declared.units.Huge.{Huge}
 use Rattle.range_bits.specs.Ranges.{with_places}
 use Rattle.heap_rules.specs.Numbered.{at_number}
-use Rattle.heap_rules.specs.CacheFlags.{is_over, with_count, limit}
-use Rattle.heap_rules.specs.GiveUp.{gives_whole}
+use Rattle.heap_rules.specs.CacheFlags.{with_count, limit}
 
 -- What contracts see: the most backed free hugepages and the window, as at the opening; for each hugepage of the arena (h at
 -- place h - 1) whether it isn't in the cache, and whether it isn't there and backed; and the use counts, the newest last.
@@ -26,6 +25,10 @@ holds cache h = not (at_number true cache.taken h)
 abbrev pub is_backed : Cache → ℕ → Bool
 is_backed cache h = not (at_number true cache.unready h)
 
+-- the cache where `many` hugepages from h on are out or not, and out or unbacked or not
+abbrev pub with_run : Cache → ℕ → ℕ → Bool → Bool → Cache
+with_run cache h many taken unready = record cache { taken = with_places cache.taken (h - 1) many taken; unready = with_places cache.unready (h - 1) many unready }
+
 -- the cache without `many` hugepages from h on, with `many` backed ones more, and with one more
 abbrev pub without_run : Cache → ℕ → ℕ → Cache
 without_run cache h many = record cache { taken = with_places cache.taken (h - 1) many true; unready = with_places cache.unready (h - 1) many true }
@@ -36,27 +39,24 @@ with_backed_run cache h many = record cache { taken = with_places cache.taken (h
 abbrev pub with_huge : Cache → ℕ → Bool → Cache
 with_huge cache h backed = record cache { taken = slice_set cache.taken (h - 1) false; unready = slice_set cache.unready (h - 1) (not backed) }
 
--- The flags where those that `loses` names, by number, are no longer backed, and how many of them there are.
-abbrev pub marked : (ℕ → Bool) → List Bool → List Bool
-marked loses unready = map (λ p. p.1 || loses p.0) (enumerate_from 1 unready)
-
-abbrev pub count_of : (ℕ → Bool) → List Bool → ℕ
-count_of loses unready = count_by loses (range_with_len 1 (length unready))
-
 -- which hugepages are free and backed
 abbrev pub ready : Cache → List Bool
 ready cache = map not cache.unready
 
--- Those above the limit lose their backing.
-abbrev pub is_above : Cache → ℕ → Bool
-is_above cache h = is_over (limit cache.most cache.counts) (ready cache) h
+-- the hugepage of greatest number that is free and backed
+pub record IsLastBacked (cache : Cache) (huge : Huge) : Type 0 where
+  pub from : 0 < huge.0
+  pub to : huge.0 ≤ length cache.unready
+  pub backed : is_backed cache huge.0 ≡ true
+  pub behind : (h : ℕ) → huge.0 < h → is_backed cache h ≡ false
 
-abbrev pub trimmed : Cache → Cache
-trimmed cache = record cache { unready = marked (is_above cache) cache.unready }
+-- how many of them are above the limit
+abbrev pub over_count : Cache → ℕ
+over_count cache = count_by (λ b. b) (ready cache) - limit cache.most cache.counts
 
--- From the greatest number down, hugepages lose their backing while fewer than n pages did.
-abbrev pub released : Cache → ℕ → Cache
-released cache n = record cache { unready = marked (gives_whole (ready cache) n) cache.unready }
+-- the cache where a hugepage has lost its backing
+abbrev pub without_backing : Cache → ℕ → Cache
+without_backing cache h = record cache { unready = slice_set cache.unready (h - 1) true }
 
 -- the cache with one more use count
 abbrev pub noted : Cache → ℕ → Cache

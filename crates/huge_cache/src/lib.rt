@@ -2,6 +2,7 @@
 #![tactic(auto)]
 
 mod cache;
+mod row;
 #[cfg(test)]
 mod tests;
 mod uses;

@@ -1,0 +1,77 @@
+//! A row of any number of places, in words of 64: places behind its own are used.
+ghost use Rattle.std.specs.Prelude.{◌≡◌, ◌+◌, ◌<◌, ◌≤◌, true, false, length, replicate, IfOk};
+ghost use Rattle.range_bits.specs.Fills.{free_count, IsEnd};
+ghost use Rattle.range_bits.specs.Ranges.{best, used_count, with_places};
+
+use range_bits::WideBits;
+use std::alloc::{AllocError, Global};
+use std::marker::Model;
+
+/// Places that are used or free. Contracts see a truth value for each, in order.
+#[derive(Drop)]
+pub struct Row {
+    bits: WideBits,
+    len: u32,
+}
+
+impl Model for Row {
+    ghost use Rattle.std.specs.Prelude.{List, Bool, take};
+    ghost use Rattle.huge_cache.specs.Rows.{IsPadded};
+
+    ghost Value = { List Bool };
+
+    ghost view = { λ r. take r.len r.bits };
+
+    ghost invariant = { λ r. IsPadded r.len r.bits };
+}
+
+impl Row {
+    /// A row of `len` places, all of them used, or all free.
+    pub fn open(alloc: Global, len: u32, used: bool) -> Result<Self, AllocError>
+        ensures { IfOk result (λ row. row ≡ replicate len used) }
+    {
+        let mut bits = WideBits::open(alloc, (len as usize).div_ceil(64))?;
+        let places = bits.places();
+        bits.put(0, places, true);
+        bits.put(0, len, used);
+        Ok(Row { bits, len })
+    }
+
+    /// Where the shortest maximal free range of at least `n` places begins, the first one where several
+    /// are as short.
+    pub fn best(&self, n: u32) -> Option<u32>
+        requires { 0 < n }
+        ensures { result ≡ best self.now n }
+    {
+        self.bits.best(n)
+    }
+
+    /// Makes `n` places used or free, from `start` on, whatever they were.
+    pub fn put(&mut self, start: u32, n: u32, used: bool)
+        requires { start + n ≤ length self.old }
+        ensures { self.new ≡ with_places self.old start n used }
+    {
+        self.bits.put(start, n, used);
+    }
+
+    /// How many places are used.
+    pub fn used(&self) -> u32
+        ensures { result ≡ used_count self.now }
+    {
+        self.bits.used() - (self.bits.places() - self.len)
+    }
+
+    /// How many places are free.
+    pub fn free(&self) -> u32
+        ensures { result ≡ free_count self.now }
+    {
+        self.bits.places() - self.bits.used()
+    }
+
+    /// Where the last free place ends; 0 where there is none.
+    pub fn free_end(&self) -> u32
+        ensures { IsEnd self.now (length self.now) false result }
+    {
+        self.bits.free_end(self.len)
+    }
+}
