@@ -1,13 +1,12 @@
--- The region that the index answers is the preferred one, and the place in it.
-use Rattle.std.proofs.Common.{◌≡◌, ℕ, ◌+◌, ◌*◌, ◌/◌, ◌<◌, ◌≤◌, true, false, not, nat_lt, nat_eq, List, [], length, get_or, map, filter, Some, None, option_map, All, Contains, refl, sym, ap, ◌∙◌, inl, inr, arith}
+-- The region whose key is found is the preferred one, and the place in it.
+use Rattle.std.proofs.Common.{◌≡◌, ℕ, ◌+◌, ◌*◌, ◌/◌, ◌<◌, ◌≤◌, true, false, not, nat_lt, nat_eq, List, get_or, filter, Some, None, option_map, All, Contains, sym, ap, subst, ◌∙◌, inl, inr, arith}
 use Rattle.std.specs.List.{list_all}
 use Rattle.std.proofs.lemmas.Bool.{cases_Bool, cases_lt, le-leb, lt-leb, leb-true, not_from_false, not-true}
-use Rattle.std.proofs.lemmas.List.{length-map, get_or-map}
-use Rattle.std.proofs.lemmas.List.Elements.{All-filter, All-map, filter_passes, Contains-get_or}
+use Rattle.std.proofs.lemmas.Bool.Decides.{nat_tests}
+use Rattle.std.proofs.lemmas.List.Elements.{All-contains, All-filter, All-contains_itself, filter_passes, Contains-get_or}
 use Rattle.std.proofs.lemmas.List.Sums.{list_all-from_AllPass, AllPass-from_list_all}
 use Rattle.std.proofs.lemmas.Option.{none-some}
-use Rattle.tc_units.specs.declared.units.Huge.{Huge}
-use Rattle.range_bits.specs.Ranges.{longest, best, first_least, free_from}
+use Rattle.range_bits.specs.Ranges.{longest, best, first_least}
 use Rattle.range_bits.proofs.RangeLemmas.{filter-none}
 use Rattle.range_bits.proofs.RangeFacts.{best_is_fit}
 use Rattle.range_bits.proofs.Counts.{free_inside}
@@ -15,66 +14,81 @@ use Rattle.range_bits.proofs.Least.{IsBehind, least_is_first}
 use Rattle.heap_rules.specs.RegionRows.{RegionRow, is_preferred, has_room, region_place, place_in_region}
 use Rattle.heap_rules.proofs.Orders.{by_first, last_is}
 use Rattle.heap_rules.proofs.Live.{filter_holds}
-use Rattle.huge_index.specs.declared.key.Key.{Key}
-use Rattle.huge_index.specs.Order.{comes_before, Serves, IsFirstOf}
-use Rattle.huge_index.specs.Rows.{IsIndexOf}
-use Rattle.huge_index.proofs.Orders.{told_apart}
-use Rattle.huge_index.proofs.Rows.{first_row, IsFirstRow, no_row_serves}
-use Rattle.huge_region.specs.Kept.{IsSound, key_of}
-use Rattle.huge_region.specs.Regions.{Region, Regions, region_with, row_of, start_in}
-use Rattle.huge_region.proofs.Looked.{held_has, one_region, HasHuge, has_huge}
+use Rattle.sorted_list.specs.Measures.{not_yes}
+use Rattle.sorted_list.specs.Order.{IsFirstFrom}
+use Rattle.sorted_list.specs.Rows.{IsIndexOf}
+use Rattle.sorted_list.proofs.Rows.{row_held, key_held}
+use Rattle.huge_region.specs.declared.key.RegionKey.{RegionKey}
+use Rattle.huge_region.specs.declared.regions.HugeRegions.TheInside.{Inside}
+use Rattle.huge_region.specs.Order.{comes_before}
+use Rattle.huge_region.specs.Total.{total}
+use Rattle.huge_region.specs.Kept.{IsSound, IsInside, regions_of, key_of}
+use Rattle.huge_region.specs.Regions.{Regions, region_with, start_in, AreFreeIn}
+use Rattle.huge_region.proofs.Kept.{held_has, one_region, HasHuge, has_huge}
+
+-- the key before which no region comes that has n adjacent unused pages
+abbrev pub least_of : ℕ → RegionKey
+least_of n = record { longest = n; first = record { 0 = 0 } }
 
 -- The two orders are one.
-preferred_is : (a b : Region) → is_preferred (row_of a) (row_of b) ≡ comes_before (key_of a) (key_of b)
+preferred_is : (a b : RegionRow) → is_preferred a b ≡ comes_before (key_of a) (key_of b)
 preferred_is a b = by_first (longest a.used) (longest b.used) _ _ (last_is (nat_lt a.first b.first) (nat_eq a.first b.first))
 
-map_holds : (rs : List Region) (r : Region) → Contains rs r → Contains (map row_of rs) (row_of r)
-map_holds rs r held = (held.0, omega (arith, held.1, length-map rs row_of), get_or-map row_of rs held.0 r (row_of r) held.1 ∙ ap row_of held.2)
+long_enough : (n : ℕ) (key : RegionKey) → comes_before key (least_of n) ≡ false → n ≤ key.longest
+long_enough n key h = elim (not_yes key.longest n (nat_lt key.first.0 0) h) [ inl l ↦ omega arith | inr e ↦ omega (arith, e.0) ]
 
--- the region whose key is the first that serves
-pub record IsChosen (all : Regions) (n h : ℕ) (r : Region) : Type 0 where
+not_before : (n : ℕ) (key : RegionKey) → n ≤ key.longest → comes_before key (least_of n) ≡ false
+not_before n key l = grind (arith, nat_tests)
+
+-- the region whose key is the first that is long enough
+pub record IsChosen (all : Regions) (n h : ℕ) (r : RegionRow) : Type 0 where
   pub first : r.first ≡ h
   pub room : n ≤ longest r.used
   pub found : region_with all h ≡ Some r
   pub has : HasHuge all h r
-  pub least : first_least is_preferred (filter (has_room n) (map row_of all.regions)) ≡ Some (row_of r)
+  pub least : first_least is_preferred (filter (has_room n) all.rows) ≡ Some r
 
-pub chosen : (all : Regions) (keys : List Key) (n : ℕ) (huge : Huge) (key : Key) → IsSound all → IsIndexOf key_of all.regions keys → key.huge ≡ huge → IsFirstOf keys 0 n key → (r : Region) × IsChosen all n huge.0 r
-chosen all keys n huge key sound index number is =
-    let found = first_row key_of all.regions keys 0 n key index is in
-    let r : Region = found.0 in
-    let first : IsFirstRow key_of all.regions 0 n r = found.1 in
-    let same : r.first ≡ huge.0 = ap (λ (k : Key). k.huge.0) found.2 ∙ ap (λ (h : Huge). h.0) number in
-    let at : region_with all huge.0 ≡ Some r = held_has all huge.0 r sound first.held (omega arith) (omega (arith, sound.wide)) in
-    let behind_of : All (λ x. has_room n (row_of x) ≡ true → IsBehind is_preferred (row_of r) (row_of x)) all.regions = λ i d l. λ room.
-    let x : Region = get_or all.regions i d in
-    let not_before : comes_before (key_of x) (key_of r) ≡ false = first.first i d l (refl, leb-true n (longest x.used) room) in
+pub chosen : (all : Regions) (keys : List RegionKey) (n : ℕ) (key : RegionKey) → IsSound all → IsIndexOf key_of all.rows keys → IsFirstFrom comes_before keys (least_of n) key → (r : RegionRow) × IsChosen all n key.first.0 r
+chosen all keys n key sound index is =
+    let there = row_held comes_before total key_of all.rows keys key index is.held in
+    let r : RegionRow = there.0 in
+    let held : Contains all.rows r = there.1 in
+    let same : r.first ≡ key.first.0 = ap (λ (k : RegionKey). k.first.0) there.2 in
+    let long : longest r.used ≡ key.longest = ap (λ (k : RegionKey). k.longest) there.2 in
+    let room : n ≤ longest r.used = omega (arith, long_enough n key is.behind) in
+    let at : region_with all key.first.0 ≡ Some r = held_has all key.first.0 r sound held (omega arith) (omega (arith, sound.wide)) in
+    let behind : All (IsBehind is_preferred r) (filter (has_room n) all.rows) = λ i d l.
+    let x : RegionRow = get_or (filter (has_room n) all.rows) i d in
+    let in_rows : Contains all.rows x = All-filter (has_room n) (Contains all.rows) all.rows (All-contains_itself all.rows) i d l in
+    let long_too : n ≤ longest x.used = leb-true n (longest x.used) (filter_passes (has_room n) all.rows i d l) in
+    let after : comes_before (key_of x) (key_of r) ≡ false = subst (λ (k : RegionKey). comes_before (key_of x) k ≡ false) (sym there.2) (All-contains (λ k. comes_before k (least_of n) ≡ false → comes_before k key ≡ false) keys (key_of x) is.first (key_held comes_before total key_of all.rows keys x index in_rows) (not_before n (key_of x) long_too)) in
     elim (cases_Bool (comes_before (key_of r) (key_of x))) [
-      | inl after ↦ inr (preferred_is r x ∙ after, preferred_is x r ∙ not_before)
-      | inr level ↦ inl (ap row_of (one_region all x r sound (Contains-get_or all.regions i d l) first.held (ap (λ (k : Key). k.huge.0) (told_apart (key_of x) (key_of r) not_before level))))
-    ] in
-    let rows_behind : All (λ x. has_room n x ≡ true → IsBehind is_preferred (row_of r) x) (map row_of all.regions) = All-map (λ x. has_room n x ≡ true → IsBehind is_preferred (row_of r) x) row_of all.regions behind_of in
-    let behind : All (IsBehind is_preferred (row_of r)) (filter (has_room n) (map row_of all.regions)) = λ i d l. All-filter (has_room n) (λ x. has_room n x ≡ true → IsBehind is_preferred (row_of r) x) (map row_of all.regions) rows_behind i d l (filter_passes (has_room n) (map row_of all.regions) i d l) in (
+      | inl before ↦ inr (preferred_is r x ∙ before, preferred_is x r ∙ after)
+      | inr level ↦ inl (one_region all x r sound in_rows held (ap (λ (k : RegionKey). k.first.0) (total.same (key_of x) (key_of r) after level)))
+    ] in (
       r,
       record {
         first = same;
-        room = first.serves.1;
+        room = room;
         found = at;
-        has = has_huge all huge.0 r sound at;
-        least = least_is_first is_preferred (row_of r) (filter (has_room n) (map row_of all.regions)) (filter_holds (has_room n) (map row_of all.regions) (row_of r) (map_holds all.regions r first.held) (le-leb n (longest r.used) first.serves.1)) behind;
+        has = has_huge all key.first.0 r sound at;
+        least = least_is_first is_preferred r (filter (has_room n) all.rows) (filter_holds (has_room n) all.rows r held (le-leb n (longest r.used) room)) behind;
       },
     )
 
--- where no key serves, no region has room
-pub none_chosen : (all : Regions) (keys : List Key) (n : ℕ) → IsIndexOf key_of all.regions keys → All (λ k. ¬ (Serves 0 n k)) keys → list_all (λ row. not (has_room n row)) (map row_of all.regions) ≡ true
+-- as it is found in what is kept
+pub chosen_by : (t : Inside) (now : Regions) (n : ℕ) (key : RegionKey) → IsInside t → regions_of t ≡ now → IsFirstFrom comes_before t.keys.keys (least_of n) key → (r : RegionRow) × IsChosen now n key.first.0 r
+chosen_by t now n key kept view is = subst (λ (x : Regions). (r : RegionRow) × IsChosen x n key.first.0 r) view (chosen (regions_of t) t.keys.keys n key kept.0.sound kept.0.keys_are is)
+
+-- where no key is long enough, no region has room, and none is placed in
+pub none_chosen : (all : Regions) (keys : List RegionKey) (n : ℕ) → IsIndexOf key_of all.rows keys → All (λ k. comes_before k (least_of n) ≡ true) keys → list_all (λ row. not (has_room n row)) all.rows ≡ true
 none_chosen all keys n index none =
-    list_all-from_AllPass (λ row. not (has_room n row)) (map row_of all.regions) (λ i d l.
-    let inside : i < length all.regions = omega (arith, length-map all.regions row_of) in
-    let r : Region = get_or all.regions i (record { first = 0; used = []; allocs = []; backed = [] }) in
-    ap (λ (x : RegionRow). not (has_room n x)) (get_or-map row_of all.regions i (record { first = 0; used = []; allocs = []; backed = [] }) d inside)
-    ∙ elim (cases_lt (longest r.used) n) [
-      | inl short ↦ not_from_false (has_room n (row_of r)) (lt-leb n (longest r.used) short)
-      | inr long ↦ absurd (no_row_serves key_of all.regions keys 0 n index none i (record { first = 0; used = []; allocs = []; backed = [] }) inside (refl, long))
+    list_all-from_AllPass (λ row. not (has_room n row)) all.rows (λ i d l.
+    let r : RegionRow = get_or all.rows i d in
+    let before = All-contains (λ k. comes_before k (least_of n) ≡ true) keys (key_of r) none (key_held comes_before total key_of all.rows keys r index (Contains-get_or all.rows i d l)) in
+    elim (cases_lt (longest r.used) n) [
+      | inl short ↦ not_from_false (has_room n r) (lt-leb n (longest r.used) short)
+      | inr long ↦ absurd (let c : true ≡ false = sym before ∙ not_before n (key_of r) long in cc)
     ])
 
 no_place : (rows : List RegionRow) (n : ℕ) → list_all (λ row. not (has_room n row)) rows ≡ true → first_least is_preferred (filter (has_room n) rows) ≡ None
@@ -83,27 +97,29 @@ no_place rows n all = ap (first_least is_preferred) (filter-none (has_room n) ro
 pub placed_nowhere : (rows : List RegionRow) (n : ℕ) → list_all (λ row. not (has_room n row)) rows ≡ true → region_place rows n ≡ None
 placed_nowhere rows n all = ap (place_in_region n) (no_place rows n all)
 
-pub some_has_room : (all : Regions) (n h : ℕ) (r : Region) → IsChosen all n h r → list_all (λ row. not (has_room n row)) (map row_of all.regions) ≡ true → ⊥
-some_has_room all n h r is none = none-some (row_of r) (sym (no_place (map row_of all.regions) n none) ∙ is.least)
+pub some_has_room : (all : Regions) (n h : ℕ) (r : RegionRow) → IsChosen all n h r → list_all (λ row. not (has_room n row)) all.rows ≡ true → ⊥
+some_has_room all n h r is none = none-some r (sym (no_place all.rows n none) ∙ is.least)
 
 -- the place that is chosen
-pub record IsPlaced (all : Regions) (n h start : ℕ) (r : Region) : Type 0 where
-  pub place : region_place (map row_of all.regions) n ≡ Some (256 * h + start)
-  pub found : region_with all ((256 * h + start) / 256) ≡ Some r
-  pub offset : start_in r (256 * h + start) ≡ start
-  pub free : n ≤ free_from r.used start
-  pub page : 256 * h + start < 4294967296
+pub record IsPlaced (all : Regions) (n page : ℕ) : Type 0 where
+  pub place : region_place all.rows n ≡ Some page
+  pub region : RegionRow
+  pub free : AreFreeIn all page n region
+  pub small : page < 4294967296
 
-pub placed : (all : Regions) (n h start : ℕ) (r : Region) → IsSound all → 0 < n → IsChosen all n h r → best r.used n ≡ Some start → IsPlaced all n h start r
+pub placed : (all : Regions) (n h start : ℕ) (r : RegionRow) → IsSound all → 0 < n → IsChosen all n h r → best r.used n ≡ Some start → IsPlaced all n (256 * h + start)
 placed all n h start r sound some is e =
     let fit = best_is_fit r.used n start e in
     let inside = free_inside r.used start n some fit.1 in
     let first : 256 * r.first + start ≡ 256 * h + start = ap (λ (x : ℕ). 256 * x + start) is.first in
     let huge : (256 * h + start) / 256 ≡ h + start / 256 = omega arith in
+    let offset : start_in r (256 * h + start) ≡ start = omega (arith, is.first) in
     record {
       place = ap (place_in_region n) is.least ∙ ap (option_map (λ s. 256 * r.first + s)) e ∙ ap (λ (x : ℕ). Some x) first;
-      found = ap (region_with all) huge ∙ held_has all (h + start / 256) r sound is.has.held (omega (arith, is.first)) (omega (arith, is.first, is.has.region.used));
-      offset = omega (arith, is.first);
-      free = fit.1;
-      page = omega (arith, is.has.arena, is.first, sound.small, is.has.region.used, sound.narrow);
+      region = r;
+      free = record {
+        row = ap (region_with all) huge ∙ held_has all (h + start / 256) r sound is.has.held (omega (arith, is.first)) (omega (arith, is.first, is.has.size));
+        free = rw offset fit.1;
+      };
+      small = omega (arith, is.has.arena, is.first, sound.small, is.has.size, sound.narrow);
     }

@@ -1,12 +1,4 @@
-mod Changed
+mod Apart
+mod Came
 mod Chosen
-mod Flagged
-mod Given
-mod Listed
-mod Live
-mod Looked
-mod Masking
-mod Opening
-mod Reached
-mod Standing
-mod Taken
+mod Kept

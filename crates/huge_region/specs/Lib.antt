@@ -1,3 +1,4 @@
 pub mod Kept
-pub mod Masked
+pub mod Order
 pub mod Regions
+pub mod Total

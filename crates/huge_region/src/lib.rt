@@ -1,11 +1,10 @@
 //! The regions: adjacent hugepages for runs that would leave much of their last hugepage unused.
 #![tactic(auto)]
 
+mod key;
 mod pages;
-mod preferred;
 mod regions;
 #[cfg(test)]
 mod tests;
-mod touched;
 
 pub use regions::HugeRegions;

@@ -1,10 +1,10 @@
 use Rattle.std.proofs.Common.{◌≡◌, ◌≤◌, All, length, vec_capacity}
-use Rattle.huge_region.specs.Regions.{unused}
+use Rattle.huge_region.specs.Kept.{IsSpare}
 use Rattle.huge_region.proofs.regions.HugeRegions.open.Given as goal
 
 abbrev pub invariant-loop-made : goal.invariant-loop-made
 invariant-loop-made l = record {
-  unused : All (λ r. r ≡ unused l.length 0) l.spare.items;
+  unused : All (IsSpare l.width) l.spare.items;
   count : length l.spare.items ≡ l._made;
   room : l.room ≤ vec_capacity l.spare;
 }
