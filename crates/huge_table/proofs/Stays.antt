@@ -70,7 +70,7 @@ module _ (heap : Heap) (first : ℕ) (sound : AreRunsSound heap) (ending : IsEnd
       ]
 
   -- the hugepages of the region that ends are those of no region that has a used page
-  ended : (h : ℕ) → 0 < h → h ≤ length heap.hugepages → (spans width h first ≡ true → is_region (hugepage heap h) ≡ true) → (is_region (hugepage heap h) && not (list_any (spans width h) (used_regions heap))) ≡ spans width h first
+  pub ended : (h : ℕ) → 0 < h → h ≤ length heap.hugepages → (spans width h first ≡ true → is_region (hugepage heap h) ≡ true) → (is_region (hugepage heap h) && not (list_any (spans width h) (used_regions heap))) ≡ spans width h first
   ended h some inside kinds = elim (cases_Bool (spans width h first)) [
     | inl e ↦ and_from _ _ (kinds e) (not_from_false _ (false_from_ne_true (list_any (spans width h) (used_regions heap)) (λ t. (let any = Any-from_list_any (spans width h) (used_regions heap) t in
         let r : ℕ = any.1 in

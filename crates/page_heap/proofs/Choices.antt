@@ -1,131 +1,156 @@
--- The choices by the parts are those of the heap, and a hugepage that is new is the only one with room.
-use Rattle.std.proofs.Common.{◌≡◌, ◌≢◌, ℕ, zero, suc, ◌+◌, ◌-◌, ◌*◌, ◌<◌, ◌≤◌, ◌==◌, Bool, true, false, not, ◌&&◌, ◌||◌, cond, nat_le, nat_lt, zero-add, add-zero, List, [], ◌∷◌, length, get_or, replicate, map, filter, All, Contains, Option, Some, None, IfSome, option_map, refl, sym, ap, subst, ◌∙◌, inl, inr, arith}
-use Rattle.std.specs.List.{range_with_len, enumerate_from, filter_map, cons_option, list_all}
-use Rattle.std.proofs.lemmas.Bool.{cases_Bool, cases_eq, and_from, and_parts, ne_eqb, le-leb, not_from_true, not_from_false, false≢true}
-use Rattle.std.proofs.lemmas.List.{length-replicate, get_or-replicate, get_or_default, get_or-set_same, get_or-set_other}
+-- The filler's choice by its measures is that of the heap.
+use Rattle.std.proofs.Common.{◌≡◌, ℕ, zero, suc, ◌+◌, ◌-◌, ◌<◌, ◌≤◌, ◌⊎◌, Bool, true, false, not, ◌&&◌, ◌||◌, cond, nat_lt, nat_eq, List, [], ◌∷◌, length, get_or, filter, All, Contains, Option, Some, None, IfSome, refl, sym, ap, subst, ◌∙◌, inl, inr, arith}
+use Rattle.std.specs.List.{list_all, range_with_len}
+use Rattle.std.proofs.lemmas.Bool.{cases_Bool, cases_eq, leb-true, le-leb}
+use Rattle.std.proofs.lemmas.Bool.Decides.{nat_tests}
+use Rattle.std.proofs.lemmas.List.{length-map, get_or-map}
+use Rattle.std.proofs.lemmas.List.Elements.{All-head, All-tail}
 use Rattle.std.proofs.lemmas.List.FromFn.{length-range_with_len, get_or-range_with_len}
-use Rattle.std.proofs.lemmas.List.Elements.{All-nil, All-cons, All-filter, filter_passes}
-use Rattle.std.proofs.lemmas.List.Folds.{list_all_at, prefix_len-replicate}
 use Rattle.std.proofs.lemmas.Option.{none-some, same_Some}
 use Rattle.tc_units.specs.declared.spans.Run.{Run}
-use Rattle.range_bits.specs.Ranges.{free_from, places, begins_range, first_least, best}
-use Rattle.range_bits.proofs.RangeLemmas.{first_least-all, first_least-none, filter-some}
-use Rattle.heap_rules.specs.Heap.{Heap, Hugepage, hugepage, untouched, used_row, allocation_count, is_filler}
-use Rattle.heap_rules.specs.FillerRows.{is_preferred, has_room, place_in_row, filler_place}
-use Rattle.heap_rules.specs.Choice.{filler_rows}
-use Rattle.heap_rules.proofs.Places.{at-next}
-use Rattle.heap_rules.proofs.Live.{Contains-cons}
-use Rattle.huge_filler.specs.Filler.{FillerPage, with_page, row_of, rows_of, fresh}
-use Rattle.page_heap.specs.Parts.{filler_page_of, filler_of}
-use Rattle.page_heap.proofs.View.{filler_some, filler_none}
+use Rattle.range_bits.specs.Ranges.{longest, first_of_two, first_least}
+use Rattle.range_bits.proofs.RangeLemmas.{first_least-all}
+use Rattle.heap_rules.specs.Heap.{Heap, Hugepage, hugepage, numbers, longest_range, is_filler}
+use Rattle.heap_rules.specs.FillerRows.{FillerRow, is_preferred, has_room}
+use Rattle.heap_rules.specs.Choice.{filler_row, filler_rows}
+use Rattle.heap_rules.specs.Sound.{IsHugepageOf}
+use Rattle.heap_rules.proofs.Fillers.{IsRowWithRoom, rows_fit}
+use Rattle.heap_rules.proofs.Live.{filter_holds}
+use Rattle.heap_rules.proofs.Orders.{by_first, last_is}
+use Rattle.tc_units.specs.declared.units.Huge.{Huge}
+use Rattle.huge_filler.specs.declared.measures.Measures.{Measures}
+use Rattle.huge_filler.specs.Measures.{measures_at, prefers, IsPreferred}
+use Rattle.page_heap.specs.Inside.{measures_of, measured, measures}
+use Rattle.page_heap.proofs.Frames.{length-measures, measures_there, measured_none, measured_some}
 
--- the one element that passes is the first of those that do
-only_by : {X : Type 0} (less : X → X → Bool) (p : X → Bool) (xs : List X) (r : X) (has : Contains xs r) → p r ≡ true → (o : Option X) → first_least less (filter p xs) ≡ o → IfSome o (λ x. x ≡ r) → o ≡ Some r
-only_by less p xs r has t None e h =
-    let at : get_or xs has.0 r ≡ r = has.2 in
-    absurd (filter-some p xs has.0 r has.1 (ap p at ∙ t) (first_least-none less (filter p xs) e))
-only_by less p xs r has t (Some x) e h = ap Some h
+-- One that comes before each other one is the first.
+abbrev IsBehind : {X : Type 0} → (X → X → Bool) → X → X → Type 0
+IsBehind less r x = (x ≡ r) ⊎ ((less r x ≡ true) × (less x r ≡ false))
 
-pub first_least-only : {X : Type 0} (less : X → X → Bool) (p : X → Bool) (xs : List X) (r : X) → All (λ x. p x ≡ true → x ≡ r) xs → Contains xs r → p r ≡ true → first_least less (filter p xs) ≡ Some r
-first_least-only less p xs r one has t =
-    only_by less p xs r has t (first_least less (filter p xs)) refl
-    (first_least-all (λ x. x ≡ r) less (filter p xs) (λ k d l. All-filter p (λ x. p x ≡ true → x ≡ r) xs one k d l (filter_passes p xs k d l)))
+keeps_first : {X : Type 0} (less : X → X → Bool) (r : X) (o : Option X) → IfSome o (IsBehind less r) → first_of_two less r o ≡ r
+keeps_first less r None h = refl
+keeps_first less r (Some y) (inl same) = elim (less y r) as (λ b. cond b y r ≡ r) [ true ↦ same | false ↦ refl ]
+keeps_first less r (Some y) (inr far) = ap (λ b. cond b y r) far.1
 
--- the best range of a row without used places begins at its start
-pub best-free : (m n : ℕ) → 0 < n → n ≤ m → best (replicate m false) n ≡ Some 0
-best-free m n some fits =
-    let row = replicate m false in
-    let len = length-replicate m false in
-    let count = length-range_with_len 0 (length row) in
-    let long : free_from row 0 ≡ m = prefix_len-replicate not m false refl in
-    first_least-only (λ a b. nat_lt (free_from row a) (free_from row b)) (λ place. begins_range row place && nat_le n (free_from row place)) (places row) 0
-    (λ k d l e.
-    (let p = get_or (places row) k d in
-    let is : p ≡ k = get_or-range_with_len 0 (length row) k d (omega arith) ∙ zero-add k in
-    let begins : begins_range row p ≡ true = (and_parts (begins_range row p) (nat_le n (free_from row p)) e).0 in
-    let before : (p == 0 || get_or row (p - 1) true) ≡ true = (and_parts (not (get_or row p true)) (p == 0 || get_or row (p - 1) true) begins).1 in
-    let short : p - 1 < m = omega arith in
-    elim (cases_eq p 0) [
-      | inl z ↦ z
-      | inr nz ↦ absurd (false≢true (sym (or_both (p == 0) (get_or row (p - 1) true) (ne_eqb p 0 nz) (get_or-replicate m (p - 1) false true short)) ∙ before))
-    ]))
-    (0, omega arith, get_or-range_with_len 0 (length row) 0 0 (omega arith))
-    (and_from _ _ (and_from _ _ (not_from_false _ (get_or-replicate m 0 false true (omega arith))) refl) (le-leb n (free_from row 0) (omega arith)))
-  where
-    or_both : (a b : Bool) → a ≡ false → b ≡ false → (a || b) ≡ false
-    or_both a b e f = rw (e, f) refl
+passes_on : {X : Type 0} (less : X → X → Bool) (r x : X) → IsBehind less r x → first_of_two less x (Some r) ≡ r
+passes_on less r x (inl same) = elim (less r x) as (λ b. cond b r x ≡ r) [ true ↦ refl | false ↦ same ]
+passes_on less r x (inr far) = ap (λ b. cond b r x) far.0
 
--- Rows of a list of pages that may be missing.
-module _ {Y : Type 0} (g : ℕ → FillerPage → Y) where
-  abbrev pub listed : ℕ → List (Option FillerPage) → List Y
-  listed at pages = filter_map (λ (p : ℕ × Option FillerPage). option_map (g p.0) p.1) (enumerate_from at pages)
+first_is : {X : Type 0} (less : X → X → Bool) (xs : List X) (r : X) (k : ℕ) (d : X) → k < length xs → get_or xs k d ≡ r → All (IsBehind less r) xs → first_least less xs ≡ Some r
+first_is less [] r k d l at all = absurd (omega arith)
+first_is less (x ∷ xs) r zero d l at all =
+    let rest = first_least-all (IsBehind less r) less xs (All-tail (IsBehind less r) x xs all) in
+    ap (λ y. Some (first_of_two less y (first_least less xs))) at ∙ ap Some (keeps_first less r (first_least less xs) rest)
+first_is less (x ∷ xs) r (suc k) d l at all =
+    let rest = first_is less xs r k d (omega arith) at (All-tail (IsBehind less r) x xs all) in
+    ap (λ o. Some (first_of_two less x o)) rest ∙ ap Some (passes_on less r x (All-head (IsBehind less r) x xs all))
 
-  pub rows_all : (P : Y → Type 0) (at : ℕ) (pages : List (Option FillerPage)) → ((k : ℕ) (page : FillerPage) → k < length pages → get_or pages k None ≡ Some page → P (g (at + k) page)) → All P (listed at pages)
-  rows_all P at [] each = All-nil P
-  rows_all P at (None ∷ pages) each = rows_all P (at + 1) pages (λ k page l e. (let z : at + suc k ≡ at + 1 + k = omega arith in subst (λ i. P (g i page)) z (each (suc k) page (omega arith) e)))
-  rows_all P at (Some page ∷ pages) each =
-      All-cons P (g at page) (listed (at + 1) pages)
-      (let z : at + 0 ≡ at = omega arith in subst (λ i. P (g i page)) z (each 0 page (omega arith) refl))
-      (rows_all P (at + 1) pages (λ k other l e. (let z : at + suc k ≡ at + 1 + k = omega arith in subst (λ i. P (g i other)) z (each (suc k) other (omega arith) e))))
+-- No two are each before the other.
+pub not_both : (x y : ℕ) (l m : Bool) → (l ≡ true → m ≡ false) → (nat_lt x y || (nat_eq x y && l)) ≡ true → (nat_lt y x || (nat_eq y x && m)) ≡ false
+not_both x y true m h e = let z = h refl in rw z (grind (arith, nat_tests))
+not_both x y false m h e = grind (arith, nat_tests)
 
-  pub rows_contain : (at : ℕ) (pages : List (Option FillerPage)) (k : ℕ) (page : FillerPage) → get_or pages k None ≡ Some page → Contains (listed at pages) (g (at + k) page)
-  rows_contain at [] k page e = absurd (none-some page e)
-  rows_contain at (None ∷ pages) zero page e = absurd (none-some page e)
-  rows_contain at (Some other ∷ pages) zero page e =
-      let same : other ≡ page = same_Some other page e in
-      let z : at ≡ at + 0 = omega arith in
-      (0, omega arith, ap (g at) same ∙ ap (λ i. g i page) z)
-  rows_contain at (None ∷ pages) (suc k) page e = (let z : at + 1 + k ≡ at + suc k = omega arith in subst (λ i. Contains (listed (at + 1) pages) (g i page)) z (rows_contain (at + 1) pages k page e))
-  rows_contain at (Some other ∷ pages) (suc k) page e = (let z : at + 1 + k ≡ at + suc k = omega arith in Contains-cons (g at other) (listed (at + 1) pages) (g (at + suc k) page) (subst (λ i. Contains (listed (at + 1) pages) (g i page)) z (rows_contain (at + 1) pages k page e)))
+abbrev longest_of : FillerRow → ℕ
+longest_of row = longest row.used
 
-  -- the rows of a heap's filler, by the numbers of its hugepages
-  pub rows_are : (runs : List Run) (look : ℕ → Hugepage) (at : ℕ) (xs : List Hugepage) → ((k : ℕ) (d : Hugepage) → k < length xs → look (at + k) ≡ get_or xs k d) → listed at (map (λ (p : ℕ × Hugepage). filler_page_of runs p.0 p.1) (enumerate_from at xs)) ≡ map (λ h. g h (record { donated = (look h).donated; allocs = allocation_count runs h; used = used_row runs h; backed = (look h).backed })) (filter (λ h. is_filler (look h)) (range_with_len at (length xs)))
-  rows_are runs look at [] same = refl
-  rows_are runs look at (x ∷ xs) same =
-      let v : ℕ → Y = λ h. g h (record { donated = (look h).donated; allocs = allocation_count runs h; used = used_row runs h; backed = (look h).backed }) in
-      let head : look at ≡ x = (let z : at + 0 ≡ at = omega arith in ap look (sym z) ∙ same 0 x (omega arith)) in
-      let rest = rows_are runs look (at + 1) xs (λ k d l. (let z : at + 1 + k ≡ at + suc k = omega arith in ap look z ∙ same (suc k) d (omega arith))) in
-      elim (cases_Bool (is_filler x)) [
-        | inl t ↦
-            (let own : is_filler (look at) ≡ true = ap is_filler head ∙ t in
-            ap (λ o. cons_option (option_map (g at) o) (listed (at + 1) (map (λ (p : ℕ × Hugepage). filler_page_of runs p.0 p.1) (enumerate_from (at + 1) xs)))) (ap (filler_page_of runs at) (sym head) ∙ filler_some runs at (look at) own)
-            ∙ ap (λ ys. v at ∷ ys) rest
-            ∙ ap (λ b. map v (cond b (at ∷ filter (λ h. is_filler (look h)) (range_with_len (at + 1) (length xs))) (filter (λ h. is_filler (look h)) (range_with_len (at + 1) (length xs))))) (sym own))
-        | inr f ↦
-            (let other : is_filler (look at) ≡ false = ap is_filler head ∙ f in
-            ap (λ o. cons_option (option_map (g at) o) (listed (at + 1) (map (λ (p : ℕ × Hugepage). filler_page_of runs p.0 p.1) (enumerate_from (at + 1) xs)))) (filler_none runs at x f)
-            ∙ rest
-            ∙ ap (λ b. map v (cond b (at ∷ filter (λ h. is_filler (look h)) (range_with_len (at + 1) (length xs))) (filter (λ h. is_filler (look h)) (range_with_len (at + 1) (length xs))))) (sym other))
-      ]
+one_way : (a b : FillerRow) → is_preferred a b ≡ true → is_preferred b a ≡ false
+one_way a b e =
+    let in_order : (x y : FillerRow) → is_preferred x y ≡ (nat_lt x.tier y.tier || (nat_eq x.tier y.tier && (nat_lt (longest_of x) (longest_of y) || (nat_eq (longest_of x) (longest_of y) && (nat_lt y.allocs x.allocs || (nat_eq y.allocs x.allocs && nat_lt x.number y.number)))))) = λ x y.
+    by_first x.tier y.tier _ _ (by_first (longest_of x) (longest_of y) _ _ (by_first y.allocs x.allocs _ _ (last_is (nat_lt x.number y.number) (nat_eq x.number y.number)))) in
+    in_order b a
+    ∙ not_both a.tier b.tier _ _ (not_both (longest_of a) (longest_of b) _ _ (not_both b.allocs a.allocs _ _ (λ t. grind (arith, nat_tests)))) (sym (in_order a b) ∙ e)
 
--- the filler's rows are those of the heap
-pub look_at : (heap : Heap) (k : ℕ) (d : Hugepage) → k < length heap.hugepages → hugepage heap (1 + k) ≡ get_or heap.hugepages k d
-look_at heap k d l = at-next heap.hugepages k ∙ get_or_default heap.hugepages k untouched d l
+listed_at : (m h : ℕ) → 0 < h → h ≤ m → Contains (range_with_len 1 m) h
+listed_at m h from to = (let size = length-range_with_len 1 m in let at : 1 + (h - 1) ≡ h = omega arith in (h - 1, omega arith, get_or-range_with_len 1 m (h - 1) h (omega arith) ∙ at))
 
-pub rows_of-filler_of : (heap : Heap) → rows_of (filler_of heap) ≡ filler_rows heap
-rows_of-filler_of heap = rows_are row_of heap.runs (hugepage heap) 1 heap.hugepages (look_at heap)
+short : (k a b : ℕ) → k < a → b ≡ a → k < b
+short k a b l e = omega arith
 
--- A fresh hugepage is the only one with room where no other has it.
-pub fresh_place : (pages : List (Option FillerPage)) (h n : ℕ) → 0 < h → h ≤ length pages → 0 < n → n < 256 → list_all (λ row. not (has_room n row)) (rows_of pages) ≡ true → filler_place (rows_of (with_page pages h (Some fresh))) n ≡ Some (256 * h)
-fresh_place pages h n some inside pos small none =
-    let new = with_page pages h (Some fresh) in
-    let here : get_or new (h - 1) None ≡ Some fresh = get_or-set_same pages (h - 1) (Some fresh) None (omega arith) in
-    let at : 1 + (h - 1) ≡ h = omega arith in
-    let room : has_room n (row_of h fresh) ≡ true = le-leb n 256 (omega arith) in
-    let one : All (λ row. has_room n row ≡ true → row ≡ row_of h fresh) (rows_of new) =
-    rows_all row_of (λ row. has_room n row ≡ true → row ≡ row_of h fresh) 1 new
-    (λ k page l e t. elim (cases_eq (1 + k) h) [
-      | inl same ↦
-          (let k' : k ≡ h - 1 = omega arith in
-          let is : page ≡ fresh = same_Some page fresh (sym (ap (λ i. get_or new i None) (sym k') ∙ e) ∙ here) in
-          ap (row_of (1 + k)) is ∙ ap (λ i. row_of i fresh) same)
-      | inr other ↦
-          (let far : k ≢ (h - 1) = (λ same. other (omega arith)) in
-          let old : get_or pages k None ≡ Some page = sym (get_or-set_other pages (h - 1) k (Some fresh) None far) ∙ e in
-          let has = rows_contain row_of 1 pages k page old in
-          absurd (false≢true (sym (list_all_at (λ row. not (has_room n row)) (rows_of pages) has.0 (row_of (1 + k) page) has.1 (ap (λ row. not (has_room n row)) has.2 ∙ not_from_true _ t)) ∙ none)))
-    ]) in
-    let has : Contains (rows_of new) (row_of h fresh) = subst (λ i. Contains (rows_of new) (row_of i fresh)) at (rows_contain row_of 1 new (h - 1) fresh here) in
-    ap (place_in_row n) (first_least-only is_preferred (has_room n) (rows_of new) (row_of h fresh) one has room)
-    ∙ ap (option_map (λ start. 256 * h + start)) (best-free 256 n pos (omega arith))
-    ∙ ap Some (add-zero (256 * h))
+contra : (a n : ℕ) → a < n → n ≤ a → ⊥
+contra a n l m = omega arith
+
+module _ (heap : Heap) (n : ℕ) where
+  -- a row of the filler by its number
+  pub row_there : (h : ℕ) → 0 < h → h ≤ length heap.hugepages → is_filler (hugepage heap h) ≡ true → n ≤ longest_range heap.runs h → Contains (filter (has_room n) (filler_rows heap)) (filler_row heap h)
+  row_there h from to own room =
+      let listed : Contains (numbers heap) h = listed_at (length heap.hugepages) h from to in
+      let fillers = filter (λ k. is_filler (hugepage heap k)) (numbers heap) in
+      let kept : Contains fillers h = filter_holds (λ k. is_filler (hugepage heap k)) (numbers heap) h listed own in
+      let len = length-map fillers (filler_row heap) in
+      let row : Contains (filler_rows heap) (filler_row heap h) = (kept.0, short _ _ _ kept.1 len, get_or-map (filler_row heap) fillers kept.0 h (filler_row heap h) kept.1 ∙ ap (filler_row heap) kept.2) in
+      filter_holds (has_room n) (filler_rows heap) (filler_row heap h) row (le-leb n (longest_range heap.runs h) room)
+
+  there : (row : FillerRow) (is : IsRowWithRoom heap n row) → measures_at (measures heap) is.number ≡ Some (measures_of heap.runs is.number (hugepage heap is.number))
+  there row is = measures_there heap is.number is.fitting.from is.fitting.to ∙ measured_some heap.runs is.number (hugepage heap is.number) is.fitting.filler
+
+  roomy : (row : FillerRow) (is : IsRowWithRoom heap n row) → n ≤ longest_range heap.runs is.number
+  roomy row is = leb-true n (longest_range heap.runs is.number) (sym (ap (has_room n) is.row_is) ∙ is.room)
+
+  -- the preferred one is the first row with room
+  pub preferred_is : (huge : Huge) (is : IsPreferred (measures heap) n huge) → is_filler (hugepage heap huge.0) ≡ true → is.measures ≡ measures_of heap.runs huge.0 (hugepage heap huge.0) → huge.0 ≤ length heap.hugepages → first_least is_preferred (filter (has_room n) (filler_rows heap)) ≡ Some (filler_row heap huge.0)
+  preferred_is huge is own its to =
+      let h : ℕ = huge.0 in
+      let rows = filter (has_room n) (filler_rows heap) in
+      let room : n ≤ longest_range heap.runs h = subst (λ (m : Measures). n ≤ m.longest) its is.room in
+      let has = row_there h is.from to own room in
+      first_is is_preferred rows (filler_row heap h) has.0 (filler_row heap h) has.1 has.2
+      (λ k d l.
+      (let row = get_or rows k d in
+      let fit : IsRowWithRoom heap n row = rows_fit heap n k d l in
+      elim (cases_eq fit.number h) [
+        | inl same ↦ inl (fit.row_is ∙ ap (filler_row heap) same)
+        | inr other ↦
+            (let first : is_preferred (filler_row heap h) (filler_row heap fit.number) ≡ true = subst (λ (m : Measures). prefers h m fit.number (measures_of heap.runs fit.number (hugepage heap fit.number)) ≡ true) its (is.first fit.number (measures_of heap.runs fit.number (hugepage heap fit.number)) (there row fit) (roomy row fit) other) in
+            let before : is_preferred (filler_row heap h) row ≡ true = ap (is_preferred (filler_row heap h)) fit.row_is ∙ first in
+            inr (before, one_way (filler_row heap h) row before))
+      ]))
+
+  -- and where none is preferred, none has room
+  pub none_there : ((h : ℕ) (its : Measures) → measures_at (measures heap) h ≡ Some its → its.longest < n) → filter (has_room n) (filler_rows heap) ≡ []
+  none_there none = no_element (filter (has_room n) (filler_rows heap)) (λ k d l.
+      (let row = get_or (filter (has_room n) (filler_rows heap)) k d in
+      let fit : IsRowWithRoom heap n row = rows_fit heap n k d l in
+      let few = none fit.number (measures_of heap.runs fit.number (hugepage heap fit.number)) (there row fit) in
+      contra _ n few (roomy row fit)))
+    where
+      no_element : {X : Type 0} (xs : List X) → All (λ x. ⊥) xs → xs ≡ []
+      no_element [] h = refl
+      no_element (x ∷ xs) h = absurd (h 0 x (omega arith))
+
+pub all_fail : {X : Type 0} (p : X → Bool) (xs : List X) → filter p xs ≡ [] → list_all (λ x. not (p x)) xs ≡ true
+all_fail p [] e = refl
+all_fail p (x ∷ xs) e = elim (cases_Bool (p x)) [
+  | inl t ↦ absurd (some_left (filter p xs) (sym (ap (λ b. cond b (x ∷ filter p xs) (filter p xs)) t) ∙ e))
+  | inr f ↦ rw f (all_fail p xs (sym (ap (λ b. cond b (x ∷ filter p xs) (filter p xs)) f) ∙ e))
+] where
+  some_left : {X : Type 0} {x : X} (xs : List X) → x ∷ xs ≡ [] → ⊥
+  some_left xs e = cc
+
+-- What the filler's answer says of the heap.
+pub record IsFound (heap : Heap) (n h : ℕ) : Type 0 where
+  pub own : IsHugepageOf heap.config.huge h
+  pub filler : is_filler (hugepage heap h) ≡ true
+  pub room : n ≤ longest_range heap.runs h
+  pub first : first_least is_preferred (filter (has_room n) (filler_rows heap)) ≡ Some (filler_row heap h)
+
+its_filler : (runs : List Run) (h : ℕ) (x : Hugepage) (its : Measures) → measured runs h x ≡ Some its → (is_filler x ≡ true) × (its ≡ measures_of runs h x)
+its_filler runs h x its e = elim (cases_Bool (is_filler x)) [
+  | inl t ↦ (t, same_Some its (measures_of runs h x) (sym e ∙ measured_some runs h x t))
+  | inr f ↦ absurd (none-some its (sym (measured_none runs h x f) ∙ e))
+]
+
+pub its_there : (heap : Heap) (h : ℕ) (its : Measures) → 0 < h → h ≤ length heap.hugepages → measures_at (measures heap) h ≡ Some its → (is_filler (hugepage heap h) ≡ true) × (its ≡ measures_of heap.runs h (hugepage heap h))
+its_there heap h its from to e = its_filler heap.runs h (hugepage heap h) its (sym (measures_there heap h from to) ∙ e)
+
+pub found : (heap : Heap) (rows : List (Option Measures)) (n : ℕ) (huge : Huge) → length heap.hugepages ≡ heap.config.huge → rows ≡ measures heap → IsPreferred rows n huge → IsFound heap n huge.0
+found heap rows n huge arena e given =
+    let is = subst (λ all. IsPreferred all n huge) e given in
+    let size = length-measures heap in
+    let to : huge.0 ≤ length heap.hugepages = omega (arith, is.to) in
+    let its = its_there heap huge.0 is.measures is.from to is.row in
+    record {
+      own = record { from = is.from; to = omega arith };
+      filler = its.0;
+      room = subst (λ (m : Measures). n ≤ m.longest) its.1 is.room;
+      first = preferred_is heap n huge is its.0 its.1 to;
+    }

@@ -1,168 +1,207 @@
--- What the parts are of a heap whose hugepages change, place by place.
-use Rattle.std.proofs.Common.{◌≡◌, ◌≢◌, ℕ, ◌+◌, ◌-◌, ◌*◌, ◌<◌, ◌≤◌, ◌⊎◌, Bool, true, false, cond, List, length, set, map, Option, None, refl, sym, ap, subst, ◌∙◌, inl, inr, arith}
-use Rattle.std.specs.List.{range_with_len, list_all}
-use Rattle.std.proofs.lemmas.Bool.{cases_lt, cases_eq}
-use Rattle.std.proofs.lemmas.List.{same_lists, length-set, length-map}
-use Rattle.std.proofs.lemmas.List.FromFn.{length-map-range_with_len, get_or-map-range_with_len}
+-- What the choosers are told of a heap whose hugepages change, place by place.
+use Rattle.std.proofs.Common.{◌≡◌, ◌≢◌, ℕ, ◌+◌, ◌-◌, ◌*◌, ◌/◌, ◌<◌, ◌≤◌, Bool, true, false, not, cond, List, [], ◌∷◌, length, get_or, set, map, All, Option, None, refl, sym, ap, subst, ◌∙◌, inl, inr, arith}
+use Rattle.std.proofs.lemmas.Bool.{cases_Bool, cases_eq, false_from_ne_true, false≢true}
+use Rattle.std.proofs.lemmas.List.{length-set, length-map}
+use Rattle.std.proofs.lemmas.List.Elements.{All-head, All-tail}
 use Rattle.tc_units.specs.declared.spans.Run.{Run}
 use Rattle.range_bits.specs.Ranges.{with_places}
 use Rattle.range_bits.proofs.Placing.{length-with_places}
-use Rattle.heap_rules.specs.Heap.{Heap, Hugepage, hugepage, used_row, allocation_count, region_row, reaches, spans}
-use Rattle.heap_rules.specs.Sound.{IsHugepageOf, AreRunsSound}
-use Rattle.heap_rules.proofs.Places.{length-each, map-at}
-use Rattle.heap_rules.proofs.Fits.{unreached_unheld, spans_parts, spans_from}
+use Rattle.heap_rules.specs.RegionRows.{RegionRow}
+use Rattle.heap_rules.specs.Heap.{Heap, Hugepage, hugepage, untouched, reaches, spans, is_free, is_free_backed, is_filler, is_region}
+use Rattle.heap_rules.specs.Choice.{region_row_of}
+use Rattle.heap_rules.specs.Sound.{IsHugepageOf, AreRunsSound, IsSound}
+use Rattle.heap_rules.proofs.Places.{map-at}
+use Rattle.heap_rules.proofs.Fits.{unreached_unheld, spans_from}
 use Rattle.heap_rules.proofs.Remade.{remade, here}
-use Rattle.huge_filler.specs.Filler.{FillerPage, page_at, with_page}
-use Rattle.huge_region.specs.Regions.{Region}
-use Rattle.page_heap.specs.Parts.{filler_page_of, filler_of, is_backed_whole, region_of}
-use Rattle.page_heap.proofs.Rows.{Differs, used_from-away, within_yes, within_no}
-use Rattle.page_heap.proofs.Numbered.{numbered, same_numbered, numbered-set_same, numbered-set_other, numbered-with_places}
-use Rattle.page_heap.proofs.View.{filler_at, length-filler_of}
+use Rattle.huge_filler.specs.Measures.{measures_at, with_measures}
+use Rattle.huge_cache.specs.Cache.{Cache, holds, is_backed}
+use Rattle.page_heap.specs.Inside.{measures_of, measured, measures, cache_of, regions_of}
+use Rattle.page_heap.proofs.Numbered.{numbered, same_numbered, numbered-each, length-each, one_is, one_not, numbered-set, numbered-with_places}
+use Rattle.page_heap.proofs.Steps.{IsStep, row-away, measured-away}
 
--- Other live runs, that differ by one run alone: of the pages of a range that it does not reach, and of the runs there.
-pub record IsStep (runs rest : List Run) (run : Run) (b : Bool) : Type 0 where
-  pub differs : Differs runs rest run b
-  pub counts : (h : ℕ) → reaches h run ≡ false → allocation_count rest h ≡ allocation_count runs h
+-- What the filler and the cache know of hugepage h.
+pub length-measures : (heap : Heap) → length (measures heap) ≡ length heap.hugepages
+length-measures heap = length-each (measured heap.runs) heap.hugepages
 
-pub used_row-away : (runs rest : List Run) (run : Run) (b : Bool) → IsStep runs rest run b → (h : ℕ) → reaches h run ≡ false → used_row rest h ≡ used_row runs h
-used_row-away runs rest run b step h e = used_from-away runs rest run b step.differs (256 * h) 256 (λ k l. unreached_unheld h (256 * h + k) run (record { from = omega arith; to = omega arith }) e)
+pub measures_there : (heap : Heap) (h : ℕ) → 0 < h → h ≤ length heap.hugepages → measures_at (measures heap) h ≡ measured heap.runs h (hugepage heap h)
+measures_there heap h some inside = numbered-each (measured heap.runs) heap.hugepages h untouched None some inside
 
-pub entry-away : (runs rest : List Run) (run : Run) (b : Bool) → IsStep runs rest run b → (h : ℕ) (x : Hugepage) → reaches h run ≡ false → filler_page_of rest h x ≡ filler_page_of runs h x
-entry-away runs rest run b step h x e = rw (used_row-away runs rest run b step h e, step.counts h e) refl
+pub measured_none : (runs : List Run) (h : ℕ) (x : Hugepage) → is_filler x ≡ false → measured runs h x ≡ None
+measured_none runs h x e = rw e refl
 
--- a filler with one page changed
-pub length-with_page : (pages : List (Option FillerPage)) (k : ℕ) (page : Option FillerPage) → length (with_page pages k page) ≡ length pages
-length-with_page pages k page = length-set pages (k - 1) page
+pub measured_some : (runs : List Run) (h : ℕ) (x : Hugepage) → is_filler x ≡ true → measured runs h x ≡ Option.Some (measures_of runs h x)
+measured_some runs h x e = rw e refl
 
--- a region by its parts
-made : ℕ → List Bool → List ℕ → List Bool → Region
-made first used allocs backed = record { first = first; used = used; allocs = allocs; backed = backed }
+pub not-not : (b : Bool) → not (not b) ≡ b
+not-not true = refl
+not-not false = refl
 
-pub same_region : (a b : Region) → a.first ≡ b.first → a.used ≡ b.used → a.allocs ≡ b.allocs → a.backed ≡ b.backed → a ≡ b
-unfolding made
-same_region a b p q r s = ap (λ c. made c a.used a.allocs a.backed) p ∙ ap (λ c. made b.first c a.allocs a.backed) q ∙ ap (λ c. made b.first b.used c a.backed) r ∙ ap (λ c. made b.first b.used b.allocs c) s
+pub holds_there : (heap : Heap) (h : ℕ) → 0 < h → h ≤ length heap.hugepages → holds (cache_of heap) h ≡ is_free (hugepage heap h)
+holds_there heap h some inside = ap not (map-at (λ x. not (is_free x)) heap.hugepages h true some inside) ∙ not-not (is_free (hugepage heap h))
 
--- the numbers of a region's hugepages
-pub over_region : {X : Type 0} (f g : ℕ → X) (r width : ℕ) → ((h : ℕ) → spans width h r ≡ true → f h ≡ g h) → map f (range_with_len r width) ≡ map g (range_with_len r width)
-over_region f g r width same =
-    let len = length-map-range_with_len f r width in
-    let len' = length-map-range_with_len g r width in
-    same_lists _ _ (len ∙ sym len')
-    (λ k d l.
-    let short : k < width = omega arith in
-    get_or-map-range_with_len f r width k (r + k) d short refl ∙ same (r + k) (spans_from width (r + k) r (omega arith) (omega arith)) ∙ sym (get_or-map-range_with_len g r width k (r + k) d short refl))
+pub backed_there : (heap : Heap) (h : ℕ) → 0 < h → h ≤ length heap.hugepages → is_backed (cache_of heap) h ≡ is_free_backed (hugepage heap h)
+backed_there heap h some inside = ap not (map-at (λ x. not (is_free_backed x)) heap.hugepages h true some inside) ∙ not-not (is_free_backed (hugepage heap h))
+
+pub same_cache : (c : Cache) (taken unready : List Bool) → c.taken ≡ taken → c.unready ≡ unready → c ≡ record c { taken = taken; unready = unready }
+same_cache c taken unready p q = ap (λ (t : List Bool). record c { taken = t }) p ∙ ap (λ (t : List Bool). record c { taken = taken; unready = t }) q
+
+pub map_same : {X Y : Type 0} (f g : X → Y) (xs : List X) → All (λ x. f x ≡ g x) xs → map f xs ≡ map g xs
+map_same f g [] h = refl
+map_same f g (x ∷ xs) h = let head : f x ≡ g x = All-head (λ y. f y ≡ g y) x xs h in let rest = map_same f g xs (All-tail (λ y. f y ≡ g y) x xs h) in rw (head, rest) refl
+
+pub map-map : {X Y Z : Type 0} (g : Y → Z) (f : X → Y) (xs : List X) → map g (map f xs) ≡ map (λ x. g (f x)) xs
+map-map g f [] = refl
+map-map g f (x ∷ xs) = ap (λ ys. g (f x) ∷ ys) (map-map g f xs)
 
 module _ (heap : Heap) (rest : List Run) (regions : List ℕ) (f : ℕ → Hugepage → Hugepage) (counts : List ℕ) (sound : AreRunsSound heap) where
   abbrev after : Heap
   after = remade heap rest regions f counts
 
-  pub length-after : length after.hugepages ≡ length heap.hugepages
+  length-after : length after.hugepages ≡ length heap.hugepages
   length-after = length-each f heap.hugepages
 
-  abbrev pub inside : (h : ℕ) → h ≤ length heap.hugepages → h ≤ heap.config.huge
-  inside h l = let len = sound.arena in omega (arith)
+  number : (h : ℕ) → 0 < h → h ≤ length heap.hugepages → IsHugepageOf heap.config.huge h
+  number h some l = let len = sound.arena in record { from = some; to = omega arith }
 
-  pub filler_is : (pages : List (Option FillerPage)) → length pages ≡ length heap.hugepages → ((h : ℕ) → IsHugepageOf heap.config.huge h → page_at pages h ≡ filler_page_of rest h (f h (hugepage heap h))) → pages ≡ filler_of after
-  filler_is pages size same =
-      let len = length-filler_of after in
-      same_numbered None pages (filler_of after) (size ∙ sym length-after ∙ sym len)
-      (λ h some l.
-      let is : IsHugepageOf heap.config.huge h = record { from = some; to = inside h (omega arith) } in
-      same h is ∙ ap (filler_page_of rest h) (sym (here heap rest regions f counts sound h is)) ∙ sym (filler_at after h some (omega (arith, length-after))))
-
-  pub flags_are : (p : Hugepage → Bool) (flags : List Bool) (d : Bool) → length flags ≡ length heap.hugepages → ((h : ℕ) → IsHugepageOf heap.config.huge h → numbered flags h d ≡ p (f h (hugepage heap h))) → flags ≡ map p after.hugepages
-  flags_are p flags d size same =
-      let len = length-map after.hugepages p in
-      same_numbered d flags (map p after.hugepages) (size ∙ sym length-after ∙ sym len)
-      (λ h some l.
-      let is : IsHugepageOf heap.config.huge h = record { from = some; to = inside h (omega arith) } in
-      same h is ∙ ap p (sym (here heap rest regions f counts sound h is)) ∙ sym (map-at p after.hugepages h d some (omega (arith, length-after))))
-
-  -- flags of which a range is set, one is, or none
-  module _ (p : Hugepage → Bool) where
-    pub at_number : (h : ℕ) (d : Bool) → IsHugepageOf heap.config.huge h → numbered (map p heap.hugepages) h d ≡ p (hugepage heap h)
-    at_number h d is = let len = sound.arena in map-at p heap.hugepages h d is.from (omega (arith, is.to))
-
-    pub flags_run : (r many : ℕ) (t : Bool) → 0 < r → r + many ≤ length heap.hugepages + 1 → ((h : ℕ) → IsHugepageOf heap.config.huge h → r ≤ h → h < r + many → t ≡ p (f h (hugepage heap h))) → ((h : ℕ) → IsHugepageOf heap.config.huge h → (h < r) ⊎ (r + many ≤ h) → p (hugepage heap h) ≡ p (f h (hugepage heap h))) → with_places (map p heap.hugepages) (r - 1) many t ≡ map p after.hugepages
-    flags_run r many t some fits inner outer =
-        let row = map p heap.hugepages in
-        let len = length-map heap.hugepages p in
-        let fits' : r - 1 + many ≤ length row = omega arith in
-        flags_are p (with_places row (r - 1) many t) true (length-with_places row (r - 1) many t fits' ∙ len)
-        (λ h is.
-        let from : 0 < h = is.from in
-        numbered-with_places row r many t h true from fits'
-        ∙ elim (cases_lt h r) [
-          | inl before ↦ ap (λ b. cond b t (numbered row h true)) (within_no (r - 1) (r - 1 + many) (h - 1) (inl (omega arith))) ∙ at_number h true is ∙ outer h is (inl before)
-          | inr from' ↦ elim (cases_lt h (r + many)) [
-            | inl to ↦ ap (λ b. cond b t (numbered row h true)) (within_yes (r - 1) (r - 1 + many) (h - 1) (omega arith) (omega arith)) ∙ inner h is from' to
-            | inr past ↦ ap (λ b. cond b t (numbered row h true)) (within_no (r - 1) (r - 1 + many) (h - 1) (inr (omega arith))) ∙ at_number h true is ∙ outer h is (inr past)
-          ]
-        ])
-
-    pub flags_set : (r : ℕ) (t : Bool) → 0 < r → t ≡ p (f r (hugepage heap r)) → ((h : ℕ) → IsHugepageOf heap.config.huge h → h ≢ r → p (hugepage heap h) ≡ p (f h (hugepage heap h))) → set (map p heap.hugepages) (r - 1) t ≡ map p after.hugepages
-    flags_set r t some own others =
-        let row = map p heap.hugepages in
-        let len = length-map heap.hugepages p in
-        let arena = sound.arena in
-        flags_are p (set row (r - 1) t) true (length-set row (r - 1) t ∙ len)
-        (λ h is. elim (cases_eq h r) [
-          | inl same ↦ subst (λ i. numbered (set row (r - 1) t) i true ≡ p (f i (hugepage heap i))) (sym same) (numbered-set_same row r t true some (omega (arith, is.to)) ∙ own)
-          | inr other ↦ numbered-set_other row r h t true some is.from other ∙ at_number h true is ∙ others h is other
-        ])
-
-    -- a range is set, and then one behind it
-    pub flags_two : (r many : ℕ) (t u : Bool) → 0 < r → r + many ≤ length heap.hugepages → ((h : ℕ) → IsHugepageOf heap.config.huge h → r ≤ h → h < r + many → t ≡ p (f h (hugepage heap h))) → u ≡ p (f (r + many) (hugepage heap (r + many))) → ((h : ℕ) → IsHugepageOf heap.config.huge h → (h < r) ⊎ (r + many < h) → p (hugepage heap h) ≡ p (f h (hugepage heap h))) → set (with_places (map p heap.hugepages) (r - 1) many t) (r + many - 1) u ≡ map p after.hugepages
-    flags_two r many t u some fits inner own outer =
-        let row = map p heap.hugepages in
-        let len = length-map heap.hugepages p in
-        let fits' : r - 1 + many ≤ length row = omega arith in
-        let all = with_places row (r - 1) many t in
-        let size = length-with_places row (r - 1) many t fits' in
-        flags_are p (set all (r + many - 1) u) true (length-set all (r + many - 1) u ∙ size ∙ len)
-        (λ h is.
-        let from : 0 < h = is.from in
-        elim (cases_eq h (r + many)) [
-          | inl same ↦ subst (λ i. numbered (set all (r + many - 1) u) i true ≡ p (f i (hugepage heap i))) (sym same) (numbered-set_same all (r + many) u true (omega arith) (omega arith) ∙ own)
-          | inr other ↦
-              numbered-set_other all (r + many) h u true (omega arith) is.from other
-              ∙ numbered-with_places row r many t h true from fits'
-              ∙ elim (cases_lt h r) [
-                | inl before ↦ ap (λ b. cond b t (numbered row h true)) (within_no (r - 1) (r - 1 + many) (h - 1) (inl (omega arith))) ∙ at_number h true is ∙ outer h is (inl before)
-                | inr from' ↦ elim (cases_lt h (r + many)) [
-                  | inl to ↦ ap (λ b. cond b t (numbered row h true)) (within_yes (r - 1) (r - 1 + many) (h - 1) (omega arith) (omega arith)) ∙ inner h is from' to
-                  | inr past ↦ ap (λ b. cond b t (numbered row h true)) (within_no (r - 1) (r - 1 + many) (h - 1) (inr (omega arith))) ∙ at_number h true is ∙ outer h is (inr (omega arith))
-                ]
-              ]
-        ])
-
-    pub flags_same : ((h : ℕ) → IsHugepageOf heap.config.huge h → p (hugepage heap h) ≡ p (f h (hugepage heap h))) → map p heap.hugepages ≡ map p after.hugepages
-    flags_same same = flags_are p (map p heap.hugepages) true (length-map heap.hugepages p) (λ h is. at_number h true is ∙ same h is)
-
-  -- the filler of which one page changes, or none
-  pub filler_set : (k : ℕ) (page : Option FillerPage) → IsHugepageOf heap.config.huge k → page ≡ filler_page_of rest k (f k (hugepage heap k)) → ((h : ℕ) → IsHugepageOf heap.config.huge h → h ≢ k → filler_page_of heap.runs h (hugepage heap h) ≡ filler_page_of rest h (f h (hugepage heap h))) → with_page (filler_of heap) k page ≡ filler_of after
-  filler_set k page is_k own others =
+  -- The filler, of which one hugepage is measured again.
+  pub measures_set : (k : ℕ) → IsHugepageOf heap.config.huge k → ((h : ℕ) → IsHugepageOf heap.config.huge h → h ≢ k → measured heap.runs h (hugepage heap h) ≡ measured rest h (f h (hugepage heap h))) → with_measures (measures heap) k (measured rest k (hugepage after k)) ≡ measures after
+  measures_set k own others =
       let arena = sound.arena in
-      let size = length-filler_of heap in
-      filler_is (with_page (filler_of heap) k page) (length-with_page (filler_of heap) k page ∙ size)
-      (λ h is. elim (cases_eq h k) [
-        | inl same ↦ subst (λ i. page_at (with_page (filler_of heap) k page) i ≡ filler_page_of rest i (f i (hugepage heap i))) (sym same) (numbered-set_same (filler_of heap) k page None is_k.from (omega (arith, is_k.to)) ∙ own)
-        | inr other ↦ numbered-set_other (filler_of heap) k h page None is_k.from is.from other ∙ filler_at heap h is.from (omega (arith, is.to)) ∙ others h is other
+      let len = length-measures heap in
+      let len' = length-measures after in
+      let its = measured rest k (hugepage after k) in
+      same_numbered None (with_measures (measures heap) k its) (measures after) (length-set (measures heap) (k - 1) its ∙ len ∙ sym length-after ∙ sym len')
+      (λ h some l.
+      (let size = length-set (measures heap) (k - 1) its in
+      let is = number h some (omega arith) in
+      numbered-set (measures heap) k its h None own.from (omega (arith, own.to)) some
+      ∙ elim (cases_eq h k) [
+        | inl same ↦ ap (λ b. cond b its (numbered (measures heap) h None)) (one_is h k same) ∙ ap (λ i. measured rest i (hugepage after i)) (sym same)
+        | inr other ↦
+            ap (λ b. cond b its (numbered (measures heap) h None)) (one_not h k other)
+            ∙ measures_there heap h some (omega (arith, is.to))
+            ∙ others h is other
+            ∙ ap (measured rest h) (sym (here heap rest regions f counts sound h is))
+      ]
+      ∙ sym (measures_there after h some (omega (arith, length-after, is.to)))))
+
+  pub measures_same : ((h : ℕ) → IsHugepageOf heap.config.huge h → measured heap.runs h (hugepage heap h) ≡ measured rest h (f h (hugepage heap h))) → measures heap ≡ measures after
+  measures_same same =
+      let len = length-measures heap in
+      let len' = length-measures after in
+      same_numbered None (measures heap) (measures after) (len ∙ sym length-after ∙ sym len')
+      (λ h some l.
+      (let is = number h some (omega arith) in
+      let arena = sound.arena in
+      measures_there heap h some (omega (arith, is.to)) ∙ same h is ∙ ap (measured rest h) (sym (here heap rest regions f counts sound h is)) ∙ sym (measures_there after h some (omega (arith, length-after, is.to)))))
+
+  -- The flags of hugepages.
+  flags_are : (p : Hugepage → Bool) (flags : List Bool) → length flags ≡ length heap.hugepages → ((h : ℕ) → IsHugepageOf heap.config.huge h → numbered flags h true ≡ p (f h (hugepage heap h))) → flags ≡ map p after.hugepages
+  flags_are p flags size same =
+      let len = length-map after.hugepages p in
+      same_numbered true flags (map p after.hugepages) (size ∙ sym length-after ∙ sym len)
+      (λ h some l.
+      let is = number h some (omega arith) in
+      same h is ∙ ap p (sym (here heap rest regions f counts sound h is)) ∙ sym (map-at p after.hugepages h true some (omega (arith, length-after))))
+
+  flag : (p : Hugepage → Bool) (h : ℕ) → IsHugepageOf heap.config.huge h → numbered (map p heap.hugepages) h true ≡ p (hugepage heap h)
+  flag p h is = let len = sound.arena in map-at p heap.hugepages h true is.from (omega (arith, is.to))
+
+  pub flags_run : (p : Hugepage → Bool) (r many : ℕ) (t : Bool) → 0 < r → r + many ≤ length heap.hugepages + 1 → ((h : ℕ) → IsHugepageOf heap.config.huge h → cond (spans many h r) t (p (hugepage heap h)) ≡ p (f h (hugepage heap h))) → with_places (map p heap.hugepages) (r - 1) many t ≡ map p after.hugepages
+  flags_run p r many t some fits same =
+      let row = map p heap.hugepages in
+      let len = length-map heap.hugepages p in
+      flags_are p (with_places row (r - 1) many t) (length-with_places row (r - 1) many t (omega arith) ∙ len)
+      (λ h is. numbered-with_places row r many t h true some is.from (omega arith) ∙ ap (cond (spans many h r) t) (flag p h is) ∙ same h is)
+
+  pub flags_set : (p : Hugepage → Bool) (r : ℕ) (t : Bool) → 0 < r → r ≤ length heap.hugepages → ((h : ℕ) → IsHugepageOf heap.config.huge h → cond (spans 1 h r) t (p (hugepage heap h)) ≡ p (f h (hugepage heap h))) → set (map p heap.hugepages) (r - 1) t ≡ map p after.hugepages
+  flags_set p r t some fits same =
+      let row = map p heap.hugepages in
+      let len = length-map heap.hugepages p in
+      flags_are p (set row (r - 1) t) (length-set row (r - 1) t ∙ len)
+      (λ h is. numbered-set row r t h true some (omega arith) is.from ∙ ap (cond (spans 1 h r) t) (flag p h is) ∙ same h is)
+
+  -- a range is set, and then one
+  pub flags_two : (p : Hugepage → Bool) (r many k : ℕ) (t u : Bool) → 0 < r → r + many ≤ length heap.hugepages + 1 → 0 < k → k ≤ length heap.hugepages → ((h : ℕ) → IsHugepageOf heap.config.huge h → cond (spans 1 h k) u (cond (spans many h r) t (p (hugepage heap h))) ≡ p (f h (hugepage heap h))) → set (with_places (map p heap.hugepages) (r - 1) many t) (k - 1) u ≡ map p after.hugepages
+  flags_two p r many k t u some fits some' fits' same =
+      let row = map p heap.hugepages in
+      let len = length-map heap.hugepages p in
+      let all = with_places row (r - 1) many t in
+      let size = length-with_places row (r - 1) many t (omega arith) in
+      flags_are p (set all (k - 1) u) (length-set all (k - 1) u ∙ size ∙ len)
+      (λ h is.
+      numbered-set all k u h true some' (omega arith) is.from
+      ∙ ap (cond (spans 1 h k) u) (numbered-with_places row r many t h true some is.from (omega arith) ∙ ap (cond (spans many h r) t) (flag p h is))
+      ∙ same h is)
+
+  pub flags_same : (p : Hugepage → Bool) → ((h : ℕ) → IsHugepageOf heap.config.huge h → p (hugepage heap h) ≡ p (f h (hugepage heap h))) → map p heap.hugepages ≡ map p after.hugepages
+  flags_same p same = flags_are p (map p heap.hugepages) (length-map heap.hugepages p) (λ h is. flag p h is ∙ same h is)
+
+  -- the cache, where no hugepage becomes free or was so, or changes its backing
+  pub cache_same : counts ≡ heap.counts → ((h : ℕ) → IsHugepageOf heap.config.huge h → (is_free (hugepage heap h) ≡ is_free (f h (hugepage heap h))) × (is_free_backed (hugepage heap h) ≡ is_free_backed (f h (hugepage heap h)))) → cache_of heap ≡ cache_of after
+  cache_same e same =
+      same_cache (cache_of heap) _ _ (flags_same (λ x. not (is_free x)) (λ h is. ap not (same h is).0)) (flags_same (λ x. not (is_free_backed x)) (λ h is. ap not (same h is).1))
+      ∙ ap (λ (ns : List ℕ). record (cache_of after) { counts = ns }) (sym e)
+
+-- the regions, where none comes or ends, and their pages stay used or unused
+pub regions_same : (heap : Heap) (rest : List Run) (f : ℕ → Hugepage → Hugepage) (counts : List ℕ) → All (λ r. region_row_of heap r ≡ region_row_of (remade heap rest heap.regions f counts) r) heap.regions → regions_of heap ≡ regions_of (remade heap rest heap.regions f counts)
+regions_same heap rest f counts same = ap (λ (rs : List RegionRow). record (regions_of heap) { rows = rs }) (map_same (region_row_of heap) (region_row_of (remade heap rest heap.regions f counts)) heap.regions same)
+
+-- A run comes or leaves, and changes hugepages that it reaches alone.
+module _ (heap : Heap) (rest : List Run) (g : ℕ → Hugepage → Hugepage) (counts : List ℕ) (run : Run) (sound : IsSound heap) (step : IsStep heap.runs rest run) where
+  abbrev pub stepped : ℕ → Hugepage → Hugepage
+  stepped h x = cond (reaches h run) (g h x) x
+
+  abbrev after' : Heap
+  after' = remade heap rest heap.regions stepped counts
+
+  pub reached_is : (h : ℕ) (x : Hugepage) → reaches h run ≡ true → stepped h x ≡ g h x
+  reached_is h x e = ap (λ b. cond b (g h x) x) e
+
+  pub unreached_is : (h : ℕ) (x : Hugepage) → reaches h run ≡ false → stepped h x ≡ x
+  unreached_is h x e = ap (λ b. cond b (g h x) x) e
+
+  -- those but one neither are the filler's nor become so
+  pub measures_step : (k : ℕ) → IsHugepageOf heap.config.huge k → ((h : ℕ) → IsHugepageOf heap.config.huge h → h ≢ k → reaches h run ≡ true → (is_filler (hugepage heap h) ≡ false) × (is_filler (g h (hugepage heap h)) ≡ false)) → with_measures (measures heap) k (measured rest k (hugepage after' k)) ≡ measures after'
+  measures_step k own others =
+      measures_set heap rest heap.regions stepped counts sound.runs k own
+      (λ h is ne. (let x = hugepage heap h in elim (cases_Bool (reaches h run)) [
+        | inl t ↦ (let both = others h is ne t in measured_none heap.runs h x both.0 ∙ sym (ap (measured rest h) (reached_is h x t) ∙ measured_none rest h (g h x) both.1))
+        | inr n ↦ sym (measured-away heap.runs rest run step h n x) ∙ ap (measured rest h) (sym (unreached_is h x n))
+      ]))
+
+  pub measures_steady : ((h : ℕ) → IsHugepageOf heap.config.huge h → reaches h run ≡ true → (is_filler (hugepage heap h) ≡ false) × (is_filler (g h (hugepage heap h)) ≡ false)) → measures heap ≡ measures after'
+  measures_steady others =
+      measures_same heap rest heap.regions stepped counts sound.runs
+      (λ h is. (let x = hugepage heap h in elim (cases_Bool (reaches h run)) [
+        | inl t ↦ (let both = others h is t in measured_none heap.runs h x both.0 ∙ sym (ap (measured rest h) (reached_is h x t) ∙ measured_none rest h (g h x) both.1))
+        | inr n ↦ sym (measured-away heap.runs rest run step h n x) ∙ ap (measured rest h) (sym (unreached_is h x n))
+      ]))
+
+  -- a region that it doesn't reach, and all where it reaches none
+  pub region_away : (r : ℕ) → ((h : ℕ) → spans heap.config.region h r ≡ true → reaches h run ≡ false) → region_row_of heap r ≡ region_row_of after' r
+  region_away r away =
+      let width : ℕ = heap.config.region in
+      ap (λ (row : List Bool). record (region_row_of heap r) { used = row })
+      (sym (row-away heap.runs rest run step (256 * r) (256 * width) (λ page a b. (let h : ℕ = page / 256 in
+      unreached_unheld h page run (record { from = omega arith; to = omega arith }) (away h (spans_from width h r (omega arith) (omega arith)))))))
+
+  pub regions_away : ((h : ℕ) → reaches h run ≡ true → is_region (hugepage heap h) ≡ false) → regions_of heap ≡ regions_of after'
+  regions_away apart =
+      regions_same heap rest stepped counts
+      (λ k d l. region_away (get_or heap.regions k d) (λ h e. false_from_ne_true (reaches h run) (λ t. false≢true (sym (apart h t) ∙ (sound.regions k d l).kinds h e))))
+
+  -- the cache, where none that it reaches is free before or after
+  not_free : (x y : Hugepage) → is_free x ≡ false → is_free y ≡ false → (is_free x ≡ is_free y) × (is_free_backed x ≡ is_free_backed y)
+  not_free x y e f = rw (e, f) (refl, refl)
+
+  kept_flags : ((h : ℕ) → IsHugepageOf heap.config.huge h → reaches h run ≡ true → (is_free (hugepage heap h) ≡ false) × (is_free (g h (hugepage heap h)) ≡ false)) → (h : ℕ) → IsHugepageOf heap.config.huge h → (is_free (hugepage heap h) ≡ is_free (stepped h (hugepage heap h))) × (is_free_backed (hugepage heap h) ≡ is_free_backed (stepped h (hugepage heap h)))
+  kept_flags busy h is = (let x = hugepage heap h in
+      let P : Hugepage → Type 0 = λ y. (is_free x ≡ is_free y) × (is_free_backed x ≡ is_free_backed y) in
+      elim (cases_Bool (reaches h run)) [
+        | inl t ↦ (let both = busy h is t in subst P (sym (reached_is h x t)) (not_free x (g h x) both.0 both.1))
+        | inr n ↦ subst P (sym (unreached_is h x n)) (refl, refl)
       ])
 
-  pub filler_same : ((h : ℕ) → IsHugepageOf heap.config.huge h → filler_page_of heap.runs h (hugepage heap h) ≡ filler_page_of rest h (f h (hugepage heap h))) → filler_of heap ≡ filler_of after
-  filler_same same =
-      let arena = sound.arena in
-      filler_is (filler_of heap) (length-filler_of heap) (λ h is. filler_at heap h is.from (omega (arith, is.to)) ∙ same h is)
-
-  -- a region that keeps its pages
-  pub region_is : (r : ℕ) (x : Region) → 0 < r → r + heap.config.region ≤ heap.config.huge + 1 → x.first ≡ r → x.used ≡ region_row rest heap.config.region r → x.allocs ≡ map (allocation_count rest) (range_with_len r heap.config.region) → x.backed ≡ map (λ h. list_all (λ b. b) (f h (hugepage heap h)).backed) (range_with_len r heap.config.region) → x ≡ region_of after r
-  region_is r x some fits first used allocs backed =
-      same_region x (region_of after r) first used allocs
-      (backed ∙ over_region (λ h. list_all (λ b. b) (f h (hugepage heap h)).backed) (is_backed_whole after) r heap.config.region
-      (λ h e. let parts = spans_parts heap.config.region h r e in ap (λ (x : Hugepage). list_all (λ b. b) x.backed) (sym (here heap rest regions f counts sound h (record { from = omega arith; to = omega arith })))))
-
-  pub region_same : (r : ℕ) → 0 < r → r + heap.config.region ≤ heap.config.huge + 1 → region_row heap.runs heap.config.region r ≡ region_row rest heap.config.region r → ((h : ℕ) → spans heap.config.region h r ≡ true → allocation_count heap.runs h ≡ allocation_count rest h) → ((h : ℕ) → spans heap.config.region h r ≡ true → list_all (λ b. b) (hugepage heap h).backed ≡ list_all (λ b. b) (f h (hugepage heap h)).backed) → region_of heap r ≡ region_of after r
-  region_same r some fits used allocs backed =
-      region_is r (region_of heap r) some fits refl used (over_region (allocation_count heap.runs) (allocation_count rest) r heap.config.region allocs)
-      (over_region (is_backed_whole heap) (λ h. list_all (λ b. b) (f h (hugepage heap h)).backed) r heap.config.region backed)
+  pub cache_step : counts ≡ heap.counts → ((h : ℕ) → IsHugepageOf heap.config.huge h → reaches h run ≡ true → (is_free (hugepage heap h) ≡ false) × (is_free (g h (hugepage heap h)) ≡ false)) → cache_of heap ≡ cache_of after'
+  cache_step e busy = cache_same heap rest heap.regions stepped counts sound.runs e (kept_flags busy)

@@ -1,255 +1,284 @@
--- A release takes from unused hugepages of regions, and then from the filler.
-use Rattle.std.proofs.Common.{◌≡◌, ℕ, ◌+◌, ◌-◌, ◌*◌, ◌%◌, ◌<◌, ◌==◌, Bool, true, false, not, ◌&&◌, cond, zero-add, List, length, get_or, map, filter, count_by, sum_by, Option, Some, None, option_map, refl, sym, ap, ◌∙◌, inl, inr, arith}
-use Rattle.std.specs.List.{list_all, range_with_len, enumerate_from}
-use Rattle.std.proofs.lemmas.Bool.{cases_Bool, and_left, and_right, and_parts, and_from}
-use Rattle.std.proofs.lemmas.List.{same_lists}
-use Rattle.std.proofs.lemmas.List.FromFn.{length-map-range_with_len, get_or-map-range_with_len}
-use Rattle.tc_units.specs.declared.rows.RowKind.TheVariants as kind
-use Rattle.range_bits.specs.Ranges as row
-use Rattle.heap_rules.specs.GiveUp.{gives_whole, gives_spare}
-use Rattle.heap_rules.specs.Heap.{Heap, Hugepage, hugepage, numbers, is_used, used_row, used_count, pages_of, backs, allocation_count, is_free, is_free_backed, is_filler, is_region}
-use Rattle.heap_rules.specs.Settle.{unbacked}
-use Rattle.heap_rules.specs.Release.{is_idle, idle_given, spare_given}
-use Rattle.heap_rules.specs.Release as heaps
+-- A heap settles or releases pages by one hugepage after another.
+use Rattle.std.proofs.Common.{◌≡◌, ℕ, zero, suc, zero-add, ◌+◌, ◌-◌, ◌*◌, ◌<◌, ◌≤◌, Bool, true, false, ◌&&◌, ◌||◌, ◌==◌, cond, nat_le, nat_lt, List, [], ◌∷◌, length, get_or, set, drop, take, map, count_by, refl, sym, ap, subst, ◌∙◌, inl, inr, arith}
+use Rattle.std.specs.List.{list_all, range_with_len}
+use Rattle.std.proofs.lemmas.Bool.{cases_Bool, cases_lt, cases_eq, and_left, and_right, lt-ltb, le-ltb, le-leb, lt-leb, false≢true}
+use Rattle.std.proofs.lemmas.List.{length-map, length-set, length-drop, get_or-drop, get_or_default, get_or_past}
+use Rattle.std.proofs.lemmas.List.FromFn.{length-range_with_len, length-map-range_with_len}
+use Rattle.std.proofs.lemmas.List.Sums.{count_by-le-length}
+use Rattle.tc_units.specs.declared.units.Huge.{Huge}
+use Rattle.tc_units.proofs.Counts.{count-cons, count_none, one-true}
+use Rattle.range_bits.proofs.RangeLemmas.{range-within}
+use Rattle.heap_rules.specs.Heap.{Heap, Hugepage, hugepage, untouched, numbers, spans, run_at, used_count, is_free, is_region, is_free_backed}
+use Rattle.heap_rules.specs.Numbered.{at_number}
+use Rattle.heap_rules.specs.CacheFlags.{is_over, limit}
+use Rattle.heap_rules.specs.Settle.{unbacked, counted, settled}
+use Rattle.heap_rules.specs.GiveUp.{gives_whole}
+use Rattle.heap_rules.specs.Release.{Released, whole_given, free_given, is_idle, idle_given, spare_given, after_regions, after_free, release}
 use Rattle.heap_rules.specs.Sound.{IsHugepageOf, IsSound}
-use Rattle.heap_rules.proofs.Fits.{spans_parts, serves_at, is_Region}
-use Rattle.huge_filler.specs.Filler.{FillerPage, page_at, place_of, spare_count, spare_row, spare_rows, used_backed, only_used, released_page}
-use Rattle.huge_filler.specs.Filler as filler
-use Rattle.huge_region.specs.Regions.{Region, is_idle_in, idle, region_with}
-use Rattle.huge_region.specs.Regions as regions
-use Rattle.page_heap.specs.Parts.{filler_page_of, filler_of, cache_of, is_backed_whole, region_of, regions_of}
-use Rattle.heap_rules.proofs.Places as places
-use Rattle.page_heap.proofs.Numbered.{numbered-each, length-each}
-use Rattle.page_heap.proofs.Counted.{count-map}
-use Rattle.page_heap.proofs.View.{filler_at, length-filler_of, filler_some, filler_none, region_found, region_missing, flag_at, all_whole}
-use Rattle.page_heap.proofs.Frames.{filler_is, filler_same, flags_same, region_is, region_same}
-use Rattle.page_heap.proofs.Steps.{same_cache, map-map, map_same, regions_same}
-use Rattle.page_heap.proofs.InRegion.{enumerated}
-use Rattle.page_heap.proofs.Lives.{used_in_is}
-use Rattle.page_heap.proofs.Taken.{same_page, filler_busy}
-use Rattle.page_heap.proofs.TakenRegion.{region_no_filler, region_busy}
-use Rattle.page_heap.proofs.Choices.{rows_are, look_at}
+use Rattle.heap_rules.proofs.Numbered.{at_number-place, at_number-next}
+use Rattle.heap_rules.proofs.Places.{at, length-each, map-at, idle_at}
+use Rattle.heap_rules.proofs.Released.{free_sound, idle_sound}
+use Rattle.heap_rules.proofs.Remade.{here}
+use Rattle.heap_rules.proofs.Accounts.{sum-adds}
+use Rattle.huge_table.specs.Means.{unbacked_span}
+use Rattle.huge_table.proofs.Pages.{each_is, each_where, each_each}
+use Rattle.page_heap.specs.declared.heap.PageHeap.TheInside.{Inside}
+use Rattle.page_heap.specs.Inside.{heap_of, IsKept}
+use Rattle.page_heap.specs.Gives.{noted, over_limit, behind, IsLast}
+use Rattle.page_heap.proofs.Numbered.{same_numbered, one_is, one_not, numbered-set}
+use Rattle.page_heap.proofs.Steps.{count-map}
+use Rattle.page_heap.proofs.Frames.{flags_set}
+use Rattle.page_heap.proofs.Counted.{held_count}
 
-and_yes : (a b : Bool) → b ≡ true → (a && b) ≡ a
-and_yes true b e = e
-and_yes false b e = refl
+pub released_is : (r : Released) (heap : Heap) (pages : ℕ) → r.heap ≡ heap → r.pages ≡ pages → ◌≡◌ {A = Released} r (record { heap = heap; pages = pages })
+released_is r heap pages e f = ap (λ h. record { heap = h; pages = r.pages }) e ∙ ap (λ n. record { heap = heap; pages = n }) f
 
-one_order : (a b c : Bool) → a ≡ true → (c && b) ≡ (a && b && c)
-one_order a b c e = flip b c ∙ ap (λ t. t && b && c) (sym e)
+pub behind_twice : (a b c : ℕ) (r : Released) → a + b ≡ c → behind a (behind b r) ≡ behind c r
+behind_twice a b c r e = let same : a + (b + r.pages) ≡ c + r.pages = omega arith in ap (λ n. record { heap = r.heap; pages = n }) same
+
+pub behind_none : (a : ℕ) (heap : Heap) (r : Released) → r ≡ record { heap = heap; pages = 0 } → behind a r ≡ record { heap = heap; pages = a }
+behind_none a heap r e = let same : a + 0 ≡ a = omega arith in ap (behind a) e ∙ ap (λ n. record { heap = heap; pages = n }) same
+
+-- Where none gives.
+pub whole_none : (flags : List Bool) (heap : Heap) (n : ℕ) → ((k : ℕ) → 0 < k → k ≤ length heap.hugepages → gives_whole flags n k ≡ false) → whole_given flags heap n ≡ record { heap = heap; pages = 0 }
+whole_none flags heap n none =
+    let f : ℕ → Hugepage → Hugepage = λ k x. cond (gives_whole flags n k) (unbacked x) x in
+    let no_one : count_by (gives_whole flags n) (numbers heap) ≡ 0 = count_none (gives_whole flags n) (numbers heap) (λ k d l. (let in' = range-within 1 (length heap.hugepages) k d l in none (get_or (numbers heap) k d) in'.0 (omega (arith, in'.1)))) in
+    released_is (whole_given flags heap n) heap 0
+    (ap (λ xs. record heap { hugepages = xs }) (each_is f heap.hugepages heap.hugepages refl (λ k from to. ap (λ b. cond b (unbacked (at heap.hugepages k)) (at heap.hugepages k)) (none k from to))))
+    (ap (λ m. 256 * m) no_one)
+
+pub whole_few : (flags : List Bool) (heap : Heap) (n : ℕ) → (whole_given flags heap n).pages ≤ 256 * length heap.hugepages
+whole_few flags heap n = few _ _ _ (count_by-le-length (gives_whole flags n) (numbers heap)) (length-range_with_len 1 (length heap.hugepages))
   where
-    flip : (b c : Bool) → (c && b) ≡ (true && b && c)
-    flip true true = refl
-    flip true false = refl
-    flip false true = refl
-    flip false false = refl
+    few : (a b c : ℕ) → a ≤ b → b ≡ c → 256 * a ≤ 256 * c
+    few a b c h e = omega arith
+
+-- One flag less.
+cleared_behind : (flags : List Bool) (j k : ℕ) → j < length flags → get_or flags j false ≡ true → k ≤ j → count_by (λ b. b) (drop k flags) ≡ count_by (λ b. b) (drop k (set flags j false)) + 1
+cleared_behind [] j k l t a = absurd (omega arith)
+cleared_behind (x ∷ xs) zero zero l t a =
+    let one = one-true x t in let b = count-cons (λ b. b) x xs in let c = count-cons (λ b. b) false xs in omega arith
+cleared_behind (x ∷ xs) zero (suc k) l t a = absurd (omega arith)
+cleared_behind (x ∷ xs) (suc j) zero l t a =
+    let rest = cleared_behind xs j zero (omega arith) t (omega arith) in
+    let b = count-cons (λ b. b) x xs in let c = count-cons (λ b. b) x (set xs j false) in omega arith
+cleared_behind (x ∷ xs) (suc j) (suc k) l t a = cleared_behind xs j k (omega arith) t (omega arith)
+
+shifted : (a b n : ℕ) → a ≡ b + 1 → nat_lt (256 * a) n ≡ nat_lt (256 * b) (n - 256)
+shifted a b n e = elim (cases_lt (256 * a) n) [
+  | inl lt ↦ lt-ltb (256 * a) n lt ∙ sym (lt-ltb (256 * b) (n - 256) (omega arith))
+  | inr ge ↦ le-ltb (256 * a) n ge ∙ sym (le-ltb (256 * b) (n - 256) (omega arith))
+]
+
+module _ (flags : List Bool) (n h : ℕ) (some : 0 < n) (from : 0 < h) (to : h ≤ length flags) (flag : at_number false flags h ≡ true) (last : (i : ℕ) → h < i → at_number false flags i ≡ false) where
+  abbrev cleared : List Bool
+  cleared = set flags (h - 1) false
+
+  none_behind : count_by (λ b. b) (drop h flags) ≡ 0
+  none_behind = count_none (λ b. b) (drop h flags) (λ i d l. (let len = length-drop h flags in
+      let at' : 1 + (h + i) ≡ 1 + h + i = omega arith in
+      get_or_default (drop h flags) i d false l ∙ get_or-drop h flags i false ∙ sym (at_number-next false flags (h + i)) ∙ last (1 + (h + i)) (omega arith)))
+
+  next_gives : (k : ℕ) → 0 < k → gives_whole flags n k ≡ (spans 1 k h || gives_whole cleared (n - 256) k)
+  next_gives k pos = elim (cases_eq k h) [
+    | inl same ↦
+        (let none = none_behind in
+        let all : gives_whole flags n h ≡ true = ap (λ b. b && nat_lt (256 * count_by (λ b. b) (drop h flags)) n) flag ∙ lt-ltb (256 * count_by (λ b. b) (drop h flags)) n (omega arith) in
+        ap (gives_whole flags n) same ∙ all ∙ sym (ap (λ b. b || gives_whole cleared (n - 256) k) (one_is k h same)))
+    | inr other ↦
+        ap (λ b. b && nat_lt (256 * count_by (λ b. b) (drop k flags)) n) (sym (numbered-set flags h false k false from to pos ∙ ap (λ b. cond b false (at_number false flags k)) (one_not k h other)))
+        ∙ elim (cases_lt k h) [
+          | inl before ↦
+              ap (λ b. at_number false cleared k && b) (shifted _ _ n (cleared_behind flags (h - 1) k (omega arith) (sym (at_number-place false flags h from) ∙ flag) (omega arith)))
+          | inr past ↦
+              (let off : at_number false cleared k ≡ false = numbered-set flags h false k false from to pos ∙ ap (λ b. cond b false (at_number false flags k)) (one_not k h other) ∙ last k (omega arith) in
+              and_left _ _ off ∙ sym (and_left _ _ off))
+        ]
+        ∙ sym (ap (λ b. b || gives_whole cleared (n - 256) k) (one_not k h other))
+  ]
+
+  module _ (heap : Heap) (size : length flags ≡ length heap.hugepages) where
+    next_page : (s g : Bool) (x : Hugepage) → cond (s || g) (unbacked x) x ≡ cond g (unbacked (cond s (unbacked x) x)) (cond s (unbacked x) x)
+    next_page true true x = refl
+    next_page true false x = refl
+    next_page false g x = refl
+
+    counted_apart : (p s q : Bool) → p ≡ (s || q) → (s ≡ true → q ≡ false) → cond s 1 0 + cond q 1 0 ≡ cond p 1 0
+    counted_apart p true true e apart = absurd (false≢true (sym (apart refl)))
+    counted_apart p true false e apart = rw e refl
+    counted_apart p false q e apart = rw e (zero-add (cond q 1 0))
+
+    own_off : gives_whole cleared (n - 256) h ≡ false
+    own_off = and_left _ _ (numbered-set flags h false h false from to from ∙ ap (λ b. cond b false (at_number false flags h)) (one_is h h refl))
+
+    one_here : count_by (λ k. spans 1 k h) (numbers heap) ≡ 1
+    one_here = held_count (run_at h 1) 1 (length heap.hugepages) ∙ omega arith
+
+    -- the last that has the flag gives, and then so do the others
+    pub whole_next : whole_given flags heap n ≡ behind 256 (whole_given cleared (unbacked_span heap h 1) (n - 256))
+    whole_next =
+        let next : ℕ → Hugepage → Hugepage = λ k x. cond (gives_whole cleared (n - 256) k) (unbacked x) x in
+        let one : ℕ → Hugepage → Hugepage = λ k x. cond (spans 1 k h) (unbacked x) x in
+        let sum = sum-adds (λ k. cond (spans 1 k h) 1 0) (λ k. cond (gives_whole cleared (n - 256) k) 1 0) (λ k. cond (gives_whole flags n k) 1 0) (numbers heap)
+        (λ i d l. (let k : ℕ = get_or (numbers heap) i d in
+        let in' = range-within 1 (length heap.hugepages) i d l in
+        counted_apart (gives_whole flags n k) (spans 1 k h) (gives_whole cleared (n - 256) k) (next_gives k in'.0) (λ t. elim (cases_eq k h) [
+          | inl same ↦ ap (gives_whole cleared (n - 256)) same ∙ own_off
+          | inr other ↦ absurd (false≢true (sym (one_not k h other) ∙ t))
+        ]))) in
+        released_is (whole_given flags heap n) _ _
+        (ap (λ xs. record heap { hugepages = xs }) (each_where (λ k x. cond (gives_whole flags n k) (unbacked x) x) (λ k x. next k (one k x)) heap.hugepages
+        (λ k pos inside. (let x = at heap.hugepages k in ap (λ b. cond b (unbacked x) x) (next_gives k pos) ∙ next_page (spans 1 k h) (gives_whole cleared (n - 256) k) x))
+        ∙ sym (each_each next one heap.hugepages)))
+        (pages_next _ _ _ sum one_here ∙ ap (λ m. 256 + 256 * count_by (gives_whole cleared (n - 256)) (range_with_len 1 m)) (sym (length-each one heap.hugepages)))
+      where
+        pages_next : (a b c : ℕ) → a + b ≡ c → a ≡ 1 → 256 * c ≡ 256 + 256 * b
+        pages_next a b c e f = omega arith
+
+-- Free hugepages.
+flag_at : (heap : Heap) (k : ℕ) → at_number false (map is_free_backed heap.hugepages) k ≡ is_free_backed (hugepage heap k)
+flag_at heap zero = refl
+flag_at heap (suc k) = elim (cases_lt k (length heap.hugepages)) [
+  | inl inside ↦ map-at is_free_backed heap.hugepages (suc k) false (omega arith) (omega arith)
+  | inr past ↦ (let len = length-map heap.hugepages is_free_backed in get_or_past (map is_free_backed heap.hugepages) k false (omega arith) ∙ sym (ap is_free_backed (get_or_past heap.hugepages k untouched past)))
+]
+
+unbacked_there : (x : Hugepage) → is_free_backed (unbacked x) ≡ false
+unbacked_there x = and_right (is_free x) false refl
+
+pub free_next : (heap : Heap) (n : ℕ) (huge : Huge) → IsSound heap → 0 < n → IsLast heap (λ h. is_free_backed (hugepage heap h)) huge → free_given heap n ≡ behind 256 (free_given (unbacked_span heap huge.0 1) (n - 256))
+free_next heap n huge sound some is =
+    let h : ℕ = huge.0 in
+    let arena = sound.runs.arena in
+    let flags = map is_free_backed heap.hugepages in
+    let len = length-map heap.hugepages is_free_backed in
+    let to : h ≤ length heap.hugepages = omega (arith, is.own.to) in
+    whole_next flags n h some is.own.from (omega arith) (flag_at heap h ∙ is.passes) (λ i past. flag_at heap i ∙ is.behind i past) heap len
+    ∙ ap (λ all. behind 256 (whole_given all (unbacked_span heap h 1) (n - 256)))
+    (flags_set heap heap.runs heap.regions (λ k x. cond (spans 1 k h) (unbacked x) x) heap.counts sound.runs is_free_backed h false is.own.from to
+    (λ k own. (let x = hugepage heap k in elim (spans 1 k h) as (λ b. cond b false (is_free_backed x) ≡ is_free_backed (cond b (unbacked x) x)) [ true ↦ sym (unbacked_there x) | false ↦ refl ])))
+
+pub free_none : (heap : Heap) (n : ℕ) → ((h : ℕ) → is_free_backed (hugepage heap h) ≡ false) → free_given heap n ≡ record { heap = heap; pages = 0 }
+free_none heap n none = whole_none (map is_free_backed heap.hugepages) heap n (λ k from to. and_left _ _ (flag_at heap k ∙ none k))
+
+-- none gives where none are wanted
+pub whole_zero : (flags : List Bool) (heap : Heap) (n : ℕ) → n ≡ 0 → whole_given flags heap n ≡ record { heap = heap; pages = 0 }
+whole_zero flags heap n e = whole_none flags heap n (λ k from to. and_right (at_number false flags k) _ (le-ltb (256 * count_by (λ b. b) (drop k flags)) n (omega arith)))
 
 -- Unused hugepages of regions.
-module _ (heap : Heap) (sound : IsSound heap) where
-  -- whether hugepage h gives
-  idle_at : (h : ℕ) → IsHugepageOf heap.config.huge h → is_idle_in h (region_with (regions_of heap) h) ≡ is_idle heap h
-  idle_at h is =
-      let x = hugepage heap h in
-      elim (cases_Bool (is_region x)) [
-        | inr other ↦ ap (is_idle_in h) (region_missing heap h sound other) ∙ sym (and_left _ _ (and_left _ _ other))
-        | inl own ↦
-            (let lies = (serves_at heap.runs heap.regions heap.config.region h x kind.Region (is_Region x.kind own) (sound.runs.fit h is)).0 in
-            let r = lies.region in
-            let parts = spans_parts heap.config.region h r lies.spanned in
-            let at : r + (h - r) ≡ h = omega arith in
-            let near : h - r < heap.config.region = omega arith in
-            let count : row.used_count (regions.used_in (region_of heap r) (h - r)) ≡ used_count heap.runs h = ap row.used_count (used_in_is heap r (h - r) near ∙ ap (used_row heap.runs) at) in
-            ap (is_idle_in h) (region_found heap r h (sound.runs.apart h) lies.known lies.spanned)
-            ∙ ap (λ b. b && (row.used_count (regions.used_in (region_of heap r) (h - r)) == 0)) (flag_at heap r h lies.spanned)
-            ∙ ap (λ n. is_backed_whole heap h && (n == 0)) count
-            ∙ one_order (is_region x) (used_count heap.runs h == 0) (is_backed_whole heap h) own)
-      ]
+idle_there : (heap : Heap) (k : ℕ) → at_number false (map (is_idle heap) (numbers heap)) k ≡ is_idle heap k
+idle_there heap zero = refl
+idle_there heap (suc k) = elim (cases_lt k (length heap.hugepages)) [
+  | inl inside ↦ idle_at heap (suc k) (omega arith) (omega arith)
+  | inr past ↦ (let len = length-map-range_with_len (is_idle heap) 1 (length heap.hugepages) in get_or_past (map (is_idle heap) (numbers heap)) k false (omega arith) ∙ sym (ap (λ (x : Hugepage). is_region x && used_count heap.runs (suc k) == 0 && list_all (λ b. b) x.backed) (get_or_past heap.hugepages k untouched past)))
+]
 
-  idle_is : idle (regions_of heap) ≡ map (is_idle heap) (numbers heap)
-  idle_is =
-      let arena = sound.runs.arena in
-      let a : ℕ → Bool = λ h. is_idle_in h (region_with (regions_of heap) h) in
-      let len = length-map-range_with_len a 1 heap.config.huge in
-      let len' = length-map-range_with_len (is_idle heap) 1 (length heap.hugepages) in
-      same_lists _ _ (omega arith)
-      (λ k d l.
-      (let short : k < heap.config.huge = omega arith in
-      get_or-map-range_with_len a 1 heap.config.huge k (1 + k) d short refl
-      ∙ idle_at (1 + k) (record { from = omega arith; to = omega arith })
-      ∙ sym (get_or-map-range_with_len (is_idle heap) 1 (length heap.hugepages) k (1 + k) d (omega arith) refl)))
+pub idle_next : (heap : Heap) (n : ℕ) (huge : Huge) → IsSound heap → 0 < n → IsLast heap (is_idle heap) huge → idle_given heap n ≡ behind 256 (idle_given (unbacked_span heap huge.0 1) (n - 256))
+idle_next heap n huge sound some is =
+    let h : ℕ = huge.0 in
+    let arena = sound.runs.arena in
+    let after : Heap = unbacked_span heap h 1 in
+    let f : ℕ → Hugepage → Hugepage = λ k x. cond (spans 1 k h) (unbacked x) x in
+    let flags = map (is_idle heap) (numbers heap) in
+    let len = length-map-range_with_len (is_idle heap) 1 (length heap.hugepages) in
+    let len' = length-map-range_with_len (is_idle after) 1 (length after.hugepages) in
+    let size = length-each f heap.hugepages in
+    let to : h ≤ length flags = omega (arith, is.own.to) in
+    whole_next flags n h some is.own.from to (idle_there heap h ∙ is.passes) (λ i past. idle_there heap i ∙ is.behind i past) heap len
+    ∙ ap (λ all. behind 256 (whole_given all after (n - 256)))
+    (same_numbered false (set flags (h - 1) false) (map (is_idle after) (numbers after)) (length-set flags (h - 1) false ∙ len ∙ sym size ∙ sym len')
+    (λ k pos l.
+    (let own : IsHugepageOf heap.config.huge k = record { from = pos; to = (let s = length-set flags (h - 1) false in omega arith) } in
+    let x = hugepage heap k in
+    let test : Hugepage → Bool = λ y. is_region y && used_count heap.runs k == 0 && list_all (λ b. b) y.backed in
+    numbered-set flags h false k false is.own.from to pos
+    ∙ ap (cond (spans 1 k h) false) (idle_there heap k)
+    ∙ (elim (spans 1 k h) as (λ b. cond b false (test x) ≡ test (cond b (unbacked x) x)) [ true ↦ sym (and_right (is_region x && used_count heap.runs k == 0) false refl) | false ↦ refl ])
+    ∙ ap test (sym (here heap heap.runs heap.regions f heap.counts sound.runs k own))
+    ∙ sym (idle_there after k))))
 
-  module _ (n : ℕ) where
-    abbrev flags : List Bool
-    flags = map (is_idle heap) (numbers heap)
+pub idle_none : (heap : Heap) (n : ℕ) → ((h : ℕ) → is_idle heap h ≡ false) → idle_given heap n ≡ record { heap = heap; pages = 0 }
+idle_none heap n none = whole_none (map (is_idle heap) (numbers heap)) heap n (λ k from to. and_left _ _ (idle_there heap k ∙ none k))
 
-    abbrev f : ℕ → Hugepage → Hugepage
-    f h x = cond (gives_whole flags n h) (unbacked x) x
+-- So one step of a release is sound.
+pub one_free : (heap : Heap) (huge : Huge) → IsSound heap → IsLast heap (λ h. is_free_backed (hugepage heap h)) huge → IsSound (unbacked_span heap huge.0 1)
+one_free heap huge sound is =
+    subst IsSound (ap (λ (r : Released). r.heap) (free_next heap 1 huge sound (omega arith) is) ∙ ap (λ (r : Released). r.heap) (whole_zero (map is_free_backed (unbacked_span heap huge.0 1).hugepages) (unbacked_span heap huge.0 1) (1 - 256) refl)) (free_sound heap 1 sound)
 
-    turns : (h : ℕ) (x : Hugepage) → gives_whole flags n h ≡ true → f h x ≡ unbacked x
-    turns h x e = ap (λ b. cond b (unbacked x) x) e
+pub one_idle : (heap : Heap) (huge : Huge) → IsSound heap → IsLast heap (is_idle heap) huge → IsSound (unbacked_span heap huge.0 1)
+one_idle heap huge sound is =
+    let after : Heap = unbacked_span heap huge.0 1 in
+    subst IsSound (ap (λ (r : Released). r.heap) (idle_next heap 1 huge sound (omega arith) is) ∙ ap (λ (r : Released). r.heap) (whole_zero (map (is_idle after) (numbers after)) after (1 - 256) refl)) (idle_sound heap 1 sound)
 
-    stays : (h : ℕ) (x : Hugepage) → gives_whole flags n h ≡ false → f h x ≡ x
-    stays h x e = ap (λ b. cond b (unbacked x) x) e
+-- A heap settles as it would release what is above its limit.
+take_drop : (xs : List Bool) (k : ℕ) → k < length xs → get_or xs k false ≡ true → count_by (λ b. b) (take k xs) + 1 + count_by (λ b. b) (drop (suc k) xs) ≡ count_by (λ b. b) xs
+take_drop [] k l t = absurd (omega arith)
+take_drop (x ∷ xs) zero l t = let a = count-cons (λ b. b) x xs in let one = one-true x t in omega arith
+take_drop (x ∷ xs) (suc k) l t =
+    let a = count-cons (λ b. b) x xs in let b = count-cons (λ b. b) x (take k xs) in let rest = take_drop xs k (omega arith) t in omega arith
 
-    was_region : (h : ℕ) → IsHugepageOf heap.config.huge h → gives_whole flags n h ≡ true → is_region (hugepage heap h) ≡ true
-    was_region h is e =
-        let arena = sound.runs.arena in
-        let own : is_idle heap h ≡ true = sym (places.idle_at heap h is.from (omega (arith, is.to))) ∙ (and_parts _ _ e).0 in
-        (and_parts _ _ (and_parts _ _ own).0).0
+over_is : (xs : List Bool) (limit k : ℕ) → 0 < k → k ≤ length xs → is_over limit xs k ≡ gives_whole xs (256 * (count_by (λ b. b) xs - limit)) k
+over_is xs limit k from to = elim (cases_Bool (at_number false xs k)) [
+  | inr f ↦ and_left _ _ f ∙ sym (and_left _ _ f)
+  | inl t ↦
+      (let split = take_drop xs (k - 1) (omega arith) (sym (at_number-place false xs k from) ∙ t) in
+      let next : suc (k - 1) ≡ k = omega arith in
+      let all : count_by (λ b. b) (take (k - 1) xs) + 1 + count_by (λ b. b) (drop k xs) ≡ count_by (λ b. b) xs = subst (λ i. count_by (λ b. b) (take (k - 1) xs) + 1 + count_by (λ b. b) (drop i xs) ≡ count_by (λ b. b) xs) next split in
+      ap (λ b. at_number false xs k && b) (same_tests (count_by (λ b. b) (take (k - 1) xs)) (count_by (λ b. b) (drop k xs)) (count_by (λ b. b) xs) limit all))
+] where
+  same_tests : (a b c m : ℕ) → a + 1 + b ≡ c → nat_le m a ≡ nat_lt (256 * b) (256 * (c - m))
+  same_tests a b c m e = elim (cases_lt a m) [
+    | inr le ↦ le-leb m a le ∙ sym (lt-ltb (256 * b) (256 * (c - m)) (omega arith))
+    | inl gt ↦ lt-leb m a gt ∙ sym (le-ltb (256 * b) (256 * (c - m)) (omega arith))
+  ]
 
-    pub idle_given_filler : filler_of heap ≡ filler_of (idle_given heap n).heap
-    idle_given_filler =
-        filler_same heap heap.runs heap.regions f heap.counts sound.runs
-        (λ h is. (let x = hugepage heap h in elim (cases_Bool (gives_whole flags n h)) [
-          | inl t ↦ (let other = region_no_filler x (was_region h is t) in filler_none heap.runs h x other ∙ sym (ap (filler_page_of heap.runs h) (turns h x t) ∙ filler_none heap.runs h (unbacked x) other))
-          | inr no' ↦ ap (filler_page_of heap.runs h) (sym (stays h x no'))
-        ]))
+pub settled_is : (heap : Heap) → settled heap ≡ (free_given (noted heap) (256 * over_limit (noted heap))).heap
+settled_is heap =
+    let flags = map is_free_backed heap.hugepages in
+    let len = length-map heap.hugepages is_free_backed in
+    let m : ℕ = limit heap.config.cache (counted heap) in
+    let count : count_by (λ b. b) flags ≡ count_by is_free_backed heap.hugepages = count-map is_free_backed heap.hugepages in
+    ap (λ xs. record heap { hugepages = xs; counts = counted heap }) (each_where (λ k x. cond (is_over m flags k) (unbacked x) x) (λ k x. cond (gives_whole flags (256 * (count_by is_free_backed heap.hugepages - m)) k) (unbacked x) x) heap.hugepages
+    (λ k from to. (let x = at heap.hugepages k in ap (λ b. cond b (unbacked x) x) (over_is flags m k from (omega arith) ∙ ap (λ c. gives_whole flags (256 * (c - m)) k) count))))
 
-    same_free : (h : ℕ) (x : Hugepage) → is_free x ≡ is_free (f h x)
-    same_free h x = elim (gives_whole flags n h) as (λ b. is_free x ≡ is_free (cond b (unbacked x) x)) [ true ↦ refl | false ↦ refl ]
+-- A release from its three steps.
+after_regions_by : (n b c : ℕ) (given after : Heap) → spare_given given (n - b) ≡ record { heap = after; pages = c } → after_regions n (record { heap = given; pages = b }) ≡ record { heap = after; pages = b + c }
+after_regions_by n b c given after e = ap (λ (r : Released). record r { pages = b + r.pages }) e
 
-    pub idle_given_cache : cache_of heap ≡ cache_of (idle_given heap n).heap
-    idle_given_cache =
-        same_cache (cache_of heap) _ _
-        (flags_same heap heap.runs heap.regions f heap.counts sound.runs (λ x. not (is_free x)) (λ h is. ap not (same_free h (hugepage heap h))))
-        (flags_same heap heap.runs heap.regions f heap.counts sound.runs (λ x. not (is_free_backed x))
-        (λ h is. (let x = hugepage heap h in elim (cases_Bool (gives_whole flags n h)) [
-          | inl t ↦ (let busy = region_busy x (was_region h is t) in ap not (and_left _ _ busy) ∙ sym (ap (λ y. not (is_free_backed y)) (turns h x t) ∙ ap not (and_left _ _ busy)))
-          | inr no' ↦ ap (λ y. not (is_free_backed y)) (sym (stays h x no'))
-        ])))
+after_free_by : (n a b c : ℕ) (given between after : Heap) → idle_given given (n - a) ≡ record { heap = between; pages = b } → spare_given between (n - (a + b)) ≡ record { heap = after; pages = c } → after_free n (record { heap = given; pages = a }) ≡ record { heap = after; pages = a + b + c }
+after_free_by n a b c given between after e f = ap (λ (r : Released). after_regions n (record r { pages = a + r.pages })) e ∙ after_regions_by n (a + b) c between after f
 
-    given_region : (flags' : List Bool) → Region → Region
-    given_region flags' r = record { first = r.first; used = r.used; allocs = r.allocs; backed = map (λ p. p.1 && not (gives_whole flags' n p.0)) (enumerate_from r.first r.backed) }
+pub released_by : (given first second third : Heap) (n m k a b c : ℕ) → m ≡ n - a → k ≡ n - (a + b) → free_given given n ≡ record { heap = first; pages = a } → idle_given first m ≡ record { heap = second; pages = b } → spare_given second k ≡ record { heap = third; pages = c } → release given n ≡ record { heap = third; pages = a + b + c }
+released_by given first second third n m k a b c p q e f g =
+    ap (after_free n) e
+    ∙ after_free_by n a b c first second third (ap (idle_given first) (sym p) ∙ f) (ap (spare_given second) (sym q) ∙ g)
 
-    pub idle_given_regions : regions.released (regions_of heap) n ≡ regions_of (idle_given heap n).heap
-    unfolding given_region
-    idle_given_regions =
-        let after : Heap = (idle_given heap n).heap in
-        ap (λ flags'. record (regions_of heap) { regions = map (given_region flags') (map (region_of heap) heap.regions) }) idle_is
-        ∙ ap (λ (rs : List Region). record (regions_of heap) { regions = rs })
-        (map-map (given_region flags) (region_of heap) heap.regions
-        ∙ map_same (λ r. given_region flags (region_of heap r)) (region_of after) heap.regions
-        (λ k d l.
-        (let r = get_or heap.regions k d in
-        let is = sound.regions k d l in
-        region_is heap heap.runs heap.regions f heap.counts sound.runs r (given_region flags (region_of heap r)) is.from is.to refl refl refl
-        (enumerated (λ p. p.1 && not (gives_whole flags n p.0)) (is_backed_whole heap) (λ h. list_all (λ b. b) (f h (hugepage heap h)).backed) r r heap.config.region
-        (λ j short.
-        (let h : ℕ = r + j in
-        let x = hugepage heap h in
-        elim (cases_Bool (gives_whole flags n h)) [
-          | inl t ↦ and_right (is_backed_whole heap h) _ (ap not t) ∙ sym (ap (λ (y : Hugepage). list_all (λ b. b) y.backed) (turns h x t) ∙ all_whole false)
-          | inr no' ↦ and_yes (is_backed_whole heap h) _ (ap not no') ∙ ap (λ (y : Hugepage). list_all (λ b. b) y.backed) (sym (stays h x no'))
-        ]))))))
+-- A loop that gives until enough was given, by what one step makes of what is left to give.
+module _ (give : Heap → ℕ → Released) where
+  pub loop_begins : (heap : Heap) (n : ℕ) → give heap n ≡ behind 0 (give heap (n - 0))
+  loop_begins heap n = let none : n ≡ n - 0 = omega arith in ap (give heap) none ∙ same (give heap (n - 0))
+    where
+      same : (r : Released) → r ≡ behind 0 r
+      same r = let e : r.pages ≡ 0 + r.pages = omega arith in ap (λ k. record { heap = r.heap; pages = k }) e
 
-    pub idle_given_pages : regions.released_count (regions_of heap) n ≡ (idle_given heap n).pages
-    idle_given_pages =
-        ap (λ flags'. 256 * count_by (gives_whole flags' n) (range_with_len 1 heap.config.huge)) idle_is
-        ∙ ap (λ len. 256 * count_by (gives_whole flags n) (range_with_len 1 len)) (sym sound.runs.arena)
+  pub loop_goes_on : (first heap after : Heap) (n given m : ℕ) → give first n ≡ behind given (give heap (n - given)) → give heap (n - given) ≡ behind m (give after (n - given - m)) → give first n ≡ behind (given + m) (give after (n - (given + m)))
+  loop_goes_on first heap after n given m so_far step =
+      let left : n - given - m ≡ n - (given + m) = omega arith in
+      so_far ∙ ap (behind given) step ∙ behind_twice given m (given + m) (give after (n - given - m)) refl ∙ ap (λ k. behind (given + m) (give after k)) left
 
--- The filler's spare pages.
--- tests of places that agree, from 0 and from a hugepage's first page on
-shifted : {X : Type 0} (a b : ℕ → X) (at n : ℕ) → ((k : ℕ) → k < n → a k ≡ b (at + k)) → map a (range_with_len 0 n) ≡ map b (range_with_len at n)
-shifted a b at n same =
-    let len = length-map-range_with_len a 0 n in
-    let len' = length-map-range_with_len b at n in
-    same_lists _ _ (len ∙ sym len')
-    (λ k d l.
-    (let short : k < n = omega arith in
-    get_or-map-range_with_len a 0 n k k d short (zero-add k) ∙ same k short ∙ sym (get_or-map-range_with_len b at n k (at + k) d short refl)))
+  pub loop_ends : (first heap : Heap) (n given : ℕ) → give first n ≡ behind given (give heap (n - given)) → give heap (n - given) ≡ record { heap = heap; pages = 0 } → give first n ≡ record { heap = heap; pages = given }
+  loop_ends first heap n given so_far done = so_far ∙ behind_none given heap (give heap (n - given)) done
 
-module _ (heap : Heap) (n : ℕ) (sound : IsSound heap) where
-  abbrev entry : ℕ → FillerPage
-  entry h = record { donated = (hugepage heap h).donated; allocs = allocation_count heap.runs h; used = used_row heap.runs h; backed = (hugepage heap h).backed }
+  pub loop_few : (first heap : Heap) (n given most : ℕ) → give first n ≡ behind given (give heap (n - given)) → (give first n).pages ≤ most → given ≤ most
+  loop_few first heap n given most so_far few = within _ _ _ most (ap (λ (r : Released). r.pages) so_far) few
+    where
+      within : (a b c m : ℕ) → a ≡ b + c → a ≤ m → b ≤ m
+      within a b c m e f = omega arith
 
-  used_place : (h k : ℕ) → k < 256 → place_of (used_row heap.runs h) k ≡ is_used heap.runs (256 * h + k)
-  used_place h k l = get_or-map-range_with_len (is_used heap.runs) (256 * h) 256 k (256 * h + k) false l refl
-
-  backed_place : (h k : ℕ) → k < 256 → place_of (hugepage heap h).backed k ≡ backs (hugepage heap h) (256 * h + k)
-  backed_place h k l = (let e : k ≡ (256 * h + k) % 256 = omega arith in ap (λ i. get_or (hugepage heap h).backed i false) e)
-
-  spare_is : (h : ℕ) → spare_row h (entry h) ≡ heaps.spare_row heap h
-  unfolding spare_count
-  spare_is h =
-      let x = hugepage heap h in
-      let a : ℕ → Bool = λ place. place_of x.backed place && not (place_of (used_row heap.runs h) place) in
-      let b : ℕ → Bool = λ page. backs x page && not (is_used heap.runs page) in
-      ap (λ (c : ℕ). record { number = h; used = used_count heap.runs h; spare = c })
-      (sym (count-map a (range_with_len 0 256))
-      ∙ ap (count_by (λ t. t)) (shifted a b (256 * h) 256 (λ k l. ap (λ t. t && not (place_of (used_row heap.runs h) k)) (backed_place h k l) ∙ ap (λ t. backs x (256 * h + k) && not t) (used_place h k l)))
-      ∙ count-map b (pages_of h))
-
-  pub spare_rows_are : spare_rows (filler_of heap) ≡ heaps.spare_rows heap
-  spare_rows_are =
-      rows_are spare_row heap.runs (hugepage heap) 1 heap.hugepages (look_at heap)
-      ∙ map_same (λ h. spare_row h (entry h)) (heaps.spare_row heap) (filter (λ h. is_filler (hugepage heap h)) (numbers heap)) (λ k d l. spare_is (get_or (filter (λ h. is_filler (hugepage heap h)) (numbers heap)) k d))
-
-  abbrev asked : ℕ → Hugepage → Bool
-  asked h x = is_filler x && gives_spare (heaps.spare_rows heap) n (heaps.spare_row heap h)
-
-  abbrev g : ℕ → Hugepage → Hugepage
-  g h x = cond (asked h x) (heaps.only_used heap.runs h x) x
-
-  -- what a hugepage of the filler gives
-  given_entry : (h : ℕ) → is_filler (hugepage heap h) ≡ true → option_map (released_page (heaps.spare_rows heap) n h) (filler_page_of heap.runs h (hugepage heap h)) ≡ filler_page_of heap.runs h (g h (hugepage heap h))
-  unfolding used_backed
-  given_entry h own =
-      let x = hugepage heap h in
-      let test : Bool = gives_spare (heaps.spare_rows heap) n (heaps.spare_row heap h) in
-      ap (option_map (released_page (heaps.spare_rows heap) n h)) (filler_some heap.runs h x own)
-      ∙ ap (λ r. Some (cond (gives_spare (heaps.spare_rows heap) n r) (only_used (entry h)) (entry h))) (spare_is h)
-      ∙ elim (cases_Bool test) [
-        | inl t ↦
-            (let both : asked h x ≡ true = and_from _ _ own t in
-            ap (λ b. Some (cond b (only_used (entry h)) (entry h))) t
-            ∙ ap Some (same_page (only_used (entry h)) (record { donated = x.donated; allocs = allocation_count heap.runs h; used = used_row heap.runs h; backed = (heaps.only_used heap.runs h x).backed }) refl refl refl
-            (shifted (λ place. place_of x.backed place && place_of (used_row heap.runs h) place) (λ page. backs x page && is_used heap.runs page) (256 * h) 256
-            (λ k l. ap (λ t. t && place_of (used_row heap.runs h) k) (backed_place h k l) ∙ ap (λ t. backs x (256 * h + k) && t) (used_place h k l))))
-            ∙ sym (ap (λ b. filler_page_of heap.runs h (cond b (heaps.only_used heap.runs h x) x)) both ∙ filler_some heap.runs h (heaps.only_used heap.runs h x) own))
-        | inr no' ↦
-            (let both : asked h x ≡ false = and_right _ _ no' in
-            ap (λ b. Some (cond b (only_used (entry h)) (entry h))) no'
-            ∙ sym (ap (λ b. filler_page_of heap.runs h (cond b (heaps.only_used heap.runs h x) x)) both ∙ filler_some heap.runs h x own))
-      ]
-
-  other_same : (h : ℕ) → is_filler (hugepage heap h) ≡ false → g h (hugepage heap h) ≡ hugepage heap h
-  other_same h other = ap (λ b. cond b (heaps.only_used heap.runs h (hugepage heap h)) (hugepage heap h)) (and_left _ _ other)
-
-  pub spare_given_filler : filler.released (filler_of heap) n ≡ filler_of (spare_given heap n).heap
-  spare_given_filler =
-      let arena = sound.runs.arena in
-      let size = length-filler_of heap in
-      let pages : List (Option FillerPage) = map (λ (p : ℕ × Option FillerPage). option_map (released_page (heaps.spare_rows heap) n p.0) p.1) (enumerate_from 1 (filler_of heap)) in
-      ap (λ rows. map (λ (p : ℕ × Option FillerPage). option_map (released_page rows n p.0) p.1) (enumerate_from 1 (filler_of heap))) spare_rows_are
-      ∙ filler_is heap heap.runs heap.regions g heap.counts sound.runs pages (length-each (λ h. option_map (released_page (heaps.spare_rows heap) n h)) (filler_of heap) ∙ size)
-      (λ h is.
-      (let x = hugepage heap h in
-      numbered-each (λ h. option_map (released_page (heaps.spare_rows heap) n h)) (filler_of heap) h None None is.from (omega (arith, is.to))
-      ∙ ap (option_map (released_page (heaps.spare_rows heap) n h)) (filler_at heap h is.from (omega (arith, is.to)))
-      ∙ elim (cases_Bool (is_filler x)) [
-        | inl own ↦ given_entry h own
-        | inr other ↦ ap (option_map (released_page (heaps.spare_rows heap) n h)) (filler_none heap.runs h x other) ∙ sym (ap (filler_page_of heap.runs h) (other_same h other) ∙ filler_none heap.runs h x other)
-      ]))
-
-  pub spare_given_pages : filler.released_count (filler_of heap) n ≡ (spare_given heap n).pages
-  spare_given_pages = ap (λ rows. sum_by (λ row. row.spare) (filter (gives_spare rows n) rows)) spare_rows_are
-
-  same_free' : (h : ℕ) (x : Hugepage) → is_free x ≡ is_free (g h x)
-  same_free' h x = elim (asked h x) as (λ b. is_free x ≡ is_free (cond b (heaps.only_used heap.runs h x) x)) [ true ↦ refl | false ↦ refl ]
-
-  pub spare_given_cache : cache_of heap ≡ cache_of (spare_given heap n).heap
-  spare_given_cache =
-      same_cache (cache_of heap) _ _
-      (flags_same heap heap.runs heap.regions g heap.counts sound.runs (λ x. not (is_free x)) (λ h is. ap not (same_free' h (hugepage heap h))))
-      (flags_same heap heap.runs heap.regions g heap.counts sound.runs (λ x. not (is_free_backed x))
-      (λ h is. (let x = hugepage heap h in elim (cases_Bool (is_filler x)) [
-        | inl own ↦ (let busy = filler_busy x own in ap not (and_left _ _ busy) ∙ sym (ap not (and_left _ _ (sym (same_free' h x) ∙ busy))))
-        | inr other ↦ ap (λ y. not (is_free_backed y)) (sym (other_same h other))
-      ])))
-
-  pub spare_given_regions : regions_of heap ≡ regions_of (spare_given heap n).heap
-  spare_given_regions =
-      regions_same heap heap.runs g heap.counts sound.runs
-      (λ k d l.
-      (let is = sound.regions k d l in
-      region_same heap heap.runs heap.regions g heap.counts sound.runs (get_or heap.regions k d) is.from is.to refl (λ h e. refl)
-      (λ h e. ap (λ (x : Hugepage). list_all (λ b. b) x.backed) (sym (other_same h (region_no_filler (hugepage heap h) (is.kinds h e)))))))
+-- as many hugepages as a heap has at most, and their pages
+pub most_pages : (t : Inside) (heap : Heap) → heap_of t ≡ heap → IsKept t → 256 * length heap.hugepages ≤ 1048576
+most_pages t heap view kept = few _ _ (ap (λ (x : Heap). length x.hugepages) (sym view) ∙ kept.well.sound.runs.arena) kept.well.limits.huge_to
+  where
+    few : (a b : ℕ) → a ≡ b → b ≤ 4096 → 256 * a ≤ 1048576
+    few a b e l = omega arith

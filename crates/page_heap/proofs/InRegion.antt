@@ -1,109 +1,147 @@
--- A run that comes to a region, and one that leaves it.
-use Rattle.std.proofs.Common.{◌≡◌, ℕ, ◌+◌, ◌-◌, ◌*◌, ◌<◌, ◌≤◌, Bool, true, false, ◌&&◌, ◌||◌, cond, zero-add, List, length, map, refl, sym, ap, ◌∙◌, inl, inr, arith}
-use Rattle.std.specs.List.{range_with_len, enumerate_from, list_all}
-use Rattle.std.proofs.lemmas.Bool.{cases_Bool, or_right}
-use Rattle.std.proofs.lemmas.List.{same_lists, length-map, get_or-map}
-use Rattle.std.proofs.lemmas.List.FromFn.{length-map-range_with_len, get_or-map-range_with_len, length-enumerate_from, get_or-enumerate_from}
+-- A run in a region that has room.
+use Rattle.std.proofs.Common.{◌≡◌, ℕ, ◌+◌, ◌-◌, ◌*◌, ◌/◌, ◌^◌, ◌<◌, ◌≤◌, true, false, cond, filter, Contains, Option, Some, None, IfSome, refl, sym, ap, subst, ◌∙◌, inr, arith}
+use Rattle.std.proofs.lemmas.List.Elements.{All-contains}
+use Rattle.std.proofs.lemmas.Option.{none-some}
 use Rattle.tc_units.specs.declared.spans.Run.{Run}
-use Rattle.range_bits.specs.Ranges.{with_places}
-use Rattle.heap_rules.specs.Heap.{Heap, Hugepage, hugepage, reaches, region_row, allocation_count, spans}
-use Rattle.heap_rules.specs.New.{all_backed}
-use Rattle.heap_rules.specs.Sound.{AreRunsSound}
-use Rattle.heap_rules.proofs.Fits.{reaches_parts, spans_from}
-use Rattle.heap_rules.proofs.Remade.{remade}
-use Rattle.huge_region.specs.Regions.{joined, left, touches}
-use Rattle.page_heap.specs.Parts.{is_backed_whole, region_of}
-use Rattle.page_heap.proofs.Rows.{same_ltb, used_from-differs, holds_within}
-use Rattle.page_heap.proofs.View.{all_whole}
-use Rattle.page_heap.proofs.Frames.{IsStep, region_is, over_region}
-use Rattle.page_heap.proofs.Steps.{HasPlace}
+use Rattle.range_bits.specs.Ranges.{best, first_least, free_from}
+use Rattle.range_bits.proofs.RangeFacts.{best_is_fit}
+use Rattle.range_bits.proofs.RangeLemmas.{first_least-all}
+use Rattle.heap_rules.specs.Heap.{Heap, Hugepage, hugepage, reaches, run_at, region_row, is_free, is_filler, is_region, is_kind_free, is_kind_filler, spans}
+use Rattle.heap_rules.specs.RegionRows.{RegionRow, is_preferred, has_room, place_in_region, region_place}
+use Rattle.heap_rules.specs.Choice.{region_row_of, region_rows}
+use Rattle.heap_rules.specs.New.{all_backed, in_region}
+use Rattle.heap_rules.specs.Sound.{IsRegion, IsSound}
+use Rattle.heap_rules.specs.Laws.{IsGiven}
+use Rattle.heap_rules.proofs.Chosen.{mapped}
+use Rattle.heap_rules.proofs.Fillers.{unused_at}
+use Rattle.heap_rules.proofs.Fits.{reaches_parts, is_Region, spans_from}
+use Rattle.heap_rules.proofs.Given.{IsRegionWithRoom, regions_fit}
+use Rattle.heap_rules.proofs.Live.{used_with_new}
+use Rattle.heap_rules.proofs.Regions.{given_region}
+use Rattle.huge_table.specs.Means.{Means}
+use Rattle.huge_table.specs.Runs.{HasPlaces}
+use Rattle.huge_table.specs.Table.{IsSpan, reached_by}
+use Rattle.huge_region.specs.Regions.{Regions, region_with, with_changed, joined, start_in, AreFreeIn}
+use Rattle.page_heap.specs.declared.heap.PageHeap.TheInside.{Inside}
+use Rattle.page_heap.specs.Inside.{heap_of, regions_of, IsKept}
+use Rattle.page_heap.specs.Routes.{IsRouted}
+use Rattle.page_heap.proofs.Steps.{came}
+use Rattle.page_heap.proofs.Frames.{measures_steady, cache_step}
+use Rattle.page_heap.proofs.RegionRows.{region_found, regions_changed}
+use Rattle.page_heap.proofs.Routed.{routed_with}
+use Rattle.page_heap.proofs.Results.{Results, fits_used, new_results}
 
--- a row of a region's hugepages, changed by their places
-pub enumerated : {X Y : Type 0} (g : ℕ × X → Y) (f : ℕ → X) (k : ℕ → Y) (at r width : ℕ) → ((j : ℕ) → j < width → g (at + j, f (r + j)) ≡ k (r + j)) → map g (enumerate_from at (map f (range_with_len r width))) ≡ map k (range_with_len r width)
-enumerated {X} g f k at r width same =
-    let row = map f (range_with_len r width) in
-    let len = length-map-range_with_len f r width in
-    let size : length (map g (enumerate_from at row)) ≡ length row = length-map (enumerate_from at row) g ∙ length-enumerate_from at row in
-    let len' = length-map-range_with_len k r width in
-    same_lists _ _ (size ∙ len ∙ sym len')
-    (λ j d l.
-    let short : j < width = omega arith in
-    let count = length-enumerate_from at row in
-    let p : ℕ × X = (at, f r) in
-    get_or-map g (enumerate_from at row) j p d (omega arith)
-    ∙ ap g (get_or-enumerate_from at row j p (omega arith) ∙ ap (λ x. (at + j, x)) (get_or-map-range_with_len f r width j (r + j) (f r) short refl))
-    ∙ same j short
-    ∙ sym (get_or-map-range_with_len k r width j (r + j) d short refl))
+pub region_no_filler : (x : Hugepage) → is_region x ≡ true → is_filler x ≡ false
+region_no_filler x e = ap is_kind_filler (is_Region x.kind e)
 
-or_none : (a : Bool) → (a || false) ≡ a
-or_none true = refl
-or_none false = refl
+pub region_busy : (x : Hugepage) → is_region x ≡ true → is_free x ≡ false
+region_busy x e = ap is_kind_free (is_Region x.kind e)
 
-less : (m a : ℕ) → m + 1 ≡ a → a - 1 ≡ m
-less m a e = omega arith
+-- A place in a region: the region, and the run that lies there.
+pub record IsPlaced (heap : Heap) (n page : ℕ) : Type 0 where
+  pub region : ℕ
+  pub known : Contains heap.regions region
+  pub from : 256 * region ≤ page
+  pub to : page + n ≤ 256 * (region + heap.config.region)
+  pub free : n ≤ free_from (region_row heap.runs heap.config.region region) (page - 256 * region)
+  pub given : IsGiven heap n (in_region heap n page)
 
-both_same : (a b c d : Bool) → a ≡ c → b ≡ d → (a && b) ≡ (c && d)
-both_same a b c d e f = rw (e, f) refl
+placed_at : (heap : Heap) (n page r s : ℕ) → IsSound heap → 0 < n → Contains heap.regions r → best (region_row heap.runs heap.config.region r) n ≡ Some s → 256 * r + s ≡ page → IsPlaced heap n page
+placed_at heap n page r s sound some known place e =
+    let are = unused_at heap.runs (256 * r) (256 * heap.config.region) n s some place in
+    let at : s ≡ page - 256 * r = omega arith in
+    record {
+      region = r;
+      known = known;
+      from = omega arith;
+      to = omega (arith, are.to);
+      free = subst (λ k. n ≤ free_from (region_row heap.runs heap.config.region r) k) at (best_is_fit (region_row heap.runs heap.config.region r) n s place).1;
+      given = subst (λ p. IsGiven heap n (in_region heap n p)) e (given_region heap n r s sound some (All-contains (IsRegion heap) heap.regions r sound.regions known) are);
+    }
 
--- The run reaches hugepage k of the region, counted from 0, as its places touch it.
-pub touched : (run : Run) (r s k : ℕ) → run.first.0 ≡ 256 * r + s → touches s run.pages k ≡ reaches (r + k) run
-touched run r s k e = both_same _ _ _ _ (same_ltb s (256 * (k + 1)) run.first.0 (256 * (r + k + 1)) (λ a. omega arith) (λ a. omega arith)) (same_ltb (256 * k) (s + run.pages) (256 * (r + k)) (run.first.0 + run.pages) (λ a. omega arith) (λ a. omega arith))
+placed_by : (heap : Heap) (n page : ℕ) → IsSound heap → 0 < n → (o : Option RegionRow) → IfSome o (IsRegionWithRoom heap n) → place_in_region n o ≡ Some page → IsPlaced heap n page
+placed_by heap n page sound some None is e = absurd (none-some page e)
+placed_by heap n page sound some (Some row) is e =
+    let of = mapped (λ start. 256 * row.first + start) (best row.used n) page e in
+    let at : row.first ≡ is.number = ap (λ (x : RegionRow). x.first) is.row_is in
+    placed_at heap n page is.number of.0 sound some is.own (ap (λ (x : RegionRow). best x.used n) (sym is.row_is) ∙ of.1) (ap (λ k. 256 * k + of.0) (sym at) ∙ of.2)
 
-module _ (heap : Heap) (rest : List Run) (f : ℕ → Hugepage → Hugepage) (counts : List ℕ) (sound : AreRunsSound heap) (run : Run) (r s : ℕ) (is : HasPlace heap r) (start : run.first.0 ≡ 256 * r + s) (fits : s + run.pages ≤ 256 * heap.config.region) where
-  abbrev width : ℕ
-  width = heap.config.region
+placed_in : (heap : Heap) (n page : ℕ) → IsSound heap → 0 < n → region_place (region_rows heap) n ≡ Some page → IsPlaced heap n page
+placed_in heap n page sound some e =
+    placed_by heap n page sound some (first_least is_preferred (filter (has_room n) (region_rows heap))) (first_least-all (IsRegionWithRoom heap n) is_preferred (filter (has_room n) (region_rows heap)) (regions_fit heap n sound)) e
+
+pub record IsJoining (old : Inside) (n page : ℕ) : Type 0 where
+  pub span : IsSpan old.table (page / 256) (reached_by page n) is_region
+  pub row : RegionRow
+  pub free : AreFreeIn old.regions page n row
+  pub fits : old.used + n < 2 ^ 64
+
+module _ (old : Inside) (kept : IsKept old) (n page : ℕ) (some : 0 < n) (place : region_place (region_rows (heap_of old)) n ≡ Some page) where
+  abbrev heap : Heap
+  heap = heap_of old
+
+  sound : IsSound heap
+  sound = kept.well.sound
+
+  is_placed : IsPlaced heap n page
+  is_placed = placed_in heap n page sound some place
+
+  abbrev run : Run
+  run = run_at page n
+
+  abbrev r : ℕ
+  r = is_placed.region
+
+  abbrev g : ℕ → Hugepage → Hugepage
+  g h x = all_backed x
 
   abbrev after : Heap
-  after = remade heap rest heap.regions f counts
+  after = (in_region heap n page).heap
 
-  -- only the region's hugepages are reached
-  pub reached_span : (h : ℕ) → reaches h run ≡ true → spans width h r ≡ true
-  reached_span h e = let parts = reaches_parts h run e in spans_from width h r (omega (arith, parts.1)) (omega (arith, parts.1))
+  is : IsRegion heap r
+  is = All-contains (IsRegion heap) heap.regions r sound.regions is_placed.known
 
-  module _ (b : Bool) (step : IsStep heap.runs rest run b) where
-    -- the pages that the run holds
-    used_there : with_places (region_row heap.runs width r) s run.pages b ≡ region_row rest width r
-    used_there = sym (used_from-differs heap.runs rest run b step.differs (256 * r) (256 * width) s run.pages fits
-        (λ k l. holds_within run (256 * r + k) s (s + run.pages) k (λ a. omega arith) (λ a. omega arith) (λ a. omega arith) (λ a. omega arith)))
+  of_region : (h : ℕ) → spans heap.config.region h r ≡ true → is_region (hugepage heap h) ≡ true
+  of_region h e = is.kinds h e
 
-  -- a run comes: each hugepage that it reaches is backed
-  pub joined_is : IsStep heap.runs rest run true → ((h : ℕ) → reaches h run ≡ true → allocation_count rest h ≡ allocation_count heap.runs h + 1) → ((h : ℕ) (x : Hugepage) → reaches h run ≡ false → f h x ≡ x) → ((h : ℕ) (x : Hugepage) → reaches h run ≡ true → f h x ≡ all_backed x) → joined s run.pages (region_of heap r) ≡ region_of after r
-  joined_is step more stays turns =
-      region_is heap rest heap.regions f counts sound r (joined s run.pages (region_of heap r)) is.from is.to refl (used_there true step)
-      (enumerated (λ p. cond (touches s run.pages p.0) (p.1 + 1) p.1) (allocation_count heap.runs) (allocation_count rest) 0 r width
-      (λ j l.
-      (let none : 0 + j ≡ j = zero-add j in
-      let a : ℕ = allocation_count heap.runs (r + j) in
-      ap (λ i. cond (touches s run.pages i) (a + 1) a) none
-      ∙ ap (λ t. cond t (a + 1) a) (touched run r s j start)
-      ∙ elim (cases_Bool (reaches (r + j) run)) [
-        | inl t ↦ ap (λ t. cond t (a + 1) a) t ∙ sym (more (r + j) t)
-        | inr n ↦ ap (λ t. cond t (a + 1) a) n ∙ sym (step.counts (r + j) n)
-      ])))
-      (enumerated (λ p. p.1 || touches s run.pages p.0) (is_backed_whole heap) (λ h. list_all (λ b. b) (f h (hugepage heap h)).backed) 0 r width
-      (λ j l.
-      (let none : 0 + j ≡ j = zero-add j in
-      let y = hugepage heap (r + j) in
-      let a : Bool = is_backed_whole heap (r + j) in
-      ap (λ i. a || touches s run.pages i) none
-      ∙ ap (λ t. a || t) (touched run r s j start)
-      ∙ elim (cases_Bool (reaches (r + j) run)) [
-        | inl t ↦ or_right a _ t ∙ sym (ap (λ (x : Hugepage). list_all (λ b. b) x.backed) (turns (r + j) y t) ∙ all_whole true)
-        | inr n ↦ ap (λ t. a || t) n ∙ or_none a ∙ sym (ap (λ (x : Hugepage). list_all (λ b. b) x.backed) (stays (r + j) y n))
-      ])))
+  reached : (h : ℕ) → reaches h run ≡ true → is_region (hugepage heap h) ≡ true
+  reached h e = (let parts = reaches_parts h run e in of_region h (spans_from heap.config.region h r (omega (arith, is_placed.from, parts.1)) (omega (arith, is_placed.to, parts.0))))
 
-  -- a run leaves: the backing stays
-  pub left_is : IsStep heap.runs rest run false → ((h : ℕ) → reaches h run ≡ true → allocation_count rest h + 1 ≡ allocation_count heap.runs h) → ((h : ℕ) → spans width h r ≡ true → list_all (λ b. b) (hugepage heap h).backed ≡ list_all (λ b. b) (f h (hugepage heap h)).backed) → left s run.pages (region_of heap r) ≡ region_of after r
-  left_is step fewer stays =
-      region_is heap rest heap.regions f counts sound r (left s run.pages (region_of heap r)) is.from is.to refl (used_there false step)
-      (enumerated (λ p. cond (touches s run.pages p.0) (p.1 - 1) p.1) (allocation_count heap.runs) (allocation_count rest) 0 r width
-      (λ j l.
-      (let none : 0 + j ≡ j = zero-add j in
-      let a : ℕ = allocation_count heap.runs (r + j) in
-      ap (λ i. cond (touches s run.pages i) (a - 1) a) none
-      ∙ ap (λ t. cond t (a - 1) a) (touched run r s j start)
-      ∙ elim (cases_Bool (reaches (r + j) run)) [
-        | inl t ↦ ap (λ t. cond t (a - 1) a) t ∙ less _ a (fewer (r + j) t)
-        | inr n ↦ ap (λ t. cond t (a - 1) a) n ∙ sym (step.counts (r + j) n)
-      ])))
-      (over_region (is_backed_whole heap) (λ h. list_all (λ b. b) (f h (hugepage heap h)).backed) r width stays)
+  found : region_with (regions_of heap) (page / 256) ≡ Some (region_row_of heap r)
+  found = region_found heap r (page / 256) (sound.runs.apart (page / 256)) is_placed.known (spans_from heap.config.region (page / 256) r (omega (arith, is_placed.from)) (omega (arith, is_placed.to)))
+
+  there : region_with old.regions (page / 256) ≡ Some (region_row_of heap r)
+  there = ap (λ (all : Regions). region_with all (page / 256)) kept.shows.regions ∙ found
+
+  -- what the calls ask on the way
+  pub joining : IsJoining old n page
+  joining =
+      let arena = sound.runs.arena in
+      record {
+        span = record {
+          from = omega (arith, is.from, is_placed.from);
+          to = omega (arith, is.to, is_placed.to, is_placed.from);
+          all = λ h a b. of_region h (spans_from heap.config.region h r (omega (arith, is_placed.from)) (omega (arith, is_placed.to, is_placed.from)));
+        };
+        row = region_row_of heap r;
+        free = record { row = there; free = is_placed.free };
+        fits = fits_used old kept n (in_region heap n page) some is_placed.given;
+      }
+
+  routed : (z : Run) → Contains after.runs z → IsRouted after z
+  routed =
+      routed_with heap after.runs heap.regions (λ h x. cond (reaches h run) (g h x) x) heap.counts run sound kept.well.routed
+      (λ s known. known)
+      (λ h own. inr (elim (reaches h run) as (λ b. (cond b (all_backed (hugepage heap h)) (hugepage heap h)).kind ≡ (hugepage heap h).kind) [ true ↦ refl | false ↦ refl ]))
+      (inr (inr (record { region = r; known = is_placed.known; from = is_placed.from; to = is_placed.to })))
+
+  pub region_keeps : (t : Inside) → t.config ≡ old.config → Means t.table after → HasPlaces t.table → t.filler ≡ old.filler → t.cache ≡ old.cache → ((row : RegionRow) → region_with old.regions (page / 256) ≡ Some row → t.regions ≡ with_changed old.regions row.first (joined (start_in row page) n)) → t.used ≡ old.used + n → Results t after
+  region_keeps t config means places filler cache regions used =
+      let step = came run heap.runs in
+      new_results old kept n (in_region heap n page) some is_placed.given routed t config means places
+      (filler ∙ kept.shows.filler ∙ measures_steady heap after.runs g heap.counts run sound step (λ h own e. (region_no_filler (hugepage heap h) (reached h e), region_no_filler (hugepage heap h) (reached h e))))
+      (cache ∙ kept.shows.cache ∙ cache_step heap after.runs g heap.counts run sound step refl (λ h own e. (region_busy (hugepage heap h) (reached h e), region_busy (hugepage heap h) (reached h e))))
+      (regions (region_row_of heap r) there
+      ∙ ap (λ (all : Regions). with_changed all r (joined (page - 256 * r) n)) kept.shows.regions
+      ∙ regions_changed heap after.runs after.hugepages run true step (λ p held. used_with_new run heap.runs p held) r sound.runs.apart is_placed.known is_placed.from is_placed.to (omega (arith, kept.well.limits.region_from)))
+      used

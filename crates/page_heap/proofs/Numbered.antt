@@ -1,16 +1,16 @@
 -- Lists with a place for each hugepage, h at place h - 1: two are the same where they agree at each number.
-use Rattle.std.proofs.Common.{◌≡◌, ◌≢◌, ℕ, zero, suc, ◌+◌, ◌-◌, ◌<◌, ◌≤◌, Bool, true, false, cond, List, [], ◌∷◌, length, get_or, set, map, find, count_by, All, Some, None, refl, sym, ap, ◌∙◌, inl, inr, arith}
+use Rattle.std.proofs.Common.{◌≡◌, ◌≢◌, ℕ, ◌+◌, ◌-◌, ◌<◌, ◌≤◌, Bool, true, false, cond, List, length, get_or, set, map, sym, ap, ◌∙◌, inl, inr, arith}
 use Rattle.std.specs.List.{enumerate_from}
-use Rattle.std.proofs.lemmas.Bool.{cases_Bool}
+use Rattle.std.proofs.lemmas.Bool.{cases_Bool, cases_eq, and_from, and_parts, le-leb, lt-ltb, leb-true, ltb-true, false≢true, false_from_ne_true}
 use Rattle.std.proofs.lemmas.List.{same_lists, get_or_default, length-map, get_or-map, get_or-set_same, get_or-set_other}
-use Rattle.std.proofs.lemmas.List.Elements.{All-head, All-tail}
 use Rattle.std.proofs.lemmas.List.FromFn.{length-enumerate_from, get_or-enumerate_from}
 use Rattle.range_bits.specs.Ranges.{with_places}
 use Rattle.range_bits.proofs.BitFacts.{is_between}
 use Rattle.range_bits.proofs.Placing.{get_or-with_places}
+use Rattle.heap_rules.specs.Heap.{spans}
 use Rattle.heap_rules.specs.Numbered.{at_number}
 use Rattle.heap_rules.proofs.Numbered.{at_number-place, at_number-next}
-use Rattle.tc_units.proofs.Counts.{count-cons, count_some, one-true, one-false}
+use Rattle.heap_rules.proofs.Fits.{spans_parts, spans_from}
 
 -- what stands at a number
 abbrev pub numbered : {X : Type 0} → List X → ℕ → X → X
@@ -35,31 +35,31 @@ numbered-each {X} f xs h d e some inside =
 pub length-each : {X Y : Type 0} (f : ℕ → X → Y) (xs : List X) → length (map (λ (p : ℕ × X). f p.0 p.1) (enumerate_from 1 xs)) ≡ length xs
 length-each {X} f xs = length-map (enumerate_from 1 xs) (λ (p : ℕ × X). f p.0 p.1) ∙ length-enumerate_from 1 xs
 
-pub numbered-set_same : {X : Type 0} (xs : List X) (h : ℕ) (x d : X) → 0 < h → h ≤ length xs → numbered (set xs (h - 1) x) h d ≡ x
-numbered-set_same xs h x d some inside = at_number-place d (set xs (h - 1) x) h some ∙ get_or-set_same xs (h - 1) x d (omega arith)
+-- with one of them changed
+pub one_is : (h r : ℕ) → h ≡ r → spans 1 h r ≡ true
+one_is h r e = spans_from 1 h r (omega arith) (omega arith)
 
-pub numbered-set_other : {X : Type 0} (xs : List X) (h k : ℕ) (x d : X) → 0 < h → 0 < k → k ≢ h → numbered (set xs (h - 1) x) k d ≡ numbered xs k d
-numbered-set_other xs h k x d some some' ne = let far : (k - 1) ≢ (h - 1) = (λ e. ne (omega arith)) in at_number-place d (set xs (h - 1) x) k some' ∙ get_or-set_other xs (h - 1) (k - 1) x d far ∙ sym (at_number-place d xs k some')
+pub one_not : (h r : ℕ) → h ≢ r → spans 1 h r ≡ false
+one_not h r ne = false_from_ne_true (spans 1 h r) (λ t. let parts = spans_parts 1 h r t in ne (omega arith))
 
--- flags of which n, from a number on, are set
-pub numbered-with_places : (row : List Bool) (r n : ℕ) (used : Bool) (h : ℕ) (d : Bool) → 0 < h → r - 1 + n ≤ length row → numbered (with_places row (r - 1) n used) h d ≡ cond (is_between (r - 1) (r - 1 + n) (h - 1)) used (numbered row h d)
-numbered-with_places row r n used h d some inside =
-    at_number-place d (with_places row (r - 1) n used) h some
-    ∙ get_or-with_places row (r - 1) n used (h - 1) d inside
-    ∙ ap (cond (is_between (r - 1) (r - 1 + n) (h - 1)) used) (sym (at_number-place d row h some))
-
--- the one element of a mapped list that passes a test, and none
-pub find-map_one : {X Y : Type 0} (f : X → Y) (p : Y → Bool) (xs : List X) (k : ℕ) (d : X) → k < length xs → p (f (get_or xs k d)) ≡ true → count_by (λ x. p (f x)) xs ≤ 1 → find p (map f xs) ≡ Some (f (get_or xs k d))
-find-map_one f p [] k d l t most = absurd (omega arith)
-find-map_one f p (x ∷ xs) zero d l t most = rw t refl
-find-map_one f p (x ∷ xs) (suc k) d l t most =
-    let e = count-cons (λ y. p (f y)) x xs in
-    let some = count_some (λ y. p (f y)) xs k d (omega arith) t in
-    elim (cases_Bool (p (f x))) [
-      | inl hit ↦ (let one = one-true (p (f x)) hit in absurd (omega arith))
-      | inr miss ↦ (let none = one-false (p (f x)) miss in let rest = find-map_one f p xs k d (omega arith) t (omega arith) in rw miss rest)
+pub numbered-set : {X : Type 0} (xs : List X) (r : ℕ) (x : X) (h : ℕ) (d : X) → 0 < r → r ≤ length xs → 0 < h → numbered (set xs (r - 1) x) h d ≡ cond (spans 1 h r) x (numbered xs h d)
+numbered-set xs r x h d from to some =
+    at_number-place d (set xs (r - 1) x) h some
+    ∙ elim (cases_eq h r) [
+      | inl same ↦ (let at : h - 1 ≡ r - 1 = omega arith in ap (λ k. get_or (set xs (r - 1) x) k d) at ∙ get_or-set_same xs (r - 1) x d (omega arith) ∙ sym (ap (λ b. cond b x (numbered xs h d)) (one_is h r same)))
+      | inr other ↦ (let far : (h - 1) ≢ (r - 1) = (λ e. other (omega arith)) in get_or-set_other xs (r - 1) (h - 1) x d far ∙ sym (at_number-place d xs h some) ∙ sym (ap (λ b. cond b x (numbered xs h d)) (one_not h r other)))
     ]
 
-pub find-map_none : {X Y : Type 0} (f : X → Y) (p : Y → Bool) (xs : List X) → All (λ x. p (f x) ≡ false) xs → find p (map f xs) ≡ None
-find-map_none f p [] h = refl
-find-map_none f p (x ∷ xs) h = let head : p (f x) ≡ false = All-head (λ y. p (f y) ≡ false) x xs h in let rest = find-map_none f p xs (All-tail (λ y. p (f y) ≡ false) x xs h) in rw head rest
+-- with flags of which n, from a number on, are set
+next_between : (r n h : ℕ) → 0 < r → 0 < h → is_between (r - 1) (r - 1 + n) (h - 1) ≡ spans n h r
+next_between r n h from some = elim (cases_Bool (spans n h r)) [
+  | inl t ↦ (let parts = spans_parts n h r t in and_from _ _ (le-leb (r - 1) (h - 1) (omega arith)) (lt-ltb (h - 1) (r - 1 + n) (omega arith)) ∙ sym t)
+  | inr f ↦ false_from_ne_true _ (λ t. (let parts = and_parts _ _ t in let a = leb-true (r - 1) (h - 1) parts.0 in let b = ltb-true (h - 1) (r - 1 + n) parts.1 in false≢true (sym f ∙ spans_from n h r (omega arith) (omega arith)))) ∙ sym f
+]
+
+pub numbered-with_places : (row : List Bool) (r n : ℕ) (used : Bool) (h : ℕ) (d : Bool) → 0 < r → 0 < h → r - 1 + n ≤ length row → numbered (with_places row (r - 1) n used) h d ≡ cond (spans n h r) used (numbered row h d)
+numbered-with_places row r n used h d from some inside =
+    at_number-place d (with_places row (r - 1) n used) h some
+    ∙ get_or-with_places row (r - 1) n used (h - 1) d inside
+    ∙ ap (λ (b : Bool). cond b used (get_or row (h - 1) d)) (next_between r n h from some)
+    ∙ ap (cond (spans n h r) used) (sym (at_number-place d row h some))

@@ -1,199 +1,229 @@
--- A region opens, and its hugepages are backed one after another; one ends, and its hugepages are free one after another.
-use Rattle.std.proofs.Common.{◌≡◌, ◌≢◌, ℕ, ◌+◌, ◌-◌, ◌*◌, ◌<◌, ◌≤◌, ◌==◌, Bool, true, false, not, ◌&&◌, ◌||◌, cond, nat_lt, List, [], ◌∷◌, length, get_or, set, replicate, map, find, All, Some, None, refl, sym, ap, subst, ◌∙◌, inl, inr, arith}
-use Rattle.std.specs.List.{range_with_len, enumerate_from}
-use Rattle.std.proofs.lemmas.Bool.{cases_Bool, cases_eq, cases_lt, and_left, and_right, and_from, or_right, eq-eqb, ne_eqb, lt-ltb, le-ltb, le-leb, false≢true}
-use Rattle.std.proofs.lemmas.List.{same_lists, length-replicate, get_or-replicate, length-set}
+-- A run in a new region.
+use Rattle.std.proofs.Common.{◌≡◌, ℕ, ◌+◌, ◌-◌, ◌*◌, ◌/◌, ◌^◌, ◌<◌, ◌≤◌, Bool, true, false, not, ◌&&◌, cond, List, length, replicate, map, count_by, Contains, Some, None, refl, sym, ap, subst, ◌∙◌, inl, inr, arith}
+use Rattle.std.specs.List.{list_all}
+use Rattle.std.proofs.lemmas.Bool.{cases_Bool, false≢true, false_from_ne_true}
+use Rattle.std.proofs.lemmas.List.{same_lists, length-replicate, get_or-replicate}
 use Rattle.std.proofs.lemmas.List.FromFn.{length-map-range_with_len, get_or-map-range_with_len}
-use Rattle.std.proofs.lemmas.List.Elements.{All-nil, All-cons, All-head, All-tail}
-use Rattle.std.proofs.lemmas.List.Folds.{map_fixed}
-use Rattle.std.proofs.lemmas.Option.{none-some}
+use Rattle.std.proofs.lemmas.List.Folds.{prefix_len-replicate}
 use Rattle.tc_units.specs.Sorted.{with_item}
-use Rattle.tc_units.proofs.SortedFacts.{map-with_item}
-use Rattle.range_bits.specs.Ranges.{with_places}
-use Rattle.range_bits.proofs.Placing.{length-with_places}
-use Rattle.huge_cache.specs.Cache.{Cache, with_huge}
-use Rattle.huge_cache.specs.Cache as cache
-use Rattle.huge_region.specs.Regions.{Region, Regions, spans, region_with, with_region, backed_at}
-use Rattle.page_heap.specs.Parts.{new_region, with_backed_region, given_flags}
-use Rattle.page_heap.specs.Moves.{AreOutside, IsEnding}
-use Rattle.page_heap.proofs.Rows.{within, within_yes, within_no}
-use Rattle.page_heap.proofs.Numbered.{numbered, same_numbered, numbered-each, length-each, numbered-set_same, numbered-set_other, numbered-with_places}
-use Rattle.page_heap.proofs.Frames.{same_region}
-use Rattle.page_heap.proofs.Steps.{same_cache}
-use Rattle.page_heap.proofs.InRegion.{enumerated}
+use Rattle.tc_units.specs.declared.spans.Run.{Run}
+use Rattle.tc_units.proofs.SortedFacts.{Contains-new, Contains-old, map-with_item}
+use Rattle.range_bits.specs.Ranges.{free_from}
+use Rattle.heap_rules.specs.Heap.{Heap, Hugepage, hugepage, untouched, each, is_used, used_from, region_row, reaches, run_at, with_run, is_free, is_free_backed, is_region, spans}
+use Rattle.heap_rules.specs.RegionRows.{RegionRow}
+use Rattle.heap_rules.specs.Choice.{region_row_of, run_choice}
+use Rattle.heap_rules.specs.New.{all_backed, region_page, run_page, with_region, with_new_region, in_region, in_new_region}
+use Rattle.heap_rules.specs.Sound.{IsHugepageOf, IsSound}
+use Rattle.heap_rules.specs.Laws.{IsGiven}
+use Rattle.heap_rules.proofs.Chosen.{AreFree, run_choice_free}
+use Rattle.heap_rules.proofs.Fits.{reaches_parts, spans_parts, spans_from}
+use Rattle.heap_rules.proofs.Live.{used_with_new}
+use Rattle.heap_rules.proofs.Places.{page_of}
+use Rattle.heap_rules.proofs.Regions.{runs_sound, kinds_inner, given_new_region}
+use Rattle.heap_rules.proofs.Remade.{remade}
+use Rattle.heap_rules.proofs.Routes.{free_not_region}
+use Rattle.huge_table.specs.Means.{Means}
+use Rattle.huge_table.specs.Runs.{HasPlaces}
+use Rattle.huge_table.specs.Table.{Table, IsSpan, reached_by}
+use Rattle.huge_cache.specs.Cache.{Cache, without_run}
+use Rattle.huge_region.specs.Regions as regions
+use Rattle.huge_region.specs.Regions.{Regions, region_with, with_changed, joined, start_in, unused, AreFreeIn}
+use Rattle.page_heap.specs.declared.heap.PageHeap.TheInside.{Inside}
+use Rattle.page_heap.specs.Inside.{heap_of, measured, measures, cache_of, regions_of, IsKept}
+use Rattle.page_heap.specs.Routes.{IsRouted}
+use Rattle.page_heap.proofs.Numbered.{same_numbered, numbered-each, length-each}
+use Rattle.page_heap.proofs.Steps.{came, measured-away}
+use Rattle.page_heap.proofs.Frames.{measured_none, measures_same, flags_run, same_cache}
+use Rattle.page_heap.proofs.InRegion.{region_no_filler, region_busy}
+use Rattle.page_heap.proofs.Filled.{free_not_filler}
+use Rattle.page_heap.proofs.Taken.{taken_free}
+use Rattle.page_heap.proofs.RegionRows.{region_found, region_missing, regions_changed}
+use Rattle.page_heap.proofs.Routed.{routed_with, free_none}
+use Rattle.page_heap.proofs.Results.{Results, fits_used, new_results}
 
-or_none : (a : Bool) → ((true && a) || false) ≡ a
-or_none true = refl
-or_none false = refl
+-- a range of which no page is used
+used_from-none : (runs : List Run) (first many : ℕ) → ((page : ℕ) → first ≤ page → page < first + many → is_used runs page ≡ false) → used_from runs first many ≡ replicate many false
+used_from-none runs first many none =
+    let len = length-map-range_with_len (is_used runs) first many in
+    same_lists _ _ (len ∙ sym (length-replicate many false))
+    (λ k d l.
+    let short : k < many = omega arith in
+    get_or-map-range_with_len (is_used runs) first many k (first + k) d short refl ∙ none (first + k) (omega arith) (omega arith) ∙ sym (get_or-replicate many k false d short))
 
-none_within : (s k : ℕ) → within s (s + 0) k ≡ false
-none_within s k = elim (cases_lt k s) [ inl before ↦ within_no s (s + 0) k (inl before) | inr from ↦ within_no s (s + 0) k (inr (omega arith)) ]
+each_each : (f g : ℕ → Hugepage → Hugepage) (xs : List Hugepage) → each (λ h x. f h (g h x)) xs ≡ each f (each g xs)
+each_each f g xs =
+    let both : ℕ → Hugepage → Hugepage = λ h x. f h (g h x) in
+    let a = length-each both xs in
+    let b = length-each g xs in
+    same_numbered untouched (each both xs) (each f (each g xs)) (a ∙ sym b ∙ sym (length-each f (each g xs)))
+    (λ h some l.
+    numbered-each both xs h untouched untouched some (omega arith)
+    ∙ ap (f h) (sym (numbered-each g xs h untouched untouched some (omega arith)))
+    ∙ sym (numbered-each f (each g xs) h untouched untouched some (omega arith)))
 
--- where a search finds nothing, no element passes
-find_none : {X : Type 0} (p : X → Bool) (xs : List X) → find p xs ≡ None → All (λ x. p x ≡ false) xs
-find_none p [] e = All-nil (λ x. p x ≡ false)
-find_none p (x ∷ xs) e = elim (cases_Bool (p x)) [
-  | inl t ↦ absurd (none-some x (sym e ∙ ap (λ b. cond b (Some x) (find p xs)) t))
-  | inr n ↦ All-cons (λ y. p y ≡ false) x xs n (find_none p xs (sym (ap (λ b. cond b (Some x) (find p xs)) n) ∙ e))
-]
+pub record IsOpening (old : Inside) (n r page : ℕ) : Type 0 where
+  pub span : IsSpan old.table r old.config.region is_free
+  pub low : 0 < r
+  pub high : r + old.regions.width ≤ old.regions.huge + 1
+  pub none : (h : ℕ) → r ≤ h → h < r + old.regions.width → region_with old.regions h ≡ None
+  pub fits : old.used + n < 2 ^ 64
+  pub reached : (u : Table) → Means u (with_new_region (heap_of old) r) → IsSpan u (page / 256) (reached_by page n) is_region
+  pub row : RegionRow
+  pub free : AreFreeIn (regions.with_region old.regions r) page n row
+  pub room : old.config.region ≤ free_from old.cache.taken (r - 1)
 
--- a search finds an element that is added, where no other passes
-find-with_item : {X : Type 0} (key : X → ℕ) (p : X → Bool) (x : X) (xs : List X) → p x ≡ true → All (λ y. p y ≡ false) xs → find p (with_item key x xs) ≡ Some x
-find-with_item key p x [] t none = ap (λ b. cond b (Some x) None) t
-find-with_item key p x (y ∷ ys) t none =
-    elim (nat_lt (key x) (key y)) as (λ b. find p (cond b (x ∷ y ∷ ys) (y ∷ with_item key x ys)) ≡ Some x) [
-      | true ↦ ap (λ b. cond b (Some x) (find p (y ∷ ys))) t
-      | false ↦ ap (λ b. cond b (Some y) (find p (with_item key x ys))) (All-head (λ z. p z ≡ false) y ys none) ∙ find-with_item key p x ys t (All-tail (λ z. p z ≡ false) y ys none)
-    ]
+module _ (old : Inside) (kept : IsKept old) (n r : ℕ) (some : 0 < n) (fits : n ≤ 256 * old.config.region) (choice : run_choice (heap_of old) old.config.region ≡ Some r) where
+  abbrev heap : Heap
+  heap = heap_of old
 
--- New regions whose flags agree.
-flags_agree : (all : Regions) (first : ℕ) (f g : ℕ → Bool) → ((k : ℕ) → k < all.width → f (first + k) ≡ g (first + k)) → with_backed_region all first f ≡ with_backed_region all first g
-flags_agree all first f g same =
-    let len = length-map-range_with_len f first all.width in
-    let len' = length-map-range_with_len g first all.width in
-    ap (λ (bs : List Bool). record all { regions = with_item (λ (r : Region). r.first) (record { first = first; used = replicate (256 * all.width) false; allocs = replicate all.width 0; backed = bs }) all.regions })
-    (same_lists (map f (range_with_len first all.width)) (map g (range_with_len first all.width)) (len ∙ sym len')
-    (λ k d l. (let short : k < all.width = omega arith in get_or-map-range_with_len f first all.width k (first + k) d short refl ∙ same k short ∙ sym (get_or-map-range_with_len g first all.width k (first + k) d short refl))))
+  abbrev width : ℕ
+  width = old.config.region
 
--- the flags of the first k hugepages of a new region
-abbrev pub flags_upto : Cache → ℕ → ℕ → ℕ → Bool
-flags_upto c first k h = nat_lt h (first + k) && cache.is_backed c h
+  sound : IsSound heap
+  sound = kept.well.sound
 
-module _ (all : Regions) (c : Cache) (first width : ℕ) (are : AreOutside all c first width) where
-  pub opens_unbacked : with_region all first ≡ with_backed_region all first (flags_upto c first 0)
-  opens_unbacked =
-      let len = length-map-range_with_len (flags_upto c first 0) first all.width in
-      ap (λ (bs : List Bool). record all { regions = with_item (λ (r : Region). r.first) (record { first = first; used = replicate (256 * all.width) false; allocs = replicate all.width 0; backed = bs }) all.regions })
-      (same_lists (replicate all.width false) (map (flags_upto c first 0) (range_with_len first all.width)) (length-replicate all.width false ∙ sym len)
-      (λ k d l.
-      (let short : k < all.width = omega (arith, length-replicate all.width false) in
-      get_or-replicate all.width k false d short ∙ sym (get_or-map-range_with_len (flags_upto c first 0) first all.width k (first + k) d short refl ∙ and_left _ _ (le-ltb (first + k) (first + 0) (omega arith))))))
+  wide : 0 < width
+  wide = omega (arith, kept.well.limits.region_from)
 
-  none_spans : (h : ℕ) → first ≤ h → h < first + width → All (λ (x : Region). spans all.width h x ≡ false) all.regions
-  none_spans h a b = find_none (spans all.width h) all.regions (are.none h a b)
+  are : AreFree heap r width
+  are = run_choice_free heap width r wide choice
 
-  pub new_found : (flag : ℕ → Bool) (h : ℕ) → first ≤ h → h < first + width → region_with (with_backed_region all first flag) h ≡ Some (new_region all.width first flag)
-  new_found flag h a b = find-with_item (λ (x : Region). x.first) (spans all.width h) (new_region all.width first flag) all.regions (and_from _ _ (le-leb first h a) (lt-ltb h (first + all.width) (omega (arith, are.wide)))) (none_spans h a b)
+  given : IsGiven heap n (in_new_region heap n r)
+  given = given_new_region heap r sound are n some fits
 
-  -- one more is backed
-  pub backs_more : (k : ℕ) → k < width → cache.is_backed c (first + k) ≡ true → backed_at (with_backed_region all first (flags_upto c first k)) (first + k) (region_with (with_backed_region all first (flags_upto c first k)) (first + k)) ≡ with_backed_region all first (flags_upto c first (k + 1))
-  backs_more k short e =
-      let now : Regions = with_backed_region all first (flags_upto c first k) in
-      let h : ℕ = first + k in
-      let change : Region → Region = λ x. record { first = x.first; used = x.used; allocs = x.allocs; backed = map (λ p. p.1 || p.0 == h) (enumerate_from x.first x.backed) } in
-      let g : Region → Region = λ x. cond (x.first == first) (change x) x in
-      let keeps : (x : Region) → (g x).first ≡ x.first = λ x. elim (x.first == first) as (λ b. (cond b (change x) x).first ≡ x.first) [ true ↦ refl | false ↦ refl ] in
-      let one = new_region all.width first (flags_upto c first k) in
-      ap (backed_at now h) (new_found (flags_upto c first k) h (omega arith) (omega arith))
-      ∙ ap (λ (rs : List Region). record all { regions = rs })
-      (map-with_item g (λ (x : Region). x.first) (λ (x : Region). x.first) one all.regions (keeps one) (λ j d l. keeps (get_or all.regions j d))
-      ∙ ap (λ rs. with_item (λ (x : Region). x.first) (g one) rs)
-      (map_fixed g all.regions
-      (λ j d l.
-      (let x = get_or all.regions j d in
-      let miss = none_spans first (omega arith) (omega arith) j d l in
-      ap (λ b. cond b (change x) x) (ne_eqb x.first first (λ same. false≢true (sym miss ∙ and_from _ _ (le-leb x.first first (omega arith)) (lt-ltb first (x.first + all.width) (omega (arith, are.wide, are.some)))))))))
-      ∙ ap (λ x. with_item (λ (x : Region). x.first) x all.regions)
-      (ap (λ b. cond b (change one) one) (eq-eqb first first refl)
-      ∙ same_region (change one) (new_region all.width first (flags_upto c first (k + 1))) refl refl refl
-      (enumerated (λ p. p.1 || p.0 == h) (flags_upto c first k) (flags_upto c first (k + 1)) first first all.width
-      (λ j l. elim (cases_lt j k) [
-        | inl below ↦
-            ap (λ b. (b && cache.is_backed c (first + j)) || (first + j == h)) (lt-ltb (first + j) (first + k) (omega arith))
-            ∙ ap (λ b. (true && cache.is_backed c (first + j)) || b) (ne_eqb (first + j) h (λ z. omega arith))
-            ∙ or_none (cache.is_backed c (first + j))
-            ∙ ap (λ b. b && cache.is_backed c (first + j)) (sym (lt-ltb (first + j) (first + (k + 1)) (omega arith)))
-        | inr from ↦ elim (cases_eq j k) [
-          | inl same ↦
-              or_right _ _ (eq-eqb (first + j) h (omega arith))
-              ∙ sym (and_from _ _ (lt-ltb (first + j) (first + (k + 1)) (omega arith)) (ap (λ i. cache.is_backed c (first + i)) same ∙ e))
-          | inr other ↦
-              ap (λ b. (b && cache.is_backed c (first + j)) || (first + j == h)) (le-ltb (first + j) (first + k) (omega arith))
-              ∙ ap (λ b. (false && cache.is_backed c (first + j)) || b) (ne_eqb (first + j) h (λ z. other (omega arith)))
-              ∙ ap (λ b. b && cache.is_backed c (first + j)) (sym (le-ltb (first + j) (first + (k + 1)) (omega arith)))
-        ]
-      ]))))
+  abbrev run : Run
+  run = run_at (256 * r) n
 
-  -- or isn't
-  pub backs_not : (k : ℕ) → cache.is_backed c (first + k) ≡ false → with_backed_region all first (flags_upto c first k) ≡ with_backed_region all first (flags_upto c first (k + 1))
-  backs_not k e =
-      flags_agree all first (flags_upto c first k) (flags_upto c first (k + 1))
-      (λ j l. elim (cases_lt j k) [
-        | inl below ↦ ap (λ b. b && cache.is_backed c (first + j)) (lt-ltb (first + j) (first + k) (omega arith) ∙ sym (lt-ltb (first + j) (first + (k + 1)) (omega arith)))
-        | inr from ↦ elim (cases_eq j k) [
-          | inl same ↦ (let off : cache.is_backed c (first + j) ≡ false = ap (λ i. cache.is_backed c (first + i)) same ∙ e in and_right _ _ off ∙ sym (and_right _ _ off))
-          | inr other ↦ ap (λ b. b && cache.is_backed c (first + j)) (le-ltb (first + j) (first + k) (omega arith) ∙ sym (le-ltb (first + j) (first + (k + 1)) (omega arith)))
-        ]
+  abbrev rest : List Run
+  rest = with_run run heap.runs
+
+  abbrev regions' : List ℕ
+  regions' = with_region r heap.regions
+
+  abbrev g : ℕ → Hugepage → Hugepage
+  g h x = cond (spans width h r) (region_page x) x
+
+  abbrev f : ℕ → Hugepage → Hugepage
+  f h x = cond (reaches h run) (all_backed x) x
+
+  abbrev both : ℕ → Hugepage → Hugepage
+  both h x = f h (g h x)
+
+  abbrev between : Heap
+  between = with_new_region heap r
+
+  abbrev after : Heap
+  after = (in_new_region heap n r).heap
+
+  same : remade heap rest regions' both heap.counts ≡ after
+  same = ap (λ (xs : List Hugepage). record heap { runs = rest; regions = regions'; hugepages = xs }) (each_each f g heap.hugepages)
+
+  own : (h : ℕ) → spans width h r ≡ true → IsHugepageOf heap.config.huge h
+  own h e = let parts = spans_parts width h r e in let arena = sound.runs.arena in record { from = omega (arith, are.from); to = omega (arith, are.to) }
+
+  free_there : (h : ℕ) → spans width h r ≡ true → is_free (hugepage heap h) ≡ true
+  free_there h e = let parts = spans_parts width h r e in are.free h parts.0 parts.1
+
+  inner : (h : ℕ) (x : Hugepage) → spans width h r ≡ true → is_region (both h x) ≡ true
+  inner h x e = ap (λ b. is_region (f h (cond b (region_page x) x))) e ∙ (elim (reaches h run) as (λ b. is_region (cond b (all_backed (region_page x)) (region_page x)) ≡ true) [ true ↦ refl | false ↦ refl ])
+
+  away : (h : ℕ) → spans width h r ≡ false → reaches h run ≡ false
+  away h e = false_from_ne_true (reaches h run) (λ t. (let parts = reaches_parts h run t in false≢true (sym e ∙ spans_from width h r (omega arith) (omega arith))))
+
+  outer : (h : ℕ) (x : Hugepage) → spans width h r ≡ false → both h x ≡ x
+  outer h x e = ap (λ b. f h (cond b (region_page x) x)) e ∙ ap (λ b. cond b (all_backed x) x) (away h e)
+
+  filler_is : measures heap ≡ measures after
+  filler_is = subst (λ (all : Heap). measures heap ≡ measures all) same
+      (measures_same heap rest regions' both heap.counts sound.runs
+      (λ h is. (let x = hugepage heap h in elim (cases_Bool (spans width h r)) [
+        | inl t ↦ measured_none heap.runs h x (free_not_filler x (free_there h t)) ∙ sym (measured_none rest h (both h x) (region_no_filler (both h x) (inner h x t)))
+        | inr n' ↦ sym (measured-away heap.runs rest run (came run heap.runs) h (away h n') x) ∙ ap (measured rest h) (sym (outer h x n'))
+      ])))
+
+  flag : (p : Hugepage → Bool) → ((x : Hugepage) → is_region x ≡ true → p x ≡ true) → (h : ℕ) → cond (spans width h r) true (p (hugepage heap h)) ≡ p (both h (hugepage heap h))
+  flag p busy h = (let x = hugepage heap h in elim (cases_Bool (spans width h r)) [
+    | inl t ↦ ap (λ b. cond b true (p x)) t ∙ sym (busy (both h x) (inner h x t))
+    | inr n' ↦ ap (λ b. cond b true (p x)) n' ∙ ap p (sym (outer h x n'))
+  ])
+
+  cache_is : without_run (cache_of heap) r width ≡ cache_of after
+  cache_is = subst (λ (all : Heap). without_run (cache_of heap) r width ≡ cache_of all) same
+      (same_cache (without_run (cache_of heap) r width) _ _
+      (flags_run heap rest regions' both heap.counts sound.runs (λ x. not (is_free x)) r width true are.from are.to (λ h is. flag (λ x. not (is_free x)) (λ x e. ap not (region_busy x e)) h))
+      (flags_run heap rest regions' both heap.counts sound.runs (λ x. not (is_free_backed x)) r width true are.from are.to (λ h is. flag (λ x. not (is_free_backed x)) (λ x e. ap (λ b. not (b && list_all (λ c. c) x.backed)) (region_busy x e)) h)))
+
+  -- the new region's pages are unused
+  row_is : region_row heap.runs width r ≡ replicate (256 * width) false
+  row_is = used_from-none heap.runs (256 * r) (256 * width) (λ page a b. (let h : ℕ = page / 256 in let e = spans_from width h r (omega arith) (omega arith) in free_none heap h sound (own h e) (free_there h e) page (page_of page)))
+
+  opened_is : regions.with_region (regions_of heap) r ≡ regions_of between
+  opened_is =
+      ap (λ (rows : List RegionRow). record (regions_of heap) { rows = rows })
+      (ap (λ (row : List Bool). with_item (λ (x : RegionRow). x.first) (record { first = r; used = row }) (map (region_row_of heap) heap.regions)) (sym row_is)
+      ∙ sym (map-with_item (region_row_of heap) (λ (k : ℕ). k) (λ (x : RegionRow). x.first) r heap.regions refl (λ k d l. refl)))
+
+  known : Contains regions' r
+  known = Contains-new (λ (k : ℕ). k) r heap.regions
+
+  apart : (h : ℕ) → count_by (spans width h) regions' ≤ 1
+  apart = (runs_sound heap r sound are).apart
+
+  opened_now : regions.with_region old.regions r ≡ regions_of between
+  opened_now = ap (λ (all : Regions). regions.with_region all r) kept.shows.regions ∙ opened_is
+
+  there : region_with (regions.with_region old.regions r) (256 * r / 256) ≡ Some (region_row_of between r)
+  there = ap (λ (all : Regions). region_with all (256 * r / 256)) opened_now ∙ region_found between r (256 * r / 256) (apart (256 * r / 256)) known (spans_from width (256 * r / 256) r (omega arith) (omega arith))
+
+  opened_at : IsOpening old n r (256 * r)
+  opened_at =
+      let arena = sound.runs.arena in
+      let huge : old.regions.huge ≡ old.config.huge = ap (λ (all : Regions). all.huge) kept.shows.regions in
+      let wide_is : old.regions.width ≡ width = ap (λ (all : Regions). all.width) kept.shows.regions in
+      record {
+        span = record { from = are.from; to = omega (arith, are.to); all = are.free };
+        low = are.from;
+        high = omega (arith, are.to);
+        none = λ h a b. ap (λ (all : Regions). region_with all h) kept.shows.regions ∙ region_missing heap h sound (false_from_ne_true _ (λ t. free_not_region (hugepage heap h) (are.free h a (omega arith)) t));
+        fits = fits_used old kept n (in_new_region heap n r) some given;
+        reached = λ u means.
+            (let size = ap (λ (xs : List Hugepage). length xs) means.pages ∙ length-each g heap.hugepages in
+            record {
+              from = omega (arith, are.from);
+              to = omega (arith, are.to);
+              all = λ h a b. (let e = spans_from width h r (omega arith) (omega arith) in ap (λ (xs : List Hugepage). is_region (hugepage (record heap { hugepages = xs }) h)) means.pages ∙ kinds_inner heap r sound are h (own h e) e);
+            });
+        row = region_row_of between r;
+        free = record {
+          row = there;
+          free = (let none : 256 * r - 256 * r ≡ 0 = omega arith in let all = prefix_len-replicate not (256 * width) false refl in subst (λ (row : List Bool). n ≤ free_from row (256 * r - 256 * r)) (sym row_is) (subst (λ k. n ≤ free_from (replicate (256 * width) false) k) (sym none) (omega arith)));
+        };
+        room = taken_free old kept (256 * width) r width (record { some = omega (arith, wide); fits = omega arith; tight = omega arith }) choice (λ k. run_page) (λ k. refl);
+      }
+
+  -- what the calls ask on the way
+  pub opening : (page : ℕ) → page ≡ 256 * r → IsOpening old n r page
+  opening page e = subst (IsOpening old n r) (sym e) opened_at
+
+  routed : (z : Run) → Contains after.runs z → IsRouted after z
+  routed = subst (λ (all : Heap). (z : Run) → Contains all.runs z → IsRouted all z) same
+      (routed_with heap rest regions' both heap.counts run sound kept.well.routed
+      (λ s has. Contains-old (λ (k : ℕ). k) r heap.regions s has)
+      (λ h is. elim (cases_Bool (spans width h r)) [
+        | inl t ↦ inl (free_there h t)
+        | inr n' ↦ inr (ap (λ (x : Hugepage). x.kind) (outer h (hugepage heap h) n'))
       ])
+      (inr (inr (record { region = r; known = known; from = omega arith; to = omega arith }))))
 
-  pub backs_all : with_backed_region all first (flags_upto c first width) ≡ with_backed_region all first (cache.is_backed c)
-  backs_all = flags_agree all first (flags_upto c first width) (cache.is_backed c) (λ j l. ap (λ b. b && cache.is_backed c (first + j)) (lt-ltb (first + j) (first + width) (omega (arith, are.wide))))
+  abbrev pub Keeps : ℕ → Type 0
+  Keeps page = (t : Inside) → t.config ≡ old.config → Means t.table (in_region between n page).heap → HasPlaces t.table → t.filler ≡ old.filler → t.cache ≡ without_run old.cache r width → ((row : RegionRow) → region_with (regions.with_region old.regions r) (page / 256) ≡ Some row → t.regions ≡ with_changed (regions.with_region old.regions r) row.first (joined (start_in row page) n)) → t.used ≡ old.used + n → Results t after
 
--- A region ends.
-module _ (all : Regions) (c : Cache) (first width : ℕ) (is : IsEnding all c first width) (flag : ℕ → Bool) where
-  abbrev taken_upto : ℕ → List Bool
-  taken_upto k = with_places c.taken (first - 1) k false
-
-  abbrev mark : ℕ → ℕ → Bool → Bool
-  mark k h b = cond (within first (first + k) h) (not (flag h)) b
-
-  fits : (k : ℕ) → k ≤ width → first - 1 + k ≤ length c.taken
-  fits k l = omega (arith, is.high, is.low)
-
-  pub gives_none : given_flags c first 0 flag ≡ c
-  gives_none =
-      sym (same_cache c (given_flags c first 0 flag).taken (given_flags c first 0 flag).unready
-      (same_numbered true c.taken (taken_upto 0) (sym (length-with_places c.taken (first - 1) 0 false (fits 0 (omega arith))))
-      (λ h some l. sym (numbered-with_places c.taken first 0 false h true some (fits 0 (omega arith)) ∙ ap (λ b. cond b false (numbered c.taken h true)) (none_within (first - 1) (h - 1)))))
-      (same_numbered true c.unready _ (sym (length-each (mark 0) c.unready))
-      (λ h some l. sym (numbered-each (mark 0) c.unready h true true some l ∙ ap (λ b. cond b (not (flag h)) (numbered c.unready h true)) (none_within first h)))))
-
-  -- the next one isn't free yet
-  pub next_out : (k : ℕ) → k < width → cache.holds (given_flags c first k flag) (first + k) ≡ false
-  next_out k l =
-      let from = is.low in
-      ap not (numbered-with_places c.taken first k false (first + k) true (omega arith) (fits k (omega arith)) ∙ ap (λ b. cond b false (numbered c.taken (first + k) true)) (within_no (first - 1) (first - 1 + k) (first + k - 1) (inr (omega arith))))
-      ∙ is.out (first + k) (omega arith) (omega arith)
-
-  pub length-given : (k : ℕ) → k ≤ width → length (given_flags c first k flag).taken ≡ length c.taken
-  length-given k l = length-with_places c.taken (first - 1) k false (fits k l)
-
-  -- one more is free
-  pub gives_more : (k : ℕ) → k < width → with_huge (given_flags c first k flag) (first + k) (flag (first + k)) ≡ given_flags c first (k + 1) flag
-  gives_more k short =
-      let from = is.low in
-      let now : Cache = given_flags c first k flag in
-      let len = length-with_places c.taken (first - 1) k false (fits k (omega arith)) in
-      let len' = length-with_places c.taken (first - 1) (k + 1) false (fits (k + 1) (omega arith)) in
-      let size = length-each (mark k) c.unready in
-      let size' = length-each (mark (k + 1)) c.unready in
-      same_cache (with_huge now (first + k) (flag (first + k))) (given_flags c first (k + 1) flag).taken (given_flags c first (k + 1) flag).unready
-      (same_numbered true (set (taken_upto k) (first + k - 1) false) (taken_upto (k + 1)) (length-set (taken_upto k) (first + k - 1) false ∙ len ∙ sym len')
-      (λ h some l.
-      (let right : (t : Bool) → within (first - 1) (first - 1 + (k + 1)) (h - 1) ≡ t → numbered (taken_upto (k + 1)) h true ≡ cond t false (numbered c.taken h true) = λ t e. numbered-with_places c.taken first (k + 1) false h true some (fits (k + 1) (omega arith)) ∙ ap (λ b. cond b false (numbered c.taken h true)) e in
-      let left : (t : Bool) → h ≢ first + k → within (first - 1) (first - 1 + k) (h - 1) ≡ t → numbered (set (taken_upto k) (first + k - 1) false) h true ≡ cond t false (numbered c.taken h true) = λ t ne e. numbered-set_other (taken_upto k) (first + k) h false true (omega arith) some ne ∙ numbered-with_places c.taken first k false h true some (fits k (omega arith)) ∙ ap (λ b. cond b false (numbered c.taken h true)) e in
-      elim (cases_eq h (first + k)) [
-        | inl same ↦ subst (λ i. numbered (set (taken_upto k) (first + k - 1) false) i true ≡ false) (sym same) (numbered-set_same (taken_upto k) (first + k) false true (omega arith) (omega (arith, len, fits (k + 1) (omega arith)))) ∙ sym (right true (within_yes (first - 1) (first - 1 + (k + 1)) (h - 1) (omega arith) (omega arith)))
-        | inr other ↦ elim (cases_lt h first) [
-          | inl before ↦ left false other (within_no (first - 1) (first - 1 + k) (h - 1) (inl (omega arith))) ∙ sym (right false (within_no (first - 1) (first - 1 + (k + 1)) (h - 1) (inl (omega arith))))
-          | inr late ↦ elim (cases_lt h (first + k)) [
-            | inl in' ↦ left true other (within_yes (first - 1) (first - 1 + k) (h - 1) (omega arith) (omega arith)) ∙ sym (right true (within_yes (first - 1) (first - 1 + (k + 1)) (h - 1) (omega arith) (omega arith)))
-            | inr past ↦ left false other (within_no (first - 1) (first - 1 + k) (h - 1) (inr (omega arith))) ∙ sym (right false (within_no (first - 1) (first - 1 + (k + 1)) (h - 1) (inr (omega (arith, other)))))
-          ]
-        ]
-      ])))
-      (same_numbered true (set now.unready (first + k - 1) (not (flag (first + k)))) (given_flags c first (k + 1) flag).unready (length-set now.unready (first + k - 1) (not (flag (first + k))) ∙ size ∙ sym size')
-      (λ h some l.
-      (let in' : h ≤ length c.unready = omega (arith, l, length-set now.unready (first + k - 1) (not (flag (first + k))), size) in
-      let right : (t : Bool) → within first (first + (k + 1)) h ≡ t → numbered (given_flags c first (k + 1) flag).unready h true ≡ cond t (not (flag h)) (numbered c.unready h true) = λ t e. numbered-each (mark (k + 1)) c.unready h true true some in' ∙ ap (λ b. cond b (not (flag h)) (numbered c.unready h true)) e in
-      let left : (t : Bool) → h ≢ first + k → within first (first + k) h ≡ t → numbered (set now.unready (first + k - 1) (not (flag (first + k)))) h true ≡ cond t (not (flag h)) (numbered c.unready h true) = λ t ne e. numbered-set_other now.unready (first + k) h (not (flag (first + k))) true (omega arith) some ne ∙ numbered-each (mark k) c.unready h true true some in' ∙ ap (λ b. cond b (not (flag h)) (numbered c.unready h true)) e in
-      elim (cases_eq h (first + k)) [
-        | inl same ↦ subst (λ i. numbered (set now.unready (first + k - 1) (not (flag (first + k)))) i true ≡ not (flag i)) (sym same) (numbered-set_same now.unready (first + k) (not (flag (first + k))) true (omega arith) (omega (arith, size, is.same, fits (k + 1) (omega arith)))) ∙ sym (right true (within_yes first (first + (k + 1)) h (omega arith) (omega arith)))
-        | inr other ↦ elim (cases_lt h first) [
-          | inl before ↦ left false other (within_no first (first + k) h (inl before)) ∙ sym (right false (within_no first (first + (k + 1)) h (inl before)))
-          | inr late ↦ elim (cases_lt h (first + k)) [
-            | inl in'' ↦ left true other (within_yes first (first + k) h late in'') ∙ sym (right true (within_yes first (first + (k + 1)) h late (omega arith)))
-            | inr past ↦ left false other (within_no first (first + k) h (inr past)) ∙ sym (right false (within_no first (first + (k + 1)) h (inr (omega (arith, other)))))
-          ]
-        ]
-      ])))
+  pub opening_keeps : (page : ℕ) → page ≡ 256 * r → Keeps page
+  opening_keeps page e = subst Keeps (sym e) (λ t config means places filler cache changed used.
+      new_results old kept n (in_new_region heap n r) some given routed t config means places
+      (filler ∙ kept.shows.filler ∙ filler_is)
+      (cache ∙ ap (λ (c : Cache). without_run c r width) kept.shows.cache ∙ cache_is)
+      (changed (region_row_of between r) there
+      ∙ ap (λ (all : Regions). with_changed all r (joined (256 * r - 256 * r) n)) opened_now
+      ∙ regions_changed between rest after.hugepages run true (came run heap.runs) (λ p held. used_with_new run heap.runs p held) r apart known (omega arith) (omega arith) wide)
+      used)

@@ -1,7 +1,7 @@
 -- By which route a live run was placed stays true of it while others come and go.
-use Rattle.std.proofs.Common.{◌≡◌, ℕ, ◌+◌, ◌*◌, ◌/◌, ◌<◌, ◌≤◌, ◌⊎◌, ◌==◌, true, false, not, ◌&&◌, cond, List, get_or, All, Contains, refl, ap, subst, ◌∙◌, inl, inr, arith}
+use Rattle.std.proofs.Common.{◌≡◌, ℕ, ◌+◌, ◌*◌, ◌/◌, ◌<◌, ◌≤◌, ◌⊎◌, ◌==◌, true, false, not, ◌&&◌, cond, max, List, get_or, All, Contains, refl, sym, ap, subst, ◌∙◌, inl, inr, arith}
 use Rattle.std.specs.List.{list_any}
-use Rattle.std.proofs.lemmas.Bool.{cases_Bool, ne_eqb, and_parts, not-true}
+use Rattle.std.proofs.lemmas.Bool.{cases_Bool, ne_eqb, and_parts, not-true, false≢true}
 use Rattle.std.proofs.lemmas.List.Elements.{All-contains, All-filter, Contains-get_or}
 use Rattle.tc_units.specs.declared.spans.Run.{Run}
 use Rattle.tc_units.specs.declared.rows.RowKind.{RowKind}
@@ -13,24 +13,29 @@ use Rattle.heap_rules.specs.Free.{left, left_by, emptied, used_regions, given_ba
 use Rattle.heap_rules.specs.Sound.{IsInside, IsHugepageOf, HasNoUsed, IsRegion, AreRunsSound, IsSound}
 use Rattle.heap_rules.proofs.Live.{Contains-filter, counts_used}
 use Rattle.heap_rules.proofs.Places.{at}
-use Rattle.heap_rules.proofs.Fits.{holds_from, reaches_parts, reaches_from, serves_at, is_Region}
+use Rattle.heap_rules.proofs.Fits.{holds_from, reaches_parts, reaches_from, serves_at, is_Free, is_Region}
 use Rattle.heap_rules.proofs.Remade.{remade, here}
 use Rattle.heap_rules.proofs.Left.{fewer, own_run, left_runs, left_kinds}
 use Rattle.heap_rules.proofs.Ended.{none_kept, range_used}
-use Rattle.page_heap.specs.Parts.{IsRouted}
-use Rattle.page_heap.proofs.Steps.{no_allocs}
-use Rattle.page_heap.proofs.Fresh.{free_none}
-use Rattle.page_heap.proofs.Ends.{has_used}
+use Rattle.huge_table.specs.Means.{has_used}
+use Rattle.page_heap.specs.Routes.{IsRouted}
 
 -- a hugepage that a live run reaches has a run
 reached_some : (runs : List Run) (z : Run) (h : ℕ) → Contains runs z → reaches h z ≡ true → 0 < allocation_count runs h
 reached_some runs z h live e = let at : get_or runs live.0 z ≡ z = live.2 in count_some (reaches h) runs live.0 z live.1 (ap (reaches h) at ∙ e)
 
 pub no_run_there : (huge : ℕ) (runs : List Run) (z : Run) (h : ℕ) → All (IsInside huge) runs → Contains runs z → reaches h z ≡ true → HasNoUsed runs h → ⊥
-no_run_there huge runs z h inside live e none = contradict _ (reached_some runs z h live e) (no_allocs huge runs h inside none)
-  where
-    contradict : (n : ℕ) → 0 < n → n ≡ 0 → ⊥
-    contradict n a b = omega arith
+no_run_there huge runs z h inside live e none =
+    let is : IsInside huge z = All-contains (IsInside huge) runs z inside live in
+    let parts = reaches_parts h z e in
+    let p : ℕ = max z.first.0 (256 * h) in
+    let held : holds p z ≡ true = holds_from p z (omega arith) (omega (arith, is.some)) in
+    let there : get_or runs live.0 z ≡ z = live.2 in
+    false≢true (sym (none p (record { from = omega arith; to = omega arith })) ∙ counts_used runs p (count_some (holds p) runs live.0 z live.1 (ap (holds p) there ∙ held)))
+
+-- a free hugepage has no used page
+pub free_none : (heap : Heap) (h : ℕ) → IsSound heap → IsHugepageOf heap.config.huge h → is_free (hugepage heap h) ≡ true → HasNoUsed heap.runs h
+free_none heap h sound is free = (serves_at heap.runs heap.regions heap.config.region h (hugepage heap h) kind.Free (is_Free (hugepage heap h).kind free) (sound.runs.fit h is)).0
 
 -- A route stays where the hugepages that the run reaches keep their kinds, and its region stays.
 pub route_kept : (heap : Heap) (runs : List Run) (regions : List ℕ) (hugepages : List Hugepage) (counts : List ℕ) (z : Run) → 0 < z.pages → IsRouted heap z → ((h : ℕ) → reaches h z ≡ true → (at hugepages h).kind ≡ (hugepage heap h).kind) → ((r : ℕ) → Contains heap.regions r → 256 * r ≤ z.first.0 → z.first.0 + z.pages ≤ 256 * (r + heap.config.region) → Contains regions r) → IsRouted (record heap { runs = runs; regions = regions; hugepages = hugepages; counts = counts }) z

@@ -1,120 +1,119 @@
--- A run that comes or leaves: the parts that it leaves as they are.
-use Rattle.std.proofs.Common.{◌≡◌, ℕ, ◌+◌, ◌*◌, ◌/◌, ◌<◌, ◌≤◌, ◌==◌, Bool, true, false, cond, max, List, [], ◌∷◌, get_or, map, count_by, All, Contains, refl, sym, ap, subst, ◌∙◌, inl, inr, arith}
-use Rattle.std.specs.List.{list_all}
-use Rattle.std.proofs.lemmas.Bool.{cases_lt, cases_eq, eq-eqb, ne_eqb, false≢true, lt-ltb, false_from_ne_true}
-use Rattle.std.proofs.lemmas.List.Elements.{All-head, All-tail, All-contains, Contains-get_or}
+-- What one live run more or less leaves as it was.
+use Rattle.std.proofs.Common.{◌≡◌, ℕ, zero, suc, ◌+◌, ◌*◌, ◌<◌, ◌≤◌, ◌==◌, Bool, true, false, not, ◌&&◌, cond, nat_lt, List, [], ◌∷◌, length, get_or, map, filter, count_by, sum_by, Contains, Option, Some, None, refl, sym, ap, ◌∙◌, inl, inr, arith}
+use Rattle.std.specs.List.{list_any, range_with_len}
+use Rattle.std.proofs.lemmas.Bool.{cases_Bool, false≢true, false_from_ne_true, eqb-true, eq-eqb}
 use Rattle.std.proofs.lemmas.List.Folds.{Any-from_list_any}
+use Rattle.std.proofs.lemmas.List.Sums.{sum_by-cons}
 use Rattle.tc_units.specs.declared.spans.Run.{Run}
-use Rattle.tc_units.proofs.Counts.{any_is_count, count_some, one-true, one-false}
-use Rattle.heap_rules.specs.Heap.{Heap, Hugepage, hugepage, holds, reaches, with_run, allocation_count, is_region, spans}
-use Rattle.heap_rules.specs.Sound.{IsInside, IsHugepageOf, HasNoUsed, AreRunsSound, IsSound}
+use Rattle.tc_units.proofs.Counts.{count-cons, any_is_count, count_some, count_le, one-true, one-false}
+use Rattle.tc_units.proofs.SortedFacts.{without_none}
+use Rattle.heap_rules.specs.Heap.{Heap, Hugepage, tier, is_filler, backs, holds, is_used, reaches, used_from, used_row, allocation_count, pages_of, with_run, without_run}
+use Rattle.heap_rules.specs.Sound.{IsSound}
 use Rattle.heap_rules.proofs.Live.{count-with, counts_used}
-use Rattle.heap_rules.proofs.Fits.{holds_from, reaches_parts, unreached_unheld, spans_parts, spans_from}
-use Rattle.heap_rules.proofs.Remade.{remade}
-use Rattle.heap_rules.proofs.Left.{same_member}
-use Rattle.huge_cache.specs.Cache.{Cache}
-use Rattle.huge_region.specs.Regions.{Region, with_changed}
-use Rattle.page_heap.specs.Parts.{region_of, regions_of}
-use Rattle.page_heap.proofs.Rows.{with_differs, used_from-away}
-use Rattle.page_heap.proofs.Frames.{IsStep, region_same}
+use Rattle.heap_rules.proofs.Fits.{holds_from, unreached_unheld}
+use Rattle.heap_rules.proofs.Left.{count_rest}
+use Rattle.range_bits.specs.Ranges.{longest}
+use Rattle.huge_table.specs.Means.{begins_on}
+use Rattle.huge_filler.specs.declared.measures.Measures.{Measures}
+use Rattle.page_heap.specs.Inside.{spare_of, measured}
 
--- one run more
-pub with_step : (run : Run) (runs : List Run) → IsStep runs (with_run run runs) run true
-with_step run runs = record {
-  differs = with_differs run runs;
-  counts = λ h e. (let all = count-with (reaches h) run runs in let none = one-false (reaches h run) e in all ∙ none_more _ _ none);
-} where
-  none_more : (a b : ℕ) → a ≡ 0 → a + b ≡ b
-  none_more a b e = omega arith
+-- Other live runs, of which as many pass each test that the one run fails.
+pub record IsStep (runs rest : List Run) (run : Run) : Type 0 where
+  pub counts : (p : Run → Bool) → p run ≡ false → count_by p rest ≡ count_by p runs
 
-pub reached_more : (run : Run) (runs : List Run) (h : ℕ) → reaches h run ≡ true → allocation_count (with_run run runs) h ≡ allocation_count runs h + 1
-reached_more run runs h e = count-with (reaches h) run runs ∙ one_more _ _ (one-true (reaches h run) e)
-  where
-    one_more : (a b : ℕ) → a ≡ 1 → a + b ≡ b + 1
-    one_more a b e = omega arith
+none_more : (a b c : ℕ) → a ≡ b + c → b ≡ 0 → a ≡ c
+none_more a b c e z = omega arith
 
--- no run has a page where none is used
-pub no_allocs : (huge : ℕ) (runs : List Run) (h : ℕ) → All (IsInside huge) runs → HasNoUsed runs h → allocation_count runs h ≡ 0
-no_allocs huge runs h inside none = elim (cases_lt 0 (allocation_count runs h)) [
-  | inr few ↦ no_more _ few
-  | inl some ↦
-      (let any = Any-from_list_any (reaches h) runs (any_is_count (reaches h) runs ∙ lt-ltb 0 (count_by (reaches h) runs) some) in
-      let r = any.1 in
-      let is : IsInside huge r = All-contains (IsInside huge) runs r inside (any.0, any.2, any.3) in
-      let parts = reaches_parts h r any.4 in
-      let p : ℕ = max r.first.0 (256 * h) in
-      let held : holds p r ≡ true = holds_from p r (omega arith) (omega (arith, is.some, parts.1)) in
-      let at : get_or runs any.0 r ≡ r = any.3 in
-      absurd (false≢true (sym (none p (record { from = omega arith; to = omega (arith, parts.0) })) ∙ counts_used runs p (count_some (holds p) runs any.0 r any.2 (ap (holds p) at ∙ held)))))
-] where
-  no_more : (a : ℕ) → a ≤ 0 → a ≡ 0
-  no_more a h = omega arith
+pub came : (run : Run) (runs : List Run) → IsStep runs (with_run run runs) run
+came run runs = record { counts = λ p e. none_more _ _ _ (count-with p run runs) (one-false (p run) e) }
 
--- caches, by what changes
-pub same_cache : (c : Cache) (taken unready : List Bool) → c.taken ≡ taken → c.unready ≡ unready → c ≡ record c { taken = taken; unready = unready }
-same_cache c taken unready p q = ap (λ (t : List Bool). record c { taken = t }) p ∙ ap (λ (t : List Bool). record c { taken = taken; unready = t }) q
+none_less : (a b c : ℕ) → a + b ≡ c → b ≡ 0 → a ≡ c
+none_less a b c e z = omega arith
 
-pub map_same : {X Y : Type 0} (f g : X → Y) (xs : List X) → All (λ x. f x ≡ g x) xs → map f xs ≡ map g xs
-map_same f g [] h = refl
-map_same f g (x ∷ xs) h = let head : f x ≡ g x = All-head (λ y. f y ≡ g y) x xs h in let rest = map_same f g xs (All-tail (λ y. f y ≡ g y) x xs h) in rw (head, rest) refl
+pub went : (heap : Heap) (run : Run) → IsSound heap → Contains heap.runs run → IsStep heap.runs (without_run run heap.runs) run
+went heap run sound live = record { counts = λ p e. none_less _ _ _ (count_rest heap run sound live p) (one-false (p run) e) }
 
--- a region's place in the arena, with or without used pages
-pub record HasPlace (heap : Heap) (r : ℕ) : Type 0 where
-  pub from : 0 < r
-  pub to : r + heap.config.region ≤ heap.config.huge + 1
-  pub kinds : (h : ℕ) → spans heap.config.region h r ≡ true → is_region (hugepage heap h) ≡ true
+-- functions of the numbers of a range
+pub over_range : {X : Type 0} (f g : ℕ → X) (first many : ℕ) → ((k : ℕ) → first ≤ k → k < first + many → f k ≡ g k) → map f (range_with_len first many) ≡ map g (range_with_len first many)
+over_range f g first zero same = refl
+over_range f g first (suc n) same =
+    let head : f first ≡ g first = same first (omega arith) (omega arith) in
+    let rest = over_range f g (first + 1) n (λ k a b. same k (omega arith) (omega arith)) in
+    rw (head, rest) refl
 
-pub placed_regions : (heap : Heap) → IsSound heap → All (HasPlace heap) heap.regions
-placed_regions heap sound k d l = let is = sound.regions k d l in record { from = is.from; to = is.to; kinds = is.kinds }
+pub count-map : {X : Type 0} (f : X → Bool) (xs : List X) → count_by (λ b. b) (map f xs) ≡ count_by f xs
+count-map f [] = refl
+count-map f (x ∷ xs) = let a = count-cons (λ b. b) (f x) (map f xs) in let b = count-cons f x xs in let rest = count-map f xs in omega arith
 
-pub map-map : {X Y Z : Type 0} (g : Y → Z) (f : X → Y) (xs : List X) → map g (map f xs) ≡ map (λ x. g (f x)) xs
-map-map g f [] = refl
-map-map g f (x ∷ xs) = ap (λ ys. g (f x) ∷ ys) (map-map g f xs)
+module _ (runs rest : List Run) (run : Run) (step : IsStep runs rest run) where
+  pub used-away : (page : ℕ) → holds page run ≡ false → is_used rest page ≡ is_used runs page
+  used-away page e = any_is_count (holds page) rest ∙ ap (nat_lt 0) (step.counts (holds page) e) ∙ sym (any_is_count (holds page) runs)
 
-module _ (heap : Heap) (rest : List Run) (f : ℕ → Hugepage → Hugepage) (counts : List ℕ) (sound : AreRunsSound heap) where
-  abbrev after : Heap
-  after = remade heap rest heap.regions f counts
+  pub row-away : (first many : ℕ) → ((page : ℕ) → first ≤ page → page < first + many → holds page run ≡ false) → used_from rest first many ≡ used_from runs first many
+  row-away first many away = over_range (is_used rest) (is_used runs) first many (λ page a b. used-away page (away page a b))
 
-  -- the regions, where each stays
-  pub regions_same : All (λ r. region_of heap r ≡ region_of after r) heap.regions → regions_of heap ≡ regions_of after
-  regions_same same = ap (λ (rs : List Region). record (regions_of heap) { regions = rs }) (map_same (region_of heap) (region_of after) heap.regions same)
+  module _ (h : ℕ) (e : reaches h run ≡ false) where
+    unheld : (page : ℕ) → 256 * h ≤ page → page < 256 * h + 256 → holds page run ≡ false
+    unheld page a b = unreached_unheld h page run (record { from = a; to = b }) e
 
-  module _ (run : Run) (b : Bool) (step : IsStep heap.runs rest run b) (stays : (h : ℕ) (x : Hugepage) → reaches h run ≡ false → f h x ≡ x) where
-    -- a region of which the run reaches no hugepage
-    pub region_away : (r : ℕ) → HasPlace heap r → ((h : ℕ) → spans heap.config.region h r ≡ true → reaches h run ≡ false) → region_of heap r ≡ region_of after r
-    region_away r is out =
-        let width : ℕ = heap.config.region in
-        region_same heap rest heap.regions f counts sound r is.from is.to
-        (sym (used_from-away heap.runs rest run b step.differs (256 * r) (256 * width)
-        (λ j s. let h : ℕ = r + j / 256 in unreached_unheld h (256 * r + j) run (record { from = omega arith; to = omega arith }) (out h (spans_from width h r (omega arith) (omega arith))))))
-        (λ h e. sym (step.counts h (out h e)))
-        (λ h e. ap (λ (x : Hugepage). list_all (λ b. b) x.backed) (sym (stays h (hugepage heap h) (out h e))))
+    spare-away : (x : Hugepage) → spare_of rest h x ≡ spare_of runs h x
+    spare-away x =
+        sym (count-map (λ page. backs x page && not (is_used rest page)) (pages_of h))
+        ∙ ap (count_by (λ b. b)) (over_range (λ page. backs x page && not (is_used rest page)) (λ page. backs x page && not (is_used runs page)) (256 * h) 256 (λ page a b. ap (λ u. backs x page && not u) (used-away page (unheld page a b))))
+        ∙ count-map (λ page. backs x page && not (is_used runs page)) (pages_of h)
 
-    -- the regions, where the run reaches none of their hugepages
-    pub regions_away : All (HasPlace heap) heap.regions → ((h : ℕ) → IsHugepageOf heap.config.huge h → is_region (hugepage heap h) ≡ true → reaches h run ≡ false) → regions_of heap ≡ regions_of after
-    regions_away places away =
-        regions_same
-        (λ k d l.
-        let r = get_or heap.regions k d in
-        let is : HasPlace heap r = places k d l in
-        region_away r is
-        (λ h e. let parts = spans_parts heap.config.region h r e in away h (record { from = omega (arith, is.from); to = omega (arith, is.to) }) (is.kinds h e)))
+    pub measured-away : (x : Hugepage) → measured rest h x ≡ measured runs h x
+    measured-away x =
+        let made : List Bool → ℕ → ℕ → Option Measures = λ row allocs spare. cond (is_filler x) (Some (record { tier = tier x; longest = longest row; allocs = allocs; used = count_by (λ b. b) row; spare = spare; donated = x.donated })) None in
+        ap (λ row. made row (allocation_count rest h) (spare_of rest h x)) (row-away (256 * h) 256 unheld)
+        ∙ ap (λ n. made (used_row runs h) n (spare_of rest h x)) (step.counts (reaches h) e)
+        ∙ ap (made (used_row runs h) (allocation_count runs h)) (spare-away x)
 
-    -- the regions, where the run lies in one of them
-    pub regions_changed : (r : ℕ) (change : Region → Region) → All (HasPlace heap) heap.regions → Contains heap.regions r → ((h : ℕ) → reaches h run ≡ true → spans heap.config.region h r ≡ true) → change (region_of heap r) ≡ region_of after r → with_changed (regions_of heap) r change ≡ regions_of after
-    regions_changed r change places known own changed =
-        let g : Region → Region = λ x. cond (x.first == r) (change x) x in
-        ap (λ (rs : List Region). record (regions_of heap) { regions = rs })
-        (map-map g (region_of heap) heap.regions
-        ∙ map_same (λ s. g (region_of heap s)) (region_of after) heap.regions
-        (λ k d l.
-        (let s = get_or heap.regions k d in
-        let here : Contains heap.regions s = Contains-get_or heap.regions k d l in
-        elim (cases_eq s r) [
-          | inl same ↦
-              subst (λ i. g (region_of heap i) ≡ region_of after i) (sym same) (ap (λ b. cond b (change (region_of heap r)) (region_of heap r)) (eq-eqb r r refl) ∙ changed)
-          | inr other ↦
-              ap (λ b. cond b (change (region_of heap s)) (region_of heap s)) (ne_eqb s r other)
-              ∙ region_away s (places k d l)
-              (λ h e. false_from_ne_true (reaches h run) (λ t. other (same_member (spans heap.config.region h) heap.regions s r here known e (own h t) (sound.apart h))))
-        ])))
+-- the pages of all runs but one that begins where no other does
+pub sum_rest : {X : Type 0} (f : X → ℕ) (q : X → Bool) (xs : List X) (k : ℕ) (d : X) → k < length xs → q (get_or xs k d) ≡ true → count_by q xs ≤ 1 → sum_by f (filter (λ x. not (q x)) xs) + f (get_or xs k d) ≡ sum_by f xs
+sum_rest f q [] k d l t most = absurd (omega arith)
+sum_rest f q (x ∷ xs) zero d l t most =
+    let a = count-cons q x xs in
+    let one = one-true (q x) t in
+    let stays = without_none q xs (omega arith) in
+    let b = sum_by-cons f x xs in
+    rw (t, stays) (omega arith)
+sum_rest f q (x ∷ xs) (suc k) d l t most =
+    let a = count-cons q x xs in
+    let some = count_some q xs k d (omega arith) t in
+    elim (cases_Bool (q x)) [
+      | inl s ↦ (let one = one-true (q x) s in absurd (omega arith))
+      | inr n ↦
+          (let none = one-false (q x) n in
+          let rest = sum_rest f q xs k d (omega arith) t (omega arith) in
+          let b = sum_by-cons f x xs in
+          let c = sum_by-cons f x (filter (λ y. not (q y)) xs) in
+          rw n (omega arith))
+    ]
+
+pub pages_rest : (heap : Heap) (run : Run) → IsSound heap → Contains heap.runs run → sum_by (λ r. r.pages) (without_run run heap.runs) + run.pages ≡ sum_by (λ r. r.pages) heap.runs
+pages_rest heap run sound live =
+    let q : Run → Bool = λ r. r.first.0 == run.first.0 in
+    let le = count_le q (holds run.first.0) heap.runs (λ k d l e. (let r = get_or heap.runs k d in
+    let inside = sound.runs.inside k d l in
+    let same = eqb-true r.first.0 run.first.0 e in
+    holds_from run.first.0 r (omega arith) (omega (arith, inside.some)))) in
+    let disjoint = sound.runs.disjoint run.first.0 in
+    let most : count_by q heap.runs ≤ 1 = omega arith in
+    let there : get_or heap.runs live.0 run ≡ run = live.2 in
+    let here = eq-eqb run.first.0 run.first.0 refl in
+    let all = sum_rest (λ (r : Run). r.pages) q heap.runs live.0 run live.1 (ap q there ∙ here) most in
+    ap (λ (r : Run). sum_by (λ s. s.pages) (without_run run heap.runs) + r.pages) (sym there) ∙ all
+
+-- where a page isn't used, no run begins
+pub none_begins : (heap : Heap) (page : ℕ) → IsSound heap → is_used heap.runs page ≡ false → list_any (begins_on page) heap.runs ≡ false
+none_begins heap page sound unused =
+    false_from_ne_true _ (λ t. (let any = Any-from_list_any (begins_on page) heap.runs t in
+    let r : Run = any.1 in
+    let there : get_or heap.runs any.0 r ≡ r = any.3 in
+    let inside = sound.runs.inside any.0 r any.2 in
+    let at = eqb-true r.first.0 page any.4 in
+    let first = ap (λ (x : Run). x.first.0) there in
+    let pages = ap (λ (x : Run). x.pages) there in
+    let held : holds page r ≡ true = holds_from page r (omega arith) (omega (arith, inside.some)) in
+    false≢true (sym unused ∙ counts_used heap.runs page (count_some (holds page) heap.runs any.0 r any.2 (ap (holds page) there ∙ held)))))

@@ -1,142 +1,239 @@
--- A run in a hugepage of the filler that has room for it.
-use Rattle.std.proofs.Common.{◌≡◌, ◌≢◌, ℕ, ◌+◌, ◌*◌, ◌/◌, ◌%◌, ◌<◌, ◌≤◌, Bool, true, false, not, ◌||◌, cond, List, length, get_or, Some, option_map, refl, sym, ap, subst, ◌∙◌, inl, inr, arith}
-use Rattle.std.proofs.lemmas.Bool.{cases_Bool, and_left, cases_order, cases_eq, false≢true, false_from_ne_true}
-use Rattle.std.proofs.lemmas.List.{same_lists, get_or_default}
-use Rattle.std.proofs.lemmas.List.FromFn.{length-map-range_with_len, get_or-map-range_with_len}
+-- Runs that take free hugepages: a small one, which the filler gets one for, or a large one, which leaves the last to it.
+use Rattle.std.proofs.Common.{◌≡◌, ◌≢◌, ℕ, ◌+◌, ◌-◌, ◌*◌, ◌/◌, ◌^◌, ◌<◌, ◌≤◌, Bool, true, false, not, cond, nat_le, get_or, drop, Contains, Some, refl, sym, ap, subst, ◌∙◌, inl, inr, arith}
+use Rattle.std.proofs.lemmas.Bool.{cases_Bool, and_left, le-leb, lt-leb, false_from_ne_true}
+use Rattle.std.proofs.lemmas.List.{length-map, length-drop, get_or-drop}
 use Rattle.tc_units.specs.declared.spans.Run.{Run}
-use Rattle.range_bits.specs.Ranges.{with_places}
-use Rattle.range_bits.proofs.Placing.{length-with_places, get_or-with_places}
-use Rattle.heap_rules.specs.Heap.{Heap, Hugepage, hugepage, holds, reaches, run_at, with_run, backs, is_free, is_free_backed, is_filler, is_kind_free, is_kind_region, is_region}
-use Rattle.heap_rules.specs.New.{more_backed, in_filler}
+use Rattle.range_bits.specs.Ranges.{free_from}
+use Rattle.heap_rules.specs.Heap.{Heap, Hugepage, hugepage, reaches, run_at, spans, with_run, is_free, is_free_backed, is_filler, is_region}
+use Rattle.heap_rules.specs.Choice.{run_choice, hugepages_for, taken_row}
+use Rattle.heap_rules.specs.New.{filler_page, run_page, run_or_tail, in_fresh, in_free}
 use Rattle.heap_rules.specs.Sound.{IsHugepageOf, IsSound}
+use Rattle.heap_rules.specs.Laws.{IsGiven}
+use Rattle.heap_rules.proofs.Chosen.{AreFree, run_choice_free}
 use Rattle.heap_rules.proofs.Fits.{reaches_from}
-use Rattle.heap_rules.proofs.Fillers.{IsFitting, is_Filler}
-use Rattle.huge_filler.specs.Filler.{FillerPage, page_at, joined, after_take}
-use Rattle.page_heap.specs.Parts.{filler_page_of, filler_of, cache_of, regions_of}
-use Rattle.page_heap.proofs.Rows.{with_differs, used_from-differs, within, holds_within, reaches_not}
-use Rattle.page_heap.proofs.View.{filler_at, filler_some}
-use Rattle.page_heap.proofs.Frames.{entry-away, filler_set, flags_same}
-use Rattle.page_heap.proofs.Steps.{with_step, reached_more, same_cache, placed_regions, regions_away}
+use Rattle.heap_rules.proofs.Longest.{prefix_long}
+use Rattle.heap_rules.proofs.Places.{map-place}
+use Rattle.heap_rules.proofs.Remade.{remade, here}
+use Rattle.heap_rules.proofs.Routes.{given_free, given_fresh, reached_free, free_not_region}
+use Rattle.huge_table.specs.Table.{IsSpan}
+use Rattle.huge_table.specs.Means.{Means}
+use Rattle.huge_table.specs.Runs.{HasPlaces}
+use Rattle.huge_table.proofs.Steps.{spans_reaches}
+use Rattle.huge_cache.specs.Cache.{Cache, without_run}
+use Rattle.page_heap.specs.declared.heap.PageHeap.TheInside.{Inside}
+use Rattle.page_heap.specs.Inside.{heap_of, cache_of, IsKept}
+use Rattle.page_heap.specs.Routes.{IsRouted}
+use Rattle.page_heap.specs.Told.{remeasured}
+use Rattle.page_heap.proofs.Steps.{came}
+use Rattle.page_heap.proofs.Frames.{flags_run, same_cache, measures_step, regions_away}
+use Rattle.page_heap.proofs.Filled.{free_not_filler}
+use Rattle.page_heap.proofs.Routed.{routed_with}
+use Rattle.page_heap.proofs.Results.{Results, fits_used, new_results}
 
--- a page of the filler by its parts
-made : Bool → ℕ → List Bool → List Bool → FillerPage
-made donated allocs used backed = record { donated = donated; allocs = allocs; used = used; backed = backed }
+-- a run lies from the start of the first of m hugepages on, and in the last of them
+pub record IsAcross (n m : ℕ) : Type 0 where
+  pub some : 0 < n
+  pub fits : n ≤ 256 * m
+  pub tight : 256 * m < n + 256
 
-pub same_page : (a b : FillerPage) → a.donated ≡ b.donated → a.allocs ≡ b.allocs → a.used ≡ b.used → a.backed ≡ b.backed → a ≡ b
-unfolding made
-same_page a b p q r s = ap (λ c. made c a.allocs a.used a.backed) p ∙ ap (λ c. made b.donated c a.used a.backed) q ∙ ap (λ c. made b.donated b.allocs c a.backed) r ∙ ap (λ c. made b.donated b.allocs b.used c) s
+module _ (old : Inside) (kept : IsKept old) (n h m : ℕ) (across : IsAcross n m) (choice : run_choice (heap_of old) m ≡ Some h) (becomes : ℕ → Hugepage) (busy : (k : ℕ) → is_free (becomes k) ≡ false) where
+  abbrev heap : Heap
+  heap = heap_of old
 
--- The pages of hugepage h that a run which lies in it holds.
-pub held_there : (run : Run) (h s : ℕ) → run.first.0 ≡ 256 * h + s → (k : ℕ) → k < 256 → holds (256 * h + k) run ≡ within s (s + run.pages) k
-held_there run h s e k l = holds_within run (256 * h + k) s (s + run.pages) k (λ a. omega arith) (λ a. omega arith) (λ a. omega arith) (λ a. omega arith)
-
-or_cond : (a b : Bool) → (a || b) ≡ cond b true a
-or_cond true true = refl
-or_cond true false = refl
-or_cond false true = refl
-or_cond false false = refl
-
--- its backed pages when the run comes
-backed_more : (run : Run) (h s : ℕ) (x : Hugepage) → length x.backed ≡ 256 → run.first.0 ≡ 256 * h + s → s + run.pages ≤ 256 → with_places x.backed s run.pages true ≡ (more_backed run h x).backed
-backed_more run h s x size e fits =
-    let test : ℕ → Bool = λ page. backs x page || holds page run in
-    let fits' : s + run.pages ≤ length x.backed = omega arith in
-    let len = length-with_places x.backed s run.pages true fits' in
-    let count = length-map-range_with_len test (256 * h) 256 in
-    same_lists _ _ (len ∙ size ∙ sym count)
-    (λ k d l.
-    let short : k < 256 = omega (arith, len, size) in
-    let place : (256 * h + k) % 256 ≡ k = omega (arith, short) in
-    let own : backs x (256 * h + k) ≡ get_or x.backed k d = ap (λ i. get_or x.backed i false) place ∙ get_or_default x.backed k false d (omega (arith, size, short)) in
-    get_or-with_places x.backed s run.pages true k d fits'
-    ∙ ap (λ b. cond b true (get_or x.backed k d)) (sym (held_there run h s e k short))
-    ∙ sym (or_cond (get_or x.backed k d) (holds (256 * h + k) run))
-    ∙ ap (λ b. b || holds (256 * h + k) run) (sym own)
-    ∙ sym (get_or-map-range_with_len test (256 * h) 256 k (256 * h + k) d short refl))
-
--- a hugepage of the filler isn't free, and so not free and backed
-pub filler_busy : (x : Hugepage) → is_filler x ≡ true → is_free x ≡ false
-filler_busy x e = ap is_kind_free (is_Filler x.kind e)
-
-pub filler_unready : (x : Hugepage) → is_filler x ≡ true → is_free_backed x ≡ false
-filler_unready x e = and_left _ _ (filler_busy x e)
-
--- a run in hugepage h reaches no other
-pub one_hugepage : (run : Run) (h k : ℕ) → 256 * h ≤ run.first.0 → run.first.0 + run.pages ≤ 256 * h + 256 → k ≢ h → reaches k run ≡ false
-one_hugepage run h k from to other = elim (cases_order k h) [
-  | inl same ↦ absurd (other same)
-  | inr apart ↦ elim apart [ inl below ↦ reaches_not k run (inl (omega arith)) | inr above ↦ reaches_not k run (inr (omega arith)) ]
-]
-
-module _ (heap : Heap) (n page : ℕ) (sound : IsSound heap) (some : 0 < n) (is : IsFitting heap n (page / 256)) (fits : page % 256 + n ≤ 256) where
-  abbrev h : ℕ
-  h = page / 256
-
-  abbrev s : ℕ
-  s = page % 256
+  sound : IsSound heap
+  sound = kept.well.sound
 
   abbrev run : Run
-  run = run_at page n
+  run = run_at (256 * h) n
 
-  abbrev rest : List Run
-  rest = with_run run heap.runs
+  abbrev g : ℕ → Hugepage → Hugepage
+  g k x = becomes k
 
   abbrev f : ℕ → Hugepage → Hugepage
-  f k y = cond (reaches k run) (more_backed run k y) y
+  f k x = cond (reaches k run) (becomes k) x
 
-  abbrev x : Hugepage
-  x = hugepage heap h
+  abbrev pub taken : Heap
+  taken = remade heap (with_run run heap.runs) heap.regions f heap.counts
 
-  at : page ≡ 256 * h + s
-  at = omega arith
+  pub are : AreFree heap h m
+  are = run_choice_free heap m h (omega (arith, across.some, across.fits)) choice
 
-  is_own : IsHugepageOf heap.config.huge h
-  is_own = let arena = sound.runs.arena in record { from = is.from; to = omega (arith, is.to) }
+  pub taken_span : IsSpan old.table h m is_free
+  taken_span = record { from = are.from; to = are.to; all = are.free }
 
-  own : reaches h run ≡ true
-  own = reaches_from h run (omega arith) (omega arith)
+  pub taken_own : (k : ℕ) → h ≤ k → k < h + m → IsHugepageOf heap.config.huge k
+  taken_own k a b = let arena = sound.runs.arena in record { from = omega (arith, are.from); to = omega (arith, are.to) }
 
-  other : (k : ℕ) → k ≢ h → reaches k run ≡ false
-  other k ne = one_hugepage run h k (omega arith) (omega arith) ne
+  -- so that the cache may take them out
+  pub taken_free : m ≤ free_from old.cache.taken (h - 1)
+  taken_free =
+      let row = taken_row heap in
+      let len = length-map heap.hugepages (λ x. not (is_free x)) in
+      let left = length-drop (h - 1) row in
+      let from = are.from in
+      let to = are.to in
+      subst (λ (c : Cache). m ≤ free_from c.taken (h - 1)) (sym kept.shows.cache)
+      (prefix_long not (drop (h - 1) row) m false (omega arith)
+      (λ k l.
+      (let at : h - 1 + k ≡ h + k - 1 = omega arith in
+      ap not (get_or-drop (h - 1) row k false
+      ∙ ap (λ i. get_or row i false) at
+      ∙ map-place (λ x. not (is_free x)) heap.hugepages (h + k) false (omega arith) (omega arith)
+      ∙ ap not (are.free (h + k) (omega arith) (omega arith))))))
 
-  -- only the filler's hugepage is reached
-  reached : (k : ℕ) → reaches k run ≡ true → k ≡ h
-  reached k e = elim (cases_eq k h) [ inl same ↦ same | inr ne ↦ absurd (false≢true (sym (other k ne) ∙ e)) ]
+  reached : (k : ℕ) → reaches k run ≡ true → (h ≤ k) × (k < h + m)
+  reached k e = reached_free heap n h m sound across.some across.fits are k e
 
-  stays : (k : ℕ) (y : Hugepage) → reaches k run ≡ false → f k y ≡ y
-  stays k y e = ap (λ b. cond b (more_backed run k y) y) e
+  was_free : (k : ℕ) → reaches k run ≡ true → is_free (hugepage heap k) ≡ true
+  was_free k e = let near = reached k e in are.free k near.0 near.1
 
-  turns : f h x ≡ more_backed run h x
-  turns = ap (λ b. cond b (more_backed run h x) x) own
+  flag : (p : Hugepage → Bool) → ((k : ℕ) → p (becomes k) ≡ true) → (k : ℕ) → IsHugepageOf heap.config.huge k → cond (spans m k h) true (p (hugepage heap k)) ≡ p (f k (hugepage heap k))
+  flag p set k is =
+      let x = hugepage heap k in
+      ap (λ b. cond b true (p x)) (spans_reaches (256 * h) n h m k (omega arith) (omega arith) (omega (arith, across.tight)) (omega (arith, across.fits)) across.some)
+      ∙ elim (cases_Bool (reaches k run)) [
+        | inl t ↦ ap (λ b. cond b true (p x)) t ∙ sym (ap (λ b. p (cond b (becomes k) x)) t ∙ set k)
+        | inr n ↦ ap (λ b. cond b true (p x)) n ∙ sym (ap (λ b. p (cond b (becomes k) x)) n)
+      ]
 
-  pub taken_filler : after_take (filler_of heap) page n ≡ filler_of (in_filler heap n page).heap
-  taken_filler =
-      let fit = sound.runs.fit h is_own in
-      filler_set heap rest heap.regions f heap.counts sound.runs h (option_map (λ p. joined p s n) (page_at (filler_of heap) h)) is_own
-      (ap (option_map (λ p. joined p s n)) (filler_at heap h is.from is.to ∙ filler_some heap.runs h x is.filler)
-      ∙ ap Some (same_page _ _ refl (sym (reached_more run heap.runs h own)) (sym (used_from-differs heap.runs rest run true (with_differs run heap.runs) (256 * h) 256 s n fits (held_there run h s at))) (backed_more run h s x fit.size at fits))
-      ∙ sym (filler_some rest h (more_backed run h x) is.filler)
-      ∙ ap (filler_page_of rest h) (sym turns))
-      (λ k is_k ne. (let y = hugepage heap k in sym (entry-away heap.runs rest run true (with_step run heap.runs) k y (other k ne)) ∙ ap (filler_page_of rest k) (sym (stays k y (other k ne)))))
-
-  same_kind : (k : ℕ) → (f k (hugepage heap k)).kind ≡ (hugepage heap k).kind
-  same_kind k = (let y = hugepage heap k in elim (reaches k run) as (λ b. (cond b (more_backed run k y) y).kind ≡ y.kind) [ true ↦ refl | false ↦ refl ])
-
-  pub taken_cache : cache_of heap ≡ cache_of (in_filler heap n page).heap
+  taken_cache : without_run (cache_of heap) h m ≡ cache_of taken
   taken_cache =
-      same_cache (cache_of heap) _ _
-      (flags_same heap rest heap.regions f heap.counts sound.runs (λ y. not (is_free y)) (λ k is_k. ap (λ j. not (is_kind_free j)) (sym (same_kind k))))
-      (flags_same heap rest heap.regions f heap.counts sound.runs (λ y. not (is_free_backed y))
-      (λ k is_k. elim (cases_Bool (reaches k run)) [
-        | inr no' ↦ ap (λ y. not (is_free_backed y)) (sym (stays k (hugepage heap k) no'))
-        | inl yes' ↦
-            (let same = reached k yes' in
-            subst (λ j. not (is_free_backed (hugepage heap j)) ≡ not (is_free_backed (f j (hugepage heap j)))) (sym same)
-            (ap not (filler_unready x is.filler) ∙ sym (ap (λ y. not (is_free_backed y)) turns ∙ ap not (filler_unready (more_backed run h x) is.filler))))
-      ]))
+      sym (same_cache (record (cache_of heap) { taken = _; unready = _ }) _ _
+      (sym (flags_run heap (with_run run heap.runs) heap.regions f heap.counts sound.runs (λ y. not (is_free y)) h m true are.from are.to (flag (λ y. not (is_free y)) (λ k. ap not (busy k)))))
+      (sym (flags_run heap (with_run run heap.runs) heap.regions f heap.counts sound.runs (λ y. not (is_free_backed y)) h m true are.from are.to (flag (λ y. not (is_free_backed y)) (λ k. ap not (and_left _ _ (busy k)))))))
 
-  pub taken_regions : regions_of heap ≡ regions_of (in_filler heap n page).heap
-  taken_regions =
-      regions_away heap rest f heap.counts sound.runs run true (with_step run heap.runs) stays (placed_regions heap sound)
-      (λ k is_k region. false_from_ne_true (reaches k run)
-      (λ e. false≢true (sym (ap (λ j. is_region (hugepage heap j)) (reached k e) ∙ ap is_kind_region (is_Filler x.kind is.filler)) ∙ region)))
+  -- What it keeps, where at most the last hugepage is the filler's then.
+  module _ (last : ℕ) (is_last : last + 1 ≡ h + m) (none : (k : ℕ) → reaches k run ≡ true → k ≢ last → is_filler (becomes k) ≡ false) (given : IsGiven heap n (record { run = run; heap = taken })) (own : IsRouted taken run) where
+    routed : (z : Run) → Contains taken.runs z → IsRouted taken z
+    routed =
+        routed_with heap taken.runs heap.regions f heap.counts run sound kept.well.routed
+        (λ r known. known)
+        (λ k is. elim (cases_Bool (reaches k run)) [
+          | inl t ↦ inl (was_free k t)
+          | inr f' ↦ inr (ap (λ b. (cond b (becomes k) (hugepage heap k)).kind) f')
+        ])
+        own
+
+    pub taken_keeps : (t : Inside) → t.config ≡ old.config → Means t.table taken → HasPlaces t.table → t.filler ≡ remeasured old.filler taken last → t.cache ≡ without_run old.cache h m → t.regions ≡ old.regions → t.used ≡ old.used + n → Results t taken
+    taken_keeps t config means places filler cache regions used =
+        let step = came run heap.runs in
+        new_results old kept n (record { run = run; heap = taken }) across.some given routed t config means places
+        (filler ∙ ap (λ rows. remeasured rows taken last) kept.shows.filler
+        ∙ measures_step heap taken.runs g heap.counts run sound step last (taken_own last (omega (arith, across.some, across.fits)) (omega arith)) (λ k is ne e. (free_not_filler (hugepage heap k) (was_free k e), none k e ne)))
+        (cache ∙ ap (λ (c : Cache). without_run c h m) kept.shows.cache ∙ taken_cache)
+        (regions ∙ kept.shows.regions ∙ regions_away heap taken.runs g heap.counts run sound step (λ k e. false_from_ne_true (is_region (hugepage heap k)) (free_not_region (hugepage heap k) (was_free k e))))
+        used
+
+-- what the calls ask as a run takes free hugepages
+pub record IsTaking (old : Inside) (n h m last : ℕ) (after : Heap) : Type 0 where
+  pub span : IsSpan old.table h m is_free
+  pub free : m ≤ free_from old.cache.taken (h - 1)
+  pub own : IsHugepageOf old.config.huge last
+  pub fits : old.used + n < 2 ^ 64
+  pub sound : IsSound after
+
+becomes_filler : (x y : Hugepage) (b : Bool) → b ≡ true → (cond b x y).kind ≡ x.kind
+becomes_filler x y b e = ap (λ t. (cond t x y).kind) e
+
+-- A small one.
+module _ (old : Inside) (kept : IsKept old) (n h : ℕ) (some : 0 < n) (below : n < 256) (choice : run_choice (heap_of old) 1 ≡ Some h) where
+  abbrev heap' : Heap
+  heap' = heap_of old
+
+  fresh_across : IsAcross n 1
+  fresh_across = record { some = some; fits = omega arith; tight = omega arith }
+
+  fresh_busy : (k : ℕ) → is_free (filler_page false) ≡ false
+  fresh_busy k = refl
+
+  fresh_given : IsGiven heap' n (in_fresh heap' n h)
+  fresh_given = given_fresh heap' n h 1 kept.well.sound some fresh_across.fits (are old kept n h 1 fresh_across choice (λ k. filler_page false) fresh_busy) refl
+
+  fresh_own : IsHugepageOf heap'.config.huge h
+  fresh_own = taken_own old kept n h 1 fresh_across choice (λ k. filler_page false) fresh_busy h (omega arith) (omega arith)
+
+  pub fresh_taking : IsTaking old n h 1 h (in_fresh heap' n h).heap
+  fresh_taking = record {
+    span = taken_span old kept n h 1 fresh_across choice (λ k. filler_page false) fresh_busy;
+    free = taken_free old kept n h 1 fresh_across choice (λ k. filler_page false) fresh_busy;
+    own = fresh_own;
+    fits = fits_used old kept n (in_fresh heap' n h) some fresh_given;
+    sound = fresh_given.sound;
+  }
+
+  fresh_route : IsRouted (in_fresh heap' n h).heap (run_at (256 * h) n)
+  fresh_route =
+      let after : Heap = (in_fresh heap' n h).heap in
+      let huge : 256 * h / 256 ≡ h = omega arith in
+      inl (record {
+        filler = ap (λ k. (hugepage after k).kind) huge
+            ∙ ap (λ (x : Hugepage). x.kind) (here heap' after.runs heap'.regions (λ k x. cond (reaches k (run_at (256 * h) n)) (filler_page false) x) heap'.counts kept.well.sound.runs h fresh_own)
+            ∙ becomes_filler (filler_page false) (hugepage heap' h) _ (reaches_from h (run_at (256 * h) n) (omega arith) (omega arith));
+        ends = omega arith;
+      })
+
+  pub fresh_keeps : (t : Inside) → t.config ≡ old.config → Means t.table (in_fresh heap' n h).heap → HasPlaces t.table → t.filler ≡ remeasured old.filler (in_fresh heap' n h).heap h → t.cache ≡ without_run old.cache h 1 → t.regions ≡ old.regions → t.used ≡ old.used + n → Results t (in_fresh heap' n h).heap
+  fresh_keeps =
+      taken_keeps old kept n h 1 fresh_across choice (λ k. filler_page false) fresh_busy h refl
+      (λ k e ne. (let near = reached_free heap' n h 1 kept.well.sound some fresh_across.fits (are old kept n h 1 fresh_across choice (λ k. filler_page false) fresh_busy) k e in absurd (ne (omega (arith, near.0, near.1)))))
+      fresh_given fresh_route
+
+-- A large one.
+module _ (old : Inside) (kept : IsKept old) (n h : ℕ) (large : 256 ≤ n) (choice : run_choice (heap_of old) (hugepages_for n) ≡ Some h) where
+  abbrev heap'' : Heap
+  heap'' = heap_of old
+
+  abbrev m : ℕ
+  m = hugepages_for n
+
+  abbrev becomes' : ℕ → Hugepage
+  becomes' k = run_or_tail (256 * h + n) k
+
+  whole_across : IsAcross n m
+  whole_across = record { some = omega arith; fits = omega arith; tight = omega arith }
+
+  whole_busy : (k : ℕ) → is_free (becomes' k) ≡ false
+  whole_busy k = elim (nat_le (256 * (k + 1)) (256 * h + n)) as (λ b. is_free (cond b run_page (filler_page true)) ≡ false) [ true ↦ refl | false ↦ refl ]
+
+  is_run : (k : ℕ) → 256 * (k + 1) ≤ 256 * h + n → becomes' k ≡ run_page
+  is_run k l = ap (λ b. cond b run_page (filler_page true)) (le-leb (256 * (k + 1)) (256 * h + n) l)
+
+  is_tail : (k : ℕ) → 256 * h + n < 256 * (k + 1) → becomes' k ≡ filler_page true
+  is_tail k l = ap (λ b. cond b run_page (filler_page true)) (lt-leb (256 * (k + 1)) (256 * h + n) l)
+
+  free_there : AreFree heap'' h m
+  free_there = are old kept n h m whole_across choice becomes' whole_busy
+
+  whole_given : IsGiven heap'' n (in_free heap'' n h)
+  whole_given = given_free heap'' n h m kept.well.sound whole_across.some whole_across.fits free_there
+
+  pub whole_taking : (last : ℕ) → last + 1 ≡ h + m → IsTaking old n h m last (in_free heap'' n h).heap
+  whole_taking last e = record {
+    span = taken_span old kept n h m whole_across choice becomes' whole_busy;
+    free = taken_free old kept n h m whole_across choice becomes' whole_busy;
+    own = taken_own old kept n h m whole_across choice becomes' whole_busy last (omega arith) (omega arith);
+    fits = fits_used old kept n (in_free heap'' n h) whole_across.some whole_given;
+    sound = whole_given.sound;
+  }
+
+  pub whole_ends : h + m ≤ old.config.huge + 1
+  whole_ends = let arena = kept.well.sound.runs.arena in omega (arith, free_there.to)
+
+  made : (k : ℕ) → h ≤ k → 256 * k < 256 * h + n → (hugepage (in_free heap'' n h).heap k).kind ≡ (becomes' k).kind
+  made k a b =
+      ap (λ (x : Hugepage). x.kind) (here heap'' (in_free heap'' n h).heap.runs heap''.regions (λ k x. cond (reaches k (run_at (256 * h) n)) (becomes' k) x) heap''.counts kept.well.sound.runs k (taken_own old kept n h m whole_across choice becomes' whole_busy k a (omega arith)))
+      ∙ becomes_filler (becomes' k) (hugepage heap'' k) _ (reaches_from k (run_at (256 * h) n) (omega arith) b)
+
+  whole_route : IsRouted (in_free heap'' n h).heap (run_at (256 * h) n)
+  whole_route = inr (inl (record {
+    begins = omega arith;
+    long = large;
+    whole = λ k a b. made k (omega arith) (omega arith) ∙ ap (λ (x : Hugepage). x.kind) (is_run k (omega arith));
+    tail = λ k a b. made k (omega arith) a ∙ ap (λ (x : Hugepage). x.kind) (is_tail k (omega arith));
+  }))
+
+  pub whole_keeps : (last : ℕ) → last + 1 ≡ h + m → (t : Inside) → t.config ≡ old.config → Means t.table (in_free heap'' n h).heap → HasPlaces t.table → t.filler ≡ remeasured old.filler (in_free heap'' n h).heap last → t.cache ≡ without_run old.cache h m → t.regions ≡ old.regions → t.used ≡ old.used + n → Results t (in_free heap'' n h).heap
+  whole_keeps last e =
+      taken_keeps old kept n h m whole_across choice becomes' whole_busy last e
+      (λ k t ne. (let near = reached_free heap'' n h m kept.well.sound whole_across.some whole_across.fits free_there k t in ap is_filler (is_run k (omega (arith, near.0, near.1, ne)))))
+      whole_given whole_route

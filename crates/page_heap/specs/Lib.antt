@@ -1,2 +1,5 @@
-pub mod Parts
-pub mod Moves
+pub mod Inside
+pub mod Routes
+pub mod Told
+pub mod Gives
+pub mod Freed

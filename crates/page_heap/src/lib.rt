@@ -3,11 +3,14 @@
 #![tactic(auto)]
 
 mod heap;
-mod parts;
+mod in_regions;
+mod releases;
 mod shown;
-mod table;
+mod small;
 #[cfg(test)]
 mod tests;
+mod told;
+mod whole;
 
 pub use heap::PageHeap;
 pub use heap_rules::HeapConfig;

@@ -1,77 +1,89 @@
-use Rattle.std.proofs.Common.{◌≡◌, ℕ, ◌-◌, ◌/◌, ◌%◌, ◌<◌, ◌≤◌, Contains, sym, ap, subst, ◌∙◌, arith}
+use Rattle.std.proofs.Common.{◌≡◌, ◌+◌, ◌-◌, ◌/◌, ◌%◌, ◌≤◌, Contains, length, refl, sym, ap, subst, ◌∙◌, arith}
+use Rattle.tc_units.specs.declared.spans.Run.{Run}
 use Rattle.range_bits.specs.Ranges.{used_from}
-use Rattle.heap_rules.specs.Heap.{Heap}
+use Rattle.heap_rules.specs.Heap.{Heap, hugepage}
 use Rattle.heap_rules.specs.Free.{given_back}
-use Rattle.huge_cache.specs.Cache.{with_backed_run}
-use Rattle.page_heap.specs.Parts.{heap_of, IsInHugepages}
-use Rattle.page_heap.proofs.Insides.{parts_of}
-use Rattle.page_heap.proofs.Results.{Results}
-use Rattle.page_heap.proofs.Frees.{whole_out, even_keeps, rest_live, rest_out, part_keeps, given_size}
+use Rattle.huge_cache.specs.Cache.{Cache, holds, with_backed_run}
+use Rattle.page_heap.specs.declared.heap.PageHeap.TheInside.{Inside}
+use Rattle.page_heap.specs.Inside.{heap_of}
+use Rattle.page_heap.specs.Routes.{IsInHugepages}
+use Rattle.page_heap.specs.Told.{IsTold, remeasured, with_tail_freed}
+use Rattle.page_heap.proofs.Results.{Results, IsMeasuring, measuring}
+use Rattle.page_heap.proofs.Left.{whole_span, tail_span, whole_out, whole_sound, whole_counted, last_own, last_out, given_size, whole_keeps}
 use Rattle.page_heap.proofs.heap.PageHeap.free_whole.Goals as goal
-use Rattle.page_heap.proofs.heap.PageHeap.free_whole.Goals.{After-huge_of, After-strike_run, After-give_pages}
+use Rattle.page_heap.proofs.heap.PageHeap.free_whole.Goals.{After-huge_of-last, After-huge_of, After-from}
 
-some_part : (n : ℕ) → (n ≡ 0 → ⊥) → 0 < n
-some_part n ne = omega arith
+live : (t : Inside) (heap : Heap) (run : Run) → heap_of t ≡ heap → Contains heap.runs run → Contains (heap_of t).runs run
+live t heap run view e = subst (λ (x : Heap). Contains x.runs run) (sym view) e
 
-abbrev live : (c : After-huge_of) → Contains (heap_of (parts_of c.self.inside)).runs c.args.run
-live c = subst (λ (heap : Heap). Contains heap.runs c.args.run) (sym c.self.view_is) c.requires.live
+route : (t : Inside) (heap : Heap) (run : Run) → heap_of t ≡ heap → IsInHugepages heap run → IsInHugepages (heap_of t) run
+route t heap run view e = subst (λ x. IsInHugepages x run) (sym view) e
 
-abbrev route : (c : After-huge_of) → IsInHugepages (heap_of (parts_of c.self.inside)) c.args.run
-route c = subst (λ heap. IsInHugepages heap c.args.run) (sym c.self.view_is) c.requires.route
+pub give_run-requires-clause-whole : goal.give_run-requires-clause-whole
+give_run-requires-clause-whole c = whole_span c.self.inside c.self.invariant c.args.run (live c.self.inside c.args.self.now c.args.run c.self.view_is c.requires.live) (route c.self.inside c.args.self.now c.args.run c.self.view_is c.requires.route)
 
-pub give_run-requires-clause-out : goal.give_run-requires-clause-out
-give_run-requires-clause-out c =
-    let d = (goal.at.give_run-requires-clause-out c).After-huge_of in
-    subst (λ k. d.args.run.pages / 256 ≤ used_from d.self.inside.cache.taken (k - 1)) (sym d.huge_of.ensures) (whole_out (parts_of d.self.inside) d.self.invariant d.args.run (live d) (route d))
+pub give_run-requires-clause-tail : goal.give_run-requires-clause-tail
+give_run-requires-clause-tail c = tail_span c.self.inside c.self.invariant c.args.run (live c.self.inside c.args.self.now c.args.run c.self.view_is c.requires.live) (route c.self.inside c.args.self.now c.args.run c.self.view_is c.requires.route)
 
-given : (c : After-strike_run) → c.give_run.new.self ≡ with_backed_run c.self.inside.cache (c.args.run.first.0 / 256) (c.args.run.pages / 256)
-given c = c.give_run.ensures ∙ ap (λ k. with_backed_run c.self.inside.cache k (c.args.run.pages / 256)) c.huge_of.ensures
+told : (c : After-huge_of-last) → IsMeasuring c.self.inside c.give_run.new.self c.huge_of-last.result.0
+told c =
+    let l = live c.self.inside c.args.self.now c.args.run c.self.view_is c.requires.live in
+    let r = route c.self.inside c.args.self.now c.args.run c.self.view_is c.requires.route in
+    measuring c.self.inside c.self.invariant (given_back (heap_of c.self.inside) c.args.run) refl (whole_sound c.self.inside c.self.invariant c.args.run l r) c.give_run.new.self (c.give_run.ensures (heap_of c.self.inside) c.self.invariant.well.sound c.self.invariant.shows.means l) _ c.huge_of-last.result.0 (last_own c.self.inside c.self.invariant c.args.run l r) c.huge_of-last.ensures
 
-pub give_pages-requires-clause-live : goal.give_pages-requires-clause-live
-give_pages-requires-clause-live c =
-    let d = (goal.at.give_pages-requires-clause-live c).After-huge_of in
-    rest_live (parts_of d.self.inside) d.self.invariant d.args.run (live d) (route d) (some_part _ c.if-part-ne0.true)
+pub measure-requires : goal.measure-requires
+measure-requires c = let m = told (goal.at.measure-requires c).After-huge_of-last in record { low = m.low; high = m.high; same = m.same; told = m.told }
 
-pub give_pages-requires-clause-to : goal.give_pages-requires-clause-to
-give_pages-requires-clause-to c =
-    let d = (goal.at.give_pages-requires-clause-to c).After-huge_of in
-    let e = (goal.at.give_pages-requires-clause-to c).After-strike_run in
-    given_size (parts_of d.self.inside) d.self.invariant d.args.run (live d) (route d) (some_part _ c.if-part-ne0.true) e.give_run.new.self (given e)
+pub give_run-requires-2-clause-out : goal.give_run-requires-2-clause-out
+give_run-requires-2-clause-out c =
+    subst (λ k. c.args.run.pages / 256 ≤ used_from c.self.inside.cache.taken (k - 1)) (sym c.huge_of.ensures)
+    (whole_out c.self.inside c.self.invariant c.args.run (live c.self.inside c.args.self.now c.args.run c.self.view_is c.requires.live) (route c.self.inside c.args.self.now c.args.run c.self.view_is c.requires.route))
 
-pub give_pages-requires-clause-out : goal.give_pages-requires-clause-out
-give_pages-requires-clause-out c =
-    let d = (goal.at.give_pages-requires-clause-out c).After-huge_of in
-    let e = (goal.at.give_pages-requires-clause-out c).After-strike_run in
-    rest_out (parts_of d.self.inside) d.self.invariant d.args.run (live d) (route d) (some_part _ c.if-part-ne0.true) e.give_run.new.self (given e)
+given : (c : After-huge_of) → (new : Cache) → new ≡ with_backed_run c.self.inside.cache c.huge_of.result.0 (c.args.run.pages / 256) → new ≡ with_backed_run c.self.inside.cache (c.args.run.first.0 / 256) (c.args.run.pages / 256)
+given c new e = e ∙ ap (λ k. with_backed_run c.self.inside.cache k (c.args.run.pages / 256)) c.huge_of.ensures
 
-with_part : (c : After-give_pages) → Results (record (parts_of c.self.inside) { filler = c.give_pages.new.filler; cache = c.give_pages.new.cache; lengths = c.strike_run.new.lengths.items; used = c.strike_run.new.used }) (given_back (heap_of (parts_of c.self.inside)) c.args.run)
-with_part c =
-    part_keeps (parts_of c.self.inside) c.self.invariant c.args.run
-    (subst (λ (heap : Heap). Contains heap.runs c.args.run) (sym c.self.view_is) c.requires.live)
-    (subst (λ heap. IsInHugepages heap c.args.run) (sym c.self.view_is) c.requires.route)
-    (some_part _ c.if-part-ne0.true)
-    c.give_pages.new.filler c.give_run.new.self c.give_pages.new.cache c.strike_run.new.lengths.items c.strike_run.new.used
-    (c.give_run.ensures ∙ ap (λ k. with_backed_run c.self.inside.cache k (c.args.run.pages / 256)) c.huge_of.ensures)
-    c.give_pages.ensures.filler c.give_pages.ensures.cache c.strike_run.ensures.lengths c.strike_run.ensures.used
+pub give_tail-requires : goal.give_tail-requires
+give_tail-requires c =
+    let l = live c.self.inside c.args.self.now c.args.run c.self.view_is c.requires.live in
+    let r = route c.self.inside c.args.self.now c.args.run c.self.view_is c.requires.route in
+    let m = told (goal.at.give_tail-requires c).After-huge_of-last in
+    let now' = given (goal.at.give_tail-requires c).After-huge_of c.give_run-2.new.self c.give_run-2.ensures in
+    record {
+      low = m.low;
+      high = m.high;
+      same = ap (λ (x : Cache). length x.taken) now' ∙ given_size c.self.inside c.self.invariant c.args.run l r ∙ m.taken;
+      out = λ some.
+          ap (λ (x : Cache). holds x c.huge_of-last.result.0) now'
+          ∙ ap (holds (with_backed_run c.self.inside.cache (c.args.run.first.0 / 256) (c.args.run.pages / 256))) c.huge_of-last.ensures
+          ∙ last_out c.self.inside c.self.invariant c.args.run l r some;
+    }
 
-without_part : (c : After-strike_run) → c.args.run.pages % 256 ≡ 0 → Results (record (parts_of c.self.inside) { cache = c.give_run.new.self; lengths = c.strike_run.new.lengths.items; used = c.strike_run.new.used }) (given_back (heap_of (parts_of c.self.inside)) c.args.run)
-without_part c even =
-    even_keeps (parts_of c.self.inside) c.self.invariant c.args.run
-    (subst (λ (heap : Heap). Contains heap.runs c.args.run) (sym c.self.view_is) c.requires.live)
-    (subst (λ heap. IsInHugepages heap c.args.run) (sym c.self.view_is) c.requires.route)
-    even
-    c.give_run.new.self c.strike_run.new.lengths.items c.strike_run.new.used
-    (c.give_run.ensures ∙ ap (λ k. with_backed_run c.self.inside.cache k (c.args.run.pages / 256)) c.huge_of.ensures)
-    c.strike_run.ensures.lengths c.strike_run.ensures.used
+pub overflow_sub-self : goal.overflow_sub-self
+overflow_sub-self c =
+    let l = live c.self.inside c.args.self.now c.args.run c.self.view_is c.requires.live in
+    let counted = whole_counted c.self.inside c.self.invariant c.args.run l (route c.self.inside c.args.self.now c.args.run c.self.view_is c.requires.route) in
+    omega (arith, counted, c.from.ensures)
+
+now : (c : After-from) → Results (record c.self.inside { table = c.give_run.new.self; filler = c.measure.new.filler; cache = c.give_tail.new.cache; used = c.self.inside.used - c.from.result }) (given_back (heap_of c.self.inside) c.args.run)
+now c =
+    let l = live c.self.inside c.args.self.now c.args.run c.self.view_is c.requires.live in
+    let r = route c.self.inside c.args.self.now c.args.run c.self.view_is c.requires.route in
+    let after : Heap = given_back (heap_of c.self.inside) c.args.run in
+    let means = c.give_run.ensures (heap_of c.self.inside) c.self.invariant.well.sound c.self.invariant.shows.means l in
+    let is_told : IsTold c.give_run.new.self after = record { sound = whole_sound c.self.inside c.self.invariant c.args.run l r; means = means } in
+    let part = c.args.run.pages % 256 in
+    whole_keeps c.self.inside c.self.invariant c.args.run l r
+    (record c.self.inside { table = c.give_run.new.self; filler = c.measure.new.filler; cache = c.give_tail.new.cache; used = c.self.inside.used - c.from.result })
+    refl means c.measure.ensures.places
+    (c.measure.ensures.told after is_told ∙ ap (remeasured c.self.inside.filler after) c.huge_of-last.ensures)
+    (c.give_tail.ensures after is_told ∙ ap (λ k. with_tail_freed c.give_run-2.new.self part k (hugepage after k)) c.huge_of-last.ensures
+    ∙ ap (λ x. with_tail_freed x part ((c.args.run.first.0 + c.args.run.pages - 1) / 256) (hugepage after ((c.args.run.first.0 + c.args.run.pages - 1) / 256))) (c.give_run-2.ensures ∙ ap (λ k. with_backed_run c.self.inside.cache k (c.args.run.pages / 256)) c.huge_of.ensures))
+    refl (ap (λ k. c.self.inside.used - k) c.from.ensures)
 
 pub invariant_of-self : goal.invariant_of-self
-invariant_of-self c = (with_part c).kept
+invariant_of-self c = (now (goal.at.invariant_of-self c).After-from).kept
 
-pub returns-then-part-ne0 : goal.returns-then-part-ne0
-returns-then-part-ne0 c = (with_part c).is ∙ ap (λ heap. given_back heap c.args.run) c.self.view_is
-
-pub invariant_of-self-else-part-ne0 : goal.invariant_of-self-else-part-ne0
-invariant_of-self-else-part-ne0 c = (without_part ((goal.at.invariant_of-self-else-part-ne0 c).After-strike_run) c.if-part-ne0.false).kept
-
-pub returns-else-part-ne0 : goal.returns-else-part-ne0
-returns-else-part-ne0 c = (without_part ((goal.at.returns-else-part-ne0 c).After-strike_run) c.if-part-ne0.false).is ∙ ap (λ heap. given_back heap c.args.run) c.self.view_is
+pub returns : goal.returns
+returns c =
+    let d = (goal.at.returns c).After-from in
+    (now d).is ∙ ap (λ heap. given_back heap d.args.run) d.self.view_is

@@ -1,41 +1,34 @@
-use Rattle.std.proofs.Common.{◌≡◌, ◌/◌, is_some, option_map, Contains, sym, ap, subst, ◌∙◌}
-use Rattle.heap_rules.specs.Heap.{Heap}
-use Rattle.huge_filler.specs.Filler.{page_at}
-use Rattle.huge_region.specs.Regions.{region_with, view_of}
-use Rattle.page_heap.specs.Parts.{heap_of, IsInOneHugepage, IsInHugepages, IsInRegion}
-use Rattle.page_heap.proofs.Insides.{parts_of}
-use Rattle.page_heap.proofs.Routes.{route_filler, route_region, route_whole}
+use Rattle.std.proofs.Common.{◌≡◌, ◌/◌, sym, ap, ◌∙◌, inl, inr, arith}
+use Rattle.heap_rules.specs.Heap.{Heap, hugepage}
+use Rattle.page_heap.specs.Inside.{heap_of}
+use Rattle.page_heap.proofs.Routes.{first_near, first_low, first_high, route_filler, route_region, route_whole}
 use Rattle.page_heap.proofs.heap.PageHeap.give_back.Goals as goal
-use Rattle.page_heap.proofs.heap.PageHeap.give_back.Goals.{After-huge_of-huge, After-holds, After-is_some}
+use Rattle.page_heap.proofs.heap.PageHeap.give_back.Goals.{After-kind}
 
-live : (c : After-huge_of-huge) → Contains (heap_of (parts_of c.self.inside)).runs c.args.run
-live c = subst (λ (heap : Heap). Contains heap.runs c.args.run) (sym c.self.view_is) c.requires
+pub huge_of-requires : goal.huge_of-requires
+huge_of-requires c = first_near c.self.inside c.args.self.now c.self.view_is c.self.invariant c.args.run c.requires
 
-held : (c : After-holds) → c.holds.result ≡ is_some (page_at c.self.inside.filler (c.args.run.first.0 / 256))
-held c = c.holds.ensures.held ∙ ap (λ h. is_some (page_at c.self.inside.filler h)) c.huge_of-huge.ensures
+pub kind-requires-clause-low : goal.kind-requires-clause-low
+kind-requires-clause-low c = let low = first_low c.self.inside c.args.self.now c.self.view_is c.self.invariant c.args.run c.requires in omega (arith, low, c.huge_of.ensures)
 
-there : (c : After-is_some) → c.is_some.result ≡ is_some (option_map (view_of (c.args.run.first.0 / 256)) (region_with c.self.inside.regions (c.args.run.first.0 / 256)))
-there c = c.is_some.ensures ∙ ap is_some c.row.ensures.row ∙ ap (λ h. is_some (option_map (view_of h) (region_with c.self.inside.regions h))) c.huge_of-huge.ensures
+pub kind-requires-clause-high : goal.kind-requires-clause-high
+kind-requires-clause-high c = let high = first_high c.self.inside c.args.self.now c.self.view_is c.self.invariant c.args.run c.requires in omega (arith, high, c.huge_of.ensures)
+
+serves : (c : After-kind) → (hugepage c.args.self.now (c.args.run.first.0 / 256)).kind ≡ c.kind.result
+serves c =
+    sym (c.kind.ensures.heap (heap_of c.self.inside) c.self.invariant.shows.means
+    ∙ ap (λ k. (hugepage (heap_of c.self.inside) k).kind) c.huge_of.ensures
+    ∙ ap (λ (heap : Heap). (hugepage heap (c.args.run.first.0 / 256)).kind) c.self.view_is)
 
 pub free_in_filler-requires-clause-route : goal.free_in_filler-requires-clause-route
 free_in_filler-requires-clause-route c =
-    let d = (goal.at.free_in_filler-requires-clause-route c).After-huge_of-huge in
-    let e = (goal.at.free_in_filler-requires-clause-route c).After-holds in
-    subst (λ heap. IsInOneHugepage heap d.args.run) d.self.view_is
-    (route_filler (parts_of d.self.inside) d.self.invariant d.args.run (live d) (sym (held e) ∙ c.if-holds.true))
+    route_filler c.self.inside c.args.self.now c.self.view_is c.self.invariant c.args.run c.requires (serves (goal.at.free_in_filler-requires-clause-route c).After-kind ∙ c.in-Filler.is)
 
 pub free_in_region-requires-clause-route : goal.free_in_region-requires-clause-route
 free_in_region-requires-clause-route c =
-    let d = (goal.at.free_in_region-requires-clause-route c).After-huge_of-huge in
-    let e = (goal.at.free_in_region-requires-clause-route c).After-holds in
-    let f = (goal.at.free_in_region-requires-clause-route c).After-is_some in
-    subst (λ heap. IsInRegion heap d.args.run) d.self.view_is
-    (route_region (parts_of d.self.inside) d.self.invariant d.args.run (live d) (sym (held e) ∙ c.if-holds.false) (sym (there f) ∙ c.if-is_some.true))
+    route_region c.self.inside c.args.self.now c.self.view_is c.self.invariant c.args.run c.requires (serves (goal.at.free_in_region-requires-clause-route c).After-kind ∙ c.in-Region.is)
 
 pub free_whole-requires-clause-route : goal.free_whole-requires-clause-route
 free_whole-requires-clause-route c =
-    let d = (goal.at.free_whole-requires-clause-route c).After-huge_of-huge in
-    let e = (goal.at.free_whole-requires-clause-route c).After-holds in
-    let f = (goal.at.free_whole-requires-clause-route c).After-is_some in
-    subst (λ heap. IsInHugepages heap d.args.run) d.self.view_is
-    (route_whole (parts_of d.self.inside) d.self.invariant d.args.run (live d) (sym (held e) ∙ c.if-holds.false) (sym (there f) ∙ c.if-is_some.false))
+    let s = serves (goal.at.free_whole-requires-clause-route c).After-kind in
+    route_whole c.self.inside c.args.self.now c.self.view_is c.self.invariant c.args.run c.requires (elim c.in-Free.is [ inl e ↦ inl (s ∙ e) | inr e ↦ inr (s ∙ e) ])

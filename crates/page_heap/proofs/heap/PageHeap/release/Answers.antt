@@ -4,7 +4,7 @@ use Rattle.heap_rules.specs.Laws.{IsReleased, BacksNone}
 use Rattle.heap_rules.proofs.Released.{release_keeps}
 use Rattle.heap_rules.proofs.NoneBacked.{release_backs_none}
 use Rattle.heap_rules.proofs.Enough.{release_is_enough}
-use Rattle.page_heap.proofs.Unbacks.{released_by}
+use Rattle.page_heap.proofs.Gives.{released_by}
 use Rattle.page_heap.proofs.heap.PageHeap.release.Goals as goal
 use Rattle.page_heap.proofs.heap.PageHeap.release.Goals.{After-release_spare-spare}
 

@@ -1,20 +1,61 @@
-use Rattle.std.proofs.Common.{◌≡◌, sym, subst, ◌∙◌}
-use Rattle.heap_rules.specs.Heap.{Heap}
+use Rattle.std.proofs.Common.{◌≡◌, ℕ, ◌+◌, ◌-◌, ◌<◌, ◌≤◌, map, sym, ap, subst, ◌∙◌, arith}
+use Rattle.heap_rules.specs.Heap.{Heap, is_free_backed}
 use Rattle.heap_rules.specs.Release.{free_given}
-use Rattle.page_heap.specs.Parts.{heap_of}
-use Rattle.page_heap.proofs.Insides.{parts_of}
-use Rattle.page_heap.proofs.Results.{Results}
-use Rattle.page_heap.proofs.Unbacks.{answer_of, free_keeps, free_pages}
+use Rattle.page_heap.specs.Gives.{behind}
+use Rattle.page_heap.proofs.Gives.{free_next, free_none, whole_zero, whole_few, loop_begins, loop_goes_on, loop_ends, loop_few, most_pages}
 use Rattle.page_heap.proofs.heap.PageHeap.release_free.Goals as goal
-use Rattle.page_heap.proofs.heap.PageHeap.release_free.Goals.{After-release}
+use Rattle.page_heap.proofs.heap.PageHeap.release_free.Goals.{After-from-given}
 
-now : (c : After-release) → Results (record (parts_of c.self.inside) { cache = c.release.new.self }) (free_given (heap_of (parts_of c.self.inside)) c.args.n).heap
-now c = free_keeps (parts_of c.self.inside) c.self.invariant c.args.n c.release.new.self c.release.ensures.released
+pub loop-given-init : goal.loop-given-init
+loop-given-init c = loop_begins free_given c.args.self.now c.args.n
 
-pub invariant_of-self : goal.invariant_of-self
-invariant_of-self c = (now c).kept
+left : (given n : ℕ) → given < n → 0 < n - given
+left given n l = omega arith
+
+next : (c : After-from-given) → free_given c.args.self.now c.args.n ≡ behind (c.loop-given.given + c.from-given.result) (free_given c.unback_free.new.self (c.args.n - (c.loop-given.given + c.from-given.result)))
+next c =
+    let heap : Heap = c.loop-given.self in
+    let k : ℕ = c.args.n - c.loop-given.given in
+    loop_goes_on free_given c.args.self.now heap c.unback_free.new.self c.args.n c.loop-given.given c.from-given.result c.loop-given.invariant
+    (subst (λ m. free_given heap k ≡ behind m (free_given c.unback_free.new.self (k - m))) (sym c.from-given.ensures)
+    (free_next heap k c.in-Some.huge c.in-Some.ensures.sound (left c.loop-given.given c.args.n c.loop-given-test.true) c.in-Some.ensures.last ∙ ap (λ h. behind 256 (free_given h (k - 256))) (sym c.unback_free.ensures)))
+
+most : (flags_pages length_pages : ℕ) → flags_pages ≤ length_pages → length_pages ≤ 1048576 → flags_pages ≤ 1048576
+most a b p q = omega arith
+
+pub overflow_add-given : goal.overflow_add-given
+overflow_add-given c =
+    let d = (goal.at.overflow_add-given c).After-from-given in
+    let few = loop_few free_given d.args.self.now d.unback_free.new.self d.args.n (d.loop-given.given + d.from-given.result) 1048576 (next d)
+    (most _ _ (whole_few (map is_free_backed d.args.self.now.hugepages) d.args.self.now d.args.n) (most_pages d.self.inside d.args.self.now d.self.view_is d.self.invariant)) in
+    omega (arith, few)
+
+pub loop-given-preserved : goal.loop-given-preserved
+loop-given-preserved c = next c
+
+smaller : (n given m : ℕ) → given < n → m ≡ 256 → n - (given + m) < n - given
+smaller n given m l e = omega arith
+
+pub loop-given-smaller : goal.loop-given-smaller
+loop-given-smaller c = smaller c.args.n c.loop-given.given c.from-given.result c.loop-given-test.true c.from-given.ensures
+
+pub returns-in_default-clause-given : goal.returns-in_default-clause-given
+returns-in_default-clause-given c = loop_ends free_given c.args.self.now c.loop-given.self c.args.n c.loop-given.given c.loop-given.invariant (free_none c.loop-given.self (c.args.n - c.loop-given.given) c.in_default.ensures.none)
+
+pub returns-in_default-clause-few : goal.returns-in_default-clause-few
+returns-in_default-clause-few c =
+    loop_few free_given c.args.self.now c.loop-given.self c.args.n c.loop-given.given 1048576 c.loop-given.invariant
+    (most _ _ (whole_few (map is_free_backed c.args.self.now.hugepages) c.args.self.now c.args.n) (most_pages c.self.inside c.args.self.now c.self.view_is c.self.invariant))
+
+done : (n given : ℕ) → n ≤ given → n - given ≡ 0
+done n given l = omega arith
 
 pub returns-clause-given : goal.returns-clause-given
 returns-clause-given c =
-    subst (λ (heap : Heap). free_given heap c.args.n ≡ record { heap = heap_of (record (parts_of c.self.inside) { cache = c.release.new.self }); pages = c.release.result }) c.self.view_is
-    (answer_of (free_given (heap_of (parts_of c.self.inside)) c.args.n) _ _ (sym (now c).is) (sym (c.release.ensures.pages ∙ free_pages (parts_of c.self.inside) c.self.invariant c.args.n)))
+    loop_ends free_given c.args.self.now c.loop-given.self c.args.n c.loop-given.given c.loop-given.invariant
+    (whole_zero (map is_free_backed c.loop-given.self.hugepages) c.loop-given.self (c.args.n - c.loop-given.given) (done c.args.n c.loop-given.given c.loop-given-test.false))
+
+pub returns-clause-few : goal.returns-clause-few
+returns-clause-few c =
+    loop_few free_given c.args.self.now c.loop-given.self c.args.n c.loop-given.given 1048576 c.loop-given.invariant
+    (most _ _ (whole_few (map is_free_backed c.args.self.now.hugepages) c.args.self.now c.args.n) (most_pages c.self.inside c.args.self.now c.self.view_is c.self.invariant))

@@ -1,23 +1,19 @@
-use Rattle.std.proofs.Common.{ap, ◌∙◌}
-use Rattle.heap_rules.specs.Settle.{settled}
-use Rattle.huge_cache.specs.Cache.{trimmed, noted}
-use Rattle.page_heap.specs.Parts.{Parts, heap_of}
-use Rattle.page_heap.proofs.Results.{Results}
-use Rattle.page_heap.proofs.Kept.{settle_keeps}
+use Rattle.std.proofs.Common.{◌*◌, sym, ap, subst, ◌∙◌}
+use Rattle.heap_rules.specs.Heap.{Heap}
+use Rattle.heap_rules.specs.Release.{Released, free_given}
+use Rattle.heap_rules.specs.Sound.{IsSound}
+use Rattle.heap_rules.proofs.Released.{free_sound}
+use Rattle.page_heap.specs.Gives.{over_limit}
+use Rattle.page_heap.proofs.Gives.{settled_is}
 use Rattle.page_heap.proofs.heap.PageHeap.settle.Goals as goal
-use Rattle.page_heap.proofs.heap.PageHeap.settle.Goals.{After-trim}
-
-abbrev old : After-trim → Parts
-old c = let p = c.self.inside in record { config = p.config; filler = p.filler; cache = p.cache; regions = p.regions; lengths = p.lengths.items; used = p.used }
-
-now : (c : After-trim) → Results (record (old c) { cache = c.trim.new.self }) (settled (heap_of (old c)))
-now c = settle_keeps (old c) c.self.invariant c.trim.new.self (c.trim.ensures.trimmed ∙ ap trimmed (c.note_use.ensures ∙ ap (noted c.self.inside.cache) c.in_use-in_use.ensures.value))
-
-pub invariant_of-self : goal.invariant_of-self
-invariant_of-self c = (now c).kept
 
 pub returns-clause-settled : goal.returns-clause-settled
-returns-clause-settled c = (now c).is ∙ ap settled c.self.view_is
+returns-clause-settled c =
+    sym (settled_is c.args.self.now
+    ∙ ap (λ (heap : Heap). (free_given heap (256 * over_limit heap)).heap) (sym c.note_use-over.ensures.noted)
+    ∙ ap (λ k. (free_given c.note_use-over.new.self k).heap) (sym c.note_use-over.ensures.over)
+    ∙ ap (λ (r : Released). r.heap) c.release_free-pages.ensures.given)
 
 pub returns-clause-sound : goal.returns-clause-sound
-returns-clause-sound c = (now c).kept.well.sound
+returns-clause-sound c =
+    subst IsSound (ap (λ (r : Released). r.heap) c.release_free-pages.ensures.given) (free_sound c.note_use-over.new.self c.note_use-over.result c.release_free-pages.ensures.sound)

@@ -1,0 +1,132 @@
+-- The rows of a heap's regions: which one has a hugepage, and what a run that comes or leaves makes of them.
+use Rattle.std.proofs.Common.{◌≡◌, ℕ, zero, suc, ◌+◌, ◌-◌, ◌*◌, ◌/◌, ◌<◌, ◌≤◌, ◌==◌, Bool, true, false, nat_le, nat_lt, cond, List, [], ◌∷◌, length, get_or, map, count_by, Contains, Option, Some, None, option_map, refl, sym, ap, subst, ◌∙◌, inl, inr, arith}
+use Rattle.std.specs.List.{find}
+use Rattle.std.proofs.lemmas.Bool.{cases_Bool, cases_eq, false≢true, false_from_ne_true, eq-eqb, ne_eqb, and_from, le-leb, lt-ltb, leb-true, ltb-true, and_parts}
+use Rattle.std.proofs.lemmas.List.{same_lists}
+use Rattle.std.proofs.lemmas.List.FromFn.{length-map-range_with_len, get_or-map-range_with_len}
+use Rattle.std.proofs.lemmas.List.Elements.{All-contains, Contains-get_or}
+use Rattle.std.proofs.lemmas.Option.{none-some, same_Some}
+use Rattle.tc_units.specs.declared.spans.Run.{Run}
+use Rattle.range_bits.specs.Ranges.{with_places}
+use Rattle.range_bits.proofs.BitFacts.{is_between}
+use Rattle.range_bits.proofs.Placing.{length-with_places, get_or-with_places}
+use Rattle.heap_rules.specs.RegionRows.{RegionRow}
+use Rattle.heap_rules.specs.Heap.{Heap, Hugepage, hugepage, holds, is_used, reaches, used_from, region_row, is_region, spans}
+use Rattle.heap_rules.specs.Choice.{region_row_of}
+use Rattle.heap_rules.specs.Sound.{IsRegion, IsSound}
+use Rattle.heap_rules.proofs.Fits.{holds_parts, holds_from, reaches_parts, spans_from}
+use Rattle.heap_rules.proofs.Left.{same_member}
+use Rattle.huge_region.specs.Regions.{region_with, with_changed}
+use Rattle.page_heap.specs.Inside.{regions_of}
+use Rattle.page_heap.proofs.Steps.{IsStep, used-away, row-away}
+use Rattle.page_heap.proofs.Frames.{map_same, map-map}
+
+-- The region of a hugepage.
+find_row : (heap : Heap) (h : ℕ) (rs : List ℕ) → find (λ (row : RegionRow). spans heap.config.region h row.first) (map (region_row_of heap) rs) ≡ option_map (region_row_of heap) (find (spans heap.config.region h) rs)
+find_row heap h [] = refl
+find_row heap h (r ∷ rs) = elim (spans heap.config.region h r) as (λ b. cond b (Some (region_row_of heap r)) (find (λ (row : RegionRow). spans heap.config.region h row.first) (map (region_row_of heap) rs)) ≡ option_map (region_row_of heap) (cond b (Some r) (find (spans heap.config.region h) rs))) [ true ↦ refl | false ↦ find_row heap h rs ]
+
+first_found : (p : ℕ → Bool) (rs : List ℕ) (r : ℕ) → Contains rs r → p r ≡ true → (s : ℕ) × (find p rs ≡ Some s)
+first_found p [] r has e = absurd (omega (arith, has.1))
+first_found p (x ∷ xs) r (zero, l, at) e = (x, rw (ap p at ∙ e) refl)
+first_found p (x ∷ xs) r (suc k, l, at) e = elim (cases_Bool (p x)) [
+  | inl t ↦ (x, rw t refl)
+  | inr f ↦ (let rest = first_found p xs r (k, omega arith, at) e in (rest.0, rw f rest.1))
+]
+
+found_member : (p : ℕ → Bool) (rs : List ℕ) (s : ℕ) → find p rs ≡ Some s → Contains rs s × (p s ≡ true)
+found_member p [] s e = absurd (none-some s e)
+found_member p (x ∷ xs) s e = elim (cases_Bool (p x)) [
+  | inl t ↦ (let same : x ≡ s = same_Some x s (sym (ap (λ b. cond b (Some x) (find p xs)) t) ∙ e) in ((0, omega arith, same), ap p (sym same) ∙ t))
+  | inr f ↦ (let rest = found_member p xs s (sym (ap (λ b. cond b (Some x) (find p xs)) f) ∙ e) in ((suc rest.0.0, omega (arith, rest.0.1), rest.0.2), rest.1))
+]
+
+pub region_found : (heap : Heap) (r h : ℕ) → count_by (spans heap.config.region h) heap.regions ≤ 1 → Contains heap.regions r → spans heap.config.region h r ≡ true → region_with (regions_of heap) h ≡ Some (region_row_of heap r)
+region_found heap r h most known e =
+    let there = first_found (spans heap.config.region h) heap.regions r known e in
+    let is = found_member (spans heap.config.region h) heap.regions there.0 there.1 in
+    let same : there.0 ≡ r = same_member (spans heap.config.region h) heap.regions there.0 r is.0 known is.1 e most in
+    find_row heap h heap.regions ∙ ap (option_map (region_row_of heap)) there.1 ∙ ap (λ s. Some (region_row_of heap s)) same
+
+-- a region that is found is the heap's
+pub record IsOf (heap : Heap) (h : ℕ) (row : RegionRow) : Type 0 where
+  pub region : ℕ
+  pub known : Contains heap.regions region
+  pub spanned : spans heap.config.region h region ≡ true
+  pub row_is : region_row_of heap region ≡ row
+
+pub region_of_row : (heap : Heap) (h : ℕ) (row : RegionRow) → region_with (regions_of heap) h ≡ Some row → IsOf heap h row
+region_of_row heap h row e = of_found (find (spans heap.config.region h) heap.regions) refl
+  where
+    of_found : (o : Option ℕ) → find (spans heap.config.region h) heap.regions ≡ o → IsOf heap h row
+    of_found None none = absurd (none-some row (sym (find_row heap h heap.regions ∙ ap (option_map (region_row_of heap)) none) ∙ e))
+    of_found (Some r) some =
+        let is = found_member (spans heap.config.region h) heap.regions r some in
+        record { region = r; known = is.0; spanned = is.1; row_is = same_Some (region_row_of heap r) row (sym (find_row heap h heap.regions ∙ ap (option_map (region_row_of heap)) some) ∙ e) }
+
+pub region_missing : (heap : Heap) (h : ℕ) → IsSound heap → is_region (hugepage heap h) ≡ false → region_with (regions_of heap) h ≡ None
+region_missing heap h sound other = of_found (region_with (regions_of heap) h) refl
+  where
+    of_found : (o : Option RegionRow) → region_with (regions_of heap) h ≡ o → o ≡ None
+    of_found None e = refl
+    of_found (Some row) e =
+        let is = region_of_row heap h row e in
+        absurd (false≢true (sym other ∙ (All-contains (IsRegion heap) heap.regions is.region sound.regions is.known).kinds h is.spanned))
+
+-- the pages of a range, of which a run has some from a start on, and is used there or isn't
+pub row_put : (runs rest : List Run) (run : Run) (b : Bool) → IsStep runs rest run → ((page : ℕ) → holds page run ≡ true → is_used rest page ≡ b) → (first many s : ℕ) → run.first.0 ≡ first + s → s + run.pages ≤ many → with_places (used_from runs first many) s run.pages b ≡ used_from rest first many
+row_put runs rest run b step own first many s at fits =
+    let row = used_from runs first many in
+    let len = length-map-range_with_len (is_used runs) first many in
+    let len' = length-map-range_with_len (is_used rest) first many in
+    let inside : s + run.pages ≤ length row = omega arith in
+    let size = length-with_places row s run.pages b inside in
+    same_lists (with_places row s run.pages b) (used_from rest first many) (omega arith)
+    (λ k d l.
+    let short : k < many = omega arith in
+    let old = get_or-map-range_with_len (is_used runs) first many k (first + k) d short refl in
+    get_or-with_places row s run.pages b k d inside
+    ∙ elim (cases_Bool (is_between s (s + run.pages) k)) [
+      | inl t ↦
+          (let parts : (nat_le s k ≡ true) × (nat_lt k (s + run.pages) ≡ true) = and_parts _ _ t in
+          let held : holds (first + k) run ≡ true = holds_from (first + k) run (omega (arith, leb-true s k parts.0)) (omega (arith, ltb-true k (s + run.pages) parts.1)) in
+          ap (λ (u : Bool). cond u b (get_or row k d)) t ∙ sym (own (first + k) held))
+      | inr f ↦
+          (let away : holds (first + k) run ≡ false = false_from_ne_true _ (λ t. (let parts = holds_parts (first + k) run t in false≢true (sym f ∙ and_from _ _ (le-leb s k (omega (arith, parts.0))) (lt-ltb k (s + run.pages) (omega (arith, parts.1)))))) in
+          ap (λ (u : Bool). cond u b (get_or row k d)) f ∙ old ∙ sym (used-away runs rest run step (first + k) away))
+    ]
+    ∙ sym (get_or-map-range_with_len (is_used rest) first many k (first + k) d short refl))
+
+-- A run comes to a region, or leaves one.
+module _ (heap : Heap) (rest : List Run) (hugepages : List Hugepage) (run : Run) (b : Bool) (step : IsStep heap.runs rest run) (own : (page : ℕ) → holds page run ≡ true → is_used rest page ≡ b) where
+  abbrev after : Heap
+  after = record heap { runs = rest; hugepages = hugepages }
+
+  pub reached_in : (r h : ℕ) → 256 * r ≤ run.first.0 → run.first.0 + run.pages ≤ 256 * (r + heap.config.region) → reaches h run ≡ true → spans heap.config.region h r ≡ true
+  reached_in r h from to e = let parts = reaches_parts h run e in spans_from heap.config.region h r (omega (arith, parts.1)) (omega (arith, parts.0))
+
+  pub regions_changed : (r : ℕ) → ((h : ℕ) → count_by (spans heap.config.region h) heap.regions ≤ 1) → Contains heap.regions r → 256 * r ≤ run.first.0 → run.first.0 + run.pages ≤ 256 * (r + heap.config.region) → 0 < heap.config.region → with_changed (regions_of heap) r (λ (x : RegionRow). record { first = x.first; used = with_places x.used (run.first.0 - 256 * r) run.pages b }) ≡ regions_of after
+  regions_changed r apart known from to wide =
+      let width : ℕ = heap.config.region in
+      let change : RegionRow → RegionRow = λ x. record { first = x.first; used = with_places x.used (run.first.0 - 256 * r) run.pages b } in
+      let g : RegionRow → RegionRow = λ x. cond (x.first == r) (change x) x in
+      ap (λ (rows : List RegionRow). record (regions_of heap) { rows = rows })
+      (map-map g (region_row_of heap) heap.regions
+      ∙ map_same (λ s. g (region_row_of heap s)) (region_row_of after) heap.regions
+      (λ k d l.
+      (let s = get_or heap.regions k d in
+      elim (cases_eq s r) [
+        | inl same ↦
+            ap (λ (t : Bool). cond t (change (region_row_of heap s)) (region_row_of heap s)) (eq-eqb s r same)
+            ∙ ap (λ (row : List Bool). let x : RegionRow = record { first = s; used = row } in x)
+            (subst (λ (i : ℕ). with_places (region_row heap.runs width i) (run.first.0 - 256 * r) run.pages b ≡ region_row rest width i) (sym same) (row_put heap.runs rest run b step own (256 * r) (256 * width) (run.first.0 - 256 * r) (omega arith) (omega arith)))
+        | inr other ↦
+            ap (λ (t : Bool). cond t (change (region_row_of heap s)) (region_row_of heap s)) (ne_eqb s r other)
+            ∙ ap (λ (row : List Bool). let x : RegionRow = record { first = s; used = row } in x)
+            (sym (row-away heap.runs rest run step (256 * s) (256 * width) (λ page a c.
+            false_from_ne_true _ (λ t.
+            let h : ℕ = page / 256 in
+            let parts = holds_parts page run t in
+            let mine = spans_from width h r (omega (arith, parts.0)) (omega (arith, parts.1)) in
+            other (same_member (spans width h) heap.regions s r (Contains-get_or heap.regions k d l) known (spans_from width h s (omega arith) (omega arith)) mine (apart h))))))
+      ])))

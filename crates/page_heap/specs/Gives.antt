@@ -1,0 +1,33 @@
+-- Who loses backing next, as a heap settles or a release goes on.
+use Rattle.std.specs.Prelude.{◌≡◌, ◌≢◌, ℕ, ◌+◌, ◌-◌, ◌<◌, Bool, true, false, count_by}
+use Rattle.tc_units.specs.declared.units.Huge.{Huge}
+use Rattle.heap_rules.specs.Heap.{Heap, hugepage, is_filler, is_free_backed}
+use Rattle.heap_rules.specs.CacheFlags.{limit}
+use Rattle.heap_rules.specs.Settle.{counted}
+use Rattle.heap_rules.specs.GiveUp.{gives_before}
+use Rattle.heap_rules.specs.Release.{Released, spare_pages, spare_row}
+use Rattle.heap_rules.specs.Sound.{IsHugepageOf}
+
+-- the heap with its use count, and how many free hugepages are backed above the limit
+abbrev pub noted : Heap → Heap
+noted heap = record heap { counts = counted heap }
+
+abbrev pub over_limit : Heap → ℕ
+over_limit heap = count_by is_free_backed heap.hugepages - limit heap.config.cache heap.counts
+
+-- what is released, behind some pages that were unbacked before
+abbrev pub behind : ℕ → Released → Released
+behind pages r = record { heap = r.heap; pages = pages + r.pages }
+
+-- the hugepage of greatest number that passes a test
+pub record IsLast (heap : Heap) (test : ℕ → Bool) (huge : Huge) : Type 0 where
+  pub own : IsHugepageOf heap.config.huge huge.0
+  pub passes : test huge.0 ≡ true
+  pub behind : (h : ℕ) → huge.0 < h → test h ≡ false
+
+-- the hugepage of the filler that has spare pages and gives before each other one that has some
+pub record IsFirstGiver (heap : Heap) (huge : Huge) : Type 0 where
+  pub own : IsHugepageOf heap.config.huge huge.0
+  pub filler : is_filler (hugepage heap huge.0) ≡ true
+  pub some : 0 < spare_pages heap huge.0
+  pub first : (h : ℕ) → is_filler (hugepage heap h) ≡ true → 0 < spare_pages heap h → h ≢ huge.0 → gives_before (spare_row heap h) (spare_row heap huge.0) ≡ true
