@@ -636,7 +636,7 @@ fn a_state_is_split_gathered_and_stepped(rt: HostRuntime) -> Result<(), Fail> {
 }
 
 /// The next act of the first thread.
-fn next_act(state: &State) -> Option<Step> {
+fn next_act(state: &State) -> Option<Step<CpuRow>> {
     Some(state.replay.locals.first()?.step())
 }
 
