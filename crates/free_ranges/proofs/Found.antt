@@ -1,12 +1,12 @@
 -- The tightest and the longest range of a row, found among its listed ranges.
-use Rattle.std.proofs.Common.{◌≡◌, ℕ, zero, suc, ◌+◌, ◌<◌, ◌≤◌, ◌&&◌, ◌⊎◌, Bool, true, false, cond, nat_lt, nat_le, List, [], ◌∷◌, length, get_or, filter, Option, Some, None, IfSome, All, Contains, refl, sym, ap, subst, ◌∙◌, inl, inr, arith}
+use Rattle.std.proofs.Common.{◌≡◌, ℕ, zero, suc, ◌+◌, ◌<◌, ◌≤◌, ◌&&◌, Bool, true, false, cond, nat_lt, nat_le, List, [], ◌∷◌, length, get_or, filter, Option, Some, None, IfSome, All, Contains, refl, sym, ap, subst, ◌∙◌, inl, inr, arith}
 use Rattle.std.specs.List.{range_with_len}
 use Rattle.std.proofs.lemmas.Bool.{cases_lt, cases_Bool, and_parts, and_from, leb-true, le-leb, lt-ltb, le-ltb}
 use Rattle.std.proofs.lemmas.Bool.Decides.{nat_tests}
 use Rattle.std.proofs.lemmas.List.FromFn.{length-range_with_len, get_or-range_with_len}
 use Rattle.std.proofs.lemmas.List.Elements.{All-filter, filter_passes}
 use Rattle.range_bits.specs.Ranges.{free_from, begins_range, places, best, longest, first_least, first_of_two}
-use Rattle.range_bits.proofs.RangeFacts.{best_is_fit}
+use Rattle.range_bits.proofs.RangeFacts.{best_is_fit, some_or_none}
 use Rattle.range_bits.proofs.RangeLemmas.{longest-at, start_of, first_least-all, range-within}
 use Rattle.range_bits.proofs.Scan.{greatest-ge}
 use Rattle.sorted_list.specs.Measures.{not_yes}
@@ -28,10 +28,6 @@ is_start row p inside begins =
 stays : (f : ℕ → ℕ) (x : ℕ) (o : Option ℕ) → IfSome o (λ y. f x ≤ f y) → first_of_two (λ x y. nat_lt (f x) (f y)) x o ≡ x
 stays f x None h = refl
 stays f x (Some y) h = ap (λ (b : Bool). cond b y x) (le-ltb (f y) (f x) h)
-
-some_or_none : (o : Option ℕ) → (o ≡ None) ⊎ ((s : ℕ) × (o ≡ Some s))
-some_or_none None = inl refl
-some_or_none (Some s) = inr (s, refl)
 
 not_below : (len n start : ℕ) → n ≤ len → first_by len n (nat_lt start 0) ≡ false
 not_below len n start l = grind (arith, nat_tests)

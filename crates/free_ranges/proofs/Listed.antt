@@ -1,5 +1,6 @@
 -- What a mark or an unmark makes of the listed ranges.
-use Rattle.std.proofs.Common.{◌≡◌, ◌≢◌, ℕ, ◌+◌, ◌-◌, ◌<◌, ◌≤◌, ◌==◌, ◌&&◌, ◌||◌, ◌⊎◌, Bool, true, false, not, cond, List, [], ◌∷◌, drop, length, get_or, count_by, Contains, IsPermutation, Some, replicate, refl, sym, ap, subst, ◌∙◌, inl, inr, arith, eq-eqb, eqb-true}
+use Rattle.std.proofs.Common.{◌≡◌, ℕ, ◌+◌, ◌-◌, ◌<◌, ◌≤◌, ◌==◌, ◌&&◌, ◌||◌, ◌⊎◌, Bool, true, false, not, cond, List, [], ◌∷◌, drop, length, get_or, count_by, Contains, IsPermutation, Some, replicate, refl, sym, ap, subst, ◌∙◌, inl, inr, arith, eq-eqb, eqb-true}
+use Rattle.std.proofs.lemmas.Bool.Decides.{nat_tests}
 use Rattle.std.proofs.lemmas.Bool.{cases_lt, and_from, and_parts, and_left, ne_eqb}
 use Rattle.std.proofs.lemmas.List.{same_lists, get_or-drop, get_or-replicate, length-replicate, length-drop}
 use Rattle.std.proofs.lemmas.List.Sums.{sum_by-cons, prefix_len_passes, prefix_len_stops}
@@ -7,10 +8,10 @@ use Rattle.std.proofs.lemmas.List.Sorted.{sum_by-IsPermutation}
 use Rattle.range_bits.specs.Fills.{IsEnd}
 use Rattle.range_bits.specs.Ranges.{free_from, used_from, begins_range, with_places, best}
 use Rattle.range_bits.specs.Words.{IsNext}
-use Rattle.range_bits.proofs.Counts.{free_inside, used_inside}
-use Rattle.range_bits.proofs.Filling.{length-with_places, place_before, place_in, place_behind}
+use Rattle.range_bits.proofs.Counts.{used_inside}
+use Rattle.range_bits.proofs.Placing.{length-with_places, place_before, place_in, place_behind}
 use Rattle.range_bits.proofs.RangeLemmas.{free_at}
-use Rattle.range_bits.proofs.Scan.{free_run}
+use Rattle.range_bits.proofs.Scan.{free_run, begins}
 use Rattle.range_bits.proofs.RangeFacts.{free_is_inside}
 use Rattle.sorted_list.specs.Measures.{not_yes}
 use Rattle.sorted_list.specs.Order.{IsFirstFrom}
@@ -20,7 +21,7 @@ use Rattle.free_ranges.specs.declared.range.FreeRange.{FreeRange}
 use Rattle.free_ranges.specs.Ranges.{Listing, IsListed, comes_before, range_at, starts}
 use Rattle.free_ranges.proofs.Found.{is_start, listed, ranged, best_found}
 use Rattle.free_ranges.proofs.Marked.{IsRoom, parted, is_used}
-use Rattle.free_ranges.proofs.Pieces.{count_in, counts, counts_none, counts_some, all_parts, free_part, begins}
+use Rattle.free_ranges.proofs.Pieces.{count_in, counts, counts_none, counts_some, all_parts, free_part}
 
 -- a range that comes, and one that goes
 pub added : (test : FreeRange → Bool) (keys keys' : List FreeRange) (start len : ℕ) → 0 < len → IsPermutation (record { len = len; start = start } ∷ keys) keys' → count_by test keys' ≡ count_by test keys + counts test start len
@@ -59,23 +60,7 @@ module _ (row : List Bool) (begin start n end : ℕ) (some : 1 ≤ n) (used : n 
   fits = used_inside row start n some used
 
   pub room_freed : IsRoom (with_places row start n false) begin start n end
-  room_freed =
-      record {
-        order = first.within;
-        some = some;
-        within = last.behind;
-        inside = omega (arith, last.within, length-with_places row start n false fits);
-        free = λ p low high.
-            elim (cases_lt p start) [
-              | inl early ↦ place_before row start n false fits p true early ∙ first.behind p low early
-              | inr late ↦ elim (cases_lt p (start + n)) [
-                | inl middle ↦ place_in row start n false fits p true late middle
-                | inr behind ↦ place_behind row start n false fits p true behind ∙ last.before p behind high
-              ]
-            ];
-        before = λ pos. place_before row start n false fits (begin - 1) true (omega (arith, first.within)) ∙ first.there pos;
-        behind = λ l. place_behind row start n false fits end true last.behind ∙ last.there (omega (arith, length-with_places row start n false fits));
-      }
+  room_freed = grind (arith, nat_tests, place_behind, place_before, fits, place_in, length-with_places)
 
   -- places that come into use again
   pub freed_back : row ≡ with_places (with_places row start n false) start n true

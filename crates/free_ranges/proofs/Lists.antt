@@ -1,5 +1,6 @@
 -- Counts of elements that pass a test.
-use Rattle.std.proofs.Common.{◌≡◌, ℕ, zero, suc, ◌+◌, ◌-◌, ◌<◌, ◌≤◌, Bool, true, false, ◌&&◌, cond, List, [], ◌∷◌, ◌++◌, length, get_or, count_by, filter, Contains, refl, sym, ap, subst, ◌∙◌, inl, inr, arith}
+use Rattle.std.proofs.Common.{◌≡◌, ℕ, zero, suc, ◌+◌, ◌-◌, ◌<◌, ◌≤◌, Bool, true, false, ◌&&◌, cond, List, [], ◌∷◌, count_by, filter, Contains, refl, sym, ap, subst, ◌∙◌, inl, inr, arith}
+use Rattle.std.proofs.lemmas.Bool.Decides.{nat_tests}
 use Rattle.std.specs.List.{range_with_len}
 use Rattle.std.proofs.lemmas.Bool.{cases_Bool}
 use Rattle.std.proofs.lemmas.List.Sums.{sum_by-cons, sum_by-append}
@@ -25,10 +26,7 @@ count_filter p q (x ∷ xs) =
 -- an element that passes is kept
 pub kept_by : {X : Type 0} (p : X → Bool) (xs : List X) (x : X) → Contains xs x → p x ≡ true → Contains (filter p xs) x
 kept_by p [] x held pass = absurd (omega (arith, held.1))
-kept_by p (y ∷ xs) x (zero, l, e) pass =
-    let here : filter p (y ∷ xs) ≡ y ∷ filter p xs = ap (λ (b : Bool). cond b (y ∷ filter p xs) (filter p xs)) (ap p e ∙ pass) in
-    let P : List _ → Type 0 = λ ys. Contains ys x in
-    subst P (sym here) (0, omega arith, e)
+kept_by p (y ∷ xs) x (zero, l, e) pass = grind (arith, nat_tests, Contains)
 kept_by p (y ∷ xs) x (suc k, l, e) pass =
     let rest = kept_by p xs x (k, omega arith, e) pass in
     let P : List _ → Type 0 = λ ys. Contains ys x in

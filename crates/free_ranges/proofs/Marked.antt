@@ -1,17 +1,17 @@
 -- A free range of which some places come into use: its range goes, and what is left of it on both sides comes.
-use Rattle.std.proofs.Common.{◌≡◌, ℕ, ◌+◌, ◌-◌, ◌<◌, ◌≤◌, ◌==◌, ◌&&◌, ◌||◌, Bool, true, false, not, List, ◌++◌, length, get_or, take, drop, replicate, refl, sym, ap, ◌∙◌, inl, inr, arith}
+use Rattle.std.proofs.Common.{◌≡◌, ℕ, ◌+◌, ◌-◌, ◌<◌, ◌≤◌, Bool, true, false, not, List, ◌++◌, length, get_or, take, drop, replicate, refl, sym, ap, ◌∙◌, inl, inr, arith}
+use Rattle.std.proofs.lemmas.Bool.Decides.{nat_tests}
 use Rattle.std.specs.List.{prefix_len}
 use Rattle.std.proofs.lemmas.Bool.{cases_lt, false≢true}
-use Rattle.std.proofs.lemmas.List.{same_lists, drop_at, drop-drop, length-drop, get_or-drop, get_or_default, length-append, length-take-le, length-replicate}
-use Rattle.std.proofs.lemmas.List.Sums.{prefix_len_stops, prefix_len_passes, prefix_len-le-length}
-use Rattle.range_bits.specs.Ranges.{free_from, used_from, begins_range, with_places}
-use Rattle.range_bits.proofs.Filling.{length-with_places, place_before, place_in, place_behind}
+use Rattle.std.proofs.lemmas.List.{drop_at, drop-drop, length-drop, get_or-drop, length-append, length-take-le, length-replicate}
+use Rattle.std.proofs.lemmas.List.Sums.{prefix_len_stops}
+use Rattle.range_bits.specs.Ranges.{free_from, with_places}
+use Rattle.range_bits.proofs.Placing.{length-with_places, place_before, place_in, place_behind}
 use Rattle.range_bits.proofs.RangeLemmas.{free_at}
-use Rattle.range_bits.proofs.Scan.{free_run}
+use Rattle.range_bits.proofs.Scan.{free_run, used_begins}
 use Rattle.free_ranges.specs.declared.range.FreeRange.{FreeRange}
-use Rattle.free_ranges.specs.Ranges.{range_at}
 use Rattle.free_ranges.proofs.Lists.{count_same, count_cut}
-use Rattle.free_ranges.proofs.Pieces.{tested, count_in, counts, used_part, free_part, used_begins}
+use Rattle.free_ranges.proofs.Pieces.{tested, count_in, counts, used_part, free_part}
 
 -- A maximal free range, with the places among it that come into use.
 pub record IsRoom (row : List Bool) (begin start n end : ℕ) : Type 0 where
@@ -75,26 +75,13 @@ module _ (row : List Bool) (begin start n end : ℕ) (room : IsRoom row begin st
       ap (prefix_len not) back
 
   alike : (test : FreeRange → Bool) (p : ℕ) → get_or (with_places row start n true) p true ≡ get_or row p true → get_or (with_places row start n true) (p - 1) true ≡ get_or row (p - 1) true → free_from (with_places row start n true) p ≡ free_from row p → tested (with_places row start n true) test p ≡ tested row test p
-  alike test p here before len =
-      ap (λ (b : Bool). (not b && (p == 0 || get_or (with_places row start n true) (p - 1) true)) && test (range_at (with_places row start n true) p)) here
-      ∙ ap (λ (b : Bool). (not (get_or row p true) && (p == 0 || b)) && test (range_at (with_places row start n true) p)) before
-      ∙ ap (λ (l : ℕ). (not (get_or row p true) && (p == 0 || get_or row (p - 1) true)) && test (record { len = l; start = p })) len
+  alike test p here before len = grind (arith, nat_tests)
 
   front_same : (test : FreeRange → Bool) → count_in (with_places row start n true) test 0 begin ≡ count_in row test 0 begin
   front_same test = count_same (tested (with_places row start n true) test) (tested row test) 0 (begin - 0) (λ p low high. alike test p (early p (omega (arith, room.order))) (early (p - 1) (omega (arith, room.order))) (same_len p (omega arith)))
 
   back_same : (test : FreeRange → Bool) → count_in (with_places row start n true) test end (length row) ≡ count_in row test end (length row)
-  back_same test =
-      count_same (tested (with_places row start n true) test) (tested row test) end (length row - end) (λ p low high.
-      elim (cases_lt end p) [
-        | inl later ↦ alike test p (late p (omega (arith, room.within))) (late (p - 1) (omega (arith, room.within))) (same_rest p (omega (arith, room.within)))
-        | inr here ↦
-            (let at : end ≡ p = omega arith in
-            let used : get_or row p true ≡ true = ap (λ (k : ℕ). get_or row k true) (sym at) ∙ room.behind (omega arith) in
-            let used' : get_or (with_places row start n true) p true ≡ true = late p (omega (arith, room.within)) ∙ used in
-            ap (λ (b : Bool). b && test (range_at (with_places row start n true) p)) (used_begins (with_places row start n true) p used')
-            ∙ sym (ap (λ (b : Bool). b && test (range_at row p)) (used_begins row p used)))
-      ])
+  back_same test = grind (arith, nat_tests, count_same, late, used_begins, same_rest, tested, alike)
 
   -- Its range goes, and what is left of it comes.
   pub parted : (test : FreeRange → Bool) → count_in (with_places row start n true) test 0 (length row) + counts test begin (end - begin) ≡ count_in row test 0 (length row) + counts test begin (start - begin) + counts test (start + n) (end - (start + n))

@@ -1,11 +1,10 @@
 -- The ranges that begin in a part of a row.
-use Rattle.std.proofs.Common.{◌≡◌, ℕ, zero, suc, ◌+◌, ◌-◌, ◌<◌, ◌≤◌, ◌==◌, ◌&&◌, ◌||◌, Bool, true, false, not, cond, nat_lt, List, ◌∷◌, length, get_or, drop, count_by, refl, sym, ap, ◌∙◌, inl, inr, arith, eq-eqb}
+use Rattle.std.proofs.Common.{◌≡◌, ℕ, suc, ◌+◌, ◌-◌, ◌<◌, ◌≤◌, ◌&&◌, Bool, true, false, cond, nat_lt, List, ◌∷◌, length, get_or, count_by, sym, ap, ◌∙◌, inl, inr, arith}
 use Rattle.std.specs.List.{range_with_len}
-use Rattle.std.proofs.lemmas.Bool.{cases_lt, and_from, and_left, and_right, or_left, or_right, ne_eqb, lt-ltb, le-ltb}
+use Rattle.std.proofs.lemmas.Bool.{cases_lt, lt-ltb, le-ltb}
 use Rattle.std.proofs.lemmas.List.Sums.{sum_by-cons}
 use Rattle.range_bits.specs.Ranges.{free_from, begins_range, places}
-use Rattle.range_bits.proofs.Scan.{free_run}
-use Rattle.sorted_list.specs.Rows.{IsIndexOf}
+use Rattle.range_bits.proofs.Scan.{free_run, used_begins, behind_free, begins}
 use Rattle.free_ranges.specs.declared.range.FreeRange.{FreeRange}
 use Rattle.free_ranges.specs.Ranges.{range_at, starts}
 use Rattle.free_ranges.proofs.Lists.{count_filter, count_no_one}
@@ -26,23 +25,6 @@ counts_none test start len e = ap (λ (b : Bool). cond (b && test (record { len 
 
 pub counts_some : (test : FreeRange → Bool) (start len : ℕ) → 0 < len → counts test start len ≡ cond (test (record { len = len; start = start })) 1 0
 counts_some test start len some = ap (λ (b : Bool). cond (b && test (record { len = len; start = start })) 1 0) (lt-ltb 0 len some)
-
--- no range begins at a used place, nor behind a free one
-pub used_begins : (row : List Bool) (p : ℕ) → get_or row p true ≡ true → begins_range row p ≡ false
-used_begins row p used = and_left _ _ (ap not used)
-
-pub behind_free : (row : List Bool) (p : ℕ) → 0 < p → get_or row (p - 1) true ≡ false → begins_range row p ≡ false
-behind_free row p pos free =
-    let first : (p == 0) ≡ false = ne_eqb p 0 (λ e. omega arith) in
-    and_right (not (get_or row p true)) (p == 0 || get_or row (p - 1) true) (ap (λ (b : Bool). b || get_or row (p - 1) true) first ∙ free)
-
-pub begins : (row : List Bool) (p : ℕ) → get_or row p true ≡ false → (0 < p → get_or row (p - 1) true ≡ true) → begins_range row p ≡ true
-begins row p free edge =
-    and_from (not (get_or row p true)) (p == 0 || get_or row (p - 1) true) (ap not free)
-    (elim (cases_lt 0 p) [
-      | inr first ↦ or_left (p == 0) (get_or row (p - 1) true) (eq-eqb p 0 (omega arith))
-      | inl later ↦ or_right (p == 0) (get_or row (p - 1) true) (edge later)
-    ])
 
 not_tested : (row : List Bool) (test : FreeRange → Bool) (p : ℕ) → begins_range row p ≡ false → tested row test p ≡ false
 not_tested row test p none = ap (λ (b : Bool). b && test (range_at row p)) none

@@ -1,5 +1,5 @@
 //! A row of places with its free ranges in the order of their lengths.
-ghost use Rattle.std.specs.Prelude.{◌≡◌, ◌+◌, ◌*◌, ◌<◌, ◌≤◌, ◌↔◌, true, false, Some, None, length, take, drop, replicate, IfOk};
+ghost use Rattle.std.specs.Prelude.{◌≡◌, ◌+◌, ◌*◌, ◌<◌, ◌≤◌, ◌↔◌, ◌==◌, true, false, Some, None, length, replicate, IfOk};
 ghost use Rattle.std.specs.List.{slice_index_or};
 ghost use Rattle.range_bits.specs.Ranges.{free_from, used_from, used_count, longest, best, with_places};
 
@@ -69,11 +69,11 @@ impl RangedBits {
         }
     }
 
-    /// How many places are used.
-    pub fn used(&self) -> u32
-        ensures { result ≡ used_count self.now }
+    /// Whether no place is used.
+    pub fn is_free(&self) -> bool
+        ensures { result ≡ (used_count self.now == 0) }
     {
-        self.bits.used()
+        self.longest() == self.bits.places()
     }
 
     /// Makes `n` free places used, from `start` on.
@@ -86,7 +86,7 @@ impl RangedBits {
         let _ = self.bits.places();
         let begin = self.bits.used_end(start);
         let end = self.bits.next_used(start + n);
-        self.bits.mark(start, n);
+        self.bits.put(start, n, true);
         self.ranges.remove(begin, end - begin);
         self.ranges.add(begin, start - begin);
         self.ranges.add(start + n, end - (start + n));
@@ -109,7 +109,7 @@ impl RangedBits {
         };
         // The places are numbered by a `u32`.
         let _ = self.bits.places();
-        self.bits.mark(start, n);
+        self.bits.put(start, n, true);
         self.ranges.remove(start, len);
         self.ranges.add(start + n, len - n);
     }
@@ -124,7 +124,7 @@ impl RangedBits {
         let _ = self.bits.places();
         let begin = self.bits.used_end(start);
         let end = self.bits.next_used(start + n);
-        self.bits.unmark(start, n);
+        self.bits.put(start, n, false);
         self.ranges.remove(begin, start - begin);
         self.ranges.remove(start + n, end - (start + n));
         self.ranges.add(begin, end - begin);
@@ -143,21 +143,5 @@ impl RangedBits {
         ensures { result ≡ slice_index_or self.now place true }
     {
         self.bits.is_used(place)
-    }
-
-    /// How many of `n` places are used, from `start` on.
-    pub fn used_in(&self, start: u32, n: u32) -> u32
-        requires { start + n ≤ length self.now }
-        ensures { result ≡ used_count (take n (drop start self.now)) }
-    {
-        self.bits.used_in(start, n)
-    }
-
-    /// The greatest number of free places that follow each other in `words` words, from word `first` on.
-    pub fn longest_in(&self, first: usize, words: usize) -> u32
-        requires { 64 * (first + words) ≤ length self.now }
-        ensures { result ≡ longest (take (64 * words) (drop (64 * first) self.now)) }
-    {
-        self.bits.longest_in(first, words)
     }
 }

@@ -26,11 +26,7 @@ fn put_plain(bits: &mut WideBits, place: u32, used: bool)
     if place >= bits.places() || bits.is_used(place) == used {
         return;
     }
-    if used {
-        bits.mark(place, 1);
-    } else {
-        bits.unmark(place, 1);
-    }
+    bits.put(place, 1, used);
 }
 
 /// Makes places used or free, one after another.
@@ -55,13 +51,14 @@ fn ranges_part_and_join(rt: HostRuntime) -> Result<(), Fail> {
     // And 200 to 299: 100 places too, behind the first ones.
     assert_eq!(rt; bits.best(100), Some(0));
     assert_eq!(rt; bits.longest(), 112);
-    assert_eq!(rt; bits.used(), 200);
+    assert!(rt; !bits.is_free());
     put_all(&mut bits, 100, 200, false);
     // 0 to 299 are one range now.
     assert_eq!(rt; bits.longest(), 300);
     assert_eq!(rt; bits.best(101), Some(400));
     put_all(&mut bits, 300, 400, false);
     assert_eq!(rt; bits.longest(), 512);
+    assert!(rt; bits.is_free());
     Ok(())
 }
 
@@ -107,6 +104,7 @@ fn as_by_a_look_at_all_places(rt: HostRuntime) -> Result<(), Fail> {
 fn rows_without_places_and_without_room(rt: HostRuntime) -> Result<(), Fail> {
     let none = RangedBits::open(rt.alloc(), 0, 0)?;
     assert_eq!(rt; none.longest(), 0);
+    assert!(rt; none.is_free());
     assert_eq!(rt; none.best(1), None);
     let mut bits = RangedBits::open(rt.alloc(), 1, 0)?;
     assert_eq!(rt; bits.best(64), Some(0));

@@ -1,16 +1,17 @@
 -- A release answers how many pages it unbacked, and the filler's order is a walk by candidates.
-use Rattle.std.proofs.Common.{◌≡◌, ℕ, ◌+◌, ◌*◌, ◌%◌, ◌<◌, ◌≤◌, Bool, true, false, not, ◌&&◌, cond, nat_lt, List, [], ◌∷◌, length, get_or, filter, map, count_by, sum_by, All, refl, sym, ap, subst, ◌∙◌, inl, inr, arith}
+use Rattle.std.proofs.Common.{◌≡◌, ℕ, ◌+◌, ◌*◌, ◌%◌, ◌<◌, ◌≤◌, Bool, true, false, not, ◌&&◌, cond, eqb, List, [], ◌∷◌, length, get_or, filter, map, count_by, sum_by, All, refl, sym, ap, subst, ◌∙◌, inl, inr, arith}
 use Rattle.std.specs.List.{range_with_len, enumerate_from, list_all}
-use Rattle.std.proofs.lemmas.Bool.{cases_Bool, cases_lt, and_parts, false≢true}
+use Rattle.std.proofs.lemmas.Bool.{cases_Bool, and_parts, eq-eqb, ne_eqb, false≢true}
 use Rattle.std.proofs.lemmas.List.{same_lists, get_or_default, length-map, get_or-map}
 use Rattle.std.proofs.lemmas.List.FromFn.{length-map-range_with_len, get_or-map-range_with_len, length-enumerate_from, get_or-enumerate_from}
 use Rattle.std.proofs.lemmas.List.Elements.{All-head, All-tail}
-use Rattle.std.proofs.lemmas.List.Sums.{sum_by-cons}
+use Rattle.std.proofs.lemmas.List.Sums.{sum_by-cons, count_by-le-length}
 use Rattle.heap_rules.specs.Heap.{Heap, Hugepage, hugepage, numbers, untouched, each, is_used, is_filler, backs, pages_of, backed_count, backed_pages}
 use Rattle.heap_rules.specs.Numbered.{at_number}
 use Rattle.heap_rules.specs.Settle.{unbacked}
-use Rattle.heap_rules.specs.GiveUp.{gives_whole, SpareRow, gives_before, gives_spare}
+use Rattle.heap_rules.specs.GiveUp.{gives_whole, SpareRow, gives_spare}
 use Rattle.heap_rules.specs.Release.{only_used, whole_given, spare_row, spare_rows, spare_given}
+use Rattle.range_bits.specs.Ranges.{used_count}
 use Rattle.range_bits.proofs.RangeLemmas.{range-within}
 use Rattle.tc_units.proofs.Counts.{one-true}
 use Rattle.heap_rules.proofs.Places.{at, at-next}
@@ -97,23 +98,9 @@ change_counts heap change gives gave =
     (λ k d l. let inside = range-within 1 (length heap.hugepages) k d l in gave (get_or (numbers heap) k d) inside.0 inside.1) in
     rw (here, before) all
 
-one_row : (m : ℕ) (a b : Bool) → (0 < m → a ≡ true → b ≡ true) × (b ≡ true → a ≡ true) → cond a m 0 ≡ cond b m 0
-one_row m true true h = refl
-one_row m true false h = elim (cases_lt 0 m) [ inl some ↦ absurd (false≢true (h.0 some refl)) | inr none ↦ omega arith ]
-one_row m false true h = absurd (false≢true (h.1 refl))
-one_row m false false h = refl
-
 pub same_sums : {X : Type 0} (f g : X → ℕ) (xs : List X) → All (λ x. f x ≡ g x) xs → sum_by f xs ≡ sum_by g xs
 same_sums f g [] h = refl
 same_sums f g (x ∷ xs) h = let a = sum_by-cons f x xs in let b = sum_by-cons g x xs in let rest = same_sums f g xs (All-tail (λ y. f y ≡ g y) x xs h) in let head : f x ≡ g x = All-head (λ y. f y ≡ g y) x xs h in omega arith
-
--- Sums over the rows that pass one test or another, which differ only at rows that add nothing.
-pub sum_agrees : (f : SpareRow → ℕ) (p q : SpareRow → Bool) (rows : List SpareRow) → All (λ r. (0 < f r → p r ≡ true → q r ≡ true) × (q r ≡ true → p r ≡ true)) rows → sum_by f (filter p rows) ≡ sum_by f (filter q rows)
-sum_agrees f p q rows h = sum-filter f p rows ∙ same_sums (λ r. cond (p r) (f r) 0) (λ r. cond (q r) (f r) 0) rows (λ k d l. one_row (f (get_or rows k d)) (p (get_or rows k d)) (q (get_or rows k d)) (h k d l)) ∙ sym (sum-filter f q rows)
-
--- The next candidate gives exactly where fewer than n pages were given: those before it that have spare pages are gone, and all that are gone stand before it.
-pub candidate_gives : (rows : List SpareRow) (n : ℕ) (gone : SpareRow → Bool) (c : SpareRow) → All (λ r. (0 < r.spare → gives_before c r ≡ true → gone r ≡ true) × (gone r ≡ true → gives_before c r ≡ true)) rows → gives_spare rows n c ≡ nat_lt (sum_by (λ r. r.spare) (filter gone rows)) n
-candidate_gives rows n gone c h = ap (λ i. nat_lt i n) (sum_agrees (λ r. r.spare) (gives_before c) gone rows h)
 
 -- The pages of each step of a release.
 pub scaled : {X : Type 0} (p : X → Bool) (xs : List X) → sum_by (λ x. cond (p x) 256 0) xs ≡ 256 * count_by p xs
@@ -171,3 +158,23 @@ spare_counts heap n size =
       | inr f ↦ subst P (sym f) (plus_none (backed_count x))
     ])) in
     ap (λ k. backed_pages (spare_given heap n).heap + k) (nested (λ r. r.spare) (gives_spare (spare_rows heap) n) (spare_row heap) (λ h. is_filler (hugepage heap h)) (numbers heap)) ∙ all
+
+-- all places are used exactly where their number is used
+all_or_fewer : (row : List Bool) → (list_all (λ b. b) row ≡ true → used_count row ≡ length row) × (list_all (λ b. b) row ≡ false → used_count row < length row)
+all_or_fewer [] = ((λ e. refl), (λ e. absurd (false≢true (sym e))))
+all_or_fewer (true ∷ row) =
+    let step = sum_by-cons (λ b. cond b 1 0) true row in
+    let rest = all_or_fewer row in
+    ((λ e. omega (arith, rest.0 e)), (λ e. omega (arith, rest.1 e)))
+all_or_fewer (false ∷ row) =
+    let step = sum_by-cons (λ b. cond b 1 0) false row in
+    let most = count_by-le-length (λ b. b) row in
+    ((λ e. absurd (false≢true e)), (λ e. omega arith))
+
+pub whole_exactly : (row : List Bool) (n : ℕ) → length row ≡ n → eqb (used_count row) n ≡ list_all (λ b. b) row
+whole_exactly row n size =
+    let is = all_or_fewer row in
+    elim (cases_Bool (list_all (λ b. b) row)) [
+      | inl all ↦ eq-eqb (used_count row) n (is.0 all ∙ size) ∙ sym all
+      | inr some ↦ ne_eqb (used_count row) n (λ e. let fewer = is.1 some in omega arith) ∙ sym some
+    ]

@@ -1,22 +1,23 @@
 -- Regions without used pages end, and the whole of a free.
-use Rattle.std.proofs.Common.{◌≡◌, ℕ, ◌+◌, ◌-◌, ◌*◌, ◌<◌, ◌≤◌, Bool, true, false, not, ◌&&◌, cond, List, length, get_or, Contains, refl, sym, ap, subst, ◌∙◌, inl, inr, arith}
+use Rattle.std.proofs.Common.{◌≡◌, ℕ, ◌+◌, ◌-◌, ◌*◌, ◌/◌, ◌<◌, ◌≤◌, Bool, true, false, not, ◌&&◌, cond, List, [], ◌∷◌, length, get_or, filter, All, Contains, refl, sym, ap, subst, ◌∙◌, inl, inr, arith}
 use Rattle.std.specs.List.{list_any}
-use Rattle.std.proofs.lemmas.Bool.{cases_Bool, and_parts, and_right, false≢true, not_from_true, not-true, not-false, false_from_ne_true}
-use Rattle.std.proofs.lemmas.List.Elements.{All-filter, All-contains, filter_passes, Contains-get_or}
+use Rattle.std.proofs.lemmas.Bool.{cases_Bool, and_from, and_parts, and_left, and_right, false≢true, not_from_true, not_from_false, not-true, not-false, false_from_ne_true}
+use Rattle.std.proofs.lemmas.List.Elements.{All-head, All-tail, All-filter, All-contains, filter_passes, Contains-get_or}
 use Rattle.std.proofs.lemmas.List.Folds.{Any-from_list_any, list_any_at}
 use Rattle.std.proofs.lemmas.List.FromFn.{length-map-range_with_len, get_or-map-range_with_len}
 use Rattle.tc_units.specs.declared.spans.Run.{Run}
 use Rattle.tc_units.specs.declared.rows.RowKind.{RowKind}
 use Rattle.tc_units.specs.declared.rows.RowKind.TheVariants as kind
-use Rattle.heap_rules.specs.Heap.{Heap, Hugepage, hugepage, is_used, is_region, is_kind_region, is_kind_filler, spans, used_from, region_row}
+use Rattle.heap_rules.specs.Heap.{Heap, Hugepage, hugepage, each, holds, reaches, is_used, is_region, is_kind_region, is_kind_filler, spans, used_from, region_row}
 use Rattle.heap_rules.specs.Free.{left, used_regions, without_unused_regions, given_back}
 use Rattle.heap_rules.specs.Sound.{IsHugepageOf, HasNoUsed, LiesInRegion, Serves, IsRegion, AreRunsSound, IsSound}
 use Rattle.heap_rules.specs.Laws.{FreeLeaves}
-use Rattle.heap_rules.proofs.Live.{count-filter_le, Contains-filter}
-use Rattle.heap_rules.proofs.Fits.{spans_parts, serves_at, is_Region}
+use Rattle.heap_rules.proofs.Live.{count-filter_le, Contains-filter, filter_holds}
+use Rattle.heap_rules.proofs.Fits.{holds_reaches, spans_parts, spans_from, serves_at, is_Region}
 use Rattle.heap_rules.proofs.Remade.{IsRemade, same_runs, remade_sound, region_kinds}
 use Rattle.heap_rules.proofs.Settled.{settled_sound, remade_not}
-use Rattle.heap_rules.proofs.Left.{left_runs, left_kinds}
+use Rattle.heap_rules.proofs.Left.{left_runs, left_kinds, used_rest, same_member}
+use Rattle.heap_rules.proofs.Places.{each_is, page_of}
 
 -- some of a range of pages is used exactly where one is
 pub range_used : (runs : List Run) (first many p : ℕ) → first ≤ p → p < first + many → is_used runs p ≡ true → list_any (λ b. b) (used_from runs first many) ≡ true
@@ -137,6 +138,80 @@ given_back_sound heap run sound live =
     ended_sound (left heap run) (left_runs heap run sound live)
     (λ r known. let is = region r known in (is.from, is.to))
     (λ r known. left_kinds heap run sound live r (region r known))
+
+filter_all : {X : Type 0} (p : X → Bool) (xs : List X) → All (λ x. p x ≡ true) xs → filter p xs ≡ xs
+filter_all p [] h = refl
+filter_all p (x ∷ xs) h =
+    let head : p x ≡ true = All-head (λ y. p y ≡ true) x xs h in
+    ap (λ b. cond b (x ∷ filter p xs) (filter p xs)) head ∙ ap (λ ys. x ∷ ys) (filter_all p xs (All-tail (λ y. p y ≡ true) x xs h))
+
+-- whether a region has a used page
+abbrev some_used : Heap → ℕ → Bool
+some_used heap r = list_any (λ b. b) (region_row heap.runs heap.config.region r)
+
+module _ (heap : Heap) (run : Run) (sound : IsSound heap) (live : Contains heap.runs run) where
+  -- Where each region is still used, none ends.
+  pub given_is_left : ((r : ℕ) → Contains heap.regions r → some_used (left heap run) r ≡ true) → given_back heap run ≡ left heap run
+  given_is_left still =
+      let now = left heap run in
+      let runs = left_runs heap run sound live in
+      let width : ℕ = heap.config.region in
+      let f : ℕ → Hugepage → Hugepage = λ h x. cond (is_region x && not (list_any (spans width h) (used_regions now))) (record x { kind = kind.Free }) x in
+      let stay : used_regions now ≡ heap.regions =
+      filter_all (some_used now) heap.regions (λ k d l. still (get_or heap.regions k d) (Contains-get_or heap.regions k d l)) in
+      let stays : (h : ℕ) → 0 < h → h ≤ length now.hugepages → (is_region (hugepage now h) && not (list_any (spans width h) (used_regions now))) ≡ false = (λ h some l. (let x = hugepage now h in
+      elim (cases_Bool (is_region x)) [
+        | inr no_region ↦ and_left (is_region x) _ no_region
+        | inl region ↦
+            (let arena = runs.arena in
+            let fit = runs.fit h (record { from = some; to = omega arith }) in
+            let lies = (serves_at now.runs heap.regions width h x kind.Region (is_Region x.kind region) fit).0 in
+            let there = list_any_at (spans width h) heap.regions lies.known.0 lies.region lies.known.1 (ap (spans width h) lies.known.2 ∙ lies.spanned) in
+            and_right (is_region x) _ (ap (λ rs. not (list_any (spans width h) rs)) stay ∙ ap not there))
+      ])) in
+      ap (λ (rs : List ℕ). record now { regions = rs; hugepages = each f now.hugepages }) stay
+      ∙ ap (λ (xs : List Hugepage). record now { hugepages = xs })
+      (each_is f now.hugepages now.hugepages refl (λ h some l. ap (λ b. cond b (record (hugepage now h) { kind = kind.Free }) (hugepage now h)) (stays h some l)))
+
+  -- It is so where the run reaches no region.
+  pub all_used : ((h : ℕ) → reaches h run ≡ true → is_region (hugepage heap h) ≡ false) → (r : ℕ) → Contains heap.regions r → some_used (left heap run) r ≡ true
+  all_used apart r known =
+      let is = All-contains (IsRegion heap) heap.regions r sound.regions known in
+      let h : ℕ = is.page / 256 in
+      let reached : holds is.page run ≡ true → reaches h run ≡ true = holds_reaches h is.page run (page_of is.page) in
+      let there = is.kinds h (spans_from heap.config.region h r (omega (arith, is.own)) (omega (arith, is.own_to))) in
+      let away : holds is.page run ≡ false = false_from_ne_true _ (λ t. false≢true (sym (apart h (reached t)) ∙ there)) in
+      range_used (left heap run).runs (256 * r) (256 * heap.config.region) is.page is.own is.own_to (used_rest heap run sound live is.page away is.used)
+
+-- One region ends, where each other one has a used page.
+module _ (heap : Heap) (first : ℕ) (sound : AreRunsSound heap) (listed : Contains heap.regions first) (unused : some_used heap first ≡ false) (alone : (r : ℕ) → Contains heap.regions r → some_used heap r ≡ false → r ≡ first) where
+  abbrev width' : ℕ
+  width' = heap.config.region
+
+  -- a region's hugepage of no region with a used page lies in the one that ends
+  lies_there : (h : ℕ) → 0 < h → h ≤ length heap.hugepages → is_region (hugepage heap h) ≡ true → list_any (spans width' h) (used_regions heap) ≡ false → spans width' h first ≡ false → ⊥
+  lies_there h some inside region none away =
+      let x = hugepage heap h in
+      let arena = sound.arena in
+      let own : IsHugepageOf heap.config.huge h = record { from = some; to = omega arith } in
+      let lies : LiesInRegion heap.regions width' h = (serves_at heap.runs heap.regions width' h x kind.Region (is_Region x.kind region) (sound.fit h own)).0 in
+      elim (cases_Bool (some_used heap lies.region)) [
+        | inl used ↦ (let has = filter_holds (some_used heap) heap.regions lies.region lies.known used in false≢true (sym none ∙ list_any_at (spans width' h) (used_regions heap) has.0 lies.region has.1 (ap (spans width' h) has.2 ∙ lies.spanned)))
+        | inr unused ↦ (let same = alone lies.region lies.known unused in false≢true (sym away ∙ ap (spans width' h) (sym same) ∙ lies.spanned))
+      ]
+
+  -- the hugepages of the region that ends are those of no region that has a used page
+  pub ended : (h : ℕ) → 0 < h → h ≤ length heap.hugepages → (spans width' h first ≡ true → is_region (hugepage heap h) ≡ true) → (is_region (hugepage heap h) && not (list_any (spans width' h) (used_regions heap))) ≡ spans width' h first
+  ended h some inside kinds = elim (cases_Bool (spans width' h first)) [
+    | inl e ↦ and_from _ _ (kinds e) (not_from_false _ (false_from_ne_true (list_any (spans width' h) (used_regions heap)) (λ t. (let any = Any-from_list_any (spans width' h) (used_regions heap) t in
+        let r : ℕ = any.1 in
+        let at_r : get_or (used_regions heap) any.0 r ≡ r = any.3 in
+        let used : some_used heap r ≡ true = ap (some_used heap) (sym at_r) ∙ filter_passes (some_used heap) heap.regions any.0 r any.2 in
+        let known : Contains heap.regions r = subst (Contains heap.regions) at_r (All-filter (some_used heap) (Contains heap.regions) heap.regions (λ i c j. Contains-get_or heap.regions i c j) any.0 r any.2) in
+        let same : r ≡ first = same_member (spans width' h) heap.regions r first known listed any.4 e (sound.apart h) in
+        false≢true (sym unused ∙ ap (some_used heap) (sym same) ∙ used))))) ∙ sym e
+    | inr e ↦ false_from_ne_true _ (λ t. (let parts = and_parts (is_region (hugepage heap h)) (not (list_any (spans width' h) (used_regions heap))) t in lies_there h some inside parts.0 (not-true _ parts.1) e)) ∙ sym e
+  ]
 
 pub free_leaves : FreeLeaves
 free_leaves heap run sound live = record { runs = refl; config = refl; sound = settled_sound (given_back heap run) (given_back_sound heap run sound live) }

@@ -1,11 +1,11 @@
 -- What a hugepage serves, while runs that do not reach it come and go.
-use Rattle.std.proofs.Common.{◌≡◌, ℕ, ◌+◌, ◌*◌, ◌<◌, ◌≤◌, true, false, List, refl, sym, subst, ◌∙◌, arith}
-use Rattle.std.proofs.lemmas.Bool.{and_from, and_parts, leb-true, ltb-true, lt-ltb, le-leb, false≢true, false_from_ne_true}
+use Rattle.std.proofs.Common.{◌≡◌, ℕ, ◌+◌, ◌*◌, ◌<◌, ◌≤◌, true, false, List, refl, sym, subst, ◌∙◌, inl, inr, arith}
+use Rattle.std.proofs.lemmas.Bool.{cases_Bool, and_from, and_parts, leb-true, ltb-true, lt-ltb, le-leb, false≢true, false_from_ne_true}
 use Rattle.tc_units.specs.declared.spans.Run.{Run}
 use Rattle.tc_units.specs.declared.rows.RowKind.{RowKind}
 use Rattle.tc_units.specs.declared.rows.RowKind.TheVariants as kind
 use Rattle.tc_units.proofs.SortedFacts.{Contains-old}
-use Rattle.heap_rules.specs.Heap.{Hugepage, holds, with_run, reaches, spans, is_kind_region, is_kind_free}
+use Rattle.heap_rules.specs.Heap.{Hugepage, holds, run_at, with_run, reaches, spans, is_kind_region, is_kind_free}
 use Rattle.heap_rules.specs.Sound.{IsPageOf, HasUsed, HasOneRun, Serves, IsFit}
 use Rattle.heap_rules.proofs.Live.{used_with_old, unused_with}
 
@@ -34,6 +34,13 @@ spans_parts width h r e = let parts = and_parts _ _ e in (leb-true r h parts.0, 
 
 pub spans_from : (width h r : ℕ) → r ≤ h → h < r + width → spans width h r ≡ true
 spans_from width h r a b = and_from _ _ (le-leb r h a) (lt-ltb h (r + width) b)
+
+-- adjacent hugepages are those that a run reaches
+pub spans_reaches : (first n a many h : ℕ) → 256 * a ≤ first → first < 256 * (a + 1) → 256 * (a + many) < first + n + 256 → first + n ≤ 256 * (a + many) → 0 < n → spans many h a ≡ reaches h (run_at first n)
+spans_reaches first n a many h p q r s some = elim (cases_Bool (spans many h a)) [
+  | inl t ↦ (let parts = spans_parts many h a t in t ∙ sym (reaches_from h (run_at first n) (omega arith) (omega arith)))
+  | inr f ↦ f ∙ sym (false_from_ne_true (reaches h (run_at first n)) (λ e. (let parts = reaches_parts h (run_at first n) e in false≢true (sym f ∙ spans_from many h a (omega arith) (omega arith)))))
+]
 
 -- runs that come: more is used
 pub used_more : (run : Run) (runs : List Run) (h : ℕ) → HasUsed runs h → HasUsed (with_run run runs) h

@@ -42,12 +42,3 @@ all_or_enough flags n h (suc m) e =
                 elim rest [ inl same ↦ inr (omega arith, omega arith) | inr enough ↦ inr (omega (arith, enough.0), omega (arith, enough.1)) ])
           ])
     ]
-
--- So a hugepage gives exactly where it has the flag and fewer than n were given before.
-pub gives_by_walk : (flags : List Bool) (n h m : ℕ) → 0 < h → h + m ≡ length flags → gives_whole flags n h ≡ (get_or flags (h - 1) false && nat_lt (given_behind flags n h m) n)
-gives_by_walk flags n h m some e =
-    ap (λ b. b && nat_lt (flagged_behind flags h) n) (at_number-place false flags h some)
-    ∙ elim (all_or_enough flags n h m e) [
-      | inl same ↦ ap (λ i. get_or flags (h - 1) false && nat_lt i n) (sym same)
-      | inr enough ↦ ap (λ b. get_or flags (h - 1) false && b) (le-ltb (flagged_behind flags h) n enough.1 ∙ sym (le-ltb (given_behind flags n h m) n enough.0))
-    ]

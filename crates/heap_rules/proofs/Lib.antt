@@ -16,7 +16,6 @@ pub mod Left
 pub mod Ended
 pub mod Released
 pub mod Opened
-pub mod Trims
 pub mod GiveUps
 pub mod Accounts
 pub mod NoneBacked

@@ -1,7 +1,7 @@
 -- A change of each hugepage, place by place.
 use Rattle.std.proofs.Common.{◌≡◌, ℕ, ◌+◌, ◌-◌, ◌*◌, ◌/◌, ◌%◌, ◌<◌, ◌≤◌, Bool, false, List, length, get_or, map, sym, ap, ◌∙◌, arith}
 use Rattle.std.specs.List.{enumerate_from}
-use Rattle.std.proofs.lemmas.List.{length-map, get_or-map, get_or-replicate}
+use Rattle.std.proofs.lemmas.List.{same_lists, get_or_default, length-map, get_or-map, get_or-replicate}
 use Rattle.std.proofs.lemmas.List.FromFn.{length-enumerate_from, get_or-enumerate_from, get_or-map-range_with_len}
 use Rattle.heap_rules.specs.Heap.{Heap, Hugepage, numbers, untouched, each, whole, pages_of}
 use Rattle.heap_rules.specs.Numbered.{at_number}
@@ -41,6 +41,28 @@ at-each f xs h some inside =
     ∙ ap (λ (p : ℕ × Hugepage). f p.0 p.1) (get_or-enumerate_from 1 xs (h - 1) (0, untouched) (omega arith))
     ∙ ap (λ k. f k (get_or xs (h - 1) untouched)) e
     ∙ ap (f h) (sym (at-place xs h some))
+
+-- lists of hugepages that are alike at each number
+pub same_pages : (xs ys : List Hugepage) → length xs ≡ length ys → ((h : ℕ) → 0 < h → h ≤ length xs → at xs h ≡ at ys h) → xs ≡ ys
+same_pages xs ys size same = same_lists xs ys size (λ k d l.
+    get_or_default xs k d untouched l
+    ∙ sym (at-next xs k) ∙ same (1 + k) (omega arith) (omega arith) ∙ at-next ys k
+    ∙ get_or_default ys k untouched d (omega arith))
+
+-- what a change makes of a list, by what it makes of each hugepage
+pub each_is : (f : ℕ → Hugepage → Hugepage) (xs ys : List Hugepage) → length ys ≡ length xs → ((h : ℕ) → 0 < h → h ≤ length xs → f h (at xs h) ≡ at ys h) → each f xs ≡ ys
+each_is f xs ys size same =
+    let size' = length-each f xs in
+    same_pages (each f xs) ys (size' ∙ sym size) (λ h some l. at-each f xs h some (omega arith) ∙ same h some (omega arith))
+
+pub each_where : (f g : ℕ → Hugepage → Hugepage) (xs : List Hugepage) → ((h : ℕ) → 0 < h → h ≤ length xs → f h (at xs h) ≡ g h (at xs h)) → each f xs ≡ each g xs
+each_where f g xs same = each_is f xs (each g xs) (length-each g xs) (λ h some l. same h some l ∙ sym (at-each g xs h some l))
+
+-- a change after a change
+pub each_each : (f g : ℕ → Hugepage → Hugepage) (xs : List Hugepage) → each f (each g xs) ≡ each (λ h x. f h (g h x)) xs
+each_each f g xs =
+    let size = length-each g xs in
+    each_is f (each g xs) (each (λ h x. f h (g h x)) xs) (length-each (λ h x. f h (g h x)) xs ∙ sym size) (λ h some l. ap (f h) (at-each g xs h some (omega arith)) ∙ sym (at-each (λ h x. f h (g h x)) xs h some (omega arith)))
 
 -- the hugepage of a page
 pub own : (h page : ℕ) → IsPageOf h page → page / 256 ≡ h

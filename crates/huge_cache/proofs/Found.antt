@@ -6,7 +6,7 @@ use Rattle.range_bits.specs.Ranges.{free_from, used_from, longest, best}
 use Rattle.range_bits.proofs.RangeFacts.{best_is_fit}
 use Rattle.range_bits.proofs.RangeLemmas.{free_fits}
 use Rattle.range_bits.proofs.Scan.{greatest-ge}
-use Rattle.range_bits.proofs.Existence.{none_exactly}
+use Rattle.range_bits.proofs.Scan.{none_exactly}
 use Rattle.heap_rules.specs.CacheFlags.{or_else}
 use Rattle.huge_cache.specs.Cache.{Cache}
 use Rattle.huge_cache.specs.Rows.{IsSound}

@@ -1,5 +1,6 @@
 -- The greatest of the last counts: what a newer count and the oldest one's leaving make of them.
 use Rattle.std.proofs.Common.{◌≡◌, ℕ, zero, suc, ◌+◌, ◌-◌, ◌<◌, ◌≤◌, Bool, true, false, nat_le, nat_lt, eqb, cond, Option, Some, None, unwrap_or, is_some, List, [], ◌∷◌, ◌++◌, length, get_or, take, drop, filter, fold, max, All, refl, sym, ap, ◌∙◌, inl, inr, arith}
+use Rattle.std.proofs.lemmas.Bool.Decides.{nat_tests}
 use Rattle.std.specs.List.{last_or}
 use Rattle.std.specs.Option.{option_eq}
 use Rattle.std.proofs.lemmas.Bool.{cases_lt, le-leb, lt-leb, leb-true, lt-ltb, eqb-true, eqb-false, cond_both}
@@ -16,12 +17,7 @@ lost_first : (x y : ℕ) (l : List ℕ) → x < y → with_newest (x ∷ l) y �
 lost_first x y l h = ap (λ (b : Bool). cond b (x ∷ filter (λ z. nat_le y z) l) (filter (λ z. nat_le y z) l) ++ y ∷ []) (lt-leb y x h)
 
 same_test : (x y : ℕ) (ys : List ℕ) → y ≤ x → nat_le (fold max 0 ys) x ≡ nat_le (fold max 0 (y ∷ ys)) x
-same_test x y ys h =
-    let more = fold_max (max 0 y) ys in
-    elim (cases_lt x (fold max 0 ys)) [
-      | inl above ↦ lt-leb (fold max 0 ys) x above ∙ sym (lt-leb (fold max 0 (y ∷ ys)) x (omega arith))
-      | inr below ↦ le-leb (fold max 0 ys) x below ∙ sym (le-leb (fold max 0 (y ∷ ys)) x (omega arith))
-    ]
+same_test x y ys h = grind (arith, nat_tests, fold_max, lt-leb, le-leb)
 
 -- an older count stays in front where no later one is greater
 older : (x : ℕ) (l xs : List ℕ) → fold with_newest (x ∷ l) xs ≡ cond (nat_le (fold max 0 xs) x) (x ∷ fold with_newest l xs) (fold with_newest l xs)
@@ -59,18 +55,11 @@ first_greatest (x ∷ xs) =
 -- the oldest count leaves: it is the first of the greatest ones, or none of them
 first_leaves : (counts : List ℕ) → 0 < length counts → get_or counts 0 0 ≡ get_or (greatest_of counts) 0 0 → drop 1 (greatest_of counts) ≡ greatest_of (drop 1 counts)
 first_leaves [] some same = absurd (omega arith)
-first_leaves (x ∷ xs) some same =
-    let first : x ≡ fold max 0 (x ∷ xs) = same ∙ first_greatest (x ∷ xs) in
-    let all : fold max 0 xs ≤ x = omega (arith, fold_max (max 0 x) xs) in
-    ap (drop 1) (oldest x xs ∙ ap (λ (b : Bool). cond b (x ∷ greatest_of xs) (greatest_of xs)) (le-leb (fold max 0 xs) x all))
+first_leaves (x ∷ xs) some same = grind (arith, nat_tests, first_greatest, fold_max, le-leb, oldest)
 
 was_less : (counts : List ℕ) → 0 < length counts → ((l : List ℕ) → greatest_of counts ≡ get_or counts 0 0 ∷ l → ⊥) → greatest_of counts ≡ greatest_of (drop 1 counts)
 was_less [] some other = absurd (omega arith)
-was_less (x ∷ xs) some other =
-    elim (cases_lt x (fold max 0 xs)) [
-      | inl less ↦ oldest x xs ∙ ap (λ (b : Bool). cond b (x ∷ greatest_of xs) (greatest_of xs)) (lt-leb (fold max 0 xs) x less)
-      | inr not_less ↦ absurd (other (greatest_of xs) (oldest x xs ∙ ap (λ (b : Bool). cond b (x ∷ greatest_of xs) (greatest_of xs)) (le-leb (fold max 0 xs) x not_less)))
-    ]
+was_less (x ∷ xs) some other = grind (arith, nat_tests, lt-leb, le-leb, oldest)
 
 same_option : (x : ℕ) (f : Option ℕ) → option_eq eqb (Some x) f ≡ true → x ≡ unwrap_or f 0
 same_option x None h = cc
@@ -81,18 +70,10 @@ other_option x None h some e = cc
 other_option x (Some y) h some e = eqb-false x y h (sym e)
 
 pub oldest_is_first : (counts greatest : List ℕ) (o f : Option ℕ) → 0 < length counts → greatest ≡ greatest_of counts → o ≡ Some (get_or counts 0 0) → unwrap_or f 0 ≡ get_or greatest 0 0 → option_eq eqb o f ≡ true → drop 1 greatest ≡ greatest_of (drop 1 counts)
-oldest_is_first counts greatest o f some kept here first same =
-    let x : ℕ = get_or counts 0 0 in
-    let is : x ≡ unwrap_or f 0 = same_option x f (ap (λ (p : Option ℕ). option_eq eqb p f) (sym here) ∙ same) in
-    ap (drop 1) kept ∙ first_leaves counts some (is ∙ first ∙ ap (λ (l : List ℕ). get_or l 0 0) kept)
+oldest_is_first counts greatest o f some kept here first same = grind (arith, nat_tests, first_leaves, eqb, same_option, unwrap_or)
 
 pub oldest_is_other : (counts greatest : List ℕ) (o f : Option ℕ) → 0 < length counts → greatest ≡ greatest_of counts → o ≡ Some (get_or counts 0 0) → is_some f ≡ nat_lt 0 (length greatest) → unwrap_or f 0 ≡ get_or greatest 0 0 → option_eq eqb o f ≡ false → greatest ≡ greatest_of (drop 1 counts)
-oldest_is_other counts greatest o f some kept here there first other =
-    let x : ℕ = get_or counts 0 0 in
-    kept ∙ was_less counts some
-    (λ l e.
-    let begins : greatest ≡ x ∷ l = kept ∙ e in
-    other_option x f (ap (λ (p : Option ℕ). option_eq eqb p f) (sym here) ∙ other) (there ∙ ap (λ (g : List ℕ). nat_lt 0 (length g)) begins ∙ lt-ltb 0 (suc (length l)) (omega arith)) (first ∙ ap (λ (g : List ℕ). get_or g 0 0) begins))
+oldest_is_other counts greatest o f some kept here there first other = grind (arith, nat_tests, nat_lt, was_less, eqb, other_option, lt-ltb)
 
 -- the newest count
 pub newest : (o : Option ℕ) (xs : List ℕ) → 0 < length xs → last_or o xs ≡ Some (get_or xs (length xs - 1) 0)

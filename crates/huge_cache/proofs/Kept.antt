@@ -1,5 +1,6 @@
 -- What isn't free stays not free and backed, through each change of both rows.
-use Rattle.std.proofs.Common.{◌≡◌, ℕ, ◌+◌, ◌-◌, ◌<◌, ◌≤◌, Bool, true, false, not, cond, map, count_by, List, [], ◌∷◌, length, get_or, refl, sym, ap, ◌∙◌, inl, inr, arith}
+use Rattle.std.proofs.Common.{◌≡◌, ℕ, ◌+◌, ◌-◌, ◌<◌, ◌≤◌, Bool, true, false, not, cond, map, count_by, List, [], ◌∷◌, length, get_or, refl, ap, inl, inr, arith}
+use Rattle.std.proofs.lemmas.Bool.Decides.{nat_tests}
 use Rattle.std.proofs.lemmas.Bool.{cases_lt}
 use Rattle.std.proofs.lemmas.Grind.{get_or_head}
 use Rattle.std.proofs.lemmas.List.{get_or_past}
@@ -22,29 +23,11 @@ one_state false a b t u change before h = before h
 
 module _ (c : Cache) (sound : IsSound c) where
   pub sound_put : (taken unready : List Bool) (start n : ℕ) (a b : Bool) → start + n ≤ length c.taken → (a ≡ true → b ≡ true) → taken ≡ with_places c.taken start n a → unready ≡ with_places c.unready start n b → IsSound (cache_of c taken unready)
-  sound_put taken unready start n a b inside change is also =
-      let also_inside : start + n ≤ length c.unready = omega (arith, sound.lengths) in
-      let size = ap length is ∙ length-with_places c.taken start n a inside in
-      record {
-        lengths = omega (arith, sound.lengths, ap length also, length-with_places c.unready start n b also_inside);
-        small = omega (arith, sound.small);
-        unready = λ k there.
-            ap (λ (r : List Bool). get_or r k true) also
-            ∙ get_or-with_places c.unready start n b k true also_inside
-            ∙ one_state (is_between start (start + n) k) a b (get_or c.taken k true) (get_or c.unready k true) change (sound.unready k) (sym (ap (λ (r : List Bool). get_or r k true) is ∙ get_or-with_places c.taken start n a k true inside) ∙ there);
-      }
+  sound_put taken unready start n a b inside change is also = grind (arith, nat_tests, get_or-with_places, is_between, length-with_places, one_state)
 
   -- more that isn't backed
   pub sound_more : (unready : List Bool) (start n : ℕ) → start + n ≤ length c.unready → unready ≡ with_places c.unready start n true → IsSound (cache_of c c.taken unready)
-  sound_more unready start n inside is =
-      record {
-        lengths = omega (arith, sound.lengths, ap length is, length-with_places c.unready start n true inside);
-        small = sound.small;
-        unready = λ k there.
-            ap (λ (r : List Bool). get_or r k true) is
-            ∙ get_or-with_places c.unready start n true k true inside
-            ∙ one_state (is_between start (start + n) k) true true (get_or c.taken k true) (get_or c.unready k true) (λ e. e) (sound.unready k) (elim (is_between start (start + n) k) as (λ b. cond b true (get_or c.taken k true) ≡ true) [ true ↦ refl | false ↦ there ]);
-      }
+  sound_more unready start n inside is = grind (arith, nat_tests, get_or-with_places, is_between, length-with_places, one_state)
 
 -- the flags 'free and backed' of a row
 pub ready_is : (v : List Bool) → count_by (λ b. b) (map not v) ≡ free_count v
@@ -60,31 +43,14 @@ none_at c h none = ap not (get_or_head true c.unready h true none)
 
 -- and it is one of the arena
 pub backed_inside : (c : Cache) (h : ℕ) → is_backed c h ≡ true → (0 < h) × (h ≤ length c.unready)
-backed_inside c h e =
-    elim (cases_lt 0 h) [
-      | inr none ↦ absurd (let b : false ≡ true = sym (none_at c h (omega arith)) ∙ e in cc)
-      | inl some ↦ elim (cases_lt (length c.unready) h) [
-        | inr inside ↦ (some, inside)
-        | inl past ↦ absurd (let b : false ≡ true = sym (ap not (get_or_past c.unready (h - 1) true (omega arith))) ∙ sym (backed_at c h some) ∙ e in cc)
-      ]
-    ]
+backed_inside c h e = grind (arith, nat_tests, none_at, backed_at, get_or_past)
 
 -- behind the last free place none is backed
 pub none_behind : (c : Cache) (end h : ℕ) → IsEnd c.unready (length c.unready) false end → end < h → is_backed c h ≡ false
-none_behind c end h is behind =
-    backed_at c h (omega arith) ∙ elim (cases_lt (h - 1) (length c.unready)) [
-      | inl inside ↦ ap not (is.behind (h - 1) (omega arith) inside)
-      | inr past ↦ ap not (get_or_past c.unready (h - 1) true past)
-    ]
+none_behind c end h is behind = grind (arith, nat_tests, backed_at, get_or_past)
 
 pub none_backed : (c : Cache) → IsEnd c.unready (length c.unready) false 0 → (h : ℕ) → is_backed c h ≡ false
 none_backed c is h = elim (cases_lt 0 h) [ inl some ↦ none_behind c 0 h is some | inr none ↦ none_at c h (omega arith) ]
 
 pub last_is : (c : Cache) (end : ℕ) (huge : Huge) → IsEnd c.unready (length c.unready) false end → 0 < end → huge.0 ≡ end → IsLastBacked c huge
-last_is c end huge is some same =
-    record {
-      from = omega arith;
-      to = omega (arith, is.within);
-      backed = ap (is_backed c) same ∙ backed_at c end some ∙ ap not (is.there some);
-      behind = λ h later. none_behind c end h is (omega arith);
-    }
+last_is c end huge is some same = grind (arith, nat_tests, none_behind, backed_at)

@@ -1,16 +1,17 @@
 -- Rows with used places behind the arena's: what each question and change makes of the arena's part.
-use Rattle.std.proofs.Common.{◌≡◌, ℕ, zero, suc, ◌+◌, ◌-◌, ◌<◌, ◌≤◌, ◌==◌, ◌&&◌, ◌||◌, Bool, true, false, not, cond, nat_le, nat_lt, List, [], ◌∷◌, ◌++◌, length, get_or, set, take, drop, replicate, filter, All, refl, sym, ap, ◌∙◌, arith, add-one}
+use Rattle.std.proofs.Common.{◌≡◌, ℕ, zero, suc, ◌+◌, ◌-◌, ◌<◌, ◌≤◌, ◌&&◌, Bool, true, false, not, cond, nat_le, nat_lt, List, [], ◌∷◌, ◌++◌, length, get_or, set, take, drop, replicate, filter, All, refl, sym, ap, ◌∙◌, arith, add-one}
+use Rattle.std.proofs.lemmas.Bool.Decides.{nat_tests}
 use Rattle.std.specs.List.{prefix_len, range_with_len}
 use Rattle.std.proofs.lemmas.Bool.{and_left, not_from_true}
-use Rattle.std.proofs.lemmas.List.{append_assoc, append-nil, length-append, length-replicate, length-take-le, take-append-le, take_at, drop-append-le, drop_all, drop-replicate, get_or_append_left, get_or-append_right, get_or-replicate, get_or-take, set_split}
-use Rattle.std.proofs.lemmas.List.Sums.{sum_by-append}
-use Rattle.std.proofs.lemmas.List.Folds.{sum_by-replicate}
+use Rattle.std.proofs.lemmas.List.{append_assoc, append-nil, length-append, length-replicate, length-take-le, take-append-le, take_at, take-take, drop-take, drop-append-le, drop_all, drop-replicate, get_or_append_left, get_or-append_right, get_or-replicate, get_or-take, set_split}
+use Rattle.std.proofs.lemmas.List.Sums.{count_by-le-length}
 use Rattle.std.proofs.lemmas.List.Elements.{filter-append, All-weaker, All-filter}
-use Rattle.range_bits.specs.Fills.{free_count, IsEnd}
+use Rattle.range_bits.specs.Fills.{IsEnd}
 use Rattle.range_bits.specs.Ranges.{free_from, used_count, places, begins_range, first_least, best, with_places}
 use Rattle.range_bits.proofs.RangeLemmas.{range-within, filter-agree, filter-none, first_least-agree}
 use Rattle.range_bits.proofs.Scan.{range-append}
 use Rattle.range_bits.proofs.Placing.{length-with_places}
+use Rattle.range_bits.proofs.Stretches.{put_count}
 use Rattle.huge_cache.specs.Rows.{IsPadded}
 
 -- used places behind a row
@@ -18,11 +19,7 @@ abbrev pub pad : ℕ → List Bool
 pad k = replicate k true
 
 pub padded_by : (huge : ℕ) (row v : List Bool) (k : ℕ) → length v ≡ huge → row ≡ v ++ pad k → IsPadded huge row × (take huge row ≡ v)
-padded_by huge row v k size is =
-    let front : take huge row ≡ v = ap (take huge) is ∙ take_at v (pad k) huge size in
-    let total : length row ≡ huge + k = omega (arith, ap (λ (r : List Bool). length r) is, length-append v (pad k), length-replicate k true) in
-    let rest : k ≡ length row - huge = omega arith in
-    (record { within = omega arith; padded = is ∙ ap (λ (w : List Bool). w ++ pad k) (sym front) ∙ ap (λ (m : ℕ). take huge row ++ pad m) rest }, front)
+padded_by huge row v k size is = grind (arith, nat_tests, length-replicate, length-append, take_at, pad)
 
 pub front_length : (huge : ℕ) (row : List Bool) → IsPadded huge row → length (take huge row) ≡ huge
 front_length huge row h = length-take-le huge row h.within
@@ -40,20 +37,9 @@ stretch (false ∷ v) k = ap (λ (n : ℕ). 1 + n) (stretch v k)
 pub free_from-padded : (v : List Bool) (k p : ℕ) → p ≤ length v → free_from (v ++ pad k) p ≡ free_from v p
 free_from-padded v k p inside = ap (prefix_len not) (drop-append-le p v (pad k) inside) ∙ stretch (drop p v) k
 
--- counts
-pub used_count-padded : (v : List Bool) (k : ℕ) → used_count (v ++ pad k) ≡ used_count v + k
-used_count-padded v k = omega (arith, sum_by-append (λ (b : Bool). cond b 1 0) v (pad k), sum_by-replicate (λ (b : Bool). cond b 1 0) k true)
-
-pub free_count-padded : (v : List Bool) (k : ℕ) → free_count (v ++ pad k) ≡ free_count v
-free_count-padded v k = omega (arith, sum_by-append (λ (b : Bool). cond (not b) 1 0) v (pad k), sum_by-replicate (λ (b : Bool). cond (not b) 1 0) k true)
-
 -- the best range
 begins-padded : (v : List Bool) (k p : ℕ) → p < length v → begins_range (v ++ pad k) p ≡ begins_range v p
-begins-padded v k p inside =
-    let here = get_or_append_left v (pad k) true p inside in
-    let before = get_or_append_left v (pad k) true (p - 1) (omega arith) in
-    ap (λ (b : Bool). not b && (p == 0 || get_or (v ++ pad k) (p - 1) true)) here
-    ∙ ap (λ (b : Bool). not (get_or v p true) && (p == 0 || b)) before
+begins-padded v k p inside = grind (arith, nat_tests, pad, get_or_append_left)
 
 begins-behind : (v : List Bool) (k p : ℕ) → length v ≤ p → p < length v + k → begins_range (v ++ pad k) p ≡ false
 begins-behind v k p behind inside =
@@ -97,58 +83,48 @@ best-padded v k n =
 
 -- changes
 pub with_places-padded : (v : List Bool) (k start n : ℕ) (used : Bool) → start + n ≤ length v → with_places (v ++ pad k) start n used ≡ with_places v start n used ++ pad k
-with_places-padded v k start n used inside =
-    ap (λ (front : List Bool). front ++ replicate n used ++ drop (start + n) (v ++ pad k)) (take-append-le start v (pad k) (omega arith))
-    ∙ ap (λ (back : List Bool). take start v ++ replicate n used ++ back) (drop-append-le (start + n) v (pad k) inside)
-    ∙ sym (append_assoc (take start v ++ replicate n used) (drop (start + n) v) (pad k))
+with_places-padded v k start n used inside = grind (arith, nat_tests, pad, append_assoc, drop-append-le, take-append-le)
 
 pub one_place : (v : List Bool) (p : ℕ) (used : Bool) → p < length v → with_places v p 1 used ≡ set v p used
-one_place v p used inside =
-    append_assoc (take p v) (used ∷ []) (drop (p + 1) v)
-    ∙ ap (λ (i : ℕ). take p v ++ used ∷ drop i v) (add-one p)
-    ∙ sym (set_split v p used inside)
+one_place v p used inside = grind (arith, nat_tests, append_assoc, add-one, set_split)
 
--- a row that is padded, and what a change makes of it
-pub record Changed (huge : ℕ) (new part : List Bool) : Type 0 where
+-- no more are used than there are
+pub few : (huge : ℕ) (row : List Bool) → IsPadded huge row → used_count (take huge row) ≤ huge
+few huge row h = omega (arith, count_by-le-length (λ used. used) (take huge row), front_length huge row h)
+
+-- what a change makes of a padded row, and of how many places of its front are used
+pub record Changed (huge : ℕ) (row new : List Bool) (start n : ℕ) (used : Bool) : Type 0 where
   pub padded : IsPadded huge new
-  pub front : take huge new ≡ part
+  pub front : take huge new ≡ with_places (take huge row) start n used
+  pub was : used_count (take n (drop start row)) ≤ used_count (take huge row)
+  pub count : used_count (take huge new) ≡ used_count (take huge row) - used_count (take n (drop start row)) + cond used n 0
+  pub few : used_count (take huge new) ≤ huge
 
-pub changed : (huge : ℕ) (row new : List Bool) (start n : ℕ) (used : Bool) → IsPadded huge row → new ≡ with_places row start n used → start + n ≤ huge → Changed huge new (with_places (take huge row) start n used)
-changed huge row new start n used h is inside =
+pub changed : {huge : ℕ} {row : List Bool} (new : List Bool) (start n : ℕ) (used : Bool) → IsPadded huge row → new ≡ with_places row start n used → start + n ≤ length (take huge row) → Changed huge row new start n used
+changed {huge} {row} new start n used h is inside =
     let v : List Bool = take huge row in
     let k : ℕ = length row - huge in
     let size = front_length huge row h in
     let whole : new ≡ with_places v start n used ++ pad k = is ∙ ap (λ (r : List Bool). with_places r start n used) h.padded ∙ with_places-padded v k start n used (omega arith) in
     let got = padded_by huge new (with_places v start n used) k (length-with_places v start n used (omega arith) ∙ size) whole in
-    record { padded = got.0; front = got.1 }
+    let at : start + (huge - start) ≡ huge = omega arith in
+    let part : take n (drop start v) ≡ take n (drop start row) = ap (λ (m : ℕ). take n (drop start (take m row))) (sym at) ∙ ap (take n) (drop-take start (huge - start) row) ∙ take-take n (huge - start) (drop start row) (omega arith) in
+    let same = ap used_count part in
+    let off = put_count v start n false in
+    let after = ap used_count got.1 in
+    record { padded = got.0; front = got.1; was = omega arith; count = omega (arith, put_count v start n used); few = few huge new got.0 }
 
 -- the same questions of a padded row
 pub best-front : (huge : ℕ) (row : List Bool) (n : ℕ) → IsPadded huge row → best row n ≡ best (take huge row) n
 best-front huge row n h = ap (λ (r : List Bool). best r n) h.padded ∙ best-padded (take huge row) (length row - huge) n
-
-pub used_count-front : (huge : ℕ) (row : List Bool) → IsPadded huge row → used_count row ≡ used_count (take huge row) + (length row - huge)
-used_count-front huge row h = ap used_count h.padded ∙ used_count-padded (take huge row) (length row - huge)
-
-pub free_count-front : (huge : ℕ) (row : List Bool) → IsPadded huge row → free_count row ≡ free_count (take huge row)
-free_count-front huge row h = ap free_count h.padded ∙ free_count-padded (take huge row) (length row - huge)
 
 pub place-front : (huge : ℕ) (row : List Bool) (p : ℕ) (d : Bool) → IsPadded huge row → p < huge → get_or row p d ≡ get_or (take huge row) p d
 place-front huge row p d h inside = sym (get_or-take huge row p d inside)
 
 -- the last free place of a padded row is that of its front
 pub end-front : (len : ℕ) (row : List Bool) (end : ℕ) → IsPadded len row → IsEnd row len false end → IsEnd (take len row) (length (take len row)) false end
-end-front len row end h is =
-    let size = front_length len row h in
-    record {
-      within = omega (arith, is.within);
-      behind = λ k from inside. sym (place-front len row k true h (omega arith)) ∙ is.behind k from (omega arith);
-      there = λ some. sym (place-front len row (end - 1) true h (omega (arith, is.within))) ∙ is.there some;
-    }
+end-front len row end h is = grind (arith, nat_tests, front_length, place-front)
 
 -- a row at its opening: all places are used, and then its own become what they are to be
 pub opened : (len n : ℕ) (used : Bool) → len ≤ n → with_places (with_places (replicate n false) 0 n true) 0 len used ≡ replicate len used ++ pad (n - len)
-opened len n used order =
-    let none : 0 + n ≡ n = omega arith in
-    let at : 0 + len ≡ len = omega arith in
-    let all : with_places (replicate n false) 0 n true ≡ pad n = ap (λ (k : ℕ). pad n ++ drop k (replicate n false)) none ∙ ap (λ (r : List Bool). pad n ++ r) (drop_all n (replicate n false) (omega (arith, length-replicate n false))) ∙ append-nil (pad n) in
-    ap (λ (r : List Bool). with_places r 0 len used) all ∙ ap (λ (k : ℕ). replicate len used ++ drop k (pad n)) at ∙ ap (λ (r : List Bool). replicate len used ++ r) (drop-replicate len n true)
+opened len n used order = grind (arith, nat_tests, length-replicate, drop_all, pad, drop-replicate, append-nil)

@@ -1,5 +1,5 @@
 //! A row of any number of places, in words of 64: places behind its own are used.
-ghost use Rattle.std.specs.Prelude.{◌≡◌, ◌+◌, ◌<◌, ◌≤◌, true, false, length, replicate, IfOk};
+ghost use Rattle.std.specs.Prelude.{◌≡◌, ◌+◌, ◌<◌, ◌≤◌, true, false, length, replicate, IfOk, if◌then◌else◌};
 ghost use Rattle.range_bits.specs.Fills.{free_count, IsEnd};
 ghost use Rattle.range_bits.specs.Ranges.{best, used_count, with_places};
 
@@ -12,17 +12,27 @@ use std::marker::Model;
 pub struct Row {
     bits: WideBits,
     len: u32,
+    /// How many of them are used.
+    used: u32,
 }
 
 impl Model for Row {
-    ghost use Rattle.std.specs.Prelude.{List, Bool, take};
+    ghost use Rattle.std.specs.Prelude.{◌≡◌, List, Bool, take};
+    ghost use Rattle.range_bits.specs.Ranges.{used_count};
     ghost use Rattle.huge_cache.specs.Rows.{IsPadded};
 
     ghost Value = { List Bool };
 
     ghost view = { λ r. take r.len r.bits };
 
-    ghost invariant = { λ r. IsPadded r.len r.bits };
+    ghost invariant = { λ r. IsPadded r.len r.bits × (r.used ≡ used_count (take r.len r.bits)) };
+}
+
+/// How many of `n` places are used that are all in one state.
+fn used_of(n: u32, used: bool) -> u32
+    ensures { result ≡ (if used then n else 0) }
+{
+    if used { n } else { 0 }
 }
 
 impl Row {
@@ -34,7 +44,11 @@ impl Row {
         let places = bits.places();
         bits.put(0, places, true);
         bits.put(0, len, used);
-        Ok(Row { bits, len })
+        Ok(Row {
+            bits,
+            len,
+            used: used_of(len, used),
+        })
     }
 
     /// Where the shortest maximal free range of at least `n` places begins, the first one where several
@@ -51,21 +65,23 @@ impl Row {
         requires { start + n ≤ length self.old }
         ensures { self.new ≡ with_places self.old start n used }
     {
+        let was = self.bits.used_in(start, n);
         self.bits.put(start, n, used);
+        self.used = self.used - was + used_of(n, used);
     }
 
     /// How many places are used.
     pub fn used(&self) -> u32
         ensures { result ≡ used_count self.now }
     {
-        self.bits.used() - (self.bits.places() - self.len)
+        self.used
     }
 
     /// How many places are free.
     pub fn free(&self) -> u32
         ensures { result ≡ free_count self.now }
     {
-        self.bits.places() - self.bits.used()
+        self.len - self.used
     }
 
     /// Where the last free place ends; 0 where there is none.

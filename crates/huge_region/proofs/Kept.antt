@@ -1,5 +1,6 @@
 -- What is kept of regions and beside them, where one changes, comes or leaves.
 use Rattle.std.proofs.Common.{◌≡◌, ℕ, ◌+◌, ◌*◌, ◌/◌, ◌<◌, ◌≤◌, Bool, true, false, ◌==◌, not, cond, List, [], ◌∷◌, ◌++◌, length, get_or, set, insert, remove, filter, replicate, Some, None, Contains, IsPermutation, refl, sym, ap, subst, ◌∙◌, inl, inr, arith}
+use Rattle.std.proofs.lemmas.Bool.Decides.{nat_tests}
 use Rattle.std.proofs.Math.Nat.{le-div_iff_mul-le}
 use Rattle.std.proofs.lemmas.Bool.{cases_Bool, eqb-true}
 use Rattle.std.proofs.lemmas.Option.{same_Some}
@@ -39,18 +40,7 @@ pub record HasHuge (all : Regions) (h : ℕ) (r : RegionRow) : Type 0 where
   pub arena : r.first + all.width ≤ all.huge + 1
 
 pub has_huge : (all : Regions) (h : ℕ) (r : RegionRow) → IsSound all → region_with all h ≡ Some r → HasHuge all h r
-has_huge all h r sound e =
-    let found = found_parts _ all.rows r e in
-    let parts = spans_parts all.width h r.first found.0 in
-    let at = ap (λ (x : RegionRow). x.first) found.1.2 in
-    record {
-      low = parts.0;
-      high = parts.1;
-      held = found.1;
-      size = All-contains (λ (x : RegionRow). length x.used ≡ huge_pages * all.width) all.rows r sound.sizes found.1;
-      some = omega (arith, begins all.width 1 all.rows found.1.0 r sound.apart found.1.1);
-      arena = All-contains (λ (x : RegionRow). x.first + all.width ≤ all.huge + 1) all.rows r sound.high found.1;
-    }
+has_huge all h r sound e = grind (arith, nat_tests, begins, found_parts, All-contains, spans_parts)
 
 -- a region that is held has all its hugepages, and is told by its first
 pub held_has : (all : Regions) (h : ℕ) (r : RegionRow) → IsSound all → Contains all.rows r → r.first ≤ h → h < r.first + all.width → region_with all h ≡ Some r
@@ -144,17 +134,7 @@ pub record IsNew (v : Regions) (first b : ℕ) : Type 0 where
   pub behind : (i : ℕ) (d : RegionRow) → b ≤ i → i < length v.rows → first < (get_or v.rows i d).first
 
 pub new_there : (v now : Regions) (first b : ℕ) (rows : List RegionRow) → v ≡ now → rows ≡ v.rows → 0 < first → first + now.width ≤ now.huge + 1 → ((h : ℕ) → first ≤ h → h < first + now.width → region_with now h ≡ None) → b ≤ length rows → ((i : ℕ) (d : RegionRow) → i < b → (get_or rows i d).first ≤ first) → ((i : ℕ) (d : RegionRow) → b ≤ i → i < length rows → first < (get_or rows i d).first) → IsNew v first b
-new_there v now first b rows view value low high free within before behind =
-    let same : rows ≡ now.rows = value ∙ ap (λ (x : Regions). x.rows) view in
-    subst (λ (x : Regions). IsNew x first b) (sym view)
-    (record {
-      low = low;
-      high = high;
-      free = free;
-      within = subst (λ (l : List RegionRow). b ≤ length l) same within;
-      before = subst (λ (l : List RegionRow). (i : ℕ) (d : RegionRow) → i < b → (get_or l i d).first ≤ first) same before;
-      behind = subst (λ (l : List RegionRow). (i : ℕ) (d : RegionRow) → b ≤ i → i < length l → first < (get_or l i d).first) same behind;
-    })
+new_there v now first b rows view value low high free within before behind = grind (arith, nat_tests)
 
 -- the regions with it are sound, and as many as there is room for
 pub comes : (v : Regions) (first b : ℕ) → IsSound v → IsNew v first b → IsSound (with_region v first) × (with_region v first ≡ with_rows v (insert v.rows b (unused v.width first))) × (length v.rows + 1 ≤ v.huge / v.width)

@@ -97,6 +97,6 @@ impl RegionPages {
     pub fn is_unused(&self) -> bool
         ensures { result ≡ is_unused self.now }
     {
-        self.used.used() == 0
+        self.used.is_free()
     }
 }

@@ -110,13 +110,6 @@ impl HugeRegions {
         }
     }
 
-    /// The first hugepage of the region that has a hugepage. `None` exactly where none has it.
-    pub fn region_of(&self, huge: Huge) -> Option<Huge>
-        ensures { option_map (λ h. h.0) result ≡ option_map (λ r. r.first) (region_with self.now huge.0) }
-    {
-        Some(self.regions[self.index_of(huge)?].first())
-    }
-
     /// The last hugepage of a region that isn't behind hugepage `above`.
     pub fn last_upto(&self, above: Huge) -> Option<Huge>
         ensures found { IfSome result (λ h. (r : RegionRow) × (region_with self.now h.0 ≡ Some r)) }

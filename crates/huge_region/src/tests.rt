@@ -9,7 +9,6 @@ use tc_units::{Huge, Run};
 #[derive(Clone, Copy, Debug)]
 enum Step {
     Take(u32),
-    Of(u16),
     Last(u16),
 }
 
@@ -40,7 +39,6 @@ fn number(huge: Option<Huge>) -> u32
 fn answer(regions: &mut HugeRegions, step: Step) -> u32 {
     match step {
         Step::Take(n) => take(regions, n),
-        Step::Of(huge) => number(regions.region_of(Huge(huge))),
         Step::Last(huge) => number(regions.last_upto(Huge(huge))),
     }
 }
@@ -61,11 +59,6 @@ fn two_regions_of_two_hugepages(rt: HostRuntime) -> Result<(), Fail> {
     regions.open_region(Huge(6));
     regions.open_region(Huge(3));
     let steps = [
-        (Step::Of(2), 0),
-        (Step::Of(3), 3),
-        (Step::Of(4), 3),
-        (Step::Of(5), 0),
-        (Step::Of(7), 6),
         (Step::Last(9), 7),
         (Step::Last(6), 6),
         (Step::Last(5), 4),
@@ -117,9 +110,9 @@ fn what_comes_may_leave(rt: HostRuntime) -> Result<(), Fail> {
 fn regions_open_and_close(rt: HostRuntime) -> Result<(), Fail> {
     let mut regions = HugeRegions::open(rt.alloc(), 4, 2)?;
     regions.open_region(Huge(2));
-    assert_eq!(rt; number(regions.region_of(Huge(3))), 2);
+    assert_eq!(rt; number(regions.last_upto(Huge(4))), 3);
     regions.close_region(Huge(2));
-    assert_eq!(rt; number(regions.region_of(Huge(3))), 0);
+    assert_eq!(rt; number(regions.last_upto(Huge(4))), 0);
     assert_eq!(rt; take(&mut regions, 1), 0);
     Ok(())
 }

@@ -1,18 +1,12 @@
 -- How many runs have a page of a hugepage: those that begin in it, and one that reaches into it.
-use Rattle.std.proofs.Common.{◌≡◌, ℕ, zero, suc, ◌+◌, ◌*◌, ◌<◌, ◌≤◌, ◌==◌, Bool, true, false, ◌&&◌, not, cond, nat_lt, List, map, get_or, count_by, refl, sym, ap, ◌∙◌, inl, inr, arith}
-use Rattle.std.specs.List.{list_any, range_with_len}
-use Rattle.std.proofs.lemmas.Bool.{cases_Bool, cases_lt, eqb-true, eq-eqb, ne_eqb, and_from, and_parts, and_left, not_from_false, lt-ltb, false≢true, false_from_ne_true}
+use Rattle.std.proofs.Common.{◌≡◌, ℕ, zero, suc, ◌+◌, ◌*◌, ◌<◌, ◌≤◌, ◌==◌, Bool, true, false, ◌&&◌, not, cond, nat_lt, List, map, get_or, count_by, refl}
+use Rattle.std.proofs.Common.{sym, ap, ◌∙◌, inl, inr, arith}
+use Rattle.huge_table.proofs.Common.{list_any, range_with_len, cases_Bool, cases_lt, eqb-true, eq-eqb, ne_eqb, and_from, and_parts, and_left}
+use Rattle.huge_table.proofs.Common.{not_from_false, lt-ltb, false≢true, false_from_ne_true, sum_by-map-range_with_len_more, Run, any_is_count, count_le}
+use Rattle.huge_table.proofs.Common.{count_none, Heap, holds, reaches, is_used, allocation_count, pages_of, IsInside, IsSound, holds_parts, holds_from}
+use Rattle.huge_table.proofs.Common.{reaches_parts, reaches_from, used_count, is_between, begins_on}
 use Rattle.std.proofs.lemmas.Bool.Decides.{nat_tests}
-use Rattle.std.proofs.lemmas.List.FromFn.{sum_by-map-range_with_len_more}
-use Rattle.tc_units.specs.declared.spans.Run.{Run}
-use Rattle.tc_units.proofs.Counts.{any_is_count, count_le, count_none}
-use Rattle.heap_rules.specs.Heap.{Heap, holds, reaches, is_used, allocation_count, pages_of}
-use Rattle.heap_rules.specs.Sound.{IsInside, IsSound}
 use Rattle.heap_rules.proofs.Accounts.{sum-adds}
-use Rattle.heap_rules.proofs.Fits.{holds_parts, holds_from, reaches_parts, reaches_from}
-use Rattle.range_bits.specs.Ranges.{used_count}
-use Rattle.huge_table.specs.Table.{is_between}
-use Rattle.huge_table.specs.Means.{begins_on}
 use Rattle.huge_table.proofs.Pages.{between_yes, between_parts}
 
 abbrev one : Bool → ℕ
@@ -36,7 +30,8 @@ at_most p runs few = ap one (any_is_count p runs) ∙ elim (cases_lt 0 (count_by
   is_none : (n : ℕ) → n ≤ 0 → n ≡ 0
   is_none n a = omega arith
 
-begun : (runs : List Run) (a n : ℕ) → ((page : ℕ) → count_by (begins_on page) runs ≤ 1) → used_count (map (λ page. list_any (begins_on page) runs) (range_with_len a n)) ≡ count_by (begins_in a (a + n)) runs
+begun : (runs : List Run) (a n : ℕ) → ((page : ℕ) → count_by (begins_on page) runs ≤ 1) →
+    used_count (map (λ page. list_any (begins_on page) runs) (range_with_len a n)) ≡ count_by (begins_in a (a + n)) runs
 begun runs a zero few = sym (count_none (begins_in a (a + 0)) runs (λ k d l. false_from_ne_true _ (λ t. (let parts = between_parts a (a + 0) (get_or runs k d).first.0 t in absurd (omega arith)))))
 begun runs a (suc n) few =
     let next : suc n ≡ n + 1 = omega arith in
@@ -60,16 +55,22 @@ module _ (heap : Heap) (sound : IsSound heap) (h : ℕ) where
         ap (λ b. one b + one (into r)) (false_from_ne_true _ (λ t. (let parts = between_parts (256 * h) (256 * h + 256) r.first.0 t in absurd (omega arith))))
         ∙ nothing _
         ∙ ap one (elim (cases_Bool (reaches h r)) [
-          | inl e ↦ (let parts = reaches_parts h r e in and_from _ _ (holds_from (256 * h) r (omega arith) (omega arith)) (not_from_false _ (ne_eqb r.first.0 (256 * h) (λ s. absurd (omega arith)))) ∙ sym e)
+          | inl e ↦ (let parts = reaches_parts h r e in and_from _ _ (holds_from (256 * h) r (omega arith) (omega arith))
+              (not_from_false _ (ne_eqb r.first.0 (256 * h) (λ s. absurd (omega arith)))) ∙ sym e)
           | inr e ↦ and_left _ _ (false_from_ne_true (holds (256 * h) r) (λ t. (let parts = holds_parts (256 * h) r t in false≢true (sym e ∙ reaches_from h r (omega arith) (omega arith))))) ∙ sym e
         ])
     | inr from ↦
-        (let none : into r ≡ false = false_from_ne_true _ (λ t. (let parts = and_parts _ _ t in let held = holds_parts (256 * h) r parts.0 in let same : r.first.0 ≡ 256 * h = omega arith in false≢true (sym (ap not (eq-eqb r.first.0 (256 * h) same)) ∙ parts.1))) in
+        (let none : into r ≡ false =
+        false_from_ne_true _
+        (λ t. (let parts = and_parts _ _ t in let held = holds_parts (256 * h) r parts.0 in let same : r.first.0 ≡ 256 * h = omega arith in
+        false≢true (sym (ap not (eq-eqb r.first.0 (256 * h) same)) ∙ parts.1))) in
         ap (λ b. one (begins_in (256 * h) (256 * h + 256) r) + one b) none
         ∙ nothing' _
         ∙ ap one (elim (cases_Bool (reaches h r)) [
           | inl e ↦ (let parts = reaches_parts h r e in between_yes (256 * h) (256 * h + 256) r.first.0 from (omega arith) ∙ sym e)
-          | inr e ↦ false_from_ne_true _ (λ t. (let parts = between_parts (256 * h) (256 * h + 256) r.first.0 t in false≢true (sym e ∙ reaches_from h r (omega arith) (omega (arith, inside.some))))) ∙ sym e
+          | inr e ↦ false_from_ne_true _
+              (λ t. (let parts = between_parts (256 * h) (256 * h + 256) r.first.0 t in
+              false≢true (sym e ∙ reaches_from h r (omega arith) (omega (arith, inside.some))))) ∙ sym e
         ]))
   ] where
     nothing : (n : ℕ) → 0 + n ≡ n
@@ -80,7 +81,9 @@ module _ (heap : Heap) (sound : IsSound heap) (h : ℕ) where
 
   few_begin : (page : ℕ) → count_by (begins_on page) heap.runs ≤ 1
   few_begin page =
-      let le = count_le (begins_on page) (holds page) heap.runs (λ k d l e. (let r = get_or heap.runs k d in let inside = sound.runs.inside k d l in let at = eqb-true r.first.0 page e in holds_from page r (omega arith) (omega (arith, inside.some)))) in
+      let le = count_le (begins_on page) (holds page) heap.runs
+      (λ k d l e. (let r = get_or heap.runs k d in let inside = sound.runs.inside k d l in let at = eqb-true r.first.0 page e in
+      holds_from page r (omega arith) (omega (arith, inside.some)))) in
       let most = sound.runs.disjoint page in
       omega arith
 
@@ -106,8 +109,11 @@ module _ (heap : Heap) (sound : IsSound heap) (h : ℕ) where
       rest false true x y z p q r = omega arith
       rest false false x y z p q r = omega arith
 
-  pub allocs_are : used_count (map (λ page. list_any (begins_on page) heap.runs) (pages_of h)) + one (is_used heap.runs (256 * h) && not (list_any (begins_on (256 * h)) heap.runs)) ≡ allocation_count heap.runs h
-  allocs_are = adds _ _ _ _ _ (begun heap.runs (256 * h) 256 few_begin) into_is (sum-adds (λ r. one (begins_in (256 * h) (256 * h + 256) r)) (λ r. one (into r)) (λ r. one (reaches h r)) heap.runs (λ k d l. each_one (get_or heap.runs k d) (sound.runs.inside k d l)))
+  pub allocs_are : used_count (map (λ page. list_any (begins_on page) heap.runs) (pages_of h)) + one
+      (is_used heap.runs (256 * h) && not (list_any (begins_on (256 * h)) heap.runs)) ≡ allocation_count heap.runs h
+  allocs_are = adds _ _ _ _ _ (begun heap.runs (256 * h) 256 few_begin) into_is
+      (sum-adds (λ r. one (begins_in (256 * h) (256 * h + 256) r)) (λ r. one (into r)) (λ r. one (reaches h r)) heap.runs
+      (λ k d l. each_one (get_or heap.runs k d) (sound.runs.inside k d l)))
     where
       adds : (a b c d e : ℕ) → a ≡ c → d ≡ b → c + d ≡ e → a + b ≡ e
       adds a b c d e p q r = omega arith

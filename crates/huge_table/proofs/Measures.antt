@@ -1,20 +1,12 @@
 -- The measures of a hugepage.
 use Rattle.std.proofs.Common.{◌≡◌, ℕ, ◌+◌, ◌*◌, ◌<◌, ◌≤◌, Bool, true, false, length, get_or, count_by, max, sym, ap, ◌∙◌, arith}
-use Rattle.std.proofs.lemmas.Bool.{false≢true, false_from_ne_true}
-use Rattle.std.proofs.lemmas.List.{length-replicate}
+use Rattle.huge_table.proofs.Common.{false≢true, false_from_ne_true, length-replicate, RowKind, count_le, count_some, longest, Heap, hugepage, whole}
+use Rattle.huge_table.proofs.Common.{holds, reaches, is_used, is_kind_filler, used_row, allocation_count, row_of, IsHugepageOf, HasOneRun, IsSound}
+use Rattle.huge_table.proofs.Common.{backs-whole, serves_at, holds_from, reaches_parts, reaches_from, same_member, is_run}
 use Rattle.std.proofs.lemmas.List.Elements.{Contains-get_or}
-use Rattle.tc_units.specs.declared.rows.RowKind.{RowKind}
 use Rattle.tc_units.specs.declared.rows.RowKind.TheVariants as kind
 use Rattle.tc_units.specs.declared.rows.RowView.{RowView}
-use Rattle.tc_units.proofs.Counts.{count_le, count_some}
-use Rattle.range_bits.specs.Ranges.{longest}
-use Rattle.heap_rules.specs.Heap.{Heap, hugepage, whole, holds, reaches, is_used, is_kind_filler, used_row, allocation_count, row_of}
-use Rattle.heap_rules.specs.Sound.{IsHugepageOf, HasOneRun, IsSound}
-use Rattle.heap_rules.proofs.Places.{backs-whole}
 use Rattle.heap_rules.proofs.Live.{counts_used}
-use Rattle.heap_rules.proofs.Fits.{serves_at, holds_from, reaches_parts, reaches_from}
-use Rattle.heap_rules.proofs.Left.{same_member}
-use Rattle.huge_table.specs.Means.{is_run}
 use Rattle.huge_table.proofs.Pages.{row_is}
 use Rattle.huge_table.proofs.Leaves.{is_Run}
 
@@ -59,7 +51,8 @@ module _ (heap : Heap) (sound : IsSound heap) (h : ℕ) (one : HasOneRun heap.ru
       exactly a b p q r = omega arith
 
 -- A hugepage that one run has whole.
-pub run_row_is : (heap : Heap) (h : ℕ) (row : RowView) → IsSound heap → 0 < h → h ≤ length heap.hugepages → is_run (hugepage heap h) ≡ true → row ≡ record { kind = kind.Run; used = 256; allocs = 1; backed = 256; longest = 0; donated = false } → row ≡ row_of heap h
+pub run_row_is : (heap : Heap) (h : ℕ) (row : RowView) → IsSound heap → 0 < h → h ≤ length heap.hugepages → is_run (hugepage heap h) ≡ true →
+    row ≡ record { kind = kind.Run; used = 256; allocs = 1; backed = 256; longest = 0; donated = false } → row ≡ row_of heap h
 run_row_is heap h row sound some inside run e =
     let x = hugepage heap h in
     let of_run = is_Run x.kind run in

@@ -1,15 +1,9 @@
 -- A table at its opening.
 use Rattle.std.proofs.Common.{◌≡◌, ℕ, ◌-◌, ◌/◌, false, Bool, get_or, replicate, refl, sym, ◌∙◌, inl, inr, arith}
-use Rattle.std.proofs.lemmas.Bool.{cases_lt, and_right}
-use Rattle.std.proofs.lemmas.List.{length-replicate, get_or-replicate, get_or_past}
-use Rattle.std.proofs.lemmas.List.FromFn.{length-map-range_with_len}
+use Rattle.huge_table.proofs.Common.{cases_lt, and_right, length-replicate, get_or-replicate, get_or_past, length-map-range_with_len, Hugepage, hugepage}
+use Rattle.huge_table.proofs.Common.{untouched, opened, at-place, bit, by_bits, of_filler, hugepage_of, table_of, Means, is_shared, Inside, same_pages}
 use Rattle.heap_rules.specs.declared.config.HeapConfig.{HeapConfig}
-use Rattle.heap_rules.specs.Heap.{Hugepage, hugepage, untouched, opened}
-use Rattle.heap_rules.proofs.Places.{at-place}
-use Rattle.huge_table.specs.Table.{bit, by_bits, of_filler, hugepage_of, table_of}
-use Rattle.huge_table.specs.Means.{Means, is_shared}
-use Rattle.huge_table.specs.declared.table.HugeTable.TheInside.{Inside}
-use Rattle.huge_table.proofs.Pages.{same_pages, at-table}
+use Rattle.huge_table.proofs.Pages.{at-table}
 
 pub none_of : {X : Type 0} (n k : ℕ) (x : X) → get_or (replicate n x) k x ≡ x
 none_of n k x = elim (cases_lt k n) [ inl inside ↦ get_or-replicate n k x x inside | inr past ↦ get_or_past (replicate n x) k x (let size = length-replicate n x in omega arith) ]
@@ -17,7 +11,9 @@ none_of n k x = elim (cases_lt k n) [ inl inside ↦ get_or-replicate n k x x in
 untouched_is : (g s b : Bool) (x : Hugepage) → g ≡ false → s ≡ false → b ≡ false → by_bits g s b x ≡ untouched
 untouched_is g s b x p q r = rw (p, q, r) refl
 
-pub opens : (t : Inside) → ((h : ℕ) → bit t.grouped h ≡ false) → ((h : ℕ) → bit t.shared h ≡ false) → ((h : ℕ) → bit t.backed h ≡ false) → ((page : ℕ) → bit t.used page ≡ false) → ((page : ℕ) → bit t.begins page ≡ false) → ((page : ℕ) → bit t.ends page ≡ false) → (config : HeapConfig) → config.huge ≡ t.huge → Means (table_of t) (opened config)
+pub opens : (t : Inside) → ((h : ℕ) → bit t.grouped h ≡ false) → ((h : ℕ) → bit t.shared h ≡ false) → ((h : ℕ) → bit t.backed h ≡ false) →
+    ((page : ℕ) → bit t.used page ≡ false) → ((page : ℕ) → bit t.begins page ≡ false) → ((page : ℕ) → bit t.ends page ≡ false) → (config : HeapConfig) →
+    config.huge ≡ t.huge → Means (table_of t) (opened config)
 opens t grouped shared backed used begins ends config same = record {
   pages = (let size = length-map-range_with_len (hugepage_of t) 1 t.huge in let size' = length-replicate config.huge untouched in
       same_pages (table_of t).pages (replicate config.huge untouched) (size ∙ sym same ∙ sym size') (λ h some inside.

@@ -1,51 +1,25 @@
 -- What bits say of each hugepage, and tables whose hugepages change.
-use Rattle.std.proofs.Common.{◌≡◌, ℕ, ◌+◌, ◌-◌, ◌*◌, ◌/◌, ◌%◌, ◌<◌, ◌≤◌, Bool, true, false, ◌||◌, not, cond, eqb, List, [], ◌∷◌, length, get_or, take, drop, map, refl, sym, ap, ◌∙◌, inl, inr, arith}
-use Rattle.std.specs.List.{list_all, range_with_len}
-use Rattle.std.proofs.lemmas.Bool.{cases_Bool, cases_eq, and_from, and_parts, le-leb, lt-ltb, leb-true, ltb-true, eq-eqb, ne_eqb, false≢true, false_from_ne_true}
-use Rattle.std.proofs.lemmas.List.{same_lists, get_or_default, length-replicate, length-take-le, length-drop, get_or-take, get_or-drop}
-use Rattle.std.proofs.lemmas.List.Sums.{sum_by-cons, count_by-le-length}
-use Rattle.std.proofs.lemmas.List.FromFn.{length-map-range_with_len, get_or-map-range_with_len}
-use Rattle.tc_units.specs.declared.rows.RowKind.{RowKind}
+use Rattle.std.proofs.Common.{◌≡◌, ℕ, ◌+◌, ◌-◌, ◌*◌, ◌/◌, ◌%◌, ◌<◌, ◌≤◌, Bool, true, false, ◌||◌, not, cond, eqb, List, length, get_or, take}
+use Rattle.std.proofs.Common.{drop, map, refl, sym, ap, ◌∙◌, inl, inr, arith}
+use Rattle.huge_table.proofs.Common.{list_all, range_with_len, cases_Bool, cases_eq, and_from, and_parts, le-leb, lt-ltb, leb-true, ltb-true, eq-eqb}
+use Rattle.huge_table.proofs.Common.{ne_eqb, false≢true, false_from_ne_true, same_lists, get_or_default, length-replicate, length-take-le, length-drop}
+use Rattle.huge_table.proofs.Common.{get_or-take, get_or-drop, length-map-range_with_len, get_or-map-range_with_len}
+use Rattle.huge_table.proofs.Common.{RowKind, used_count, with_places, Hugepage, untouched, spans, whole, pages_of, backs, backed_count, holds, run_at}
+use Rattle.huge_table.proofs.Common.{is_free, is_filler, is_region, run_page, region_page, filler_page, more_backed, emptied, IsPageOf, at-place}
+use Rattle.huge_table.proofs.Common.{length-each, at-each, each_is, page_of, backs-map, backs-whole, spans_parts, spans_from, holds_parts, Table, IsSpan}
+use Rattle.huge_table.proofs.Common.{bit, by_bits, kind_by, of_kind, free_page, is_even, with_backing, region_freed, of_filler, hugepage_of, table_of}
+use Rattle.huge_table.proofs.Common.{over_span, is_between, shares, Inside}
 use Rattle.tc_units.specs.declared.rows.RowKind.TheVariants as kind
-use Rattle.range_bits.specs.Ranges.{used_count, with_places}
 use Rattle.range_bits.proofs.Placing.{get_or-with_places}
-use Rattle.heap_rules.specs.Heap.{Hugepage, untouched, each, spans, whole, pages_of, backs, backed_count, holds, run_at, is_free, is_filler, is_region}
-use Rattle.heap_rules.specs.New.{run_page, region_page, filler_page, more_backed}
-use Rattle.heap_rules.specs.Free.{emptied}
-use Rattle.heap_rules.specs.Sound.{IsPageOf}
-use Rattle.heap_rules.proofs.Places.{at, at-place, at-next, length-each, at-each, page_of, backs-map, backs-whole}
-use Rattle.heap_rules.proofs.Fits.{spans_parts, spans_from, holds_parts}
-use Rattle.huge_table.specs.Table.{Table, IsSpan, bit, by_bits, kind_by, of_kind, free_page, is_even, with_backing, region_freed, of_filler, hugepage_of, table_of, over_span, is_between}
-use Rattle.huge_table.specs.Means.{shares}
-use Rattle.huge_table.specs.declared.table.HugeTable.TheInside.{Inside}
+use Rattle.heap_rules.proofs.Places.{at}
 
 pub at-table : (t : Inside) (h : ℕ) → 0 < h → h ≤ t.huge → at (table_of t).pages h ≡ hugepage_of t h
 at-table t h some inside = at-place (table_of t).pages h some ∙ get_or-map-range_with_len (hugepage_of t) 1 t.huge (h - 1) h untouched (omega arith) (omega arith)
 
--- lists of hugepages that are alike at each number
-pub same_pages : (xs ys : List Hugepage) → length xs ≡ length ys → ((h : ℕ) → 0 < h → h ≤ length xs → at xs h ≡ at ys h) → xs ≡ ys
-same_pages xs ys size same = same_lists xs ys size (λ k d l.
-    get_or_default xs k d untouched l
-    ∙ sym (at-next xs k) ∙ same (1 + k) (omega arith) (omega arith) ∙ at-next ys k
-    ∙ get_or_default ys k untouched d (omega arith))
-
--- what a change makes of a list, by what it makes of each hugepage
-pub each_is : (f : ℕ → Hugepage → Hugepage) (xs ys : List Hugepage) → length ys ≡ length xs → ((h : ℕ) → 0 < h → h ≤ length xs → f h (at xs h) ≡ at ys h) → each f xs ≡ ys
-each_is f xs ys size same =
-    let size' = length-each f xs in
-    same_pages (each f xs) ys (size' ∙ sym size) (λ h some l. at-each f xs h some (omega arith) ∙ same h some (omega arith))
-
-pub each_where : (f g : ℕ → Hugepage → Hugepage) (xs : List Hugepage) → ((h : ℕ) → 0 < h → h ≤ length xs → f h (at xs h) ≡ g h (at xs h)) → each f xs ≡ each g xs
-each_where f g xs same = each_is f xs (each g xs) (length-each g xs) (λ h some l. same h some l ∙ sym (at-each g xs h some l))
-
--- a change after a change
-pub each_each : (f g : ℕ → Hugepage → Hugepage) (xs : List Hugepage) → each f (each g xs) ≡ each (λ h x. f h (g h x)) xs
-each_each f g xs =
-    let size = length-each g xs in
-    each_is f (each g xs) (each (λ h x. f h (g h x)) xs) (length-each (λ h x. f h (g h x)) xs ∙ sym size) (λ h some l. ap (f h) (at-each g xs h some (omega arith)) ∙ sym (at-each (λ h x. f h (g h x)) xs h some (omega arith)))
-
 -- Bits of which each hugepage is what a change makes of it.
-pub changed : (t u : Inside) (first many : ℕ) (f : Hugepage → Hugepage) → u.huge ≡ t.huge → ((h : ℕ) → 0 < h → h ≤ t.huge → hugepage_of u h ≡ cond (spans many h first) (f (hugepage_of t h)) (hugepage_of t h)) → (table_of u).pages ≡ (over_span first many f (table_of t)).pages
+pub changed : (t u : Inside) (first many : ℕ) (f : Hugepage → Hugepage) → u.huge ≡ t.huge →
+    ((h : ℕ) → 0 < h → h ≤ t.huge → hugepage_of u h ≡ cond (spans many h first) (f (hugepage_of t h)) (hugepage_of t h)) →
+    (table_of u).pages ≡ (over_span first many f (table_of t)).pages
 changed t u first many f same all =
     let old = (table_of t).pages in
     let size = length-map-range_with_len (hugepage_of t) 1 t.huge in
@@ -72,21 +46,26 @@ give_is true g s b x = refl
 give_is false g s b x = refl
 
 -- the filler's hugepages are no others
-pub gather_is : (p g s b d : Bool) (bs : List Bool) (h : ℕ) → (p ≡ true → is_free (by_bits g s b (of_filler d bs h)) ≡ true) → by_bits (cond p true g) (cond p true s) b (of_filler d bs h) ≡ cond p (region_page (by_bits g s b (of_filler d bs h))) (by_bits g s b (of_filler d bs h))
+pub gather_is : (p g s b d : Bool) (bs : List Bool) (h : ℕ) → (p ≡ true → is_free (by_bits g s b (of_filler d bs h)) ≡ true) →
+    by_bits (cond p true g) (cond p true s) b (of_filler d bs h) ≡ cond p (region_page (by_bits g s b (of_filler d bs h)))
+    (by_bits g s b (of_filler d bs h))
 gather_is false g s b d bs h e = refl
 gather_is true false false b d bs h e = refl
 gather_is true false true b d bs h e = absurd (false≢true (e refl))
 gather_is true true false b d bs h e = absurd (false≢true (e refl))
 gather_is true true true b d bs h e = absurd (false≢true (e refl))
 
-pub scatter_is : (p g s b d : Bool) (bs : List Bool) (h : ℕ) → (p ≡ true → is_region (by_bits g s b (of_filler d bs h)) ≡ true) → by_bits (cond p false g) (cond p false s) b (of_filler d bs h) ≡ cond p (region_freed (by_bits g s b (of_filler d bs h))) (by_bits g s b (of_filler d bs h))
+pub scatter_is : (p g s b d : Bool) (bs : List Bool) (h : ℕ) → (p ≡ true → is_region (by_bits g s b (of_filler d bs h)) ≡ true) →
+    by_bits (cond p false g) (cond p false s) b (of_filler d bs h) ≡ cond p (region_freed (by_bits g s b (of_filler d bs h)))
+    (by_bits g s b (of_filler d bs h))
 scatter_is false g s b d bs h e = refl
 scatter_is true false false b d bs h e = absurd (false≢true (e refl))
 scatter_is true false true b d bs h e = absurd (false≢true (e refl))
 scatter_is true true false b d bs h e = absurd (false≢true (e refl))
 scatter_is true true true b d bs h e = refl
 
-pub back_is : (p g s b v d : Bool) (bs : List Bool) (h : ℕ) → (p ≡ true → is_even (by_bits g s b (of_filler d bs h)) ≡ true) → by_bits g s (cond p v b) (of_filler d bs h) ≡ cond p (with_backing v (by_bits g s b (of_filler d bs h))) (by_bits g s b (of_filler d bs h))
+pub back_is : (p g s b v d : Bool) (bs : List Bool) (h : ℕ) → (p ≡ true → is_even (by_bits g s b (of_filler d bs h)) ≡ true) →
+    by_bits g s (cond p v b) (of_filler d bs h) ≡ cond p (with_backing v (by_bits g s b (of_filler d bs h))) (by_bits g s b (of_filler d bs h))
 back_is false g s b v d bs h e = refl
 back_is true false false b v d bs h e = refl
 back_is true false true b v d bs h e = absurd (false≢true (e refl))
@@ -104,16 +83,21 @@ filler_bits false true b d bs h e = (refl, refl)
 filler_bits true false b d bs h e = absurd (false≢true e)
 filler_bits true true b d bs h e = absurd (false≢true e)
 
-pub own_is : (p g s b d : Bool) (bs : List Bool) (h : ℕ) (f : Hugepage → Hugepage) (y : Hugepage) → (p ≡ true → is_filler (by_bits g s b (of_filler d bs h)) ≡ true) → y ≡ cond p (f (of_filler d bs h)) (of_filler d bs h) → by_bits g s b y ≡ cond p (f (by_bits g s b (of_filler d bs h))) (by_bits g s b (of_filler d bs h))
+pub own_is : (p g s b d : Bool) (bs : List Bool) (h : ℕ) (f : Hugepage → Hugepage) (y : Hugepage) →
+    (p ≡ true → is_filler (by_bits g s b (of_filler d bs h)) ≡ true) → y ≡ cond p (f (of_filler d bs h)) (of_filler d bs h) →
+    by_bits g s b y ≡ cond p (f (by_bits g s b (of_filler d bs h))) (by_bits g s b (of_filler d bs h))
 own_is true g s b d bs h f y e same = let own = filler_bits g s b d bs h (e refl) in rw (own.0, own.1) same
 own_is false g s b d bs h f y e same = ap (by_bits g s b) same
 
-pub empty_is : (p g s b v d : Bool) (bs : List Bool) (h : ℕ) → (p ≡ true → is_filler (by_bits g s b (of_filler d bs h)) ≡ true) → (p ≡ true → v ≡ list_all (λ x. x) (map (bit bs) (pages_of h))) → by_bits (cond p false g) (cond p false s) (cond p v b) (of_filler d bs h) ≡ cond p (emptied (by_bits g s b (of_filler d bs h))) (by_bits g s b (of_filler d bs h))
+pub empty_is : (p g s b v d : Bool) (bs : List Bool) (h : ℕ) → (p ≡ true → is_filler (by_bits g s b (of_filler d bs h)) ≡ true) →
+    (p ≡ true → v ≡ list_all (λ x. x) (map (bit bs) (pages_of h))) → by_bits (cond p false g) (cond p false s) (cond p v b) (of_filler d bs h) ≡ cond p
+    (emptied (by_bits g s b (of_filler d bs h))) (by_bits g s b (of_filler d bs h))
 empty_is true g s b v d bs h e all = let own = filler_bits g s b d bs h (e refl) in rw (own.0, own.1, all refl) refl
 empty_is false g s b v d bs h e all = refl
 
 -- what holds of each hugepage of a span holds of its bits
-pub spanned : (t : Inside) (now : Table) (first many : ℕ) (test : Hugepage → Bool) → table_of t ≡ now → IsSpan now first many test → (h : ℕ) → 0 < h → h ≤ t.huge → spans many h first ≡ true → test (hugepage_of t h) ≡ true
+pub spanned : (t : Inside) (now : Table) (first many : ℕ) (test : Hugepage → Bool) → table_of t ≡ now → IsSpan now first many test → (h : ℕ) → 0 < h →
+    h ≤ t.huge → spans many h first ≡ true → test (hugepage_of t h) ≡ true
 spanned t now first many test view span h some inside e =
     let parts = spans_parts many h first e in
     ap test (sym (at-table t h some inside) ∙ ap (λ (x : Table). at x.pages h) view) ∙ span.all h parts.0 parts.1
@@ -132,7 +116,8 @@ pub over_pages : (f g : ℕ → Bool) (h : ℕ) → ((page : ℕ) → IsPageOf h
 over_pages f g h same = row_is f h (map g (pages_of h)) (length-map-range_with_len g (256 * h) 256) (λ page own. same page own ∙ sym (backs-map g h page own))
 
 -- the pages of the hugepages of a span
-pub span_pages : (bs : List Bool) (first many h : ℕ) (v : Bool) → 256 * first + 256 * many ≤ length bs → map (bit (with_places bs (256 * first) (256 * many) v)) (pages_of h) ≡ cond (spans many h first) (whole v) (map (bit bs) (pages_of h))
+pub span_pages : (bs : List Bool) (first many h : ℕ) (v : Bool) → 256 * first + 256 * many ≤ length bs →
+    map (bit (with_places bs (256 * first) (256 * many) v)) (pages_of h) ≡ cond (spans many h first) (whole v) (map (bit bs) (pages_of h))
 span_pages bs first many h v fits = elim (cases_Bool (spans many h first)) [
   | inl t ↦
       (let parts = spans_parts many h first t in
@@ -144,26 +129,36 @@ span_pages bs first many h v fits = elim (cases_Bool (spans many h first)) [
   | inr f ↦
       over_pages _ (bit bs) h (λ page own.
       get_or-with_places bs (256 * first) (256 * many) v page false fits
-      ∙ ap (λ b. cond b v (bit bs page)) (false_from_ne_true _ (λ e. (let parts = spans_parts (256 * many) page (256 * first) e in false≢true (sym f ∙ spans_from many h first (omega (arith, own.from, own.to)) (omega (arith, own.from, own.to)))))))
+      ∙ ap (λ b. cond b v (bit bs page))
+      (false_from_ne_true _
+      (λ e. (let parts = spans_parts (256 * many) page (256 * first) e in
+      false≢true (sym f ∙ spans_from many h first (omega (arith, own.from, own.to)) (omega (arith, own.from, own.to)))))))
       ∙ sym (ap (λ b. cond b (whole v) (map (bit bs) (pages_of h))) f)
 ]
 
 -- A table of new bits of which each hugepage of a span is changed.
-pub over : (t u : Inside) (now : Table) (first many : ℕ) (f : Hugepage → Hugepage) → table_of t ≡ now → u.huge ≡ t.huge → record (table_of u) { pages = (table_of t).pages } ≡ table_of t → ((h : ℕ) → 0 < h → h ≤ t.huge → hugepage_of u h ≡ cond (spans many h first) (f (hugepage_of t h)) (hugepage_of t h)) → table_of u ≡ over_span first many f now
+pub over : (t u : Inside) (now : Table) (first many : ℕ) (f : Hugepage → Hugepage) → table_of t ≡ now → u.huge ≡ t.huge →
+    record (table_of u) { pages = (table_of t).pages } ≡ table_of t →
+    ((h : ℕ) → 0 < h → h ≤ t.huge → hugepage_of u h ≡ cond (spans many h first) (f (hugepage_of t h)) (hugepage_of t h)) →
+    table_of u ≡ over_span first many f now
 over t u now first many f view same rest all =
     ap (λ (xs : List Hugepage). record (table_of u) { pages = xs }) (changed t u first many f same all)
     ∙ ap (λ (x : Table). record x { pages = (over_span first many f (table_of t)).pages }) rest
     ∙ ap (over_span first many f) view
 
 -- hugepages that the filler gets, and pages of one of its own that are backed
-pub filler_put : (bs new : List Bool) (first many h : ℕ) (v d d' : Bool) → d' ≡ cond (spans many h first) v d → new ≡ with_places bs (256 * first) (256 * many) true → 256 * first + 256 * many ≤ length bs → of_filler d' new h ≡ cond (spans many h first) (filler_page v) (of_filler d bs h)
+pub filler_put : (bs new : List Bool) (first many h : ℕ) (v d d' : Bool) → d' ≡ cond (spans many h first) v d →
+    new ≡ with_places bs (256 * first) (256 * many) true → 256 * first + 256 * many ≤ length bs →
+    of_filler d' new h ≡ cond (spans many h first) (filler_page v) (of_filler d bs h)
 filler_put bs new first many h v d d' donated e fits =
     let pages = ap (λ (row : List Bool). map (bit row) (pages_of h)) e ∙ span_pages bs first many h true fits in
     ap (λ (b : Bool). of_filler b new h) donated
     ∙ ap (λ (row : List Bool). record (of_filler (cond (spans many h first) v d) bs h) { backed = row }) pages
-    ∙ elim (spans many h first) as (λ p. record (of_filler (cond p v d) bs h) { backed = cond p (whole true) (map (bit bs) (pages_of h)) } ≡ cond p (filler_page v) (of_filler d bs h)) [ true ↦ refl | false ↦ refl ]
+    ∙ elim (spans many h first) as (λ p. record (of_filler (cond p v d) bs h) { backed = cond p (whole true) (map (bit bs) (pages_of h)) } ≡ cond p
+    (filler_page v) (of_filler d bs h)) [ true ↦ refl | false ↦ refl ]
 
-pub filler_backs : (bs new : List Bool) (first n h : ℕ) (d : Bool) → new ≡ with_places bs first n true → first % 256 + n ≤ 256 → first + n ≤ length bs → of_filler d new h ≡ cond (spans 1 h (first / 256)) (more_backed (run_at first n) (first / 256) (of_filler d bs h)) (of_filler d bs h)
+pub filler_backs : (bs new : List Bool) (first n h : ℕ) (d : Bool) → new ≡ with_places bs first n true → first % 256 + n ≤ 256 → first + n ≤ length bs →
+    of_filler d new h ≡ cond (spans 1 h (first / 256)) (more_backed (run_at first n) (first / 256) (of_filler d bs h)) (of_filler d bs h)
 filler_backs bs new first n h d e ends fits = ap (λ (row : List Bool). of_filler d row h) e ∙ elim (cases_Bool (spans 1 h (first / 256))) [
   | inl t ↦
       (let parts = spans_parts 1 h (first / 256) t in
@@ -177,7 +172,10 @@ filler_backs bs new first n h d e ends fits = ap (λ (row : List Bool). of_fille
   | inr f ↦
       ap (λ (row : List Bool). record (of_filler d bs h) { backed = row }) (over_pages _ (bit bs) h (λ page own.
       get_or-with_places bs first n true page false fits
-      ∙ ap (λ s. cond s true (bit bs page)) (false_from_ne_true (holds page (run_at first n)) (λ s. (let parts = holds_parts page (run_at first n) s in false≢true (sym f ∙ spans_from 1 h (first / 256) (omega (arith, own.from, own.to)) (omega (arith, own.from, own.to))))))))
+      ∙ ap (λ s. cond s true (bit bs page))
+      (false_from_ne_true (holds page (run_at first n))
+      (λ s. (let parts = holds_parts page (run_at first n) s in
+      false≢true (sym f ∙ spans_from 1 h (first / 256) (omega (arith, own.from, own.to)) (omega (arith, own.from, own.to))))))))
       ∙ sym (ap (λ b. cond b (more_backed (run_at first n) (first / 256) (of_filler d bs h)) (of_filler d bs h)) f)
 ] where
   or_set : (s v : Bool) → cond s true v ≡ (v || s)
@@ -197,26 +195,6 @@ slice_is row s n fits =
     ∙ get_or-drop s row k d
     ∙ get_or_default row (s + k) d false (omega arith)
     ∙ sym (get_or-map-range_with_len (bit row) s n k (s + k) d (omega arith) refl))
-
--- all places are used exactly where their number is used
-all_or_fewer : (row : List Bool) → (list_all (λ b. b) row ≡ true → used_count row ≡ length row) × (list_all (λ b. b) row ≡ false → used_count row < length row)
-all_or_fewer [] = ((λ e. refl), (λ e. absurd (false≢true (sym e))))
-all_or_fewer (true ∷ row) =
-    let step = sum_by-cons (λ b. cond b 1 0) true row in
-    let rest = all_or_fewer row in
-    ((λ e. omega (arith, rest.0 e)), (λ e. omega (arith, rest.1 e)))
-all_or_fewer (false ∷ row) =
-    let step = sum_by-cons (λ b. cond b 1 0) false row in
-    let most = count_by-le-length (λ b. b) row in
-    ((λ e. absurd (false≢true e)), (λ e. omega arith))
-
-pub whole_exactly : (row : List Bool) (n : ℕ) → length row ≡ n → eqb (used_count row) n ≡ list_all (λ b. b) row
-whole_exactly row n size =
-    let is = all_or_fewer row in
-    elim (cases_Bool (list_all (λ b. b) row)) [
-      | inl all ↦ eq-eqb (used_count row) n (is.0 all ∙ size) ∙ sym all
-      | inr some ↦ ne_eqb (used_count row) n (λ e. let fewer = is.1 some in omega arith) ∙ sym some
-    ]
 
 -- one place, by its number and by the next one's
 pub one_place : (first page : ℕ) → is_between first (first + 1) page ≡ eqb first page
@@ -293,7 +271,8 @@ even_count : (b : Bool) → cond b 256 0 ≡ used_count (whole b)
 even_count true = refl
 even_count false = refl
 
-pub backed_is : (g s b d : Bool) (bs : List Bool) (h m : ℕ) → m ≡ used_count (map (bit bs) (pages_of h)) → of_kind (by_bits g s b (of_filler d bs h)).kind 256 (cond b 256 0) m ≡ backed_count (by_bits g s b (of_filler d bs h))
+pub backed_is : (g s b d : Bool) (bs : List Bool) (h m : ℕ) → m ≡ used_count (map (bit bs) (pages_of h)) →
+    of_kind (by_bits g s b (of_filler d bs h)).kind 256 (cond b 256 0) m ≡ backed_count (by_bits g s b (of_filler d bs h))
 backed_is false false b d bs h m e = even_count b
 backed_is true false b d bs h m e = even_count true
 backed_is false true b d bs h m e = e

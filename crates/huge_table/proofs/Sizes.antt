@@ -1,10 +1,6 @@
 -- How many hugepages a table has.
 use Rattle.std.proofs.Common.{◌≡◌, ℕ, cond, length, sym, ap, ◌∙◌}
-use Rattle.std.proofs.lemmas.List.FromFn.{length-map-range_with_len}
-use Rattle.heap_rules.specs.Heap.{Hugepage, spans}
-use Rattle.heap_rules.proofs.Places.{length-each}
-use Rattle.huge_table.specs.Table.{Table, hugepage_of, table_of, over_span}
-use Rattle.huge_table.specs.declared.table.HugeTable.TheInside.{Inside}
+use Rattle.huge_table.proofs.Common.{length-map-range_with_len, Hugepage, spans, length-each, Table, hugepage_of, table_of, over_span, Inside}
 
 -- as many as there are bits for
 pub arena : (t : Inside) (now : Table) → table_of t ≡ now → length now.pages ≡ t.huge

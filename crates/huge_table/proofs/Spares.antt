@@ -1,19 +1,15 @@
 -- A hugepage of the filler backs its used pages alone.
-use Rattle.std.proofs.Common.{◌≡◌, ℕ, ◌+◌, ◌*◌, ◌/◌, ◌≤◌, Bool, true, false, ◌&&◌, cond, List, length, take, drop, map, refl, sym, subst, ap, ◌∙◌, inl, inr, arith}
-use Rattle.std.proofs.lemmas.Bool.{cases_Bool, false≢true, false_from_ne_true}
-use Rattle.range_bits.specs.Ranges.{used_count}
+use Rattle.std.proofs.Common.{◌≡◌, ℕ, ◌+◌, ◌*◌, ◌/◌, ◌≤◌, Bool, true, false, ◌&&◌, cond, List, length, take, drop, map, refl, sym, subst, ap, ◌∙◌, inl}
+use Rattle.std.proofs.Common.{inr, arith}
+use Rattle.huge_table.proofs.Common.{cases_Bool, false≢true, false_from_ne_true, used_count, Heap, Hugepage, hugepage, spans, backs, is_used, is_filler}
+use Rattle.huge_table.proofs.Common.{pages_of, IsPageOf, each_where, backs-map, spans_parts, spans_from, Table, IsSpan, AreKept, bit, of_filler}
+use Rattle.huge_table.proofs.Common.{hugepage_of, table_of, over_span, Means, is_shared, used_alone, Inside}
 use Rattle.range_bits.specs.Fills.{StaysUsed}
-use Rattle.heap_rules.specs.Heap.{Heap, Hugepage, hugepage, spans, backs, is_used, is_filler, pages_of}
 use Rattle.heap_rules.specs.Release.{only_used, spare_pages}
-use Rattle.heap_rules.specs.Sound.{IsPageOf}
-use Rattle.heap_rules.proofs.Places.{at, backs-map}
-use Rattle.heap_rules.proofs.Fits.{spans_parts, spans_from}
+use Rattle.heap_rules.proofs.Places.{at}
 use Rattle.heap_rules.proofs.Accounts.{both}
-use Rattle.huge_table.specs.Table.{Table, IsSpan, AreKept, bit, of_filler, hugepage_of, table_of, over_span}
-use Rattle.huge_table.specs.Means.{Means, is_shared, used_alone}
-use Rattle.huge_table.specs.declared.table.HugeTable.TheInside.{Inside}
 use Rattle.huge_table.proofs.Sizes.{arena}
-use Rattle.huge_table.proofs.Pages.{over, spanned, own_is, over_pages, slice_is, each_where, filler_bits, at-now, between_yes, between_parts}
+use Rattle.huge_table.proofs.Pages.{over, spanned, own_is, over_pages, slice_is, filler_bits, at-now, between_yes, between_parts}
 use Rattle.huge_table.proofs.Shared.{filler_shared}
 use Rattle.huge_table.proofs.Steps.{at-heap}
 use Rattle.huge_table.proofs.Stays.{kept_means}
@@ -40,15 +36,20 @@ module _ (bs used new : List Bool) (h : ℕ) (stays : StaysUsed bs used new (64 
         let here : h ≡ k = omega arith in
         ap (λ i. record (of_filler d bs k) { backed = map (bit new) (pages_of i) }) (sym here)
         ∙ ap (λ row. record (of_filler d bs k) { backed = row }) (spared_row
-        ∙ over_pages (λ page. bit bs page && bit used page) (λ page. backs (of_filler d bs k) page && bit used page) h (λ page own. ap (λ b. b && bit used page) (sym (ap (λ i. backs (of_filler d bs i) page) (sym here) ∙ backs-map (bit bs) h page own))))
+        ∙ over_pages (λ page. bit bs page && bit used page) (λ page. backs (of_filler d bs k) page && bit used page) h
+        (λ page own. ap (λ b. b && bit used page) (sym (ap (λ i. backs (of_filler d bs i) page) (sym here) ∙ backs-map (bit bs) h page own))))
         ∙ sym (ap (λ b. cond b (only_by (bit used) h (of_filler d bs k)) (of_filler d bs k)) e))
     | inr e ↦
         ap (λ row. record (of_filler d bs k) { backed = row }) (over_pages (bit new) (bit bs) k (λ page own.
-        stays.each page ∙ ap (λ b. cond b (bit bs page && bit used page) (bit bs page)) (false_from_ne_true _ (λ t. (let parts = between_parts (64 * (4 * h)) (64 * (4 * h + 4)) page t in false≢true (sym e ∙ spans_from 1 k h (omega (arith, own.from, own.to)) (omega (arith, own.from, own.to))))))))
+        stays.each page ∙ ap (λ b. cond b (bit bs page && bit used page) (bit bs page))
+        (false_from_ne_true _
+        (λ t. (let parts = between_parts (64 * (4 * h)) (64 * (4 * h + 4)) page t in
+        false≢true (sym e ∙ spans_from 1 k h (omega (arith, own.from, own.to)) (omega (arith, own.from, own.to))))))))
         ∙ sym (ap (λ b. cond b (only_by (bit used) h (of_filler d bs k)) (of_filler d bs k)) e)
   ]
 
-module _ (t : Inside) (now : Table) (kept : AreKept t) (view : table_of t ≡ now) (h : ℕ) (span : IsSpan now h 1 is_filler) (new : List Bool) (stays : StaysUsed t.page_backed t.used new (64 * (4 * h)) (64 * (4 * h + 4))) where
+module _ (t : Inside) (now : Table) (kept : AreKept t) (view : table_of t ≡ now) (h : ℕ) (span : IsSpan now h 1 is_filler) (new : List Bool)
+    (stays : StaysUsed t.page_backed t.used new (64 * (4 * h)) (64 * (4 * h + 4))) where
   high : h ≤ t.huge
   high = let size = arena t now view in omega (arith, span.to)
 
@@ -79,17 +80,23 @@ module _ (t : Inside) (now : Table) (kept : AreKept t) (view : table_of t ≡ no
               (let parts = spans_parts 1 k h e in
               let here : h ≡ k = omega arith in
               ap (λ b. cond b (only_by (bit t.used) h x) x) e
-              ∙ ap (λ row. record x { backed = row }) (over_pages (λ page. backs x page && bit t.used page) (λ page. backs x page && is_used heap.runs page) h (λ page own. ap (λ b. backs x page && b) (noted page own)))
+              ∙ ap (λ row. record x { backed = row })
+              (over_pages (λ page. backs x page && bit t.used page) (λ page. backs x page && is_used heap.runs page) h
+              (λ page own. ap (λ b. backs x page && b) (noted page own)))
               ∙ ap (λ i. only_used heap.runs i x) here
               ∙ sym (ap (λ b. cond b (only_used heap.runs k x) x) e))
           | inr e ↦ ap (λ b. cond b (only_by (bit t.used) h x) x) e ∙ sym (ap (λ b. cond b (only_used heap.runs k x) x) e)
         ])))))
-        (kept_means now heap (λ k x. cond (spans 1 k h) (only_used heap.runs k x) x) heap.regions heap.counts means (λ k some inside. (let x = hugepage heap k in elim (spans 1 k h) as (λ b. is_shared (cond b (only_used heap.runs k x) x) ≡ is_shared x) [ true ↦ refl | false ↦ refl ])))
+        (kept_means now heap (λ k x. cond (spans 1 k h) (only_used heap.runs k x) x) heap.regions heap.counts means
+        (λ k some inside.
+        (let x = hugepage heap k in elim (spans 1 k h) as (λ b. is_shared (cond b (only_used heap.runs k x) x) ≡ is_shared x)
+        [ true ↦ refl | false ↦ refl ])))
 
     -- the filler's hugepage by its own bits, and how many pages it gives
     own_bits : hugepage heap h ≡ of_filler (bit t.donated h) t.page_backed h
     own_bits =
-        let bits = filler_bits (bit t.grouped h) (bit t.shared h) (bit t.backed h) (bit t.donated h) t.page_backed h (ap is_filler (sym (at-now t now h view span.from high)) ∙ ap is_filler (at-heap now heap means h) ∙ filler) in
+        let bits = filler_bits (bit t.grouped h) (bit t.shared h) (bit t.backed h) (bit t.donated h) t.page_backed h
+        (ap is_filler (sym (at-now t now h view span.from high)) ∙ ap is_filler (at-heap now heap means h) ∙ filler) in
         sym (at-heap now heap means h) ∙ at-now t now h view span.from high ∙ by_own bits.0 bits.1
       where
         by_own : bit t.grouped h ≡ false → bit t.shared h ≡ true → hugepage_of t h ≡ of_filler (bit t.donated h) t.page_backed h
@@ -102,7 +109,9 @@ module _ (t : Inside) (now : Table) (kept : AreKept t) (view : table_of t ≡ no
         let inside' : 256 * h + 256 ≤ length new = omega (arith, stays.len) in
         let row : x.backed ≡ map (bit t.page_backed) (pages_of h) = ap (λ (y : Hugepage). y.backed) own_bits in
         let backs_is : (page : ℕ) → IsPageOf h page → backs x page ≡ bit t.page_backed page = λ page own. ap (λ y. backs y page) own_bits ∙ backs-map (bit t.page_backed) h page own in
-        let after : used_count (take 256 (drop (256 * h) new)) ≡ used_count (map (λ page. backs x page && is_used heap.runs page) (pages_of h)) = ap used_count (slice_is new (256 * h) 256 inside' ∙ spared_row t.page_backed t.used new h stays ∙ over_pages _ _ h (λ page own. ap (λ b. b && bit t.used page) (sym (backs_is page own)) ∙ ap (λ b. backs x page && b) (noted page own))) in
+        let after : used_count (take 256 (drop (256 * h) new)) ≡ used_count (map (λ page. backs x page && is_used heap.runs page) (pages_of h)) =
+        ap used_count (slice_is new (256 * h) 256 inside' ∙ spared_row t.page_backed t.used new h stays
+        ∙ over_pages _ _ h (λ page own. ap (λ b. b && bit t.used page) (sym (backs_is page own)) ∙ ap (λ b. backs x page && b) (noted page own))) in
         let before : used_count (take 256 (drop (256 * h) t.page_backed)) ≡ used_count x.backed = ap used_count (slice_is t.page_backed (256 * h) 256 inside ∙ sym row) in
         let all = both x.backed (is_used heap.runs) (pages_of h) (backs x) (row ∙ over_pages (bit t.page_backed) (backs x) h (λ page own. sym (backs_is page own))) in
         together _ _ _ _ _ after before all

@@ -1,22 +1,15 @@
 -- A run comes or leaves: what is noted changes as the heap's runs do.
-use Rattle.std.proofs.Common.{◌≡◌, ℕ, zero, suc, ◌+◌, ◌*◌, ◌/◌, ◌<◌, ◌≤◌, ◌==◌, Bool, true, false, ◌&&◌, cond, nat_le, nat_lt, List, length, take, drop, count_by, get_or, Contains, refl, sym, ap, subst, ◌∙◌, add-zero, inl, inr, arith}
-use Rattle.std.specs.List.{list_any}
-use Rattle.std.proofs.lemmas.Bool.{cases_Bool, cases_lt, and_parts, eqb-true, leb-true, ltb-true, lt-ltb, false≢true, false_from_ne_true}
-use Rattle.std.proofs.lemmas.List.{get_or_past}
-use Rattle.tc_units.specs.declared.spans.Run.{Run}
-use Rattle.tc_units.proofs.Counts.{any_is_count, count_le, one-true, one-false}
-use Rattle.heap_rules.specs.Heap.{Heap, Hugepage, hugepage, untouched, each, holds, reaches, spans, is_used, used_row, run_at, with_run, without_run}
-use Rattle.heap_rules.specs.New.{placed}
-use Rattle.heap_rules.specs.Sound.{IsInside, IsSound}
-use Rattle.heap_rules.proofs.Places.{at, at-each, length-each, page_of}
+use Rattle.std.proofs.Common.{◌≡◌, ℕ, zero, suc, ◌+◌, ◌*◌, ◌/◌, ◌<◌, ◌≤◌, ◌==◌, Bool, true, false, ◌&&◌, cond, nat_le, nat_lt, List, length, take, drop}
+use Rattle.std.proofs.Common.{count_by, get_or, Contains, refl, sym, ap, subst, ◌∙◌, add-zero, inl, inr, arith}
+use Rattle.huge_table.proofs.Common.{list_any, cases_Bool, cases_lt, and_parts, eqb-true, leb-true, ltb-true, lt-ltb, false≢true, false_from_ne_true}
+use Rattle.huge_table.proofs.Common.{get_or_past, Run, any_is_count, count_le, one-true, one-false, Heap, Hugepage, hugepage, untouched, each, holds}
+use Rattle.huge_table.proofs.Common.{reaches, is_used, used_row, run_at, with_run, without_run, placed, IsInside, IsSound, at-each, length-each}
+use Rattle.huge_table.proofs.Common.{each_where, page_of, holds_from, unreached_unheld, spans_parts, spans_reaches, count_rest, Table, AreKept, IsSpan}
+use Rattle.huge_table.proofs.Common.{IsNoted, bit, is_between, over_span, table_of, Inside, Means, is_shared, begins_on, ends_on}
+use Rattle.heap_rules.proofs.Places.{at}
 use Rattle.heap_rules.proofs.Live.{count-with}
-use Rattle.heap_rules.proofs.Fits.{holds_from, reaches_parts, reaches_from, unreached_unheld, spans_parts, spans_from}
-use Rattle.heap_rules.proofs.Left.{count_rest}
-use Rattle.huge_table.specs.Table.{Table, AreKept, IsSpan, IsNoted, bit, is_between, over_span, table_of}
-use Rattle.huge_table.specs.declared.table.HugeTable.TheInside.{Inside}
 use Rattle.huge_table.proofs.Sizes.{arena}
-use Rattle.huge_table.proofs.Pages.{each_where, slice_is, over_pages}
-use Rattle.huge_table.specs.Means.{Means, is_shared, begins_on, ends_on}
+use Rattle.huge_table.proofs.Pages.{slice_is, over_pages}
 
 -- Runs with one more, or with one less.
 pub record AreChanged (runs rest : List Run) (run : Run) (came : Bool) : Type 0 where
@@ -48,7 +41,8 @@ module _ (heap : Heap) (run : Run) (sound : IsSound heap) (live : Contains heap.
       any_is_count p rest
       ∙ elim (cases_Bool (p run)) [
         | inl t ↦ (let one = one-true (p run) t in let none : count_by p rest ≡ 0 = omega arith in ap (nat_lt 0) none ∙ sym (ap (λ b. cond b false (list_any p heap.runs)) t))
-        | inr f ↦ (let no_one = one-false (p run) f in let same : count_by p rest ≡ count_by p heap.runs = omega arith in ap (nat_lt 0) same ∙ sym (any_is_count p heap.runs) ∙ sym (ap (λ b. cond b false (list_any p heap.runs)) f))
+        | inr f ↦ (let no_one = one-false (p run) f in let same : count_by p rest ≡ count_by p heap.runs = omega arith in ap (nat_lt 0) same
+            ∙ sym (any_is_count p heap.runs) ∙ sym (ap (λ b. cond b false (list_any p heap.runs)) f))
       ]
 
   held : (p : Run → Bool) (page : ℕ) → ((r : Run) → IsInside heap.config.huge r → p r ≡ true → holds page r ≡ true) → count_by p heap.runs ≤ 1
@@ -61,7 +55,9 @@ module _ (heap : Heap) (run : Run) (sound : IsSound heap) (live : Contains heap.
   without_changed = record {
     used = λ page. any_without (holds page) (sound.runs.disjoint page);
     begins = λ page. any_without (begins_on page) (held (begins_on page) page (λ r inside e. (let at = eqb-true r.first.0 page e in holds_from page r (omega arith) (omega (arith, inside.some)))));
-    ends = λ page. any_without (ends_on page) (held (ends_on page) page (λ r inside e. (let at = eqb-true (r.first.0 + r.pages) (page + 1) e in holds_from page r (omega (arith, inside.some)) (omega arith))));
+    ends = λ page. any_without (ends_on page)
+        (held (ends_on page) page
+        (λ r inside e. (let at = eqb-true (r.first.0 + r.pages) (page + 1) e in holds_from page r (omega (arith, inside.some)) (omega arith))));
   }
 
 -- what is shared stays noted as it was, with the run or without it
@@ -97,7 +93,10 @@ module _ (heap : Heap) (first n skipped : ℕ) (came : Bool) (rest : List Run) (
   unreached h e = outside h step heap.hugepages (ap (λ b. cond b (f h (hugepage heap h)) (hugepage heap h)) e)
 
   -- The one frame: what a change owes is what the table notes of the hugepages that the run reaches.
-  pub stepped : (t u : Table) → Means t heap → AreChanged heap.runs rest run came → u.pages ≡ each step t.pages → IsNoted t u first n skipped came → ((h : ℕ) → reaches h run ≡ true → (0 < h) × (h ≤ length t.pages)) → ((h page : ℕ) → reaches h run ≡ true → page / 256 ≡ h → cond (is_between (first + skipped) (first + n) page) came (is_shared (hugepage heap h) && is_used heap.runs page) ≡ (is_shared (f h (hugepage heap h)) && is_used rest page)) → Means u after
+  pub stepped : (t u : Table) → Means t heap → AreChanged heap.runs rest run came → u.pages ≡ each step t.pages → IsNoted t u first n skipped came →
+      ((h : ℕ) → reaches h run ≡ true → (0 < h) × (h ≤ length t.pages)) →
+      ((h page : ℕ) → reaches h run ≡ true → page / 256 ≡ h → cond (is_between (first + skipped) (first + n) page) came
+      (is_shared (hugepage heap h) && is_used heap.runs page) ≡ (is_shared (f h (hugepage heap h)) && is_used rest page)) → Means u after
   stepped t u means changed pages noted inside here = record {
     pages = pages ∙ ap (each step) means.pages;
     used = λ page. (let h : ℕ = page / 256 in noted.used page ∙ ap (cond (is_between (first + skipped) (first + n) page) came) (means.used page) ∙ elim (cases_Bool (reaches h run)) [
@@ -112,21 +111,20 @@ module _ (heap : Heap) (first n skipped : ℕ) (came : Bool) (rest : List Run) (
     ends = λ page. noted.ends page ∙ ap (cond (first + n == page + 1) came) (means.ends page) ∙ sym (changed.ends page);
   } where
     apart : (page : ℕ) → holds page run ≡ false → is_between (first + skipped) (first + n) page ≡ false
-    apart page away = false_from_ne_true _ (λ t. (let parts = and_parts _ _ t in let from = leb-true (first + skipped) page parts.0 in false≢true (sym away ∙ holds_from page run (omega arith) (ltb-true page (first + n) parts.1))))
+    apart page away = false_from_ne_true _
+        (λ t. (let parts = and_parts _ _ t in let from = leb-true (first + skipped) page parts.0 in
+        false≢true (sym away ∙ holds_from page run (omega arith) (ltb-true page (first + n) parts.1))))
 
 -- Runs all of whose hugepages are shared, before and after.
-pub shared_means : (heap : Heap) (first n : ℕ) (came : Bool) (rest : List Run) (f : ℕ → Hugepage → Hugepage) (t u : Table) → Means t heap → AreChanged heap.runs rest (run_at first n) came → u.pages ≡ each (step heap first n 0 came rest f) t.pages → IsNoted t u first n 0 came → ((h : ℕ) → reaches h (run_at first n) ≡ true → ((0 < h) × (h ≤ length t.pages)) × ((is_shared (hugepage heap h) ≡ true) × (is_shared (f h (hugepage heap h)) ≡ true))) → Means u (after heap first n 0 came rest f)
+pub shared_means : (heap : Heap) (first n : ℕ) (came : Bool) (rest : List Run) (f : ℕ → Hugepage → Hugepage) (t u : Table) → Means t heap →
+    AreChanged heap.runs rest (run_at first n) came → u.pages ≡ each (step heap first n 0 came rest f) t.pages → IsNoted t u first n 0 came →
+    ((h : ℕ) → reaches h (run_at first n) ≡ true →
+    ((0 < h) × (h ≤ length t.pages)) × ((is_shared (hugepage heap h) ≡ true) × (is_shared (f h (hugepage heap h)) ≡ true))) →
+    Means u (after heap first n 0 came rest f)
 shared_means heap first n came rest f t u means changed pages noted all =
     stepped heap first n 0 came rest f t u means changed pages noted (λ h e. (all h e).0) (λ h page e own. (let kinds = (all h e).1 in
     shared_step (hugepage heap h) (f h (hugepage heap h)) (is_between (first + 0) (first + n) page) came (is_used heap.runs page) (is_used rest page) kinds.0 kinds.1
     (changed.used page ∙ ap (λ b. cond b came (is_used heap.runs page)) (sym (all_of first n page)))))
-
--- adjacent hugepages are those that a run reaches
-pub spans_reaches : (first n a many h : ℕ) → 256 * a ≤ first → first < 256 * (a + 1) → 256 * (a + many) < first + n + 256 → first + n ≤ 256 * (a + many) → 0 < n → spans many h a ≡ reaches h (run_at first n)
-spans_reaches first n a many h p q r s some = elim (cases_Bool (spans many h a)) [
-  | inl t ↦ (let parts = spans_parts many h a t in t ∙ sym (reaches_from h (run_at first n) (omega arith) (omega arith)))
-  | inr f ↦ f ∙ sym (false_from_ne_true (reaches h (run_at first n)) (λ e. (let parts = reaches_parts h (run_at first n) e in false≢true (sym f ∙ spans_from many h a (omega arith) (omega arith)))))
-]
 
 -- the hugepages of a table, and of a heap that it means
 pub at-heap : (t : Table) (heap : Heap) → Means t heap → (h : ℕ) → at t.pages h ≡ hugepage heap h
@@ -148,7 +146,9 @@ pub record IsOver (heap : Heap) (first n a many : ℕ) (test : Hugepage → Bool
   pub some : 0 < n
   pub passes : (h : ℕ) → reaches h (run_at first n) ≡ true → test (hugepage heap h) ≡ true
 
-pub is_over : (t : Table) (heap : Heap) (first n a many : ℕ) (test : Hugepage → Bool) → Means t heap → IsSpan t a many test → 256 * a ≤ first → first < 256 * (a + 1) → 256 * (a + many) < first + n + 256 → first + n ≤ 256 * (a + many) → 0 < n → IsOver heap first n a many test × ((h : ℕ) → reaches h (run_at first n) ≡ true → (0 < h) × (h ≤ length t.pages))
+pub is_over : (t : Table) (heap : Heap) (first n a many : ℕ) (test : Hugepage → Bool) → Means t heap → IsSpan t a many test → 256 * a ≤ first →
+    first < 256 * (a + 1) → 256 * (a + many) < first + n + 256 → first + n ≤ 256 * (a + many) → 0 < n →
+    IsOver heap first n a many test × ((h : ℕ) → reaches h (run_at first n) ≡ true → (0 < h) × (h ≤ length t.pages))
 is_over t heap first n a many test means span p q r s some =
     let near : (h : ℕ) → reaches h (run_at first n) ≡ true → (a ≤ h) × (h < a + many) = λ h e. spans_parts many h a (spans_reaches first n a many h p q r s some ∙ e) in (
       record {
@@ -162,7 +162,9 @@ is_over t heap first n a many test means span p q r s some =
       (λ h e. let is = near h e in (omega (arith, span.from), omega (arith, span.to))),
     )
 
-pub over_reached : (heap : Heap) (t : Table) (first n a many : ℕ) (test : Hugepage → Bool) (g : Hugepage → Hugepage) (f : ℕ → Hugepage → Hugepage) → Means t heap → IsOver heap first n a many test → ((h : ℕ) → reaches h (run_at first n) ≡ true → g (hugepage heap h) ≡ f h (hugepage heap h)) → (over_span a many g t).pages ≡ each (λ h x. cond (reaches h (run_at first n)) (f h x) x) t.pages
+pub over_reached : (heap : Heap) (t : Table) (first n a many : ℕ) (test : Hugepage → Bool) (g : Hugepage → Hugepage) (f : ℕ → Hugepage → Hugepage) →
+    Means t heap → IsOver heap first n a many test → ((h : ℕ) → reaches h (run_at first n) ≡ true → g (hugepage heap h) ≡ f h (hugepage heap h)) →
+    (over_span a many g t).pages ≡ each (λ h x. cond (reaches h (run_at first n)) (f h x) x) t.pages
 over_reached heap t first n a many test g f means is same =
     each_where _ _ t.pages (λ h _ _. (let x = at t.pages h in
     ap (λ b. cond b (g x) x) (spans_reaches first n a many h is.from is.near is.far is.to is.some)
@@ -172,7 +174,11 @@ over_reached heap t first n a many test g f means is same =
     ]))
 
 -- a run that comes into shared hugepages, of which each is changed first
-pub comes : (heap : Heap) (t s u : Table) (first n a many : ℕ) (test : Hugepage → Bool) (g : Hugepage → Hugepage) (f : ℕ → Hugepage → Hugepage) → Means t heap → IsSpan t a many test → 256 * a ≤ first → first < 256 * (a + 1) → 256 * (a + many) < first + n + 256 → first + n ≤ 256 * (a + many) → 0 < n → s ≡ over_span a many g t → u.pages ≡ s.pages → IsNoted s u first n 0 true → ((h : ℕ) (x : Hugepage) → reaches h (run_at first n) ≡ true → test x ≡ true → (g x ≡ f h x) × ((is_shared x ≡ true) × (is_shared (f h x) ≡ true))) → Means u (placed heap first n f).heap
+pub comes : (heap : Heap) (t s u : Table) (first n a many : ℕ) (test : Hugepage → Bool) (g : Hugepage → Hugepage) (f : ℕ → Hugepage → Hugepage) →
+    Means t heap → IsSpan t a many test → 256 * a ≤ first → first < 256 * (a + 1) → 256 * (a + many) < first + n + 256 → first + n ≤ 256 * (a + many) →
+    0 < n → s ≡ over_span a many g t → u.pages ≡ s.pages → IsNoted s u first n 0 true →
+    ((h : ℕ) (x : Hugepage) → reaches h (run_at first n) ≡ true → test x ≡ true → (g x ≡ f h x) × ((is_shared x ≡ true) × (is_shared (f h x) ≡ true))) →
+    Means u (placed heap first n f).heap
 comes heap t s u first n a many test g f means span p q r l some made pages noted each_one =
     let run = run_at first n in
     let is = is_over t heap first n a many test means span p q r l some in
@@ -182,7 +188,8 @@ comes heap t s u first n a many test g f means span p q r l some made pages note
     (λ h e. (is.1 h e, (each_one h (hugepage heap h) e (is.0.passes h e)).1))
 
 -- The row of a hugepage that isn't one run's, as the table has it.
-pub row_at : (t : Inside) (now : Table) (heap : Heap) (h : ℕ) → table_of t ≡ now → AreKept t → Means now heap → h ≤ length now.pages → is_shared (hugepage heap h) ≡ true → take 256 (drop (256 * h) t.used) ≡ used_row heap.runs h
+pub row_at : (t : Inside) (now : Table) (heap : Heap) (h : ℕ) → table_of t ≡ now → AreKept t → Means now heap → h ≤ length now.pages →
+    is_shared (hugepage heap h) ≡ true → take 256 (drop (256 * h) t.used) ≡ used_row heap.runs h
 row_at t now heap h view kept means inside shared =
     let size = arena t now view in
     slice_is t.used (256 * h) 256 (omega (arith, kept.used))

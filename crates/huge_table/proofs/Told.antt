@@ -1,20 +1,13 @@
 -- The runs that a table notes are those of its heap.
-use Rattle.std.proofs.Common.{◌≡◌, ℕ, zero, suc, ◌+◌, ◌-◌, ◌<◌, ◌≤◌, ◌==◌, Bool, true, false, ◌||◌, not, cond, List, [], ◌∷◌, length, get_or, drop, filter, map, All, Contains, refl, sym, subst, ap, ◌∙◌, inl, inr, arith}
-use Rattle.std.specs.List.{list_any, range_with_len, prefix_len}
-use Rattle.std.proofs.lemmas.Bool.{cases_lt, cases_eq, eqb-true, eq-eqb, ne_eqb, lt-ltb, le-ltb, false≢true, false_from_ne_true}
-use Rattle.std.proofs.lemmas.List.{get_or-drop, length-drop}
+use Rattle.std.proofs.Common.{◌≡◌, ℕ, zero, suc, ◌+◌, ◌-◌, ◌*◌, ◌<◌, ◌≤◌, ◌==◌, Bool, true, false, ◌||◌, not, cond, List, [], ◌∷◌, length, get_or, drop, filter}
+use Rattle.std.proofs.Common.{map, All, Contains, refl, sym, subst, ap, ◌∙◌, inl, inr, arith}
+use Rattle.huge_table.proofs.Common.{list_any, range_with_len, prefix_len, cases_lt, cases_eq, eqb-true, eq-eqb, ne_eqb, lt-ltb, le-ltb, false≢true}
+use Rattle.huge_table.proofs.Common.{false_from_ne_true, get_or-drop, length-drop, prefix_len_passes, Run, Heap, run_at, holds, with_run, without_run}
+use Rattle.huge_table.proofs.Common.{IsInside, IsSound, holds_from, same_member, Table, bit, Means, begins_on, ends_on}
 use Rattle.std.proofs.lemmas.List.Elements.{All-head, All-tail, All-contains, Contains-get_or}
 use Rattle.std.proofs.lemmas.List.Folds.{Any-from_list_any, list_any_at}
-use Rattle.std.proofs.lemmas.List.Sums.{prefix_len_passes}
-use Rattle.tc_units.specs.declared.spans.Run.{Run}
-use Rattle.heap_rules.specs.Heap.{Heap, run_at, holds, with_run, without_run}
-use Rattle.heap_rules.specs.Sound.{IsInside, IsSound}
-use Rattle.heap_rules.proofs.Fits.{holds_from}
-use Rattle.heap_rules.proofs.Left.{same_member}
 use Rattle.heap_rules.proofs.Longest.{prefix_long}
-use Rattle.huge_table.specs.Table.{Table, bit}
-use Rattle.huge_table.specs.Means.{Means, begins_on, ends_on}
-use Rattle.huge_table.specs.Runs.{run_from, runs_of, AreInOrderFrom, AreInOrder, HasPlaces, RunsAreTold}
+use Rattle.huge_table.specs.Runs.{run_from, runs_of, AreInOrderFrom, AreInOrder, TellsRuns}
 
 -- Runs in order.
 later : (a b : ℕ) (runs : List Run) → a ≤ b → AreInOrderFrom b runs → AreInOrderFrom a runs
@@ -60,22 +53,21 @@ without_one a run (r ∷ runs) o =
     ]
 
 -- The pages where runs begin, and the runs from there.
-ordered : (ends : List Bool) (test : ℕ → Bool) (a n : ℕ) → AreInOrderFrom a (map (run_from ends) (filter test (range_with_len a n)))
-ordered ends test a zero = tt
-ordered ends test a (suc n) = elim (test a) as (λ b. AreInOrderFrom a (map (run_from ends) (cond b (a ∷ filter test (range_with_len (a + 1) n)) (filter test (range_with_len (a + 1) n))))) [
-  | true ↦ (omega arith, ordered ends test (a + 1) n)
-  | false ↦ later a (a + 1) _ (omega arith) (ordered ends test (a + 1) n)
-]
-
-told : (ends : List Bool) (test : ℕ → Bool) (runs : List Run) (a n : ℕ) → AreInOrderFrom a runs → All (λ r. r.first.0 < a + n) runs → All (λ r. run_from ends r.first.0 ≡ r) runs → ((page : ℕ) → a ≤ page → test page ≡ list_any (begins_on page) runs) → map (run_from ends) (filter test (range_with_len a n)) ≡ runs
+told : (ends : List Bool) (test : ℕ → Bool) (runs : List Run) (a n : ℕ) → AreInOrderFrom a runs → All (λ r. r.first.0 < a + n) runs →
+    All (λ r. run_from ends r.first.0 ≡ r) runs → ((page : ℕ) → a ≤ page → test page ≡ list_any (begins_on page) runs) →
+    map (run_from ends) (filter test (range_with_len a n)) ≡ runs
 told ends test [] a zero o low is same = refl
 told ends test (r ∷ runs) a zero o low is same = let l = All-head (λ x. x.first.0 < a + 0) r runs low in absurd (omega (arith, o.0))
-told ends test [] a (suc n) o low is same = rw (same a (omega arith)) (told ends test [] (a + 1) n tt (λ k d l. absurd (omega arith)) (λ k d l. absurd (omega arith)) (λ page h. same page (omega arith)))
+told ends test [] a (suc n) o low is same =
+    rw (same a (omega arith))
+    (told ends test [] (a + 1) n tt (λ k d l. absurd (omega arith)) (λ k d l. absurd (omega arith)) (λ page h. same page (omega arith)))
 told ends test (r ∷ runs) a (suc n) o low is same = elim (cases_eq r.first.0 a) [
   | inl here ↦
       rw (same a (omega arith) ∙ ap (λ b. b || list_any (begins_on a) runs) (eq-eqb r.first.0 a here))
       (ap (λ x. x ∷ map (run_from ends) (filter test (range_with_len (a + 1) n))) (ap (run_from ends) (sym here) ∙ All-head (λ x. run_from ends x.first.0 ≡ x) r runs is)
-      ∙ ap (λ xs. r ∷ xs) (told ends test runs (a + 1) n (later (a + 1) (r.first.0 + 1) runs (omega arith) o.1) (λ k d l. next _ (All-tail (λ x. x.first.0 < a + suc n) r runs low k d l)) (All-tail (λ x. run_from ends x.first.0 ≡ x) r runs is) (λ page h. same page (omega arith) ∙ ap (λ b. b || list_any (begins_on page) runs) (ne_eqb r.first.0 page (λ e. absurd (omega arith))))))
+      ∙ ap (λ xs. r ∷ xs) (told ends test runs (a + 1) n (later (a + 1) (r.first.0 + 1) runs (omega arith) o.1)
+      (λ k d l. next _ (All-tail (λ x. x.first.0 < a + suc n) r runs low k d l)) (All-tail (λ x. run_from ends x.first.0 ≡ x) r runs is)
+      (λ page h. same page (omega arith) ∙ ap (λ b. b || list_any (begins_on page) runs) (ne_eqb r.first.0 page (λ e. absurd (omega arith))))))
   | inr other ↦
       (let above : a + 1 ≤ r.first.0 = omega (arith, o.0) in
       rw (same a (omega arith) ∙ none_before (a + 1) a (r ∷ runs) (omega arith) (above, o.1))
@@ -83,6 +75,11 @@ told ends test (r ∷ runs) a (suc n) o low is same = elim (cases_eq r.first.0 a
 ] where
   next : (f : ℕ) → f < a + suc n → f < a + 1 + n
   next f h = omega arith
+
+-- there are bits for where runs begin and end on each page of the arena
+pub record HasPlaces (table : Table) : Type 0 where
+  pub begins : 256 * (length table.pages + 1) ≤ length table.begins
+  pub ends : 256 * (length table.pages + 1) ≤ length table.ends
 
 -- A live run by its begin and the first end from there on.
 module _ (table : Table) (heap : Heap) (sound : IsSound heap) (places : HasPlaces table) (means : Means table heap) where
@@ -98,7 +95,9 @@ module _ (table : Table) (heap : Heap) (sound : IsSound heap) (places : HasPlace
       let other : Run = any.1 in
       let its = All-contains (IsInside heap.config.huge) heap.runs other sound.runs.inside (any.0, any.2, any.3) in
       let end = eqb-true (other.first.0 + other.pages) (r.first.0 + k + 1) any.4 in
-      let same = same_member (holds (r.first.0 + k)) heap.runs other r (any.0, any.2, any.3) live (holds_from (r.first.0 + k) other (omega (arith, its.some)) (omega arith)) (holds_from (r.first.0 + k) r (omega arith) (omega arith)) (sound.runs.disjoint (r.first.0 + k)) in
+      let same = same_member (holds (r.first.0 + k)) heap.runs other r (any.0, any.2, any.3) live
+      (holds_from (r.first.0 + k) other (omega (arith, its.some)) (omega arith)) (holds_from (r.first.0 + k) r (omega arith) (omega arith))
+      (sound.runs.disjoint (r.first.0 + k)) in
       let first = ap (λ (x : Run). x.first.0) same in
       let pages = ap (λ (x : Run). x.pages) same in
       absurd (omega arith))))) in
@@ -107,7 +106,9 @@ module _ (table : Table) (heap : Heap) (sound : IsSound heap) (places : HasPlace
         | inl more ↦
             (let last : r.first.0 + (r.pages - 1) + 1 ≡ r.first.0 + r.pages = omega (arith, inside.some) in
             let free = prefix_len_passes not rest (r.pages - 1) false more in
-            let used : get_or rest (r.pages - 1) false ≡ true = get_or-drop r.first.0 table.ends (r.pages - 1) false ∙ means.ends (r.first.0 + (r.pages - 1)) ∙ list_any_at (ends_on (r.first.0 + (r.pages - 1))) heap.runs live.0 r live.1 (ap (ends_on (r.first.0 + (r.pages - 1))) live.2 ∙ eq-eqb _ _ (sym last)) in
+            let used : get_or rest (r.pages - 1) false ≡ true = get_or-drop r.first.0 table.ends (r.pages - 1) false
+            ∙ means.ends (r.first.0 + (r.pages - 1)) ∙ list_any_at (ends_on (r.first.0 + (r.pages - 1))) heap.runs live.0 r live.1
+            (ap (ends_on (r.first.0 + (r.pages - 1))) live.2 ∙ eq-eqb _ _ (sym last)) in
             absurd (false≢true (sym (ap not used) ∙ free)))
       ] in
       let count : prefix_len not rest + 1 ≡ r.pages = omega (arith, inside.some) in
@@ -119,10 +120,9 @@ module _ (table : Table) (heap : Heap) (sound : IsSound heap) (places : HasPlace
       (λ k d l. run_is (get_or heap.runs k d) (Contains-get_or heap.runs k d l))
       (λ page _. means.begins page)
 
-pub runs_are_told : RunsAreTold
-runs_are_told = record {
-  told = λ table heap sound order places means. runs_are table heap sound places means order;
-  ordered = λ table. ordered table.ends (bit table.begins) 0 (length table.begins);
+pub tells : (table : Table) → HasPlaces table → TellsRuns table
+tells table places = record {
+  told = λ heap sound order means. runs_are table heap sound places means order;
   with_one = λ run runs order none. with_one 0 run runs (omega arith) order none;
   without_one = λ run runs order. without_one 0 run runs order;
 }

@@ -1,34 +1,71 @@
 -- Runs of whole hugepages, with a tail, come and leave.
-use Rattle.std.proofs.Common.{◌≡◌, ℕ, ◌+◌, ◌-◌, ◌*◌, ◌/◌, ◌<◌, ◌≤◌, true, false, ◌&&◌, cond, nat_lt, length, sym, ap, ◌∙◌, inl, inr, arith}
-use Rattle.std.proofs.lemmas.Bool.{cases_Bool, cases_lt, le-leb, leb-true, and_right, false≢true, false_from_ne_true}
-use Rattle.tc_units.specs.declared.spans.Run.{Run}
+use Rattle.std.proofs.Common.{◌≡◌, ℕ, ◌+◌, ◌-◌, ◌*◌, ◌/◌, ◌%◌, ◌<◌, ◌≤◌, ◌⊎◌, true, false, ◌&&◌, cond, nat_lt, length, refl, sym, ap, ◌∙◌, inl, inr, arith}
+use Rattle.huge_table.proofs.Common.{cases_Bool, cases_lt, le-leb, lt-leb, le-ltb, lt-ltb, leb-true, and_parts, and_right, false≢true, false_from_ne_true}
+use Rattle.huge_table.proofs.Common.{Run, Heap, Hugepage, hugepage, each, spans, reaches, holds, is_used, is_free, run_at, with_run, run_page, filler_page}
+use Rattle.huge_table.proofs.Common.{run_or_tail, IsSound, each_each, each_where, reaches_parts, spans_reaches, spans_parts, spans_from, serves_at}
+use Rattle.huge_table.proofs.Common.{is_Free, Table, IsSpan, IsNoted, is_between, over_span, Means, is_shared, taken}
 use Rattle.tc_units.specs.declared.rows.RowKind.TheVariants as kind
-use Rattle.heap_rules.specs.Heap.{Heap, Hugepage, hugepage, each, spans, reaches, holds, is_used, is_free, run_at, with_run}
-use Rattle.heap_rules.specs.New.{run_page, filler_page, run_or_tail, in_free}
 use Rattle.heap_rules.specs.Choice.{hugepages_for}
-use Rattle.heap_rules.specs.Sound.{IsSound}
 use Rattle.heap_rules.proofs.Places.{at}
-use Rattle.heap_rules.proofs.Fits.{reaches_parts, spans_parts, spans_from, serves_at, is_Free}
-use Rattle.huge_table.specs.Table.{Table, IsSpan, IsNoted, is_between, over_span}
-use Rattle.huge_table.specs.Means.{Means, is_shared}
-use Rattle.huge_table.proofs.Pages.{each_each, each_where}
 use Rattle.huge_table.proofs.Shared.{free_shared}
-use Rattle.huge_table.proofs.Steps.{stepped, with_changed, shared_step, is_over, spans_reaches}
+use Rattle.huge_table.proofs.Steps.{stepped, with_changed, shared_step, all_of, is_over}
 
--- a hugepage that a run has whole, and the one where it ends
-pub whole_is : (end k : ℕ) → 256 * (k + 1) ≤ end → run_or_tail end k ≡ run_page
-whole_is end k h = ap (λ b. cond b run_page (filler_page true)) (le-leb (256 * (k + 1)) end h)
+-- what a run of n pages makes of a hugepage that it has whole, and of the one where it ends
+abbrev pub becomes : ℕ → ℕ → ℕ → Hugepage
+becomes n end k = cond (nat_lt n 256) (filler_page false) (run_or_tail end k)
 
-pub tail_is : (end k : ℕ) → end < 256 * (k + 1) → run_or_tail end k ≡ filler_page true
-tail_is end k h = ap (λ b. cond b run_page (filler_page true)) (false_from_ne_true _ (λ e. (let le = leb-true (256 * (k + 1)) end e in absurd (omega arith))))
+pub whole_is : (n end k : ℕ) → 256 ≤ n → 256 * (k + 1) ≤ end → becomes n end k ≡ run_page
+whole_is n end k large h = rw (le-ltb n 256 large, le-leb (256 * (k + 1)) end h) refl
+
+pub tail_is : (n end k : ℕ) → end < 256 * (k + 1) → becomes n end k ≡ filler_page (nat_lt 0 (n / 256))
+tail_is n end k h = elim (cases_lt n 256) [
+  | inl small ↦ rw (lt-ltb n 256 small, le-ltb 0 (n / 256) (omega arith)) refl
+  | inr large ↦ rw (le-ltb n 256 large, lt-leb (256 * (k + 1)) end h, lt-ltb 0 (n / 256) (omega arith)) refl
+]
+
+-- Where a run lies: in adjacent hugepages from the start of the first one on, of which it has the first ones whole, or
+-- inside one hugepage.
+pub record IsLaid (first n a whole tails : ℕ) : Type 0 where
+  pub some : 0 < n
+  pub few : tails ≤ 1
+  pub begins : (whole ≡ 0) ⊎ (first % 256 ≡ 0)
+  pub from : 256 * a ≤ first
+  pub within : first < 256 * (a + 1)
+  pub near : 256 * (a + (whole + tails)) < first + n + 256
+  pub to : first + n ≤ 256 * (a + (whole + tails))
+
+pub laid : (first n tails : ℕ) → 0 < n → (first % 256 ≡ 0) ⊎ (first % 256 + n ≤ 256) → tails ≡ (n + 255) / 256 - n / 256 → IsLaid first n (first / 256) (n / 256) tails
+laid first n tails some (inl begins) e =
+    record { some = some; few = omega arith; begins = inr begins; from = omega arith; within = omega arith; near = omega arith; to = omega arith }
+laid first n tails some (inr ends) e = record {
+  some = some;
+  few = omega arith;
+  begins = elim (cases_lt n 256) [ inl small ↦ inl (omega arith) | inr large ↦ inr (omega arith) ];
+  from = omega arith;
+  within = omega arith;
+  near = omega arith;
+  to = omega arith;
+}
+
+-- the pages of the hugepage behind those that it has whole are noted as those that it holds
+pub tail_held : (first n a whole tails page : ℕ) → IsLaid first n a whole tails → a + whole ≤ page / 256 → is_between (first + 256 * whole) (first + n) page ≡ holds page (run_at first n)
+tail_held first n a whole tails page laid late = elim laid.begins [
+  | inl none ↦ rw none (all_of first n page)
+  | inr begins ↦
+      ap (λ b. b && nat_lt page (first + n)) (le-leb (first + 256 * whole) page (omega (arith, laid.within)) ∙ sym (le-leb first page (omega (arith, laid.within))))
+]
 
 -- Adjacent hugepages, of which the first ones and those behind them are changed in two ways.
-pub two_spans : (t s u : Table) (a whole tails first n : ℕ) (g g' : Hugepage → Hugepage) (f : ℕ → Hugepage → Hugepage) → s.pages ≡ (over_span a whole g t).pages → u.pages ≡ (over_span (a + whole) tails g' s).pages → 256 * a ≡ first → 256 * whole ≤ n → n ≤ 256 * (whole + tails) → 256 * (whole + tails) < n + 256 → 0 < n → ((k : ℕ) → a ≤ k → k < a + whole → g (at t.pages k) ≡ f k (at t.pages k)) → ((k : ℕ) → a + whole ≤ k → k < a + whole + tails → g' (at t.pages k) ≡ f k (at t.pages k)) → u.pages ≡ each (λ k x. cond (reaches k (run_at first n)) (f k x) x) t.pages
-two_spans t s u a whole tails first n g g' f p q begin few to near some is is' =
+pub two_spans : (t s u : Table) (a whole tails first n : ℕ) (g g' : Hugepage → Hugepage) (f : ℕ → Hugepage → Hugepage) →
+    s.pages ≡ (over_span a whole g t).pages → u.pages ≡ (over_span (a + whole) tails g' s).pages → IsLaid first n a whole tails →
+    ((k : ℕ) → a ≤ k → k < a + whole → g (at t.pages k) ≡ f k (at t.pages k)) →
+    ((k : ℕ) → a + whole ≤ k → k < a + whole + tails → g' (at t.pages k) ≡ f k (at t.pages k)) →
+    u.pages ≡ each (λ k x. cond (reaches k (run_at first n)) (f k x) x) t.pages
+two_spans t s u a whole tails first n g g' f p q laid is is' =
     q ∙ ap (each (λ k x. cond (spans tails k (a + whole)) (g' x) x)) p
     ∙ each_each (λ k x. cond (spans tails k (a + whole)) (g' x) x) (λ k x. cond (spans whole k a) (g x) x) t.pages
     ∙ each_where _ _ t.pages (λ k _ _. (let x = at t.pages k in
-    let reach = spans_reaches first n a (whole + tails) k (omega arith) (omega arith) (omega arith) (omega arith) some in
+    let reach = spans_reaches first n a (whole + tails) k laid.from laid.within laid.near laid.to laid.some in
     elim (cases_Bool (spans whole k a)) [
       | inl e ↦
           (let parts = spans_parts whole k a e in
@@ -61,30 +98,29 @@ module _ (heap : Heap) (sound : IsSound heap) (h n : ℕ) (some : 0 < n) (t u : 
   abbrev end : ℕ
   end = 256 * h + n
 
-  pub took_means : u.pages ≡ each (λ k x. cond (reaches k run) (run_or_tail end k) x) t.pages → IsNoted t u (256 * h) n (256 * whole) true → Means u (in_free heap n h).heap
-  took_means pages noted =
+  pub took_means : (tails : ℕ) → IsLaid (256 * h) n h whole tails → u.pages ≡ each (λ k x. cond (reaches k run) (becomes n end k) x) t.pages →
+      IsNoted t u (256 * h) n (256 * whole) true → Means u (taken heap n h).heap
+  took_means tails laid pages noted =
       let is = is_over t heap (256 * h) n h (hugepages_for n) is_free means span (omega arith) (omega arith) (omega arith) (omega arith) some in
       let changed = with_changed run heap.runs in
-      stepped heap (256 * h) n (256 * whole) true (with_run run heap.runs) (λ k _. run_or_tail end k) t u means changed pages noted is.1
+      stepped heap (256 * h) n (256 * whole) true (with_run run heap.runs) (λ k _. becomes n end k) t u means changed pages noted is.1
       (λ k page e own. (let x = hugepage heap k in
       let inside = is.1 k e in
+      let parts = reaches_parts k run e in
       let arena = sound.runs.arena in
       let size = ap length means.pages in
       let free = is.0.passes k e in
-      let w = is_between (256 * h + 256 * whole) (256 * h + n) page in
-      let none : is_used heap.runs page ≡ false = (serves_at heap.runs heap.regions heap.config.region k x kind.Free (is_Free x.kind free) (sound.runs.fit k (record { from = inside.0; to = omega (arith, inside.1) }))).0 page (record { from = omega arith; to = omega arith }) in
+      let w = is_between (256 * h + 256 * whole) end page in
+      let fit = sound.runs.fit k (record { from = inside.0; to = omega (arith, inside.1) }) in
+      let serves = serves_at heap.runs heap.regions heap.config.region k x kind.Free (is_Free x.kind free) fit in
+      let none : is_used heap.runs page ≡ false = serves.0 page (record { from = omega arith; to = omega arith }) in
       elim (cases_lt k (h + whole)) [
         | inl early ↦
-            (let out : w ≡ false = false_from_ne_true w (λ b. (let parts = spans_parts (n - 256 * whole) page (256 * h + 256 * whole) (inner page b) in absurd (omega arith))) in
+            (let out : w ≡ false = false_from_ne_true w (λ b. (let from = leb-true (256 * h + 256 * whole) page (and_parts _ _ b).0 in absurd (omega arith))) in
             ap (λ b. cond b true (is_shared x && is_used heap.runs page)) out ∙ and_right (is_shared x) (is_used heap.runs page) none
-            ∙ sym (ap (λ y. is_shared y && is_used (with_run run heap.runs) page) (whole_is end k (omega arith))))
+            ∙ sym (ap (λ y. is_shared y && is_used (with_run run heap.runs) page) (whole_is n end k (omega arith) (omega arith))))
         | inr late ↦
-            ap (λ b. cond b true (is_shared x && is_used heap.runs page)) (inner_holds page (omega arith))
-            ∙ shared_step x (run_or_tail end k) (holds page run) true (is_used heap.runs page) (is_used (with_run run heap.runs) page) (free_shared x free) (ap is_shared (tail_is end k (let parts = reaches_parts k run e in omega arith))) (changed.used page)
+            ap (λ b. cond b true (is_shared x && is_used heap.runs page)) (tail_held (256 * h) n h whole tails page laid (omega arith))
+            ∙ shared_step x (becomes n end k) (holds page run) true (is_used heap.runs page) (is_used (with_run run heap.runs) page) (free_shared x free)
+            (ap is_shared (tail_is n end k (omega arith))) (changed.used page)
       ]))
-    where
-      inner : (page : ℕ) → is_between (256 * h + 256 * whole) (256 * h + n) page ≡ true → spans (n - 256 * whole) page (256 * h + 256 * whole) ≡ true
-      inner page b = let e : 256 * h + 256 * whole + (n - 256 * whole) ≡ 256 * h + n = omega arith in ap (λ to. is_between (256 * h + 256 * whole) to page) e ∙ b
-
-      inner_holds : (page : ℕ) → 256 * h + 256 * whole ≤ page → is_between (256 * h + 256 * whole) (256 * h + n) page ≡ holds page run
-      inner_holds page late = ap (λ b. b && nat_lt page (256 * h + n)) (le-leb (256 * h + 256 * whole) page late ∙ sym (le-leb (256 * h) page (omega arith)))

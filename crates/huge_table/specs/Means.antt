@@ -1,11 +1,12 @@
 -- The heap that a table means, with the runs, regions and counts beside it.
-use Rattle.std.specs.Prelude.{◌≡◌, ℕ, ◌+◌, ◌/◌, Bool, false, true, ◌==◌, ◌&&◌, not, Contains, if◌then◌else◌}
+use Rattle.std.specs.Prelude.{◌≡◌, ℕ, ◌+◌, ◌*◌, ◌/◌, Bool, false, true, ◌==◌, ◌&&◌, not, nat_lt, Contains, if◌then◌else◌}
 use Rattle.std.specs.List.{list_any}
 use Rattle.tc_units.specs.Units.{huge_pages}
 use Rattle.tc_units.specs.declared.spans.Run.{Run}
 use Rattle.tc_units.specs.declared.rows.RowKind.{RowKind}
 use Rattle.tc_units.specs.declared.rows.RowKind.TheVariants as kind
 use Rattle.heap_rules.specs.Heap.{Heap, Hugepage, hugepage, each, spans, is_used, region_row}
+use Rattle.heap_rules.specs.New.{Placed, placed, filler_page, run_or_tail}
 use Rattle.heap_rules.specs.Settle.{unbacked}
 use Rattle.heap_rules.specs.Release.{only_used}
 use Rattle.huge_table.specs.Table.{Table, bit}
@@ -36,6 +37,11 @@ pub record Means (table : Table) (heap : Heap) : Type 0 where
   pub used : (page : ℕ) → bit table.used page ≡ (is_shared (hugepage heap (page / huge_pages)) && is_used heap.runs page)
   pub begins : (page : ℕ) → bit table.begins page ≡ list_any (begins_on page) heap.runs
   pub ends : (page : ℕ) → bit table.ends page ≡ list_any (ends_on page) heap.runs
+
+-- What a run of n pages makes of the free hugepages from h on: those that it has whole are its own. Of the last one it has
+-- a part, and that one is the filler's, marked as donated where the run has others whole.
+abbrev pub taken : Heap → ℕ → ℕ → Placed
+taken heap n h = placed heap (huge_pages * h) n (λ k _. if nat_lt n huge_pages then filler_page false else run_or_tail (huge_pages * h + n) k)
 
 -- a heap of which adjacent hugepages lose their backing
 abbrev pub unbacked_span : Heap → ℕ → ℕ → Heap

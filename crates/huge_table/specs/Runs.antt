@@ -1,7 +1,6 @@
 -- The runs that a table notes, by where they begin and end.
-use Rattle.std.specs.Prelude.{◌≡◌, ℕ, ◌+◌, ◌*◌, ◌≤◌, Bool, false, not, List, [], ◌∷◌, length, drop, filter, map}
+use Rattle.std.specs.Prelude.{◌≡◌, ℕ, ◌+◌, ◌≤◌, Bool, false, not, List, [], ◌∷◌, length, drop, filter, map}
 use Rattle.std.specs.List.{list_any, range_with_len, prefix_len}
-use Rattle.tc_units.specs.Units.{huge_pages}
 use Rattle.tc_units.specs.declared.spans.Run.{Run}
 use Rattle.heap_rules.specs.Heap.{Heap, run_at, with_run, without_run}
 use Rattle.heap_rules.specs.Sound.{IsSound}
@@ -23,14 +22,9 @@ AreInOrderFrom page (run ∷ runs) = (page ≤ run.first.0) × AreInOrderFrom (r
 abbrev pub AreInOrder : List Run → Type 0
 AreInOrder runs = AreInOrderFrom 0 runs
 
--- there are bits for where runs begin and end on each page of the arena
-pub record HasPlaces (table : Table) : Type 0 where
-  pub begins : huge_pages * (length table.pages + 1) ≤ length table.begins
-  pub ends : huge_pages * (length table.pages + 1) ≤ length table.ends
-
--- The table tells the live runs of a sound heap in their order; and runs stay in order when one comes or leaves.
-pub record RunsAreTold : Type 0 where
-  pub told : (table : Table) (heap : Heap) → IsSound heap → AreInOrder heap.runs → HasPlaces table → Means table heap → runs_of table ≡ heap.runs
-  pub ordered : (table : Table) → AreInOrder (runs_of table)
+-- A table tells the live runs of each sound heap that it means, in their order; and runs stay in order when one comes or
+-- leaves.
+pub record TellsRuns (table : Table) : Type 0 where
+  pub told : (heap : Heap) → IsSound heap → AreInOrder heap.runs → Means table heap → runs_of table ≡ heap.runs
   pub with_one : (run : Run) (runs : List Run) → AreInOrder runs → list_any (begins_on run.first.0) runs ≡ false → AreInOrder (with_run run runs)
   pub without_one : (run : Run) (runs : List Run) → AreInOrder runs → AreInOrder (without_run run runs)

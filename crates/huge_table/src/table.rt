@@ -1,21 +1,21 @@
 //! The one table of hugepages: bitmaps for what they are, with the pages that runs have beside them.
 #![tactic(auto, using(crate::proofs::Sizes::arena))]
 
-ghost use Rattle.std.specs.Prelude.{◌≡◌, ℕ, ◌+◌, ◌-◌, ◌*◌, ◌/◌, ◌%◌, ◌<◌, ◌≤◌, ◌==◌, ◌||◌, true, false, not, ◌&&◌, length, IfOk, Contains, if◌then◌else◌};
+ghost use Rattle.std.specs.Prelude.{◌≡◌, ℕ, ◌+◌, ◌-◌, ◌*◌, ◌/◌, ◌%◌, ◌<◌, ◌≤◌, ◌==◌, ◌||◌, ◌⊎◌, true, false, not, ◌&&◌, length, IfOk, Contains, if◌then◌else◌};
 ghost use Rattle.range_bits.specs.Ranges.{best};
 ghost use Rattle.range_bits.specs.Ranges as ranges;
 ghost use Rattle.tc_units.specs.Units.{huge_pages};
 ghost use Rattle.tc_units.specs.declared.rows.RowKind.TheVariants as kind;
 ghost use Rattle.heap_rules.specs.declared.config.HeapConfig.{HeapConfig};
 ghost use Rattle.heap_rules.specs.Heap.{Heap, hugepage, opened, is_free, is_filler, is_region, run_at, used_row, used_count, longest_range, allocation_count, backed_count, is_backed, row_of};
-ghost use Rattle.heap_rules.specs.New.{run_page, filler_page, region_page, more_backed, in_filler, in_fresh, in_region, in_free, with_new_region};
+ghost use Rattle.heap_rules.specs.New.{run_page, filler_page, region_page, more_backed, in_filler, in_region, with_new_region};
 ghost use Rattle.heap_rules.specs.Free.{emptied, left, given_back, without_unused_regions};
 ghost use Rattle.heap_rules.specs.Sound.{AreRunsSound, IsSound};
 ghost use Rattle.heap_rules.specs.Choice.{hugepages_for};
 ghost use Rattle.heap_rules.specs.Release.{spare_pages};
 ghost use Rattle.huge_table.specs.Table.{at, kind_by, of_kind, IsSpan, IsNoted, HasBits, over_span, free_page, is_even, with_backing, region_freed, reached_by, noted_row, emptied_where};
-ghost use Rattle.huge_table.specs.Runs.{HasPlaces};
-ghost use Rattle.huge_table.specs.Means.{Means, AllUsed, IsEnding, is_run, is_shared, unbacked_span, used_alone};
+ghost use Rattle.huge_table.specs.Runs.{TellsRuns};
+ghost use Rattle.huge_table.specs.Means.{Means, AllUsed, IsEnding, taken, is_run, is_shared, unbacked_span, used_alone};
 
 use range_bits::WideBits;
 use std::alloc::{AllocError, Global};
@@ -137,18 +137,6 @@ impl HugeTable {
         self.note(first.0, n, 0, true);
     }
 
-    /// The filler gets a free hugepage, and its first `n` pages are a run's.
-    pub fn join_fresh(&mut self, huge: Huge, n: u32)
-        requires place { IsSpan self.old huge.0 1 is_free }
-        requires some { 0 < n }
-        requires below { n ≤ huge_pages }
-        ensures { (heap : Heap) → Means self.old heap → Means self.new (in_fresh heap n huge.0).heap }
-    {
-        let place = u32::from(huge.0);
-        self.adopt(place, 1, false);
-        self.note(HUGE_PAGES * place, n, 0, true);
-    }
-
     /// A run of `n` pages comes into a region. The hugepages that it reaches are backed whole.
     pub fn join_region(&mut self, first: Page, n: u32)
         requires place { IsSpan self.old (first.0 / huge_pages) (reached_by first.0 n) is_region }
@@ -163,37 +151,26 @@ impl HugeTable {
         self.note(first.0, n, 0, true);
     }
 
-    /// A run of `n` pages takes free hugepages. What it leaves of the last one is donated to the filler.
+    /// A run of `n` pages takes free hugepages. The last one is the filler's where the run has only a part of it,
+    /// and is marked as donated where the run has others whole.
     pub fn take_run(&mut self, first: Huge, n: u32)
         requires free { IsSpan self.old first.0 (hugepages_for n) is_free }
         requires some { 0 < n }
         ensures { (heap : Heap) → IsSound heap → Means self.old heap
-            → Means self.new (in_free heap n first.0).heap }
+            → Means self.new (taken heap n first.0).heap }
     {
         let place = u32::from(first.0);
         let whole = n / HUGE_PAGES;
         let tails = n.div_ceil(HUGE_PAGES) - whole;
         self.take(place, whole);
-        self.adopt(place + whole, tails, true);
+        self.adopt(place + whole, tails, whole > 0);
         self.note(HUGE_PAGES * place, n, HUGE_PAGES * whole, true);
     }
 
-    /// A run leaves a hugepage of the filler, which becomes free with its last run.
-    pub fn leave(&mut self, run: Run)
-        requires place { IsSpan self.old (run.first.0 / huge_pages) 1 is_filler }
-        requires some { 0 < run.pages }
-        requires ends { run.first.0 % huge_pages + run.pages ≤ huge_pages }
-        ensures { (heap : Heap) → IsSound heap → Means self.old heap → Contains heap.runs run
-            → Means self.new (given_back heap run) }
-    {
-        self.note(run.first.0, run.pages, 0, false);
-        self.empty_unused(run.first.0 / HUGE_PAGES);
-    }
-
-    /// A run leaves its whole hugepages, which are free and backed then, and what it has of one more, which
-    /// becomes free with its last run.
+    /// A run leaves the hugepages that it has whole, which are free and backed then, and what it has of one more,
+    /// which becomes free with its last run.
     pub fn give_run(&mut self, run: Run)
-        requires begins { run.first.0 % huge_pages ≡ 0 }
+        requires lies { (run.first.0 % huge_pages ≡ 0) ⊎ (run.first.0 % huge_pages + run.pages ≤ huge_pages) }
         requires some { 0 < run.pages }
         requires whole { IsSpan self.old (run.first.0 / huge_pages) (run.pages / huge_pages) is_run }
         requires tail { IsSpan self.old (run.first.0 / huge_pages + run.pages / huge_pages)
@@ -264,7 +241,7 @@ impl HugeTable {
     pub fn huge(&self) -> u32
         ensures value { result ≡ length self.now.pages }
         ensures most { result ≤ 4096 }
-        ensures places { HasPlaces self.now }
+        ensures runs { TellsRuns self.now }
     {
         self.huge
     }

@@ -1,5 +1,5 @@
 //! Tables whose hugepages were worked out by hand.
-ghost use Rattle.std.specs.Prelude.{◌≡◌, ◌+◌, ◌-◌, ◌/◌, ◌%◌, ◌<◌, ◌≤◌, true};
+ghost use Rattle.std.specs.Prelude.{◌≡◌, ◌+◌, ◌-◌, ◌/◌, ◌%◌, ◌<◌, ◌≤◌, ◌⊎◌, true};
 ghost use Rattle.tc_units.specs.Units.{huge_pages};
 ghost use Rattle.tc_units.specs.declared.rows.RowKind.TheVariants as kind;
 ghost use Rattle.heap_rules.specs.Heap.{is_free, is_filler, is_region, run_at};
@@ -57,6 +57,13 @@ fn spans(table: &HugeTable, first: u32, n: u32) -> bool
     )
 }
 
+/// Whether `n` pages from one on begin a hugepage, or lie in one.
+fn lies(first: u32, n: u32) -> bool
+    ensures { result ≡ true → (first % huge_pages ≡ 0) ⊎ (first % huge_pages + n ≤ huge_pages) }
+{
+    first % HUGE_PAGES == 0 || n <= HUGE_PAGES - first % HUGE_PAGES
+}
+
 /// Whether a run of `n` pages has whole hugepages from one on, and its tail in one of the filler.
 fn has_whole(table: &HugeTable, huge: u32, n: u32) -> bool
     ensures run { result ≡ true → IsSpan table.now huge (n / huge_pages) is_run }
@@ -81,11 +88,9 @@ fn are_even(table: &HugeTable, first: u32, many: u32) -> bool
 #[derive(Clone, Copy, Debug)]
 enum Step {
     Join(u32, u32),
-    JoinFresh(u16, u32),
     TakeRun(u16, u32),
     OpenRegion(u16, u32),
     JoinRegion(u32, u32),
-    Leave(u32, u32),
     GiveRun(u32, u32),
     LeaveRegion(u32, u32),
     EndRegion(u16, u32),
@@ -120,12 +125,6 @@ fn comes(table: &mut HugeTable, step: Step) -> bool {
             }
             table.join(Page(first), n);
         }
-        Step::JoinFresh(huge, n) => {
-            if n == 0 || n > HUGE_PAGES || !are(table, u32::from(huge), 1, RowKind::Free) {
-                return false;
-            }
-            table.join_fresh(Huge(huge), n);
-        }
         Step::TakeRun(huge, n) => {
             if n == 0
                 || !are(
@@ -153,14 +152,8 @@ fn comes(table: &mut HugeTable, step: Step) -> bool {
 /// A run leaves, where it may.
 fn leaves(table: &mut HugeTable, step: Step) -> bool {
     match step {
-        Step::Leave(first, n) => {
-            if !fits(table, first, n) {
-                return false;
-            }
-            table.leave(run(first, n));
-        }
         Step::GiveRun(first, n) => {
-            if n == 0 || first % HUGE_PAGES != 0 || !has_whole(table, first / HUGE_PAGES, n) {
+            if n == 0 || !lies(first, n) || !has_whole(table, first / HUGE_PAGES, n) {
                 return false;
             }
             table.give_run(run(first, n));
@@ -279,12 +272,12 @@ fn play(rt: &impl Abort, table: &mut HugeTable, steps: &[Step]) {
 /// An arena of one hugepage.
 const ONE: [Step; 24] = [
     Step::Row(1, RowKind::Free, [0, 0, 0, 256]),
-    Step::JoinFresh(1, 3),
+    Step::TakeRun(1, 3),
     Step::Row(1, RowKind::Filler, [3, 1, 256, 253]),
     Step::Join(256 + 10, 5),
     // Free are 3 to 9 and 15 to 255: 7 and 241 pages.
     Step::Row(1, RowKind::Filler, [8, 2, 256, 241]),
-    Step::Leave(256, 3),
+    Step::GiveRun(256, 3),
     Step::OnlyUsed(1),
     Step::Row(1, RowKind::Filler, [5, 1, 5, 241]),
     // Free are 0 to 9 and 15 to 255.
@@ -296,8 +289,8 @@ const ONE: [Step; 24] = [
     Step::Join(256 + 250, 6),
     // Free are 0 to 9 and 15 to 249: 10 and 235 pages.
     Step::Row(1, RowKind::Filler, [11, 2, 11, 235]),
-    Step::Leave(256 + 10, 5),
-    Step::Leave(256 + 250, 6),
+    Step::GiveRun(256 + 10, 5),
+    Step::GiveRun(256 + 250, 6),
     // Not all of its pages were backed, so it keeps no backing.
     Step::Row(1, RowKind::Free, [0, 0, 0, 256]),
     Step::TakeRun(1, 256),
@@ -322,7 +315,7 @@ const ENDS: [Step; 24] = [
     Step::GiveRun(256, 300),
     Step::Row(1, RowKind::Free, [0, 0, 256, 256]),
     Step::Tail(2, [212, 1, 256, 44]),
-    Step::Leave(2 * 256 + 44, 212),
+    Step::GiveRun(2 * 256 + 44, 212),
     Step::Row(2, RowKind::Free, [0, 0, 256, 256]),
     Step::GiveRun(4095 * 256, 512),
     Step::Row(4096, RowKind::Free, [0, 0, 256, 256]),

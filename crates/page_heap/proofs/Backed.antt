@@ -1,19 +1,15 @@
 -- The backed pages of a heap, counted hugepage by hugepage. They cover the used ones.
 use Rattle.std.proofs.Common.{◌≡◌, ℕ, ◌+◌, ◌*◌, ◌<◌, ◌≤◌, Bool, length, get_or, take, sum_by, sym, ap, ◌∙◌, arith}
-use Rattle.std.proofs.lemmas.List.{get_or_default, take_all}
-use Rattle.std.proofs.lemmas.List.Sums.{sum_by-le, count_by-le-length, sum_by_more, sum_by-take-le}
-use Rattle.range_bits.proofs.RangeLemmas.{range-within}
-use Rattle.heap_rules.specs.Heap.{Heap, Hugepage, hugepage, untouched, numbers, used_count, backed_count, used_pages, backed_pages}
-use Rattle.heap_rules.specs.Sound.{IsSound}
-use Rattle.heap_rules.proofs.Accounts.{self, sum-adds, sum-map'}
-use Rattle.heap_rules.proofs.Places.{at-next}
-use Rattle.page_heap.specs.Inside.{spare_of}
+use Rattle.page_heap.proofs.Common.{get_or_default, take_all, sum_by-le, count_by-le-length, sum_by_more, sum_by-take-le, range-within, Heap, Hugepage}
+use Rattle.page_heap.proofs.Common.{hugepage, untouched, numbers, used_count, backed_count, used_pages, backed_pages, IsSound, self, sum-adds, sum-map'}
+use Rattle.page_heap.proofs.Common.{at-next, spare_of}
 use Rattle.page_heap.proofs.Measured.{pages_split}
 
 module _ (heap : Heap) (sound : IsSound heap) where
   few_there : (k : ℕ) (d : Hugepage) → k < length heap.hugepages → backed_count (get_or heap.hugepages k d) ≤ 256
   few_there k d l =
-      let size = ap (λ (x : Hugepage). length x.backed) (sym (at-next heap.hugepages k ∙ get_or_default heap.hugepages k untouched d l)) ∙ (sound.runs.fit (1 + k) (record { from = omega arith; to = within _ _ l sound.runs.arena })).size in
+      let size = ap (λ (x : Hugepage). length x.backed) (sym (at-next heap.hugepages k ∙ get_or_default heap.hugepages k untouched d l))
+      ∙ (sound.runs.fit (1 + k) (record { from = omega arith; to = within _ _ l sound.runs.arena })).size in
       fits _ _ (count_by-le-length (λ (b : Bool). b) (get_or heap.hugepages k d).backed) size
     where
       within : (a b : ℕ) → k < a → a ≡ b → 1 + k ≤ b

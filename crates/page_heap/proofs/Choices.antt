@@ -1,26 +1,14 @@
 -- The filler's choice by its measures is that of the heap.
-use Rattle.std.proofs.Common.{◌≡◌, ℕ, zero, suc, ◌+◌, ◌-◌, ◌<◌, ◌≤◌, ◌⊎◌, Bool, true, false, not, ◌&&◌, ◌||◌, cond, nat_lt, nat_eq, List, [], ◌∷◌, length, get_or, filter, All, Contains, Option, Some, None, IfSome, refl, sym, ap, subst, ◌∙◌, inl, inr, arith}
-use Rattle.std.specs.List.{list_all, range_with_len}
-use Rattle.std.proofs.lemmas.Bool.{cases_Bool, cases_eq, leb-true, le-leb}
+use Rattle.std.proofs.Common.{◌≡◌, ℕ, zero, suc, ◌+◌, ◌-◌, ◌<◌, ◌≤◌, ◌⊎◌, Bool, true, false, not, ◌&&◌, ◌||◌, cond, nat_lt, nat_eq, List, [], ◌∷◌, length}
+use Rattle.std.proofs.Common.{get_or, filter, All, Contains, Option, Some, None, IfSome, refl, sym, ap, subst, ◌∙◌, inl, inr, arith}
+use Rattle.page_heap.proofs.Common.{list_all, range_with_len, cases_Bool, cases_eq, leb-true, le-leb, length-map, get_or-map, All-head, All-tail}
+use Rattle.page_heap.proofs.Common.{length-range_with_len, get_or-range_with_len, none-some, same_Some, Run, longest, first_of_two, first_least}
+use Rattle.page_heap.proofs.Common.{first_least-all, Heap, Hugepage, hugepage, numbers, longest_range, is_filler, FillerRow, filler_row, filler_rows}
+use Rattle.page_heap.proofs.Common.{IsHugepageOf, IsRowWithRoom, rows_fit, filter_holds, Huge, Measures, measures_at, prefers, IsPreferred, measures_of}
+use Rattle.page_heap.proofs.Common.{measured, measures}
 use Rattle.std.proofs.lemmas.Bool.Decides.{nat_tests}
-use Rattle.std.proofs.lemmas.List.{length-map, get_or-map}
-use Rattle.std.proofs.lemmas.List.Elements.{All-head, All-tail}
-use Rattle.std.proofs.lemmas.List.FromFn.{length-range_with_len, get_or-range_with_len}
-use Rattle.std.proofs.lemmas.Option.{none-some, same_Some}
-use Rattle.tc_units.specs.declared.spans.Run.{Run}
-use Rattle.range_bits.specs.Ranges.{longest, first_of_two, first_least}
-use Rattle.range_bits.proofs.RangeLemmas.{first_least-all}
-use Rattle.heap_rules.specs.Heap.{Heap, Hugepage, hugepage, numbers, longest_range, is_filler}
-use Rattle.heap_rules.specs.FillerRows.{FillerRow, is_preferred, has_room}
-use Rattle.heap_rules.specs.Choice.{filler_row, filler_rows}
-use Rattle.heap_rules.specs.Sound.{IsHugepageOf}
-use Rattle.heap_rules.proofs.Fillers.{IsRowWithRoom, rows_fit}
-use Rattle.heap_rules.proofs.Live.{filter_holds}
+use Rattle.heap_rules.specs.FillerRows.{is_preferred, has_room}
 use Rattle.heap_rules.proofs.Orders.{by_first, last_is}
-use Rattle.tc_units.specs.declared.units.Huge.{Huge}
-use Rattle.huge_filler.specs.declared.measures.Measures.{Measures}
-use Rattle.huge_filler.specs.Measures.{measures_at, prefers, IsPreferred}
-use Rattle.page_heap.specs.Inside.{measures_of, measured, measures}
 use Rattle.page_heap.proofs.Frames.{length-measures, measures_there, measured_none, measured_some}
 
 -- One that comes before each other one is the first.
@@ -55,7 +43,12 @@ longest_of row = longest row.used
 
 one_way : (a b : FillerRow) → is_preferred a b ≡ true → is_preferred b a ≡ false
 one_way a b e =
-    let in_order : (x y : FillerRow) → is_preferred x y ≡ (nat_lt x.tier y.tier || (nat_eq x.tier y.tier && (nat_lt (longest_of x) (longest_of y) || (nat_eq (longest_of x) (longest_of y) && (nat_lt y.allocs x.allocs || (nat_eq y.allocs x.allocs && nat_lt x.number y.number)))))) = λ x y.
+    let in_order : (x y : FillerRow) →
+    is_preferred x y ≡
+    (nat_lt x.tier y.tier ||
+    (nat_eq x.tier y.tier &&
+    (nat_lt (longest_of x) (longest_of y) ||
+    (nat_eq (longest_of x) (longest_of y) && (nat_lt y.allocs x.allocs || (nat_eq y.allocs x.allocs && nat_lt x.number y.number)))))) = λ x y.
     by_first x.tier y.tier _ _ (by_first (longest_of x) (longest_of y) _ _ (by_first y.allocs x.allocs _ _ (last_is (nat_lt x.number y.number) (nat_eq x.number y.number)))) in
     in_order b a
     ∙ not_both a.tier b.tier _ _ (not_both (longest_of a) (longest_of b) _ _ (not_both b.allocs a.allocs _ _ (λ t. grind (arith, nat_tests)))) (sym (in_order a b) ∙ e)
@@ -71,13 +64,15 @@ contra a n l m = omega arith
 
 module _ (heap : Heap) (n : ℕ) where
   -- a row of the filler by its number
-  pub row_there : (h : ℕ) → 0 < h → h ≤ length heap.hugepages → is_filler (hugepage heap h) ≡ true → n ≤ longest_range heap.runs h → Contains (filter (has_room n) (filler_rows heap)) (filler_row heap h)
+  pub row_there : (h : ℕ) → 0 < h → h ≤ length heap.hugepages → is_filler (hugepage heap h) ≡ true → n ≤ longest_range heap.runs h →
+      Contains (filter (has_room n) (filler_rows heap)) (filler_row heap h)
   row_there h from to own room =
       let listed : Contains (numbers heap) h = listed_at (length heap.hugepages) h from to in
       let fillers = filter (λ k. is_filler (hugepage heap k)) (numbers heap) in
       let kept : Contains fillers h = filter_holds (λ k. is_filler (hugepage heap k)) (numbers heap) h listed own in
       let len = length-map fillers (filler_row heap) in
-      let row : Contains (filler_rows heap) (filler_row heap h) = (kept.0, short _ _ _ kept.1 len, get_or-map (filler_row heap) fillers kept.0 h (filler_row heap h) kept.1 ∙ ap (filler_row heap) kept.2) in
+      let row : Contains (filler_rows heap) (filler_row heap h) =
+      (kept.0, short _ _ _ kept.1 len, get_or-map (filler_row heap) fillers kept.0 h (filler_row heap h) kept.1 ∙ ap (filler_row heap) kept.2) in
       filter_holds (has_room n) (filler_rows heap) (filler_row heap h) row (le-leb n (longest_range heap.runs h) room)
 
   there : (row : FillerRow) (is : IsRowWithRoom heap n row) → measures_at (measures heap) is.number ≡ Some (measures_of heap.runs is.number (hugepage heap is.number))
@@ -87,7 +82,9 @@ module _ (heap : Heap) (n : ℕ) where
   roomy row is = leb-true n (longest_range heap.runs is.number) (sym (ap (has_room n) is.row_is) ∙ is.room)
 
   -- the preferred one is the first row with room
-  pub preferred_is : (huge : Huge) (is : IsPreferred (measures heap) n huge) → is_filler (hugepage heap huge.0) ≡ true → is.measures ≡ measures_of heap.runs huge.0 (hugepage heap huge.0) → huge.0 ≤ length heap.hugepages → first_least is_preferred (filter (has_room n) (filler_rows heap)) ≡ Some (filler_row heap huge.0)
+  pub preferred_is : (huge : Huge) (is : IsPreferred (measures heap) n huge) → is_filler (hugepage heap huge.0) ≡ true →
+      is.measures ≡ measures_of heap.runs huge.0 (hugepage heap huge.0) → huge.0 ≤ length heap.hugepages →
+      first_least is_preferred (filter (has_room n) (filler_rows heap)) ≡ Some (filler_row heap huge.0)
   preferred_is huge is own its to =
       let h : ℕ = huge.0 in
       let rows = filter (has_room n) (filler_rows heap) in
@@ -100,7 +97,9 @@ module _ (heap : Heap) (n : ℕ) where
       elim (cases_eq fit.number h) [
         | inl same ↦ inl (fit.row_is ∙ ap (filler_row heap) same)
         | inr other ↦
-            (let first : is_preferred (filler_row heap h) (filler_row heap fit.number) ≡ true = subst (λ (m : Measures). prefers h m fit.number (measures_of heap.runs fit.number (hugepage heap fit.number)) ≡ true) its (is.first fit.number (measures_of heap.runs fit.number (hugepage heap fit.number)) (there row fit) (roomy row fit) other) in
+            (let first : is_preferred (filler_row heap h) (filler_row heap fit.number) ≡ true =
+            subst (λ (m : Measures). prefers h m fit.number (measures_of heap.runs fit.number (hugepage heap fit.number)) ≡ true) its
+            (is.first fit.number (measures_of heap.runs fit.number (hugepage heap fit.number)) (there row fit) (roomy row fit) other) in
             let before : is_preferred (filler_row heap h) row ≡ true = ap (is_preferred (filler_row heap h)) fit.row_is ∙ first in
             inr (before, one_way (filler_row heap h) row before))
       ]))
@@ -139,7 +138,8 @@ its_filler runs h x its e = elim (cases_Bool (is_filler x)) [
   | inr f ↦ absurd (none-some its (sym (measured_none runs h x f) ∙ e))
 ]
 
-pub its_there : (heap : Heap) (h : ℕ) (its : Measures) → 0 < h → h ≤ length heap.hugepages → measures_at (measures heap) h ≡ Some its → (is_filler (hugepage heap h) ≡ true) × (its ≡ measures_of heap.runs h (hugepage heap h))
+pub its_there : (heap : Heap) (h : ℕ) (its : Measures) → 0 < h → h ≤ length heap.hugepages → measures_at (measures heap) h ≡ Some its →
+    (is_filler (hugepage heap h) ≡ true) × (its ≡ measures_of heap.runs h (hugepage heap h))
 its_there heap h its from to e = its_filler heap.runs h (hugepage heap h) its (sym (measures_there heap h from to) ∙ e)
 
 pub found : (heap : Heap) (rows : List (Option Measures)) (n : ℕ) (huge : Huge) → length heap.hugepages ≡ heap.config.huge → rows ≡ measures heap → IsPreferred rows n huge → IsFound heap n huge.0

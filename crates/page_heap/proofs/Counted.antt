@@ -1,15 +1,9 @@
 -- The used pages of a range, counted run by run.
-use Rattle.std.proofs.Common.{◌≡◌, ℕ, zero, suc, ◌+◌, ◌-◌, ◌*◌, ◌≤◌, Bool, cond, min, max, List, [], ◌∷◌, length, get_or, count_by, sum_by, refl, sym, ◌∙◌, inl, inr, arith}
-use Rattle.std.specs.List.{range_with_len}
-use Rattle.std.proofs.lemmas.Bool.{cases_Bool, cases_lt, false≢true}
-use Rattle.std.proofs.lemmas.List.Sums.{sum_by-cons}
-use Rattle.tc_units.specs.declared.spans.Run.{Run}
-use Rattle.tc_units.proofs.Counts.{count-cons, one-true, one-false}
-use Rattle.heap_rules.specs.Heap.{Heap, holds, is_used, used_from, used_count, used_pages}
-use Rattle.heap_rules.specs.Sound.{IsSound}
-use Rattle.heap_rules.proofs.Live.{used_counts, unused_counts}
-use Rattle.heap_rules.proofs.Fits.{holds_parts, holds_from}
-use Rattle.heap_rules.proofs.Accounts.{same_sums, sum-adds}
+use Rattle.std.proofs.Common.{◌≡◌, ℕ, zero, suc, ◌+◌, ◌-◌, ◌*◌, ◌≤◌, Bool, cond, min, max, List, [], ◌∷◌, length, get_or, count_by, sum_by, refl, sym, ◌∙◌}
+use Rattle.std.proofs.Common.{inl, inr, arith}
+use Rattle.page_heap.proofs.Common.{range_with_len, cases_Bool, cases_lt, false≢true, sum_by-cons, Run, count-cons, one-true, one-false, Heap, is_used}
+use Rattle.page_heap.proofs.Common.{used_count, used_pages, IsSound, used_counts, unused_counts, holds_parts, holds_from, same_sums, sum-adds}
+use Rattle.heap_rules.specs.Heap.{holds, used_from}
 use Rattle.page_heap.proofs.Steps.{count-map}
 
 sum_none : {X : Type 0} (xs : List X) → sum_by (λ x. 0) xs ≡ 0
@@ -64,7 +58,8 @@ module _ (runs : List Run) (disjoint : (p : ℕ) → count_by (holds p) runs ≤
   pub used_by_runs : (first many : ℕ) → count_by (λ b. b) (used_from runs first many) ≡ sum_by (pages_in first many) runs
   used_by_runs first many =
       count-map (is_used runs) (range_with_len first many)
-      ∙ same_sums (λ p. cond (is_used runs p) 1 0) (λ p. count_by (holds p) runs) (range_with_len first many) (λ k d l. one_holds runs (get_or (range_with_len first many) k d) (disjoint (get_or (range_with_len first many) k d)))
+      ∙ same_sums (λ p. cond (is_used runs p) 1 0) (λ p. count_by (holds p) runs) (range_with_len first many)
+      (λ k d l. one_holds runs (get_or (range_with_len first many) k d) (disjoint (get_or (range_with_len first many) k d)))
       ∙ count_swap holds (range_with_len first many) runs
       ∙ same_sums (λ r. count_by (λ p. holds p r) (range_with_len first many)) (pages_in first many) runs (λ k d l. held_count (get_or runs k d) first many)
 

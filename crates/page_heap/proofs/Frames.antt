@@ -1,21 +1,12 @@
 -- What the choosers are told of a heap whose hugepages change, place by place.
-use Rattle.std.proofs.Common.{◌≡◌, ◌≢◌, ℕ, ◌+◌, ◌-◌, ◌*◌, ◌/◌, ◌<◌, ◌≤◌, Bool, true, false, not, cond, List, [], ◌∷◌, length, get_or, set, map, All, Option, None, refl, sym, ap, subst, ◌∙◌, inl, inr, arith}
-use Rattle.std.proofs.lemmas.Bool.{cases_Bool, cases_eq, false_from_ne_true, false≢true}
-use Rattle.std.proofs.lemmas.List.{length-set, length-map}
-use Rattle.std.proofs.lemmas.List.Elements.{All-head, All-tail}
-use Rattle.tc_units.specs.declared.spans.Run.{Run}
-use Rattle.range_bits.specs.Ranges.{with_places}
-use Rattle.range_bits.proofs.Placing.{length-with_places}
-use Rattle.heap_rules.specs.RegionRows.{RegionRow}
-use Rattle.heap_rules.specs.Heap.{Heap, Hugepage, hugepage, untouched, reaches, spans, is_free, is_free_backed, is_filler, is_region}
-use Rattle.heap_rules.specs.Choice.{region_row_of}
-use Rattle.heap_rules.specs.Sound.{IsHugepageOf, AreRunsSound, IsSound}
-use Rattle.heap_rules.proofs.Places.{map-at}
-use Rattle.heap_rules.proofs.Fits.{unreached_unheld, spans_from}
-use Rattle.heap_rules.proofs.Remade.{remade, here}
-use Rattle.huge_filler.specs.Measures.{measures_at, with_measures}
-use Rattle.huge_cache.specs.Cache.{Cache, holds, is_backed}
-use Rattle.page_heap.specs.Inside.{measures_of, measured, measures, cache_of, regions_of}
+use Rattle.std.proofs.Common.{◌≡◌, ◌≢◌, ℕ, ◌+◌, ◌-◌, ◌*◌, ◌/◌, ◌<◌, ◌≤◌, Bool, true, false, not, cond, List, [], ◌∷◌, length, get_or, set, map, All}
+use Rattle.std.proofs.Common.{Option, None, refl, sym, ap, subst, ◌∙◌, inl, inr, arith}
+use Rattle.page_heap.proofs.Common.{cases_Bool, cases_eq, false_from_ne_true, false≢true, length-set, length-map, All-head, All-tail, Run, with_places}
+use Rattle.page_heap.proofs.Common.{length-with_places, RegionRow, Heap, Hugepage, hugepage, untouched, reaches, spans, is_free, is_free_backed, is_filler}
+use Rattle.page_heap.proofs.Common.{each, at-each}
+use Rattle.page_heap.proofs.Common.{is_region, region_row_of, IsHugepageOf, IsRegion, AreRunsSound, map-at, unreached_unheld, spans_from, remade, here}
+use Rattle.page_heap.proofs.Common.{measures_at, with_measures, Cache, is_backed, measures_of, measured, measures, cache_of, regions_of}
+use Rattle.huge_cache.specs.Cache.{holds}
 use Rattle.page_heap.proofs.Numbered.{numbered, same_numbered, numbered-each, length-each, one_is, one_not, numbered-set, numbered-with_places}
 use Rattle.page_heap.proofs.Steps.{IsStep, row-away, measured-away}
 
@@ -53,68 +44,86 @@ pub map-map : {X Y Z : Type 0} (g : Y → Z) (f : X → Y) (xs : List X) → map
 map-map g f [] = refl
 map-map g f (x ∷ xs) = ap (λ ys. g (f x) ∷ ys) (map-map g f xs)
 
-module _ (heap : Heap) (rest : List Run) (regions : List ℕ) (f : ℕ → Hugepage → Hugepage) (counts : List ℕ) (sound : AreRunsSound heap) where
+-- whether a hugepage isn't free, and isn't free and backed
+abbrev pub is_taken : Hugepage → Bool
+is_taken x = not (is_free x)
+
+abbrev pub is_unready : Hugepage → Bool
+is_unready x = not (is_free_backed x)
+
+number : (heap : Heap) → AreRunsSound heap → (h : ℕ) → 0 < h → h ≤ length heap.hugepages → IsHugepageOf heap.config.huge h
+number heap sound h some l = let len = sound.arena in record { from = some; to = omega arith }
+
+-- The filler, of which one hugepage is measured again, or none.
+module _ (heap : Heap) (rest : List Run) (f : ℕ → Hugepage → Hugepage) (sound : AreRunsSound heap) where
   abbrev after : Heap
-  after = remade heap rest regions f counts
+  after = remade heap rest heap.regions f heap.counts
 
-  length-after : length after.hugepages ≡ length heap.hugepages
-  length-after = length-each f heap.hugepages
+  measured_after : (h : ℕ) → IsHugepageOf heap.config.huge h → measures_at (measures after) h ≡ measured rest h (f h (hugepage heap h))
+  measured_after h is =
+      let arena = sound.arena in
+      let size = length-each f heap.hugepages in
+      measures_there after h is.from (omega (arith, is.to)) ∙ ap (measured rest h) (here heap rest heap.regions f heap.counts sound h is)
 
-  number : (h : ℕ) → 0 < h → h ≤ length heap.hugepages → IsHugepageOf heap.config.huge h
-  number h some l = let len = sound.arena in record { from = some; to = omega arith }
-
-  -- The filler, of which one hugepage is measured again.
-  pub measures_set : (k : ℕ) → IsHugepageOf heap.config.huge k → ((h : ℕ) → IsHugepageOf heap.config.huge h → h ≢ k → measured heap.runs h (hugepage heap h) ≡ measured rest h (f h (hugepage heap h))) → with_measures (measures heap) k (measured rest k (hugepage after k)) ≡ measures after
+  pub measures_set : (k : ℕ) → IsHugepageOf heap.config.huge k →
+      ((h : ℕ) → IsHugepageOf heap.config.huge h → h ≢ k → measured heap.runs h (hugepage heap h) ≡ measured rest h (f h (hugepage heap h))) →
+      with_measures (measures heap) k (measured rest k (hugepage after k)) ≡ measures after
   measures_set k own others =
       let arena = sound.arena in
       let len = length-measures heap in
-      let len' = length-measures after in
       let its = measured rest k (hugepage after k) in
-      same_numbered None (with_measures (measures heap) k its) (measures after) (length-set (measures heap) (k - 1) its ∙ len ∙ sym length-after ∙ sym len')
+      let size = length-set (measures heap) (k - 1) its in
+      same_numbered None (with_measures (measures heap) k its) (measures after) (size ∙ len ∙ sym (length-measures after ∙ length-each f heap.hugepages))
       (λ h some l.
-      (let size = length-set (measures heap) (k - 1) its in
-      let is = number h some (omega arith) in
+      (let is = number heap sound h some (omega arith) in
       numbered-set (measures heap) k its h None own.from (omega (arith, own.to)) some
       ∙ elim (cases_eq h k) [
-        | inl same ↦ ap (λ b. cond b its (numbered (measures heap) h None)) (one_is h k same) ∙ ap (λ i. measured rest i (hugepage after i)) (sym same)
+        | inl same ↦
+            ap (λ b. cond b its (numbered (measures heap) h None)) (one_is h k same)
+            ∙ ap (measured rest k) (here heap rest heap.regions f heap.counts sound k own) ∙ ap (λ i. measured rest i (f i (hugepage heap i))) (sym same)
         | inr other ↦
             ap (λ b. cond b its (numbered (measures heap) h None)) (one_not h k other)
-            ∙ measures_there heap h some (omega (arith, is.to))
-            ∙ others h is other
-            ∙ ap (measured rest h) (sym (here heap rest regions f counts sound h is))
+            ∙ measures_there heap h some (omega (arith, is.to)) ∙ others h is other
       ]
-      ∙ sym (measures_there after h some (omega (arith, length-after, is.to)))))
+      ∙ sym (measured_after h is)))
 
   pub measures_same : ((h : ℕ) → IsHugepageOf heap.config.huge h → measured heap.runs h (hugepage heap h) ≡ measured rest h (f h (hugepage heap h))) → measures heap ≡ measures after
   measures_same same =
       let len = length-measures heap in
-      let len' = length-measures after in
-      same_numbered None (measures heap) (measures after) (len ∙ sym length-after ∙ sym len')
+      same_numbered None (measures heap) (measures after) (len ∙ sym (length-measures after ∙ length-each f heap.hugepages))
       (λ h some l.
-      (let is = number h some (omega arith) in
-      let arena = sound.arena in
-      measures_there heap h some (omega (arith, is.to)) ∙ same h is ∙ ap (measured rest h) (sym (here heap rest regions f counts sound h is)) ∙ sym (measures_there after h some (omega (arith, length-after, is.to)))))
+      (let is = number heap sound h some (omega arith) in
+      measures_there heap h some (omega arith) ∙ same h is ∙ sym (measured_after h is)))
 
-  -- The flags of hugepages.
-  flags_are : (p : Hugepage → Bool) (flags : List Bool) → length flags ≡ length heap.hugepages → ((h : ℕ) → IsHugepageOf heap.config.huge h → numbered flags h true ≡ p (f h (hugepage heap h))) → flags ≡ map p after.hugepages
+-- The flags of hugepages.
+module _ (heap : Heap) (f : ℕ → Hugepage → Hugepage) (sound : AreRunsSound heap) where
+  abbrev then : List Hugepage
+  then = each f heap.hugepages
+
+  pub flags_are : (p : Hugepage → Bool) (flags : List Bool) → length flags ≡ length heap.hugepages →
+      ((h : ℕ) → IsHugepageOf heap.config.huge h → numbered flags h true ≡ p (f h (hugepage heap h))) → flags ≡ map p then
   flags_are p flags size same =
-      let len = length-map after.hugepages p in
-      same_numbered true flags (map p after.hugepages) (size ∙ sym length-after ∙ sym len)
+      let len = length-map then p in
+      let size' = length-each f heap.hugepages in
+      same_numbered true flags (map p then) (size ∙ sym (len ∙ size'))
       (λ h some l.
-      let is = number h some (omega arith) in
-      same h is ∙ ap p (sym (here heap rest regions f counts sound h is)) ∙ sym (map-at p after.hugepages h true some (omega (arith, length-after))))
+      same h (number heap sound h some (omega arith)) ∙ ap p (sym (at-each f heap.hugepages h some (omega arith))) ∙ sym (map-at p then h true some (omega arith)))
 
   flag : (p : Hugepage → Bool) (h : ℕ) → IsHugepageOf heap.config.huge h → numbered (map p heap.hugepages) h true ≡ p (hugepage heap h)
   flag p h is = let len = sound.arena in map-at p heap.hugepages h true is.from (omega (arith, is.to))
 
-  pub flags_run : (p : Hugepage → Bool) (r many : ℕ) (t : Bool) → 0 < r → r + many ≤ length heap.hugepages + 1 → ((h : ℕ) → IsHugepageOf heap.config.huge h → cond (spans many h r) t (p (hugepage heap h)) ≡ p (f h (hugepage heap h))) → with_places (map p heap.hugepages) (r - 1) many t ≡ map p after.hugepages
+  pub flags_run : (p : Hugepage → Bool) (r many : ℕ) (t : Bool) → 0 < r → r + many ≤ length heap.hugepages + 1 →
+      ((h : ℕ) → IsHugepageOf heap.config.huge h → cond (spans many h r) t (p (hugepage heap h)) ≡ p (f h (hugepage heap h))) →
+      with_places (map p heap.hugepages) (r - 1) many t ≡ map p then
   flags_run p r many t some fits same =
       let row = map p heap.hugepages in
       let len = length-map heap.hugepages p in
       flags_are p (with_places row (r - 1) many t) (length-with_places row (r - 1) many t (omega arith) ∙ len)
       (λ h is. numbered-with_places row r many t h true some is.from (omega arith) ∙ ap (cond (spans many h r) t) (flag p h is) ∙ same h is)
 
-  pub flags_set : (p : Hugepage → Bool) (r : ℕ) (t : Bool) → 0 < r → r ≤ length heap.hugepages → ((h : ℕ) → IsHugepageOf heap.config.huge h → cond (spans 1 h r) t (p (hugepage heap h)) ≡ p (f h (hugepage heap h))) → set (map p heap.hugepages) (r - 1) t ≡ map p after.hugepages
+  pub flags_set : (p : Hugepage → Bool) (r : ℕ) (t : Bool) → 0 < r → r ≤ length heap.hugepages →
+      ((h : ℕ) → IsHugepageOf heap.config.huge h → cond (spans 1 h r) t (p (hugepage heap h)) ≡ p (f h (hugepage heap h))) →
+      set (map p heap.hugepages) (r - 1) t ≡ map p then
   flags_set p r t some fits same =
       let row = map p heap.hugepages in
       let len = length-map heap.hugepages p in
@@ -122,7 +131,9 @@ module _ (heap : Heap) (rest : List Run) (regions : List ℕ) (f : ℕ → Hugep
       (λ h is. numbered-set row r t h true some (omega arith) is.from ∙ ap (cond (spans 1 h r) t) (flag p h is) ∙ same h is)
 
   -- a range is set, and then one
-  pub flags_two : (p : Hugepage → Bool) (r many k : ℕ) (t u : Bool) → 0 < r → r + many ≤ length heap.hugepages + 1 → 0 < k → k ≤ length heap.hugepages → ((h : ℕ) → IsHugepageOf heap.config.huge h → cond (spans 1 h k) u (cond (spans many h r) t (p (hugepage heap h))) ≡ p (f h (hugepage heap h))) → set (with_places (map p heap.hugepages) (r - 1) many t) (k - 1) u ≡ map p after.hugepages
+  pub flags_two : (p : Hugepage → Bool) (r many k : ℕ) (t u : Bool) → 0 < r → r + many ≤ length heap.hugepages + 1 → 0 < k → k ≤ length heap.hugepages →
+      ((h : ℕ) → IsHugepageOf heap.config.huge h → cond (spans 1 h k) u (cond (spans many h r) t (p (hugepage heap h))) ≡ p (f h (hugepage heap h))) →
+      set (with_places (map p heap.hugepages) (r - 1) many t) (k - 1) u ≡ map p then
   flags_two p r many k t u some fits some' fits' same =
       let row = map p heap.hugepages in
       let len = length-map heap.hugepages p in
@@ -134,26 +145,28 @@ module _ (heap : Heap) (rest : List Run) (regions : List ℕ) (f : ℕ → Hugep
       ∙ ap (cond (spans 1 h k) u) (numbered-with_places row r many t h true some is.from (omega arith) ∙ ap (cond (spans many h r) t) (flag p h is))
       ∙ same h is)
 
-  pub flags_same : (p : Hugepage → Bool) → ((h : ℕ) → IsHugepageOf heap.config.huge h → p (hugepage heap h) ≡ p (f h (hugepage heap h))) → map p heap.hugepages ≡ map p after.hugepages
+  pub flags_same : (p : Hugepage → Bool) → ((h : ℕ) → IsHugepageOf heap.config.huge h → p (hugepage heap h) ≡ p (f h (hugepage heap h))) → map p heap.hugepages ≡ map p then
   flags_same p same = flags_are p (map p heap.hugepages) (length-map heap.hugepages p) (λ h is. flag p h is ∙ same h is)
 
   -- the cache, where no hugepage becomes free or was so, or changes its backing
-  pub cache_same : counts ≡ heap.counts → ((h : ℕ) → IsHugepageOf heap.config.huge h → (is_free (hugepage heap h) ≡ is_free (f h (hugepage heap h))) × (is_free_backed (hugepage heap h) ≡ is_free_backed (f h (hugepage heap h)))) → cache_of heap ≡ cache_of after
-  cache_same e same =
-      same_cache (cache_of heap) _ _ (flags_same (λ x. not (is_free x)) (λ h is. ap not (same h is).0)) (flags_same (λ x. not (is_free_backed x)) (λ h is. ap not (same h is).1))
-      ∙ ap (λ (ns : List ℕ). record (cache_of after) { counts = ns }) (sym e)
+  pub cache_same : ((h : ℕ) → IsHugepageOf heap.config.huge h → (is_free (hugepage heap h) ≡ is_free (f h (hugepage heap h))) ×
+      (is_free_backed (hugepage heap h) ≡ is_free_backed (f h (hugepage heap h)))) → cache_of heap ≡ cache_of (record heap { hugepages = then })
+  cache_same same = same_cache (cache_of heap) _ _ (flags_same is_taken (λ h is. ap not (same h is).0)) (flags_same is_unready (λ h is. ap not (same h is).1))
 
 -- the regions, where none comes or ends, and their pages stay used or unused
-pub regions_same : (heap : Heap) (rest : List Run) (f : ℕ → Hugepage → Hugepage) (counts : List ℕ) → All (λ r. region_row_of heap r ≡ region_row_of (remade heap rest heap.regions f counts) r) heap.regions → regions_of heap ≡ regions_of (remade heap rest heap.regions f counts)
-regions_same heap rest f counts same = ap (λ (rs : List RegionRow). record (regions_of heap) { rows = rs }) (map_same (region_row_of heap) (region_row_of (remade heap rest heap.regions f counts)) heap.regions same)
+regions_same : (heap : Heap) (rest : List Run) (f : ℕ → Hugepage → Hugepage) →
+    All (λ r. region_row_of heap r ≡ region_row_of (remade heap rest heap.regions f heap.counts) r) heap.regions →
+    regions_of heap ≡ regions_of (remade heap rest heap.regions f heap.counts)
+regions_same heap rest f same =
+    ap (λ (rs : List RegionRow). record (regions_of heap) { rows = rs }) (map_same (region_row_of heap) (region_row_of (remade heap rest heap.regions f heap.counts)) heap.regions same)
 
 -- A run comes or leaves, and changes hugepages that it reaches alone.
-module _ (heap : Heap) (rest : List Run) (g : ℕ → Hugepage → Hugepage) (counts : List ℕ) (run : Run) (sound : IsSound heap) (step : IsStep heap.runs rest run) where
+module _ (heap : Heap) (rest : List Run) (g : ℕ → Hugepage → Hugepage) (run : Run) (sound : AreRunsSound heap) (step : IsStep heap.runs rest run) where
   abbrev pub stepped : ℕ → Hugepage → Hugepage
   stepped h x = cond (reaches h run) (g h x) x
 
   abbrev after' : Heap
-  after' = remade heap rest heap.regions stepped counts
+  after' = remade heap rest heap.regions stepped heap.counts
 
   pub reached_is : (h : ℕ) (x : Hugepage) → reaches h run ≡ true → stepped h x ≡ g h x
   reached_is h x e = ap (λ b. cond b (g h x) x) e
@@ -162,17 +175,21 @@ module _ (heap : Heap) (rest : List Run) (g : ℕ → Hugepage → Hugepage) (co
   unreached_is h x e = ap (λ b. cond b (g h x) x) e
 
   -- those but one neither are the filler's nor become so
-  pub measures_step : (k : ℕ) → IsHugepageOf heap.config.huge k → ((h : ℕ) → IsHugepageOf heap.config.huge h → h ≢ k → reaches h run ≡ true → (is_filler (hugepage heap h) ≡ false) × (is_filler (g h (hugepage heap h)) ≡ false)) → with_measures (measures heap) k (measured rest k (hugepage after' k)) ≡ measures after'
+  pub measures_step : (k : ℕ) → IsHugepageOf heap.config.huge k →
+      ((h : ℕ) → IsHugepageOf heap.config.huge h → h ≢ k → reaches h run ≡ true →
+      (is_filler (hugepage heap h) ≡ false) × (is_filler (g h (hugepage heap h)) ≡ false)) →
+      with_measures (measures heap) k (measured rest k (hugepage after' k)) ≡ measures after'
   measures_step k own others =
-      measures_set heap rest heap.regions stepped counts sound.runs k own
+      measures_set heap rest stepped sound k own
       (λ h is ne. (let x = hugepage heap h in elim (cases_Bool (reaches h run)) [
         | inl t ↦ (let both = others h is ne t in measured_none heap.runs h x both.0 ∙ sym (ap (measured rest h) (reached_is h x t) ∙ measured_none rest h (g h x) both.1))
         | inr n ↦ sym (measured-away heap.runs rest run step h n x) ∙ ap (measured rest h) (sym (unreached_is h x n))
       ]))
 
-  pub measures_steady : ((h : ℕ) → IsHugepageOf heap.config.huge h → reaches h run ≡ true → (is_filler (hugepage heap h) ≡ false) × (is_filler (g h (hugepage heap h)) ≡ false)) → measures heap ≡ measures after'
+  pub measures_steady : ((h : ℕ) → IsHugepageOf heap.config.huge h → reaches h run ≡ true →
+      (is_filler (hugepage heap h) ≡ false) × (is_filler (g h (hugepage heap h)) ≡ false)) → measures heap ≡ measures after'
   measures_steady others =
-      measures_same heap rest heap.regions stepped counts sound.runs
+      measures_same heap rest stepped sound
       (λ h is. (let x = hugepage heap h in elim (cases_Bool (reaches h run)) [
         | inl t ↦ (let both = others h is t in measured_none heap.runs h x both.0 ∙ sym (ap (measured rest h) (reached_is h x t) ∙ measured_none rest h (g h x) both.1))
         | inr n ↦ sym (measured-away heap.runs rest run step h n x) ∙ ap (measured rest h) (sym (unreached_is h x n))
@@ -186,16 +203,19 @@ module _ (heap : Heap) (rest : List Run) (g : ℕ → Hugepage → Hugepage) (co
       (sym (row-away heap.runs rest run step (256 * r) (256 * width) (λ page a b. (let h : ℕ = page / 256 in
       unreached_unheld h page run (record { from = omega arith; to = omega arith }) (away h (spans_from width h r (omega arith) (omega arith)))))))
 
-  pub regions_away : ((h : ℕ) → reaches h run ≡ true → is_region (hugepage heap h) ≡ false) → regions_of heap ≡ regions_of after'
-  regions_away apart =
-      regions_same heap rest stepped counts
-      (λ k d l. region_away (get_or heap.regions k d) (λ h e. false_from_ne_true (reaches h run) (λ t. false≢true (sym (apart h t) ∙ (sound.regions k d l).kinds h e))))
+  pub regions_away : All (IsRegion heap) heap.regions → ((h : ℕ) → reaches h run ≡ true → is_region (hugepage heap h) ≡ false) → regions_of heap ≡ regions_of after'
+  regions_away regions apart =
+      regions_same heap rest stepped
+      (λ k d l. region_away (get_or heap.regions k d) (λ h e. false_from_ne_true (reaches h run) (λ t. false≢true (sym (apart h t) ∙ (regions k d l).kinds h e))))
 
   -- the cache, where none that it reaches is free before or after
   not_free : (x y : Hugepage) → is_free x ≡ false → is_free y ≡ false → (is_free x ≡ is_free y) × (is_free_backed x ≡ is_free_backed y)
   not_free x y e f = rw (e, f) (refl, refl)
 
-  kept_flags : ((h : ℕ) → IsHugepageOf heap.config.huge h → reaches h run ≡ true → (is_free (hugepage heap h) ≡ false) × (is_free (g h (hugepage heap h)) ≡ false)) → (h : ℕ) → IsHugepageOf heap.config.huge h → (is_free (hugepage heap h) ≡ is_free (stepped h (hugepage heap h))) × (is_free_backed (hugepage heap h) ≡ is_free_backed (stepped h (hugepage heap h)))
+  kept_flags : ((h : ℕ) → IsHugepageOf heap.config.huge h → reaches h run ≡ true →
+      (is_free (hugepage heap h) ≡ false) × (is_free (g h (hugepage heap h)) ≡ false)) → (h : ℕ) → IsHugepageOf heap.config.huge h →
+      (is_free (hugepage heap h) ≡ is_free (stepped h (hugepage heap h))) ×
+      (is_free_backed (hugepage heap h) ≡ is_free_backed (stepped h (hugepage heap h)))
   kept_flags busy h is = (let x = hugepage heap h in
       let P : Hugepage → Type 0 = λ y. (is_free x ≡ is_free y) × (is_free_backed x ≡ is_free_backed y) in
       elim (cases_Bool (reaches h run)) [
@@ -203,5 +223,6 @@ module _ (heap : Heap) (rest : List Run) (g : ℕ → Hugepage → Hugepage) (co
         | inr n ↦ subst P (sym (unreached_is h x n)) (refl, refl)
       ])
 
-  pub cache_step : counts ≡ heap.counts → ((h : ℕ) → IsHugepageOf heap.config.huge h → reaches h run ≡ true → (is_free (hugepage heap h) ≡ false) × (is_free (g h (hugepage heap h)) ≡ false)) → cache_of heap ≡ cache_of after'
-  cache_step e busy = cache_same heap rest heap.regions stepped counts sound.runs e (kept_flags busy)
+  pub cache_step : ((h : ℕ) → IsHugepageOf heap.config.huge h → reaches h run ≡ true →
+      (is_free (hugepage heap h) ≡ false) × (is_free (g h (hugepage heap h)) ≡ false)) → cache_of heap ≡ cache_of after'
+  cache_step busy = cache_same heap stepped sound (kept_flags busy)

@@ -1,83 +1,69 @@
 -- Hugepages of a region that has ended become free, one after another.
-use Rattle.std.proofs.Common.{◌≡◌, ℕ, ◌+◌, ◌-◌, ◌<◌, ◌≤◌, Bool, true, false, not, cond, List, length, set, sym, ap, ◌∙◌, inl, inr, arith}
-use Rattle.std.specs.List.{list_all}
-use Rattle.std.proofs.lemmas.Bool.{cases_Bool, cases_eq, cases_lt, false≢true, false_from_ne_true}
-use Rattle.std.proofs.lemmas.List.{length-set}
-use Rattle.heap_rules.specs.Heap.{Heap, hugepage, spans, is_free}
-use Rattle.heap_rules.proofs.Fits.{spans_parts, spans_from}
-use Rattle.huge_cache.specs.Cache.{Cache, holds}
-use Rattle.page_heap.specs.Freed.{flags_with, freed_run}
-use Rattle.page_heap.specs.Told.{with_freed}
-use Rattle.page_heap.proofs.Numbered.{numbered, same_numbered, numbered-each, length-each, numbered-set, one_is, one_not}
+use Rattle.std.proofs.Common.{◌≡◌, ℕ, ◌+◌, ◌-◌, ◌<◌, ◌≤◌, Bool, true, false, not, cond, List, length, set, refl, sym, ap, ◌∙◌, inl, inr, arith}
+use Rattle.page_heap.proofs.Common.{list_all, cases_Bool, cases_eq, cases_lt, false≢true, false_from_ne_true, length-set, Heap, hugepage, spans, is_free}
+use Rattle.page_heap.proofs.Common.{spans_parts, spans_from, Cache, with_huge, AreFreed, with_freed}
+use Rattle.huge_cache.specs.Cache.{holds}
+use Rattle.page_heap.proofs.Numbered.{numbered, numbered-set, one_is, one_not}
 
-pub length-flags : (many first : ℕ) (flag : ℕ → Bool) (row : List Bool) → length (flags_with many first flag row) ≡ length row
-length-flags many first flag row = length-each (λ h b. cond (spans many h first) (flag h) b) row
+none_spans : (h first : ℕ) → spans 0 h first ≡ false
+none_spans h first = false_from_ne_true _ (λ t. let parts = spans_parts 0 h first t in omega arith)
 
-pub flags_at : (many first : ℕ) (flag : ℕ → Bool) (row : List Bool) (h : ℕ) → 0 < h → h ≤ length row → numbered (flags_with many first flag row) h true ≡ cond (spans many h first) (flag h) (numbered row h true)
-flags_at many first flag row h some inside = numbered-each (λ k b. cond (spans many k first) (flag k) b) row h true true some inside
-
-outside : (many h first : ℕ) → first + many ≤ h → spans many h first ≡ false
-outside many h first l = false_from_ne_true _ (λ t. let parts = spans_parts many h first t in omega arith)
-
-flags_none : (first : ℕ) (flag : ℕ → Bool) (row : List Bool) → row ≡ flags_with 0 first flag row
-flags_none first flag row =
-    same_numbered true row (flags_with 0 first flag row) (sym (length-flags 0 first flag row))
-    (λ h some l. sym (flags_at 0 first flag row h some l ∙ ap (λ b. cond b (flag h) (numbered row h true)) (false_from_ne_true _ (λ t. let parts = spans_parts 0 h first t in omega arith))))
-
--- one more
-more_spans : (many h first : ℕ) → cond (spans 1 h (first + many)) true (spans many h first) ≡ spans (many + 1) h first
-more_spans many h first = elim (cases_eq h (first + many)) [
-  | inl e ↦ ap (λ b. cond b true (spans many h first)) (one_is h (first + many) e) ∙ sym (spans_from (many + 1) h first (omega arith) (omega arith))
-  | inr ne ↦ ap (λ b. cond b true (spans many h first)) (one_not h (first + many) ne) ∙ elim (cases_Bool (spans many h first)) [
-    | inl t ↦ (let parts = spans_parts many h first t in t ∙ sym (spans_from (many + 1) h first (omega arith) (omega arith)))
-    | inr f ↦ f ∙ sym (false_from_ne_true _ (λ t. (let parts = spans_parts (many + 1) h first t in elim (cases_lt h (first + many)) [
-      | inl l ↦ false≢true (sym f ∙ spans_from many h first (omega arith) l)
-      | inr g ↦ ne (omega arith)
-    ])))
-  ]
+more_spans : (many h first : ℕ) → h < first + many → spans (many + 1) h first ≡ spans many h first
+more_spans many h first l = elim (cases_Bool (spans many h first)) [
+  | inl t ↦ (let parts = spans_parts many h first t in spans_from (many + 1) h first parts.0 (omega arith) ∙ sym t)
+  | inr f ↦ false_from_ne_true _ (λ t. let parts = spans_parts (many + 1) h first t in false≢true (sym f ∙ spans_from many h first parts.0 l)) ∙ sym f
 ]
 
-both_conds : (a b c : Bool) (x y : Bool) → cond a true b ≡ c → cond a x (cond b x y) ≡ cond c x y
-both_conds true b c x y e = ap (λ t. cond t x y) e
-both_conds false b c x y e = ap (λ t. cond t x y) e
+past_spans : (many h first : ℕ) → first + many ≤ h → spans many h first ≡ false
+past_spans many h first l = false_from_ne_true _ (λ t. let parts = spans_parts many h first t in omega arith)
 
-flags_more : (many first : ℕ) (flag : ℕ → Bool) (row : List Bool) → 0 < first → first + many ≤ length row → set (flags_with many first flag row) (first + many - 1) (flag (first + many)) ≡ flags_with (many + 1) first flag row
-flags_more many first flag row some inside =
-    let was = flags_with many first flag row in
+-- a row where one more place of a range is what it is to be
+more_at : (row now : List Bool) (flag : ℕ → Bool) (first many : ℕ) → 0 < first → first + many ≤ length now →
+    ((h : ℕ) → 0 < h → h ≤ length row → numbered now h true ≡ cond (spans many h first) (flag h) (numbered row h true)) → (h : ℕ) → 0 < h →
+    h ≤ length row → numbered (set now (first + many - 1) (flag (first + many))) h true ≡ cond (spans (many + 1) h first) (flag h) (numbered row h true)
+more_at row now flag first many from inside was h some l =
     let k : ℕ = first + many in
-    let size = length-flags many first flag row in
-    let set_size = length-set was (k - 1) (flag k) in
-    same_numbered true (set was (k - 1) (flag k)) (flags_with (many + 1) first flag row) (set_size ∙ size ∙ sym (length-flags (many + 1) first flag row))
-    (λ h here l.
-    numbered-set was k (flag k) h true (omega arith) (omega arith) here
-    ∙ ap (cond (spans 1 h k) (flag k)) (flags_at many first flag row h here (omega arith))
+    numbered-set now k (flag k) h true (omega arith) inside some
     ∙ elim (cases_eq h k) [
-      | inl e ↦ ap (λ i. cond (spans 1 h k) (flag i) (cond (spans many h first) (flag h) (numbered row h true))) (sym e) ∙ both_conds (spans 1 h k) (spans many h first) (spans (many + 1) h first) (flag h) (numbered row h true) (more_spans many h first)
+      | inl e ↦
+          ap (λ b. cond b (flag k) (numbered now h true)) (one_is h k e) ∙ ap flag (sym e)
+          ∙ sym (ap (λ b. cond b (flag h) (numbered row h true)) (spans_from (many + 1) h first (omega arith) (omega arith)))
       | inr ne ↦
-          ap (λ b. cond b (flag k) (cond (spans many h first) (flag h) (numbered row h true))) (one_not h k ne)
-          ∙ ap (λ b. cond b (flag h) (numbered row h true)) (sym (ap (λ b. cond b true (spans many h first)) (one_not h k ne)) ∙ more_spans many h first)
+          ap (λ b. cond b (flag k) (numbered now h true)) (one_not h k ne) ∙ was h some l
+          ∙ ap (λ b. cond b (flag h) (numbered row h true)) (elim (cases_lt h k) [
+            | inl before ↦ sym (more_spans many h first before)
+            | inr past ↦ past_spans many h first past ∙ sym (past_spans (many + 1) h first (omega (arith, ne)))
+          ])
     ]
-    ∙ sym (flags_at (many + 1) first flag row h here (omega arith)))
 
-abbrev backed_flag : Heap → ℕ → Bool
-backed_flag heap h = not (list_all (λ b. b) (hugepage heap h).backed)
+pub freed_none : (cache : Cache) (heap : Heap) (first : ℕ) → AreFreed cache cache heap first 0
+freed_none cache heap first = record {
+  rest = refl;
+  size = refl;
+  unready_size = refl;
+  taken = λ h _ _. sym (ap (λ b. cond b false (numbered cache.taken h true)) (none_spans h first));
+  unready = λ h _ _. sym (ap (λ b. cond b (not (list_all (λ v. v) (hugepage heap h).backed)) (numbered cache.unready h true)) (none_spans h first));
+}
 
-pub freed_none : (cache : Cache) (heap : Heap) (first : ℕ) → cache ≡ freed_run cache heap first 0
-freed_none cache heap first =
-    ap (λ (t : List Bool). record cache { taken = t }) (flags_none first (λ h. false) cache.taken)
-    ∙ ap (λ (u : List Bool). record cache { taken = flags_with 0 first (λ h. false) cache.taken; unready = u }) (flags_none first (backed_flag heap) cache.unready)
-
-pub freed_more : (cache : Cache) (heap : Heap) (first many : ℕ) → 0 < first → first + many ≤ length cache.taken → length cache.unready ≡ length cache.taken → is_free (hugepage heap (first + many)) ≡ true → with_freed (freed_run cache heap first many) (first + many) (hugepage heap (first + many)) ≡ freed_run cache heap first (many + 1)
-freed_more cache heap first many some inside same free =
+pub freed_more : (old now new : Cache) (heap : Heap) (first many : ℕ) → AreFreed old now heap first many →
+    new ≡ with_freed now (first + many) (hugepage heap (first + many)) → 0 < first → first + many ≤ length old.taken →
+    length old.unready ≡ length old.taken → is_free (hugepage heap (first + many)) ≡ true → AreFreed old new heap first (many + 1)
+freed_more old now new heap first many is e from inside same free =
     let k : ℕ = first + many in
-    let made : List Bool → List Bool → Cache = λ t u. record cache { taken = t; unready = u } in
-    let t = flags_with many first (λ h. false) cache.taken in
-    let u = flags_with many first (backed_flag heap) cache.unready in
-    ap (λ b. cond b (made (set t (k - 1) false) (set u (k - 1) (backed_flag heap k))) (made t u)) free
-    ∙ ap (λ x. made x (set u (k - 1) (backed_flag heap k))) (flags_more many first (λ h. false) cache.taken some inside)
-    ∙ ap (made (flags_with (many + 1) first (λ h. false) cache.taken)) (flags_more many first (backed_flag heap) cache.unready some (omega arith))
+    let flag : ℕ → Bool = λ h. not (list_all (λ v. v) (hugepage heap h).backed) in
+    let made : new ≡ with_huge now k (list_all (λ v. v) (hugepage heap k).backed) = e ∙ ap (λ b. cond b (with_huge now k (list_all (λ v. v) (hugepage heap k).backed)) now) free in
+    let taken : new.taken ≡ set now.taken (k - 1) false = ap (λ (c : Cache). c.taken) made in
+    let unready : new.unready ≡ set now.unready (k - 1) (flag k) = ap (λ (c : Cache). c.unready) made in
+    record {
+      rest = made ∙ ap (λ (c : Cache). record c { taken = set now.taken (k - 1) false; unready = set now.unready (k - 1) (flag k) }) is.rest
+          ∙ ap (λ (t : List Bool). record old { taken = t; unready = set now.unready (k - 1) (flag k) }) (sym taken)
+          ∙ ap (λ (u : List Bool). record old { taken = new.taken; unready = u }) (sym unready);
+      size = ap length taken ∙ length-set now.taken (k - 1) false ∙ is.size;
+      unready_size = ap length unready ∙ length-set now.unready (k - 1) (flag k) ∙ is.unready_size;
+      taken = λ h some l. ap (λ row. numbered row h true) taken ∙ more_at old.taken now.taken (λ _. false) first many from (omega (arith, is.size)) is.taken h some l;
+      unready = λ h some l. ap (λ row. numbered row h true) unready ∙ more_at old.unready now.unready flag first many from (omega (arith, is.unready_size)) is.unready h some l;
+    }
 
--- those behind are in the cache or not as before
-pub freed_holds : (cache : Cache) (heap : Heap) (first many h : ℕ) → 0 < h → h ≤ length cache.taken → first + many ≤ h → holds (freed_run cache heap first many) h ≡ holds cache h
-freed_holds cache heap first many h some inside behind =
-    ap not (flags_at many first (λ k. false) cache.taken h some inside ∙ ap (λ b. cond b false (numbered cache.taken h true)) (outside many h first behind))
+-- those behind are free or not as before
+pub freed_holds : (old now : Cache) (heap : Heap) (first many h : ℕ) → AreFreed old now heap first many → 0 < h → h ≤ length old.taken → first + many ≤ h → holds now h ≡ holds old h
+freed_holds old now heap first many h is some inside behind = ap not (is.taken h some inside ∙ ap (λ b. cond b false (numbered old.taken h true)) (past_spans many h first behind))

@@ -1,30 +1,17 @@
 -- A heap settles or releases pages by one hugepage after another.
-use Rattle.std.proofs.Common.{◌≡◌, ℕ, zero, suc, zero-add, ◌+◌, ◌-◌, ◌*◌, ◌<◌, ◌≤◌, Bool, true, false, ◌&&◌, ◌||◌, ◌==◌, cond, nat_le, nat_lt, List, [], ◌∷◌, length, get_or, set, drop, take, map, count_by, refl, sym, ap, subst, ◌∙◌, inl, inr, arith}
-use Rattle.std.specs.List.{list_all, range_with_len}
-use Rattle.std.proofs.lemmas.Bool.{cases_Bool, cases_lt, cases_eq, and_left, and_right, lt-ltb, le-ltb, le-leb, lt-leb, false≢true}
-use Rattle.std.proofs.lemmas.List.{length-map, length-set, length-drop, get_or-drop, get_or_default, get_or_past}
-use Rattle.std.proofs.lemmas.List.FromFn.{length-range_with_len, length-map-range_with_len}
-use Rattle.std.proofs.lemmas.List.Sums.{count_by-le-length}
-use Rattle.tc_units.specs.declared.units.Huge.{Huge}
-use Rattle.tc_units.proofs.Counts.{count-cons, count_none, one-true}
-use Rattle.range_bits.proofs.RangeLemmas.{range-within}
-use Rattle.heap_rules.specs.Heap.{Heap, Hugepage, hugepage, untouched, numbers, spans, run_at, used_count, is_free, is_region, is_free_backed}
+use Rattle.std.proofs.Common.{◌≡◌, ℕ, zero, suc, zero-add, ◌+◌, ◌-◌, ◌*◌, ◌<◌, ◌≤◌, Bool, true, false, ◌&&◌, ◌||◌, ◌==◌, cond, nat_le, nat_lt, List, []}
+use Rattle.std.proofs.Common.{◌∷◌, length, get_or, set, drop, take, map, count_by, refl, sym, ap, subst, ◌∙◌, inl, inr, arith}
+use Rattle.page_heap.proofs.Common.{list_all, range_with_len, cases_Bool, cases_lt, cases_eq, and_left, and_right, lt-ltb, le-ltb, le-leb, lt-leb}
+use Rattle.page_heap.proofs.Common.{false≢true, length-map, length-set, length-drop, get_or-drop, get_or_default, get_or_past, length-range_with_len}
+use Rattle.page_heap.proofs.Common.{length-map-range_with_len, count_by-le-length, Huge, count-cons, count_none, one-true, range-within, Heap, Hugepage}
+use Rattle.page_heap.proofs.Common.{hugepage, untouched, numbers, spans, run_at, used_count, is_free, is_region, is_free_backed, unbacked, counted}
+use Rattle.page_heap.proofs.Common.{settled, Released, whole_given, free_given, is_idle, idle_given, spare_given, after_regions, after_free, release}
+use Rattle.page_heap.proofs.Common.{IsHugepageOf, IsSound, at_number-place, at_number-next, at, length-each, each_is, each_where, each_each, map-at}
+use Rattle.page_heap.proofs.Common.{idle_at, free_sound, idle_sound, here, sum-adds, unbacked_span, over_limit, behind, IsLast}
 use Rattle.heap_rules.specs.Numbered.{at_number}
 use Rattle.heap_rules.specs.CacheFlags.{is_over, limit}
-use Rattle.heap_rules.specs.Settle.{unbacked, counted, settled}
 use Rattle.heap_rules.specs.GiveUp.{gives_whole}
-use Rattle.heap_rules.specs.Release.{Released, whole_given, free_given, is_idle, idle_given, spare_given, after_regions, after_free, release}
-use Rattle.heap_rules.specs.Sound.{IsHugepageOf, IsSound}
-use Rattle.heap_rules.proofs.Numbered.{at_number-place, at_number-next}
-use Rattle.heap_rules.proofs.Places.{at, length-each, map-at, idle_at}
-use Rattle.heap_rules.proofs.Released.{free_sound, idle_sound}
-use Rattle.heap_rules.proofs.Remade.{here}
-use Rattle.heap_rules.proofs.Accounts.{sum-adds}
-use Rattle.huge_table.specs.Means.{unbacked_span}
-use Rattle.huge_table.proofs.Pages.{each_is, each_where, each_each}
-use Rattle.page_heap.specs.declared.heap.PageHeap.TheInside.{Inside}
-use Rattle.page_heap.specs.Inside.{heap_of, IsKept}
-use Rattle.page_heap.specs.Gives.{noted, over_limit, behind, IsLast}
+use Rattle.page_heap.specs.Gives.{noted}
 use Rattle.page_heap.proofs.Numbered.{same_numbered, one_is, one_not, numbered-set}
 use Rattle.page_heap.proofs.Steps.{count-map}
 use Rattle.page_heap.proofs.Frames.{flags_set}
@@ -40,10 +27,13 @@ pub behind_none : (a : ℕ) (heap : Heap) (r : Released) → r ≡ record { heap
 behind_none a heap r e = let same : a + 0 ≡ a = omega arith in ap (behind a) e ∙ ap (λ n. record { heap = heap; pages = n }) same
 
 -- Where none gives.
-pub whole_none : (flags : List Bool) (heap : Heap) (n : ℕ) → ((k : ℕ) → 0 < k → k ≤ length heap.hugepages → gives_whole flags n k ≡ false) → whole_given flags heap n ≡ record { heap = heap; pages = 0 }
+pub whole_none : (flags : List Bool) (heap : Heap) (n : ℕ) → ((k : ℕ) → 0 < k → k ≤ length heap.hugepages → gives_whole flags n k ≡ false) →
+    whole_given flags heap n ≡ record { heap = heap; pages = 0 }
 whole_none flags heap n none =
     let f : ℕ → Hugepage → Hugepage = λ k x. cond (gives_whole flags n k) (unbacked x) x in
-    let no_one : count_by (gives_whole flags n) (numbers heap) ≡ 0 = count_none (gives_whole flags n) (numbers heap) (λ k d l. (let in' = range-within 1 (length heap.hugepages) k d l in none (get_or (numbers heap) k d) in'.0 (omega (arith, in'.1)))) in
+    let no_one : count_by (gives_whole flags n) (numbers heap) ≡ 0 =
+    count_none (gives_whole flags n) (numbers heap)
+    (λ k d l. (let in' = range-within 1 (length heap.hugepages) k d l in none (get_or (numbers heap) k d) in'.0 (omega (arith, in'.1)))) in
     released_is (whole_given flags heap n) heap 0
     (ap (λ xs. record heap { hugepages = xs }) (each_is f heap.hugepages heap.hugepages refl (λ k from to. ap (λ b. cond b (unbacked (at heap.hugepages k)) (at heap.hugepages k)) (none k from to))))
     (ap (λ m. 256 * m) no_one)
@@ -92,7 +82,8 @@ module _ (flags : List Bool) (n h : ℕ) (some : 0 < n) (from : 0 < h) (to : h �
           | inl before ↦
               ap (λ b. at_number false cleared k && b) (shifted _ _ n (cleared_behind flags (h - 1) k (omega arith) (sym (at_number-place false flags h from) ∙ flag) (omega arith)))
           | inr past ↦
-              (let off : at_number false cleared k ≡ false = numbered-set flags h false k false from to pos ∙ ap (λ b. cond b false (at_number false flags k)) (one_not k h other) ∙ last k (omega arith) in
+              (let off : at_number false cleared k ≡ false = numbered-set flags h false k false from to pos
+              ∙ ap (λ b. cond b false (at_number false flags k)) (one_not k h other) ∙ last k (omega arith) in
               and_left _ _ off ∙ sym (and_left _ _ off))
         ]
         ∙ sym (ap (λ b. b || gives_whole cleared (n - 256) k) (one_not k h other))
@@ -141,13 +132,15 @@ flag_at : (heap : Heap) (k : ℕ) → at_number false (map is_free_backed heap.h
 flag_at heap zero = refl
 flag_at heap (suc k) = elim (cases_lt k (length heap.hugepages)) [
   | inl inside ↦ map-at is_free_backed heap.hugepages (suc k) false (omega arith) (omega arith)
-  | inr past ↦ (let len = length-map heap.hugepages is_free_backed in get_or_past (map is_free_backed heap.hugepages) k false (omega arith) ∙ sym (ap is_free_backed (get_or_past heap.hugepages k untouched past)))
+  | inr past ↦ (let len = length-map heap.hugepages is_free_backed in get_or_past (map is_free_backed heap.hugepages) k false (omega arith)
+      ∙ sym (ap is_free_backed (get_or_past heap.hugepages k untouched past)))
 ]
 
 unbacked_there : (x : Hugepage) → is_free_backed (unbacked x) ≡ false
 unbacked_there x = and_right (is_free x) false refl
 
-pub free_next : (heap : Heap) (n : ℕ) (huge : Huge) → IsSound heap → 0 < n → IsLast heap (λ h. is_free_backed (hugepage heap h)) huge → free_given heap n ≡ behind 256 (free_given (unbacked_span heap huge.0 1) (n - 256))
+pub free_next : (heap : Heap) (n : ℕ) (huge : Huge) → IsSound heap → 0 < n → IsLast heap (λ h. is_free_backed (hugepage heap h)) huge →
+    free_given heap n ≡ behind 256 (free_given (unbacked_span heap huge.0 1) (n - 256))
 free_next heap n huge sound some is =
     let h : ℕ = huge.0 in
     let arena = sound.runs.arena in
@@ -156,7 +149,7 @@ free_next heap n huge sound some is =
     let to : h ≤ length heap.hugepages = omega (arith, is.own.to) in
     whole_next flags n h some is.own.from (omega arith) (flag_at heap h ∙ is.passes) (λ i past. flag_at heap i ∙ is.behind i past) heap len
     ∙ ap (λ all. behind 256 (whole_given all (unbacked_span heap h 1) (n - 256)))
-    (flags_set heap heap.runs heap.regions (λ k x. cond (spans 1 k h) (unbacked x) x) heap.counts sound.runs is_free_backed h false is.own.from to
+    (flags_set heap (λ k x. cond (spans 1 k h) (unbacked x) x) sound.runs is_free_backed h false is.own.from to
     (λ k own. (let x = hugepage heap k in elim (spans 1 k h) as (λ b. cond b false (is_free_backed x) ≡ is_free_backed (cond b (unbacked x) x)) [ true ↦ sym (unbacked_there x) | false ↦ refl ])))
 
 pub free_none : (heap : Heap) (n : ℕ) → ((h : ℕ) → is_free_backed (hugepage heap h) ≡ false) → free_given heap n ≡ record { heap = heap; pages = 0 }
@@ -171,32 +164,54 @@ idle_there : (heap : Heap) (k : ℕ) → at_number false (map (is_idle heap) (nu
 idle_there heap zero = refl
 idle_there heap (suc k) = elim (cases_lt k (length heap.hugepages)) [
   | inl inside ↦ idle_at heap (suc k) (omega arith) (omega arith)
-  | inr past ↦ (let len = length-map-range_with_len (is_idle heap) 1 (length heap.hugepages) in get_or_past (map (is_idle heap) (numbers heap)) k false (omega arith) ∙ sym (ap (λ (x : Hugepage). is_region x && used_count heap.runs (suc k) == 0 && list_all (λ b. b) x.backed) (get_or_past heap.hugepages k untouched past)))
+  | inr past ↦ (let len = length-map-range_with_len (is_idle heap) 1 (length heap.hugepages) in get_or_past (map (is_idle heap) (numbers heap)) k false
+      (omega arith) ∙ sym
+      (ap (λ (x : Hugepage). is_region x && used_count heap.runs (suc k) == 0 && list_all (λ b. b) x.backed) (get_or_past heap.hugepages k untouched past)))
 ]
 
-pub idle_next : (heap : Heap) (n : ℕ) (huge : Huge) → IsSound heap → 0 < n → IsLast heap (is_idle heap) huge → idle_given heap n ≡ behind 256 (idle_given (unbacked_span heap huge.0 1) (n - 256))
-idle_next heap n huge sound some is =
-    let h : ℕ = huge.0 in
-    let arena = sound.runs.arena in
-    let after : Heap = unbacked_span heap h 1 in
-    let f : ℕ → Hugepage → Hugepage = λ k x. cond (spans 1 k h) (unbacked x) x in
-    let flags = map (is_idle heap) (numbers heap) in
-    let len = length-map-range_with_len (is_idle heap) 1 (length heap.hugepages) in
-    let len' = length-map-range_with_len (is_idle after) 1 (length after.hugepages) in
-    let size = length-each f heap.hugepages in
-    let to : h ≤ length flags = omega (arith, is.own.to) in
-    whole_next flags n h some is.own.from to (idle_there heap h ∙ is.passes) (λ i past. idle_there heap i ∙ is.behind i past) heap len
-    ∙ ap (λ all. behind 256 (whole_given all after (n - 256)))
-    (same_numbered false (set flags (h - 1) false) (map (is_idle after) (numbers after)) (length-set flags (h - 1) false ∙ len ∙ sym size ∙ sym len')
-    (λ k pos l.
-    (let own : IsHugepageOf heap.config.huge k = record { from = pos; to = (let s = length-set flags (h - 1) false in omega arith) } in
-    let x = hugepage heap k in
-    let test : Hugepage → Bool = λ y. is_region y && used_count heap.runs k == 0 && list_all (λ b. b) y.backed in
-    numbered-set flags h false k false is.own.from to pos
-    ∙ ap (cond (spans 1 k h) false) (idle_there heap k)
-    ∙ (elim (spans 1 k h) as (λ b. cond b false (test x) ≡ test (cond b (unbacked x) x)) [ true ↦ sym (and_right (is_region x && used_count heap.runs k == 0) false refl) | false ↦ refl ])
-    ∙ ap test (sym (here heap heap.runs heap.regions f heap.counts sound.runs k own))
-    ∙ sym (idle_there after k))))
+module _ (heap : Heap) (huge : Huge) (sound : IsSound heap) (is : IsLast heap (is_idle heap) huge) where
+  abbrev idle_row : List Bool
+  idle_row = map (is_idle heap) (numbers heap)
+
+  abbrev unidle : Heap
+  unidle = unbacked_span heap huge.0 1
+
+  idle_to : huge.0 ≤ length idle_row
+  idle_to = let len = length-map-range_with_len (is_idle heap) 1 (length heap.hugepages) in let arena = sound.runs.arena in omega (arith, is.own.to)
+
+  idle_flags : set idle_row (huge.0 - 1) false ≡ map (is_idle unidle) (numbers unidle)
+  idle_flags =
+      let f : ℕ → Hugepage → Hugepage = λ k x. cond (spans 1 k huge.0) (unbacked x) x in
+      let arena = sound.runs.arena in
+      let len = length-map-range_with_len (is_idle heap) 1 (length heap.hugepages) in
+      let len' = length-map-range_with_len (is_idle unidle) 1 (length unidle.hugepages) in
+      let size = length-each f heap.hugepages in
+      same_numbered false (set idle_row (huge.0 - 1) false) (map (is_idle unidle) (numbers unidle)) (length-set idle_row (huge.0 - 1) false ∙ len ∙ sym size ∙ sym len')
+      (λ k pos l.
+      (let own : IsHugepageOf heap.config.huge k = record { from = pos; to = (let s = length-set idle_row (huge.0 - 1) false in omega arith) } in
+      let x = hugepage heap k in
+      let test : Hugepage → Bool = λ y. is_region y && used_count heap.runs k == 0 && list_all (λ b. b) y.backed in
+      numbered-set idle_row huge.0 false k false is.own.from idle_to pos
+      ∙ ap (cond (spans 1 k huge.0) false) (idle_there heap k)
+      ∙ (elim (spans 1 k huge.0) as (λ b. cond b false (test x) ≡ test (cond b (unbacked x) x)) [ true ↦ sym (and_right (is_region x && used_count heap.runs k == 0) false refl) | false ↦ refl ])
+      ∙ ap test (sym (here heap heap.runs heap.regions f heap.counts sound.runs k own))
+      ∙ sym (idle_there unidle k)))
+
+  pub idle_next : (n : ℕ) → 0 < n → idle_given heap n ≡ behind 256 (idle_given unidle (n - 256))
+  idle_next n some =
+      let len = length-map-range_with_len (is_idle heap) 1 (length heap.hugepages) in
+      whole_next idle_row n huge.0 some is.own.from idle_to (idle_there heap huge.0 ∙ is.passes) (λ i past. idle_there heap i ∙ is.behind i past) heap len
+      ∙ ap (λ all. behind 256 (whole_given all unidle (n - 256))) idle_flags
+
+  -- none behind it, nor it, gives any more
+  pub idle_then : (k : ℕ) → huge.0 - 1 < k → is_idle unidle k ≡ false
+  idle_then k l =
+      sym (idle_there unidle k) ∙ ap (λ row. at_number false row k) (sym idle_flags)
+      ∙ numbered-set idle_row huge.0 false k false is.own.from idle_to (omega arith)
+      ∙ elim (cases_eq k huge.0) [
+        | inl e ↦ ap (λ b. cond b false (at_number false idle_row k)) (one_is k huge.0 e)
+        | inr ne ↦ ap (λ b. cond b false (at_number false idle_row k)) (one_not k huge.0 ne) ∙ idle_there heap k ∙ is.behind k (omega (arith, ne))
+      ]
 
 pub idle_none : (heap : Heap) (n : ℕ) → ((h : ℕ) → is_idle heap h ≡ false) → idle_given heap n ≡ record { heap = heap; pages = 0 }
 idle_none heap n none = whole_none (map (is_idle heap) (numbers heap)) heap n (λ k from to. and_left _ _ (idle_there heap k ∙ none k))
@@ -204,12 +219,15 @@ idle_none heap n none = whole_none (map (is_idle heap) (numbers heap)) heap n (�
 -- So one step of a release is sound.
 pub one_free : (heap : Heap) (huge : Huge) → IsSound heap → IsLast heap (λ h. is_free_backed (hugepage heap h)) huge → IsSound (unbacked_span heap huge.0 1)
 one_free heap huge sound is =
-    subst IsSound (ap (λ (r : Released). r.heap) (free_next heap 1 huge sound (omega arith) is) ∙ ap (λ (r : Released). r.heap) (whole_zero (map is_free_backed (unbacked_span heap huge.0 1).hugepages) (unbacked_span heap huge.0 1) (1 - 256) refl)) (free_sound heap 1 sound)
+    subst IsSound (ap (λ (r : Released). r.heap) (free_next heap 1 huge sound (omega arith) is)
+    ∙ ap (λ (r : Released). r.heap)
+    (whole_zero (map is_free_backed (unbacked_span heap huge.0 1).hugepages) (unbacked_span heap huge.0 1) (1 - 256) refl)) (free_sound heap 1 sound)
 
 pub one_idle : (heap : Heap) (huge : Huge) → IsSound heap → IsLast heap (is_idle heap) huge → IsSound (unbacked_span heap huge.0 1)
 one_idle heap huge sound is =
     let after : Heap = unbacked_span heap huge.0 1 in
-    subst IsSound (ap (λ (r : Released). r.heap) (idle_next heap 1 huge sound (omega arith) is) ∙ ap (λ (r : Released). r.heap) (whole_zero (map (is_idle after) (numbers after)) after (1 - 256) refl)) (idle_sound heap 1 sound)
+    subst IsSound (ap (λ (r : Released). r.heap) (idle_next heap huge sound is 1 (omega arith))
+    ∙ ap (λ (r : Released). r.heap) (whole_zero (map (is_idle after) (numbers after)) after (1 - 256) refl)) (idle_sound heap 1 sound)
 
 -- A heap settles as it would release what is above its limit.
 take_drop : (xs : List Bool) (k : ℕ) → k < length xs → get_or xs k false ≡ true → count_by (λ b. b) (take k xs) + 1 + count_by (λ b. b) (drop (suc k) xs) ≡ count_by (λ b. b) xs
@@ -224,7 +242,8 @@ over_is xs limit k from to = elim (cases_Bool (at_number false xs k)) [
   | inl t ↦
       (let split = take_drop xs (k - 1) (omega arith) (sym (at_number-place false xs k from) ∙ t) in
       let next : suc (k - 1) ≡ k = omega arith in
-      let all : count_by (λ b. b) (take (k - 1) xs) + 1 + count_by (λ b. b) (drop k xs) ≡ count_by (λ b. b) xs = subst (λ i. count_by (λ b. b) (take (k - 1) xs) + 1 + count_by (λ b. b) (drop i xs) ≡ count_by (λ b. b) xs) next split in
+      let all : count_by (λ b. b) (take (k - 1) xs) + 1 + count_by (λ b. b) (drop k xs) ≡ count_by (λ b. b) xs =
+      subst (λ i. count_by (λ b. b) (take (k - 1) xs) + 1 + count_by (λ b. b) (drop i xs) ≡ count_by (λ b. b) xs) next split in
       ap (λ b. at_number false xs k && b) (same_tests (count_by (λ b. b) (take (k - 1) xs)) (count_by (λ b. b) (drop k xs)) (count_by (λ b. b) xs) limit all))
 ] where
   same_tests : (a b c m : ℕ) → a + 1 + b ≡ c → nat_le m a ≡ nat_lt (256 * b) (256 * (c - m))
@@ -239,17 +258,24 @@ settled_is heap =
     let len = length-map heap.hugepages is_free_backed in
     let m : ℕ = limit heap.config.cache (counted heap) in
     let count : count_by (λ b. b) flags ≡ count_by is_free_backed heap.hugepages = count-map is_free_backed heap.hugepages in
-    ap (λ xs. record heap { hugepages = xs; counts = counted heap }) (each_where (λ k x. cond (is_over m flags k) (unbacked x) x) (λ k x. cond (gives_whole flags (256 * (count_by is_free_backed heap.hugepages - m)) k) (unbacked x) x) heap.hugepages
+    ap (λ xs. record heap { hugepages = xs; counts = counted heap })
+    (each_where (λ k x. cond (is_over m flags k) (unbacked x) x)
+    (λ k x. cond (gives_whole flags (256 * (count_by is_free_backed heap.hugepages - m)) k) (unbacked x) x) heap.hugepages
     (λ k from to. (let x = at heap.hugepages k in ap (λ b. cond b (unbacked x) x) (over_is flags m k from (omega arith) ∙ ap (λ c. gives_whole flags (256 * (c - m)) k) count))))
 
 -- A release from its three steps.
-after_regions_by : (n b c : ℕ) (given after : Heap) → spare_given given (n - b) ≡ record { heap = after; pages = c } → after_regions n (record { heap = given; pages = b }) ≡ record { heap = after; pages = b + c }
+after_regions_by : (n b c : ℕ) (given after : Heap) → spare_given given (n - b) ≡ record { heap = after; pages = c } →
+    after_regions n (record { heap = given; pages = b }) ≡ record { heap = after; pages = b + c }
 after_regions_by n b c given after e = ap (λ (r : Released). record r { pages = b + r.pages }) e
 
-after_free_by : (n a b c : ℕ) (given between after : Heap) → idle_given given (n - a) ≡ record { heap = between; pages = b } → spare_given between (n - (a + b)) ≡ record { heap = after; pages = c } → after_free n (record { heap = given; pages = a }) ≡ record { heap = after; pages = a + b + c }
+after_free_by : (n a b c : ℕ) (given between after : Heap) → idle_given given (n - a) ≡ record { heap = between; pages = b } →
+    spare_given between (n - (a + b)) ≡ record { heap = after; pages = c } →
+    after_free n (record { heap = given; pages = a }) ≡ record { heap = after; pages = a + b + c }
 after_free_by n a b c given between after e f = ap (λ (r : Released). after_regions n (record r { pages = a + r.pages })) e ∙ after_regions_by n (a + b) c between after f
 
-pub released_by : (given first second third : Heap) (n m k a b c : ℕ) → m ≡ n - a → k ≡ n - (a + b) → free_given given n ≡ record { heap = first; pages = a } → idle_given first m ≡ record { heap = second; pages = b } → spare_given second k ≡ record { heap = third; pages = c } → release given n ≡ record { heap = third; pages = a + b + c }
+pub released_by : (given first second third : Heap) (n m k a b c : ℕ) → m ≡ n - a → k ≡ n - (a + b) →
+    free_given given n ≡ record { heap = first; pages = a } → idle_given first m ≡ record { heap = second; pages = b } →
+    spare_given second k ≡ record { heap = third; pages = c } → release given n ≡ record { heap = third; pages = a + b + c }
 released_by given first second third n m k a b c p q e f g =
     ap (after_free n) e
     ∙ after_free_by n a b c first second third (ap (idle_given first) (sym p) ∙ f) (ap (spare_given second) (sym q) ∙ g)
@@ -262,12 +288,14 @@ module _ (give : Heap → ℕ → Released) where
       same : (r : Released) → r ≡ behind 0 r
       same r = let e : r.pages ≡ 0 + r.pages = omega arith in ap (λ k. record { heap = r.heap; pages = k }) e
 
-  pub loop_goes_on : (first heap after : Heap) (n given m : ℕ) → give first n ≡ behind given (give heap (n - given)) → give heap (n - given) ≡ behind m (give after (n - given - m)) → give first n ≡ behind (given + m) (give after (n - (given + m)))
+  pub loop_goes_on : (first heap after : Heap) (n given m : ℕ) → give first n ≡ behind given (give heap (n - given)) →
+      give heap (n - given) ≡ behind m (give after (n - given - m)) → give first n ≡ behind (given + m) (give after (n - (given + m)))
   loop_goes_on first heap after n given m so_far step =
       let left : n - given - m ≡ n - (given + m) = omega arith in
       so_far ∙ ap (behind given) step ∙ behind_twice given m (given + m) (give after (n - given - m)) refl ∙ ap (λ k. behind (given + m) (give after k)) left
 
-  pub loop_ends : (first heap : Heap) (n given : ℕ) → give first n ≡ behind given (give heap (n - given)) → give heap (n - given) ≡ record { heap = heap; pages = 0 } → give first n ≡ record { heap = heap; pages = given }
+  pub loop_ends : (first heap : Heap) (n given : ℕ) → give first n ≡ behind given (give heap (n - given)) →
+      give heap (n - given) ≡ record { heap = heap; pages = 0 } → give first n ≡ record { heap = heap; pages = given }
   loop_ends first heap n given so_far done = so_far ∙ behind_none given heap (give heap (n - given)) done
 
   pub loop_few : (first heap : Heap) (n given most : ℕ) → give first n ≡ behind given (give heap (n - given)) → (give first n).pages ≤ most → given ≤ most
@@ -275,10 +303,3 @@ module _ (give : Heap → ℕ → Released) where
     where
       within : (a b c m : ℕ) → a ≡ b + c → a ≤ m → b ≤ m
       within a b c m e f = omega arith
-
--- as many hugepages as a heap has at most, and their pages
-pub most_pages : (t : Inside) (heap : Heap) → heap_of t ≡ heap → IsKept t → 256 * length heap.hugepages ≤ 1048576
-most_pages t heap view kept = few _ _ (ap (λ (x : Heap). length x.hugepages) (sym view) ∙ kept.well.sound.runs.arena) kept.well.limits.huge_to
-  where
-    few : (a b : ℕ) → a ≡ b → b ≤ 4096 → 256 * a ≤ 1048576
-    few a b e l = omega arith

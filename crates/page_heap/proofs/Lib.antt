@@ -1,3 +1,4 @@
+pub mod Common
 pub mod Numbered
 pub mod Steps
 pub mod Frames

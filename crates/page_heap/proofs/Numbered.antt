@@ -1,16 +1,11 @@
 -- Lists with a place for each hugepage, h at place h - 1: two are the same where they agree at each number.
 use Rattle.std.proofs.Common.{◌≡◌, ◌≢◌, ℕ, ◌+◌, ◌-◌, ◌<◌, ◌≤◌, Bool, true, false, cond, List, length, get_or, set, map, sym, ap, ◌∙◌, inl, inr, arith}
-use Rattle.std.specs.List.{enumerate_from}
-use Rattle.std.proofs.lemmas.Bool.{cases_Bool, cases_eq, and_from, and_parts, le-leb, lt-ltb, leb-true, ltb-true, false≢true, false_from_ne_true}
-use Rattle.std.proofs.lemmas.List.{same_lists, get_or_default, length-map, get_or-map, get_or-set_same, get_or-set_other}
-use Rattle.std.proofs.lemmas.List.FromFn.{length-enumerate_from, get_or-enumerate_from}
-use Rattle.range_bits.specs.Ranges.{with_places}
+use Rattle.page_heap.proofs.Common.{enumerate_from, cases_Bool, cases_eq, and_from, and_parts, le-leb, lt-ltb, leb-true, ltb-true, false≢true}
+use Rattle.page_heap.proofs.Common.{false_from_ne_true, same_lists, get_or_default, length-map, get_or-map, get_or-set_same, get_or-set_other}
+use Rattle.page_heap.proofs.Common.{length-enumerate_from, get_or-enumerate_from, with_places, get_or-with_places, spans, at_number-place, at_number-next}
+use Rattle.page_heap.proofs.Common.{spans_parts, spans_from}
 use Rattle.range_bits.proofs.BitFacts.{is_between}
-use Rattle.range_bits.proofs.Placing.{get_or-with_places}
-use Rattle.heap_rules.specs.Heap.{spans}
 use Rattle.heap_rules.specs.Numbered.{at_number}
-use Rattle.heap_rules.proofs.Numbered.{at_number-place, at_number-next}
-use Rattle.heap_rules.proofs.Fits.{spans_parts, spans_from}
 
 -- what stands at a number
 abbrev pub numbered : {X : Type 0} → List X → ℕ → X → X
@@ -22,7 +17,8 @@ same_numbered d xs ys len same =
     (λ k e l.
     get_or_default xs k e d l ∙ sym (at_number-next d xs k) ∙ same (1 + k) (omega arith) (omega arith) ∙ at_number-next d ys k ∙ get_or_default ys k d e (omega arith))
 
-pub numbered-each : {X Y : Type 0} (f : ℕ → X → Y) (xs : List X) (h : ℕ) (d : X) (e : Y) → 0 < h → h ≤ length xs → numbered (map (λ (p : ℕ × X). f p.0 p.1) (enumerate_from 1 xs)) h e ≡ f h (numbered xs h d)
+pub numbered-each : {X Y : Type 0} (f : ℕ → X → Y) (xs : List X) (h : ℕ) (d : X) (e : Y) → 0 < h → h ≤ length xs →
+    numbered (map (λ (p : ℕ × X). f p.0 p.1) (enumerate_from 1 xs)) h e ≡ f h (numbered xs h d)
 numbered-each {X} f xs h d e some inside =
     let len = length-enumerate_from 1 xs in
     let at : 1 + (h - 1) ≡ h = omega arith in
@@ -46,18 +42,23 @@ pub numbered-set : {X : Type 0} (xs : List X) (r : ℕ) (x : X) (h : ℕ) (d : X
 numbered-set xs r x h d from to some =
     at_number-place d (set xs (r - 1) x) h some
     ∙ elim (cases_eq h r) [
-      | inl same ↦ (let at : h - 1 ≡ r - 1 = omega arith in ap (λ k. get_or (set xs (r - 1) x) k d) at ∙ get_or-set_same xs (r - 1) x d (omega arith) ∙ sym (ap (λ b. cond b x (numbered xs h d)) (one_is h r same)))
-      | inr other ↦ (let far : (h - 1) ≢ (r - 1) = (λ e. other (omega arith)) in get_or-set_other xs (r - 1) (h - 1) x d far ∙ sym (at_number-place d xs h some) ∙ sym (ap (λ b. cond b x (numbered xs h d)) (one_not h r other)))
+      | inl same ↦ (let at : h - 1 ≡ r - 1 = omega arith in ap (λ k. get_or (set xs (r - 1) x) k d) at ∙ get_or-set_same xs (r - 1) x d (omega arith)
+          ∙ sym (ap (λ b. cond b x (numbered xs h d)) (one_is h r same)))
+      | inr other ↦ (let far : (h - 1) ≢ (r - 1) = (λ e. other (omega arith)) in get_or-set_other xs (r - 1) (h - 1) x d far
+          ∙ sym (at_number-place d xs h some) ∙ sym (ap (λ b. cond b x (numbered xs h d)) (one_not h r other)))
     ]
 
 -- with flags of which n, from a number on, are set
 next_between : (r n h : ℕ) → 0 < r → 0 < h → is_between (r - 1) (r - 1 + n) (h - 1) ≡ spans n h r
 next_between r n h from some = elim (cases_Bool (spans n h r)) [
   | inl t ↦ (let parts = spans_parts n h r t in and_from _ _ (le-leb (r - 1) (h - 1) (omega arith)) (lt-ltb (h - 1) (r - 1 + n) (omega arith)) ∙ sym t)
-  | inr f ↦ false_from_ne_true _ (λ t. (let parts = and_parts _ _ t in let a = leb-true (r - 1) (h - 1) parts.0 in let b = ltb-true (h - 1) (r - 1 + n) parts.1 in false≢true (sym f ∙ spans_from n h r (omega arith) (omega arith)))) ∙ sym f
+  | inr f ↦ false_from_ne_true _
+      (λ t. (let parts = and_parts _ _ t in let a = leb-true (r - 1) (h - 1) parts.0 in let b = ltb-true (h - 1) (r - 1 + n) parts.1 in
+      false≢true (sym f ∙ spans_from n h r (omega arith) (omega arith)))) ∙ sym f
 ]
 
-pub numbered-with_places : (row : List Bool) (r n : ℕ) (used : Bool) (h : ℕ) (d : Bool) → 0 < r → 0 < h → r - 1 + n ≤ length row → numbered (with_places row (r - 1) n used) h d ≡ cond (spans n h r) used (numbered row h d)
+pub numbered-with_places : (row : List Bool) (r n : ℕ) (used : Bool) (h : ℕ) (d : Bool) → 0 < r → 0 < h → r - 1 + n ≤ length row →
+    numbered (with_places row (r - 1) n used) h d ≡ cond (spans n h r) used (numbered row h d)
 numbered-with_places row r n used h d from some inside =
     at_number-place d (with_places row (r - 1) n used) h some
     ∙ get_or-with_places row (r - 1) n used (h - 1) d inside

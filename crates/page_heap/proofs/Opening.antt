@@ -1,45 +1,27 @@
--- A run in a new region.
-use Rattle.std.proofs.Common.{◌≡◌, ℕ, ◌+◌, ◌-◌, ◌*◌, ◌/◌, ◌^◌, ◌<◌, ◌≤◌, Bool, true, false, not, ◌&&◌, cond, List, length, replicate, map, count_by, Contains, Some, None, refl, sym, ap, subst, ◌∙◌, inl, inr, arith}
-use Rattle.std.specs.List.{list_all}
-use Rattle.std.proofs.lemmas.Bool.{cases_Bool, false≢true, false_from_ne_true}
-use Rattle.std.proofs.lemmas.List.{same_lists, length-replicate, get_or-replicate}
-use Rattle.std.proofs.lemmas.List.FromFn.{length-map-range_with_len, get_or-map-range_with_len}
+-- A run in a new region: the region opens, and then the run comes into it.
+use Rattle.std.proofs.Common.{◌≡◌, ℕ, ◌+◌, ◌-◌, ◌*◌, ◌/◌, ◌^◌, ◌<◌, ◌≤◌, true, false, not, cond, Bool, List, length, replicate, map, Contains, Some, None}
+use Rattle.std.proofs.Common.{refl, sym, ap, subst, ◌∙◌, inl, inr, arith}
+use Rattle.page_heap.proofs.Common.{cases_Bool, false≢true, false_from_ne_true, same_lists, length-replicate, get_or-replicate, length-map-range_with_len}
+use Rattle.page_heap.proofs.Common.{get_or-map-range_with_len, Run, Contains-new, Contains-old, map-with_item, free_from, HeapConfig, Heap, Hugepage}
+use Rattle.page_heap.proofs.Common.{hugepage, is_used, region_row, reaches, run_at, is_free, is_region, spans, RegionRow, region_row_of}
+use Rattle.page_heap.proofs.Common.{run_choice, all_backed, region_page, with_new_region, in_new_region, IsHugepageOf, AreRunsSound, IsSound, IsGiven}
+use Rattle.page_heap.proofs.Common.{AreFree, run_choice_free, reaches_parts, spans_parts, spans_from, at, page_of, here, Means, Table, IsSpan, reached_by}
+use Rattle.page_heap.proofs.Common.{Cache, Regions, region_with, with_changed, joined, start_in, AreFreeIn, Inside, measured, measures, cache_of}
+use Rattle.page_heap.proofs.Common.{regions_of, IsRouted}
 use Rattle.std.proofs.lemmas.List.Folds.{prefix_len-replicate}
 use Rattle.tc_units.specs.Sorted.{with_item}
-use Rattle.tc_units.specs.declared.spans.Run.{Run}
-use Rattle.tc_units.proofs.SortedFacts.{Contains-new, Contains-old, map-with_item}
-use Rattle.range_bits.specs.Ranges.{free_from}
-use Rattle.heap_rules.specs.Heap.{Heap, Hugepage, hugepage, untouched, each, is_used, used_from, region_row, reaches, run_at, with_run, is_free, is_free_backed, is_region, spans}
-use Rattle.heap_rules.specs.RegionRows.{RegionRow}
-use Rattle.heap_rules.specs.Choice.{region_row_of, run_choice}
-use Rattle.heap_rules.specs.New.{all_backed, region_page, run_page, with_region, with_new_region, in_region, in_new_region}
-use Rattle.heap_rules.specs.Sound.{IsHugepageOf, IsSound}
-use Rattle.heap_rules.specs.Laws.{IsGiven}
-use Rattle.heap_rules.proofs.Chosen.{AreFree, run_choice_free}
-use Rattle.heap_rules.proofs.Fits.{reaches_parts, spans_parts, spans_from}
-use Rattle.heap_rules.proofs.Live.{used_with_new}
-use Rattle.heap_rules.proofs.Places.{page_of}
+use Rattle.heap_rules.specs.Heap.{used_from}
 use Rattle.heap_rules.proofs.Regions.{runs_sound, kinds_inner, given_new_region}
-use Rattle.heap_rules.proofs.Remade.{remade}
 use Rattle.heap_rules.proofs.Routes.{free_not_region}
-use Rattle.huge_table.specs.Means.{Means}
-use Rattle.huge_table.specs.Runs.{HasPlaces}
-use Rattle.huge_table.specs.Table.{Table, IsSpan, reached_by}
-use Rattle.huge_cache.specs.Cache.{Cache, without_run}
+use Rattle.huge_cache.specs.Cache.{without_run}
 use Rattle.huge_region.specs.Regions as regions
-use Rattle.huge_region.specs.Regions.{Regions, region_with, with_changed, joined, start_in, unused, AreFreeIn}
-use Rattle.page_heap.specs.declared.heap.PageHeap.TheInside.{Inside}
-use Rattle.page_heap.specs.Inside.{heap_of, measured, measures, cache_of, regions_of, IsKept}
-use Rattle.page_heap.specs.Routes.{IsRouted}
-use Rattle.page_heap.proofs.Numbered.{same_numbered, numbered-each, length-each}
-use Rattle.page_heap.proofs.Steps.{came, measured-away}
-use Rattle.page_heap.proofs.Frames.{measured_none, measures_same, flags_run, same_cache}
-use Rattle.page_heap.proofs.InRegion.{region_no_filler, region_busy}
+use Rattle.page_heap.proofs.Frames.{is_taken, is_unready, measured_none, measures_same, flags_run, same_cache}
+use Rattle.page_heap.proofs.InRegion.{come_measures, come_cache, come_found, come_regions}
 use Rattle.page_heap.proofs.Filled.{free_not_filler}
-use Rattle.page_heap.proofs.Taken.{taken_free}
-use Rattle.page_heap.proofs.RegionRows.{region_found, region_missing, regions_changed}
-use Rattle.page_heap.proofs.Routed.{routed_with, free_none}
-use Rattle.page_heap.proofs.Results.{Results, fits_used, new_results}
+use Rattle.page_heap.proofs.Taken.{free_span, free_there}
+use Rattle.page_heap.proofs.RegionRows.{region_missing}
+use Rattle.page_heap.proofs.Routed.{routed_more, free_none}
+use Rattle.page_heap.proofs.Results.{IsHeap, IsMade, fits_used, came_made}
 
 -- a range of which no page is used
 used_from-none : (runs : List Run) (first many : ℕ) → ((page : ℕ) → first ≤ page → page < first + many → is_used runs page ≡ false) → used_from runs first many ≡ replicate many false
@@ -50,40 +32,32 @@ used_from-none runs first many none =
     let short : k < many = omega arith in
     get_or-map-range_with_len (is_used runs) first many k (first + k) d short refl ∙ none (first + k) (omega arith) (omega arith) ∙ sym (get_or-replicate many k false d short))
 
-each_each : (f g : ℕ → Hugepage → Hugepage) (xs : List Hugepage) → each (λ h x. f h (g h x)) xs ≡ each f (each g xs)
-each_each f g xs =
-    let both : ℕ → Hugepage → Hugepage = λ h x. f h (g h x) in
-    let a = length-each both xs in
-    let b = length-each g xs in
-    same_numbered untouched (each both xs) (each f (each g xs)) (a ∙ sym b ∙ sym (length-each f (each g xs)))
-    (λ h some l.
-    numbered-each both xs h untouched untouched some (omega arith)
-    ∙ ap (f h) (sym (numbered-each g xs h untouched untouched some (omega arith)))
-    ∙ sym (numbered-each f (each g xs) h untouched untouched some (omega arith)))
-
-pub record IsOpening (old : Inside) (n r page : ℕ) : Type 0 where
+-- What the calls ask as a region opens for a run, and what that makes.
+pub record IsOpening (old : Inside) (heap : Heap) (n r page : ℕ) : Type 0 where
   pub span : IsSpan old.table r old.config.region is_free
   pub low : 0 < r
   pub high : r + old.regions.width ≤ old.regions.huge + 1
   pub none : (h : ℕ) → r ≤ h → h < r + old.regions.width → region_with old.regions h ≡ None
   pub fits : old.used + n < 2 ^ 64
-  pub reached : (u : Table) → Means u (with_new_region (heap_of old) r) → IsSpan u (page / 256) (reached_by page n) is_region
+  pub same : heap.config.region ≡ old.config.region
+  pub reached : (u : Table) → Means u (with_new_region heap r) → IsSpan u (page / 256) (reached_by page n) is_region
   pub row : RegionRow
   pub free : AreFreeIn (regions.with_region old.regions r) page n row
   pub room : old.config.region ≤ free_from old.cache.taken (r - 1)
+  pub makes : (all : Regions) →
+      ((row : RegionRow) → region_with (regions.with_region old.regions r) (page / 256) ≡ Some row →
+      all ≡ with_changed (regions.with_region old.regions r) row.first (joined (start_in row page) n)) →
+      IsMade (in_new_region heap n r).heap old.config old.filler (without_run old.cache r old.config.region) all (old.used + n)
 
-module _ (old : Inside) (kept : IsKept old) (n r : ℕ) (some : 0 < n) (fits : n ≤ 256 * old.config.region) (choice : run_choice (heap_of old) old.config.region ≡ Some r) where
-  abbrev heap : Heap
-  heap = heap_of old
-
+module _ (old : Inside) (heap : Heap) (is : IsHeap old heap) (n r : ℕ) (some : 0 < n) (fits : n ≤ 256 * heap.config.region) (choice : run_choice heap heap.config.region ≡ Some r) where
   abbrev width : ℕ
-  width = old.config.region
+  width = heap.config.region
 
   sound : IsSound heap
-  sound = kept.well.sound
+  sound = is.well.sound
 
   wide : 0 < width
-  wide = omega (arith, kept.well.limits.region_from)
+  wide = omega (arith, is.well.limits.region_from)
 
   are : AreFree heap r width
   are = run_choice_free heap width r wide choice
@@ -91,139 +65,116 @@ module _ (old : Inside) (kept : IsKept old) (n r : ℕ) (some : 0 < n) (fits : n
   given : IsGiven heap n (in_new_region heap n r)
   given = given_new_region heap r sound are n some fits
 
-  abbrev run : Run
-  run = run_at (256 * r) n
-
-  abbrev rest : List Run
-  rest = with_run run heap.runs
-
-  abbrev regions' : List ℕ
-  regions' = with_region r heap.regions
-
-  abbrev g : ℕ → Hugepage → Hugepage
-  g h x = cond (spans width h r) (region_page x) x
-
-  abbrev f : ℕ → Hugepage → Hugepage
-  f h x = cond (reaches h run) (all_backed x) x
-
-  abbrev both : ℕ → Hugepage → Hugepage
-  both h x = f h (g h x)
-
   abbrev between : Heap
   between = with_new_region heap r
 
   abbrev after : Heap
   after = (in_new_region heap n r).heap
 
-  same : remade heap rest regions' both heap.counts ≡ after
-  same = ap (λ (xs : List Hugepage). record heap { runs = rest; regions = regions'; hugepages = xs }) (each_each f g heap.hugepages)
+  abbrev run : Run
+  run = run_at (256 * r) n
+
+  abbrev f : ℕ → Hugepage → Hugepage
+  f h x = cond (spans width h r) (region_page x) x
+
+  between_sound : AreRunsSound between
+  between_sound = runs_sound heap r sound are
 
   own : (h : ℕ) → spans width h r ≡ true → IsHugepageOf heap.config.huge h
   own h e = let parts = spans_parts width h r e in let arena = sound.runs.arena in record { from = omega (arith, are.from); to = omega (arith, are.to) }
 
-  free_there : (h : ℕ) → spans width h r ≡ true → is_free (hugepage heap h) ≡ true
-  free_there h e = let parts = spans_parts width h r e in are.free h parts.0 parts.1
+  was_free : (h : ℕ) → spans width h r ≡ true → is_free (hugepage heap h) ≡ true
+  was_free h e = let parts = spans_parts width h r e in are.free h parts.0 parts.1
 
-  inner : (h : ℕ) (x : Hugepage) → spans width h r ≡ true → is_region (both h x) ≡ true
-  inner h x e = ap (λ b. is_region (f h (cond b (region_page x) x))) e ∙ (elim (reaches h run) as (λ b. is_region (cond b (all_backed (region_page x)) (region_page x)) ≡ true) [ true ↦ refl | false ↦ refl ])
+  kinds : (h : ℕ) → spans width h r ≡ true → is_region (hugepage between h) ≡ true
+  kinds h e = kinds_inner heap r sound are h (own h e) e
 
-  away : (h : ℕ) → spans width h r ≡ false → reaches h run ≡ false
-  away h e = false_from_ne_true (reaches h run) (λ t. (let parts = reaches_parts h run t in false≢true (sym e ∙ spans_from width h r (omega arith) (omega arith))))
+  known : Contains between.regions r
+  known = Contains-new (λ (k : ℕ). k) r heap.regions
 
-  outer : (h : ℕ) (x : Hugepage) → spans width h r ≡ false → both h x ≡ x
-  outer h x e = ap (λ b. f h (cond b (region_page x) x)) e ∙ ap (λ b. cond b (all_backed x) x) (away h e)
-
-  filler_is : measures heap ≡ measures after
-  filler_is = subst (λ (all : Heap). measures heap ≡ measures all) same
-      (measures_same heap rest regions' both heap.counts sound.runs
-      (λ h is. (let x = hugepage heap h in elim (cases_Bool (spans width h r)) [
-        | inl t ↦ measured_none heap.runs h x (free_not_filler x (free_there h t)) ∙ sym (measured_none rest h (both h x) (region_no_filler (both h x) (inner h x t)))
-        | inr n' ↦ sym (measured-away heap.runs rest run (came run heap.runs) h (away h n') x) ∙ ap (measured rest h) (sym (outer h x n'))
-      ])))
-
-  flag : (p : Hugepage → Bool) → ((x : Hugepage) → is_region x ≡ true → p x ≡ true) → (h : ℕ) → cond (spans width h r) true (p (hugepage heap h)) ≡ p (both h (hugepage heap h))
-  flag p busy h = (let x = hugepage heap h in elim (cases_Bool (spans width h r)) [
-    | inl t ↦ ap (λ b. cond b true (p x)) t ∙ sym (busy (both h x) (inner h x t))
-    | inr n' ↦ ap (λ b. cond b true (p x)) n' ∙ ap p (sym (outer h x n'))
+  -- The region opens.
+  opened_measures : measures heap ≡ measures between
+  opened_measures = measures_same heap heap.runs f sound.runs (λ h _. elim (cases_Bool (spans width h r)) [
+    | inl t ↦ measured_none heap.runs h (hugepage heap h) (free_not_filler (hugepage heap h) (was_free h t))
+        ∙ sym (ap (λ b. measured heap.runs h (cond b (region_page (hugepage heap h)) (hugepage heap h))) t)
+    | inr e ↦ sym (ap (λ b. measured heap.runs h (cond b (region_page (hugepage heap h)) (hugepage heap h))) e)
   ])
 
-  cache_is : without_run (cache_of heap) r width ≡ cache_of after
-  cache_is = subst (λ (all : Heap). without_run (cache_of heap) r width ≡ cache_of all) same
-      (same_cache (without_run (cache_of heap) r width) _ _
-      (flags_run heap rest regions' both heap.counts sound.runs (λ x. not (is_free x)) r width true are.from are.to (λ h is. flag (λ x. not (is_free x)) (λ x e. ap not (region_busy x e)) h))
-      (flags_run heap rest regions' both heap.counts sound.runs (λ x. not (is_free_backed x)) r width true are.from are.to (λ h is. flag (λ x. not (is_free_backed x)) (λ x e. ap (λ b. not (b && list_all (λ c. c) x.backed)) (region_busy x e)) h)))
+  flag : (p : Hugepage → Bool) → ((x : Hugepage) → p (region_page x) ≡ true) → (h : ℕ) → cond (spans width h r) true (p (hugepage heap h)) ≡ p (f h (hugepage heap h))
+  flag p busy h = elim (spans width h r) as (λ b. cond b true (p (hugepage heap h)) ≡ p (cond b (region_page (hugepage heap h)) (hugepage heap h)))
+      [ true ↦ sym (busy (hugepage heap h)) | false ↦ refl ]
 
-  -- the new region's pages are unused
+  opened_cache : without_run (cache_of heap) r width ≡ cache_of between
+  opened_cache =
+      same_cache (without_run (cache_of heap) r width) _ _
+      (flags_run heap f sound.runs is_taken r width true are.from are.to (λ h _. flag is_taken (λ x. refl) h))
+      (flags_run heap f sound.runs is_unready r width true are.from are.to (λ h _. flag is_unready (λ x. refl) h))
+
   row_is : region_row heap.runs width r ≡ replicate (256 * width) false
-  row_is = used_from-none heap.runs (256 * r) (256 * width) (λ page a b. (let h : ℕ = page / 256 in let e = spans_from width h r (omega arith) (omega arith) in free_none heap h sound (own h e) (free_there h e) page (page_of page)))
+  row_is = used_from-none heap.runs (256 * r) (256 * width) (λ page a b. (let h : ℕ = page / 256 in
+      let e = spans_from width h r (omega arith) (omega arith) in
+      free_none heap h sound (own h e) (was_free h e) page (page_of page)))
 
-  opened_is : regions.with_region (regions_of heap) r ≡ regions_of between
-  opened_is =
+  opened_regions : regions.with_region (regions_of heap) r ≡ regions_of between
+  opened_regions =
       ap (λ (rows : List RegionRow). record (regions_of heap) { rows = rows })
       (ap (λ (row : List Bool). with_item (λ (x : RegionRow). x.first) (record { first = r; used = row }) (map (region_row_of heap) heap.regions)) (sym row_is)
       ∙ sym (map-with_item (region_row_of heap) (λ (k : ℕ). k) (λ (x : RegionRow). x.first) r heap.regions refl (λ k d l. refl)))
 
-  known : Contains regions' r
-  known = Contains-new (λ (k : ℕ). k) r heap.regions
-
-  apart : (h : ℕ) → count_by (spans width h) regions' ≤ 1
-  apart = (runs_sound heap r sound are).apart
-
   opened_now : regions.with_region old.regions r ≡ regions_of between
-  opened_now = ap (λ (all : Regions). regions.with_region all r) kept.shows.regions ∙ opened_is
+  opened_now = ap (λ (all : Regions). regions.with_region all r) is.shows.regions ∙ opened_regions
 
   there : region_with (regions.with_region old.regions r) (256 * r / 256) ≡ Some (region_row_of between r)
-  there = ap (λ (all : Regions). region_with all (256 * r / 256)) opened_now ∙ region_found between r (256 * r / 256) (apart (256 * r / 256)) known (spans_from width (256 * r / 256) r (omega arith) (omega arith))
+  there = ap (λ (all : Regions). region_with all (256 * r / 256)) opened_now ∙ come_found between between_sound n (256 * r) r known some (omega arith) (omega arith) kinds
 
-  opened_at : IsOpening old n r (256 * r)
+  -- those that it doesn't reach keep their kinds
+  kind_away : (h : ℕ) → IsHugepageOf heap.config.huge h → spans width h r ≡ false → (hugepage after h).kind ≡ (hugepage heap h).kind
+  kind_away h own' e =
+      let out = false_from_ne_true (reaches h run) (λ t. (let parts = reaches_parts h run t in false≢true (sym e ∙ spans_from width h r (omega arith) (omega arith)))) in
+      ap (λ (x : Hugepage). x.kind) (here between after.runs between.regions (λ k x. cond (reaches k run) (all_backed x) x) heap.counts between_sound h own')
+      ∙ ap (λ b. (cond b (all_backed (hugepage between h)) (hugepage between h)).kind) out
+      ∙ ap (λ (x : Hugepage). x.kind) (here heap heap.runs between.regions f heap.counts sound.runs h own')
+      ∙ ap (λ b. (cond b (region_page (hugepage heap h)) (hugepage heap h)).kind) e
+
+  routed : (z : Run) → Contains after.runs z → IsRouted after z
+  routed = routed_more heap after.runs after.regions heap.counts run sound is.well.routed after.hugepages
+      (λ s has. Contains-old (λ (k : ℕ). k) r heap.regions s has)
+      (λ h own'. elim (cases_Bool (spans width h r)) [ inl t ↦ inl (was_free h t) | inr e ↦ inr (kind_away h own' e) ])
+      (inr (inr (record { region = r; known = known; from = omega arith; to = omega arith })))
+
+  opened_at : IsOpening old heap n r (256 * r)
   opened_at =
+      let same : old.config.region ≡ width = ap (λ (c : HeapConfig). c.region) is.shows.config in
+      let huge : old.regions.huge ≡ heap.config.huge = ap (λ (all : Regions). all.huge) is.shows.regions in
+      let wide_is : old.regions.width ≡ width = ap (λ (all : Regions). all.width) is.shows.regions in
       let arena = sound.runs.arena in
-      let huge : old.regions.huge ≡ old.config.huge = ap (λ (all : Regions). all.huge) kept.shows.regions in
-      let wide_is : old.regions.width ≡ width = ap (λ (all : Regions). all.width) kept.shows.regions in
+      let free_row : n ≤ free_from (region_row heap.runs width r) (256 * r - 256 * r) =
+      (let none : 256 * r - 256 * r ≡ 0 = omega arith in let all = prefix_len-replicate not (256 * width) false refl in rw (row_is, none) (omega arith)) in
       record {
-        span = record { from = are.from; to = omega (arith, are.to); all = are.free };
+        span = subst (λ w. IsSpan old.table r w is_free) (sym same) (free_span old heap is r width are);
         low = are.from;
         high = omega (arith, are.to);
-        none = λ h a b. ap (λ (all : Regions). region_with all h) kept.shows.regions ∙ region_missing heap h sound (false_from_ne_true _ (λ t. free_not_region (hugepage heap h) (are.free h a (omega arith)) t));
-        fits = fits_used old kept n (in_new_region heap n r) some given;
-        reached = λ u means.
-            (let size = ap (λ (xs : List Hugepage). length xs) means.pages ∙ length-each g heap.hugepages in
+        none = λ h a b. ap (λ (all : Regions). region_with all h) is.shows.regions
+            ∙ region_missing heap h sound (false_from_ne_true _ (λ t. free_not_region (hugepage heap h) (are.free h a (omega arith)) t));
+        fits = fits_used old heap is n (in_new_region heap n r) some given;
+        same = sym same;
+        reached = λ u means. (let size = ap length means.pages ∙ between_sound.arena in
             record {
               from = omega (arith, are.from);
               to = omega (arith, are.to);
-              all = λ h a b. (let e = spans_from width h r (omega arith) (omega arith) in ap (λ (xs : List Hugepage). is_region (hugepage (record heap { hugepages = xs }) h)) means.pages ∙ kinds_inner heap r sound are h (own h e) e);
+              all = λ h a b. ap (λ xs. is_region (at xs h)) means.pages ∙ kinds h (spans_from width h r (omega arith) (omega arith));
             });
         row = region_row_of between r;
-        free = record {
-          row = there;
-          free = (let none : 256 * r - 256 * r ≡ 0 = omega arith in let all = prefix_len-replicate not (256 * width) false refl in subst (λ (row : List Bool). n ≤ free_from row (256 * r - 256 * r)) (sym row_is) (subst (λ k. n ≤ free_from (replicate (256 * width) false) k) (sym none) (omega arith)));
-        };
-        room = taken_free old kept (256 * width) r width (record { some = omega (arith, wide); fits = omega arith; tight = omega arith }) choice (λ k. run_page) (λ k. refl);
+        free = record { row = there; free = free_row };
+        room = subst (λ w. w ≤ free_from old.cache.taken (r - 1)) (sym same) (free_there old heap is r width are);
+        makes = λ all changed. came_made old heap is n (in_new_region heap n r) some given _ _ _ routed
+            (is.shows.filler ∙ opened_measures ∙ come_measures between between_sound n (256 * r) r known some (omega arith) (omega arith) kinds)
+            (ap (λ (c : Cache). without_run c r old.config.region) is.shows.cache ∙ ap (without_run (cache_of heap) r) same ∙ opened_cache
+            ∙ come_cache between between_sound n (256 * r) r known some (omega arith) (omega arith) kinds)
+            (changed (region_row_of between r) there
+            ∙ ap (λ (x : Regions). with_changed x r (joined (256 * r - 256 * r) n)) opened_now
+            ∙ come_regions between between_sound n (256 * r) r known some (omega arith) (omega arith) kinds);
       }
 
-  -- what the calls ask on the way
-  pub opening : (page : ℕ) → page ≡ 256 * r → IsOpening old n r page
-  opening page e = subst (IsOpening old n r) (sym e) opened_at
-
-  routed : (z : Run) → Contains after.runs z → IsRouted after z
-  routed = subst (λ (all : Heap). (z : Run) → Contains all.runs z → IsRouted all z) same
-      (routed_with heap rest regions' both heap.counts run sound kept.well.routed
-      (λ s has. Contains-old (λ (k : ℕ). k) r heap.regions s has)
-      (λ h is. elim (cases_Bool (spans width h r)) [
-        | inl t ↦ inl (free_there h t)
-        | inr n' ↦ inr (ap (λ (x : Hugepage). x.kind) (outer h (hugepage heap h) n'))
-      ])
-      (inr (inr (record { region = r; known = known; from = omega arith; to = omega arith }))))
-
-  abbrev pub Keeps : ℕ → Type 0
-  Keeps page = (t : Inside) → t.config ≡ old.config → Means t.table (in_region between n page).heap → HasPlaces t.table → t.filler ≡ old.filler → t.cache ≡ without_run old.cache r width → ((row : RegionRow) → region_with (regions.with_region old.regions r) (page / 256) ≡ Some row → t.regions ≡ with_changed (regions.with_region old.regions r) row.first (joined (start_in row page) n)) → t.used ≡ old.used + n → Results t after
-
-  pub opening_keeps : (page : ℕ) → page ≡ 256 * r → Keeps page
-  opening_keeps page e = subst Keeps (sym e) (λ t config means places filler cache changed used.
-      new_results old kept n (in_new_region heap n r) some given routed t config means places
-      (filler ∙ kept.shows.filler ∙ filler_is)
-      (cache ∙ ap (λ (c : Cache). without_run c r width) kept.shows.cache ∙ cache_is)
-      (changed (region_row_of between r) there
-      ∙ ap (λ (all : Regions). with_changed all r (joined (256 * r - 256 * r) n)) opened_now
-      ∙ regions_changed between rest after.hugepages run true (came run heap.runs) (λ p held. used_with_new run heap.runs p held) r apart known (omega arith) (omega arith) wide)
-      used)
+  pub opening : (page : ℕ) → page ≡ 256 * r → IsOpening old heap n r page
+  opening page e = subst (IsOpening old heap n r) (sym e) opened_at

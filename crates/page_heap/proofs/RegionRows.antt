@@ -1,30 +1,24 @@
 -- The rows of a heap's regions: which one has a hugepage, and what a run that comes or leaves makes of them.
-use Rattle.std.proofs.Common.{◌≡◌, ℕ, zero, suc, ◌+◌, ◌-◌, ◌*◌, ◌/◌, ◌<◌, ◌≤◌, ◌==◌, Bool, true, false, nat_le, nat_lt, cond, List, [], ◌∷◌, length, get_or, map, count_by, Contains, Option, Some, None, option_map, refl, sym, ap, subst, ◌∙◌, inl, inr, arith}
-use Rattle.std.specs.List.{find}
-use Rattle.std.proofs.lemmas.Bool.{cases_Bool, cases_eq, false≢true, false_from_ne_true, eq-eqb, ne_eqb, and_from, le-leb, lt-ltb, leb-true, ltb-true, and_parts}
-use Rattle.std.proofs.lemmas.List.{same_lists}
-use Rattle.std.proofs.lemmas.List.FromFn.{length-map-range_with_len, get_or-map-range_with_len}
-use Rattle.std.proofs.lemmas.List.Elements.{All-contains, Contains-get_or}
-use Rattle.std.proofs.lemmas.Option.{none-some, same_Some}
-use Rattle.tc_units.specs.declared.spans.Run.{Run}
-use Rattle.range_bits.specs.Ranges.{with_places}
+use Rattle.std.proofs.Common.{◌≡◌, ℕ, zero, suc, ◌+◌, ◌-◌, ◌*◌, ◌/◌, ◌<◌, ◌≤◌, ◌==◌, Bool, true, false, nat_le, nat_lt, cond, List, [], ◌∷◌, length}
+use Rattle.std.proofs.Common.{get_or, map, count_by, Contains, Option, Some, None, option_map, refl, sym, ap, subst, ◌∙◌, inl, inr, arith}
+use Rattle.page_heap.proofs.Common.{find, cases_Bool, cases_eq, false≢true, false_from_ne_true, eq-eqb, ne_eqb, and_from, le-leb, lt-ltb, leb-true}
+use Rattle.page_heap.proofs.Common.{ltb-true, and_parts, same_lists, length-map-range_with_len, get_or-map-range_with_len, All-contains, Contains-get_or}
+use Rattle.page_heap.proofs.Common.{none-some, same_Some, Run, with_places, length-with_places, get_or-with_places, RegionRow, Heap, Hugepage, hugepage}
+use Rattle.page_heap.proofs.Common.{is_used, region_row, is_region, spans, region_row_of, IsRegion, IsSound, holds_parts, holds_from}
+use Rattle.page_heap.proofs.Common.{spans_from, same_member, region_with, with_changed, regions_of}
 use Rattle.range_bits.proofs.BitFacts.{is_between}
-use Rattle.range_bits.proofs.Placing.{length-with_places, get_or-with_places}
-use Rattle.heap_rules.specs.RegionRows.{RegionRow}
-use Rattle.heap_rules.specs.Heap.{Heap, Hugepage, hugepage, holds, is_used, reaches, used_from, region_row, is_region, spans}
-use Rattle.heap_rules.specs.Choice.{region_row_of}
-use Rattle.heap_rules.specs.Sound.{IsRegion, IsSound}
-use Rattle.heap_rules.proofs.Fits.{holds_parts, holds_from, reaches_parts, spans_from}
-use Rattle.heap_rules.proofs.Left.{same_member}
-use Rattle.huge_region.specs.Regions.{region_with, with_changed}
-use Rattle.page_heap.specs.Inside.{regions_of}
+use Rattle.heap_rules.specs.Heap.{holds, used_from}
 use Rattle.page_heap.proofs.Steps.{IsStep, used-away, row-away}
 use Rattle.page_heap.proofs.Frames.{map_same, map-map}
 
 -- The region of a hugepage.
-find_row : (heap : Heap) (h : ℕ) (rs : List ℕ) → find (λ (row : RegionRow). spans heap.config.region h row.first) (map (region_row_of heap) rs) ≡ option_map (region_row_of heap) (find (spans heap.config.region h) rs)
+find_row : (heap : Heap) (h : ℕ) (rs : List ℕ) → find (λ (row : RegionRow). spans heap.config.region h row.first)
+    (map (region_row_of heap) rs) ≡ option_map (region_row_of heap) (find (spans heap.config.region h) rs)
 find_row heap h [] = refl
-find_row heap h (r ∷ rs) = elim (spans heap.config.region h r) as (λ b. cond b (Some (region_row_of heap r)) (find (λ (row : RegionRow). spans heap.config.region h row.first) (map (region_row_of heap) rs)) ≡ option_map (region_row_of heap) (cond b (Some r) (find (spans heap.config.region h) rs))) [ true ↦ refl | false ↦ find_row heap h rs ]
+find_row heap h (r ∷ rs) =
+    elim (spans heap.config.region h r) as (λ b. cond b (Some (region_row_of heap r))
+    (find (λ (row : RegionRow). spans heap.config.region h row.first) (map (region_row_of heap) rs)) ≡ option_map (region_row_of heap)
+    (cond b (Some r) (find (spans heap.config.region h) rs))) [ true ↦ refl | false ↦ find_row heap h rs ]
 
 first_found : (p : ℕ → Bool) (rs : List ℕ) (r : ℕ) → Contains rs r → p r ≡ true → (s : ℕ) × (find p rs ≡ Some s)
 first_found p [] r has e = absurd (omega (arith, has.1))
@@ -41,7 +35,8 @@ found_member p (x ∷ xs) s e = elim (cases_Bool (p x)) [
   | inr f ↦ (let rest = found_member p xs s (sym (ap (λ b. cond b (Some x) (find p xs)) f) ∙ e) in ((suc rest.0.0, omega (arith, rest.0.1), rest.0.2), rest.1))
 ]
 
-pub region_found : (heap : Heap) (r h : ℕ) → count_by (spans heap.config.region h) heap.regions ≤ 1 → Contains heap.regions r → spans heap.config.region h r ≡ true → region_with (regions_of heap) h ≡ Some (region_row_of heap r)
+pub region_found : (heap : Heap) (r h : ℕ) → count_by (spans heap.config.region h) heap.regions ≤ 1 → Contains heap.regions r →
+    spans heap.config.region h r ≡ true → region_with (regions_of heap) h ≡ Some (region_row_of heap r)
 region_found heap r h most known e =
     let there = first_found (spans heap.config.region h) heap.regions r known e in
     let is = found_member (spans heap.config.region h) heap.regions there.0 there.1 in
@@ -74,7 +69,8 @@ region_missing heap h sound other = of_found (region_with (regions_of heap) h) r
         absurd (false≢true (sym other ∙ (All-contains (IsRegion heap) heap.regions is.region sound.regions is.known).kinds h is.spanned))
 
 -- the pages of a range, of which a run has some from a start on, and is used there or isn't
-pub row_put : (runs rest : List Run) (run : Run) (b : Bool) → IsStep runs rest run → ((page : ℕ) → holds page run ≡ true → is_used rest page ≡ b) → (first many s : ℕ) → run.first.0 ≡ first + s → s + run.pages ≤ many → with_places (used_from runs first many) s run.pages b ≡ used_from rest first many
+pub row_put : (runs rest : List Run) (run : Run) (b : Bool) → IsStep runs rest run → ((page : ℕ) → holds page run ≡ true → is_used rest page ≡ b) →
+    (first many s : ℕ) → run.first.0 ≡ first + s → s + run.pages ≤ many → with_places (used_from runs first many) s run.pages b ≡ used_from rest first many
 row_put runs rest run b step own first many s at fits =
     let row = used_from runs first many in
     let len = length-map-range_with_len (is_used runs) first many in
@@ -92,7 +88,10 @@ row_put runs rest run b step own first many s at fits =
           let held : holds (first + k) run ≡ true = holds_from (first + k) run (omega (arith, leb-true s k parts.0)) (omega (arith, ltb-true k (s + run.pages) parts.1)) in
           ap (λ (u : Bool). cond u b (get_or row k d)) t ∙ sym (own (first + k) held))
       | inr f ↦
-          (let away : holds (first + k) run ≡ false = false_from_ne_true _ (λ t. (let parts = holds_parts (first + k) run t in false≢true (sym f ∙ and_from _ _ (le-leb s k (omega (arith, parts.0))) (lt-ltb k (s + run.pages) (omega (arith, parts.1)))))) in
+          (let away : holds (first + k) run ≡ false =
+          false_from_ne_true _
+          (λ t. (let parts = holds_parts (first + k) run t in
+          false≢true (sym f ∙ and_from _ _ (le-leb s k (omega (arith, parts.0))) (lt-ltb k (s + run.pages) (omega (arith, parts.1)))))) in
           ap (λ (u : Bool). cond u b (get_or row k d)) f ∙ old ∙ sym (used-away runs rest run step (first + k) away))
     ]
     ∙ sym (get_or-map-range_with_len (is_used rest) first many k (first + k) d short refl))
@@ -102,10 +101,10 @@ module _ (heap : Heap) (rest : List Run) (hugepages : List Hugepage) (run : Run)
   abbrev after : Heap
   after = record heap { runs = rest; hugepages = hugepages }
 
-  pub reached_in : (r h : ℕ) → 256 * r ≤ run.first.0 → run.first.0 + run.pages ≤ 256 * (r + heap.config.region) → reaches h run ≡ true → spans heap.config.region h r ≡ true
-  reached_in r h from to e = let parts = reaches_parts h run e in spans_from heap.config.region h r (omega (arith, parts.1)) (omega (arith, parts.0))
-
-  pub regions_changed : (r : ℕ) → ((h : ℕ) → count_by (spans heap.config.region h) heap.regions ≤ 1) → Contains heap.regions r → 256 * r ≤ run.first.0 → run.first.0 + run.pages ≤ 256 * (r + heap.config.region) → 0 < heap.config.region → with_changed (regions_of heap) r (λ (x : RegionRow). record { first = x.first; used = with_places x.used (run.first.0 - 256 * r) run.pages b }) ≡ regions_of after
+  pub regions_changed : (r : ℕ) → ((h : ℕ) → count_by (spans heap.config.region h) heap.regions ≤ 1) → Contains heap.regions r → 256 * r ≤ run.first.0 →
+      run.first.0 + run.pages ≤ 256 * (r + heap.config.region) → 0 < heap.config.region →
+      with_changed (regions_of heap) r (λ (x : RegionRow). record { first = x.first; used = with_places x.used (run.first.0 - 256 * r) run.pages b }) ≡
+      regions_of after
   regions_changed r apart known from to wide =
       let width : ℕ = heap.config.region in
       let change : RegionRow → RegionRow = λ x. record { first = x.first; used = with_places x.used (run.first.0 - 256 * r) run.pages b } in
@@ -119,7 +118,8 @@ module _ (heap : Heap) (rest : List Run) (hugepages : List Hugepage) (run : Run)
         | inl same ↦
             ap (λ (t : Bool). cond t (change (region_row_of heap s)) (region_row_of heap s)) (eq-eqb s r same)
             ∙ ap (λ (row : List Bool). let x : RegionRow = record { first = s; used = row } in x)
-            (subst (λ (i : ℕ). with_places (region_row heap.runs width i) (run.first.0 - 256 * r) run.pages b ≡ region_row rest width i) (sym same) (row_put heap.runs rest run b step own (256 * r) (256 * width) (run.first.0 - 256 * r) (omega arith) (omega arith)))
+            (subst (λ (i : ℕ). with_places (region_row heap.runs width i) (run.first.0 - 256 * r) run.pages b ≡ region_row rest width i) (sym same)
+            (row_put heap.runs rest run b step own (256 * r) (256 * width) (run.first.0 - 256 * r) (omega arith) (omega arith)))
         | inr other ↦
             ap (λ (t : Bool). cond t (change (region_row_of heap s)) (region_row_of heap s)) (ne_eqb s r other)
             ∙ ap (λ (row : List Bool). let x : RegionRow = record { first = s; used = row } in x)

@@ -1,24 +1,14 @@
 -- By which route a live run was placed stays true of it while others come and go.
-use Rattle.std.proofs.Common.{◌≡◌, ℕ, ◌+◌, ◌*◌, ◌/◌, ◌<◌, ◌≤◌, ◌⊎◌, ◌==◌, true, false, not, ◌&&◌, cond, max, List, get_or, All, Contains, refl, sym, ap, subst, ◌∙◌, inl, inr, arith}
-use Rattle.std.specs.List.{list_any}
-use Rattle.std.proofs.lemmas.Bool.{cases_Bool, ne_eqb, and_parts, not-true, false≢true}
-use Rattle.std.proofs.lemmas.List.Elements.{All-contains, All-filter, Contains-get_or}
-use Rattle.tc_units.specs.declared.spans.Run.{Run}
-use Rattle.tc_units.specs.declared.rows.RowKind.{RowKind}
+use Rattle.std.proofs.Common.{◌≡◌, ℕ, ◌+◌, ◌*◌, ◌/◌, ◌<◌, ◌≤◌, ◌⊎◌, ◌==◌, true, false, not, ◌&&◌, cond, max, List, get_or, All, Contains, refl, sym, ap}
+use Rattle.std.proofs.Common.{subst, ◌∙◌, inl, inr, arith}
+use Rattle.page_heap.proofs.Common.{list_any, cases_Bool, ne_eqb, and_parts, not-true, false≢true, All-contains, All-filter, Contains-get_or, Run, RowKind}
+use Rattle.page_heap.proofs.Common.{count_some, All-with_item, Heap, Hugepage, hugepage, each, reaches, with_run, allocation_count, is_free, is_region}
+use Rattle.page_heap.proofs.Common.{spans, left_by, emptied, used_regions, given_back, IsInside, IsHugepageOf, HasNoUsed, IsRegion, AreRunsSound, IsSound}
+use Rattle.page_heap.proofs.Common.{Contains-filter, counts_used, at, holds_from, reaches_parts, reaches_from, serves_at, is_Free, is_Region, remade, here}
+use Rattle.page_heap.proofs.Common.{fewer, own_run, left_runs, left_kinds, none_kept, range_used, has_used, IsRouted}
 use Rattle.tc_units.specs.declared.rows.RowKind.TheVariants as kind
-use Rattle.tc_units.proofs.Counts.{count_some}
-use Rattle.tc_units.proofs.SortedFacts.{All-with_item}
-use Rattle.heap_rules.specs.Heap.{Heap, Hugepage, hugepage, each, holds, reaches, with_run, without_run, allocation_count, is_free, is_region, spans}
-use Rattle.heap_rules.specs.Free.{left, left_by, emptied, used_regions, given_back}
-use Rattle.heap_rules.specs.Sound.{IsInside, IsHugepageOf, HasNoUsed, IsRegion, AreRunsSound, IsSound}
-use Rattle.heap_rules.proofs.Live.{Contains-filter, counts_used}
-use Rattle.heap_rules.proofs.Places.{at}
-use Rattle.heap_rules.proofs.Fits.{holds_from, reaches_parts, reaches_from, serves_at, is_Free, is_Region}
-use Rattle.heap_rules.proofs.Remade.{remade, here}
-use Rattle.heap_rules.proofs.Left.{fewer, own_run, left_runs, left_kinds}
-use Rattle.heap_rules.proofs.Ended.{none_kept, range_used}
-use Rattle.huge_table.specs.Means.{has_used}
-use Rattle.page_heap.specs.Routes.{IsRouted}
+use Rattle.heap_rules.specs.Heap.{holds, without_run}
+use Rattle.heap_rules.specs.Free.{left}
 
 -- a hugepage that a live run reaches has a run
 reached_some : (runs : List Run) (z : Run) (h : ℕ) → Contains runs z → reaches h z ≡ true → 0 < allocation_count runs h
@@ -38,10 +28,14 @@ pub free_none : (heap : Heap) (h : ℕ) → IsSound heap → IsHugepageOf heap.c
 free_none heap h sound is free = (serves_at heap.runs heap.regions heap.config.region h (hugepage heap h) kind.Free (is_Free (hugepage heap h).kind free) (sound.runs.fit h is)).0
 
 -- A route stays where the hugepages that the run reaches keep their kinds, and its region stays.
-pub route_kept : (heap : Heap) (runs : List Run) (regions : List ℕ) (hugepages : List Hugepage) (counts : List ℕ) (z : Run) → 0 < z.pages → IsRouted heap z → ((h : ℕ) → reaches h z ≡ true → (at hugepages h).kind ≡ (hugepage heap h).kind) → ((r : ℕ) → Contains heap.regions r → 256 * r ≤ z.first.0 → z.first.0 + z.pages ≤ 256 * (r + heap.config.region) → Contains regions r) → IsRouted (record heap { runs = runs; regions = regions; hugepages = hugepages; counts = counts }) z
+pub route_kept : (heap : Heap) (runs : List Run) (regions : List ℕ) (hugepages : List Hugepage) (counts : List ℕ) (z : Run) → 0 < z.pages →
+    IsRouted heap z → ((h : ℕ) → reaches h z ≡ true → (at hugepages h).kind ≡ (hugepage heap h).kind) →
+    ((r : ℕ) → Contains heap.regions r → 256 * r ≤ z.first.0 → z.first.0 + z.pages ≤ 256 * (r + heap.config.region) → Contains regions r) →
+    IsRouted (record heap { runs = runs; regions = regions; hugepages = hugepages; counts = counts }) z
 route_kept heap runs regions hugepages counts z some (inl one) kinds known = inl (record {
   filler = kinds (z.first.0 / 256) (reaches_from (z.first.0 / 256) z (omega arith) (omega arith)) ∙ one.filler;
   ends = one.ends;
+  below = one.below;
 })
 route_kept heap runs regions hugepages counts z some (inr (inl whole)) kinds known = inr (inl (record {
   begins = whole.begins;
@@ -66,30 +60,43 @@ in_arena heap z h sound live e =
     record { from = omega (arith, inside.from, parts.0); to = omega (arith, inside.to, parts.1) }
 
 -- Where hugepages change in other ways alone.
-pub routed_same : (heap : Heap) (f : ℕ → Hugepage → Hugepage) (counts : List ℕ) → IsSound heap → ((h : ℕ) (x : Hugepage) → (f h x).kind ≡ x.kind) → ((z : Run) → Contains heap.runs z → IsRouted heap z) → (z : Run) → Contains heap.runs z → IsRouted (remade heap heap.runs heap.regions f counts) z
+pub routed_same : (heap : Heap) (f : ℕ → Hugepage → Hugepage) (counts : List ℕ) → IsSound heap → ((h : ℕ) (x : Hugepage) → (f h x).kind ≡ x.kind) →
+    ((z : Run) → Contains heap.runs z → IsRouted heap z) → (z : Run) → Contains heap.runs z → IsRouted (remade heap heap.runs heap.regions f counts) z
 routed_same heap f counts sound kinds routed z live =
     route_kept heap heap.runs heap.regions (each f heap.hugepages) counts z (some_pages heap z sound live) (routed z live)
     (λ h e. ap (λ (x : Hugepage). x.kind) (here heap heap.runs heap.regions f counts sound.runs h (in_arena heap z h sound live e)) ∙ kinds h (hugepage heap h))
     (λ r known a b. known)
 
 -- When a run comes: what it reaches was free, or keeps its kind.
-module _ (heap : Heap) (runs' : List Run) (regions' : List ℕ) (f : ℕ → Hugepage → Hugepage) (counts : List ℕ) (run : Run) (sound : IsSound heap) (routed : (z : Run) → Contains heap.runs z → IsRouted heap z) where
-  pub routed_with : ((r : ℕ) → Contains heap.regions r → Contains regions' r) → ((h : ℕ) → IsHugepageOf heap.config.huge h → (is_free (hugepage heap h) ≡ true) ⊎ ((f h (hugepage heap h)).kind ≡ (hugepage heap h).kind)) → IsRouted (remade heap runs' regions' f counts) run → (z : Run) → Contains (with_run run heap.runs) z → IsRouted (remade heap runs' regions' f counts) z
-  routed_with known kinds own z live =
-      All-contains (IsRouted (remade heap runs' regions' f counts)) (with_run run heap.runs) z
-      (All-with_item (λ (r : Run). r.first.0) (IsRouted (remade heap runs' regions' f counts)) run heap.runs own
+module _ (heap : Heap) (runs' : List Run) (regions' : List ℕ) (counts : List ℕ) (run : Run) (sound : IsSound heap) (routed : (z : Run) → Contains heap.runs z → IsRouted heap z) where
+  pub routed_more : (hugepages : List Hugepage) → ((r : ℕ) → Contains heap.regions r → Contains regions' r) →
+      ((h : ℕ) → IsHugepageOf heap.config.huge h → (is_free (hugepage heap h) ≡ true) ⊎ ((at hugepages h).kind ≡ (hugepage heap h).kind)) →
+      IsRouted (record heap { runs = runs'; regions = regions'; hugepages = hugepages; counts = counts }) run → (z : Run) →
+      Contains (with_run run heap.runs) z → IsRouted (record heap { runs = runs'; regions = regions'; hugepages = hugepages; counts = counts }) z
+  routed_more hugepages known kinds own z live =
+      let after : Heap = record heap { runs = runs'; regions = regions'; hugepages = hugepages; counts = counts } in
+      All-contains (IsRouted after) (with_run run heap.runs) z
+      (All-with_item (λ (r : Run). r.first.0) (IsRouted after) run heap.runs own
       (λ k d l.
       (let old = get_or heap.runs k d in
       let has : Contains heap.runs old = Contains-get_or heap.runs k d l in
-      route_kept heap runs' regions' (each f heap.hugepages) counts old (some_pages heap old sound has) (routed old has)
+      route_kept heap runs' regions' hugepages counts old (some_pages heap old sound has) (routed old has)
       (λ h e.
       (let is = in_arena heap old h sound has e in
-      ap (λ (x : Hugepage). x.kind) (here heap runs' regions' f counts sound.runs h is)
-      ∙ elim (kinds h is) [
+      elim (kinds h is) [
         | inl free ↦ absurd (no_run_there heap.config.huge heap.runs old h sound.runs.inside has e (free_none heap h sound is free))
         | inr same ↦ same
       ]))
       (λ r here' a b. known r here')))) live
+
+  pub routed_with : (f : ℕ → Hugepage → Hugepage) → ((r : ℕ) → Contains heap.regions r → Contains regions' r) →
+      ((h : ℕ) → IsHugepageOf heap.config.huge h → (is_free (hugepage heap h) ≡ true) ⊎ ((f h (hugepage heap h)).kind ≡ (hugepage heap h).kind)) →
+      IsRouted (remade heap runs' regions' f counts) run → (z : Run) → Contains (with_run run heap.runs) z →
+      IsRouted (remade heap runs' regions' f counts) z
+  routed_with f known kinds = routed_more (each f heap.hugepages) known (λ h is. elim (kinds h is) [
+    | inl free ↦ inl free
+    | inr same ↦ inr (ap (λ (x : Hugepage). x.kind) (here heap runs' regions' f counts sound.runs h is) ∙ same)
+  ])
 
 -- When a run leaves.
 module _ (heap : Heap) (run : Run) (sound : IsSound heap) (live : Contains heap.runs run) (routed : (z : Run) → Contains heap.runs z → IsRouted heap z) where
@@ -100,7 +107,8 @@ module _ (heap : Heap) (run : Run) (sound : IsSound heap) (live : Contains heap.
   others z has = All-contains (Contains heap.runs) rest z (All-filter (λ r. not (r.first.0 == run.first.0)) (Contains heap.runs) heap.runs (λ i c j. Contains-get_or heap.runs i c j)) has
 
   -- a hugepage that another run reaches keeps its kind
-  kind_left : (z : Run) (h : ℕ) (k : RowKind) → Contains rest z → reaches h z ≡ true → (hugepage heap h).kind ≡ k → (cond (reaches h run) (left_by k rest h (hugepage heap h)) (hugepage heap h)).kind ≡ k
+  kind_left : (z : Run) (h : ℕ) (k : RowKind) → Contains rest z → reaches h z ≡ true → (hugepage heap h).kind ≡ k →
+      (cond (reaches h run) (left_by k rest h (hugepage heap h)) (hugepage heap h)).kind ≡ k
   kind_left z h kind.Free has e is = elim (reaches h run) as (λ b. (cond b (hugepage heap h) (hugepage heap h)).kind ≡ kind.Free) [ true ↦ is | false ↦ is ]
   kind_left z h kind.Region has e is = elim (reaches h run) as (λ b. (cond b (hugepage heap h) (hugepage heap h)).kind ≡ kind.Region) [ true ↦ is | false ↦ is ]
   kind_left z h kind.Filler has e is =
@@ -146,9 +154,13 @@ module _ (heap : Heap) (run : Run) (sound : IsSound heap) (live : Contains heap.
         | inl t ↦
             (let parts = and_parts _ _ t in
             let lies = (serves_at rest heap.regions heap.config.region h x kind.Region (is_Region x.kind parts.0) (now.fit h is)).0 in
-            absurd (no_run_there heap.config.huge rest z h now.inside has e (none_kept before now (λ r known. let is = region r known in (is.from, is.to)) (λ r known. left_kinds heap run sound live r (region r known)) h (not-true _ parts.1) lies)))
+            absurd (no_run_there heap.config.huge rest z h now.inside has e
+            (none_kept before now (λ r known. let is = region r known in (is.from, is.to))
+            (λ r known. left_kinds heap run sound live r (region r known)) h (not-true _ parts.1) lies)))
       ]))
       (λ r known a b.
-      (let used = range_used rest (256 * r) (256 * heap.config.region) z.first.0 a (omega (arith, some)) (counts_used rest z.first.0 (count_some (holds z.first.0) rest has.0 z has.1 (ap (holds z.first.0) at ∙ holds_from z.first.0 z (omega arith) (omega arith)))) in
+      (let used = range_used rest (256 * r) (256 * heap.config.region) z.first.0 a (omega (arith, some))
+      (counts_used rest z.first.0
+      (count_some (holds z.first.0) rest has.0 z has.1 (ap (holds z.first.0) at ∙ holds_from z.first.0 z (omega arith) (omega arith)))) in
       let place : get_or heap.regions known.0 r ≡ r = known.2 in
       subst (Contains kept) place (Contains-filter (has_used before) heap.regions known.0 r known.1 (ap (has_used before) place ∙ used))))

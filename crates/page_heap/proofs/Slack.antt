@@ -1,18 +1,11 @@
 -- The slack, by the measures that the filler has.
 use Rattle.std.proofs.Common.{◌≡◌, ℕ, ◌+◌, ◌-◌, ◌*◌, ◌%◌, ◌<◌, ◌≤◌, Bool, true, false, cond, length, map, sum_by, None, refl, sym, ap, ◌∙◌, inl, inr, arith}
-use Rattle.std.proofs.lemmas.Bool.{cases_Bool, false≢true, false_from_ne_true}
-use Rattle.std.proofs.lemmas.List.{same_lists, length-map, get_or-map}
-use Rattle.std.proofs.lemmas.List.FromFn.{length-range_with_len, length-map-range_with_len, get_or-map-range_with_len}
-use Rattle.std.proofs.lemmas.List.Sums.{sum-map, sum_by-le}
-use Rattle.heap_rules.specs.Heap.{Heap, hugepage, numbers, used_count, is_filler}
-use Rattle.heap_rules.specs.Choice.{hugepages_for}
-use Rattle.heap_rules.specs.New.{slack}
-use Rattle.heap_rules.specs.Sound.{IsHugepageOf, IsSound}
-use Rattle.heap_rules.proofs.Numbered.{at_number-next}
-use Rattle.huge_filler.specs.Measures.{donated_free, free_of_donated}
-use Rattle.page_heap.specs.declared.heap.PageHeap.TheInside.{Inside}
-use Rattle.page_heap.specs.Inside.{heap_of, measured, measures, IsKept}
+use Rattle.page_heap.proofs.Common.{cases_Bool, false≢true, false_from_ne_true, same_lists, length-map, get_or-map, length-range_with_len}
+use Rattle.page_heap.proofs.Common.{length-map-range_with_len, get_or-map-range_with_len, sum-map, sum_by-le, Heap, hugepage, numbers, used_count}
+use Rattle.page_heap.proofs.Common.{is_filler, hugepages_for, slack, IsHugepageOf, IsSound, at_number-next, donated_free, free_of_donated, Inside}
+use Rattle.page_heap.proofs.Common.{measured, measures}
 use Rattle.page_heap.proofs.Frames.{length-measures, measures_there, measured_none, measured_some}
+use Rattle.page_heap.proofs.Results.{IsHeap}
 
 abbrev free_pages : Heap → ℕ → ℕ
 free_pages heap h = cond (hugepage heap h).donated (256 - used_count heap.runs h) 0
@@ -21,7 +14,9 @@ free_there : (heap : Heap) (h : ℕ) → IsSound heap → IsHugepageOf heap.conf
 free_there heap h sound is = (let x = hugepage heap h in
     elim (cases_Bool (is_filler x)) [
       | inl own ↦ ap free_of_donated (measured_some heap.runs h x own)
-      | inr other ↦ ap free_of_donated (measured_none heap.runs h x other) ∙ sym (ap (λ b. cond b (256 - used_count heap.runs h) 0) (false_from_ne_true x.donated (λ d. false≢true (sym other ∙ (sound.runs.fit h is).donated d))))
+      | inr other ↦ ap free_of_donated (measured_none heap.runs h x other)
+          ∙ sym (ap (λ b. cond b (256 - used_count heap.runs h) 0)
+          (false_from_ne_true x.donated (λ d. false≢true (sym other ∙ (sound.runs.fit h is).donated d))))
     ])
 
 donated_is : (heap : Heap) → IsSound heap → donated_free (measures heap) ≡ sum_by (free_pages heap) (numbers heap)
@@ -43,8 +38,8 @@ donated_is heap sound =
 left_is : (n : ℕ) → (256 - n % 256) % 256 ≡ 256 * hugepages_for n - n
 left_is n = omega arith
 
-pub slack_is : (old : Inside) → IsKept old → (n : ℕ) → donated_free old.filler + (256 - n % 256) % 256 ≡ slack (heap_of old) n
-slack_is old kept n = ap (λ m. donated_free old.filler + m) (left_is n) ∙ ap (λ m. m + (256 * hugepages_for n - n)) (ap donated_free kept.shows.filler ∙ donated_is (heap_of old) kept.well.sound)
+pub slack_is : {old : Inside} {heap : Heap} → IsHeap old heap → (n : ℕ) → donated_free old.filler + (256 - n % 256) % 256 ≡ slack heap n
+slack_is {old} {heap} is n = ap (λ m. donated_free old.filler + m) (left_is n) ∙ ap (λ m. m + (256 * hugepages_for n - n)) (ap donated_free is.shows.filler ∙ donated_is heap is.well.sound)
 
 small : (b : Bool) (m : ℕ) → cond b (256 - m) 0 ≤ 256
 small true m = omega arith
@@ -53,7 +48,7 @@ small false m = omega arith
 bound : (a b c d e : ℕ) → a ≡ b → b ≤ c * 256 → c ≡ d → d ≡ e → e ≤ 4096 → a ≤ 1048576
 bound a b c d e p q r s t = omega arith
 
-pub few_donated : (old : Inside) → IsKept old → donated_free old.filler ≤ 1048576
-few_donated old kept =
-    let heap : Heap = heap_of old in
-    bound _ _ _ _ _ (ap donated_free kept.shows.filler ∙ donated_is heap kept.well.sound) (sum_by-le (free_pages heap) 256 (numbers heap) (λ k d l. small _ _)) (length-range_with_len 1 (length heap.hugepages)) kept.well.sound.runs.arena kept.well.limits.huge_to
+pub few_donated : {old : Inside} {heap : Heap} → IsHeap old heap → donated_free old.filler ≤ 1048576
+few_donated {old} {heap} is =
+    let most = sum_by-le (free_pages heap) 256 (numbers heap) (λ k d l. small _ _) in
+    bound _ _ _ _ _ (ap donated_free is.shows.filler ∙ donated_is heap is.well.sound) most (length-range_with_len 1 (length heap.hugepages)) is.well.sound.runs.arena is.well.limits.huge_to

@@ -1,43 +1,26 @@
 -- The filler's hugepages give what they spare, one after another.
-use Rattle.std.proofs.Common.{◌≡◌, ◌≢◌, ℕ, zero, suc, zero-add, ◌+◌, ◌-◌, ◌*◌, ◌<◌, ◌≤◌, ◌⊎◌, Bool, true, false, not, ◌&&◌, ◌||◌, cond, nat_lt, nat_eq, List, [], ◌∷◌, length, get_or, filter, count_by, sum_by, All, Some, refl, sym, ap, subst, ◌∙◌, inl, inr, arith}
-use Rattle.std.specs.List.{range_with_len}
-use Rattle.std.proofs.lemmas.Bool.{cases_Bool, cases_lt, cases_eq, and_left, and_right, lt-ltb, le-ltb, false≢true, false_from_ne_true}
-use Rattle.std.proofs.lemmas.List.{get_or_past}
+use Rattle.std.proofs.Common.{◌≡◌, ◌≢◌, ℕ, zero, suc, zero-add, ◌+◌, ◌-◌, ◌*◌, ◌<◌, ◌≤◌, ◌⊎◌, Bool, true, false, not, ◌&&◌, ◌||◌, cond, nat_lt, nat_eq}
+use Rattle.std.proofs.Common.{List, [], ◌∷◌, length, get_or, map, filter, count_by, sum_by, All, Some, refl, sym, ap, subst, ◌∙◌, inl, inr, arith}
+use Rattle.page_heap.proofs.Common.{range_with_len, cases_Bool, cases_lt, cases_eq, and_left, and_right, lt-ltb, le-ltb, false≢true, false_from_ne_true}
+use Rattle.page_heap.proofs.Common.{get_or_past, sum_by-cons, All-head, All-tail, length-map-range_with_len, length-range_with_len, get_or-range_with_len}
+use Rattle.page_heap.proofs.Common.{Huge, Run, count_none, count_some, range-within, Heap, Hugepage, hugepage, untouched, numbers, spans, backs, is_used}
+use Rattle.page_heap.proofs.Common.{is_filler, is_free, is_free_backed, Released, is_idle, spare_pages, spare_row, spare_rows, only_used, spare_given}
+use Rattle.page_heap.proofs.Common.{IsHugepageOf, IsSound, sum-filter, sum-adds, sum-map', own_backs, spare_counts, at, at-each, length-each, each_is}
+use Rattle.page_heap.proofs.Common.{each_where, each_each, backs-map, spare_sound, IsSpan, used_alone, Measures, measures_at, IsCandidate, Inside}
+use Rattle.page_heap.proofs.Common.{spare_of, measured, measures_of, measures, behind, IsFirstGiver, given_by, remeasured}
 use Rattle.std.proofs.lemmas.Bool.Decides.{nat_tests}
-use Rattle.std.proofs.lemmas.List.Sums.{sum_by-cons}
-use Rattle.std.proofs.lemmas.List.Elements.{All-head, All-tail}
-use Rattle.std.proofs.lemmas.List.FromFn.{length-map-range_with_len, length-range_with_len, get_or-range_with_len}
-use Rattle.tc_units.specs.declared.units.Huge.{Huge}
-use Rattle.tc_units.specs.declared.spans.Run.{Run}
-use Rattle.tc_units.proofs.Counts.{count_none, count_some}
-use Rattle.range_bits.proofs.RangeLemmas.{range-within}
-use Rattle.heap_rules.specs.Heap.{Heap, Hugepage, hugepage, untouched, numbers, spans, backs, is_used, is_filler, is_free, is_free_backed}
 use Rattle.heap_rules.specs.GiveUp.{SpareRow, gives_before, gives_spare}
-use Rattle.heap_rules.specs.Release.{Released, spare_pages, spare_row, spare_rows, only_used, spare_given}
-use Rattle.heap_rules.specs.Sound.{IsHugepageOf, IsSound}
-use Rattle.heap_rules.proofs.Accounts.{sum-filter, sum-adds, sum-map', own_backs, spare_counts}
 use Rattle.heap_rules.proofs.Orders.{by_first, last_is}
-use Rattle.heap_rules.proofs.Places.{at-each, length-each, backs-map}
-use Rattle.heap_rules.proofs.Released.{spare_sound}
-use Rattle.huge_table.specs.Table.{IsSpan}
-use Rattle.huge_table.specs.Means.{Means, used_alone}
-use Rattle.huge_table.specs.Runs.{HasPlaces}
-use Rattle.huge_table.proofs.Pages.{each_is, each_where, each_each}
-use Rattle.huge_filler.specs.declared.measures.Measures.{Measures}
-use Rattle.huge_filler.specs.Measures.{measures_at, IsCandidate}
-use Rattle.page_heap.specs.declared.heap.PageHeap.TheInside.{Inside}
-use Rattle.page_heap.specs.Inside.{heap_of, spare_of, measured, measures_of, measures, IsKept}
-use Rattle.page_heap.specs.Gives.{behind, IsFirstGiver}
-use Rattle.page_heap.specs.Told.{remeasured}
+use Rattle.page_heap.specs.declared.source.Source.{Source}
+use Rattle.page_heap.specs.declared.source.Source.TheVariants as source
 use Rattle.page_heap.proofs.Numbered.{one_is, one_not}
 use Rattle.page_heap.proofs.Steps.{over_range}
 use Rattle.page_heap.proofs.Frames.{length-measures, measures_there, measures_set, measured_some, cache_same}
 use Rattle.page_heap.proofs.Choices.{not_both, its_there}
 use Rattle.page_heap.proofs.Filled.{filler_not_free}
 use Rattle.page_heap.proofs.Backed.{backed_most}
-use Rattle.page_heap.proofs.Gives.{released_is}
-use Rattle.page_heap.proofs.Routed.{routed_same}
-use Rattle.page_heap.proofs.Results.{Results, same_results}
+use Rattle.page_heap.proofs.Gives.{released_is, whole_zero, whole_few}
+use Rattle.page_heap.proofs.Results.{IsHeap, IsMade, same_made}
 
 -- A hugepage that spares nothing backs its used pages alone, and one that does so spares nothing.
 no_count : (f : ℕ → Bool) (first many : ℕ) → ((p : ℕ) → first ≤ p → p < first + many → f p ≡ false) → count_by f (range_with_len first many) ≡ 0
@@ -59,7 +42,8 @@ kept_backing false u e = refl
 pub spares_none : (runs : List Run) (h : ℕ) (x : Hugepage) → length x.backed ≡ 256 → spare_of runs h x ≡ 0 → only_used runs h x ≡ x
 spares_none runs h x size none =
     ap (λ row. record x { backed = row })
-    (over_range (λ p. backs x p && is_used runs p) (backs x) (256 * h) 256 (λ p a b. kept_backing (backs x p) (is_used runs p) (spares_each (λ q. backs x q && not (is_used runs q)) (256 * h) 256 none p a b))
+    (over_range (λ p. backs x p && is_used runs p) (backs x) (256 * h) 256
+    (λ p a b. kept_backing (backs x p) (is_used runs p) (spares_each (λ q. backs x q && not (is_used runs q)) (256 * h) 256 none p a b))
     ∙ sym (own_backs h x size))
 
 gone : (b u : Bool) → ((b && u) && not u) ≡ false
@@ -75,7 +59,8 @@ spent_then runs h x =
 -- No two each give before the other.
 pub one_way : (a b : SpareRow) → gives_before b a ≡ true → gives_before a b ≡ false
 one_way a b e =
-    let order : (x y : SpareRow) → gives_before y x ≡ (nat_lt x.used y.used || (nat_eq x.used y.used && nat_lt y.number x.number)) = λ x y. by_first x.used y.used _ _ (last_is (nat_lt y.number x.number) (nat_eq y.number x.number)) in
+    let order : (x y : SpareRow) → gives_before y x ≡ (nat_lt x.used y.used || (nat_eq x.used y.used && nat_lt y.number x.number)) =
+    λ x y. by_first x.used y.used _ _ (last_is (nat_lt y.number x.number) (nat_eq y.number x.number)) in
     order b a ∙ not_both a.used b.used _ _ (λ t. grind (arith, nat_tests)) (sym (order a b) ∙ e)
 
 itself : (a : SpareRow) → gives_before a a ≡ false
@@ -92,7 +77,8 @@ zero_term false q spare none = refl
 zero_term true false spare none = refl
 zero_term true true spare none = elim (cases_lt 0 spare) [ inl some ↦ absurd (false≢true (sym (none refl some))) | inr few ↦ omega arith ]
 
-nested : (heap : Heap) (p : SpareRow → Bool) → sum_by (λ r. r.spare) (filter p (spare_rows heap)) ≡ sum_by (λ j. cond (is_filler (hugepage heap j)) (cond (p (spare_row heap j)) (spare_pages heap j) 0) 0) (numbers heap)
+nested : (heap : Heap) (p : SpareRow → Bool) → sum_by (λ r. r.spare) (filter p (spare_rows heap)) ≡ sum_by
+    (λ j. cond (is_filler (hugepage heap j)) (cond (p (spare_row heap j)) (spare_pages heap j) 0) 0) (numbers heap)
 nested heap p =
     sum-filter (λ r. r.spare) p (spare_rows heap)
     ∙ sum-map' (λ r. cond (p r) r.spare 0) (spare_row heap) (filter (λ j. is_filler (hugepage heap j)) (numbers heap))
@@ -163,7 +149,10 @@ module _ (heap : Heap) (n : ℕ) (huge : Huge) (sound : IsSound heap) (some : 0 
   term : (q : ℕ → Bool) (k : ℕ) → ℕ
   term q k = cond (is_filler (hugepage heap k)) (cond (q k) (spare_pages heap k) 0) 0
 
-  less : (q q' : ℕ → Bool) (c : Bool) → q h ≡ c → ((k : ℕ) → k ≢ h → 0 < k → k ≤ length heap.hugepages → is_filler (hugepage heap k) ≡ true → 0 < spare_pages heap k → q k ≡ q' k) → sum_by (λ j. cond (is_filler (hugepage heap j)) (cond (q j) (spare_pages heap j) 0) 0) (numbers heap) ≡ cond c s 0 + sum_by (λ j. cond (is_filler (hugepage after j)) (cond (q' j) (spare_pages after j) 0) 0) (numbers after)
+  less : (q q' : ℕ → Bool) (c : Bool) → q h ≡ c →
+      ((k : ℕ) → k ≢ h → 0 < k → k ≤ length heap.hugepages → is_filler (hugepage heap k) ≡ true → 0 < spare_pages heap k → q k ≡ q' k) →
+      sum_by (λ j. cond (is_filler (hugepage heap j)) (cond (q j) (spare_pages heap j) 0) 0) (numbers heap) ≡ cond c s 0 + sum_by
+      (λ j. cond (is_filler (hugepage after j)) (cond (q' j) (spare_pages after j) 0) 0) (numbers after)
   less q q' c own_is same =
       let left : ℕ → ℕ = λ j. cond (is_filler (hugepage heap j)) (cond (q j) (spare_pages heap j) 0) 0 in
       let right : ℕ → ℕ = λ j. cond (is_filler (hugepage after j)) (cond (q' j) (spare_pages after j) 0) 0 in
@@ -203,7 +192,8 @@ module _ (heap : Heap) (n : ℕ) (huge : Huge) (sound : IsSound heap) (some : 0 
       other_term true false true spare same = elim (cases_lt 0 spare) [ inl some ↦ absurd (false≢true (same refl some)) | inr none ↦ omega arith ]
 
   -- Who gives: this one, and of the others those that would then.
-  gives_then : (k : ℕ) → k ≢ h → is_filler (hugepage heap k) ≡ true → 0 < spare_pages heap k → gives_spare (spare_rows heap) n (spare_row heap k) ≡ gives_spare (spare_rows after) (n - s) (spare_row after k)
+  gives_then : (k : ℕ) → k ≢ h → is_filler (hugepage heap k) ≡ true → 0 < spare_pages heap k →
+      gives_spare (spare_rows heap) n (spare_row heap k) ≡ gives_spare (spare_rows after) (n - s) (spare_row after k)
   gives_then k ne filler spare =
       let q : ℕ → Bool = λ j. gives_before (spare_row heap k) (spare_row heap j) in
       shifted _ _ s n
@@ -222,14 +212,12 @@ module _ (heap : Heap) (n : ℕ) (huge : Huge) (sound : IsSound heap) (some : 0 
       ]))) in
       ap (λ m. nat_lt m n) none ∙ lt-ltb 0 n some
 
-  own_page : ℕ → Hugepage → Bool → Hugepage
-  own_page k y b = cond b (only_used runs k y) y
-
   same_page : (k : ℕ) (y : Hugepage) (b : Bool) → only_used runs k y ≡ y → cond b (only_used runs k y) y ≡ y
   same_page k y true e = e
   same_page k y false e = refl
 
-  at_other : (k : ℕ) (x : Hugepage) (g g' : Bool) → (is_filler x ≡ true → (g ≡ g') ⊎ (only_used runs k x ≡ x)) → cond (is_filler x && g) (only_used runs k x) x ≡ cond (is_filler x && g') (only_used runs k x) x
+  at_other : (k : ℕ) (x : Hugepage) (g g' : Bool) → (is_filler x ≡ true → (g ≡ g') ⊎ (only_used runs k x ≡ x)) →
+      cond (is_filler x && g) (only_used runs k x) x ≡ cond (is_filler x && g') (only_used runs k x) x
   at_other k x g g' h' = elim (cases_Bool (is_filler x)) [
     | inr f ↦ ap (λ b. cond b (only_used runs k x) x) (and_left _ _ f ∙ sym (and_left _ _ f))
     | inl t ↦ elim (h' t) [
@@ -252,7 +240,10 @@ module _ (heap : Heap) (n : ℕ) (huge : Huge) (sound : IsSound heap) (some : 0 
             subst (λ i. cond (is_filler (hugepage heap i) && gives i) (only_used runs i (hugepage heap i)) (hugepage heap i) ≡ next i (u i (hugepage heap i))) (sym e)
             (let y : Hugepage = only_used runs h (hugepage heap h) in
             ap (λ b. cond (b && gives h) y (hugepage heap h)) is.filler ∙ ap (λ b. cond b y (hugepage heap h)) gives_own
-            ∙ sym (ap (λ b. next h (cond b y (hugepage heap h))) (one_is h h refl) ∙ same_page h y (is_filler y && gives' h) (spares_none runs h y (length-map-range_with_len (λ p. backs (hugepage heap h) p && is_used runs p) (256 * h) 256) (spent_then runs h (hugepage heap h)))))
+            ∙ sym (ap (λ b. next h (cond b y (hugepage heap h))) (one_is h h refl)
+            ∙ same_page h y (is_filler y && gives' h)
+            (spares_none runs h y (length-map-range_with_len (λ p. backs (hugepage heap h) p && is_used runs p) (256 * h) 256)
+            (spent_then runs h (hugepage heap h)))))
         | inr ne ↦
             at_other k x (gives k) (gives' k) (λ filler. elim (cases_lt 0 (spare_pages heap k)) [
               | inl more ↦ inl (gives_then k ne filler more)
@@ -269,7 +260,9 @@ module _ (heap : Heap) (n : ℕ) (huge : Huge) (sound : IsSound heap) (some : 0 
       nothing a l = omega arith
 
 -- Where none gives, or none has anything to give.
-pub spare_still : (heap : Heap) (n : ℕ) → ((k : ℕ) → 0 < k → k ≤ length heap.hugepages → is_filler (hugepage heap k) ≡ true → (gives_spare (spare_rows heap) n (spare_row heap k) ≡ false) ⊎ ((spare_pages heap k ≡ 0) × (only_used heap.runs k (hugepage heap k) ≡ hugepage heap k))) → spare_given heap n ≡ record { heap = heap; pages = 0 }
+pub spare_still : (heap : Heap) (n : ℕ) →
+    ((k : ℕ) → 0 < k → k ≤ length heap.hugepages → is_filler (hugepage heap k) ≡ true → (gives_spare (spare_rows heap) n (spare_row heap k) ≡ false) ⊎
+    ((spare_pages heap k ≡ 0) × (only_used heap.runs k (hugepage heap k) ≡ hugepage heap k))) → spare_given heap n ≡ record { heap = heap; pages = 0 }
 spare_still heap n none =
     let gives : ℕ → Bool = λ k. gives_spare (spare_rows heap) n (spare_row heap k) in
     let f : ℕ → Hugepage → Hugepage = λ k x. cond (is_filler x && gives k) (only_used heap.runs k x) x in
@@ -306,12 +299,17 @@ spare_zero heap n e = spare_still heap n (λ k _ _ t. inl (le-ltb (sum_by (λ r.
 
 pub spare_nothing : (heap : Heap) (n : ℕ) → IsSound heap → ((h : ℕ) → is_filler (hugepage heap h) ≡ true → spare_pages heap h ≡ 0) → spare_given heap n ≡ record { heap = heap; pages = 0 }
 spare_nothing heap n sound none =
-    spare_still heap n (λ k from to t. inr (none k t, spares_none heap.runs k (hugepage heap k) (sound.runs.fit k (record { from = from; to = subst (λ m. k ≤ m) sound.runs.arena to })).size (none k t)))
+    spare_still heap n (λ k from to t. inr (
+      none k t,
+      spares_none heap.runs k (hugepage heap k) (sound.runs.fit k (record { from = from; to = subst (λ m. k ≤ m) sound.runs.arena to })).size
+          (none k t),
+    ))
 
 -- one step leaves a sound heap
 pub one_spared : (heap : Heap) (huge : Huge) → IsSound heap → IsFirstGiver heap huge → IsSound (used_alone heap huge.0)
 one_spared heap huge sound is =
-    subst IsSound (ap (λ (r : Released). r.heap) (spare_next heap 1 huge sound (omega arith) is) ∙ ap (λ (r : Released). r.heap) (spare_zero (used_alone heap huge.0) (1 - spare_pages heap huge.0) (less _ is.some))) (spare_sound heap 1 sound)
+    subst IsSound (ap (λ (r : Released). r.heap) (spare_next heap 1 huge sound (omega arith) is)
+    ∙ ap (λ (r : Released). r.heap) (spare_zero (used_alone heap huge.0) (1 - spare_pages heap huge.0) (less _ is.some))) (spare_sound heap 1 sound)
   where
     less : (a : ℕ) → 0 < a → 1 - a ≡ 0
     less a l = omega arith
@@ -324,87 +322,89 @@ filler_in heap (suc k) e = elim (cases_lt k (length heap.hugepages)) [
   | inr past ↦ absurd (false≢true (ap is_filler (sym (get_or_past heap.hugepages k untouched past)) ∙ e))
 ]
 
--- One of the filler backs its used pages alone: what that keeps.
-module _ (old : Inside) (kept : IsKept old) (huge : Huge) (is : IsFirstGiver (heap_of old) huge) where
-  abbrev before : Heap
-  before = heap_of old
+measured_there : (heap : Heap) (h : ℕ) → is_filler (hugepage heap h) ≡ true → measures_at (measures heap) h ≡ Some (measures_of heap.runs h (hugepage heap h))
+measured_there heap h filler = (let in' = filler_in heap h filler in measures_there heap h in'.0 in'.1 ∙ measured_some heap.runs h (hugepage heap h) filler)
+
+-- One of the filler backs its used pages alone: what that asks, and what it makes.
+module _ (old : Inside) (heap : Heap) (whole : IsHeap old heap) (huge : Huge) (is : IsFirstGiver heap huge) where
+  sound : IsSound heap
+  sound = whole.well.sound
 
   abbrev then : Heap
-  then = used_alone before huge.0
+  then = used_alone heap huge.0
 
   abbrev change : ℕ → Hugepage → Hugepage
-  change k x = cond (spans 1 k huge.0) (only_used before.runs k x) x
-
-  pub spared_sound : IsSound then
-  spared_sound = one_spared before huge kept.well.sound is
+  change k x = cond (spans 1 k huge.0) (only_used heap.runs k x) x
 
   pub spared_span : IsSpan old.table huge.0 1 is_filler
-  spared_span = record {
-    from = is.own.from;
-    to = last_to _ _ _ kept.well.sound.runs.arena is.own.to;
-    all = λ k a b. (let same : huge.0 ≡ k = between k huge.0 a b in subst (λ i. is_filler (hugepage before i) ≡ true) same is.filler);
-  } where
-    last_to : (h a b : ℕ) → a ≡ b → h ≤ b → h + 1 ≤ a + 1
-    last_to h a b e l = omega arith
+  spared_span =
+      let size = ap length whole.shows.means.pages ∙ sound.runs.arena in
+      record {
+        from = is.own.from;
+        to = omega (arith, is.own.to);
+        all = λ k a b. (let same : huge.0 ≡ k = omega arith in ap (λ xs. is_filler (at xs k)) whole.shows.means.pages ∙ subst (λ i. is_filler (hugepage heap i) ≡ true) same is.filler);
+      }
 
-    between : (k h : ℕ) → h ≤ k → k < h + 1 → h ≡ k
-    between k h a b = omega arith
+  still_busy : (x : Hugepage) (b : Bool) (y : Hugepage) → is_free x ≡ false → is_free y ≡ false → (is_free x ≡ is_free (cond b y x)) × (is_free_backed x ≡ is_free_backed (cond b y x))
+  still_busy x true y e f = (e ∙ sym f, and_left _ _ e ∙ sym (and_left _ _ f))
+  still_busy x false y e f = (refl, refl)
 
-  pub spared_keeps : (t : Inside) → t.config ≡ old.config → Means t.table then → HasPlaces t.table → t.filler ≡ remeasured old.filler then huge.0 → t.cache ≡ old.cache → t.regions ≡ old.regions → t.used ≡ old.used → Results t then
-  spared_keeps t config means places filler cache regions used =
-      let sound = kept.well.sound in
-      same_results old kept then refl refl spared_sound
-      (routed_same before change before.counts sound (λ k x. elim (spans 1 k huge.0) as (λ b. (cond b (only_used before.runs k x) x).kind ≡ x.kind) [ true ↦ refl | false ↦ refl ]) kept.well.routed)
-      t config means places
-      (filler ∙ ap (λ rows. remeasured rows then huge.0) kept.shows.filler
-      ∙ measures_set before before.runs before.regions change before.counts sound.runs huge.0 is.own (λ k own' ne. ap (λ b. measured before.runs k (cond b (only_used before.runs k (hugepage before k)) (hugepage before k))) (sym (one_not k huge.0 ne))))
-      (cache ∙ kept.shows.cache ∙ cache_same before before.runs before.regions change before.counts sound.runs refl
-      (λ k own'. (let x = hugepage before k in elim (cases_eq k huge.0) [
+  pub spared_made : IsMade then old.config (remeasured old.filler then huge.0) old.cache old.regions old.used
+  spared_made = same_made old heap whole change
+      (λ k x. elim (spans 1 k huge.0) as (λ b. (cond b (only_used heap.runs k x) x).kind ≡ x.kind) [ true ↦ refl | false ↦ refl ])
+      (one_spared heap huge sound is) _ _
+      (ap (λ rows. remeasured rows then huge.0) whole.shows.filler
+      ∙ measures_set heap heap.runs change sound.runs huge.0 is.own
+      (λ k _ ne. ap (λ b. measured heap.runs k (cond b (only_used heap.runs k (hugepage heap k)) (hugepage heap k))) (sym (one_not k huge.0 ne))))
+      (whole.shows.cache ∙ cache_same heap change sound.runs
+      (λ k _. (let x = hugepage heap k in elim (cases_eq k huge.0) [
         | inl e ↦
-            (let busy : is_free x ≡ false = filler_not_free x (ap (λ i. is_filler (hugepage before i)) e ∙ is.filler) in
-            still_busy x (spans 1 k huge.0) (only_used before.runs k x) busy busy)
-        | inr ne ↦ subst (λ b. (is_free x ≡ is_free (cond b (only_used before.runs k x) x)) × (is_free_backed x ≡ is_free_backed (cond b (only_used before.runs k x) x))) (sym (one_not k huge.0 ne)) (refl, refl)
+            (let busy : is_free x ≡ false = filler_not_free x (ap (λ i. is_filler (hugepage heap i)) e ∙ is.filler) in
+            still_busy x (spans 1 k huge.0) (only_used heap.runs k x) busy busy)
+        | inr ne ↦ subst (λ b. (is_free x ≡ is_free (cond b (only_used heap.runs k x) x)) ×
+            (is_free_backed x ≡ is_free_backed (cond b (only_used heap.runs k x) x))) (sym (one_not k huge.0 ne)) (refl, refl)
       ])))
-      (regions ∙ kept.shows.regions)
-      used
-    where
-      still_busy : (x : Hugepage) (b : Bool) (y : Hugepage) → is_free x ≡ false → is_free y ≡ false → (is_free x ≡ is_free (cond b y x)) × (is_free_backed x ≡ is_free_backed (cond b y x))
-      still_busy x true y e f = (e ∙ sym f, and_left _ _ e ∙ sym (and_left _ _ f))
-      still_busy x false y e f = (refl, refl)
 
 -- What the filler says of the first to give.
-pub first_is : (t : Inside) → IsKept t → (huge : Huge) → IsCandidate t.filler huge → IsFirstGiver (heap_of t) huge
-first_is t kept huge given =
-    let heap : Heap = heap_of t in
-    let is = subst (λ rows. IsCandidate rows huge) kept.shows.filler given in
+pub first_is : (t : Inside) (heap : Heap) → IsHeap t heap → (huge : Huge) → IsCandidate t.filler huge → IsFirstGiver heap huge
+first_is t heap whole huge given =
+    let is = subst (λ rows. IsCandidate rows huge) whole.shows.filler given in
     let to : huge.0 ≤ length heap.hugepages = subst (λ m. huge.0 ≤ m) (length-measures heap) is.to in
     let its = its_there heap huge.0 is.measures is.from to is.row in
     let spare : is.measures.spare ≡ spare_pages heap huge.0 = ap (λ (m : Measures). m.spare) its.1 in
     record {
-      own = record { from = is.from; to = subst (λ m. huge.0 ≤ m) kept.well.sound.runs.arena to };
+      own = record { from = is.from; to = subst (λ m. huge.0 ≤ m) whole.well.sound.runs.arena to };
       filler = its.0;
       some = subst (λ m. 0 < m) spare is.some;
       first = λ h filler more ne.
           (let there = measured_there heap h filler in
-          subst (λ (m : Measures). gives_before (spare_row heap h) (record { number = huge.0; used = m.used; spare = m.spare }) ≡ true) its.1 (is.first h (measures_of heap.runs h (hugepage heap h)) there more ne));
+          subst (λ (m : Measures). gives_before (spare_row heap h) (record { number = huge.0; used = m.used; spare = m.spare }) ≡ true) its.1
+          (is.first h (measures_of heap.runs h (hugepage heap h)) there more ne));
     }
-  where
-    measured_there : (heap : Heap) (h : ℕ) → is_filler (hugepage heap h) ≡ true → measures_at (measures heap) h ≡ Some (measures_of heap.runs h (hugepage heap h))
-    measured_there heap h filler = (let in' = filler_in heap h filler in measures_there heap h in'.0 in'.1 ∙ measured_some heap.runs h (hugepage heap h) filler)
 
-pub none_is : (t : Inside) → IsKept t → ((h : ℕ) (its : Measures) → measures_at t.filler h ≡ Some its → its.spare ≡ 0) → (h : ℕ) → is_filler (hugepage (heap_of t) h) ≡ true → spare_pages (heap_of t) h ≡ 0
-none_is t kept none h filler =
-    let heap : Heap = heap_of t in
-    let in' = filler_in heap h filler in
-    none h (measures_of heap.runs h (hugepage heap h)) (ap (λ rows. measures_at rows h) kept.shows.filler ∙ measures_there heap h in'.0 in'.1 ∙ measured_some heap.runs h (hugepage heap h) filler)
+pub none_is : (t : Inside) (heap : Heap) → IsHeap t heap → ((h : ℕ) (its : Measures) → measures_at t.filler h ≡ Some its → its.spare ≡ 0) → (h : ℕ) →
+    is_filler (hugepage heap h) ≡ true → spare_pages heap h ≡ 0
+none_is t heap is none h filler = none h (measures_of heap.runs h (hugepage heap h)) (ap (λ rows. measures_at rows h) is.shows.filler ∙ measured_there heap h filler)
 
-pub spare_few : (t : Inside) (heap : Heap) (n : ℕ) → heap_of t ≡ heap → IsKept t → (spare_given heap n).pages ≤ 1048576
-spare_few t heap n view kept =
-    let sound = subst IsSound view kept.well.sound in
-    bounded _ _ _ _ (spare_counts heap n (λ h from to. (sound.runs.fit h (record { from = from; to = below _ _ _ to sound.runs.arena })).size)) (backed_most heap sound) (subst (λ (x : Heap). x.config.huge ≤ 4096) view kept.well.limits.huge_to)
+spare_few : (heap : Heap) (n : ℕ) → IsSound heap → heap.config.huge ≤ 4096 → (spare_given heap n).pages ≤ 1048576
+spare_few heap n sound few = bounded _ _ _ _ (spare_counts heap n (λ h from to. (sound.runs.fit h (record { from = from; to = below _ _ _ to sound.runs.arena })).size)) (backed_most heap sound) few
   where
     bounded : (a b c d : ℕ) → a + b ≡ c → c ≤ 256 * d → d ≤ 4096 → b ≤ 1048576
     bounded a b c d e f g = omega arith
 
     below : (h a b : ℕ) → h < 1 + a → a ≡ b → h ≤ b
     below h a b l e = omega arith
+
+-- Each source gives nothing where none is wanted, and no more than the arena has.
+pub given_zero : (source : Source) (heap : Heap) (n : ℕ) → n ≡ 0 → given_by source heap n ≡ record { heap = heap; pages = 0 }
+given_zero source.Free heap n e = whole_zero (map is_free_backed heap.hugepages) heap n e
+given_zero source.Regions heap n e = whole_zero (map (is_idle heap) (numbers heap)) heap n e
+given_zero source.Filler heap n e = spare_zero heap n e
+
+most_pages : (a b : ℕ) → a ≤ 256 * b → (c : ℕ) → b ≡ c → c ≤ 4096 → a ≤ 1048576
+most_pages a b l c e f = omega arith
+
+pub given_few : (source : Source) (heap : Heap) (n : ℕ) → IsSound heap → heap.config.huge ≤ 4096 → (given_by source heap n).pages ≤ 1048576
+given_few source.Free heap n sound few = most_pages _ _ (whole_few (map is_free_backed heap.hugepages) heap n) _ sound.runs.arena few
+given_few source.Regions heap n sound few = most_pages _ _ (whole_few (map (is_idle heap) (numbers heap)) heap n) _ sound.runs.arena few
+given_few source.Filler heap n sound few = spare_few heap n sound few

@@ -1,12 +1,6 @@
 -- Which runs are live after a call.
 use Rattle.std.proofs.Common.{◌≡◌, ◌≢◌, ℕ, ◌==◌, not, get_or, filter, Contains, sym, ap, subst, ◌∙◌}
-use Rattle.std.proofs.lemmas.Bool.{ne_eqb}
-use Rattle.tc_units.specs.declared.spans.Run.{Run}
-use Rattle.tc_units.proofs.SortedFacts.{Contains-new, Contains-old}
-use Rattle.heap_rules.specs.Heap.{Heap}
-use Rattle.heap_rules.specs.New.{Placed}
-use Rattle.heap_rules.specs.Laws.{IsGiven, IsRid}
-use Rattle.heap_rules.proofs.Live.{Contains-filter}
+use Rattle.page_heap.proofs.Common.{ne_eqb, Run, Contains-new, Contains-old, Heap, Placed, IsGiven, IsRid, Contains-filter}
 
 pub new_lives : (heap : Heap) (n : ℕ) (p : Placed) → IsGiven heap n p → Contains p.heap.runs p.run
 new_lives heap n p given = subst (λ rs. Contains rs p.run) (sym given.runs) (Contains-new (λ (r : Run). r.first.0) p.run heap.runs)

@@ -1,21 +1,12 @@
 -- What one live run more or less leaves as it was.
-use Rattle.std.proofs.Common.{◌≡◌, ℕ, zero, suc, ◌+◌, ◌*◌, ◌<◌, ◌≤◌, ◌==◌, Bool, true, false, not, ◌&&◌, cond, nat_lt, List, [], ◌∷◌, length, get_or, map, filter, count_by, sum_by, Contains, Option, Some, None, refl, sym, ap, ◌∙◌, inl, inr, arith}
-use Rattle.std.specs.List.{list_any, range_with_len}
-use Rattle.std.proofs.lemmas.Bool.{cases_Bool, false≢true, false_from_ne_true, eqb-true, eq-eqb}
+use Rattle.std.proofs.Common.{◌≡◌, ℕ, zero, suc, ◌+◌, ◌*◌, ◌<◌, ◌≤◌, ◌==◌, Bool, true, false, not, ◌&&◌, cond, nat_lt, List, [], ◌∷◌, length, get_or, map}
+use Rattle.std.proofs.Common.{filter, count_by, sum_by, Contains, Option, Some, None, refl, sym, ap, ◌∙◌, inl, inr, arith}
+use Rattle.page_heap.proofs.Common.{list_any, range_with_len, cases_Bool, false≢true, false_from_ne_true, eqb-true, eq-eqb, sum_by-cons, Run, count-cons}
+use Rattle.page_heap.proofs.Common.{any_is_count, count_some, count_le, one-true, one-false, without_none, Heap, Hugepage, tier, is_filler, backs, is_used}
+use Rattle.page_heap.proofs.Common.{reaches, used_row, allocation_count, pages_of, with_run, IsSound, count-with, counts_used, holds_from}
+use Rattle.page_heap.proofs.Common.{unreached_unheld, count_rest, longest, begins_on, Measures, spare_of, measured}
 use Rattle.std.proofs.lemmas.List.Folds.{Any-from_list_any}
-use Rattle.std.proofs.lemmas.List.Sums.{sum_by-cons}
-use Rattle.tc_units.specs.declared.spans.Run.{Run}
-use Rattle.tc_units.proofs.Counts.{count-cons, any_is_count, count_some, count_le, one-true, one-false}
-use Rattle.tc_units.proofs.SortedFacts.{without_none}
-use Rattle.heap_rules.specs.Heap.{Heap, Hugepage, tier, is_filler, backs, holds, is_used, reaches, used_from, used_row, allocation_count, pages_of, with_run, without_run}
-use Rattle.heap_rules.specs.Sound.{IsSound}
-use Rattle.heap_rules.proofs.Live.{count-with, counts_used}
-use Rattle.heap_rules.proofs.Fits.{holds_from, unreached_unheld}
-use Rattle.heap_rules.proofs.Left.{count_rest}
-use Rattle.range_bits.specs.Ranges.{longest}
-use Rattle.huge_table.specs.Means.{begins_on}
-use Rattle.huge_filler.specs.declared.measures.Measures.{Measures}
-use Rattle.page_heap.specs.Inside.{spare_of, measured}
+use Rattle.heap_rules.specs.Heap.{holds, used_from, without_run}
 
 -- Other live runs, of which as many pass each test that the one run fails.
 pub record IsStep (runs rest : List Run) (run : Run) : Type 0 where
@@ -59,18 +50,24 @@ module _ (runs rest : List Run) (run : Run) (step : IsStep runs rest run) where
     spare-away : (x : Hugepage) → spare_of rest h x ≡ spare_of runs h x
     spare-away x =
         sym (count-map (λ page. backs x page && not (is_used rest page)) (pages_of h))
-        ∙ ap (count_by (λ b. b)) (over_range (λ page. backs x page && not (is_used rest page)) (λ page. backs x page && not (is_used runs page)) (256 * h) 256 (λ page a b. ap (λ u. backs x page && not u) (used-away page (unheld page a b))))
+        ∙ ap (count_by (λ b. b))
+        (over_range (λ page. backs x page && not (is_used rest page)) (λ page. backs x page && not (is_used runs page)) (256 * h) 256
+        (λ page a b. ap (λ u. backs x page && not u) (used-away page (unheld page a b))))
         ∙ count-map (λ page. backs x page && not (is_used runs page)) (pages_of h)
 
     pub measured-away : (x : Hugepage) → measured rest h x ≡ measured runs h x
     measured-away x =
-        let made : List Bool → ℕ → ℕ → Option Measures = λ row allocs spare. cond (is_filler x) (Some (record { tier = tier x; longest = longest row; allocs = allocs; used = count_by (λ b. b) row; spare = spare; donated = x.donated })) None in
+        let made : List Bool → ℕ → ℕ → Option Measures =
+        λ row allocs spare. cond (is_filler x)
+        (Some (record { tier = tier x; longest = longest row; allocs = allocs; used = count_by (λ b. b) row; spare = spare; donated = x.donated }))
+        None in
         ap (λ row. made row (allocation_count rest h) (spare_of rest h x)) (row-away (256 * h) 256 unheld)
         ∙ ap (λ n. made (used_row runs h) n (spare_of rest h x)) (step.counts (reaches h) e)
         ∙ ap (made (used_row runs h) (allocation_count runs h)) (spare-away x)
 
 -- the pages of all runs but one that begins where no other does
-pub sum_rest : {X : Type 0} (f : X → ℕ) (q : X → Bool) (xs : List X) (k : ℕ) (d : X) → k < length xs → q (get_or xs k d) ≡ true → count_by q xs ≤ 1 → sum_by f (filter (λ x. not (q x)) xs) + f (get_or xs k d) ≡ sum_by f xs
+pub sum_rest : {X : Type 0} (f : X → ℕ) (q : X → Bool) (xs : List X) (k : ℕ) (d : X) → k < length xs → q (get_or xs k d) ≡ true → count_by q xs ≤ 1 →
+    sum_by f (filter (λ x. not (q x)) xs) + f (get_or xs k d) ≡ sum_by f xs
 sum_rest f q [] k d l t most = absurd (omega arith)
 sum_rest f q (x ∷ xs) zero d l t most =
     let a = count-cons q x xs in

@@ -1,27 +1,15 @@
--- A hugepage loses its backing, or the spare part of it: what that keeps.
-use Rattle.std.proofs.Common.{◌≡◌, ℕ, zero, suc, true, false, not, cond, length, Option, Some, None, IfSome, IfNone, refl, sym, ap, subst, ◌∙◌, inl, inr, arith}
-use Rattle.std.proofs.lemmas.Bool.{cases_Bool, cases_lt, cases_eq, and_parts, and_right, false≢true}
-use Rattle.std.proofs.lemmas.List.{length-map, get_or_past}
-use Rattle.tc_units.specs.declared.units.Huge.{Huge}
-use Rattle.heap_rules.specs.Heap.{Heap, Hugepage, hugepage, untouched, spans, is_free, is_free_backed}
-use Rattle.heap_rules.specs.Choice.{unready_row}
-use Rattle.heap_rules.specs.Settle.{unbacked}
-use Rattle.heap_rules.specs.Sound.{IsSound}
-use Rattle.huge_table.specs.Means.{Means, unbacked_span}
-use Rattle.huge_table.specs.Runs.{HasPlaces}
-use Rattle.huge_table.specs.Table.{IsSpan, is_even}
-use Rattle.huge_table.proofs.Shared.{free_even}
-use Rattle.heap_rules.proofs.Fits.{spans_from}
-use Rattle.huge_cache.specs.Cache.{is_backed, without_backing, IsLastBacked}
-use Rattle.page_heap.specs.declared.heap.PageHeap.TheInside.{Inside}
-use Rattle.page_heap.specs.Inside.{heap_of, measured, cache_of, IsKept}
-use Rattle.page_heap.specs.Gives.{IsLast}
+-- A hugepage that is free or of a region loses its backing: what that keeps.
+use Rattle.std.proofs.Common.{◌≡◌, ℕ, zero, suc, true, false, not, cond, length, Option, Some, None, IfSome, IfNone, refl, sym, ap, subst, ◌∙◌, inl, inr}
+use Rattle.std.proofs.Common.{arith}
+use Rattle.std.proofs.lemmas.Bool.{or_left, or_right}
+use Rattle.page_heap.proofs.Common.{cases_lt, cases_eq, and_parts, and_left, and_right, length-map, get_or_past, Huge, Heap, Hugepage, hugepage, untouched}
+use Rattle.page_heap.proofs.Common.{spans, is_free, is_free_backed, is_filler, is_region, unready_row, unbacked, IsHugepageOf, IsSound, at, unbacked_span}
+use Rattle.page_heap.proofs.Common.{IsSpan, is_even, Cache, is_backed, without_backing, IsLastBacked, Inside, measured, measures, cache_of, IsLast}
 use Rattle.page_heap.proofs.Numbered.{one_not}
-use Rattle.page_heap.proofs.Frames.{measures_same, measured_none, flags_set, flags_same, same_cache, backed_there}
+use Rattle.page_heap.proofs.Frames.{is_taken, is_unready, measures_same, measured_none, flags_set, flags_same, same_cache, cache_same, backed_there}
 use Rattle.page_heap.proofs.Filled.{free_not_filler}
-use Rattle.page_heap.proofs.Gives.{one_free}
-use Rattle.page_heap.proofs.Routed.{routed_same}
-use Rattle.page_heap.proofs.Results.{Results, same_results}
+use Rattle.page_heap.proofs.InRegion.{region_no_filler, region_busy}
+use Rattle.page_heap.proofs.Results.{IsHeap, IsMade, same_made}
 
 pub if_some : {X : Type 0} (o : Option X) (P Q : X → Type 0) → ((x : X) → P x → Q x) → IfSome o P → IfSome o Q
 if_some None P Q f h = tt
@@ -36,28 +24,32 @@ backed_all : (heap : Heap) (h : ℕ) → is_backed (cache_of heap) h ≡ is_free
 backed_all heap zero = refl
 backed_all heap (suc k) = elim (cases_lt k (length heap.hugepages)) [
   | inl inside ↦ backed_there heap (suc k) (omega arith) (omega arith)
-  | inr past ↦ (let len = length-map heap.hugepages (λ x. not (is_free_backed x)) in ap not (get_or_past (unready_row heap) k true (omega arith)) ∙ sym (ap is_free_backed (get_or_past heap.hugepages k untouched past)))
+  | inr past ↦ (let len = length-map heap.hugepages is_unready in ap not (get_or_past (unready_row heap) k true (omega arith)) ∙ sym (ap is_free_backed (get_or_past heap.hugepages k untouched past)))
 ]
 
-pub last_is : (t : Inside) → IsKept t → (huge : Huge) → IsLastBacked t.cache huge → IsLast (heap_of t) (λ h. is_free_backed (hugepage (heap_of t) h)) huge
-last_is t kept huge given =
-    let heap : Heap = heap_of t in
-    let is = subst (λ c. IsLastBacked c huge) kept.shows.cache given in
-    let len = length-map heap.hugepages (λ x. not (is_free_backed x)) in
-    let arena = kept.well.sound.runs.arena in
+pub last_is : (t : Inside) (heap : Heap) → IsHeap t heap → (huge : Huge) → IsLastBacked t.cache huge → IsLast heap (λ h. is_free_backed (hugepage heap h)) huge
+last_is t heap whole huge given =
+    let is = subst (λ c. IsLastBacked c huge) whole.shows.cache given in
+    let len = length-map heap.hugepages is_unready in
+    let arena = whole.well.sound.runs.arena in
     record {
       own = record { from = is.from; to = omega (arith, is.to) };
       passes = sym (backed_all heap huge.0) ∙ is.backed;
       behind = λ h past. sym (backed_all heap h) ∙ is.behind h past;
     }
 
-pub none_is : (t : Inside) → IsKept t → ((h : ℕ) → is_backed t.cache h ≡ false) → (h : ℕ) → is_free_backed (hugepage (heap_of t) h) ≡ false
-none_is t kept none h = sym (backed_all (heap_of t) h) ∙ ap (λ c. is_backed c h) (sym kept.shows.cache) ∙ none h
+pub none_is : (t : Inside) (heap : Heap) → IsHeap t heap → ((h : ℕ) → is_backed t.cache h ≡ false) → (h : ℕ) → is_free_backed (hugepage heap h) ≡ false
+none_is t heap is none h = sym (backed_all heap h) ∙ ap (λ c. is_backed c h) (sym is.shows.cache) ∙ none h
 
--- A free hugepage loses its backing.
-module _ (old : Inside) (kept : IsKept old) (huge : Huge) (is : IsLast (heap_of old) (λ h. is_free_backed (hugepage (heap_of old) h)) huge) where
-  abbrev heap : Heap
-  heap = heap_of old
+pub free_even : (x : Hugepage) → is_free_backed x ≡ true → is_even x ≡ true
+free_even x e = or_left (is_free x) (is_region x) (and_parts _ _ e).0
+
+pub region_even : (x : Hugepage) → is_region x ≡ true → is_even x ≡ true
+region_even x e = or_right (is_free x) (is_region x) e
+
+module _ (old : Inside) (heap : Heap) (is : IsHeap old heap) (huge : Huge) (own : IsHugepageOf heap.config.huge huge.0) where
+  sound : IsSound heap
+  sound = is.well.sound
 
   abbrev after : Heap
   after = unbacked_span heap huge.0 1
@@ -65,35 +57,60 @@ module _ (old : Inside) (kept : IsKept old) (huge : Huge) (is : IsLast (heap_of 
   abbrev f : ℕ → Hugepage → Hugepage
   f k x = cond (spans 1 k huge.0) (unbacked x) x
 
-  sound : IsSound heap
-  sound = kept.well.sound
+  pub unback_span : is_even (hugepage heap huge.0) ≡ true → IsSpan old.table huge.0 1 is_even
+  unback_span e =
+      let size = ap length is.shows.means.pages ∙ sound.runs.arena in
+      record {
+        from = own.from;
+        to = omega (arith, own.to);
+        all = λ k a b. (let same : huge.0 ≡ k = omega arith in ap (λ xs. is_even (at xs k)) is.shows.means.pages ∙ subst (λ i. is_even (hugepage heap i) ≡ true) same e);
+      }
 
-  was_free : (k : ℕ) → spans 1 k huge.0 ≡ true → is_free (hugepage heap k) ≡ true
-  was_free k e = elim (cases_eq k huge.0) [
-    | inl same ↦ ap (λ i. is_free (hugepage heap i)) same ∙ (and_parts _ _ is.passes).0
-    | inr other ↦ absurd (false≢true (sym (one_not k huge.0 other) ∙ e))
-  ]
+  -- the filler, where it isn't the filler's
+  still_measured : is_filler (hugepage heap huge.0) ≡ false → measures heap ≡ measures after
+  still_measured other = measures_same heap heap.runs f sound.runs (λ k _. (let x = hugepage heap k in
+      elim (cases_eq k huge.0) [
+        | inl e ↦
+            (let none : is_filler x ≡ false = ap (λ i. is_filler (hugepage heap i)) e ∙ other in
+            measured_none heap.runs k x none
+            ∙ sym (elim (spans 1 k huge.0) as (λ b. measured heap.runs k (cond b (unbacked x) x) ≡ None)
+            [ true ↦ measured_none heap.runs k (unbacked x) none | false ↦ measured_none heap.runs k x none ]))
+        | inr ne ↦ sym (ap (λ b. measured heap.runs k (cond b (unbacked x) x)) (one_not k huge.0 ne))
+      ]))
 
-  pub unback_span : IsSpan old.table huge.0 1 is_even
-  unback_span = let arena = sound.runs.arena in record { from = is.own.from; to = omega (arith, is.own.to); all = λ k a b. free_even (hugepage heap k) (was_free k (spans_from 1 k huge.0 a b)) }
+  made : IsSound after → (cache : Cache) → is_filler (hugepage heap huge.0) ≡ false → cache ≡ cache_of after → IsMade after old.config old.filler cache old.regions old.used
+  made sound' cache other free = same_made old heap is f
+      (λ k x. elim (spans 1 k huge.0) as (λ b. (cond b (unbacked x) x).kind ≡ x.kind) [ true ↦ refl | false ↦ refl ])
+      sound' old.filler cache (is.shows.filler ∙ still_measured other) free
 
-  pub unback_backed : is_backed old.cache huge.0 ≡ true
-  unback_backed = ap (λ c. is_backed c huge.0) kept.shows.cache ∙ backed_all heap huge.0 ∙ is.passes
-
-  pub unback_keeps : (t : Inside) → t.config ≡ old.config → Means t.table after → HasPlaces t.table → t.filler ≡ old.filler → t.cache ≡ without_backing old.cache huge.0 → t.regions ≡ old.regions → t.used ≡ old.used → Results t after
-  unback_keeps t config means places filler cache regions used =
+  -- a free one
+  pub free_made : is_free_backed (hugepage heap huge.0) ≡ true → IsSound after → IsMade after old.config old.filler (without_backing old.cache huge.0) old.regions old.used
+  free_made passes sound' =
       let arena = sound.runs.arena in
-      same_results old kept after refl refl (one_free heap huge sound is)
-      (routed_same heap f heap.counts sound (λ k x. elim (spans 1 k huge.0) as (λ b. (cond b (unbacked x) x).kind ≡ x.kind) [ true ↦ refl | false ↦ refl ]) kept.well.routed)
-      t config means places
-      (filler ∙ kept.shows.filler ∙ measures_same heap heap.runs heap.regions f heap.counts sound.runs
-      (λ k own. (let x = hugepage heap k in elim (cases_Bool (spans 1 k huge.0)) [
-        | inl e ↦ measured_none heap.runs k x (free_not_filler x (was_free k e)) ∙ sym (ap (λ b. measured heap.runs k (cond b (unbacked x) x)) e ∙ measured_none heap.runs k (unbacked x) (free_not_filler x (was_free k e)))
-        | inr e ↦ sym (ap (λ b. measured heap.runs k (cond b (unbacked x) x)) e)
+      made sound' (without_backing old.cache huge.0) (free_not_filler (hugepage heap huge.0) (and_parts _ _ passes).0)
+      (ap (λ c. without_backing c huge.0) is.shows.cache
+      ∙ same_cache (without_backing (cache_of heap) huge.0) _ _
+      (flags_same heap f sound.runs is_taken
+      (λ k _. (let x = hugepage heap k in elim (spans 1 k huge.0) as (λ b. not (is_free x) ≡ not (is_free (cond b (unbacked x) x)))
+      [ true ↦ refl | false ↦ refl ])))
+      (flags_set heap f sound.runs is_unready huge.0 true own.from (omega (arith, own.to))
+      (λ k _. (let x = hugepage heap k in
+      elim (spans 1 k huge.0) as (λ b. cond b true (not (is_free_backed x)) ≡ not (is_free_backed (cond b (unbacked x) x)))
+      [ true ↦ ap not (sym (and_right (is_free x) false refl)) | false ↦ refl ]))))
+
+  -- one of a region
+  pub idle_made : is_region (hugepage heap huge.0) ≡ true → IsSound after → IsMade after old.config old.filler old.cache old.regions old.used
+  idle_made region sound' = made sound' old.cache (region_no_filler (hugepage heap huge.0) region)
+      (is.shows.cache ∙ cache_same heap f sound.runs
+      (λ k _. (let x = hugepage heap k in
+      let P : Hugepage → Type 0 = λ y. (is_free x ≡ is_free y) × (is_free_backed x ≡ is_free_backed y) in
+      elim (cases_eq k huge.0) [
+        | inl e ↦
+            (let busy = region_busy x (ap (λ i. is_region (hugepage heap i)) e ∙ region) in
+            elim (spans 1 k huge.0) as (λ b. P (cond b (unbacked x) x)) [ true ↦ (refl, and_left _ _ busy ∙ sym (and_left _ _ busy)) | false ↦ (refl, refl) ])
+        | inr ne ↦ subst (λ b. P (cond b (unbacked x) x)) (sym (one_not k huge.0 ne)) (refl, refl)
       ])))
-      (cache ∙ ap (λ c. without_backing c huge.0) kept.shows.cache
-      ∙ sym (same_cache (record (cache_of heap) { taken = _; unready = _ }) _ _
-      (sym (flags_same heap heap.runs heap.regions f heap.counts sound.runs (λ x. not (is_free x)) (λ k own. (let x = hugepage heap k in elim (spans 1 k huge.0) as (λ b. not (is_free x) ≡ not (is_free (cond b (unbacked x) x))) [ true ↦ refl | false ↦ refl ]))))
-      (sym (flags_set heap heap.runs heap.regions f heap.counts sound.runs (λ x. not (is_free_backed x)) huge.0 true is.own.from (omega (arith, is.own.to)) (λ k own. (let x = hugepage heap k in elim (spans 1 k huge.0) as (λ b. cond b true (not (is_free_backed x)) ≡ not (is_free_backed (cond b (unbacked x) x))) [ true ↦ ap not (sym (and_right (is_free x) false refl)) | false ↦ refl ]))))))
-      (regions ∙ kept.shows.regions)
-      used
+
+-- what the cache asks
+pub free_backed : (old : Inside) (heap : Heap) → IsHeap old heap → (h : ℕ) → is_free_backed (hugepage heap h) ≡ true → is_backed old.cache h ≡ true
+free_backed old heap is h passes = ap (λ c. is_backed c h) is.shows.cache ∙ backed_all heap h ∙ passes

@@ -5,8 +5,10 @@ use Rattle.heap_rules.specs.Heap.{Heap, hugepage, is_filler, is_free_backed}
 use Rattle.heap_rules.specs.CacheFlags.{limit}
 use Rattle.heap_rules.specs.Settle.{counted}
 use Rattle.heap_rules.specs.GiveUp.{gives_before}
-use Rattle.heap_rules.specs.Release.{Released, spare_pages, spare_row}
+use Rattle.heap_rules.specs.Release.{Released, free_given, is_idle, idle_given, spare_given, spare_pages, spare_row}
 use Rattle.heap_rules.specs.Sound.{IsHugepageOf}
+use Rattle.page_heap.specs.declared.source.Source.{Source}
+use Rattle.page_heap.specs.declared.source.Source.TheVariants as source
 
 -- the heap with its use count, and how many free hugepages are backed above the limit
 abbrev pub noted : Heap → Heap
@@ -31,3 +33,20 @@ pub record IsFirstGiver (heap : Heap) (huge : Huge) : Type 0 where
   pub filler : is_filler (hugepage heap huge.0) ≡ true
   pub some : 0 < spare_pages heap huge.0
   pub first : (h : ℕ) → is_filler (hugepage heap h) ≡ true → 0 < spare_pages heap h → h ≢ huge.0 → gives_before (spare_row heap h) (spare_row heap huge.0) ≡ true
+
+-- What a source gives while n pages are wanted, and which of its hugepages gives next.
+abbrev pub given_by : Source → Heap → ℕ → Released
+given_by source.Free heap n = free_given heap n
+given_by source.Regions heap n = idle_given heap n
+given_by source.Filler heap n = spare_given heap n
+
+abbrev pub IsNext : Source → Heap → Huge → Type 0
+IsNext source.Free heap huge = IsLast heap (λ h. is_free_backed (hugepage heap h)) huge
+IsNext source.Regions heap huge = IsLast heap (is_idle heap) huge
+IsNext source.Filler heap huge = IsFirstGiver heap huge
+
+-- none of the regions' hugepages behind a number gives any more
+abbrev pub IsPast : Source → Heap → ℕ → Type 0
+IsPast source.Free heap above = Unit
+IsPast source.Regions heap above = (h : ℕ) → above < h → is_idle heap h ≡ false
+IsPast source.Filler heap above = Unit

@@ -6,7 +6,7 @@ use Rattle.heap_rules.specs.Heap.{Heap, Hugepage, backs, tier, is_used, pages_of
 use Rattle.heap_rules.specs.Choice.{taken_row, unready_row, region_rows}
 use Rattle.heap_rules.specs.Sound.{AreLimits, IsSound}
 use Rattle.huge_table.specs.Means.{Means}
-use Rattle.huge_table.specs.Runs.{runs_of, AreInOrder, HasPlaces}
+use Rattle.huge_table.specs.Runs.{runs_of, AreInOrder, TellsRuns}
 use Rattle.huge_filler.specs.declared.measures.Measures.{Measures}
 use Rattle.huge_cache.specs.Cache.{Cache}
 use Rattle.huge_region.specs.Regions.{Regions}
@@ -43,7 +43,7 @@ regions_of heap = record { huge = heap.config.huge; width = heap.config.region; 
 pub record Shows (t : Inside) (heap : Heap) : Type 0 where
   pub config : t.config ≡ heap.config
   pub means : Means t.table heap
-  pub places : HasPlaces t.table
+  pub runs : TellsRuns t.table
   pub filler : t.filler ≡ measures heap
   pub cache : t.cache ≡ cache_of heap
   pub regions : t.regions ≡ regions_of heap

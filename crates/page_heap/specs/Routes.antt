@@ -10,6 +10,7 @@ use Rattle.heap_rules.specs.Heap.{Heap, hugepage}
 pub record IsInOneHugepage (heap : Heap) (run : Run) : Type 0 where
   pub filler : (hugepage heap (run.first.0 / huge_pages)).kind ≡ kind.Filler
   pub ends : run.first.0 % huge_pages + run.pages ≤ huge_pages
+  pub below : run.pages < huge_pages
 
 pub record IsInHugepages (heap : Heap) (run : Run) : Type 0 where
   pub begins : run.first.0 % huge_pages ≡ 0

@@ -4,7 +4,7 @@ use Rattle.std.specs.List.{list_all}
 use Rattle.tc_units.specs.Units.{huge_pages}
 use Rattle.tc_units.specs.declared.spans.Run.{Run}
 use Rattle.tc_units.specs.declared.rows.RowView.{RowView}
-use Rattle.heap_rules.specs.Heap.{Heap, Hugepage, hugepage, is_free, is_kind_filler}
+use Rattle.heap_rules.specs.Heap.{Heap, Hugepage, hugepage, is_free, is_kind_free, is_kind_filler}
 use Rattle.heap_rules.specs.New.{Placed}
 use Rattle.heap_rules.specs.Sound.{IsSound}
 use Rattle.huge_table.specs.Table.{Table}
@@ -30,9 +30,9 @@ measures_by row = if is_kind_filler row.kind then Some (record { tier = (if row.
 abbrev pub remeasured : List (Option Measures) → Heap → ℕ → List (Option Measures)
 remeasured all heap h = slice_set all (h - 1) (measured heap.runs h (hugepage heap h))
 
--- the free hugepages with hugepage h, where it is free
+-- the free hugepages with hugepage h, where it is free, by how it is shown and as it is
+abbrev pub with_shown : Cache → ℕ → RowView → Cache
+with_shown cache h row = if is_kind_free row.kind then with_huge cache h (row.backed == huge_pages) else cache
+
 abbrev pub with_freed : Cache → ℕ → Hugepage → Cache
 with_freed cache h x = if is_free x then with_huge cache h (list_all (λ b. b) x.backed) else cache
-
-abbrev pub with_tail_freed : Cache → ℕ → ℕ → Hugepage → Cache
-with_tail_freed cache part h x = if part == 0 then cache else with_freed cache h x

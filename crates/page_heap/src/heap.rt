@@ -11,7 +11,7 @@ ghost use Rattle.heap_rules.specs.Laws.{IsGiven, IsRid, BacksNone};
 ghost use Rattle.heap_rules.specs.Sound.{AreLimits, IsSound};
 ghost use Rattle.page_heap.specs.Told.{answered};
 
-use crate::told::has_places;
+use crate::told::tells_runs;
 use heap_rules::HeapConfig;
 use huge_cache::HugeCache;
 use huge_filler::HugeFiller;
@@ -53,7 +53,7 @@ impl PageHeap {
         ensures sound { IfOk result IsSound }
     {
         let table = HugeTable::open(alloc, config.huge)?;
-        has_places(&table);
+        tells_runs(&table);
         Ok(PageHeap {
             config: *config,
             table,
@@ -137,9 +137,8 @@ impl PageHeap {
         ensures sound { IsSound self.old }
     {
         match self.table.kind(huge_of(run.first)) {
-            RowKind::Filler => self.free_in_filler(run),
             RowKind::Region => self.free_in_region(run),
-            RowKind::Free | RowKind::Run => self.free_whole(run),
+            RowKind::Free | RowKind::Run | RowKind::Filler => self.free_in_hugepages(run),
         }
     }
 

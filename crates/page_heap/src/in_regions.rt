@@ -9,7 +9,7 @@ ghost use Rattle.heap_rules.specs.New.{in_region, in_new_region, slack};
 ghost use Rattle.heap_rules.specs.Free.{given_back};
 ghost use Rattle.page_heap.specs.Routes.{IsInRegion};
 ghost use Rattle.page_heap.specs.Told.{IsTold, answered};
-ghost use Rattle.page_heap.specs.Freed.{freed_run};
+ghost use Rattle.page_heap.specs.Freed.{AreFreed};
 ghost use Rattle.huge_table.specs.Table.{IsSpan};
 ghost use Rattle.huge_cache.specs.Cache.{holds};
 
@@ -26,12 +26,13 @@ fn give_freed(cache: &mut HugeCache, table: &HugeTable, first: Huge, width: u32)
     requires unready { length cache.old.unready ≡ length table.now.pages }
     requires out { (h : ℕ) → first.0 ≤ h → h < first.0 + width → holds cache.old h ≡ false }
     requires told { (heap : Heap) × IsTold table.now heap }
-    ensures { (heap : Heap) → IsTold table.now heap → cache.new ≡ freed_run cache.old heap first.0 width }
+    ensures { (heap : Heap) → IsTold table.now heap → AreFreed cache.old cache.new heap first.0 width }
 {
     // The arena has at most 4,096 hugepages.
     let _huge = table.huge();
     for place in 0..width {
-        give_emptied(cache, table, Huge(first.0 + place as u16));
+        let huge = Huge(first.0 + place as u16);
+        give_emptied(cache, huge, table.row(huge));
     }
 }
 

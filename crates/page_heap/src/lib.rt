@@ -7,6 +7,7 @@ mod in_regions;
 mod releases;
 mod shown;
 mod small;
+mod source;
 #[cfg(test)]
 mod tests;
 mod told;

@@ -1,16 +1,17 @@
 //! How many free hugepages stay backed, and who gives pages up.
-ghost use Rattle.std.specs.Prelude.{◌≡◌, ℕ, ◌*◌, ◌≤◌, ◌↔◌, ◌&&◌, ◌==◌, true, false, IfSome, IfNone};
+ghost use Rattle.std.specs.Prelude.{◌≡◌, ℕ, ◌-◌, ◌*◌, ◌<◌, ◌≤◌, ◌↔◌, ◌&&◌, ◌==◌, true, false, IfSome, IfNone};
 ghost use Rattle.tc_units.specs.Units.{huge_pages};
-ghost use Rattle.heap_rules.specs.Heap.{hugepage, is_filler, is_free_backed, is_kind_region};
+ghost use Rattle.heap_rules.specs.Heap.{is_kind_region};
 ghost use Rattle.heap_rules.specs.Settle.{settled};
-ghost use Rattle.heap_rules.specs.Release.{is_idle, spare_pages, release, free_given, idle_given, spare_given, givable_pages};
+ghost use Rattle.heap_rules.specs.Release.{is_idle, release, free_given, idle_given, spare_given, givable_pages};
 ghost use Rattle.heap_rules.specs.Laws.{IsReleased, BacksNone};
 ghost use Rattle.heap_rules.specs.Sound.{IsHugepageOf, IsSound};
-ghost use Rattle.huge_table.specs.Means.{unbacked_span, used_alone};
-ghost use Rattle.page_heap.specs.Gives.{noted, over_limit, IsLast, IsFirstGiver};
+ghost use Rattle.page_heap.specs.Gives.{noted, over_limit, behind, given_by, IsNext, IsPast};
+ghost use Rattle.page_heap.specs.declared.source.Source.TheVariants as source;
 
 use crate::heap::PageHeap;
-use crate::told::{has_places, measure};
+use crate::source::Source;
+use crate::told::{measure, tells_runs};
 use tc_units::{HUGE_PAGES, Huge, RowKind, RowView};
 
 /// Whether a row shows a region's hugepage that is backed and has no used page.
@@ -40,48 +41,28 @@ impl PageHeap {
         ensures sound { IsSound self.new }
     {
         let over = self.note_use();
-        let _pages = self.release_free(over);
+        let _pages = self.release_from(Source::Free, over);
     }
 
     /// A free hugepage loses its backing.
     fn unback_free(&mut self, huge: Huge)
-        requires { IsLast self.old (λ h. is_free_backed (hugepage self.old h)) huge }
-        ensures { self.new ≡ unbacked_span self.old huge.0 1 }
+        requires { IsNext source.Free self.old huge }
+        ensures { (n : ℕ) → 0 < n → free_given self.old n ≡ behind huge_pages (free_given self.new (n - huge_pages)) }
     {
         self.table.unback(huge, 1);
-        has_places(&self.table);
+        tells_runs(&self.table);
         self.cache.unback(huge);
     }
 
     /// The free and backed hugepage of greatest number.
     fn last_backed(&self) -> Option<Huge>
-        ensures last { IfSome result (IsLast self.now (λ h. is_free_backed (hugepage self.now h))) }
-        ensures none { IfNone result ((h : ℕ) → is_free_backed (hugepage self.now h) ≡ false) }
-        ensures sound { IsSound self.now }
+        ensures last { IfSome result (IsNext source.Free self.now) }
+        ensures none { IfNone result ((n : ℕ) → free_given self.now n ≡ record { heap = self.now; pages = 0 }) }
     {
         self.cache.last_backed()
     }
 
-    /// Unbacks free hugepages while fewer than `n` pages are unbacked. Answers how many are.
-    fn release_free(&mut self, n: u64) -> u64
-        ensures given { free_given self.old n ≡ record { heap = self.new; pages = result } }
-        ensures few { result ≤ 1048576 }
-        ensures sound { IsSound self.old }
-    {
-        // The arena has at most 4,096 hugepages.
-        let _ = &self.config;
-        let mut given = 0;
-        while given < n {
-            let Some(huge) = self.last_backed() else {
-                return given;
-            };
-            self.unback_free(huge);
-            given += u64::from(HUGE_PAGES);
-        }
-        given
-    }
-
-    /// Whether a hugepage is a region's and backed, and has no used page.
+    /// Whether a hugepage of the arena is a region's, is backed, and has no used page.
     fn is_idle(&self, huge: Huge) -> bool
         requires { IsHugepageOf self.now.config.huge huge.0 }
         ensures { result ≡ is_idle self.now huge.0 }
@@ -89,13 +70,15 @@ impl PageHeap {
         shows_idle(self.table.row(huge))
     }
 
-    /// The hugepage of greatest number that is a region's and backed, and has no used page.
-    fn last_idle(&self) -> Option<Huge>
-        ensures last { IfSome result (IsLast self.now (is_idle self.now)) }
-        ensures none { IfNone result ((h : ℕ) → is_idle self.now h ≡ false) }
-        ensures sound { IsSound self.now }
+    /// The hugepage of greatest number that is a region's and backed, and has no used page. None behind number
+    /// `most` is.
+    fn last_idle(&self, most: u32) -> Option<Huge>
+        requires behind { IsPast source.Regions self.now most }
+        requires small { most < 65536 }
+        ensures last { IfSome result (IsNext source.Regions self.now) }
+        ensures none { IfNone result ((n : ℕ) → idle_given self.now n ≡ record { heap = self.now; pages = 0 }) }
     {
-        let mut above = self.config.huge;
+        let mut above = most;
         while above > 0 {
             let huge = self.regions.last_upto(Huge(above as u16))?;
             if self.is_idle(huge) {
@@ -108,64 +91,81 @@ impl PageHeap {
 
     /// An unused hugepage of a region loses its backing.
     fn unback_idle(&mut self, huge: Huge)
-        requires { IsLast self.old (is_idle self.old) huge }
-        ensures { self.new ≡ unbacked_span self.old huge.0 1 }
+        requires { IsNext source.Regions self.old huge }
+        ensures given { (n : ℕ) → 0 < n → idle_given self.old n ≡ behind huge_pages (idle_given self.new (n - huge_pages)) }
+        ensures past { IsPast source.Regions self.new (huge.0 - 1) }
     {
         self.table.unback(huge, 1);
-        has_places(&self.table);
-    }
-
-    /// Unbacks hugepages of regions that have no used page.
-    fn release_idle(&mut self, n: u64) -> u64
-        ensures given { idle_given self.old n ≡ record { heap = self.new; pages = result } }
-        ensures few { result ≤ 1048576 }
-    {
-        // The arena has at most 4,096 hugepages.
-        let _ = &self.config;
-        let mut given = 0;
-        while given < n {
-            let Some(huge) = self.last_idle() else {
-                return given;
-            };
-            self.unback_idle(huge);
-            given += u64::from(HUGE_PAGES);
-        }
-        given
+        tells_runs(&self.table);
     }
 
     /// The hugepage of the filler that gives pages up first.
     fn candidate(&self) -> Option<Huge>
-        ensures found { IfSome result (IsFirstGiver self.now) }
-        ensures none { IfNone result ((h : ℕ) → is_filler (hugepage self.now h) ≡ true → spare_pages self.now h ≡ 0) }
-        ensures sound { IsSound self.now }
+        ensures found { IfSome result (IsNext source.Filler self.now) }
+        ensures none { IfNone result ((n : ℕ) → spare_given self.now n ≡ record { heap = self.now; pages = 0 }) }
     {
         self.filler.candidate()
     }
 
     /// A hugepage of the filler backs its used pages alone. Answers how many pages lose their backing.
     fn give_spare(&mut self, huge: Huge) -> u32
-        requires { IsFirstGiver self.old huge }
-        ensures heap { self.new ≡ used_alone self.old huge.0 }
-        ensures pages { result ≡ spare_pages self.old huge.0 }
+        requires { IsNext source.Filler self.old huge }
+        ensures given { (n : ℕ) → 0 < n → spare_given self.old n ≡ behind result (spare_given self.new (n - result)) }
+        ensures some { 0 < result }
     {
         let pages = self.table.only_used(huge);
         measure(&mut self.filler, &self.table, huge);
         pages
     }
 
-    /// Unbacks the unused pages of the filler's hugepages.
-    fn release_spare(&mut self, n: u64) -> u64
-        ensures given { spare_given self.old n ≡ record { heap = self.new; pages = result } }
-        ensures few { result ≤ 1048576 }
+    /// The hugepage of a source that gives pages up next. None of its hugepages behind number `most` does.
+    fn next_giver(&self, source: Source, most: u32) -> Option<Huge>
+        requires behind { IsPast source self.now most }
+        requires small { most < 65536 }
+        ensures next { IfSome result (IsNext source self.now) }
+        ensures none { IfNone result ((n : ℕ) → given_by source self.now n ≡ record { heap = self.now; pages = 0 }) }
     {
-        // The arena has at most 4,096 hugepages.
-        let _ = &self.config;
+        match source {
+            Source::Free => self.last_backed(),
+            Source::Regions => self.last_idle(most),
+            Source::Filler => self.candidate(),
+        }
+    }
+
+    /// The next one gives its pages up. Answers how many lose their backing.
+    fn give_up(&mut self, source: Source, huge: Huge) -> u32
+        requires { IsNext source self.old huge }
+        ensures given { (n : ℕ) → 0 < n → given_by source self.old n ≡ behind result (given_by source self.new (n - result)) }
+        ensures some { 0 < result }
+        ensures past { IsPast source self.new (huge.0 - 1) }
+    {
+        match source {
+            Source::Free => {
+                self.unback_free(huge);
+                HUGE_PAGES
+            }
+            Source::Regions => {
+                self.unback_idle(huge);
+                HUGE_PAGES
+            }
+            Source::Filler => self.give_spare(huge),
+        }
+    }
+
+    /// Unbacks what a source gives while fewer than `n` pages are unbacked. Answers how many are.
+    fn release_from(&mut self, source: Source, n: u64) -> u64
+        ensures given { given_by source self.old n ≡ record { heap = self.new; pages = result } }
+        ensures few { result ≤ 1048576 }
+        ensures sound { IsSound self.old }
+    {
+        let mut most = self.config.huge;
         let mut given = 0;
         while given < n {
-            let Some(huge) = self.candidate() else {
+            let Some(huge) = self.next_giver(source, most) else {
                 return given;
             };
-            given += u64::from(self.give_spare(huge));
+            given += u64::from(self.give_up(source, huge));
+            most = u32::from(huge.0) - 1;
         }
         given
     }
@@ -178,9 +178,9 @@ impl PageHeap {
         ensures backs_none { BacksNone self.old self.new }
         ensures enough { n ≤ result ↔ n ≤ givable_pages self.old }
     {
-        let free = self.release_free(n);
-        let idle = self.release_idle(n.saturating_sub(free));
-        let spare = self.release_spare(n.saturating_sub(free + idle));
+        let free = self.release_from(Source::Free, n);
+        let idle = self.release_from(Source::Regions, n.saturating_sub(free));
+        let spare = self.release_from(Source::Filler, n.saturating_sub(free + idle));
         free + idle + spare
     }
 }

@@ -1,18 +1,16 @@
 //! Runs below a hugepage's pages, in a hugepage of the filler.
-ghost use Rattle.std.specs.Prelude.{◌≡◌, ◌<◌, not, true, Some, IfNone, Contains, option_map};
+ghost use Rattle.std.specs.Prelude.{◌≡◌, ◌<◌, not, true, Some, IfNone, option_map};
 ghost use Rattle.std.specs.List.{list_all};
 ghost use Rattle.tc_units.specs.Units.{huge_pages};
 ghost use Rattle.heap_rules.specs.Heap.{run_at};
-ghost use Rattle.heap_rules.specs.Choice.{filler_rows, run_choice};
+ghost use Rattle.heap_rules.specs.Choice.{filler_rows};
 ghost use Rattle.heap_rules.specs.FillerRows.{has_room, filler_place};
-ghost use Rattle.heap_rules.specs.New.{in_filler, in_fresh};
-ghost use Rattle.heap_rules.specs.Free.{given_back};
-ghost use Rattle.page_heap.specs.Routes.{IsInOneHugepage};
+ghost use Rattle.heap_rules.specs.New.{in_filler};
 ghost use Rattle.page_heap.specs.Told.{answered};
 
 use crate::heap::PageHeap;
-use crate::told::{give_emptied, measure};
-use tc_units::{HUGE_PAGES, Huge, Page, Run, first_page, huge_of};
+use crate::told::measure;
+use tc_units::{HUGE_PAGES, Page, Run, huge_of};
 
 impl PageHeap {
     /// Where a run goes in a hugepage of the filler that has room.
@@ -29,6 +27,7 @@ impl PageHeap {
     /// A run comes where the filler has a place for it.
     fn join_filler(&mut self, first: Page, n: u32) -> Run
         requires some { 0 < n }
+        requires below { n < huge_pages }
         requires place { filler_place (filler_rows self.old) n ≡ Some first.0 }
         ensures heap { self.new ≡ (in_filler self.old n first.0).heap }
         ensures run { result ≡ run_at first.0 n }
@@ -50,47 +49,5 @@ impl PageHeap {
     {
         let first = self.find_in_filler(n)?;
         Some(self.join_filler(first, n))
-    }
-
-    /// The filler gets a free hugepage, for a run.
-    fn join_fresh(&mut self, huge: Huge, n: u32) -> Run
-        requires some { 0 < n }
-        requires below { n < huge_pages }
-        requires place { run_choice self.old 1 ≡ Some huge.0 }
-        ensures heap { self.new ≡ (in_fresh self.old n huge.0).heap }
-        ensures run { result ≡ (in_fresh self.old n huge.0).run }
-    {
-        self.table.join_fresh(huge, n);
-        self.cache.take_out(huge, 1);
-        measure(&mut self.filler, &self.table, huge);
-        self.used += u64::from(n);
-        Run {
-            first: first_page(huge),
-            pages: n,
-        }
-    }
-
-    /// Places a run below a hugepage's pages in a free hugepage, which is the filler's then.
-    pub(crate) fn new_in_fresh(&mut self, n: u32) -> Option<Run>
-        requires some { 0 < n }
-        requires below { n < huge_pages }
-        ensures new { option_map (in_fresh self.old n) (run_choice self.old 1) ≡ answered self.new result }
-        ensures same { IfNone result (self.new ≡ self.old) }
-    {
-        let huge = self.cache.find_run(1)?;
-        Some(self.join_fresh(huge, n))
-    }
-
-    /// Frees a run in a hugepage of the filler, which is free when its last run has left.
-    pub(crate) fn free_in_filler(&mut self, run: Run)
-        requires live { Contains self.old.runs run }
-        requires route { IsInOneHugepage self.old run }
-        ensures { self.new ≡ given_back self.old run }
-    {
-        self.table.leave(run);
-        let huge = huge_of(run.first);
-        measure(&mut self.filler, &self.table, huge);
-        give_emptied(&mut self.cache, &self.table, huge);
-        self.used -= u64::from(run.pages);
     }
 }

@@ -1,10 +1,11 @@
 //! What the choosers are told of a hugepage, as the table has it.
-ghost use Rattle.std.specs.Prelude.{◌≡◌, ◌<◌, ◌≤◌, ◌==◌, false, length, if◌then◌else◌, IfSome};
+ghost use Rattle.std.specs.Prelude.{◌≡◌, ◌-◌, ◌<◌, ◌≤◌, ◌==◌, false, length, if◌then◌else◌, IfSome};
 ghost use Rattle.tc_units.specs.Units.{huge_pages};
 ghost use Rattle.heap_rules.specs.Heap.{Heap, hugepage};
-ghost use Rattle.huge_table.specs.Runs.{HasPlaces};
-ghost use Rattle.huge_cache.specs.Cache.{holds};
-ghost use Rattle.page_heap.specs.Told.{IsTold, measures_by, remeasured, with_freed, with_tail_freed};
+ghost use Rattle.huge_table.specs.Runs.{TellsRuns};
+ghost use Rattle.range_bits.specs.Ranges.{used_from};
+ghost use Rattle.huge_cache.specs.Cache.{holds, with_backed_run};
+ghost use Rattle.page_heap.specs.Told.{IsTold, measures_by, remeasured, with_shown, with_freed};
 
 use huge_cache::HugeCache;
 use huge_filler::{HugeFiller, Measures};
@@ -42,9 +43,9 @@ fn measures_of(row: RowView) -> Option<Measures>
     }
 }
 
-/// A table has a bit for each page of its arena.
-pub(crate) fn has_places(table: &HugeTable)
-    ensures { HasPlaces table.now }
+/// A table tells which runs live.
+pub(crate) fn tells_runs(table: &HugeTable)
+    ensures { TellsRuns table.now }
 {
     let _huge = table.huge();
 }
@@ -56,39 +57,57 @@ pub(crate) fn measure(filler: &mut HugeFiller, table: &HugeTable, huge: Huge)
     requires same { length filler.old ≡ length table.now.pages }
     requires told { (heap : Heap) × IsTold table.now heap }
     ensures told { (heap : Heap) → IsTold table.now heap → filler.new ≡ remeasured filler.old heap huge.0 }
-    ensures places { HasPlaces table.now }
+    ensures runs { TellsRuns table.now }
 {
-    has_places(table);
+    tells_runs(table);
     let row = table.row(huge);
     filler.set(huge, measures_of(row));
 }
 
-/// Gives the cache a hugepage that a run has left, where it is free now.
-pub(crate) fn give_emptied(cache: &mut HugeCache, table: &HugeTable, huge: Huge)
+/// Gives the cache a hugepage that a run has left, where it is free as its row shows it.
+pub(crate) fn give_emptied(cache: &mut HugeCache, huge: Huge, row: RowView)
     requires low { 0 < huge.0 }
-    requires high { huge.0 ≤ length table.now.pages }
-    requires same { length cache.old.taken ≡ length table.now.pages }
+    requires high { huge.0 ≤ length cache.old.taken }
     requires out { holds cache.old huge.0 ≡ false }
-    ensures { (heap : Heap) → IsTold table.now heap
-        → cache.new ≡ with_freed cache.old huge.0 (hugepage heap huge.0) }
+    ensures { cache.new ≡ with_shown cache.old huge.0 row }
 {
-    let row = table.row(huge);
     match row.kind {
         RowKind::Free => cache.give(huge, row.backed == HUGE_PAGES),
         RowKind::Filler | RowKind::Run | RowKind::Region => {}
     }
 }
 
-/// The same of the last hugepage of a larger run, if the run had a part of it.
-pub(crate) fn give_tail(cache: &mut HugeCache, table: &HugeTable, huge: Huge, part: u32)
+/// Gives the cache hugepages that a run had whole, if there are any.
+pub(crate) fn give_whole(cache: &mut HugeCache, first: Huge, many: u32)
+    requires low { 0 < first.0 }
+    requires out { many ≤ used_from cache.old.taken (first.0 - 1) }
+    ensures { cache.new ≡ with_backed_run cache.old first.0 many }
+{
+    if many != 0 {
+        cache.give_run(first, many);
+    }
+}
+
+/// Tells the filler and the cache what a hugepage is now that a run has left.
+pub(crate) fn tell_left(
+    filler: &mut HugeFiller,
+    cache: &mut HugeCache,
+    table: &HugeTable,
+    huge: Huge,
+)
     requires low { 0 < huge.0 }
     requires high { huge.0 ≤ length table.now.pages }
-    requires same { length cache.old.taken ≡ length table.now.pages }
-    requires out { 0 < part → holds cache.old huge.0 ≡ false }
-    ensures { (heap : Heap) → IsTold table.now heap
-        → cache.new ≡ with_tail_freed cache.old part huge.0 (hugepage heap huge.0) }
+    requires same { length filler.old ≡ length table.now.pages }
+    requires taken { length cache.old.taken ≡ length table.now.pages }
+    requires out { holds cache.old huge.0 ≡ false }
+    requires told { (heap : Heap) × IsTold table.now heap }
+    ensures filler { (heap : Heap) → IsTold table.now heap → filler.new ≡ remeasured filler.old heap huge.0 }
+    ensures cache { (heap : Heap) → IsTold table.now heap
+        → cache.new ≡ with_freed cache.old huge.0 (hugepage heap huge.0) }
+    ensures runs { TellsRuns table.now }
 {
-    if part != 0 {
-        give_emptied(cache, table, huge);
-    }
+    tells_runs(table);
+    let row = table.row(huge);
+    filler.set(huge, measures_of(row));
+    give_emptied(cache, huge, row);
 }

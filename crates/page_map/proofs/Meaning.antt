@@ -1,5 +1,6 @@
 -- The spans that leaves mean: a list of spans in order is told by what begins at each page.
 use Rattle.std.proofs.Common.{◌≡◌, ℕ, zero, suc, ◌+◌, ◌-◌, ◌*◌, ◌/◌, ◌%◌, ◌<◌, ◌≤◌, Bool, true, false, ◌==◌, nat_lt, nat_le, List, [], ◌∷◌, ◌++◌, length, get_or, set, replicate, find, is_some, IsSome, All, AllPairs, Contains, Option, Some, None, cond, refl, sym, ◌∙◌, ap, subst, inl, inr, arith}
+use Rattle.std.proofs.lemmas.Bool.Decides.{nat_tests}
 use Rattle.std.specs.Option.{option_to_list}
 use Rattle.std.proofs.lemmas.List.Elements.{All-cons, All-nil, All-head, All-tail, All-contains}
 use Rattle.std.proofs.lemmas.List.{get_or_default, get_or_past, length-set, length-replicate, get_or-replicate, get_or-set_same, get_or-set_other}
@@ -23,10 +24,7 @@ first_later page x xs first later = All-cons (λ s. page < s.first.0) x xs first
 -- spans in order are those that begin at each page in turn
 spans_from-is : (begin : ℕ → Option SpanRef) (page n : ℕ) (xs : List SpanRef) → AllPairs IsBefore xs → All HasPages xs → All (λ s. page ≤ s.first.0) xs → All (λ s. s.first.0 < page + n) xs → ((p : ℕ) → page ≤ p → option_to_list (begin p) ≡ option_to_list (find (begins p) xs)) → spans_from begin page n ≡ xs
 spans_from-is begin page zero [] order some low high told = refl
-spans_from-is begin page zero (x ∷ xs) order some low high told =
-    let l : page ≤ x.first.0 = All-head (λ s. page ≤ s.first.0) x xs low in
-    let h : x.first.0 < page + 0 = All-head (λ s. s.first.0 < page + 0) x xs high in
-    absurd (omega arith)
+spans_from-is begin page zero (x ∷ xs) order some low high told = grind (arith, nat_tests, All-head)
 spans_from-is begin page (suc n) [] order some low high told =
     ap (λ b. b ++ spans_from begin (page + 1) n) (told page (omega arith))
     ∙ spans_from-is begin (page + 1) n [] order some (All-nil (λ s. page + 1 ≤ s.first.0)) (All-nil (λ s. s.first.0 < page + 1 + n)) (λ p from. told p (omega arith))
@@ -84,15 +82,7 @@ past_by b page n e h = elim (cases_lt page n) [ inl inside ↦ absurd (true≢fa
 
 -- the set once a page is put into it, or taken out
 set_tells : (marks : List Bool) (old new : ℕ → Option SpanRef) (first : ℕ) (begin : Option SpanRef) → first < length marks → ((page : ℕ) → get_or marks page false ≡ is_some (old page)) → ((page : ℕ) → new page ≡ cond (page == first) begin (old page)) → (page : ℕ) → get_or (set marks first (is_some begin)) page false ≡ is_some (new page)
-set_tells marks old new first begin inside was changed page =
-    elim (cases_eq page first) [
-      | inl same ↦
-          ap (λ (k : ℕ). get_or (set marks first (is_some begin)) k false) same ∙ get_or-set_same marks first (is_some begin) false inside
-          ∙ sym (ap is_some (changed page ∙ ap (λ (b : Bool). cond b begin (old page)) (eq-eqb page first same)))
-      | inr other ↦
-          get_or-set_other marks first page (is_some begin) false other ∙ was page
-          ∙ sym (ap is_some (changed page ∙ ap (λ (b : Bool). cond b begin (old page)) (ne_eqb page first other)))
-    ]
+set_tells marks old new first begin inside was changed page = grind (arith, nat_tests, get_or-set_other, eq-eqb, is_some, ne_eqb, get_or-set_same)
 
 module _ (old new : List (Option Leaf)) (marks : List Bool) (span : SpanRef) (map : SpanMap) (view : map_of old ≡ map) (kept : IsKept old marks) (size : length new ≡ length old) where
   well : IsWellFormed map
@@ -223,7 +213,4 @@ module _ (leaves : List (Option Leaf)) (marks : List Bool) (map : SpanMap) (page
       by_holder None e =
           let own = begins_at at map.spans s (sym (begin_is at) ∙ begin) in
           ap (λ (b : Bool). cond b (Some s) None) (All-contains (λ x. holds page x ≡ false) map.spans s (find_nowhere (holds page) map.spans e) own.0)
-      by_holder (Some t) e =
-          let found = find_there (holds page) map.spans t e in
-          let same : s ≡ t = last_alone at s t last begin found.0 found.1 in
-          ap (λ (b : Bool). cond b (Some s) None) (ap (holds page) same ∙ found.1) ∙ ap Some same
+      by_holder (Some t) e = grind (arith, nat_tests, find_there, last_alone)

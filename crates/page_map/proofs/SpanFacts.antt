@@ -1,5 +1,6 @@
 -- What spans in the order of their first pages give: the one that holds a page, one more, and one less.
 use Rattle.std.proofs.Common.{◌≡◌, ℕ, zero, suc, ◌+◌, ◌<◌, ◌≤◌, ◌≢◌, Bool, true, false, ◌==◌, not, nat_lt, nat_le, List, [], ◌∷◌, length, get_or, find, All, AllPairs, Contains, IsTrue, IfSome, IsNone, Option, Some, None, cond, refl, sym, ◌∙◌, ap, subst, inl, inr, arith}
+use Rattle.std.proofs.lemmas.Bool.Decides.{nat_tests}
 use Rattle.std.proofs.lemmas.List.Elements.{All-cons, All-nil, All-head, All-tail, All-filter}
 use Rattle.std.proofs.lemmas.List.Kept.{AllPairs-cons, AllPairs-filter}
 use Rattle.std.proofs.lemmas.List.{get_or_default}
@@ -112,24 +113,11 @@ without_span-well_formed huge span xs well =
 
 -- no two spans begin at one page
 first_pages_differ : (huge : ℕ) (xs : List SpanRef) (d : SpanRef) (i j : ℕ) → IsWellFormed (record { huge = huge; spans = xs }) → i < length xs → j < length xs → i ≢ j → (get_or xs i d).first.0 ≡ (get_or xs j d).first.0 → ⊥
-first_pages_differ huge xs d i j well i_in j_in other same =
-    let i_some : 0 < (get_or xs i d).pages = (well.inside i d i_in).some in
-    let j_some : 0 < (get_or xs j d).pages = (well.inside j d j_in).some in
-    elim (cases_lt i j) [
-      | inl less ↦ (let before : IsBefore (get_or xs i d) (get_or xs j d) = well.apart i j d less j_in in omega arith)
-      | inr above ↦ (let before : IsBefore (get_or xs j d) (get_or xs i d) = well.apart j i d (omega arith) i_in in omega arith)
-    ]
+first_pages_differ huge xs d i j well i_in j_in other same = grind (arith, nat_tests)
 
 -- spans apart hold no page together
 pub apart_holds : (page : ℕ) (s t : SpanRef) → AreApart s t → holds page t ≡ true → holds page s ≡ false
-apart_holds page s t apart held =
-    let parts = and_parts (nat_le t.first.0 page) (nat_lt page (t.first.0 + t.pages)) held in
-    let low : t.first.0 ≤ page = leb-true t.first.0 page parts.0 in
-    let high : page < t.first.0 + t.pages = ltb-true page (t.first.0 + t.pages) parts.1 in
-    elim apart [
-      | inl before ↦ ends_before page s (let b : s.first.0 + s.pages ≤ t.first.0 = before in omega arith)
-      | inr behind ↦ begins_behind page s (let b : t.first.0 + t.pages ≤ s.first.0 = behind in omega arith)
-    ]
+apart_holds page s t apart held = grind (arith, nat_tests, leb-true, ends_before, begins_behind, and_parts, nat_lt, nat_le, ltb-true)
 
 -- what is found once a span is set, of those that pass a test which it fails where another passes
 pub find-with : (p : SpanRef → Bool) (span : SpanRef) (xs : List SpanRef) → All (λ x. p x ≡ true → p span ≡ false) xs → find p (with_span span xs) ≡ cond (p span) (Some span) (find p xs)
@@ -156,13 +144,7 @@ pub find-with_span : (page : ℕ) (span : SpanRef) (xs : List SpanRef) → All (
 find-with_span page span xs apart = find-with (holds page) span xs (λ k d within held. apart_holds page span (get_or xs k d) (apart k d within) held)
 
 pub begins-with_span : (huge page : ℕ) (span : SpanRef) (xs : List SpanRef) → All (AreApart span) xs → 0 < span.pages → All (IsInside huge) xs → find (begins page) (with_span span xs) ≡ cond (begins page span) (Some span) (find (begins page) xs)
-begins-with_span huge page span xs apart some inside =
-    find-with (begins page) span xs (λ k d within e.
-    let x : SpanRef = get_or xs k d in
-    let here : page ≡ x.first.0 = eqb-true page x.first.0 e in
-    let pages : 0 < x.pages = (inside k d within).some in
-    let other : AreApart span x = apart k d within in
-    ne_eqb page span.first.0 (λ same. elim other [ inl before ↦ (let b : IsBefore span x = before in absurd (omega arith)) | inr behind ↦ (let b : IsBefore x span = behind in absurd (omega arith)) ]))
+begins-with_span huge page span xs apart some inside = grind (arith, nat_tests, ne_eqb, eqb-true, find-with)
 
 -- how a span that is kept or left out relates to the one that is cleared, by a test
 record Relates (p : SpanRef → Bool) (span s : SpanRef) : Type 0 where
@@ -190,13 +172,7 @@ find_left p span (x ∷ xs) all =
     find_left_step p x (without_span span xs) (find p xs) (x.first.0 == span.first.0) (p x) (p span) here.same here.other rest refl
 
 pub begins-without_span : (page : ℕ) (span : SpanRef) (xs : List SpanRef) → find (begins page) (without_span span xs) ≡ cond (begins page span) None (find (begins page) xs)
-begins-without_span page span xs =
-    find_left (begins page) span xs (λ k d within.
-    let x : SpanRef = get_or xs k d in
-    record {
-      same = λ e. ap (λ (first : ℕ). page == first) (eqb-true x.first.0 span.first.0 e);
-      other = λ e here. ne_eqb page x.first.0 (λ same. eqb-false x.first.0 span.first.0 e (sym same ∙ eqb-true page span.first.0 here));
-    })
+begins-without_span page span xs = grind (arith, nat_tests, ne_eqb, find_left, eqb-false, eqb-true)
 
 -- the spans apart from a set one are the others
 relates : (huge : ℕ) (page : ℕ) (span : SpanRef) (xs : List SpanRef) → IsWellFormed (record { huge = huge; spans = xs }) → Contains xs span → All (Relates (holds page) span) xs

@@ -14,11 +14,7 @@ use Rattle.place_set.specs.Tree.{has_at, places_of, row_at, IsTree}
 
 -- a place that is in the set is one of the words'
 pub marked_inside : (words : List ℕ) (k : ℕ) → is_marked words k ≡ true → k < 64 * length words
-marked_inside words k e =
-    elim (cases_lt k (64 * length words)) [
-      | inl inside ↦ inside
-      | inr past ↦ absurd (false≢true (sym (ap (λ (w : ℕ). is_one w (k % 64)) (get_or_past words (k / 64) 0 (omega arith)) ∙ ap (λ (b : ℕ). b == 1) (bit_at-zero (k % 64))) ∙ e))
-    ]
+marked_inside words k e = grind (arith, nat_tests, false≢true, bit_at-zero, get_or_past)
 
 -- the levels above the lowest
 abbrev pub uppers : List Level → List Level
@@ -55,11 +51,7 @@ module _ (own above : ℕ → Bool) (tells : (index : ℕ) → HasAny own index 
   }
 
   last_nowhere : (place : ℕ) → IsLast own (64 * (place / 64)) place None → IsLast above 0 (place / 64 - 1) None → 64 ≤ place → IsLast own 0 place None
-  last_nowhere place here up some = λ k from to.
-      elim (cases_lt k (64 * (place / 64))) [
-        | inr late ↦ here k late to
-        | inl early ↦ none_below k (up (k / 64) (omega arith) (omega arith))
-      ]
+  last_nowhere place here up some = grind (arith, nat_tests, none_below)
 
   -- and the first place
   first_by : (place high high' index : ℕ) (r : Option ℕ) → IsFirst own place (64 * (place / 64) + 63) None → IsFirstAt above (place / 64 + 1) high' index → ((k : ℕ) → own k ≡ true → k ≤ high) → IsFirst own (index * 64) (64 * (index * 64 / 64) + 63) r → IsFirst own place high r
@@ -81,11 +73,7 @@ module _ (own above : ℕ → Bool) (tells : (index : ℕ) → HasAny own index 
   }
 
   first_nowhere : (place high high' : ℕ) → IsFirst own place (64 * (place / 64) + 63) None → IsFirst above (place / 64 + 1) high' None → high / 64 ≤ high' → IsFirst own place high None
-  first_nowhere place high high' here up most = λ k from to.
-      elim (cases_lt (64 * (place / 64) + 63) k) [
-        | inr early ↦ here k from early
-        | inl late ↦ none_below k (up (k / 64) (omega arith) (omega arith))
-      ]
+  first_nowhere place high high' here up most = grind (arith, nat_tests, none_below)
 
 -- Whether a word has a place in the set, by its number.
 pub any_of : (words : List ℕ) (index w : ℕ) → w ≡ get_or words index 0 → w < 2 ^ 64 → HasAny (is_marked words) index (not (w == 0))
@@ -118,25 +106,7 @@ bit_at_place b k = (
 )
 
 pub put_place : (words : List ℕ) (place word w : ℕ) (is_in : Bool) → place < 64 * length words → word ≡ get_or words (place / 64) 0 → ((k : ℕ) → k < 64 → is_one w k ≡ cond (nat_le (place % 64) k && nat_lt k (place % 64 + 1)) is_in (is_one word k)) → (k : ℕ) → is_marked (set words (place / 64) w) k ≡ cond (k == place) is_in (is_marked words k)
-put_place words place word w is_in inside is changed k =
-    elim (cases_eq (k / 64) (place / 64)) [
-      | inr other ↦
-          (let far : k ≡ place → ⊥ = λ e. other (ap (λ (n : ℕ). n / 64) e) in
-          ap (λ (v : ℕ). is_one v (k % 64)) (get_or-set_other words (place / 64) (k / 64) w 0 other) ∙ sym (ap (λ (b : Bool). cond b is_in (is_marked words k)) (ne_eqb k place far)))
-      | inl same ↦
-          (let now : is_marked (set words (place / 64) w) k ≡ is_one w (k % 64) =
-          ap (λ (i : ℕ). is_one (get_or (set words (place / 64) w) i 0) (k % 64)) same ∙ ap (λ (v : ℕ). is_one v (k % 64)) (get_or-set_same words (place / 64) w 0 (omega arith)) in
-          let was : is_one word (k % 64) ≡ is_marked words k = ap (λ (v : ℕ). is_one v (k % 64)) is ∙ ap (λ (i : ℕ). is_one (get_or words i 0) (k % 64)) (sym same) in
-          now ∙ changed (k % 64) (omega arith) ∙ elim (cases_eq k place) [
-            | inl here ↦
-                ap (λ (b : Bool). cond b is_in (is_one word (k % 64))) ((bit_at_place (place % 64) (k % 64)).0 (ap (λ (n : ℕ). n % 64) here))
-                ∙ sym (ap (λ (b : Bool). cond b is_in (is_marked words k)) (eq-eqb k place here))
-            | inr other ↦
-                ap (λ (b : Bool). cond b is_in (is_one word (k % 64))) ((bit_at_place (place % 64) (k % 64)).1 (λ e. other (omega arith)))
-                ∙ was
-                ∙ sym (ap (λ (b : Bool). cond b is_in (is_marked words k)) (ne_eqb k place other))
-          ])
-    ]
+put_place words place word w is_in inside is changed k = grind (arith, nat_tests, eq-eqb, bit_at_place, ne_eqb, get_or-set_same, get_or-set_other)
 
 -- The same of levels, of which `first` is the lowest.
 pub places_are : (levels : List Level) (place : ℕ) (first : Level) → place < places_of levels → first ≡ get_or levels 0 first → places_of levels ≡ 64 * length first.words.items
@@ -194,13 +164,7 @@ any_same own now index false same any = λ k e. same k e ∙ any k e
 
 -- the level above tells of the word that changed
 tells_still : (own now above above' : ℕ → Bool) (place : ℕ) (is_in any : Bool) → ((index : ℕ) → HasAny own index (above index)) → ((k : ℕ) → now k ≡ cond (k == place) is_in (own k)) → HasAny now (place / 64) any → ((k : ℕ) → above' k ≡ cond (k == place / 64) any (above k)) → (index : ℕ) → HasAny now index (above' index)
-tells_still own now above above' place is_in any tells changed has changed' index =
-    elim (cases_eq index (place / 64)) [
-      | inl same ↦ subst (HasAny now index) (sym (changed' index ∙ ap (λ (b : Bool). cond b any (above index)) (eq-eqb index (place / 64) same))) (subst (λ (i : ℕ). HasAny now i any) (sym same) has)
-      | inr other ↦
-          subst (HasAny now index) (sym (changed' index ∙ ap (λ (b : Bool). cond b any (above index)) (ne_eqb index (place / 64) other)))
-          (any_same own now index (above index) (λ k e. (let far : k ≡ place → ⊥ = λ t. other (sym e ∙ ap (λ (n : ℕ). n / 64) t) in changed k ∙ ap (λ (b : Bool). cond b is_in (own k)) (ne_eqb k place far))) (tells index))
-    ]
+tells_still own now above above' place is_in any tells changed has changed' index = grind (arith, nat_tests, eq-eqb, ne_eqb, any_same)
 
 put_tail : (x : Level) (xs ys : List Level) → put_mid 1 (length (x ∷ xs) - 1) (x ∷ xs) ys ≡ x ∷ ys
 put_tail x xs ys =
@@ -225,11 +189,7 @@ put_tree (own ∷ (above ∷ rest)) (y ∷ ys) place is_in any first now tree mo
 
 -- Levels none of whose places is in the set.
 pub unmarked : (n k : ℕ) → is_marked (replicate n 0) k ≡ false
-unmarked n k =
-    elim (cases_lt (k / 64) n) [
-      | inl inside ↦ ap (λ (w : ℕ). is_one w (k % 64)) (get_or-replicate n (k / 64) 0 0 inside) ∙ ap (λ (b : ℕ). b == 1) (bit_at-zero (k % 64))
-      | inr past ↦ ap (λ (w : ℕ). is_one w (k % 64)) (get_or_past (replicate n 0) (k / 64) 0 (omega (arith, length-replicate {A = ℕ} n 0))) ∙ ap (λ (b : ℕ). b == 1) (bit_at-zero (k % 64))
-    ]
+unmarked n k = grind (arith, nat_tests, get_or-replicate, length-replicate, bit_at-zero, get_or_past)
 
 pub open_tree : (own : Level) (levels : List Level) (words : ℕ) → own.words.items ≡ replicate words 0 → 1 < words → IsTree levels → places_of levels ≡ 64 * ((words + 63) / 64) → ((place : ℕ) → has_at levels place ≡ false) → IsTree (own ∷ levels)
 open_tree own [] words is more tree size none = absurd (omega arith)
@@ -248,13 +208,7 @@ length-row_at (own ∷ above) = length-row_of own.words.items
 
 pub get_or-row_at : (levels : List Level) (k : ℕ) → get_or (row_at levels) k false ≡ has_at levels k
 get_or-row_at [] k = refl
-get_or-row_at (own ∷ above) k =
-    elim (cases_lt k (64 * length own.words.items)) [
-      | inl inside ↦ get_or-row_of own.words.items k false inside
-      | inr past ↦
-          get_or_past (row_at (own ∷ above)) k false (omega (arith, length-row_of own.words.items))
-          ∙ sym (false_from_ne_true (is_marked own.words.items k) (λ e. (let inside = marked_inside own.words.items k e in omega arith)))
-    ]
+get_or-row_at (own ∷ above) k = grind (arith, nat_tests, marked_inside, false_from_ne_true, get_or_past, get_or-row_of, length-row_of)
 
 row_by : (levels : List Level) (row : List Bool) → length row ≡ places_of levels → ((k : ℕ) → k < length row → get_or row k false ≡ has_at levels k) → row_at levels ≡ row
 row_by levels row size same =

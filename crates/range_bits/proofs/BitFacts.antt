@@ -15,14 +15,7 @@ is_between low high k = nat_le low k && nat_lt k high
 
 -- the bits of a mask are those
 mask_bit : (low high k : ℕ) → low ≤ high → bit_at (2 ^ high - 2 ^ low) k ≡ cond (is_between low high k) 1 0
-mask_bit low high k order =
-    elim (cases_lt k low) [
-      | inl below ↦ (let e : bit_at (2 ^ high - 2 ^ low) k ≡ 0 = bit_at_mask_below low high k below in grind (arith, nat_tests))
-      | inr from ↦ elim (cases_lt k high) [
-        | inl inside ↦ (let e : bit_at (2 ^ high - 2 ^ low) k ≡ 1 = bit_at_mask_inside low high k from inside in grind (arith, nat_tests))
-        | inr above ↦ (let e : bit_at (2 ^ high - 2 ^ low) k ≡ 0 = bit_at_mask_above low high k above in grind (arith, nat_tests))
-      ]
-    ]
+mask_bit low high k order = grind (arith, nat_tests, bit_at_mask_inside, bit_at_mask_above, bit_at_mask_below)
 
 or_bit : (b m : ℕ) (inside : Bool) → b < 2 → m ≡ cond inside 1 0 → eqb (max b m) 1 ≡ cond inside true (eqb b 1)
 or_bit b m true small e = let one : max b m ≡ 1 = omega arith in ap (λ (t : ℕ). eqb t 1) one
@@ -33,10 +26,7 @@ and_not_bit b m true small e = let none : min b (1 - m) ≡ 0 = omega arith in a
 and_not_bit b m false small e = let same : min b (1 - m) ≡ b = omega arith in ap (λ (t : ℕ). eqb t 1) same
 
 mask_fits : (low high : ℕ) → high ≤ 64 → 2 ^ high - 2 ^ low < 2 ^ 64
-mask_fits low high within =
-    let most : 2 ^ high ≤ 2 ^ 64 = pow-le-pow_right (omega arith) within in
-    let some : 0 < 2 ^ low = pow_pos low in
-    omega arith
+mask_fits low high within = grind (arith, nat_tests, pow-le-pow_right, pow_pos)
 
 -- made 1
 pub used_bits : (word low high k : ℕ) → low ≤ high → is_one (bit_or word (2 ^ high - 2 ^ low)) k ≡ cond (is_between low high k) true (is_one word k)
@@ -58,28 +48,27 @@ pub record FirstBit (word low : ℕ) (used : Bool) (at : ℕ) : Type 0 where
   pub before : (k : ℕ) → low ≤ k → k < at → is_one word k ≡ not used
   pub there : at < 64 → is_one word at ≡ used
 
--- the least 1 of a word whose bits below `low` are cleared
-record FirstOne (seen low at : ℕ) : Type 0 where
-  behind : low ≤ at
-  within : at ≤ 64
-  before : (k : ℕ) → low ≤ k → k < at → bit_at seen k ≡ 0
-  there : at < 64 → bit_at seen at ≡ 1
+-- a bit of a word, by that of the word itself or of the word turned round
+pub turned : (word seen k : ℕ) (used b : Bool) → word < 2 ^ 64 → k < 64 → seen ≡ cond used word (bit_not w64 word) → is_one seen k ≡ b → is_one word k ≡ cond b used (not used)
+turned word seen k true true fits small e is = ap (λ (s : ℕ). is_one s k) (sym e) ∙ is
+turned word seen k true false fits small e is = ap (λ (s : ℕ). is_one s k) (sym e) ∙ is
+turned word seen k false b fits small e is =
+    let other : bit_at seen k ≡ 1 - bit_at word k = ap (λ (s : ℕ). bit_at s k) e ∙ bit_at_not w64 word k fits small in
+    let lt = bit_at-lt word k in
+    grind (arith, nat_tests)
 
 kept_bit : (seen low k : ℕ) → k < 64 → low ≤ 64 → bit_at (bit_and seen (2 ^ 64 - 2 ^ low)) k ≡ min (bit_at seen k) (cond (is_between low 64 k) 1 0)
 kept_bit seen low k small order = bit_at_and seen (2 ^ 64 - 2 ^ low) k ∙ ap (λ (m : ℕ). min (bit_at seen k) m) (mask_bit low 64 k order)
 
 kept_inside : (seen low k : ℕ) → k < 64 → low ≤ k → bit_at (bit_and seen (2 ^ 64 - 2 ^ low)) k ≡ bit_at seen k
-kept_inside seen low k small from =
-    let e = kept_bit seen low k small (omega arith) in
-    let lt = bit_at-lt seen k in
-    grind (arith, nat_tests)
+kept_inside seen low k small from = grind (arith, nat_tests, bit_at-lt, kept_bit)
 
 kept_below : (seen low k : ℕ) → k < low → low ≤ 64 → bit_at (bit_and seen (2 ^ 64 - 2 ^ low)) k ≡ 0
 kept_below seen low k below order =
     let e = kept_bit seen low k (omega arith) order in
     grind (arith, nat_tests)
 
-first_one : (seen low kept : ℕ) → seen < 2 ^ 64 → low < 64 → kept ≡ bit_and seen (2 ^ 64 - 2 ^ low) → FirstOne seen low (trailing_zeros w64 kept)
+first_one : (seen low kept : ℕ) → seen < 2 ^ 64 → low < 64 → kept ≡ bit_and seen (2 ^ 64 - 2 ^ low) → FirstBit seen low true (trailing_zeros w64 kept)
 first_one seen low kept fits small e =
     elim (cases_lt 0 kept) [
       | inl some ↦
@@ -94,8 +83,8 @@ first_one seen low kept fits small e =
           record {
             behind = behind;
             within = omega (arith, found.0);
-            before = λ k from before. sym (kept_inside seen low k (omega (arith, found.0)) from) ∙ ap (λ (n : ℕ). bit_at n k) (sym e) ∙ found.2 k before;
-            there = λ inside. sym (kept_inside seen low at inside behind) ∙ ap (λ (n : ℕ). bit_at n at) (sym e) ∙ found.1;
+            before = λ k from before. ap (λ (b : ℕ). eqb b 1) (sym (kept_inside seen low k (omega (arith, found.0)) from) ∙ ap (λ (n : ℕ). bit_at n k) (sym e) ∙ found.2 k before);
+            there = λ inside. ap (λ (b : ℕ). eqb b 1) (sym (kept_inside seen low at inside behind) ∙ ap (λ (n : ℕ). bit_at n at) (sym e) ∙ found.1);
           })
       | inr none ↦
           (let zero_kept : kept ≡ 0 = omega arith in
@@ -103,38 +92,18 @@ first_one seen low kept fits small e =
           record {
             behind = omega arith;
             within = omega arith;
-            before = λ k from before. sym (kept_inside seen low k (omega arith) from) ∙ ap (λ (n : ℕ). bit_at n k) (sym e ∙ zero_kept) ∙ bit_at-zero k;
+            before = λ k from before. ap (λ (b : ℕ). eqb b 1) (sym (kept_inside seen low k (omega arith) from) ∙ ap (λ (n : ℕ). bit_at n k) (sym e ∙ zero_kept) ∙ bit_at-zero k);
             there = λ inside. absurd (omega arith);
           })
     ]
 
 -- found in the word itself, or in the word turned round
-pub first_used : (word low kept : ℕ) → word < 2 ^ 64 → low < 64 → kept ≡ bit_and word (2 ^ 64 - 2 ^ low) → FirstBit word low true (trailing_zeros w64 kept)
-first_used word low kept fits small e =
-    let one = first_one word low kept fits small e in
+pub found_bit : (word seen low mask : ℕ) (used : Bool) → word < 2 ^ 64 → seen < 2 ^ 64 → low < 64 → mask ≡ 2 ^ 64 - 2 ^ low → seen ≡ cond used word (bit_not w64 word) → FirstBit word low used (trailing_zeros w64 (bit_and seen mask))
+found_bit word seen low mask used fits also small m e =
+    let one = first_one seen low (bit_and seen mask) also small (ap (bit_and seen) m) in
     record {
       behind = one.behind;
       within = one.within;
-      before = λ k from before. ap (λ (b : ℕ). eqb b 1) (one.before k from before);
-      there = λ inside. ap (λ (b : ℕ). eqb b 1) (one.there inside);
+      before = λ k from before. turned word seen k used false fits (omega (arith, one.within)) e (one.before k from before);
+      there = λ inside. turned word seen _ used true fits inside e (one.there inside);
     }
-
-pub first_free : (word low kept : ℕ) → word < 2 ^ 64 → low < 64 → kept ≡ bit_and (bit_not w64 word) (2 ^ 64 - 2 ^ low) → FirstBit word low false (trailing_zeros w64 kept)
-first_free word low kept fits small e =
-    let one = first_one (bit_not w64 word) low kept (omega arith) small e in
-    record {
-      behind = one.behind;
-      within = one.within;
-      before = λ k from before.
-          let turned = bit_at_not w64 word k fits (omega (arith, one.within)) in
-          let here : bit_at word k ≡ 1 = omega (arith, one.before k from before, turned, bit_at-lt word k) in
-          ap (λ (b : ℕ). eqb b 1) here;
-      there = λ inside.
-          let turned = bit_at_not w64 word (trailing_zeros w64 kept) fits inside in
-          let here : bit_at word (trailing_zeros w64 kept) ≡ 0 = omega (arith, one.there inside, turned, bit_at-lt word (trailing_zeros w64 kept)) in
-          ap (λ (b : ℕ). eqb b 1) here;
-    }
-
-pub found_bit : (word seen low mask : ℕ) (used : Bool) → word < 2 ^ 64 → low < 64 → mask ≡ 2 ^ 64 - 2 ^ low → seen ≡ cond used word (bit_not w64 word) → FirstBit word low used (trailing_zeros w64 (bit_and seen mask))
-found_bit word seen low mask true fits small m e = first_used word low (bit_and seen mask) fits small (ap (λ (s : ℕ). bit_and s mask) e ∙ ap (bit_and word) m)
-found_bit word seen low mask false fits small m e = first_free word low (bit_and seen mask) fits small (ap (λ (s : ℕ). bit_and s mask) e ∙ ap (bit_and (bit_not w64 word)) m)

@@ -1,14 +1,18 @@
--- How many places are used, and where marked places lie.
-use Rattle.std.proofs.Common.{◌≡◌, ℕ, ◌+◌, ◌*◌, ◌/◌, ◌%◌, ◌<◌, ◌≤◌, Bool, true, false, not, cond, eqb, List, ◌++◌, length, get_or, take, drop, replicate, sym, ap, ◌∙◌, arith}
-use Rattle.std.specs.List.{sum_by, prefix_len}
-use Rattle.std.proofs.lemmas.Bool.{not-true}
-use Rattle.std.proofs.lemmas.List.{same_lists, length-take-le, length-replicate, length-drop, get_or-take, get_or-drop, get_or-replicate, take-append-drop, drop-drop}
-use Rattle.std.proofs.lemmas.List.Sums.{sum_by-append, count_by-le-length, prefix_len-le-length, prefix_len_passes}
-use Rattle.std.proofs.lemmas.List.Folds.{sum_by-replicate}
-use Rattle.std.proofs.lemmas.Nat.Bits.{bit_at-zero}
-use Rattle.range_bits.specs.Ranges.{free_from, used_from, used_count, with_places}
+-- How many places are used, where marked places lie, and rows of free places alone.
+use Rattle.std.proofs.Common.{◌≡◌, ℕ, zero, suc, ◌+◌, ◌-◌, ◌*◌, ◌^◌, ◌<◌, ◌≤◌, Bool, false, not, cond, eqb, List, [], ◌∷◌, length, get_or, take, drop, replicate, refl, sym, ap, ◌∙◌, arith}
+use Rattle.std.proofs.lemmas.Bool.Decides.{nat_tests}
+use Rattle.std.specs.List.{prefix_len}
+use Rattle.std.specs.Int.{bit_at}
+use Rattle.std.specs.Int.RustNames.{count_ones}
+use Rattle.std.specs.Simd.Lanes.{mask_l}
+use Rattle.std.proofs.Math.Seq.{take-add}
+use Rattle.std.proofs.lemmas.List.{same_lists, length-take, length-take-le, length-replicate, length-drop, get_or-take, get_or-drop, get_or-replicate}
+use Rattle.std.proofs.lemmas.List.Sums.{sum_by-append, sum_by-cons, count_by-le-length, prefix_len-le-length}
+use Rattle.std.proofs.lemmas.Nat.Bits.{bit_at-zero, bit_at-lt, same_from_bits_below}
+use Rattle.std.proofs.lemmas.Simd.{mask_l-lt, bit_mask_l, ones-mask_l_cons}
+use Rattle.range_bits.specs.Ranges.{free_from, used_from, used_count}
 use Rattle.range_bits.specs.Words.{is_one, row_of}
-use Rattle.range_bits.proofs.RowFacts.{length-row_of, get_or-row_of}
+use Rattle.range_bits.proofs.RowFacts.{length-row_of, get_or-row_of, marked_in_word}
 
 -- a stretch of places that pass a test
 stretch_inside : (p : Bool → Bool) (row : List Bool) (start n : ℕ) → 1 ≤ n → n ≤ prefix_len p (drop start row) → start + n ≤ length row
@@ -20,59 +24,49 @@ free_inside row start n = stretch_inside not row start n
 pub used_inside : (row : List Bool) (start n : ℕ) → 1 ≤ n → n ≤ used_from row start → start + n ≤ length row
 used_inside row start n = stretch_inside (λ used. used) row start n
 
--- it is that state again and again
-stretch_is : (row : List Bool) (start n : ℕ) (state : Bool) → start + n ≤ length row → ((k : ℕ) (d : Bool) → k < n → get_or row (start + k) d ≡ state) → take n (drop start row) ≡ replicate n state
-stretch_is row start n state inside each =
-    let size : length (take n (drop start row)) ≡ n = length-take-le n (drop start row) (omega (arith, length-drop start row)) in
-    same_lists (take n (drop start row)) (replicate n state) (size ∙ sym (length-replicate n state)) (λ k d l.
-    let small : k < n = omega arith in
-    get_or-take n (drop start row) k d small ∙ get_or-drop start row k d ∙ each k d small ∙ sym (get_or-replicate n k state d small))
-
-free_is : (row : List Bool) (start n : ℕ) → 1 ≤ n → n ≤ free_from row start → take n (drop start row) ≡ replicate n false
-free_is row start n some h = stretch_is row start n false (free_inside row start n some h) (λ k d l. not-true _ (sym (ap not (get_or-drop start row k d)) ∙ prefix_len_passes not (drop start row) k d (omega arith)))
-
-used_is : (row : List Bool) (start n : ℕ) → 1 ≤ n → n ≤ used_from row start → take n (drop start row) ≡ replicate n true
-used_is row start n some h = stretch_is row start n true (used_inside row start n some h) (λ k d l. sym (get_or-drop start row k d) ∙ prefix_len_passes (λ used. used) (drop start row) k d (omega arith))
-
--- the used places of a row before, in and behind a stretch
-abbrev weight : Bool → ℕ
-weight used = cond used 1 0
-
-cut_in_three : (row : List Bool) (start n : ℕ) → used_count row ≡ sum_by weight (take start row) + sum_by weight (take n (drop start row)) + sum_by weight (drop n (drop start row))
-cut_in_three row start n =
-    let whole : used_count row ≡ sum_by weight (take start row ++ drop start row) = ap (sum_by weight) (sym (take-append-drop start row)) in
-    let back : sum_by weight (drop start row) ≡ sum_by weight (take n (drop start row) ++ drop n (drop start row)) = ap (sum_by weight) (sym (take-append-drop n (drop start row))) in
-    omega (arith, whole, back, sum_by-append weight (take start row) (drop start row), sum_by-append weight (take n (drop start row)) (drop n (drop start row)))
-
-placed_count : (row : List Bool) (start n : ℕ) (state : Bool) → used_count (with_places row start n state) ≡ sum_by weight (take start row) + n * weight state + sum_by weight (drop (start + n) row)
-placed_count row start n state = omega (arith, sum_by-append weight (take start row ++ replicate n state) (drop (start + n) row), sum_by-append weight (take start row) (replicate n state), sum_by-replicate weight n state)
-
--- n free places more are used, or n used ones fewer
-pub marked_count : (row : List Bool) (start n : ℕ) → 1 ≤ n → n ≤ free_from row start → used_count (with_places row start n true) ≡ used_count row + n
-marked_count row start n some h =
-    let middle : sum_by weight (take n (drop start row)) ≡ n * 0 = ap (sum_by weight) (free_is row start n some h) ∙ sum_by-replicate weight n false in
-    let back : sum_by weight (drop n (drop start row)) ≡ sum_by weight (drop (start + n) row) = ap (sum_by weight) (drop-drop n start row) in
-    omega (arith, middle, back, cut_in_three row start n, placed_count row start n true)
-
-pub unmarked_count : (row : List Bool) (start n : ℕ) → 1 ≤ n → n ≤ used_from row start → used_count (with_places row start n false) + n ≡ used_count row
-unmarked_count row start n some h =
-    let middle : sum_by weight (take n (drop start row)) ≡ n * 1 = ap (sum_by weight) (used_is row start n some h) ∙ sum_by-replicate weight n true in
-    let back : sum_by weight (drop n (drop start row)) ≡ sum_by weight (drop (start + n) row) = ap (sum_by weight) (drop-drop n start row) in
-    omega (arith, middle, back, cut_in_three row start n, placed_count row start n false)
-
--- not more places are used than there are
-pub used_count-le : (words : List ℕ) → used_count (row_of words) ≤ 64 * length words
-used_count-le words = omega (arith, count_by-le-length (λ used. used) (row_of words), length-row_of words)
-
 -- words of zeros stand for free places
 pub row_of-zeros : (m : ℕ) → row_of (replicate m 0) ≡ replicate (64 * m) false
-row_of-zeros m =
-    let size : length (row_of (replicate m 0)) ≡ 64 * m = omega (arith, length-row_of (replicate m 0), length-replicate {A = ℕ} m 0) in
-    same_lists (row_of (replicate m 0)) (replicate (64 * m) false) (size ∙ sym (length-replicate (64 * m) false)) (λ k d l.
-    get_or-row_of (replicate m 0) k d (omega (arith, length-replicate {A = ℕ} m 0))
-    ∙ ap (λ (w : ℕ). is_one w (k % 64)) (get_or-replicate m (k / 64) 0 0 (omega arith))
-    ∙ ap (λ (b : ℕ). eqb b 1) (bit_at-zero (k % 64))
-    ∙ sym (get_or-replicate (64 * m) k false d (omega arith)))
+row_of-zeros m = grind (arith, nat_tests, same_lists, length-replicate, eqb, get_or-row_of, bit_at-zero, get_or-replicate, length-row_of)
 
-pub zeros_count : (m : ℕ) → used_count (row_of (replicate m 0)) ≡ 0
-zeros_count m = let none = sum_by-replicate weight (64 * m) false in ap used_count (row_of-zeros m) ∙ omega arith
+-- the used places before a place, and those of a stretch behind it
+pub used_behind : (row : List Bool) (start end : ℕ) → start ≤ end → used_count (take end row) ≡ used_count (take start row) + used_count (take (end - start) (drop start row))
+used_behind row start end order =
+    let to : start + (end - start) ≡ end = omega arith in
+    ap (λ (p : ℕ). used_count (take p row)) (sym to) ∙ ap used_count (take-add start (end - start) row) ∙ sum_by-append (λ used. cond used 1 0) (take start row) (take (end - start) (drop start row))
+
+-- the ones of a number are those of its bits
+ones_of_bits : (row : List Bool) → count_ones (mask_l row) ≡ used_count row
+unfolding count_ones
+ones_of_bits [] = refl
+ones_of_bits (used ∷ row) = omega (arith, ones-mask_l_cons used row, ones_of_bits row, sum_by-cons (λ used. cond used 1 0) used row)
+
+bit_of_one : (b : ℕ) → b < 2 → cond {A = ℕ} (eqb b 1) 1 0 ≡ b
+bit_of_one zero l = refl
+bit_of_one (suc zero) l = refl
+bit_of_one (suc (suc b)) l = absurd (omega arith)
+
+-- the places of a word as far as a place are used where the number of the word's bits as far has a one
+pub ones_in_word : (words : List ℕ) (index n to low : ℕ) → index < length words → n ≤ 64 → 64 * index + n ≡ to → low < 2 ^ n → ((k : ℕ) → k < n → bit_at low k ≡ bit_at (get_or words index 0) k) →
+    count_ones low + used_count (take (64 * index) (row_of words)) ≡ used_count (take to (row_of words))
+ones_in_word words index n to low inside short at fits same =
+    let row : List Bool = row_of words in
+    let from : ℕ = 64 * index in
+    let some : to - from ≡ n = omega arith in
+    let part : List Bool = take n (drop from row) in
+    let size : length part ≡ n = length-take-le n (drop from row) (omega (arith, length-drop from row, length-row_of words)) in
+    let least : mask_l part < 2 ^ n = rw size at (mask_l-lt part) in
+    let place : (k : ℕ) → k < n → get_or part k false ≡ is_one (get_or words index 0) k =
+    λ k l. let bit : from + k - 64 * index ≡ k = omega arith in get_or-take n (drop from row) k false l ∙ get_or-drop from row k false ∙ get_or-row_of words (from + k) false (omega arith) ∙ marked_in_word words index (from + k) (omega arith) (omega arith) ∙ ap (is_one (get_or words index 0)) bit in
+    let bits : low ≡ mask_l part = same_from_bits_below n low (mask_l part) fits least (λ k l.
+    let bit : bit_at (mask_l part) k ≡ cond (get_or part k false) 1 0 = bit_mask_l part k in
+    same k l ∙ sym (bit ∙ ap (λ (b : Bool). cond b 1 0) (place k l) ∙ bit_of_one (bit_at (get_or words index 0) k) (bit_at-lt (get_or words index 0) k))) in
+    let ones : count_ones low ≡ used_count part = ap count_ones bits ∙ ones_of_bits part in
+    let behind : used_count (take (to - from) (drop from row)) ≡ used_count part = ap (λ (m : ℕ). used_count (take m (drop from row))) some in
+    omega (arith, used_behind row from to (omega arith))
+
+-- a whole word, and how many places can be used as far as its end
+pub ones_of_word : (words : List ℕ) (index : ℕ) → index < length words → get_or words index 0 < 2 ^ 64 →
+    (count_ones (get_or words index 0) + used_count (take (64 * index) (row_of words)) ≡ used_count (take (64 * (index + 1)) (row_of words))) × (used_count (take (64 * (index + 1)) (row_of words)) ≤ 64 * length words)
+ones_of_word words index inside fits =
+    let upto : List Bool = take (64 * (index + 1)) (row_of words) in
+    (ones_in_word words index 64 (64 * (index + 1)) (get_or words index 0) inside (omega arith) (omega arith) fits (λ k l. refl), omega (arith, count_by-le-length (λ used. used) upto, length-take (64 * (index + 1)) (row_of words), length-row_of words))

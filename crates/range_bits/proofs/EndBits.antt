@@ -1,20 +1,22 @@
 -- Where the last bit below a bit ends that is 1, or that is 0, and the same of places of a row.
 use Rattle.std.proofs.Common.{◌≡◌, ℕ, suc, ◌+◌, ◌-◌, ◌*◌, ◌/◌, ◌^◌, ◌<◌, ◌≤◌, Bool, true, false, not, cond, eqb, List, length, get_or, sym, ap, ◌∙◌, inl, inr, arith, bit_and, w64}
+use Rattle.std.proofs.lemmas.Bool.Decides.{nat_tests}
 use Rattle.std.proofs.lemmas.Bool.{cases_lt}
 use Rattle.std.proofs.lemmas.Nat.{and_le_r, pow_pos}
-use Rattle.std.proofs.lemmas.Nat.Bits.{bit_at_and, bit_at_not, bit_at-lt, bit_at_ones, bit_at_ones_above, bit_at_above, bit_at_cat_high, ones_shr}
+use Rattle.std.proofs.lemmas.Nat.Bits.{bit_at_and, bit_at-lt, bit_at_ones, bit_at_ones_above, bit_at_above, bit_at_cat_high, ones_shr}
 use Rattle.std.proofs.Math.Nat.{pow-le-pow_right, pow-succ'}
 use Rattle.std.specs.Int.Count.{leading_of_zero, leading_top}
 use Rattle.std.specs.Int.{bit_at, bit_not, leading_zeros}
 use Rattle.range_bits.specs.Words.{is_one, is_marked, row_of}
 use Rattle.range_bits.specs.Fills.{IsEnd}
+use Rattle.range_bits.proofs.BitFacts.{turned}
 use Rattle.range_bits.proofs.RowFacts.{length-row_of, get_or-row_of, marked_in_word}
 
--- the greatest 1 of a word's low bits
-record EndOne (seen high end : ℕ) : Type 0 where
-  within : end ≤ high
-  behind : (k : ℕ) → end ≤ k → k < high → bit_at seen k ≡ 0
-  there : 0 < end → bit_at seen (end - 1) ≡ 1
+-- where the last bit below `high` ends that is 1, or that is 0
+pub record EndBit (word high : ℕ) (used : Bool) (end : ℕ) : Type 0 where
+  pub within : end ≤ high
+  pub behind : (k : ℕ) → end ≤ k → k < high → is_one word k ≡ not used
+  pub there : 0 < end → is_one word (end - 1) ≡ used
 
 kept_low : (seen high k : ℕ) → k < high → bit_at (bit_and seen (2 ^ high - 1)) k ≡ bit_at seen k
 kept_low seen high k low =
@@ -28,14 +30,9 @@ kept_high seen high k above =
 
 -- the greatest bit of a number between two powers
 top_bit : (n j : ℕ) → 2 ^ j ≤ n → n < 2 ^ suc j → bit_at n j ≡ 1
-top_bit n j low high =
-    let twice : 2 ^ suc j ≡ 2 * 2 ^ j = pow-succ' 2 j in
-    let split : n ≡ 1 * 2 ^ j + (n - 2 ^ j) = omega arith in
-    let small : n - 2 ^ j < 2 ^ j = omega arith in
-    let none : j - j ≡ 0 = omega arith in
-    ap (λ (m : ℕ). bit_at m j) split ∙ bit_at_cat_high 1 j (n - 2 ^ j) j small (omega arith) ∙ ap (bit_at 1) none
+top_bit n j low high = grind (arith, nat_tests, bit_at_cat_high, pow-succ')
 
-end_one : (seen high kept : ℕ) → high ≤ 64 → kept ≡ bit_and seen (2 ^ high - 1) → EndOne seen high (64 - leading_zeros w64 kept)
+end_one : (seen high kept : ℕ) → high ≤ 64 → kept ≡ bit_and seen (2 ^ high - 1) → EndBit seen high true (64 - leading_zeros w64 kept)
 end_one seen high kept small e =
     let at = λ (k : ℕ). ap (λ (n : ℕ). bit_at n k) e in
     elim (cases_lt 0 kept) [
@@ -44,7 +41,7 @@ end_one seen high kept small e =
           let all : leading_zeros w64 kept ≡ 64 = ap (leading_zeros w64) zero_kept ∙ leading_of_zero 64 in
           record {
             within = omega arith;
-            behind = λ k from low. sym (kept_low seen high k low) ∙ sym (at k) ∙ ap (λ (n : ℕ). bit_at n k) zero_kept ∙ bit_at_above 0 0 k (omega arith) (omega arith);
+            behind = λ k from low. ap (λ (b : ℕ). eqb b 1) (sym (kept_low seen high k low) ∙ sym (at k) ∙ ap (λ (n : ℕ). bit_at n k) zero_kept ∙ bit_at_above 0 0 k (omega arith) (omega arith));
             there = λ some. absurd (omega arith);
           })
       | inl some ↦
@@ -63,74 +60,30 @@ end_one seen high kept small e =
           ] in
           record {
             within = omega arith;
-            behind = λ k from under. sym (kept_low seen high k under) ∙ sym (at k) ∙ bit_at_above kept (suc j) k top.3 (omega arith);
-            there = λ _. ap (bit_at seen) before ∙ sym (kept_low seen high j low) ∙ sym (at j) ∙ one;
+            behind = λ k from under. ap (λ (b : ℕ). eqb b 1) (sym (kept_low seen high k under) ∙ sym (at k) ∙ bit_at_above kept (suc j) k top.3 (omega arith));
+            there = λ _. ap (λ (b : ℕ). eqb b 1) (ap (bit_at seen) before ∙ sym (kept_low seen high j low) ∙ sym (at j) ∙ one);
           })
     ]
 
-pub record EndBit (word high : ℕ) (used : Bool) (end : ℕ) : Type 0 where
-  pub within : end ≤ high
-  pub behind : (k : ℕ) → end ≤ k → k < high → is_one word k ≡ not used
-  pub there : 0 < end → is_one word (end - 1) ≡ used
-
 -- found in the word itself, or in the word turned round
-end_used : (word high kept : ℕ) → high ≤ 64 → kept ≡ bit_and word (2 ^ high - 1) → EndBit word high true (64 - leading_zeros w64 kept)
-end_used word high kept small e =
-    let one = end_one word high kept small e in
-    record {
-      within = one.within;
-      behind = λ k from low. ap (λ (b : ℕ). eqb b 1) (one.behind k from low);
-      there = λ some. ap (λ (b : ℕ). eqb b 1) (one.there some);
-    }
-
-end_free : (word high kept : ℕ) → word < 2 ^ 64 → high ≤ 64 → kept ≡ bit_and (bit_not w64 word) (2 ^ high - 1) → EndBit word high false (64 - leading_zeros w64 kept)
-end_free word high kept fits small e =
-    let one = end_one (bit_not w64 word) high kept small e in
-    record {
-      within = one.within;
-      behind = λ k from low.
-          let turned = bit_at_not w64 word k fits (omega arith) in
-          let here : bit_at word k ≡ 1 = omega (arith, one.behind k from low, turned, bit_at-lt word k) in
-          ap (λ (b : ℕ). eqb b 1) here;
-      there = λ some.
-          let k : ℕ = 64 - leading_zeros w64 kept - 1 in
-          let turned = bit_at_not w64 word k fits (omega (arith, one.within)) in
-          let here : bit_at word k ≡ 0 = omega (arith, one.there some, turned, bit_at-lt word k) in
-          ap (λ (b : ℕ). eqb b 1) here;
-    }
-
 pub found_end : (word seen high mask : ℕ) (used : Bool) → word < 2 ^ 64 → high ≤ 64 → mask ≡ (2 ^ 64 - 1) / 2 ^ (64 - high) → seen ≡ cond used word (bit_not w64 word) → EndBit word high used (64 - leading_zeros w64 (bit_and seen mask))
 found_end word seen high mask used fits small m e =
     let back : 64 - (64 - high) ≡ high = omega arith in
     let low : mask ≡ 2 ^ high - 1 = m ∙ ones_shr 64 (64 - high) (omega arith) ∙ ap (λ (n : ℕ). 2 ^ n - 1) back in
-    elim used as (λ u. seen ≡ cond u word (bit_not w64 word) → EndBit word high u (64 - leading_zeros w64 (bit_and seen mask))) [
-      | true ↦ λ is. end_used word high (bit_and seen mask) small (ap (λ (s : ℕ). bit_and s mask) is ∙ ap (bit_and word) low)
-      | false ↦ λ is. end_free word high (bit_and seen mask) fits small (ap (λ (s : ℕ). bit_and s mask) is ∙ ap (bit_and (bit_not w64 word)) low)
-    ] e
+    let one = end_one seen high (bit_and seen mask) small (ap (bit_and seen) low) in
+    record {
+      within = one.within;
+      behind = λ k from under. turned word seen k used false fits (omega arith) e (one.behind k from under);
+      there = λ some. turned word seen _ used true fits (omega (arith, one.within)) e (one.there some);
+    }
 
 -- an end in a word is the row's, where no place behind the word's part is in that state
 pub end_in_row : (words : List ℕ) (before index end bit : ℕ) (used : Bool) → before ≤ 64 * length words → end ≤ before → 64 * index < end → end ≤ 64 * index + 64 → ((k : ℕ) → end ≤ k → k < before → is_marked words k ≡ not used) → EndBit (get_or words index 0) (end - 64 * index) used bit → 0 < bit → IsEnd (row_of words) before used (64 * index + bit)
 end_in_row words before index end bit used inside order low high behind found some =
-    let size = length-row_of words in
-    record {
-      within = omega (arith, found.within);
-      behind = λ k from to.
-          get_or-row_of words k true (omega arith) ∙ elim (cases_lt k end) [
-            | inr later ↦ behind k later to
-            | inl here ↦ marked_in_word words index k (omega arith) (omega arith) ∙ found.behind (k - 64 * index) (omega arith) (omega arith)
-          ];
-      there = λ _.
-          let at : 64 * index + bit - 1 - 64 * index ≡ bit - 1 = omega arith in
-          get_or-row_of words (64 * index + bit - 1) true (omega (arith, found.within)) ∙ marked_in_word words index (64 * index + bit - 1) (omega arith) (omega (arith, found.within)) ∙ ap (is_one (get_or words index 0)) at ∙ found.there some;
-    }
+    grind (arith, nat_tests, marked_in_word, get_or-row_of, length-row_of)
 
 pub none_in_word : (words : List ℕ) (index end : ℕ) (used : Bool) → 64 * index < end → end ≤ 64 * index + 64 → EndBit (get_or words index 0) (end - 64 * index) used 0 → (k : ℕ) → 64 * index ≤ k → k < end → is_marked words k ≡ not used
 none_in_word words index end used low high found k from to = marked_in_word words index k from (omega arith) ∙ found.behind (k - 64 * index) (omega arith) (omega arith)
 
 pub end_nowhere : (words : List ℕ) (before : ℕ) (used : Bool) → before ≤ 64 * length words → ((k : ℕ) → k < before → is_marked words k ≡ not used) → IsEnd (row_of words) before used 0
-end_nowhere words before used inside behind =
-    record {
-      within = omega arith;
-      behind = λ k _ to. get_or-row_of words k true (omega (arith, length-row_of words)) ∙ behind k to;
-      there = λ some. absurd (omega arith);
-    }
+end_nowhere words before used inside behind = grind (arith, nat_tests, get_or-row_of, length-row_of)

@@ -1,5 +1,6 @@
 -- The first of those than which none is less, where one is less than all others.
 use Rattle.std.proofs.Common.{◌≡◌, zero, suc, Bool, true, false, cond, List, [], ◌∷◌, Option, Some, None, IfSome, get_or, All, Contains, refl, sym, ap, ◌∙◌, subst, inl, inr, ◌⊎◌, arith}
+use Rattle.std.proofs.lemmas.Bool.Decides.{nat_tests}
 use Rattle.std.proofs.lemmas.Bool.{cases_Bool}
 use Rattle.std.proofs.lemmas.List.Elements.{All-head, All-tail, All-cons, All-nil}
 use Rattle.range_bits.specs.Ranges.{first_of_two, first_least}
@@ -12,19 +13,11 @@ IsBehind less x y = (y ≡ x) ⊎ ((less x y ≡ true) × (less y x ≡ false))
 module _ {X : Type 0} (less : X → X → Bool) (x : X) where
   -- of two, where one is it
   wins : (y : X) → IsBehind less x y → first_of_two less y (Some x) ≡ x
-  wins y behind =
-      elim behind [
-        | inl same ↦ elim (cases_Bool (less x y)) [ inl t ↦ ap (λ (b : Bool). cond b x y) t | inr f ↦ ap (λ (b : Bool). cond b x y) f ∙ same ]
-        | inr after ↦ ap (λ (b : Bool). cond b x y) after.0
-      ]
+  wins y behind = grind (arith, nat_tests)
 
   stays : (o : Option X) → ((y : X) → o ≡ Some y → IsBehind less x y) → first_of_two less x o ≡ x
   stays None behind = refl
-  stays (Some y) behind =
-      elim (behind y refl) [
-        | inl same ↦ elim (cases_Bool (less y x)) [ inl t ↦ ap (λ (b : Bool). cond b y x) t ∙ same | inr f ↦ ap (λ (b : Bool). cond b y x) f ]
-        | inr after ↦ ap (λ (b : Bool). cond b y x) after.1
-      ]
+  stays (Some y) behind = grind (arith, nat_tests)
 
   pub least_is_first : (xs : List X) → Contains xs x → All (IsBehind less x) xs → first_least less xs ≡ Some x
   least_is_first [] held all = absurd (omega (arith, held.1))

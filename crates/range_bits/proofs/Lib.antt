@@ -2,8 +2,6 @@ pub mod BitFacts
 pub mod Counts
 mod Cuts
 mod EndBits
-pub mod Existence
-pub mod Filling
 pub mod Least
 pub mod Placing
 mod Parts

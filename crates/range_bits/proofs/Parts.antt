@@ -1,7 +1,6 @@
 -- The words of a part of a row.
 use Rattle.std.proofs.Common.{◌≡◌, ℕ, ◌+◌, ◌*◌, ◌/◌, ◌%◌, ◌≤◌, Bool, List, length, get_or, take, drop, sym, ap, ◌∙◌, arith}
-use Rattle.std.proofs.lemmas.List.{same_lists, length-take-le, length-drop, get_or-take, get_or-drop, take-take}
-use Rattle.range_bits.specs.Fills.{free_count, free_before}
+use Rattle.std.proofs.lemmas.List.{same_lists, length-take-le, length-drop, get_or-take, get_or-drop}
 use Rattle.range_bits.specs.Words.{is_one, row_of}
 use Rattle.range_bits.proofs.RowFacts.{length-row_of, get_or-row_of}
 
@@ -22,9 +21,3 @@ row_of-part words first count inside =
     ∙ sym (get_or-row_of words (64 * first + k) d (omega arith))
     ∙ sym (get_or-drop (64 * first) row k d)
     ∙ sym (get_or-take (64 * count) (drop (64 * first) row) k d (omega arith)))
-
--- the free places before a place are those of the words as far as it
-pub free_before-part : (words : List ℕ) (count place : ℕ) → count ≤ length words → place ≤ 64 * count → free_before (row_of (take count words)) place ≡ free_before (row_of words) place
-free_before-part words count place inside within =
-    ap (λ (row : List Bool). free_before row place) (row_of-part words 0 count (omega arith))
-    ∙ ap free_count (take-take place (64 * count) (row_of words) within)

@@ -21,36 +21,19 @@ outside_above start to p l = grind (arith, nat_tests)
 inside_both : (start to p : ℕ) → start ≤ p → p < to → is_between start to p ≡ true
 inside_both start to p a b = grind (arith, nat_tests)
 
+outside_all : (start to p : ℕ) → to ≤ start → is_between start to p ≡ false
+outside_all start to p none = grind (arith, nat_tests)
+
 pub placed_none : (words : List ℕ) (start to : ℕ) (used : Bool) → to ≤ start → Placed words words start to used
-placed_none words start to used none =
-    record {
-      each = λ p. elim (cases_lt p start) [
-        | inl l ↦ sym (ap (λ (b : Bool). cond b used (is_marked words p)) (outside_below start to p l))
-        | inr l ↦ sym (ap (λ (b : Bool). cond b used (is_marked words p)) (outside_above start to p (omega arith)))
-      ];
-    }
+placed_none words start to used none = record { each = λ p. sym (ap (λ (b : Bool). cond b used (is_marked words p)) (outside_all start to p none)) }
 
 -- a test by a place in a word is the test by the place in the row
 same_test : (base low high start to k p : ℕ) → base + k ≡ p → low ≡ start - base → high ≡ min (to - base) 64 → k < 64 → base < to → is_between low high k ≡ is_between start (min to (base + 64)) p
-same_test base low high start to k p at l h small some =
-    elim (cases_lt p start) [
-      | inl below ↦ outside_below low high k (omega arith) ∙ sym (outside_below start (min to (base + 64)) p below)
-      | inr from ↦ elim (cases_lt p to) [
-        | inl in_range ↦ inside_both low high k (omega arith) (omega arith) ∙ sym (inside_both start (min to (base + 64)) p from (omega arith))
-        | inr past ↦ outside_above low high k (omega arith) ∙ sym (outside_above start (min to (base + 64)) p (omega arith))
-      ]
-    ]
+same_test base low high start to k p at l h small some = grind (arith, nat_tests)
 
 -- a place before a word passes the test as far as the word's begin or end alike
 test_below : (base start to p : ℕ) → p < base → is_between start (min to base) p ≡ is_between start (min to (base + 64)) p
-test_below base start to p l =
-    elim (cases_lt p start) [
-      | inl below ↦ outside_below start (min to base) p below ∙ sym (outside_below start (min to (base + 64)) p below)
-      | inr from ↦ elim (cases_lt p to) [
-        | inl in_range ↦ inside_both start (min to base) p from (omega arith) ∙ sym (inside_both start (min to (base + 64)) p from (omega arith))
-        | inr past ↦ outside_above start (min to base) p (omega arith) ∙ sym (outside_above start (min to (base + 64)) p (omega arith))
-      ]
-    ]
+test_below base start to p l = grind (arith, nat_tests)
 
 other_word : (words : List ℕ) (index word p : ℕ) → p / 64 ≢ index → is_marked (set words index word) p ≡ is_marked words p
 other_word words index word p other = ap (λ (w : ℕ). is_one w (p % 64)) (get_or-set_other words index (p / 64) word 0 other)
@@ -83,49 +66,26 @@ placed_word old words start to index low high word used row some l h made so_far
           ];
     }
 
--- the places of a row some of which were made used or free
-pub length-with_places : (row : List Bool) (start n : ℕ) (used : Bool) → start + n ≤ length row → length (with_places row start n used) ≡ length row
-length-with_places row start n used inside =
-    let front = length-take-le start row (omega arith) in
-    let middle = length-replicate n used in
-    let back = length-drop (start + n) row in
-    omega (arith, length-append (take start row ++ replicate n used) (drop (start + n) row), length-append (take start row) (replicate n used))
+-- each place of a row where n places are made used or free
+module _ (row : List Bool) (start n : ℕ) (used : Bool) (inside : start + n ≤ length row) where
+  pub length-with_places : length (with_places row start n used) ≡ length row
+  length-with_places = omega (arith, length-append (take start row ++ replicate n used) (drop (start + n) row), length-append (take start row) (replicate n used), length-take-le start row (omega arith), length-replicate n used, length-drop (start + n) row)
+
+  front_size : length (take start row ++ replicate n used) ≡ start + n
+  front_size = omega (arith, length-append (take start row) (replicate n used), length-take-le start row (omega arith), length-replicate n used)
+
+  pub place_before : (k : ℕ) (d : Bool) → k < start → get_or (with_places row start n used) k d ≡ get_or row k d
+  place_before k d l = grind (arith, nat_tests, front_size, get_or-take, get_or_append_left, length-take-le)
+
+  pub place_in : (k : ℕ) (d : Bool) → start ≤ k → k < start + n → get_or (with_places row start n used) k d ≡ used
+  place_in k d from l = grind (arith, nat_tests, get_or-append_right, front_size, get_or-replicate, get_or_append_left, length-take-le)
+
+  pub place_behind : (k : ℕ) (d : Bool) → start + n ≤ k → get_or (with_places row start n used) k d ≡ get_or row k d
+  place_behind k d from = grind (arith, nat_tests, get_or-drop, front_size, get_or-append_right)
 
 pub get_or-with_places : (row : List Bool) (start n : ℕ) (used : Bool) (k : ℕ) (d : Bool) → start + n ≤ length row → get_or (with_places row start n used) k d ≡ cond (is_between start (start + n) k) used (get_or row k d)
-get_or-with_places row start n used k d inside =
-    let front = length-take-le start row (omega arith) in
-    let both : length (take start row ++ replicate n used) ≡ start + n = omega (arith, length-append (take start row) (replicate n used), length-replicate n used) in
-    elim (cases_lt k start) [
-      | inl below ↦
-          get_or_append_left (take start row ++ replicate n used) (drop (start + n) row) d k (omega arith)
-          ∙ get_or_append_left (take start row) (replicate n used) d k (omega arith)
-          ∙ get_or-take start row k d below
-          ∙ sym (ap (λ (b : Bool). cond b used (get_or row k d)) (outside_below start (start + n) k below))
-      | inr from ↦ elim (cases_lt k (start + n)) [
-        | inl in_range ↦
-            get_or_append_left (take start row ++ replicate n used) (drop (start + n) row) d k (omega arith)
-            ∙ get_or-append_right (take start row) (replicate n used) start k d front from
-            ∙ get_or-replicate n (k - start) used d (omega arith)
-            ∙ sym (ap (λ (b : Bool). cond b used (get_or row k d)) (inside_both start (start + n) k from in_range))
-        | inr past ↦
-            get_or-append_right (take start row ++ replicate n used) (drop (start + n) row) (start + n) k d both past
-            ∙ get_or-drop (start + n) row (k - (start + n)) d
-            ∙ ap (λ (i : ℕ). get_or row i d) (omega arith)
-            ∙ sym (ap (λ (b : Bool). cond b used (get_or row k d)) (outside_above start (start + n) k past))
-      ]
-    ]
+get_or-with_places row start n used k d inside = grind (arith, nat_tests, place_behind, place_in, place_before)
 
 pub placed_all : (old words : List ℕ) (start to : ℕ) (used : Bool) → start ≤ to → to ≤ 64 * length old → length words ≡ length old → Placed old words start to used → row_of words ≡ with_places (row_of old) start (to - start) used
 placed_all old words start to used order inside size placed =
-    let n : ℕ = to - start in
-    let before = length-row_of old in
-    let after = length-row_of words in
-    let fits : start + n ≤ length (row_of old) = omega arith in
-    let end : start + n ≡ to = omega arith in
-    let same : length (row_of words) ≡ length (with_places (row_of old) start n used) = omega (arith, length-with_places (row_of old) start n used fits) in
-    same_lists (row_of words) (with_places (row_of old) start n used) same (λ k d l.
-    get_or-row_of words k d (omega arith)
-    ∙ placed.each k
-    ∙ ap (λ (b : Bool). cond (is_between start to k) used b) (sym (get_or-row_of old k d (omega arith)))
-    ∙ ap (λ (t : ℕ). cond (is_between start t k) used (get_or (row_of old) k d)) (sym end)
-    ∙ sym (get_or-with_places (row_of old) start n used k d fits))
+    grind (arith, nat_tests, get_or-with_places, same_lists, length-with_places, get_or-row_of, length-row_of, is_between)

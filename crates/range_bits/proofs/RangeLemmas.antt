@@ -1,10 +1,10 @@
 -- Free ranges of a row: bounds on the longest, and where the best one begins.
 use Rattle.std.proofs.Common.{◌≡◌, ℕ, zero, suc, ◌+◌, ◌-◌, ◌<◌, ◌≤◌, ◌==◌, ◌⊎◌, Bool, true, false, not, ◌&&◌, cond, nat_lt, nat_le, List, [], ◌∷◌, length, get_or, drop, map, filter, fold, max, count_by, Option, Some, None, IfSome, All, refl, ap, subst, ◌∙◌, inl, inr, arith}
-use Rattle.std.specs.List.{range_with_len, list_all}
-use Rattle.std.proofs.lemmas.Bool.{cases_Bool, and_from, and_parts, and_left, not-true, not_from_false, not_from_true, le-leb, leb-true, or_right, cases_lt}
+use Rattle.std.specs.List.{range_with_len}
+use Rattle.std.proofs.lemmas.Bool.{cases_Bool, and_from, and_parts, not-true, not_from_false, le-leb, leb-true, or_right, cases_lt}
 use Rattle.std.proofs.lemmas.List.{length-drop, get_or-drop, get_or-map, nil_from_length, length-map}
 use Rattle.std.proofs.lemmas.List.FromFn.{length-range_with_len, get_or-range_with_len}
-use Rattle.std.proofs.lemmas.List.Sums.{prefix_len_passes, prefix_len-le-length, prefix_len-drop_yes, length-filter, get_or-le-sum_by, list_all-from_AllPass, AllPass-from_list_all}
+use Rattle.std.proofs.lemmas.List.Sums.{prefix_len_passes, prefix_len-le-length, prefix_len-drop_yes, length-filter, get_or-le-sum_by}
 use Rattle.std.proofs.lemmas.List.Elements.{All-head, All-tail, All-from_get_or, All-filter, filter_passes}
 use Rattle.range_bits.specs.Ranges.{free_from, places, longest, begins_range, first_of_two, first_least, best}
 use Rattle.tc_units.proofs.Counts.{count_none}
@@ -122,44 +122,26 @@ filter-some p xs k d h pass none =
     let most' : 1 ≤ count_by p xs = rw pass at most in
     omega arith
 
--- where the best range begins
-abbrev is_long : List Bool → ℕ → ℕ → Bool
-is_long row n place = begins_range row place && nat_le n (free_from row place)
+-- whether a place begins a maximal free range of at least n places
+abbrev pub fits_at : List Bool → ℕ → ℕ → Bool
+fits_at row n place = begins_range row place && nat_le n (free_from row place)
 
+-- where the best range begins
 pub best-at : (row : List Bool) (n s : ℕ) → best row n ≡ Some s → (s < length row) × (n ≤ free_from row s)
 best-at row n s h =
     let P : ℕ → Type 0 = λ place. (place < length row) × (n ≤ free_from row place) in
-    let all = first_least-all P (λ a b. nat_lt (free_from row a) (free_from row b)) (filter (is_long row n) (places row))
+    let all = first_least-all P (λ a b. nat_lt (free_from row a) (free_from row b)) (filter (fits_at row n) (places row))
     (λ k d l.
-    let passes = filter_passes (is_long row n) (places row) k d l in
-    let inside = All-filter (is_long row n) (λ place. (0 ≤ place) × (place < 0 + length row)) (places row) (range-within 0 (length row)) k d l in
-    let far : n ≤ free_from row (get_or (filter (is_long row n) (places row)) k d) = leb-true n _ (and_parts _ _ passes).1 in
+    let passes = filter_passes (fits_at row n) (places row) k d l in
+    let inside = All-filter (fits_at row n) (λ place. (0 ≤ place) × (place < 0 + length row)) (places row) (range-within 0 (length row)) k d l in
+    let far : n ≤ free_from row (get_or (filter (fits_at row n) (places row)) k d) = leb-true n _ (and_parts _ _ passes).1 in
     (omega (arith, inside.1), far)) in
     subst (λ o. IfSome o P) h all
 
 pub best-some : (row : List Bool) (n place : ℕ) → place < length row → 0 < n → n ≤ free_from row place → best row n ≡ None → ⊥
 best-some row n place h some far none =
     let s = start_of row n place h some far in
-    let empty = first_least-none (λ a b. nat_lt (free_from row a) (free_from row b)) (filter (is_long row n) (places row)) none in
+    let empty = first_least-none (λ a b. nat_lt (free_from row a) (free_from row b)) (filter (fits_at row n) (places row)) none in
     let len = length-range_with_len 0 (length row) in
     let here : get_or (places row) s.0 0 ≡ s.0 = get_or-range_with_len 0 (length row) s.0 0 s.1 ∙ omega arith in
-    filter-some (is_long row n) (places row) s.0 0 (omega (arith, s.1)) (rw here (and_from _ _ s.3 (le-leb n _ s.2))) empty
-
--- a row has no free range exactly where all its places are used
-pub best-none : (row : List Bool) (n : ℕ) → list_all (λ b. b) row ≡ true → best row n ≡ None
-best-none row n h =
-    let none = filter-none (is_long row n) (places row)
-    (λ k d l.
-    let len = length-range_with_len 0 (length row) in
-    let here = get_or-range_with_len 0 (length row) k d (omega arith) in
-    let used = AllPass-from_list_all (λ b. b) row h (get_or (places row) k d) true (omega arith) in
-    and_left _ _ (and_left _ _ (not_from_true _ used))) in
-    rw none
-
-pub all-used : (row : List Bool) → best row 1 ≡ None → list_all (λ b. b) row ≡ true
-all-used row none =
-    list_all-from_AllPass (λ b. b) row (λ k d h.
-    elim (cases_Bool (get_or row k d)) [
-      | inl t ↦ t
-      | inr f ↦ let more = prefix_len-drop_yes not row k d h (not_from_false _ f) in absurd (best-some row 1 k h (omega arith) (omega arith) none)
-    ])
+    filter-some (fits_at row n) (places row) s.0 0 (omega (arith, s.1)) (rw here (and_from _ _ s.3 (le-leb n _ s.2))) empty

@@ -1,13 +1,15 @@
 -- One free range more of a row: what the next range adds to the longest and to the best so far.
-use Rattle.std.proofs.Common.{◌≡◌, ℕ, zero, suc, ◌+◌, ◌-◌, ◌<◌, ◌≤◌, ◌==◌, ◌||◌, ◌&&◌, Bool, true, false, not, nat_lt, nat_le, List, [], ◌∷◌, ◌++◌, length, get_or, map, filter, fold, max, Option, Some, None, cond, refl, sym, ap, ◌∙◌, inl, inr, arith, option_map, eq-eqb}
+use Rattle.std.proofs.Common.{◌≡◌, ℕ, zero, suc, ◌+◌, ◌-◌, ◌<◌, ◌≤◌, ◌==◌, ◌||◌, ◌&&◌, Bool, true, false, not, nat_lt, nat_le, List, [], ◌∷◌, ◌++◌, length, get_or, map, filter, fold, max, Option, Some, None, cond, refl, sym, ap, ◌∙◌, inl, inr, arith, option_map, eq-eqb, eqb-true, ◌↔◌}
 use Rattle.std.specs.List.{range_with_len}
 use Rattle.std.proofs.lemmas.List.{map-append, append-nil}
-use Rattle.std.proofs.lemmas.List.Sums.{fold-append, prefix_len-drop_yes, prefix_len-drop_no, prefix_len-drop_all}
+use Rattle.std.proofs.lemmas.List.Sums.{fold-append, get_or-le-sum_by, prefix_len-drop_yes, prefix_len-drop_no, prefix_len-drop_all}
 use Rattle.std.proofs.lemmas.List.Elements.{filter-append}
-use Rattle.std.proofs.lemmas.Bool.{cases_lt, and_from, and_left, and_right, or_left, or_right, le-leb, lt-leb, lt-ltb, le-ltb, ne_eqb}
+use Rattle.std.proofs.lemmas.Bool.{cases_Bool, cases_lt, and_from, and_left, and_right, or_left, or_right, le-leb, lt-leb, ne_eqb}
 use Rattle.std.proofs.lemmas.Bool.Decides.{nat_tests}
-use Rattle.range_bits.proofs.RangeFacts.{fits_at, fold_max}
-use Rattle.range_bits.specs.Ranges.{free_from, begins_range, first_of_two, first_least}
+use Rattle.range_bits.proofs.RangeFacts.{fold_max, best_is_fit, longest_is_short}
+use Rattle.range_bits.proofs.RangeLemmas.{fits_at, longest-at, longest-le-length, free_fits, free_at}
+use Rattle.tc_units.proofs.Counts.{count_none}
+use Rattle.range_bits.specs.Ranges.{free_from, begins_range, first_of_two, first_least, longest, best, used_count}
 use Rattle.range_bits.specs.Words.{IsNextRange}
 use Rattle.range_bits.specs.FreeRanges.{shorter_of}
 use Rattle.range_bits.specs.declared.ranges.FreeRange.{FreeRange}
@@ -98,17 +100,7 @@ nearer f (Some y) z = cond (nat_lt (f z) (f y)) z y
 
 first_of-nearer : (f : ℕ → ℕ) (x z : ℕ) (o : Option ℕ) → first_of_two (λ a b. nat_lt (f a) (f b)) x (Some (nearer f o z)) ≡ nearer f (Some (first_of_two (λ a b. nat_lt (f a) (f b)) x o)) z
 first_of-nearer f x z None = refl
-first_of-nearer f x z (Some y) =
-    elim (cases_lt (f z) (f y)) [
-      | inl low ↦ elim (cases_lt (f y) (f x)) [
-        | inl a ↦ grind (arith, nat_tests)
-        | inr a ↦ grind (arith, nat_tests)
-      ]
-      | inr high ↦ elim (cases_lt (f y) (f x)) [
-        | inl a ↦ grind (arith, nat_tests)
-        | inr a ↦ grind (arith, nat_tests)
-      ]
-    ]
+first_of-nearer f x z (Some y) = grind (arith, nat_tests)
 
 first_least-push : (f : ℕ → ℕ) (xs : List ℕ) (z : ℕ) → first_least (λ a b. nat_lt (f a) (f b)) (xs ++ z ∷ []) ≡ Some (nearer f (first_least (λ a b. nat_lt (f a) (f b)) xs) z)
 first_least-push f [] z = refl
@@ -127,42 +119,28 @@ filter-none p a (suc n) no_one =
 abbrev pub best_before : List Bool → ℕ → ℕ → Option ℕ
 best_before row n p = first_least (λ a b. nat_lt (free_from row a) (free_from row b)) (filter (fits_at row n) (range_with_len 0 p))
 
-or_both : {a b : Bool} → a ≡ false → b ≡ false → (a || b) ≡ false
-or_both {a} {b} e h = ap (λ (x : Bool). x || b) e ∙ h
+-- no range begins at a used place, nor behind a free one; one begins at a free place with none before it
+pub used_begins : (row : List Bool) (p : ℕ) → get_or row p true ≡ true → begins_range row p ≡ false
+used_begins row p used = and_left _ _ (ap not used)
 
--- no range begins at a used place, nor behind a free one
-used_begins_none : (row : List Bool) (n k : ℕ) → get_or row k true ≡ true → fits_at row n k ≡ false
-used_begins_none row n k used = and_left _ _ (and_left _ _ (ap not used))
+pub behind_free : (row : List Bool) (p : ℕ) → 0 < p → get_or row (p - 1) true ≡ false → begins_range row p ≡ false
+behind_free row p pos free =
+    let first : (p == 0) ≡ false = ne_eqb p 0 (λ e. omega arith) in
+    and_right (not (get_or row p true)) (p == 0 || get_or row (p - 1) true) (ap (λ (b : Bool). b || get_or row (p - 1) true) first ∙ free)
 
-free_begins_none : (row : List Bool) (n k : ℕ) → 0 < k → get_or row (k - 1) true ≡ false → fits_at row n k ≡ false
-free_begins_none row n k pos free =
-    let first : (k == 0) ≡ false = ne_eqb k 0 (λ e. omega arith) in
-    and_left _ _ (and_right (not (get_or row k true)) (k == 0 || get_or row (k - 1) true) (or_both first free))
+pub begins : (row : List Bool) (p : ℕ) → get_or row p true ≡ false → (0 < p → get_or row (p - 1) true ≡ true) → begins_range row p ≡ true
+begins row p free edge = grind (arith, nat_tests, or_left, and_from, or_right, eq-eqb)
 
 -- the range that comes next begins at its start
-pub starts : (row : List Bool) (from start len : ℕ) → IsNextRange row from start len → (0 < from → from < length row → get_or row from true ≡ true) → 0 < len → begins_range row start ≡ true
-starts row from start len range edge some =
-    let free : get_or row start true ≡ false = range.free start (omega arith) (omega arith) in
-    let inside : start < length row = omega (arith, range.within) in
-    and_from (not (get_or row start true)) (start == 0 || get_or row (start - 1) true) (ap not free)
-    (elim (cases_lt 0 start) [
-      | inr first ↦ (let e : start ≡ 0 = omega arith in or_left (start == 0) (get_or row (start - 1) true) (eq-eqb start 0 e))
-      | inl later ↦ or_right (start == 0) (get_or row (start - 1) true)
-          (elim (cases_lt from start) [
-            | inl behind ↦ range.used (start - 1) (omega arith) (omega arith)
-            | inr at ↦
-                (let same : from ≡ start = omega (arith, range.behind) in
-                let used : get_or row start true ≡ true = ap (λ (p : ℕ). get_or row p true) (sym same) ∙ edge (omega arith) (omega arith) in
-                absurd (cc))
-          ])
-    ])
+starts : (row : List Bool) (from start len : ℕ) → IsNextRange row from start len → (0 < from → from < length row → get_or row from true ≡ true) → 0 < len → begins_range row start ≡ true
+starts row from start len range edge some = grind (arith, nat_tests, begins)
 
 found_in : (row : List Bool) (n from start len : ℕ) → IsNextRange row from start len → (0 < from → from < length row → get_or row from true ≡ true) → 0 < n → filter (fits_at row n) (range_with_len from (start + len - from)) ≡ cond (nat_le n len) (start ∷ []) []
 found_in row n from start len range edge pos =
     elim (cases_lt 0 len) [
       | inr none ↦
           (let short : nat_le n len ≡ false = lt-leb n len (omega arith) in
-          filter-none (fits_at row n) from (start + len - from) (λ k a b. used_begins_none row n k (range.used k a (omega (arith, range.behind))))
+          filter-none (fits_at row n) from (start + len - from) (λ k a b. and_left _ _ (used_begins row k (range.used k a (omega (arith, range.behind)))))
           ∙ sym (ap (λ (b : Bool). cond b (start ∷ []) []) short))
       | inl some ↦
           (let p : ℕ → Bool = fits_at row n in
@@ -173,8 +151,8 @@ found_in row n from start len range edge pos =
           let here : p start ≡ nat_le n len =
           ap (λ (b : Bool). b && nat_le n (free_from row start)) (starts row from start len range edge some)
           ∙ ap (nat_le n) (range_length row from start len start range (omega arith) (omega arith) ∙ omega arith) in
-          let none_before : filter p (range_with_len from before) ≡ [] = filter-none p from before (λ k a b. used_begins_none row n k (range.used k a (omega (arith, range.behind)))) in
-          let none_after : filter p (range_with_len (start + 1) after) ≡ [] = filter-none p (start + 1) after (λ k a b. free_begins_none row n k (omega arith) (range.free (k - 1) (omega arith) (omega arith))) in
+          let none_before : filter p (range_with_len from before) ≡ [] = filter-none p from before (λ k a b. and_left _ _ (used_begins row k (range.used k a (omega (arith, range.behind))))) in
+          let none_after : filter p (range_with_len (start + 1) after) ≡ [] = filter-none p (start + 1) after (λ k a b. and_left _ _ (behind_free row k (omega arith) (range.free (k - 1) (omega arith) (omega arith)))) in
           ap (λ (m : ℕ). filter p (range_with_len from m)) cut
           ∙ ap (filter p) (range-append from before (suc after))
           ∙ filter-append p (range_with_len from before) (range_with_len (from + before) (suc after))
@@ -206,11 +184,7 @@ view row s = record { start = s; len = free_from row s }
 
 shorter_of-view : (row : List Bool) (o : Option ℕ) (z : ℕ) → shorter_of (option_map (view row) o) (view row z) ≡ view row (nearer (free_from row) o z)
 shorter_of-view row None z = refl
-shorter_of-view row (Some y) z =
-    elim (cases_lt (free_from row z) (free_from row y)) [
-      | inl low ↦ ap (λ (b : Bool). cond b (view row y) (view row z)) (lt-leb (free_from row y) (free_from row z) low) ∙ sym (ap (λ (b : Bool). view row (cond b z y)) (lt-ltb (free_from row z) (free_from row y) low))
-      | inr high ↦ ap (λ (b : Bool). cond b (view row y) (view row z)) (le-leb (free_from row y) (free_from row z) high) ∙ sym (ap (λ (b : Bool). view row (cond b z y)) (le-ltb (free_from row z) (free_from row y) high))
-    ]
+shorter_of-view row (Some y) z = grind (arith, nat_tests)
 
 -- a range that is long enough is kept where it is shorter, and another one isn't
 pub range_taken : (row : List Bool) (n from : ℕ) (found : Option FreeRange) (range : FreeRange) → IsNextRange row from range.start range.len → (0 < from → from < length row → get_or row from true ≡ true) → 0 < n → found ≡ option_map (view row) (best_before row n from) → n ≤ range.len → Some (shorter_of found range) ≡ option_map (view row) (best_before row n (range.start + range.len))
@@ -231,3 +205,36 @@ range_passed row n from start len found next edge pos so_far short =
 pub starts_of_view : (row : List Bool) (o : Option ℕ) → option_map (λ (range : FreeRange). range.start) (option_map (view row) o) ≡ o
 starts_of_view row None = refl
 starts_of_view row (Some s) = refl
+
+-- there is no best range exactly where the longest is too short
+pub none_exactly : (row : List Bool) (n : ℕ) (r : Option ℕ) → 0 < n → r ≡ best row n → (r ≡ None) ↔ (longest row < n)
+none_exactly row n None pos e = ((λ none. longest_is_short row n pos (sym e)), (λ short. refl))
+none_exactly row n (Some s) pos e =
+    let fit = best_is_fit row n s (sym e) in
+    let most = greatest-ge (free_from row) 0 (length row) s (omega arith) (omega (arith, fit.0)) in
+    ((λ none. absurd (cc)), (λ short. absurd (omega (arith, fit.1))))
+
+-- the longest free range is the whole row exactly where no place is used
+none_used : (row : List Bool) → longest row ≡ length row → used_count row ≡ 0
+none_used row long = count_none (λ used. used) row (λ k d l.
+    let far = longest-at row (length row) (omega arith) (omega arith) in
+    let at : far.0 + k ≡ k = omega (arith, free_fits row far.0 (length row) (omega arith) far.2) in
+    ap (λ (i : ℕ). get_or row i d) (sym at) ∙ free_at row far.0 (length row) k d far.2 l)
+
+all_free : (row : List Bool) → used_count row ≡ 0 → longest row ≡ length row
+all_free row none =
+    let free : (k : ℕ) → k < length row → get_or row k true ≡ false = λ k l. elim (cases_Bool (get_or row k true)) [
+      | inl t ↦ absurd (let one : ◌≡◌ {A = ℕ} (cond (get_or row k true) 1 0) 1 = ap (λ (b : Bool). cond b 1 0) t in omega (arith, get_or-le-sum_by (λ used. cond used 1 0) row k true l))
+      | inr f ↦ f
+    ] in
+    let whole = free_run row (length row) 0 (omega arith) (λ j low high. free j (omega arith)) (λ l. absurd (omega arith)) in
+    elim (cases_lt 0 (length row)) [
+      | inl some ↦ omega (arith, longest-le-length row, greatest-ge (free_from row) 0 (length row) 0 (omega arith) (omega arith))
+      | inr empty ↦ omega (arith, longest-le-length row)
+    ]
+
+pub whole_free : (row : List Bool) → (longest row == length row) ≡ (used_count row == 0)
+whole_free row = elim (cases_Bool (longest row == length row)) [
+  | inl t ↦ t ∙ sym (eq-eqb (used_count row) 0 (none_used row (eqb-true (longest row) (length row) t)))
+  | inr f ↦ f ∙ sym (ne_eqb (used_count row) 0 (λ e. absurd (let c : true ≡ false = sym (eq-eqb (longest row) (length row) (all_free row e)) ∙ f in cc)))
+]

@@ -1,14 +1,10 @@
 -- Free places counted, the end of a stretch, and places that come into use or stay so.
-use Rattle.std.specs.Prelude.{◌≡◌, ℕ, ◌-◌, ◌<◌, ◌≤◌, Bool, true, false, not, ◌&&◌, nat_le, nat_lt, List, length, take, count_by, if◌then◌else◌}
+use Rattle.std.specs.Prelude.{◌≡◌, ℕ, ◌-◌, ◌<◌, ◌≤◌, Bool, true, false, not, ◌&&◌, nat_le, nat_lt, List, length, count_by, if◌then◌else◌}
 use Rattle.std.specs.List.{slice_index_or}
 
 -- how many places are free
 abbrev pub free_count : List Bool → ℕ
 free_count row = count_by not row
-
--- how many of those before a place are
-abbrev pub free_before : List Bool → ℕ → ℕ
-free_before row place = free_count (take place row)
 
 -- where the last place of a state before a place ends; 0 where there is none
 pub record IsEnd (row : List Bool) (before : ℕ) (used : Bool) (end : ℕ) : Type 0 where

@@ -2,14 +2,12 @@
 //! words of 64 places where it can.
 #![tactic(auto)]
 
-mod bits256;
-mod marks;
+mod counting;
 mod ranges;
 #[cfg(test)]
 mod tests;
 mod wide_bits;
 mod words;
 
-pub use bits256::Bits256;
 pub use wide_bits::WideBits;
 pub use words::{end_bit, next_bit, with_bits};

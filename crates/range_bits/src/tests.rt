@@ -1,82 +1,60 @@
 //! Free ranges of rows that were worked out by hand, and by looking at every place.
 ghost use Rattle.std.specs.Prelude.{◌*◌, ◌^◌, ◌<◌, length};
 
-use crate::{Bits256, WideBits, ranges};
+use crate::{WideBits, ranges};
 use std::test::Fail;
 
+/// Puts places that are in the row into a state.
+fn put(bits: &mut WideBits, start: u16, n: u16, used: bool) {
+    let (start, n) = (u32::from(start), u32::from(n));
+    if start + n <= bits.places() {
+        bits.put(start, n, used);
+    }
+}
+
+/// How many places are used.
+fn used(bits: &WideBits) -> u32 {
+    bits.used_in(0, bits.places())
+}
+
 #[test]
-fn the_shortest_range_that_is_long_enough(rt: HostRuntime) {
-    let mut bits = Bits256::new();
+fn the_shortest_range_that_is_long_enough(rt: HostRuntime) -> Result<(), Fail> {
+    let mut bits = WideBits::open(rt.alloc(), 4)?;
     assert_eq!(rt; bits.best(256), Some(0));
     assert_eq!(rt; bits.longest(), 256);
-    bits.mark(0, 1);
-    bits.mark(63, 2);
-    bits.mark(128, 64);
-    bits.mark(255, 1);
+    put(&mut bits, 0, 1, true);
+    put(&mut bits, 63, 2, true);
+    put(&mut bits, 128, 64, true);
+    put(&mut bits, 255, 1, true);
     // Free are 1 to 62, 65 to 127 and 192 to 254: 62, 63 and 63 places.
-    assert_eq!(rt; bits.used(), 68);
+    assert_eq!(rt; used(&bits), 68);
     assert_eq!(rt; bits.longest(), 63);
     assert_eq!(rt; bits.best(1), Some(1));
     assert_eq!(rt; bits.best(62), Some(1));
     assert_eq!(rt; bits.best(63), Some(65));
     assert_eq!(rt; bits.best(64), None);
-    bits.unmark(64, 1);
+    put(&mut bits, 64, 1, false);
     // 64 to 127 are 64 places now.
     assert_eq!(rt; bits.best(63), Some(192));
     assert_eq!(rt; bits.best(64), Some(64));
-    bits.unmark(128, 64);
+    put(&mut bits, 128, 64, false);
     assert_eq!(rt; bits.best(64), Some(64));
     assert_eq!(rt; bits.longest(), 191);
-    assert_eq!(rt; bits.used(), 3);
-}
-
-#[test]
-fn a_row_without_free_places(rt: HostRuntime) {
-    let mut bits = Bits256::new();
-    bits.mark(0, 256);
+    assert_eq!(rt; used(&bits), 3);
+    put(&mut bits, 0, 256, true);
     assert_eq!(rt; bits.longest(), 0);
     assert_eq!(rt; bits.best(1), None);
-    bits.unmark(255, 1);
+    put(&mut bits, 255, 1, false);
     assert_eq!(rt; bits.best(1), Some(255));
-    assert_eq!(rt; bits.used(), 255);
-    assert_eq!(rt; Bits256::default().longest(), 256);
+    Ok(())
 }
 
 #[test]
-fn filling_over_used_places(rt: HostRuntime) {
-    let mut bits = Bits256::new();
-    bits.fill(10, 5);
-    bits.fill(20, 5);
-    bits.fill(8, 20);
-    assert_eq!(rt; bits.used(), 20);
-    assert!(rt; !bits.is_used(7));
-    assert!(rt; bits.is_used(8));
-    assert!(rt; bits.is_used(27));
-    assert!(rt; !bits.is_used(28));
-    let before = bits.copy();
-    bits.fill(0, 256);
-    assert_eq!(rt; bits.longest(), 0);
-    assert_eq!(rt; before.longest(), 228);
-}
-
-#[test]
-fn many_words(rt: HostRuntime) -> Result<(), Fail> {
-    let mut bits = WideBits::open(rt.alloc(), 8)?;
-    assert_eq!(rt; bits.best(512), Some(0));
-    bits.mark(100, 300);
-    assert_eq!(rt; bits.best(100), Some(0));
-    assert_eq!(rt; bits.best(101), Some(400));
-    assert_eq!(rt; bits.best(113), None);
-    bits.unmark(200, 100);
-    assert_eq!(rt; bits.best(100), Some(0));
-    assert_eq!(rt; bits.longest(), 112);
-    assert_eq!(rt; bits.used(), 200);
-
-    // No place is in a row without words.
+fn no_words_and_too_many(rt: HostRuntime) -> Result<(), Fail> {
     let none = WideBits::open(rt.alloc(), 0)?;
     assert_eq!(rt; none.longest(), 0);
     assert_eq!(rt; none.best(1), None);
-
+    assert_eq!(rt; used(&none), 0);
     // More places than a number of 32 bits tells.
     assert!(rt; WideBits::open(rt.alloc(), 67_108_864).is_err());
     Ok(())
@@ -134,14 +112,6 @@ fn as_by_every_place(rt: HostRuntime) {
     }
 }
 
-/// Puts places that are in the row into a state.
-fn put(bits: &mut WideBits, start: u16, n: u16, used: bool) {
-    let (start, n) = (u32::from(start), u32::from(n));
-    if start + n <= bits.places() {
-        bits.put(start, n, used);
-    }
-}
-
 /// Where the best range of some words of the row begins.
 fn best_in(bits: &WideBits, first: u8, words: u8, n: u32) -> Option<u32> {
     if n == 0 || 64 * (u32::from(first) + u32::from(words)) > bits.places() {
@@ -155,12 +125,12 @@ fn a_part_of_a_row(rt: HostRuntime) -> Result<(), Fail> {
     let mut bits = WideBits::open(rt.alloc(), 4)?;
     // Used are 10 to 199, and then, by words, 10 to 63, none, 128 to 149, and 192 to 199.
     put(&mut bits, 10, 190, true);
-    assert_eq!(rt; bits.used(), 190);
+    assert_eq!(rt; used(&bits), 190);
     put(&mut bits, 150, 42, false);
     put(&mut bits, 60, 68, false);
     put(&mut bits, 60, 4, true);
     put(&mut bits, 70, 0, true);
-    assert_eq!(rt; bits.used(), 84);
+    assert_eq!(rt; used(&bits), 84);
     // In words 1 and 2, free are places 0 to 63 and 86 to 127, counted from 64 on.
     assert_eq!(rt; best_in(&bits, 1, 2, 1), Some(86));
     assert_eq!(rt; best_in(&bits, 1, 2, 42), Some(86));
@@ -171,6 +141,6 @@ fn a_part_of_a_row(rt: HostRuntime) -> Result<(), Fail> {
     put(&mut bits, 0, 256, false);
     assert_eq!(rt; bits.longest(), 256);
     put(&mut bits, 0, 256, true);
-    assert_eq!(rt; bits.used(), 256);
+    assert_eq!(rt; used(&bits), 256);
     Ok(())
 }

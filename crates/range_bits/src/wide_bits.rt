@@ -1,18 +1,15 @@
-//! A region's pages: as many places as a list of words has bits.
+//! Rows of as many places as a list of words has bits.
+#![tactic(auto, using(crate::proofs::RowFacts::places_of))]
+
 ghost use Rattle.std.specs.Prelude.{◌≡◌, ◌+◌, ◌*◌, ◌≤◌, ◌<◌, ◌↔◌, false, true, None, length, take, drop, replicate, IfOk};
 ghost use Rattle.std.specs.List.{slice_index_or};
 ghost use Rattle.range_bits.specs.Fills.{IsEnd, StaysUsed};
-ghost use Rattle.range_bits.specs.Ranges.{free_from, used_from, used_count, longest, best, with_places};
+ghost use Rattle.range_bits.specs.Ranges.{used_count, longest, best, with_places};
 ghost use Rattle.range_bits.specs.Words.{IsNext};
 
-mod parts;
-mod stretches;
-
-use crate::marks::{mark, unmark};
+use crate::counting::used_between;
 use crate::ranges;
-use crate::wide_bits::parts::{best_in, keep_used, put};
-use crate::wide_bits::stretches::{end_place, fill, free_between, longest_in};
-use crate::words::next_place;
+use crate::words::{end_place, keep_used, next_place, set_places};
 use std::alloc::{AllocError, Global};
 use std::marker::Model;
 
@@ -23,19 +20,17 @@ const MOST_WORDS: usize = 67_108_863;
 #[derive(Drop)]
 pub struct WideBits {
     words: Vec<u64>,
-    used: u32,
 }
 
 impl Model for WideBits {
-    ghost use Rattle.std.specs.Prelude.{◌≡◌, ◌*◌, ◌^◌, ◌<◌, List, Bool, length};
-    ghost use Rattle.range_bits.specs.Ranges.{used_count};
+    ghost use Rattle.std.specs.Prelude.{◌*◌, ◌^◌, ◌<◌, List, Bool, length};
     ghost use Rattle.range_bits.specs.Words.{row_of};
 
     ghost Value = { List Bool };
 
     ghost view = { λ b. row_of b.words.items };
 
-    ghost invariant = { λ b. (b.used ≡ used_count (row_of b.words.items)) × (64 * length b.words.items < 2 ^ 32) };
+    ghost invariant = { λ b. 64 * length b.words.items < 2 ^ 32 };
 }
 
 impl WideBits {
@@ -49,7 +44,6 @@ impl WideBits {
         }
         Ok(WideBits {
             words: vec![in alloc; 0; words]?,
-            used: 0,
         })
     }
 
@@ -70,30 +64,6 @@ impl WideBits {
         ranges::longest(&self.words)
     }
 
-    /// How many places are used.
-    pub fn used(&self) -> u32
-        ensures { result ≡ used_count self.now }
-    {
-        self.used
-    }
-
-    /// Makes `n` free places used, from `start` on.
-    pub fn mark(&mut self, start: u32, n: u32)
-        requires some { 1 ≤ n }
-        requires free { n ≤ free_from self.old start }
-        ensures { self.new ≡ with_places self.old start n true }
-    {
-        self.used = mark(&mut self.words, self.used, start, n);
-    }
-
-    /// Makes `n` used places free, from `start` on.
-    pub fn unmark(&mut self, start: u32, n: u32)
-        requires some { 1 ≤ n }
-        requires used { n ≤ used_from self.old start }
-        ensures { self.new ≡ with_places self.old start n false }
-    {
-        self.used = unmark(&mut self.words, self.used, start, n);
-    }
     /// How many places there are.
     pub fn places(&self) -> u32
         ensures { result ≡ length self.now }
@@ -138,7 +108,8 @@ impl WideBits {
         requires { start + n ≤ length self.now }
         ensures { result ≡ used_count (take n (drop start self.now)) }
     {
-        n - free_between(&self.words, start as usize, (start + n) as usize) as u32
+        let from = start as usize;
+        used_between(&self.words, from, from + n as usize)
     }
 
     /// The greatest number of free places that follow each other in `words` words, from word `first` on.
@@ -146,16 +117,7 @@ impl WideBits {
         requires { 64 * (first + words) ≤ length self.now }
         ensures { result ≡ longest (take (64 * words) (drop (64 * first) self.now)) }
     {
-        longest_in(&self.words, first, words)
-    }
-
-    /// Makes `n` places used, from `start` on, whatever they were.
-    pub fn fill(&mut self, start: u32, n: u32)
-        requires { start + n ≤ length self.old }
-        ensures { self.new ≡ with_places self.old start n true }
-    {
-        let came = fill(&mut self.words, start, n);
-        self.used += came;
+        ranges::longest(&self.words[first..first + words])
     }
 
     /// Makes `n` places used or free, from `start` on, whatever they were.
@@ -163,12 +125,8 @@ impl WideBits {
         requires { start + n ≤ length self.old }
         ensures { self.new ≡ with_places self.old start n used }
     {
-        let free = put(&mut self.words, start, n, used);
-        self.used = if used {
-            self.used + free
-        } else {
-            self.used - (n - free)
-        };
+        let from = start as usize;
+        set_places(&mut self.words, from, from + n as usize, used);
     }
 
     /// Where the shortest maximal free range of at least `n` places begins in `words` words, from word
@@ -178,14 +136,15 @@ impl WideBits {
         requires some { 0 < n }
         ensures { result ≡ best (take (64 * words) (drop (64 * first) self.now)) n }
     {
-        best_in(&self.words, first, words, n)
+        ranges::best(&self.words[first..first + words], n)
     }
+
     /// Frees those places of `words` words, from word `first` on, that are free in another row.
     pub fn keep_used(&mut self, other: &WideBits, first: usize, words: usize)
         requires inside { 64 * (first + words) ≤ length self.old }
         requires other { 64 * (first + words) ≤ length other.now }
         ensures { StaysUsed self.old other.now self.new (64 * first) (64 * (first + words)) }
     {
-        self.used -= keep_used(&mut self.words, &other.words, first, words);
+        keep_used(&mut self.words, &other.words, first, words);
     }
 }

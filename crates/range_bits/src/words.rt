@@ -1,5 +1,6 @@
 //! Words of 64 places each: the next used or free place, and making places used or free.
 ghost use Rattle.std.specs.Prelude.{◌≡◌, ℕ, ◌+◌, ◌-◌, ◌*◌, ◌^◌, ◌<◌, ◌≤◌, ◌&&◌, nat_le, nat_lt, not, length, if◌then◌else◌};
+ghost use Rattle.range_bits.specs.Fills.{IsEnd, StaysUsed};
 ghost use Rattle.range_bits.specs.Ranges.{with_places};
 ghost use Rattle.range_bits.specs.Words.{is_one, is_marked, row_of, IsNext};
 
@@ -45,8 +46,26 @@ pub fn end_bit(word: u64, high: u32, used: bool) -> u32
     64 - (seen & (u64::MAX >> (64 - high))).leading_zeros()
 }
 
+/// Where the last place before a place ends that is used, or that is free; 0 where there is none.
+pub fn end_place(words: &[u64], before: usize, used: bool) -> usize
+    requires fits { 64 * length words.now < 2 ^ 32 }
+    requires inside { before ≤ 64 * length words.now }
+    ensures { IsEnd (row_of words.now) before used result }
+{
+    let mut end = before;
+    while end > 0 {
+        let index = (end - 1) / 64;
+        let bit = end_bit(words[index], (end - index * 64) as u32, used);
+        if bit > 0 {
+            return index * 64 + bit as usize;
+        }
+        end = index * 64;
+    }
+    0
+}
+
 /// The bits below a number of bits.
-fn ones(bits: u32) -> u64
+pub fn ones(bits: u32) -> u64
     requires { bits ≤ 64 }
     ensures { result ≡ 2 ^ bits - 1 }
 {
@@ -80,5 +99,18 @@ pub fn set_places(words: &mut [u64], start: usize, end: usize, used: bool)
         let low = start.saturating_sub(index * 64) as u32;
         let high = (end - index * 64).min(64) as u32;
         words[index] = with_bits(words[index], low, high, used);
+    }
+}
+
+/// Frees those places of `count` words, from word `first` on, that are free in other words.
+pub fn keep_used(words: &mut [u64], other: &[u64], first: usize, count: usize)
+    requires fits { 64 * length words.old < 2 ^ 32 }
+    requires inside { first + count ≤ length words.old }
+    requires other { first + count ≤ length other.now }
+    ensures stays { StaysUsed (row_of words.old) (row_of other.now) (row_of words.new) (64 * first) (64 * (first + count)) }
+    ensures len { length words.new ≡ length words.old }
+{
+    for index in first..first + count {
+        words[index] &= other[index];
     }
 }

@@ -1,6 +1,7 @@
 -- Sorted keys with a key more, fewer or changed.
-use Rattle.std.proofs.Common.{◌≡◌, ℕ, ◌+◌, ◌-◌, ◌<◌, ◌≤◌, Bool, true, false, cond, nat_le, List, [], ◌∷◌, length, get_or, insert, remove, Contains, IsPermutation, sym, ap, subst, ◌∙◌, inl, inr, arith}
-use Rattle.std.proofs.lemmas.Bool.{cases_lt, cases_Bool, le-leb, lt-leb}
+use Rattle.std.proofs.Common.{◌≡◌, ℕ, ◌+◌, ◌-◌, ◌<◌, ◌≤◌, Bool, false, cond, nat_le, List, [], ◌∷◌, length, get_or, insert, remove, Contains, IsPermutation, sym, ap, subst, ◌∙◌, inl, inr, arith}
+use Rattle.std.proofs.lemmas.Bool.Decides.{nat_tests}
+use Rattle.std.proofs.lemmas.Bool.{cases_lt, le-leb, lt-leb}
 use Rattle.std.proofs.lemmas.List.Edits.{length-insert, get_or-insert_below, get_or-insert_at, get_or-insert_above, length-remove, get_or-remove_below, get_or-remove_above}
 use Rattle.std.proofs.lemmas.List.Sorted.{IsPermutation-insert, IsPermutation-remove, IsPermutation-cons, IsPermutation-trans, IsPermutation-middle, IsPermutation-sym}
 use Rattle.sorted_list.specs.Order.{IsOrder, IsInOrder}
@@ -9,11 +10,7 @@ use Rattle.sorted_list.specs.Search.{IsPlaceOf}
 module _ {K : Type 0} (before : K → K → Bool) (total : IsOrder K before) where
   -- no key comes before itself
   pub not_itself : (a : K) → before a a ≡ false
-  not_itself a =
-      elim (cases_Bool (before a a)) [
-        | inl t ↦ absurd (let c : true ≡ false = sym t ∙ total.one_way a a t in cc)
-        | inr f ↦ f
-      ]
+  not_itself a = grind (arith, nat_tests)
 
   -- what stands in the list with a key more
   item_below : (keys : List K) (key : K) (place i : ℕ) (d : K) → i < place → place ≤ length keys → get_or (insert keys place key) i d ≡ get_or keys i d
@@ -32,21 +29,7 @@ module _ {K : Type 0} (before : K → K → Bool) (total : IsOrder K before) whe
 
   -- an insert at the place keeps the order
   pub inserted_in_order : (keys : List K) (key : K) (place : ℕ) → IsInOrder before keys → IsPlaceOf before keys key place → IsInOrder before (insert keys place key)
-  inserted_in_order keys key place order at i j d less inside =
-      let size : length (insert keys place key) ≡ length keys + 1 = length-insert keys place key at.within in
-      elim (cases_lt j place) [
-        | inl early ↦ both (item_below keys key place j d early at.within) (item_below keys key place i d (omega arith) at.within) (order i j d less (omega (arith, at.within)))
-        | inr from ↦ elim (cases_lt place j) [
-          | inl later ↦ elim (cases_lt i place) [
-            | inl before ↦ both (item_above keys key place j d later at.within) (item_below keys key place i d before at.within) (order i (j - 1) d (omega arith) (omega arith))
-            | inr behind ↦ elim (cases_lt place i) [
-              | inl past ↦ both (item_above keys key place j d later at.within) (item_above keys key place i d past at.within) (order (i - 1) (j - 1) d (omega arith) (omega arith))
-              | inr here ↦ both (item_above keys key place j d later at.within) (item_at keys key place i d (omega arith) at.within) (at.behind (j - 1) d (omega arith) (omega arith))
-            ]
-          ]
-          | inr here ↦ both (item_at keys key place j d (omega arith) at.within) (item_below keys key place i d (omega arith) at.within) (total.one_way (get_or keys i d) key (at.early i d (omega arith)))
-        ]
-      ]
+  inserted_in_order keys key place order at i j d less inside = grind (arith, nat_tests, item_below, insert, length-insert, item_above, item_at, both)
 
   -- and the key is there then
   pub inserted_is_held : (keys : List K) (key : K) (place : ℕ) → place ≤ length keys → Contains (insert keys place key) key
@@ -54,34 +37,12 @@ module _ {K : Type 0} (before : K → K → Bool) (total : IsOrder K before) whe
 
   -- the key that is held stands at its place
   pub held_at : (keys : List K) (key : K) (place : ℕ) → IsInOrder before keys → IsPlaceOf before keys key place → Contains keys key → (place < length keys) × (get_or keys place key ≡ key)
-  held_at keys key place order at held =
-      let k : ℕ = held.0 in
-      let is : get_or keys k key ≡ key = held.2 in
-      let from : place ≤ k =
-      elim (cases_lt k place) [
-        | inl early ↦ absurd (let c : false ≡ true = sym (not_itself key) ∙ sym (ap (λ (t : K). before t key) is) ∙ at.early k key early in cc)
-        | inr late ↦ late
-      ] in
-      let inside : place < length keys = omega (arith, held.1) in
-      let x : K = get_or keys place key in
-      let back : before key x ≡ false =
-      elim (cases_lt place k) [
-        | inl behind ↦ sym (ap (λ (t : K). before t x) is) ∙ order place k key behind held.1
-        | inr here ↦ (let e : k ≡ place = omega arith in let same : x ≡ key = sym (ap (λ (j : ℕ). get_or keys j key) e) ∙ is in ap (λ (t : K). before key t) same ∙ not_itself key)
-      ] in
-      (inside, total.same x key (at.behind place key (omega arith) inside) back)
+  held_at keys key place order at held = grind (arith, nat_tests, not_itself)
 
   -- without a key the others keep their order
   pub removed_in_order : (keys : List K) (place : ℕ) → IsInOrder before keys → place < length keys → IsInOrder before (remove keys place)
   removed_in_order keys place order inside i j d less last =
-      let size : length (remove keys place) + 1 ≡ length keys = length-remove keys place inside in
-      elim (cases_lt j place) [
-        | inl early ↦ both (get_or-remove_below keys place d j early inside) (get_or-remove_below keys place d i (omega arith) inside) (order i j d less (omega arith))
-        | inr late ↦ elim (cases_lt i place) [
-          | inl before ↦ both (get_or-remove_above keys place d j late inside) (get_or-remove_below keys place d i before inside) (order i (j + 1) d (omega arith) (omega arith))
-          | inr behind ↦ both (get_or-remove_above keys place d j late inside) (get_or-remove_above keys place d i behind inside) (order (i + 1) (j + 1) d (omega arith) (omega arith))
-        ]
-      ]
+      grind (arith, nat_tests, length-remove, remove, get_or-remove_above, both, get_or-remove_below)
 
   module _ (keys : List K) (place : ℕ) (inside : place < length keys) where
     stays : (i : ℕ) (d to : K) (b : Bool) → i < place → before (get_or keys i d) to ≡ b → before (get_or (remove keys place) i d) to ≡ b
@@ -92,30 +53,10 @@ module _ {K : Type 0} (before : K → K → Bool) (total : IsOrder K before) whe
 
     -- the place of a key among the others
     place_up : (to : K) (target : ℕ) → IsPlaceOf before keys to target → target ≤ place → IsPlaceOf before (remove keys place) to target
-    place_up to target at order =
-        let size = length-remove keys place inside in
-        record {
-          within = omega arith;
-          early = λ i d l. stays i d to true (omega arith) (at.early i d l);
-          behind = λ i d l k.
-              elim (cases_lt i place) [
-                | inl early ↦ stays i d to false early (at.behind i d l (omega arith))
-                | inr late ↦ moves i d to false late (at.behind (i + 1) d (omega arith) (omega arith))
-              ];
-        }
+    place_up to target at order = grind (arith, nat_tests, moves, stays, length-remove)
 
     place_down : (to : K) (target : ℕ) → IsPlaceOf before keys to target → place < target → IsPlaceOf before (remove keys place) to (target - 1)
-    place_down to target at order =
-        let size = length-remove keys place inside in
-        record {
-          within = omega (arith, at.within);
-          early = λ i d l.
-              elim (cases_lt i place) [
-                | inl early ↦ stays i d to true early (at.early i d (omega arith))
-                | inr late ↦ moves i d to true late (at.early (i + 1) d (omega arith))
-              ];
-          behind = λ i d l k. moves i d to false (omega arith) (at.behind (i + 1) d (omega arith) (omega arith));
-        }
+    place_down to target at order = grind (arith, nat_tests, moves, length-remove, stays)
 
     pub place_among : (to : K) (target : ℕ) → IsPlaceOf before keys to target → IsPlaceOf before (remove keys place) to (cond (nat_le target place) target (target - 1))
     place_among to target at =

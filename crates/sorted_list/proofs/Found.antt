@@ -1,5 +1,6 @@
 -- A key that was read at a place, and those before and behind it.
-use Rattle.std.proofs.Common.{◌≡◌, ℕ, ◌+◌, ◌<◌, ◌≤◌, Bool, true, false, List, length, get_or, Some, Contains, sym, ap, ◌∙◌, inl, inr, arith}
+use Rattle.std.proofs.Common.{◌≡◌, ℕ, ◌+◌, ◌<◌, ◌≤◌, Bool, false, List, length, get_or, Some, Contains, sym, ap, ◌∙◌, inl, inr, arith}
+use Rattle.std.proofs.lemmas.Bool.Decides.{nat_tests}
 use Rattle.std.specs.Prelude.{slice_get}
 use Rattle.std.proofs.lemmas.Bool.{cases_lt}
 use Rattle.std.proofs.lemmas.Option.{get_or_from_slice_get, slice_get_within}
@@ -40,13 +41,4 @@ module _ {K : Type 0} (before : K → K → Bool) (total : IsOrder K before) (ke
       }
 
   pub first_from_is : (from : K) → IsPlaceOf before keys from place → IsFirstFrom before keys from key
-  first_from_is from at =
-      record {
-        held = held;
-        behind = sym (ap (λ (k : K). before k from) (read key)) ∙ at.behind place key (omega arith) (slice_get_within keys place key found);
-        first = λ i d l. λ late.
-            elim (cases_lt i place) [
-              | inl early ↦ absurd (let c : true ≡ false = sym (at.early i d early) ∙ late in cc)
-              | inr from_here ↦ behind i d from_here l
-            ];
-      }
+  first_from_is from at = grind (arith, nat_tests, read, behind, held, slice_get_within)

@@ -1,28 +1,17 @@
 -- A search by halving: what a read key tells of all others, and how many reads are made.
-use Rattle.std.proofs.Common.{◌≡◌, ℕ, ◌+◌, ◌-◌, ◌*◌, ◌^◌, ◌<◌, ◌≤◌, Bool, true, false, List, length, get_or, sym, ap, ◌∙◌, inl, inr, arith, add-one}
+use Rattle.std.proofs.Common.{◌≡◌, ℕ, ◌+◌, ◌-◌, ◌*◌, ◌^◌, ◌<◌, ◌≤◌, Bool, true, false, List, length, get_or, ap, ◌∙◌, arith, add-one}
+use Rattle.std.proofs.lemmas.Bool.Decides.{nat_tests}
 use Rattle.std.proofs.Math.Nat.{mul-le-mul_left, pow-succ'}
-use Rattle.std.proofs.lemmas.Bool.{cases_lt, cases_Bool}
 use Rattle.sorted_list.specs.Order.{IsOrder, IsInOrder}
 
 module _ {K : Type 0} (before : K → K → Bool) (total : IsOrder K before) (keys : List K) (order : IsInOrder before keys) where
   -- before a key that comes before another one, all keys do
   pub all_before : (key : K) (middle : ℕ) → middle < length keys → ((d : K) → before (get_or keys middle d) key ≡ true) → (i : ℕ) (d : K) → i < middle + 1 → before (get_or keys i d) key ≡ true
-  all_before key middle inside here i d l =
-      elim (cases_lt i middle) [
-        | inl earlier ↦ total.passes (get_or keys i d) (get_or keys middle d) key (order i middle d earlier inside) (here d)
-        | inr at ↦ (let same : middle ≡ i = omega arith in ap (λ (j : ℕ). before (get_or keys j d) key) (sym same) ∙ here d)
-      ]
+  all_before key middle inside here i d l = grind (arith, nat_tests)
 
   -- behind a key that doesn't, none does
   pub none_behind : (key : K) (middle : ℕ) → ((d : K) → before (get_or keys middle d) key ≡ false) → (i : ℕ) (d : K) → middle ≤ i → i < length keys → before (get_or keys i d) key ≡ false
-  none_behind key middle here i d from inside =
-      elim (cases_lt middle i) [
-        | inl later ↦ elim (cases_Bool (before (get_or keys i d) key)) [
-          | inl passed ↦ absurd (let c : true ≡ false = sym (total.passes (get_or keys middle d) (get_or keys i d) key (order middle i d later inside) passed) ∙ here d in cc)
-          | inr failed ↦ failed
-        ]
-        | inr at ↦ (let same : middle ≡ i = omega arith in ap (λ (j : ℕ). before (get_or keys j d) key) (sym same) ∙ here d)
-      ]
+  none_behind key middle here i d from inside = grind (arith, nat_tests)
 
 -- one read more halves what is left
 pub halved : (k size half n : ℕ) → 0 < size → half + half ≤ size → 2 ^ k * size ≤ n → (2 ^ (k + 1) * half ≤ n) × (2 ^ (k + 1) ≤ 2 * n + 1)

@@ -1,6 +1,7 @@
 -- A key that comes, changes or leaves: what is kept, and which keys are there then.
-use Rattle.std.proofs.Common.{◌≡◌, ℕ, ◌+◌, ◌-◌, ◌<◌, ◌≤◌, Bool, cond, nat_le, nat_lt, List, ◌∷◌, ◌++◌, length, get_or, set, take, drop, insert, remove, Contains, IsPermutation, sym, ap, subst, ◌∙◌, inl, inr, arith}
-use Rattle.std.proofs.lemmas.Bool.{cases_lt, le-leb, lt-leb}
+use Rattle.std.proofs.Common.{◌≡◌, ℕ, ◌+◌, ◌-◌, ◌<◌, ◌≤◌, Bool, cond, nat_le, nat_lt, List, ◌∷◌, ◌++◌, length, get_or, set, take, drop, insert, remove, Contains, IsPermutation, sym, ap, subst, ◌∙◌, arith}
+use Rattle.std.proofs.lemmas.Bool.Decides.{nat_tests}
+use Rattle.std.proofs.lemmas.Bool.{le-leb, lt-leb}
 use Rattle.std.proofs.lemmas.List.{length-set, take_at}
 use Rattle.std.proofs.lemmas.List.Edits.{length-insert, length-remove}
 use Rattle.std.proofs.lemmas.List.Sorted.{IsPermutation-insert, IsPermutation-remove}
@@ -22,11 +23,7 @@ pub landing_down : (place target : ℕ) → place < target → landing place tar
 landing_down place target down = ap (λ (b : Bool). cond b target (target - 1)) (lt-leb target place down)
 
 pub landing_within : (place target len : ℕ) → place < len → target ≤ len → landing place target < len
-landing_within place target len inside within =
-    elim (cases_lt place target) [
-      | inl down ↦ omega (arith, landing_down place target down)
-      | inr up ↦ omega (arith, landing_up place target up)
-    ]
+landing_within place target len inside within = grind (arith, nat_tests, landing_up, landing_down)
 
 -- the order that is written back
 pub written : (size : ℕ) (old raw new : List ℕ) (place at slot : ℕ) → length raw ≡ size → raw ≡ old → length new ≡ length raw → new ≡ insert (remove raw place) at slot → take size (new ++ drop (length new) old) ≡ insert (remove old place) at slot

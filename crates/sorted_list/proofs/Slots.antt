@@ -1,5 +1,6 @@
 -- The keys in the slots of an order: what a slot that isn't there, or moves, makes of them.
 use Rattle.std.proofs.Common.{◌≡◌, ◌≢◌, ℕ, suc, ◌+◌, ◌-◌, ◌<◌, ◌≤◌, Bool, true, false, cond, nat_lt, ◌==◌, List, [], ◌∷◌, ◌++◌, length, get_or, map, set, take, drop, insert, remove, Some, refl, sym, ap, ◌∙◌, inl, inr, arith, eq-eqb}
+use Rattle.std.proofs.lemmas.Bool.Decides.{nat_tests}
 use Rattle.std.specs.List.{take-map, drop-map}
 use Rattle.std.proofs.lemmas.Bool.{cases_lt, cases_Bool, lt-ltb, le-ltb, ne_eqb}
 use Rattle.std.proofs.lemmas.List.{map-append, drop_more, length-take-le, get_or-set_same, get_or-set_other, get_or-take, get_or-map, get_or_default, length-map}
@@ -108,28 +109,7 @@ module _ {K : Type 0} (sample key : K) (slots : List K) (order : List ℕ) (len 
 
 -- one slot more
 pub counted_more : (order : List ℕ) (n s : ℕ) → times s order ≡ cond (nat_lt s n) 1 0 → times s (order ++ n ∷ []) ≡ cond (nat_lt s (n + 1)) 1 0
-counted_more order n s before =
-    let more = sum_by-append (λ (x : ℕ). cond (x == s) 1 0) order (n ∷ []) in
-    let last = sum_by-cons (λ (x : ℕ). cond (x == s) 1 0) n [] in
-    elim (cases_lt s n) [
-      | inl low ↦
-          (let here : ◌≡◌ {A = ℕ} (cond (n == s) 1 0) 0 = ap (λ (b : Bool). cond b 1 0) (ne_eqb n s (λ e. omega arith)) in
-          let was : ◌≡◌ {A = ℕ} (cond (nat_lt s n) 1 0) 1 = ap (λ (b : Bool). cond b 1 0) (lt-ltb s n low) in
-          let now : ◌≡◌ {A = ℕ} (cond (nat_lt s (n + 1)) 1 0) 1 = ap (λ (b : Bool). cond b 1 0) (lt-ltb s (n + 1) (omega arith)) in
-          omega arith)
-      | inr high ↦
-          (let was : ◌≡◌ {A = ℕ} (cond (nat_lt s n) 1 0) 0 = ap (λ (b : Bool). cond b 1 0) (le-ltb s n high) in
-          elim (cases_lt n s) [
-            | inl above ↦
-                (let here : ◌≡◌ {A = ℕ} (cond (n == s) 1 0) 0 = ap (λ (b : Bool). cond b 1 0) (ne_eqb n s (λ e. omega arith)) in
-                let now : ◌≡◌ {A = ℕ} (cond (nat_lt s (n + 1)) 1 0) 0 = ap (λ (b : Bool). cond b 1 0) (le-ltb s (n + 1) (omega arith)) in
-                omega arith)
-            | inr same ↦
-                (let here : ◌≡◌ {A = ℕ} (cond (n == s) 1 0) 1 = ap (λ (b : Bool). cond b 1 0) (eq-eqb n s (omega arith)) in
-                let now : ◌≡◌ {A = ℕ} (cond (nat_lt s (n + 1)) 1 0) 1 = ap (λ (b : Bool). cond b 1 0) (lt-ltb s (n + 1) (omega arith)) in
-                omega arith)
-          ])
-    ]
+counted_more order n s before = grind (arith, nat_tests, le-ltb, lt-ltb, eq-eqb, ne_eqb, sum_by-cons, nat_lt, sum_by-append)
 
 -- the key at a place
 pub key_at : {K : Type 0} (sample : K) (slots : List K) (order : List ℕ) (len place slot : ℕ) (key : K) → place < len → len ≤ length order → slot ≡ get_or order place slot → slot < length slots → key ≡ get_or slots slot key → slice_get (keys_of sample slots order len) place ≡ Some key

@@ -1,5 +1,6 @@
 -- Numbers that move within a list: what becomes of its front.
 use Rattle.std.proofs.Common.{◌≡◌, ℕ, ◌+◌, ◌-◌, ◌<◌, ◌≤◌, List, ◌++◌, length, take, drop, insert, remove, sym, ap, ◌∙◌, arith}
+use Rattle.std.proofs.lemmas.Bool.Decides.{nat_tests}
 use Rattle.std.proofs.lemmas.List.{take-append-drop, take_at, length-take-le}
 use Rattle.std.proofs.lemmas.List.Edits.{length-insert, length-remove, insert-append_left, insert-append_right, remove-append_left, remove-append_right}
 
@@ -18,24 +19,12 @@ module _ {X : Type 0} (xs : List X) (n : ℕ) (x : X) (within : n ≤ length xs)
 
   -- one moves within the front
   pub moved : (place target : ℕ) → place < n → target < n → take n (insert (remove xs place) target x) ≡ insert (remove (take n xs) place) target x
-  moved place target inside near =
-      let there : target ≤ length (remove (take n xs) place) = omega (arith, short place inside) in
-      ap (λ (ys : List X). take n (insert ys target x)) (left place inside)
-      ∙ ap (take n) (insert-append_left (remove (take n xs) place) (drop n xs) target x there)
-      ∙ take_at (insert (remove (take n xs) place) target x) (drop n xs) n (length-insert (remove (take n xs) place) target x there ∙ short place inside)
+  moved place target inside near = grind (arith, nat_tests, short, insert, length-insert, left, insert-append_left, take_at, remove)
 
   -- one moves behind it
   pub moved_out : (place : ℕ) → place < n → take (n - 1) (insert (remove xs place) (n - 1) x) ≡ remove (take n xs) place
-  moved_out place inside =
-      let there : length (remove (take n xs) place) ≡ n - 1 = omega (arith, short place inside) in
-      ap (λ (ys : List X). take (n - 1) (insert ys (n - 1) x)) (left place inside)
-      ∙ ap (take (n - 1)) (insert-append_right (remove (take n xs) place) (drop n xs) (n - 1) (n - 1) x there (omega arith))
-      ∙ take_at (remove (take n xs) place) (insert (drop n xs) (n - 1 - (n - 1)) x) (n - 1) there
+  moved_out place inside = grind (arith, nat_tests, short, insert, left, insert-append_right, take_at, remove)
 
   -- the one behind it moves in
   pub moved_in : (target : ℕ) → target ≤ n → take (n + 1) (insert (remove xs n) target x) ≡ insert (take n xs) target x
-  moved_in target near =
-      let there : target ≤ length (take n xs) = omega (arith, size) in
-      ap (λ (ys : List X). take (n + 1) (insert ys target x)) (ap (λ (ys : List X). remove ys n) cut ∙ remove-append_right (take n xs) (drop n xs) n n size (omega arith))
-      ∙ ap (take (n + 1)) (insert-append_left (take n xs) (remove (drop n xs) (n - n)) target x there)
-      ∙ take_at (insert (take n xs) target x) (remove (drop n xs) (n - n)) (n + 1) (length-insert (take n xs) target x there ∙ ap (λ (m : ℕ). m + 1) size)
+  moved_in target near = grind (arith, nat_tests, remove-append_right, insert, length-insert, size, insert-append_left, cut, take_at, remove)

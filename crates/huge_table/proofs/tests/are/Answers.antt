@@ -1,6 +1,5 @@
 use Rattle.std.proofs.Common.{not, ap, ◌∙◌, arith}
-use Rattle.heap_rules.specs.Heap.{is_kind_free, is_kind_filler, is_kind_region}
-use Rattle.huge_table.specs.Means.{shares}
+use Rattle.huge_table.proofs.Common.{is_kind_free, is_kind_filler, is_kind_region, shares}
 use Rattle.huge_table.proofs.tests.are.Goals as goal
 
 pub returns-clause-free : goal.returns-clause-free

@@ -1,7 +1,7 @@
 use Rattle.std.proofs.Common.{◌≡◌, rules}
 use Rattle.range_bits.specs.Ranges.{best}
 use Rattle.range_bits.specs.Words.{row_of}
-use Rattle.range_bits.proofs.Existence.{none_exactly}
+use Rattle.range_bits.proofs.Scan.{none_exactly}
 use Rattle.range_bits.proofs.ranges.best.Goals as goal
 
 pub returns-clause-none : goal.returns-clause-none

@@ -15,5 +15,5 @@ returns c =
     ] in
     let fits : word < 2 ^ 64 = omega arith in
     let mask = 18446744073709551615 * 2 ^ c.args.low % 18446744073709551616 in
-    let found : FirstBit word c.args.low c.args.used (trailing_zeros w64 (bit_and c.if-used.seen mask)) = found_bit word c.if-used.seen c.args.low mask c.args.used fits c.requires (ones_shl 64 c.args.low (omega arith)) seen in
+    let found : FirstBit word c.args.low c.args.used (trailing_zeros w64 (bit_and c.if-used.seen mask)) = found_bit word c.if-used.seen c.args.low mask c.args.used fits (omega arith) c.requires (ones_shl 64 c.args.low (omega arith)) seen in
     record { behind = found.behind; within = found.within; before = found.before; there = found.there }

@@ -1,4 +1,5 @@
 use Rattle.std.proofs.Common.{◌≡◌, ℕ, ◌+◌, ◌*◌, set, min, subst, arith}
+use Rattle.std.proofs.lemmas.Bool.Decides.{nat_tests}
 use Rattle.range_bits.proofs.Placing.{Placed, placed_none, placed_word, placed_all}
 use Rattle.range_bits.proofs.words.set_places.Goals as goal
 
@@ -16,9 +17,4 @@ loop-index-preserved c =
     subst P next (placed_word old words c.args.start c.args.end index c.saturating_sub-low.result c.min-high.result word c.args.used (omega (arith, c.loop-index.auto.words)) (omega arith) (omega arith) (omega arith) c.with_bits.ensures c.loop-index.invariant)
 
 pub returns-clause-places : goal.returns-clause-places
-returns-clause-places c =
-    let old = c.args.words.now in
-    let words = c.loop-index.words in
-    let end : min c.args.end (64 * c.loop-index.index) ≡ c.args.end = omega arith in
-    let P : ℕ → Type 0 = λ t. Placed old words c.args.start t c.args.used in
-    placed_all old words c.args.start c.args.end c.args.used c.requires.order c.requires.inside c.loop-index.auto.words (subst P end c.loop-index.invariant)
+returns-clause-places c = grind (arith, nat_tests, placed_all, Placed)

@@ -1,4 +1,5 @@
-use Rattle.std.proofs.Common.{◌≡◌, ◌-◌, ◌^◌, ◌≤◌, sym, ap, ◌∙◌, arith, w64, bit_and, bit_or, cond, ℕ, Bool}
+use Rattle.std.proofs.Common.{◌≡◌, ◌-◌, ◌^◌, sym, ap, ◌∙◌, arith, w64, bit_and, bit_or, cond, ℕ, Bool}
+use Rattle.std.proofs.lemmas.Bool.Decides.{nat_tests}
 use Rattle.std.proofs.Math.Nat.{pow-le-pow_right}
 use Rattle.std.proofs.lemmas.Nat.{pow_pos}
 use Rattle.std.specs.Int.{bit_not}
@@ -7,9 +8,7 @@ use Rattle.range_bits.proofs.BitFacts.{is_between, used_bits, free_bits}
 use Rattle.range_bits.proofs.words.with_bits.Goals as goal
 
 pub overflow_sub-mask : goal.overflow_sub-mask
-overflow_sub-mask c =
-    let order : 2 ^ c.args.low ≤ 2 ^ c.args.high = pow-le-pow_right (omega arith) c.requires.order in
-    omega arith
+overflow_sub-mask c = grind (arith, nat_tests, pow-le-pow_right)
 
 pub returns-then-used : goal.returns-then-used
 returns-then-used c =

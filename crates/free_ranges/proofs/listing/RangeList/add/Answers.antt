@@ -1,4 +1,4 @@
-use Rattle.std.proofs.Common.{ap, ◌∙◌, count_by, ◌+◌, arith}
+use Rattle.std.proofs.Common.{ap, count_by, arith}
 use Rattle.free_ranges.specs.Ranges.{Listing}
 use Rattle.free_ranges.proofs.Listed.{added}
 use Rattle.free_ranges.proofs.listing.RangeList.add.Goals as goal

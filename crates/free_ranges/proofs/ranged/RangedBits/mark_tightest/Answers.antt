@@ -1,8 +1,7 @@
-use Rattle.std.proofs.Common.{◌≡◌, ◌+◌, ◌-◌, ◌≤◌, ℕ, Bool, true, Some, None, List, count_by, Contains, length, sym, ap, subst, ◌∙◌, arith}
+use Rattle.std.proofs.Common.{◌≡◌, ◌+◌, ◌-◌, ℕ, Bool, true, Some, None, List, count_by, Contains, length, sym, ap, subst, ◌∙◌, arith}
 use Rattle.range_bits.specs.Ranges.{best}
 use Rattle.range_bits.proofs.Counts.{free_inside}
 use Rattle.range_bits.proofs.RangeFacts.{best_is_fit}
-use Rattle.free_ranges.specs.declared.range.FreeRange.{FreeRange}
 use Rattle.free_ranges.proofs.Found.{best_nowhere}
 use Rattle.free_ranges.proofs.Listed.{room_tightest, key_tightest, marked_listed}
 use Rattle.free_ranges.proofs.Marked.{IsRoom}
@@ -20,8 +19,10 @@ unreachable-requires c =
     let clash : None ≡ Some c.args.start = sym none ∙ ap (λ (r : List Bool). best r c.args.n) c.self.view_is ∙ c.requires.tightest in
     absurd (cc)
 
-pub mark-requires-2-clause-free : goal.mark-requires-2-clause-free
-mark-requires-2-clause-free c = (best_is_fit c.self.inside.bits c.args.n c.args.start (ap (λ (r : List Bool). best r c.args.n) c.self.view_is ∙ c.requires.tightest)).1
+pub put-requires : goal.put-requires
+put-requires c =
+    let fit = best_is_fit c.args.self.now c.args.n c.args.start c.requires.tightest in
+    omega (arith, free_inside c.args.self.now c.args.start c.args.n c.requires.some fit.1, ap (λ (r : List Bool). length r) c.self.view_is)
 
 pub remove-requires : goal.remove-requires
 remove-requires c _ _ =
@@ -50,7 +51,7 @@ invariant_of-self c =
     let room = subst (λ (s : ℕ). IsRoom row s s n (s + len)) at (room_tightest row l.ranges n c.in-Some.range c.requires.some (c.self.invariant all) found) in
     let whole : start + len - start ≡ len = omega arith in
     let rest : start + len - (start + n) ≡ len - n = omega arith in
-    marked_listed row c.mark-2.new.self start start n (start + len) room c.mark-2.ensures l c.remove.new.self c.remove.new.self c.add.new.self c.self.invariant c.remove.ensures.complete
+    marked_listed row c.put.new.self start start n (start + len) room c.put.ensures l c.remove.new.self c.remove.new.self c.add.new.self c.self.invariant c.remove.ensures.complete
     (λ a test. subst (λ (m : ℕ). count_by test c.remove.new.self.ranges + counts test start m ≡ count_by test l.ranges) (sym whole) (c.remove.ensures.ranges a test))
     (λ a. a) (λ a test. omega (arith, counts_none test start (start - start) (omega arith)))
     c.add.ensures.complete

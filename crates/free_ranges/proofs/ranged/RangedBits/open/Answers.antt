@@ -1,9 +1,7 @@
 use Rattle.std.proofs.Common.{◌≡◌, ℕ, ◌*◌, false, List, Bool, length, replicate, sym, ap, subst, ◌∙◌}
 use Rattle.std.proofs.lemmas.List.{length-replicate}
-use Rattle.free_ranges.specs.declared.range.FreeRange.{FreeRange}
 use Rattle.free_ranges.specs.Ranges.{Listing, IsListed}
 use Rattle.free_ranges.proofs.Listed.{open_listed}
-use Rattle.free_ranges.proofs.Pieces.{counts}
 use Rattle.free_ranges.proofs.ranged.RangedBits.open.Goals as goal
 
 pub invariant_of-result : goal.invariant_of-result

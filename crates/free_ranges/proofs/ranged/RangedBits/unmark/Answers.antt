@@ -1,4 +1,4 @@
-use Rattle.std.proofs.Common.{◌≡◌, ◌≤◌, ◌+◌, ℕ, true, List, Bool, length, sym, ap, subst, ◌∙◌, arith}
+use Rattle.std.proofs.Common.{◌≤◌, true, List, Bool, length, sym, ap, subst, ◌∙◌, arith}
 use Rattle.range_bits.specs.Ranges.{used_from, with_places}
 use Rattle.range_bits.proofs.Counts.{used_inside}
 use Rattle.free_ranges.proofs.Listed.{room_freed, freed_back, left_listed, right_listed, freed_listed}
@@ -27,6 +27,6 @@ pub invariant_of-self : goal.invariant_of-self
 invariant_of-self c =
     let row = c.self.inside.bits in
     let used : c.args.n ≤ used_from row c.args.start = omega (arith, c.requires.used, ap (λ (r : List Bool). used_from r c.args.start) c.self.view_is) in
-    let room = subst (λ (r : List Bool). IsRoom r c.used_end-begin.result c.args.start c.args.n c.next_used-end.result) (sym c.unmark.ensures) (room_freed row c.used_end-begin.result c.args.start c.args.n c.next_used-end.result c.requires.some used c.used_end-begin.ensures c.next_used-end.ensures) in
-    let back = freed_back row c.used_end-begin.result c.args.start c.args.n c.next_used-end.result c.requires.some used c.used_end-begin.ensures c.next_used-end.ensures ∙ ap (λ (r : List Bool). with_places r c.args.start c.args.n true) (sym c.unmark.ensures) in
-    freed_listed row c.unmark.new.self c.used_end-begin.result c.args.start c.args.n c.next_used-end.result room back c.self.inside.ranges c.remove.new.self c.remove-2.new.self c.add.new.self c.self.invariant c.remove.ensures.complete c.remove.ensures.ranges c.remove-2.ensures.complete c.remove-2.ensures.ranges c.add.ensures.complete c.add.ensures.ranges
+    let room = subst (λ (r : List Bool). IsRoom r c.used_end-begin.result c.args.start c.args.n c.next_used-end.result) (sym c.put.ensures) (room_freed row c.used_end-begin.result c.args.start c.args.n c.next_used-end.result c.requires.some used c.used_end-begin.ensures c.next_used-end.ensures) in
+    let back = freed_back row c.used_end-begin.result c.args.start c.args.n c.next_used-end.result c.requires.some used c.used_end-begin.ensures c.next_used-end.ensures ∙ ap (λ (r : List Bool). with_places r c.args.start c.args.n true) (sym c.put.ensures) in
+    freed_listed row c.put.new.self c.used_end-begin.result c.args.start c.args.n c.next_used-end.result room back c.self.inside.ranges c.remove.new.self c.remove-2.new.self c.add.new.self c.self.invariant c.remove.ensures.complete c.remove.ensures.ranges c.remove-2.ensures.complete c.remove-2.ensures.ranges c.add.ensures.complete c.add.ensures.ranges

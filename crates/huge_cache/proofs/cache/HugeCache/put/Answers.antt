@@ -1,6 +1,7 @@
-use Rattle.std.proofs.Common.{◌≡◌, ℕ, ◌-◌, List, Bool, length, ap, ◌∙◌, arith}
+use Rattle.std.proofs.Common.{◌≡◌, ℕ, ◌-◌, length, ap, ◌∙◌, arith}
+use Rattle.std.proofs.lemmas.Bool.Decides.{nat_tests}
 use Rattle.range_bits.specs.Ranges.{with_places}
-use Rattle.huge_cache.specs.Cache.{Cache, with_run}
+use Rattle.huge_cache.specs.Cache.{Cache}
 use Rattle.huge_cache.proofs.Kept.{cache_of, sound_put}
 use Rattle.huge_cache.proofs.cache.HugeCache.put.Goals as goal
 
@@ -22,12 +23,7 @@ invariant_of-self c =
     (omega (arith, c.requires.inside, ap (λ (v : Cache). length v.taken) c.self.view_is)) c.requires.sound (taken_is c) (unready_is c)
 
 pub returns-clause-run : goal.returns-clause-run
-returns-clause-run c =
-    let f = c.self.inside in
-    let was : Cache = record { most = f.limit; window = f.uses.window; taken = f.taken; unready = f.unready; counts = f.uses.counts } in
-    ap (λ (t : List Bool). cache_of was t c.put-2.new.self) (taken_is c)
-    ∙ ap (λ (u : List Bool). cache_of was (with_places f.taken (c.args.first.0 - 1) c.args.many c.args.taken) u) (unready_is c)
-    ∙ ap (λ (v : Cache). with_run v c.args.first.0 c.args.many c.args.taken c.args.unready) c.self.view_is
+returns-clause-run c = grind (arith, nat_tests, unready_is, taken_is, cache_of)
 
 pub returns-clause-lengths : goal.returns-clause-lengths
 returns-clause-lengths c = omega (arith, c.self.invariant.lengths, ap (λ (v : Cache). length v.taken) c.self.view_is, ap (λ (v : Cache). length v.unready) c.self.view_is)

@@ -1,8 +1,11 @@
-use Rattle.std.proofs.Common.{List, Bool, ap, arith}
-use Rattle.range_bits.specs.Fills.{free_count}
+use Rattle.std.proofs.Common.{arith}
+use Rattle.std.proofs.lemmas.Bool.Decides.{nat_tests}
 use Rattle.range_bits.proofs.Stretches.{used_and_free}
-use Rattle.huge_cache.proofs.Padded.{free_count-front}
+use Rattle.huge_cache.proofs.Padded.{front_length, few}
 use Rattle.huge_cache.proofs.row.Row.free.Goals as goal
 
+pub overflow_sub-result : goal.overflow_sub-result
+overflow_sub-result c = omega (arith, few c.self.inside.len c.self.inside.bits c.self.invariant.0)
+
 pub returns : goal.returns
-returns c = omega (arith, c.places.ensures, c.used.ensures, used_and_free c.self.inside.bits, free_count-front c.self.inside.len c.self.inside.bits c.self.invariant, ap (λ (r : List Bool). free_count r) c.self.view_is)
+returns c = grind (arith, nat_tests, used_and_free, front_length)

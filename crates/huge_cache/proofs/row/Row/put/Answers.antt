@@ -1,18 +1,27 @@
-use Rattle.std.proofs.Common.{◌+◌, ◌≤◌, List, Bool, length, ap, ◌∙◌, arith}
+use Rattle.std.proofs.Common.{List, Bool, length, ap, ◌∙◌, arith}
 use Rattle.range_bits.specs.Ranges.{with_places}
 use Rattle.huge_cache.proofs.Padded.{changed, front_length}
 use Rattle.huge_cache.proofs.row.Row.put.Goals as goal
 
-inside : (c : goal.After-put) → c.args.start + c.args.n ≤ c.self.inside.len
-inside c = omega (arith, c.requires, front_length c.self.inside.len c.self.inside.bits c.self.invariant, ap (λ (r : List Bool). length r) c.self.view_is)
+pub used_in-was-requires : goal.used_in-was-requires
+used_in-was-requires c = omega (arith, c.requires, front_length c.self.inside.len c.self.inside.bits c.self.invariant.0, ap (λ (r : List Bool). length r) c.self.view_is, c.self.invariant.0.within)
 
-pub put-requires : goal.put-requires
-put-requires c = omega (arith, c.requires, front_length c.self.inside.len c.self.inside.bits c.self.invariant, ap (λ (r : List Bool). length r) c.self.view_is, c.self.invariant.within)
+pub overflow_sub-self : goal.overflow_sub-self
+overflow_sub-self c =
+    let to = changed c.put.new.self c.args.start c.args.n c.args.used c.self.invariant.0 c.put.ensures (omega (arith, c.requires, ap (λ (r : List Bool). length r) c.self.view_is)) in
+    omega (arith, to.was, c.self.invariant.1)
+
+pub overflow_add-self : goal.overflow_add-self
+overflow_add-self c =
+    let to = changed c.put.new.self c.args.start c.args.n c.args.used c.self.invariant.0 c.put.ensures (omega (arith, c.requires, ap (λ (r : List Bool). length r) c.self.view_is)) in
+    omega (arith, to.count, to.few, c.self.invariant.1)
 
 pub invariant_of-self : goal.invariant_of-self
-invariant_of-self c = (changed c.self.inside.len c.self.inside.bits c.put.new.self c.args.start c.args.n c.args.used c.self.invariant c.put.ensures (inside c)).padded
+invariant_of-self c =
+    let to = changed c.put.new.self c.args.start c.args.n c.args.used c.self.invariant.0 c.put.ensures (omega (arith, c.requires, ap (λ (r : List Bool). length r) c.self.view_is)) in
+    (to.padded, omega (arith, to.count, c.self.invariant.1))
 
 pub returns : goal.returns
 returns c =
-    (changed c.self.inside.len c.self.inside.bits c.put.new.self c.args.start c.args.n c.args.used c.self.invariant c.put.ensures (inside c)).front
-    ∙ ap (λ (r : List Bool). with_places r c.args.start c.args.n c.args.used) c.self.view_is
+    let to = changed c.put.new.self c.args.start c.args.n c.args.used c.self.invariant.0 c.put.ensures (omega (arith, c.requires, ap (λ (r : List Bool). length r) c.self.view_is)) in
+    to.front ∙ ap (λ (r : List Bool). with_places r c.args.start c.args.n c.args.used) c.self.view_is

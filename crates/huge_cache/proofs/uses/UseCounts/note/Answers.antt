@@ -1,4 +1,5 @@
-use Rattle.std.proofs.Common.{◌≡◌, ℕ, nat_le, List, [], ◌∷◌, ◌++◌, length, filter, subst, sym, ap, ◌∙◌, arith}
+use Rattle.std.proofs.Common.{◌≡◌, ℕ, nat_le, List, [], ◌∷◌, ◌++◌, filter, subst, sym, ap, ◌∙◌, arith}
+use Rattle.std.proofs.lemmas.Bool.Decides.{nat_tests}
 use Rattle.std.proofs.lemmas.List.Sums.{fold_push}
 use Rattle.huge_cache.specs.Uses.{with_newest, greatest_of, IsFalling}
 use Rattle.huge_cache.proofs.Greatest.{greatest_fall, length-greatest}
@@ -8,9 +9,7 @@ pub drop_below-requires : goal.drop_below-requires
 drop_below-requires c = subst (λ (l : List ℕ). IsFalling l) (sym c.make_room.ensures.greatest) (greatest_fall c.make_room.new.counts.items)
 
 pub push_back_reserved-requires-2 : goal.push_back_reserved-requires-2
-push_back_reserved-requires-2 c =
-    let size = ap (λ (l : List ℕ). length l) c.make_room.ensures.greatest in
-    omega (arith, size, length-greatest c.make_room.new.counts.items, c.make_room.new.greatest.ok.0, c.make_room.new.counts.ok.0, c.make_room.ensures.len, c.make_room.ensures.greatest_room, c.drop_below.ensures.len, c.drop_below.ensures.room, c.self.invariant.2)
+push_back_reserved-requires-2 c = grind (arith, nat_tests, length-greatest)
 
 pub invariant_of-self : goal.invariant_of-self
 invariant_of-self c =

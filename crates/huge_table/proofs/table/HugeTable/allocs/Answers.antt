@@ -1,11 +1,6 @@
 use Rattle.std.proofs.Common.{◌≡◌, ℕ, ◌+◌, ◌*◌, ◌/◌, ◌≤◌, Bool, true, false, ◌&&◌, not, cond, List, length, Fits, w32, take, drop, map, ap, ◌∙◌, arith}
-use Rattle.std.specs.List.{list_any}
-use Rattle.std.proofs.lemmas.List.{get_or_default, length-take-le, length-drop}
-use Rattle.std.proofs.lemmas.List.Sums.{count_by-le-length}
-use Rattle.range_bits.specs.Ranges.{used_count}
-use Rattle.heap_rules.specs.Heap.{hugepage, is_used, pages_of}
-use Rattle.huge_table.specs.Table.{Table, bit}
-use Rattle.huge_table.specs.Means.{is_shared, begins_on}
+use Rattle.huge_table.proofs.Common.{list_any, get_or_default, length-take-le, length-drop, count_by-le-length, used_count, hugepage, is_used, pages_of}
+use Rattle.huge_table.proofs.Common.{Table, bit, is_shared, begins_on}
 use Rattle.huge_table.proofs.Sizes.{arena}
 use Rattle.huge_table.proofs.Pages.{slice_is, over_pages}
 use Rattle.huge_table.proofs.Allocs.{allocs_are}
@@ -56,7 +51,9 @@ returns c heap sound means shared =
     let begun : c.used_in-begin.result ≡ used_count (map (λ page. list_any (begins_on page) heap.runs) (pages_of h)) =
     c.used_in-begin.ensures
     ∙ ap (λ (k : ℕ). used_count (take 256 (drop (256 * k) t.begins))) c.from-first.ensures
-    ∙ ap used_count (slice_is t.begins (256 * h) 256 (omega (arith, c.self.invariant.begins)) ∙ over_pages (bit t.begins) (λ page. list_any (begins_on page) heap.runs) h (λ page own. ap (λ (x : Table). bit x.begins page) c.self.view_is ∙ means.begins page)) in
+    ∙ ap used_count (slice_is t.begins (256 * h) 256 (omega (arith, c.self.invariant.begins))
+    ∙ over_pages (bit t.begins) (λ page. list_any (begins_on page) heap.runs) h
+    (λ page own. ap (λ (x : Table). bit x.begins page) c.self.view_is ∙ means.begins page)) in
     let one = c.reaching_in.ensures ∙ ap (λ (u : Bool). cond (u && not c.is_used-2.result) 1 0) used ∙ ap (λ (b : Bool). cond (is_used heap.runs (256 * h) && not b) 1 0) begins in
     together _ _ _ _ _ begun one (allocs_are heap sound h)
   where

@@ -1,6 +1,5 @@
 use Rattle.std.proofs.Common.{ℕ, refl, arith}
-use Rattle.heap_rules.specs.Heap.{spans}
-use Rattle.huge_table.specs.Table.{bit, is_even, with_backing}
+use Rattle.huge_table.proofs.Common.{spans, bit, is_even, with_backing}
 use Rattle.huge_table.proofs.Sizes.{arena}
 use Rattle.huge_table.proofs.Pages.{over, put_bit, spanned, back_is}
 use Rattle.huge_table.proofs.table.HugeTable.back.Goals as goal
@@ -13,4 +12,5 @@ returns c =
     let size = arena t c.args.self.now c.self.view_is in
     let backed = put_bit c.put.new.self t.backed first many c.args.state c.put.ensures (omega arith) in
     over t (record t { backed = c.put.new.self }) c.args.self.now first many (with_backing c.args.state) c.self.view_is refl refl (λ h some inside.
-    rw (backed h) (back_is (spans many h first) (bit t.grouped h) (bit t.shared h) (bit t.backed h) c.args.state (bit t.donated h) t.page_backed h (spanned t c.args.self.now first many is_even c.self.view_is c.requires h some inside)))
+    rw (backed h) (back_is (spans many h first) (bit t.grouped h) (bit t.shared h) (bit t.backed h) c.args.state (bit t.donated h) t.page_backed h
+    (spanned t c.args.self.now first many is_even c.self.view_is c.requires h some inside)))

@@ -1,9 +1,5 @@
 use Rattle.std.proofs.Common.{ℕ, ◌*◌, ◌≤◌, Bool, true, false, cond, take, drop, sym, ap, ◌∙◌, arith}
-use Rattle.std.proofs.lemmas.List.{get_or_default}
-use Rattle.tc_units.specs.declared.rows.RowKind.{RowKind}
-use Rattle.range_bits.specs.Ranges.{used_count}
-use Rattle.heap_rules.specs.Heap.{Hugepage, backed_count}
-use Rattle.huge_table.specs.Table.{bit, hugepage_of, of_kind}
+use Rattle.huge_table.proofs.Common.{get_or_default, RowKind, used_count, Hugepage, backed_count, bit, hugepage_of, of_kind}
 use Rattle.huge_table.proofs.Sizes.{arena}
 use Rattle.huge_table.proofs.Pages.{backed_is, slice_is, at-now}
 use Rattle.huge_table.proofs.table.HugeTable.backed_pages.Goals as goal
@@ -16,7 +12,8 @@ returns c =
     let inside : h ≤ t.huge = omega (arith, c.requires.high) in
     let x_is = at-now t c.args.self.now h c.self.view_is c.requires.low inside in
     let even = c.is_used.ensures ∙ get_or_default t.backed c.from-place.result true false (omega (arith, c.from-place.ensures)) ∙ ap (bit t.backed) c.from-place.ensures in
-    let own = c.used_in-own.ensures ∙ ap (λ (k : ℕ). used_count (take 256 (drop (256 * k) t.page_backed))) c.from-place.ensures ∙ ap used_count (slice_is t.page_backed (256 * h) 256 (omega (arith, c.self.invariant.page_backed))) in
+    let own = c.used_in-own.ensures ∙ ap (λ (k : ℕ). used_count (take 256 (drop (256 * k) t.page_backed))) c.from-place.ensures
+    ∙ ap used_count (slice_is t.page_backed (256 * h) 256 (omega (arith, c.self.invariant.page_backed))) in
     let kind : RowKind = (hugepage_of t h).kind in
     c.by_kind.ensures
     ∙ ap (λ (k : RowKind). of_kind k 256 c.whole_pages-even.result c.used_in-own.result) (c.kind.ensures.kind ∙ ap (λ (x : Hugepage). x.kind) x_is)

@@ -1,5 +1,5 @@
 use Rattle.std.proofs.Common.{◌≡◌, ℕ, ◌*◌, List, Bool, take, drop, ap, ◌∙◌, arith}
-use Rattle.range_bits.specs.Ranges.{best}
+use Rattle.huge_table.proofs.Common.{best}
 use Rattle.huge_table.proofs.Steps.{row_at}
 use Rattle.huge_table.proofs.table.HugeTable.best.Goals as goal
 

@@ -1,13 +1,9 @@
 use Rattle.std.proofs.Common.{◌≡◌, ℕ, ◌*◌, false, map, eqb, refl, ap, ◌∙◌, arith}
-use Rattle.std.specs.List.{list_all, range_with_len}
-use Rattle.std.proofs.lemmas.List.FromFn.{length-map-range_with_len}
-use Rattle.range_bits.specs.Ranges.{used_count}
-use Rattle.heap_rules.specs.Heap.{spans, is_filler, pages_of}
-use Rattle.heap_rules.specs.Free.{emptied}
-use Rattle.heap_rules.proofs.Fits.{spans_parts}
-use Rattle.huge_table.specs.Table.{bit}
+use Rattle.huge_table.proofs.Common.{list_all, range_with_len, length-map-range_with_len, used_count, spans, is_filler, pages_of, emptied, spans_parts}
+use Rattle.huge_table.proofs.Common.{bit}
 use Rattle.huge_table.proofs.Sizes.{arena}
-use Rattle.huge_table.proofs.Pages.{over, spanned, put_bit, empty_is, slice_is, whole_exactly}
+use Rattle.heap_rules.proofs.Accounts.{whole_exactly}
+use Rattle.huge_table.proofs.Pages.{over, spanned, put_bit, empty_is, slice_is}
 use Rattle.huge_table.proofs.table.HugeTable.empty.Goals as goal
 
 pub returns : goal.returns

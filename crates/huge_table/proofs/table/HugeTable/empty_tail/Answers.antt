@@ -1,6 +1,5 @@
 use Rattle.std.proofs.Common.{◌≡◌, ℕ, ◌≤◌, eqb, ap, ◌∙◌, arith}
-use Rattle.range_bits.specs.Ranges.{used_count}
-use Rattle.huge_table.specs.Table.{emptied_where, noted_row, over_span}
+use Rattle.huge_table.proofs.Common.{used_count, emptied_where, noted_row, over_span}
 use Rattle.huge_table.proofs.Pages.{over_none}
 use Rattle.huge_table.proofs.table.HugeTable.empty_tail.Goals as goal
 

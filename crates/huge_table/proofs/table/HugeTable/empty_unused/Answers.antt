@@ -1,11 +1,7 @@
 use Rattle.std.proofs.Common.{◌≡◌, ℕ, ◌*◌, Bool, true, false, cond, List, length, take, drop, eqb, refl, sym, ap, ◌∙◌, arith}
-use Rattle.std.proofs.lemmas.Bool.{eq-eqb, ne_eqb}
-use Rattle.range_bits.specs.Ranges.{used_count}
-use Rattle.heap_rules.specs.Heap.{Hugepage, spans}
-use Rattle.huge_table.specs.Table.{Table, emptied_where, over_span, noted_row, HasBits, table_of, AreKept}
-use Rattle.huge_table.specs.declared.table.HugeTable.TheInside.{Inside}
+use Rattle.huge_table.proofs.Common.{eq-eqb, ne_eqb, used_count, Hugepage, spans, Table, emptied_where, over_span, noted_row, HasBits, table_of, AreKept}
+use Rattle.huge_table.proofs.Common.{Inside, each_is}
 use Rattle.huge_table.proofs.Sizes.{arena}
-use Rattle.huge_table.proofs.Pages.{each_is}
 use Rattle.huge_table.proofs.table.HugeTable.empty_unused.Goals as goal
 
 noted : (t : Table) (row : List Bool) (h m : ℕ) (b : Bool) → row ≡ t.used → m ≡ used_count (take 256 (drop (256 * h) row)) → eqb m 0 ≡ b → b ≡ eqb (used_count (noted_row t h)) 0
@@ -23,12 +19,16 @@ stays t h = ap (λ (xs : List Hugepage). record t { pages = xs }) (sym (each_is 
 
 pub returns-then-used_in-eq0 : goal.returns-then-used_in-eq0
 returns-then-used_in-eq0 c = record {
-  table = c.empty.ensures ∙ ap (λ (b : Bool). over_span c.args.place 1 (emptied_where b) c.args.self.now) (noted c.args.self.now c.self.inside.used c.args.place c.used_in.result true (ap (λ (x : Table). x.used) c.self.view_is) c.used_in.ensures (eq-eqb c.used_in.result 0 c.if-used_in-eq0.true));
+  table = c.empty.ensures ∙ ap (λ (b : Bool). over_span c.args.place 1 (emptied_where b) c.args.self.now)
+      (noted c.args.self.now c.self.inside.used c.args.place c.used_in.result true (ap (λ (x : Table). x.used) c.self.view_is) c.used_in.ensures
+      (eq-eqb c.used_in.result 0 c.if-used_in-eq0.true));
   room = room c.self.inside c.args.self.now c.self.view_is c.self.invariant;
 }
 
 pub returns-else-used_in-eq0 : goal.returns-else-used_in-eq0
 returns-else-used_in-eq0 c = record {
-  table = stays c.args.self.now c.args.place ∙ ap (λ (b : Bool). over_span c.args.place 1 (emptied_where b) c.args.self.now) (noted c.args.self.now c.self.inside.used c.args.place c.used_in.result false (ap (λ (x : Table). x.used) c.self.view_is) c.used_in.ensures (ne_eqb c.used_in.result 0 c.if-used_in-eq0.false));
+  table = stays c.args.self.now c.args.place ∙ ap (λ (b : Bool). over_span c.args.place 1 (emptied_where b) c.args.self.now)
+      (noted c.args.self.now c.self.inside.used c.args.place c.used_in.result false (ap (λ (x : Table). x.used) c.self.view_is) c.used_in.ensures
+      (ne_eqb c.used_in.result 0 c.if-used_in-eq0.false));
   room = room c.self.inside c.args.self.now c.self.view_is c.self.invariant;
 }

@@ -1,7 +1,5 @@
 use Rattle.std.proofs.Common.{ℕ, true, refl, arith}
-use Rattle.heap_rules.specs.Heap.{spans, is_free}
-use Rattle.heap_rules.specs.New.{region_page}
-use Rattle.huge_table.specs.Table.{bit}
+use Rattle.huge_table.proofs.Common.{spans, is_free, region_page, bit}
 use Rattle.huge_table.proofs.Sizes.{arena}
 use Rattle.huge_table.proofs.Pages.{over, put_bit, spanned, gather_is}
 use Rattle.huge_table.proofs.table.HugeTable.gather.Goals as goal
@@ -15,4 +13,6 @@ returns c =
     let grouped = put_bit c.put.new.self t.grouped first many true c.put.ensures (omega arith) in
     let shared = put_bit c.put-2.new.self t.shared first many true c.put-2.ensures (omega arith) in
     over t (record t { grouped = c.put.new.self; shared = c.put-2.new.self }) c.args.self.now first many region_page c.self.view_is refl refl (λ h some inside.
-    rw (grouped h, shared h) (gather_is (spans many h first) (bit t.grouped h) (bit t.shared h) (bit t.backed h) (bit t.donated h) t.page_backed h (spanned t c.args.self.now first many is_free c.self.view_is c.requires h some inside)))
+    rw (grouped h, shared h)
+    (gather_is (spans many h first) (bit t.grouped h) (bit t.shared h) (bit t.backed h) (bit t.donated h) t.page_backed h
+    (spanned t c.args.self.now first many is_free c.self.view_is c.requires h some inside)))

@@ -1,6 +1,5 @@
 use Rattle.std.proofs.Common.{ℕ, true, false, refl, arith}
-use Rattle.heap_rules.specs.Heap.{spans}
-use Rattle.huge_table.specs.Table.{bit, free_page, of_filler}
+use Rattle.huge_table.proofs.Common.{spans, bit, free_page, of_filler}
 use Rattle.huge_table.proofs.Sizes.{arena}
 use Rattle.huge_table.proofs.Pages.{over, put_bit, give_is}
 use Rattle.huge_table.proofs.table.HugeTable.give.Goals as goal

@@ -1,8 +1,5 @@
 use Rattle.std.proofs.Common.{ℕ, ◌≤◌, Bool, true, false, sym, ap, ◌∙◌, arith}
-use Rattle.std.proofs.lemmas.List.{get_or_default}
-use Rattle.tc_units.specs.declared.rows.RowKind.{RowKind}
-use Rattle.heap_rules.specs.Heap.{Hugepage}
-use Rattle.huge_table.specs.Table.{bit, hugepage_of, of_kind}
+use Rattle.huge_table.proofs.Common.{get_or_default, RowKind, Hugepage, bit, hugepage_of, of_kind}
 use Rattle.huge_table.proofs.Sizes.{arena}
 use Rattle.huge_table.proofs.Pages.{donated_is, at-now}
 use Rattle.huge_table.proofs.table.HugeTable.is_donated.Goals as goal

@@ -1,6 +1,6 @@
 use Rattle.std.proofs.Common.{true, false, ap, ◌∙◌}
-use Rattle.tc_units.specs.declared.rows.RowKind.{RowKind}
-use Rattle.huge_table.specs.Table.{of_kind, at}
+use Rattle.huge_table.proofs.Common.{RowKind, of_kind}
+use Rattle.huge_table.specs.Table.{at}
 use Rattle.huge_table.proofs.Pages.{run_is}
 use Rattle.huge_table.proofs.table.HugeTable.is_run.Goals as goal
 

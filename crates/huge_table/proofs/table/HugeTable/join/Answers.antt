@@ -1,7 +1,5 @@
 use Rattle.std.proofs.Common.{◌≡◌, ℕ, ◌/◌, ap, arith}
-use Rattle.heap_rules.specs.Heap.{is_filler, run_at}
-use Rattle.heap_rules.specs.New.{more_backed}
-use Rattle.heap_rules.proofs.Fits.{reaches_parts}
+use Rattle.huge_table.proofs.Common.{is_filler, run_at, more_backed, reaches_parts}
 use Rattle.huge_table.proofs.Sizes.{length-over}
 use Rattle.huge_table.proofs.Steps.{comes}
 use Rattle.huge_table.proofs.Shared.{filler_shared}
@@ -11,10 +9,12 @@ pub returns : goal.returns
 returns c heap means =
     let first : ℕ = c.args.first.0 in
     let n : ℕ = c.args.n in
-    comes heap c.args.self.now c.back_pages.new.self c.note.new.self first n (first / 256) 1 is_filler (more_backed (run_at first n) (first / 256)) (more_backed (run_at first n)) means c.requires.place
+    comes heap c.args.self.now c.back_pages.new.self c.note.new.self first n (first / 256) 1 is_filler (more_backed (run_at first n) (first / 256))
+    (more_backed (run_at first n)) means c.requires.place
     (omega arith) (omega arith) (omega (arith, c.requires.some)) (omega (arith, c.requires.ends)) c.requires.some
     c.back_pages.ensures c.note.ensures.pages c.note.ensures.noted
-    (λ h x e filler. let parts = reaches_parts h (run_at first n) e in let here : first / 256 ≡ h = omega (arith, c.requires.ends) in (ap (λ k. more_backed (run_at first n) k x) here, (filler_shared x filler, filler_shared x filler)))
+    (λ h x e filler. let parts = reaches_parts h (run_at first n) e in let here : first / 256 ≡ h = omega (arith, c.requires.ends) in
+    (ap (λ k. more_backed (run_at first n) k x) here, (filler_shared x filler, filler_shared x filler)))
 
 pub note-requires-clause-high : goal.note-requires-clause-high
 note-requires-clause-high c =

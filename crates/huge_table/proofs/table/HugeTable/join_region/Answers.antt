@@ -1,7 +1,5 @@
 use Rattle.std.proofs.Common.{ℕ, ◌-◌, ◌/◌, true, refl, arith}
-use Rattle.heap_rules.specs.Heap.{is_region}
-use Rattle.heap_rules.specs.New.{all_backed}
-use Rattle.huge_table.specs.Table.{with_backing, reached_by, is_even}
+use Rattle.huge_table.proofs.Common.{is_region, all_backed, with_backing, reached_by, is_even}
 use Rattle.huge_table.proofs.Sizes.{arena, length-over}
 use Rattle.huge_table.proofs.Steps.{comes}
 use Rattle.huge_table.proofs.Shared.{region_shared, region_even, span_of}

@@ -1,8 +1,6 @@
 use Rattle.std.proofs.Common.{◌≡◌, ℕ, ◌≤◌, true, false, sym, ap, ◌∙◌, arith}
-use Rattle.std.proofs.lemmas.List.{get_or_default}
-use Rattle.heap_rules.specs.Heap.{Hugepage}
+use Rattle.huge_table.proofs.Common.{get_or_default, Hugepage, bit, kind_by}
 use Rattle.heap_rules.proofs.Places.{at}
-use Rattle.huge_table.specs.Table.{bit, kind_by}
 use Rattle.huge_table.proofs.Sizes.{arena}
 use Rattle.huge_table.proofs.Pages.{kind_is, at-now}
 use Rattle.huge_table.proofs.Steps.{at-heap}

@@ -1,5 +1,5 @@
 use Rattle.std.proofs.Common.{◌≡◌, ℕ, ◌*◌, take, drop, ap, ◌∙◌, arith}
-use Rattle.range_bits.specs.Ranges.{longest}
+use Rattle.huge_table.proofs.Common.{longest}
 use Rattle.huge_table.proofs.Steps.{row_at}
 use Rattle.huge_table.proofs.table.HugeTable.longest.Goals as goal
 

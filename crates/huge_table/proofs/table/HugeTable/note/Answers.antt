@@ -1,6 +1,6 @@
 use Rattle.std.proofs.Common.{◌≡◌, ℕ, ◌+◌, ◌-◌, Bool, false, cond, eqb, ap, ◌∙◌, arith}
 use Rattle.range_bits.proofs.Placing.{get_or-with_places}
-use Rattle.huge_table.specs.Table.{Table, bit, is_between}
+use Rattle.huge_table.proofs.Common.{Table, bit, is_between}
 use Rattle.huge_table.proofs.Sizes.{arena}
 use Rattle.huge_table.proofs.Pages.{one_place, last_place}
 use Rattle.huge_table.proofs.table.HugeTable.note.Goals as goal

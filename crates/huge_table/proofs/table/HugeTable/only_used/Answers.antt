@@ -1,5 +1,5 @@
 use Rattle.std.proofs.Common.{◌≡◌, ℕ, ◌+◌, ◌-◌, ◌*◌, List, Bool, take, drop, subst, ap, ◌∙◌, arith}
-use Rattle.range_bits.specs.Ranges.{used_count}
+use Rattle.huge_table.proofs.Common.{used_count}
 use Rattle.range_bits.specs.Fills.{StaysUsed}
 use Rattle.huge_table.proofs.Spares.{spared_means, spared_count, spared_fewer}
 use Rattle.huge_table.proofs.table.HugeTable.only_used.Goals as goal
@@ -19,10 +19,17 @@ overflow_sub-result c =
     let h : ℕ = c.args.huge.0 in
     let before = counted t.page_backed c.from-place.result h c.used_in-before.result c.from-place.ensures c.used_in-before.ensures in
     let after = counted c.keep_used.new.self c.from-place.result h c.used_in.result c.from-place.ensures c.used_in.ensures in
-    omega (arith, before, after, spared_fewer t c.args.self.now c.self.invariant c.self.view_is h c.requires c.keep_used.new.self (cut c.self.inside.page_backed c.self.inside.used c.keep_used.new.self c.from.result c.args.huge.0 c.from.ensures c.keep_used.ensures))
+    omega (
+      arith,
+      before,
+      after,
+      spared_fewer t c.args.self.now c.self.invariant c.self.view_is h c.requires c.keep_used.new.self
+          (cut c.self.inside.page_backed c.self.inside.used c.keep_used.new.self c.from.result c.args.huge.0 c.from.ensures c.keep_used.ensures),
+    )
 
 pub returns-clause-heap : goal.returns-clause-heap
-returns-clause-heap c heap means = spared_means c.self.inside c.args.self.now c.self.invariant c.self.view_is c.args.huge.0 c.requires c.keep_used.new.self (cut c.self.inside.page_backed c.self.inside.used c.keep_used.new.self c.from.result c.args.huge.0 c.from.ensures c.keep_used.ensures) heap means
+returns-clause-heap c heap means = spared_means c.self.inside c.args.self.now c.self.invariant c.self.view_is c.args.huge.0 c.requires c.keep_used.new.self
+    (cut c.self.inside.page_backed c.self.inside.used c.keep_used.new.self c.from.result c.args.huge.0 c.from.ensures c.keep_used.ensures) heap means
 
 pub returns-clause-pages : goal.returns-clause-pages
 returns-clause-pages c heap means =
@@ -30,4 +37,6 @@ returns-clause-pages c heap means =
     let h : ℕ = c.args.huge.0 in
     let before = counted t.page_backed c.from-place.result h c.used_in-before.result c.from-place.ensures c.used_in-before.ensures in
     let after = counted c.keep_used.new.self c.from-place.result h c.used_in.result c.from-place.ensures c.used_in.ensures in
-    given _ _ _ _ _ before after (spared_count t c.args.self.now c.self.invariant c.self.view_is h c.requires c.keep_used.new.self (cut c.self.inside.page_backed c.self.inside.used c.keep_used.new.self c.from.result c.args.huge.0 c.from.ensures c.keep_used.ensures) heap means)
+    given _ _ _ _ _ before after
+    (spared_count t c.args.self.now c.self.invariant c.self.view_is h c.requires c.keep_used.new.self
+    (cut c.self.inside.page_backed c.self.inside.used c.keep_used.new.self c.from.result c.args.huge.0 c.from.ensures c.keep_used.ensures) heap means)

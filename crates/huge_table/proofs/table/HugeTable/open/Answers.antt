@@ -1,5 +1,5 @@
 use Rattle.std.proofs.Common.{◌≡◌, ℕ, false, List, Bool, get_or, replicate, ap, ◌∙◌}
-use Rattle.huge_table.specs.Table.{bit}
+use Rattle.huge_table.proofs.Common.{bit}
 use Rattle.huge_table.proofs.Opens.{none_of, opens}
 use Rattle.huge_table.proofs.table.HugeTable.open.Goals as goal
 

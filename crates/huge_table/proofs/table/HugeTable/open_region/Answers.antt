@@ -1,7 +1,5 @@
 use Rattle.std.proofs.Common.{ℕ, subst, sym, ap, ◌∙◌}
-use Rattle.heap_rules.specs.New.{region_page, with_new_region}
-use Rattle.huge_table.specs.Table.{Table, over_span}
-use Rattle.huge_table.specs.Means.{Means}
+use Rattle.huge_table.proofs.Common.{region_page, with_new_region, Table, over_span, Means}
 use Rattle.huge_table.proofs.Stays.{opened_means}
 use Rattle.huge_table.proofs.table.HugeTable.open_region.Goals as goal
 

@@ -1,7 +1,5 @@
 use Rattle.std.proofs.Common.{◌≡◌, ℕ, Bool, true, false, not, length, refl, sym, ap, ◌∙◌, arith}
-use Rattle.std.proofs.lemmas.Bool.{false≢true}
-use Rattle.heap_rules.specs.Heap.{Hugepage, hugepage, backed_count, row_of}
-use Rattle.huge_table.specs.Means.{is_shared, is_run}
+use Rattle.huge_table.proofs.Common.{false≢true, Hugepage, hugepage, backed_count, row_of, is_shared, is_run}
 use Rattle.huge_table.proofs.Steps.{at-heap}
 use Rattle.huge_table.proofs.Measures.{run_row_is, same_view}
 use Rattle.huge_table.proofs.table.HugeTable.row.Goals as goal
@@ -10,14 +8,16 @@ pub returns-then-is_run : goal.returns-then-is_run
 returns-then-is_run c heap sound means =
     let h : ℕ = c.args.huge.0 in
     let size = ap length means.pages in
-    run_row_is heap h c.run_row.result sound c.requires.low (omega (arith, c.requires.high)) (sym (ap is_run (at-heap c.args.self.now heap means h)) ∙ sym c.is_run.ensures ∙ c.if-is_run.true) c.run_row.ensures
+    run_row_is heap h c.run_row.result sound c.requires.low (omega (arith, c.requires.high))
+    (sym (ap is_run (at-heap c.args.self.now heap means h)) ∙ sym c.is_run.ensures ∙ c.if-is_run.true) c.run_row.ensures
 
 pub returns : goal.returns
 returns c heap sound means =
     let h : ℕ = c.args.huge.0 in
     let x_is = at-heap c.args.self.now heap means h in
     let shared = unnot (is_shared (hugepage heap h)) (sym (ap is_run x_is) ∙ sym c.is_run.ensures ∙ c.if-is_run.false) in
-    same_view _ (row_of heap h) (c.kind.ensures.heap heap means) (c.used.ensures heap means shared) (c.allocs.ensures heap sound means shared) (c.backed_pages.ensures ∙ ap backed_count x_is) (c.longest.ensures heap means shared) (c.is_donated.ensures ∙ ap (λ (x : Hugepage). x.donated) x_is)
+    same_view _ (row_of heap h) (c.kind.ensures.heap heap means) (c.used.ensures heap means shared) (c.allocs.ensures heap sound means shared)
+    (c.backed_pages.ensures ∙ ap backed_count x_is) (c.longest.ensures heap means shared) (c.is_donated.ensures ∙ ap (λ (x : Hugepage). x.donated) x_is)
   where
     unnot : (b : Bool) → not b ≡ false → b ≡ true
     unnot true e = refl

@@ -1,7 +1,5 @@
 use Rattle.std.proofs.Common.{ℕ, true, false, refl, arith}
-use Rattle.heap_rules.specs.Heap.{spans}
-use Rattle.heap_rules.specs.New.{run_page}
-use Rattle.huge_table.specs.Table.{bit, of_filler}
+use Rattle.huge_table.proofs.Common.{spans, run_page, bit, of_filler}
 use Rattle.huge_table.proofs.Sizes.{arena}
 use Rattle.huge_table.proofs.Pages.{over, put_bit, take_is}
 use Rattle.huge_table.proofs.table.HugeTable.take.Goals as goal

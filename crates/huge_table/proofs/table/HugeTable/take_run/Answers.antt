@@ -1,9 +1,8 @@
-use Rattle.std.proofs.Common.{ℕ, ◌+◌, ◌-◌, ◌*◌, ◌/◌, true, refl, subst, sym, ap, ◌∙◌, arith}
-use Rattle.heap_rules.specs.New.{run_page, filler_page, run_or_tail}
-use Rattle.huge_table.specs.Table.{Table, IsNoted, over_span}
+use Rattle.std.proofs.Common.{◌≡◌, ℕ, ◌+◌, ◌-◌, ◌*◌, ◌/◌, Bool, true, nat_lt, subst, sym, ap, ◌∙◌, inl, arith}
+use Rattle.huge_table.proofs.Common.{run_page, filler_page, Table, IsNoted, over_span}
 use Rattle.huge_table.proofs.Sizes.{length-over}
 use Rattle.huge_table.proofs.Steps.{noted_after}
-use Rattle.huge_table.proofs.Wholes.{whole_is, tail_is, two_spans, took_means}
+use Rattle.huge_table.proofs.Wholes.{becomes, whole_is, tail_is, IsLaid, laid, two_spans, took_means}
 use Rattle.huge_table.proofs.table.HugeTable.take_run.Goals as goal
 
 pub take-requires-clause-high : goal.take-requires-clause-high
@@ -17,7 +16,8 @@ adopt-requires-clause-high c =
 pub note-requires-clause-high : goal.note-requires-clause-high
 note-requires-clause-high c =
     let size = length-over c.take.new.self c.args.self.now c.from-place.result (c.args.n / 256) (λ _. run_page) c.take.ensures in
-    let size' = length-over c.adopt.new.self c.take.new.self (c.from-place.result + c.args.n / 256) (c.div_ceil.result - c.args.n / 256) (λ _. filler_page true) c.adopt.ensures in
+    let size' = length-over c.adopt.new.self c.take.new.self (c.from-place.result + c.args.n / 256) (c.div_ceil.result - c.args.n / 256)
+    (λ _. filler_page (nat_lt 0 (c.args.n / 256))) c.adopt.ensures in
     omega (arith, c.requires.free.to, c.from-place.ensures)
 
 pub returns : goal.returns
@@ -26,16 +26,19 @@ returns c heap sound means =
     let n : ℕ = c.args.n in
     let whole : ℕ = n / 256 in
     let tails : ℕ = c.div_ceil.result - whole in
+    let marked : Bool = nat_lt 0 whole in
     let old = c.args.self.now in
     let at_h = c.from-place.ensures in
+    let place : 256 * h / 256 ≡ h = omega arith in
+    let lies : IsLaid (256 * h) n h whole tails = subst (λ a. IsLaid (256 * h) n a whole tails) place
+    (laid (256 * h) n tails c.requires.some (inl (omega arith)) (omega (arith, c.div_ceil.ensures))) in
     let took = c.take.ensures ∙ ap (λ (k : ℕ). over_span k whole (λ _. run_page) old) at_h in
-    let adopted = c.adopt.ensures ∙ ap (λ (k : ℕ). over_span (k + whole) tails (λ _. filler_page true) c.take.new.self) at_h in
+    let adopted = c.adopt.ensures ∙ ap (λ (k : ℕ). over_span (k + whole) tails (λ _. filler_page marked) c.take.new.self) at_h in
     let noted = subst (λ (k : ℕ). IsNoted c.adopt.new.self c.note.new.self (256 * k) n (256 * whole) true) at_h c.note.ensures.noted in
-    took_means heap sound h n c.requires.some old c.note.new.self means c.requires.free
-    (two_spans old c.take.new.self c.note.new.self h whole tails (256 * h) n (λ _. run_page) (λ _. filler_page true) (λ k _. run_or_tail (256 * h + n) k)
-    (ap (λ (x : Table). x.pages) took) (c.note.ensures.pages ∙ ap (λ (x : Table). x.pages) adopted)
-    refl (omega arith) (omega (arith, c.div_ceil.ensures)) (omega (arith, c.div_ceil.ensures)) c.requires.some
-    (λ k _ to. sym (whole_is (256 * h + n) k (omega arith)))
-    (λ k from to. sym (tail_is (256 * h + n) k (omega arith))))
+    took_means heap sound h n c.requires.some old c.note.new.self means c.requires.free tails lies
+    (two_spans old c.take.new.self c.note.new.self h whole tails (256 * h) n (λ _. run_page) (λ _. filler_page marked) (λ k _. becomes n (256 * h + n) k)
+    (ap (λ (x : Table). x.pages) took) (c.note.ensures.pages ∙ ap (λ (x : Table). x.pages) adopted) lies
+    (λ k from to. sym (whole_is n (256 * h + n) k (omega arith) (omega arith)))
+    (λ k from to. sym (tail_is n (256 * h + n) k (omega arith))))
     (noted_after old c.take.new.self c.note.new.self h whole (λ _. run_page) (256 * h) n (256 * whole) true took
-    (noted_after c.take.new.self c.adopt.new.self c.note.new.self (h + whole) tails (λ _. filler_page true) (256 * h) n (256 * whole) true adopted noted))
+    (noted_after c.take.new.self c.adopt.new.self c.note.new.self (h + whole) tails (λ _. filler_page marked) (256 * h) n (256 * whole) true adopted noted))

@@ -1,7 +1,6 @@
 use Rattle.std.proofs.Common.{ℕ, subst, sym, ap, ◌∙◌}
 use Rattle.heap_rules.specs.Settle.{unbacked}
-use Rattle.huge_table.specs.Table.{Table, is_even, over_span}
-use Rattle.huge_table.specs.Means.{Means, unbacked_span}
+use Rattle.huge_table.proofs.Common.{Table, is_even, over_span, Means, unbacked_span}
 use Rattle.huge_table.proofs.Stays.{unbacked_means}
 use Rattle.huge_table.proofs.table.HugeTable.unback.Goals as goal
 

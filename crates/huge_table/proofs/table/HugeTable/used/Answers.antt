@@ -1,5 +1,5 @@
 use Rattle.std.proofs.Common.{ℕ, ◌*◌, take, drop, ap, ◌∙◌}
-use Rattle.range_bits.specs.Ranges.{used_count}
+use Rattle.huge_table.proofs.Common.{used_count}
 use Rattle.huge_table.proofs.Steps.{row_at}
 use Rattle.huge_table.proofs.table.HugeTable.used.Goals as goal
 

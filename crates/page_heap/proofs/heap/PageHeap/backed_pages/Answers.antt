@@ -1,16 +1,12 @@
-use Rattle.std.proofs.Common.{◌≡◌, ℕ, ◌+◌, ◌*◌, ◌<◌, ◌≤◌, length, take, sum_by, ap, subst, ◌∙◌, arith}
-use Rattle.tc_units.specs.declared.rows.RowView.{RowView}
-use Rattle.heap_rules.specs.Heap.{Heap, backed_count, backed_pages}
-use Rattle.heap_rules.specs.Sound.{IsSound}
+use Rattle.std.proofs.Common.{◌≡◌, ℕ, ◌+◌, ◌*◌, ◌<◌, ◌≤◌, length, take, sum_by, ap, ◌∙◌, arith}
+use Rattle.page_heap.proofs.Common.{RowView, HeapConfig, Heap, backed_count, backed_pages}
 use Rattle.page_heap.proofs.Backed.{covers, backed_more, backed_few, backed_all}
+use Rattle.page_heap.proofs.Results.{IsHeap, is_heap}
 use Rattle.page_heap.proofs.heap.PageHeap.backed_pages.Goals as goal
 use Rattle.page_heap.proofs.heap.PageHeap.backed_pages.Goals.{After-from-pages, After-loop-place}
 
-huge_is : (c : After-loop-place) → c.self.inside.config.huge ≡ c.args.self.now.config.huge
-huge_is c = ap (λ (heap : Heap). heap.config.huge) c.self.view_is
-
-sound : (c : After-loop-place) → IsSound c.args.self.now
-sound c = subst IsSound c.self.view_is c.self.invariant.well.sound
+is : (c : After-loop-place) → IsHeap c.self.inside c.args.self.now
+is c = is_heap c.self.invariant c.self.view_is
 
 within : (k n m l : ℕ) → k < n → n ≡ m → l ≡ m → k < l
 within k n m l a b e = omega arith
@@ -21,9 +17,9 @@ summed p t x b s r e f g h = omega arith
 more : (c : After-from-pages) → c.loop-place.pages + c.from-pages.result ≡ sum_by backed_count (take (c.loop-place.place + 1) c.args.self.now.hugepages)
 more c =
     let heap : Heap = c.args.self.now in
-    let is = subst IsSound c.self.view_is c.self.invariant.well.sound in
-    let short = within c.loop-place.place _ _ (length heap.hugepages) c.loop-place-test.true (ap (λ (h : Heap). h.config.huge) c.self.view_is) is.runs.arena in
-    summed _ _ _ _ _ _ c.loop-place.invariant c.from-pages.ensures (ap (λ (row : RowView). row.backed) c.row.ensures) (backed_more heap is c.loop-place.place short)
+    let whole = is_heap c.self.invariant c.self.view_is in
+    let short = within c.loop-place.place _ _ (length heap.hugepages) c.loop-place-test.true (ap (λ (x : HeapConfig). x.huge) whole.shows.config) whole.well.sound.runs.arena in
+    summed _ _ _ _ _ _ c.loop-place.invariant c.from-pages.ensures (ap (λ (row : RowView). row.backed) c.row.ensures) (backed_more heap whole.well.sound c.loop-place.place short)
 
 bounded : (x s h : ℕ) → x ≡ s → s ≤ 256 * h → h ≤ 4096 → x < 18446744073709551616
 bounded x s h e f g = omega arith
@@ -31,19 +27,19 @@ bounded x s h e f g = omega arith
 pub overflow_add-pages : goal.overflow_add-pages
 overflow_add-pages c =
     let d = (goal.at.overflow_add-pages c).After-from-pages in
-    let fits = bounded (d.loop-place.pages + d.from-pages.result) _ _ (more d) (backed_few d.args.self.now (subst IsSound d.self.view_is d.self.invariant.well.sound) (d.loop-place.place + 1))
-    (subst (λ n. n ≤ 4096) (ap (λ (heap : Heap). heap.config.huge) d.self.view_is) d.self.invariant.well.limits.huge_to) in
+    let well = (is_heap d.self.invariant d.self.view_is).well in
+    let fits = bounded (d.loop-place.pages + d.from-pages.result) _ _ (more d) (backed_few d.args.self.now well.sound (d.loop-place.place + 1)) well.limits.huge_to in
     omega (arith, fits)
 
 pub loop-place-preserved : goal.loop-place-preserved
 loop-place-preserved c = more c
 
-ended : (c : After-loop-place) → c.self.inside.config.huge ≤ c.loop-place.place → c.loop-place.place ≡ c.args.self.now.config.huge
-ended c e = let same = huge_is c in let most = c.loop-place.auto.place-end in omega arith
-
 -- all hugepages are counted then
 counted : (c : After-loop-place) → c.self.inside.config.huge ≤ c.loop-place.place → c.loop-place.pages ≡ backed_pages c.args.self.now
-counted c e = c.loop-place.invariant ∙ backed_all c.args.self.now (sound c) c.loop-place.place (ended c e)
+counted c e =
+    let same = ap (λ (x : HeapConfig). x.huge) (is c).shows.config in
+    let most = c.loop-place.auto.place-end in
+    c.loop-place.invariant ∙ backed_all c.args.self.now (is c).well.sound c.loop-place.place (omega arith)
 
 at_most : (a b c : ℕ) → a ≡ b → b ≤ c → a ≤ c
 at_most a b c e f = omega arith
@@ -51,8 +47,11 @@ at_most a b c e f = omega arith
 at_least : (a b c : ℕ) → a ≡ b → c ≤ b → c ≤ a
 at_least a b c e f = omega arith
 
+pub returns-clause-value : goal.returns-clause-value
+returns-clause-value c = counted (goal.at.returns-clause-value c).After-loop-place c.loop-place-test.false
+
 pub returns-clause-covers : goal.returns-clause-covers
-returns-clause-covers c = let d = (goal.at.returns-clause-covers c).After-loop-place in at_least _ _ _ (counted d c.loop-place-test.false) (covers d.args.self.now (sound d))
+returns-clause-covers c = let d = (goal.at.returns-clause-covers c).After-loop-place in at_least _ _ _ (counted d c.loop-place-test.false) (covers d.args.self.now (is d).well.sound)
 
 pub returns-clause-most : goal.returns-clause-most
-returns-clause-most c = let d = (goal.at.returns-clause-most c).After-loop-place in at_most _ _ _ d.loop-place.invariant (backed_few d.args.self.now (sound d) d.loop-place.place)
+returns-clause-most c = let d = (goal.at.returns-clause-most c).After-loop-place in at_most _ _ _ d.loop-place.invariant (backed_few d.args.self.now (is d).well.sound d.loop-place.place)

@@ -1,5 +1,5 @@
 use Rattle.std.proofs.Common.{◌≡◌, take, sum_by}
-use Rattle.heap_rules.specs.Heap.{backed_count}
+use Rattle.page_heap.proofs.Common.{backed_count}
 use Rattle.page_heap.proofs.heap.PageHeap.backed_pages.Given as goal
 
 abbrev pub invariant-loop-place : goal.invariant-loop-place

@@ -1,7 +1,5 @@
 use Rattle.std.proofs.Common.{sym, ap, subst, ◌∙◌}
-use Rattle.heap_rules.specs.Settle.{settled}
-use Rattle.heap_rules.specs.Laws.{IsRid, BacksNone}
-use Rattle.heap_rules.proofs.Ended.{free_leaves}
+use Rattle.page_heap.proofs.Common.{settled, IsRid, BacksNone, free_leaves}
 use Rattle.heap_rules.proofs.NoneBacked.{freed_backs_none}
 use Rattle.page_heap.proofs.Stays.{freed_stays}
 use Rattle.page_heap.proofs.heap.PageHeap.free_run.Goals as goal

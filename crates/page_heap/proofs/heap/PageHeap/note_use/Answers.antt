@@ -1,17 +1,16 @@
 use Rattle.std.proofs.Common.{◌≡◌, ℕ, ◌-◌, ◌*◌, not, get_or, map, count_by, ap, ◌∙◌}
 use Rattle.heap_rules.specs.CacheFlags.{limit}
-use Rattle.heap_rules.specs.Heap.{Heap, is_free_backed}
-use Rattle.huge_cache.specs.Cache.{Cache, noted, over_count}
-use Rattle.page_heap.specs.declared.heap.PageHeap.TheInside.{Inside}
-use Rattle.page_heap.specs.Inside.{heap_of, cache_of, IsKept}
-use Rattle.page_heap.specs.Gives.{over_limit}
+use Rattle.page_heap.proofs.Common.{Heap, is_free_backed, Cache, over_count, Inside, heap_of, cache_of, IsKept, over_limit}
+use Rattle.huge_cache.specs.Cache.{noted}
 use Rattle.page_heap.proofs.Steps.{count-map}
 use Rattle.page_heap.proofs.Frames.{map-map, map_same, not-not}
 use Rattle.page_heap.proofs.heap.PageHeap.note_use.Goals as goal
 
 ready_is : (heap : Heap) → count_by (λ b. b) (map not (cache_of heap).unready) ≡ count_by is_free_backed heap.hugepages
 ready_is heap =
-    ap (count_by (λ b. b)) (map-map not (λ x. not (is_free_backed x)) heap.hugepages ∙ map_same (λ x. not (not (is_free_backed x))) is_free_backed heap.hugepages (λ k d l. not-not (is_free_backed (get_or heap.hugepages k d))))
+    ap (count_by (λ b. b))
+    (map-map not (λ x. not (is_free_backed x)) heap.hugepages ∙ map_same (λ x. not (not (is_free_backed x))) is_free_backed heap.hugepages
+    (λ k d l. not-not (is_free_backed (get_or heap.hugepages k d))))
     ∙ count-map is_free_backed heap.hugepages
 
 -- what is above the limit, with a use count more
@@ -19,7 +18,9 @@ over_is : (t : Inside) → IsKept t → (cache : Cache) (n : ℕ) → cache ≡ 
 over_is t kept cache n e =
     let heap : Heap = heap_of t in
     let most : cache.most ≡ heap.config.cache = ap (λ (c : Cache). c.most) e ∙ ap (λ (c : Cache). c.most) kept.shows.cache in
-    let ready : count_by (λ b. b) (map not cache.unready) ≡ count_by is_free_backed heap.hugepages = ap (λ (c : Cache). count_by (λ b. b) (map not c.unready)) e ∙ ap (λ (c : Cache). count_by (λ b. b) (map not c.unready)) kept.shows.cache ∙ ready_is heap in
+    let ready : count_by (λ b. b) (map not cache.unready) ≡ count_by is_free_backed heap.hugepages =
+    ap (λ (c : Cache). count_by (λ b. b) (map not c.unready)) e ∙ ap (λ (c : Cache). count_by (λ b. b) (map not c.unready)) kept.shows.cache
+    ∙ ready_is heap in
     ap (λ m. m - limit cache.most cache.counts) ready ∙ ap (λ m. count_by is_free_backed heap.hugepages - limit m cache.counts) most
 
 pub returns-clause-over : goal.returns-clause-over

@@ -1,9 +1,5 @@
 use Rattle.std.proofs.Common.{◌*◌, sym, ap, subst, ◌∙◌}
-use Rattle.heap_rules.specs.Heap.{Heap}
-use Rattle.heap_rules.specs.Release.{Released, free_given}
-use Rattle.heap_rules.specs.Sound.{IsSound}
-use Rattle.heap_rules.proofs.Released.{free_sound}
-use Rattle.page_heap.specs.Gives.{over_limit}
+use Rattle.page_heap.proofs.Common.{Heap, Released, free_given, IsSound, free_sound, over_limit}
 use Rattle.page_heap.proofs.Gives.{settled_is}
 use Rattle.page_heap.proofs.heap.PageHeap.settle.Goals as goal
 
@@ -12,8 +8,8 @@ returns-clause-settled c =
     sym (settled_is c.args.self.now
     ∙ ap (λ (heap : Heap). (free_given heap (256 * over_limit heap)).heap) (sym c.note_use-over.ensures.noted)
     ∙ ap (λ k. (free_given c.note_use-over.new.self k).heap) (sym c.note_use-over.ensures.over)
-    ∙ ap (λ (r : Released). r.heap) c.release_free-pages.ensures.given)
+    ∙ ap (λ (r : Released). r.heap) c.release_from-pages.ensures.given)
 
 pub returns-clause-sound : goal.returns-clause-sound
 returns-clause-sound c =
-    subst IsSound (ap (λ (r : Released). r.heap) c.release_free-pages.ensures.given) (free_sound c.note_use-over.new.self c.note_use-over.result c.release_free-pages.ensures.sound)
+    subst IsSound (ap (λ (r : Released). r.heap) c.release_from-pages.ensures.given) (free_sound c.note_use-over.new.self c.note_use-over.result c.release_from-pages.ensures.sound)

@@ -1,30 +1,28 @@
-use Rattle.std.proofs.Common.{◌≡◌, refl, sym, ap, subst, ◌∙◌}
-use Rattle.tc_units.specs.declared.units.Huge.{Huge}
-use Rattle.heap_rules.specs.Heap.{Heap}
-use Rattle.heap_rules.specs.Release.{is_idle}
-use Rattle.huge_table.specs.Means.{unbacked_span}
-use Rattle.page_heap.specs.declared.heap.PageHeap.TheInside.{Inside}
-use Rattle.page_heap.specs.Inside.{heap_of}
-use Rattle.page_heap.specs.Gives.{IsLast}
-use Rattle.page_heap.proofs.Results.{Results}
-use Rattle.page_heap.proofs.Idle.{idle_span, idle_keeps}
+use Rattle.std.proofs.Common.{◌-◌, refl, sym, ap, ◌∙◌}
+use Rattle.page_heap.proofs.Common.{and_parts, Heap, hugepage, is_idle, idle_given, unbacked_span, behind}
+use Rattle.page_heap.proofs.Gives.{one_idle, idle_next, idle_then}
+use Rattle.page_heap.proofs.Results.{IsHeap, is_heap, kept_by, view_by, made_heap}
+use Rattle.page_heap.proofs.Unbacked.{region_even, unback_span, idle_made}
 use Rattle.page_heap.proofs.heap.PageHeap.unback_idle.Goals as goal
-use Rattle.page_heap.proofs.heap.PageHeap.unback_idle.Goals.{After-has_places}
-
-is : (t : Inside) (heap : Heap) (huge : Huge) → heap_of t ≡ heap → IsLast heap (is_idle heap) huge → IsLast (heap_of t) (is_idle (heap_of t)) huge
-is t heap huge view e = subst (λ (x : Heap). IsLast x (is_idle x) huge) (sym view) e
+use Rattle.page_heap.proofs.heap.PageHeap.unback_idle.Goals.{After-tells_runs}
 
 pub unback-requires : goal.unback-requires
-unback-requires c = idle_span c.self.inside c.self.invariant c.args.huge (is c.self.inside c.args.self.now c.args.huge c.self.view_is c.requires)
+unback-requires c = unback_span _ _ (is_heap c.self.invariant c.self.view_is) c.args.huge c.requires.own
+    (region_even (hugepage c.args.self.now c.args.huge.0) (and_parts _ _ (and_parts _ _ c.requires.passes).0).0)
 
-now : (c : After-has_places) → Results (record c.self.inside { table = c.unback.new.self }) (unbacked_span (heap_of c.self.inside) c.args.huge.0 1)
+now : (c : After-tells_runs) → IsHeap (record c.self.inside { table = c.unback.new.self }) (unbacked_span c.args.self.now c.args.huge.0 1)
 now c =
-    idle_keeps c.self.inside c.self.invariant c.args.huge (is c.self.inside c.args.self.now c.args.huge c.self.view_is c.requires)
-    (record c.self.inside { table = c.unback.new.self })
-    refl (c.unback.ensures (heap_of c.self.inside) c.self.invariant.shows.means) c.has_places.ensures refl refl refl refl
+    let is = is_heap c.self.invariant c.self.view_is in
+    let made = idle_made _ _ is c.args.huge c.requires.own (and_parts _ _ (and_parts _ _ c.requires.passes).0).0 (one_idle c.args.self.now c.args.huge is.well.sound c.requires) in
+    made_heap made refl (c.unback.ensures c.args.self.now is.shows.means) c.tells_runs.ensures refl refl refl refl
 
 pub invariant_of-self : goal.invariant_of-self
-invariant_of-self c = (now c).kept
+invariant_of-self c = kept_by (now c)
 
-pub returns : goal.returns
-returns c = (now c).is ∙ ap (λ (heap : Heap). unbacked_span heap c.args.huge.0 1) c.self.view_is
+pub returns-clause-given : goal.returns-clause-given
+returns-clause-given c n some =
+    idle_next c.args.self.now c.args.huge (is_heap c.self.invariant c.self.view_is).well.sound c.requires n some
+    ∙ ap (λ (heap : Heap). behind 256 (idle_given heap (n - 256))) (sym (view_by (now c)))
+
+pub returns-clause-past : goal.returns-clause-past
+returns-clause-past c h l = ap (λ (heap : Heap). is_idle heap h) (view_by (now c)) ∙ idle_then c.args.self.now c.args.huge (is_heap c.self.invariant c.self.view_is).well.sound c.requires h l

@@ -1,6 +1,11 @@
-use Rattle.std.proofs.Common.{List, Bool, ℕ, length, ap, arith}
-use Rattle.range_bits.proofs.RowFacts.{length-row_of}
+use Rattle.std.proofs.Common.{◌≡◌, ◌+◌, ◌-◌, arith}
+use Rattle.range_bits.proofs.RowFacts.{places_of}
+use Rattle.range_bits.proofs.Parts.{row_of-part}
 use Rattle.range_bits.proofs.wide_bits.WideBits.best_in.Goals as goal
 
-pub best_in-requires-clause-inside : goal.best_in-requires-clause-inside
-best_in-requires-clause-inside c = omega (arith, length-row_of c.self.inside.words.items, ap (λ (row : List Bool). length row) c.self.view_is, ap (λ (ws : List ℕ). length ws) c.deref.ensures.value, c.requires.inside)
+pub returns : goal.returns
+returns c =
+    let size = places_of c.self.inside.words.items c.args.self.now c.self.view_is in
+    let count : c.args.first + c.args.words - c.args.first ≡ c.args.words = omega arith in
+    let part = row_of-part c.deref.result.now c.args.first c.args.words (omega arith) in
+    grind (arith, count, part, c.self.view_is, c.deref.ensures.value)

@@ -1,11 +1,11 @@
-use Rattle.std.proofs.Common.{◌*◌, List, Bool, ℕ, length, take, drop, ap, ◌∙◌, arith}
-use Rattle.range_bits.specs.Ranges.{longest}
-use Rattle.range_bits.specs.Words.{row_of}
-use Rattle.range_bits.proofs.RowFacts.{length-row_of}
+use Rattle.std.proofs.Common.{◌≡◌, ◌+◌, ◌-◌, arith}
+use Rattle.range_bits.proofs.RowFacts.{places_of}
+use Rattle.range_bits.proofs.Parts.{row_of-part}
 use Rattle.range_bits.proofs.wide_bits.WideBits.longest_in.Goals as goal
 
-pub longest_in-requires-clause-inside : goal.longest_in-requires-clause-inside
-longest_in-requires-clause-inside c = omega (arith, length-row_of c.self.inside.words.items, ap (λ (row : List Bool). length row) c.self.view_is, ap (λ (ws : List ℕ). length ws) c.deref.ensures.value, c.requires)
-
 pub returns : goal.returns
-returns c = c.longest_in.ensures ∙ ap (λ (row : List Bool). longest (take (64 * c.args.words) (drop (64 * c.args.first) row))) (ap row_of c.deref.ensures.value ∙ c.self.view_is)
+returns c =
+    let size = places_of c.self.inside.words.items c.args.self.now c.self.view_is in
+    let count : c.args.first + c.args.words - c.args.first ≡ c.args.words = omega arith in
+    let part = row_of-part c.deref.result.now c.args.first c.args.words (omega arith) in
+    grind (arith, count, part, c.self.view_is, c.deref.ensures.value)

@@ -1,5 +1,5 @@
-use Rattle.std.proofs.Common.{ℕ, ◌<◌, List, length, ap, sym, ◌∙◌, arith}
-use Rattle.std.specs.Prelude.{slice_get}
+use Rattle.std.proofs.Common.{◌<◌, length, ap, sym, arith}
+use Rattle.std.proofs.lemmas.Bool.Decides.{nat_tests}
 use Rattle.std.proofs.lemmas.Option.{slice_get_read}
 use Rattle.sorted_list.specs.Contents.{Contents}
 use Rattle.sorted_list.proofs.Moves.{written, came}
@@ -12,10 +12,7 @@ index_mut-requires g c =
     omega (arith, slot_fits order (length c.self.inside.slots.items) c.self.invariant.once c.self.inside.len c.index-slot.result.now (omega (arith, ap (λ (v : Contents g.row.K.Denot). v.spare) c.self.view_is, c.requires)) (sym c.index-slot.ensures), c.self.inside.slots.ok.0)
 
 pub turn-requires-clause-held : goal.turn-requires-clause-held
-turn-requires-clause-held g c =
-    let order = c.self.inside.order.items in
-    let len = c.self.inside.len in
-    ap (λ (xs : List ℕ). slice_get xs len) c.deref_mut.ensures.value ∙ slice_get_read order (length order) len c.index-slot.result.now (omega arith) (omega (arith, ap (λ (v : Contents g.row.K.Denot). v.spare) c.self.view_is, c.requires)) c.index-slot.ensures
+turn-requires-clause-held g c = grind (arith, nat_tests, slice_get_read)
 
 pub invariant_of-self : goal.invariant_of-self
 invariant_of-self g c =

@@ -1,16 +1,11 @@
-use Rattle.std.proofs.Common.{◌≡◌, ◌+◌, cond, nat_lt, ◌∷◌, [], ◌++◌, length, ap, sym, ◌∙◌, arith}
+use Rattle.std.proofs.Common.{◌≡◌, cond, nat_lt, length, ap, sym, ◌∙◌, arith}
+use Rattle.std.proofs.lemmas.Bool.Decides.{nat_tests}
 use Rattle.std.proofs.lemmas.List.{length-append}
-use Rattle.sorted_list.specs.Kept.{times}
 use Rattle.sorted_list.proofs.Slots.{counted_more}
 use Rattle.sorted_list.proofs.list.SortedList.open.Goals as goal
 
 pub loop-slot-preserved : goal.loop-slot-preserved
-loop-slot-preserved g c =
-    let items : c.push.new.self.items ≡ c.loop-slot.order.items ++ c.loop-slot.slot ∷ [] = c.in_ok-push.ensures.items in
-    record {
-      once = λ s. ap (times s) items ∙ counted_more c.loop-slot.order.items c.loop-slot.slot s (c.loop-slot.invariant.once s);
-      size = ap length items ∙ length-append c.loop-slot.order.items (c.loop-slot.slot ∷ []) ∙ ap (λ n. n + 1) c.loop-slot.invariant.size;
-    }
+loop-slot-preserved g c = grind (arith, nat_tests, length-append, counted_more)
 
 pub invariant_of-result : goal.invariant_of-result
 invariant_of-result g c =

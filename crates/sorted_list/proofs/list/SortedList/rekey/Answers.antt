@@ -1,5 +1,5 @@
-use Rattle.std.proofs.Common.{ℕ, List, length, ap, sym, ◌∙◌, arith}
-use Rattle.std.specs.Prelude.{slice_get}
+use Rattle.std.proofs.Common.{length, ap, sym, arith}
+use Rattle.std.proofs.lemmas.Bool.Decides.{nat_tests}
 use Rattle.std.proofs.lemmas.Option.{slice_get_read}
 use Rattle.sorted_list.specs.Contents.{Contents}
 use Rattle.sorted_list.proofs.Changes.{held_at}
@@ -17,13 +17,7 @@ index_mut-requires g c =
     omega (arith, slot_fits order (length c.self.inside.slots.items) c.self.invariant.once c.place-place.result c.index-slot.result.now (omega (arith, held.0, c.self.invariant.within)) (sym c.index-slot.ensures), c.self.inside.slots.ok.0)
 
 pub turn-requires-clause-held : goal.turn-requires-clause-held
-turn-requires-clause-held g c =
-    let order = c.self.inside.order.items in
-    let now = c.args.self.now.keys in
-    let held = held_at g.K.SortKey.before g.met.K.SortKey.order now c.args.from c.place-place.result c.place-place.ensures.order c.place-place.ensures.place c.requires in
-    let size = keys_len g.K.SortKey.sample c.self.inside.slots.items order c.self.inside.len c.self.invariant.within in
-    let same = ap (λ (v : Contents g.row.K.Denot). length v.keys) c.self.view_is in
-    ap (λ (xs : List ℕ). slice_get xs c.place-place.result) c.deref_mut.ensures.value ∙ slice_get_read order (length order) c.place-place.result c.index-slot.result.now (omega arith) (omega (arith, held.0, c.self.invariant.within)) c.index-slot.ensures
+turn-requires-clause-held g c = grind (arith, nat_tests, slice_get_read, keys_len, held_at)
 
 pub invariant_of-self : goal.invariant_of-self
 invariant_of-self g c =
