@@ -6,3 +6,4 @@ pub mod Law
 pub mod LiveFacts
 pub mod Entering
 pub mod Auditing
+pub mod Telling

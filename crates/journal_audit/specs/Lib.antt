@@ -4,3 +4,4 @@ pub mod Legal
 pub mod Spread
 pub mod Given
 pub mod Books
+pub mod Printed

@@ -6,6 +6,7 @@ mod answers;
 mod books;
 mod journal;
 mod judging;
+mod laws;
 mod live;
 mod place;
 #[cfg(test)]
@@ -14,4 +15,5 @@ mod told;
 mod verdict;
 
 pub use judging::audit;
+pub use laws::journal_law;
 pub use verdict::{AuditWhy, Verdict};

@@ -1,6 +1,6 @@
 //! Journals that were judged by hand.
 use crate::AuditWhy::{Address, Arena, Form, Length, Lines, Missing, Order, Overlap};
-use crate::{AuditWhy, Verdict, audit};
+use crate::{AuditWhy, Verdict, audit, journal_law};
 use std::alloc::{AllocError, Global};
 use std::test::Fail;
 use tc_model::{Call, Config, Planned, Script};
@@ -309,6 +309,12 @@ fn a_line_too_many(rt: HostRuntime) -> Result<(), Fail> {
         assert_eq!(rt; judged, verdict, "at {last:?}");
     }
     Ok(())
+}
+
+/// The law is a contract: the call does nothing.
+#[test]
+fn the_law_is_there() {
+    journal_law();
 }
 
 /// Made to be tried with each of its allocations refused in turn: a verdict comes, and is the right one,

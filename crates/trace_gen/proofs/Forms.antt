@@ -14,7 +14,7 @@ use Rattle.trace_reader.specs.Reading.{SoFar, lacks_thread, lacks_cpu, lacks_cla
 use Rattle.trace_gen.specs.declared.line.Line.{Line}
 use Rattle.trace_gen.specs.declared.line.Line.TheVariants as line
 use Rattle.trace_gen.specs.Fields.{line_fields}
-use Rattle.trace_gen.proofs.Decimals.{number_of_decimal}
+use Rattle.trace_text.proofs.Decimals.{number_of_decimal}
 
 -- each number is in its range, and fits a machine word
 abbrev pub AreIn : List Range → List ℕ → Type 0

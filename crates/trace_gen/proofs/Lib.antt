@@ -1,5 +1,4 @@
 mod CallSteps
-pub mod Decimals
 mod Draws
 mod Forms
 mod Labels

@@ -1,3 +1,5 @@
 pub mod Ranges
 pub mod Cuts
 pub mod Joins
+pub mod Decimals
+pub mod Printed

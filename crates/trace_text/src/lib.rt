@@ -10,6 +10,6 @@ mod search;
 mod tests;
 
 pub use fields::{Field, Fields};
-pub use laws::joined_lines_are_cut;
+pub use laws::{decimals_are_read, joined_lines_are_cut};
 pub use lines::Lines;
 pub use tc_units::number;

@@ -1,5 +1,5 @@
 -- The printed text of a finished run: a line for each call, five lines of summary, and a line for each hugepage.
-use Rattle.std.specs.Prelude.{ℕ, ◌-◌, ◌*◌, ◌/◌, ◌==◌, Bool, true, false, List, [], ◌∷◌, ◌++◌, length, if◌then◌else◌, codes, decimal}
+use Rattle.std.specs.Prelude.{ℕ, ◌-◌, ◌*◌, ◌/◌, ◌^◌, ◌<◌, ◌==◌, Bool, true, false, List, [], ◌∷◌, ◌++◌, length, if◌then◌else◌, codes, decimal}
 use Rattle.std.specs.List.{flat_map, enumerate_from}
 use Rattle.tc_units.specs.Units.{page_bytes}
 use Rattle.tc_units.specs.declared.rows.RowKind.{RowKind}
@@ -66,6 +66,34 @@ can_answer (Resize cpu class cap) (Busy owner) = true
 can_answer (Resize cpu class cap) (OverStatic most) = true
 can_answer (Resize cpu class cap) (OverLimit sum) = true
 can_answer call answer = false
+
+-- each number that a line prints has 64 bits at most
+abbrev pub IsSmall : ℕ → Type 0
+IsSmall n = n < 2 ^ 64
+
+abbrev pub NamesSmall : Call → Type 0
+NamesSmall (Malloc label size) = IsSmall label.0
+NamesSmall (Free label) = IsSmall label.0
+NamesSmall (Release pages) = Unit {0}
+NamesSmall (Drain cpu) = IsSmall cpu.0
+NamesSmall (Resize cpu class cap) = IsSmall cpu.0 × IsSmall class.0 × IsSmall cap
+
+abbrev pub AnswersSmall : Answer → Type 0
+AnswersSmall (Block addr len) = IsSmall addr.0 × IsSmall len
+AnswersSmall NoBlock = Unit {0}
+AnswersSmall (Freed addr) = IsSmall addr.0
+AnswersSmall FreedNull = Unit {0}
+AnswersSmall (Released pages) = IsSmall pages
+AnswersSmall (Drained objects) = IsSmall objects
+AnswersSmall (Busy owner) = IsSmall owner.0
+AnswersSmall CapSet = Unit {0}
+AnswersSmall (OverLimit sum) = IsSmall sum
+AnswersSmall (OverStatic cap) = IsSmall cap
+
+pub record IsTellable (c : CallLine) : Type 0 where
+  pub thread : IsSmall c.thread.0
+  pub named : NamesSmall c.call
+  pub answered : AnswersSmall c.answer
 
 -- how much of the resident memory no live block uses, in thousandths, rounded down; 0 where none is resident
 abbrev pub fragmentation : ℕ → ℕ → ℕ

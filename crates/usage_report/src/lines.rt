@@ -1,7 +1,8 @@
 //! The lines of calls.
-ghost use Rattle.std.specs.Prelude.{◌≡◌, ◌∷◌, ◌++◌, OnOk, decimal};
+ghost use Rattle.std.specs.Prelude.{◌≡◌, ◌∷◌, ◌++◌, All, OnOk, decimal};
 ghost use Rattle.std.specs.List.{flat_map};
 ghost use Rattle.usage_report.specs.Report.{spaced, letter_of, named_words, answer_words, call_line};
+ghost use Rattle.usage_report.specs.Report.{IsSmall, NamesSmall, AnswersSmall, IsTellable};
 
 use crate::words::{push_counted, push_lettered, push_number};
 use std::alloc::AllocError;
@@ -10,8 +11,9 @@ use tc_units::ThreadNo;
 
 /// Appends what a call asked.
 fn push_call(text: &mut Vec<u8>, thread: ThreadNo, call: Call) -> Result<(), AllocError>
-    ensures { OnOk result (text.new.items
+    ensures words { OnOk result (text.new.items
         ≡ text.old.items ++ letter_of call ++ spaced (decimal thread.0 ∷ named_words call)) }
+    ensures small { IsSmall thread.0 × NamesSmall call }
 {
     let thread = u64::from(thread.0);
     match call {
@@ -40,7 +42,8 @@ fn push_call(text: &mut Vec<u8>, thread: ThreadNo, call: Call) -> Result<(), All
 
 /// Appends what a call answered.
 fn push_answer(text: &mut Vec<u8>, answer: Answer) -> Result<(), AllocError>
-    ensures { OnOk result (text.new.items ≡ text.old.items ++ spaced (answer_words answer)) }
+    ensures words { OnOk result (text.new.items ≡ text.old.items ++ spaced (answer_words answer)) }
+    ensures small { AnswersSmall answer }
 {
     match answer {
         Answer::Block { addr, len } => {
@@ -61,7 +64,8 @@ fn push_answer(text: &mut Vec<u8>, answer: Answer) -> Result<(), AllocError>
 
 /// Appends a call's line.
 fn push_call_line(text: &mut Vec<u8>, line: &CallLine) -> Result<(), AllocError>
-    ensures { OnOk result (text.new.items ≡ text.old.items ++ call_line line.now) }
+    ensures line { OnOk result (text.new.items ≡ text.old.items ++ call_line line.now) }
+    ensures tellable { OnOk result (IsTellable line.now) }
 {
     push_call(text, line.thread, line.call)?;
     push_answer(text, line.answer)?;
@@ -71,7 +75,8 @@ fn push_call_line(text: &mut Vec<u8>, line: &CallLine) -> Result<(), AllocError>
 
 /// Appends the lines of calls.
 pub fn push_call_lines(text: &mut Vec<u8>, calls: &[CallLine]) -> Result<(), AllocError>
-    ensures { OnOk result (text.new.items ≡ text.old.items ++ flat_map call_line calls.now) }
+    ensures lines { OnOk result (text.new.items ≡ text.old.items ++ flat_map call_line calls.now) }
+    ensures tellable { OnOk result (All IsTellable calls.now) }
 {
     for call in calls {
         push_call_line(text, call)?;

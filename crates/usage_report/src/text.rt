@@ -1,8 +1,8 @@
 //! The whole text of a finished run, and its summary alone.
-ghost use Rattle.std.specs.Prelude.{◌≡◌, ◌*◌, ◌≤◌, [], length, IfOk, IsTrue, if◌then◌else◌};
+ghost use Rattle.std.specs.Prelude.{◌≡◌, ◌*◌, ◌≤◌, [], length, All, IfOk, IsTrue, if◌then◌else◌};
 ghost use Rattle.std.specs.List.{list_all};
 ghost use Rattle.tc_units.specs.Units.{page_bytes};
-ghost use Rattle.usage_report.specs.Report.{can_answer, summary_of, text_of};
+ghost use Rattle.usage_report.specs.Report.{can_answer, summary_of, text_of, IsTellable};
 
 use crate::lines::push_call_lines;
 use crate::rows::push_rows;
@@ -36,9 +36,10 @@ pub fn report(alloc: Global, finished: &Finished, rows: bool) -> Result<Vec<u8>,
     requires few { finished.now.resident ≤ 8388608 }
     requires within { finished.now.live_bytes ≤ finished.now.resident * page_bytes }
     requires answered { IsTrue (list_all (λ c. can_answer c.call c.answer) finished.now.calls) }
-    ensures { IfOk result (λ text. text.items
+    ensures text { IfOk result (λ text. text.items
         ≡ text_of finished.now.calls finished.now.live finished.now.live_bytes finished.now.used
         finished.now.resident (if rows then finished.now.rows else [])) }
+    ensures tellable { IfOk result (λ _. All IsTellable finished.now.calls) }
 {
     let told = if rows { finished.rows.as_slice() } else { &[] };
     let calls = finished.calls.as_slice();
