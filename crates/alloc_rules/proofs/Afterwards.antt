@@ -1,12 +1,12 @@
 -- What holds after every order, from the books of its parts and locals.
 use Rattle.std.proofs.Common.{◌≡◌, ℕ, ◌+◌, ◌*◌, ◌<◌, ◌≤◌, ◌⊎◌, ◌↔◌, true, false, eqb, List, length, map, Option, Some, None, refl, sym, ap, ◌∙◌, subst, inl, inr, arith}
-use Rattle.std.specs.Prelude.{◌≢◌, sum_by, slice_get, All, MatchOption}
+use Rattle.std.specs.Prelude.{sum_by, slice_get, All, MatchOption}
 use Rattle.std.proofs.lemmas.List.Elements.{All-weaker}
 use Rattle.std.proofs.lemmas.Bool.{cases_Bool, cond-true, eq-eqb, false≢true}
 use Rattle.tc_units.specs.declared.units.Addr.{Addr}
 use Rattle.tc_units.specs.declared.spans.Run.{Run}
 use Rattle.tc_model.specs.declared.machine.TheConstants.{MOST_PICKS}
-use Rattle.tc_model.specs.Input.{Input, script_of}
+use Rattle.tc_model.specs.Input.{script_of, Asked}
 use Rattle.tc_model.specs.Run.{World, run}
 use Rattle.tc_model.specs.Replays.{HaveEnded}
 use Rattle.tc_model.specs.Blocks.{Extent, blocks_after, live_bytes}
@@ -29,38 +29,32 @@ use Rattle.holdings.proofs.Sums.{least, none_counts, of_all, sum_of_both, class_
 use Rattle.holdings.proofs.Held.{objects_are_once, names_are_live}
 use Rattle.holdings.proofs.Blocks.{bytes_are_within}
 use Rattle.tc_units.specs.Units.{page_bytes, pages_holding}
-use Rattle.tc_units.specs.declared.units.ThreadNo.{ThreadNo}
-use Rattle.rseq_core.specs.declared.cpu_part.CpuPart.{CpuPart}
-use Rattle.cpu_drain.specs.Seats.{IsStopping}
-use Rattle.call_steps.specs.PerCpu.{CpuLocal as Local, Step}
 use Rattle.call_steps.specs.declared.step.Step.TheVariants as does
-use Rattle.call_steps.specs.declared.step.CpuRow.TheVariants as front
-use Rattle.call_steps.specs.declared.step.CpuStep.TheVariants as cpu
 use Rattle.call_steps.specs.declared.step.HeapStep.TheVariants as heap
-use Rattle.call_steps.specs.declared.step.Stopping.{Stopping}
-use Rattle.call_steps.specs.declared.step.Resizing.{Resizing}
-use Rattle.call_steps.specs.Local.{class_row}
-use Rattle.call_steps.specs.Calls.{under}
-use Rattle.call_steps.specs.Shapes.{StepShape, standing_of}
-use Rattle.call_steps.specs.CpuRows.{about_row}
-use Rattle.alloc_rules.specs.PerCpu.{Part}
+use Rattle.call_steps.specs.Local.{class_row, Local}
+use Rattle.call_steps.specs.Calls.{under, About}
 use Rattle.alloc_rules.specs.Machine.{Parts, place_of, rules}
-use Rattle.alloc_rules.specs.CpuAccounts.{account_of}
 use Rattle.alloc_rules.specs.Told.{lines_by, TellsFirst, TellsScript}
 use Rattle.alloc_rules.specs.Scripts.{is_under_way}
 use Rattle.alloc_rules.specs.Stocks.{stock_of, AreBooksOf}
-use Rattle.alloc_rules.specs.Valid.{IsValid, limits_in}
+use Rattle.alloc_rules.specs.Valid.{IsValid}
 use Rattle.alloc_rules.specs.Answers.{pages_asked}
 use Rattle.alloc_rules.specs.Law.{calls, setup_of, books_of, HoldsAfter}
 use Rattle.alloc_rules.proofs.PartFits.{row_at_class, some_size}
-use Rattle.alloc_rules.proofs.Answering.{answers_none, answers_busy, answers_cap}
-use Rattle.alloc_rules.proofs.CpuElsewhere.{refuses_there}
+use Rattle.alloc_rules.proofs.Answering.{answers_none}
 use Rattle.alloc_rules.proofs.Reached.{there_is}
 use Rattle.alloc_rules.proofs.SerialGoes.{wants_by}
 use Rattle.alloc_rules.proofs.Serving.{IsServed}
 use Rattle.alloc_rules.proofs.Telling.{tells_first, takes_all}
-use Rattle.alloc_rules.proofs.Switching.{switches_are_few}
 use Rattle.alloc_rules.proofs.Same.{same_starts, same_pages, same_spans}
+use Rattle.rseq_core.specs.declared.regs.Regs.{Regs}
+use Rattle.call_steps.specs.declared.step.Step.{Step}
+use Rattle.alloc_rules.specs.declared.part.Part.{Part}
+use Rattle.alloc_rules.specs.Accounts.{account_of}
+use Rattle.alloc_rules.specs.Standings.{Standing}
+use Rattle.alloc_rules.specs.Shapes.{StepShape}
+use Rattle.alloc_rules.specs.FrontLaw.{FrontRules, IsLawful}
+use Rattle.alloc_rules.proofs.Elsewhere.{refuses_there}
 
 -- an allocation gets none exactly where none fits
 none_by : (heap : heaps.Heap) (n : ℕ) (o : Option Placed) → MatchOption o (none_fits heap n ≡ true) (λ x. IsGiven heap n x × (none_fits heap n ≡ false)) → (o ≡ None) ↔ (none_fits heap n ≡ true)
@@ -87,74 +81,64 @@ module _ (m : Setup) (b : Books) (lines : List CallLine) (f : Facts m b lines) (
       omega (arith, f.places n, all, hands, spans, objects, stored, no_hand)
 
 -- the books with the parts' own stock and names, and the locals' accounts
-abbrev own_books : Parts → List Local → Books → Books
-own_books p locals b = record { stock = stock_of p; heap = b.heap; spans = b.spans; names = p.names; accounts = map account_of locals }
+abbrev own_books : {P V R : Type 0} → FrontRules P V R → (R → About) → Parts P → List (Local V R) → Books → Books
+own_books r about p locals b = record { stock = stock_of r about p; heap = b.heap; spans = b.spans; names = p.names; accounts = map (account_of about) locals }
 
-own_are : (p : Parts) (locals : List Local) (b : Books) → AreBooksOf p locals b → b ≡ own_books p locals b
-own_are p locals b are =
+own_are : {P V R : Type 0} (r : FrontRules P V R) (about : R → About) (p : Parts P) (locals : List (Local V R)) (b : Books) → AreBooksOf r about p locals b → b ≡ own_books r about p locals b
+own_are r about p locals b are =
     ap (λ (s : Stock). let x : Books = record { stock = s; heap = b.heap; spans = b.spans; names = b.names; accounts = b.accounts } in x) are.stock
-    ∙ (ap (λ (ns : List NameState). let x : Books = record { stock = stock_of p; heap = b.heap; spans = b.spans; names = ns; accounts = b.accounts } in x) are.names
-    ∙ ap (λ (as' : List Account). let x : Books = record { stock = stock_of p; heap = b.heap; spans = b.spans; names = p.names; accounts = as' } in x) are.accounts)
+    ∙ (ap (λ (ns : List NameState). let x : Books = record { stock = stock_of r about p; heap = b.heap; spans = b.spans; names = ns; accounts = b.accounts } in x) are.names
+    ∙ ap (λ (as' : List Account). let x : Books = record { stock = stock_of r about p; heap = b.heap; spans = b.spans; names = p.names; accounts = as' } in x) are.accounts)
 
-module _ (input : Input) (valid : IsValid input) (order : List ℕ) (few : length order ≤ MOST_PICKS) (served : IsServed input (run (rules input) order) order) where
-  abbrev p : Parts
+module _ {P V R : Type 0} (r : FrontRules P V R) (about : R → About) (planned : Planned → Type 0) (Holds : ℕ → List P → List (Standing V R) → Type 0) (fits : P → V → Regs → R → Type 0) (law : IsLawful r about planned Holds fits) (asked : Asked) (valid : IsValid r.calls.rows planned asked) (order : List ℕ) (few : length order ≤ MOST_PICKS) (served : IsServed r about planned Holds asked (run (rules r about asked) order) order) where
+  abbrev p : Parts P
   p = served.parts
 
-  abbrev locals : List Local
+  abbrev locals : List (Local V R)
   locals = served.locals
 
   abbrev b : Books
-  b = own_books p locals served.books
+  b = own_books r about p locals served.books
 
-  f : Facts (setup_of input) b (calls locals order)
-  f = subst (λ (x : Books). Facts (setup_of input) x (calls locals order)) (own_are p locals served.books served.books_of) served.facts
+  f : Facts (setup_of r asked) b (calls locals order)
+  f = subst (λ (x : Books). Facts (setup_of r asked) x (calls locals order)) (own_are r about p locals served.books served.books_of) served.facts
 
   starts_are : (n : ℕ) → runs_at n b.heap ≡ runs_at n p.heap.runs
   starts_are n = same_starts b.heap p.heap.runs served.books_of.heap n
 
   bytes : live_bytes (calls locals order) ≤ sum_by (λ (r : Run). r.pages) p.heap.runs * page_bytes
-  bytes = omega (arith, bytes_are_within (setup_of input) b (calls locals order) f, same_pages b.heap p.heap.runs served.books_of.heap)
+  bytes = omega (arith, bytes_are_within (setup_of r asked) b (calls locals order) f, same_pages b.heap p.heap.runs served.books_of.heap)
 
   wide : 2 ≤ p.heap.config.region
   wide = omega (arith, valid.limits.region, ap (λ (c : HeapConfig). c.region) served.placed.ok.config)
 
-  names_live : (label : ℕ) (addr : Addr) → state_of p.names label ≡ name.Published (Some addr) → ((k : ℕ) × (0 < (stock_of p).objects k addr.0)) ⊎ (runs_at addr.0 p.heap.runs ≡ 1)
+  names_live : (label : ℕ) (addr : Addr) → state_of p.names label ≡ name.Published (Some addr) → ((k : ℕ) × (0 < (stock_of r about p).objects k addr.0)) ⊎ (runs_at addr.0 p.heap.runs ≡ 1)
   names_live label addr is =
-      elim (names_are_live (setup_of input) b (calls locals order) label addr f is) [
+      elim (names_are_live (setup_of r asked) b (calls locals order) label addr f is) [
         | inl object ↦ inl object
         | inr live ↦ inr (sym (starts_are addr.0) ∙ live)
       ]
 
   -- what a thread asks the heap for has a page
-  asked_some : (l : Local) (s : Step) (n : ℕ) → l.regs.class.0 < length input.rows → StepShape (limits_in input) l s → pages_asked input.rows l s ≡ Some n → 0 < n
+  asked_some : (l : Local V R) (s : Step R) (n : ℕ) → l.regs.class.0 < length r.calls.rows → StepShape r.calls.rows about l s → pages_asked r.calls.rows l s ≡ Some n → 0 < n
   asked_some l (does.Heap (heap.New label size)) n low shape is =
       let e : pages_holding size ≡ n = cc in
-      let some = some_size input.rows size valid.rows.some shape.1 in
+      let some = some_size r.calls.rows size valid.rows.some shape.1 in
       omega (arith, e, some)
   asked_some l (does.Heap (heap.NewSpan a)) n low shape is =
-      let e : (class_row input.rows l).pages ≡ n = cc in
-      omega (arith, e, (row_at_class input.rows l valid.rows low).pages)
+      let e : (class_row r.calls.rows l).pages ≡ n = cc in
+      omega (arith, e, (row_at_class r.calls.rows l valid.rows low).pages)
   asked_some l (does.Heap (heap.GiveBack label run)) n low shape is = absurd (cc)
   asked_some l (does.Heap (heap.FreeSpan next)) n low shape is = absurd (cc)
   asked_some l (does.Heap (heap.Unback pages)) n low shape is = absurd (cc)
-  asked_some l (does.Front (front.Cpu row)) n low shape is = absurd (cc)
-  asked_some l (does.Front (front.Domain row)) n low shape is = absurd (cc)
+  asked_some l (does.Front row) n low shape is = absurd (cc)
   asked_some l (does.Shard row) n low shape is = absurd (cc)
   asked_some l (does.Map row) n low shape is = absurd (cc)
   asked_some l (does.Names row) n low shape is = absurd (cc)
   asked_some l does.Ended n low shape is = absurd (cc)
 
-  -- a thread that is to stop a CPU is the stopper of none
-  no_stopper : (i t : ℕ) (q : CpuPart) (l : Local) → slice_get p.cpus i ≡ Some q → slice_get locals t ≡ Some l → (s : Stopping) → l.step ≡ does.Front (front.Cpu (cpu.Stop s)) → q.stopper ≢ Some l.regs.thread
-  no_stopper i t q l part at s step is =
-      let own : l.regs.thread ≡ record { 0 = t } = ap (λ (n : ℕ). record { 0 = n }) (served.works t l at).shaped.thread in
-      subst (λ (x : Step). IsStopping i (standing_of input.rows l.regs.class.0 x)) step ((served.seated i t q l part at).stops (is ∙ ap (λ (u : ThreadNo). Some u) own))
-
-  cap_class : (t : ℕ) (l : Local) → slice_get locals t ≡ Some l → (r : Resizing) → l.step ≡ does.Front (front.Cpu (cpu.SetCap r)) → l.regs.class ≡ r.class
-  cap_class t l at r step = (subst (StepShape (limits_in input) l) step (served.works t l at).shaped.step).2
-
   -- a block of a live run or of an object, in whichever order runs and spans stand
-  standing : (x : Extent) → IsStanding (setup_of input) b x → IsStanding (setup_of input) (books_of p locals) x
+  standing : (x : Extent) → IsStanding (setup_of r asked) b x → IsStanding (setup_of r asked) (books_of r about Holds asked p locals) x
   standing x stands =
       elim stands [
         | inl large ↦ inl (record {
@@ -168,48 +152,46 @@ module _ (input : Input) (valid : IsValid input) (order : List ℕ) (few : lengt
       ]
 
   -- the calls that are told of a thread
-  first_told : (t : ℕ) (l : Local) → slice_get locals t ≡ Some l → TellsFirst input t (l.ended + under about_row l.step) (calls locals order)
+  first_told : (t : ℕ) (l : Local V R) → slice_get locals t ≡ Some l → TellsFirst asked t (l.ended + under about l.step) (calls locals order)
   first_told t l at =
       let inside = (served.works t l at).inside in
-      tells_first (script_of t input.asked.calls) t l (lines_by t (calls locals order)) (l.ended + under about_row l.step) (served.tells t l at) inside.decided inside.count
+      tells_first (script_of t asked.calls) t l (lines_by t (calls locals order)) (l.ended + under about l.step) (served.tells t l at) inside.decided inside.count
 
-  whole_told : (t : ℕ) (l : Local) → slice_get locals t ≡ Some l → is_under_way l.step ≡ false → TellsScript input t (calls locals order)
+  whole_told : (t : ℕ) (l : Local V R) → slice_get locals t ≡ Some l → is_under_way l.step ≡ false → TellsScript asked t (calls locals order)
   whole_told t l at way =
-      let script : List Planned = script_of t input.asked.calls in
-      first_told t l at ∙ takes_all script l.ended (l.ended + under about_row l.step) ((served.works t l at).inside.none way) (omega arith)
+      let script : List Planned = script_of t asked.calls in
+      first_told t l at ∙ takes_all script l.ended (l.ended + under about l.step) ((served.works t l at).inside.none way) (omega arith)
 
   -- a thread that wants no part has no call under way
-  wants_none : (l : Local) → place_of input.asked.config.cpus (length input.rows) l ≡ None → is_under_way l.step ≡ false
+  wants_none : (l : Local V R) → place_of r about l ≡ None → is_under_way l.step ≡ false
   wants_none l none =
       elim (cases_Bool (is_under_way l.step)) [
-        | inl way ↦ let wants = (wants_by input.asked.config.cpus (length input.rows) l l.step way).1 in absurd (cc)
+        | inl way ↦ let wants = (wants_by r.place r.split (length r.calls.rows) l l.step way).1 in absurd (cc)
         | inr way ↦ way
       ]
 
-  all_told : HaveEnded (rules input) (run (rules input) order) → (t : ℕ) → t < input.asked.config.threads → TellsScript input t (calls locals order)
+  all_told : HaveEnded (rules r about asked) (run (rules r about asked) order) → (t : ℕ) → t < asked.config.threads → TellsScript asked t (calls locals order)
   all_told ended t low =
-      let WantsNone : Local → Type 0 = λ l. place_of input.asked.config.cpus (length input.rows) l ≡ None in
-      let all : All WantsNone locals = subst (λ (w : World Part Local). All WantsNone w.locals) served.is ended in
+      let WantsNone : Local V R → Type 0 = λ l. place_of r about l ≡ None in
+      let all : All WantsNone locals = subst (λ (w : World (Part P) (Local V R)). All WantsNone w.locals) served.is ended in
       let found = there_is locals t (omega (arith, low, served.count)) in
       whole_told t found.0 found.1 (wants_none found.0 (of_all WantsNone locals t found.0 all found.1))
 
-  pub holds_after : HoldsAfter input order
+  pub holds_after : HoldsAfter r about Holds asked order
   holds_after =
       record {
         parts = p;
         locals = locals;
         is = served.is;
         counts = record {
-          cpus = served.placed.cpus;
+          fronts = served.placed.fronts;
           shards = served.placed.ok.classes;
           huge = served.placed.ok.huge;
           names = f.names;
-          domains = served.placed.domains;
-          caches = served.placed.ok.domains;
           threads = served.count;
         };
         blocks = f.kept.run;
-        blocks_are_live = All-weaker (IsStanding (setup_of input) b) (IsStanding (setup_of input) (books_of p locals)) standing (blocks_after (calls locals order)) f.live;
+        blocks_are_live = All-weaker (IsStanding (setup_of r asked) b) (IsStanding (setup_of r asked) (books_of r about Holds asked p locals)) standing (blocks_after (calls locals order)) f.live;
         covered = bytes;
         decided = λ t l at. let inside = (served.works t l at).inside in record { count = inside.count; each = inside.decided; over = λ over. inside.none (ap is_under_way over) };
         answers_are_told = served.tells;
@@ -218,9 +200,8 @@ module _ (input : Input) (valid : IsValid input) (order : List ℕ) (few : lengt
         all_told = all_told;
         threads = λ t l at. (served.works t l at).shaped.thread;
         acts = λ t l at. (served.works t l at).acts;
-        ran_is_within_acts = λ t l at. (served.works t l at).shaped.ran;
         rising = λ t l at. (served.works t l at).rising;
-        object_is_once = λ k n some. objects_are_once (setup_of input) b (calls locals order) k n f some;
+        object_is_once = λ k n some. objects_are_once (setup_of r asked) b (calls locals order) k n f some;
         places_have_objects = f.classes;
         shard_is_of_class = served.placed.ok.shards;
         heap = served.placed.ok.heap;
@@ -228,12 +209,10 @@ module _ (input : Input) (valid : IsValid input) (order : List ℕ) (few : lengt
         none_where_none_fits = λ n some. none_exactly p.heap n served.placed.ok.heap wide some;
         answers_none = λ t l at.
             let shaped = (served.works t l at).shaped in
-            answers_none input.rows p.heap l (λ n is. none_exactly p.heap n served.placed.ok.heap wide (asked_some l l.step n shaped.class shaped.step is));
-        answers_busy = λ i t q l part at. answers_busy input.rows q l (no_stopper i t q l part at);
-        answers_cap = λ i t q l part at. answers_cap input.rows q l (cap_class t l at);
-        refuses_there = λ t l at. refuses_there input.rows l;
+            answers_none r about p.heap l (λ n is. none_exactly p.heap n served.placed.ok.heap wide (asked_some l l.step n shaped.class shaped.step is));
+        refuses_there = λ t l at. refuses_there r about law.refuses l;
         spans_are_runs = λ n. omega (arith, f.begins n, starts_are n);
-        run_is_once = λ n none. runs_alone (setup_of input) b (calls locals order) f n none ∙ starts_are n;
+        run_is_once = λ n none. runs_alone (setup_of r asked) b (calls locals order) f n none ∙ starts_are n;
         run_begins_once = λ n. omega (arith, f.starts n, starts_are n);
         map_spans_are_apart = served.placed.ok.map;
         map_has_runs = λ r. omega (arith, f.map r, served.books_of.heap r, same_spans b.spans p.map.spans served.books_of.spans r);
@@ -241,11 +220,6 @@ module _ (input : Input) (valid : IsValid input) (order : List ℕ) (few : lengt
         name_is_live = names_live;
         name_is_published_once = f.published;
         name_is_taken_once = f.taken;
-        cpu_is_sound = served.placed.ok.cpus;
-        slab_is_of_heads = served.placed.heads.slabs;
-        transfer_has_room = served.placed.heads.transfers;
-        cache_has_room = served.placed.heads.caches;
-        epoch_is_within_picks = served.placed.epochs;
-        seats_agree = served.seated;
-        switches = switches_are_few input valid order few;
+        transfer_has_room = served.placed.transfers;
+        front = served.front;
       }

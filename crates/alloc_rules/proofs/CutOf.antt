@@ -22,6 +22,8 @@ use Rattle.holdings.proofs.MapFacts.{span_all, span_at_found}
 use Rattle.alloc_rules.specs.Machine.{Parts}
 use Rattle.alloc_rules.specs.Stocks.{no_shard, shard_at, stock_of, IsShardOf}
 use Rattle.alloc_rules.proofs.Counting.{objects_count, spans_count, begun_count}
+use Rattle.alloc_rules.specs.FrontLaw.{FrontRules}
+use Rattle.call_steps.specs.Calls.{About}
 
 -- the spans of a shard are of its row
 pub row_pages : (x : Shard) → All (IsOfRow x.central.row) x.central.spans → All (λ (s : SpanRef). s.pages ≡ x.central.row.pages) (spans_in x)
@@ -29,14 +31,14 @@ row_pages x all =
     let P : SpanRef → Type 0 = λ s. s.pages ≡ x.central.row.pages in
     All-map P (λ (y : SpanState). y.span) x.central.spans (All-weaker (IsOfRow x.central.row) (λ (y : SpanState). y.span.pages ≡ x.central.row.pages) (λ y of. of.pages) x.central.spans all)
 
-module _ (rows : List ClassRow) (p : Parts) (classes : length p.shards ≡ length rows) (shards : (k : ℕ) (x : Shard) → slice_get p.shards k ≡ Some x → IsShardOf rows k x) where
+module _ {P V R : Type 0} (r : FrontRules P V R) (about : R → About) (rows : List ClassRow) (p : Parts P) (classes : length p.shards ≡ length rows) (shards : (k : ℕ) (x : Shard) → slice_get p.shards k ≡ Some x → IsShardOf rows k x) where
   there : (k : ℕ) → k < length rows → IsShardOf rows k (shard_at p.shards k)
   there k below = shards k (shard_at p.shards k) (slice_get-get_or p.shards k no_shard (omega (arith, classes, below)))
 
-  none_past : (k n : ℕ) → length rows ≤ k → (stock_of p).objects k n ≡ 0
+  none_past : (k n : ℕ) → length rows ≤ k → (stock_of r about p).objects k n ≡ 0
   none_past k n past = ap (λ (x : Shard). objects_at n (objects_in_spans x)) (get_or_past p.shards k no_shard (omega (arith, classes, past)))
 
-  found_class : (k n : ℕ) → 0 < (stock_of p).objects k n → k < length rows
+  found_class : (k n : ℕ) → 0 < (stock_of r about p).objects k n → k < length rows
   found_class k n some = elim (cases_lt k (length rows)) [ inl below ↦ below | inr past ↦ absurd (omega (arith, some, none_past k n past)) ]
 
   size_is : (k : ℕ) → k < length rows → size_of rows k ≡ (shard_at p.shards k).central.row.size
@@ -47,10 +49,10 @@ module _ (rows : List ClassRow) (p : Parts) (classes : length p.shards ≡ lengt
   cut_at : (k : ℕ) → k < length rows → IsCutInto (shard_at p.shards k)
   cut_at k below = spans_cut (shard_at p.shards k) (there k below).sound
 
-  found : (k n : ℕ) → 0 < (stock_of p).objects k n → 0 < found_at n (objects_in_spans (shard_at p.shards k))
+  found : (k n : ℕ) → 0 < (stock_of r about p).objects k n → 0 < found_at n (objects_in_spans (shard_at p.shards k))
   found k n some = omega (arith, some, objects_count n (objects_in_spans (shard_at p.shards k)))
 
-  lies_of : (k a : ℕ) → k < length rows → LiesInSpan (shard_at p.shards k) a → LiesIn rows (stock_of p) k a
+  lies_of : (k a : ℕ) → k < length rows → LiesInSpan (shard_at p.shards k) a → LiesIn rows (stock_of r about p) k a
   lies_of k a below lies =
       let x : Shard = shard_at p.shards k in
       let member : 0 < spans_like lies.span (spans_in x) = omega (arith, lies.member (λ (y : SpanRef). same_span y lies.span) (same_span_refl lies.span), spans_count lies.span (spans_in x)) in
@@ -75,25 +77,25 @@ module _ (rows : List ClassRow) (p : Parts) (classes : length p.shards ≡ lengt
         some = omega (arith, pages, of.sound.some, of.sound.fits);
       }
 
-  begins_of : (k a : ℕ) (x : Shard) → slice_get p.shards k ≡ Some x → 0 < spans_at a (spans_in x) → Begins rows (stock_of p) a
+  begins_of : (k a : ℕ) (x : Shard) → slice_get p.shards k ≡ Some x → 0 < spans_at a (spans_in x) → Begins rows (stock_of r about p) a
   begins_of k a x is some =
       let of = shards k x is in
       let s = span_at_found a (spans_in x) some in
       let sum = least (λ (y : Shard). spans_like s.0 (spans_in y)) p.shards k x is in
       let cut = spans_cut x of.sound in
       let object = cut.begun a (omega (arith, some, begun_count a (spans_in x))) in
-      let same : (stock_of p).objects k a ≡ objects_at a (objects_in_spans x) = ap (λ (y : Shard). objects_at a (objects_in_spans y)) (get_or_from_slice_get p.shards k x no_shard is) in
+      let same : (stock_of r about p).objects k a ≡ objects_at a (objects_in_spans x) = ap (λ (y : Shard). objects_at a (objects_in_spans y)) (get_or_from_slice_get p.shards k x no_shard is) in
       record { class = k; span = s.0; owned = omega (arith, sum, s.2); start = s.1; object = omega (arith, same, object, objects_count a (objects_in_spans x)) }
 
   -- no two objects of a class are at one address
-  once_of : (k a : ℕ) → (stock_of p).objects k a ≤ 1
+  once_of : (k a : ℕ) → (stock_of r about p).objects k a ≤ 1
   once_of k a =
       elim (cases_lt k (length rows)) [
         | inl below ↦ omega (arith, (cut_at k below).once a, objects_count a (objects_in_spans (shard_at p.shards k)))
         | inr past ↦ omega (arith, none_past k a past)
       ]
 
-  pub cut_of : IsCut rows (stock_of p)
+  pub cut_of : IsCut rows (stock_of r about p)
   cut_of =
       record {
         once = once_of;

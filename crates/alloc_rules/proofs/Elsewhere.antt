@@ -46,11 +46,15 @@ use Rattle.call_steps.specs.Fronts.{FrontCalls}
 use Rattle.call_steps.specs.Local.{Local, decided, ends, class_row, Decided}
 use Rattle.call_steps.specs.Calls.{About, call_about}
 use Rattle.call_steps.specs.Hands.{with_hand, stocks, serves_first, goes_onward, gave, clears, with_freed}
-use Rattle.call_steps.specs.Follows.{ComesWith, says as says_in, goes_or_ends, follows}
+use Rattle.call_steps.specs.Follows.{says as says_in, goes_or_ends, follows}
 use Rattle.call_steps.specs.ShardActs.{with_more, fetches, with_spans_behind, shard_row}
 use Rattle.call_steps.specs.Acts.{after_new, after_new_span, frees_span, without_first_span, heap_row, found, after_lookup, clears_span, map_row, after_take, names_row, shard_after, heap_after, map_after, names_after}
 use Rattle.call_steps.specs.Refusals.{is_refusal, may_refuse}
-use Rattle.alloc_rules.specs.Answers.{Decides}
+use Rattle.alloc_rules.specs.Answers.{Decides, RefusesThere}
+use Rattle.alloc_rules.specs.declared.part.Part.{Part}
+use Rattle.alloc_rules.specs.declared.part.Part.TheVariants as part
+use Rattle.alloc_rules.specs.FrontLaw.{FrontRules, RefusesAs}
+use Rattle.alloc_rules.specs.Machine.{front_after, after}
 use Rattle.alloc_rules.proofs.Answering.{GoesAs, ends_goes, decides_by, decides_none}
 
 -- An act leaves no fewer ended calls, and refused none.
@@ -198,16 +202,16 @@ module _ {V R : Type 0} (e : FrontCalls V R) (about : R → About) (refuses : R 
   decides_leaves s x (Some call) answer None may = let g = ends_goes e (decided x call answer) in tells s x _ call answer may g.ended g.answers
   decides_leaves s x (Some call) answer (Some row) may = tells s x _ call answer may (omega arith) refl
 
-  pub follows_leaves : (row : R) (x : Local V R) (r : Regs) (n : Next R) → ComesWith about refuses (λ y. Unit {0}) row r n → Leaves refuses (does.Front row) x (follows e x (call_about (about row)) n)
-  follows_leaves row x r (next.Row to) may = leaves_of refuses (does.Front row) x _ (quiet x _ (omega arith) refl)
-  follows_leaves row x r (next.Serve a) may = leaves_of refuses (does.Front row) x _ (serves_leaves x a x.regs.hand.items)
-  follows_leaves row x r (next.Fetch a) may = leaves_of refuses (does.Front row) x _ (quiet x _ (omega arith) refl)
-  follows_leaves row x r (next.Give g) may = leaves_of refuses (does.Front row) x _ (quiet x _ (omega arith) refl)
-  follows_leaves row x r (next.Gave g) may = leaves_of refuses (does.Front row) x _ (gave_leaves x g)
-  follows_leaves row x r (next.Publish s) may = leaves_of refuses (does.Front row) x _ (quiet x _ (omega arith) refl)
-  follows_leaves row x r (next.Freed f) may = leaves_of refuses (does.Front row) x _ (ends_saying x (Free f.label) (Freed f.addr) refl)
-  follows_leaves row x r (next.Decide answer to) may = decides_leaves (does.Front row) x (call_about (about row)) answer to may.1
-  follows_leaves row x r next.End may = leaves_of refuses (does.Front row) x _ (ends_quietly x)
+  pub follows_leaves : (row : R) (x : Local V R) (n : Next R) → RefusesAs refuses row n → Leaves refuses (does.Front row) x (follows e x (call_about (about row)) n)
+  follows_leaves row x (next.Row to) may = leaves_of refuses (does.Front row) x _ (quiet x _ (omega arith) refl)
+  follows_leaves row x (next.Serve a) may = leaves_of refuses (does.Front row) x _ (serves_leaves x a x.regs.hand.items)
+  follows_leaves row x (next.Fetch a) may = leaves_of refuses (does.Front row) x _ (quiet x _ (omega arith) refl)
+  follows_leaves row x (next.Give g) may = leaves_of refuses (does.Front row) x _ (quiet x _ (omega arith) refl)
+  follows_leaves row x (next.Gave g) may = leaves_of refuses (does.Front row) x _ (gave_leaves x g)
+  follows_leaves row x (next.Publish s) may = leaves_of refuses (does.Front row) x _ (quiet x _ (omega arith) refl)
+  follows_leaves row x (next.Freed f) may = leaves_of refuses (does.Front row) x _ (ends_saying x (Free f.label) (Freed f.addr) refl)
+  follows_leaves row x (next.Decide answer to) may = decides_leaves (does.Front row) x (call_about (about row)) answer to may
+  follows_leaves row x next.End may = leaves_of refuses (does.Front row) x _ (ends_quietly x)
 
   pub shard_after_leaves : (x : shards.Shard) (l : Local V R) (s : Step R) → Leaves refuses s l (shard_after e x l s).1
   shard_after_leaves x l (does.Front row) = leaves_of refuses (does.Front row) l l (quiet l l (omega arith) refl)
@@ -240,3 +244,29 @@ module _ {V R : Type 0} (e : FrontCalls V R) (about : R → About) (refuses : R 
   names_after_leaves ns l (does.Map row) = leaves_of refuses (does.Map row) l l (quiet l l (omega arith) refl)
   names_after_leaves ns l (does.Names row) = leaves_of refuses (does.Names row) l _ (names_leaves ns l row)
   names_after_leaves ns l does.Ended = leaves_of refuses does.Ended l l (quiet l l (omega arith) refl)
+
+-- an act at whatever part
+module _ {P V R : Type 0} (r : FrontRules P V R) (about : R → About) (refuses_as : (p : P) (v : V) (g : Regs) (row : R) → RefusesAs r.refuses row (r.acts p v g row).next) where
+  front_leaves : (p : P) (l : Local V R) (s : Step R) → Leaves r.refuses s l (front_after r about p l s).1
+  front_leaves p l (does.Front row) =
+      let x = r.acts p l.seat l.regs row in
+      let leaves = follows_leaves r.calls about r.refuses row (record l { seat = x.seat; regs = x.regs }) x.next (refuses_as p l.seat l.regs row) in
+      record { ended = leaves.ended; there = λ a refusal none d. leaves.there a refusal none (record { call = d.call; answers = d.answers }) }
+  front_leaves p l (does.Shard row) = leaves_of r.refuses (does.Shard row) l l (quiet l l (omega arith) refl)
+  front_leaves p l (does.Heap row) = leaves_of r.refuses (does.Heap row) l l (quiet l l (omega arith) refl)
+  front_leaves p l (does.Map row) = leaves_of r.refuses (does.Map row) l l (quiet l l (omega arith) refl)
+  front_leaves p l (does.Names row) = leaves_of r.refuses (does.Names row) l l (quiet l l (omega arith) refl)
+  front_leaves p l does.Ended = leaves_of r.refuses does.Ended l l (quiet l l (omega arith) refl)
+
+  after_leaves : (p : Part P) (l : Local V R) → Leaves r.refuses l.step l (after r about p l).1
+  after_leaves (part.Front p) l = front_leaves p l l.step
+  after_leaves (part.Shard x) l = shard_after_leaves r.calls about r.refuses x l l.step
+  after_leaves (part.Heap h) l = heap_after_leaves r.calls about r.refuses h l l.step
+  after_leaves (part.Map m) l = map_after_leaves r.calls about r.refuses m l l.step
+  after_leaves (part.Names ns) l = names_after_leaves r.calls about r.refuses ns l l.step
+
+  pub after_rises : (p : Part P) (l : Local V R) → l.ended ≤ (after r about p l).1.ended
+  after_rises p l = (after_leaves p l).ended
+
+  pub refuses_there : (l : Local V R) → RefusesThere r about l
+  refuses_there l p = (after_leaves p l).there

@@ -8,15 +8,19 @@ use Rattle.tc_model.specs.declared.answers.CallLine.{CallLine}
 use Rattle.heap_rules.specs.declared.config.HeapConfig.{HeapConfig}
 use Rattle.holdings.specs.Runs.{objects_at}
 use Rattle.holdings.specs.Accounts.{Account, Frees}
-use Rattle.holdings.specs.Books.{Setup, Books}
-use Rattle.call_steps.specs.PerCpu.{CpuLocal as Local, Step}
+use Rattle.holdings.specs.Books.{Books}
+use Rattle.call_steps.specs.declared.step.Step.{Step}
+use Rattle.call_steps.specs.Local.{Local}
+use Rattle.call_steps.specs.Calls.{About}
+use Rattle.tc_model.specs.declared.calls.Planned.{Planned}
+use Rattle.alloc_rules.specs.Accounts.{account_of, doing_of}
+use Rattle.alloc_rules.specs.FrontLaw.{FrontRules}
 use Rattle.alloc_rules.specs.Machine.{Parts}
-use Rattle.alloc_rules.specs.CpuAccounts.{account_of, doing_of}
 use Rattle.alloc_rules.specs.Acts.{IsBefore}
 
-module _ (m : Setup) (limits : HeapConfig) (cpus : ℕ) (p : Parts) (locals : List Local) (b : Books) (calls : List CallLine) (t : ℕ) (l : Local) (before : IsBefore m limits cpus p locals b calls t l) where
-  pub own_account : slice_get b.accounts t ≡ Some (account_of l)
-  own_account = ap (λ (xs : List Account). slice_get xs t) before.books.accounts ∙ (slice_get-map account_of locals t ∙ ap (λ (x : Option Local). option_map account_of x) before.local)
+module _ {P V R : Type 0} (r : FrontRules P V R) (about : R → About) (planned : Planned → Type 0) (huge labels : ℕ) (limits : HeapConfig) (p : Parts P) (locals : List (Local V R)) (b : Books) (calls : List CallLine) (t : ℕ) (l : Local V R) (before : IsBefore r about planned huge labels limits p locals b calls t l) where
+  pub own_account : slice_get b.accounts t ≡ Some (account_of about l)
+  own_account = ap (λ (xs : List Account). slice_get xs t) before.books.accounts ∙ (slice_get-map (account_of about) locals t ∙ ap (λ (x : Option (Local V R)). option_map (account_of about) x) before.local)
 
-  pub freeing : (s : Step) → l.step ≡ s → (label : Label) (o : Addr) → doing_of s ≡ Frees label o → 0 < objects_at o.0 l.regs.hand.items
-  freeing s is label o doing = (before.facts.selves t (account_of l) own_account).freeing label o (ap doing_of is ∙ doing)
+  pub freeing : (s : Step R) → l.step ≡ s → (label : Label) (o : Addr) → doing_of about s ≡ Frees label o → 0 < objects_at o.0 l.regs.hand.items
+  freeing s is label o doing = (before.facts.selves t (account_of about l) own_account).freeing label o (ap (doing_of about) is ∙ doing)

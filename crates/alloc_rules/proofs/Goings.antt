@@ -1,201 +1,188 @@
 -- Where a call goes on with its hand: the account that it has then, its acts and its answers; and an allocation that gets an object.
-use Rattle.std.proofs.Common.{◌≡◌, ℕ, ◌+◌, ◌<◌, eqb, List, [], ◌∷◌, ◌++◌, drop, Option, Some, refl, sym, ap, ◌∙◌, subst}
-use Rattle.std.proofs.lemmas.Bool.{cond_both}
+use Rattle.std.proofs.Common.{◌≡◌, ℕ, ◌+◌, ◌<◌, List, [], ◌∷◌, ◌++◌, drop, Some, refl, sym, ap, ◌∙◌, subst}
 use Rattle.std.proofs.lemmas.List.{append-nil}
 use Rattle.tc_units.specs.Bag.{Contents}
 use Rattle.tc_units.specs.Classes.{class_of}
 use Rattle.tc_units.specs.declared.units.Addr.{Addr}
 use Rattle.tc_units.specs.declared.units.Class.{Class}
 use Rattle.tc_units.specs.declared.units.Label.{Label}
-use Rattle.tc_units.specs.declared.spans.ClassRow.{ClassRow}
 use Rattle.tc_units.specs.declared.spans.Run.{Run}
 use Rattle.tc_units.specs.declared.spans.SpanRef.{SpanRef}
-use Rattle.tc_model.specs.declared.calls.Call.{Call}
 use Rattle.tc_model.specs.declared.calls.Call.TheVariants.{Malloc, Free}
 use Rattle.tc_model.specs.declared.calls.Planned.{Planned}
 use Rattle.tc_model.specs.declared.answers.Answer.TheVariants.{Block, Freed}
 use Rattle.rseq_core.specs.declared.regs.Regs.{Regs}
 use Rattle.rseq_core.specs.Bags.{without_first, emptied}
-use Rattle.rseq_core.specs.declared.cpu_part.CpuPart.{CpuPart}
-use Rattle.transfer_cache.specs.Transfer.{Transfer}
 use Rattle.class_shard.specs.Shard.{Shard}
 use Rattle.holdings.specs.Runs.{objects_at, small}
 use Rattle.holdings.specs.Accounts.{Account, Doing, Asks, Publishes, Frees, Other, WeighSame}
 use Rattle.holdings.specs.Books.{Setup, Stock, Books, IsCut, size_of}
 use Rattle.holdings.specs.Moves.{Said, SaysOther, Move, MovesHand, FreesObject, GetsObject, GetsFirst, Rests, MoveObjects, AddSpan, with_hand}
-use Rattle.call_steps.specs.CpuCalls.{cpu_calls}
 use Rattle.call_steps.specs.declared.step.Asking.{Asking}
 use Rattle.call_steps.specs.declared.step.Serving.{Serving}
 use Rattle.call_steps.specs.declared.step.Freeing.{Freeing}
-use Rattle.call_steps.specs.declared.step.CpuStep.{CpuStep}
 use Rattle.call_steps.specs.declared.step.Giving.{Giving}
-use Rattle.call_steps.specs.PerCpu.{CpuLocal as Local, Next}
 use Rattle.call_steps.specs.declared.step.Giving.TheVariants as giving
 use Rattle.call_steps.specs.declared.step.MapStep.TheVariants as map
-use Rattle.call_steps.specs.declared.step.Next.TheVariants as next
 use Rattle.call_steps.specs.declared.step.Step.TheVariants as step
-use Rattle.call_steps.specs.declared.step.CpuRow.{CpuRow}
-use Rattle.call_steps.specs.declared.step.CpuRow.TheVariants as front
-use Rattle.call_steps.specs.declared.step.DomainStep.TheVariants as domain
-use Rattle.call_steps.specs.Local.{Decided, decided, goes, ends, class_row}
+use Rattle.call_steps.specs.Local.{Decided, decided, goes, ends, class_row, Local}
 use Rattle.call_steps.specs.Hands.{with_hand as to_hand, with_freed, decides_free, behind, goes_onward, publishes, comes_to, stocks, serves, serves_first, with_regs}
-use Rattle.call_steps.specs.CpuActs.{looks_on, gives}
-use Rattle.call_steps.specs.Follows.{follows}
 use Rattle.alloc_rules.specs.Machine.{Parts}
-use Rattle.call_steps.specs.Calls as about
 use Rattle.call_steps.specs.Calls.{About, HasNoLabel}
-use Rattle.call_steps.specs.Shapes.{Limits, IsGiving}
-use Rattle.call_steps.proofs.Nexts.{row_about}
-use Rattle.call_steps.proofs.NextShapes.{later_other}
-use Rattle.call_steps.specs.CpuRows.{about_row, as_row}
-use Rattle.alloc_rules.specs.Accounts.{doing_about}
-use Rattle.alloc_rules.specs.CpuAccounts.{account_of, giving_doing}
+use Rattle.alloc_rules.specs.Accounts.{doing_about, account_of, giving_doing}
 use Rattle.alloc_rules.specs.Stocks.{stock_of, AreBooksOf, decided_at, Does}
-use Rattle.alloc_rules.proofs.Weighing.{bare, quiet, weighs_is, weighs_quiet, weighs_next, ends_counts}
+use Rattle.alloc_rules.proofs.Weighing.{bare, quiet, weighs_is, weighs_quiet, weighs_next, ends_counts, entry_is}
 use Rattle.alloc_rules.proofs.Stored.{with_stores, settled, does_by}
-
--- a local after its act: its account, with so many acts and these answers
-pub record Goes (after : Local) (a : Account) (count : ℕ) (told : List Decided) : Type 0 where
-  pub account : account_of after ≡ a
-  pub acts : after.acts ≡ count
-  pub answers : after.answers ≡ told
-
-pub looks_as : (rows : List ClassRow) (l : Local) (asking : Asking) (call : Option Call) → Goes (follows (cpu_calls rows) l call (looks_on l.seat asking)) (bare (Asks asking.label asking.size) l.regs.class.0 l.regs.hand.items l.rest) (l.acts + 1) l.answers
-looks_as rows l asking call =
-    cond_both (eqb l.seat.domains 0) (next.Fetch asking) (next.Row (front.Domain (domain.Take asking))) (λ (n : Next). Goes (follows (cpu_calls rows) l call n) (bare (Asks asking.label asking.size) l.regs.class.0 l.regs.hand.items l.rest) (l.acts + 1) l.answers)
-    (λ e. record { account = refl; acts = refl; answers = refl }) (λ e. record { account = refl; acts = refl; answers = refl })
-
-pub gives_as : (rows : List ClassRow) (l : Local) (g : Giving CpuStep) (call : Option Call) → Goes (follows (cpu_calls rows) l call (gives l.seat g)) (bare (giving_doing (as_row g)) l.regs.class.0 l.regs.hand.items l.rest) (l.acts + 1) l.answers
-gives_as rows l g call =
-    let d : Doing = giving_doing (as_row g) in
-    cond_both (eqb l.seat.domains 0) (next.Give (as_row g)) (next.Row (front.Domain (domain.Put g))) (λ (n : Next). Goes (follows (cpu_calls rows) l call n) (bare d l.regs.class.0 l.regs.hand.items l.rest) (l.acts + 1) l.answers)
-    (λ e. record { account = refl; acts = refl; answers = refl })
-    (λ e. record { account = ap (λ (a : About). bare (doing_about a) l.regs.class.0 l.regs.hand.items l.rest) (sym (row_about g)); acts = refl; answers = refl })
-
-stocks_as : (rows : List ClassRow) (l : Local) (s : Serving) (others : List Addr) → Goes (stocks (cpu_calls rows) l s others) (bare (Publishes s.label (Some s.addr)) l.regs.class.0 l.regs.hand.items l.rest) (l.acts + 1) l.answers
-stocks_as rows l s [] = record { account = refl; acts = refl; answers = refl }
-stocks_as rows l s (a ∷ others) = record { account = refl; acts = refl; answers = refl }
-
--- the first object in hand is an allocation's answer, and the others stay in hand
-pub serves_as : (rows : List ClassRow) (l : Local) (asking : Asking) (o : Addr) (others : List Addr) → l.regs.hand.items ≡ o ∷ others
-    → Goes (serves (cpu_calls rows) l asking) (bare (Publishes asking.label (Some o)) l.regs.class.0 others l.rest) (l.acts + 1) (l.answers ++ record { act = l.acts; call = Malloc asking.label asking.size; answer = Block o (class_row rows l).size } ∷ [])
-serves_as rows l asking o others is =
-    let hand : Contents Addr = without_first 1 l.regs.hand in
-    let then : Local = decided (with_regs l (record l.regs { hand = hand })) (Malloc asking.label asking.size) (Block o (class_row rows l).size) in
-    let s : Serving = record { label = asking.label; addr = o } in
-    let at = stocks_as rows then s others in
-    let first : serves (cpu_calls rows) l asking ≡ stocks (cpu_calls rows) then s others = ap (serves_first (cpu_calls rows) l asking) is in
-    let rest : drop 1 l.regs.hand.items ≡ others = ap (drop 1) is in
-    record {
-      account = ap account_of first ∙ (at.account ∙ ap (λ (xs : List Addr). bare (Publishes asking.label (Some o)) l.regs.class.0 xs l.rest) rest);
-      acts = ap (λ (x : Local). x.acts) first ∙ at.acts;
-      answers = ap (λ (x : Local). x.answers) first ∙ at.answers;
-    }
-
--- a call ends with nothing in hand: the account that it has then weighs as one about nothing
-pub record Closes (after : Local) (k : ℕ) (todo : List Planned) (count : ℕ) (told : List Decided) : Type 0 where
-  pub weighs : WeighSame (quiet k todo) (account_of after)
-  pub acts : after.acts ≡ count
-  pub answers : after.answers ≡ told
-
-pub ends_as : (rows : List ClassRow) (l : Local) (k : ℕ) → l.regs.hand.items ≡ [] → Closes (ends (cpu_calls rows) l) k l.rest (l.acts + 1) l.answers
-ends_as rows l k none = let counts = ends_counts rows l in record { weighs = weighs_next rows l k none; acts = counts.0; answers = counts.1 }
+use Rattle.call_steps.specs.declared.step.ShardStep.TheVariants as shard
+use Rattle.call_steps.specs.Fronts.{FrontCalls}
+use Rattle.call_steps.specs.Calls as calls
+use Rattle.alloc_rules.specs.FrontLaw.{FrontRules, AreEntries}
+use Rattle.alloc_rules.specs.Shapes.{IsGiving}
+use Rattle.alloc_rules.specs.Acts.{setup}
 
 -- so does one that comes to a row without a label
 pub other_doing : (a : About) → HasNoLabel a → doing_about a ≡ Other
-other_doing (about.Asks a) other = absurd other
-other_doing (about.Publishes s) other = absurd other
-other_doing (about.Frees f) other = absurd other
-other_doing (about.Other call) other = refl
+other_doing (calls.Asks a) other = absurd other
+other_doing (calls.Publishes s) other = absurd other
+other_doing (calls.Frees f) other = absurd other
+other_doing (calls.Other call) other = refl
 
-pub comes_as : (l : Local) (j : Class) (row : CpuRow) (k : ℕ) → HasNoLabel (about_row row) → l.regs.hand.items ≡ [] → Closes (comes_to l j row) k l.rest (l.acts + 1) l.answers
-comes_as l j row k other none =
-    let weighs = subst (λ (d : Doing). WeighSame (quiet k l.rest) (bare d j.0 l.regs.hand.items l.rest)) (sym (other_doing (about_row row) other)) (weighs_quiet k j.0 l.regs.hand.items l.rest none) in
+-- a local after its act: its account, with so many acts and these answers
+pub record Goes {V R : Type 0} (about : R → About) (after : Local V R) (a : Account) (count : ℕ) (told : List Decided) : Type 0 where
+  pub account : account_of about after ≡ a
+  pub acts : after.acts ≡ count
+  pub answers : after.answers ≡ told
+
+-- a call ends with nothing in hand: the account that it has then weighs as one about nothing
+pub record Closes {V R : Type 0} (of : R → About) (after : Local V R) (k : ℕ) (todo : List Planned) (count : ℕ) (told : List Decided) : Type 0 where
+  pub weighs : WeighSame (quiet k todo) (account_of of after)
+  pub acts : after.acts ≡ count
+  pub answers : after.answers ≡ told
+
+module _ {V R : Type 0} (e : FrontCalls V R) (about : R → About) (entries : AreEntries e about) where
+  stocks_as : (l : Local V R) (s : Serving) (others : List Addr) → Goes about (stocks e l s others) (bare (Publishes s.label (Some s.addr)) l.regs.class.0 l.regs.hand.items l.rest) (l.acts + 1) l.answers
+  stocks_as l s [] = record { account = refl; acts = refl; answers = refl }
+  stocks_as l s (a ∷ others) =
+      let d : Doing = Publishes s.label (Some s.addr) in
+      let g : Regs = e.to_rest l.regs in
+      let kept = entries.to_rest l.regs in
+      record {
+        account = entry_is about (with_regs l g) (step.Shard (shard.Give (giving.Rest s))) (calls.Publishes s) (e.rest l.seat s) (entries.rest_about l.seat s) refl
+            ∙ (ap (λ (k : Class). bare d k.0 g.hand.items l.rest) kept.class ∙ ap (λ (h : Contents Addr). bare d l.regs.class.0 h.items l.rest) kept.hand);
+        acts = refl;
+        answers = refl;
+      }
+
+  -- the first object in hand is an allocation's answer, and the others stay in hand
+  pub serves_as : (l : Local V R) (asking : Asking) (o : Addr) (others : List Addr) → l.regs.hand.items ≡ o ∷ others
+      → Goes about (serves e l asking) (bare (Publishes asking.label (Some o)) l.regs.class.0 others l.rest) (l.acts + 1) (l.answers ++ record { act = l.acts; call = Malloc asking.label asking.size; answer = Block o (class_row e.rows l).size } ∷ [])
+  serves_as l asking o others is =
+      let hand : Contents Addr = without_first 1 l.regs.hand in
+      let then : Local V R = decided (with_regs l (record l.regs { hand = hand })) (Malloc asking.label asking.size) (Block o (class_row e.rows l).size) in
+      let s : Serving = record { label = asking.label; addr = o } in
+      let at = stocks_as then s others in
+      let first : serves e l asking ≡ stocks e then s others = ap (serves_first e l asking) is in
+      let rest : drop 1 l.regs.hand.items ≡ others = ap (drop 1) is in
+      record {
+        account = ap (account_of about) first ∙ (at.account ∙ ap (λ (xs : List Addr). bare (Publishes asking.label (Some o)) l.regs.class.0 xs l.rest) rest);
+        acts = ap (λ (x : Local V R). x.acts) first ∙ at.acts;
+        answers = ap (λ (x : Local V R). x.answers) first ∙ at.answers;
+      }
+
+  pub ends_as : (l : Local V R) (k : ℕ) → l.regs.hand.items ≡ [] → Closes about (ends e l) k l.rest (l.acts + 1) l.answers
+  ends_as l k none = let counts = ends_counts e l in record { weighs = weighs_next e about entries l k none; acts = counts.0; answers = counts.1 }
+
+pub comes_as : {V R : Type 0} (about : R → About) (l : Local V R) (j : Class) (row : R) (k : ℕ) → HasNoLabel (about row) → l.regs.hand.items ≡ [] → Closes about (comes_to l j row) k l.rest (l.acts + 1) l.answers
+comes_as about l j row k other none =
+    let weighs = subst (λ (d : Doing). WeighSame (quiet k l.rest) (bare d j.0 l.regs.hand.items l.rest)) (sym (other_doing (about row) other)) (weighs_quiet k j.0 l.regs.hand.items l.rest none) in
     record { weighs = weighs; acts = refl; answers = refl }
 
 -- an allocation with a new span that is to be added to its shard
-abbrev pub adding : Local → Asking → Run → List Addr → Account
+abbrev pub adding : {V R : Type 0} → Local V R → Asking → Run → List Addr → Account
 adding l asking run hand = record { doing = Asks asking.label asking.size; class = l.regs.class.0; hand = hand; off = []; apart = small l.regs.class run ∷ []; mapped = small l.regs.class run ∷ []; clears = []; todo = l.rest }
 
-module _ (m : Setup) (p : Parts) (locals : List Local) (b : Books) (books : AreBooksOf p locals b) (cpus : List CpuPart) (shards : List Shard) (domains : List (List Transfer)) (cut : IsCut m.rows (stock_of (with_stores p cpus shards domains))) where
-  abbrev new : Parts
-  new = with_stores p cpus shards domains
+module _ {P V R : Type 0} (r : FrontRules P V R) (about : R → About) (entries : AreEntries r.calls about) (huge labels : ℕ) (p : Parts P) (locals : List (Local V R)) (b : Books) (books : AreBooksOf r about p locals b) (fronts : List P) (shards : List Shard) (cut : IsCut r.calls.rows (stock_of r about (with_stores p fronts shards))) where
+  abbrev m : Setup
+  m = setup r huge labels
+
+  abbrev new : Parts P
+  new = with_stores p fronts shards
 
   -- objects move between the stock and the hand, spans may come to it, and nothing is decided
-  pub carries_spans : (l after : Local) (d : Doing) (k : ℕ) (hand came : List Addr) (freed : List SpanRef) (todo : List Planned) → account_of l ≡ bare d k hand todo → MoveObjects (stock_of p) (stock_of new) k hand came freed → ((label : Label) (o : Addr) → d ≡ Frees label o → 0 < objects_at o.0 came)
-      → WeighSame (with_hand (bare d k hand todo) came freed) (account_of after) → after.acts ≡ l.acts + 1 → after.answers ≡ l.answers → Does m new b l after
+  pub carries_spans : (l after : Local V R) (d : Doing) (k : ℕ) (hand came : List Addr) (freed : List SpanRef) (todo : List Planned) → account_of about l ≡ bare d k hand todo → MoveObjects (stock_of r about p) (stock_of r about new) k hand came freed → ((label : Label) (o : Addr) → d ≡ Frees label o → 0 < objects_at o.0 came)
+      → WeighSame (with_hand (bare d k hand todo) came freed) (account_of about after) → after.acts ≡ l.acts + 1 → after.answers ≡ l.answers → Does r about m new b l after
   carries_spans l after d k hand came freed todo is move frees weighs acts answers =
-      does_by m p locals b books cpus shards domains l after (bare d k hand todo) [] is
-      (MovesHand (stock_of new) came freed (account_of after) move cut frees refl weighs) acts (answers ∙ sym (append-nil l.answers))
+      does_by r about m p locals b books fronts shards l after (bare d k hand todo) [] is
+      (MovesHand (stock_of r about new) came freed (account_of about after) move cut frees refl weighs) acts (answers ∙ sym (append-nil l.answers))
 
-  pub carries : (l after : Local) (d : Doing) (k : ℕ) (hand came : List Addr) (todo : List Planned) → account_of l ≡ bare d k hand todo → MoveObjects (stock_of p) (stock_of new) k hand came [] → ((label : Label) (o : Addr) → d ≡ Frees label o → 0 < objects_at o.0 came)
-      → WeighSame (bare d k came todo) (account_of after) → after.acts ≡ l.acts + 1 → after.answers ≡ l.answers → Does m new b l after
+  pub carries : (l after : Local V R) (d : Doing) (k : ℕ) (hand came : List Addr) (todo : List Planned) → account_of about l ≡ bare d k hand todo → MoveObjects (stock_of r about p) (stock_of r about new) k hand came [] → ((label : Label) (o : Addr) → d ≡ Frees label o → 0 < objects_at o.0 came)
+      → WeighSame (bare d k came todo) (account_of about after) → after.acts ≡ l.acts + 1 → after.answers ≡ l.answers → Does r about m new b l after
   carries l after d k hand came todo is move frees weighs acts answers = carries_spans l after d k hand came [] todo is move frees weighs acts answers
 
-  pub carries_as : (l after : Local) (d : Doing) (k : ℕ) (hand came : List Addr) (todo : List Planned) → account_of l ≡ bare d k hand todo → MoveObjects (stock_of p) (stock_of new) k hand came [] → ((label : Label) (o : Addr) → d ≡ Frees label o → 0 < objects_at o.0 came)
-      → Goes after (bare d k came todo) (l.acts + 1) l.answers → Does m new b l after
-  carries_as l after d k hand came todo is move frees goes = carries l after d k hand came todo is move frees (weighs_is (bare d k came todo) (account_of after) goes.account) goes.acts goes.answers
+  pub carries_as : (l after : Local V R) (d : Doing) (k : ℕ) (hand came : List Addr) (todo : List Planned) → account_of about l ≡ bare d k hand todo → MoveObjects (stock_of r about p) (stock_of r about new) k hand came [] → ((label : Label) (o : Addr) → d ≡ Frees label o → 0 < objects_at o.0 came)
+      → Goes about after (bare d k came todo) (l.acts + 1) l.answers → Does r about m new b l after
+  carries_as l after d k hand came todo is move frees goes = carries l after d k hand came todo is move frees (weighs_is (bare d k came todo) (account_of about after) goes.account) goes.acts goes.answers
 
   -- an allocation gets the first of the objects that came to its hand
-  abbrev got_it : Local → Asking → Addr → Said
+  abbrev got_it : Local V R → Asking → Addr → Said
   got_it l asking o = record { call = Malloc asking.label asking.size; answer = Block o (size_of m.rows l.regs.class.0) }
 
-  gets_by : (l : Local) (regs : Regs) (asking : Asking) (o : Addr) (others : List Addr) (a : Account) → account_of l ≡ a → regs.class ≡ l.regs.class → regs.hand.items ≡ o ∷ others
-      → (WeighSame (bare (Publishes asking.label (Some o)) l.regs.class.0 others l.rest) (account_of (serves (cpu_calls m.rows) (with_regs l regs) asking)) → Move m (settled b p) a (stock_of new) b.heap b.spans p.names (account_of (serves (cpu_calls m.rows) (with_regs l regs) asking)) (got_it l asking o ∷ []))
-      → Does m new b l (serves (cpu_calls m.rows) (with_regs l regs) asking)
-  gets_by l regs asking o others a is class hand move =
-      let at = serves_as m.rows (with_regs l regs) asking o others hand in
-      let after : Local = serves (cpu_calls m.rows) (with_regs l regs) asking in
+  gets_by : (l : Local V R) (v : V) (regs : Regs) (asking : Asking) (o : Addr) (others : List Addr) (a : Account) → account_of about l ≡ a → regs.class ≡ l.regs.class → regs.hand.items ≡ o ∷ others
+      → (WeighSame (bare (Publishes asking.label (Some o)) l.regs.class.0 others l.rest) (account_of about (serves r.calls (record l { seat = v; regs = regs }) asking)) → Move m (settled r about b p) a (stock_of r about new) b.heap b.spans p.names (account_of about (serves r.calls (record l { seat = v; regs = regs }) asking)) (got_it l asking o ∷ []))
+      → Does r about m new b l (serves r.calls (record l { seat = v; regs = regs }) asking)
+  gets_by l v regs asking o others a is class hand move =
+      let at = serves_as r.calls about entries (record l { seat = v; regs = regs }) asking o others hand in
+      let after : Local V R = serves r.calls (record l { seat = v; regs = regs }) asking in
       let wanted : Account = bare (Publishes asking.label (Some o)) l.regs.class.0 others l.rest in
-      let account : account_of after ≡ wanted = at.account ∙ ap (λ (c : Class). bare (Publishes asking.label (Some o)) c.0 others l.rest) class in
+      let account : account_of about after ≡ wanted = at.account ∙ ap (λ (c : Class). bare (Publishes asking.label (Some o)) c.0 others l.rest) class in
       let answers : after.answers ≡ l.answers ++ record { act = l.acts; call = Malloc asking.label asking.size; answer = Block o (size_of m.rows l.regs.class.0) } ∷ [] =
       at.answers ∙ ap (λ (c : Class). l.answers ++ record { act = l.acts; call = Malloc asking.label asking.size; answer = Block o (size_of m.rows c.0) } ∷ []) class in
-      does_by m p locals b books cpus shards domains l after a (got_it l asking o ∷ []) is (move (weighs_is wanted (account_of after) account)) at.acts answers
+      does_by r about m p locals b books fronts shards l after a (got_it l asking o ∷ []) is (move (weighs_is wanted (account_of about after) account)) at.acts answers
 
-  pub gets_object : (l : Local) (regs : Regs) (asking : Asking) (o : Addr) (others : List Addr) → account_of l ≡ bare (Asks asking.label asking.size) l.regs.class.0 [] l.rest → regs.class ≡ l.regs.class → regs.hand.items ≡ o ∷ others → class_of m.rows asking.size ≡ Some l.regs.class
-      → MoveObjects (stock_of p) (stock_of new) l.regs.class.0 [] (o ∷ others) [] → Does m new b l (serves (cpu_calls m.rows) (with_regs l regs) asking)
-  gets_object l regs asking o others is class hand asked move =
-      gets_by l regs asking o others (bare (Asks asking.label asking.size) l.regs.class.0 [] l.rest) is class hand
-      (λ weighs. GetsObject asking.label asking.size (stock_of new) o others (account_of (serves (cpu_calls m.rows) (with_regs l regs) asking)) refl asked refl move cut weighs)
+  pub gets_object : (l : Local V R) (v : V) (regs : Regs) (asking : Asking) (o : Addr) (others : List Addr) → account_of about l ≡ bare (Asks asking.label asking.size) l.regs.class.0 [] l.rest → regs.class ≡ l.regs.class → regs.hand.items ≡ o ∷ others → class_of m.rows asking.size ≡ Some l.regs.class
+      → MoveObjects (stock_of r about p) (stock_of r about new) l.regs.class.0 [] (o ∷ others) [] → Does r about m new b l (serves r.calls (record l { seat = v; regs = regs }) asking)
+  gets_object l v regs asking o others is class hand asked move =
+      gets_by l v regs asking o others (bare (Asks asking.label asking.size) l.regs.class.0 [] l.rest) is class hand
+      (λ weighs. GetsObject asking.label asking.size (stock_of r about new) o others (account_of about (serves r.calls (record l { seat = v; regs = regs }) asking)) refl asked refl move cut weighs)
 
   -- with the first objects of a span that it added
-  pub gets_first : (l : Local) (regs : Regs) (asking : Asking) (run : Run) (o : Addr) (others : List Addr) → account_of l ≡ adding l asking run [] → regs.class ≡ l.regs.class → regs.hand.items ≡ o ∷ others → class_of m.rows asking.size ≡ Some l.regs.class
-      → AddSpan (stock_of p) (stock_of new) l.regs.class.0 (small l.regs.class run) (o ∷ others) → Does m new b l (serves (cpu_calls m.rows) (with_regs l regs) asking)
-  gets_first l regs asking run o others is class hand asked add =
-      gets_by l regs asking o others (adding l asking run []) is class hand
-      (λ weighs. GetsFirst asking.label asking.size (stock_of new) run o others [] [] (account_of (serves (cpu_calls m.rows) (with_regs l regs) asking)) refl refl asked refl refl refl add cut weighs)
+  pub gets_first : (l : Local V R) (v : V) (regs : Regs) (asking : Asking) (run : Run) (o : Addr) (others : List Addr) → account_of about l ≡ adding l asking run [] → regs.class ≡ l.regs.class → regs.hand.items ≡ o ∷ others → class_of m.rows asking.size ≡ Some l.regs.class
+      → AddSpan (stock_of r about p) (stock_of r about new) l.regs.class.0 (small l.regs.class run) (o ∷ others) → Does r about m new b l (serves r.calls (record l { seat = v; regs = regs }) asking)
+  gets_first l v regs asking run o others is class hand asked add =
+      gets_by l v regs asking o others (adding l asking run []) is class hand
+      (λ weighs. GetsFirst asking.label asking.size (stock_of r about new) run o others [] [] (account_of about (serves r.calls (record l { seat = v; regs = regs }) asking)) refl refl asked refl refl refl add cut weighs)
 
   -- a free is decided, with an empty hand then
-  pub frees_spans : (l after : Local) (f : Freeing) (k : ℕ) (hand : List Addr) (freed : List SpanRef) (todo : List Planned) → account_of l ≡ bare (Frees f.label f.addr) k hand todo → MoveObjects (stock_of p) (stock_of new) k hand [] freed → WeighSame (with_hand (bare Other k hand todo) [] freed) (account_of after)
-      → after.acts ≡ l.acts + 1 → after.answers ≡ l.answers ++ record { act = l.acts; call = Free f.label; answer = Freed f.addr } ∷ [] → Does m new b l after
+  pub frees_spans : (l after : Local V R) (f : Freeing) (k : ℕ) (hand : List Addr) (freed : List SpanRef) (todo : List Planned) → account_of about l ≡ bare (Frees f.label f.addr) k hand todo → MoveObjects (stock_of r about p) (stock_of r about new) k hand [] freed → WeighSame (with_hand (bare Other k hand todo) [] freed) (account_of about after)
+      → after.acts ≡ l.acts + 1 → after.answers ≡ l.answers ++ record { act = l.acts; call = Free f.label; answer = Freed f.addr } ∷ [] → Does r about m new b l after
   frees_spans l after f k hand freed todo is move weighs acts answers =
       let said : Said = record { call = Free f.label; answer = Freed f.addr } in
-      does_by m p locals b books cpus shards domains l after (bare (Frees f.label f.addr) k hand todo) (said ∷ []) is
-      (FreesObject f.label f.addr (stock_of new) freed (account_of after) refl move cut refl weighs) acts answers
+      does_by r about m p locals b books fronts shards l after (bare (Frees f.label f.addr) k hand todo) (said ∷ []) is
+      (FreesObject f.label f.addr (stock_of r about new) freed (account_of about after) refl move cut refl weighs) acts answers
 
-  pub frees_object : (l : Local) (regs : Regs) (freed : Contents SpanRef) (f : Freeing) (k : ℕ) (hand : List Addr) → account_of l ≡ bare (Frees f.label f.addr) k hand l.rest → regs.hand.items ≡ []
-      → MoveObjects (stock_of p) (stock_of new) k hand [] [] → Does m new b l (ends (cpu_calls m.rows) (decided (record l { regs = regs; freed = freed }) (Free f.label) (Freed f.addr)))
-  frees_object l regs freed f k hand is none move =
-      let then : Local = decided (record l { regs = regs; freed = freed }) (Free f.label) (Freed f.addr) in
-      let closes = ends_as m.rows then k none in
-      frees_spans l (ends (cpu_calls m.rows) then) f k hand [] l.rest is move closes.weighs closes.acts closes.answers
+  pub frees_object : (l : Local V R) (v : V) (regs : Regs) (freed : Contents SpanRef) (f : Freeing) (k : ℕ) (hand : List Addr) → account_of about l ≡ bare (Frees f.label f.addr) k hand l.rest → regs.hand.items ≡ []
+      → MoveObjects (stock_of r about p) (stock_of r about new) k hand [] [] → Does r about m new b l (ends r.calls (decided (record l { seat = v; regs = regs; freed = freed }) (Free f.label) (Freed f.addr)))
+  frees_object l v regs freed f k hand is none move =
+      let then : Local V R = decided (record l { seat = v; regs = regs; freed = freed }) (Free f.label) (Freed f.addr) in
+      let closes = ends_as r.calls about entries then k none in
+      frees_spans l (ends r.calls then) f k hand [] l.rest is move closes.weighs closes.acts closes.answers
 
   -- a hand is given away: no span leaves, and the call ends or goes on
-  pub gives_hand : (limits : Limits) (l : Local) (g : Giving CpuRow) (bag : Contents SpanRef) (k : ℕ) (hand : List Addr) → IsGiving limits hand g → l.regs.class.0 ≡ k → account_of l ≡ bare (giving_doing g) k hand l.rest → MoveObjects (stock_of p) (stock_of new) k hand [] [] → Does m new b l (goes_onward (cpu_calls m.rows) (decides_free (with_freed (to_hand l (emptied l.regs.hand)) bag) g) (behind g))
-  gives_hand limits l (giving.Rest s) bag k hand gives class is move =
+  pub gives_hand : (l : Local V R) (g : Giving R) (bag : Contents SpanRef) (k : ℕ) (hand : List Addr) → IsGiving r.calls.rows about hand g → l.regs.class.0 ≡ k → account_of about l ≡ bare (giving_doing about g) k hand l.rest → MoveObjects (stock_of r about p) (stock_of r about new) k hand [] [] → Does r about m new b l (goes_onward r.calls (decides_free (with_freed (to_hand l (emptied l.regs.hand)) bag) g) (behind g))
+  gives_hand l (giving.Rest s) bag k hand gives class is move =
       carries l (publishes (with_freed (to_hand l (emptied l.regs.hand)) bag) s) (Publishes s.label (Some s.addr)) k hand [] l.rest is move (λ label o doing. cc)
       (weighs_is (bare (Publishes s.label (Some s.addr)) k [] l.rest) (bare (Publishes s.label (Some s.addr)) l.regs.class.0 [] l.rest) (ap (λ (j : ℕ). bare (Publishes s.label (Some s.addr)) j [] l.rest) class)) refl refl
-  gives_hand limits l (giving.Freed f) bag k hand gives class is move = frees_object l (record l.regs { hand = emptied l.regs.hand }) bag f k hand is refl move
-  gives_hand limits l (giving.Row j row) bag k hand gives class is move =
-      let other = later_other limits j row gives in
-      let closes = comes_as (with_freed (to_hand l (emptied l.regs.hand)) bag) j row k other refl in
-      carries l (comes_to (with_freed (to_hand l (emptied l.regs.hand)) bag) j row) Other k hand [] l.rest (is ∙ ap (λ (d : Doing). bare d k hand l.rest) (other_doing (about_row row) other)) move (λ label o doing. cc) closes.weighs closes.acts closes.answers
-  gives_hand limits l giving.End bag k hand gives class is move =
-      let closes = ends_as m.rows (with_freed (to_hand l (emptied l.regs.hand)) bag) k refl in
-      carries l (ends (cpu_calls m.rows) (with_freed (to_hand l (emptied l.regs.hand)) bag)) Other k hand [] l.rest is move (λ label o doing. cc) closes.weighs closes.acts closes.answers
+  gives_hand l (giving.Freed f) bag k hand gives class is move = frees_object l l.seat (record l.regs { hand = emptied l.regs.hand }) bag f k hand is refl move
+  gives_hand l (giving.Row j row) bag k hand gives class is move =
+      let other = gives.1 in
+      let closes = comes_as about (with_freed (to_hand l (emptied l.regs.hand)) bag) j row k other refl in
+      carries l (comes_to (with_freed (to_hand l (emptied l.regs.hand)) bag) j row) Other k hand [] l.rest (is ∙ ap (λ (d : Doing). bare d k hand l.rest) (other_doing (about row) other)) move (λ label o doing. cc) closes.weighs closes.acts closes.answers
+  gives_hand l giving.End bag k hand gives class is move =
+      let closes = ends_as r.calls about entries (with_freed (to_hand l (emptied l.regs.hand)) bag) k refl in
+      carries l (ends r.calls (with_freed (to_hand l (emptied l.regs.hand)) bag)) Other k hand [] l.rest is move (λ label o doing. cc) closes.weighs closes.acts closes.answers
 
   -- spans leave with that: they are to be cleared
-  abbrev clearing_it : Local → Giving CpuRow → Contents SpanRef → Local
+  abbrev clearing_it : Local V R → Giving R → Contents SpanRef → Local V R
   clearing_it l g bag = goes (decides_free (with_freed (to_hand l (emptied l.regs.hand)) bag) g) (step.Map (map.ClearSpan (behind g)))
 
   pub spans_weigh : (d : Doing) (k j : ℕ) (hand : List Addr) (freed items : List SpanRef) (todo : List Planned) → j ≡ k → items ≡ freed → WeighSame (with_hand (bare d k hand todo) [] freed) (record { doing = d; class = j; hand = []; off = []; apart = items; mapped = items; clears = []; todo = todo })
@@ -205,19 +192,19 @@ module _ (m : Setup) (p : Parts) (locals : List Local) (b : Books) (books : AreB
       (ap (λ (i : ℕ). let x : Account = record { doing = d; class = i; hand = []; off = []; apart = items; mapped = items; clears = []; todo = todo } in x) class
       ∙ ap (λ (xs : List SpanRef). let x : Account = record { doing = d; class = k; hand = []; off = []; apart = xs; mapped = xs; clears = []; todo = todo } in x) more)
 
-  pub gives_spans : (limits : Limits) (l : Local) (g : Giving CpuRow) (bag : Contents SpanRef) (k : ℕ) (hand : List Addr) (freed : List SpanRef) → IsGiving limits hand g → l.regs.class.0 ≡ k → bag.items ≡ freed → account_of l ≡ bare (giving_doing g) k hand l.rest → MoveObjects (stock_of p) (stock_of new) k hand [] freed → Does m new b l (clearing_it l g bag)
-  gives_spans limits l (giving.Rest s) bag k hand freed gives class are is move =
+  pub gives_spans : (l : Local V R) (g : Giving R) (bag : Contents SpanRef) (k : ℕ) (hand : List Addr) (freed : List SpanRef) → IsGiving r.calls.rows about hand g → l.regs.class.0 ≡ k → bag.items ≡ freed → account_of about l ≡ bare (giving_doing about g) k hand l.rest → MoveObjects (stock_of r about p) (stock_of r about new) k hand [] freed → Does r about m new b l (clearing_it l g bag)
+  gives_spans l (giving.Rest s) bag k hand freed gives class are is move =
       carries_spans l (clearing_it l (giving.Rest s) bag) (Publishes s.label (Some s.addr)) k hand [] freed l.rest is move (λ label o doing. cc) (spans_weigh (Publishes s.label (Some s.addr)) k l.regs.class.0 hand freed bag.items l.rest class are) refl refl
-  gives_spans limits l (giving.Freed f) bag k hand freed gives class are is move =
+  gives_spans l (giving.Freed f) bag k hand freed gives class are is move =
       frees_spans l (clearing_it l (giving.Freed f) bag) f k hand freed l.rest is move (spans_weigh Other k l.regs.class.0 hand freed bag.items l.rest class are) refl refl
-  gives_spans limits l (giving.Row j row) bag k hand freed gives class are is move =
-      let d : Doing = doing_about (about_row row) in
-      carries_spans l (clearing_it l (giving.Row j row) bag) d k hand [] freed l.rest is move (λ label o doing. (let e = other_doing (about_row row) (later_other limits j row gives) in cc)) (spans_weigh d k l.regs.class.0 hand freed bag.items l.rest class are) refl refl
-  gives_spans limits l giving.End bag k hand freed gives class are is move =
+  gives_spans l (giving.Row j row) bag k hand freed gives class are is move =
+      let d : Doing = doing_about (about row) in
+      carries_spans l (clearing_it l (giving.Row j row) bag) d k hand [] freed l.rest is move (λ label o doing. (let e = other_doing (about row) (gives.1) in cc)) (spans_weigh d k l.regs.class.0 hand freed bag.items l.rest class are) refl refl
+  gives_spans l giving.End bag k hand freed gives class are is move =
       carries_spans l (clearing_it l giving.End bag) Other k hand [] freed l.rest is move (λ label o doing. cc) (spans_weigh Other k l.regs.class.0 hand freed bag.items l.rest class are) refl refl
 
   -- no object moves, and something may be decided that is of no label
-  pub says_other : (l after : Local) (a : Account) (said : List Said) → account_of l ≡ a → stock_of p ≡ stock_of new → SaysOther said → WeighSame a (account_of after) → after.acts ≡ l.acts + 1 → after.answers ≡ l.answers ++ decided_at l.acts said → Does m new b l after
+  pub says_other : (l after : Local V R) (a : Account) (said : List Said) → account_of about l ≡ a → stock_of r about p ≡ stock_of r about new → SaysOther said → WeighSame a (account_of about after) → after.acts ≡ l.acts + 1 → after.answers ≡ l.answers ++ decided_at l.acts said → Does r about m new b l after
   says_other l after a said is same other weighs acts answers =
-      does_by m p locals b books cpus shards domains l after a said is
-      (subst (λ (g : Stock). Move m (settled b p) a g b.heap b.spans p.names (account_of after) said) same (Rests (account_of after) said weighs other)) acts answers
+      does_by r about m p locals b books fronts shards l after a said is
+      (subst (λ (g : Stock). Move m (settled r about b p) a g b.heap b.spans p.names (account_of about after) said) same (Rests (account_of about after) said weighs other)) acts answers

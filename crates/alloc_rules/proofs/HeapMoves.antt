@@ -22,170 +22,177 @@ use Rattle.holdings.specs.Accounts.{Account, WeighSame}
 use Rattle.holdings.specs.Books.{Setup, Books}
 use Rattle.holdings.specs.Moves.{GetsNone, GetsRun, GetsSpan, FreesRun, FreesSpan, Rests, One}
 use Rattle.holdings.proofs.Sums.{like, less_counts}
-use Rattle.call_steps.specs.CpuCalls.{cpu_calls}
 use Rattle.call_steps.specs.declared.step.Asking.{Asking}
-use Rattle.call_steps.specs.PerCpu.{CpuLocal as Local, Onward, HeapStep}
 use Rattle.call_steps.specs.declared.step.HeapStep.TheVariants.{New, NewSpan, GiveBack, FreeSpan, Unback}
 use Rattle.call_steps.specs.declared.step.Step.TheVariants as does
-use Rattle.call_steps.specs.Local.{decided, class_row}
+use Rattle.call_steps.specs.Local.{decided, class_row, Local}
 use Rattle.call_steps.specs.Hands.{with_freed, clears}
 use Rattle.call_steps.specs.Acts.{heap_row, after_new, after_new_span, frees_span, without_first_span}
-use Rattle.call_steps.specs.Fits.{FitsHeap, FirstLives}
-use Rattle.alloc_rules.specs.Machine.{Parts}
-use Rattle.call_steps.specs.Shapes.{IsOnward}
-use Rattle.alloc_rules.specs.Accounts.{first_run}
-use Rattle.alloc_rules.specs.CpuAccounts.{account_of, onward_doing}
-use Rattle.alloc_rules.specs.Stocks.{AreBooksOf, Does}
-use Rattle.alloc_rules.specs.Acts.{limits_of, IsBefore, HeapActsMove}
+use Rattle.call_steps.specs.Fits.{FirstLives, FitsHeap}
 use Rattle.alloc_rules.proofs.Weighing.{bare, weighs_same, ends_counts}
 use Rattle.alloc_rules.proofs.Onwards.{Counts, weighs_end, onward_weighs}
-use Rattle.alloc_rules.proofs.Moved.{moved_by, no_row_length}
+use Rattle.alloc_rules.proofs.Moved.{no_row_length, moved_by}
 use Rattle.alloc_rules.proofs.Likes.{like-with_run, like-without_run, there_counted}
 use Rattle.alloc_rules.proofs.Lists.{one_run}
 use Rattle.alloc_rules.proofs.Placing.{placed}
+use Rattle.tc_model.specs.declared.calls.Planned.{Planned}
+use Rattle.call_steps.specs.Calls.{About}
+use Rattle.alloc_rules.specs.Accounts.{account_of, onward_doing, first_run}
+use Rattle.alloc_rules.specs.FrontLaw.{FrontRules, AreEntries}
+use Rattle.alloc_rules.specs.Machine.{Parts}
+use Rattle.alloc_rules.specs.Stocks.{AreBooksOf, Does}
+use Rattle.alloc_rules.specs.Acts.{setup, IsBefore}
+use Rattle.call_steps.specs.declared.step.Onward.{Onward}
+use Rattle.call_steps.specs.declared.step.HeapStep.{HeapStep}
+use Rattle.alloc_rules.specs.Shapes.{IsOnward}
+use Rattle.alloc_rules.specs.Laws.{HeapActsMove}
 
-module _ (m : Setup) (limits : HeapConfig) (cpus : ℕ) (p : Parts) (locals : List Local) (b : Books) (calls : List CallLine) (t : ℕ) (l : Local) where
-  abbrev at : HeapStep → Local
-  at row = record l { step = does.Heap row }
+module _ {P V R : Type 0} (r : FrontRules P V R) (about : R → About) (planned : Planned → Type 0) (entries : AreEntries r.calls about) where
+  module _ (huge labels : ℕ) (limits : HeapConfig) (p : Parts P) (locals : List (Local V R)) (b : Books) (calls : List CallLine) (t : ℕ) (l : Local V R) where
+    abbrev m : Setup
+    m = setup r huge labels
 
-  abbrev Before : HeapStep → Type 0
-  Before row = IsBefore m limits cpus p locals b calls t (at row)
+    abbrev at : HeapStep R → Local V R
+    at row = record l { step = does.Heap row }
 
-  abbrev Goal : HeapStep → heaps.Heap × Local → Type 0
-  Goal row x = Does m (record p { heap = x.0 }) b (at row) x.1
+    abbrev Before : HeapStep R → Type 0
+    Before row = IsBefore r about planned huge labels limits p locals b calls t (at row)
 
-  -- New
-  gets : (label : Label) (size : ℕ) → Before (New label size) → 0 < pages_holding size → (o : Option Placed) → new p.heap (pages_holding size) ≡ o → Goal (New label size) (after_new p.heap (at (New label size)) label size o)
-  gets label size before some None is =
-      let books = before.books in
-      record {
-        heap = b.heap;
-        spans = b.spans;
-        said = record { call = Malloc label size; answer = NoBlock } ∷ [];
-        move = moved_by m p locals b books _ _ b.heap b.spans _ (GetsNone label size _ refl (weighs_same _));
-        like_heap = books.heap;
-        like_spans = books.spans;
-        acts = refl;
-        answers = refl;
-      }
-  gets label size before some (Some x) is =
-      let books = before.books in
-      let region : 2 ≤ p.heap.config.region = omega (arith, before.region, ap (λ (c : HeapConfig). c.region) before.parts.config) in
-      let huge : p.heap.config.huge ≡ m.huge = ap (λ (c : HeapConfig). c.huge) before.parts.config ∙ before.huge in
-      let at_place = placed p.heap b.heap m.huge (pages_holding size) x before.parts.heap region huge books.heap some is in
-      let length_is : length_of m.rows size ≡ x.run.pages * page_bytes = no_row_length m.rows size before.shaped.step.1 ∙ ap (λ n. n * page_bytes) (sym at_place.1.pages) in
-      record {
-        heap = x.run ∷ b.heap;
-        spans = b.spans;
-        said = record { call = Malloc label size; answer = Block (address_of x.run) (x.run.pages * page_bytes) } ∷ [];
-        move = moved_by m p locals b books _ _ (x.run ∷ b.heap) b.spans _ (GetsRun label size x.run _ refl refl at_place.1 length_is (weighs_same _));
-        like_heap = λ r. omega (arith, like-with_run x.run p.heap.runs r, ap (runs_like r) at_place.0.runs, books.heap r);
-        like_spans = books.spans;
-        acts = refl;
-        answers = refl;
-      }
+    abbrev Goal : HeapStep R → heaps.Heap × Local V R → Type 0
+    Goal row x = Does r about m (record p { heap = x.0 }) b (at row) x.1
 
-  -- the run of a new span
-  gets_span : (a : Asking) → Before (NewSpan a) → 0 < (class_row m.rows l).pages → (o : Option Placed) → new p.heap (class_row m.rows l).pages ≡ o → Goal (NewSpan a) (after_new_span p.heap (at (NewSpan a)) a o)
-  gets_span a before some None is =
-      let books = before.books in
-      record {
-        heap = b.heap;
-        spans = b.spans;
-        said = record { call = Malloc a.label a.size; answer = NoBlock } ∷ [];
-        move = moved_by m p locals b books _ _ b.heap b.spans _ (GetsNone a.label a.size _ refl (weighs_same _));
-        like_heap = books.heap;
-        like_spans = books.spans;
-        acts = refl;
-        answers = refl;
-      }
-  gets_span a before some (Some x) is =
-      let books = before.books in
-      let region : 2 ≤ p.heap.config.region = omega (arith, before.region, ap (λ (c : HeapConfig). c.region) before.parts.config) in
-      let huge : p.heap.config.huge ≡ m.huge = ap (λ (c : HeapConfig). c.huge) before.parts.config ∙ before.huge in
-      let at_place = placed p.heap b.heap m.huge (class_row m.rows l).pages x before.parts.heap region huge books.heap some is in
-      record {
-        heap = x.run ∷ b.heap;
-        spans = b.spans;
-        said = [];
-        move = moved_by m p locals b books _ _ (x.run ∷ b.heap) b.spans _ (GetsSpan x.run _ before.shaped.class refl at_place.1 (weighs_same _));
-        like_heap = λ r. omega (arith, like-with_run x.run p.heap.runs r, ap (runs_like r) at_place.0.runs, books.heap r);
-        like_spans = books.spans;
-        acts = refl;
-        answers = sym (append-nil l.answers);
-      }
+    -- New
+    gets : (label : Label) (size : ℕ) → Before (New label size) → 0 < pages_holding size → (o : Option Placed) → new p.heap (pages_holding size) ≡ o → Goal (New label size) (after_new p.heap (at (New label size)) label size o)
+    gets label size before some None is =
+        let books = before.books in
+        record {
+          heap = b.heap;
+          spans = b.spans;
+          said = record { call = Malloc label size; answer = NoBlock } ∷ [];
+          move = moved_by r about m p locals b books _ _ b.heap b.spans _ (GetsNone label size _ refl (weighs_same _));
+          like_heap = books.heap;
+          like_spans = books.spans;
+          acts = refl;
+          answers = refl;
+        }
+    gets label size before some (Some x) is =
+        let books = before.books in
+        let region : 2 ≤ p.heap.config.region = omega (arith, before.region, ap (λ (c : HeapConfig). c.region) before.parts.config) in
+        let huge : p.heap.config.huge ≡ m.huge = ap (λ (c : HeapConfig). c.huge) before.parts.config ∙ before.same in
+        let at_place = placed p.heap b.heap m.huge (pages_holding size) x before.parts.heap region huge books.heap some is in
+        let length_is : length_of m.rows size ≡ x.run.pages * page_bytes = no_row_length m.rows size before.shaped.step.1 ∙ ap (λ n. n * page_bytes) (sym at_place.1.pages) in
+        record {
+          heap = x.run ∷ b.heap;
+          spans = b.spans;
+          said = record { call = Malloc label size; answer = Block (address_of x.run) (x.run.pages * page_bytes) } ∷ [];
+          move = moved_by r about m p locals b books _ _ (x.run ∷ b.heap) b.spans _ (GetsRun label size x.run _ refl refl at_place.1 length_is (weighs_same _));
+          like_heap = λ r. omega (arith, like-with_run x.run p.heap.runs r, ap (runs_like r) at_place.0.runs, books.heap r);
+          like_spans = books.spans;
+          acts = refl;
+          answers = refl;
+        }
 
-  -- a run that leaves
-  less_like : (r : Run) → AreBooksOf p locals b → heaps_sound.IsSound p.heap → Contains p.heap.runs r → (q : Run) → runs_like q (less r b.heap) ≡ runs_like q (freed p.heap r).runs
-  less_like r books sound there q =
-      let rid = free_leaves p.heap r sound there in
-      let some : 0 < runs_like r b.heap = omega (arith, there_counted r p.heap.runs there, books.heap r) in
-      omega (arith, like-without_run r p.heap.runs q there (one_run p.heap r sound there), ap (runs_like q) rid.runs, less_counts r b.heap some (like q), books.heap q)
+    -- the run of a new span
+    gets_span : (a : Asking) → Before (NewSpan a) → 0 < (class_row m.rows l).pages → (o : Option Placed) → new p.heap (class_row m.rows l).pages ≡ o → Goal (NewSpan a) (after_new_span p.heap (at (NewSpan a)) a o)
+    gets_span a before some None is =
+        let books = before.books in
+        record {
+          heap = b.heap;
+          spans = b.spans;
+          said = record { call = Malloc a.label a.size; answer = NoBlock } ∷ [];
+          move = moved_by r about m p locals b books _ _ b.heap b.spans _ (GetsNone a.label a.size _ refl (weighs_same _));
+          like_heap = books.heap;
+          like_spans = books.spans;
+          acts = refl;
+          answers = refl;
+        }
+    gets_span a before some (Some x) is =
+        let books = before.books in
+        let region : 2 ≤ p.heap.config.region = omega (arith, before.region, ap (λ (c : HeapConfig). c.region) before.parts.config) in
+        let huge : p.heap.config.huge ≡ m.huge = ap (λ (c : HeapConfig). c.huge) before.parts.config ∙ before.same in
+        let at_place = placed p.heap b.heap m.huge (class_row m.rows l).pages x before.parts.heap region huge books.heap some is in
+        record {
+          heap = x.run ∷ b.heap;
+          spans = b.spans;
+          said = [];
+          move = moved_by r about m p locals b books _ _ (x.run ∷ b.heap) b.spans _ (GetsSpan x.run _ before.shaped.class refl at_place.1 (weighs_same _));
+          like_heap = λ r. omega (arith, like-with_run x.run p.heap.runs r, ap (runs_like r) at_place.0.runs, books.heap r);
+          like_spans = books.spans;
+          acts = refl;
+          answers = sym (append-nil l.answers);
+        }
 
-  gives_back : (label : Label) (run : Run) → Before (GiveBack label run) → Contains p.heap.runs run → Goal (GiveBack label run) (heap_row (cpu_calls m.rows) p.heap (at (GiveBack label run)) (GiveBack label run))
-  gives_back label run before there =
-      let books = before.books in
-      let l' : Local = decided (at (GiveBack label run)) (Free label) (Freed (address_of run)) in
-      record {
-        heap = less run b.heap;
-        spans = b.spans;
-        said = record { call = Free label; answer = Freed (address_of run) } ∷ [];
-        move = moved_by m p locals b books _ _ (less run b.heap) b.spans _ (FreesRun label run _ refl refl refl refl (weighs_end m.rows l' before.shaped.step.hand));
-        like_heap = less_like run books before.parts.heap there;
-        like_spans = books.spans;
-        acts = (ends_counts m.rows l').0;
-        answers = (ends_counts m.rows l').1;
-      }
+    -- a run that leaves
+    less_like : (x : Run) → AreBooksOf r about p locals b → heaps_sound.IsSound p.heap → Contains p.heap.runs x → (q : Run) → runs_like q (less x b.heap) ≡ runs_like q (freed p.heap x).runs
+    less_like x books sound there q =
+        let rid = free_leaves p.heap x sound there in
+        let some : 0 < runs_like x b.heap = omega (arith, there_counted x p.heap.runs there, books.heap x) in
+        omega (arith, like-without_run x p.heap.runs q there (one_run p.heap x sound there), ap (runs_like q) rid.runs, less_counts x b.heap some (like q), books.heap q)
 
-  -- what is left to give back
-  clears_weighs : (l' : Local) (next : Onward) (xs : List SpanRef) → IsOnward (limits_of m cpus) next → l'.freed.items ≡ xs → l'.regs.hand.items ≡ [] → WeighSame (record (bare (onward_doing next) l'.regs.class.0 l'.regs.hand.items l'.rest) { apart = xs; mapped = xs }) (account_of (clears (cpu_calls m.rows) l' next xs)) × Counts l' (clears (cpu_calls m.rows) l' next xs)
-  clears_weighs l' next [] on is none = onward_weighs m.rows (limits_of m cpus) l' next on none
-  clears_weighs l' next (s ∷ others) on is none =
-      let wanted : List SpanRef → Account = λ xs. record (bare (onward_doing next) l'.regs.class.0 l'.regs.hand.items l'.rest) { apart = xs; mapped = xs } in
-      (subst (λ (xs : List SpanRef). WeighSame (wanted xs) (account_of (clears (cpu_calls m.rows) l' next (s ∷ others)))) is (weighs_same _), record { acts = refl; answers = refl })
+    gives_back : (label : Label) (run : Run) → Before (GiveBack label run) → Contains p.heap.runs run → Goal (GiveBack label run) (heap_row r.calls p.heap (at (GiveBack label run)) (GiveBack label run))
+    gives_back label run before there =
+        let books = before.books in
+        let l' : Local V R = decided (at (GiveBack label run)) (Free label) (Freed (address_of run)) in
+        record {
+          heap = less run b.heap;
+          spans = b.spans;
+          said = record { call = Free label; answer = Freed (address_of run) } ∷ [];
+          move = moved_by r about m p locals b books _ _ (less run b.heap) b.spans _ (FreesRun label run _ refl refl refl refl (weighs_end r.calls about entries l' before.shaped.step.hand));
+          like_heap = less_like run books before.parts.heap there;
+          like_spans = books.spans;
+          acts = (ends_counts r.calls l').0;
+          answers = (ends_counts r.calls l').1;
+        }
 
-  -- the first of the spans that left a shard is given back
-  frees : (next : Onward) (before : Before (FreeSpan next)) (xs : List SpanRef) → l.freed.items ≡ xs → FirstLives p.heap xs → Goal (FreeSpan next) (frees_span (cpu_calls m.rows) p.heap (at (FreeSpan next)) next xs)
-  frees next before [] is lives = absurd lives
-  frees next before (s ∷ others) is lives =
-      let books = before.books in
-      let l' : Local = with_freed (at (FreeSpan next)) (without_first_span l.freed others) in
-      let after = clears_weighs l' next others before.shaped.step.1 refl before.shaped.step.0.hand in
-      record {
-        heap = less (run_of s) b.heap;
-        spans = b.spans;
-        said = [];
-        move = moved_by m p locals b books _ _ (less (run_of s) b.heap) b.spans _ (FreesSpan s others _ (ap first_run is) is (ap (drop 1) is) (subst (λ (xs : List SpanRef). WeighSame (record (bare (onward_doing next) l.regs.class.0 l.regs.hand.items l.rest) { apart = others; mapped = xs }) (account_of (clears (cpu_calls m.rows) l' next others))) (sym (ap (drop 1) is)) after.0));
-        like_heap = less_like (run_of s) books before.parts.heap lives;
-        like_spans = books.spans;
-        acts = after.1.acts;
-        answers = after.1.answers ∙ sym (append-nil l.answers);
-      }
+    -- what is left to give back
+    clears_weighs : (l' : Local V R) (next : Onward R) (xs : List SpanRef) → IsOnward m.rows about next → l'.freed.items ≡ xs → l'.regs.hand.items ≡ [] → WeighSame (record (bare (onward_doing about next) l'.regs.class.0 l'.regs.hand.items l'.rest) { apart = xs; mapped = xs }) (account_of about (clears r.calls l' next xs)) × Counts l' (clears r.calls l' next xs)
+    clears_weighs l' next [] on is none = onward_weighs r.calls about entries m.rows l' next on none
+    clears_weighs l' next (s ∷ others) on is none =
+        let wanted : List SpanRef → Account = λ xs. record (bare (onward_doing about next) l'.regs.class.0 l'.regs.hand.items l'.rest) { apart = xs; mapped = xs } in
+        (subst (λ (xs : List SpanRef). WeighSame (wanted xs) (account_of about (clears r.calls l' next (s ∷ others)))) is (weighs_same _), record { acts = refl; answers = refl })
 
-  unbacks : (pages : ℕ) → Before (Unback pages) → Goal (Unback pages) (heap_row (cpu_calls m.rows) p.heap (at (Unback pages)) (Unback pages))
-  unbacks pages before =
-      let books = before.books in
-      let l' : Local = decided (at (Unback pages)) (Release pages) (Released (release p.heap pages).pages) in
-      let kept = release_keeps p.heap pages before.parts.heap in
-      record {
-        heap = b.heap;
-        spans = b.spans;
-        said = record { call = Release pages; answer = Released (release p.heap pages).pages } ∷ [];
-        move = moved_by m p locals b books _ _ b.heap b.spans _ (Rests _ _ (weighs_end m.rows l' before.shaped.step.hand) (One _ tt));
-        like_heap = λ r. omega (arith, books.heap r, ap (runs_like r) kept.runs);
-        like_spans = books.spans;
-        acts = (ends_counts m.rows l').0;
-        answers = (ends_counts m.rows l').1;
-      }
+    -- the first of the spans that left a shard is given back
+    frees : (next : Onward R) (before : Before (FreeSpan next)) (xs : List SpanRef) → l.freed.items ≡ xs → FirstLives p.heap xs → Goal (FreeSpan next) (frees_span r.calls p.heap (at (FreeSpan next)) next xs)
+    frees next before [] is lives = absurd lives
+    frees next before (s ∷ others) is lives =
+        let books = before.books in
+        let l' : Local V R = with_freed (at (FreeSpan next)) (without_first_span l.freed others) in
+        let after = clears_weighs l' next others before.shaped.step.1 refl before.shaped.step.0.hand in
+        record {
+          heap = less (run_of s) b.heap;
+          spans = b.spans;
+          said = [];
+          move = moved_by r about m p locals b books _ _ (less (run_of s) b.heap) b.spans _ (FreesSpan s others _ (ap first_run is) is (ap (drop 1) is) (subst (λ (xs : List SpanRef). WeighSame (record (bare (onward_doing about next) l.regs.class.0 l.regs.hand.items l.rest) { apart = others; mapped = xs }) (account_of about (clears r.calls l' next others))) (sym (ap (drop 1) is)) after.0));
+          like_heap = less_like (run_of s) books before.parts.heap lives;
+          like_spans = books.spans;
+          acts = after.1.acts;
+          answers = after.1.answers ∙ sym (append-nil l.answers);
+        }
 
-  by_row : (row : HeapStep) → Before row → FitsHeap m.rows p.heap (at row) row → Goal row (heap_row (cpu_calls m.rows) p.heap (at row) row)
-  by_row (New label size) before fits = gets label size before fits.0 (new p.heap (pages_holding size)) refl
-  by_row (NewSpan a) before fits = gets_span a before fits.1 (new p.heap (class_row m.rows l).pages) refl
-  by_row (GiveBack label run) before fits = gives_back label run before fits
-  by_row (FreeSpan next) before fits = frees next before l.freed.items refl fits
-  by_row (Unback pages) before fits = unbacks pages before
+    unbacks : (pages : ℕ) → Before (Unback pages) → Goal (Unback pages) (heap_row r.calls p.heap (at (Unback pages)) (Unback pages))
+    unbacks pages before =
+        let books = before.books in
+        let l' : Local V R = decided (at (Unback pages)) (Release pages) (Released (release p.heap pages).pages) in
+        let kept = release_keeps p.heap pages before.parts.heap in
+        record {
+          heap = b.heap;
+          spans = b.spans;
+          said = record { call = Release pages; answer = Released (release p.heap pages).pages } ∷ [];
+          move = moved_by r about m p locals b books _ _ b.heap b.spans _ (Rests _ _ (weighs_end r.calls about entries l' before.shaped.step.hand) (One _ tt));
+          like_heap = λ r. omega (arith, books.heap r, ap (runs_like r) kept.runs);
+          like_spans = books.spans;
+          acts = (ends_counts r.calls l').0;
+          answers = (ends_counts r.calls l').1;
+        }
 
-pub heap_acts_move : HeapActsMove
-heap_acts_move m limits cpus p locals b calls t l row before step fits =
-    let is : record l { step = does.Heap row } ≡ l = ap (λ s. record l { step = s }) (sym step) in
-    subst (λ (x : Local). IsBefore m limits cpus p locals b calls t x → FitsHeap m.rows p.heap x row → Does m (record p { heap = (heap_row (cpu_calls m.rows) p.heap x row).0 }) b x (heap_row (cpu_calls m.rows) p.heap x row).1) is (by_row m limits cpus p locals b calls t l row) before fits
+    by_row : (row : HeapStep R) → Before row → FitsHeap m.rows p.heap (at row) row → Goal row (heap_row r.calls p.heap (at row) row)
+    by_row (New label size) before fits = gets label size before fits.0 (new p.heap (pages_holding size)) refl
+    by_row (NewSpan a) before fits = gets_span a before fits.1 (new p.heap (class_row m.rows l).pages) refl
+    by_row (GiveBack label run) before fits = gives_back label run before fits
+    by_row (FreeSpan next) before fits = frees next before l.freed.items refl fits
+    by_row (Unback pages) before fits = unbacks pages before
+
+  pub heap_acts_move : HeapActsMove r about planned
+  heap_acts_move huge labels limits p locals b calls t l row before step fits =
+      let is : record l { step = does.Heap row } ≡ l = ap (λ s. record l { step = s }) (sym step) in
+      subst (λ (x : Local V R). IsBefore r about planned huge labels limits p locals b calls t x → FitsHeap r.calls.rows p.heap x row → Does r about (setup r huge labels) (record p { heap = (heap_row r.calls p.heap x row).0 }) b x (heap_row r.calls p.heap x row).1) is (by_row huge labels limits p locals b calls t l row) before fits

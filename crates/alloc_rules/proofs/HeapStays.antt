@@ -13,58 +13,61 @@ use Rattle.heap_rules.proofs.Given.{new_gives}
 use Rattle.heap_rules.proofs.Ended.{free_leaves}
 use Rattle.heap_rules.proofs.Released.{release_keeps}
 use Rattle.holdings.specs.Runs.{large, small, run_of}
-use Rattle.call_steps.specs.CpuCalls.{cpu_calls}
 use Rattle.call_steps.specs.declared.step.Asking.{Asking}
-use Rattle.call_steps.specs.PerCpu.{CpuLocal as Local, Onward, HeapStep, MapStep}
 use Rattle.call_steps.specs.declared.step.HeapStep.TheVariants.{New, NewSpan, GiveBack, FreeSpan, Unback}
 use Rattle.call_steps.specs.declared.step.MapStep.TheVariants.{Set, SetSpan, Lookup, Clear, ClearSpan}
-use Rattle.call_steps.specs.Local.{class_row}
+use Rattle.call_steps.specs.Local.{class_row, Local}
 use Rattle.call_steps.specs.Acts.{after_new, after_new_span, frees_span, heap_row, clears_span, map_row}
-use Rattle.call_steps.specs.Fits.{FitsHeap, FitsMap, FirstLives}
 use Rattle.alloc_rules.proofs.Placing.{given_at}
+use Rattle.call_steps.specs.declared.step.Onward.{Onward}
+use Rattle.call_steps.specs.declared.step.HeapStep.{HeapStep}
+use Rattle.call_steps.specs.declared.step.MapStep.{MapStep}
+use Rattle.call_steps.specs.Fronts.{FrontCalls}
+use Rattle.call_steps.specs.Fits.{FirstLives, FitsHeap, FitsMap}
 
 -- a heap of the same limits, which is sound
 pub record HeapStays (old new : heaps.Heap) : Type 0 where
   pub sound : IsSound new
   pub config : new.config ≡ old.config
 
-heap_same : (h : heaps.Heap) → IsSound h → HeapStays h h
-heap_same h sound = record { sound = sound; config = refl }
-
-new_stays : (h : heaps.Heap) (n : ℕ) (x : Placed) → IsSound h → 2 ≤ h.config.region → 0 < n → new h n ≡ Some x → HeapStays h x.heap
-new_stays h n x sound region some is = let given = given_at h n x is (new_gives h n sound region some) in record { sound = given.sound; config = given.config }
-
-by_new : (h : heaps.Heap) (l : Local) (label : Label) (size : ℕ) (o : Option Placed) → IsSound h → 2 ≤ h.config.region → 0 < pages_holding size → new h (pages_holding size) ≡ o → HeapStays h (after_new h l label size o).0
-by_new h l label size None sound region some is = heap_same h sound
-by_new h l label size (Some x) sound region some is = new_stays h (pages_holding size) x sound region some is
-
-by_span : (rows : List ClassRow) (h : heaps.Heap) (l : Local) (a : Asking) (o : Option Placed) → IsSound h → 2 ≤ h.config.region → 0 < (class_row rows l).pages → new h (class_row rows l).pages ≡ o → HeapStays h (after_new_span h l a o).0
-by_span rows h l a None sound region some is = heap_same h sound
-by_span rows h l a (Some x) sound region some is = new_stays h (class_row rows l).pages x sound region some is
-
-by_freed : (rows : List ClassRow) (h : heaps.Heap) (l : Local) (next : Onward) (xs : List SpanRef) → IsSound h → FirstLives h xs → HeapStays h (frees_span (cpu_calls rows) h l next xs).0
-by_freed rows h l next [] sound lives = absurd lives
-by_freed rows h l next (s ∷ others) sound lives = let rid = free_leaves h (run_of s) sound lives in record { sound = rid.sound; config = rid.config }
-
-pub heap_stays : (rows : List ClassRow) (h : heaps.Heap) (l : Local) (row : HeapStep) → IsSound h → 2 ≤ h.config.region → FitsHeap rows h l row → HeapStays h (heap_row (cpu_calls rows) h l row).0
-heap_stays rows h l (New label size) sound region fits = by_new h l label size (new h (pages_holding size)) sound region fits.0 refl
-heap_stays rows h l (NewSpan a) sound region fits = by_span rows h l a (new h (class_row rows l).pages) sound region fits.1 refl
-heap_stays rows h l (GiveBack label run) sound region fits = let rid = free_leaves h run sound fits in record { sound = rid.sound; config = rid.config }
-heap_stays rows h l (FreeSpan next) sound region fits = by_freed rows h l next l.freed.items sound fits
-heap_stays rows h l (Unback pages) sound region fits = let kept = release_keeps h pages sound in record { sound = kept.sound; config = kept.config }
-
 -- a map of the same arena, which is well formed
 pub record MapStays (old new : SpanMap) : Type 0 where
   pub well : IsWellFormed new
   pub huge : new.huge ≡ old.huge
 
-by_clear : (x : SpanMap) (l : Local) (next : Onward) (xs : List SpanRef) → IsWellFormed x → MapStays x (clears_span x l next xs).0
-by_clear x l next [] well = record { well = well; huge = refl }
-by_clear x l next (s ∷ others) well = record { well = without_span-well_formed x.huge s x.spans well; huge = refl }
+module _ {V R : Type 0} (e : FrontCalls V R) where
+  heap_same : (h : heaps.Heap) → IsSound h → HeapStays h h
+  heap_same h sound = record { sound = sound; config = refl }
 
-pub map_stays : (rows : List ClassRow) (x : SpanMap) (l : Local) (row : MapStep) → IsWellFormed x → FitsMap x l row → MapStays x (map_row (cpu_calls rows) x l row).0
-map_stays rows x l (Set label run) well fits = record { well = with_span-well_formed x.huge (large run) x.spans fits.0 fits.1 well; huge = refl }
-map_stays rows x l (SetSpan a run) well fits = record { well = with_span-well_formed x.huge (small l.regs.class run) x.spans fits.0 fits.1 well; huge = refl }
-map_stays rows x l (Lookup label addr) well fits = record { well = well; huge = refl }
-map_stays rows x l (Clear label run) well fits = record { well = without_span-well_formed x.huge (large run) x.spans well; huge = refl }
-map_stays rows x l (ClearSpan next) well fits = by_clear x l next l.freed.items well
+  new_stays : (h : heaps.Heap) (n : ℕ) (x : Placed) → IsSound h → 2 ≤ h.config.region → 0 < n → new h n ≡ Some x → HeapStays h x.heap
+  new_stays h n x sound region some is = let given = given_at h n x is (new_gives h n sound region some) in record { sound = given.sound; config = given.config }
+
+  by_new : (h : heaps.Heap) (l : Local V R) (label : Label) (size : ℕ) (o : Option Placed) → IsSound h → 2 ≤ h.config.region → 0 < pages_holding size → new h (pages_holding size) ≡ o → HeapStays h (after_new h l label size o).0
+  by_new h l label size None sound region some is = heap_same h sound
+  by_new h l label size (Some x) sound region some is = new_stays h (pages_holding size) x sound region some is
+
+  by_span : (rows : List ClassRow) (h : heaps.Heap) (l : Local V R) (a : Asking) (o : Option Placed) → IsSound h → 2 ≤ h.config.region → 0 < (class_row rows l).pages → new h (class_row rows l).pages ≡ o → HeapStays h (after_new_span h l a o).0
+  by_span rows h l a None sound region some is = heap_same h sound
+  by_span rows h l a (Some x) sound region some is = new_stays h (class_row rows l).pages x sound region some is
+
+  by_freed : (h : heaps.Heap) (l : Local V R) (next : Onward R) (xs : List SpanRef) → IsSound h → FirstLives h xs → HeapStays h (frees_span e h l next xs).0
+  by_freed h l next [] sound lives = absurd lives
+  by_freed h l next (s ∷ others) sound lives = let rid = free_leaves h (run_of s) sound lives in record { sound = rid.sound; config = rid.config }
+
+  pub heap_stays : (h : heaps.Heap) (l : Local V R) (row : HeapStep R) → IsSound h → 2 ≤ h.config.region → FitsHeap e.rows h l row → HeapStays h (heap_row e h l row).0
+  heap_stays h l (New label size) sound region fits = by_new h l label size (new h (pages_holding size)) sound region fits.0 refl
+  heap_stays h l (NewSpan a) sound region fits = by_span e.rows h l a (new h (class_row e.rows l).pages) sound region fits.1 refl
+  heap_stays h l (GiveBack label run) sound region fits = let rid = free_leaves h run sound fits in record { sound = rid.sound; config = rid.config }
+  heap_stays h l (FreeSpan next) sound region fits = by_freed h l next l.freed.items sound fits
+  heap_stays h l (Unback pages) sound region fits = let kept = release_keeps h pages sound in record { sound = kept.sound; config = kept.config }
+
+  by_clear : (x : SpanMap) (l : Local V R) (next : Onward R) (xs : List SpanRef) → IsWellFormed x → MapStays x (clears_span x l next xs).0
+  by_clear x l next [] well = record { well = well; huge = refl }
+  by_clear x l next (s ∷ others) well = record { well = without_span-well_formed x.huge s x.spans well; huge = refl }
+
+  pub map_stays : (x : SpanMap) (l : Local V R) (row : MapStep R) → IsWellFormed x → FitsMap x l row → MapStays x (map_row e x l row).0
+  map_stays x l (Set label run) well fits = record { well = with_span-well_formed x.huge (large run) x.spans fits.0 fits.1 well; huge = refl }
+  map_stays x l (SetSpan a run) well fits = record { well = with_span-well_formed x.huge (small l.regs.class run) x.spans fits.0 fits.1 well; huge = refl }
+  map_stays x l (Lookup label addr) well fits = record { well = well; huge = refl }
+  map_stays x l (Clear label run) well fits = record { well = without_span-well_formed x.huge (large run) x.spans well; huge = refl }
+  map_stays x l (ClearSpan next) well fits = by_clear x l next l.freed.items well

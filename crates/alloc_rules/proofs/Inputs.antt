@@ -10,12 +10,12 @@ use Rattle.std.proofs.Math.Seq.{append_snoc}
 use Rattle.tc_model.specs.declared.calls.Call.{Call}
 use Rattle.tc_model.specs.declared.calls.Call.TheVariants.{Malloc, Free, Release, Drain, Resize}
 use Rattle.tc_model.specs.declared.calls.Planned.{Planned}
-use Rattle.tc_model.specs.Input.{Input, ThreadCall, script_of, label_end, labels_of}
+use Rattle.tc_model.specs.Input.{Asked, ThreadCall, script_of, label_end, labels_of}
 use Rattle.holdings.proofs.Sums.{bit_most, sum_of_both}
 use Rattle.holdings.specs.Runs.{bit}
 use Rattle.holdings.specs.Accounts.{got, put, gets, puts}
-use Rattle.call_steps.specs.Shapes.{IsPlanned}
-use Rattle.alloc_rules.specs.Valid.{got_in, put_in, limits_in, IsInOrder, IsValid}
+use Rattle.tc_units.specs.declared.spans.ClassRow.{ClassRow}
+use Rattle.alloc_rules.specs.Valid.{got_in, put_in, IsInOrder, IsValid}
 
 -- the one number that passes among numbers in order
 none_in : (k v a n : ℕ) → k < a → sum_by (λ t. cond (eqb k t) v 0) (range_with_len a n) ≡ 0
@@ -35,7 +35,7 @@ one_in k v a (suc n) low high =
       | inr other ↦ (let e : cond (eqb k a) v 0 ≡ 0 = rw (ne_eqb k a other) refl in omega (arith, c, e, one_in k v (a + 1) n (omega (arith, other)) (omega arith)))
     ]
 
-pub sum-zero : {X : Type 0} (f : X → ℕ) (xs : List X) → ((x : X) → f x ≡ 0) → sum_by f xs ≡ 0
+sum-zero : {X : Type 0} (f : X → ℕ) (xs : List X) → ((x : X) → f x ≡ 0) → sum_by f xs ≡ 0
 sum-zero f [] none = refl
 sum-zero f (x ∷ xs) none = omega (arith, none x, sum-zero f xs none, sum_by-cons f x xs)
 
@@ -61,143 +61,144 @@ module _ (f : List Planned → ℕ) (w : Planned → ℕ) (nothing : f [] ≡ 0)
       let one = one_in c.thread.0 (w c.planned) 0 n (omega arith) (omega (arith, below [] c cs refl)) in
       omega (arith, rest, split, plus, one, sum_by-cons (λ (d : ThreadCall). w d.planned) c cs)
 
--- a number over the scripts of all threads
-abbrev pub in_scripts : (List Planned → ℕ) → Input → ℕ
-in_scripts f input = sum_by (λ t. f (script_of t input.asked.calls)) (range_with_len 0 input.asked.config.threads)
-
-in_threads : (input : Input) (f : List Planned → ℕ) (w : Planned → ℕ) → f [] ≡ 0 → ((p : Planned) (ps : List Planned) → f (p ∷ ps) ≡ w p + f ps) → IsValid input → in_scripts f input ≡ sum_by (λ (c : ThreadCall). w c.planned) input.asked.calls
-in_threads input f w nothing adds valid = over_threads f w nothing adds input.asked.config.threads input.asked.calls (λ earlier c later is. (valid.calls earlier c later is).thread)
-
--- Each rule in turn over all calls, from the first on.
-abbrev InOrder : List ThreadCall → List ThreadCall → Type 0
-InOrder earlier [] = Unit {0}
-InOrder earlier (c ∷ cs) = IsInOrder earlier c.planned.call × InOrder (earlier ++ c ∷ []) cs
-
-in_order : (input : Input) (earlier cs : List ThreadCall) → earlier ++ cs ≡ input.asked.calls → IsValid input → InOrder earlier cs
-in_order input earlier [] is valid = tt
-in_order input earlier (c ∷ cs) is valid = ((valid.calls earlier c cs is).order, in_order input (earlier ++ c ∷ []) cs (append_snoc earlier c cs ∙ is) valid)
-
 pub got_push : (x : ℕ) (earlier : List ThreadCall) (c : ThreadCall) → got_in x (earlier ++ c ∷ []) ≡ got_in x earlier + got x c.planned.call
 got_push x earlier c = omega (arith, sum_by-append (λ (d : ThreadCall). got x d.planned.call) earlier (c ∷ []), sum_by-cons (λ (d : ThreadCall). got x d.planned.call) c [])
 
 put_push : (x : ℕ) (earlier : List ThreadCall) (c : ThreadCall) → put_in x (earlier ++ c ∷ []) ≡ put_in x earlier + put x c.planned.call
 put_push x earlier c = omega (arith, sum_by-append (λ (d : ThreadCall). put x d.planned.call) earlier (c ∷ []), sum_by-cons (λ (d : ThreadCall). put x d.planned.call) c [])
 
--- what one call in order adds
-record Adds (x : ℕ) (earlier : List ThreadCall) (call : Call) : Type 0 where
-  pub got_once : got_in x earlier ≤ 1 → got_in x earlier + got x call ≤ 1
-  pub put_once : put_in x earlier ≤ 1 → put_in x earlier + put x call ≤ 1
-  pub got_first : 0 < put x call → 0 < got_in x earlier
+module _ (rows : List ClassRow) (planned : Planned → Type 0) where
+  -- a number over the scripts of all threads
+  abbrev pub in_scripts : (List Planned → ℕ) → Asked → ℕ
+  in_scripts f asked = sum_by (λ t. f (script_of t asked.calls)) (range_with_len 0 asked.config.threads)
 
-adds : (x : ℕ) (earlier : List ThreadCall) (call : Call) → IsInOrder earlier call → Adds x earlier call
-adds x earlier (Malloc label size) order =
-    record {
-      got_once = λ most. elim (cases_eq label.0 x) [
-        | inl same ↦ (let e : got_in x earlier ≡ 0 = subst (λ y. got_in y earlier ≡ 0) same order.1 in omega (arith, e, bit_most (eqb label.0 x)))
-        | inr other ↦ (let e : bit (eqb label.0 x) ≡ 0 = ap bit (ne_eqb label.0 x other) in omega (arith, most, e))
-      ];
-      put_once = λ most. omega arith;
-      got_first = λ some. absurd (omega arith);
-    }
-adds x earlier (Free label) order =
-    record {
-      got_once = λ most. omega arith;
-      put_once = λ most. elim (cases_eq label.0 x) [
-        | inl same ↦ (let e : put_in x earlier ≡ 0 = subst (λ y. put_in y earlier ≡ 0) same order.1 in omega (arith, e, bit_most (eqb label.0 x)))
-        | inr other ↦ (let e : bit (eqb label.0 x) ≡ 0 = ap bit (ne_eqb label.0 x other) in omega (arith, most, e))
-      ];
-      got_first = λ some. elim (cases_eq label.0 x) [
-        | inl same ↦ subst (λ y. 0 < got_in y earlier) same order.0
-        | inr other ↦ (let e : bit (eqb label.0 x) ≡ 0 = ap bit (ne_eqb label.0 x other) in absurd (omega (arith, some, e)))
-      ];
-    }
-adds x earlier (Release pages) order = record { got_once = λ most. omega arith; put_once = λ most. omega arith; got_first = λ some. absurd (omega arith) }
-adds x earlier (Drain cpu) order = record { got_once = λ most. omega arith; put_once = λ most. omega arith; got_first = λ some. absurd (omega arith) }
-adds x earlier (Resize cpu class cap) order = record { got_once = λ most. omega arith; put_once = λ most. omega arith; got_first = λ some. absurd (omega arith) }
+  in_threads : (asked : Asked) (f : List Planned → ℕ) (w : Planned → ℕ) → f [] ≡ 0 → ((p : Planned) (ps : List Planned) → f (p ∷ ps) ≡ w p + f ps) → IsValid rows planned asked → in_scripts f asked ≡ sum_by (λ (c : ThreadCall). w c.planned) asked.calls
+  in_threads asked f w nothing adds valid = over_threads f w nothing adds asked.config.threads asked.calls (λ earlier c later is. (valid.calls earlier c later is).thread)
 
-first_of_either : (a b : ℕ) {Q : Type 0} → 0 < a + b → (0 < a → Q) → (0 < b → Q) → Q
-first_of_either zero b some one two = two (omega arith)
-first_of_either (suc a) b some one two = one (omega arith)
+  -- Each rule in turn over all calls, from the first on.
+  abbrev InOrder : List ThreadCall → List ThreadCall → Type 0
+  InOrder earlier [] = Unit {0}
+  InOrder earlier (c ∷ cs) = IsInOrder earlier c.planned.call × InOrder (earlier ++ c ∷ []) cs
 
--- and over all calls
-record Counts (x : ℕ) (calls : List ThreadCall) : Type 0 where
-  pub got_once : got_in x calls ≤ 1
-  pub put_once : put_in x calls ≤ 1
-  pub got_first : 0 < put_in x calls → 0 < got_in x calls
+  in_order : (asked : Asked) (earlier cs : List ThreadCall) → earlier ++ cs ≡ asked.calls → IsValid rows planned asked → InOrder earlier cs
+  in_order asked earlier [] is valid = tt
+  in_order asked earlier (c ∷ cs) is valid = ((valid.calls earlier c cs is).order, in_order asked (earlier ++ c ∷ []) cs (append_snoc earlier c cs ∙ is) valid)
 
-counts : (x : ℕ) (earlier cs : List ThreadCall) → InOrder earlier cs → Counts x earlier → Counts x (earlier ++ cs)
-counts x earlier [] order so_far = subst (Counts x) (sym (append-nil earlier)) so_far
-counts x earlier (c ∷ cs) order so_far =
-    let a = adds x earlier c.planned.call order.0 in
-    let g = got_push x earlier c in
-    let p = put_push x earlier c in
-    let next : Counts x (earlier ++ c ∷ []) = record {
-      got_once = omega (arith, g, a.got_once so_far.got_once);
-      put_once = omega (arith, p, a.put_once so_far.put_once);
-      got_first = λ some. first_of_either (put_in x earlier) (put x c.planned.call) (omega (arith, some, p)) (λ old. omega (arith, g, so_far.got_first old)) (λ own. omega (arith, g, a.got_first own));
-    } in
-    subst (Counts x) (append_snoc earlier c cs) (counts x (earlier ++ c ∷ []) cs order.1 next)
+  -- what one call in order adds
+  record Adds (x : ℕ) (earlier : List ThreadCall) (call : Call) : Type 0 where
+    pub got_once : got_in x earlier ≤ 1 → got_in x earlier + got x call ≤ 1
+    pub put_once : put_in x earlier ≤ 1 → put_in x earlier + put x call ≤ 1
+    pub got_first : 0 < put x call → 0 < got_in x earlier
 
-counted : (input : Input) (x : ℕ) → IsValid input → Counts x input.asked.calls
-counted input x valid = counts x [] input.asked.calls (in_order input [] input.asked.calls refl valid) (record { got_once = omega arith; put_once = omega arith; got_first = λ some. absurd (omega arith) })
+  adds : (x : ℕ) (earlier : List ThreadCall) (call : Call) → IsInOrder earlier call → Adds x earlier call
+  adds x earlier (Malloc label size) order =
+      record {
+        got_once = λ most. elim (cases_eq label.0 x) [
+          | inl same ↦ (let e : got_in x earlier ≡ 0 = subst (λ y. got_in y earlier ≡ 0) same order.1 in omega (arith, e, bit_most (eqb label.0 x)))
+          | inr other ↦ (let e : bit (eqb label.0 x) ≡ 0 = ap bit (ne_eqb label.0 x other) in omega (arith, most, e))
+        ];
+        put_once = λ most. omega arith;
+        got_first = λ some. absurd (omega arith);
+      }
+  adds x earlier (Free label) order =
+      record {
+        got_once = λ most. omega arith;
+        put_once = λ most. elim (cases_eq label.0 x) [
+          | inl same ↦ (let e : put_in x earlier ≡ 0 = subst (λ y. put_in y earlier ≡ 0) same order.1 in omega (arith, e, bit_most (eqb label.0 x)))
+          | inr other ↦ (let e : bit (eqb label.0 x) ≡ 0 = ap bit (ne_eqb label.0 x other) in omega (arith, most, e))
+        ];
+        got_first = λ some. elim (cases_eq label.0 x) [
+          | inl same ↦ subst (λ y. 0 < got_in y earlier) same order.0
+          | inr other ↦ (let e : bit (eqb label.0 x) ≡ 0 = ap bit (ne_eqb label.0 x other) in absurd (omega (arith, some, e)))
+        ];
+      }
+  adds x earlier (Release pages) order = record { got_once = λ most. omega arith; put_once = λ most. omega arith; got_first = λ some. absurd (omega arith) }
+  adds x earlier (Drain cpu) order = record { got_once = λ most. omega arith; put_once = λ most. omega arith; got_first = λ some. absurd (omega arith) }
+  adds x earlier (Resize cpu class cap) order = record { got_once = λ most. omega arith; put_once = λ most. omega arith; got_first = λ some. absurd (omega arith) }
 
-zero_or : (n : ℕ) → (0 < n → ⊥) → n ≡ 0
-zero_or zero no_more = refl
-zero_or (suc n) no_more = absurd (no_more (omega arith))
+  first_of_either : (a b : ℕ) {Q : Type 0} → 0 < a + b → (0 < a → Q) → (0 < b → Q) → Q
+  first_of_either zero b some one two = two (omega arith)
+  first_of_either (suc a) b some one two = one (omega arith)
 
--- no label past the end is allocated
-fold_least : (most : ℕ) (cs : List ThreadCall) → most ≤ fold (λ n (c : ThreadCall). max n (label_end c.planned.call)) most cs
-fold_least most [] = omega arith
-fold_least most (c ∷ cs) = omega (arith, fold_least (max most (label_end c.planned.call)) cs)
+  -- and over all calls
+  record Counts (x : ℕ) (calls : List ThreadCall) : Type 0 where
+    pub got_once : got_in x calls ≤ 1
+    pub put_once : put_in x calls ≤ 1
+    pub got_first : 0 < put_in x calls → 0 < got_in x calls
 
-got_end : (x : ℕ) (call : Call) → 0 < got x call → x < label_end call
-got_end x (Malloc label size) some = elim (cases_eq label.0 x) [
-  | inl same ↦ omega (arith, same)
-  | inr other ↦ (let e : bit (eqb label.0 x) ≡ 0 = ap bit (ne_eqb label.0 x other) in absurd (omega (arith, some, e)))
-]
-got_end x (Free label) some = absurd (omega arith)
-got_end x (Release pages) some = absurd (omega arith)
-got_end x (Drain cpu) some = absurd (omega arith)
-got_end x (Resize cpu class cap) some = absurd (omega arith)
+  counts : (x : ℕ) (earlier cs : List ThreadCall) → InOrder earlier cs → Counts x earlier → Counts x (earlier ++ cs)
+  counts x earlier [] order so_far = subst (Counts x) (sym (append-nil earlier)) so_far
+  counts x earlier (c ∷ cs) order so_far =
+      let a = adds x earlier c.planned.call order.0 in
+      let g = got_push x earlier c in
+      let p = put_push x earlier c in
+      let next : Counts x (earlier ++ c ∷ []) = record {
+        got_once = omega (arith, g, a.got_once so_far.got_once);
+        put_once = omega (arith, p, a.put_once so_far.put_once);
+        got_first = λ some. first_of_either (put_in x earlier) (put x c.planned.call) (omega (arith, some, p)) (λ old. omega (arith, g, so_far.got_first old)) (λ own. omega (arith, g, a.got_first own));
+      } in
+      subst (Counts x) (append_snoc earlier c cs) (counts x (earlier ++ c ∷ []) cs order.1 next)
 
-got_below : (x most : ℕ) (cs : List ThreadCall) → 0 < got_in x cs → x < fold (λ n (c : ThreadCall). max n (label_end c.planned.call)) most cs
-got_below x most [] some = absurd (omega arith)
-got_below x most (c ∷ cs) some =
-    first_of_either (got x c.planned.call) (got_in x cs) (omega (arith, some, sum_by-cons (λ (d : ThreadCall). got x d.planned.call) c cs))
-    (λ own. omega (arith, got_end x c.planned.call own, fold_least (max most (label_end c.planned.call)) cs))
-    (λ later. got_below x (max most (label_end c.planned.call)) cs later)
+  counted : (asked : Asked) (x : ℕ) → IsValid rows planned asked → Counts x asked.calls
+  counted asked x valid = counts x [] asked.calls (in_order asked [] asked.calls refl valid) (record { got_once = omega arith; put_once = omega arith; got_first = λ some. absurd (omega arith) })
 
--- each label is allocated once and freed once, and is one of the names
-pub record IsOnce (input : Input) : Type 0 where
-  pub allocated : (x : ℕ) → in_scripts (gets x) input ≤ 1
-  pub freed : (x : ℕ) → in_scripts (puts x) input ≤ 1
-  pub below : (x : ℕ) → labels_of input.asked ≤ x → (in_scripts (gets x) input ≡ 0) × (in_scripts (puts x) input ≡ 0)
+  zero_or : (n : ℕ) → (0 < n → ⊥) → n ≡ 0
+  zero_or zero no_more = refl
+  zero_or (suc n) no_more = absurd (no_more (omega arith))
 
-pub both_in : (input : Input) (x : ℕ) → in_scripts (λ script. gets x script + puts x script) input ≡ in_scripts (gets x) input + in_scripts (puts x) input
-both_in input x = sum_of_both (λ t. gets x (script_of t input.asked.calls)) (λ t. puts x (script_of t input.asked.calls)) (range_with_len 0 input.asked.config.threads)
+  -- no label past the end is allocated
+  fold_least : (most : ℕ) (cs : List ThreadCall) → most ≤ fold (λ n (c : ThreadCall). max n (label_end c.planned.call)) most cs
+  fold_least most [] = omega arith
+  fold_least most (c ∷ cs) = omega (arith, fold_least (max most (label_end c.planned.call)) cs)
 
-pub valid_once : (input : Input) → IsValid input → IsOnce input
-valid_once input valid =
-    let gets_are = λ (x : ℕ). in_threads input (gets x) (λ p. got x p.call) refl (λ p ps. refl) valid in
-    let puts_are = λ (x : ℕ). in_threads input (puts x) (λ p. put x p.call) refl (λ p ps. refl) valid in
-    record {
-      allocated = λ x. omega (arith, gets_are x, (counted input x valid).got_once);
-      freed = λ x. omega (arith, puts_are x, (counted input x valid).put_once);
-      below = λ x past.
-          let none : got_in x input.asked.calls ≡ 0 = zero_or (got_in x input.asked.calls) (λ some. let h = got_below x 0 input.asked.calls some in absurd (omega (arith, h, past))) in
-          let none_put : put_in x input.asked.calls ≡ 0 = zero_or (put_in x input.asked.calls) (λ some. let h = (counted input x valid).got_first some in absurd (omega (arith, h, none))) in
-          (omega (arith, gets_are x, none), omega (arith, puts_are x, none_put));
-    }
+  got_end : (x : ℕ) (call : Call) → 0 < got x call → x < label_end call
+  got_end x (Malloc label size) some = elim (cases_eq label.0 x) [
+    | inl same ↦ omega (arith, same)
+    | inr other ↦ (let e : bit (eqb label.0 x) ≡ 0 = ap bit (ne_eqb label.0 x other) in absurd (omega (arith, some, e)))
+  ]
+  got_end x (Free label) some = absurd (omega arith)
+  got_end x (Release pages) some = absurd (omega arith)
+  got_end x (Drain cpu) some = absurd (omega arith)
+  got_end x (Resize cpu class cap) some = absurd (omega arith)
 
--- the calls of a thread's script are there
-planned_in : (input : Input) (t : ℕ) (cs : List ThreadCall) → ((earlier : List ThreadCall) (c : ThreadCall) (later : List ThreadCall) → earlier ++ c ∷ later ≡ cs → IsPlanned (limits_in input) c.planned) → All (IsPlanned (limits_in input)) (script_of t cs)
-planned_in input t [] each = All-nil (IsPlanned (limits_in input))
-planned_in input t (c ∷ cs) each =
-    let rest = planned_in input t cs (λ earlier d later is. each (c ∷ earlier) d later (ap (λ xs. c ∷ xs) is)) in
-    elim (cases_eq c.thread.0 t) [
-      | inl same ↦ (let e = eq-eqb c.thread.0 t same in rw e (All-cons (IsPlanned (limits_in input)) c.planned (script_of t cs) (each [] c cs refl) rest))
-      | inr other ↦ (let e = ne_eqb c.thread.0 t other in rw e rest)
-    ]
+  got_below : (x most : ℕ) (cs : List ThreadCall) → 0 < got_in x cs → x < fold (λ n (c : ThreadCall). max n (label_end c.planned.call)) most cs
+  got_below x most [] some = absurd (omega arith)
+  got_below x most (c ∷ cs) some =
+      first_of_either (got x c.planned.call) (got_in x cs) (omega (arith, some, sum_by-cons (λ (d : ThreadCall). got x d.planned.call) c cs))
+      (λ own. omega (arith, got_end x c.planned.call own, fold_least (max most (label_end c.planned.call)) cs))
+      (λ later. got_below x (max most (label_end c.planned.call)) cs later)
 
-pub valid_planned : (input : Input) (t : ℕ) → IsValid input → All (IsPlanned (limits_in input)) (script_of t input.asked.calls)
-valid_planned input t valid = planned_in input t input.asked.calls (λ earlier c later is. (valid.calls earlier c later is).planned)
+  -- each label is allocated once and freed once, and is one of the names
+  pub record IsOnce (asked : Asked) : Type 0 where
+    pub allocated : (x : ℕ) → in_scripts (gets x) asked ≤ 1
+    pub freed : (x : ℕ) → in_scripts (puts x) asked ≤ 1
+    pub below : (x : ℕ) → labels_of asked ≤ x → (in_scripts (gets x) asked ≡ 0) × (in_scripts (puts x) asked ≡ 0)
+
+  pub both_in : (asked : Asked) (x : ℕ) → in_scripts (λ script. gets x script + puts x script) asked ≡ in_scripts (gets x) asked + in_scripts (puts x) asked
+  both_in asked x = sum_of_both (λ t. gets x (script_of t asked.calls)) (λ t. puts x (script_of t asked.calls)) (range_with_len 0 asked.config.threads)
+
+  pub valid_once : (asked : Asked) → IsValid rows planned asked → IsOnce asked
+  valid_once asked valid =
+      let gets_are = λ (x : ℕ). in_threads asked (gets x) (λ p. got x p.call) refl (λ p ps. refl) valid in
+      let puts_are = λ (x : ℕ). in_threads asked (puts x) (λ p. put x p.call) refl (λ p ps. refl) valid in
+      record {
+        allocated = λ x. omega (arith, gets_are x, (counted asked x valid).got_once);
+        freed = λ x. omega (arith, puts_are x, (counted asked x valid).put_once);
+        below = λ x past.
+            let none : got_in x asked.calls ≡ 0 = zero_or (got_in x asked.calls) (λ some. let h = got_below x 0 asked.calls some in absurd (omega (arith, h, past))) in
+            let none_put : put_in x asked.calls ≡ 0 = zero_or (put_in x asked.calls) (λ some. let h = (counted asked x valid).got_first some in absurd (omega (arith, h, none))) in
+            (omega (arith, gets_are x, none), omega (arith, puts_are x, none_put));
+      }
+
+  -- the calls of a thread's script are there
+  planned_in : (asked : Asked) (t : ℕ) (cs : List ThreadCall) → ((earlier : List ThreadCall) (c : ThreadCall) (later : List ThreadCall) → earlier ++ c ∷ later ≡ cs → planned c.planned) → All (planned) (script_of t cs)
+  planned_in asked t [] each = All-nil (planned)
+  planned_in asked t (c ∷ cs) each =
+      let rest = planned_in asked t cs (λ earlier d later is. each (c ∷ earlier) d later (ap (λ xs. c ∷ xs) is)) in
+      elim (cases_eq c.thread.0 t) [
+        | inl same ↦ (let e = eq-eqb c.thread.0 t same in rw e (All-cons (planned) c.planned (script_of t cs) (each [] c cs refl) rest))
+        | inr other ↦ (let e = ne_eqb c.thread.0 t other in rw e rest)
+      ]
+
+  pub valid_planned : (asked : Asked) (t : ℕ) → IsValid rows planned asked → All (planned) (script_of t asked.calls)
+  valid_planned asked t valid = planned_in asked t asked.calls (λ earlier c later is. (valid.calls earlier c later is).planned)

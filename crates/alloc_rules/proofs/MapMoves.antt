@@ -23,159 +23,183 @@ use Rattle.holdings.specs.Moves.{SetsRun, SetsSpan, FindsObject, FindsRun, Clear
 use Rattle.holdings.proofs.Sums.{like_span, without_counts}
 use Rattle.holdings.proofs.MapFacts.{is_large}
 use Rattle.holdings.proofs.Finding.{frees_find}
-use Rattle.call_steps.specs.CpuCalls.{cpu_calls}
 use Rattle.call_steps.specs.declared.step.Asking.{Asking}
-use Rattle.call_steps.specs.PerCpu.{CpuLocal as Local, Onward, MapStep}
 use Rattle.call_steps.specs.declared.step.MapStep.TheVariants.{Set, SetSpan, Lookup, Clear, ClearSpan}
 use Rattle.call_steps.specs.declared.step.Step.TheVariants as does
 use Rattle.call_steps.specs.Acts.{map_row, after_lookup, found, clears_span}
-use Rattle.call_steps.specs.Fits.{FitsMap, FirstIsThere}
-use Rattle.alloc_rules.specs.Machine.{Parts}
-use Rattle.alloc_rules.specs.Accounts.{first_run}
-use Rattle.alloc_rules.specs.CpuAccounts.{account_of, onward_doing}
-use Rattle.alloc_rules.specs.Stocks.{AreBooksOf, Does}
-use Rattle.alloc_rules.specs.Acts.{IsBefore, MapActsMove}
-use Rattle.alloc_rules.proofs.Weighing.{bare, weighs_same, weighs_is}
+use Rattle.call_steps.specs.Fits.{FirstIsThere, FitsMap}
+use Rattle.alloc_rules.proofs.Weighing.{bare, weighs_same, weighs_is, entry_is}
 use Rattle.alloc_rules.proofs.Moved.{moved_by}
 use Rattle.alloc_rules.proofs.Likes.{like-with_span, like-without_span, span_counted, span_there}
 use Rattle.alloc_rules.proofs.Lists.{one_first, only_holder}
+use Rattle.tc_model.specs.declared.calls.Planned.{Planned}
+use Rattle.call_steps.specs.Local.{Local}
+use Rattle.call_steps.specs.Calls.{About}
+use Rattle.alloc_rules.specs.Accounts.{account_of, onward_doing, first_run}
+use Rattle.alloc_rules.specs.FrontLaw.{FrontRules, AreEntries}
+use Rattle.alloc_rules.specs.Machine.{Parts}
+use Rattle.alloc_rules.specs.Stocks.{AreBooksOf, Does}
+use Rattle.alloc_rules.specs.Acts.{setup, IsBefore}
+use Rattle.tc_units.specs.Bag.{Contents}
+use Rattle.tc_units.specs.declared.units.Class.{Class}
+use Rattle.rseq_core.specs.declared.regs.Regs.{Regs}
+use Rattle.rseq_core.specs.Bags.{appended}
+use Rattle.call_steps.specs.declared.step.Freeing.{Freeing}
+use Rattle.call_steps.specs.declared.step.Onward.{Onward}
+use Rattle.call_steps.specs.declared.step.MapStep.{MapStep}
+use Rattle.call_steps.specs.declared.step.Giving.TheVariants as giving
+use Rattle.call_steps.specs.declared.step.ShardStep.TheVariants as shard
+use Rattle.call_steps.specs.Hands.{with_regs}
+use Rattle.call_steps.specs.Calls as calls_are
+use Rattle.alloc_rules.specs.Laws.{MapActsMove}
 
--- the account of a thread among all
-pub account_at : (p : Parts) (locals : List Local) (b : Books) (t : ℕ) (l : Local) → AreBooksOf p locals b → slice_get locals t ≡ Some l → slice_get b.accounts t ≡ Some (account_of l)
-account_at p locals b t l books local = ap (λ (xs : List Account). slice_get xs t) books.accounts ∙ (slice_get-map account_of locals t ∙ ap (option_map account_of) local)
+module _ {P V R : Type 0} (r : FrontRules P V R) (about : R → About) (planned : Planned → Type 0) (entries : AreEntries r.calls about) where
+  -- the account of a thread among all
+  pub account_at : (p : Parts P) (locals : List (Local V R)) (b : Books) (t : ℕ) (l : Local V R) → AreBooksOf r about p locals b → slice_get locals t ≡ Some l → slice_get b.accounts t ≡ Some (account_of about l)
+  account_at p locals b t l books local = ap (λ (xs : List Account). slice_get xs t) books.accounts ∙ (slice_get-map (account_of about) locals t ∙ ap (option_map (account_of about)) local)
 
-module _ (m : Setup) (limits : HeapConfig) (cpus : ℕ) (p : Parts) (locals : List Local) (b : Books) (calls : List CallLine) (t : ℕ) (l : Local) where
-  abbrev at : MapStep → Local
-  at row = record l { step = does.Map row }
+  module _ (huge labels : ℕ) (limits : HeapConfig) (p : Parts P) (locals : List (Local V R)) (b : Books) (calls : List CallLine) (t : ℕ) (l : Local V R) where
+    abbrev m : Setup
+    m = setup r huge labels
 
-  abbrev Before : MapStep → Type 0
-  Before row = IsBefore m limits cpus p locals b calls t (at row)
+    abbrev at : MapStep R → Local V R
+    at row = record l { step = does.Map row }
 
-  abbrev Goal : MapStep → SpanMap × Local → Type 0
-  Goal row x = Does m (record p { map = x.0 }) b (at row) x.1
+    abbrev Before : MapStep R → Type 0
+    Before row = IsBefore r about planned huge labels limits p locals b calls t (at row)
 
-  sets : (label : Label) (run : Run) → Before (Set label run) → Goal (Set label run) (map_row (cpu_calls m.rows) p.map (at (Set label run)) (Set label run))
-  sets label run before =
-      let books = before.books in
-      record {
-        heap = b.heap;
-        spans = large run ∷ b.spans;
-        said = [];
-        move = moved_by m p locals b books _ _ b.heap (large run ∷ b.spans) _ (SetsRun run _ refl refl (weighs_same _));
-        like_heap = books.heap;
-        like_spans = λ s. omega (arith, like-with_span (large run) p.map.spans s, books.spans s);
-        acts = refl;
-        answers = sym (append-nil l.answers);
-      }
+    abbrev Goal : MapStep R → SpanMap × Local V R → Type 0
+    Goal row x = Does r about m (record p { map = x.0 }) b (at row) x.1
 
-  sets_span : (a : Asking) (run : Run) → Before (SetSpan a run) → Goal (SetSpan a run) (map_row (cpu_calls m.rows) p.map (at (SetSpan a run)) (SetSpan a run))
-  sets_span a run before =
-      let books = before.books in
-      record {
-        heap = b.heap;
-        spans = small l.regs.class run ∷ b.spans;
-        said = [];
-        move = moved_by m p locals b books _ _ b.heap (small l.regs.class run ∷ b.spans) _ (SetsSpan run [] _ refl refl refl (weighs_same _));
-        like_heap = books.heap;
-        like_spans = λ s. omega (arith, like-with_span (small l.regs.class run) p.map.spans s, books.spans s);
-        acts = refl;
-        answers = sym (append-nil l.answers);
-      }
+    sets : (label : Label) (run : Run) → Before (Set label run) → Goal (Set label run) (map_row r.calls p.map (at (Set label run)) (Set label run))
+    sets label run before =
+        let books = before.books in
+        record {
+          heap = b.heap;
+          spans = large run ∷ b.spans;
+          said = [];
+          move = moved_by r about m p locals b books _ _ b.heap (large run ∷ b.spans) _ (SetsRun run _ refl refl (weighs_same _));
+          like_heap = books.heap;
+          like_spans = λ s. omega (arith, like-with_span (large run) p.map.spans s, books.spans s);
+          acts = refl;
+          answers = sym (append-nil l.answers);
+        }
 
-  -- a span that leaves the map
-  left_like : (s : SpanRef) (row : MapStep) → Before row → Contains p.map.spans s → (x : SpanRef) → spans_like x (without s b.spans) ≡ spans_like x (without_span s p.map.spans)
-  left_like s row before there x =
-      let some : 0 < spans_like s b.spans = omega (arith, span_counted s p.map.spans there, before.books.spans s) in
-      omega (arith, like-without_span s p.map.spans x there (one_first p.map.huge p.map.spans s.first.0 before.parts.map), without_counts s b.spans some (like_span x), before.books.spans x)
+    sets_span : (a : Asking) (run : Run) → Before (SetSpan a run) → Goal (SetSpan a run) (map_row r.calls p.map (at (SetSpan a run)) (SetSpan a run))
+    sets_span a run before =
+        let books = before.books in
+        record {
+          heap = b.heap;
+          spans = small l.regs.class run ∷ b.spans;
+          said = [];
+          move = moved_by r about m p locals b books _ _ b.heap (small l.regs.class run ∷ b.spans) _ (SetsSpan run [] _ refl refl refl (weighs_same _));
+          like_heap = books.heap;
+          like_spans = λ s. omega (arith, like-with_span (small l.regs.class run) p.map.spans s, books.spans s);
+          acts = refl;
+          answers = sym (append-nil l.answers);
+        }
 
-  clears_run : (label : Label) (run : Run) → Before (Clear label run) → Contains p.map.spans (large run) → Goal (Clear label run) (map_row (cpu_calls m.rows) p.map (at (Clear label run)) (Clear label run))
-  clears_run label run before there =
-      let books = before.books in
-      record {
-        heap = b.heap;
-        spans = without (large run) b.spans;
-        said = [];
-        move = moved_by m p locals b books _ _ b.heap (without (large run) b.spans) _ (ClearsRun label run _ refl refl refl (weighs_same _));
-        like_heap = books.heap;
-        like_spans = left_like (large run) (Clear label run) before there;
-        acts = refl;
-        answers = sym (append-nil l.answers);
-      }
+    -- a span that leaves the map
+    left_like : (s : SpanRef) (row : MapStep R) → Before row → Contains p.map.spans s → (x : SpanRef) → spans_like x (without s b.spans) ≡ spans_like x (without_span s p.map.spans)
+    left_like s row before there x =
+        let some : 0 < spans_like s b.spans = omega (arith, span_counted s p.map.spans there, before.books.spans s) in
+        omega (arith, like-without_span s p.map.spans x there (one_first p.map.huge p.map.spans s.first.0 before.parts.map), without_counts s b.spans some (like_span x), before.books.spans x)
 
-  -- the first of the spans that left a shard is cleared
-  abbrev with_spans : Onward → List SpanRef → Account
-  with_spans next xs = record (bare (onward_doing next) l.regs.class.0 l.regs.hand.items l.rest) { off = first_run xs; apart = xs; mapped = drop 1 xs }
+    clears_run : (label : Label) (run : Run) → Before (Clear label run) → Contains p.map.spans (large run) → Goal (Clear label run) (map_row r.calls p.map (at (Clear label run)) (Clear label run))
+    clears_run label run before there =
+        let books = before.books in
+        record {
+          heap = b.heap;
+          spans = without (large run) b.spans;
+          said = [];
+          move = moved_by r about m p locals b books _ _ b.heap (without (large run) b.spans) _ (ClearsRun label run _ refl refl refl (weighs_same _));
+          like_heap = books.heap;
+          like_spans = left_like (large run) (Clear label run) before there;
+          acts = refl;
+          answers = sym (append-nil l.answers);
+        }
 
-  clears_first : (next : Onward) → Before (ClearSpan next) → (xs : List SpanRef) → l.freed.items ≡ xs → FirstIsThere p.map xs → Goal (ClearSpan next) (clears_span p.map (at (ClearSpan next)) next xs)
-  clears_first next before [] is there = absurd there
-  clears_first next before (s ∷ others) is there =
-      let books = before.books in
-      record {
-        heap = b.heap;
-        spans = without s b.spans;
-        said = [];
-        move = moved_by m p locals b books _ _ b.heap (without s b.spans) _ (ClearsSpan s others _ is refl (subst (λ (xs : List SpanRef). WeighSame (record (account_of (at (ClearSpan next))) { mapped = others; off = run_of s ∷ [] }) (with_spans next xs)) (sym is) (subst (λ (xs : List SpanRef). WeighSame (record (bare (onward_doing next) l.regs.class.0 l.regs.hand.items l.rest) { off = run_of s ∷ []; apart = xs; mapped = others }) (with_spans next (s ∷ others))) (sym is) (weighs_same _))));
-        like_heap = books.heap;
-        like_spans = left_like s (ClearSpan next) before there;
-        acts = refl;
-        answers = sym (append-nil l.answers);
-      }
+    -- the first of the spans that left a shard is cleared
+    abbrev with_spans : Onward R → List SpanRef → Account
+    with_spans next xs = record (bare (onward_doing about next) l.regs.class.0 l.regs.hand.items l.rest) { off = first_run xs; apart = xs; mapped = drop 1 xs }
 
-  -- Lookup: an object's span, and a large block's, which begins at the address
-  starts : (label : Label) (addr : Addr) (span : SpanRef) → Before (Lookup label addr) → Contains p.map.spans span → holds (addr.0 / page_bytes) span ≡ true → span.kind ≡ Large → addr ≡ address_of (run_of span)
-  starts label addr span before there held kind =
-      let f : Found m b addr = frees_find m b calls t (account_of (at (Lookup label addr))) label addr before.facts (account_at p locals b t (at (Lookup label addr)) before.books before.local) refl refl in
-      let at_map : Contains p.map.spans f.span = span_there f.span p.map.spans (omega (arith, f.there, before.books.spans f.span)) in
-      let same : f.span ≡ span = only_holder (addr.0 / page_bytes) p.map.spans span f.span before.parts.map.apart there at_map held f.holds in
-      elim f.is [
-        | inl object ↦ (let wrong : Small (class_number object.0) ≡ Large = sym object.1 ∙ (ap (λ (s : SpanRef). s.kind) same ∙ kind) in absurd (cc))
-        | inr run ↦ run.2 ∙ ap (λ (s : SpanRef). address_of (run_of s)) (sym run.1 ∙ same)
-      ]
+    clears_first : (next : Onward R) → Before (ClearSpan next) → (xs : List SpanRef) → l.freed.items ≡ xs → FirstIsThere p.map xs → Goal (ClearSpan next) (clears_span p.map (at (ClearSpan next)) next xs)
+    clears_first next before [] is there = absurd there
+    clears_first next before (s ∷ others) is there =
+        let books = before.books in
+        record {
+          heap = b.heap;
+          spans = without s b.spans;
+          said = [];
+          move = moved_by r about m p locals b books _ _ b.heap (without s b.spans) _ (ClearsSpan s others _ is refl (subst (λ (xs : List SpanRef). WeighSame (record (account_of about (at (ClearSpan next))) { mapped = others; off = run_of s ∷ [] }) (with_spans next xs)) (sym is) (subst (λ (xs : List SpanRef). WeighSame (record (bare (onward_doing about next) l.regs.class.0 l.regs.hand.items l.rest) { off = run_of s ∷ []; apart = xs; mapped = others }) (with_spans next (s ∷ others))) (sym is) (weighs_same _))));
+          like_heap = books.heap;
+          like_spans = left_like s (ClearSpan next) before there;
+          acts = refl;
+          answers = sym (append-nil l.answers);
+        }
 
-  finds : (label : Label) (addr : Addr) (span : SpanRef) → Before (Lookup label addr) → Contains p.map.spans span → holds (addr.0 / page_bytes) span ≡ true → (kind : SpanKind) → span.kind ≡ kind → Goal (Lookup label addr) (p.map, found (cpu_calls m.rows) (at (Lookup label addr)) label addr span kind)
-  finds label addr span before there held (Small k) is =
-      let books = before.books in
-      let none : l.regs.hand.items ≡ [] = before.shaped.step.hand in
-      let after : List Addr → Account = λ h. bare (Frees label addr) k.0 (h ++ addr ∷ []) l.rest in
-      record {
-        heap = b.heap;
-        spans = b.spans;
-        said = [];
-        move = moved_by m p locals b books _ _ b.heap b.spans _ (FindsObject label addr span k.0 _ refl none refl refl (omega (arith, span_counted span p.map.spans there, books.spans span)) held is (subst (λ (h : List Addr). WeighSame (bare (Frees label addr) k.0 (addr ∷ []) l.rest) (after h)) (sym none) (weighs_same _)));
-        like_heap = books.heap;
-        like_spans = books.spans;
-        acts = refl;
-        answers = sym (append-nil l.answers);
-      }
-  finds label addr span before there held Large is =
-      let books = before.books in
-      let r : Run = run_of span in
-      let begins : addr ≡ address_of r = starts label addr span before there held is in
-      let counted : 0 < spans_like (large r) b.spans = omega (arith, ap (λ (s : SpanRef). spans_like s b.spans) (is_large span is), span_counted span p.map.spans there, books.spans span) in
-      let after : Addr → Account = λ o. record (bare (Holds label o) l.regs.class.0 l.regs.hand.items l.rest) { clears = large r ∷ [] } in
-      record {
-        heap = b.heap;
-        spans = b.spans;
-        said = [];
-        move = moved_by m p locals b books _ _ b.heap b.spans _ (FindsRun label r _ (ap (Holds label) begins) counted refl (weighs_is (after addr) (after (address_of r)) (ap after (sym begins))));
-        like_heap = books.heap;
-        like_spans = books.spans;
-        acts = refl;
-        answers = sym (append-nil l.answers);
-      }
+    -- Lookup: an object's span, and a large block's, which begins at the address
+    starts : (label : Label) (addr : Addr) (span : SpanRef) → Before (Lookup label addr) → Contains p.map.spans span → holds (addr.0 / page_bytes) span ≡ true → span.kind ≡ Large → addr ≡ address_of (run_of span)
+    starts label addr span before there held kind =
+        let f : Found m b addr = frees_find m b calls t (account_of about (at (Lookup label addr))) label addr before.facts (account_at p locals b t (at (Lookup label addr)) before.books before.local) refl refl in
+        let at_map : Contains p.map.spans f.span = span_there f.span p.map.spans (omega (arith, f.there, before.books.spans f.span)) in
+        let same : f.span ≡ span = only_holder (addr.0 / page_bytes) p.map.spans span f.span before.parts.map.apart there at_map held f.holds in
+        elim f.is [
+          | inl object ↦ (let wrong : Small (class_number object.0) ≡ Large = sym object.1 ∙ (ap (λ (s : SpanRef). s.kind) same ∙ kind) in absurd (cc))
+          | inr run ↦ run.2 ∙ ap (λ (s : SpanRef). address_of (run_of s)) (sym run.1 ∙ same)
+        ]
 
-  looks_up : (label : Label) (addr : Addr) → Before (Lookup label addr) → (o : Option SpanRef) → find (holds (addr.0 / page_bytes)) p.map.spans ≡ o → FitsMap p.map (at (Lookup label addr)) (Lookup label addr) → Goal (Lookup label addr) (p.map, after_lookup (cpu_calls m.rows) (at (Lookup label addr)) label addr o)
-  looks_up label addr before None is fits = let wrong : None ≡ Some fits.0 = sym is ∙ fits.1 in absurd (cc)
-  looks_up label addr before (Some span) is fits = let there = find_there (holds (addr.0 / page_bytes)) p.map.spans span (sym is) in finds label addr span before there.0 there.1 span.kind refl
+    finds : (label : Label) (addr : Addr) (span : SpanRef) → Before (Lookup label addr) → Contains p.map.spans span → holds (addr.0 / page_bytes) span ≡ true → (kind : SpanKind) → span.kind ≡ kind → Goal (Lookup label addr) (p.map, found r.calls (at (Lookup label addr)) label addr span kind)
+    finds label addr span before there held (Small k) is =
+        let books = before.books in
+        let none : l.regs.hand.items ≡ [] = before.shaped.step.hand in
+        let f : Freeing = record { label = label; addr = addr } in
+        let hand : Contents Addr = appended l.regs.hand (addr ∷ []) in
+        let found : Regs = record l.regs { class = k; hand = hand } in
+        let g : Regs = r.calls.to_free found in
+        let kept = entries.to_free found in
+        let now : ℕ → List Addr → Account = λ j h. bare (Frees label addr) j h l.rest in
+        let account = entry_is about (with_regs (at (Lookup label addr)) g) (does.Shard (shard.Give (giving.Freed f))) (calls_are.Frees f) (r.calls.free l.seat f) (entries.free_about l.seat f) refl
+        ∙ (ap (λ (c : Class). now c.0 g.hand.items) kept.class ∙ (ap (λ (h : Contents Addr). now k.0 h.items) kept.hand ∙ ap (λ (h : List Addr). now k.0 (h ++ addr ∷ [])) none)) in
+        record {
+          heap = b.heap;
+          spans = b.spans;
+          said = [];
+          move = moved_by r about m p locals b books _ _ b.heap b.spans _ (FindsObject label addr span k.0 _ refl none refl refl (omega (arith, span_counted span p.map.spans there, books.spans span)) held is (weighs_is (now k.0 (addr ∷ [])) _ account));
+          like_heap = books.heap;
+          like_spans = books.spans;
+          acts = refl;
+          answers = sym (append-nil l.answers);
+        }
+    finds label addr span before there held Large is =
+        let books = before.books in
+        let x : Run = run_of span in
+        let begins : addr ≡ address_of x = starts label addr span before there held is in
+        let counted : 0 < spans_like (large x) b.spans = omega (arith, ap (λ (s : SpanRef). spans_like s b.spans) (is_large span is), span_counted span p.map.spans there, books.spans span) in
+        let after : Addr → Account = λ o. record (bare (Holds label o) l.regs.class.0 l.regs.hand.items l.rest) { clears = large x ∷ [] } in
+        record {
+          heap = b.heap;
+          spans = b.spans;
+          said = [];
+          move = moved_by r about m p locals b books _ _ b.heap b.spans _ (FindsRun label x _ (ap (Holds label) begins) counted refl (weighs_is (after addr) (after (address_of x)) (ap after (sym begins))));
+          like_heap = books.heap;
+          like_spans = books.spans;
+          acts = refl;
+          answers = sym (append-nil l.answers);
+        }
 
-  by_row : (row : MapStep) → Before row → FitsMap p.map (at row) row → Goal row (map_row (cpu_calls m.rows) p.map (at row) row)
-  by_row (Set label run) before fits = sets label run before
-  by_row (SetSpan a run) before fits = sets_span a run before
-  by_row (Lookup label addr) before fits = looks_up label addr before (find (holds (addr.0 / page_bytes)) p.map.spans) refl fits
-  by_row (Clear label run) before fits = clears_run label run before fits
-  by_row (ClearSpan next) before fits = clears_first next before l.freed.items refl fits
+    looks_up : (label : Label) (addr : Addr) → Before (Lookup label addr) → (o : Option SpanRef) → find (holds (addr.0 / page_bytes)) p.map.spans ≡ o → FitsMap p.map (at (Lookup label addr)) (Lookup label addr) → Goal (Lookup label addr) (p.map, after_lookup r.calls (at (Lookup label addr)) label addr o)
+    looks_up label addr before None is fits = let wrong : None ≡ Some fits.0 = sym is ∙ fits.1 in absurd (cc)
+    looks_up label addr before (Some span) is fits = let there = find_there (holds (addr.0 / page_bytes)) p.map.spans span (sym is) in finds label addr span before there.0 there.1 span.kind refl
 
-pub map_acts_move : MapActsMove
-map_acts_move m limits cpus p locals b calls t l row before step fits =
-    let is : record l { step = does.Map row } ≡ l = ap (λ s. record l { step = s }) (sym step) in
-    subst (λ (x : Local). IsBefore m limits cpus p locals b calls t x → FitsMap p.map x row → Does m (record p { map = (map_row (cpu_calls m.rows) p.map x row).0 }) b x (map_row (cpu_calls m.rows) p.map x row).1) is (by_row m limits cpus p locals b calls t l row) before fits
+    by_row : (row : MapStep R) → Before row → FitsMap p.map (at row) row → Goal row (map_row r.calls p.map (at row) row)
+    by_row (Set label run) before fits = sets label run before
+    by_row (SetSpan a run) before fits = sets_span a run before
+    by_row (Lookup label addr) before fits = looks_up label addr before (find (holds (addr.0 / page_bytes)) p.map.spans) refl fits
+    by_row (Clear label run) before fits = clears_run label run before fits
+    by_row (ClearSpan next) before fits = clears_first next before l.freed.items refl fits
+
+  pub map_acts_move : MapActsMove r about planned
+  map_acts_move huge labels limits p locals b calls t l row before step fits =
+      let is : record l { step = does.Map row } ≡ l = ap (λ s. record l { step = s }) (sym step) in
+      subst (λ (x : Local V R). IsBefore r about planned huge labels limits p locals b calls t x → FitsMap p.map x row → Does r about (setup r huge labels) (record p { map = (map_row r.calls p.map x row).0 }) b x (map_row r.calls p.map x row).1) is (by_row huge labels limits p locals b calls t l row) before fits

@@ -1,4 +1,4 @@
--- A move over the books of the parts, and the length of a block without a class.
+-- A move over the books of the parts.
 use Rattle.std.proofs.Common.{◌≡◌, ℕ, ◌*◌, true, false, List, length, None, refl, sym, ap, ◌∙◌, subst, inl, inr}
 use Rattle.std.specs.Prelude.{find, is_some}
 use Rattle.std.specs.List.{position_or_len}
@@ -14,18 +14,20 @@ use Rattle.name_table.specs.declared.table.NameState.{NameState}
 use Rattle.holdings.specs.Accounts.{Account}
 use Rattle.holdings.specs.Books.{Setup, Stock, Books}
 use Rattle.holdings.specs.Moves.{Said, Move}
-use Rattle.call_steps.specs.PerCpu.{CpuLocal as Local}
 use Rattle.alloc_rules.specs.Machine.{Parts}
 use Rattle.alloc_rules.specs.Stocks.{stock_of, AreBooksOf}
+use Rattle.call_steps.specs.Local.{Local}
+use Rattle.call_steps.specs.Calls.{About}
+use Rattle.alloc_rules.specs.FrontLaw.{FrontRules}
 
 -- where the stock stays, and names are changed so
-pub moved_names : (m : Setup) (p : Parts) (locals : List Local) (b : Books) → AreBooksOf p locals b → (f : List NameState → List NameState) (a after : Account) (heap : List Run) (spans : List SpanRef) (said : List Said) → Move m b a b.stock heap spans (f b.names) after said → Move m b a (stock_of p) heap spans (f p.names) after said
-moved_names m p locals b books f a after heap spans said move =
+pub moved_names : {P V R : Type 0} (r : FrontRules P V R) (about : R → About) (m : Setup) (p : Parts P) (locals : List (Local V R)) (b : Books) → AreBooksOf r about p locals b → (f : List NameState → List NameState) (a after : Account) (heap : List Run) (spans : List SpanRef) (said : List Said) → Move m b a b.stock heap spans (f b.names) after said → Move m b a (stock_of r about p) heap spans (f p.names) after said
+moved_names r about m p locals b books f a after heap spans said move =
     subst (λ (g : Stock). Move m b a g heap spans (f p.names) after said) books.stock (subst (λ (ns : List NameState). Move m b a b.stock heap spans (f ns) after said) books.names move)
 
 -- where the names stay too
-pub moved_by : (m : Setup) (p : Parts) (locals : List Local) (b : Books) → AreBooksOf p locals b → (a after : Account) (heap : List Run) (spans : List SpanRef) (said : List Said) → Move m b a b.stock heap spans b.names after said → Move m b a (stock_of p) heap spans p.names after said
-moved_by m p locals b books a after heap spans said move = moved_names m p locals b books (λ ns. ns) a after heap spans said move
+pub moved_by : {P V R : Type 0} (r : FrontRules P V R) (about : R → About) (m : Setup) (p : Parts P) (locals : List (Local V R)) (b : Books) → AreBooksOf r about p locals b → (a after : Account) (heap : List Run) (spans : List SpanRef) (said : List Said) → Move m b a b.stock heap spans b.names after said → Move m b a (stock_of r about p) heap spans p.names after said
+moved_by r about m p locals b books a after heap spans said move = moved_names r about m p locals b books (λ ns. ns) a after heap spans said move
 
 -- no row serves a request without a class, so its block has whole pages
 pub no_row : (rows : List ClassRow) (size : ℕ) → is_some (class_of rows size) ≡ false → find (serves size) rows ≡ None

@@ -15,82 +15,88 @@ use Rattle.heap_rules.specs.declared.config.HeapConfig.{HeapConfig}
 use Rattle.holdings.specs.Accounts.{is_unpublished}
 use Rattle.holdings.specs.Books.{Setup, Books}
 use Rattle.holdings.specs.Moves.{Names, TakesNull, TakesAddr}
-use Rattle.call_steps.specs.CpuCalls.{cpu_calls}
 use Rattle.call_steps.specs.declared.step.NamesStep.{NamesStep}
 use Rattle.call_steps.specs.declared.step.NamesStep.TheVariants.{Publish, Take}
 use Rattle.call_steps.specs.declared.step.Step.TheVariants as does
-use Rattle.call_steps.specs.PerCpu.{CpuLocal as Local}
-use Rattle.call_steps.specs.Local.{decided}
+use Rattle.call_steps.specs.Local.{decided, Local}
 use Rattle.call_steps.specs.Acts.{names_row, after_take, waits_row}
 use Rattle.call_steps.specs.Fits.{FitsNames}
-use Rattle.alloc_rules.specs.Machine.{Parts}
-use Rattle.alloc_rules.specs.Stocks.{Does}
-use Rattle.alloc_rules.specs.Acts.{IsBefore, NamesActsMove}
 use Rattle.alloc_rules.proofs.Weighing.{weighs_same, ends_counts}
 use Rattle.alloc_rules.proofs.Onwards.{weighs_end}
 use Rattle.alloc_rules.proofs.Moved.{moved_names}
+use Rattle.tc_model.specs.declared.calls.Planned.{Planned}
+use Rattle.call_steps.specs.Calls.{About}
+use Rattle.alloc_rules.specs.FrontLaw.{FrontRules, AreEntries}
+use Rattle.alloc_rules.specs.Machine.{Parts}
+use Rattle.alloc_rules.specs.Stocks.{Does}
+use Rattle.alloc_rules.specs.Acts.{setup, IsBefore}
+use Rattle.alloc_rules.specs.Laws.{NamesActsMove}
 
-module _ (m : Setup) (limits : HeapConfig) (cpus : ℕ) (p : Parts) (locals : List Local) (b : Books) (calls : List CallLine) (t : ℕ) (l : Local) where
-  abbrev at : NamesStep → Local
-  at row = record l { step = does.Names row }
+module _ {P V R : Type 0} (r : FrontRules P V R) (about : R → About) (planned : Planned → Type 0) (entries : AreEntries r.calls about) where
+  module _ (huge labels : ℕ) (limits : HeapConfig) (p : Parts P) (locals : List (Local V R)) (b : Books) (calls : List CallLine) (t : ℕ) (l : Local V R) where
+    abbrev m : Setup
+    m = setup r huge labels
 
-  abbrev Before : NamesStep → Type 0
-  Before row = IsBefore m limits cpus p locals b calls t (at row)
+    abbrev at : NamesStep → Local V R
+    at row = record l { step = does.Names row }
 
-  abbrev Goal : NamesStep → List NameState × Local → Type 0
-  Goal row x = Does m (record p { names = x.0 }) b (at row) x.1
+    abbrev Before : NamesStep → Type 0
+    Before row = IsBefore r about planned huge labels limits p locals b calls t (at row)
 
-  state_in : (label : Label) (row : NamesStep) → Before row → (s : NameState) → state_of p.names label.0 ≡ s → state_of b.names label.0 ≡ s
-  state_in label row before s is = ap (λ (ns : List NameState). state_of ns label.0) before.books.names ∙ is
+    abbrev Goal : NamesStep → List NameState × Local V R → Type 0
+    Goal row x = Does r about m (record p { names = x.0 }) b (at row) x.1
 
-  publishes : (label : Label) (value : Option Addr) → Before (Publish label value) → state_of p.names label.0 ≡ name.Unpublished → Goal (Publish label value) (names_row (cpu_calls m.rows) p.names (at (Publish label value)) (Publish label value))
-  publishes label value before state =
-      let books = before.books in
-      record {
-        heap = b.heap;
-        spans = b.spans;
-        said = [];
-        move = moved_names m p locals b books (λ ns. slice_set ns label.0 (name.Published value)) _ _ b.heap b.spans _ (Names label value _ refl refl refl (state_in label (Publish label value) before name.Unpublished state) (weighs_end m.rows (at (Publish label value)) before.shaped.step.hand));
-        like_heap = books.heap;
-        like_spans = books.spans;
-        acts = (ends_counts m.rows (at (Publish label value))).0;
-        answers = (ends_counts m.rows (at (Publish label value))).1 ∙ sym (append-nil l.answers);
-      }
+    state_in : (label : Label) (row : NamesStep) → Before row → (s : NameState) → state_of p.names label.0 ≡ s → state_of b.names label.0 ≡ s
+    state_in label row before s is = ap (λ (ns : List NameState). state_of ns label.0) before.books.names ∙ is
 
-  takes : (label : Label) → Before (Take label) → FitsNames p.names (Take label) → is_unpublished (state_of p.names label.0) ≡ false → (s : NameState) → state_of p.names label.0 ≡ s → Goal (Take label) (after_take (cpu_calls m.rows) p.names (at (Take label)) label s)
-  takes label before fits out name.Unpublished is = absurd (false≢true (sym out ∙ ap is_unpublished is))
-  takes label before fits out name.Taken is = absurd (fits.1 is)
-  takes label before fits out (name.Published None) is =
-      let books = before.books in
-      let l' : Local = decided (at (Take label)) (Free label) FreedNull in
-      record {
-        heap = b.heap;
-        spans = b.spans;
-        said = record { call = Free label; answer = FreedNull } ∷ [];
-        move = moved_names m p locals b books (λ ns. slice_set ns label.0 name.Taken) _ _ b.heap b.spans _ (TakesNull label _ refl (state_in label (Take label) before (name.Published None) is) (weighs_end m.rows l' before.shaped.step.hand));
-        like_heap = books.heap;
-        like_spans = books.spans;
-        acts = (ends_counts m.rows l').0;
-        answers = (ends_counts m.rows l').1;
-      }
-  takes label before fits out (name.Published (Some addr)) is =
-      let books = before.books in
-      record {
-        heap = b.heap;
-        spans = b.spans;
-        said = [];
-        move = moved_names m p locals b books (λ ns. slice_set ns label.0 name.Taken) _ _ b.heap b.spans _ (TakesAddr label addr _ refl (state_in label (Take label) before (name.Published (Some addr)) is) (weighs_same _));
-        like_heap = books.heap;
-        like_spans = books.spans;
-        acts = refl;
-        answers = sym (append-nil l.answers);
-      }
+    publishes : (label : Label) (value : Option Addr) → Before (Publish label value) → state_of p.names label.0 ≡ name.Unpublished → Goal (Publish label value) (names_row r.calls p.names (at (Publish label value)) (Publish label value))
+    publishes label value before state =
+        let books = before.books in
+        record {
+          heap = b.heap;
+          spans = b.spans;
+          said = [];
+          move = moved_names r about m p locals b books (λ ns. slice_set ns label.0 (name.Published value)) _ _ b.heap b.spans _ (Names label value _ refl refl refl (state_in label (Publish label value) before name.Unpublished state) (weighs_end r.calls about entries (at (Publish label value)) before.shaped.step.hand));
+          like_heap = books.heap;
+          like_spans = books.spans;
+          acts = (ends_counts r.calls (at (Publish label value))).0;
+          answers = (ends_counts r.calls (at (Publish label value))).1 ∙ sym (append-nil l.answers);
+        }
 
-  by_row : (row : NamesStep) → Before row → FitsNames p.names row → waits_row p.names row ≡ false → Goal row (names_row (cpu_calls m.rows) p.names (at row) row)
-  by_row (Publish label value) before fits out = publishes label value before fits.1
-  by_row (Take label) before fits out = takes label before fits out (state_of p.names label.0) refl
+    takes : (label : Label) → Before (Take label) → FitsNames p.names (Take label) → is_unpublished (state_of p.names label.0) ≡ false → (s : NameState) → state_of p.names label.0 ≡ s → Goal (Take label) (after_take r.calls p.names (at (Take label)) label s)
+    takes label before fits out name.Unpublished is = absurd (false≢true (sym out ∙ ap is_unpublished is))
+    takes label before fits out name.Taken is = absurd (fits.1 is)
+    takes label before fits out (name.Published None) is =
+        let books = before.books in
+        let l' : Local V R = decided (at (Take label)) (Free label) FreedNull in
+        record {
+          heap = b.heap;
+          spans = b.spans;
+          said = record { call = Free label; answer = FreedNull } ∷ [];
+          move = moved_names r about m p locals b books (λ ns. slice_set ns label.0 name.Taken) _ _ b.heap b.spans _ (TakesNull label _ refl (state_in label (Take label) before (name.Published None) is) (weighs_end r.calls about entries l' before.shaped.step.hand));
+          like_heap = books.heap;
+          like_spans = books.spans;
+          acts = (ends_counts r.calls l').0;
+          answers = (ends_counts r.calls l').1;
+        }
+    takes label before fits out (name.Published (Some addr)) is =
+        let books = before.books in
+        record {
+          heap = b.heap;
+          spans = b.spans;
+          said = [];
+          move = moved_names r about m p locals b books (λ ns. slice_set ns label.0 name.Taken) _ _ b.heap b.spans _ (TakesAddr label addr _ refl (state_in label (Take label) before (name.Published (Some addr)) is) (weighs_same _));
+          like_heap = books.heap;
+          like_spans = books.spans;
+          acts = refl;
+          answers = sym (append-nil l.answers);
+        }
 
-pub names_acts_move : NamesActsMove
-names_acts_move m limits cpus p locals b calls t l row before step fits out =
-    let is : record l { step = does.Names row } ≡ l = ap (λ s. record l { step = s }) (sym step) in
-    subst (λ (x : Local). IsBefore m limits cpus p locals b calls t x → Does m (record p { names = (names_row (cpu_calls m.rows) p.names x row).0 }) b x (names_row (cpu_calls m.rows) p.names x row).1) is (λ before'. by_row m limits cpus p locals b calls t l row before' fits out) before
+    by_row : (row : NamesStep) → Before row → FitsNames p.names row → waits_row p.names row ≡ false → Goal row (names_row r.calls p.names (at row) row)
+    by_row (Publish label value) before fits out = publishes label value before fits.1
+    by_row (Take label) before fits out = takes label before fits out (state_of p.names label.0) refl
+
+  pub names_acts_move : NamesActsMove r about planned
+  names_acts_move huge labels limits p locals b calls t l row before step fits out =
+      let is : record l { step = does.Names row } ≡ l = ap (λ s. record l { step = s }) (sym step) in
+      subst (λ (x : Local V R). IsBefore r about planned huge labels limits p locals b calls t x → Does r about (setup r huge labels) (record p { names = (names_row r.calls p.names x row).0 }) b x (names_row r.calls p.names x row).1) is (λ before'. by_row huge labels limits p locals b calls t l row before' fits out) before

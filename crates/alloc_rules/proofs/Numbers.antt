@@ -1,17 +1,15 @@
 -- Reads and writes of parts by their numbers.
-use Rattle.std.proofs.Common.{◌≡◌, ℕ, zero, suc, ◌+◌, ◌*◌, ◌<◌, List, [], ◌∷◌, ◌++◌, length, map, Some, refl, ap, ◌∙◌, arith}
-use Rattle.std.specs.Prelude.{option_map, All}
+use Rattle.std.proofs.Common.{◌≡◌, ℕ, zero, suc, ◌+◌, ◌-◌, ◌<◌, ◌≤◌, Bool, cond, ltb, List, [], ◌∷◌, ◌++◌, length, map, take, drop, Some, refl, sym, ap, ◌∙◌, inl, inr, arith}
+use Rattle.std.specs.Prelude.{option_map}
 use Rattle.std.specs.List.{slice_get, slice_set}
-use Rattle.std.proofs.lemmas.List.Elements.{All-head, All-tail}
+use Rattle.std.proofs.lemmas.Bool.{cases_lt, lt-ltb, le-ltb}
 use Rattle.page_map.specs.Spans.{SpanMap}
 use Rattle.name_table.specs.declared.table.NameState.{NameState}
 use Rattle.heap_rules.specs.Heap as heaps
-use Rattle.rseq_core.specs.declared.cpu_part.CpuPart.{CpuPart}
-use Rattle.transfer_cache.specs.Transfer.{Transfer}
 use Rattle.class_shard.specs.Shard as shards
-use Rattle.alloc_rules.specs.PerCpu.{Part, Cpu, Domain}
-use Rattle.alloc_rules.specs.declared.part.Part.TheVariants.{Shard, Heap, Map, Names}
-use Rattle.alloc_rules.specs.Machine.{Parts, parts_of, middle_of, caches_of}
+use Rattle.alloc_rules.specs.declared.part.Part.{Part}
+use Rattle.alloc_rules.specs.declared.part.Part.TheVariants.{Front, Shard, Heap, Map, Names}
+use Rattle.alloc_rules.specs.Machine.{Parts, parts_of, middle_of}
 
 -- of two lists joined, where the first is of images
 get_left : {X Y : Type 0} (f : X → Y) (xs : List X) (ys : List Y) (i : ℕ) → i < length xs → slice_get (map f xs ++ ys) i ≡ option_map f (slice_get xs i)
@@ -28,83 +26,63 @@ get_right f (x ∷ xs) ys i =
 set_left : {X Y : Type 0} (f : X → Y) (xs : List X) (ys : List Y) (i : ℕ) (x : X) → i < length xs → slice_set (map f xs ++ ys) i (f x) ≡ map f (slice_set xs i x) ++ ys
 set_left f [] ys i x below = absurd (omega arith)
 set_left f (y ∷ xs) ys zero x below = refl
-set_left f (y ∷ xs) ys (suc i) x below = ap (λ r. f y ∷ r) (set_left f xs ys i x (omega arith))
+set_left f (y ∷ xs) ys (suc i) x below = ap (λ zs. f y ∷ zs) (set_left f xs ys i x (omega arith))
 
 set_right : {X Y : Type 0} (f : X → Y) (xs : List X) (ys : List Y) (i : ℕ) (y : Y) → slice_set (map f xs ++ ys) (length xs + i) y ≡ map f xs ++ slice_set ys i y
 set_right f [] ys i y = let e : 0 + i ≡ i = omega arith in ap (λ (k : ℕ). slice_set ys k y) e
 set_right f (x ∷ xs) ys i y =
     let e : length (x ∷ xs) + i ≡ suc (length xs + i) = omega arith in
-    ap (λ (k : ℕ). slice_set (f x ∷ (map f xs ++ ys)) k y) e ∙ ap (λ r. f x ∷ r) (set_right f xs ys i y)
+    ap (λ (k : ℕ). slice_set (f x ∷ (map f xs ++ ys)) k y) e ∙ ap (λ zs. f x ∷ zs) (set_right f xs ys i y)
 
--- the caches of all domains, as many in each
-later : (m d k n : ℕ) → n ≡ m → suc d * m + k ≡ n + (d * m + k)
-later m d k n is = omega arith
+get_map_all : {X Y : Type 0} (f : X → Y) (xs : List X) (i : ℕ) → slice_get (map f xs) i ≡ option_map f (slice_get xs i)
+get_map_all f [] i = refl
+get_map_all f (x ∷ xs) zero = refl
+get_map_all f (x ∷ xs) (suc i) = get_map_all f xs i
 
-get_cache : (domains : List (List Transfer)) (m d k : ℕ) (caches : List Transfer) → All (λ (c : List Transfer). length c ≡ m) domains → slice_get domains d ≡ Some caches → k < m → slice_get (caches_of domains) (d * m + k) ≡ option_map Domain (slice_get caches k)
-get_cache [] m d k caches each is low = absurd (cc)
-get_cache (c ∷ cs) m zero k caches each is low =
-    let e : zero * m + k ≡ k = omega arith in
-    let n : length c ≡ m = All-head (λ (c : List Transfer). length c ≡ m) c cs each in
-    let same : c ≡ caches = cc in
-    ap (λ (j : ℕ). slice_get (map Domain c ++ caches_of cs) j) e ∙ (get_left Domain c (caches_of cs) k (omega (arith, n)) ∙ ap (λ (x : List Transfer). option_map Domain (slice_get x k)) same)
-get_cache (c ∷ cs) m (suc d) k caches each is low =
-    let n : length c ≡ m = All-head (λ (c : List Transfer). length c ≡ m) c cs each in
-    ap (λ (j : ℕ). slice_get (map Domain c ++ caches_of cs) j) (later m d k (length c) n) ∙ (get_right Domain c (caches_of cs) (d * m + k) ∙ get_cache cs m d k caches (All-tail (λ (c : List Transfer). length c ≡ m) c cs each) is low)
+set_map_all : {X Y : Type 0} (f : X → Y) (xs : List X) (i : ℕ) (x : X) → slice_set (map f xs) i (f x) ≡ map f (slice_set xs i x)
+set_map_all f [] i x = refl
+set_map_all f (y ∷ xs) zero x = refl
+set_map_all f (y ∷ xs) (suc i) x = ap (λ zs. f y ∷ zs) (set_map_all f xs i x)
 
-set_cache : (domains : List (List Transfer)) (m d k : ℕ) (caches : List Transfer) (t : Transfer) → All (λ (c : List Transfer). length c ≡ m) domains → slice_get domains d ≡ Some caches → k < m → slice_set (caches_of domains) (d * m + k) (Domain t) ≡ caches_of (slice_set domains d (slice_set caches k t))
-set_cache [] m d k caches t each is low = absurd (cc)
-set_cache (c ∷ cs) m zero k caches t each is low =
-    let e : zero * m + k ≡ k = omega arith in
-    let n : length c ≡ m = All-head (λ (c : List Transfer). length c ≡ m) c cs each in
-    let same : c ≡ caches = cc in
-    ap (λ (j : ℕ). slice_set (map Domain c ++ caches_of cs) j (Domain t)) e ∙ (set_left Domain c (caches_of cs) k t (omega (arith, n)) ∙ ap (λ (x : List Transfer). map Domain (slice_set x k t) ++ caches_of cs) same)
-set_cache (c ∷ cs) m (suc d) k caches t each is low =
-    let n : length c ≡ m = All-head (λ (c : List Transfer). length c ≡ m) c cs each in
-    ap (λ (j : ℕ). slice_set (map Domain c ++ caches_of cs) j (Domain t)) (later m d k (length c) n) ∙ (set_right Domain c (caches_of cs) (d * m + k) (Domain t) ∙ ap (λ r. map Domain c ++ r) (set_cache cs m d k caches t (All-tail (λ (c : List Transfer). length c ≡ m) c cs each) is low))
+-- a list that is cut in two
+module _ {X : Type 0} where
+  get_take : (n : ℕ) (xs : List X) (i : ℕ) → i < n → slice_get (take n xs) i ≡ slice_get xs i
+  get_take zero xs i low = absurd (omega arith)
+  get_take (suc n) [] i low = refl
+  get_take (suc n) (x ∷ xs) zero low = refl
+  get_take (suc n) (x ∷ xs) (suc i) low = get_take n xs i (omega arith)
 
--- what stands behind the CPUs, and behind the shards
-abbrev behind : Parts → List Part
-behind p = middle_of p ++ caches_of p.domains
+  get_drop : (n : ℕ) (xs : List X) (i : ℕ) → slice_get (drop n xs) i ≡ slice_get xs (n + i)
+  get_drop zero xs i = let e : 0 + i ≡ i = omega arith in ap (slice_get xs) (sym e)
+  get_drop (suc n) [] i = refl
+  get_drop (suc n) (x ∷ xs) i = get_drop n xs i ∙ ap (slice_get (x ∷ xs)) (let e : suc (n + i) ≡ suc n + i = omega arith in e)
 
-abbrev rest : Parts → List Part
-rest p = map Shard p.shards ++ behind p
+  set_take : (n : ℕ) (xs : List X) (i : ℕ) (y : X) → i < n → slice_set (take n xs) i y ≡ take n (slice_set xs i y)
+  set_take zero xs i y low = absurd (omega arith)
+  set_take (suc n) [] i y low = refl
+  set_take (suc n) (x ∷ xs) zero y low = refl
+  set_take (suc n) (x ∷ xs) (suc i) y low = ap (λ zs. x ∷ zs) (set_take n xs i y (omega arith))
 
-pub get_cpu : (p : Parts) (c : ℕ) → c < length p.cpus → slice_get (parts_of p) c ≡ option_map Cpu (slice_get p.cpus c)
-get_cpu p c low = get_left Cpu p.cpus (rest p) c low
+  drop_below : (n : ℕ) (xs : List X) (i : ℕ) (y : X) → i < n → drop n (slice_set xs i y) ≡ drop n xs
+  drop_below zero xs i y low = absurd (omega arith)
+  drop_below (suc n) [] i y low = refl
+  drop_below (suc n) (x ∷ xs) zero y low = refl
+  drop_below (suc n) (x ∷ xs) (suc i) y low = drop_below n xs i y (omega arith)
 
-pub set_cpu : (p : Parts) (c : ℕ) (q : CpuPart) → c < length p.cpus → slice_set (parts_of p) c (Cpu q) ≡ parts_of (record p { cpus = slice_set p.cpus c q })
-set_cpu p c q low = set_left Cpu p.cpus (rest p) c q low
+  take_above : (n : ℕ) (xs : List X) (i : ℕ) (y : X) → take n (slice_set xs (n + i) y) ≡ take n xs
+  take_above zero xs i y = refl
+  take_above (suc n) [] i y = refl
+  take_above (suc n) (x ∷ xs) i y = ap (λ (k : ℕ). take (suc n) (slice_set (x ∷ xs) k y)) (let e : suc n + i ≡ suc (n + i) = omega arith in e) ∙ ap (λ zs. x ∷ zs) (take_above n xs i y)
 
-pub get_shard : (p : Parts) (k : ℕ) → k < length p.shards → slice_get (parts_of p) (length p.cpus + k) ≡ option_map Shard (slice_get p.shards k)
-get_shard p k low = get_right Cpu p.cpus (rest p) k ∙ get_left Shard p.shards (behind p) k low
+  drop_above : (n : ℕ) (xs : List X) (i : ℕ) (y : X) → drop n (slice_set xs (n + i) y) ≡ slice_set (drop n xs) i y
+  drop_above zero xs i y = let e : 0 + i ≡ i = omega arith in ap (λ (k : ℕ). slice_set xs k y) e
+  drop_above (suc n) [] i y = refl
+  drop_above (suc n) (x ∷ xs) i y = ap (λ (k : ℕ). drop (suc n) (slice_set (x ∷ xs) k y)) (let e : suc n + i ≡ suc (n + i) = omega arith in e) ∙ drop_above n xs i y
 
-pub set_shard : (p : Parts) (k : ℕ) (x : shards.Shard) → k < length p.shards → slice_set (parts_of p) (length p.cpus + k) (Shard x) ≡ parts_of (record p { shards = slice_set p.shards k x })
-set_shard p k x low = set_right Cpu p.cpus (rest p) k (Shard x) ∙ ap (λ r. map Cpu p.cpus ++ r) (set_left Shard p.shards (behind p) k x low)
-
--- the part of number i behind all shards
-get_behind : (p : Parts) (i n : ℕ) → n ≡ length p.cpus + (length p.shards + i) → slice_get (parts_of p) n ≡ slice_get (behind p) i
-get_behind p i n is = ap (slice_get (parts_of p)) is ∙ (get_right Cpu p.cpus (rest p) (length p.shards + i) ∙ get_right Shard p.shards (behind p) i)
-
-set_behind : (p : Parts) (i n : ℕ) (q : Part) → n ≡ length p.cpus + (length p.shards + i) → slice_set (parts_of p) n q ≡ map Cpu p.cpus ++ (map Shard p.shards ++ slice_set (behind p) i q)
-set_behind p i n q is = ap (λ (j : ℕ). slice_set (parts_of p) j q) is ∙ (set_right Cpu p.cpus (rest p) (length p.shards + i) q ∙ ap (λ r. map Cpu p.cpus ++ r) (set_right Shard p.shards (behind p) i q))
-
-pub get_heap : (p : Parts) → slice_get (parts_of p) (length p.cpus + length p.shards) ≡ Some (Heap p.heap)
-get_heap p = get_behind p 0 (length p.cpus + length p.shards) (omega arith)
-
-pub set_heap : (p : Parts) (h : heaps.Heap) → slice_set (parts_of p) (length p.cpus + length p.shards) (Heap h) ≡ parts_of (record p { heap = h })
-set_heap p h = set_behind p 0 (length p.cpus + length p.shards) (Heap h) (omega arith)
-
-pub get_map : (p : Parts) → slice_get (parts_of p) (length p.cpus + length p.shards + 1) ≡ Some (Map p.map)
-get_map p = get_behind p 1 (length p.cpus + length p.shards + 1) (omega arith)
-
-pub set_map : (p : Parts) (x : SpanMap) → slice_set (parts_of p) (length p.cpus + length p.shards + 1) (Map x) ≡ parts_of (record p { map = x })
-set_map p x = set_behind p 1 (length p.cpus + length p.shards + 1) (Map x) (omega arith)
-
-pub get_names : (p : Parts) → slice_get (parts_of p) (length p.cpus + length p.shards + 2) ≡ Some (Names p.names)
-get_names p = get_behind p 2 (length p.cpus + length p.shards + 2) (omega arith)
-
-pub set_names : (p : Parts) (x : List NameState) → slice_set (parts_of p) (length p.cpus + length p.shards + 2) (Names x) ≡ parts_of (record p { names = x })
-set_names p x = set_behind p 2 (length p.cpus + length p.shards + 2) (Names x) (omega arith)
+  take_many : (n : ℕ) (xs : List X) → n ≤ length xs → length (take n xs) ≡ n
+  take_many zero xs few = refl
+  take_many (suc n) [] few = absurd (omega (arith, few))
+  take_many (suc n) (x ∷ xs) few = ap (λ k. suc k) (take_many n xs (omega (arith, few)))
 
 skip_three : {X : Type 0} (a b c : X) (xs : List X) (i : ℕ) → slice_get (a ∷ b ∷ c ∷ xs) (3 + i) ≡ slice_get xs i
 skip_three a b c xs i = let e : 3 + i ≡ suc (suc (suc i)) = omega arith in ap (slice_get (a ∷ b ∷ c ∷ xs)) e
@@ -112,15 +90,95 @@ skip_three a b c xs i = let e : 3 + i ≡ suc (suc (suc i)) = omega arith in ap 
 set_past_three : {X : Type 0} (a b c x : X) (xs : List X) (i : ℕ) → slice_set (a ∷ b ∷ c ∷ xs) (3 + i) x ≡ a ∷ b ∷ c ∷ slice_set xs i x
 set_past_three a b c x xs i = let e : 3 + i ≡ suc (suc (suc i)) = omega arith in ap (λ (j : ℕ). slice_set (a ∷ b ∷ c ∷ xs) j x) e
 
-at_cache : (a m n dm k : ℕ) → n ≡ m → a + m + 3 + dm + k ≡ a + (n + (3 + (dm + k)))
-at_cache a m n dm k is = omega arith
+-- the number of a part of the front-end
+abbrev pub front_number : ℕ → ℕ → ℕ → ℕ
+front_number split classes i = cond (ltb i split) i (i + classes + 3)
 
-pub get_domain : (p : Parts) (m d k : ℕ) (caches : List Transfer) → length p.shards ≡ m → All (λ (c : List Transfer). length c ≡ m) p.domains → slice_get p.domains d ≡ Some caches → k < m → slice_get (parts_of p) (length p.cpus + m + 3 + d * m + k) ≡ option_map Domain (slice_get caches k)
-get_domain p m d k caches count each is low =
-    get_behind p (3 + (d * m + k)) (length p.cpus + m + 3 + d * m + k) (at_cache (length p.cpus) m (length p.shards) (d * m) k count)
-    ∙ (skip_three (Heap p.heap) (Map p.map) (Names p.names) (caches_of p.domains) (d * m + k) ∙ get_cache p.domains m d k caches each is low)
+module _ {P : Type 0} (split : ℕ) (p : Parts P) (few : split ≤ length p.fronts) where
+  abbrev first : List P
+  first = take split p.fronts
 
-pub set_domain : (p : Parts) (m d k : ℕ) (caches : List Transfer) (t : Transfer) → length p.shards ≡ m → All (λ (c : List Transfer). length c ≡ m) p.domains → slice_get p.domains d ≡ Some caches → k < m → slice_set (parts_of p) (length p.cpus + m + 3 + d * m + k) (Domain t) ≡ parts_of (record p { domains = slice_set p.domains d (slice_set caches k t) })
-set_domain p m d k caches t count each is low =
-    set_behind p (3 + (d * m + k)) (length p.cpus + m + 3 + d * m + k) (Domain t) (at_cache (length p.cpus) m (length p.shards) (d * m) k count)
-    ∙ ap (λ r. map Cpu p.cpus ++ (map Shard p.shards ++ r)) (set_past_three (Heap p.heap) (Map p.map) (Names p.names) (Domain t) (caches_of p.domains) (d * m + k) ∙ ap (λ r. Heap p.heap ∷ Map p.map ∷ Names p.names ∷ r) (set_cache p.domains m d k caches t each is low))
+  abbrev last : List P
+  last = drop split p.fronts
+
+  -- what stands behind the first parts of the front-end, and behind the shards
+  abbrev behind : List (Part P)
+  behind = middle_of p ++ map Front last
+
+  abbrev rest : List (Part P)
+  rest = map Shard p.shards ++ behind
+
+  many : length first ≡ split
+  many = take_many split p.fronts few
+
+  get_first : (i : ℕ) → i < split → slice_get (parts_of split p) i ≡ option_map Front (slice_get p.fronts i)
+  get_first i low = get_left Front first rest i (omega (arith, many, low)) ∙ ap (option_map Front) (get_take split p.fronts i low)
+
+  set_first : (i : ℕ) (q : P) → i < split → slice_set (parts_of split p) i (Front q) ≡ parts_of split (record p { fronts = slice_set p.fronts i q })
+  set_first i q low =
+      set_left Front first rest i q (omega (arith, many, low))
+      ∙ (ap (λ (xs : List P). map Front xs ++ rest) (set_take split p.fronts i q low) ∙ ap (λ (xs : List P). map Front (take split (slice_set p.fronts i q)) ++ (map Shard p.shards ++ (middle_of p ++ map Front xs))) (sym (drop_below split p.fronts i q low)))
+
+  pub get_shard : (k : ℕ) → k < length p.shards → slice_get (parts_of split p) (split + k) ≡ option_map Shard (slice_get p.shards k)
+  get_shard k low = ap (λ (n : ℕ). slice_get (parts_of split p) (n + k)) (sym many) ∙ (get_right Front first rest k ∙ get_left Shard p.shards behind k low)
+
+  pub set_shard : (k : ℕ) (x : shards.Shard) → k < length p.shards → slice_set (parts_of split p) (split + k) (Shard x) ≡ parts_of split (record p { shards = slice_set p.shards k x })
+  set_shard k x low = ap (λ (n : ℕ). slice_set (parts_of split p) (n + k) (Shard x)) (sym many) ∙ (set_right Front first rest k (Shard x) ∙ ap (λ zs. map Front first ++ zs) (set_left Shard p.shards behind k x low))
+
+  -- the part of number i behind all shards
+  get_behind : (i n : ℕ) → n ≡ split + (length p.shards + i) → slice_get (parts_of split p) n ≡ slice_get behind i
+  get_behind i n is =
+      let e : n ≡ length first + (length p.shards + i) = omega (arith, many, is) in
+      ap (slice_get (parts_of split p)) e ∙ (get_right Front first rest (length p.shards + i) ∙ get_right Shard p.shards behind i)
+
+  set_behind : (i n : ℕ) (q : Part P) → n ≡ split + (length p.shards + i) → slice_set (parts_of split p) n q ≡ map Front first ++ (map Shard p.shards ++ slice_set behind i q)
+  set_behind i n q is =
+      let e : n ≡ length first + (length p.shards + i) = omega (arith, many, is) in
+      ap (λ (j : ℕ). slice_set (parts_of split p) j q) e ∙ (set_right Front first rest (length p.shards + i) q ∙ ap (λ zs. map Front first ++ zs) (set_right Shard p.shards behind i q))
+
+  pub get_heap : slice_get (parts_of split p) (split + length p.shards) ≡ Some (Heap p.heap)
+  get_heap = get_behind 0 (split + length p.shards) (omega arith)
+
+  pub set_heap : (h : heaps.Heap) → slice_set (parts_of split p) (split + length p.shards) (Heap h) ≡ parts_of split (record p { heap = h })
+  set_heap h = set_behind 0 (split + length p.shards) (Heap h) (omega arith)
+
+  pub get_map : slice_get (parts_of split p) (split + length p.shards + 1) ≡ Some (Map p.map)
+  get_map = get_behind 1 (split + length p.shards + 1) (omega arith)
+
+  pub set_map : (x : SpanMap) → slice_set (parts_of split p) (split + length p.shards + 1) (Map x) ≡ parts_of split (record p { map = x })
+  set_map x = set_behind 1 (split + length p.shards + 1) (Map x) (omega arith)
+
+  pub get_names : slice_get (parts_of split p) (split + length p.shards + 2) ≡ Some (Names p.names)
+  get_names = get_behind 2 (split + length p.shards + 2) (omega arith)
+
+  pub set_names : (x : List NameState) → slice_set (parts_of split p) (split + length p.shards + 2) (Names x) ≡ parts_of split (record p { names = x })
+  set_names x = set_behind 2 (split + length p.shards + 2) (Names x) (omega arith)
+
+  get_last : (j i : ℕ) → i ≡ split + j → slice_get (parts_of split p) (i + length p.shards + 3) ≡ option_map Front (slice_get p.fronts i)
+  get_last j i is =
+      get_behind (3 + j) (i + length p.shards + 3) (omega (arith, is))
+      ∙ (skip_three (Heap p.heap) (Map p.map) (Names p.names) (map Front last) j ∙ (get_map_all Front last j ∙ ap (option_map Front) (get_drop split p.fronts j ∙ ap (slice_get p.fronts) (sym is))))
+
+  set_last : (j i : ℕ) (q : P) → i ≡ split + j → slice_set (parts_of split p) (i + length p.shards + 3) (Front q) ≡ parts_of split (record p { fronts = slice_set p.fronts i q })
+  set_last j i q is =
+      let new : List P = slice_set p.fronts (split + j) q in
+      let cut : List P → List P → List (Part P) = λ a b. map Front a ++ (map Shard p.shards ++ (Heap p.heap ∷ Map p.map ∷ Names p.names ∷ map Front b)) in
+      set_behind (3 + j) (i + length p.shards + 3) (Front q) (omega (arith, is))
+      ∙ (ap (λ (xs : List (Part P)). map Front first ++ (map Shard p.shards ++ xs)) (set_past_three (Heap p.heap) (Map p.map) (Names p.names) (Front q) (map Front last) j ∙ ap (λ (xs : List (Part P)). Heap p.heap ∷ Map p.map ∷ Names p.names ∷ xs) (set_map_all Front last j q))
+      ∙ (ap (λ (xs : List P). cut first xs) (sym (drop_above split p.fronts j q))
+      ∙ (ap (λ (xs : List P). cut xs (drop split new)) (sym (take_above split p.fronts j q)) ∙ ap (λ (k : ℕ). parts_of split (record p { fronts = slice_set p.fronts k q })) (sym is))))
+
+  -- a part of the front-end by its number among those
+  pub get_front : (i : ℕ) → slice_get (parts_of split p) (front_number split (length p.shards) i) ≡ option_map Front (slice_get p.fronts i)
+  get_front i =
+      elim (cases_lt i split) [
+        | inl low ↦ ap (λ (b : Bool). slice_get (parts_of split p) (cond b i (i + length p.shards + 3))) (lt-ltb i split low) ∙ get_first i low
+        | inr high ↦ ap (λ (b : Bool). slice_get (parts_of split p) (cond b i (i + length p.shards + 3))) (le-ltb i split high) ∙ get_last (i - split) i (omega (arith, high))
+      ]
+
+  pub set_front : (i : ℕ) (q : P) → slice_set (parts_of split p) (front_number split (length p.shards) i) (Front q) ≡ parts_of split (record p { fronts = slice_set p.fronts i q })
+  set_front i q =
+      elim (cases_lt i split) [
+        | inl low ↦ ap (λ (b : Bool). slice_set (parts_of split p) (cond b i (i + length p.shards + 3)) (Front q)) (lt-ltb i split low) ∙ set_first i q low
+        | inr high ↦ ap (λ (b : Bool). slice_set (parts_of split p) (cond b i (i + length p.shards + 3)) (Front q)) (le-ltb i split high) ∙ set_last (i - split) i q (omega (arith, high))
+      ]

@@ -3,34 +3,35 @@ use Rattle.std.proofs.Common.{◌≡◌, ◌+◌, List, [], refl, sym, subst}
 use Rattle.tc_units.specs.declared.units.Addr.{Addr}
 use Rattle.tc_units.specs.declared.spans.ClassRow.{ClassRow}
 use Rattle.holdings.specs.Accounts.{Doing, Other, WeighSame}
-use Rattle.call_steps.specs.CpuCalls.{cpu_calls}
-use Rattle.call_steps.specs.PerCpu.{CpuLocal as Local, Onward}
+use Rattle.call_steps.specs.declared.step.Onward.{Onward}
 use Rattle.call_steps.specs.declared.step.Onward.TheVariants as onward
-use Rattle.call_steps.specs.Local.{ends}
-use Rattle.call_steps.specs.Hands.{comes_to, goes_onward}
-use Rattle.call_steps.specs.Shapes.{Limits, IsOnward}
-use Rattle.call_steps.proofs.NextShapes.{later_other}
-use Rattle.call_steps.specs.CpuRows.{about_row}
-use Rattle.alloc_rules.specs.CpuAccounts.{account_of, onward_doing}
+use Rattle.call_steps.specs.Fronts.{FrontCalls}
+use Rattle.call_steps.specs.Local.{Local, ends}
+use Rattle.call_steps.specs.Hands.{goes_onward, comes_to}
+use Rattle.call_steps.specs.Calls.{About}
+use Rattle.alloc_rules.specs.Accounts.{account_of, onward_doing}
 use Rattle.alloc_rules.proofs.Weighing.{bare, weighs_same}
-use Rattle.alloc_rules.proofs.Goings.{Closes, ends_as, other_doing, comes_as}
+use Rattle.alloc_rules.proofs.Goings.{other_doing, Closes, ends_as, comes_as}
+use Rattle.alloc_rules.specs.Shapes.{IsOnward}
+use Rattle.alloc_rules.specs.FrontLaw.{AreEntries}
 
 -- one act more, and no answer
-pub record Counts (l after : Local) : Type 0 where
+pub record Counts {V R : Type 0} (l after : Local V R) : Type 0 where
   pub acts : after.acts ≡ l.acts + 1
   pub answers : after.answers ≡ l.answers
 
--- a call ends, or goes on without a label, with an empty hand
-closed : (l after : Local) → l.regs.hand.items ≡ [] → Closes after l.regs.class.0 l.rest (l.acts + 1) l.answers → WeighSame (bare Other l.regs.class.0 l.regs.hand.items l.rest) (account_of after) × Counts l after
-closed l after none closes = (subst (λ (h : List Addr). WeighSame (bare Other l.regs.class.0 h l.rest) (account_of after)) (sym none) closes.weighs, record { acts = closes.acts; answers = closes.answers })
+module _ {V R : Type 0} (e : FrontCalls V R) (about : R → About) (entries : AreEntries e about) where
+  -- a call ends, or goes on without a label, with an empty hand
+  closed : (l after : Local V R) → l.regs.hand.items ≡ [] → Closes about after l.regs.class.0 l.rest (l.acts + 1) l.answers → WeighSame (bare Other l.regs.class.0 l.regs.hand.items l.rest) (account_of about after) × Counts l after
+  closed l after none closes = (subst (λ (h : List Addr). WeighSame (bare Other l.regs.class.0 h l.rest) (account_of about after)) (sym none) closes.weighs, record { acts = closes.acts; answers = closes.answers })
 
-pub weighs_end : (rows : List ClassRow) (l : Local) → l.regs.hand.items ≡ [] → WeighSame (bare Other l.regs.class.0 l.regs.hand.items l.rest) (account_of (ends (cpu_calls rows) l))
-weighs_end rows l none = (closed l (ends (cpu_calls rows) l) none (ends_as rows l l.regs.class.0 none)).0
+  pub weighs_end : (l : Local V R) → l.regs.hand.items ≡ [] → WeighSame (bare Other l.regs.class.0 l.regs.hand.items l.rest) (account_of about (ends e l))
+  weighs_end l none = (closed l (ends e l) none (ends_as e about entries l l.regs.class.0 none)).0
 
-pub onward_weighs : (rows : List ClassRow) (limits : Limits) (l : Local) (next : Onward) → IsOnward limits next → l.regs.hand.items ≡ [] → WeighSame (bare (onward_doing next) l.regs.class.0 l.regs.hand.items l.rest) (account_of (goes_onward (cpu_calls rows) l next)) × Counts l (goes_onward (cpu_calls rows) l next)
-onward_weighs rows limits l (onward.Publish s) is none = (weighs_same _, record { acts = refl; answers = refl })
-onward_weighs rows limits l (onward.Row k row) is none =
-    let other = later_other limits k row is in
-    let closes = closed l (comes_to l k row) none (comes_as l k row l.regs.class.0 other none) in
-    (subst (λ (d : Doing). WeighSame (bare d l.regs.class.0 l.regs.hand.items l.rest) (account_of (comes_to l k row))) (sym (other_doing (about_row row) other)) closes.0, closes.1)
-onward_weighs rows limits l onward.End is none = closed l (ends (cpu_calls rows) l) none (ends_as rows l l.regs.class.0 none)
+  pub onward_weighs : (rows : List ClassRow) (l : Local V R) (next : Onward R) → IsOnward rows about next → l.regs.hand.items ≡ [] → WeighSame (bare (onward_doing about next) l.regs.class.0 l.regs.hand.items l.rest) (account_of about (goes_onward e l next)) × Counts l (goes_onward e l next)
+  onward_weighs rows l (onward.Publish s) is none = (weighs_same _, record { acts = refl; answers = refl })
+  onward_weighs rows l (onward.Row k row) is none =
+      let other = is.1 in
+      let closes = closed l (comes_to l k row) none (comes_as about l k row l.regs.class.0 other none) in
+      (subst (λ (d : Doing). WeighSame (bare d l.regs.class.0 l.regs.hand.items l.rest) (account_of about (comes_to l k row))) (sym (other_doing (about row) other)) closes.0, closes.1)
+  onward_weighs rows l onward.End is none = closed l (ends e l) none (ends_as e about entries l l.regs.class.0 none)

@@ -26,33 +26,31 @@ use Rattle.holdings.proofs.Sums.{least, same_run_refl, same_span_refl}
 use Rattle.holdings.proofs.MapFacts.{one_number}
 use Rattle.holdings.proofs.Held.{offs_live, mapped_are_there, clears_are_there}
 use Rattle.holdings.proofs.Finding.{frees_find}
-use Rattle.call_steps.specs.PerCpu.{CpuLocal as Local, Onward, HeapStep, MapStep, Step}
 use Rattle.call_steps.specs.declared.step.HeapStep.TheVariants as heap
 use Rattle.call_steps.specs.declared.step.MapStep.TheVariants as map
 use Rattle.call_steps.specs.declared.step.NamesStep.{NamesStep}
 use Rattle.call_steps.specs.declared.step.NamesStep.TheVariants as names
-use Rattle.call_steps.specs.declared.step.DomainStep.{DomainStep}
-use Rattle.call_steps.specs.declared.step.DomainStep.TheVariants as domain
 use Rattle.call_steps.specs.declared.step.Step.TheVariants as does
-use Rattle.call_steps.specs.declared.step.CpuRow.TheVariants as front
-use Rattle.call_steps.specs.Local.{no_class, class_row}
-use Rattle.call_steps.specs.Fits.{FitsBatch, FitsHeap, FitsMap, FitsNames, FitsDomain, FirstLives, FirstIsThere}
+use Rattle.call_steps.specs.Local.{no_class, class_row, Local}
+use Rattle.call_steps.specs.Fits.{FitsNames, FirstLives, FirstIsThere, FitsHeap, FitsMap}
 use Rattle.call_steps.specs.Shapes.{IsClassRow, AreRows}
-use Rattle.call_steps.specs.Laws.{IsFoundClass, IsKindThere}
 use Rattle.alloc_rules.specs.Machine.{Parts}
-use Rattle.alloc_rules.specs.Accounts.{first_run}
-use Rattle.alloc_rules.specs.CpuAccounts.{account_of}
-use Rattle.alloc_rules.specs.Acts.{IsBefore, limits_of}
+use Rattle.alloc_rules.specs.Accounts.{first_run, account_of}
+use Rattle.alloc_rules.specs.Acts.{IsBefore, setup}
 use Rattle.alloc_rules.proofs.Likes.{counted_there, span_there, span_counted}
 use Rattle.std.proofs.lemmas.List.Elements.{All-contains}
 use Rattle.alloc_rules.proofs.Lists.{find_only, holds_parts, only_holder}
 use Rattle.alloc_rules.proofs.MapMoves.{account_at}
 use Rattle.alloc_rules.proofs.Published.{within}
 use Rattle.alloc_rules.proofs.Moved.{no_row}
-
--- the row of a class that is there
-pub row_at_class : (rows : List ClassRow) (l : Local) → AreRows rows → l.regs.class.0 < length rows → IsClassRow (class_row rows l)
-row_at_class rows l are low = are.each l.regs.class.0 no_class low
+use Rattle.tc_model.specs.declared.calls.Planned.{Planned}
+use Rattle.call_steps.specs.Calls.{About}
+use Rattle.alloc_rules.specs.FrontLaw.{FrontRules, AreEntries}
+use Rattle.call_steps.specs.declared.step.Step.{Step}
+use Rattle.call_steps.specs.declared.step.Onward.{Onward}
+use Rattle.call_steps.specs.declared.step.HeapStep.{HeapStep}
+use Rattle.call_steps.specs.declared.step.MapStep.{MapStep}
+use Rattle.alloc_rules.specs.Laws.{IsKindThere, IsFoundClass}
 
 -- a request without a class has a byte
 pub some_size : (rows : List ClassRow) (size : ℕ) → 0 < length rows → class_of rows size ≡ None → 0 < size
@@ -63,126 +61,125 @@ some_size (r ∷ rs) zero some none =
     absurd (cc)
 some_size (r ∷ rs) (suc size) some none = omega arith
 
+-- the row of a class that is there
+pub row_at_class : {V R : Type 0} (rows : List ClassRow) (l : Local V R) → AreRows rows → l.regs.class.0 < length rows → IsClassRow (class_row rows l)
+row_at_class rows l are low = are.each l.regs.class.0 no_class low
+
 not_out : (n : NameState) → bit (is_out n) ≡ 0 → n ≡ name.Unpublished
 not_out name.Unpublished e = refl
 not_out (name.Published value) e = absurd (omega arith)
 not_out name.Taken e = absurd (omega arith)
 
-module _ (m : Setup) (limits : HeapConfig) (cpus : ℕ) (p : Parts) (locals : List Local) (b : Books) (calls : List CallLine) (t : ℕ) (l : Local) where
-  abbrev at : Step → Local
-  at s = record l { step = s }
+module _ {P V R : Type 0} (r : FrontRules P V R) (about : R → About) (planned : Planned → Type 0) (entries : AreEntries r.calls about) where
+  module _ (huge labels : ℕ) (limits : HeapConfig) (p : Parts P) (locals : List (Local V R)) (b : Books) (calls : List CallLine) (t : ℕ) (l : Local V R) where
+    abbrev m : Setup
+    m = setup r huge labels
 
-  abbrev Before : Step → Type 0
-  Before s = IsBefore m limits cpus p locals b calls t (at s)
+    abbrev at : Step R → Local V R
+    at s = record l { step = s }
 
-  mine : (s : Step) → Before s → slice_get b.accounts t ≡ Some (account_of (at s))
-  mine s before = account_at p locals b t (at s) before.books before.local
+    abbrev Before : Step R → Type 0
+    Before s = IsBefore r about planned huge labels limits p locals b calls t (at s)
 
-  -- a run that is held off the map
-  off : (s : Step) (before : Before s) (r : Run) → 0 < runs_like r (account_of (at s)).off → IsOff m b r
-  off s before r some = offs_live m b calls t (account_of (at s)) r before.facts (mine s before) some
+    mine : (s : Step R) → Before s → slice_get b.accounts t ≡ Some (account_of about (at s))
+    mine s before = account_at r about planned entries p locals b t (at s) before.books before.local
 
-  lives : (s : Step) (before : Before s) (r : Run) → 0 < runs_like r (account_of (at s)).off → Contains p.heap.runs r
-  lives s before r some = counted_there r p.heap.runs (omega (arith, (off s before r some).live, before.books.heap r))
+    -- a run that is held off the map
+    off : (s : Step R) (before : Before s) (x : Run) → 0 < runs_like x (account_of about (at s)).off → IsOff m b x
+    off s before x some = offs_live m b calls t (account_of about (at s)) x before.facts (mine s before) some
 
-  alone : (r : Run) (rest : List Run) → 0 < runs_like r (r ∷ rest)
-  alone r rest = let e : bit (same_run r r) ≡ 1 = ap bit (same_run_refl r) in omega (arith, e)
+    lives : (s : Step R) (before : Before s) (x : Run) → 0 < runs_like x (account_of about (at s)).off → Contains p.heap.runs x
+    lives s before x some = counted_there x p.heap.runs (omega (arith, (off s before x some).live, before.books.heap x))
 
-  -- the first of the spans to give back
-  first_lives : (next : Onward) (before : Before (does.Heap (heap.FreeSpan next))) (xs : List SpanRef) → l.freed.items ≡ xs → 0 < length xs → FirstLives p.heap xs
-  first_lives next before [] is some = absurd (omega arith)
-  first_lives next before (s ∷ others) is some = lives (does.Heap (heap.FreeSpan next)) before (run_of s) (omega (arith, alone (run_of s) [], ap (λ xs. runs_like (run_of s) (first_run xs)) is))
+    alone : (r : Run) (rest : List Run) → 0 < runs_like r (r ∷ rest)
+    alone r rest = let e : bit (same_run r r) ≡ 1 = ap bit (same_run_refl r) in omega (arith, e)
 
-  pub heap_fits : (row : HeapStep) → Before (does.Heap row) → ((label : Label) (size : ℕ) → row ≡ heap.New label size → size ≤ 2 ^ 40) → FitsHeap m.rows p.heap (at (does.Heap row)) row
-  heap_fits (heap.New label size) before bound = (let some = some_size m.rows size before.rows.some before.shaped.step.1 in omega (arith, some), bound label size refl)
-  heap_fits (heap.NewSpan a) before bound = (before.shaped.class, (row_at_class m.rows l before.rows before.shaped.class).pages)
-  heap_fits (heap.GiveBack label run) before bound = lives (does.Heap (heap.GiveBack label run)) before run (alone run [])
-  heap_fits (heap.FreeSpan next) before bound = first_lives next before l.freed.items refl before.shaped.step.0.some
-  heap_fits (heap.Unback pages) before bound = tt
+    -- the first of the spans to give back
+    first_lives : (next : Onward R) (before : Before (does.Heap (heap.FreeSpan next))) (xs : List SpanRef) → l.freed.items ≡ xs → 0 < length xs → FirstLives p.heap xs
+    first_lives next before [] is some = absurd (omega arith)
+    first_lives next before (s ∷ others) is some = lives (does.Heap (heap.FreeSpan next)) before (run_of s) (omega (arith, alone (run_of s) [], ap (λ xs. runs_like (run_of s) (first_run xs)) is))
 
-  -- a span that is to be set
-  set_inside : (s : Step) (before : Before s) (r : Run) (kind : SpanKind) → 0 < runs_like r (account_of (at s)).off → maps.IsInside p.map.huge (record { first = r.first; pages = r.pages; kind = kind })
-  set_inside s before r kind some =
-      let o = off s before r some in
-      record { some = o.run.some; from = omega (arith, o.run.inside.from); to = omega (arith, o.run.inside.to, before.parts.huge, before.huge) }
+    pub heap_fits : (row : HeapStep R) → Before (does.Heap row) → ((label : Label) (size : ℕ) → row ≡ heap.New label size → size ≤ 2 ^ 40) → FitsHeap m.rows p.heap (at (does.Heap row)) row
+    heap_fits (heap.New label size) before bound = (let some = some_size m.rows size before.rows.some before.shaped.step.1 in omega (arith, some), bound label size refl)
+    heap_fits (heap.NewSpan a) before bound = (before.shaped.class, (row_at_class m.rows l before.rows before.shaped.class).pages)
+    heap_fits (heap.GiveBack label run) before bound = lives (does.Heap (heap.GiveBack label run)) before run (alone run [])
+    heap_fits (heap.FreeSpan next) before bound = first_lives next before l.freed.items refl before.shaped.step.0.some
+    heap_fits (heap.Unback pages) before bound = tt
 
-  set_apart : (s : Step) (before : Before s) (r : Run) (kind : SpanKind) → 0 < runs_like r (account_of (at s)).off → All (maps.AreApart (record { first = r.first; pages = r.pages; kind = kind })) p.map.spans
-  set_apart s before r kind some =
-      λ k d low.
-      let x : SpanRef = get_or p.map.spans k d in
-      let there : Contains p.map.spans x = (k, low, get_or_default p.map.spans k x d low) in
-      (off s before r some).apart x (omega (arith, span_counted x p.map.spans there, before.books.spans x))
+    -- a span that is to be set
+    set_inside : (s : Step R) (before : Before s) (x : Run) (kind : SpanKind) → 0 < runs_like x (account_of about (at s)).off → maps.IsInside p.map.huge (record { first = x.first; pages = x.pages; kind = kind })
+    set_inside s before x kind some =
+        let o = off s before x some in
+        record { some = o.run.some; from = omega (arith, o.run.inside.from); to = omega (arith, o.run.inside.to, before.parts.huge, before.same) }
 
-  -- the span of an address
-  found_there : (label : Label) (addr : Addr) (before : Before (does.Map (map.Lookup label addr))) → (f : Found m b addr) × (find (maps.holds (addr.0 / page_bytes)) p.map.spans ≡ Some f.span) × Contains p.map.spans f.span
-  found_there label addr before =
-      let s : Step = does.Map (map.Lookup label addr) in
-      let f : Found m b addr = frees_find m b calls t (account_of (at s)) label addr before.facts (mine s before) refl refl in
-      let there : Contains p.map.spans f.span = span_there f.span p.map.spans (omega (arith, f.there, before.books.spans f.span)) in
-      (f, find_only (maps.holds (addr.0 / page_bytes)) p.map.spans f.span there f.holds (λ y yt held. only_holder (addr.0 / page_bytes) p.map.spans f.span y before.parts.map.apart there yt f.holds held), there)
+    set_apart : (s : Step R) (before : Before s) (x : Run) (kind : SpanKind) → 0 < runs_like x (account_of about (at s)).off → All (maps.AreApart (record { first = x.first; pages = x.pages; kind = kind })) p.map.spans
+    set_apart s before x kind some =
+        λ k d low.
+        let y : SpanRef = get_or p.map.spans k d in
+        let there : Contains p.map.spans y = (k, low, get_or_default p.map.spans k y d low) in
+        (off s before x some).apart y (omega (arith, span_counted y p.map.spans there, before.books.spans y))
 
-  kind_there : {label : Label} {addr : Addr} (f : Found m b addr) (before : Before (does.Map (map.Lookup label addr))) (kind : SpanKind) → f.span.kind ≡ kind → IsKindThere (limits_of m cpus) kind
-  kind_there f before Large is = tt
-  kind_there f before (Small k) is =
-      elim f.is [
-        | inl object ↦ (let e : Small (class_number object.0) ≡ Small k = sym object.1 ∙ is in let n : object.0 ≡ k.0 = one_number object.0 k.0 e in omega (arith, before.facts.cut.class object.0 _ object.2, n))
-        | inr run ↦ (let wrong : Large ≡ Small k = ap (λ (s : SpanRef). s.kind) (sym run.1) ∙ is in absurd (cc))
-      ]
+    -- the span of an address
+    found_there : (label : Label) (addr : Addr) (before : Before (does.Map (map.Lookup label addr))) → (f : Found m b addr) × (find (maps.holds (addr.0 / page_bytes)) p.map.spans ≡ Some f.span) × Contains p.map.spans f.span
+    found_there label addr before =
+        let s : Step R = does.Map (map.Lookup label addr) in
+        let f : Found m b addr = frees_find m b calls t (account_of about (at s)) label addr before.facts (mine s before) refl refl in
+        let there : Contains p.map.spans f.span = span_there f.span p.map.spans (omega (arith, f.there, before.books.spans f.span)) in
+        (f, find_only (maps.holds (addr.0 / page_bytes)) p.map.spans f.span there f.holds (λ y yt held. only_holder (addr.0 / page_bytes) p.map.spans f.span y before.parts.map.apart there yt f.holds held), there)
 
-  pub found_class : (row : MapStep) → Before (does.Map row) → IsFoundClass (limits_of m cpus) p.map row
-  found_class (map.Set label run) before = tt
-  found_class (map.SetSpan a run) before = tt
-  found_class (map.Clear label run) before = tt
-  found_class (map.ClearSpan next) before = tt
-  found_class (map.Lookup label addr) before = λ span is.
-      let f = found_there label addr before in
-      let same : f.0.span ≡ span = let e : Some f.0.span ≡ Some span = sym f.1 ∙ is in cc in
-      kind_there f.0 before span.kind (ap (λ (s : SpanRef). s.kind) same)
+    kind_there : {label : Label} {addr : Addr} (f : Found m b addr) (before : Before (does.Map (map.Lookup label addr))) (kind : SpanKind) → f.span.kind ≡ kind → IsKindThere m.rows kind
+    kind_there f before Large is = tt
+    kind_there f before (Small k) is =
+        elim f.is [
+          | inl object ↦ (let e : Small (class_number object.0) ≡ Small k = sym object.1 ∙ is in let n : object.0 ≡ k.0 = one_number object.0 k.0 e in omega (arith, before.facts.cut.class object.0 _ object.2, n))
+          | inr run ↦ (let wrong : Large ≡ Small k = ap (λ (s : SpanRef). s.kind) (sym run.1) ∙ is in absurd (cc))
+        ]
 
-  first_is_there : (next : Onward) (before : Before (does.Map (map.ClearSpan next))) (xs : List SpanRef) → l.freed.items ≡ xs → 0 < length xs → FirstIsThere p.map xs
-  first_is_there next before [] is some = absurd (omega arith)
-  first_is_there next before (s ∷ others) is some =
-      let step : Step = does.Map (map.ClearSpan next) in
-      let e : bit (same_span s s) ≡ 1 = ap bit (same_span_refl s) in
-      let h = mapped_are_there m b calls t (account_of (at step)) s before.facts (mine step before) (omega (arith, e, ap (spans_like s) is)) in
-      span_there s p.map.spans (omega (arith, h.there, before.books.spans s))
+    pub found_class : (row : MapStep R) → Before (does.Map row) → IsFoundClass m.rows p.map row
+    found_class (map.Set label run) before = tt
+    found_class (map.SetSpan a run) before = tt
+    found_class (map.Clear label run) before = tt
+    found_class (map.ClearSpan next) before = tt
+    found_class (map.Lookup label addr) before = λ span is.
+        let f = found_there label addr before in
+        let same : f.0.span ≡ span = let e : Some f.0.span ≡ Some span = sym f.1 ∙ is in cc in
+        kind_there f.0 before span.kind (ap (λ (s : SpanRef). s.kind) same)
 
-  pub map_fits : (row : MapStep) → Before (does.Map row) → FitsMap p.map (at (does.Map row)) row
-  map_fits (map.Set label run) before = let s : Step = does.Map (map.Set label run) in (set_inside s before run Large (alone run []), set_apart s before run Large (alone run []))
-  map_fits (map.SetSpan a run) before = let s : Step = does.Map (map.SetSpan a run) in (set_inside s before run (Small l.regs.class) (alone run []), set_apart s before run (Small l.regs.class) (alone run []))
-  map_fits (map.Lookup label addr) before =
-      let f = found_there label addr before in
-      let inside : maps.IsInside p.map.huge f.0.span = All-contains (maps.IsInside p.map.huge) p.map.spans f.0.span before.parts.map.inside f.2 in
-      let held = holds_parts (addr.0 / page_bytes) f.0.span f.0.holds in
-      (f.0.span, f.1, omega (arith, inside.to, held.1, before.parts.huge, before.huge, before.few), omega (arith, before.shaped.hand, ap length before.shaped.step.hand))
-  map_fits (map.Clear label run) before =
-      let s : Step = does.Map (map.Clear label run) in
-      let e : bit (same_span (large run) (large run)) ≡ 1 = ap bit (same_span_refl (large run)) in
-      span_there (large run) p.map.spans (omega (arith, clears_are_there m b calls t (account_of (at s)) run before.facts (mine s before) (omega (arith, e)), before.books.spans (large run)))
-  map_fits (map.ClearSpan next) before = first_is_there next before l.freed.items refl before.shaped.step.0.some
+    first_is_there : (next : Onward R) (before : Before (does.Map (map.ClearSpan next))) (xs : List SpanRef) → l.freed.items ≡ xs → 0 < length xs → FirstIsThere p.map xs
+    first_is_there next before [] is some = absurd (omega arith)
+    first_is_there next before (s ∷ others) is some =
+        let step : Step R = does.Map (map.ClearSpan next) in
+        let e : bit (same_span s s) ≡ 1 = ap bit (same_span_refl s) in
+        let h = mapped_are_there m b calls t (account_of about (at step)) s before.facts (mine step before) (omega (arith, e, ap (spans_like s) is)) in
+        span_there s p.map.spans (omega (arith, h.there, before.books.spans s))
 
-  pub names_fits : (row : NamesStep) → Before (does.Names row) → FitsNames p.names row
-  names_fits (names.Publish label value) before =
-      let s : Step = does.Names (names.Publish label value) in
-      let own : bit (eqb label.0 label.0) ≡ 1 = ap bit (eq-eqb label.0 label.0 refl) in
-      let low = within m b calls t (account_of (at s)) label.0 before.facts (mine s before) (omega (arith, own)) in
-      let out : bit (is_out (state_of b.names label.0)) ≡ 0 = omega (arith, before.facts.published label.0, least (unpublished label.0) b.accounts t (account_of (at s)) (mine s before), own) in
-      (omega (arith, low, ap length before.books.names), ap (λ (ns : List NameState). state_of ns label.0) (sym before.books.names) ∙ not_out (state_of b.names label.0) out)
-  names_fits (names.Take label) before =
-      let s : Step = does.Names (names.Take label) in
-      let own : bit (eqb label.0 label.0) ≡ 1 = ap bit (eq-eqb label.0 label.0 refl) in
-      let low = within m b calls t (account_of (at s)) label.0 before.facts (mine s before) (omega (arith, own)) in (
-        omega (arith, low, ap length before.books.names),
-        λ taken. absurd (
-            let e : bit (is_taken (state_of b.names label.0)) ≡ 1 = ap (λ (n : NameState). bit (is_taken n)) (ap (λ (ns : List NameState). state_of ns label.0) before.books.names ∙ taken) in
-            omega (arith, before.facts.taken label.0, least (untaken label.0) b.accounts t (account_of (at s)) (mine s before), own, e)),
-      )
+    pub map_fits : (row : MapStep R) → Before (does.Map row) → FitsMap p.map (at (does.Map row)) row
+    map_fits (map.Set label run) before = let s : Step R = does.Map (map.Set label run) in (set_inside s before run Large (alone run []), set_apart s before run Large (alone run []))
+    map_fits (map.SetSpan a run) before = let s : Step R = does.Map (map.SetSpan a run) in (set_inside s before run (Small l.regs.class) (alone run []), set_apart s before run (Small l.regs.class) (alone run []))
+    map_fits (map.Lookup label addr) before =
+        let f = found_there label addr before in
+        let inside : maps.IsInside p.map.huge f.0.span = All-contains (maps.IsInside p.map.huge) p.map.spans f.0.span before.parts.map.inside f.2 in
+        let held = holds_parts (addr.0 / page_bytes) f.0.span f.0.holds in
+        (f.0.span, f.1, omega (arith, inside.to, held.1, before.parts.huge, before.same, before.few), omega (arith, before.shaped.hand, ap length before.shaped.step.hand))
+    map_fits (map.Clear label run) before =
+        let s : Step R = does.Map (map.Clear label run) in
+        let e : bit (same_span (large run) (large run)) ≡ 1 = ap bit (same_span_refl (large run)) in
+        span_there (large run) p.map.spans (omega (arith, clears_are_there m b calls t (account_of about (at s)) run before.facts (mine s before) (omega (arith, e)), before.books.spans (large run)))
+    map_fits (map.ClearSpan next) before = first_is_there next before l.freed.items refl before.shaped.step.0.some
 
-  pub batch_fits : (s : Step) (before : Before s) → l.regs.hand.items ≡ [] → FitsBatch m.rows l.regs
-  batch_fits s before none =
-      let row = row_at_class m.rows l before.rows before.shaped.class in
-      record { class = before.shaped.class; some = row.batch; room = omega (arith, row.few, before.shaped.hand, ap length none) }
-
-  pub domain_fits : (row : DomainStep) → Before (does.Front (front.Domain row)) → FitsDomain m.rows l.regs row
-  domain_fits (domain.Take a) before = (batch_fits (does.Front (front.Domain (domain.Take a))) before before.shaped.step.0.hand, before.shaped.step.0.hand)
-  domain_fits (domain.Put g) before = tt
+    pub names_fits : (row : NamesStep) → Before (does.Names row) → FitsNames p.names row
+    names_fits (names.Publish label value) before =
+        let s : Step R = does.Names (names.Publish label value) in
+        let own : bit (eqb label.0 label.0) ≡ 1 = ap bit (eq-eqb label.0 label.0 refl) in
+        let low = within m b calls t (account_of about (at s)) label.0 before.facts (mine s before) (omega (arith, own)) in
+        let out : bit (is_out (state_of b.names label.0)) ≡ 0 = omega (arith, before.facts.published label.0, least (unpublished label.0) b.accounts t (account_of about (at s)) (mine s before), own) in
+        (omega (arith, low, ap length before.books.names), ap (λ (ns : List NameState). state_of ns label.0) (sym before.books.names) ∙ not_out (state_of b.names label.0) out)
+    names_fits (names.Take label) before =
+        let s : Step R = does.Names (names.Take label) in
+        let own : bit (eqb label.0 label.0) ≡ 1 = ap bit (eq-eqb label.0 label.0 refl) in
+        let low = within m b calls t (account_of about (at s)) label.0 before.facts (mine s before) (omega (arith, own)) in (
+          omega (arith, low, ap length before.books.names),
+          λ taken. absurd (
+              let e : bit (is_taken (state_of b.names label.0)) ≡ 1 = ap (λ (n : NameState). bit (is_taken n)) (ap (λ (ns : List NameState). state_of ns label.0) before.books.names ∙ taken) in
+              omega (arith, before.facts.taken label.0, least (untaken label.0) b.accounts t (account_of about (at s)) (mine s before), own, e)),
+        )

@@ -10,7 +10,7 @@ use Rattle.tc_model.specs.declared.calls.Call.{Call}
 use Rattle.tc_model.specs.declared.calls.Call.TheVariants.{Malloc, Free, Release, Drain, Resize}
 use Rattle.tc_model.specs.declared.calls.Planned.{Planned}
 use Rattle.tc_model.specs.declared.steps.Stepped.TheVariants as step
-use Rattle.tc_model.specs.Input.{Input, ThreadCall, script_of}
+use Rattle.tc_model.specs.Input.{Asked, ThreadCall, script_of}
 use Rattle.tc_model.specs.Run.{Rules, World, world_of}
 use Rattle.tc_model.specs.Sound.{FitsThere, IsReady}
 use Rattle.tc_model.specs.Steps.{stepped, stepped_on, stepped_at, stepped_by}
@@ -23,20 +23,22 @@ use Rattle.name_table.specs.declared.table.NameState.TheVariants as name
 use Rattle.name_table.specs.Names.{state_of}
 use Rattle.holdings.specs.Accounts.{got, is_out, is_unpublished}
 use Rattle.holdings.proofs.Sums.{bit_is}
-use Rattle.call_steps.specs.PerCpu.{CpuLocal as Local, Step}
 use Rattle.call_steps.specs.declared.step.Step.TheVariants as does
 use Rattle.call_steps.specs.declared.step.NamesStep.TheVariants as names
-use Rattle.call_steps.specs.Calls.{undecided}
+use Rattle.call_steps.specs.Calls.{undecided, About}
 use Rattle.call_steps.specs.Kept.{call_at, target_at}
-use Rattle.call_steps.specs.CpuRows.{cpu_place}
 use Rattle.call_steps.specs.Acts.{waits_for}
-use Rattle.call_steps.specs.CpuRows.{about_row}
-use Rattle.alloc_rules.specs.PerCpu.{Part}
+use Rattle.rseq_core.specs.declared.regs.Regs.{Regs}
+use Rattle.call_steps.specs.declared.step.Step.{Step}
+use Rattle.call_steps.specs.Local.{Local}
+use Rattle.alloc_rules.specs.declared.part.Part.{Part}
 use Rattle.alloc_rules.specs.declared.part.Part.TheVariants.{Front, Shard, Heap, Map, Names}
-use Rattle.alloc_rules.specs.Machine.{Parts, parts_of, number, number_of, waits, first_of, rules, turns}
+use Rattle.alloc_rules.specs.Machine.{number, number_of, Parts, parts_of, waits, first_of, rules, turns}
+use Rattle.alloc_rules.specs.Valid.{got_in, IsInOrder, IsValid}
+use Rattle.alloc_rules.specs.Standings.{Standing}
+use Rattle.alloc_rules.specs.FrontLaw.{FrontRules}
 use Rattle.alloc_rules.specs.Fits.{Fits}
 use Rattle.alloc_rules.specs.Scripts.{IsIn, is_under_way}
-use Rattle.alloc_rules.specs.Valid.{got_in, IsInOrder, IsValid}
 use Rattle.alloc_rules.proofs.Inputs.{got_push}
 use Rattle.alloc_rules.proofs.Numbers.{get_names}
 use Rattle.alloc_rules.proofs.Serving.{ArePlaced, IsAtWork}
@@ -89,16 +91,16 @@ moves_there : {P L : Type 0} (r : Rules P L) (w : World P L) (t : ℕ) (l : L) (
 moves_there r w t l n part local wants there goes = ap (stepped_by r w) local ∙ (ap (stepped_at r w l) wants ∙ (ap (stepped_on r l) there ∙ ap (λ b. cond b step.NotYet step.Moved) goes))
 
 -- a call under way wants a part
-pub wants_by : (cpus classes : ℕ) (l : Local) (s : Step) → is_under_way s ≡ true → (n : PartNo) × (option_map (number_of cpus classes) (target_at (cpu_place cpus classes) l s) ≡ Some n)
-wants_by cpus classes l (does.Front row) way = (_, refl)
-wants_by cpus classes l (does.Shard row) way = (_, refl)
-wants_by cpus classes l (does.Heap row) way = (_, refl)
-wants_by cpus classes l (does.Map row) way = (_, refl)
-wants_by cpus classes l (does.Names row) way = (_, refl)
-wants_by cpus classes l does.Ended way = absurd (cc)
+pub wants_by : {V R : Type 0} (place : V → Regs → R → ℕ) (split classes : ℕ) (l : Local V R) (s : Step R) → is_under_way s ≡ true → (n : PartNo) × (option_map (number_of split classes) (target_at place l s) ≡ Some n)
+wants_by place split classes l (does.Front row) way = (_, refl)
+wants_by place split classes l (does.Shard row) way = (_, refl)
+wants_by place split classes l (does.Heap row) way = (_, refl)
+wants_by place split classes l (does.Map row) way = (_, refl)
+wants_by place split classes l (does.Names row) way = (_, refl)
+wants_by place split classes l does.Ended way = absurd (cc)
 
 -- only names are waited for
-waits_at : (l : Local) (part : Part) → ((ns : List NameState) → part ≡ Names ns → waits_for ns l.step ≡ false) → waits part l ≡ false
+waits_at : {P V R : Type 0} (l : Local V R) (part : Part P) → ((ns : List NameState) → part ≡ Names ns → waits_for ns l.step ≡ false) → waits part l ≡ false
 waits_at l (Front q) goes = refl
 waits_at l (Shard x) goes = refl
 waits_at l (Heap heap) goes = refl
@@ -111,29 +113,29 @@ not_waits (name.Published value) out = refl
 not_waits name.Taken out = refl
 
 -- the names that a step on names finds are those of the parts
-names_there : (p : Parts) (cpus classes : ℕ) (n : PartNo) (ns : List NameState) → length p.cpus ≡ cpus → length p.shards ≡ classes → Some (number (cpus + classes + 2)) ≡ Some n → slice_get (parts_of p) n.0 ≡ Some (Names ns) → p.names ≡ ns
-names_there p cpus classes n ns c k is there =
-    let m : number (cpus + classes + 2) ≡ n = cc in
-    let i : length p.cpus + length p.shards + 2 ≡ n.0 = omega (arith, c, k, ap (λ (x : PartNo). x.0) m) in
-    let e : Some (Names p.names) ≡ Some (Names ns) = sym (get_names p) ∙ (ap (λ j. slice_get (parts_of p) j) i ∙ there) in
+names_there : {P : Type 0} (split : ℕ) (p : Parts P) (few : split ≤ length p.fronts) (classes : ℕ) (n : PartNo) (ns : List NameState) → length p.shards ≡ classes → Some (number (split + classes + 2)) ≡ Some n → slice_get (parts_of split p) n.0 ≡ Some (Names ns) → p.names ≡ ns
+names_there split p few classes n ns k is there =
+    let m : number (split + classes + 2) ≡ n = cc in
+    let i : split + length p.shards + 2 ≡ n.0 = omega (arith, k, ap (λ (x : PartNo). x.0) m) in
+    let e : Some (Names p.names) ≡ Some (Names ns) = sym (get_names split p few) ∙ (ap (λ j. slice_get (parts_of split p) j) i ∙ there) in
     cc
 
 -- a step of a call whose label is out doesn't wait
-goes_by : (p : Parts) (cpus classes : ℕ) (l : Local) (n : PartNo) (ns : List NameState) (s : Step) (c : Call) (o : Option Call) → length p.cpus ≡ cpus → length p.shards ≡ classes → option_map (number_of cpus classes) (target_at (cpu_place cpus classes) l s) ≡ Some n → slice_get (parts_of p) n.0 ≡ Some (Names ns) → ((d : Call) → undecided about_row s ≡ Some d → o ≡ Some d) → o ≡ Some c → ((label : Label) → c ≡ Free label → is_out (state_of p.names label.0) ≡ true) → waits_for ns s ≡ false
-goes_by p cpus classes l n ns (does.Front row) c o few many wants there call is out = refl
-goes_by p cpus classes l n ns (does.Shard row) c o few many wants there call is out = refl
-goes_by p cpus classes l n ns (does.Heap row) c o few many wants there call is out = refl
-goes_by p cpus classes l n ns (does.Map row) c o few many wants there call is out = refl
-goes_by p cpus classes l n ns does.Ended c o few many wants there call is out = refl
-goes_by p cpus classes l n ns (does.Names (names.Publish label value)) c o few many wants there call is out = refl
-goes_by p cpus classes l n ns (does.Names (names.Take label)) c o few many wants there call is out =
+goes_by : {P V R : Type 0} (about : R → About) (place : V → Regs → R → ℕ) (split : ℕ) (p : Parts P) (few : split ≤ length p.fronts) (classes : ℕ) (l : Local V R) (n : PartNo) (ns : List NameState) (s : Step R) (c : Call) (o : Option Call) → length p.shards ≡ classes → option_map (number_of split classes) (target_at place l s) ≡ Some n → slice_get (parts_of split p) n.0 ≡ Some (Names ns) → ((d : Call) → undecided about s ≡ Some d → o ≡ Some d) → o ≡ Some c → ((label : Label) → c ≡ Free label → is_out (state_of p.names label.0) ≡ true) → waits_for ns s ≡ false
+goes_by about place split p few classes l n ns (does.Front row) c o many wants there call is out = refl
+goes_by about place split p few classes l n ns (does.Shard row) c o many wants there call is out = refl
+goes_by about place split p few classes l n ns (does.Heap row) c o many wants there call is out = refl
+goes_by about place split p few classes l n ns (does.Map row) c o many wants there call is out = refl
+goes_by about place split p few classes l n ns does.Ended c o many wants there call is out = refl
+goes_by about place split p few classes l n ns (does.Names (names.Publish label value)) c o many wants there call is out = refl
+goes_by about place split p few classes l n ns (does.Names (names.Take label)) c o many wants there call is out =
     let e : Some c ≡ Some (Free label) = sym is ∙ call (Free label) refl in
     let d : c ≡ Free label = cc in
-    let same : p.names ≡ ns = names_there p cpus classes n ns few many wants there in
+    let same : p.names ≡ ns = names_there split p few classes n ns many wants there in
     not_waits (state_of ns label.0) (subst (λ xs. is_out (state_of xs label.0) ≡ true) same (out label d))
 
 -- a step is of a call, or its script has ended
-way_by : (s : Step) (o : Option Call) (c : Call) → o ≡ Some c → (is_under_way s ≡ false → o ≡ None) → is_under_way s ≡ true
+way_by : {R : Type 0} (s : Step R) (o : Option Call) (c : Call) → o ≡ Some c → (is_under_way s ≡ false → o ≡ None) → is_under_way s ≡ true
 way_by s o c is ended =
     let both : (b : Bool) → is_under_way s ≡ b → b ≡ true =
     λ b. elim b as (λ k. is_under_way s ≡ k → k ≡ true) [
@@ -147,59 +149,58 @@ way_by s o c is ended =
 free_after : (earlier : List ThreadCall) (call : Call) (label : Label) → IsInOrder earlier call → call ≡ Free label → 0 < got_in label.0 earlier
 free_after earlier call label order is = (subst (IsInOrder earlier) is order).0
 
-module _ (input : Input) (valid : IsValid input) (p : Parts) (locals : List Local) (order : List ℕ) (placed : ArePlaced input p (length order)) (count : length locals ≡ input.asked.config.threads) (works : (t : ℕ) (l : Local) → slice_get locals t ≡ Some l → IsAtWork input p.names order t l) where
-  abbrev w : World Part Local
-  w = world_of (parts_of p) locals
+module _ {P V R : Type 0} (r : FrontRules P V R) (about : R → About) (planned : Planned → Type 0) (Holds : ℕ → List P → List (Standing V R) → Type 0) (fits : P → V → Regs → R → Type 0) (asked : Asked) (valid : IsValid r.calls.rows planned asked) (p : Parts P) (locals : List (Local V R)) (order : List ℕ) (placed : ArePlaced r asked p) (split_few : r.split ≤ length p.fronts) (count : length locals ≡ asked.config.threads) (works : (t : ℕ) (l : Local V R) → slice_get locals t ≡ Some l → IsAtWork r about planned Holds asked p.names order t l) where
+  abbrev w : World (Part P) (Local V R)
+  w = world_of (parts_of r.split p) locals
 
   abbrev done : ℕ → ℕ
-  done u = done_in (rules input) w u
+  done u = done_in (rules r about asked) w u
 
   -- a thread of the trace has a local and a script
   record Finds (before : List ThreadCall) (c : ThreadCall) : Type 0 where
-    local : Local
+    local : Local V R
     there : slice_get locals c.thread.0 ≡ Some local
-    in_script : IsIn p.names (script_of c.thread.0 input.asked.calls) local
-    at : call_at (script_of c.thread.0 input.asked.calls) (picks_of c.thread.0 (turns_of before)) ≡ Some c.planned.call
+    in_script : IsIn r.calls about p.names (script_of c.thread.0 asked.calls) local
+    at : call_at (script_of c.thread.0 asked.calls) (picks_of c.thread.0 (turns_of before)) ≡ Some c.planned.call
     ended : done c.thread.0 ≡ local.ended
 
-  finds : (before : List ThreadCall) (c : ThreadCall) (after : List ThreadCall) → input.asked.calls ≡ before ++ c ∷ after → Finds before c
+  finds : (before : List ThreadCall) (c : ThreadCall) (after : List ThreadCall) → asked.calls ≡ before ++ c ∷ after → Finds before c
   finds before c after is =
       let t : ℕ = c.thread.0 in
-      let below : t < input.asked.config.threads = (valid.calls before c after (sym is)).thread in
-      let nobody : Local = first_of input 0 in
-      let l : Local = get_or locals t nobody in
+      let below : t < asked.config.threads = (valid.calls before c after (sym is)).thread in
+      let nobody : Local V R = first_of r about asked 0 in
+      let l : Local V R = get_or locals t nobody in
       let there : slice_get locals t ≡ Some l = slice_get-get_or locals t nobody (omega (arith, below, count)) in
       record {
         local = l;
         there = there;
         in_script = (works t l there).inside;
         at = ap (λ cs. call_at (script_of t cs) (picks_of t (turns_of before))) is ∙ ap (option_map (λ (q : Planned). q.call)) (script_at before c after);
-        ended = ap (done_by (rules input)) there;
+        ended = ap (done_by (rules r about asked)) there;
       }
 
-  module _ (ready : (t : ℕ) → IsReady (rules input) (Fits input.rows) w t) where
+  module _ (ready : (t : ℕ) → IsReady (rules r about asked) (Fits r.calls.rows fits) w t) where
     -- the act of a local whose call is that of the trace
-    goes : (t : ℕ) (l : Local) (c : Call) → slice_get locals t ≡ Some l → IsIn p.names (script_of t input.asked.calls) l → call_at (script_of t input.asked.calls) l.ended ≡ Some c → ((label : Label) → c ≡ Free label → is_out (state_of p.names label.0) ≡ true) → stepped (rules input) w t ≡ step.Moved
+    goes : (t : ℕ) (l : Local V R) (c : Call) → slice_get locals t ≡ Some l → IsIn r.calls about p.names (script_of t asked.calls) l → call_at (script_of t asked.calls) l.ended ≡ Some c → ((label : Label) → c ≡ Free label → is_out (state_of p.names label.0) ≡ true) → stepped (rules r about asked) w t ≡ step.Moved
     goes t l c local inside at out =
-        let cpus : ℕ = input.asked.config.cpus in
-        let classes : ℕ = length input.rows in
-        let way : is_under_way l.step ≡ true = way_by l.step (call_at (script_of t input.asked.calls) l.ended) c at inside.none in
-        let wants = wants_by cpus classes l l.step way in
-        let h : FitsThere (Fits input.rows) w wants.0.0 l = ready t l wants.0 local wants.1 in
-        moves_there (rules input) w t l wants.0 h.part local wants.1 h.there
-        (waits_at l h.part (λ ns is. goes_by p cpus classes l wants.0 ns l.step c (call_at (script_of t input.asked.calls) l.ended) placed.cpus placed.ok.classes wants.1 (h.there ∙ ap (λ x. Some x) is) inside.call at out))
+        let classes : ℕ = length r.calls.rows in
+        let way : is_under_way l.step ≡ true = way_by l.step (call_at (script_of t asked.calls) l.ended) c at inside.none in
+        let wants = wants_by r.place r.split classes l l.step way in
+        let h : FitsThere (Fits r.calls.rows fits) w wants.0.0 l = ready t l wants.0 local wants.1 in
+        moves_there (rules r about asked) w t l wants.0 h.part local wants.1 h.there
+        (waits_at l h.part (λ ns is. goes_by about r.place r.split p split_few classes l wants.0 ns l.step c (call_at (script_of t asked.calls) l.ended) placed.ok.classes wants.1 (h.there ∙ ap (λ x. Some x) is) inside.call at out))
 
     -- the call that comes next goes
-    here : (before : List ThreadCall) (c : ThreadCall) (after : List ThreadCall) → input.asked.calls ≡ before ++ c ∷ after → ((u : ℕ) → picks_of u (turns_of before) ≤ done u) → ((x : ℕ) → 0 < got_in x before → is_out (state_of p.names x) ≡ true) → done c.thread.0 ≤ picks_of c.thread.0 (turns_of before) → stepped (rules input) w c.thread.0 ≡ step.Moved
+    here : (before : List ThreadCall) (c : ThreadCall) (after : List ThreadCall) → asked.calls ≡ before ++ c ∷ after → ((u : ℕ) → picks_of u (turns_of before) ≤ done u) → ((x : ℕ) → 0 < got_in x before → is_out (state_of p.names x) ≡ true) → done c.thread.0 ≤ picks_of c.thread.0 (turns_of before) → stepped (rules r about asked) w c.thread.0 ≡ step.Moved
     here before c after is ended out late =
         let h = finds before c after is in
-        let script : List Planned = script_of c.thread.0 input.asked.calls in
+        let script : List Planned = script_of c.thread.0 asked.calls in
         let now : picks_of c.thread.0 (turns_of before) ≡ h.local.ended = omega (arith, ended c.thread.0, late, h.ended) in
         let at : call_at script h.local.ended ≡ Some c.planned.call = ap (λ n. call_at script n) (sym now) ∙ h.at in
         goes c.thread.0 h.local c.planned.call h.there h.in_script at (λ label e. out label.0 (free_after before c.planned.call label (valid.calls before c after (sym is)).order e))
 
     -- the labels that an ended call allocated are out
-    out_more : (before : List ThreadCall) (c : ThreadCall) (after : List ThreadCall) → input.asked.calls ≡ before ++ c ∷ after → picks_of c.thread.0 (turns_of before) < done c.thread.0 → (x : ℕ) → (call : Call) → c.planned.call ≡ call → 0 < got x call → is_out (state_of p.names x) ≡ true
+    out_more : (before : List ThreadCall) (c : ThreadCall) (after : List ThreadCall) → asked.calls ≡ before ++ c ∷ after → picks_of c.thread.0 (turns_of before) < done c.thread.0 → (x : ℕ) → (call : Call) → c.planned.call ≡ call → 0 < got x call → is_out (state_of p.names x) ≡ true
     out_more before c after is early x (Malloc label size) call some =
         let h = finds before c after is in
         let e : label.0 ≡ x = eqb-true label.0 x (bit_is (eqb label.0 x) (omega arith)) in
@@ -209,11 +210,11 @@ module _ (input : Input) (valid : IsValid input) (p : Parts) (locals : List Loca
     out_more before c after is early x (Drain cpu) call some = absurd (omega arith)
     out_more before c after is early x (Resize cpu class cap) call some = absurd (omega arith)
 
-    walk : (before cs : List ThreadCall) → input.asked.calls ≡ before ++ cs → ((u : ℕ) → picks_of u (turns_of before) ≤ done u) → ((x : ℕ) → 0 < got_in x before → is_out (state_of p.names x) ≡ true) → (t : ℕ) → next_turn done (turns_of before) (turns_of cs) ≡ Some t → stepped (rules input) w t ≡ step.Moved
+    walk : (before cs : List ThreadCall) → asked.calls ≡ before ++ cs → ((u : ℕ) → picks_of u (turns_of before) ≤ done u) → ((x : ℕ) → 0 < got_in x before → is_out (state_of p.names x) ≡ true) → (t : ℕ) → next_turn done (turns_of before) (turns_of cs) ≡ Some t → stepped (rules r about asked) w t ≡ step.Moved
     walk before [] is ended out t next = absurd (cc)
     walk before (c ∷ cs) is ended out t next =
-        let both : (k : Bool) → ltb (picks_of c.thread.0 (turns_of before)) (done c.thread.0) ≡ k → cond k (next_turn done (turns_of before ++ c.thread.0 ∷ []) (turns_of cs)) (Some c.thread.0) ≡ Some t → stepped (rules input) w t ≡ step.Moved =
-        λ k. elim k as (λ b. ltb (picks_of c.thread.0 (turns_of before)) (done c.thread.0) ≡ b → cond b (next_turn done (turns_of before ++ c.thread.0 ∷ []) (turns_of cs)) (Some c.thread.0) ≡ Some t → stepped (rules input) w t ≡ step.Moved) [
+        let both : (k : Bool) → ltb (picks_of c.thread.0 (turns_of before)) (done c.thread.0) ≡ k → cond k (next_turn done (turns_of before ++ c.thread.0 ∷ []) (turns_of cs)) (Some c.thread.0) ≡ Some t → stepped (rules r about asked) w t ≡ step.Moved =
+        λ k. elim k as (λ b. ltb (picks_of c.thread.0 (turns_of before)) (done c.thread.0) ≡ b → cond b (next_turn done (turns_of before ++ c.thread.0 ∷ []) (turns_of cs)) (Some c.thread.0) ≡ Some t → stepped (rules r about asked) w t ≡ step.Moved) [
           | true ↦ λ test go.
               let early : picks_of c.thread.0 (turns_of before) < done c.thread.0 = ltb-true (picks_of c.thread.0 (turns_of before)) (done c.thread.0) test in
               walk (before ++ c ∷ []) cs (is ∙ sym (append_snoc before c cs))
@@ -229,11 +230,11 @@ module _ (input : Input) (valid : IsValid input) (p : Parts) (locals : List Loca
               t (ap (λ us. next_turn done us (turns_of cs)) (turns-push before c) ∙ go)
           | false ↦ λ test go.
               let e : c.thread.0 ≡ t = cc in
-              subst (λ u. stepped (rules input) w u ≡ step.Moved) e (here before c cs is ended out (ltb-false (picks_of c.thread.0 (turns_of before)) (done c.thread.0) test))
+              subst (λ u. stepped (rules r about asked) w u ≡ step.Moved) e (here before c cs is ended out (ltb-false (picks_of c.thread.0 (turns_of before)) (done c.thread.0) test))
         ]
         in
         both (ltb (picks_of c.thread.0 (turns_of before)) (done c.thread.0)) refl next
 
     -- In every such world the thread of the earliest call that hasn't ended moves.
-    pub serial_goes : (t : ℕ) → next_turn done [] (turns input) ≡ Some t → stepped (rules input) w t ≡ step.Moved
-    serial_goes t next = walk [] input.asked.calls refl (λ u. omega arith) (λ x some. absurd (omega arith)) t next
+    pub serial_goes : (t : ℕ) → next_turn done [] (turns asked) ≡ Some t → stepped (rules r about asked) w t ≡ step.Moved
+    serial_goes t next = walk [] asked.calls refl (λ u. omega arith) (λ x some. absurd (omega arith)) t next

@@ -8,24 +8,30 @@ use Rattle.std.proofs.lemmas.List.FromFn.{length-range_with_len}
 use Rattle.std.proofs.lemmas.Option.{slice_get-get_or, slice_get_past}
 use Rattle.tc_model.specs.declared.calls.Planned.{Planned}
 use Rattle.tc_model.specs.declared.steps.Stepped.TheVariants as step
-use Rattle.tc_model.specs.Input.{Input, ThreadCall, script_of}
-use Rattle.tc_model.specs.Run.{World, world_of, run}
-use Rattle.tc_model.specs.Sound.{IsOrder, IsReady, IsSound}
+use Rattle.tc_model.specs.Input.{Asked, ThreadCall, script_of}
+use Rattle.tc_model.specs.Run.{World, world_of}
+use Rattle.tc_model.specs.Sound.{IsReady}
 use Rattle.tc_model.specs.Steps.{stepped}
 use Rattle.tc_model.specs.Replays.{done_by, done_in, HaveEnded}
 use Rattle.tc_model.specs.Serial.{next_turn, AreThreads, NeverWaits, Rises, Ends}
 use Rattle.tc_model.proofs.RisesBy.{rises_by, turns_none}
-use Rattle.call_steps.specs.PerCpu.{CpuLocal as Local, Step}
 use Rattle.call_steps.specs.declared.step.Step.TheVariants as does
 use Rattle.call_steps.specs.Kept.{call_at}
-use Rattle.alloc_rules.specs.PerCpu.{Part}
+use Rattle.rseq_core.specs.declared.regs.Regs.{Regs}
+use Rattle.call_steps.specs.declared.step.Step.{Step}
+use Rattle.call_steps.specs.Local.{Local}
+use Rattle.call_steps.specs.Calls.{About}
+use Rattle.alloc_rules.specs.declared.part.Part.{Part}
+use Rattle.alloc_rules.specs.Standings.{Standing}
+use Rattle.alloc_rules.specs.FrontLaw.{FrontRules, IsLawful}
 use Rattle.alloc_rules.specs.Machine.{Parts, parts_of, place_of, first_of, rules, turns}
 use Rattle.alloc_rules.specs.Fits.{Fits}
 use Rattle.alloc_rules.specs.Scripts.{IsIn, is_under_way}
 use Rattle.alloc_rules.specs.Valid.{IsValid}
-use Rattle.alloc_rules.proofs.Serving.{IsAtWork, IsServed}
+use Rattle.alloc_rules.proofs.Serving.{IsAtWork}
+use Rattle.alloc_rules.proofs.Runs.{served_order, sound}
 use Rattle.alloc_rules.proofs.SerialGoes.{script_length, serial_goes}
-use Rattle.alloc_rules.proofs.CpuElsewhere.{after_rises}
+use Rattle.alloc_rules.proofs.Elsewhere.{after_rises}
 
 -- calls are made by threads that there are
 thread_below : (n : ℕ) (cs : List ThreadCall) → ((earlier : List ThreadCall) (c : ThreadCall) (later : List ThreadCall) → earlier ++ c ∷ later ≡ cs → c.thread.0 < n) → (i : ℕ) → i < length (map (λ (c : ThreadCall). c.thread.0) cs) → slice_index (map (λ (c : ThreadCall). c.thread.0) cs) i < n
@@ -33,57 +39,52 @@ thread_below n [] below i within = absurd (omega arith)
 thread_below n (c ∷ cs) below zero within = below [] c cs refl
 thread_below n (c ∷ cs) below (suc i) within = thread_below n cs (λ earlier d later is. below (c ∷ earlier) d later (ap (λ xs. c ∷ xs) is)) i (omega arith)
 
-pub are_threads : (input : Input) → IsValid input → AreThreads (rules input) (turns input)
-are_threads input valid i within =
-    let n : ℕ = input.asked.config.threads in
-    let count : length (rules input).locals ≡ n = length-map (range_with_len 0 n) (first_of input) ∙ length-range_with_len 0 n in
-    let below = thread_below n input.asked.calls (λ earlier c later is. (valid.calls earlier c later is).thread) i within in
-    omega (arith, below, count)
+module _ {P V R : Type 0} (r : FrontRules P V R) (about : R → About) (planned : Planned → Type 0) (Holds : ℕ → List P → List (Standing V R) → Type 0) (fits : P → V → Regs → R → Type 0) (law : IsLawful r about planned Holds fits) (asked : Asked) (valid : IsValid r.calls.rows planned asked) where
+  pub are_threads : AreThreads (rules r about asked) (turns asked)
+  are_threads i within =
+      let n : ℕ = asked.config.threads in
+      let count : length (rules r about asked).locals ≡ n = length-map (range_with_len 0 n) (first_of r about asked) ∙ length-range_with_len 0 n in
+      let below = thread_below n asked.calls (λ earlier c later is. (valid.calls earlier c later is).thread) i within in
+      omega (arith, below, count)
 
-pub rises : (input : Input) → Rises (rules input)
-rises input = rises_by (rules input) (after_rises input.rows)
+  pub rises : Rises (rules r about asked)
+  rises = rises_by (rules r about asked) (after_rises r about law.refuses)
 
--- what every run is known to be: served, and ready for each thread's next act
-abbrev pub EachServed : Type 0
-EachServed = (input : Input) → IsValid input → (order : List ℕ) → IsOrder (rules input) order → IsServed input (run (rules input) order) order
+  -- the thread of the earliest call that hasn't ended moves
+  pub never_waits : NeverWaits (rules r about asked) (turns asked)
+  never_waits order t of =
+      let h = served_order r about planned Holds fits law asked valid order of in
+      let Q : World (Part P) (Local V R) → Type 0 = λ w. ((u : ℕ) → IsReady (rules r about asked) (Fits r.calls.rows fits) w u) → next_turn (done_in (rules r about asked) w) [] (turns asked) ≡ Some t → stepped (rules r about asked) w t ≡ step.Moved in
+      subst Q (sym h.is) (λ each. serial_goes r about planned Holds fits asked valid h.parts h.locals order h.placed (omega (arith, law.split, h.placed.fronts)) h.count h.works each t) (λ u. sound r about planned Holds fits law asked valid order u of)
 
-abbrev pub EachReady : Type 0
-EachReady = (input : Input) → IsValid input → IsSound (rules input) (Fits input.rows)
+  -- where each call has ended, each script has
+  ended_by : (l : Local V R) (s : Step R) → l.step ≡ s → is_under_way s ≡ false → place_of r about l ≡ None
+  ended_by l (does.Front row) is way = absurd (cc)
+  ended_by l (does.Shard row) is way = absurd (cc)
+  ended_by l (does.Heap row) is way = absurd (cc)
+  ended_by l (does.Map row) is way = absurd (cc)
+  ended_by l (does.Names row) is way = absurd (cc)
+  ended_by l does.Ended is way = rw is refl
 
--- the thread of the earliest call that hasn't ended moves
-pub never_waits : EachServed → EachReady → (input : Input) → IsValid input → NeverWaits (rules input) (turns input)
-never_waits served ready input valid order t of =
-    let h = served input valid order of in
-    let Q : World Part Local → Type 0 = λ w. ((u : ℕ) → IsReady (rules input) (Fits input.rows) w u) → next_turn (done_in (rules input) w) [] (turns input) ≡ Some t → stepped (rules input) w t ≡ step.Moved in
-    subst Q (sym h.is) (λ each. serial_goes input valid h.parts h.locals order h.placed h.count h.works each t) (λ u. ready input valid order u of)
+  -- a step of no call
+  no_way : {X : Type 0} (b : Bool) (o : Option X) → o ≡ None → (b ≡ true → is_some o ≡ true) → b ≡ false
+  no_way true o none some = let e : is_some o ≡ false = ap is_some none in absurd (false≢true (sym e ∙ some refl))
+  no_way false o none some = refl
 
--- where each call has ended, each script has
-ended_by : (cpus classes : ℕ) (l : Local) (s : Step) → l.step ≡ s → is_under_way s ≡ false → place_of cpus classes l ≡ None
-ended_by cpus classes l (does.Front row) is way = absurd (cc)
-ended_by cpus classes l (does.Shard row) is way = absurd (cc)
-ended_by cpus classes l (does.Heap row) is way = absurd (cc)
-ended_by cpus classes l (does.Map row) is way = absurd (cc)
-ended_by cpus classes l (does.Names row) is way = absurd (cc)
-ended_by cpus classes l does.Ended is way = rw is refl
+  all_ended : (p : Parts P) (locals : List (Local V R)) (order : List ℕ) → ((t : ℕ) (l : Local V R) → slice_get locals t ≡ Some l → IsAtWork r about planned Holds asked p.names order t l)
+      → next_turn (done_in (rules r about asked) (world_of (parts_of r.split p) locals)) [] (turns asked) ≡ None → HaveEnded (rules r about asked) (world_of (parts_of r.split p) locals)
+  all_ended p locals order works next t d within =
+      let l : Local V R = get_or locals t d in
+      let local : slice_get locals t ≡ Some l = slice_get-get_or locals t d within in
+      let inside : IsIn r.calls about p.names (script_of t asked.calls) l = (works t l local).inside in
+      let few = turns_none (done_in (rules r about asked) (world_of (parts_of r.split p) locals)) [] (turns asked) next (λ u. omega arith) t in
+      let done : done_in (rules r about asked) (world_of (parts_of r.split p) locals) t ≡ l.ended = ap (done_by (rules r about asked)) local in
+      let script : List Planned = script_of t asked.calls in
+      let none : call_at script l.ended ≡ None = ap (option_map (λ (q : Planned). q.call)) (slice_get_past script l.ended (omega (arith, few, done, script_length t asked.calls))) in
+      ended_by l l.step refl (no_way (is_under_way l.step) (call_at script l.ended) none inside.some)
 
--- a step of no call
-no_way : {X : Type 0} (b : Bool) (o : Option X) → o ≡ None → (b ≡ true → is_some o ≡ true) → b ≡ false
-no_way true o none some = let e : is_some o ≡ false = ap is_some none in absurd (false≢true (sym e ∙ some refl))
-no_way false o none some = refl
-
-all_ended : (input : Input) (p : Parts) (locals : List Local) (order : List ℕ) → ((t : ℕ) (l : Local) → slice_get locals t ≡ Some l → IsAtWork input p.names order t l) → next_turn (done_in (rules input) (world_of (parts_of p) locals)) [] (turns input) ≡ None → HaveEnded (rules input) (world_of (parts_of p) locals)
-all_ended input p locals order works next t d within =
-    let l : Local = get_or locals t d in
-    let local : slice_get locals t ≡ Some l = slice_get-get_or locals t d within in
-    let inside : IsIn p.names (script_of t input.asked.calls) l = (works t l local).inside in
-    let few = turns_none (done_in (rules input) (world_of (parts_of p) locals)) [] (turns input) next (λ u. omega arith) t in
-    let done : done_in (rules input) (world_of (parts_of p) locals) t ≡ l.ended = ap (done_by (rules input)) local in
-    let script : List Planned = script_of t input.asked.calls in
-    let none : call_at script l.ended ≡ None = ap (option_map (λ (q : Planned). q.call)) (slice_get_past script l.ended (omega (arith, few, done, script_length t input.asked.calls))) in
-    ended_by input.asked.config.cpus (length input.rows) l l.step refl (no_way (is_under_way l.step) (call_at script l.ended) none inside.some)
-
-pub ends : EachServed → (input : Input) → IsValid input → Ends (rules input) (turns input)
-ends served input valid order of =
-    let h = served input valid order of in
-    let Q : World Part Local → Type 0 = λ w. next_turn (done_in (rules input) w) [] (turns input) ≡ None → HaveEnded (rules input) w in
-    subst Q (sym h.is) (all_ended input h.parts h.locals order h.works)
+  pub ends : Ends (rules r about asked) (turns asked)
+  ends order of =
+      let h = served_order r about planned Holds fits law asked valid order of in
+      let Q : World (Part P) (Local V R) → Type 0 = λ w. next_turn (done_in (rules r about asked) w) [] (turns asked) ≡ None → HaveEnded (rules r about asked) w in
+      subst Q (sym h.is) (all_ended h.parts h.locals order h.works)

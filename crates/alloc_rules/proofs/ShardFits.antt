@@ -25,19 +25,24 @@ use Rattle.holdings.proofs.Sums.{least, same_span_refl}
 use Rattle.holdings.proofs.MapFacts.{all_spans, one_number}
 use Rattle.holdings.proofs.Held.{hands_are_taken, mapped_are_there}
 use Rattle.call_steps.specs.declared.step.Asking.{Asking}
-use Rattle.call_steps.specs.PerCpu.{CpuLocal as Local, Step, ShardStep}
 use Rattle.call_steps.specs.declared.step.Step.TheVariants as does
 use Rattle.call_steps.specs.declared.step.ShardStep.TheVariants.{Fetch, AddFetch, Give}
-use Rattle.call_steps.specs.Local.{no_class, class_row}
+use Rattle.call_steps.specs.Local.{no_class, class_row, Local}
 use Rattle.call_steps.specs.Fits.{FitsBatch, FitsShard}
-use Rattle.call_steps.specs.Shapes.{IsClassRow, StepShape, ShardShape}
-use Rattle.alloc_rules.specs.Machine.{Parts}
-use Rattle.alloc_rules.specs.Accounts.{mapped_of}
-use Rattle.alloc_rules.specs.CpuAccounts.{account_of}
-use Rattle.alloc_rules.specs.Stocks.{no_shard, shard_at, stock_of, IsShardOf}
-use Rattle.alloc_rules.specs.Acts.{limits_of, IsBefore, ShardActsFit}
 use Rattle.alloc_rules.proofs.Counting.{objects_count}
 use Rattle.alloc_rules.proofs.Freeing.{own_account}
+use Rattle.tc_model.specs.declared.calls.Planned.{Planned}
+use Rattle.call_steps.specs.Calls.{About}
+use Rattle.alloc_rules.specs.Accounts.{account_of, mapped_of}
+use Rattle.alloc_rules.specs.FrontLaw.{FrontRules, AreEntries}
+use Rattle.alloc_rules.specs.Machine.{Parts}
+use Rattle.alloc_rules.specs.Stocks.{stock_of, no_shard, shard_at, IsShardOf}
+use Rattle.alloc_rules.specs.Acts.{setup, IsBefore}
+use Rattle.call_steps.specs.declared.step.Step.{Step}
+use Rattle.call_steps.specs.declared.step.ShardStep.{ShardStep}
+use Rattle.call_steps.specs.Shapes.{IsClassRow}
+use Rattle.alloc_rules.specs.Shapes.{StepShape, ShardShape}
+use Rattle.alloc_rules.specs.Laws.{ShardActsFit}
 
 -- an object of a list is at its address there
 objects_have : (xs : List Addr) (i : ℕ) (d : Addr) → i < length xs → 0 < objects_at (get_or xs i d).0 xs
@@ -51,75 +56,79 @@ objects_have xs i d less =
 states_have : (P : SpanRef → Type 0) (states : List SpanState) → All P (map (λ (x : SpanState). x.span) states) → All (λ (x : SpanState). P x.span) states
 states_have P states all = λ i d less. subst P (get_or-map (λ (x : SpanState). x.span) states i d d.span less) (all i d.span (omega (arith, length-map states (λ (x : SpanState). x.span), less)))
 
-module _ (m : Setup) (limits : HeapConfig) (cpus : ℕ) (p : Parts) (locals : List Local) (b : Books) (calls : List CallLine) (t : ℕ) (l : Local) (x : Shard) (before : IsBefore m limits cpus p locals b calls t l) (at : slice_get p.shards l.regs.class.0 ≡ Some x) where
-  pub of_class : IsShardOf m.rows l.regs.class.0 x
-  of_class = before.parts.shards l.regs.class.0 x at
+module _ {P V R : Type 0} (r : FrontRules P V R) (about : R → About) (planned : Planned → Type 0) (entries : AreEntries r.calls about) where
+  module _ (huge labels : ℕ) (limits : HeapConfig) (p : Parts P) (locals : List (Local V R)) (b : Books) (calls : List CallLine) (t : ℕ) (l : Local V R) (x : Shard) (before : IsBefore r about planned huge labels limits p locals b calls t l) (at : slice_get p.shards l.regs.class.0 ≡ Some x) where
+    abbrev m : Setup
+    m = setup r huge labels
 
-  pub shard_is : shard_at p.shards l.regs.class.0 ≡ x
-  shard_is = get_or_from_slice_get p.shards l.regs.class.0 x no_shard at
+    pub of_class : IsShardOf m.rows l.regs.class.0 x
+    of_class = before.parts.shards l.regs.class.0 x at
 
-  pub row_is : class_row m.rows l ≡ x.central.row
-  row_is = get_or_from_slice_get m.rows l.regs.class.0 x.central.row no_class of_class.row
+    pub shard_is : shard_at p.shards l.regs.class.0 ≡ x
+    shard_is = get_or_from_slice_get p.shards l.regs.class.0 x no_shard at
 
-  pub class_row_is : IsClassRow (class_row m.rows l)
-  class_row_is = before.rows.each l.regs.class.0 no_class before.shaped.class
+    pub row_is : class_row m.rows l ≡ x.central.row
+    row_is = get_or_from_slice_get m.rows l.regs.class.0 x.central.row no_class of_class.row
 
-  batch_fits : l.regs.hand.items ≡ [] → FitsBatch m.rows l.regs
-  batch_fits none =
-      let empty : length l.regs.hand.items ≡ 0 = ap (λ (h : List Addr). length h) none in
-      record { class = before.shaped.class; some = class_row_is.batch; room = omega (arith, empty, class_row_is.few, before.shaped.hand) }
+    pub class_row_is : IsClassRow (class_row m.rows l)
+    class_row_is = before.rows.each l.regs.class.0 no_class before.shaped.class
 
-  -- a span that was set is in the map, and apart from those of the shard
-  pub is_mapped : (asking : Asking) (run : Run) → l.step ≡ does.Shard (AddFetch asking run) → IsMapped m b (small l.regs.class run)
-  is_mapped asking run is =
-      let s : SpanRef = small l.regs.class run in
-      let held : spans_like s (account_of l).mapped ≡ bit (same_span s s) + 0 = ap (λ (x : Step). spans_like s (mapped_of l.regs.class l.freed.items x)) is in
-      let same : bit (same_span s s) ≡ 1 = ap bit (same_span_refl s) in
-      mapped_are_there m b calls t (account_of l) s before.facts (own_account m limits cpus p locals b calls t l before) (omega (arith, held, same))
+    batch_fits : l.regs.hand.items ≡ [] → FitsBatch m.rows l.regs
+    batch_fits none =
+        let empty : length l.regs.hand.items ≡ 0 = ap (λ (h : List Addr). length h) none in
+        record { class = before.shaped.class; some = class_row_is.batch; room = omega (arith, empty, class_row_is.few, before.shaped.hand) }
 
-  add_pages : (run : Run) → IsMapped m b (small l.regs.class run) → run.pages ≡ x.central.row.pages
-  add_pages run mapped =
-      let class : l.regs.class.0 ≡ mapped.class.class = one_number l.regs.class.0 mapped.class.class mapped.class.kind in
-      mapped.class.pages ∙ (ap (λ (k : ℕ). pages_of m.rows k) (sym class) ∙ ap (λ (r : ClassRow). r.pages) row_is)
+    -- a span that was set is in the map, and apart from those of the shard
+    pub is_mapped : (asking : Asking) (run : Run) → l.step ≡ does.Shard (AddFetch asking run) → IsMapped m b (small l.regs.class run)
+    is_mapped asking run is =
+        let s : SpanRef = small l.regs.class run in
+        let held : spans_like s (account_of about l).mapped ≡ bit (same_span s s) + 0 = ap (λ (x : Step R). spans_like s (mapped_of l.regs.class l.freed.items x)) is in
+        let same : bit (same_span s s) ≡ 1 = ap bit (same_span_refl s) in
+        mapped_are_there m b calls t (account_of about l) s before.facts (own_account r about planned huge labels limits p locals b calls t l before) (omega (arith, held, same))
 
-  add_apart : (run : Run) → IsMapped m b (small l.regs.class run) → All (IsApartFrom (small l.regs.class run)) x.central.spans
-  add_apart run mapped =
-      let P : SpanRef → Type 0 = λ s. (run.first.0 + run.pages ≤ s.first.0) ⊎ (s.first.0 + s.pages ≤ run.first.0) in
-      states_have P x.central.spans (all_spans P (spans_in x) (λ s some.
-      (let stock : b.stock.owned s ≡ (stock_of p).owned s = ap (λ (g : Stock). g.owned s) before.books.stock in
-      let sum = least (λ (y : Shard). spans_like s (spans_in y)) p.shards l.regs.class.0 x at in
-      mapped.apart s (omega (arith, stock, sum, some)))))
+    add_pages : (run : Run) → IsMapped m b (small l.regs.class run) → run.pages ≡ x.central.row.pages
+    add_pages run mapped =
+        let class : l.regs.class.0 ≡ mapped.class.class = one_number l.regs.class.0 mapped.class.class mapped.class.kind in
+        mapped.class.pages ∙ (ap (λ (k : ℕ). pages_of m.rows k) (sym class) ∙ ap (λ (r : ClassRow). r.pages) row_is)
 
-  -- what is in hand was taken from the shard
-  hand_taken : (n : ℕ) → 0 < objects_at n l.regs.hand.items → IsTaken b l.regs.class.0 n l.regs.hand.items
-  hand_taken n some = hands_are_taken m b calls t (account_of l) n before.facts (own_account m limits cpus p locals b calls t l before) some
+    add_apart : (run : Run) → IsMapped m b (small l.regs.class run) → All (IsApartFrom (small l.regs.class run)) x.central.spans
+    add_apart run mapped =
+        let P : SpanRef → Type 0 = λ s. (run.first.0 + run.pages ≤ s.first.0) ⊎ (s.first.0 + s.pages ≤ run.first.0) in
+        states_have P x.central.spans (all_spans P (spans_in x) (λ s some.
+        (let stock : b.stock.owned s ≡ (stock_of r about p).owned s = ap (λ (g : Stock). g.owned s) before.books.stock in
+        let sum = least (λ (y : Shard). spans_like s (spans_in y)) p.shards l.regs.class.0 x at in
+        mapped.apart s (omega (arith, stock, sum, some)))))
 
-  hand_taken_in : (a : Addr) → 0 < objects_at a.0 l.regs.hand.items → IsTakenIn x.central.spans a
-  hand_taken_in a some =
-      let taken = hand_taken a.0 some in
-      let k = l.regs.class.0 in
-      let objects : b.stock.objects k a.0 ≡ objects_at a.0 (objects_in_spans x) = ap (λ (g : Stock). g.objects k a.0) before.books.stock ∙ ap (λ (y : Shard). objects_at a.0 (objects_in_spans y)) shard_is in
-      let stored : b.stock.stored k a.0 ≡ (stock_of p).stored k a.0 = ap (λ (g : Stock). g.stored k a.0) before.books.stock in
-      let here : objects_at a.0 (places (shard_at p.shards k)) ≡ objects_at a.0 (places x) = ap (λ (y : Shard). objects_at a.0 (places y)) shard_is in
-      (spans_cut x of_class.sound).taken a (omega (arith, taken.object, objects, objects_count a.0 (objects_in_spans x))) (omega (arith, taken.free, stored, here, objects_count a.0 (places x)))
+    -- what is in hand was taken from the shard
+    hand_taken : (n : ℕ) → 0 < objects_at n l.regs.hand.items → IsTaken b l.regs.class.0 n l.regs.hand.items
+    hand_taken n some = hands_are_taken m b calls t (account_of about l) n before.facts (own_account r about planned huge labels limits p locals b calls t l before) some
 
-  hand_once : (n : ℕ) → found_at n l.regs.hand.items ≤ 1
-  hand_once n =
-      elim (cases_lt 0 (objects_at n l.regs.hand.items)) [
-        | inl some ↦ omega (arith, (hand_taken n some).once, objects_count n l.regs.hand.items)
-        | inr none ↦ omega (arith, none, objects_count n l.regs.hand.items)
-      ]
+    hand_taken_in : (a : Addr) → 0 < objects_at a.0 l.regs.hand.items → IsTakenIn x.central.spans a
+    hand_taken_in a some =
+        let taken = hand_taken a.0 some in
+        let k = l.regs.class.0 in
+        let objects : b.stock.objects k a.0 ≡ objects_at a.0 (objects_in_spans x) = ap (λ (g : Stock). g.objects k a.0) before.books.stock ∙ ap (λ (y : Shard). objects_at a.0 (objects_in_spans y)) shard_is in
+        let stored : b.stock.stored k a.0 ≡ (stock_of r about p).stored k a.0 = ap (λ (g : Stock). g.stored k a.0) before.books.stock in
+        let here : objects_at a.0 (places (shard_at p.shards k)) ≡ objects_at a.0 (places x) = ap (λ (y : Shard). objects_at a.0 (places y)) shard_is in
+        (spans_cut x of_class.sound).taken a (omega (arith, taken.object, objects, objects_count a.0 (objects_in_spans x))) (omega (arith, taken.free, stored, here, objects_count a.0 (places x)))
 
-  fits_by : (row : ShardStep) → l.step ≡ does.Shard row → ShardShape (limits_of m cpus) l row → FitsShard m.rows x l row
-  fits_by (Fetch asking) is shape = (batch_fits shape.0.hand, shape.0.hand)
-  fits_by (AddFetch asking run) is shape = let mapped = is_mapped asking run is in (record { batch = batch_fits shape.0.hand; pages = add_pages run mapped; apart = add_apart run mapped }, shape.0.hand)
-  fits_by (Give g) is shape =
-      let spans : length l.freed.items ≡ 0 = ap (λ (s : List SpanRef). length s) shape.0.freed in
-      record {
-        taken = λ i d less. hand_taken_in (get_or l.regs.hand.items i d) (objects_have l.regs.hand.items i d less);
-        different = once_differ l.regs.hand.items hand_once;
-        room = omega (arith, spans, shape.0.few, before.shaped.freed);
-      }
+    hand_once : (n : ℕ) → found_at n l.regs.hand.items ≤ 1
+    hand_once n =
+        elim (cases_lt 0 (objects_at n l.regs.hand.items)) [
+          | inl some ↦ omega (arith, (hand_taken n some).once, objects_count n l.regs.hand.items)
+          | inr none ↦ omega (arith, none, objects_count n l.regs.hand.items)
+        ]
 
-pub shard_acts_fit : ShardActsFit
-shard_acts_fit m limits cpus p locals b calls t l x row before is at = fits_by m limits cpus p locals b calls t l x before at row is (subst (λ (s : Step). StepShape (limits_of m cpus) l s) is before.shaped.step)
+    fits_by : (row : ShardStep R) → l.step ≡ does.Shard row → ShardShape m.rows about l row → FitsShard m.rows x l row
+    fits_by (Fetch asking) is shape = (batch_fits shape.0.hand, shape.0.hand)
+    fits_by (AddFetch asking run) is shape = let mapped = is_mapped asking run is in (record { batch = batch_fits shape.0.hand; pages = add_pages run mapped; apart = add_apart run mapped }, shape.0.hand)
+    fits_by (Give g) is shape =
+        let spans : length l.freed.items ≡ 0 = ap (λ (s : List SpanRef). length s) shape.0.freed in
+        record {
+          taken = λ i d less. hand_taken_in (get_or l.regs.hand.items i d) (objects_have l.regs.hand.items i d less);
+          different = once_differ l.regs.hand.items hand_once;
+          room = omega (arith, spans, shape.0.few, before.shaped.freed);
+        }
+
+  pub shard_acts_fit : ShardActsFit r about planned
+  shard_acts_fit huge labels limits p locals b calls t l x row before is at = fits_by huge labels limits p locals b calls t l x before at row is (subst (λ (s : Step R). StepShape r.calls.rows about l s) is before.shaped.step)

@@ -30,22 +30,13 @@ use Rattle.holdings.specs.Books.{Setup, Books, IsCut, class_number}
 use Rattle.holdings.specs.Moves.{MoveObjects, AddSpan}
 use Rattle.holdings.proofs.Sums.{shift}
 use Rattle.holdings.proofs.MapFacts.{all_spans, span_all}
-use Rattle.call_steps.specs.CpuCalls.{cpu_calls}
 use Rattle.call_steps.specs.declared.step.Asking.{Asking}
-use Rattle.call_steps.specs.PerCpu.{CpuLocal as Local, Giving, Step, ShardStep}
 use Rattle.call_steps.specs.declared.step.Step.TheVariants as does
 use Rattle.call_steps.specs.declared.step.HeapStep.TheVariants as heap
 use Rattle.call_steps.specs.declared.step.ShardStep.TheVariants.{Fetch, AddFetch, Give}
-use Rattle.call_steps.specs.Laws.{IsLowRun}
-use Rattle.alloc_rules.proofs.Paths.{AddsSome}
-use Rattle.call_steps.specs.Local.{goes, class_row}
+use Rattle.call_steps.specs.Local.{goes, class_row, Local}
 use Rattle.call_steps.specs.Hands.{with_hand, with_freed, decides_free, behind, clears, serves}
 use Rattle.call_steps.specs.ShardActs.{with_more, fetches, with_spans_behind, shard_row}
-use Rattle.call_steps.specs.Fits.{FitsAdd, FitsGive}
-use Rattle.call_steps.specs.Shapes.{StepShape, ShardShape, IsGiving}
-use Rattle.alloc_rules.specs.Machine.{Parts}
-use Rattle.alloc_rules.specs.Stocks.{no_shard, shard_at, stock_of, IsShardOf, Does}
-use Rattle.alloc_rules.specs.Acts.{limits_of, IsBefore, ShardActsMove}
 use Rattle.alloc_rules.proofs.Sets.{each_set}
 use Rattle.alloc_rules.proofs.Weighing.{bare}
 use Rattle.alloc_rules.proofs.Counting.{objects_count, spans_count, begun_count}
@@ -53,267 +44,283 @@ use Rattle.alloc_rules.proofs.Stored.{with_stores}
 use Rattle.alloc_rules.proofs.CutOf.{cut_of}
 use Rattle.alloc_rules.proofs.ShardFits.{of_class, shard_is, row_is, class_row_is, is_mapped, shard_acts_fit}
 use Rattle.alloc_rules.proofs.Goings.{adding, carries_as, gets_object, gets_first, gives_hand, gives_spans}
+use Rattle.tc_model.specs.declared.calls.Planned.{Planned}
+use Rattle.call_steps.specs.Calls.{About}
+use Rattle.alloc_rules.specs.FrontLaw.{FrontRules, AreEntries}
+use Rattle.alloc_rules.specs.Machine.{Parts}
+use Rattle.alloc_rules.specs.Stocks.{stock_of, Does, no_shard, shard_at, IsShardOf}
+use Rattle.alloc_rules.specs.Acts.{setup, IsBefore}
+use Rattle.call_steps.specs.declared.step.Step.{Step}
+use Rattle.call_steps.specs.declared.step.ShardStep.{ShardStep}
+use Rattle.call_steps.specs.declared.step.Giving.{Giving}
+use Rattle.alloc_rules.specs.Shapes.{StepShape, ShardShape, IsGiving}
+use Rattle.call_steps.specs.Fits.{FitsAdd, FitsGive}
+use Rattle.alloc_rules.specs.Laws.{IsLowRun, AddsSome, ShardActsMove}
 
-module _ (m : Setup) (limits : HeapConfig) (cpus : ℕ) (p : Parts) (locals : List Local) (b : Books) (calls : List CallLine) (t : ℕ) (l : Local) (x : Shard) (before : IsBefore m limits cpus p locals b calls t l) (at : slice_get p.shards l.regs.class.0 ≡ Some x) where
-  abbrev at_step : ShardStep → Local
-  at_step row = record l { step = does.Shard row }
+module _ {P V R : Type 0} (r : FrontRules P V R) (about : R → About) (planned : Planned → Type 0) (entries : AreEntries r.calls about) where
+  module _ (huge labels : ℕ) (limits : HeapConfig) (p : Parts P) (locals : List (Local V R)) (b : Books) (calls : List CallLine) (t : ℕ) (l : Local V R) (x : Shard) (before : IsBefore r about planned huge labels limits p locals b calls t l) (at : slice_get p.shards l.regs.class.0 ≡ Some x) where
+    abbrev m : Setup
+    m = setup r huge labels
 
-  abbrev shards_with : Shard → List Shard
-  shards_with new = slice_set p.shards l.regs.class.0 new
+    abbrev at_step : ShardStep R → Local V R
+    at_step row = record l { step = does.Shard row }
 
-  abbrev with_shard : Shard → Parts
-  with_shard new = with_stores p p.cpus (shards_with new) p.domains
+    abbrev shards_with : Shard → List Shard
+    shards_with new = slice_set p.shards l.regs.class.0 new
 
-  of_x : IsShardOf m.rows l.regs.class.0 x
-  of_x = of_class m limits cpus p locals b calls t l x before at
+    abbrev with_shard : Shard → Parts P
+    with_shard new = with_stores p p.fronts (shards_with new)
 
-  is_x : shard_at p.shards l.regs.class.0 ≡ x
-  is_x = shard_is m limits cpus p locals b calls t l x before at
+    of_x : IsShardOf m.rows l.regs.class.0 x
+    of_x = of_class r about planned entries huge labels limits p locals b calls t l x before at
 
-  row_x : class_row m.rows l ≡ x.central.row
-  row_x = row_is m limits cpus p locals b calls t l x before at
+    is_x : shard_at p.shards l.regs.class.0 ≡ x
+    is_x = shard_is r about planned entries huge labels limits p locals b calls t l x before at
 
-  -- a shard of the same class and row
-  same_of : (new : Shard) → IsSame x new → ((s : SpanRef) → 0 < spans_like s (spans_in new) → s.kind ≡ Small (class_number l.regs.class.0)) → IsShardOf m.rows l.regs.class.0 new
-  same_of new same kinds =
-      record {
-        class = same.class ∙ of_x.class;
-        row = of_x.row ∙ ap (λ (r : ClassRow). Some r) (sym same.row);
-        sound = same.sound;
-        kinds = all_spans (λ (s : SpanRef). s.kind ≡ Small (class_number l.regs.class.0)) (spans_in new) kinds;
-      }
+    row_x : class_row m.rows l ≡ x.central.row
+    row_x = row_is r about planned entries huge labels limits p locals b calls t l x before at
 
-  cut : (new : Shard) → IsShardOf m.rows l.regs.class.0 new → IsCut m.rows (stock_of (with_shard new))
-  cut new of =
-      cut_of m.rows (with_shard new) (length-set p.shards l.regs.class.0 new ∙ before.parts.classes) (each_set (IsShardOf m.rows) p.shards l.regs.class.0 new x at of (λ k y apart is. before.parts.shards k y is))
-
-  -- the stock with another shard
-  now : (new : Shard) → shard_at (shards_with new) l.regs.class.0 ≡ new
-  now new = get_or-set_same p.shards l.regs.class.0 new no_shard (slice_get_within p.shards l.regs.class.0 x at)
-
-  elsewhere : (new : Shard) (k : ℕ) → k ≢ l.regs.class.0 → shard_at (shards_with new) k ≡ shard_at p.shards k
-  elsewhere new k other = get_or-set_other p.shards l.regs.class.0 k new no_shard other
-
-  others : (new : Shard) (k n : ℕ) → k ≢ l.regs.class.0 → ((stock_of (with_shard new)).stored k n ≡ (stock_of p).stored k n) × ((stock_of (with_shard new)).objects k n ≡ (stock_of p).objects k n)
-  others new k n other =
-      let e : objects_at n (places (shard_at (shards_with new) k)) ≡ objects_at n (places (shard_at p.shards k)) = ap (λ (y : Shard). objects_at n (places y)) (elsewhere new k other) in
-      (omega (arith, e), ap (λ (y : Shard). objects_at n (objects_in_spans y)) (elsewhere new k other))
-
-  stored : (new : Shard) (n : ℕ) → (stock_of (with_shard new)).stored l.regs.class.0 n + objects_at n (places x) ≡ (stock_of p).stored l.regs.class.0 n + objects_at n (places new)
-  stored new n =
-      let e : objects_at n (places (shard_at (shards_with new) l.regs.class.0)) ≡ objects_at n (places new) = ap (λ (y : Shard). objects_at n (places y)) (now new) in
-      let h : objects_at n (places (shard_at p.shards l.regs.class.0)) ≡ objects_at n (places x) = ap (λ (y : Shard). objects_at n (places y)) is_x in
-      omega (arith, e, h)
-
-  objects_now : (new : Shard) (n : ℕ) → (stock_of (with_shard new)).objects l.regs.class.0 n ≡ objects_at n (objects_in_spans new)
-  objects_now new n = ap (λ (y : Shard). objects_at n (objects_in_spans y)) (now new)
-
-  objects_then : (n : ℕ) → (stock_of p).objects l.regs.class.0 n ≡ objects_at n (objects_in_spans x)
-  objects_then n = ap (λ (y : Shard). objects_at n (objects_in_spans y)) is_x
-
-  owned : (new : Shard) (s : SpanRef) → (stock_of (with_shard new)).owned s + spans_like s (spans_in x) ≡ (stock_of p).owned s + spans_like s (spans_in new)
-  owned new s = shift (λ (y : Shard). spans_like s (spans_in y)) p.shards l.regs.class.0 x new at
-
-  begins : (new : Shard) (n : ℕ) → (stock_of (with_shard new)).begins n + spans_at n (spans_in x) ≡ (stock_of p).begins n + spans_at n (spans_in new)
-  begins new n = shift (λ (y : Shard). spans_at n (spans_in y)) p.shards l.regs.class.0 x new at
-
-  -- a shard from which objects and spans go to the hand, or to which they come
-  record Changes (new : Shard) (hand came : List Addr) (freed : List SpanRef) : Type 0 where
-    moves : (n : ℕ) → objects_at n (places new) + objects_at n came + objects_at n (objects_in_spans x) ≡ objects_at n (places x) + objects_at n hand + objects_at n (objects_in_spans new)
-    fewer : (n : ℕ) → objects_at n (objects_in_spans new) ≤ objects_at n (objects_in_spans x)
-    spans : (s : SpanRef) → spans_like s (spans_in new) + spans_like s freed ≡ spans_like s (spans_in x)
-    starts : (n : ℕ) → spans_at n (spans_in new) + spans_at n freed ≡ spans_at n (spans_in x)
-
-  objects : (new : Shard) (hand came : List Addr) (freed : List SpanRef) → Changes new hand came freed → MoveObjects (stock_of p) (stock_of (with_shard new)) l.regs.class.0 hand came freed
-  objects new hand came freed c =
-      record {
-        others = others new;
-        moves = λ n. let e = stored new n in let h = objects_now new n in let i = objects_then n in omega (arith, e, h, i, c.moves n);
-        fewer = λ n. let h = objects_now new n in let i = objects_then n in omega (arith, h, i, c.fewer n);
-        spans = λ s. let e = owned new s in omega (arith, e, c.spans s);
-        starts = λ n. let e = begins new n in omega (arith, e, c.starts n);
-      }
-
-  -- Fetch
-  some_batch : 0 < (class_row m.rows l).batch
-  some_batch = (class_row_is m limits cpus p locals b calls t l x before at).batch
-
-  abbrev list_of : List Addr
-  list_of = fetched (class_row m.rows l).batch x
-
-  abbrev fetched_from : Shard
-  fetched_from = after_fetch (class_row m.rows l).batch x
-
-  is_fetched : IsFetched (class_row m.rows l).batch x
-  is_fetched = fetch_moves (class_row m.rows l).batch x some_batch of_x.sound
-
-  fetch_changes : Changes fetched_from [] list_of []
-  fetch_changes =
-      let f = is_fetched in
-      let objects_same : objects_in_spans fetched_from ≡ objects_in_spans x = ap (λ (r : ClassRow). flat_map (objects_of r.size) (spans_in fetched_from)) f.same.row ∙ ap (λ (ss : List SpanRef). flat_map (objects_of x.central.row.size) ss) f.spans in
-      record {
-        moves = λ n.
-            let c = f.moves (λ (a : Addr). eqb a.0 n) in
-            omega (arith, c, objects_count n (places fetched_from), objects_count n list_of, objects_count n (places x), ap (objects_at n) objects_same);
-        fewer = λ n. omega (arith, ap (objects_at n) objects_same);
-        spans = λ s. omega (arith, ap (spans_like s) f.spans);
-        starts = λ n. omega (arith, ap (spans_at n) f.spans);
-      }
-
-  fetched_of : IsShardOf m.rows l.regs.class.0 fetched_from
-  fetched_of =
-      let f = is_fetched in
-      same_of fetched_from f.same (λ s some. span_all (λ (y : SpanRef). y.kind ≡ Small (class_number l.regs.class.0)) s (spans_in x) of_x.kinds (omega (arith, some, ap (spans_like s) f.spans)))
-
-  fetch_cut : IsCut m.rows (stock_of (with_shard fetched_from))
-  fetch_cut = cut fetched_from fetched_of
-
-  fetch_does : (asking : Asking) → l.regs.hand.items ≡ [] → class_of m.rows asking.size ≡ Some l.regs.class → (list : List Addr) → list_of ≡ list → Does m (with_shard fetched_from) b (at_step (Fetch asking)) (fetches (cpu_calls m.rows) (at_step (Fetch asking)) asking list)
-  fetch_does asking none asked [] is =
-      carries_as m p locals b before.books p.cpus (shards_with fetched_from) p.domains fetch_cut (at_step (Fetch asking)) (goes (at_step (Fetch asking)) (does.Heap (heap.NewSpan asking))) (Asks asking.label asking.size) l.regs.class.0 [] [] l.rest
-      (ap (λ (h : List Addr). bare (Asks asking.label asking.size) l.regs.class.0 h l.rest) none) (subst (λ (h : List Addr). MoveObjects (stock_of p) (stock_of (with_shard fetched_from)) l.regs.class.0 [] h []) is (objects fetched_from [] list_of [] fetch_changes)) (λ label o doing. cc)
-      (record { account = ap (λ (h : List Addr). bare (Asks asking.label asking.size) l.regs.class.0 h l.rest) none; acts = refl; answers = refl })
-  fetch_does asking none asked (a ∷ more) is =
-      gets_object m p locals b before.books p.cpus (shards_with fetched_from) p.domains fetch_cut (at_step (Fetch asking)) (record l.regs { hand = appended l.regs.hand (a ∷ more) }) asking a more
-      (ap (λ (h : List Addr). bare (Asks asking.label asking.size) l.regs.class.0 h l.rest) none) refl (ap (λ (h : List Addr). h ++ (a ∷ more)) none) asked
-      (subst (λ (h : List Addr). MoveObjects (stock_of p) (stock_of (with_shard fetched_from)) l.regs.class.0 [] h []) is (objects fetched_from [] list_of [] fetch_changes))
-
-  -- AddFetch
-  module _ (asking : Asking) (run : Run) (is : l.step ≡ does.Shard (AddFetch asking run)) (none : l.regs.hand.items ≡ []) (asked : class_of m.rows asking.size ≡ Some l.regs.class) where
-    abbrev span : SpanRef
-    span = small l.regs.class run
-
-    abbrev added : Shard
-    added = with_new (class_row m.rows l).batch x span
-
-    abbrev came : List Addr
-    came = opening span x.central.row.size (class_row m.rows l).batch
-
-    is_low : run.first.0 < 2 ^ 32
-    is_low =
-        let there = (is_mapped m limits cpus p locals b calls t l x before at asking run is).there in
-        let inside = span_all (IsInside p.map.huge) span p.map.spans before.parts.map.inside (omega (arith, there, before.books.spans span)) in
-        omega (arith, inside.to, inside.some, before.parts.map.few)
-
-    is_added : IsAdded (class_row m.rows l).batch x span
-    is_added =
-        let fit : FitsAdd m.rows x l run = (shard_acts_fit m limits cpus p locals b calls t l x (AddFetch asking run) before is at).0 in
-        let row = class_row_is m limits cpus p locals b calls t l x before at in
-        let size : (class_row m.rows l).size ≡ x.central.row.size = ap (λ (r : ClassRow). r.size) row_x in
-        let pages : (class_row m.rows l).pages ≡ x.central.row.pages = ap (λ (r : ClassRow). r.pages) row_x in
-        add_moves (class_row m.rows l).batch x span some_batch of_x.sound fit.pages is_low (omega (arith, size, row.small)) (omega (arith, pages, row.most, fit.pages)) fit.apart
-
-    spans_more : (s : SpanRef) → spans_like s (spans_in added) ≡ spans_like s (spans_in x) + spans_like s (span ∷ [])
-    spans_more s =
-        let c = is_added.spans (λ (y : SpanRef). same_span y s) in
-        omega (arith, c, spans_count s (spans_in added), spans_count s (spans_in x), spans_count s (span ∷ []))
-
-    starts_more : (n : ℕ) → spans_at n (spans_in added) ≡ spans_at n (spans_in x) + spans_at n (span ∷ [])
-    starts_more n =
-        let c = is_added.spans (λ (y : SpanRef). eqb (spans.first_byte y) n) in
-        omega (arith, c, begun_count n (spans_in added), begun_count n (spans_in x), begun_count n (span ∷ []))
-
-    added_of : IsShardOf m.rows l.regs.class.0 added
-    added_of =
-        let P : SpanRef → Type 0 = λ s. s.kind ≡ Small (class_number l.regs.class.0) in
-        same_of added is_added.same (λ s some. elim (cases_lt 0 (spans_like s (spans_in x))) [
-          | inl old ↦ span_all P s (spans_in x) of_x.kinds old
-          | inr new ↦ span_all P s (span ∷ []) (All-cons P span [] refl (All-nil P)) (omega (arith, new, some, spans_more s))
-        ])
-
-    add_cut : IsCut m.rows (stock_of (with_shard added))
-    add_cut = cut added added_of
-
-    adds_span : AddSpan (stock_of p) (stock_of (with_shard added)) l.regs.class.0 span came
-    adds_span =
-        let brought : List Addr = objects_of x.central.row.size span in
-        let more : (n : ℕ) → objects_at n (objects_in_spans added) ≡ objects_at n (objects_in_spans x) + objects_at n brought = λ n.
-        (let c = is_added.objects (λ (a : Addr). eqb a.0 n) in
-        omega (arith, c, objects_count n (objects_in_spans added), objects_count n (objects_in_spans x), objects_count n brought)) in
+    -- a shard of the same class and row
+    same_of : (new : Shard) → IsSame x new → ((s : SpanRef) → 0 < spans_like s (spans_in new) → s.kind ≡ Small (class_number l.regs.class.0)) → IsShardOf m.rows l.regs.class.0 new
+    same_of new same kinds =
         record {
-          others = others added;
-          moves = λ n.
-              let c = is_added.moves (λ (a : Addr). eqb a.0 n) in
-              let e = stored added n in
-              omega (arith, c, e, more n, objects_now added n, objects_then n, objects_count n (places added), objects_count n came, objects_count n (places x), objects_count n brought);
-          more = λ n. omega (arith, more n, objects_now added n, objects_then n);
-          spans = λ s. let e = owned added s in omega (arith, e, spans_more s);
-          starts = λ n. let e = begins added n in omega (arith, e, starts_more n);
+          class = same.class ∙ of_x.class;
+          row = of_x.row ∙ ap (λ (r : ClassRow). Some r) (sym same.row);
+          sound = same.sound;
+          kinds = all_spans (λ (s : SpanRef). s.kind ≡ Small (class_number l.regs.class.0)) (spans_in new) kinds;
         }
 
-    add_does : (list : List Addr) → came ≡ list → 0 < length list → Does m (with_shard added) b (at_step (AddFetch asking run)) (serves (cpu_calls m.rows) (with_more (at_step (AddFetch asking run)) came) asking)
-    add_does [] are some = absurd (omega arith)
-    add_does (a ∷ more) are some =
-        gets_first m p locals b before.books p.cpus (shards_with added) p.domains add_cut (at_step (AddFetch asking run)) (record l.regs { hand = appended l.regs.hand came }) asking run a more
-        (ap (adding l asking run) none) refl (ap (λ (h : List Addr). h ++ came) none ∙ are) asked
-        (subst (λ (h : List Addr). AddSpan (stock_of p) (stock_of (with_shard added)) l.regs.class.0 span h) are adds_span)
+    cut : (new : Shard) → IsShardOf m.rows l.regs.class.0 new → IsCut m.rows (stock_of r about (with_shard new))
+    cut new of =
+        cut_of r about m.rows (with_shard new) (length-set p.shards l.regs.class.0 new ∙ before.parts.classes) (each_set (IsShardOf m.rows) p.shards l.regs.class.0 new x at of (λ k y apart is. before.parts.shards k y is))
 
-  -- Give
-  module _ (g : Giving) (is : l.step ≡ does.Shard (Give g)) (no_span : l.freed.items ≡ []) (gives : IsGiving (limits_of m cpus) l.regs.hand.items g) where
-    abbrev given : Shard
-    given = after_give l.regs.hand.items x
+    -- the stock with another shard
+    now : (new : Shard) → shard_at (shards_with new) l.regs.class.0 ≡ new
+    now new = get_or-set_same p.shards l.regs.class.0 new no_shard (slice_get_within p.shards l.regs.class.0 x at)
 
-    abbrev freed : List SpanRef
-    freed = freed_by l.regs.hand.items x
+    elsewhere : (new : Shard) (k : ℕ) → k ≢ l.regs.class.0 → shard_at (shards_with new) k ≡ shard_at p.shards k
+    elsewhere new k other = get_or-set_other p.shards l.regs.class.0 k new no_shard other
 
-    is_given : IsGiven l.regs.hand.items x
-    is_given =
-        let fit : FitsGive x l = shard_acts_fit m limits cpus p locals b calls t l x (Give g) before is at in
-        give_moves l.regs.hand.items x of_x.sound fit.taken fit.different
+    others : (new : Shard) (k n : ℕ) → k ≢ l.regs.class.0 → ((stock_of r about (with_shard new)).stored k n ≡ (stock_of r about p).stored k n) × ((stock_of r about (with_shard new)).objects k n ≡ (stock_of r about p).objects k n)
+    others new k n other =
+        let e : objects_at n (places (shard_at (shards_with new) k)) ≡ objects_at n (places (shard_at p.shards k)) = ap (λ (y : Shard). objects_at n (places y)) (elsewhere new k other) in
+        (omega (arith, e), ap (λ (y : Shard). objects_at n (objects_in_spans y)) (elsewhere new k other))
 
-    spans_less : (s : SpanRef) → spans_like s (spans_in given) + spans_like s freed ≡ spans_like s (spans_in x)
-    spans_less s =
-        let c = is_given.spans (λ (y : SpanRef). same_span y s) in
-        omega (arith, c, spans_count s (spans_in given), spans_count s freed, spans_count s (spans_in x))
+    stored : (new : Shard) (n : ℕ) → (stock_of r about (with_shard new)).stored l.regs.class.0 n + objects_at n (places x) ≡ (stock_of r about p).stored l.regs.class.0 n + objects_at n (places new)
+    stored new n =
+        let e : objects_at n (places (shard_at (shards_with new) l.regs.class.0)) ≡ objects_at n (places new) = ap (λ (y : Shard). objects_at n (places y)) (now new) in
+        let h : objects_at n (places (shard_at p.shards l.regs.class.0)) ≡ objects_at n (places x) = ap (λ (y : Shard). objects_at n (places y)) is_x in
+        omega (arith, e, h)
 
-    give_changes : Changes given l.regs.hand.items [] freed
-    give_changes =
-        let left : List Addr = flat_map (objects_of x.central.row.size) freed in
-        let objects_less : (n : ℕ) → objects_at n (objects_in_spans given) + objects_at n left ≡ objects_at n (objects_in_spans x) = λ n.
-        (let c = is_given.objects (λ (a : Addr). eqb a.0 n) in
-        omega (arith, c, objects_count n (objects_in_spans given), objects_count n left, objects_count n (objects_in_spans x))) in
+    objects_now : (new : Shard) (n : ℕ) → (stock_of r about (with_shard new)).objects l.regs.class.0 n ≡ objects_at n (objects_in_spans new)
+    objects_now new n = ap (λ (y : Shard). objects_at n (objects_in_spans y)) (now new)
+
+    objects_then : (n : ℕ) → (stock_of r about p).objects l.regs.class.0 n ≡ objects_at n (objects_in_spans x)
+    objects_then n = ap (λ (y : Shard). objects_at n (objects_in_spans y)) is_x
+
+    owned : (new : Shard) (s : SpanRef) → (stock_of r about (with_shard new)).owned s + spans_like s (spans_in x) ≡ (stock_of r about p).owned s + spans_like s (spans_in new)
+    owned new s = shift (λ (y : Shard). spans_like s (spans_in y)) p.shards l.regs.class.0 x new at
+
+    begins : (new : Shard) (n : ℕ) → (stock_of r about (with_shard new)).begins n + spans_at n (spans_in x) ≡ (stock_of r about p).begins n + spans_at n (spans_in new)
+    begins new n = shift (λ (y : Shard). spans_at n (spans_in y)) p.shards l.regs.class.0 x new at
+
+    -- a shard from which objects and spans go to the hand, or to which they come
+    record Changes (new : Shard) (hand came : List Addr) (freed : List SpanRef) : Type 0 where
+      moves : (n : ℕ) → objects_at n (places new) + objects_at n came + objects_at n (objects_in_spans x) ≡ objects_at n (places x) + objects_at n hand + objects_at n (objects_in_spans new)
+      fewer : (n : ℕ) → objects_at n (objects_in_spans new) ≤ objects_at n (objects_in_spans x)
+      spans : (s : SpanRef) → spans_like s (spans_in new) + spans_like s freed ≡ spans_like s (spans_in x)
+      starts : (n : ℕ) → spans_at n (spans_in new) + spans_at n freed ≡ spans_at n (spans_in x)
+
+    objects : (new : Shard) (hand came : List Addr) (freed : List SpanRef) → Changes new hand came freed → MoveObjects (stock_of r about p) (stock_of r about (with_shard new)) l.regs.class.0 hand came freed
+    objects new hand came freed c =
         record {
-          moves = λ n.
-              let c = is_given.moves (λ (a : Addr). eqb a.0 n) in
-              omega (arith, c, objects_less n, objects_count n (places given), objects_count n left, objects_count n (places x), objects_count n l.regs.hand.items);
-          fewer = λ n. omega (arith, objects_less n);
-          spans = spans_less;
-          starts = λ n.
-              let c = is_given.spans (λ (y : SpanRef). eqb (spans.first_byte y) n) in
-              omega (arith, c, begun_count n (spans_in given), begun_count n freed, begun_count n (spans_in x));
+          others = others new;
+          moves = λ n. let e = stored new n in let h = objects_now new n in let i = objects_then n in omega (arith, e, h, i, c.moves n);
+          fewer = λ n. let h = objects_now new n in let i = objects_then n in omega (arith, h, i, c.fewer n);
+          spans = λ s. let e = owned new s in omega (arith, e, c.spans s);
+          starts = λ n. let e = begins new n in omega (arith, e, c.starts n);
         }
 
-    given_of : IsShardOf m.rows l.regs.class.0 given
-    given_of = same_of given is_given.same (λ s some. span_all (λ (y : SpanRef). y.kind ≡ Small (class_number l.regs.class.0)) s (spans_in x) of_x.kinds (omega (arith, some, spans_less s)))
+    -- Fetch
+    some_batch : 0 < (class_row m.rows l).batch
+    some_batch = (class_row_is r about planned entries huge labels limits p locals b calls t l x before at).batch
 
-    give_cut : IsCut m.rows (stock_of (with_shard given))
-    give_cut = cut given given_of
+    abbrev list_of : List Addr
+    list_of = fetched (class_row m.rows l).batch x
 
-    give_does : (bag : Contents SpanRef) (items : List SpanRef) → bag.items ≡ items → freed ≡ items → Does m (with_shard given) b (at_step (Give g)) (clears (cpu_calls m.rows) (decides_free (with_freed (with_hand (at_step (Give g)) (emptied l.regs.hand)) bag) g) (behind g) items)
-    give_does bag [] are left =
-        gives_hand m p locals b before.books p.cpus (shards_with given) p.domains give_cut (limits_of m cpus) (at_step (Give g)) g bag l.regs.class.0 l.regs.hand.items gives refl refl
-        (subst (λ (ss : List SpanRef). MoveObjects (stock_of p) (stock_of (with_shard given)) l.regs.class.0 l.regs.hand.items [] ss) left (objects given l.regs.hand.items [] freed give_changes))
-    give_does bag (s ∷ more) are left =
-        gives_spans m p locals b before.books p.cpus (shards_with given) p.domains give_cut (limits_of m cpus) (at_step (Give g)) g bag l.regs.class.0 l.regs.hand.items (s ∷ more) gives refl are refl
-        (subst (λ (ss : List SpanRef). MoveObjects (stock_of p) (stock_of (with_shard given)) l.regs.class.0 l.regs.hand.items [] ss) left (objects given l.regs.hand.items [] freed give_changes))
+    abbrev fetched_from : Shard
+    fetched_from = after_fetch (class_row m.rows l).batch x
 
-    give_all : Does m (with_shard given) b (at_step (Give g)) (shard_row (cpu_calls m.rows) x (at_step (Give g)) (Give g)).1
-    give_all =
-        let bag : Contents SpanRef = with_spans_behind l.freed freed in
-        give_does bag bag.items refl (sym (ap (λ (ss : List SpanRef). ss ++ freed) no_span))
+    is_fetched : IsFetched (class_row m.rows l).batch x
+    is_fetched = fetch_moves (class_row m.rows l).batch x some_batch of_x.sound
 
-  shard_does : (row : ShardStep) → l.step ≡ does.Shard row → ShardShape (limits_of m cpus) l row → Does m (with_shard (shard_row (cpu_calls m.rows) x (at_step row) row).0) b (at_step row) (shard_row (cpu_calls m.rows) x (at_step row) row).1
-  shard_does (Fetch asking) is shape = fetch_does asking shape.0.hand shape.1 list_of refl
-  shard_does (AddFetch asking run) is shape = add_does asking run is shape.0.hand shape.1 (came asking run is shape.0.hand shape.1) refl (is_added asking run is shape.0.hand shape.1).some
-  shard_does (Give g) is shape = give_all g is shape.0.freed shape.1
+    fetch_changes : Changes fetched_from [] list_of []
+    fetch_changes =
+        let f = is_fetched in
+        let objects_same : objects_in_spans fetched_from ≡ objects_in_spans x = ap (λ (r : ClassRow). flat_map (objects_of r.size) (spans_in fetched_from)) f.same.row ∙ ap (λ (ss : List SpanRef). flat_map (objects_of x.central.row.size) ss) f.spans in
+        record {
+          moves = λ n.
+              let c = f.moves (λ (a : Addr). eqb a.0 n) in
+              omega (arith, c, objects_count n (places fetched_from), objects_count n list_of, objects_count n (places x), ap (objects_at n) objects_same);
+          fewer = λ n. omega (arith, ap (objects_at n) objects_same);
+          spans = λ s. omega (arith, ap (spans_like s) f.spans);
+          starts = λ n. omega (arith, ap (spans_at n) f.spans);
+        }
 
-  -- the shard stays its class's, a new span's first page is a low number, and a new span brings an object at least
-  pub shard_stays : (row : ShardStep) → l.step ≡ does.Shard row → ShardShape (limits_of m cpus) l row → IsShardOf m.rows l.regs.class.0 (shard_row (cpu_calls m.rows) x (at_step row) row).0 × IsLowRun row × AddsSome m.rows x l row
-  shard_stays (Fetch asking) is shape = (fetched_of, tt, tt)
-  shard_stays (AddFetch asking run) is shape = (added_of asking run is shape.0.hand shape.1, is_low asking run is shape.0.hand shape.1, (is_added asking run is shape.0.hand shape.1).some)
-  shard_stays (Give g) is shape = (given_of g is shape.0.freed shape.1, tt, tt)
+    fetched_of : IsShardOf m.rows l.regs.class.0 fetched_from
+    fetched_of =
+        let f = is_fetched in
+        same_of fetched_from f.same (λ s some. span_all (λ (y : SpanRef). y.kind ≡ Small (class_number l.regs.class.0)) s (spans_in x) of_x.kinds (omega (arith, some, ap (spans_like s) f.spans)))
 
-pub shard_acts_move : ShardActsMove
-shard_acts_move m limits cpus p locals b calls t l x row before is at =
-    subst (λ (s : Step). Does m (with_stores p p.cpus (slice_set p.shards l.regs.class.0 (shard_row (cpu_calls m.rows) x (record l { step = s }) row).0) p.domains) b (record l { step = s }) (shard_row (cpu_calls m.rows) x (record l { step = s }) row).1) (sym is)
-    (shard_does m limits cpus p locals b calls t l x before at row is (subst (λ (s : Step). StepShape (limits_of m cpus) l s) is before.shaped.step))
+    fetch_cut : IsCut m.rows (stock_of r about (with_shard fetched_from))
+    fetch_cut = cut fetched_from fetched_of
+
+    fetch_does : (asking : Asking) → l.regs.hand.items ≡ [] → class_of m.rows asking.size ≡ Some l.regs.class → (list : List Addr) → list_of ≡ list → Does r about m (with_shard fetched_from) b (at_step (Fetch asking)) (fetches r.calls (at_step (Fetch asking)) asking list)
+    fetch_does asking none asked [] is =
+        carries_as r about entries huge labels p locals b before.books p.fronts (shards_with fetched_from) fetch_cut (at_step (Fetch asking)) (goes (at_step (Fetch asking)) (does.Heap (heap.NewSpan asking))) (Asks asking.label asking.size) l.regs.class.0 [] [] l.rest
+        (ap (λ (h : List Addr). bare (Asks asking.label asking.size) l.regs.class.0 h l.rest) none) (subst (λ (h : List Addr). MoveObjects (stock_of r about p) (stock_of r about (with_shard fetched_from)) l.regs.class.0 [] h []) is (objects fetched_from [] list_of [] fetch_changes)) (λ label o doing. cc)
+        (record { account = ap (λ (h : List Addr). bare (Asks asking.label asking.size) l.regs.class.0 h l.rest) none; acts = refl; answers = refl })
+    fetch_does asking none asked (a ∷ more) is =
+        gets_object r about entries huge labels p locals b before.books p.fronts (shards_with fetched_from) fetch_cut (at_step (Fetch asking)) l.seat (record l.regs { hand = appended l.regs.hand (a ∷ more) }) asking a more
+        (ap (λ (h : List Addr). bare (Asks asking.label asking.size) l.regs.class.0 h l.rest) none) refl (ap (λ (h : List Addr). h ++ (a ∷ more)) none) asked
+        (subst (λ (h : List Addr). MoveObjects (stock_of r about p) (stock_of r about (with_shard fetched_from)) l.regs.class.0 [] h []) is (objects fetched_from [] list_of [] fetch_changes))
+
+    -- AddFetch
+    module _ (asking : Asking) (run : Run) (is : l.step ≡ does.Shard (AddFetch asking run)) (none : l.regs.hand.items ≡ []) (asked : class_of m.rows asking.size ≡ Some l.regs.class) where
+      abbrev span : SpanRef
+      span = small l.regs.class run
+
+      abbrev added : Shard
+      added = with_new (class_row m.rows l).batch x span
+
+      abbrev came : List Addr
+      came = opening span x.central.row.size (class_row m.rows l).batch
+
+      is_low : run.first.0 < 2 ^ 32
+      is_low =
+          let there = (is_mapped r about planned entries huge labels limits p locals b calls t l x before at asking run is).there in
+          let inside = span_all (IsInside p.map.huge) span p.map.spans before.parts.map.inside (omega (arith, there, before.books.spans span)) in
+          omega (arith, inside.to, inside.some, before.parts.map.few)
+
+      is_added : IsAdded (class_row m.rows l).batch x span
+      is_added =
+          let fit : FitsAdd m.rows x l run = (shard_acts_fit r about planned entries huge labels limits p locals b calls t l x (AddFetch asking run) before is at).0 in
+          let row = class_row_is r about planned entries huge labels limits p locals b calls t l x before at in
+          let size : (class_row m.rows l).size ≡ x.central.row.size = ap (λ (r : ClassRow). r.size) row_x in
+          let pages : (class_row m.rows l).pages ≡ x.central.row.pages = ap (λ (r : ClassRow). r.pages) row_x in
+          add_moves (class_row m.rows l).batch x span some_batch of_x.sound fit.pages is_low (omega (arith, size, row.small)) (omega (arith, pages, row.most, fit.pages)) fit.apart
+
+      spans_more : (s : SpanRef) → spans_like s (spans_in added) ≡ spans_like s (spans_in x) + spans_like s (span ∷ [])
+      spans_more s =
+          let c = is_added.spans (λ (y : SpanRef). same_span y s) in
+          omega (arith, c, spans_count s (spans_in added), spans_count s (spans_in x), spans_count s (span ∷ []))
+
+      starts_more : (n : ℕ) → spans_at n (spans_in added) ≡ spans_at n (spans_in x) + spans_at n (span ∷ [])
+      starts_more n =
+          let c = is_added.spans (λ (y : SpanRef). eqb (spans.first_byte y) n) in
+          omega (arith, c, begun_count n (spans_in added), begun_count n (spans_in x), begun_count n (span ∷ []))
+
+      added_of : IsShardOf m.rows l.regs.class.0 added
+      added_of =
+          let P : SpanRef → Type 0 = λ s. s.kind ≡ Small (class_number l.regs.class.0) in
+          same_of added is_added.same (λ s some. elim (cases_lt 0 (spans_like s (spans_in x))) [
+            | inl old ↦ span_all P s (spans_in x) of_x.kinds old
+            | inr new ↦ span_all P s (span ∷ []) (All-cons P span [] refl (All-nil P)) (omega (arith, new, some, spans_more s))
+          ])
+
+      add_cut : IsCut m.rows (stock_of r about (with_shard added))
+      add_cut = cut added added_of
+
+      adds_span : AddSpan (stock_of r about p) (stock_of r about (with_shard added)) l.regs.class.0 span came
+      adds_span =
+          let brought : List Addr = objects_of x.central.row.size span in
+          let more : (n : ℕ) → objects_at n (objects_in_spans added) ≡ objects_at n (objects_in_spans x) + objects_at n brought = λ n.
+          (let c = is_added.objects (λ (a : Addr). eqb a.0 n) in
+          omega (arith, c, objects_count n (objects_in_spans added), objects_count n (objects_in_spans x), objects_count n brought)) in
+          record {
+            others = others added;
+            moves = λ n.
+                let c = is_added.moves (λ (a : Addr). eqb a.0 n) in
+                let e = stored added n in
+                omega (arith, c, e, more n, objects_now added n, objects_then n, objects_count n (places added), objects_count n came, objects_count n (places x), objects_count n brought);
+            more = λ n. omega (arith, more n, objects_now added n, objects_then n);
+            spans = λ s. let e = owned added s in omega (arith, e, spans_more s);
+            starts = λ n. let e = begins added n in omega (arith, e, starts_more n);
+          }
+
+      add_does : (list : List Addr) → came ≡ list → 0 < length list → Does r about m (with_shard added) b (at_step (AddFetch asking run)) (serves r.calls (with_more (at_step (AddFetch asking run)) came) asking)
+      add_does [] are some = absurd (omega arith)
+      add_does (a ∷ more) are some =
+          gets_first r about entries huge labels p locals b before.books p.fronts (shards_with added) add_cut (at_step (AddFetch asking run)) l.seat (record l.regs { hand = appended l.regs.hand came }) asking run a more
+          (ap (adding l asking run) none) refl (ap (λ (h : List Addr). h ++ came) none ∙ are) asked
+          (subst (λ (h : List Addr). AddSpan (stock_of r about p) (stock_of r about (with_shard added)) l.regs.class.0 span h) are adds_span)
+
+    -- Give
+    module _ (g : Giving R) (is : l.step ≡ does.Shard (Give g)) (no_span : l.freed.items ≡ []) (gives : IsGiving m.rows about l.regs.hand.items g) where
+      abbrev given : Shard
+      given = after_give l.regs.hand.items x
+
+      abbrev freed : List SpanRef
+      freed = freed_by l.regs.hand.items x
+
+      is_given : IsGiven l.regs.hand.items x
+      is_given =
+          let fit : FitsGive x l = shard_acts_fit r about planned entries huge labels limits p locals b calls t l x (Give g) before is at in
+          give_moves l.regs.hand.items x of_x.sound fit.taken fit.different
+
+      spans_less : (s : SpanRef) → spans_like s (spans_in given) + spans_like s freed ≡ spans_like s (spans_in x)
+      spans_less s =
+          let c = is_given.spans (λ (y : SpanRef). same_span y s) in
+          omega (arith, c, spans_count s (spans_in given), spans_count s freed, spans_count s (spans_in x))
+
+      give_changes : Changes given l.regs.hand.items [] freed
+      give_changes =
+          let left : List Addr = flat_map (objects_of x.central.row.size) freed in
+          let objects_less : (n : ℕ) → objects_at n (objects_in_spans given) + objects_at n left ≡ objects_at n (objects_in_spans x) = λ n.
+          (let c = is_given.objects (λ (a : Addr). eqb a.0 n) in
+          omega (arith, c, objects_count n (objects_in_spans given), objects_count n left, objects_count n (objects_in_spans x))) in
+          record {
+            moves = λ n.
+                let c = is_given.moves (λ (a : Addr). eqb a.0 n) in
+                omega (arith, c, objects_less n, objects_count n (places given), objects_count n left, objects_count n (places x), objects_count n l.regs.hand.items);
+            fewer = λ n. omega (arith, objects_less n);
+            spans = spans_less;
+            starts = λ n.
+                let c = is_given.spans (λ (y : SpanRef). eqb (spans.first_byte y) n) in
+                omega (arith, c, begun_count n (spans_in given), begun_count n freed, begun_count n (spans_in x));
+          }
+
+      given_of : IsShardOf m.rows l.regs.class.0 given
+      given_of = same_of given is_given.same (λ s some. span_all (λ (y : SpanRef). y.kind ≡ Small (class_number l.regs.class.0)) s (spans_in x) of_x.kinds (omega (arith, some, spans_less s)))
+
+      give_cut : IsCut m.rows (stock_of r about (with_shard given))
+      give_cut = cut given given_of
+
+      give_does : (bag : Contents SpanRef) (items : List SpanRef) → bag.items ≡ items → freed ≡ items → Does r about m (with_shard given) b (at_step (Give g)) (clears r.calls (decides_free (with_freed (with_hand (at_step (Give g)) (emptied l.regs.hand)) bag) g) (behind g) items)
+      give_does bag [] are left =
+          gives_hand r about entries huge labels p locals b before.books p.fronts (shards_with given) give_cut (at_step (Give g)) g bag l.regs.class.0 l.regs.hand.items gives refl refl
+          (subst (λ (ss : List SpanRef). MoveObjects (stock_of r about p) (stock_of r about (with_shard given)) l.regs.class.0 l.regs.hand.items [] ss) left (objects given l.regs.hand.items [] freed give_changes))
+      give_does bag (s ∷ more) are left =
+          gives_spans r about entries huge labels p locals b before.books p.fronts (shards_with given) give_cut (at_step (Give g)) g bag l.regs.class.0 l.regs.hand.items (s ∷ more) gives refl are refl
+          (subst (λ (ss : List SpanRef). MoveObjects (stock_of r about p) (stock_of r about (with_shard given)) l.regs.class.0 l.regs.hand.items [] ss) left (objects given l.regs.hand.items [] freed give_changes))
+
+      give_all : Does r about m (with_shard given) b (at_step (Give g)) (shard_row r.calls x (at_step (Give g)) (Give g)).1
+      give_all =
+          let bag : Contents SpanRef = with_spans_behind l.freed freed in
+          give_does bag bag.items refl (sym (ap (λ (ss : List SpanRef). ss ++ freed) no_span))
+
+    shard_does : (row : ShardStep R) → l.step ≡ does.Shard row → ShardShape m.rows about l row → Does r about m (with_shard (shard_row r.calls x (at_step row) row).0) b (at_step row) (shard_row r.calls x (at_step row) row).1
+    shard_does (Fetch asking) is shape = fetch_does asking shape.0.hand shape.1 list_of refl
+    shard_does (AddFetch asking run) is shape = add_does asking run is shape.0.hand shape.1 (came asking run is shape.0.hand shape.1) refl (is_added asking run is shape.0.hand shape.1).some
+    shard_does (Give g) is shape = give_all g is shape.0.freed shape.1
+
+    -- the shard stays its class's, a new span's first page is a low number, and a new span brings an object at least
+    pub shard_stays : (row : ShardStep R) → l.step ≡ does.Shard row → ShardShape m.rows about l row → IsShardOf m.rows l.regs.class.0 (shard_row r.calls x (at_step row) row).0 × IsLowRun row × AddsSome m.rows x l row
+    shard_stays (Fetch asking) is shape = (fetched_of, tt, tt)
+    shard_stays (AddFetch asking run) is shape = (added_of asking run is shape.0.hand shape.1, is_low asking run is shape.0.hand shape.1, (is_added asking run is shape.0.hand shape.1).some)
+    shard_stays (Give g) is shape = (given_of g is shape.0.freed shape.1, tt, tt)
+
+  pub shard_acts_move : ShardActsMove r about planned
+  shard_acts_move huge labels limits p locals b calls t l x row before is at =
+      subst (λ (s : Step R). Does r about (setup r huge labels) (with_stores p p.fronts (slice_set p.shards l.regs.class.0 (shard_row r.calls x (record l { step = s }) row).0)) b (record l { step = s }) (shard_row r.calls x (record l { step = s }) row).1) (sym is)
+      (shard_does huge labels limits p locals b calls t l x before at row is (subst (λ (s : Step R). StepShape r.calls.rows about l s) is before.shaped.step))

@@ -8,8 +8,9 @@ use Rattle.tc_units.specs.declared.units.Label.{Label}
 use Rattle.tc_model.specs.declared.calls.Call.{Call}
 use Rattle.tc_model.specs.declared.calls.Call.TheVariants.{Malloc, Free, Release, Drain, Resize}
 use Rattle.tc_model.specs.declared.calls.Planned.{Planned}
-use Rattle.tc_model.specs.Input.{Input, ThreadCall, script_of}
+use Rattle.tc_model.specs.Input.{Asked, ThreadCall, script_of}
 use Rattle.call_steps.specs.Kept.{call_at}
+use Rattle.tc_units.specs.declared.spans.ClassRow.{ClassRow}
 use Rattle.alloc_rules.specs.Valid.{IsInOrder, IsValid}
 
 abbrev IsLow : Call → Type 0
@@ -26,24 +27,25 @@ in_order earlier (Resize cpu class cap) order = tt
 abbrev Lows : List Planned → Type 0
 Lows script = All (λ (q : Planned). IsLow q.call) script
 
-all_low : (input : Input) → IsValid input → (t : ℕ) (earlier cs : List ThreadCall) → earlier ++ cs ≡ input.asked.calls → Lows (script_of t cs)
-all_low input valid t earlier [] is = λ i d low. absurd (omega arith)
-all_low input valid t earlier (c ∷ cs) is =
-    let f : ThreadCall → Planned = λ (d : ThreadCall). d.planned in
-    let ys : List ThreadCall = filter (λ (d : ThreadCall). eqb d.thread.0 t) cs in
-    let rest : Lows (map f ys) = all_low input valid t (earlier ++ c ∷ []) cs (append_snoc earlier c cs ∙ is) in
-    let here : IsLow c.planned.call = in_order earlier c.planned.call (valid.calls earlier c cs is).order in
-    elim (eqb c.thread.0 t) as (λ b. Lows (map f (cond b (c ∷ ys) ys))) [
-      | true ↦ All-cons (λ (q : Planned). IsLow q.call) c.planned (map f ys) here rest
-      | false ↦ rest
-    ]
+module _ (rows : List ClassRow) (planned : Planned → Type 0) where
+  all_low : (asked : Asked) → IsValid rows planned asked → (t : ℕ) (earlier cs : List ThreadCall) → earlier ++ cs ≡ asked.calls → Lows (script_of t cs)
+  all_low asked valid t earlier [] is = λ i d low. absurd (omega arith)
+  all_low asked valid t earlier (c ∷ cs) is =
+      let f : ThreadCall → Planned = λ (d : ThreadCall). d.planned in
+      let ys : List ThreadCall = filter (λ (d : ThreadCall). eqb d.thread.0 t) cs in
+      let rest : Lows (map f ys) = all_low asked valid t (earlier ++ c ∷ []) cs (append_snoc earlier c cs ∙ is) in
+      let here : IsLow c.planned.call = in_order earlier c.planned.call (valid.calls earlier c cs is).order in
+      elim (eqb c.thread.0 t) as (λ b. Lows (map f (cond b (c ∷ ys) ys))) [
+        | true ↦ All-cons (λ (q : Planned). IsLow q.call) c.planned (map f ys) here rest
+        | false ↦ rest
+      ]
 
-low_at : (script : List Planned) (j : ℕ) (label : Label) (size : ℕ) (o : Option Planned) → Lows script → slice_get script j ≡ o → option_map (λ (q : Planned). q.call) o ≡ Some (Malloc label size) → size ≤ 2 ^ 40
-low_at script j label size None lows at is = absurd (cc)
-low_at script j label size (Some q) lows at is =
-    let e : q.call ≡ Malloc label size = cc in
-    subst IsLow e (subst (λ (x : Planned). IsLow x.call) (get_or_from_slice_get script j q q at) (lows j q (slice_get_within script j q at)))
+  low_at : (script : List Planned) (j : ℕ) (label : Label) (size : ℕ) (o : Option Planned) → Lows script → slice_get script j ≡ o → option_map (λ (q : Planned). q.call) o ≡ Some (Malloc label size) → size ≤ 2 ^ 40
+  low_at script j label size None lows at is = absurd (cc)
+  low_at script j label size (Some q) lows at is =
+      let e : q.call ≡ Malloc label size = cc in
+      subst IsLow e (subst (λ (x : Planned). IsLow x.call) (get_or_from_slice_get script j q q at) (lows j q (slice_get_within script j q at)))
 
--- a request has at most 2^40 bytes
-pub request_low : (input : Input) → IsValid input → (t j : ℕ) (label : Label) (size : ℕ) → call_at (script_of t input.asked.calls) j ≡ Some (Malloc label size) → size ≤ 2 ^ 40
-request_low input valid t j label size is = low_at (script_of t input.asked.calls) j label size (slice_get (script_of t input.asked.calls) j) (all_low input valid t [] input.asked.calls refl) refl is
+  -- a request has at most 2^40 bytes
+  pub request_low : (asked : Asked) → IsValid rows planned asked → (t j : ℕ) (label : Label) (size : ℕ) → call_at (script_of t asked.calls) j ≡ Some (Malloc label size) → size ≤ 2 ^ 40
+  request_low asked valid t j label size is = low_at (script_of t asked.calls) j label size (slice_get (script_of t asked.calls) j) (all_low asked valid t [] asked.calls refl) refl is

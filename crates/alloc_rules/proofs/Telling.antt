@@ -1,4 +1,4 @@
--- Of each thread its decided calls are told, which are the first ones of its script.
+-- The calls that are told of a thread are the first ones of its script.
 use Rattle.std.proofs.Common.{◌≡◌, ℕ, zero, suc, ◌≤◌, List, [], ◌∷◌, length, map, take, Some, None, refl, ap, ◌∙◌, arith}
 use Rattle.std.specs.Prelude.{slice_get}
 use Rattle.std.proofs.lemmas.Bool.{eq-eqb, ne_eqb}
@@ -7,12 +7,10 @@ use Rattle.tc_model.specs.declared.answers.CallLine.{CallLine}
 use Rattle.tc_model.specs.declared.calls.Call.{Call}
 use Rattle.tc_model.specs.declared.calls.Planned.{Planned}
 use Rattle.holdings.specs.Moves.{Said, lines}
-use Rattle.call_steps.specs.PerCpu.{CpuLocal as Local}
-use Rattle.call_steps.specs.Local.{Decided, told}
+use Rattle.call_steps.specs.Local.{Decided, told, Local}
 use Rattle.call_steps.specs.Kept.{call_at}
 use Rattle.alloc_rules.specs.Told.{lines_by}
 
--- what an act decides is told of its thread
 pub own_lines : (t : ℕ) (said : List Said) → lines_by t (lines t said) ≡ lines t said
 own_lines t [] = refl
 own_lines t (s ∷ more) = rw (eq-eqb t t refl) (ap (λ (xs : List CallLine). record { thread = record { 0 = t }; call = s.call; answer = s.answer } ∷ xs) (own_lines t more))
@@ -20,6 +18,17 @@ own_lines t (s ∷ more) = rw (eq-eqb t t refl) (ap (λ (xs : List CallLine). re
 pub others_lines : (t u : ℕ) (said : List Said) → (t ≡ u → ⊥) → lines_by u (lines t said) ≡ []
 others_lines t u [] apart = refl
 others_lines t u (s ∷ more) apart = rw (ne_eqb t u apart) (others_lines t u more apart)
+
+-- behind the last call of a script there is none
+at_end : (script : List Planned) (n : ℕ) → call_at script n ≡ None → length script ≤ n
+at_end [] n none = omega arith
+at_end (p ∷ ps) zero none = absurd (cc)
+at_end (p ∷ ps) (suc n) none = omega (arith, at_end ps n none)
+
+pub takes_all : (script : List Planned) (n m : ℕ) → call_at script n ≡ None → n ≤ m → take m (map (λ (p : Planned). p.call) script) ≡ map (λ (p : Planned). p.call) script
+takes_all script n m none past =
+    let calls : List Call = map (λ (p : Planned). p.call) script in
+    take_all m calls (omega (arith, past, at_end script n none, length-map script (λ (p : Planned). p.call)))
 
 -- the calls that are told are those that were decided
 told_calls : (t : ℕ) (ds : List Decided) → map (λ (c : CallLine). c.call) (map (told t) ds) ≡ map (λ (d : Decided). d.call) ds
@@ -35,18 +44,7 @@ first_calls (p ∷ ps) (d ∷ ds) each =
     let same : d.call ≡ p.call = cc in
     ap (λ (c : Call). c ∷ map (λ (x : Decided). x.call) ds) same ∙ ap (λ (cs : List Call). p.call ∷ cs) (first_calls ps ds (λ j x is. each (suc j) x is))
 
-pub tells_first : (script : List Planned) (t : ℕ) (l : Local) (told_lines : List CallLine) (n : ℕ) → told_lines ≡ map (told t) l.answers → ((j : ℕ) (d : Decided) → slice_get l.answers j ≡ Some d → call_at script j ≡ Some d.call) → length l.answers ≡ n
+pub tells_first : {V R : Type 0} (script : List Planned) (t : ℕ) (l : Local V R) (told_lines : List CallLine) (n : ℕ) → told_lines ≡ map (told t) l.answers → ((j : ℕ) (d : Decided) → slice_get l.answers j ≡ Some d → call_at script j ≡ Some d.call) → length l.answers ≡ n
     → map (λ (c : CallLine). c.call) told_lines ≡ take n (map (λ (p : Planned). p.call) script)
 tells_first script t l told_lines n is each count =
     ap (map (λ (c : CallLine). c.call)) is ∙ (told_calls t l.answers ∙ (first_calls script l.answers each ∙ ap (λ (k : ℕ). take k (map (λ (p : Planned). p.call) script)) count))
-
--- behind the last call of a script there is none
-at_end : (script : List Planned) (n : ℕ) → call_at script n ≡ None → length script ≤ n
-at_end [] n none = omega arith
-at_end (p ∷ ps) zero none = absurd (cc)
-at_end (p ∷ ps) (suc n) none = omega (arith, at_end ps n none)
-
-pub takes_all : (script : List Planned) (n m : ℕ) → call_at script n ≡ None → n ≤ m → take m (map (λ (p : Planned). p.call) script) ≡ map (λ (p : Planned). p.call) script
-takes_all script n m none past =
-    let calls : List Call = map (λ (p : Planned). p.call) script in
-    take_all m calls (omega (arith, past, at_end script n none, length-map script (λ (p : Planned). p.call)))

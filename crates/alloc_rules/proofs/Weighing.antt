@@ -3,18 +3,23 @@ use Rattle.std.proofs.Common.{◌≡◌, ℕ, ◌+◌, Bool, true, false, cond, 
 use Rattle.tc_units.specs.declared.units.Addr.{Addr}
 use Rattle.tc_units.specs.declared.units.Class.{Class}
 use Rattle.tc_units.specs.declared.units.Label.{Label}
-use Rattle.tc_units.specs.declared.spans.ClassRow.{ClassRow}
 use Rattle.tc_units.specs.Classes.{class_of}
 use Rattle.tc_model.specs.declared.calls.Call.{Call}
 use Rattle.tc_model.specs.declared.calls.Call.TheVariants.{Malloc, Free, Release, Drain, Resize}
-use Rattle.tc_model.specs.declared.calls.MoveTo.{MoveTo}
 use Rattle.tc_model.specs.declared.calls.Planned.{Planned}
 use Rattle.holdings.specs.Runs.{objects_at}
-use Rattle.holdings.specs.Accounts.{Account, Doing, Asks, Takes, Other, WeighSame, asking, publishing, taking, holds, loose, got, put}
-use Rattle.call_steps.specs.CpuCalls.{leave_row, cpu_calls}
-use Rattle.call_steps.specs.PerCpu.{CpuLocal as Local}
-use Rattle.call_steps.specs.Local.{first_of_malloc, first_of_call, regs_of_malloc, fresh_regs, next_call, closes, ends}
-use Rattle.alloc_rules.specs.CpuAccounts.{account_of}
+use Rattle.holdings.specs.Accounts.{Account, Doing, Takes, Other, WeighSame, asking, publishing, taking, holds, loose, got, put}
+use Rattle.call_steps.specs.Local.{first_of_malloc, first_of_call, regs_of_malloc, fresh_regs, next_call, closes, ends, Local, step_or}
+use Rattle.rseq_core.specs.declared.regs.Regs.{Regs}
+use Rattle.call_steps.specs.declared.step.Asking.{Asking}
+use Rattle.call_steps.specs.declared.step.Step.{Step}
+use Rattle.call_steps.specs.declared.step.Step.TheVariants as step
+use Rattle.call_steps.specs.declared.step.ShardStep.TheVariants as shard
+use Rattle.call_steps.specs.Fronts.{FrontCalls}
+use Rattle.call_steps.specs.Calls as about
+use Rattle.call_steps.specs.Calls.{About}
+use Rattle.alloc_rules.specs.Accounts.{account_of, doing_about}
+use Rattle.alloc_rules.specs.FrontLaw.{AreEntries, IsEntry}
 
 -- an account that holds no span and no run, and one that has nothing to do with a label either
 abbrev pub bare : Doing → ℕ → List Addr → List Planned → Account
@@ -58,37 +63,56 @@ begun k j hand d p rest none asks publishes takes value loosely =
       clears = refl;
     }
 
-module _ (rows : List ClassRow) (l : Local) (k : ℕ) (none : l.regs.hand.items ≡ []) where
-  abbrev at_call : Call → Option MoveTo → List Planned → Local
-  at_call call moved rest = record l { step = first_of_call (cpu_calls rows) (record l.seat { moved = moved }) call; regs = fresh_regs (cpu_calls rows) call l.regs; seat = record l.seat { moved = moved }; rest = rest }
+-- a step that has a row of the front-end or another one, both about this
+pub entry_is : {V R : Type 0} (of : R → About) (l : Local V R) (other : Step R) (a : About) (o : Option R) → IsEntry of a o → account_of of (record l { step = other }) ≡ bare (doing_about a) l.regs.class.0 l.regs.hand.items l.rest
+    → account_of of (record l { step = step_or other o }) ≡ bare (doing_about a) l.regs.class.0 l.regs.hand.items l.rest
+entry_is of l other a None is same = same
+entry_is of l other a (Some row) is same = ap (λ (x : About). bare (doing_about x) l.regs.class.0 l.regs.hand.items l.rest) is
 
-  malloc_weighs : (label : Label) (size : ℕ) (p : Planned) (rest : List Planned) (c : Option Class) → WeighSame (quiet k (record p { call = Malloc label size } ∷ rest)) (account_of (record l { step = first_of_malloc (cpu_calls rows) (record l.seat { moved = p.moved }) c label size; regs = record (regs_of_malloc (cpu_calls rows) c l.regs) { ran = 0 }; seat = record l.seat { moved = p.moved }; rest = rest }))
-  malloc_weighs label size p rest None = begun k l.regs.class.0 l.regs.hand.items (Asks label size) (record p { call = Malloc label size }) rest none (λ x. refl) (λ x. refl) (λ x. refl) (λ x v. refl) (λ n. refl)
-  malloc_weighs label size p rest (Some c) = begun k c.0 l.regs.hand.items (Asks label size) (record p { call = Malloc label size }) rest none (λ x. refl) (λ x. refl) (λ x. refl) (λ x v. refl) (λ n. refl)
+module _ {V R : Type 0} (e : FrontCalls V R) (of : R → About) (entries : AreEntries e of) where
+  -- a call is begun with registers whose hand is empty
+  module _ (l : Local V R) (k : ℕ) (none : l.regs.hand.items ≡ []) where
+    malloc_weighs : (v : V) (label : Label) (size : ℕ) (p : Planned) (rest : List Planned) (c : Option Class) → p.call ≡ Malloc label size
+        → WeighSame (quiet k (p ∷ rest)) (account_of of (record l { seat = v; step = first_of_malloc e v c label size; regs = record (regs_of_malloc e c l.regs) { ran = 0 }; rest = rest }))
+    malloc_weighs v label size p rest None is = begun k l.regs.class.0 l.regs.hand.items (doing_about (about.Asks (record { label = label; size = size }))) p rest none (λ x. ap (got x) (sym is)) (λ x. refl) (λ x. ap (put x) (sym is)) (λ x w. refl) (λ n. refl)
+    malloc_weighs v label size p rest (Some c) is =
+        let a : Asking = record { label = label; size = size } in
+        let g : Regs = record (e.to_first (record l.regs { class = c })) { ran = 0 } in
+        let kept = entries.to_first (record l.regs { class = c }) in
+        subst (WeighSame (quiet k (p ∷ rest))) (sym (entry_is of (record l { seat = v; regs = g; rest = rest }) (step.Shard (shard.Fetch a)) (about.Asks a) (e.first v a) (entries.first_about v a) refl))
+        (begun k g.class.0 g.hand.items (doing_about (about.Asks a)) p rest (ap (λ h. h.items) kept.hand ∙ none) (λ x. ap (got x) (sym is)) (λ x. refl) (λ x. ap (put x) (sym is)) (λ x w. refl) (λ n. refl))
 
-  call_weighs : (call : Call) (p : Planned) (rest : List Planned) → WeighSame (quiet k (record p { call = call } ∷ rest)) (account_of (at_call call p.moved rest))
-  call_weighs (Malloc label size) p rest = malloc_weighs label size p rest (class_of rows size)
-  call_weighs (Free label) p rest = begun k l.regs.class.0 l.regs.hand.items (Takes label) (record p { call = Free label }) rest none (λ x. refl) (λ x. refl) (λ x. refl) (λ x v. refl) (λ n. refl)
-  call_weighs (Release pages) p rest = begun k l.regs.class.0 l.regs.hand.items Other (record p { call = Release pages }) rest none (λ x. refl) (λ x. refl) (λ x. refl) (λ x v. refl) (λ n. refl)
-  call_weighs (Drain c) p rest = begun k 0 l.regs.hand.items Other (record p { call = Drain c }) rest none (λ x. refl) (λ x. refl) (λ x. refl) (λ x v. refl) (λ n. refl)
-  call_weighs (Resize c class most) p rest = begun k class.0 l.regs.hand.items Other (record p { call = Resize c class most }) rest none (λ x. refl) (λ x. refl) (λ x. refl) (λ x v. refl) (λ n. refl)
+    -- one of the front-end's own
+    own_weighs : (v : V) (call : Call) (p : Planned) (rest : List Planned) → ((x : ℕ) → got x p.call ≡ 0) → ((x : ℕ) → put x p.call ≡ 0) → WeighSame (quiet k (p ∷ rest)) (account_of of (record l { seat = v; step = step_or step.Ended (e.other v call); regs = record (e.to_other call l.regs) { ran = 0 }; rest = rest }))
+    own_weighs v call p rest got_none put_none =
+        let g : Regs = record (e.to_other call l.regs) { ran = 0 } in
+        subst (WeighSame (quiet k (p ∷ rest))) (sym (entry_is of (record l { seat = v; regs = g; rest = rest }) step.Ended (about.Other (Some call)) (e.other v call) (entries.other_about v call) refl))
+        (begun k g.class.0 g.hand.items Other p rest (ap (λ h. h.items) (entries.to_other call l.regs) ∙ none) (λ x. sym (got_none x)) (λ x. refl) (λ x. sym (put_none x)) (λ x w. refl) (λ n. refl))
 
-  script_weighs : (calls : List Planned) → WeighSame (quiet k calls) (account_of (next_call (cpu_calls rows) l calls))
-  script_weighs [] = weighs_quiet k l.regs.class.0 l.regs.hand.items [] none
-  script_weighs (p ∷ rest) = call_weighs p.call p rest
+    call_weighs : (v : V) (call : Call) (p : Planned) (rest : List Planned) → p.call ≡ call → WeighSame (quiet k (p ∷ rest)) (account_of of (record l { seat = v; step = first_of_call e v call; regs = fresh_regs e call l.regs; rest = rest }))
+    call_weighs v (Malloc label size) p rest is = malloc_weighs v label size p rest (class_of e.rows size) is
+    call_weighs v (Free label) p rest is = begun k l.regs.class.0 l.regs.hand.items (Takes label) p rest none (λ x. ap (got x) (sym is)) (λ x. refl) (λ x. ap (put x) (sym is)) (λ x w. refl) (λ n. refl)
+    call_weighs v (Release pages) p rest is = begun k l.regs.class.0 l.regs.hand.items Other p rest none (λ x. ap (got x) (sym is)) (λ x. refl) (λ x. ap (put x) (sym is)) (λ x w. refl) (λ n. refl)
+    call_weighs v (Drain c) p rest is = own_weighs v (Drain c) p rest (λ x. ap (got x) is) (λ x. ap (put x) is)
+    call_weighs v (Resize c class most) p rest is = own_weighs v (Resize c class most) p rest (λ x. ap (got x) is) (λ x. ap (put x) is)
 
--- a call ends: the next one is begun, or the thread leaves for another CPU first
-closes_weighs : (rows : List ClassRow) (l : Local) (k : ℕ) → l.regs.hand.items ≡ [] → (move : Option MoveTo) → WeighSame (quiet k l.rest) (account_of (closes (cpu_calls rows) l (leave_row move)))
-closes_weighs rows l k none None = script_weighs rows (record l { ended = l.ended + 1 }) k none l.rest
-closes_weighs rows l k none (Some move) = weighs_quiet k l.regs.class.0 l.regs.hand.items l.rest none
+    script_weighs : (calls : List Planned) → WeighSame (quiet k calls) (account_of of (next_call e l calls))
+    script_weighs [] = weighs_quiet k l.regs.class.0 l.regs.hand.items [] none
+    script_weighs (p ∷ rest) = call_weighs (e.begins l.seat (Some p)) p.call p rest refl
 
-pub weighs_next : (rows : List ClassRow) (l : Local) (k : ℕ) → l.regs.hand.items ≡ [] → WeighSame (quiet k l.rest) (account_of (ends (cpu_calls rows) l))
-weighs_next rows l k none = closes_weighs rows (record l { acts = l.acts + 1 }) k none l.seat.moved
+  -- a call ends: the next one is begun, or a row of the front-end comes first
+  closes_weighs : (l : Local V R) (k : ℕ) → l.regs.hand.items ≡ [] → (o : Option R) → IsEntry of (about.Other None) o → WeighSame (quiet k l.rest) (account_of of (closes e l o))
+  closes_weighs l k none None entry = script_weighs (record l { ended = l.ended + 1 }) k none l.rest
+  closes_weighs l k none (Some row) entry =
+      subst (λ (x : About). WeighSame (quiet k l.rest) (bare (doing_about x) l.regs.class.0 l.regs.hand.items l.rest)) (sym entry) (weighs_quiet k l.regs.class.0 l.regs.hand.items l.rest none)
+
+  pub weighs_next : (l : Local V R) (k : ℕ) → l.regs.hand.items ≡ [] → WeighSame (quiet k l.rest) (account_of of (ends e l))
+  weighs_next l k none = closes_weighs (record l { acts = l.acts + 1 }) k none (e.last l.seat) (entries.last_about l.seat)
 
 -- that is one act more, with no further answer
-closes_counts : (rows : List ClassRow) (l : Local) (move : Option MoveTo) → ((closes (cpu_calls rows) l (leave_row move)).acts ≡ l.acts) × ((closes (cpu_calls rows) l (leave_row move)).answers ≡ l.answers)
-closes_counts rows l None = (refl, refl)
-closes_counts rows l (Some move) = (refl, refl)
+closes_counts : {V R : Type 0} (e : FrontCalls V R) (l : Local V R) (o : Option R) → ((closes e l o).acts ≡ l.acts) × ((closes e l o).answers ≡ l.answers)
+closes_counts e l None = (refl, refl)
+closes_counts e l (Some row) = (refl, refl)
 
-pub ends_counts : (rows : List ClassRow) (l : Local) → ((ends (cpu_calls rows) l).acts ≡ l.acts + 1) × ((ends (cpu_calls rows) l).answers ≡ l.answers)
-ends_counts rows l = closes_counts rows (record l { acts = l.acts + 1 }) l.seat.moved
+pub ends_counts : {V R : Type 0} (e : FrontCalls V R) (l : Local V R) → ((ends e l).acts ≡ l.acts + 1) × ((ends e l).answers ≡ l.answers)
+ends_counts e l = closes_counts e (record l { acts = l.acts + 1 }) (e.last l.seat)

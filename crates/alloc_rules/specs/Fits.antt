@@ -2,21 +2,26 @@
 use Rattle.std.specs.Prelude.{◌≤◌, List}
 use Rattle.tc_units.specs.declared.spans.ClassRow.{ClassRow}
 use Rattle.tc_model.specs.declared.machine.TheConstants.{MOST_PICKS}
-use Rattle.call_steps.specs.PerCpu.{CpuLocal as Local}
-use Rattle.call_steps.specs.Fits.{FitsCpuStep, FitsShardStep, FitsHeapStep, FitsMapStep, FitsNamesStep, FitsDomainStep}
-use Rattle.alloc_rules.specs.PerCpu.{Part}
-use Rattle.alloc_rules.specs.declared.part.Part.TheVariants.{Front, Shard, Heap, Map, Names}
-use Rattle.alloc_rules.specs.declared.part.CpuFrontPart.TheVariants as at
+use Rattle.rseq_core.specs.declared.regs.Regs.{Regs}
+use Rattle.call_steps.specs.declared.step.Step.{Step}
+use Rattle.call_steps.specs.declared.step.Step.TheVariants as step
+use Rattle.call_steps.specs.Local.{Local}
+use Rattle.alloc_rules.specs.declared.part.Part.{Part}
+use Rattle.alloc_rules.specs.declared.part.Part.TheVariants as part
+use Rattle.call_steps.specs.Fits.{FitsShardStep, FitsHeapStep, FitsMapStep, FitsNamesStep}
 
-abbrev pub fits_step : List ClassRow → Part → Local → Type 0
-fits_step rows (Front (at.Cpu p)) l = FitsCpuStep rows p l l.step
-fits_step rows (Shard s) l = FitsShardStep rows s l l.step
-fits_step rows (Heap heap) l = FitsHeapStep rows heap l l.step
-fits_step rows (Map map) l = FitsMapStep map l l.step
-fits_step rows (Names names) l = FitsNamesStep names l.step
-fits_step rows (Front (at.Domain t)) l = FitsDomainStep rows l l.step
+module _ {P V R : Type 0} (rows : List ClassRow) (fits : P → V → Regs → R → Type 0) where
+  abbrev pub FitsFrontStep : P → Local V R → Step R → Type 0
+  FitsFrontStep p l (step.Front row) = fits p l.seat l.regs row
+  FitsFrontStep p l other = ⊥
 
-pub record Fits (rows : List ClassRow) (part : Part) (l : Local) : Type 0 where
-  pub step : fits_step rows part l
-  pub few : l.acts ≤ MOST_PICKS
-  pub ran : l.regs.ran ≤ MOST_PICKS
+  abbrev pub fits_step : Part P → Local V R → Type 0
+  fits_step (part.Front p) l = FitsFrontStep p l l.step
+  fits_step (part.Shard s) l = FitsShardStep rows s l l.step
+  fits_step (part.Heap heap) l = FitsHeapStep rows heap l l.step
+  fits_step (part.Map map) l = FitsMapStep map l l.step
+  fits_step (part.Names names) l = FitsNamesStep names l.step
+
+  pub record Fits (p : Part P) (l : Local V R) : Type 0 where
+    pub step : fits_step p l
+    pub few : l.acts ≤ MOST_PICKS

@@ -1,4 +1,4 @@
--- The books of all parts and locals: the stock that CPUs, domain caches and shards hold, and how the books stand to the parts.
+-- The books of all parts and locals: the stock that the front-end and shards hold, and how the books stand to the parts.
 use Rattle.std.specs.Prelude.{◌≡◌, ℕ, ◌+◌, List, [], ◌∷◌, ◌++◌, length, map, sum_by, All, Some, slice_get}
 use Rattle.std.specs.List.{slice_index_or}
 use Rattle.tc_units.specs.declared.spans.Run.{Run}
@@ -8,52 +8,24 @@ use Rattle.tc_units.specs.declared.spans.ClassRow.{ClassRow}
 use Rattle.page_map.specs.Spans.{IsWellFormed}
 use Rattle.heap_rules.specs.declared.config.HeapConfig.{HeapConfig}
 use Rattle.heap_rules.specs.Sound as heaps_sound
-use Rattle.cpu_slab.specs.Slots.{row_at, held}
-use Rattle.rseq_core.specs.declared.cpu_part.CpuPart.{CpuPart}
-use Rattle.cpu_drain.specs.Seats.{CpuOk}
-use Rattle.transfer_cache.specs.Transfer.{Transfer}
 use Rattle.central_free.specs.Central.{IsSound}
 use Rattle.class_shard.specs.Shard.{Shard, places}
 use Rattle.class_shard.specs.Laws.{spans_in, objects_in_spans}
 use Rattle.holdings.specs.Runs.{runs_like, spans_like, spans_at, objects_at}
 use Rattle.holdings.specs.Books.{Setup, Stock, Books, class_number, no_row}
 use Rattle.holdings.specs.Moves.{Said, Move}
-use Rattle.call_steps.specs.PerCpu.{CpuLocal as Local}
-use Rattle.call_steps.specs.Local.{Decided}
+use Rattle.call_steps.specs.Local.{Decided, Local}
 use Rattle.alloc_rules.specs.Machine.{Parts}
-use Rattle.alloc_rules.specs.CpuAccounts.{account_of}
+use Rattle.call_steps.specs.Calls.{About}
+use Rattle.alloc_rules.specs.Accounts.{account_of}
+use Rattle.alloc_rules.specs.FrontLaw.{FrontRules}
 
 -- the shard of a class, and the cache of a class in a domain; of a class that isn't there, one without anything
 abbrev pub no_shard : Shard
 no_shard = record { class = class_number 0; transfer = record { objects = []; room = 0 }; central = record { row = no_row; spans = [] } }
 
-abbrev pub no_cache : Transfer
-no_cache = record { objects = []; room = 0 }
-
 abbrev pub shard_at : List Shard → ℕ → Shard
 shard_at shards k = slice_index_or shards k no_shard
-
-abbrev pub cache_at : List Transfer → ℕ → Transfer
-cache_at caches k = slice_index_or caches k no_cache
-
--- how many objects of a class are at an address in a slab, in the caches of a domain, and in all of the stock
-abbrev pub in_slab : ℕ → ℕ → CpuPart → ℕ
-in_slab k n p = objects_at n (held (row_at p.slab k))
-
-abbrev pub in_caches : ℕ → ℕ → List Transfer → ℕ
-in_caches k n caches = objects_at n (cache_at caches k).objects
-
-abbrev pub stored_in : Parts → ℕ → ℕ → ℕ
-stored_in p k n = sum_by (in_slab k n) p.cpus + sum_by (in_caches k n) p.domains + objects_at n (places (shard_at p.shards k))
-
-abbrev pub stock_of : Parts → Stock
-stock_of p =
-    record {
-      objects = λ k n. objects_at n (objects_in_spans (shard_at p.shards k));
-      stored = stored_in p;
-      owned = λ s. sum_by (λ (x : Shard). spans_like s (spans_in x)) p.shards;
-      begins = λ n. sum_by (λ (x : Shard). spans_at n (spans_in x)) p.shards;
-    }
 
 -- a shard is that of a class: it has the class's row, and spans of that class alone
 pub record IsShardOf (rows : List ClassRow) (k : ℕ) (x : Shard) : Type 0 where
@@ -62,37 +34,49 @@ pub record IsShardOf (rows : List ClassRow) (k : ℕ) (x : Shard) : Type 0 where
   pub sound : IsSound x.central
   pub kinds : All (λ (s : SpanRef). s.kind ≡ Small (class_number k)) (spans_in x)
 
--- the parts alone
-pub record ArePartsOk (rows : List ClassRow) (limits : HeapConfig) (p : Parts) : Type 0 where
-  pub cpus : All (CpuOk (length rows)) p.cpus
-  pub classes : length p.shards ≡ length rows
-  pub shards : (k : ℕ) (x : Shard) → slice_get p.shards k ≡ Some x → IsShardOf rows k x
-  pub domains : All (λ (caches : List Transfer). length caches ≡ length rows) p.domains
-  pub heap : heaps_sound.IsSound p.heap
-  pub config : p.heap.config ≡ limits
-  pub map : IsWellFormed p.map
-  pub huge : p.map.huge ≡ limits.huge
-
--- the books are those of the parts and locals: live runs and the map's spans in any order
-pub record AreBooksOf (p : Parts) (locals : List Local) (b : Books) : Type 0 where
-  pub stock : b.stock ≡ stock_of p
-  pub heap : (r : Run) → runs_like r b.heap ≡ runs_like r p.heap.runs
-  pub spans : (s : SpanRef) → spans_like s b.spans ≡ spans_like s p.map.spans
-  pub names : b.names ≡ p.names
-  pub accounts : b.accounts ≡ map account_of locals
-
 -- calls that an act decides, as a local has them
 abbrev pub decided_at : ℕ → List Said → List Decided
 decided_at n [] = []
 decided_at n (s ∷ more) = record { act = n; call = s.call; answer = s.answer } ∷ decided_at n more
 
--- What an act does, which leaves these parts and this local: one move of the books, with what it decides.
-pub record Does (m : Setup) (new : Parts) (b : Books) (l after : Local) : Type 0 where
-  pub heap : List Run
-  pub spans : List SpanRef
-  pub said : List Said
-  pub move : Move m b (account_of l) (stock_of new) heap spans new.names (account_of after) said
-  pub like_heap : (r : Run) → runs_like r heap ≡ runs_like r new.heap.runs
-  pub like_spans : (s : SpanRef) → spans_like s spans ≡ spans_like s new.map.spans
-  pub acts : after.acts ≡ l.acts + 1
-  pub answers : after.answers ≡ l.answers ++ decided_at l.acts said
+-- the parts alone, but for the front-end's
+pub record ArePartsOk {P : Type 0} (rows : List ClassRow) (limits : HeapConfig) (p : Parts P) : Type 0 where
+  pub classes : length p.shards ≡ length rows
+  pub shards : (k : ℕ) (x : Shard) → slice_get p.shards k ≡ Some x → IsShardOf rows k x
+  pub heap : heaps_sound.IsSound p.heap
+  pub config : p.heap.config ≡ limits
+  pub map : IsWellFormed p.map
+  pub huge : p.map.huge ≡ limits.huge
+
+module _ {P V R : Type 0} (r : FrontRules P V R) (about : R → About) where
+  -- how many objects of a class are at an address in all of the stock
+  abbrev pub stored_in : Parts P → ℕ → ℕ → ℕ
+  stored_in p k n = sum_by (λ (q : P). r.stored q k n) p.fronts + objects_at n (places (shard_at p.shards k))
+
+  abbrev pub stock_of : Parts P → Stock
+  stock_of p =
+      record {
+        objects = λ k n. objects_at n (objects_in_spans (shard_at p.shards k));
+        stored = stored_in p;
+        owned = λ s. sum_by (λ (x : Shard). spans_like s (spans_in x)) p.shards;
+        begins = λ n. sum_by (λ (x : Shard). spans_at n (spans_in x)) p.shards;
+      }
+
+  -- the books are those of the parts and locals: live runs and the map's spans in any order
+  pub record AreBooksOf (p : Parts P) (locals : List (Local V R)) (b : Books) : Type 0 where
+    pub stock : b.stock ≡ stock_of p
+    pub heap : (x : Run) → runs_like x b.heap ≡ runs_like x p.heap.runs
+    pub spans : (s : SpanRef) → spans_like s b.spans ≡ spans_like s p.map.spans
+    pub names : b.names ≡ p.names
+    pub accounts : b.accounts ≡ map (account_of about) locals
+
+  -- What an act does, which leaves these parts and this local: one move of the books, with what it decides.
+  pub record Does (m : Setup) (new : Parts P) (b : Books) (l after : Local V R) : Type 0 where
+    pub heap : List Run
+    pub spans : List SpanRef
+    pub said : List Said
+    pub move : Move m b (account_of about l) (stock_of new) heap spans new.names (account_of about after) said
+    pub like_heap : (x : Run) → runs_like x heap ≡ runs_like x new.heap.runs
+    pub like_spans : (s : SpanRef) → spans_like s spans ≡ spans_like s new.map.spans
+    pub acts : after.acts ≡ l.acts + 1
+    pub answers : after.answers ≡ l.answers ++ decided_at l.acts said

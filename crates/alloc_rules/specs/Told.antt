@@ -3,7 +3,7 @@ use Rattle.std.specs.Prelude.{◌≡◌, ℕ, ◌==◌, List, map, filter, take}
 use Rattle.tc_model.specs.declared.calls.Call.{Call}
 use Rattle.tc_model.specs.declared.calls.Planned.{Planned}
 use Rattle.tc_model.specs.declared.answers.CallLine.{CallLine}
-use Rattle.tc_model.specs.Input.{Input, script_of}
+use Rattle.tc_model.specs.Input.{script_of, Asked}
 
 -- the lines of a thread among call lines, in their order
 abbrev pub lines_by : ℕ → List CallLine → List CallLine
@@ -14,13 +14,13 @@ abbrev pub told_of : ℕ → List CallLine → List Call
 told_of t lines = map (λ (c : CallLine). c.call) (lines_by t lines)
 
 -- the calls of a thread's script, in their order
-abbrev pub calls_in : Input → ℕ → List Call
-calls_in input t = map (λ (p : Planned). p.call) (script_of t input.asked.calls)
+abbrev pub calls_in : Asked → ℕ → List Call
+calls_in asked t = map (λ (p : Planned). p.call) (script_of t asked.calls)
 
 -- the calls of thread t among these lines, in their order, are the first n of its script
-abbrev pub TellsFirst : Input → ℕ → ℕ → List CallLine → Type 0
-TellsFirst input t n lines = told_of t lines ≡ take n (calls_in input t)
+abbrev pub TellsFirst : Asked → ℕ → ℕ → List CallLine → Type 0
+TellsFirst asked t n lines = told_of t lines ≡ take n (calls_in asked t)
 
 -- the calls of thread t among these lines, in their order, are its whole script
-abbrev pub TellsScript : Input → ℕ → List CallLine → Type 0
-TellsScript input t lines = told_of t lines ≡ calls_in input t
+abbrev pub TellsScript : Asked → ℕ → List CallLine → Type 0
+TellsScript asked t lines = told_of t lines ≡ calls_in asked t

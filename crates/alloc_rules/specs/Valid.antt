@@ -1,11 +1,13 @@
--- The inputs that the rules serve: every class table and every trace that a reader takes.
+-- The traces that the rules serve: every one that a reader takes, with calls that the front-end takes.
 use Rattle.std.specs.Prelude.{◌≡◌, ℕ, ◌^◌, ◌<◌, ◌≤◌, List, ◌∷◌, ◌++◌, sum_by}
 use Rattle.tc_model.specs.declared.calls.Call.{Call}
 use Rattle.tc_model.specs.declared.calls.Call.TheVariants.{Malloc, Free, Release, Drain, Resize}
 use Rattle.tc_model.specs.declared.config.Config.{Config}
-use Rattle.tc_model.specs.Input.{Input, ThreadCall}
+use Rattle.tc_model.specs.Input.{ThreadCall, Asked}
 use Rattle.holdings.specs.Accounts.{got, put}
-use Rattle.call_steps.specs.Shapes.{Limits, AreRows, IsPlanned}
+use Rattle.call_steps.specs.Shapes.{AreRows}
+use Rattle.tc_units.specs.declared.spans.ClassRow.{ClassRow}
+use Rattle.tc_model.specs.declared.calls.Planned.{Planned}
 
 -- how often calls allocate a label, and how often they free it
 abbrev pub got_in : ℕ → List ThreadCall → ℕ
@@ -22,26 +24,19 @@ IsInOrder earlier (Release pages) = Unit {0}
 IsInOrder earlier (Drain cpu) = Unit {0}
 IsInOrder earlier (Resize cpu class cap) = Unit {0}
 
--- the limits of the locals of an input
-abbrev pub limits_in : Input → Limits
-limits_in input = record { rows = input.rows; cpus = input.asked.config.cpus }
-
-pub record IsCall (input : Input) (earlier : List ThreadCall) (c : ThreadCall) : Type 0 where
-  pub thread : c.thread.0 < input.asked.config.threads
-  pub planned : IsPlanned (limits_in input) c.planned
-  pub order : IsInOrder earlier c.planned.call
-
--- the limits of a trace, as far as the rules need them
+-- the limits of a trace, as far as every front-end needs them
 pub record AreLimits (c : Config) : Type 0 where
-  pub cpus : 0 < c.cpus
   pub some : 0 < c.huge
   pub few : c.huge ≤ 4096
   pub region : 2 ≤ c.region
-  pub slab : 0 < c.slab
-  pub slots : c.slab ≤ 2048
-  pub percpu : c.percpu ≤ 268435456
 
-pub record IsValid (input : Input) : Type 0 where
-  pub rows : AreRows input.rows
-  pub limits : AreLimits input.asked.config
-  pub calls : (earlier : List ThreadCall) (c : ThreadCall) (later : List ThreadCall) → earlier ++ c ∷ later ≡ input.asked.calls → IsCall input earlier c
+module _ (table : List ClassRow) (takes : Planned → Type 0) (asked : Asked) where
+  pub record IsCall (earlier : List ThreadCall) (c : ThreadCall) : Type 0 where
+    pub thread : c.thread.0 < asked.config.threads
+    pub planned : takes c.planned
+    pub order : IsInOrder earlier c.planned.call
+
+  pub record IsValid : Type 0 where
+    pub rows : AreRows table
+    pub limits : AreLimits asked.config
+    pub calls : (earlier : List ThreadCall) (c : ThreadCall) (later : List ThreadCall) → earlier ++ c ∷ later ≡ asked.calls → IsCall earlier c

@@ -1,5 +1,5 @@
 -- What an act of the per-CPU caches hands on may come next in its call.
-use Rattle.std.proofs.Common.{◌≡◌, refl, ◌+◌, ◌<◌, true, eqb, List, [], ◌∷◌, length, Option, Some, None, ap, sym, subst, ◌∙◌, arith}
+use Rattle.std.proofs.Common.{ltb, ◌≡◌, refl, ◌+◌, ◌<◌, true, eqb, List, [], ◌∷◌, length, Option, Some, None, ap, sym, subst, ◌∙◌, arith}
 use Rattle.std.specs.Prelude.{is_some}
 use Rattle.std.proofs.lemmas.Bool.{cond_both}
 use Rattle.std.proofs.lemmas.List.{length-append}
@@ -54,8 +54,13 @@ use Rattle.call_steps.specs.CpuActs.{Left, looks_on, gives, due, after_pop, afte
 use Rattle.call_steps.specs.Refusals.{is_refusal}
 use Rattle.call_steps.specs.Follows.{HasObject, ComesWith, MayFollow, follows}
 use Rattle.call_steps.specs.Fits.{FitsCpu, FitsDomain}
-use Rattle.call_steps.proofs.NextShapes.{drains_about}
 use Rattle.call_steps.specs.CpuRows.{about_cpu, about_row, call_of, as_row}
+
+-- the row with which a drain goes on is about it
+drains_about : (rows : List ClassRow) (k : Class) (d : Draining) → about_cpu (drains_on rows k d).1 ≡ Other (Some (Drain d.cpu))
+drains_about rows k d =
+    let after : Class = record { 0 = k.0 + 1 } in
+    cond_both (ltb after.0 (length rows)) (after, cpu.Take (stopping.Drain d)) (k, cpu.Start (stopping.Drain d)) (λ (next : Class × CpuStep). about_cpu next.1 ≡ Other (Some (Drain d.cpu))) (λ e. refl) (λ e. refl)
 
 -- what is given away is about the same as the calls have it
 pub row_about : (g : Giving CpuStep) → about_giving about_row (as_row g) ≡ about_giving about_cpu g

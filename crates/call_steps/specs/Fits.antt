@@ -25,7 +25,11 @@ use Rattle.call_steps.specs.declared.step.Stopping.{Stopping}
 use Rattle.call_steps.specs.declared.step.Stopping.TheVariants as stopping
 use Rattle.call_steps.specs.declared.step.CpuStep.{CpuStep}
 use Rattle.call_steps.specs.declared.step.CpuStep.TheVariants as cpu
-use Rattle.call_steps.specs.PerCpu.{CpuLocal as Local, ShardStep, HeapStep, MapStep, Step}
+use Rattle.call_steps.specs.PerCpu.{CpuLocal, Step as CpuStepOf}
+use Rattle.call_steps.specs.declared.step.Step.{Step}
+use Rattle.call_steps.specs.declared.step.ShardStep.{ShardStep}
+use Rattle.call_steps.specs.declared.step.HeapStep.{HeapStep}
+use Rattle.call_steps.specs.declared.step.MapStep.{MapStep}
 use Rattle.call_steps.specs.declared.step.ShardStep.TheVariants.{Fetch, AddFetch, Give}
 use Rattle.call_steps.specs.declared.step.DomainStep.{DomainStep}
 use Rattle.call_steps.specs.declared.step.DomainStep.TheVariants as domain
@@ -35,7 +39,7 @@ use Rattle.call_steps.specs.declared.step.NamesStep.{NamesStep}
 use Rattle.call_steps.specs.declared.step.NamesStep.TheVariants.{Publish, Take}
 use Rattle.call_steps.specs.declared.step.Step.TheVariants as step
 use Rattle.call_steps.specs.declared.step.CpuRow.TheVariants as front
-use Rattle.call_steps.specs.Local.{row_of, class_row}
+use Rattle.call_steps.specs.Local.{Local, row_of, class_row}
 use Rattle.holdings.specs.Runs.{large, small, run_of}
 
 -- The thread's class is in the table, and there is room in its hand for a batch, which has an object.
@@ -95,22 +99,6 @@ FitsCpu rows p v r (cpu.SetCap x) = FitsSetCap p r
 FitsCpu rows p v r (cpu.Start s) = IsFencedBy r.thread p
 FitsCpu rows p v r cpu.Leave = (is_some v.moved ≡ true) × (p.epoch < 2 ^ 64 - 1)
 
--- A new span is of the shard's class and has no page of another, and what is given was taken from the shard's spans.
-pub record FitsAdd (rows : List ClassRow) (s : Shard) (l : Local) (run : Run) : Type 0 where
-  pub batch : FitsBatch rows l.regs
-  pub pages : run.pages ≡ s.central.row.pages
-  pub apart : All (IsApartFrom (small l.regs.class run)) s.central.spans
-
-pub record FitsGive (s : Shard) (l : Local) : Type 0 where
-  pub taken : All (IsTakenIn s.central.spans) l.regs.hand.items
-  pub different : AreDifferent l.regs.hand.items
-  pub room : length l.regs.hand.items ≤ l.freed.spare
-
-abbrev pub FitsShard : List ClassRow → Shard → Local → ShardStep → Type 0
-FitsShard rows s l (Fetch a) = FitsBatch rows l.regs × (l.regs.hand.items ≡ [])
-FitsShard rows s l (AddFetch a run) = FitsAdd rows s l run × (l.regs.hand.items ≡ [])
-FitsShard rows s l (Give g) = FitsGive s l
-
 abbrev pub FitsDomain : List ClassRow → Regs → DomainStep → Type 0
 FitsDomain rows r (domain.Take a) = FitsBatch rows r × (r.hand.items ≡ [])
 FitsDomain rows r (domain.Put g) = Unit {0}
@@ -124,48 +112,67 @@ abbrev pub FirstIsThere : SpanMap → List SpanRef → Type 0
 FirstIsThere map [] = ⊥
 FirstIsThere map (s ∷ others) = Contains map.spans s
 
--- New asks for pages of 1 to 2^40 bytes, a run that is given back lives, and any number of pages may be unbacked
-abbrev pub FitsHeap : List ClassRow → heaps.Heap → Local → HeapStep → Type 0
-FitsHeap rows heap l (New label size) = (0 < pages_holding size) × (size ≤ 2 ^ 40)
-FitsHeap rows heap l (NewSpan a) = (l.regs.class.0 < length rows) × (0 < (class_row rows l).pages)
-FitsHeap rows heap l (GiveBack label run) = Contains heap.runs run
-FitsHeap rows heap l (FreeSpan next) = FirstLives heap l.freed.items
-FitsHeap rows heap l (Unback pages) = Unit {0}
-
--- A span that is set lies in the arena and meets no span, one that is looked up is there, and so is one that is cleared.
-abbrev pub FitsMap : SpanMap → Local → MapStep → Type 0
-FitsMap map l (Set label run) = IsInside map.huge (large run) × All (AreApart (large run)) map.spans
-FitsMap map l (SetSpan a run) = IsInside map.huge (small l.regs.class run) × All (AreApart (small l.regs.class run)) map.spans
-FitsMap map l (Lookup label addr) = (span : SpanRef) × (find (holds (addr.0 / page_bytes)) map.spans ≡ Some span) × (addr.0 < 4097 * huge_bytes) × (0 < l.regs.hand.spare)
-FitsMap map l (Clear label run) = Contains map.spans (large run)
-FitsMap map l (ClearSpan next) = FirstIsThere map l.freed.items
-
 -- A label is published once, and taken once.
 abbrev pub FitsNames : List NameState → NamesStep → Type 0
 FitsNames names (Publish label value) = (label.0 < length names) × (state_of names label.0 ≡ name.Unpublished)
 FitsNames names (Take label) = (label.0 < length names) × (state_of names label.0 ≢ name.Taken)
 
--- the step is on this kind of part and fits it
-abbrev pub FitsCpuStep : List ClassRow → CpuPart → Local → Step → Type 0
+-- the step is at a part of the caches and fits it
+abbrev pub FitsCpuStep : List ClassRow → CpuPart → CpuLocal → CpuStepOf → Type 0
 FitsCpuStep rows p l (step.Front (front.Cpu row)) = FitsCpu rows p l.seat l.regs row
 FitsCpuStep rows p l other = ⊥
 
-abbrev pub FitsShardStep : List ClassRow → Shard → Local → Step → Type 0
-FitsShardStep rows s l (step.Shard row) = FitsShard rows s l row
-FitsShardStep rows s l other = ⊥
-
-abbrev pub FitsDomainStep : List ClassRow → Local → Step → Type 0
+abbrev pub FitsDomainStep : List ClassRow → CpuLocal → CpuStepOf → Type 0
 FitsDomainStep rows l (step.Front (front.Domain row)) = FitsDomain rows l.regs row
 FitsDomainStep rows l other = ⊥
 
-abbrev pub FitsHeapStep : List ClassRow → heaps.Heap → Local → Step → Type 0
-FitsHeapStep rows heap l (step.Heap row) = FitsHeap rows heap l row
-FitsHeapStep rows heap l other = ⊥
-
-abbrev pub FitsMapStep : SpanMap → Local → Step → Type 0
-FitsMapStep map l (step.Map row) = FitsMap map l row
-FitsMapStep map l other = ⊥
-
-abbrev pub FitsNamesStep : List NameState → Step → Type 0
+-- a step is on the names and fits them
+abbrev pub FitsNamesStep : {R : Type 0} → List NameState → Step R → Type 0
 FitsNamesStep names (step.Names row) = FitsNames names row
 FitsNamesStep names other = ⊥
+
+module _ {V R : Type 0} where
+  -- A new span is of the shard's class and has no page of another, and what is given was taken from the shard's spans.
+  pub record FitsAdd (rows : List ClassRow) (s : Shard) (l : Local V R) (run : Run) : Type 0 where
+    pub batch : FitsBatch rows l.regs
+    pub pages : run.pages ≡ s.central.row.pages
+    pub apart : All (IsApartFrom (small l.regs.class run)) s.central.spans
+
+  pub record FitsGive (s : Shard) (l : Local V R) : Type 0 where
+    pub taken : All (IsTakenIn s.central.spans) l.regs.hand.items
+    pub different : AreDifferent l.regs.hand.items
+    pub room : length l.regs.hand.items ≤ l.freed.spare
+
+  abbrev pub FitsShard : List ClassRow → Shard → Local V R → ShardStep R → Type 0
+  FitsShard rows s l (Fetch a) = FitsBatch rows l.regs × (l.regs.hand.items ≡ [])
+  FitsShard rows s l (AddFetch a run) = FitsAdd rows s l run × (l.regs.hand.items ≡ [])
+  FitsShard rows s l (Give g) = FitsGive s l
+
+  -- New asks for pages of 1 to 2^40 bytes, a run that is given back lives, and any number of pages may be unbacked
+  abbrev pub FitsHeap : List ClassRow → heaps.Heap → Local V R → HeapStep R → Type 0
+  FitsHeap rows heap l (New label size) = (0 < pages_holding size) × (size ≤ 2 ^ 40)
+  FitsHeap rows heap l (NewSpan a) = (l.regs.class.0 < length rows) × (0 < (class_row rows l).pages)
+  FitsHeap rows heap l (GiveBack label run) = Contains heap.runs run
+  FitsHeap rows heap l (FreeSpan next) = FirstLives heap l.freed.items
+  FitsHeap rows heap l (Unback pages) = Unit {0}
+
+  -- A span that is set lies in the arena and meets no span, one that is looked up is there, and so is one that is cleared.
+  abbrev pub FitsMap : SpanMap → Local V R → MapStep R → Type 0
+  FitsMap map l (Set label run) = IsInside map.huge (large run) × All (AreApart (large run)) map.spans
+  FitsMap map l (SetSpan a run) = IsInside map.huge (small l.regs.class run) × All (AreApart (small l.regs.class run)) map.spans
+  FitsMap map l (Lookup label addr) = (span : SpanRef) × (find (holds (addr.0 / page_bytes)) map.spans ≡ Some span) × (addr.0 < 4097 * huge_bytes) × (0 < l.regs.hand.spare)
+  FitsMap map l (Clear label run) = Contains map.spans (large run)
+  FitsMap map l (ClearSpan next) = FirstIsThere map l.freed.items
+
+  -- the step is on this kind of part and fits it
+  abbrev pub FitsShardStep : List ClassRow → Shard → Local V R → Step R → Type 0
+  FitsShardStep rows s l (step.Shard row) = FitsShard rows s l row
+  FitsShardStep rows s l other = ⊥
+
+  abbrev pub FitsHeapStep : List ClassRow → heaps.Heap → Local V R → Step R → Type 0
+  FitsHeapStep rows heap l (step.Heap row) = FitsHeap rows heap l row
+  FitsHeapStep rows heap l other = ⊥
+
+  abbrev pub FitsMapStep : SpanMap → Local V R → Step R → Type 0
+  FitsMapStep map l (step.Map row) = FitsMap map l row
+  FitsMapStep map l other = ⊥

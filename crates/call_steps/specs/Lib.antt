@@ -13,4 +13,3 @@ pub mod CpuCalls
 pub mod Fits
 pub mod Kept
 pub mod Shapes
-pub mod Laws

@@ -100,6 +100,9 @@ next_call e l calls =
       rest = drop 1 calls;
     }
 
+abbrev pub thread_no : ℕ → ThreadNo
+thread_no t = record { 0 = t }
+
 -- the registers of a thread before its first act
 abbrev pub first_regs : ThreadNo → Regs
 first_regs thread =

@@ -1,5 +1,5 @@
 -- A trace that was read gives back what it asks for, and its threads are those of the rules.
-use Rattle.std.proofs.Common.{◌≡◌, ℕ, zero, suc, ◌+◌, ◌<◌, ◌%◌, true, false, cond, eqb, List, [], ◌∷◌, ◌++◌, drop, map, filter, length, refl, sym, ap, ◌∙◌, subst, inl, inr, arith, eq-eqb, append_assoc}
+use Rattle.std.proofs.Common.{◌≡◌, ℕ, zero, suc, ◌+◌, ◌<◌, true, false, cond, eqb, List, [], ◌∷◌, ◌++◌, drop, map, filter, length, refl, sym, ap, ◌∙◌, subst, inl, inr, arith, eq-eqb, append_assoc}
 use Rattle.std.specs.List.{range_with_len}
 use Rattle.std.proofs.lemmas.Bool.{cases_eq, ne_eqb}
 use Rattle.std.proofs.lemmas.List.{length-map}
@@ -14,12 +14,12 @@ use Rattle.trace_reader.specs.declared.trace.Trace.{Trace}
 use Rattle.trace_reader.specs.Traces.{trace_of}
 use Rattle.trace_reader.specs.Valid.{IsAsked, AreCalls}
 use Rattle.call_steps.specs.CpuCalls.{cpu_calls}
-use Rattle.alloc_rules.specs.Machine.{first_seat}
+use Rattle.cpu_rows.specs.CpuFront.{first_seat}
 use Rattle.call_steps.specs.PerCpu.{CpuLocal as Local}
 use Rattle.call_steps.specs.Local.{first_local}
 use Rattle.tc_model.specs.Run.{world_of, start}
-use Rattle.alloc_rules.specs.Machine.{first_of, parts_of}
-use Rattle.alloc_rules.specs.Machine as allocator
+use Rattle.cpu_rows.specs.Machine.{first_of, parts_of}
+use Rattle.cpu_rows.specs.Machine as allocator
 use Rattle.tc_machine.specs.Inputs.{IsRead, script_at, next_call, calls_by, asked_of, input_of}
 use Rattle.tc_machine.specs.Opening.{local_at, locals_at, parts_at}
 
@@ -119,10 +119,10 @@ locals_are rows asked =
     ap (λ k. map (local_at rows asked.config (scripts_of asked)) (range_with_len 0 k)) (scripts_count asked)
     ∙ same_below (local_at rows asked.config (scripts_of asked)) (first_of input) n (λ t below. ap (local t) (script_at_is n asked.calls t below))
 
-start_again : (rows : List ClassRow) (asked : Asked) → world_of (parts_of (parts_at rows asked.config (labels_of asked))) (locals_at rows asked.config (scripts_of asked)) ≡ start (allocator.rules (record { rows = rows; asked = asked }))
-start_again rows asked = ap (λ ls. world_of (parts_of (parts_at rows asked.config (labels_of asked))) ls) (locals_are rows asked)
+start_again : (rows : List ClassRow) (asked : Asked) → world_of (parts_of asked.config.cpus (parts_at rows asked.config (labels_of asked))) (locals_at rows asked.config (scripts_of asked)) ≡ start (allocator.rules (record { rows = rows; asked = asked }))
+start_again rows asked = ap (λ ls. world_of (parts_of asked.config.cpus (parts_at rows asked.config (labels_of asked))) ls) (locals_are rows asked)
 
-pub start_is : (rows : List ClassRow) (classes : ℕ) (trace : Trace) (asked : Asked) → IsRead classes trace asked → world_of (parts_of (parts_at rows trace.config trace.labels)) (locals_at rows trace.config trace.scripts) ≡ start (allocator.rules (input_of rows trace))
+pub start_is : (rows : List ClassRow) (classes : ℕ) (trace : Trace) (asked : Asked) → IsRead classes trace asked → world_of (parts_of trace.config.cpus (parts_at rows trace.config trace.labels)) (locals_at rows trace.config trace.scripts) ≡ start (allocator.rules (input_of rows trace))
 start_is rows classes trace asked read =
-    ap (λ (t : Trace). world_of (parts_of (parts_at rows t.config t.labels)) (locals_at rows t.config t.scripts)) read.is
+    ap (λ (t : Trace). world_of (parts_of t.config.cpus (parts_at rows t.config t.labels)) (locals_at rows t.config t.scripts)) read.is
     ∙ (start_again rows asked ∙ sym (ap (λ i. start (allocator.rules i)) (input_is rows classes trace asked read)))

@@ -1,7 +1,6 @@
 pub mod InputFacts
 pub mod OpeningFacts
 pub mod ValidFacts
-pub mod HeapFacts
 pub mod StateFacts
 pub mod FinishFacts
 pub mod StandingFacts

@@ -1,5 +1,5 @@
 -- What is read is valid for the allocator's rules.
-use Rattle.std.proofs.Common.{◌≡◌, ℕ, ◌<◌, ◌≤◌, true, false, min, List, [], ◌∷◌, length, Option, Some, None, refl, sym, ap, ◌∙◌, subst, arith, inl, inr}
+use Rattle.std.proofs.Common.{◌≡◌, ℕ, ◌<◌, true, false, List, [], ◌∷◌, length, Option, Some, None, refl, sym, ap, ◌∙◌, subst, arith, inl, inr}
 use Rattle.std.specs.Prelude.{Bool, IfSome, sum_by, All}
 use Rattle.std.specs.List.{list_any}
 use Rattle.std.proofs.Math.Nat.{min-le_left}
@@ -18,8 +18,10 @@ use Rattle.trace_reader.specs.declared.trace.Trace.{Trace}
 use Rattle.trace_reader.specs.Valid as reads
 use Rattle.holdings.specs.Runs.{bit}
 use Rattle.holdings.specs.Accounts.{got, put}
-use Rattle.call_steps.specs.Shapes.{Limits, IsClassRow, AreRows, IsMove, IsCallThere}
-use Rattle.alloc_rules.specs.Valid.{IsInOrder, IsValid, AreLimits}
+use Rattle.call_steps.specs.Shapes.{IsClassRow, AreRows}
+use Rattle.cpu_rows.specs.Shapes.{Limits, IsMove, IsCallThere}
+use Rattle.alloc_rules.specs.Valid.{IsInOrder}
+use Rattle.cpu_rows.specs.Valid.{IsValid, AreLimits}
 use Rattle.tc_machine.specs.Inputs.{IsRead, input_of}
 use Rattle.tc_machine.proofs.InputFacts.{input_is}
 

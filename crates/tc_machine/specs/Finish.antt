@@ -7,9 +7,10 @@ use Rattle.tc_model.specs.Blocks.{live_count, live_bytes}
 use Rattle.tc_model.specs.Input.{Input}
 use Rattle.tc_model.specs.Run.{run}
 use Rattle.heap_rules.specs.Heap.{Heap, opened, used_pages, backed_pages, row_of}
-use Rattle.alloc_rules.specs.PerCpu.{Part}
+use Rattle.cpu_rows.specs.Machine.{Part}
 use Rattle.alloc_rules.specs.declared.part.Part.TheVariants as part
-use Rattle.alloc_rules.specs.Machine.{rules, heap_config}
+use Rattle.cpu_rows.specs.Machine.{rules}
+use Rattle.alloc_rules.specs.Machine.{heap_config}
 use Rattle.alloc_rules.specs.Law.{calls}
 
 -- the heap among parts, which is behind the CPUs and the shards

@@ -3,8 +3,8 @@ use Rattle.std.specs.Prelude.{◌≡◌, ℕ, ◌≤◌, List, ◌++◌, length}
 use Rattle.tc_model.specs.Input.{Input}
 use Rattle.tc_model.specs.Run.{start}
 use Rattle.tc_model.specs.Steps.{moving}
-use Rattle.alloc_rules.specs.Machine as allocator
-use Rattle.alloc_rules.specs.Law.{AreLawful, HoldsAfter}
+use Rattle.cpu_rows.specs.Machine as allocator
+use Rattle.cpu_rows.specs.Law.{AreLawful, HoldsAfter}
 
 -- The machine's law for an order: each of its picks moves, and they are at most as many as may move; the rules of its
 -- input are lawful; and behind each beginning of it, so between any two picks, all holds that holds in every order.

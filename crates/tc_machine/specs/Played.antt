@@ -3,8 +3,8 @@ use Rattle.std.specs.Prelude.{ℕ, List}
 use Rattle.tc_model.specs.Input.{Input}
 use Rattle.tc_model.specs.Run.{World, run}
 use Rattle.call_steps.specs.PerCpu.{CpuLocal as Local}
-use Rattle.alloc_rules.specs.PerCpu.{Part}
-use Rattle.alloc_rules.specs.Machine.{rules}
+use Rattle.cpu_rows.specs.Machine.{Part}
+use Rattle.cpu_rows.specs.Machine.{rules}
 
 pub record Played : Type 0 where
   pub input : Input

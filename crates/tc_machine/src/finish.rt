@@ -7,7 +7,8 @@ ghost use Rattle.tc_model.specs.Blocks.{IsBlockRun};
 ghost use Rattle.tc_machine.specs.Standing.{AreStanding};
 
 use crate::standing::Standing;
-use alloc_rules::{CpuFrontPart, Part};
+use alloc_rules::Part;
+use cpu_rows::CpuFrontPart;
 use page_heap::PageHeap;
 use std::alloc::{AllocError, Global};
 use tc_model::CallLine;

@@ -1,16 +1,16 @@
 //! The allocator as a machine of parts and locals.
 ghost use Rattle.std.specs.Prelude.{◌≡◌, ◌+◌, ◌≤◌, length, map};
 ghost use Rattle.tc_units.specs.declared.units.ThreadNo.{ThreadNo};
-ghost use Rattle.call_steps.specs.Kept.{IsLowTarget};
-ghost use Rattle.alloc_rules.specs.Machine.{number_of, turns as turns_of_input};
-ghost use Rattle.alloc_rules.specs.Valid.{IsValid};
-ghost use Rattle.alloc_rules.proofs.ValidProp.{valid_prop};
+ghost use Rattle.cpu_rows.specs.Machine.{turns as turns_of_input};
+ghost use Rattle.cpu_rows.specs.Valid.{IsValid};
+ghost use Rattle.cpu_rows.proofs.ValidProp.{valid_prop};
 ghost use Rattle.tc_machine.specs.Inputs.{input_of};
 
-use alloc_rules::{CpuFrontPart, Part};
+use alloc_rules::{Part, number_of};
 use call_steps::{
-    Local, Target, act_cpu, act_domain, act_heap, act_map, act_names, act_shard, waits, yields,
+    Local, act_cpu, act_domain, act_heap, act_map, act_names, act_shard, waits, yields,
 };
+use cpu_rows::CpuFrontPart;
 use size_classes::ClassTable;
 use std::alloc::{AllocError, Global};
 use std::snapshot::Snapshot;
@@ -33,25 +33,6 @@ pub struct AllocMachine {
     pub(crate) ghost valid: { IsValid (input_of table trace.value) } by { valid_prop (input_of table trace.value) },
 }
 
-/// The number of a part, where so many parts of the front-end stand before the shards of so many classes.
-fn number_of(split: u8, classes: u32, target: Target) -> PartNo
-    requires classes { classes ≤ 120 }
-    requires low { IsLowTarget target }
-    ensures { result ≡ number_of split classes target }
-{
-    let shards = u16::from(split);
-    let classes = classes as u16;
-    let heap = shards + classes;
-    match target {
-        Target::Front(place) if place < shards => PartNo(place),
-        Target::Front(place) => PartNo(place + classes + 3),
-        Target::Shard(class) => PartNo(shards + u16::from(class.0)),
-        Target::Heap => PartNo(heap),
-        Target::Map => PartNo(heap + 1),
-        Target::Names => PartNo(heap + 2),
-    }
-}
-
 impl AllocMachine {
     /// The number of the page heap among the parts.
     pub(crate) fn heap_place(&self) -> usize
@@ -66,14 +47,15 @@ impl Machine for AllocMachine {
 
     type Local = Local;
 
-    ghost use Rattle.alloc_rules.specs.Machine.{rules};
+    ghost use Rattle.cpu_rows.specs.Machine.{rules};
     ghost use Rattle.alloc_rules.specs.Fits.{Fits};
-    ghost use Rattle.alloc_rules.proofs.Laws.{in_every_order};
+    ghost use Rattle.cpu_rows.specs.CpuHolds.{cpu_fits};
+    ghost use Rattle.cpu_rows.proofs.Afterwards.{cpu_in_every_order};
     ghost use Rattle.tc_machine.specs.Inputs.{input_of};
 
     ghost rules = { λ m. rules (input_of m.table m.trace.value) };
 
-    ghost fits = { λ m. Fits m.table };
+    ghost fits = { λ m. Fits m.table (cpu_fits m.table) };
 
     fn want(&self, local: &Local) -> Option<PartNo> {
         let classes = self.table.len();
@@ -109,7 +91,11 @@ impl Machine for AllocMachine {
     ) -> Result<Acted, AllocError> {
         match part {
             Part::Front(CpuFrontPart::Cpu(cpu)) => act_cpu(&self.table, cpu, local),
-            Part::Front(CpuFrontPart::Domain(cache)) => act_domain(&self.table, cache, local),
+            Part::Front(CpuFrontPart::Domain { class: _, cache }) => act_domain(
+                &self.table,
+                cache,
+                local,
+            ),
             Part::Shard(shard) => act_shard(&self.table, shard, local)?,
             Part::Heap(heap) => act_heap(&self.table, heap, local),
             Part::Map(map) => act_map(&self.table, map, local)?,
@@ -118,12 +104,12 @@ impl Machine for AllocMachine {
         Ok(Acted::Moved)
     }
 
-    ghost sound = { λ m. (in_every_order (input_of m.table m.trace.value) m.valid).sound };
+    ghost sound = { λ m. (cpu_in_every_order (input_of m.table m.trace.value) m.valid).sound };
 }
 
 impl Serial for AllocMachine {
-    ghost use Rattle.alloc_rules.specs.Machine as allocator;
-    ghost use Rattle.alloc_rules.proofs.Laws.{in_every_order};
+    ghost use Rattle.cpu_rows.specs.Machine as allocator;
+    ghost use Rattle.cpu_rows.proofs.Afterwards.{cpu_in_every_order};
     ghost use Rattle.tc_machine.specs.Inputs.{input_of};
 
     ghost turns = { λ m. allocator.turns (input_of m.table m.trace.value) };
@@ -136,11 +122,11 @@ impl Serial for AllocMachine {
         u16::from(self.turns.as_slice()[call].0)
     }
 
-    ghost threads = { λ m. (in_every_order (input_of m.table m.trace.value) m.valid).threads };
+    ghost threads = { λ m. (cpu_in_every_order (input_of m.table m.trace.value) m.valid).threads };
 
-    ghost never_waits = { λ m. (in_every_order (input_of m.table m.trace.value) m.valid).never_waits };
+    ghost never_waits = { λ m. (cpu_in_every_order (input_of m.table m.trace.value) m.valid).never_waits };
 
-    ghost rises = { λ m. (in_every_order (input_of m.table m.trace.value) m.valid).rises };
+    ghost rises = { λ m. (cpu_in_every_order (input_of m.table m.trace.value) m.valid).rises };
 
-    ghost ends = { λ m. (in_every_order (input_of m.table m.trace.value) m.valid).ends };
+    ghost ends = { λ m. (cpu_in_every_order (input_of m.table m.trace.value) m.valid).ends };
 }

@@ -3,13 +3,16 @@ ghost use Rattle.std.specs.Prelude.{◌≡◌, ◌<◌, ◌≤◌, ◌++◌, len
 ghost use Rattle.size_classes.specs.Rows.{IsTable};
 ghost use Rattle.trace_reader.specs.Valid.{IsConfig};
 ghost use Rattle.alloc_rules.specs.declared.part.Part.TheVariants as part;
-ghost use Rattle.alloc_rules.specs.PerCpu.{Cpu, Domain};
-ghost use Rattle.alloc_rules.specs.Machine.{parts_of, heap_config, first_cpu, first_shards, first_caches, caches_of, middle_of};
-ghost use Rattle.tc_machine.specs.Opening.{limited, parts_at, locals_at};
+ghost use Rattle.alloc_rules.specs.Machine.{heap_config, first_shards, middle_of};
+ghost use Rattle.cpu_rows.specs.Machine.{parts_of};
+ghost use Rattle.cpu_rows.specs.declared.part.CpuFrontPart.TheVariants.{Cpu};
+ghost use Rattle.cpu_rows.specs.CpuFront.{first_cpu, domain_caches, all_caches};
+ghost use Rattle.tc_machine.specs.Opening.{parts_at, locals_at};
 
-use alloc_rules::{CpuFrontPart, Part};
+use alloc_rules::Part;
 use call_steps::{CpuSeat, Local};
 use class_shard::ClassShard;
+use cpu_rows::CpuFrontPart;
 use cpu_slab::Slab;
 use name_table::NameTable;
 use page_heap::{HeapConfig, PageHeap};
@@ -38,7 +41,7 @@ fn heap_limits(config: &Config) -> HeapConfig
 fn cpu_of(alloc: Global, rows: &[ClassRow], config: &Config) -> Result<CpuPart, AllocError>
     requires table { IsTable rows.now }
     requires config { IsConfig config.now }
-    ensures { IfOk result (λ cpu. cpu ≡ first_cpu (limited rows.now config.now)) }
+    ensures { IfOk result (λ cpu. cpu ≡ first_cpu rows.now config.now) }
 {
     let slab = Slab::open(alloc, rows, config.slab, config.percpu)?;
     Ok(CpuPart::new(slab))
@@ -53,7 +56,7 @@ fn add_cpus(
 ) -> Result<(), AllocError>
     requires table { IsTable rows.now }
     requires config { IsConfig config.now }
-    ensures { OnOk result (parts.new.items ≡ parts.old.items ++ map Cpu (replicate config.now.cpus (first_cpu (limited rows.now config.now)))) }
+    ensures { OnOk result (parts.new.items ≡ parts.old.items ++ map part.Front (replicate config.now.cpus (Cpu (first_cpu rows.now config.now)))) }
 {
     for _ in 0..config.cpus {
         let cpu = cpu_of(alloc, rows, config)?;
@@ -103,11 +106,12 @@ fn add_caches(
     config: &Config,
     parts: &mut Vec<Part<CpuFrontPart>>,
 ) -> Result<(), AllocError>
-    ensures { OnOk result (parts.new.items ≡ parts.old.items ++ map Domain (first_caches (limited table.now config.now))) }
+    ensures { OnOk result (parts.new.items ≡ parts.old.items ++ map part.Front (domain_caches table.now config.now)) }
 {
-    for _ in 0..table.len() {
+    for class in 0..table.len() {
         let cache = TransferCache::open(alloc, config.transfer)?;
-        parts.push(Part::Front(CpuFrontPart::Domain(cache)))?;
+        let class = Class(class as u8);
+        parts.push(Part::Front(CpuFrontPart::Domain { class, cache }))?;
     }
     Ok(())
 }
@@ -119,7 +123,7 @@ fn add_domains(
     config: &Config,
     parts: &mut Vec<Part<CpuFrontPart>>,
 ) -> Result<(), AllocError>
-    ensures { OnOk result (parts.new.items ≡ parts.old.items ++ caches_of (replicate config.now.domains (first_caches (limited table.now config.now)))) }
+    ensures { OnOk result (parts.new.items ≡ parts.old.items ++ map part.Front (all_caches config.now.domains (domain_caches table.now config.now))) }
 {
     for _ in 0..config.domains {
         add_caches(alloc, table, config, parts)?;
@@ -135,7 +139,7 @@ pub fn parts_of(
     labels: u32,
 ) -> Result<Vec<Part<CpuFrontPart>>, AllocError>
     requires { IsConfig config.now }
-    ensures parts { IfOk result (λ parts. parts.items ≡ parts_of (parts_at table.now config.now labels)) }
+    ensures parts { IfOk result (λ parts. parts.items ≡ parts_of config.now.cpus (parts_at table.now config.now labels)) }
     ensures table { OnOk result (IsTable table.now) }
 {
     let mut parts = Vec::new(alloc);

@@ -10,7 +10,7 @@ use Rattle.tcreplay.specs.declared.outcome.End.TheVariants.{Done, Usage, ReadFau
 use Rattle.journal_audit.specs.declared.verdict.Verdict as journal
 use Rattle.journal_audit.specs.declared.verdict.Verdict.TheVariants.{Yes, No}
 use Rattle.tcreplay.specs.Tasks.{Replay, Workload, Audit, Task, ToReplay, ToGenerate, ToAudit, file_of}
-use Rattle.alloc_rules.specs.Machine.{rules}
+use Rattle.cpu_rows.specs.Machine.{rules}
 use Rattle.tc_model.specs.Run.{run}
 use Rattle.tcreplay.specs.Verdict.{Given, Job, and_then, rows_in, asked_in, picks_or, job_with, job_of, run_verdict, have_ended, order_of_job, Verdict}
 use Rattle.tc_ports.specs.Faults.{Rose}

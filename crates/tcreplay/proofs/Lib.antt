@@ -10,6 +10,7 @@ pub mod AskedFacts
 pub mod NoteFacts
 pub mod EndFacts
 pub mod RanFacts
+pub mod JournalFacts
 pub mod TriedFacts
 pub mod AuditFacts
 pub mod GenerateFacts

@@ -5,8 +5,8 @@ use Rattle.tc_model.specs.Input.{Input}
 use Rattle.tc_model.specs.Run.{World, run}
 use Rattle.tc_model.specs.Replays.{HaveEnded}
 use Rattle.call_steps.specs.PerCpu.{CpuLocal as Local}
-use Rattle.alloc_rules.specs.PerCpu.{Part}
-use Rattle.alloc_rules.specs.Machine.{rules}
+use Rattle.cpu_rows.specs.Machine.{Part}
+use Rattle.cpu_rows.specs.Machine.{rules}
 use Rattle.alloc_rules.specs.Law.{calls}
 use Rattle.alloc_rules.specs.Told.{TellsScript}
 use Rattle.tc_machine.specs.Finish.{finished_in}
@@ -16,7 +16,7 @@ use Rattle.tcreplay.specs.declared.run.Ran.{Ran}
 use Rattle.tcreplay.specs.declared.run.Telling.{Telling}
 use Rattle.tcreplay.specs.Tasks.{Schedule}
 use Rattle.tcreplay.specs.Verdict.{Job, Verdict, told_by, have_ended, order_of_job}
-use Rattle.tcreplay.specs.Ran.{IsRan}
+use Rattle.tcreplay.specs.Ran.{IsRan, IsJournal}
 use Rattle.tcreplay.specs.Writes.{IsRunEnd, IsLastEnd}
 use Rattle.tc_machine.specs.Lawful.{IsLawful}
 use Rattle.tcreplay.specs.Order.{IsCompleted, IsFilled, IsOrderOf}
@@ -64,10 +64,14 @@ module _ (telling : Telling) (job : Job) (ran : Ran) (end : End) (order : List �
   have_all_ended done = ended_from (rules job.input) (run (rules job.input) order) (ap (λ o. have_ended (rules job.input) (run (rules job.input) o)) order_is ∙ all_ended done)
 
   -- the calls that are told of each thread are its whole script
-  pub told_scripts : end ≡ Done → (t : ℕ) → t < job.input.asked.config.threads → TellsScript job.input t (finished_in job.input order).calls
+  pub told_scripts : end ≡ Done → (t : ℕ) → t < job.input.asked.config.threads → TellsScript job.input.asked t (finished_in job.input order).calls
   told_scripts done t within =
       let h = lawful.holds order [] (append-nil order) in
-      subst (TellsScript job.input t) (sym (ap (λ (w : World Part Local). calls w.locals order) h.is)) (h.all_told (have_all_ended done) t within)
+      subst (TellsScript job.input.asked t) (sym (ap (λ (w : World Part Local). calls w.locals order) h.all.is)) (h.all.all_told (have_all_ended done) t within)
+
+  -- the lines of calls of what is told are a legal journal
+  pub legal_journal : end ≡ Done → IsJournal telling job.input order
+  legal_journal done = subst (IsJournal telling job.input) (sym order_is) (is.journal (done_before ran.end end last done))
 
   pub its_run : (schedule : Schedule) → IsCompleted schedule job whole → IsOrderOf schedule job end order
   its_run schedule made = record { whole = order_is; completed = subst (IsCompleted schedule job) (sym order_is) made; filled = filled last }

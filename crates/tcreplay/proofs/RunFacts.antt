@@ -14,7 +14,7 @@ use Rattle.tc_model.specs.Chains.{IsPolite}
 use Rattle.tc_model.specs.Replays.{HaveEnded}
 use Rattle.tc_model.specs.Serial.{completed, order_to, followed, IsAtLimit}
 use Rattle.tc_model.proofs.Longer.{polite_moves}
-use Rattle.alloc_rules.specs.Machine.{rules, turns}
+use Rattle.cpu_rows.specs.Machine.{rules, turns}
 use Rattle.tc_machine.specs.Finish.{finished_in}
 use Rattle.tcreplay.specs.declared.outcome.End.TheVariants.{Done, Full}
 use Rattle.tcreplay.specs.declared.run.Ran.{Ran}

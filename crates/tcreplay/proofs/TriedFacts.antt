@@ -22,7 +22,7 @@ use Rattle.tcreplay.specs.Replayed.{IsAnswer, IsHeadline, HasTried, verdict_on}
 use Rattle.tcreplay.proofs.EndFacts.{job_fails}
 use Rattle.tcreplay.proofs.JobFacts.{not_run, cut_early, gone_for}
 use Rattle.tcreplay.proofs.RunFacts.{completed_is}
-use Rattle.tcreplay.proofs.RanFacts.{order_is, lawful, text_is, have_all_ended, told_scripts, its_run}
+use Rattle.tcreplay.proofs.RanFacts.{order_is, lawful, text_is, have_all_ended, told_scripts, legal_journal, its_run}
 
 -- what was read without a refusal was read for any end
 pub read_for : (file : Option (List ℕ)) (given : Given) (t u : Reading) (f g : Shelving) (end : End) → HasRead file given t u f g Done → HasRead file given t u f g end
@@ -123,6 +123,7 @@ module _ (replay : Replay) (given : Given) (t u : Reading) (f g : Shelving) (bef
     ended = have_all_ended telling job ran end order is last same done;
     told = told_scripts telling job ran end order is last same done;
     text = subst (Took before.taken after.taken) (text_is telling job ran end order is last same done) (took end ran.text.items before after done written);
+    journal = legal_journal telling job ran end order is last same done;
     law = lawful telling job ran end order is last same;
   }
 

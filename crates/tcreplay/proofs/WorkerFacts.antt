@@ -18,8 +18,8 @@ use Rattle.tc_model.specs.Serial.{completed, completion}
 use Rattle.tc_model.proofs.Longer.{polite_moves}
 use Rattle.tc_model.proofs.MovingFacts.{moving_all}
 use Rattle.call_steps.specs.PerCpu.{CpuLocal as Local}
-use Rattle.alloc_rules.specs.PerCpu.{Part}
-use Rattle.alloc_rules.specs.Machine.{rules, turns, first_of}
+use Rattle.cpu_rows.specs.Machine.{Part}
+use Rattle.cpu_rows.specs.Machine.{rules, turns, first_of}
 use Rattle.replay_workers.specs.Runs.{halt_among}
 use Rattle.relay.specs.Ends.{IsRun, threads_in}
 use Rattle.tcreplay.specs.declared.run.Ran.{Ran}

@@ -6,7 +6,7 @@ use Rattle.tc_model.specs.Input.{Input}
 use Rattle.tc_model.specs.Run.{start}
 use Rattle.tc_model.specs.Chains.{IsPolite}
 use Rattle.replay_workers.specs.Runs.{halt_among}
-use Rattle.alloc_rules.specs.Machine as allocator
+use Rattle.cpu_rows.specs.Machine as allocator
 use Rattle.tcreplay.specs.declared.words.Locks.{Locks}
 use Rattle.tcreplay.specs.declared.words.Locks.TheVariants.{Parts}
 use Rattle.tcreplay.specs.declared.workers.Came.{Came}

@@ -9,7 +9,7 @@ use Rattle.tc_ports.specs.Faults.{one_more, Rose}
 use Rattle.tc_ports.specs.Told.{Took}
 use Rattle.tc_ports.specs.Shelves.{Files}
 use Rattle.trace_gen.specs.TraceText.{trace_text}
-use Rattle.alloc_rules.specs.Machine as allocator
+use Rattle.cpu_rows.specs.Machine as allocator
 use Rattle.tc_machine.specs.Finish.{finished_in}
 use Rattle.tcreplay.specs.declared.run.Telling.TheVariants.{Summary}
 use Rattle.tcreplay.specs.declared.generate.Made.{Made}

@@ -5,7 +5,7 @@ use Rattle.tc_model.specs.declared.steps.Stepped.TheVariants as step
 use Rattle.tc_model.specs.Run.{run}
 use Rattle.tc_model.specs.Steps.{stepped}
 use Rattle.tc_model.specs.Serial.{completed}
-use Rattle.alloc_rules.specs.Machine as allocator
+use Rattle.cpu_rows.specs.Machine as allocator
 use Rattle.tcreplay.specs.declared.outcome.End.{End}
 use Rattle.tcreplay.specs.declared.outcome.End.TheVariants.{Full}
 use Rattle.tcreplay.specs.Tasks.{Schedule, InTurn, ByFile, ByThreads}

@@ -13,8 +13,8 @@ use Rattle.tc_ports.specs.declared.shelf.LoadFault.{LoadFault}
 use Rattle.tc_ports.specs.declared.shelf.LoadFault.TheVariants as load
 use Rattle.tc_ports.specs.Shelves.{Files}
 use Rattle.trace_reader.specs.declared.trace.Trace.{Trace}
-use Rattle.alloc_rules.specs.Machine as allocator
-use Rattle.alloc_rules.specs.Switches.{SwitchesAreFew}
+use Rattle.cpu_rows.specs.Machine as allocator
+use Rattle.cpu_rows.specs.Switches.{SwitchesAreFew}
 use Rattle.tc_machine.specs.Inputs.{IsRead, asked_of, input_of}
 use Rattle.tcreplay.specs.declared.outcome.End.{End}
 use Rattle.tcreplay.specs.declared.outcome.End.TheVariants.{Done, BadTrace, ReadFault, WriteFault, Memory, TooLong, Full, BadOrder, FileFault, AuditNo}

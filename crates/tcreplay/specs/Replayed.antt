@@ -3,9 +3,11 @@ use Rattle.std.specs.Prelude.{◌≡◌, ℕ, ◌<◌, ◌⊎◌, true, List, []
 use Rattle.tc_model.specs.Run.{run}
 use Rattle.tc_model.specs.Replays.{HaveEnded}
 use Rattle.tc_ports.specs.Told.{Took}
-use Rattle.alloc_rules.specs.Machine as allocator
+use Rattle.cpu_rows.specs.Machine as allocator
 use Rattle.alloc_rules.specs.Told.{TellsScript}
 use Rattle.tc_machine.specs.Finish.{finished_in}
+use Rattle.journal_audit.specs.Rules.{journal_of}
+use Rattle.journal_audit.specs.Legal.{IsLegal}
 use Rattle.tcreplay.specs.declared.run.Telling.TheVariants.{Whole}
 use Rattle.tcreplay.specs.declared.outcome.End.{End}
 use Rattle.tcreplay.specs.declared.outcome.End.TheVariants.{Done, WriteFault}
@@ -15,6 +17,7 @@ use Rattle.tcreplay.specs.Reads.{Reading, Shelving, AreGiven, CutOff, HasRead, i
 use Rattle.tcreplay.specs.Writes.{Writing, IsWritten}
 use Rattle.tc_machine.specs.Lawful.{IsLawful}
 use Rattle.tcreplay.specs.Order.{IsOrderOf}
+use Rattle.tcreplay.specs.Auditing.{plan_in}
 
 -- what a replay comes to, over what its inputs gave
 abbrev pub verdict_on : Replay → Given → Verdict
@@ -29,14 +32,15 @@ IsAnswer replay given t u f g end order =
 
 -- The headline. What is printed is the text of the order that is answered with it; that order is the order file's, or the
 -- worker threads', completed; in it every call has returned, and the calls that are told of each thread are its whole
--- script, in its order; and the machine's law holds for it.
+-- script, in its order; the lines of calls of that text are a legal journal of the trace; and the machine's law holds for it.
 pub record IsHeadline (replay : Replay) (given : Given) (before after : Writing) (order : List ℕ) : Type 0 where
   pub job : Job
   pub asked : job_of replay given ≡ Ok job
   pub order_is : order ≡ order_of_job job
   pub ended : HaveEnded (allocator.rules job.input) (run (allocator.rules job.input) order)
-  pub told : (t : ℕ) → t < job.input.asked.config.threads → TellsScript job.input t (finished_in job.input order).calls
+  pub told : (t : ℕ) → t < job.input.asked.config.threads → TellsScript job.input.asked t (finished_in job.input order).calls
   pub text : Took before.taken after.taken (text_with replay.rows (finished_in job.input order))
+  pub journal : IsLegal (plan_in job.input) (journal_of (text_with replay.rows (finished_in job.input order)))
   pub law : IsLawful job.input order
 
 -- A replay was tried, with its trace, its files and its output before and after.

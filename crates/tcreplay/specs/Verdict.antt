@@ -15,7 +15,7 @@ use Rattle.trace_reader.specs.declared.why.LineWhy.{LineWhy}
 use Rattle.trace_reader.specs.declared.why.OrderWhy.{OrderWhy}
 use Rattle.trace_reader.specs.Reading.{BadLine, asked_by}
 use Rattle.trace_reader.specs.Orders.{picks_by}
-use Rattle.alloc_rules.specs.Machine as allocator
+use Rattle.cpu_rows.specs.Machine as allocator
 use Rattle.tc_machine.specs.Finish.{finished_in}
 use Rattle.usage_report.specs.Report.{text_of, summary_of}
 use Rattle.tcreplay.specs.declared.run.Telling.{Telling}
@@ -34,7 +34,7 @@ abbrev pub or_end : {A F : Type 0} → (F → End) → Result A F → Result A E
 or_end end_of (Ok given) = Ok given
 or_end end_of (Err fault) = Err (end_of fault)
 
--- the most bytes of a class table, and of a trace or an order file
+-- the most bytes of a class table, and of a trace, an order file or a journal
 abbrev pub table_limit : ℕ
 table_limit = 65536
 

@@ -5,16 +5,17 @@ ghost use Rattle.tc_units.specs.Units.{page_bytes};
 ghost use Rattle.tc_model.specs.Replays.{HaveEnded};
 ghost use Rattle.tc_model.specs.declared.steps.StepFault.TheVariants as faults;
 ghost use Rattle.tc_model.specs.Serial.{IsAtLimit, IsCutShort};
-ghost use Rattle.alloc_rules.specs.Machine as allocator;
+ghost use Rattle.cpu_rows.specs.Machine as allocator;
 ghost use Rattle.tc_machine.specs.Played.{world};
 ghost use Rattle.usage_report.specs.Report.{can_answer};
 ghost use Rattle.tcreplay.specs.Verdict.{told_by, order_of_job};
 ghost use Rattle.tcreplay.specs.Reads.{seen_job, IsRunnable};
-ghost use Rattle.tcreplay.specs.Ran.{IsRan};
+ghost use Rattle.tcreplay.specs.Ran.{AreTellable, IsRan};
 ghost use Rattle.tcreplay.specs.declared.run.Telling.{Telling};
 
 use crate::input::Job;
 use crate::outcome::End;
+use journal_audit::journal_law;
 use std::alloc::{AllocError, Global};
 use tc_machine::State;
 use tc_model::{Finished, StepFault};
@@ -45,7 +46,8 @@ fn told(alloc: Global, finished: &Finished, telling: Telling) -> Result<Vec<u8>,
     requires few { finished.now.resident ≤ 8388608 }
     requires within { finished.now.live_bytes ≤ finished.now.resident * page_bytes }
     requires answered { IsTrue (list_all (λ c. can_answer c.call c.answer) finished.now.calls) }
-    ensures { IfOk result (λ text. text.items ≡ told_by telling finished.now) }
+    ensures text { IfOk result (λ text. text.items ≡ told_by telling finished.now) }
+    ensures tellable { IfOk result (λ _. AreTellable telling finished.now.calls) }
 {
     match telling {
         Telling::Whole { rows } => report(alloc, finished, rows),
@@ -61,6 +63,7 @@ fn tell(alloc: Global, state: State, telling: Telling) -> Result<Ran, AllocError
     let finished = state.finish()?;
     let order = state.into_order();
     let text = told(alloc, &finished, telling)?;
+    journal_law();
     Ok(Ran {
         end: End::Done,
         order,

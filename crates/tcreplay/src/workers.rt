@@ -4,7 +4,7 @@ ghost use Rattle.std.specs.Prelude.{◌≡◌, ◌≤◌, ◌↔◌, [], length,
 ghost use Rattle.tc_model.specs.declared.board.Halt.TheVariants as halts;
 ghost use Rattle.tc_model.specs.Run.{start};
 ghost use Rattle.tc_model.specs.Chains.{IsPolite};
-ghost use Rattle.alloc_rules.specs.Machine as allocator;
+ghost use Rattle.cpu_rows.specs.Machine as allocator;
 ghost use Rattle.relay.specs.Ends.{IsRun, threads_in};
 ghost use Rattle.tc_machine.specs.Held.{input_in};
 ghost use Rattle.tcreplay.specs.Reads.{seen_job, IsRunnable};

@@ -15,7 +15,7 @@ use Rattle.std.proofs.alloc.Global.TheSendSync as global
 use Rattle.trace_reader.specs.contracts.trace.Trace as trace
 use Rattle.tc_model.proofs.replay.Replay.TheSendSync as replay
 use Rattle.call_steps.proofs.local.Local.TheSendSync as local
-use Rattle.alloc_rules.proofs.part.CpuFrontPart.TheSendSync as front
+use Rattle.cpu_rows.proofs.part.CpuFrontPart.TheSendSync as front
 use Rattle.alloc_rules.proofs.part.Part.TheSendSync as part
 use Rattle.tc_machine.specs.contracts.machine.AllocMachine as machine
 use Rattle.tc_machine.specs.contracts.machine.AllocMachineMachine.TheImpl as machine_impl

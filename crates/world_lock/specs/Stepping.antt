@@ -1,5 +1,5 @@
 -- What a step under the lock answers and leaves.
-use Rattle.std.specs.Prelude.{◌≡◌, ℕ, ◌<◌, true, false, List, [], ◌∷◌, ◌++◌, length, Option, Some}
+use Rattle.std.specs.Prelude.{◌≡◌, ℕ, ◌<◌, true, false, List, [], ◌∷◌, ◌++◌, length, Option, Some, IfSome, IfNone}
 use Rattle.tc_model.specs.declared.board.Halt.{Halt}
 use Rattle.tc_model.specs.declared.board.Halt.TheVariants.{Memory, Full}
 use Rattle.tc_model.specs.declared.board.Turn.{Turn}
@@ -8,9 +8,12 @@ use Rattle.tc_model.specs.declared.steps.StepFault.{StepFault}
 use Rattle.tc_model.specs.declared.steps.StepFault.TheVariants as fault
 use Rattle.tc_model.specs.declared.steps.Stepped.{Stepped}
 use Rattle.tc_model.specs.declared.steps.Stepped.TheVariants as step
-use Rattle.tc_model.specs.Run.{Rules, run}
+use Rattle.tc_model.specs.Input.{Input}
+use Rattle.tc_model.specs.Run.{Rules, start, run}
 use Rattle.tc_model.specs.Steps.{stepped}
-use Rattle.tc_model.specs.Replays.{is_polite, IsFullAt}
+use Rattle.tc_model.specs.Chains.{IsPolite}
+use Rattle.tc_model.specs.Replays.{is_polite, IsFullAt, done_in}
+use Rattle.cpu_rows.specs.Machine.{rules}
 
 -- the turn that a pick without a fault comes to
 abbrev pub turn_of : Stepped → Turn
@@ -51,3 +54,14 @@ IsTurnAt r limit order t NotYet = (is_polite r (run r order) t ≡ true) × (ste
 IsTurnAt r limit order t Held = is_polite r (run r order) t ≡ false
 IsTurnAt r limit order t Ended = (is_polite r (run r order) t ≡ true) × (stepped r (run r order) t ≡ step.Ended)
 IsTurnAt r limit order t (Halted cause) = (is_polite r (run r order) t ≡ true) × IsHaltAt r limit order t cause
+
+-- What a turn of a thread came to at the locked state of an input: behind the polite picks of some order, and after a halt or
+-- before one. After a halt it is halted, for the same cause; else its answer is that of one step, and `done` is how many of the
+-- thread's calls have ended then.
+pub record HasTurned (input : Input) (thread : ℕ) (answer : Turn) (done : ℕ) : Type 0 where
+  pub order : List ℕ
+  pub halt : Option Halt
+  pub polite : IsPolite (rules input) (start (rules input)) order
+  pub halted : IfSome halt (λ cause. answer ≡ Halted cause)
+  pub turned : IfNone halt (IsTurnAt (rules input) input.asked.config.events order thread answer)
+  pub done_is : done ≡ done_in (rules input) (run (rules input) (order_after order thread answer)) thread

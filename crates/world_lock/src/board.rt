@@ -1,9 +1,10 @@
 //! The lock round a state, as a board on which each thread's hand takes turns.
 ghost use Rattle.std.specs.Prelude.{◌≡◌, ◌<◌, ◌↔◌, IfSome, IfNone, false};
 ghost use Rattle.tc_model.specs.declared.board.Turn.TheVariants as turn;
-ghost use Rattle.tc_model.specs.Run.{run};
+ghost use Rattle.tc_model.specs.Run.{start, run};
+ghost use Rattle.tc_model.specs.Chains.{IsPolite};
 ghost use Rattle.tc_model.specs.Replays.{is_polite, done_in};
-ghost use Rattle.alloc_rules.specs.Machine as allocator;
+ghost use Rattle.cpu_rows.specs.Machine as allocator;
 ghost use Rattle.world_lock.specs.Stepping.{IsTurnAt, order_after, halt_after};
 
 use crate::named::Named;
@@ -60,6 +61,7 @@ impl<N: Named> WorldBoard<N> {
 /// then.
 fn turn_at<N: Named>(world: &mut World<N>, hand: &mut WorldHand<N>) -> Turn
     requires { hand.old.thread.0 < N.input.asked.config.threads }
+    ensures polite { IsPolite (allocator.rules N.input) (start (allocator.rules N.input)) world.old.order }
     ensures halted { IfSome world.old.halt (λ cause. result ≡ turn.Halted cause) }
     ensures held { IfNone world.old.halt ((result ≡ turn.Held) ↔ (is_polite (allocator.rules N.input) (run (allocator.rules N.input) world.old.order) hand.old.thread.0 ≡ false)) }
     ensures answer { IfNone world.old.halt (IsTurnAt (allocator.rules N.input) N.input.asked.config.events world.old.order hand.old.thread.0 result) }
@@ -75,6 +77,7 @@ fn turn_at<N: Named>(world: &mut World<N>, hand: &mut WorldHand<N>) -> Turn
 
 impl<N: Named + Send> Board for WorldBoard<N> {
     ghost use Rattle.std.specs.Prelude.{◌≡◌, ◌<◌};
+    ghost use Rattle.world_lock.specs.Stepping.{HasTurned};
 
     type Hand = WorldHand<N>;
 
@@ -84,7 +87,7 @@ impl<N: Named + Send> Board for WorldBoard<N> {
 
     ghost done_of = { λ b h. h.done };
 
-    ghost turns = { λ b h answer k. k.thread ≡ h.thread };
+    ghost turns = { λ b h answer k. (k.thread ≡ h.thread) × HasTurned N.input h.thread.0 answer k.done };
 
     fn thread(&self, hand: &WorldHand<N>) -> ThreadNo {
         hand.thread

@@ -4,8 +4,8 @@ ghost use Rattle.tc_model.specs.declared.board.Turn.TheVariants as turn;
 ghost use Rattle.tc_model.specs.Run.{start};
 ghost use Rattle.tc_model.specs.Chains.{IsPolite};
 ghost use Rattle.replay_workers.specs.Runs.{IsReady, halt_of, halt_among};
-ghost use Rattle.alloc_rules.specs.Machine as allocator;
-ghost use Rattle.alloc_rules.specs.Switches.{SwitchesAreFew};
+ghost use Rattle.cpu_rows.specs.Machine as allocator;
+ghost use Rattle.cpu_rows.specs.Switches.{SwitchesAreFew};
 
 use crate::board::WorldBoard;
 use crate::named::Named;

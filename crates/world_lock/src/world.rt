@@ -4,8 +4,8 @@ ghost use Rattle.tc_model.specs.declared.board.Turn.TheVariants as turn;
 ghost use Rattle.tc_model.specs.Run.{start, run};
 ghost use Rattle.tc_model.specs.Chains.{IsPolite};
 ghost use Rattle.tc_model.specs.Replays.{is_polite, done_in};
-ghost use Rattle.alloc_rules.specs.Machine as allocator;
-ghost use Rattle.alloc_rules.specs.Switches.{SwitchesAreFew};
+ghost use Rattle.cpu_rows.specs.Machine as allocator;
+ghost use Rattle.cpu_rows.specs.Switches.{SwitchesAreFew};
 ghost use Rattle.world_lock.specs.Stepping.{IsTurnAt, order_after, halt_after, halt_of, turn_of};
 
 use crate::named::Named;
@@ -27,7 +27,7 @@ impl<N: Named> Model for World<N> {
     ghost use Rattle.std.specs.Prelude.{◌≡◌};
     ghost use Rattle.tc_model.specs.Run.{start};
     ghost use Rattle.tc_model.specs.Chains.{IsPolite};
-    ghost use Rattle.alloc_rules.specs.Machine as allocator;
+    ghost use Rattle.cpu_rows.specs.Machine as allocator;
     ghost use Rattle.world_lock.specs.Locked.{Locked};
 
     ghost Value = { Locked };
@@ -81,6 +81,7 @@ impl<N: Named> World<N> {
     /// causes of a halt. All but `Moved` leave the order as it was.
     pub fn step(&mut self, thread: ThreadNo) -> Turn
         requires { thread.0 < N.input.asked.config.threads }
+        ensures polite { IsPolite (allocator.rules N.input) (start (allocator.rules N.input)) self.old.order }
         ensures halted { IfSome self.old.halt (λ cause. result ≡ turn.Halted cause) }
         ensures held { IfNone self.old.halt ((result ≡ turn.Held) ↔ (is_polite (allocator.rules N.input) (run (allocator.rules N.input) self.old.order) thread.0 ≡ false)) }
         ensures answer { IfNone self.old.halt (IsTurnAt (allocator.rules N.input) N.input.asked.config.events self.old.order thread.0 result) }

@@ -1,8 +1,8 @@
-use Rattle.std.proofs.Common.{◌≡◌, ◌++◌, [], map}
-use Rattle.std.specs.Prelude.{replicate}
-use Rattle.transfer_cache.specs.Transfer.{Transfer}
-use Rattle.alloc_rules.specs.PerCpu.{Domain}
+use Rattle.std.proofs.Common.{◌≡◌, ◌++◌, map}
+use Rattle.std.specs.List.{range_with_len}
+use Rattle.alloc_rules.specs.declared.part.Part.TheVariants as part
+use Rattle.cpu_rows.specs.CpuFront.{first_cache}
 use Rattle.tc_machine.proofs.opening.add_caches.Given as goal
 
-abbrev pub invariant-loop : goal.invariant-loop
-invariant-loop l = let cache : Transfer = record { objects = []; room = l.config.transfer } in l.parts.items ≡ l.fn.parts.items ++ map Domain (replicate l.counter cache)
+abbrev pub invariant-loop-class : goal.invariant-loop-class
+invariant-loop-class l = l.parts.items ≡ l.fn.parts.items ++ map part.Front (map (first_cache l.config) (range_with_len 0 l.class))

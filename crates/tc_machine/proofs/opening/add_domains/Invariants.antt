@@ -1,8 +1,7 @@
-use Rattle.std.proofs.Common.{◌≡◌, ◌++◌}
-use Rattle.std.specs.Prelude.{replicate}
-use Rattle.alloc_rules.specs.Machine.{caches_of, first_caches}
-use Rattle.tc_machine.specs.Opening.{limited}
+use Rattle.std.proofs.Common.{◌≡◌, ◌++◌, map}
+use Rattle.alloc_rules.specs.declared.part.Part.TheVariants as part
+use Rattle.cpu_rows.specs.CpuFront.{domain_caches, all_caches}
 use Rattle.tc_machine.proofs.opening.add_domains.Given as goal
 
 abbrev pub invariant-loop : goal.invariant-loop
-invariant-loop l = l.parts.items ≡ l.fn.parts.items ++ caches_of (replicate l.counter (first_caches (limited l.table l.config)))
+invariant-loop l = l.parts.items ≡ l.fn.parts.items ++ map part.Front (all_caches l.counter (domain_caches l.table l.config))

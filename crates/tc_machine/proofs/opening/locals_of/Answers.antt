@@ -1,4 +1,4 @@
-use Rattle.std.proofs.Common.{◌≡◌, ◌%◌, ℕ, [], ◌∷◌, ◌++◌, map, length, ap, sym, ◌∙◌, arith}
+use Rattle.std.proofs.Common.{◌≡◌, ℕ, [], ◌∷◌, ◌++◌, map, length, ap, sym, ◌∙◌, arith}
 use Rattle.std.specs.List.{range_with_len, slice_index_or}
 use Rattle.std.proofs.lemmas.List.{length_push, get_or_default}
 use Rattle.std.proofs.lemmas.List.FromFn.{map-range_with_len_more, length-map-range_with_len}
@@ -6,7 +6,7 @@ use Rattle.std.proofs.lemmas.Iterator.Adapters.{YieldsList-from_vec}
 use Rattle.std.proofs.lemmas.Iterator.Consumers.{YieldsList-turn, YieldsList-end}
 use Rattle.tc_model.specs.declared.calls.Script.{Script}
 use Rattle.call_steps.specs.CpuCalls.{cpu_calls}
-use Rattle.alloc_rules.specs.Machine.{first_seat}
+use Rattle.cpu_rows.specs.CpuFront.{first_seat}
 use Rattle.call_steps.specs.PerCpu.{CpuLocal as Local}
 use Rattle.call_steps.specs.Local.{first_local}
 use Rattle.tc_machine.specs.Opening.{local_at}

@@ -1,7 +1,7 @@
 use Rattle.std.proofs.Common.{subst}
 use Rattle.tc_model.specs.declared.steps.StepFault.TheVariants.{Full}
 use Rattle.tc_model.specs.Serial.{IsCutShort}
-use Rattle.alloc_rules.specs.Machine.{rules}
+use Rattle.cpu_rows.specs.Machine.{rules}
 use Rattle.tcreplay.specs.Ran.{IsRan}
 use Rattle.tcreplay.proofs.RunFacts.{cut_by}
 use Rattle.tcreplay.proofs.run.come_to.Goals as goal

@@ -2,7 +2,7 @@ use Rattle.std.proofs.Common.{sym, subst, ◌∙◌}
 use Rattle.std.specs.Prelude.{IfErr}
 use Rattle.tc_model.specs.Input.{Input}
 use Rattle.tc_model.specs.Serial.{IsCutShort}
-use Rattle.alloc_rules.specs.Machine.{rules}
+use Rattle.cpu_rows.specs.Machine.{rules}
 use Rattle.tcreplay.specs.Verdict.{order_of_job}
 use Rattle.tcreplay.specs.Reads.{seen_job}
 use Rattle.tcreplay.proofs.RunFacts.{whole, whole_is, same_result}

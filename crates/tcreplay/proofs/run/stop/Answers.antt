@@ -8,4 +8,5 @@ returns c telling =
       is = told_full telling c.args.state.input limit.0 c.args.state.order _ _ c.args.ticket limit.1 c.into_order-order.ensures.order c.new.ensures.items;
       law = c.into_order-order.ensures.lawful;
       filled = filled_at c.args.state.input limit.0 c.args.state.order c.args.ticket limit.1;
+      journal = λ done. absurd (cc);
     }

@@ -1,6 +1,7 @@
 use Rattle.tc_units.specs.Classes.{length_of}
 use Rattle.tcreplay.proofs.Answerable.{answerable}
 use Rattle.tcreplay.proofs.RunFacts.{told_done}
+use Rattle.tcreplay.proofs.JournalFacts.{told_legal}
 use Rattle.tcreplay.proofs.run.tell.Goals as goal
 
 pub told-requires-clause-answered : goal.told-requires-clause-answered
@@ -8,7 +9,9 @@ told-requires-clause-answered c = answerable c.args.state.input.asked.config.hug
 
 pub returns : goal.returns
 returns c = record {
-  is = told_done c.args.telling c.args.state.input c.args.state.order _ _ c.in_ok-finished.finished c.requires.ended c.in_ok-finished.ensures.value c.into_order-order.ensures.order c.in_ok-text.ensures;
+  is = told_done c.args.telling c.args.state.input c.args.state.order _ _ c.in_ok-finished.finished c.requires.ended c.in_ok-finished.ensures.value c.into_order-order.ensures.order c.in_ok-text.ensures.text;
   law = c.into_order-order.ensures.lawful;
   filled = tt;
+  journal = λ _. told_legal c.journal_law.ensures c.args.state.input c.args.state.order c.into_order-order.ensures.lawful c.requires.ended
+      c.args.telling c.in_ok-finished.finished c.in_ok-finished.ensures.value c.in_ok-text.ensures.tellable;
 }

@@ -2,7 +2,7 @@ use Rattle.std.proofs.Common.{refl, sym, subst}
 use Rattle.std.specs.Prelude.{IfErr}
 use Rattle.tc_model.specs.Input.{Input}
 use Rattle.tc_model.specs.Serial.{completed, IsCutShort}
-use Rattle.alloc_rules.specs.Machine.{rules, turns}
+use Rattle.cpu_rows.specs.Machine.{rules, turns}
 use Rattle.tcreplay.proofs.WorkerFacts.{by_threads_result}
 use Rattle.tcreplay.proofs.workers.complete.Goals as goal
 

@@ -1,5 +1,5 @@
 use Rattle.std.proofs.Common.{ap, ◌∙◌}
-use Rattle.alloc_rules.specs.Machine.{rules}
+use Rattle.cpu_rows.specs.Machine.{rules}
 use Rattle.tc_machine.specs.Held.{input_in}
 use Rattle.relay.specs.Ends.{threads_in}
 use Rattle.tcreplay.proofs.WorkerFacts.{left_moves}

@@ -2,7 +2,7 @@ use Rattle.std.proofs.Common.{sym, subst}
 use Rattle.tc_model.specs.Input.{Input}
 use Rattle.tc_model.specs.Run.{start}
 use Rattle.tc_model.specs.Chains.{IsPolite}
-use Rattle.alloc_rules.specs.Machine.{rules}
+use Rattle.cpu_rows.specs.Machine.{rules}
 use Rattle.tcreplay.proofs.workers.run_by_threads.Goals as goal
 
 pub complete-requires : goal.complete-requires

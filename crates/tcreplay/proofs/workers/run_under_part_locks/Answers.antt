@@ -3,7 +3,7 @@ use Rattle.tc_model.specs.declared.board.Halt.TheVariants.{Full}
 use Rattle.tc_model.specs.Input.{Input}
 use Rattle.tc_model.specs.Run.{start}
 use Rattle.tc_model.specs.Chains.{IsPolite}
-use Rattle.alloc_rules.specs.Machine.{rules}
+use Rattle.cpu_rows.specs.Machine.{rules}
 use Rattle.tc_machine.specs.Held.{input_in}
 use Rattle.relay.specs.Ends.{IsRun, threads_in}
 use Rattle.tcreplay.proofs.WorkerFacts.{few_threads, parts_left}

@@ -29,13 +29,13 @@ pub told_calls-requires-clause-own : goal.told_calls-requires-clause-own
 told_calls-requires-clause-own c t l is =
     let r = c.self.inside.replay in
     let told = told_of r.machine r.parts.items r.locals.items r.order.items r.limit r.is_run r.moves r.few r.most in
-    told.holds.threads t l (ap (λ ls. slice_get ls t) (sym (c.deref.ensures.value ∙ told.locals_are)) ∙ is)
+    told.holds.all.threads t l (ap (λ ls. slice_get ls t) (sym (c.deref.ensures.value ∙ told.locals_are)) ∙ is)
 
 pub told_calls-requires-clause-rising : goal.told_calls-requires-clause-rising
 told_calls-requires-clause-rising c t l is =
     let r = c.self.inside.replay in
     let told = told_of r.machine r.parts.items r.locals.items r.order.items r.limit r.is_run r.moves r.few r.most in
-    told.holds.rising t l (ap (λ ls. slice_get ls t) (sym (c.deref.ensures.value ∙ told.locals_are)) ∙ is)
+    told.holds.all.rising t l (ap (λ ls. slice_get ls t) (sym (c.deref.ensures.value ∙ told.locals_are)) ∙ is)
 
 pub standing_after-requires-clause-run : goal.standing_after-requires-clause-run
 standing_after-requires-clause-run c =
@@ -43,14 +43,14 @@ standing_after-requires-clause-run c =
     let i = input_in r.machine in
     let told = told_of r.machine r.parts.items r.locals.items r.order.items r.limit r.is_run r.moves r.few r.most in
     let lines : c.in_ok-calls.calls.items ≡ calls r.locals.items r.order.items = c.in_ok-calls.ensures.calls ∙ (ap (λ ls. calls ls c.deref-2.result.now) c.deref.ensures.value ∙ ap (calls r.locals.items) c.deref-2.ensures.value) in
-    let same : c.deref-3.result.now ≡ calls told.holds.locals r.order.items = c.deref-3.ensures.value ∙ calls_are i r.order.items r.parts.items r.locals.items told c.in_ok-calls.calls.items lines in
-    (i.asked.config.huge, length_of i.rows, subst (λ (ds : List CallLine). IsBlockRun i.asked.config.huge (length_of i.rows) ds) (sym same) told.holds.blocks, r.machine.valid.limits.few)
+    let same : c.deref-3.result.now ≡ calls told.holds.all.locals r.order.items = c.deref-3.ensures.value ∙ calls_are i r.order.items r.parts.items r.locals.items told c.in_ok-calls.calls.items lines in
+    (i.asked.config.huge, length_of i.rows, subst (λ (ds : List CallLine). IsBlockRun i.asked.config.huge (length_of i.rows) ds) (sym same) told.holds.all.blocks, r.machine.valid.limits.few)
 
 pub heap_of-heap-requires : goal.heap_of-heap-requires
 heap_of-heap-requires c =
     let r = c.self.inside.replay in
     let told = told_of r.machine r.parts.items r.locals.items r.order.items r.limit r.is_run r.moves r.few r.most in
-    (told.holds.parts.heap, place_at r.machine r.parts.items c.deref-4.result.now c.heap_place.result told.holds.parts.heap c.deref-4.ensures.value c.heap_place.ensures (heap_there (input_in r.machine) r.order.items r.parts.items r.locals.items told))
+    (told.holds.all.parts.heap, place_at r.machine r.parts.items c.deref-4.result.now c.heap_place.result told.holds.all.parts.heap c.deref-4.ensures.value c.heap_place.ensures (heap_there (input_in r.machine) r.order.items r.parts.items r.locals.items told))
 
 pub rows_of-requires-clause-all : goal.rows_of-requires-clause-all
 rows_of-requires-clause-all c =
@@ -86,8 +86,8 @@ returns-clause-blocks c =
     let told = told_of r.machine r.parts.items r.locals.items r.order.items r.limit r.is_run r.moves r.few r.most in
     let lines : c.in_ok-calls.calls.items ≡ calls r.locals.items r.order.items = c.in_ok-calls.ensures.calls ∙ (ap (λ ls. calls ls c.deref-2.result.now) c.deref.ensures.value ∙ ap (calls r.locals.items) c.deref-2.ensures.value) in
     let same = calls_are i r.order.items r.parts.items r.locals.items told c.in_ok-calls.calls.items lines in
-    let told_same : c.new.result ≡ calls told.holds.locals r.order.items = c.new.ensures ∙ same in
-    subst (λ (p : Played). IsBlockRun p.input.asked.config.huge (length_of p.input.rows) c.new.result) c.self.view_is (subst (λ (ds : List CallLine). IsBlockRun i.asked.config.huge (length_of i.rows) ds) (sym told_same) told.holds.blocks)
+    let told_same : c.new.result ≡ calls told.holds.all.locals r.order.items = c.new.ensures ∙ same in
+    subst (λ (p : Played). IsBlockRun p.input.asked.config.huge (length_of p.input.rows) c.new.result) c.self.view_is (subst (λ (ds : List CallLine). IsBlockRun i.asked.config.huge (length_of i.rows) ds) (sym told_same) told.holds.all.blocks)
 
 pub returns-clause-covered : goal.returns-clause-covered
 returns-clause-covered c =

@@ -2,8 +2,8 @@ use Rattle.std.proofs.Common.{◌≡◌, length, ap, sym, subst, ◌∙◌, arit
 use Rattle.tc_model.specs.Run.{world_of, run}
 use Rattle.trace_reader.specs.declared.trace.Trace.{Trace}
 use Rattle.trace_reader.specs.Valid.{IsConfig}
-use Rattle.alloc_rules.specs.Machine as allocator
-use Rattle.alloc_rules.specs.Valid.{IsValid}
+use Rattle.cpu_rows.specs.Machine as allocator
+use Rattle.cpu_rows.specs.Valid.{IsValid}
 use Rattle.tc_machine.specs.Held.{input_in}
 use Rattle.tc_machine.specs.Inputs.{input_of}
 use Rattle.tc_machine.specs.Opening.{locals_at, parts_at}
@@ -44,7 +44,7 @@ gather-replay-requires-clause-run c =
     let trace = c.args.trace in
     let locals : c.in_ok-locals.locals.items ≡ locals_at rows trace.config trace.scripts = c.in_ok-locals.ensures ∙ ap (locals_at rows trace.config) c.into_vec.ensures in
     ap (λ ps. world_of ps c.in_ok-locals.locals.items) c.in_ok-parts.ensures.parts
-    ∙ ap (λ ls. world_of (allocator.parts_of (parts_at rows trace.config trace.labels)) ls) locals
+    ∙ ap (λ ls. world_of (allocator.parts_of trace.config.cpus (parts_at rows trace.config trace.labels)) ls) locals
     ∙ start_is rows (length rows) trace c.requires.read.0 c.requires.read.1
     ∙ ap (λ o. run (allocator.rules (input_of rows trace)) o) (sym c.new-order.ensures.items)
     ∙ ap (λ (t : Trace). run (allocator.rules (input_of rows t)) c.new-order.result.items) (sym c.of-seen.ensures)

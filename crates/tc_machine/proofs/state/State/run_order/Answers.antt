@@ -5,7 +5,7 @@ use Rattle.tc_model.specs.Replays.{HaveEnded}
 use Rattle.tc_machine.specs.declared.machine.AllocMachine.{AllocMachine}
 use Rattle.std.specs.List.{slice_index_or}
 use Rattle.tc_model.specs.Serial.{completed, followed, IsCutShort}
-use Rattle.alloc_rules.specs.Machine as allocator
+use Rattle.cpu_rows.specs.Machine as allocator
 use Rattle.tc_machine.specs.Played.{Played}
 use Rattle.tc_machine.specs.Held.{input_in}
 use Rattle.tc_machine.proofs.StateFacts.{below_locals, limit_is, lawful_in}

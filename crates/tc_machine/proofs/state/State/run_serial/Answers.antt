@@ -4,11 +4,19 @@ use Rattle.tc_model.specs.Run.{run}
 use Rattle.tc_model.specs.Replays.{HaveEnded}
 use Rattle.tc_machine.specs.declared.machine.AllocMachine.{AllocMachine}
 use Rattle.tc_model.specs.Serial.{completed, IsCutShort}
-use Rattle.alloc_rules.specs.Machine as allocator
+use Rattle.cpu_rows.specs.Machine as allocator
 use Rattle.tc_machine.specs.Played.{Played}
 use Rattle.tc_machine.specs.Held.{input_in}
 use Rattle.tc_machine.proofs.StateFacts.{limit_is, lawful_in}
 use Rattle.tc_machine.proofs.state.State.run_serial.Goals as goal
+
+pub returns-clause-ok : goal.returns-clause-ok
+returns-clause-ok c =
+    let r = c.self.inside.replay in
+    let i = input_in r.machine in
+    let new = c.run_serial.new.self.order.items in
+    let ok = subst (λ n. OnOk c.run_serial.result (new ≡ completed (allocator.rules i) (allocator.turns i) n r.order.items)) (limit_is r.machine r.limit c.self.invariant) c.run_serial.ensures.ok in
+    subst (λ (p : Played). OnOk c.run_serial.result (new ≡ completed (allocator.rules p.input) (allocator.turns p.input) p.input.asked.config.events p.order)) c.self.view_is ok
 
 pub returns-clause-ended : goal.returns-clause-ended
 returns-clause-ended c =

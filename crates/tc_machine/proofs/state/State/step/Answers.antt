@@ -2,7 +2,7 @@ use Rattle.std.proofs.Common.{sym, ◌∙◌, ◌≡◌, ap, subst, arith}
 use Rattle.std.specs.Result.{IfOk, IfErr}
 use Rattle.tc_model.specs.Steps.{stepped}
 use Rattle.tc_model.specs.Replays.{IsFaultAt}
-use Rattle.alloc_rules.specs.Machine as allocator
+use Rattle.cpu_rows.specs.Machine as allocator
 use Rattle.tc_machine.specs.declared.machine.AllocMachine.{AllocMachine}
 use Rattle.tc_machine.specs.Played.{Played, world}
 use Rattle.tc_machine.specs.Held.{input_in}

@@ -1,6 +1,6 @@
 use Rattle.std.proofs.Common.{◌≡◌, ap, subst, arith}
 use Rattle.tc_model.specs.Replays.{is_polite}
-use Rattle.alloc_rules.specs.Machine as allocator
+use Rattle.cpu_rows.specs.Machine as allocator
 use Rattle.tc_machine.specs.Played.{Played, world}
 use Rattle.tc_machine.specs.Held.{input_in}
 use Rattle.tc_machine.proofs.StateFacts.{below_locals}

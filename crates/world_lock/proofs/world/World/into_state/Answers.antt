@@ -3,8 +3,8 @@ use Rattle.std.proofs.lemmas.List.{append-nil}
 use Rattle.tc_model.specs.Input.{Input}
 use Rattle.tc_model.specs.Run.{start}
 use Rattle.tc_model.specs.Chains.{IsPolite}
-use Rattle.alloc_rules.specs.Machine as allocator
-use Rattle.alloc_rules.specs.Switches.{SwitchesAreFew}
+use Rattle.cpu_rows.specs.Machine as allocator
+use Rattle.cpu_rows.specs.Switches.{SwitchesAreFew}
 use Rattle.world_lock.proofs.world.World.into_state.Goals as goal
 
 pub returns-clause-switches : goal.returns-clause-switches

@@ -4,7 +4,7 @@ use Rattle.tc_model.specs.Input.{Input}
 use Rattle.tc_model.specs.Run.{run}
 use Rattle.tc_model.specs.Steps.{stepped}
 use Rattle.tc_model.specs.Replays.{is_polite}
-use Rattle.alloc_rules.specs.Machine as allocator
+use Rattle.cpu_rows.specs.Machine as allocator
 use Rattle.world_lock.specs.Locked.{Locked}
 use Rattle.world_lock.specs.Stepping.{IsTurnAt, halt_of, turn_of}
 use Rattle.world_lock.proofs.Polite.{polite-with}

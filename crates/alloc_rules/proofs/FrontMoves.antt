@@ -1,0 +1,220 @@
+-- An act of the front-end is one move of the books: objects move between its part and the hand, and its call goes on or is decided.
+use Rattle.std.proofs.Common.{◌≡◌, ℕ, ◌+◌, ◌<◌, ◌⊎◌, eqb, List, [], ◌∷◌, Option, Some, None, refl, sym, ap, ◌∙◌, subst, inl, inr, arith}
+use Rattle.std.specs.Prelude.{length}
+use Rattle.std.specs.List.{slice_get, slice_set}
+use Rattle.std.proofs.lemmas.Bool.{eq-eqb, cases_eq}
+use Rattle.tc_units.specs.declared.units.Addr.{Addr}
+use Rattle.tc_units.specs.declared.units.Class.{Class}
+use Rattle.tc_units.specs.declared.units.Label.{Label}
+use Rattle.tc_model.specs.declared.calls.Call.TheVariants.{Free}
+use Rattle.tc_model.specs.declared.answers.Answer.TheVariants.{Freed}
+use Rattle.tc_units.specs.declared.spans.SpanRef.{SpanRef}
+use Rattle.rseq_core.specs.declared.regs.Regs.{Regs}
+use Rattle.tc_units.specs.declared.spans.ClassRow.{ClassRow}
+use Rattle.call_steps.specs.declared.step.Serving.{Serving}
+use Rattle.call_steps.specs.declared.step.Freeing.{Freeing}
+use Rattle.tc_model.specs.declared.calls.Planned.{Planned}
+use Rattle.tc_model.specs.declared.answers.Answer.{Answer}
+use Rattle.tc_model.specs.declared.answers.CallLine.{CallLine}
+use Rattle.heap_rules.specs.declared.config.HeapConfig.{HeapConfig}
+use Rattle.holdings.specs.Runs.{bit, objects_at}
+use Rattle.holdings.specs.Accounts.{Doing, Publishes, Frees, Other, WeighSame}
+use Rattle.holdings.specs.Books.{Setup, Books, IsCut}
+use Rattle.holdings.specs.Moves.{One, MoveObjects}
+use Rattle.call_steps.specs.declared.step.Asking.{Asking}
+use Rattle.call_steps.specs.declared.step.Giving.{Giving}
+use Rattle.call_steps.specs.declared.step.Giving.TheVariants as giving
+use Rattle.call_steps.specs.declared.step.Next.{Next}
+use Rattle.call_steps.specs.declared.step.Next.TheVariants as next
+use Rattle.call_steps.specs.declared.step.Step.{Step}
+use Rattle.call_steps.specs.declared.step.Step.TheVariants as does
+use Rattle.call_steps.specs.declared.step.ShardStep.TheVariants as shard
+use Rattle.call_steps.specs.Local.{Local, decided, goes, ends}
+use Rattle.call_steps.specs.Hands.{publishes, comes_to, serves, decides_free, behind, clears}
+use Rattle.call_steps.specs.Calls as calls
+use Rattle.call_steps.specs.Calls.{About, HasNoLabel, call_about, about_giving}
+use Rattle.call_steps.specs.Follows.{MayDecide, MayGoOnDecided, says, goes_or_ends, follows}
+use Rattle.call_steps.specs.Shapes.{BeginsWith}
+use Rattle.alloc_rules.specs.Accounts.{account_of, doing_about}
+use Rattle.alloc_rules.proofs.Weighing.{bare, weighs_same, none_in_hand}
+use Rattle.alloc_rules.proofs.Goings.{other_doing, Closes, ends_as, comes_as, carries, gets_object, frees_object, says_other}
+use Rattle.alloc_rules.specs.Shapes.{HandAbout, IsGiving, StepShape}
+use Rattle.alloc_rules.specs.FrontLaw.{FrontRules, AreEntries, Left, IsNext, IsAct}
+use Rattle.alloc_rules.specs.Machine.{Parts, front_row}
+use Rattle.alloc_rules.specs.Stocks.{stock_of, Does}
+use Rattle.alloc_rules.specs.Acts.{setup, IsBefore}
+use Rattle.alloc_rules.specs.Laws.{FrontActsMove}
+use Rattle.alloc_rules.proofs.Stored.{with_stores, front_stored, stores_move, stock_same}
+use Rattle.alloc_rules.proofs.CutOf.{cut_of}
+
+-- an object at the head of a list is there
+begins_has : (a : Addr) (hand : List Addr) → BeginsWith a hand → 0 < objects_at a.0 hand
+begins_has a [] begins = absurd begins
+begins_has a (x ∷ others) begins =
+    let one : bit (eqb x.0 a.0) ≡ 1 = ap bit (eq-eqb x.0 a.0 (ap (λ (y : Addr). y.0) begins)) in
+    omega (arith, one)
+
+-- what a row's call frees is in hand
+pub frees_has : (rows : List ClassRow) (g : Regs) (a : About) → HandAbout rows g a → (label : Label) (o : Addr) → doing_about a ≡ Frees label o → 0 < objects_at o.0 g.hand.items
+frees_has rows g (calls.Asks a) shape label o doing = absurd (cc)
+frees_has rows g (calls.Publishes s) shape label o doing = absurd (cc)
+frees_has rows g (calls.Frees f) shape label o doing = let same : f.addr ≡ o = cc in subst (λ (y : Addr). 0 < objects_at y.0 g.hand.items) same (begins_has f.addr g.hand.items shape.0)
+frees_has rows g (calls.Other call) shape label o doing = absurd (cc)
+
+-- in hand nothing has a class
+weighs_class : (d : Doing) (k j : ℕ) (hand : List Addr) (todo : List Planned) → (j ≡ k) ⊎ (hand ≡ []) → WeighSame (bare d k hand todo) (bare d j hand todo)
+weighs_class d k j hand todo (inl same) = subst (λ (i : ℕ). WeighSame (bare d k hand todo) (bare d i hand todo)) (sym same) (weighs_same (bare d k hand todo))
+weighs_class d k j hand todo (inr none) =
+    record {
+      asks = λ x. refl;
+      publishes = λ x. refl;
+      takes = λ x. refl;
+      mentioned = λ x. refl;
+      value = λ x v. refl;
+      loosely = λ n. refl;
+      objects = refl;
+      classes = λ i n. none_in_hand i n (eqb j i) hand none ∙ sym (none_in_hand i n (eqb k i) hand none);
+      off = refl;
+      apart = refl;
+      mapped = refl;
+      clears = refl;
+    }
+
+module _ {P V R : Type 0} (r : FrontRules P V R) (about : R → About) (planned : Planned → Type 0) (entries : AreEntries r.calls about) where
+  module _ (huge labels : ℕ) (limits : HeapConfig) (p : Parts P) (locals : List (Local V R)) (b : Books) (lines : List CallLine) (t : ℕ) (l : Local V R) (i : ℕ) (q : P) (row : R) (before : IsBefore r about planned huge labels limits p locals b lines t l)
+      (at : slice_get p.fronts i ≡ Some q) (shape : HandAbout r.calls.rows l.regs (about row)) (none_freed : l.freed.items ≡ []) (act : IsAct r about q l.regs row (r.acts q l.seat l.regs row)) where
+    abbrev m : Setup
+    m = setup r huge labels
+
+    abbrev x : Left P V R
+    x = r.acts q l.seat l.regs row
+
+    abbrev fronts : List P
+    fronts = slice_set p.fronts i x.part
+
+    abbrev at_row : Local V R
+    at_row = record l { step = does.Front row }
+
+    abbrev then : Local V R
+    then = record at_row { seat = x.seat; regs = x.regs }
+
+    abbrev d : Doing
+    d = doing_about (about row)
+
+    abbrev k : ℕ
+    k = l.regs.class.0
+
+    abbrev hand : List Addr
+    hand = l.regs.hand.items
+
+    abbrev came : List Addr
+    came = x.regs.hand.items
+
+    abbrev Goal : Local V R → Type 0
+    Goal after = Does r about m (with_stores p fronts p.shards) b at_row after
+
+    cut : IsCut r.calls.rows (stock_of r about (with_stores p fronts p.shards))
+    cut = cut_of r about r.calls.rows (with_stores p fronts p.shards) before.parts.classes before.parts.shards
+
+    objects : MoveObjects (stock_of r about p) (stock_of r about (with_stores p fronts p.shards)) k hand came []
+    objects =
+        stores_move r about p fronts k hand came (λ j n other. let e = front_stored r about p i q x.part at j n in omega (arith, e, act.others j n other)) (λ n. let e = front_stored r about p i q x.part at k n in omega (arith, e, act.moves n))
+
+    same_or_none : (x.regs.class.0 ≡ k) ⊎ (came ≡ [])
+    same_or_none = elim act.class [ inl same ↦ inl (ap (λ (c : Class). c.0) same) | inr none ↦ inr none.0 ]
+
+    -- the call goes on about the same
+    on : (after : Local V R) → ((label : Label) (o : Addr) → d ≡ Frees label o → 0 < objects_at o.0 came) → account_of about after ≡ bare d x.regs.class.0 came l.rest → after.acts ≡ l.acts + 1 → after.answers ≡ l.answers → Goal after
+    on after frees account acts answers =
+        carries r about entries huge labels p locals b before.books fronts p.shards cut at_row after d k hand came l.rest refl objects frees
+        (subst (WeighSame (bare d k came l.rest)) (sym account) (weighs_class d k x.regs.class.0 came l.rest same_or_none)) acts answers
+
+    with_about : (a : About) → about row ≡ a → account_of about at_row ≡ bare (doing_about a) k hand l.rest
+    with_about a is = ap (λ (y : About). bare (doing_about y) k hand l.rest) is
+
+    -- with nothing in hand it ends, or goes on without a label
+    given : came ≡ [] → MoveObjects (stock_of r about p) (stock_of r about (with_stores p fronts p.shards)) k hand [] []
+    given none = subst (λ (h : List Addr). MoveObjects (stock_of r about p) (stock_of r about (with_stores p fronts p.shards)) k hand h []) none objects
+
+    quiets : (a : About) → about row ≡ a → doing_about a ≡ Other → came ≡ [] → (after : Local V R) → Closes about after k l.rest (l.acts + 1) l.answers → Goal after
+    quiets a is quiet none after closes =
+        carries r about entries huge labels p locals b before.books fronts p.shards cut at_row after Other k hand [] l.rest (with_about a is ∙ ap (λ (y : Doing). bare y k hand l.rest) quiet) (given none) (λ label o wrong. absurd (cc)) closes.weighs closes.acts closes.answers
+
+    publishing : (s : Serving) → about row ≡ calls.Publishes s → came ≡ [] → Goal (publishes then s)
+    publishing s is none =
+        on (publishes then s) (λ label o doing. absurd (let e : Publishes s.label (Some s.addr) ≡ Frees label o = sym (ap doing_about is) ∙ doing in cc)) (ap (λ (y : About). bare (doing_about y) x.regs.class.0 came l.rest) (sym is)) refl refl
+
+    freeing : (f : Freeing) → about row ≡ calls.Frees f → came ≡ [] → Goal (ends r.calls (decided then (Free f.label) (Freed f.addr)))
+    freeing f is none = frees_object r about entries huge labels p locals b before.books fronts p.shards cut at_row x.seat x.regs l.freed f k hand (with_about (calls.Frees f) is) none (given none)
+
+    -- an allocation gets the first object that came to its hand
+    serving : (a : Asking) → about row ≡ calls.Asks a → HandAbout r.calls.rows l.regs (calls.Asks a) → (xs : List Addr) → came ≡ xs → 0 < length xs → Goal (serves r.calls then a)
+    serving a is has [] are some = absurd (omega arith)
+    serving a is has (o ∷ others) are some =
+        let class : x.regs.class ≡ l.regs.class = elim act.class [ inl same ↦ same | inr none ↦ absurd (subst HasNoLabel is none.1) ] in
+        gets_object r about entries huge labels p locals b before.books fronts p.shards cut at_row x.seat x.regs a o others (with_about (calls.Asks a) is ∙ ap (λ (h : List Addr). bare (doing_about (calls.Asks a)) k h l.rest) has.1) class are has.0
+        (subst (λ (h : List Addr). MoveObjects (stock_of r about p) (stock_of r about (with_stores p fronts p.shards)) k h (o ∷ others) []) has.1
+        (subst (λ (h : List Addr). MoveObjects (stock_of r about p) (stock_of r about (with_stores p fronts p.shards)) k hand h []) are objects))
+
+    -- a call without a label is decided: no object moves
+    stays_stocked : came ≡ hand → stock_of r about p ≡ stock_of r about (with_stores p fronts p.shards)
+    stays_stocked same =
+        stock_same r about p fronts (λ j n.
+        let e = front_stored r about p i q x.part at j n in
+        elim (cases_eq j k) [
+          | inl here ↦ (let own : r.stored x.part j n ≡ r.stored q j n = subst (λ (y : ℕ). r.stored x.part y n ≡ r.stored q y n) (sym here) (omega (arith, act.moves n, ap (objects_at n) same)) in omega (arith, e, own))
+          | inr other ↦ omega (arith, e, act.others j n other)
+        ])
+
+    decides : (a : About) (answer : Answer) (to : Option R) → about row ≡ a → MayDecide a answer → came ≡ hand → MayGoOnDecided about to → (to ≡ None → came ≡ []) → Goal (goes_or_ends r.calls (says then (call_about a) answer) to)
+    decides (calls.Other (Some call)) answer None is may same on_decided none =
+        let after : Local V R = decided then call answer in
+        let closes = ends_as r.calls about entries after k (none refl) in
+        says_other r about entries huge labels p locals b before.books fronts p.shards cut at_row (ends r.calls after) (bare Other k [] l.rest) (record { call = call; answer = answer } ∷ [])
+        (with_about (calls.Other (Some call)) is ∙ ap (λ (h : List Addr). bare Other k h l.rest) (sym same ∙ none refl)) (stays_stocked same) (One (record { call = call; answer = answer }) may) closes.weighs closes.acts closes.answers
+    decides (calls.Other (Some call)) answer (Some to) is may same on_decided none =
+        let weighs = weighs_class Other k x.regs.class.0 came l.rest same_or_none in
+        says_other r about entries huge labels p locals b before.books fronts p.shards cut at_row (goes (decided then call answer) (does.Front to)) (bare Other k came l.rest) (record { call = call; answer = answer } ∷ [])
+        (with_about (calls.Other (Some call)) is ∙ ap (λ (h : List Addr). bare Other k h l.rest) (sym same)) (stays_stocked same) (One (record { call = call; answer = answer }) may)
+        (subst (λ (y : About). WeighSame (bare Other k came l.rest) (bare (doing_about y) x.regs.class.0 came l.rest)) (sym on_decided) weighs) refl refl
+    decides (calls.Other None) answer to is may same on_decided none = absurd may
+    decides (calls.Asks a) answer to is may same on_decided none = absurd may
+    decides (calls.Publishes s) answer to is may same on_decided none = absurd may
+    decides (calls.Frees f) answer to is may same on_decided none = absurd may
+
+    gives_has : (g : Giving R) → about row ≡ about_giving about g → IsGiving r.calls.rows about came g → (label : Label) (o : Addr) → d ≡ Frees label o → 0 < objects_at o.0 came
+    gives_has (giving.Rest s) is may label o doing = absurd (let e : doing_about (calls.Publishes s) ≡ Frees label o = sym (ap doing_about is) ∙ doing in cc)
+    gives_has (giving.Freed f) is may label o doing =
+        let e : Frees f.label f.addr ≡ Frees label o = sym (ap doing_about is) ∙ doing in
+        let same : f.addr ≡ o = cc in
+        subst (λ (y : Addr). 0 < objects_at y.0 came) same (begins_has f.addr came may)
+    gives_has (giving.Row j to) is may label o doing = absurd (let e : Other ≡ Frees label o = sym (other_doing (about to) may.1) ∙ (sym (ap doing_about is) ∙ doing) in cc)
+    gives_has giving.End is may label o doing = absurd (let e : Other ≡ Frees label o = sym (ap doing_about is) ∙ doing in cc)
+
+    -- a hand that the front-end took itself
+    gives : (g : Giving R) → IsNext r about row l.regs x.regs (next.Gave g) → Goal (clears r.calls (decides_free then g) (behind g) [])
+    gives (giving.Rest s) may = publishing s may.0 may.1
+    gives (giving.Freed f) may = freeing f may.0 may.1
+    gives (giving.Row j to) may = quiets (about to) may.0 (other_doing (about to) may.2.1) may.1 (comes_to then j to) (comes_as about then j to k may.2.1 may.1)
+    gives giving.End may = quiets (calls.Other None) may.0 refl may.1 (ends r.calls then) (ends_as r.calls about entries then k may.1)
+
+    follows_on : (n : Next R) → IsNext r about row l.regs x.regs n → Goal (follows r.calls then (call_about (about row)) n)
+    follows_on (next.Row to) may = on (goes then (does.Front to)) (frees_has r.calls.rows x.regs (about row) may.1) (ap (λ (y : About). bare (doing_about y) x.regs.class.0 came l.rest) may.0) refl refl
+    follows_on (next.Serve a) may = serving a may.0 (subst (HandAbout r.calls.rows l.regs) may.0 shape) came refl may.1
+    follows_on (next.Fetch a) may =
+        on (goes then (does.Shard (shard.Fetch a))) (λ label o doing. absurd (let e : doing_about (calls.Asks a) ≡ Frees label o = sym (ap doing_about may.0) ∙ doing in cc)) (ap (λ (y : About). bare (doing_about y) x.regs.class.0 came l.rest) (sym may.0)) refl refl
+    follows_on (next.Give g) may =
+        on (goes then (does.Shard (shard.Give g))) (gives_has g may.0 may.2) (ap (λ (y : About). bare (doing_about y) x.regs.class.0 came l.rest) (sym may.0)) refl refl
+    follows_on (next.Gave g) may = subst (λ (ss : List SpanRef). Goal (clears r.calls (decides_free then g) (behind g) ss)) (sym none_freed) (gives g may)
+    follows_on (next.Publish s) may = publishing s may.0 may.1
+    follows_on (next.Freed f) may = freeing f may.0 may.1
+    follows_on (next.Decide answer None) may = decides (about row) answer None refl may.0 may.1 tt (λ e. may.2)
+    follows_on (next.Decide answer (Some to)) may = decides (about row) answer (Some to) refl may.0 may.1 may.2 (λ e. absurd (cc))
+    follows_on next.End may = quiets (calls.Other None) may.0 refl may.1 (ends r.calls then) (ends_as r.calls about entries then k may.1)
+
+  pub front_acts_move : FrontActsMove r about planned
+  front_acts_move huge labels limits p locals b lines t l i q row before step at act =
+      let is : record l { step = does.Front row } ≡ l = ap (λ s. record l { step = s }) (sym step) in
+      let shape = subst (λ (s : Step R). StepShape r.calls.rows about l s) step before.shaped.step in
+      subst (λ (y : Local V R). Does r about (setup r huge labels) (with_stores p (slice_set p.fronts i (front_row r about q y row).0) p.shards) b y (front_row r about q y row).1) is
+      (follows_on huge labels limits p locals b lines t l i q row before at shape.0 shape.1 act (r.acts q l.seat l.regs row).next act.next)

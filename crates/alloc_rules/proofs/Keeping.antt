@@ -1,0 +1,299 @@
+-- How a call goes on leaves the local its shape, and the front-end's invariant holds of the thread as it stands then.
+use Rattle.std.proofs.Common.{◌≡◌, ℕ, ◌+◌, ◌<◌, ◌≤◌, List, [], ◌∷◌, length, drop, Option, Some, None, refl, sym, ap, ◌∙◌, subst, arith, Bool, true, false, cond, ltb}
+use Rattle.std.specs.Prelude.{All, slice_set, option_map}
+use Rattle.std.proofs.lemmas.List.{length-drop}
+use Rattle.std.proofs.lemmas.List.Elements.{All-head, All-tail}
+use Rattle.tc_units.specs.Bag.{Contents}
+use Rattle.tc_units.specs.Classes.{class_of}
+use Rattle.tc_units.specs.Classes as classes
+use Rattle.tc_units.specs.declared.spans.ClassRow.{ClassRow}
+use Rattle.std.specs.List.{position_or_len}
+use Rattle.std.proofs.lemmas.Bool.{ltb-true}
+use Rattle.tc_units.specs.declared.units.Addr.{Addr}
+use Rattle.tc_units.specs.declared.units.Class.{Class}
+use Rattle.tc_units.specs.declared.units.Label.{Label}
+use Rattle.tc_units.specs.declared.units.ThreadNo.{ThreadNo}
+use Rattle.tc_units.specs.declared.spans.SpanRef.{SpanRef}
+use Rattle.tc_model.specs.declared.calls.Call.{Call}
+use Rattle.tc_model.specs.declared.calls.Call.TheVariants.{Malloc, Free, Release, Drain, Resize}
+use Rattle.tc_model.specs.declared.calls.Planned.{Planned}
+use Rattle.tc_model.specs.declared.answers.Answer.TheVariants.{Block, Freed}
+use Rattle.rseq_core.specs.declared.regs.Regs.{Regs}
+use Rattle.rseq_core.specs.declared.regs.TheConstants.{HAND_ROOM, LOADED_ROOM}
+use Rattle.rseq_core.specs.Bags.{room, without_first, emptied}
+use Rattle.call_steps.specs.declared.step.Asking.{Asking}
+use Rattle.call_steps.specs.declared.step.Serving.{Serving}
+use Rattle.call_steps.specs.declared.step.Giving.{Giving}
+use Rattle.call_steps.specs.declared.step.Giving.TheVariants as giving
+use Rattle.call_steps.specs.declared.step.Onward.{Onward}
+use Rattle.call_steps.specs.declared.step.Onward.TheVariants as onward
+use Rattle.call_steps.specs.declared.step.Step.{Step}
+use Rattle.call_steps.specs.declared.step.Step.TheVariants as does
+use Rattle.call_steps.specs.declared.step.ShardStep.TheVariants as shard
+use Rattle.call_steps.specs.declared.step.HeapStep.TheVariants as heap
+use Rattle.call_steps.specs.declared.step.NamesStep.TheVariants as names
+use Rattle.call_steps.specs.Local.{Local, step_or, class_row, first_of_malloc, first_of_call, regs_of_malloc, fresh_regs, next_call, decided, goes, closes, ends}
+use Rattle.call_steps.specs.Hands.{with_regs, publishes, stocks, serves_first, goes_onward, gave, clears, with_freed, given_back, with_hand as to_hand}
+use Rattle.call_steps.specs.Calls as calls
+use Rattle.call_steps.specs.Calls.{About, HasNoLabel}
+use Rattle.call_steps.specs.Shapes.{AreRows, most_slots}
+use Rattle.alloc_rules.specs.Standings.{At, Here, Later, Away, Standing, stand, at_row, at_giving, at_onward, at_step, standing_of}
+use Rattle.alloc_rules.specs.Shapes.{IsAsked, HandAbout, HasNone, IsGiving, IsOnward, StepShape, IsShaped}
+use Rattle.alloc_rules.specs.FrontLaw.{FrontRules, IsEntry, IsOwn, IsLawful}
+
+-- the class of a request is in the table
+class_low_by : (n len : ℕ) (k : Class) (b : Bool) → ltb n len ≡ b → option_map (λ (j : ℕ). let c : Class = record { 0 = j } in c) (cond b (Some n) None) ≡ Some k → k.0 < len
+class_low_by n len k true low is = let c : Class = record { 0 = n } in let same : c ≡ k = (cc) in let e : n ≡ k.0 = ap (λ (j : Class). j.0) same in omega (arith, ltb-true n len low)
+class_low_by n len k false low is = absurd (cc)
+
+class_low : (rows : List ClassRow) (size : ℕ) (k : Class) → class_of rows size ≡ Some k → k.0 < length rows
+class_low rows size k is = let n : ℕ = position_or_len (classes.serves size) rows in class_low_by n (length rows) k (ltb n (length rows)) refl is
+
+-- where a thread is at no row
+abbrev pub NotHere : {R : Type 0} → At R → Type 0
+NotHere (Here row) = ⊥
+NotHere (Later k row) = Unit {0}
+NotHere Away = Unit {0}
+
+pub giving_not : {R : Type 0} (g : Giving R) → NotHere (at_giving g)
+giving_not (giving.Rest s) = tt
+giving_not (giving.Freed f) = tt
+giving_not (giving.Row k row) = tt
+giving_not giving.End = tt
+
+pub onward_not : {R : Type 0} (o : Onward R) → NotHere (at_onward o)
+onward_not (onward.Publish s) = tt
+onward_not (onward.Row k row) = tt
+onward_not onward.End = tt
+
+module _ {P V R : Type 0} (r : FrontRules P V R) (about : R → About) (planned : Planned → Type 0) (Holds : ℕ → List P → List (Standing V R) → Type 0) (fits : P → V → Regs → R → Type 0) (law : IsLawful r about planned Holds fits) (table : AreRows r.calls.rows) (t : ℕ) where
+  -- all of a shape but the step's
+  pub record IsCommon (l : Local V R) : Type 0 where
+    pub thread : l.regs.thread.0 ≡ t
+    pub class : l.regs.class.0 < length r.calls.rows
+    pub hand : room l.regs.hand ≡ HAND_ROOM
+    pub freed : length l.freed.items + l.freed.spare ≡ HAND_ROOM
+    pub rest : All planned l.rest
+
+  pub common_of : (l : Local V R) → IsShaped r.calls.rows about planned t l → IsCommon l
+  common_of l s = record { thread = s.thread; class = s.class; hand = s.hand; freed = s.freed; rest = s.rest }
+
+  -- from one standing of the thread to another the invariant holds on
+  abbrev pub Reaches : Standing V R → Standing V R → Type 0
+  Reaches s s' = (n : ℕ) (ps : List P) (us : List (Standing V R)) → Holds n ps (slice_set us t s) → Holds n ps (slice_set us t s')
+
+  -- A local behind an act that found this standing.
+  pub record IsNext (base : Standing V R) (new : Local V R) : Type 0 where
+    pub shaped : IsShaped r.calls.rows about planned t new
+    pub stands : Reaches base (standing_of new)
+
+  -- a thread that is at no row: between its acts, and behind the one that it does
+  abbrev pub idle_at : Local V R → Standing V R
+  idle_at l = stand l.seat l.regs l.acts Away
+
+  abbrev pub away_at : Local V R → Standing V R
+  away_at l = stand l.seat l.regs (l.acts + 1) Away
+
+  pub behind : (base base' : Standing V R) (new : Local V R) → Reaches base base' → IsNext base' new → IsNext base new
+  behind base base' new reaches n = record { shaped = n.shaped; stands = λ k ps us holds. n.stands k ps us (reaches k ps us holds) }
+
+  -- the hand and the class may change, and acts are done
+  pub stays_away : (v : V) (g : Regs) (count more : ℕ) (k : Class) (hand : Contents Addr) → count ≤ more → k.0 < length r.calls.rows → room hand ≡ room g.hand → Reaches (stand v g count Away) (stand v (record g { class = k; hand = hand }) more Away)
+  stays_away v g count more k hand few low size n ps us holds = law.away n ps us t v g count more k hand few low size holds
+
+  -- the call goes on elsewhere
+  pub goes_away : (l : Local V R) (next : Step R) → IsCommon l → at_step next ≡ Away → StepShape r.calls.rows about (goes l next) next → IsNext (away_at l) (goes l next)
+  goes_away l next c away shape =
+      record {
+        shaped = record { thread = c.thread; class = c.class; hand = c.hand; freed = c.freed; rest = c.rest; step = shape };
+        stands = subst (λ (a : At R). Reaches (away_at l) (stand l.seat l.regs (l.acts + 1) a)) (sym away) (λ n ps us holds. holds);
+      }
+
+  pub none_still : (l : Local V R) (next : Step R) → HasNone l → HasNone (goes l next)
+  none_still l next n = record { hand = n.hand; freed = n.freed }
+
+  pub publishes_next : (l : Local V R) (s : Serving) → IsCommon l → HasNone l → IsNext (away_at l) (publishes l s)
+  publishes_next l s c n = goes_away l (does.Names (names.Publish s.label (Some s.addr))) c refl (none_still l (does.Names (names.Publish s.label (Some s.addr))) n)
+
+  -- registers with the thread's own number, a class of the table, and an empty hand
+  record IsIdle (g : Regs) : Type 0 where
+    thread : g.thread.0 ≡ t
+    class : g.class.0 < length r.calls.rows
+    size : room g.hand ≡ HAND_ROOM
+    hand : g.hand.items ≡ []
+
+  idle_of : (l : Local V R) → IsCommon l → HasNone l → IsIdle l.regs
+  idle_of l c n = record { thread = c.thread; class = c.class; size = c.hand; hand = n.hand }
+
+  -- the first act of a call, with its registers
+  fresh_next : (l : Local V R) (v : V) (g : Regs) (next : Step R) (rest : List Planned) → IsCommon l → HasNone l → IsIdle g → All planned rest → Reaches (idle_at l) (stand v g l.acts (at_step next))
+      → (let new : Local V R = record l { seat = v; step = next; regs = g; rest = rest } in (HasNone new → StepShape r.calls.rows about new next) → IsNext (idle_at l) new)
+  fresh_next l v g next rest c n i all reaches shape =
+      record {
+        shaped = record { thread = i.thread; class = i.class; hand = i.size; freed = c.freed; rest = all; step = shape (record { hand = i.hand; freed = n.freed }) };
+        stands = reaches;
+      }
+
+  -- a step that has a row of the front-end about this, or is another one that is at none
+  pub entry_shape : (a : About) (other : Step R) (l : Local V R) (o : Option R) → IsEntry about a o → HandAbout r.calls.rows l.regs a → l.freed.items ≡ [] → StepShape r.calls.rows about l other → StepShape r.calls.rows about l (step_or other o)
+  entry_shape a other l None entry has none shape = shape
+  entry_shape a other l (Some row) entry has none shape = (subst (HandAbout r.calls.rows l.regs) (sym entry) has, none)
+
+  pub entry_at : (base : Standing V R) (v : V) (g : Regs) (count : ℕ) (other : Step R) (o : Option R) → at_step other ≡ Away → Reaches base (stand v g count (at_row o)) → Reaches base (stand v g count (at_step (step_or other o)))
+  entry_at base v g count other None away reaches = subst (λ (a : At R). Reaches base (stand v g count a)) (sym away) reaches
+  entry_at base v g count other (Some row) away reaches = reaches
+
+  module _ (l : Local V R) (c : IsCommon l) (n : HasNone l) (p : Planned) (plan : planned p) (rest : List Planned) (all : All planned rest) where
+    abbrev v : V
+    v = r.calls.begins l.seat (Some p)
+
+    begun : Reaches (idle_at l) (stand v l.regs l.acts Away)
+    begun k ps us holds = law.begins k ps us t l.seat l.regs l.acts (Some p) plan n.hand holds
+
+    restarted : Reaches (idle_at l) (stand v (record l.regs { ran = 0 }) l.acts Away)
+    restarted k ps us holds = law.restarts k ps us t v l.regs l.acts (begun k ps us holds)
+
+    idle : IsIdle (record l.regs { ran = 0 })
+    idle = record { thread = c.thread; class = c.class; size = c.hand; hand = n.hand }
+
+    malloc_next : (label : Label) (size : ℕ) (o : Option Class) → class_of r.calls.rows size ≡ o
+        → IsNext (idle_at l) (record l { seat = v; step = first_of_malloc r.calls v o label size; regs = record (regs_of_malloc r.calls o l.regs) { ran = 0 }; rest = rest })
+    malloc_next label size None of = fresh_next l v (record l.regs { ran = 0 }) (first_of_malloc r.calls v None label size) rest c n idle all restarted (λ none. (none, of))
+    malloc_next label size (Some k) of =
+        let a : Asking = record { label = label; size = size } in
+        let g1 : Regs = record l.regs { class = k } in
+        let kept = law.entries.to_first g1 in
+        let g : Regs = record (r.calls.to_first g1) { ran = 0 } in
+        let low : k.0 < length r.calls.rows = class_low r.calls.rows size k of in
+        let class : g.class ≡ k = kept.class in
+        let hand : g.hand.items ≡ [] = ap (λ (h : Contents Addr). h.items) kept.hand ∙ n.hand in
+        let i : IsIdle g = record { thread = ap (λ (x : ThreadNo). x.0) kept.thread ∙ c.thread; class = omega (arith, low, ap (λ (x : Class). x.0) class); size = ap room kept.hand ∙ c.hand; hand = hand } in
+        let asked : IsAsked r.calls.rows g a = of ∙ ap (λ (x : Class). Some x) (sym class) in
+        let reaches : Reaches (idle_at l) (stand v g l.acts (at_row (r.calls.first v a))) = λ m ps us holds.
+        law.firsts m ps us t v g1 l.acts a of n.hand (law.away m ps us t v l.regs l.acts l.acts k l.regs.hand (omega arith) low refl (begun m ps us holds)) in
+        fresh_next l v g (step_or (does.Shard (shard.Fetch a)) (r.calls.first v a)) rest c n i all (entry_at (idle_at l) v g l.acts (does.Shard (shard.Fetch a)) (r.calls.first v a) refl reaches)
+        (λ none. entry_shape (calls.Asks a) (does.Shard (shard.Fetch a)) (record l { seat = v; step = step_or (does.Shard (shard.Fetch a)) (r.calls.first v a); regs = g; rest = rest }) (r.calls.first v a) (law.entries.first_about v a) (asked, hand) n.freed (none, asked))
+
+    own_next : (call : Call) → p.call ≡ call → IsOwn p.call → IsNext (idle_at l) (record l { seat = v; step = step_or does.Ended (r.calls.other v call); regs = record (r.calls.to_other call l.regs) { ran = 0 }; rest = rest })
+    own_next call is own =
+        let g : Regs = record (r.calls.to_other call l.regs) { ran = 0 } in
+        let kept = law.entries.to_other call l.regs in
+        let low = law.other_class p l.regs plan own in
+        let hand : g.hand.items ≡ [] = ap (λ (h : Contents Addr). h.items) kept ∙ n.hand in
+        let i : IsIdle g = record { thread = ap (λ (x : ThreadNo). x.0) (law.entries.other_thread call l.regs) ∙ c.thread; class = omega (arith, low, ap (λ (y : Call). (r.calls.to_other y l.regs).class.0) is); size = ap room kept ∙ c.hand; hand = hand } in
+        let reaches : Reaches (idle_at l) (stand v g l.acts (at_row (r.calls.other v call))) = λ m ps us holds.
+        subst (λ (y : Call). Holds m ps (slice_set us t (stand v (record (r.calls.to_other y l.regs) { ran = 0 }) l.acts (at_row (r.calls.other v y))))) is
+        (law.others_begin m ps us t v l.regs l.acts p plan own n.hand (begun m ps us holds)) in
+        fresh_next l v g (step_or does.Ended (r.calls.other v call)) rest c n i all (entry_at (idle_at l) v g l.acts does.Ended (r.calls.other v call) refl reaches)
+        (λ none. entry_shape (calls.Other (Some call)) does.Ended (record l { seat = v; step = step_or does.Ended (r.calls.other v call); regs = g; rest = rest }) (r.calls.other v call) (law.entries.other_about v call) (let e = ap length hand in omega (arith, e)) n.freed none)
+
+    call_next : (call : Call) → p.call ≡ call → IsNext (idle_at l) (record l { seat = v; step = first_of_call r.calls v call; regs = fresh_regs r.calls call l.regs; rest = rest })
+    call_next (Malloc label size) is = malloc_next label size (class_of r.calls.rows size) refl
+    call_next (Free label) is = fresh_next l v (record l.regs { ran = 0 }) (does.Names (names.Take label)) rest c n idle all restarted (λ none. none)
+    call_next (Release pages) is = fresh_next l v (record l.regs { ran = 0 }) (does.Heap (heap.Unback pages)) rest c n idle all restarted (λ none. none)
+    call_next (Drain cpu) is = own_next (Drain cpu) is (subst IsOwn (sym is) tt)
+    call_next (Resize cpu class cap) is = own_next (Resize cpu class cap) is (subst IsOwn (sym is) tt)
+
+  -- the thread comes to the first of these calls
+  pub come_next : (l : Local V R) (todo : List Planned) → IsCommon l → HasNone l → All planned todo → IsNext (idle_at l) (next_call r.calls l todo)
+  come_next l [] c n all = fresh_next l (r.calls.begins l.seat None) l.regs does.Ended [] c n (idle_of l c n) all (λ k ps us holds. law.begins k ps us t l.seat l.regs l.acts None tt n.hand holds) (λ none. none)
+  come_next l (p ∷ ps) c n all = call_next l c n p (All-head planned p ps all) ps (All-tail planned p ps all) p.call refl
+
+  -- the call ends: a row of the front-end may come first
+  closes_next : (l : Local V R) (o : Option R) → IsEntry about (calls.Other None) o → IsCommon l → HasNone l → Reaches (idle_at l) (stand l.seat l.regs l.acts (at_row o)) → IsNext (idle_at l) (closes r.calls l o)
+  closes_next l None entry c n reaches = come_next (record l { ended = l.ended + 1 }) l.rest (record { thread = c.thread; class = c.class; hand = c.hand; freed = c.freed; rest = c.rest }) (record { hand = n.hand; freed = n.freed }) c.rest
+  closes_next l (Some row) entry c n reaches =
+      record {
+        shaped = record { thread = c.thread; class = c.class; hand = c.hand; freed = c.freed; rest = c.rest; step = (subst (HandAbout r.calls.rows l.regs) (sym entry) (let e = ap length n.hand in omega (arith, e)), n.freed) };
+        stands = reaches;
+      }
+
+  pub ends_next : (l : Local V R) → IsCommon l → HasNone l → IsNext (away_at l) (ends r.calls l)
+  ends_next l c n =
+      closes_next (record l { acts = l.acts + 1 }) (r.calls.last l.seat) (law.entries.last_about l.seat) (record { thread = c.thread; class = c.class; hand = c.hand; freed = c.freed; rest = c.rest }) (record { hand = n.hand; freed = n.freed })
+      (λ k ps us holds. law.lasts k ps us t l.seat l.regs (l.acts + 1) n.hand holds)
+
+  -- an allocation goes on with what came to its hand
+  stocks_next : (l : Local V R) (s : Serving) (others : List Addr) → l.regs.hand.items ≡ others → length others ≤ LOADED_ROOM → IsCommon l → l.freed.items ≡ [] → IsNext (away_at l) (stocks r.calls l s others)
+  stocks_next l s [] is few c none = publishes_next l s c (record { hand = is; freed = none })
+  stocks_next l s (a ∷ others) is few c none =
+      let g : Regs = r.calls.to_rest l.regs in
+      let kept = law.entries.to_rest l.regs in
+      let many : length l.regs.hand.items ≡ length (a ∷ others) = ap length is in
+      let size : length g.hand.items ≡ length l.regs.hand.items = ap (λ (h : Contents Addr). length h.items) kept.hand in
+      let reaches : Reaches (away_at l) (stand l.seat g (l.acts + 1) (at_row (r.calls.rest l.seat s))) = λ k ps us holds. law.rests k ps us t l.seat l.regs (l.acts + 1) s (omega (arith, many)) (omega (arith, many, few)) holds in
+      let other : Step R = does.Shard (shard.Give (giving.Rest s)) in
+      let few_in_hand : length g.hand.items ≤ most_slots = omega (arith, size, many, few) in
+      record {
+        shaped = record {
+          thread = ap (λ (x : ThreadNo). x.0) kept.thread ∙ c.thread;
+          class = omega (arith, c.class, ap (λ (x : Class). x.0) kept.class);
+          hand = ap room kept.hand ∙ c.hand;
+          freed = c.freed;
+          rest = c.rest;
+          step = entry_shape (calls.Publishes s) other (goes (with_regs l g) (step_or other (r.calls.rest l.seat s))) (r.calls.rest l.seat s) (law.entries.rest_about l.seat s) few_in_hand none (record { few = few_in_hand; freed = none }, tt);
+        };
+        stands = entry_at (away_at l) l.seat g (l.acts + 1) other (r.calls.rest l.seat s) refl reaches;
+      }
+
+  pub serves_next : (l : Local V R) (a : Asking) (xs : List Addr) → l.regs.hand.items ≡ xs → 0 < length xs → length xs ≤ LOADED_ROOM → IsCommon l → l.freed.items ≡ [] → IsNext (away_at l) (serves_first r.calls l a xs)
+  serves_next l a [] is some few c none = absurd (omega arith)
+  serves_next l a (x ∷ others) is some few c none =
+      let hand : Contents Addr = without_first 1 l.regs.hand in
+      let l' : Local V R = decided (to_hand l hand) (Malloc a.label a.size) (Block x (class_row r.calls.rows l).size) in
+      let size : length l.regs.hand.items ≡ length (x ∷ others) = ap length is in
+      let same : room hand ≡ room l.regs.hand = omega (arith, size, length-drop 1 l.regs.hand.items) in
+      behind (away_at l) (away_at l') (serves_first r.calls l a (x ∷ others)) (stays_away l.seat l.regs (l.acts + 1) (l.acts + 1) l.regs.class hand (omega arith) c.class same)
+      (stocks_next l' (record { label = a.label; addr = x }) others (ap (drop 1) is) (omega (arith, few)) (record { thread = c.thread; class = c.class; hand = same ∙ c.hand; freed = c.freed; rest = c.rest }) none)
+
+  -- a row that comes behind a giving has nothing in hand
+  pub later_shape : (l : Local V R) (k : Class) (a : About) → HasNoLabel a → HasNone l → HandAbout r.calls.rows (record l.regs { class = k }) a
+  later_shape l k (calls.Asks a) other n = absurd other
+  later_shape l k (calls.Publishes s) other n = absurd other
+  later_shape l k (calls.Frees f) other n = absurd other
+  later_shape l k (calls.Other call) other n = let e = ap length n.hand in omega (arith, e)
+
+  -- acts elsewhere, while this is to come
+  pub waits_at : (l : Local V R) (a : At R) (count more : ℕ) (hand : Contents Addr) → NotHere a → count ≤ more → IsCommon l → room hand ≡ room l.regs.hand → Reaches (stand l.seat l.regs count a) (stand l.seat (record l.regs { hand = hand }) more a)
+  waits_at l (Here row) count more hand none few c same = absurd none
+  waits_at l (Later k row) count more hand none few c same = λ n ps us holds. law.waits n ps us t l.seat l.regs count more k row hand few same holds
+  waits_at l Away count more hand none few c same = λ n ps us holds. law.away n ps us t l.seat l.regs count more l.regs.class hand few c.class same holds
+
+  -- a thread behind which this is to come
+  abbrev pub onward_at : Local V R → Onward R → Standing V R
+  onward_at l o = stand l.seat l.regs (l.acts + 1) (at_onward o)
+
+  -- what comes once no span is left to give back
+  onward_next : (l : Local V R) (o : Onward R) → IsCommon l → HasNone l → IsOnward r.calls.rows about o → IsNext (onward_at l o) (goes_onward r.calls l o)
+  onward_next l (onward.Publish s) c n is = publishes_next l s c n
+  onward_next l (onward.Row k row) c n is =
+      record {
+        shaped = record { thread = c.thread; class = is.0; hand = c.hand; freed = c.freed; rest = c.rest; step = (later_shape l k (about row) is.1 n, n.freed) };
+        stands = λ m ps us holds. law.back m ps us t l.seat l.regs (l.acts + 1) (l.acts + 1) k row l.regs.hand (omega arith) refl n.hand holds;
+      }
+  onward_next l onward.End c n is = ends_next l c n
+
+  pub clears_next : (l : Local V R) (o : Onward R) (spans : List SpanRef) → l.freed.items ≡ spans → IsCommon l → l.regs.hand.items ≡ [] → IsOnward r.calls.rows about o → IsNext (onward_at l o) (clears r.calls l o spans)
+  clears_next l o [] freed c hand is = onward_next l o c (record { hand = hand; freed = freed }) is
+  clears_next l o (s ∷ others) freed c hand is =
+      record {
+        shaped = record { thread = c.thread; class = c.class; hand = c.hand; freed = c.freed; rest = c.rest; step = (record { hand = hand; some = (let e = ap length freed in omega (arith, e)) }, is) };
+        stands = λ m ps us holds. holds;
+      }
+
+  -- the hand was given
+  abbrev pub giving_at : Local V R → Giving R → Standing V R
+  giving_at l g = stand l.seat l.regs (l.acts + 1) (at_giving g)
+
+  pub gave_next : (l : Local V R) (g : Giving R) (hand : List Addr) → IsCommon l → l.regs.hand.items ≡ [] → IsGiving r.calls.rows about hand g → IsNext (giving_at l g) (gave r.calls l g)
+  gave_next l (giving.Rest s) hand c none is = clears_next l (onward.Publish s) l.freed.items refl c none tt
+  gave_next l (giving.Freed f) hand c none is =
+      clears_next (decided l (Free f.label) (Freed f.addr)) onward.End l.freed.items refl (record { thread = c.thread; class = c.class; hand = c.hand; freed = c.freed; rest = c.rest }) none tt
+  gave_next l (giving.Row k row) hand c none is = clears_next l (onward.Row k row) l.freed.items refl c none is
+  gave_next l giving.End hand c none is = clears_next l onward.End l.freed.items refl c none tt
+
+  pub given_back_next : (l : Local V R) (g : Giving R) (freed : Contents SpanRef) → IsCommon l → length freed.items + freed.spare ≡ HAND_ROOM → IsGiving r.calls.rows about l.regs.hand.items g → IsNext (giving_at l g) (given_back r.calls l g freed)
+  given_back_next l g freed c size is =
+      let l' : Local V R = with_freed (to_hand l (emptied l.regs.hand)) freed in
+      behind (giving_at l g) (giving_at l' g) (given_back r.calls l g freed) (waits_at l (at_giving g) (l.acts + 1) (l.acts + 1) (emptied l.regs.hand) (giving_not g) (omega arith) c (omega arith))
+      (gave_next l' g l.regs.hand.items (record { thread = c.thread; class = c.class; hand = omega (arith, c.hand); freed = size; rest = c.rest }) refl is)

@@ -1,0 +1,119 @@
+-- A thread as the front-end sees it: its seat there, its registers, and where it stands with a row.
+use Rattle.std.specs.Prelude.{ℕ, Option, Some, None}
+use Rattle.tc_units.specs.declared.units.Class.{Class}
+use Rattle.rseq_core.specs.declared.regs.Regs.{Regs}
+use Rattle.call_steps.specs.declared.step.Giving.{Giving}
+use Rattle.call_steps.specs.declared.step.Giving.TheVariants as giving
+use Rattle.call_steps.specs.declared.step.Onward.{Onward}
+use Rattle.call_steps.specs.declared.step.Onward.TheVariants as onward
+use Rattle.call_steps.specs.declared.step.Next.{Next}
+use Rattle.call_steps.specs.declared.step.Next.TheVariants as next
+use Rattle.call_steps.specs.declared.step.Step.{Step}
+use Rattle.call_steps.specs.declared.step.Step.TheVariants as step
+use Rattle.call_steps.specs.declared.step.ShardStep.{ShardStep}
+use Rattle.call_steps.specs.declared.step.ShardStep.TheVariants as shard
+use Rattle.call_steps.specs.declared.step.HeapStep.{HeapStep}
+use Rattle.call_steps.specs.declared.step.HeapStep.TheVariants as heap
+use Rattle.call_steps.specs.declared.step.MapStep.{MapStep}
+use Rattle.call_steps.specs.declared.step.MapStep.TheVariants as map
+use Rattle.call_steps.specs.Local.{Local}
+
+-- where a thread stands with a row of the front-end: that is its next act, or comes for a class behind acts elsewhere, or
+-- there is none
+pub data At (R : Type 0) : Type 0 where
+  Here : R → At R
+  Later : Class → R → At R
+  Away : At R
+
+-- a thread by its seat, its registers, how many acts it has done, and where it stands
+pub record Standing (V R : Type 0) : Type 0 where
+  pub seat : V
+  pub regs : Regs
+  pub acts : ℕ
+  pub at : At R
+
+abbrev pub stand : {V R : Type 0} → V → Regs → ℕ → At R → Standing V R
+stand v g n at = record { seat = v; regs = g; acts = n; at = at }
+
+-- at a row that comes next, if any
+abbrev pub at_row : {R : Type 0} → Option R → At R
+at_row None = Away
+at_row (Some row) = Here row
+
+-- while a hand is given away, and while spans are given back
+abbrev pub at_giving : {R : Type 0} → Giving R → At R
+at_giving (giving.Rest s) = Away
+at_giving (giving.Freed f) = Away
+at_giving (giving.Row k row) = Later k row
+at_giving giving.End = Away
+
+abbrev pub at_onward : {R : Type 0} → Onward R → At R
+at_onward (onward.Publish s) = Away
+at_onward (onward.Row k row) = Later k row
+at_onward onward.End = Away
+
+-- by the step
+abbrev pub at_shard : {R : Type 0} → ShardStep R → At R
+at_shard (shard.Fetch a) = Away
+at_shard (shard.AddFetch a run) = Away
+at_shard (shard.Give g) = at_giving g
+
+abbrev pub at_heap : {R : Type 0} → HeapStep R → At R
+at_heap (heap.New label size) = Away
+at_heap (heap.NewSpan a) = Away
+at_heap (heap.GiveBack label run) = Away
+at_heap (heap.FreeSpan next) = at_onward next
+at_heap (heap.Unback pages) = Away
+
+abbrev pub at_map : {R : Type 0} → MapStep R → At R
+at_map (map.Set label run) = Away
+at_map (map.SetSpan a run) = Away
+at_map (map.Lookup label addr) = Away
+at_map (map.Clear label run) = Away
+at_map (map.ClearSpan next) = at_onward next
+
+abbrev pub at_step : {R : Type 0} → Step R → At R
+at_step (step.Front row) = Here row
+at_step (step.Shard row) = at_shard row
+at_step (step.Heap row) = at_heap row
+at_step (step.Map row) = at_map row
+at_step (step.Names row) = Away
+at_step step.Ended = Away
+
+abbrev pub standing_of : {V R : Type 0} → Local V R → Standing V R
+standing_of l = stand l.seat l.regs l.acts (at_step l.step)
+
+-- Right behind an act of the front-end: a hand that it took itself lets the row come at once, for its class.
+abbrev pub at_gave : {R : Type 0} → Giving R → At R
+at_gave (giving.Rest s) = Away
+at_gave (giving.Freed f) = Away
+at_gave (giving.Row k row) = Here row
+at_gave giving.End = Away
+
+abbrev pub at_next : {R : Type 0} → Next R → At R
+at_next (next.Row row) = Here row
+at_next (next.Serve a) = Away
+at_next (next.Fetch a) = Away
+at_next (next.Give g) = at_giving g
+at_next (next.Gave g) = at_gave g
+at_next (next.Publish s) = Away
+at_next (next.Freed f) = Away
+at_next (next.Decide answer row) = at_row row
+at_next next.End = Away
+
+abbrev pub regs_gave : {R : Type 0} → Regs → Giving R → Regs
+regs_gave g (giving.Rest s) = g
+regs_gave g (giving.Freed f) = g
+regs_gave g (giving.Row k row) = record g { class = k }
+regs_gave g giving.End = g
+
+abbrev pub regs_next : {R : Type 0} → Regs → Next R → Regs
+regs_next g (next.Row row) = g
+regs_next g (next.Serve a) = g
+regs_next g (next.Fetch a) = g
+regs_next g (next.Give v) = g
+regs_next g (next.Gave v) = regs_gave g v
+regs_next g (next.Publish s) = g
+regs_next g (next.Freed f) = g
+regs_next g (next.Decide answer row) = g
+regs_next g next.End = g

@@ -1,0 +1,278 @@
+-- What comes behind an act at a CPU, and what the act leaves.
+use Rattle.std.proofs.Common.{◌≡◌, ◌≢◌, ℕ, ◌+◌, ◌<◌, ◌≤◌, false, List, [], length, Option, Some, None, refl, sym, ap, ◌∙◌, subst, arith, inl, inr, ◌⊎◌, zero, suc, eqb}
+use Rattle.std.proofs.lemmas.Bool.{cond_both}
+use Rattle.tc_units.specs.declared.units.Class.{Class}
+use Rattle.tc_units.specs.declared.units.ThreadNo.{ThreadNo}
+use Rattle.tc_units.specs.declared.spans.ClassRow.{ClassRow}
+use Rattle.tc_model.specs.declared.calls.MoveTo.{MoveTo}
+use Rattle.tc_model.specs.declared.config.Config.{Config}
+use Rattle.tc_model.specs.declared.machine.TheConstants.{MOST_PICKS}
+use Rattle.cpu_slab.specs.Slots.{CpuSlab, row_at, held}
+use Rattle.rseq_core.specs.declared.cpu_part.CpuPart.{CpuPart}
+use Rattle.rseq_core.specs.declared.regs.Regs.{Regs}
+use Rattle.rseq_core.specs.Bags.{room}
+use Rattle.rseq_core.specs.Tables.{is_pop}
+use Rattle.rseq_core.specs.Agrees.{Agrees}
+use Rattle.rseq_core.specs.Acts.{IsCurrent, runs, left, dropped}
+use Rattle.cpu_drain.specs.Seats as seats
+use Rattle.cpu_drain.specs.Seats.{CpuOk, SeatOk, SeatKeeps}
+use Rattle.cpu_drain.specs.Laws.{IsHome, AreOfSame}
+use Rattle.cpu_drain.proofs.Lawful as lawful
+use Rattle.holdings.specs.Runs.{objects_at}
+use Rattle.call_steps.specs.declared.seat.CpuSeat.{CpuSeat}
+use Rattle.call_steps.specs.declared.step.CpuRow.{CpuRow}
+use Rattle.call_steps.specs.declared.step.CpuRow.TheVariants as front
+use Rattle.call_steps.specs.declared.step.CpuStep.{CpuStep}
+use Rattle.call_steps.specs.PerCpu.{Next}
+use Rattle.call_steps.specs.Calls.{HasNoLabel, About, Asks, Publishes, Frees, Other, about_giving}
+use Rattle.call_steps.specs.CpuActs as acts
+use Rattle.call_steps.specs.CpuActs.{cpu_acts, leaving, moves_to, leaves, looks_on, gives, at_cpu_next}
+use Rattle.call_steps.specs.CpuRows.{about_cpu, about_row, at_cpu, as_row}
+use Rattle.call_steps.specs.Fits.{FitsCpu}
+use Rattle.call_steps.specs.Local.{thread_no}
+use Rattle.call_steps.specs.Shapes.{AreRows, most_slots}
+use Rattle.cpu_rows.specs.Shapes.{IsMove, IsAtBegin, HasNone, IsGiving, CpuShape, cpu_standing, giving_standing}
+use Rattle.alloc_rules.specs.Standings.{Standing, Here, stand, at_next, regs_next}
+use Rattle.alloc_rules.specs.FrontLaw.{IsReady, IsAct, IsNext}
+use Rattle.cpu_rows.specs.CpuFront.{Cpu, left_with, cpu_front, seated}
+use Rattle.cpu_rows.specs.CpuHolds.{limits_of, stopping_at, seat_at, IsSeated, RegsAt}
+use Rattle.call_steps.specs.declared.step.Asking.{Asking}
+use Rattle.call_steps.specs.declared.step.Giving.{Giving}
+use Rattle.call_steps.specs.declared.step.Giving.TheVariants as giving
+use Rattle.call_steps.specs.declared.step.Next.TheVariants as next
+use Rattle.call_steps.specs.declared.step.DomainStep.TheVariants as domain
+use Rattle.alloc_rules.specs.Shapes.{IsAsked, HandAbout}
+
+-- a number of domains that isn't 0
+some_domain : (n : ℕ) → eqb n 0 ≡ false → 0 < n
+some_domain zero is = absurd (cc)
+some_domain (suc n) is = omega arith
+
+module _ (rows : List ClassRow) (c : Config) where
+  -- It may come there, the registers are as there, and the thread stands so at the CPU that it has stopped.
+  pub record IsBehind (v : CpuSeat) (row : CpuRow) (g r : Regs) (o : Option seats.Standing) (n : Next) : Type 0 where
+    pub next : IsNext (cpu_front rows c) about_row row g r n
+    pub regs : RegsAt (limits_of rows c) v (regs_next r n) (at_next n)
+    pub stands : stopping_at rows (regs_next r n) (at_next n) ≡ o
+    pub same : regs_next r n ≡ r
+
+  -- a row's hand, with registers of its class and the same objects
+  pub hand_same : (g r : Regs) (a : About) → r.class ≡ g.class → r.hand.items ≡ g.hand.items → HandAbout rows g a → HandAbout rows r a
+  hand_same g r (Asks a) class hand x = (x.0 ∙ ap (λ (k : Class). Some k) (sym class), hand ∙ x.1)
+  hand_same g r (Publishes s) class hand x = omega (arith, ap length hand, x)
+  hand_same g r (Frees f) class hand x = (rw hand x.0, omega (arith, ap length hand, x.1))
+  hand_same g r (Other call) class hand x = omega (arith, ap length hand, x)
+
+  hand_other : (r : Regs) (a : About) → HasNoLabel a → length r.hand.items ≤ most_slots → HandAbout rows r a
+  hand_other r (Asks a) other few = absurd other
+  hand_other r (Publishes s) other few = absurd other
+  hand_other r (Frees f) other few = absurd other
+  hand_other r (Other call) other few = few
+
+  hand_given : (r : Regs) (w : Giving CpuStep) → length r.hand.items ≤ most_slots → IsGiving (limits_of rows c) r.hand.items (as_row w)
+      → HandAbout rows r (about_giving about_cpu w)
+  hand_given r (giving.Rest s) few is = few
+  hand_given r (giving.Freed f) few is = (is, few)
+  hand_given r (giving.Row k row) few is = hand_other r (about_cpu row) is.other few
+  hand_given r giving.End few is = few
+
+  -- an allocation looks on in its domain, or in the shard
+  pub looks : (v : CpuSeat) (row : CpuRow) (g r : Regs) (a : Asking) → about_row row ≡ Asks a → HasNone (seated v r) → IsAsked rows r a
+      → IsBehind v row g r None (looks_on v a)
+  looks v row g r a is none asked =
+      cond_both (eqb v.domains 0) (next.Fetch a) (next.Row (front.Domain (domain.Take a))) (IsBehind v row g r None)
+      (λ e. record { next = (is, none.hand); regs = none.begin; stands = refl; same = refl })
+      (λ e. record
+      { next = (sym is, subst (HandAbout rows r) (sym is) (asked, none.hand)); regs = (none, asked, some_domain v.domains e); stands = refl; same = refl })
+
+  -- the hand is given away, to the cache of the domain or to the shard
+  pub gives_to_shard : (v : CpuSeat) (row : CpuRow) (g r : Regs) (w : Giving CpuStep) → about_row row ≡ about_giving about_cpu w → IsAtBegin r
+      → length r.hand.items ≤ most_slots → IsGiving (limits_of rows c) r.hand.items (as_row w) → IsBehind v row g r (giving_standing rows (as_row w))
+      (next.Give (as_row w))
+  gives_to_shard v row g r (giving.Rest s) is begin few has = record { next = (is, few, tt); regs = begin; stands = refl; same = refl }
+  gives_to_shard v row g r (giving.Freed f) is begin few has = record { next = (is, few, has); regs = begin; stands = refl; same = refl }
+  gives_to_shard v row g r (giving.Row k to) is begin few has =
+      record { next = (is, few, (has.class, has.other)); regs = (begin, has); stands = refl; same = refl }
+  gives_to_shard v row g r giving.End is begin few has = record { next = (is, few, tt); regs = begin; stands = refl; same = refl }
+
+  pub gives_away : (v : CpuSeat) (row : CpuRow) (g r : Regs) (w : Giving CpuStep) → about_row row ≡ about_giving about_cpu w → IsAtBegin r
+      → length r.hand.items ≤ most_slots → IsGiving (limits_of rows c) r.hand.items (as_row w) → IsBehind v row g r (giving_standing rows (as_row w))
+      (gives v w)
+  gives_away v row g r w is begin few has =
+      cond_both (eqb v.domains 0) (next.Give (as_row w)) (next.Row (front.Domain (domain.Put w))) (IsBehind v row g r (giving_standing rows (as_row w)))
+      (λ e. gives_to_shard v row g r w is begin few has)
+      (λ e. record
+      { next = (sym is, subst (HandAbout rows r) (sym is) (hand_given r w few has)); regs = (record { begin = begin; few = few; freed = refl }, has, some_domain v.domains e); stands = refl; same = refl })
+
+  -- the call goes on with a row at a CPU
+  pub goes_on : (v : CpuSeat) (row to : CpuStep) (g r : Regs) → about_cpu to ≡ about_cpu row → HandAbout rows r (about_cpu row)
+      → CpuShape (limits_of rows c) (seated v r) to → IsBehind v (front.Cpu row) g r (cpu_standing rows r.class.0 to) (at_cpu_next to)
+  goes_on v row to g r is hand shape = record { next = (is, hand); regs = shape; stands = refl; same = refl }
+
+-- registers that differ in their class and their sequence alone
+pub record AreLike (r new : Regs) : Type 0 where
+  pub thread : new.thread ≡ r.thread
+  pub hand : new.hand ≡ r.hand
+  pub loaded : new.loaded ≡ r.loaded
+  pub ran : new.ran ≡ r.ran
+  pub epoch : new.epoch ≡ r.epoch
+
+-- a thread's turn at a CPU
+pub record Turn : Type 0 where
+  pub rows : List ClassRow
+  pub config : Config
+  pub thread : ℕ
+  pub part : CpuPart
+  pub seat : CpuSeat
+  pub regs : Regs
+  pub acts : ℕ
+
+module _ (turn : Turn) where
+  open turn use {rows, config as c, thread as t, part as p, seat as v, regs as g, acts as count}
+
+  -- a thread at a row of a CPU, by its seat there
+  abbrev pub seat : CpuStep → seats.Seat
+  seat row = seat_at rows (stand v g count (Here (front.Cpu row)))
+
+  -- this seat is kept, with all others
+  abbrev pub Keeps : CpuStep → CpuPart → seats.Seat → Type 0
+  Keeps row new after = SeatKeeps (length rows) (at_cpu v.cpu row).0 (thread_no t) p (seat row) new after
+
+  -- The CPU is sound and the two agree, and counts are low.
+  pub record IsThere (row : CpuStep) : Type 0 where
+    pub are : AreRows rows
+    pub sits : IsSeated rows c t (stand v g count (Here (front.Cpu row)))
+    pub ready : IsReady (cpu_front rows c) t g (about_cpu row)
+    pub part : CpuOk (length rows) p
+    pub pair : SeatOk (at_cpu v.cpu row).0 (thread_no t) p (seat row)
+    pub epoch : p.epoch ≤ MOST_PICKS
+    pub acts : count ≤ MOST_PICKS
+
+  -- An act keeps all seats, leaves the thread seated, and moves objects.
+  abbrev after : acts.Left CpuPart → Standing CpuSeat CpuRow
+  after x = stand x.seat (regs_next x.regs x.next) (count + 1) (at_next x.next)
+
+  pub record Acts (row : CpuStep) (x : acts.Left CpuPart) : Type 0 where
+    pub keeps : Keeps row x.part (seat_at rows (after x))
+    pub sits : IsSeated rows c t (after x)
+    pub epoch : x.part.epoch ≤ p.epoch + 1
+    pub act : IsAct (cpu_front rows c) about_row (Cpu p) g (front.Cpu row) (left_with Cpu x)
+
+  -- and fits
+  pub record Does (row : CpuStep) : Type 0 where
+    pub fits : FitsCpu rows p v g row
+    pub acts : Acts row (cpu_acts rows p v g row)
+
+  -- what it does to the CPU, with these registers: objects move between the slab and the hand
+  pub record IsMoved (new : CpuPart) (r : Regs) : Type 0 where
+    pub same : AreOfSame g r
+    pub ran : r.ran ≤ g.ran + 1
+    pub epoch : new.epoch ≤ p.epoch + 1
+    pub others : (k n : ℕ) → k ≢ g.class.0 → objects_at n (held (row_at new.slab k)) ≡ objects_at n (held (row_at p.slab k))
+    pub moves : (n : ℕ)
+        → objects_at n (held (row_at new.slab g.class.0)) + objects_at n r.hand.items ≡ objects_at n (held (row_at p.slab g.class.0)) + objects_at n
+        g.hand.items
+
+  -- a class is another one of the table where nothing is in hand of a call without a label
+  abbrev pub HasClass : CpuStep → Regs → Regs → Type 0
+  HasClass row r new = (new.class ≡ r.class) ⊎ ((new.class.0 < length rows) × (new.hand.items ≡ []) × HasNoLabel (about_cpu row))
+
+  -- the call then goes on with these
+  pub record GoesOn (row : CpuStep) (to : CpuSeat) (r new : Regs) (o : Option seats.Standing) (n : Next) : Type 0 where
+    pub like : AreLike r new
+    pub class : HasClass row r new
+    pub behind : IsBehind rows c to (front.Cpu row) g new o n
+
+  -- the thread's seat is there
+  pub record IsSeat (to : CpuSeat) : Type 0 where
+    pub home : to.cpu.0 < c.cpus
+    pub domains : to.domains ≡ c.domains
+    pub move : IsMove (limits_of rows c) to.moved
+
+  class_low : (row : CpuStep) (r new : Regs) → IsThere row → r.class ≡ g.class → HasClass row r new
+      → (new.class.0 < length rows) × ((new.class ≡ g.class) ⊎ ((new.hand.items ≡ []) × HasNoLabel (about_cpu row)))
+  class_low row r new there is (inl same) = (omega (arith, ap (λ (k : Class). k.0) (same ∙ is), there.ready.class), inl (same ∙ is))
+  class_low row r new there is (inr other) = (other.0, inr (other.1, other.2))
+
+  builds : (row : CpuStep) (new : CpuPart) (to : CpuSeat) (r r' : Regs) (n : Next) (o o' : Option seats.Standing) → IsThere row → IsSeat to → IsMoved new r
+      → GoesOn row to r r' o' n → o ≡ o' → Keeps row new (record { regs = r'; cpu = to.cpu.0; standing = o })
+      → Acts row (leaving new to r' n)
+  builds row new to r r' n o o' there is m x same keeps =
+      let b = x.behind in
+      let class = class_low row r r' there m.same.class x.class in
+      record {
+        keeps =
+            subst (λ (y : Regs). Keeps row new (record { regs = y; cpu = to.cpu.0; standing = stopping_at rows (regs_next r' n) (at_next n) })) (sym b.same)
+            (subst (λ (y : Option seats.Standing). Keeps row new (record { regs = r'; cpu = to.cpu.0; standing = y })) (same ∙ sym b.stands) keeps);
+        sits = record {
+          thread = ap (λ (y : Regs). y.thread) b.same ∙ (x.like.thread ∙ (m.same.thread ∙ there.sits.thread));
+          home = is.home;
+          domains = is.domains;
+          move = is.move;
+          loaded = ap (λ (y : Regs). room y.loaded) b.same ∙ (ap (λ h. room h) x.like.loaded ∙ (m.same.loaded_room ∙ there.sits.loaded));
+          ran = omega (arith, ap (λ (y : Regs). y.ran) b.same, x.like.ran, m.ran, there.sits.ran);
+          regs = b.regs;
+        };
+        epoch = m.epoch;
+        act = record {
+          thread = x.like.thread ∙ m.same.thread;
+          room = ap (λ h. room h) x.like.hand ∙ m.same.hand_room;
+          low = class.0;
+          class = class.1;
+          others = m.others;
+          moves = λ n. let e = m.moves n in omega (arith, e, ap (λ h. objects_at n h.items) x.like.hand);
+          next = b.next;
+        };
+      }
+
+  pub as_left : (row : CpuStep) (to : CpuSeat) (r : Regs) (o : Option seats.Standing) (n : Next) → IsBehind rows c to (front.Cpu row) g r o n
+      → GoesOn row to r r o n
+  as_left row to r o n b = record { like = record { thread = refl; hand = refl; loaded = refl; ran = refl; epoch = refl }; class = inl refl; behind = b }
+
+  -- in the middle of a sequence
+  pub still : (row : CpuStep) (new : CpuPart) (r : Regs) (o o' : Option seats.Standing) (n : Next) → IsThere row → IsMoved new r
+      → IsBehind rows c v (front.Cpu row) g r o' n → o ≡ o' → Keeps row new (record { regs = r; cpu = v.cpu.0; standing = o }) → Acts row (leaving new v r n)
+  still row new r o o' n there m b same keeps = builds row new v r r n o o' there
+      (record { home = there.sits.home; domains = there.sits.domains; move = there.sits.move }) m (as_left row v r o' n b) same keeps
+
+  -- and at its begin, where the registers may be set for another
+  pub goes : (row : CpuStep) (new : CpuPart) (r r' : Regs) (o o' : Option seats.Standing) (n : Next) → IsThere row → IsMoved new r → GoesOn row v r r' o' n
+      → IsAtBegin r' → o ≡ o' → Keeps row new (record { regs = r; cpu = v.cpu.0; standing = o }) → Acts row (leaving new v r' n)
+  goes row new r r' o o' n there m x begin same keeps =
+      builds row new v r r' n o o' there (record { home = there.sits.home; domains = there.sits.domains; move = there.sits.move }) m x same
+      (lawful.sets (length rows) (at_cpu v.cpu row).0 (thread_no t) p new (seat row) (record { regs = r; cpu = v.cpu.0; standing = o }) r'
+      (record { pc = begin.pc; nothing = begin.nothing; epoch = x.like.epoch }) keeps)
+
+  -- an act of a stopper that moves no object
+  pub moves_none : (new : CpuPart) → new.epoch ≤ p.epoch + 1 → ((j : ℕ) → held (row_at new.slab j) ≡ held (row_at p.slab j)) → IsMoved new g
+  moves_none new epoch slab =
+      let same : AreOfSame g g = record { thread = refl; class = refl; seq = refl; hand_room = refl; loaded_room = refl } in
+      record { same = same; ran = omega arith; epoch = epoch; others = λ k n apart. ap (objects_at n) (slab k); moves = λ n. ap (λ xs. objects_at n xs + objects_at n g.hand.items) (slab g.class.0) }
+
+  pub slab_same : (new : CpuPart) → new.slab ≡ p.slab → (j : ℕ) → held (row_at new.slab j) ≡ held (row_at p.slab j)
+  slab_same new same j = ap (λ (s : CpuSlab). held (row_at s j)) same
+
+  -- a thread at its own CPU
+  pub home_of : (row : CpuStep) → IsThere row → v.cpu.0 ≡ (at_cpu v.cpu row).0 → IsHome (length rows) (at_cpu v.cpu row).0 (thread_no t) p (seat row)
+  home_of row there here = record { part = there.part; pair = there.pair; cpu = here; thread = there.sits.thread; class = there.ready.class }
+
+  pub agrees_of : (row : CpuStep) → IsThere row → IsCurrent g.thread p g → Agrees (is_pop g.seq) (row_at p.slab g.class.0) g g.pc
+  agrees_of row there e = there.pair.agrees (subst (λ (u : ThreadNo). IsCurrent u p g) there.sits.thread e)
+
+  -- the thread leaves for the CPU of its move
+  left_part : (u : ThreadNo) → ((left p u).slab ≡ p.slab) × ((left p u).epoch ≤ p.epoch + 1)
+  left_part u = cond_both (runs p.running u) (record p { running = None; epoch = p.epoch + 1; is_open = false }) p
+      (λ (q : CpuPart). (q.slab ≡ p.slab) × (q.epoch ≤ p.epoch + 1)) (λ e. (refl, omega arith)) (λ e. (refl, omega arith))
+
+  pub leave_acts : (row : CpuStep) (move : MoveTo) (n : Next) (o : Option seats.Standing) → IsThere row → v.cpu.0 ≡ (at_cpu v.cpu row).0
+      → v.moved ≡ Some move → (seat row).standing ≡ o → IsBehind rows c (moves_to v move) (front.Cpu row) g (dropped g) o n → Acts row (leaves p v g move n)
+  leave_acts row move n o there here is stands b =
+      let u : ThreadNo = g.thread in
+      let left_seat : seats.Seat = record (seat row) { regs = dropped g; cpu = move.cpu.0 } in
+      let keeps = lawful.leaves (length rows) (at_cpu v.cpu row).0 move.cpu.0 (thread_no t) p (seat row) (home_of row there here) in
+      let low : IsMove (limits_of rows c) (Some move) = subst (IsMove (limits_of rows c)) is there.sits.move in
+      let m = moves_none (left p u) (left_part u).1 (slab_same (left p u) (left_part u).0) in
+      builds row (left p u) (moves_to v move) (dropped g) (dropped g) n (seat row).standing o there
+      (record { home = low; domains = there.sits.domains; move = tt })
+      (record { same = record { thread = refl; class = refl; seq = refl; hand_room = refl; loaded_room = omega arith }; ran = m.ran; epoch = m.epoch; others = m.others; moves = m.moves }) (as_left row (moves_to v move) (dropped g) o n b) stands
+      (subst (λ (x : ThreadNo). Keeps row (left p x) left_seat) (sym there.sits.thread) keeps)

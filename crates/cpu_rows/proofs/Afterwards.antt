@@ -1,0 +1,71 @@
+-- What holds of the caches after the picks of an order, from the allocator's law and their own invariant.
+use Rattle.std.proofs.Common.{◌≡◌, ◌≢◌, ℕ, List, Some, ap, ◌∙◌, subst}
+use Rattle.std.specs.Prelude.{option_map, slice_get}
+use Rattle.std.proofs.lemmas.Option.{slice_get-map}
+use Rattle.tc_units.specs.declared.units.ThreadNo.{ThreadNo}
+use Rattle.tc_model.specs.Input.{Input}
+use Rattle.tc_model.specs.Sound.{IsOrder}
+use Rattle.rseq_core.specs.declared.cpu_part.CpuPart.{CpuPart}
+use Rattle.cpu_drain.specs.Seats.{SeatOk, IsStopping}
+use Rattle.call_steps.specs.declared.step.Resizing.{Resizing}
+use Rattle.call_steps.specs.declared.step.Stopping.{Stopping}
+use Rattle.call_steps.specs.declared.step.Step.TheVariants as does
+use Rattle.call_steps.specs.declared.step.CpuRow.TheVariants as front
+use Rattle.call_steps.specs.declared.step.CpuStep.TheVariants as cpu
+use Rattle.call_steps.specs.PerCpu.{CpuLocal as Local, Step}
+use Rattle.call_steps.specs.Local.{thread_no}
+use Rattle.alloc_rules.specs.Standings.{at_step, standing_of}
+use Rattle.alloc_rules.specs.Law as allocator
+use Rattle.alloc_rules.proofs.Laws.{in_every_order}
+use Rattle.cpu_rows.specs.CpuFront.{Cpu}
+use Rattle.cpu_rows.specs.CpuHolds.{CpuHolds, IsSeated, RegsAt, limits_of, cpu_planned, cpu_fits, seat_at, stopping_at}
+use Rattle.cpu_rows.specs.Machine.{front_of, rules}
+use Rattle.cpu_rows.specs.Valid.{IsValid}
+use Rattle.cpu_rows.specs.Law.{HoldsAfter, InEveryOrder}
+use Rattle.call_steps.specs.CpuRows.{about_row}
+use Rattle.cpu_rows.proofs.Answering.{answers_busy, answers_cap}
+use Rattle.cpu_rows.proofs.Switching.{switches_are_few}
+use Rattle.cpu_rows.proofs.Valid.{valid_all, lawful}
+
+module _ (input : Input) (valid : IsValid input) (order : List ℕ) (of : IsOrder (rules input) order) (all : allocator.HoldsAfter (front_of input) about_row (CpuHolds input.rows input.asked.config) input.asked order) where
+  seated : (t : ℕ) (l : Local) → slice_get all.locals t ≡ Some l → IsSeated input.rows input.asked.config t (standing_of l)
+  seated t l at = all.front.threads t (standing_of l) (slice_get-map standing_of all.locals t ∙ ap (option_map standing_of) at)
+
+  agrees : (i t : ℕ) (p : CpuPart) (l : Local) → slice_get all.parts.fronts i ≡ Some (Cpu p) → slice_get all.locals t ≡ Some l → SeatOk i (thread_no t) p (seat_at input.rows (standing_of l))
+  agrees i t p l part at = all.front.seats_agree i t p (standing_of l) part (slice_get-map standing_of all.locals t ∙ ap (option_map standing_of) at)
+
+  -- a thread that is to stop a CPU is the stopper of none
+  no_stopper : (i t : ℕ) (p : CpuPart) (l : Local) → slice_get all.parts.fronts i ≡ Some (Cpu p) → slice_get all.locals t ≡ Some l → (s : Stopping) → l.step ≡ does.Front (front.Cpu (cpu.Stop s)) → p.stopper ≢ Some l.regs.thread
+  no_stopper i t p l part at s step is =
+      subst (λ (x : Step). IsStopping i (stopping_at input.rows l.regs (at_step x))) step ((agrees i t p l part at).stops (is ∙ ap (λ (u : ThreadNo). Some u) (seated t l at).thread))
+
+  cap_class : (t : ℕ) (l : Local) → slice_get all.locals t ≡ Some l → (r : Resizing) → l.step ≡ does.Front (front.Cpu (cpu.SetCap r)) → l.regs.class ≡ r.class
+  cap_class t l at r step = (subst (λ (x : Step). RegsAt (limits_of input.rows input.asked.config) l.seat l.regs (at_step x)) step (seated t l at).regs).2
+
+  pub holds_after : HoldsAfter input order
+  holds_after =
+      record {
+        all = all;
+        parts_are = all.front.placed.many;
+        cpu_is_sound = all.front.cpu_is_sound;
+        slab_is_of_heads = all.front.slab_is_of_heads;
+        cache_has_room = all.front.cache_has_room;
+        epoch_is_within_picks = all.front.epoch_is_within_picks;
+        ran_is_within_acts = λ t l at. (seated t l at).ran;
+        seats_agree = agrees;
+        answers_busy = λ i t p l part at. answers_busy input p l (no_stopper i t p l part at);
+        answers_cap = λ i t p l part at. answers_cap input p l (cap_class t l at);
+        switches = switches_are_few input valid order of.few;
+      }
+
+pub cpu_in_every_order : InEveryOrder
+cpu_in_every_order input valid =
+    let law = in_every_order (front_of input) about_row (cpu_planned input.rows input.asked.config) (CpuHolds input.rows input.asked.config) (cpu_fits input.rows) (lawful input valid) input.asked (valid_all input valid) in
+    record {
+      sound = law.sound;
+      threads = law.threads;
+      never_waits = law.never_waits;
+      rises = law.rises;
+      ends = law.ends;
+      holds = λ order of. holds_after input valid order of (law.holds order of);
+    }

@@ -1,0 +1,191 @@
+-- Acts at the cache of a class in a domain.
+use Rattle.std.proofs.Common.{subst, ◌≡◌, ◌≢◌, refl, ℕ, ◌+◌, ◌-◌, ◌<◌, ◌≤◌, Bool, cond, [], ◌∷◌, List, length, drop, ap, sym, ◌∙◌, inl, arith}
+use Rattle.std.proofs.lemmas.Bool.{cond_both, eq-eqb, ne_eqb, leb-true}
+use Rattle.std.proofs.lemmas.List.{length-append, length-take, length-drop, length-reverse}
+use Rattle.tc_units.specs.declared.units.Addr.{Addr}
+use Rattle.tc_units.specs.declared.units.Class.{Class}
+use Rattle.tc_units.specs.declared.spans.ClassRow.{ClassRow}
+use Rattle.tc_model.specs.declared.config.Config.{Config}
+use Rattle.rseq_core.specs.declared.regs.Regs.{Regs}
+use Rattle.rseq_core.specs.declared.regs.TheConstants.{HAND_ROOM, LOADED_ROOM}
+use Rattle.rseq_core.specs.Bags.{appended, emptied, room}
+use Rattle.transfer_cache.specs.Transfer.{Transfer, last_first, without_last}
+use Rattle.holdings.specs.Runs.{objects_at}
+use Rattle.call_steps.specs.declared.seat.CpuSeat.{CpuSeat}
+use Rattle.call_steps.specs.declared.step.Asking.{Asking}
+use Rattle.call_steps.specs.declared.step.Giving.{Giving}
+use Rattle.call_steps.specs.declared.step.Giving.TheVariants as giving
+use Rattle.call_steps.specs.declared.step.Next.TheVariants as next
+use Rattle.call_steps.specs.declared.step.CpuRow.TheVariants as front
+use Rattle.call_steps.specs.declared.step.CpuStep.{CpuStep}
+use Rattle.call_steps.specs.declared.step.DomainStep.{DomainStep}
+use Rattle.call_steps.specs.declared.step.DomainStep.TheVariants as domain
+use Rattle.call_steps.specs.PerCpu.{Next}
+use Rattle.call_steps.specs.Local.{no_class, row_of}
+use Rattle.call_steps.specs.CpuActs as acts
+use Rattle.call_steps.specs.CpuActs.{leaving, takes, puts, fits_into, put_in, domain_acts}
+use Rattle.call_steps.specs.CpuRows.{about_row, as_row}
+use Rattle.call_steps.specs.Fits.{FitsDomain}
+use Rattle.call_steps.specs.Shapes.{AreRows}
+use Rattle.cpu_rows.specs.Shapes.{DomainShape, giving_standing}
+use Rattle.alloc_rules.specs.Heads.{HasRoom}
+use Rattle.alloc_rules.specs.Standings.{Here, at_next, regs_next}
+use Rattle.alloc_rules.specs.FrontLaw.{IsNext, IsAct}
+use Rattle.cpu_rows.specs.CpuFront.{Domain, seated, cpu_stored, left_with, cpu_front}
+use Rattle.cpu_rows.specs.CpuHolds.{limits_of}
+use Rattle.cpu_rows.proofs.Threads.{KeepsRegs, Comes}
+use Rattle.cpu_rows.proofs.Acts.{IsBehind, gives_to_shard}
+use Rattle.cpu_rows.proofs.Moves.{objects_append, objects_last}
+
+-- a cache has the objects of its class alone
+stored_own : (k : Class) (q : Transfer) (n : ℕ) → cpu_stored (Domain k q) k.0 n ≡ objects_at n q.objects
+stored_own k q n = ap (λ (b : Bool). cond b (objects_at n q.objects) 0) (eq-eqb k.0 k.0 refl)
+
+stored_other : (k : Class) (q : Transfer) (j n : ℕ) → j ≢ k.0 → cpu_stored (Domain k q) j n ≡ 0
+stored_other k q j n apart = ap (λ (b : Bool). cond b (objects_at n q.objects) 0) (ne_eqb k.0 j (λ e. apart (sym e)))
+
+module _ (rows : List ClassRow) (c : Config) (t : ℕ) (q : Transfer) (v : CpuSeat) (g : Regs) where
+  -- What an act leaves: it moves objects, its cache has room, and the thread comes on.
+  pub record Leaves (row : DomainStep) (x : acts.Left Transfer) : Type 0 where
+    pub seat : x.seat ≡ v
+    pub act : IsAct (cpu_front rows c) about_row (Domain g.class q) g (front.Domain row) (left_with (Domain g.class) x)
+    pub room : HasRoom c.transfer q → HasRoom c.transfer x.part
+    pub keeps : KeepsRegs rows c g (regs_next x.regs x.next)
+    pub comes : Comes rows c v g (regs_next x.regs x.next) (Here (front.Domain row)) (at_next x.next)
+
+  -- it comes there, and moves these objects
+  record Goes (row : DomainStep) (new : Transfer) (r : Regs) (n : Next) : Type 0 where
+    pub thread : r.thread ≡ g.thread
+    pub class : r.class ≡ g.class
+    pub hand : room r.hand ≡ room g.hand
+    pub moves : (n : ℕ) → objects_at n new.objects + objects_at n r.hand.items ≡ objects_at n q.objects + objects_at n g.hand.items
+    pub next : IsNext (cpu_front rows c) about_row (front.Domain row) g r n
+    pub has : HasRoom c.transfer q → HasRoom c.transfer new
+    pub keeps : KeepsRegs rows c g (regs_next r n)
+    pub comes : Comes rows c v g (regs_next r n) (Here (front.Domain row)) (at_next n)
+
+  leaves : (row : DomainStep) (new : Transfer) (r : Regs) (n : Next) → g.class.0 < length rows → Goes row new r n → Leaves row (leaving new v r n)
+  leaves row new r n low x =
+      record {
+        seat = refl;
+        act = record {
+          thread = x.thread;
+          room = x.hand;
+          low = omega (arith, ap (λ (k : Class). k.0) x.class, low);
+          class = inl x.class;
+          others = λ k n apart. stored_other g.class new k n apart ∙ sym (stored_other g.class q k n apart);
+          moves = λ n. let e = x.moves n in omega (arith, e, stored_own g.class new n, stored_own g.class q n);
+          next = x.next;
+        };
+        room = x.has;
+        keeps = x.keeps;
+        comes = x.comes;
+      }
+
+  abbrev same : KeepsRegs rows c g g
+  same = record { thread = refl; loaded = refl; ran = omega arith; epoch = refl; pc = λ pc. pc }
+
+  -- Take: the last objects of the cache, so many at most
+  takes_by : (a : Asking) (kept list : List Addr) → DomainShape (limits_of rows c) (seated v g) (domain.Take a) → g.class.0 < length rows
+      → length list ≤ LOADED_ROOM → length list ≤ g.hand.spare → length kept ≤ length q.objects →
+      ((n : ℕ) → objects_at n kept + objects_at n list ≡ objects_at n q.objects)
+      → (let n = takes g a list in Leaves (domain.Take a) (leaving (record { objects = kept; room = q.room }) v n.0 n.1))
+  takes_by a kept [] shape low few fit fewer moves =
+      leaves (domain.Take a) (record { objects = kept; room = q.room }) g (next.Fetch a) low (record {
+        thread = refl;
+        class = refl;
+        hand = refl;
+        moves = λ n. let e = moves n in omega (arith, e);
+        next = (refl, shape.0.hand);
+        has = λ h. record { room = h.room; within = omega (arith, h.within, fewer) };
+        keeps = same;
+        comes = record { begin = shape.0.begin; regs = λ b. b; stands = refl };
+      })
+  takes_by a kept (x ∷ xs) shape low few fit fewer moves =
+      let r : Regs = record g { hand = appended g.hand (x ∷ xs) } in
+      let size = length-append g.hand.items (x ∷ xs) in
+      leaves (domain.Take a) (record { objects = kept; room = q.room }) r (next.Serve a) low (record {
+        thread = refl;
+        class = refl;
+        hand = omega (arith, size, fit);
+        moves = λ n. let e = moves n in omega (arith, e, objects_append n g.hand.items (x ∷ xs));
+        next = (refl, omega (arith, size), omega (arith, size, few, ap length shape.0.hand));
+        has = λ h. record { room = h.room; within = omega (arith, h.within, fewer) };
+        keeps = record { thread = refl; loaded = refl; ran = omega arith; epoch = refl; pc = λ pc. pc };
+        comes = record { begin = shape.0.begin; regs = λ b. b; stands = refl };
+      })
+
+  abbrev put : Regs
+  put = record g { hand = emptied g.hand }
+
+  put_as : (w : Giving CpuStep) → length q.objects + length g.hand.items ≤ q.room
+      → IsNext (cpu_front rows c) about_row (front.Domain (domain.Put w)) g put (next.Gave (as_row w)) → KeepsRegs rows c g
+      (regs_next put (next.Gave (as_row w))) → Comes rows c v g (regs_next put (next.Gave (as_row w))) (Here (front.Domain (domain.Put w)))
+      (at_next (next.Gave (as_row w)))
+      → Goes (domain.Put w) (put_in q g.hand.items) put (next.Gave (as_row w))
+  put_as w fits may keeps come =
+      record {
+        thread = refl;
+        class = refl;
+        hand = omega arith;
+        moves = λ n. omega (arith, objects_append n q.objects g.hand.items);
+        next = may;
+        has = λ h. record { room = h.room; within = omega (arith, h.room, fits, length-append q.objects g.hand.items) };
+        keeps = keeps;
+        comes = come;
+      }
+
+  abbrev still : KeepsRegs rows c g put
+  still = record { thread = refl; loaded = refl; ran = omega arith; epoch = refl; pc = λ pc. pc }
+
+  -- Put: it takes the whole hand, and what comes behind that comes at once
+  put_by : (w : Giving CpuStep) → DomainShape (limits_of rows c) (seated v g) (domain.Put w) → length q.objects + length g.hand.items ≤ q.room
+      → Goes (domain.Put w) (put_in q g.hand.items) put (next.Gave (as_row w))
+  put_by (giving.Rest s) shape fits = put_as (giving.Rest s) fits (refl, refl) still (record { begin = shape.0.begin; regs = λ b. b; stands = refl })
+  put_by (giving.Freed f) shape fits = put_as (giving.Freed f) fits (refl, refl) still (record { begin = shape.0.begin; regs = λ b. b; stands = refl })
+  put_by (giving.Row k to) shape fits =
+      put_as (giving.Row k to) fits (refl, refl, (shape.1.class, shape.1.other))
+      (record { thread = refl; loaded = refl; ran = omega arith; epoch = refl; pc = λ pc. pc })
+      (record { begin = shape.0.begin; regs = λ b. shape.1.shape (seated v (record g { class = k; hand = emptied g.hand })) (record { begin = b; hand = refl; freed = refl }) refl; stands = refl })
+  put_by giving.End shape fits = put_as giving.End fits (refl, refl) still (record { begin = shape.0.begin; regs = λ b. b; stands = refl })
+
+  -- or the shard is to get it
+  give_by : (w : Giving CpuStep) → DomainShape (limits_of rows c) (seated v g) (domain.Put w) → Goes (domain.Put w) q g (next.Give (as_row w))
+  give_by w shape =
+      let b : IsBehind rows c v (front.Domain (domain.Put w)) g g (giving_standing rows (as_row w)) (next.Give (as_row w)) = gives_to_shard rows c v
+      (front.Domain (domain.Put w)) g g w refl shape.0.begin shape.0.few shape.1 in
+      record {
+        thread = refl;
+        class = refl;
+        hand = refl;
+        moves = λ n. refl;
+        next = b.next;
+        has = λ h. h;
+        keeps = subst (KeepsRegs rows c g) (sym b.same) same;
+        comes = record { begin = shape.0.begin; regs = λ x. b.regs; stands = b.stands };
+      }
+
+  pub domain_leaves : (row : DomainStep) → DomainShape (limits_of rows c) (seated v g) row → FitsDomain rows g row → g.class.0 < length rows → AreRows rows
+      → Leaves row (domain_acts rows q v g row)
+  domain_leaves (domain.Take a) shape fits low are =
+      let n : ℕ = (row_of rows g.class).batch in
+      let size : length (last_first n q.objects) ≤ n = omega (
+        arith,
+        length-reverse (drop (length q.objects - n) q.objects),
+        length-drop
+            (length q.objects - n) q.objects,
+      ) in
+      takes_by a (without_last n q.objects) (last_first n q.objects) shape low (omega (arith, size, (are.each g.class.0 no_class low).few))
+      (omega (arith, size, fits.0.room)) (omega (arith, length-take (length q.objects - n) q.objects)) (λ m. objects_last m n q.objects)
+  domain_leaves (domain.Put w) shape fits low are =
+      cond_both (fits_into q g.hand.items) (put_in q g.hand.items, put, next.Gave (as_row w)) (q, g, next.Give (as_row w))
+      (λ (z : Transfer × Regs × Next). Leaves (domain.Put w) (leaving z.0 v z.1 z.2))
+      (λ e. leaves (domain.Put w) (put_in q g.hand.items) put (next.Gave (as_row w)) low
+      (put_by w shape (leb-true (length q.objects + length g.hand.items) q.room e)))
+      (λ e. leaves (domain.Put w) q g (next.Give (as_row w)) low (give_by w shape))
+
+  pub domain_fits : (row : DomainStep) → DomainShape (limits_of rows c) (seated v g) row → room g.hand ≡ HAND_ROOM → g.class.0 < length rows → AreRows rows
+      → FitsDomain rows g row
+  domain_fits (domain.Take a) shape has low are = let row = are.each g.class.0 no_class low in
+      (record { class = low; some = row.batch; room = omega (arith, row.few, has, ap length shape.0.hand) }, shape.0.hand)
+  domain_fits (domain.Put w) shape has low are = tt

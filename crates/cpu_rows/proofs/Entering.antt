@@ -1,0 +1,247 @@
+-- What an act of a local leaves of its CPU's open mark and of the thread's own sequence.
+use Rattle.std.proofs.Common.{◌≡◌, ℕ, ◌+◌, ◌-◌, ◌<◌, ◌≤◌, ◌⊎◌, Bool, true, false, cond, ltb, eqb, min, List, Option, Some, None, refl, sym, ap, ◌∙◌, subst, inl, inr, arith}
+use Rattle.std.specs.Prelude.{not, ◌||◌, is_some, length}
+use Rattle.std.proofs.lemmas.Bool.{cond_both, ltb-true, ltb-false}
+use Rattle.tc_units.specs.declared.units.ThreadNo.{ThreadNo}
+use Rattle.tc_units.specs.declared.spans.ClassRow.{ClassRow}
+use Rattle.tc_model.specs.declared.calls.MoveTo.{MoveTo}
+use Rattle.cpu_slab.specs.Slots.{SlabRow, row_at}
+use Rattle.rseq_core.specs.declared.cpu_part.CpuPart.{CpuPart}
+use Rattle.rseq_core.specs.declared.regs.Regs.{Regs}
+use Rattle.rseq_core.specs.declared.regs.TheConstants.{LOADED_ROOM}
+use Rattle.rseq_core.specs.declared.sequence.Pc.{Pc}
+use Rattle.rseq_core.specs.declared.sequence.Pc.TheVariants.{Begin, Header, Test, Copy, Commit}
+use Rattle.rseq_core.specs.declared.sequence.Seq.{Seq}
+use Rattle.rseq_core.specs.declared.sequence.Seq.TheVariants as seq
+use Rattle.rseq_core.specs.declared.sequence.Reply.{Reply}
+use Rattle.rseq_core.specs.declared.sequence.Reply.TheVariants as reply
+use Rattle.rseq_core.specs.Tables.{Cell, is_pop, wanted, closes as closed_by, counted, copy_or_commit, cell}
+use Rattle.rseq_core.specs.Acts.{runs, stands, open_after, instruction, with_cell, answered, entered, entering, arrival, instructed_by, grew_by}
+use Rattle.cpu_drain.specs.Drains as drains
+use Rattle.cpu_drain.proofs.Steps.{runs_is}
+use Rattle.call_steps.specs.declared.step.Asking.{Asking}
+use Rattle.call_steps.specs.declared.step.Stopping.{Stopping}
+use Rattle.call_steps.specs.declared.step.CpuStep.{CpuStep}
+use Rattle.call_steps.specs.declared.step.CpuStep.TheVariants.{Pop, Grow, Stock, Push, PopBatch, Stop, Fence, Take, SetCap, Start, Leave}
+use Rattle.call_steps.specs.PerCpu.{CpuLocal as Local, Step}
+use Rattle.call_steps.specs.declared.step.Step.TheVariants as does
+use Rattle.call_steps.specs.declared.step.CpuRow.TheVariants as front
+use Rattle.call_steps.specs.Local.{goes, no_class, class_row}
+use Rattle.call_steps.specs.CpuActs.{due, instructed_to, instructs, sequence_by, grows, stops, runs_open, yields_to_enter, yields_for}
+use Rattle.call_steps.specs.Calls.{call_about}
+use Rattle.call_steps.specs.Hands.{with_regs}
+use Rattle.call_steps.specs.Follows.{follows}
+use Rattle.call_steps.specs.CpuCalls.{cpu_calls, with_next, cpu_row}
+use Rattle.call_steps.specs.Shapes.{AreRows}
+use Rattle.cpu_rows.specs.Shapes.{Limits}
+use Rattle.alloc_rules.specs.Standings.{at_step}
+use Rattle.cpu_rows.specs.CpuHolds.{RegsAt}
+use Rattle.call_steps.specs.CpuRows.{about_cpu, call_of}
+use Rattle.cpu_rows.specs.Switches.{Kind, enters, closes, neither, instructed_kind, sequence_kind, growth_kind, step_kind}
+
+-- how many instructions of a sequence were executed before its next one, where it copies so many objects
+abbrev pub executed : ℕ → Pc → ℕ
+executed count Begin = 0
+executed count Header = 1
+executed count Test = 2
+executed count (Copy done) = 3 + done
+executed count Commit = 3 + count
+
+-- where it copies, these are few
+abbrev pub CopiesFew : ℕ → Pc → Type 0
+CopiesFew count Begin = Unit {0}
+CopiesFew count Header = Unit {0}
+CopiesFew count Test = Unit {0}
+CopiesFew count (Copy done) = (done < count) × (count ≤ LOADED_ROOM)
+CopiesFew count Commit = count ≤ LOADED_ROOM
+
+-- so a sequence that goes on has executed few
+pub executed_few : (count : ℕ) (pc : Pc) → CopiesFew count pc → executed count pc < 256
+executed_few count Begin few = omega arith
+executed_few count Header few = omega arith
+executed_few count Test few = omega arith
+executed_few count (Copy done) few = omega (arith, few.0, few.1)
+executed_few count Commit few = omega arith
+
+-- a step is a sequence or a growth, before which its thread switches in at its own CPU
+abbrev pub HasToEnter : Step → Type 0
+HasToEnter (does.Front (front.Cpu (Pop a))) = Unit {0}
+HasToEnter (does.Front (front.Cpu (Grow a))) = Unit {0}
+HasToEnter (does.Front (front.Cpu (Stock s))) = Unit {0}
+HasToEnter (does.Front (front.Cpu (Push f))) = Unit {0}
+HasToEnter (does.Front (front.Cpu (PopBatch f))) = Unit {0}
+HasToEnter other = ⊥
+
+-- A polite act In: no sequence that was begun there goes on.
+pub record Enters (p : CpuPart) (l : Local) (x : CpuPart × Local) : Type 0 where
+  pub has : HasToEnter l.step
+  pub closed : runs_open p ≡ false
+  pub cpu : x.0 ≡ entered p l.regs.thread
+  pub home : x.1.seat.cpu ≡ l.seat.cpu
+  pub step : x.1.step ≡ l.step
+  pub begin : x.1.regs.pc ≡ Begin
+
+-- An instruction of the running thread, whose sequence goes on.
+pub record Executes (p : CpuPart) (l : Local) (x : CpuPart × Local) : Type 0 where
+  pub has : HasToEnter l.step
+  pub runs : p.running ≡ Some l.regs.thread
+  pub same : x.0.running ≡ p.running
+  pub marked : p.is_open ≡ true → x.0.is_open ≡ true
+  pub ran : x.0.ran ≤ p.ran + 1
+  pub home : x.1.seat.cpu ≡ l.seat.cpu
+  pub step : x.1.step ≡ l.step
+  pub few : CopiesFew l.regs.count l.regs.pc → CopiesFew x.1.regs.count x.1.regs.pc × (executed x.1.regs.count x.1.regs.pc ≡ executed l.regs.count l.regs.pc + 1)
+
+-- An act of a thread with no sequence there, which leaves the running thread and the mark.
+pub record Stays (p : CpuPart) (l : Local) (x : CpuPart × Local) : Type 0 where
+  pub away : HasToEnter l.step → ⊥
+  pub same : x.0.running ≡ p.running
+  pub marked : x.0.is_open ≡ p.is_open
+  pub ran : x.0.ran ≡ p.ran
+
+abbrev pub DoesAs : Kind → CpuPart → Local → CpuPart × Local → Type 0
+DoesAs enters p l x = Enters p l x
+DoesAs closes p l x = Unit {0}
+DoesAs neither p l x = Executes p l x ⊎ Stays p l x
+
+-- what is copied next, or the commit behind the last
+copies_few : (done count : ℕ) → done ≤ count → count ≤ LOADED_ROOM → CopiesFew count (copy_or_commit done count) × (executed count (copy_or_commit done count) ≡ 3 + done)
+copies_few done count low few = cond_both (ltb done count) (Copy done) Commit (λ (pc : Pc). CopiesFew count pc × (executed count pc ≡ 3 + done)) (λ e. ((ltb-true done count e, few), refl)) (λ e. (few, omega (arith, ltb-false done count e)))
+
+-- an instruction behind which the sequence goes on
+abbrev GoesOn : Regs → Pc → Cell → Type 0
+GoesOn r pc c = c.reply ≡ None → CopiesFew r.count pc → CopiesFew c.regs.count c.regs.pc × (executed c.regs.count c.regs.pc ≡ executed r.count pc + 1)
+
+test_few : (row : SlabRow) (r : Regs) (end : Bool) (exit : Reply) (n : ℕ) → n ≤ LOADED_ROOM → GoesOn r Test (cond end (closed_by row r exit) (counted row r n))
+test_few row r true exit n few none was = absurd (cc)
+test_few row r false exit n few none was = copies_few 0 n (omega arith) few
+
+cell_few : (stopped pops : Bool) (row : SlabRow) (r : Regs) (pc : Pc) → wanted r.seq r.hand.items ≤ LOADED_ROOM → GoesOn r pc (cell stopped pops row r pc)
+cell_few stopped pops row r Begin few none was = (tt, refl)
+cell_few true pops row r Header few none was = absurd (cc)
+cell_few false pops row r Header few none was = (tt, refl)
+cell_few stopped true row r Test few none was = test_few row r (eqb r.top 0) reply.Empty (min (wanted r.seq r.hand.items) r.top) (omega arith) none was
+cell_few stopped false row r Test few none was = test_few row r (eqb r.top row.cap) reply.Full (min (wanted r.seq r.hand.items) (row.cap - r.top)) (omega arith) none was
+cell_few stopped true row r (Copy done) few none was = let next = copies_few (done + 1) r.count (omega (arith, was.0)) was.1 in (next.0, omega (arith, next.1))
+cell_few stopped false row r (Copy done) few none was = let next = copies_few (done + 1) r.count (omega (arith, was.0)) was.1 in (next.0, omega (arith, next.1))
+cell_few stopped true row r Commit few none was = absurd (cc)
+cell_few stopped false row r Commit few none was = absurd (cc)
+
+-- the mark stays behind an instruction without a reply
+open_stays : (pc : Pc) (o : Option Reply) (was : Bool) → o ≡ None → was ≡ true → open_after pc o was ≡ true
+open_stays Begin None was none is = refl
+open_stays Header None was none is = is
+open_stays Test None was none is = is
+open_stays (Copy done) None was none is = is
+open_stays Commit None was none is = is
+open_stays pc (Some r) was none is = absurd (cc)
+
+-- where it is polite to enter and another runs, what was begun there doesn't go on
+polite_closed : (running marked : Bool) → (running || not marked) ≡ true → running ≡ false → marked ≡ false
+polite_closed true marked polite other = absurd (cc)
+polite_closed false true polite other = absurd (cc)
+polite_closed false false polite other = refl
+
+module _ (rows : List ClassRow) (p : CpuPart) (l : Local) (has : HasToEnter l.step) (polite : yields_to_enter p l ≡ true) where
+  enters_as : (row : CpuStep) (regs : Regs) (next : Local) → l.step ≡ does.Front (front.Cpu row) → regs.pc ≡ Begin → next ≡ goes (with_regs l regs) (does.Front (front.Cpu row)) → runs p.running l.regs.thread ≡ false → Enters p l (entered p l.regs.thread, next)
+  enters_as row regs next own begin is other =
+      record {
+        has = has;
+        closed = polite_closed (runs p.running l.regs.thread) (runs_open p) polite other;
+        cpu = refl;
+        home = ap (λ (k : Local). k.seat.cpu) is;
+        step = ap (λ (k : Local). k.step) is ∙ sym own;
+        begin = ap (λ (k : Local). k.regs.pc) is ∙ begin;
+      }
+
+  module _ (row : CpuStep) (own : l.step ≡ does.Front (front.Cpu row)) (few : wanted l.regs.seq l.regs.hand.items ≤ LOADED_ROOM) where
+    abbrev c : Cell
+    c = instruction p l.regs
+
+    executes_as : runs p.running l.regs.thread ≡ true → (o : Option Reply) → c.reply ≡ o → DoesAs (instructed_kind (answered o)) p l (with_cell p l.regs c, (let n = instructed_to rows l.seat c.regs row (answered o) in follows (cpu_calls rows) (with_regs l n.0) (call_about (about_cpu row)) n.1))
+    executes_as here None is =
+        inl (record {
+          has = has;
+          runs = runs_is p.running l.regs.thread here;
+          same = refl;
+          marked = open_stays l.regs.pc c.reply p.is_open is;
+          ran = omega arith;
+          home = refl;
+          step = sym own;
+          few = cell_few (stands p.stopper) (is_pop l.regs.seq) (row_at p.slab l.regs.class.0) l.regs l.regs.pc few is;
+        })
+    executes_as here (Some r) is = tt
+
+    instructs_as : (a b : Bool) → runs p.running l.regs.thread ≡ a → let x = instructed_by (arrival a b) p l.regs in DoesAs (instructed_kind x.answer) p l (with_next rows l (about_cpu row) (instructs rows l.seat row x))
+    instructs_as false b is = enters_as row (entering p l.regs) (goes (with_regs l (entering p l.regs)) (does.Front (front.Cpu row))) own refl refl is
+    instructs_as true false is = tt
+    instructs_as true true is = executes_as is c.reply refl
+
+  grows_as : (asking : Asking) (a b : Bool) → l.step ≡ does.Front (front.Cpu (Grow asking)) → runs p.running l.regs.thread ≡ a → let x = grew_by (arrival a b) p l.regs in DoesAs (growth_kind x.answer) p l (with_next rows l (about_cpu (Grow asking)) (grows l.seat asking x))
+  grows_as asking false b own is = enters_as (Grow asking) (entering p l.regs) (goes (with_regs l (entering p l.regs)) (does.Front (front.Cpu (Grow asking)))) own refl refl is
+  grows_as asking true false own is = tt
+  grows_as asking true true own is = tt
+
+-- with a move that is due the thread leaves
+sequence_as : (rows : List ClassRow) (p : CpuPart) (l : Local) (row : CpuStep) → l.step ≡ does.Front (front.Cpu row) → HasToEnter l.step → wanted l.regs.seq l.regs.hand.items ≤ LOADED_ROOM → (o : Option MoveTo) → (is_some o || yields_to_enter p l) ≡ true → DoesAs (sequence_kind p l o) p l (with_next rows l (about_cpu row) (sequence_by rows p l.seat l.regs row o))
+sequence_as rows p l row own has few None polite = instructs_as rows p l has polite row own few (runs p.running l.regs.thread) (eqb l.regs.epoch p.epoch) refl
+sequence_as rows p l row own has few (Some move) polite = tt
+
+-- what a sequence of a shaped local is for
+wants : (l : Local) (s : Seq) → l.regs.seq ≡ s → wanted l.regs.seq l.regs.hand.items ≡ wanted s l.regs.hand.items
+wants l s is = ap (λ (x : Seq). wanted x l.regs.hand.items) is
+
+-- what an act leaves of a CPU and of its thread, by the step
+abbrev pub cpu_pair : List ClassRow → CpuPart → Local → Step → CpuPart × Local
+cpu_pair rows p l (does.Front (front.Cpu row)) = cpu_row rows p l row
+cpu_pair rows p l (does.Front (front.Domain row)) = (p, goes l (does.Front (front.Domain row)))
+cpu_pair rows p l other = (p, l)
+
+module _ (m : Limits) (p : CpuPart) (l : Local) (table : AreRows m.rows) (class : l.regs.class.0 < length m.rows) (shape : RegsAt m l.seat l.regs (at_step l.step)) where
+  abbrev At : Step → Type 0
+  At s = RegsAt m l.seat l.regs (at_step s)
+
+  abbrev As : Step → Type 0
+  As s = yields_for p l s ≡ true → DoesAs (step_kind p l s) p l (cpu_pair m.rows p l s)
+
+  still : (x : CpuPart × Local) → (HasToEnter l.step → ⊥) → x.0.running ≡ p.running → x.0.is_open ≡ p.is_open → x.0.ran ≡ p.ran → DoesAs neither p l x
+  still x away same marked ran = inr (record { away = away; same = same; marked = marked; ran = ran })
+
+  away_by : (s : Step) → l.step ≡ s → (HasToEnter s → ⊥) → HasToEnter l.step → ⊥
+  away_by s is none has = none (subst HasToEnter is has)
+
+  has_by : (s : Step) → l.step ≡ s → HasToEnter s → HasToEnter l.step
+  has_by s is has = subst HasToEnter (sym is) has
+
+  few_batch : (class_row m.rows l).batch ≤ LOADED_ROOM
+  few_batch = (table.each l.regs.class.0 no_class class).few
+
+  stops_as : (s : Stopping) → l.step ≡ does.Front (front.Cpu (Stop s)) → (o : Option ThreadNo) → p.stopper ≡ o → (let n = stops p l.regs.thread s o in DoesAs neither p l (n.0, follows (cpu_calls m.rows) l (Some (call_of s)) n.1))
+  stops_as s is None none = still ((stops p l.regs.thread s None).0, follows (cpu_calls m.rows) l (Some (call_of s)) (stops p l.regs.thread s None).1) (away_by (does.Front (front.Cpu (Stop s))) is (λ has. has)) (ap (λ (o : Option ThreadNo). (drains.stopped_by o p l.regs.thread).running) none) (ap (λ (o : Option ThreadNo). (drains.stopped_by o p l.regs.thread).is_open) none) (ap (λ (o : Option ThreadNo). (drains.stopped_by o p l.regs.thread).ran) none)
+  stops_as s is (Some u) some = still (p, follows (cpu_calls m.rows) l (Some (call_of s)) (stops p l.regs.thread s (Some u)).1) (away_by (does.Front (front.Cpu (Stop s))) is (λ has. has)) refl refl refl
+
+  row_as : (row : CpuStep) → l.step ≡ does.Front (front.Cpu row) → At (does.Front (front.Cpu row)) → As (does.Front (front.Cpu row))
+  row_as (Pop a) is shape polite = sequence_as m.rows p l (Pop a) is (has_by (does.Front (front.Cpu (Pop a))) is tt) (omega (arith, wants l seq.Pop shape.0.seq)) (due l.seat.moved l.regs.ran) polite
+  row_as (Grow a) is shape polite = grows_as m.rows p l (has_by (does.Front (front.Cpu (Grow a))) is tt) polite a (runs p.running l.regs.thread) (eqb l.regs.epoch p.epoch) is refl
+  row_as (Stock s) is shape polite = sequence_as m.rows p l (Stock s) is (has_by (does.Front (front.Cpu (Stock s))) is tt) (omega (arith, wants l seq.PushBatch shape.0.seq, shape.2)) (due l.seat.moved l.regs.ran) polite
+  row_as (Push f) is shape polite = sequence_as m.rows p l (Push f) is (has_by (does.Front (front.Cpu (Push f))) is tt) (omega (arith, wants l seq.Push shape.0.seq)) (due l.seat.moved l.regs.ran) polite
+  row_as (PopBatch f) is shape polite = sequence_as m.rows p l (PopBatch f) is (has_by (does.Front (front.Cpu (PopBatch f))) is tt) (omega (arith, wants l (seq.PopBatch (class_row m.rows l).batch) shape.0.seq, few_batch)) (due l.seat.moved l.regs.ran) polite
+  row_as (Stop s) is shape polite = stops_as s is p.stopper refl
+  row_as (Fence s) is shape polite = still (cpu_row m.rows p l (Fence s)) (away_by (does.Front (front.Cpu (Fence s))) is (λ has. has)) refl refl refl
+  row_as (Take s) is shape polite = still (cpu_row m.rows p l (Take s)) (away_by (does.Front (front.Cpu (Take s))) is (λ has. has)) refl refl refl
+  row_as (SetCap r) is shape polite = still (cpu_row m.rows p l (SetCap r)) (away_by (does.Front (front.Cpu (SetCap r))) is (λ has. has)) refl refl refl
+  row_as (Start s) is shape polite = still (cpu_row m.rows p l (Start s)) (away_by (does.Front (front.Cpu (Start s))) is (λ has. has)) refl refl refl
+  row_as Leave is shape polite = tt
+
+  step_as : (s : Step) → l.step ≡ s → At s → As s
+  step_as (does.Front (front.Cpu row)) is shape polite = row_as row is shape polite
+  step_as (does.Front (front.Domain row)) is shape polite = still (p, goes l (does.Front (front.Domain row))) (away_by (does.Front (front.Domain row)) is (λ has. has)) refl refl refl
+  step_as (does.Shard row) is shape polite = still (p, l) (away_by (does.Shard row) is (λ has. has)) refl refl refl
+  step_as (does.Heap row) is shape polite = still (p, l) (away_by (does.Heap row) is (λ has. has)) refl refl refl
+  step_as (does.Map row) is shape polite = still (p, l) (away_by (does.Map row) is (λ has. has)) refl refl refl
+  step_as (does.Names row) is shape polite = still (p, l) (away_by (does.Names row) is (λ has. has)) refl refl refl
+  step_as does.Ended is shape polite = still (p, l) (away_by does.Ended is (λ has. has)) refl refl refl
+
+  -- a polite act of a shaped local at a CPU
+  pub act_as : yields_for p l l.step ≡ true → DoesAs (step_kind p l l.step) p l (cpu_pair m.rows p l l.step)
+  act_as polite = step_as l.step refl shape polite

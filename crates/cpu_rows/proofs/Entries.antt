@@ -1,0 +1,159 @@
+-- Entries, and acts elsewhere: a thread comes to a row of the caches, or from one, or its registers change.
+use Rattle.std.proofs.Common.{◌≡◌, ℕ, ◌<◌, ◌≤◌, true, List, [], ◌∷◌, length, Option, Some, None, refl, ap, arith}
+use Rattle.std.specs.Prelude.{IfSome, is_some, slice_set}
+use Rattle.tc_units.specs.Bag.{Contents}
+use Rattle.tc_units.specs.declared.units.Addr.{Addr}
+use Rattle.tc_units.specs.declared.units.Class.{Class}
+use Rattle.tc_units.specs.declared.spans.ClassRow.{ClassRow}
+use Rattle.tc_model.specs.declared.calls.Call.{Call}
+use Rattle.tc_model.specs.declared.calls.Call.TheVariants.{Malloc, Free, Release, Drain, Resize}
+use Rattle.tc_model.specs.declared.calls.MoveTo.{MoveTo}
+use Rattle.tc_model.specs.declared.calls.Planned.{Planned}
+use Rattle.tc_model.specs.declared.config.Config.{Config}
+use Rattle.rseq_core.specs.declared.sequence.Seq.{Seq}
+use Rattle.rseq_core.specs.declared.sequence.Seq.TheVariants as seq
+use Rattle.rseq_core.specs.declared.sequence.Pc.TheVariants.{Begin}
+use Rattle.rseq_core.specs.declared.regs.Regs.{Regs}
+use Rattle.rseq_core.specs.declared.regs.TheConstants.{LOADED_ROOM}
+use Rattle.call_steps.specs.declared.seat.CpuSeat.{CpuSeat}
+use Rattle.call_steps.specs.declared.step.Asking.{Asking}
+use Rattle.call_steps.specs.declared.step.Serving.{Serving}
+use Rattle.call_steps.specs.declared.step.Freeing.{Freeing}
+use Rattle.call_steps.specs.declared.step.Stopping.TheVariants as stopping
+use Rattle.call_steps.specs.declared.step.CpuRow.{CpuRow}
+use Rattle.call_steps.specs.declared.step.CpuRow.TheVariants as front
+use Rattle.call_steps.specs.declared.step.CpuStep.{CpuStep}
+use Rattle.call_steps.specs.declared.step.CpuStep.TheVariants as cpu
+use Rattle.call_steps.specs.Calls.{Other}
+use Rattle.call_steps.specs.CpuCalls.{cpu_calls, to_sequence, move_of, with_move, stop_row, to_stop, leave_row}
+use Rattle.call_steps.specs.CpuRows.{about_row}
+use Rattle.call_steps.specs.Shapes.{AreRows}
+use Rattle.cpu_rows.specs.Shapes.{IsMove, IsCallThere, IsAtBegin, CpuShape}
+use Rattle.alloc_rules.specs.Standings.{At, Here, Later, Away, Standing, stand, at_row}
+use Rattle.alloc_rules.specs.Shapes.{IsAsked}
+use Rattle.alloc_rules.specs.FrontLaw.{with_hand, IsEntry, AreEntries, IsOwn}
+use Rattle.cpu_rows.specs.CpuFront.{CpuFrontPart, seated}
+use Rattle.cpu_rows.specs.CpuHolds.{limits_of, cpu_planned, seat_at, CpuHolds}
+use Rattle.cpu_rows.proofs.Threads.{changes, KeepsRegs, comes}
+
+module _ (rows : List ClassRow) (c : Config) where
+  abbrev Is : ℕ → List CpuFrontPart → List (Standing CpuSeat CpuRow) → Type 0
+  Is n ps us = CpuHolds rows c n ps us
+
+  module _ (n : ℕ) (ps : List CpuFrontPart) (us : List (Standing CpuSeat CpuRow)) (t : ℕ) (v : CpuSeat) (g : Regs) (count : ℕ) where
+    abbrev StandsAt : Regs → ℕ → At CpuRow → Type 0
+    StandsAt r m at = Is n ps (slice_set us t (stand v r m at))
+
+    abbrev same : (k : Class) (hand : Contents Addr) → KeepsRegs rows c g (with_hand g k hand)
+    same k hand = record { thread = refl; loaded = refl; ran = omega arith; epoch = refl; pc = λ pc. pc }
+
+    -- acts elsewhere
+    pub away : (more : ℕ) (k : Class) (hand : Contents Addr) → count ≤ more → StandsAt g count Away → StandsAt (with_hand g k hand) more Away
+    away more k hand le h = comes rows c n t ps us v g (with_hand g k hand) count more Away Away le (same k hand)
+        (λ b. record { begin = b; regs = λ new. new; stands = refl }) h
+
+    pub waits : (more : ℕ) (j : Class) (row : CpuRow) (hand : Contents Addr) → count ≤ more → StandsAt g count (Later j row)
+        → StandsAt (with_hand g g.class hand) more (Later j row)
+    waits more j row hand le h = comes rows c n t ps us v g (with_hand g g.class hand) count more (Later j row) (Later j row) le (same g.class hand)
+        (λ x. record { begin = x.0; regs = λ new. (new, x.1); stands = refl }) h
+
+    pub back : (more : ℕ) (k : Class) (row : CpuRow) (hand : Contents Addr) → count ≤ more → hand.items ≡ [] → StandsAt g count (Later k row)
+        → StandsAt (with_hand g k hand) more (Here row)
+    back more k (front.Cpu row) hand le none h =
+        comes rows c n t ps us v g (with_hand g k hand) count more (Later k (front.Cpu row)) (Here (front.Cpu row)) le (same k hand)
+        (λ x. record
+        { begin = x.0; regs = λ new. x.1.shape (seated v (with_hand g k hand)) (record { begin = new; hand = none; freed = refl }) refl; stands = refl }) h
+    back more k (front.Domain row) hand le none h = comes rows c n t ps us v g (with_hand g k hand) count more (Later k (front.Domain row))
+        (Here (front.Domain row)) le (same k hand) (λ x. absurd x.1) h
+
+    -- a call begins, with its move, and has executed nothing
+    pub restarts : StandsAt g count Away → StandsAt (record g { ran = 0 }) count Away
+    restarts h = comes rows c n t ps us v g (record g { ran = 0 }) count count Away Away (omega arith)
+        (record { thread = refl; loaded = refl; ran = omega arith; epoch = refl; pc = λ pc. pc })
+        (λ b. record { begin = b; regs = λ new. new; stands = refl }) h
+
+    pub begins : (o : Option Planned) → IfSome o (cpu_planned rows c) → StandsAt g count Away → Is n ps (slice_set us t (stand (with_move v o) g count Away))
+    begins o planned h =
+        changes rows c n n t ps us (stand v g count Away) (stand (with_move v o) g count Away) (omega arith)
+        (λ x. record { thread = x.thread; home = x.home; domains = x.domains; move = moved o planned; loaded = x.loaded; ran = x.ran; regs = x.regs })
+        (λ i p x part ok. ok) h where
+          moved : (o : Option Planned) → IfSome o (cpu_planned rows c) → IsMove (limits_of rows c) (move_of o)
+          moved None planned = tt
+          moved (Some p) planned = planned.move
+
+    -- the rows with which calls begin and go on
+    enters : (new : Regs) (row : CpuStep) → KeepsRegs rows c g new → (IsAtBegin new → CpuShape (limits_of rows c) (seated v new) row)
+        → (seat_at rows (stand v new count (Here (front.Cpu row)))).standing ≡ None → StandsAt g count Away → StandsAt new count (Here (front.Cpu row))
+    enters new row keeps shape none h = comes rows c n t ps us v g new count count Away (Here (front.Cpu row)) (omega arith) keeps
+        (λ b. record { begin = b; regs = shape; stands = none }) h
+
+    set : (k : Class) (s : Seq) (ran : ℕ) → ran ≤ g.ran → KeepsRegs rows c g (record g { class = k; seq = s; pc = Begin; ran = ran })
+    set k s ran few = record { thread = refl; loaded = refl; ran = few; epoch = refl; pc = λ pc. refl }
+
+    pub firsts : (a : Asking) → IsAsked rows g a → g.hand.items ≡ [] → StandsAt g count Away
+        → StandsAt (record (to_sequence seq.Pop g) { ran = 0 }) count (Here (front.Cpu (cpu.Pop a)))
+    firsts a asked none h = enters (record (to_sequence seq.Pop g) { ran = 0 }) (cpu.Pop a) (set g.class seq.Pop 0 (omega arith))
+        (λ b. (record { seq = refl; freed = refl }, none, asked)) refl h
+
+    pub rests : (s : Serving) → 0 < length g.hand.items → length g.hand.items ≤ LOADED_ROOM → StandsAt g count Away
+        → StandsAt (to_sequence seq.PushBatch g) count (Here (front.Cpu (cpu.Stock s)))
+    rests s some few h = enters (to_sequence seq.PushBatch g) (cpu.Stock s) (set g.class seq.PushBatch g.ran (omega arith))
+        (λ b. (record { seq = refl; freed = refl }, some, few)) refl h
+
+    pub frees : (f : Freeing) → g.hand.items ≡ f.addr ∷ [] → StandsAt g count Away → StandsAt (to_sequence seq.Push g) count (Here (front.Cpu (cpu.Push f)))
+    frees f one h = enters (to_sequence seq.Push g) (cpu.Push f) (set g.class seq.Push g.ran (omega arith)) (λ b. (record { seq = refl; freed = refl }, one))
+        refl h
+
+    pub others_begin : (call : Call) → IsCallThere (limits_of rows c) call → IsOwn call → g.hand.items ≡ [] → StandsAt g count Away
+        → StandsAt (record (to_stop call g) { ran = 0 }) count (at_row (stop_row call))
+    others_begin (Malloc label size) there own none h = absurd own
+    others_begin (Free label) there own none h = absurd own
+    others_begin (Release pages) there own none h = absurd own
+    others_begin (Drain i) there own none h =
+        enters (record (to_stop (Drain i) g) { ran = 0 }) (cpu.Stop (stopping.Drain (record { cpu = i; taken = 0 })))
+        (set (record { 0 = 0 }) seq.Pop 0 (omega arith)) (λ b. (record { begin = b; hand = none; freed = refl }, (there, omega arith), refl)) refl h
+    others_begin (Resize i class cap) there own none h =
+        enters (record (to_stop (Resize i class cap) g) { ran = 0 }) (cpu.Stop (stopping.Resize (record { cpu = i; class = class; cap = cap })))
+        (set class seq.Pop 0 (omega arith)) (λ b. (record { begin = b; hand = none; freed = refl }, (there.0, refl), tt)) refl h
+
+    lasts_by : (o : Option MoveTo) → v.moved ≡ o → g.hand.items ≡ [] → StandsAt g count Away → StandsAt g count (at_row (leave_row o))
+    lasts_by None is none h = h
+    lasts_by (Some move) is none h = enters g cpu.Leave (record { thread = refl; loaded = refl; ran = omega arith; epoch = refl; pc = λ pc. pc })
+        (λ b. (record { begin = b; hand = none; freed = refl }, ap (λ (o : Option MoveTo). is_some o) is)) refl h
+
+    pub lasts : g.hand.items ≡ [] → StandsAt g count Away → StandsAt g count (at_row (leave_row v.moved))
+    lasts none h = lasts_by v.moved refl none h
+
+  -- entries are about their calls; a call of the caches' own keeps the thread and the hand, has a row, and a class of the table
+  last_about : (o : Option MoveTo) → IsEntry about_row (Other None) (leave_row o)
+  last_about None = tt
+  last_about (Some move) = refl
+
+  pub record IsOther (call : Call) : Type 0 where
+    pub about : IsEntry about_row (Other (Some call)) (stop_row call)
+    pub hand : (g : Regs) → (to_stop call g).hand ≡ g.hand
+    pub thread : (g : Regs) → (to_stop call g).thread ≡ g.thread
+    pub class : (g : Regs) → AreRows rows → IsCallThere (limits_of rows c) call → IsOwn call → (to_stop call g).class.0 < length rows
+    pub there : IsOwn call → is_some (stop_row call) ≡ true
+
+  pub other : (call : Call) → IsOther call
+  other (Malloc label size) = record { about = tt; hand = λ g. refl; thread = λ g. refl; class = λ g are there own. absurd own; there = λ own. absurd own }
+  other (Free label) = record { about = tt; hand = λ g. refl; thread = λ g. refl; class = λ g are there own. absurd own; there = λ own. absurd own }
+  other (Release pages) = record { about = tt; hand = λ g. refl; thread = λ g. refl; class = λ g are there own. absurd own; there = λ own. absurd own }
+  other (Drain i) = record { about = refl; hand = λ g. refl; thread = λ g. refl; class = λ g are there own. are.some; there = λ own. refl }
+  other (Resize i class cap) = record { about = refl; hand = λ g. refl; thread = λ g. refl; class = λ g are there own. there.1; there = λ own. refl }
+
+  pub cpu_entries : AreEntries (cpu_calls rows) about_row
+  cpu_entries =
+      record {
+        first_about = λ v a. refl;
+        rest_about = λ v s. refl;
+        free_about = λ v f. refl;
+        other_about = λ v call. (other call).about;
+        last_about = λ v. last_about v.moved;
+        to_first = λ g. record { thread = refl; class = refl; hand = refl };
+        to_rest = λ g. record { thread = refl; class = refl; hand = refl };
+        to_free = λ g. record { thread = refl; class = refl; hand = refl };
+        to_other = λ call g. (other call).hand g;
+        other_thread = λ call g. (other call).thread g;
+      }

@@ -1,0 +1,61 @@
+-- Objects that a reply moves between a row and the hand.
+use Rattle.std.proofs.Common.{◌≡◌, ℕ, ◌+◌, ◌-◌, List, [], ◌∷◌, ◌++◌, length, take, drop, reverse, eqb, refl, sym, ap, ◌∙◌, arith}
+use Rattle.std.proofs.lemmas.List.{take-append-drop, reverse-append}
+use Rattle.tc_units.specs.declared.units.Addr.{Addr}
+use Rattle.cpu_slab.specs.Slots.{SlabRow, held}
+use Rattle.rseq_core.specs.declared.regs.Regs.{Regs}
+use Rattle.rseq_core.specs.declared.sequence.Reply.{Reply}
+use Rattle.rseq_core.specs.declared.sequence.Reply.TheVariants.{Popped, Pushed, Empty, Full, Stopped}
+use Rattle.rseq_core.specs.declared.answers.Instructed.{Instructed}
+use Rattle.rseq_core.specs.declared.answers.Instructed.TheVariants.{In, Back, Ran, Done}
+use Rattle.cpu_drain.specs.Laws.{ReplyMoves, AnswerMoves}
+use Rattle.transfer_cache.specs.Transfer.{last_first, without_last}
+use Rattle.holdings.specs.Runs.{bit, objects_at}
+use Rattle.holdings.proofs.Sums.{Counts, counts_append}
+
+at_object : (n : ℕ) → Counts (objects_at n) (λ (x : Addr). bit (eqb x.0 n))
+at_object n = record { none = refl; more = λ x xs. refl }
+
+pub objects_append : (n : ℕ) (xs ys : List Addr) → objects_at n (xs ++ ys) ≡ objects_at n xs + objects_at n ys
+objects_append n xs ys = counts_append (at_object n) xs ys
+
+objects_cut : (n k : ℕ) (xs : List Addr) → objects_at n (take k xs) + objects_at n (drop k xs) ≡ objects_at n xs
+objects_cut n k xs = sym (objects_append n (take k xs) (drop k xs)) ∙ ap (objects_at n) (take-append-drop k xs)
+
+pub objects_reverse : (n : ℕ) (xs : List Addr) → objects_at n (reverse xs) ≡ objects_at n xs
+objects_reverse n [] = refl
+objects_reverse n (x ∷ xs) = omega (arith, ap (objects_at n) (reverse-append (x ∷ []) xs), objects_append n (reverse xs) (x ∷ []), objects_reverse n xs)
+
+pub objects_last : (n k : ℕ) (xs : List Addr) → objects_at n (without_last k xs) + objects_at n (last_first k xs) ≡ objects_at n xs
+objects_last n k xs = omega (arith, objects_reverse n (drop (length xs - k) xs), objects_cut n (length xs - k) xs)
+
+reply_moves : (reply : Reply) (old new : SlabRow) (r after : Regs) → ReplyMoves reply old new r after → (n : ℕ)
+    → objects_at n (held new) + objects_at n after.hand.items ≡ objects_at n (held old) + objects_at n r.hand.items
+reply_moves Stopped old new r after x n = omega (arith, ap (objects_at n) x.row, ap (objects_at n) x.hand)
+reply_moves Empty old new r after x n = omega (arith, ap (objects_at n) x.row, ap (objects_at n) x.hand)
+reply_moves Full old new r after x n = omega (arith, ap (objects_at n) x.row, ap (objects_at n) x.hand)
+reply_moves Popped old new r after x n = omega (
+  arith,
+  ap (objects_at n) x.row,
+  objects_append n (held new) (reverse x.got),
+  objects_reverse n x.got,
+  ap
+      (objects_at n) x.hand,
+  objects_append n r.hand.items x.got,
+)
+reply_moves (Pushed k) old new r after x n = omega (
+  arith,
+  ap (objects_at n) x.row,
+  objects_append n (held old) (take k r.hand.items),
+  ap (objects_at n)
+      x.hand,
+  objects_cut n k r.hand.items,
+)
+
+-- so an answer
+pub answer_moves : (answer : Instructed) (old new : SlabRow) (r after : Regs) → AnswerMoves answer old new r after → (n : ℕ)
+    → objects_at n (held new) + objects_at n after.hand.items ≡ objects_at n (held old) + objects_at n r.hand.items
+answer_moves In old new r after x n = omega (arith, ap (objects_at n) x.row, ap (objects_at n) x.hand)
+answer_moves Back old new r after x n = omega (arith, ap (objects_at n) x.row, ap (objects_at n) x.hand)
+answer_moves Ran old new r after x n = omega (arith, ap (objects_at n) x.row, ap (objects_at n) x.hand)
+answer_moves (Done reply) old new r after x n = reply_moves reply old new r after x n

@@ -1,0 +1,340 @@
+-- Acts of threads with a sequence or a growth, by what the sequence replied.
+use Rattle.std.proofs.Common.{◌≡◌, refl, ℕ, ◌+◌, ◌<◌, ◌≤◌, Bool, true, false, [], ◌∷◌, ◌++◌, List, length, get_or, Option, Some, None, ap, sym, ◌∙◌, subst, arith, inl}
+use Rattle.std.proofs.lemmas.Bool.{cond_both}
+use Rattle.std.proofs.lemmas.List.{length-append, length-drop}
+use Rattle.tc_units.specs.declared.units.Addr.{Addr}
+use Rattle.tc_units.specs.declared.units.Class.{Class}
+use Rattle.tc_model.specs.declared.calls.MoveTo.{MoveTo}
+use Rattle.cpu_slab.specs.Slots.{SlabRow, row_at, held}
+use Rattle.cpu_slab.proofs.SlabFacts.{row_sound}
+use Rattle.rseq_core.specs.declared.cpu_part.CpuPart.{CpuPart}
+use Rattle.rseq_core.specs.declared.regs.Regs.{Regs}
+use Rattle.rseq_core.specs.declared.regs.TheConstants.{LOADED_ROOM}
+use Rattle.rseq_core.specs.declared.sequence.Pc.TheVariants.{Begin}
+use Rattle.rseq_core.specs.declared.sequence.Seq.{Seq}
+use Rattle.rseq_core.specs.declared.sequence.Seq.TheVariants as seq
+use Rattle.rseq_core.specs.declared.sequence.Reply.{Reply}
+use Rattle.rseq_core.specs.declared.sequence.Reply.TheVariants as reply
+use Rattle.rseq_core.specs.declared.answers.Instructed.{Instructed}
+use Rattle.rseq_core.specs.declared.answers.Instructed.TheVariants as answer
+use Rattle.rseq_core.specs.declared.answers.Grew.{Grew}
+use Rattle.rseq_core.specs.declared.answers.Grew.TheVariants as grew
+use Rattle.rseq_core.specs.Tables.{is_pop, wanted}
+use Rattle.rseq_core.specs.Acts as rseq
+use Rattle.rseq_core.proofs.Able.{able_from_agrees}
+use Rattle.cpu_drain.specs.Seats as seats
+use Rattle.cpu_drain.specs.Seats.{SeatKeeps}
+use Rattle.cpu_drain.specs.Laws.{MovesUp, AnswerMoves, ReplyMoves, HasRoom, AreOfSame, Instructs, Grows}
+use Rattle.cpu_drain.proofs.Lawful as lawful
+use Rattle.cpu_drain.proofs.Does.{instruct_does, grow_does}
+use Rattle.holdings.specs.Runs.{objects_at}
+use Rattle.call_steps.specs.declared.seat.CpuSeat.{CpuSeat}
+use Rattle.call_steps.specs.declared.step.Asking.{Asking}
+use Rattle.call_steps.specs.declared.step.Serving.{Serving}
+use Rattle.call_steps.specs.declared.step.Freeing.{Freeing}
+use Rattle.call_steps.specs.declared.step.Giving.TheVariants as giving
+use Rattle.call_steps.specs.declared.step.CpuRow.TheVariants as front
+use Rattle.call_steps.specs.declared.step.CpuStep.{CpuStep}
+use Rattle.call_steps.specs.declared.step.CpuStep.TheVariants as cpu
+use Rattle.call_steps.specs.PerCpu.{Next}
+use Rattle.call_steps.specs.Local.{no_class, row_of, thread_no}
+use Rattle.call_steps.specs.CpuActs.{leaving, moves_to, gives, at_cpu_next, is_due, due, after_stock, replied, instructed_to, sequence_by, sequence, grew_to}
+use Rattle.call_steps.specs.CpuRows.{about_cpu, at_cpu}
+use Rattle.call_steps.specs.Fits.{FitsSequence}
+use Rattle.call_steps.specs.Shapes.{most_slots, BeginsWith}
+use Rattle.cpu_rows.specs.Shapes.{IsAtBegin, HasNone, CpuShape, cpu_standing}
+use Rattle.alloc_rules.specs.Shapes.{IsAsked}
+use Rattle.cpu_rows.specs.CpuFront.{seated}
+use Rattle.cpu_rows.specs.CpuHolds.{limits_of}
+use Rattle.cpu_rows.proofs.Acts.{Turn, IsBehind, hand_same, looks, gives_away, goes_on, seat, Keeps, IsThere, Acts, Does, IsMoved, GoesOn, as_left, still, goes, home_of, agrees_of, leave_acts}
+use Rattle.cpu_rows.proofs.Moves.{answer_moves}
+
+-- the thread's move
+due_is : (o : Option MoveTo) (ran : ℕ) (move : MoveTo) → due o ran ≡ Some move → o ≡ Some move
+due_is None ran move is = is
+due_is (Some x) ran move is = cond_both (is_due x ran) (Some x) None (λ (o : Option MoveTo). o ≡ Some move → Some x ≡ Some move) (λ e same. same)
+    (λ e none. absurd (cc)) is
+
+-- which way a sequence goes
+way_apart : (s x : Seq) (b : Bool) → s ≡ x → is_pop x ≡ b → (c : Bool) → is_pop s ≡ c → b ≡ c
+way_apart s x b is way c has = sym way ∙ (sym (ap is_pop is) ∙ has)
+
+no_pop : (s x : Seq) → s ≡ x → is_pop x ≡ false → is_pop s ≡ true → ⊥
+no_pop s x is way pops = let e : false ≡ true = way_apart s x false is way true pops in absurd (cc)
+
+no_push : (s x : Seq) → s ≡ x → is_pop x ≡ true → is_pop s ≡ false → ⊥
+no_push s x is way pushes = let e : true ≡ false = way_apart s x true is way false pushes in absurd (cc)
+
+wants : (g : Regs) (s : Seq) → g.seq ≡ s → wanted g.seq g.hand.items ≡ wanted s g.hand.items
+wants g s is = ap (λ (x : Seq). wanted x g.hand.items) is
+
+empty_by : (xs : List Addr) → length xs ≡ 0 → xs ≡ []
+empty_by [] is = refl
+empty_by (x ∷ xs) is = absurd (omega (arith, is))
+
+begins_by : (a : Addr) (xs others : List Addr) → xs ≡ a ∷ others → BeginsWith a xs
+begins_by a xs others is = subst (λ (ys : List Addr). BeginsWith a ys) (sym is) refl
+
+-- how many are in hand behind a reply at most
+reply_few : (old new : SlabRow) (r after : Regs) (o : Reply) → ReplyMoves o old new r after
+    → length after.hand.items ≤ length r.hand.items + wanted r.seq r.hand.items
+reply_few old new r after reply.Stopped moves = omega (arith, ap length moves.hand)
+reply_few old new r after reply.Empty moves = omega (arith, ap length moves.hand)
+reply_few old new r after reply.Full moves = omega (arith, ap length moves.hand)
+reply_few old new r after reply.Popped moves = omega (arith, ap length moves.hand, length-append r.hand.items moves.got, moves.few)
+reply_few old new r after (reply.Pushed n) moves = omega (arith, ap length moves.hand, length-drop n r.hand.items)
+
+module _ (turn : Turn) where
+  open turn use {rows, config as c, thread as t, part as p, seat as v, regs as g, acts as count}
+
+  abbrev There : CpuStep → Type 0
+  There row = IsThere turn row
+
+  abbrev Shape : CpuSeat → Regs → CpuStep → Type 0
+  Shape w r row = CpuShape (limits_of rows c) (seated w r) row
+
+  abbrev Behind : CpuStep → Regs → Next → Type 0
+  Behind row r n = IsBehind rows c v (front.Cpu row) g r None n
+
+  -- a row keeps its shape where sequence, class and hand stay
+  abbrev Stays : CpuStep → Type 0
+  Stays row = (w : CpuSeat) (r : Regs) → r.seq ≡ g.seq → r.class ≡ g.class → r.hand.items ≡ g.hand.items → Shape w r row
+
+  -- what a call does with a reply, which left these registers
+  abbrev Replied : CpuStep → Regs → Regs → Next → Type 0
+  Replied row r new n = GoesOn turn row v r new None n × IsAtBegin new
+
+  abbrev Replies : CpuStep → Type 0
+  Replies row = (old new : SlabRow) (r : Regs) (o : Reply) → ReplyMoves o old new g r → IsAtBegin r → AreOfSame g r → let z = replied rows v r row o in
+      Replied row r z.0 z.1
+
+  -- with the registers as they were left
+  left_so : (row : CpuStep) (r : Regs) (n : Next) → IsAtBegin r → Behind row r n → Replied row r r n
+  left_so row r n begin b = (as_left turn row v r None n b, begin)
+
+  moved_of : (new : CpuPart) (r : Regs) (a : Instructed) → Instructs p g (record { cpu = new; regs = r; answer = a }) → AreOfSame g r → IsMoved turn new r
+  moved_of new r a x same =
+      record {
+        same = same;
+        ran = x.ran;
+        epoch = x.epoch;
+        others = λ k n apart. ap (λ (y : SlabRow). objects_at n (held y)) (x.others k apart);
+        moves = answer_moves a (row_at p.slab g.class.0) (row_at new.slab g.class.0) g r x.moves;
+      }
+
+  -- what holds at a sequence's row
+  record IsRow (row : CpuStep) : Type 0 where
+    pub here : v.cpu.0 ≡ (at_cpu v.cpu row).0
+    pub none : (k : ℕ) → cpu_standing rows k row ≡ None
+    pub stays : Stays row
+    pub replies : Replies row
+    pub rooms : is_pop g.seq ≡ true → HasRoom g
+
+  -- it goes on, or is at its begin again
+  stays_on : (row : CpuStep) (new : CpuPart) (r : Regs) → There row → IsRow row → AreOfSame g r → r.hand.items ≡ g.hand.items → IsMoved turn new r
+      → Keeps turn row new (seats.with_regs (seat turn row) r)
+      → Acts turn row (leaving new v r (at_cpu_next row))
+  stays_on row new r there x same hand m keeps =
+      still turn row new r (cpu_standing rows g.class.0 row) (cpu_standing rows r.class.0 row) (at_cpu_next row) there m
+      (goes_on rows c v row row g r refl (hand_same rows c g r (about_cpu row) same.class hand there.ready.hand) (x.stays v r same.seq same.class hand))
+      (x.none g.class.0 ∙ sym (x.none r.class.0)) keeps
+
+  answers : (row : CpuStep) (new : CpuPart) (r : Regs) (a : Instructed) → There row → IsRow row → AreOfSame g r
+      → Instructs p g (record { cpu = new; regs = r; answer = a }) → Keeps turn row new (seats.with_regs (seat turn row) r)
+      → (let n = instructed_to rows v r row a in Acts turn row (leaving new v n.0 n.1))
+  answers row new r answer.In there x same y keeps = stays_on row new r there x same y.moves.hand (moved_of new r answer.In y same) keeps
+  answers row new r answer.Back there x same y keeps = stays_on row new r there x same y.moves.hand (moved_of new r answer.Back y same) keeps
+  answers row new r answer.Ran there x same y keeps = stays_on row new r there x same y.moves.hand (moved_of new r answer.Ran y same) keeps
+  answers row new r (answer.Done o) there x same y keeps =
+      let n : Regs × Next = replied rows v r row o in
+      let z : Replied row r n.0 n.1 = x.replies (row_at p.slab g.class.0) (row_at new.slab g.class.0) r o y.moves
+      (record { pc = y.begins.pc; nothing = y.begins.nothing }) same in
+      goes turn row new r n.0 (cpu_standing rows g.class.0 row) None n.1 there (moved_of new r (answer.Done o) y same) z.0 z.1 (x.none g.class.0) keeps
+
+  acts_by : (row : CpuStep) → There row → IsRow row → (o : Option MoveTo) → due v.moved g.ran ≡ o → Acts turn row (sequence_by rows p v g row o)
+  acts_by row there x (Some move) is =
+      leave_acts turn row move (at_cpu_next row) (cpu_standing rows g.class.0 row) there x.here (due_is v.moved g.ran move is) refl
+      (goes_on rows c (moves_to v move) row row g (rseq.dropped g) refl (hand_same rows c g (rseq.dropped g) (about_cpu row) refl refl there.ready.hand)
+      (x.stays (moves_to v move) (rseq.dropped g) refl refl refl))
+  acts_by row there x None is =
+      let z = rseq.instructed p g in
+      let y = instruct_does (length rows) p g there.part there.ready.class (agrees_of turn row there) in
+      answers row z.cpu z.regs z.answer there x (y.same x.rooms) y
+      (lawful.instructs (length rows) (at_cpu v.cpu row).0 (thread_no t) p (seat turn row) (home_of turn row there x.here))
+
+  acts : (row : CpuStep) → There row → IsRow row → Acts turn row (sequence rows p v g row)
+  acts row there x = acts_by row there x (due v.moved g.ran) refl
+
+  fits : (row : CpuStep) → There row → IsRow row → FitsSequence rows p g
+  fits row there x =
+      let within : g.class.0 < length p.slab.rows = omega (arith, there.part.classes, there.ready.class) in
+      record {
+        class = there.ready.class;
+        there = within;
+        epoch = omega (arith, there.epoch);
+        ran = omega (arith, there.sits.ran, there.acts);
+        able = λ e. able_from_agrees (is_pop g.seq) (row_at p.slab g.class.0) g g.pc (row_sound p.slab g.class.0 there.part.sound within)
+            (λ pops. record { loaded = (x.rooms pops).loaded; hand = (x.rooms pops).hand }) (agrees_of turn row there e);
+      }
+
+  -- Pop
+  asked_still : (r : Regs) (a : Asking) → IsAsked rows g a → r.class ≡ g.class → IsAsked rows r a
+  asked_still r a asked class = asked ∙ ap (λ (k : Class). Some k) (sym class)
+
+  pop_none : (r : Regs) → g.hand.items ≡ [] → IsAtBegin r → r.hand.items ≡ g.hand.items → HasNone (seated v r)
+  pop_none r none begin hand = record { begin = begin; hand = hand ∙ none; freed = refl }
+
+  pop_replies : (a : Asking) → Shape v g (cpu.Pop a) → Replies (cpu.Pop a)
+  pop_replies a shape old new r reply.Popped moves begin same =
+      let size = length-append g.hand.items moves.got in
+      let one : wanted g.seq g.hand.items ≡ 1 = wants g seq.Pop shape.0.seq in
+      let got : 0 < length moves.got = moves.some (omega (arith, one)) in
+      left_so (cpu.Pop a) r _ begin
+      (record { next = (refl, omega (arith, ap length moves.hand, size, got), omega (arith, ap length moves.hand, size, moves.few, one, ap length shape.1)); regs = begin; stands = refl; same = refl })
+  pop_replies a shape old new r reply.Empty moves begin same =
+      let n : HasNone (seated v r) = pop_none r shape.1 begin moves.hand in
+      let asked : IsAsked rows r a = asked_still r a shape.2 same.class in
+      left_so (cpu.Pop a) r _ begin (goes_on rows c v (cpu.Pop a) (cpu.Grow a) g r refl (asked, n.hand) (n, asked))
+  pop_replies a shape old new r reply.Stopped moves begin same = left_so (cpu.Pop a) r _ begin
+      (looks rows c v (front.Cpu (cpu.Pop a)) g r a refl (pop_none r shape.1 begin moves.hand) (asked_still r a shape.2 same.class))
+  pop_replies a shape old new r reply.Full moves begin same = left_so (cpu.Pop a) r _ begin
+      (looks rows c v (front.Cpu (cpu.Pop a)) g r a refl (pop_none r shape.1 begin moves.hand) (asked_still r a shape.2 same.class))
+  pop_replies a shape old new r (reply.Pushed n) moves begin same = absurd (no_push g.seq seq.Pop shape.0.seq refl moves.pushes)
+
+  pops_some : (old new : SlabRow) (x : rseq.Acted Instructed) → g.seq ≡ seq.Pop → AnswerMoves x.answer old new g x.regs → x.answer ≡ answer.Done reply.Popped
+      → 0 < length x.regs.hand.items
+  pops_some old new x is moves done =
+      let up : MovesUp old new g x.regs = subst (λ (o : Instructed). AnswerMoves o old new g x.regs) done moves in
+      let got : 0 < length up.got = up.some (omega (arith, wants g seq.Pop is)) in
+      omega (arith, ap length up.hand, length-append g.hand.items up.got, got)
+
+  pub pop_does : (a : Asking) → There (cpu.Pop a) → Does turn (cpu.Pop a)
+  pop_does a there =
+      let shape : Shape v g (cpu.Pop a) = there.sits.regs in
+      let x = rseq.instructed p g in
+      let moved = instruct_does (length rows) p g there.part there.ready.class (agrees_of turn (cpu.Pop a) there) in
+      let want = wants g seq.Pop shape.0.seq in
+      let row : IsRow (cpu.Pop a) = record {
+        here = refl;
+        none = λ k. refl;
+        stays = λ w r s class hand. (record { seq = s ∙ shape.0.seq; freed = refl }, hand ∙ shape.1, asked_still r a shape.2 class);
+        replies = pop_replies a shape;
+        rooms = λ pops. record { loaded = omega (arith, want, there.sits.loaded); hand = omega (arith, want, there.ready.room, ap length shape.1) };
+      } in
+      record {
+        fits = (
+          fits (cpu.Pop a) there row,
+          λ done. (
+            pops_some (row_at p.slab g.class.0) (row_at x.cpu.slab g.class.0) x shape.0.seq moved.moves done,
+            moved.class,
+          ),
+        );
+        acts = acts (cpu.Pop a) there row;
+      }
+
+  -- Stock
+  rest_behind : (s : Serving) (r : Regs) (xs : List Addr) → r.hand.items ≡ xs → length r.hand.items ≤ most_slots → IsAtBegin r
+      → Behind (cpu.Stock s) r (after_stock v s xs)
+  rest_behind s r [] is few begin = record { next = (refl, is); regs = begin; stands = refl; same = refl }
+  rest_behind s r (x ∷ xs) is few begin = gives_away rows c v (front.Cpu (cpu.Stock s)) g r (giving.Rest s) refl begin few tt
+
+  pub stock_does : (s : Serving) → There (cpu.Stock s) → Does turn (cpu.Stock s)
+  stock_does s there =
+      let shape : Shape v g (cpu.Stock s) = there.sits.regs in
+      let row : IsRow (cpu.Stock s) = record {
+        here = refl;
+        none = λ k. refl;
+        stays = λ w r e class hand. (
+          record { seq = e ∙ shape.0.seq; freed = refl },
+          omega (arith, ap length hand, shape.1),
+          omega
+              (arith, ap length hand, shape.2),
+        );
+        replies = λ old new r o moves begin same. left_so (cpu.Stock s) r _ begin
+            (rest_behind s r r.hand.items refl (omega (arith, reply_few old new g r o moves, wants g seq.PushBatch shape.0.seq, shape.2)) begin);
+        rooms = λ pops. absurd (no_pop g.seq seq.PushBatch shape.0.seq refl pops);
+      } in
+      record { fits = fits (cpu.Stock s) there row; acts = acts (cpu.Stock s) there row }
+
+  -- Push, and PopBatch: the object of a free is given away with what is behind it
+  freed_behind : (row : CpuStep) (f : Freeing) (r : Regs) (others : List Addr) → about_cpu row ≡ about_cpu (cpu.Push f) → r.hand.items ≡ f.addr ∷ others
+      → length others < most_slots → IsAtBegin r → Replied row r r (gives v (giving.Freed f))
+  freed_behind row f r others is hand few begin = left_so row r _ begin
+      (gives_away rows c v (front.Cpu row) g r (giving.Freed f) is begin (omega (arith, ap length hand, few)) (begins_by f.addr r.hand.items others hand))
+
+  push_replies : (f : Freeing) → Shape v g (cpu.Push f) → Replies (cpu.Push f)
+  push_replies f shape old new r (reply.Pushed n) moves begin same =
+      let one : length g.hand.items ≡ 1 = ap length shape.1 in
+      let some : 0 < n = moves.some (omega (arith, wants g seq.Push shape.0.seq, one)) in
+      let none : r.hand.items ≡ [] = empty_by r.hand.items (omega (arith, ap length moves.hand, length-drop n g.hand.items, one, some)) in
+      left_so (cpu.Push f) r _ begin (record { next = (refl, none); regs = begin; stands = refl; same = refl })
+  push_replies f shape old new r reply.Full moves begin same =
+      let new : Regs = record r { seq = seq.PopBatch (row_of rows r.class).batch; pc = Begin } in
+      let hand : r.hand.items ≡ f.addr ∷ [] = moves.hand ∙ shape.1 in
+      (record { like = record { thread = refl; hand = refl; loaded = refl; ran = refl; epoch = refl }; class = inl refl; behind = goes_on rows c v (cpu.Push f) (cpu.PopBatch f) g new refl (begins_by f.addr r.hand.items [] hand, omega (arith, ap length hand)) (record { seq = refl; freed = refl }, hand) }, record { pc = refl; nothing = begin.nothing })
+  push_replies f shape old new r reply.Stopped moves begin same = freed_behind (cpu.Push f) f r [] refl (moves.hand ∙ shape.1) (omega arith) begin
+  push_replies f shape old new r reply.Empty moves begin same = freed_behind (cpu.Push f) f r [] refl (moves.hand ∙ shape.1) (omega arith) begin
+  push_replies f shape old new r reply.Popped moves begin same = absurd (no_pop g.seq seq.Push shape.0.seq refl moves.pops)
+
+  pub push_does : (f : Freeing) → There (cpu.Push f) → Does turn (cpu.Push f)
+  push_does f there =
+      let shape : Shape v g (cpu.Push f) = there.sits.regs in
+      let row : IsRow (cpu.Push f) = record {
+        here = refl;
+        none = λ k. refl;
+        stays = λ w r e class hand. (record { seq = e ∙ shape.0.seq; freed = refl }, hand ∙ shape.1);
+        replies = push_replies f shape;
+        rooms = λ pops. absurd (no_pop g.seq seq.Push shape.0.seq refl pops);
+      } in
+      record { fits = fits (cpu.Push f) there row; acts = acts (cpu.Push f) there row }
+
+  batch_replies : (f : Freeing) → wanted g.seq g.hand.items ≤ LOADED_ROOM → Shape v g (cpu.PopBatch f) → Replies (cpu.PopBatch f)
+  batch_replies f few shape old new r reply.Popped moves begin same = freed_behind (cpu.PopBatch f) f r moves.got refl
+      (moves.hand ∙ ap (λ xs. xs ++ moves.got) shape.1) (omega (arith, moves.few, few)) begin
+  batch_replies f few shape old new r reply.Stopped moves begin same = freed_behind (cpu.PopBatch f) f r [] refl (moves.hand ∙ shape.1) (omega arith) begin
+  batch_replies f few shape old new r reply.Empty moves begin same = freed_behind (cpu.PopBatch f) f r [] refl (moves.hand ∙ shape.1) (omega arith) begin
+  batch_replies f few shape old new r reply.Full moves begin same = freed_behind (cpu.PopBatch f) f r [] refl (moves.hand ∙ shape.1) (omega arith) begin
+  batch_replies f few shape old new r (reply.Pushed n) moves begin same = absurd
+      (no_push g.seq (seq.PopBatch (row_of rows g.class).batch) shape.0.seq refl moves.pushes)
+
+  pub batch_does : (f : Freeing) → There (cpu.PopBatch f) → Does turn (cpu.PopBatch f)
+  batch_does f there =
+      let shape : Shape v g (cpu.PopBatch f) = there.sits.regs in
+      let few : wanted g.seq g.hand.items ≤ LOADED_ROOM = omega
+      (arith, wants g (seq.PopBatch (row_of rows g.class).batch) shape.0.seq, (there.are.each g.class.0 no_class there.ready.class).few) in
+      let row : IsRow (cpu.PopBatch f) = record {
+        here = refl;
+        none = λ k. refl;
+        stays = λ w r e class hand.
+            (record { seq = e ∙ (shape.0.seq ∙ ap (λ (k : Class). seq.PopBatch (get_or rows k.0 no_class).batch) (sym class)); freed = refl }, hand ∙ shape.1);
+        replies = batch_replies f few shape;
+        rooms = λ pops. record { loaded = omega (arith, few, there.sits.loaded); hand = omega (arith, few, there.ready.room, ap length shape.1) };
+      } in
+      record { fits = fits (cpu.PopBatch f) there row; acts = acts (cpu.PopBatch f) there row }
+
+  -- Grow
+  grow_behind : (a : Asking) (r : Regs) (o : Grew) → HasNone (seated v r) → IsAsked rows r a → Behind (cpu.Grow a) r (grew_to v a o)
+  grow_behind a r grew.In none asked = goes_on rows c v (cpu.Grow a) (cpu.Grow a) g r refl (asked, none.hand) (none, asked)
+  grow_behind a r grew.Back none asked = goes_on rows c v (cpu.Grow a) (cpu.Grow a) g r refl (asked, none.hand) (none, asked)
+  grow_behind a r grew.Done none asked = looks rows c v (front.Cpu (cpu.Grow a)) g r a refl none asked
+
+  pub grow_does_all : (a : Asking) → There (cpu.Grow a) → Does turn (cpu.Grow a)
+  grow_does_all a there =
+      let shape : Shape v g (cpu.Grow a) = there.sits.regs in
+      let x = rseq.grew_here p g in
+      let y : Grows p g x = grow_does (length rows) p g there.part there.ready.class in
+      let begin = y.begins (record { pc = shape.0.begin.pc; nothing = shape.0.begin.nothing }) in
+      let none : HasNone (seated v x.regs) = pop_none x.regs shape.0.hand (record { pc = begin.pc; nothing = begin.nothing }) y.hand in
+      let m : IsMoved turn x.cpu x.regs = record {
+        same = y.same;
+        ran = omega (arith, y.ran);
+        epoch = y.epoch;
+        others = λ k n apart. ap (objects_at n) (y.rows k);
+        moves = λ n. omega (arith, ap (objects_at n) (y.rows g.class.0), ap (objects_at n) y.hand);
+      } in
+      record {
+        fits = (omega (arith, there.part.classes, there.ready.class), omega (arith, there.epoch));
+        acts = still turn (cpu.Grow a) x.cpu x.regs None None (grew_to v a x.answer) there m
+            (grow_behind a x.regs x.answer none (asked_still x.regs a shape.1 y.same.class)) refl
+            (lawful.grows (length rows) v.cpu.0 (thread_no t) p (seat turn (cpu.Grow a)) (home_of turn (cpu.Grow a) there refl) shape.0.begin.pc);
+      }

@@ -1,0 +1,327 @@
+-- Acts of a thread that stops a CPU, and of one that leaves it at the end of its call.
+use Rattle.std.proofs.Common.{◌≡◌, refl, ℕ, ◌+◌, ◌*◌, ◌<◌, ◌≤◌, Bool, true, false, [], ◌∷◌, List, length, get_or, reverse, Option, Some, None, ap, sym, ◌∙◌, subst, inl, inr, ltb, arith}
+use Rattle.std.specs.Prelude.{is_some, slice_set}
+use Rattle.std.proofs.Math.Path.{fun_ext}
+use Rattle.std.proofs.lemmas.Bool.{cond_both, cases_eq, eqb-true, eq-eqb, lt-ltb, ltb-true, ltb-false, le-ltb}
+use Rattle.std.proofs.lemmas.List.{length-append, length-reverse}
+use Rattle.tc_units.specs.Bag.{Contents}
+use Rattle.tc_units.specs.declared.units.Addr.{Addr}
+use Rattle.tc_units.specs.declared.units.Class.{Class}
+use Rattle.tc_units.specs.declared.units.CpuNo.{CpuNo}
+use Rattle.tc_units.specs.declared.units.ThreadNo.{ThreadNo}
+use Rattle.tc_model.specs.declared.calls.Call.TheVariants.{Drain, Resize}
+use Rattle.tc_model.specs.declared.calls.MoveTo.{MoveTo}
+use Rattle.tc_model.specs.declared.answers.Answer.TheVariants.{Busy}
+use Rattle.cpu_slab.specs.declared.slab.CapFault.{CapFault}
+use Rattle.cpu_slab.specs.declared.slab.CapFault.TheVariants as fault
+use Rattle.cpu_slab.specs.Slots.{SlabRow, CpuSlab, no_row, row_at, held}
+use Rattle.cpu_slab.specs.Caps.{cap_fault, set_unless}
+use Rattle.cpu_slab.proofs.SlabFacts.{row_same, row_other}
+use Rattle.rseq_core.specs.declared.cpu_part.CpuPart.{CpuPart}
+use Rattle.rseq_core.specs.declared.regs.Regs.{Regs}
+use Rattle.cpu_drain.specs.Drains as drains
+use Rattle.cpu_drain.specs.Seats as seats
+use Rattle.cpu_drain.specs.Seats.{SeatKeeps, IsHeld}
+use Rattle.cpu_drain.specs.Laws.{Takes}
+use Rattle.cpu_drain.proofs.Lawful as lawful
+use Rattle.cpu_drain.proofs.Does.{take_does}
+use Rattle.holdings.specs.Runs.{objects_at}
+use Rattle.holdings.specs.Moves.{IsOther}
+use Rattle.call_steps.specs.declared.step.Draining.{Draining}
+use Rattle.call_steps.specs.declared.step.Resizing.{Resizing}
+use Rattle.call_steps.specs.declared.step.Stopping.{Stopping}
+use Rattle.call_steps.specs.declared.step.Stopping.TheVariants as stopping
+use Rattle.call_steps.specs.declared.step.Giving.TheVariants as giving
+use Rattle.call_steps.specs.declared.step.Next.TheVariants as next
+use Rattle.call_steps.specs.declared.step.CpuRow.TheVariants as front
+use Rattle.call_steps.specs.declared.step.CpuStep.{CpuStep}
+use Rattle.call_steps.specs.declared.step.CpuStep.TheVariants as cpu
+use Rattle.call_steps.specs.PerCpu.{Next}
+use Rattle.call_steps.specs.Calls.{Other}
+use Rattle.call_steps.specs.CpuActs.{leaving, gives, at_cpu_next, stops, drains_on, drained, took, cap_answer, gives_taken, started, left_for}
+use Rattle.call_steps.specs.CpuRows.{about_cpu, at_cpu, call_of, cpu_of}
+use Rattle.call_steps.specs.Fits.{taken_by}
+use Rattle.call_steps.specs.Local.{thread_no}
+use Rattle.call_steps.specs.Shapes.{AreRows, most_slots}
+use Rattle.cpu_rows.specs.Shapes.{Limits, stands, no_class_empty, below, alone, empty_to_take, empty_to_start, cpu_standing, IsStop, IsAtFirst, IsAtBegin, IsToCome, HasHand, CpuShape}
+use Rattle.cpu_rows.specs.CpuFront.{seated}
+use Rattle.cpu_rows.specs.CpuHolds.{limits_of}
+use Rattle.cpu_rows.proofs.Threads.{same_keeps}
+use Rattle.cpu_rows.proofs.Acts.{Turn, IsBehind, gives_away, goes_on, seat, Keeps, IsThere, Acts, Does, IsMoved, GoesOn, as_left, goes, moves_none, slab_same, leave_acts}
+use Rattle.cpu_rows.proofs.Moves.{objects_append, objects_reverse}
+
+-- refusals of a call that stops a CPU, and of a capacity
+busy_other : (s : Stopping) (owner : ThreadNo) → IsOther (call_of s) (Busy owner)
+busy_other (stopping.Drain d) owner = tt
+busy_other (stopping.Resize r) owner = tt
+
+cap_other : (r : Resizing) (o : Option CapFault) → IsOther (Resize r.cpu r.class r.cap) (cap_answer o)
+cap_other r None = tt
+cap_other r (Some (fault.OverStatic most)) = tt
+cap_other r (Some (fault.OverLimit sum)) = tt
+
+stopped_part : (o : Option ThreadNo) (p : CpuPart) (t : ThreadNo) → ((drains.stopped_by o p t).epoch ≤ p.epoch + 1) × ((drains.stopped_by o p t).slab ≡ p.slab)
+stopped_part None p t = (omega arith, refl)
+stopped_part (Some u) p t = (omega arith, refl)
+
+-- a drain is to take class 0 behind its fence, below which there is none
+nothing_taken : (k : Class) (s : Stopping) → IsAtFirst k s → empty_to_take k.0 s ≡ no_class_empty
+nothing_taken k (stopping.Drain d) is = ap below is ∙ fun_ext (λ j. le-ltb j 0 (omega arith))
+nothing_taken k (stopping.Resize r) is = refl
+
+-- which classes the thread knows to be empty behind a take
+abbrev empty_of : ℕ → Stopping → ℕ → Bool
+empty_of k (stopping.Drain d) = below (k + 1)
+empty_of k (stopping.Resize r) = alone r.class.0
+
+known_before : (m : Limits) (k : Class) (s : Stopping) → IsStop m k s → (j : ℕ) → empty_of k.0 s j ≡ true → (k.0 ≡ j → ⊥) → empty_to_take k.0 s j ≡ true
+known_before m k (stopping.Drain d) is j known apart = lt-ltb j k.0 (omega (arith, ltb-true j (k.0 + 1) known, apart))
+known_before m k (stopping.Resize r) is j known apart = absurd (apart (ap (λ (c : Class). c.0) is.1 ∙ sym (eqb-true j r.class.0 known)))
+
+is_empty : (m : Limits) (k : Class) (hand : Contents Addr) (p : CpuPart) (s : Stopping) → Takes p k.0 hand → k.0 < length p.slab.rows → IsStop m k s
+    → ((j : ℕ) → empty_to_take k.0 s j ≡ true → (row_at p.slab j).top ≡ 0) → (j : ℕ) → empty_of k.0 s j ≡ true → (row_at (drains.taken p k.0).slab j).top ≡ 0
+is_empty m k hand p s x low is before j known =
+    let new : SlabRow = record (row_at p.slab k.0) { top = 0 } in
+    elim (cases_eq k.0 j) [
+      | inl here ↦ subst (λ (n : ℕ). (row_at (drains.taken p k.0).slab n).top ≡ 0) here (ap (λ (row : SlabRow). row.top) (row_same p.slab.rows k.0 new low))
+      | inr apart ↦ ap (λ (row : SlabRow). row.top) (x.others j (λ same. apart (sym same))) ∙ before j (known_before m k s is j known apart)
+    ]
+
+taken_few : (m : Limits) (k : Class) (s : Stopping) → AreRows m.rows → k.0 < length m.rows → IsStop m k s → taken_by s ≤ 120 * most_slots
+taken_few m k (stopping.Drain d) rows low is = omega (arith, is.1, rows.few, low)
+taken_few m k (stopping.Resize r) rows low is = omega arith
+
+-- the row with which a drain goes on is about it, and was to come, where it has emptied the classes up to k
+record IsDrainNext (m : Limits) (k : Class) (d : Draining) (next : Class × CpuStep) : Type 0 where
+  pub about : about_cpu next.1 ≡ Other (Some (Drain d.cpu))
+  pub come : IsToCome m next.0 next.1
+  pub stand : cpu_standing m.rows next.0.0 next.1 ≡ stands d.cpu true (below (k.0 + 1))
+
+drains_come : (m : Limits) (k : Class) (d : Draining) → k.0 < length m.rows → d.cpu.0 < m.cpus → d.taken ≤ (k.0 + 1) * most_slots
+    → IsDrainNext m k d (drains_on m.rows k d)
+drains_come m k d low there few =
+    let after : Class = record { 0 = k.0 + 1 } in
+    cond_both (ltb after.0 (length m.rows)) (after, cpu.Take (stopping.Drain d)) (k, cpu.Start (stopping.Drain d))
+    (λ (next : Class × CpuStep). IsDrainNext m k d next)
+    (λ e. record
+    { about = refl; come = record { class = ltb-true after.0 (length m.rows) e; other = tt; shape = λ l n same. (n, subst (λ (j : Class). IsStop m j (stopping.Drain d)) (sym same) (there, few)) }; stand = refl })
+    (λ e.
+    (let last : length m.rows ≡ after.0 = omega (arith, ltb-false after.0 (length m.rows) e, low) in
+    record { about = refl; come = record { class = low; other = tt; shape = λ l n same. (n, there) }; stand = ap (λ (j : ℕ). stands d.cpu true (below j)) last }))
+
+-- a capacity that is set, or refused, moves no object
+capped_rows : (slab : CpuSlab) (k n : ℕ) → k < length slab.rows → (o : Option CapFault) (j : ℕ) → held (row_at (set_unless o slab k n) j) ≡ held (row_at slab j)
+capped_rows slab k n within (Some f) j = refl
+capped_rows slab k n within None j =
+    let row : SlabRow = record (row_at slab k) { cap = n } in
+    elim (cases_eq j k) [
+      | inl same ↦ ap (λ (i : ℕ). held (get_or (slice_set slab.rows k row) i no_row)) same ∙
+          (ap held (row_same slab.rows k row within) ∙ ap (λ (i : ℕ). held (row_at slab i)) (sym same))
+      | inr other ↦ ap held (row_other slab.rows k j row other)
+    ]
+
+module _ (turn : Turn) where
+  open turn use {rows, config as c, thread as t, part as p, seat as v, regs as g, acts as count}
+
+  abbrev There : CpuStep → Type 0
+  There row = IsThere turn row
+
+  abbrev Shape : CpuStep → Type 0
+  Shape row = CpuShape (limits_of rows c) (seated v g) row
+
+  abbrev at : CpuStep → seats.Seat
+  at row = seat turn row
+
+  abbrev Behind : CpuStep → Regs → Option seats.Standing → Next → Type 0
+  Behind row r o n = IsBehind rows c v (front.Cpu row) g r o n
+
+  -- an act that moves no object
+  quiet : (row : CpuStep) (new : CpuPart) (n : Next) (o o' : Option seats.Standing) → There row → IsAtBegin g → o ≡ o' → Behind row g o' n
+      → new.epoch ≤ p.epoch + 1 → ((j : ℕ) → held (row_at new.slab j) ≡ held (row_at p.slab j)) → Keeps turn row new
+      (record { regs = g; cpu = v.cpu.0; standing = o })
+      → Acts turn row (leaving new v g n)
+  quiet row new n o o' there begin same b epoch slab keeps = goes turn row new g g o o' n there (moves_none turn new epoch slab)
+      (as_left turn row v g o' n b) begin same keeps
+
+  -- what a thread that has stopped the CPU has done there still stands
+  held_of : (row : CpuStep) (s : Stopping) (fenced : Bool) (empty : ℕ → Bool) → There row → cpu_standing rows g.class.0 row ≡ stands (cpu_of s) fenced empty
+      → at_cpu v.cpu row ≡ cpu_of s → IsHeld (thread_no t) p (record { cpu = (cpu_of s).0; fenced = fenced; empty = empty })
+  held_of row s fenced empty there is here =
+      let holds : seats.Holds (at_cpu v.cpu row).0 (thread_no t) p (stands (cpu_of s) fenced empty) = subst
+      (λ (o : Option seats.Standing). seats.Holds (at_cpu v.cpu row).0 (thread_no t) p o) is there.pair.stage in
+      holds (ap (λ (n : CpuNo). n.0) (sym here))
+
+  stopper_is : (row : CpuStep) → There row → p.stopper ≡ Some (thread_no t) → p.stopper ≡ Some g.thread
+  stopper_is row there is = is ∙ ap (λ (u : ThreadNo). Some u) (sym there.sits.thread)
+
+  -- Stop
+  stop_by : (s : Stopping) (o : Option ThreadNo) → There (cpu.Stop s) → p.stopper ≡ o
+      → (let n = stops p g.thread s o in Acts turn (cpu.Stop s) (leaving n.0 v g n.1))
+  stop_by s None there none =
+      let shape : Shape (cpu.Stop s) = there.sits.regs in
+      let part = stopped_part p.stopper p g.thread in
+      let keeps = lawful.stops (length rows) (cpu_of s).0 (thread_no t) p (at (cpu.Stop s)) there.part there.pair shape.0.begin.pc refl none in
+      quiet (cpu.Stop s) (drains.stopped p g.thread) (at_cpu_next (cpu.Fence s)) _ (stands (cpu_of s) false no_class_empty) there shape.0.begin refl
+      (goes_on rows c v (cpu.Stop s) (cpu.Fence s) g g refl there.ready.hand (shape.0, shape.1, shape.2)) part.0
+      (slab_same turn (drains.stopped p g.thread) part.1)
+      (subst (λ (u : ThreadNo). Keeps turn (cpu.Stop s) (drains.stopped p u) (seats.standing_at (at (cpu.Stop s)) (cpu_of s).0 false (λ j. false)))
+      (sym there.sits.thread) keeps)
+  stop_by s (Some owner) there is =
+      let shape : Shape (cpu.Stop s) = there.sits.regs in
+      quiet (cpu.Stop s) p (next.Decide (Busy owner) None) None None there shape.0.begin refl
+      (record { next = (busy_other s owner, refl, shape.0.hand); regs = shape.0.begin; stands = refl; same = refl }) (omega arith) (λ j. refl)
+      (same_keeps (length rows) (cpu_of s).0 (thread_no t) p (at (cpu.Stop s)) there.part there.pair)
+
+  pub stop_does : (s : Stopping) → There (cpu.Stop s) → Does turn (cpu.Stop s)
+  stop_does s there = record { fits = λ e. there.pair.stops (e ∙ ap (λ (u : ThreadNo). Some u) there.sits.thread); acts = stop_by s p.stopper there refl }
+
+  -- Fence
+  pub fence_does : (s : Stopping) → There (cpu.Fence s) → Does turn (cpu.Fence s)
+  fence_does s there =
+      let shape : Shape (cpu.Fence s) = there.sits.regs in
+      let has = held_of (cpu.Fence s) s false no_class_empty there refl refl in
+      record {
+        fits = (stopper_is (cpu.Fence s) there has.stopper, omega (arith, there.epoch));
+        acts = quiet (cpu.Fence s) (drains.fenced p) (at_cpu_next (cpu.Take s)) (stands (cpu_of s) true no_class_empty)
+            (stands (cpu_of s) true (empty_to_take g.class.0 s)) there shape.0.begin (sym (ap (stands (cpu_of s) true) (nothing_taken g.class s shape.2)))
+            (goes_on rows c v (cpu.Fence s) (cpu.Take s) g g refl there.ready.hand (shape.0, shape.1)) (omega arith) (λ j. refl)
+            (lawful.fences (length rows) (cpu_of s).0 (thread_no t) p (at (cpu.Fence s))
+            (record { cpu = (cpu_of s).0; fenced = false; empty = no_class_empty }) there.part there.pair shape.0.begin.pc refl refl);
+      }
+
+  -- Take: the call goes on behind what it took
+  abbrev TookSo : Stopping → Regs → Regs → Next → Type 0
+  TookSo s r new n = GoesOn turn (cpu.Take s) v r new (stands (cpu_of s) true (empty_of g.class.0 s)) n × IsAtBegin new
+
+  drained_so : (d d' : Draining) (r : Regs) (to : Class × CpuStep) (xs : List Addr) → r.hand.items ≡ xs → length xs ≤ most_slots → IsAtBegin r
+      → d'.cpu ≡ d.cpu → IsDrainNext (limits_of rows c) g.class d' to → (let n = drained v r xs to in TookSo (stopping.Drain d) r n.0 n.1)
+  drained_so d d' r to [] is few begin same x =
+      let new : Regs = record r { class = to.0 } in
+      let b : IsAtBegin new = record { pc = begin.pc; nothing = begin.nothing } in
+      let about : about_cpu to.1 ≡ about_cpu (cpu.Take (stopping.Drain d)) = x.about ∙ ap (λ (k : CpuNo). Other (Some (Drain k))) same in
+      let behind = goes_on rows c v (cpu.Take (stopping.Drain d)) to.1 g new about (omega (arith, ap length is))
+      (x.come.shape (seated v new) (record { begin = b; hand = is; freed = refl }) refl) in
+      (record { like = record { thread = refl; hand = refl; loaded = refl; ran = refl; epoch = refl }; class = inr (x.come.class, is, tt); behind = subst (λ (o : Option seats.Standing). Behind (cpu.Take (stopping.Drain d)) new o (at_cpu_next to.1)) (x.stand ∙ ap (λ (k : CpuNo). stands k true (below (g.class.0 + 1))) same) behind }, b)
+  drained_so d d' r to (y ∷ ys) is few begin same x =
+      let about : about_cpu (cpu.Take (stopping.Drain d)) ≡ about_cpu to.1 = sym (x.about ∙ ap (λ (k : CpuNo). Other (Some (Drain k))) same) in
+      let behind = gives_away rows c v (front.Cpu (cpu.Take (stopping.Drain d))) g r (giving.Row to.0 to.1) about begin (omega (arith, ap length is, few))
+      x.come in (
+        as_left turn (cpu.Take (stopping.Drain d)) v r _ _ (subst
+            (λ (o : Option seats.Standing). Behind (cpu.Take (stopping.Drain d)) r o (gives v (giving.Row to.0 to.1)))
+            (x.stand ∙ ap (λ (k : CpuNo). stands k true (below (g.class.0 + 1))) same) behind),
+        begin,
+      )
+
+  took_so : (s : Stopping) (r : Regs) → length r.hand.items ≤ most_slots → r.class ≡ g.class → g.class.0 < length rows → IsAtBegin r
+      → IsStop (limits_of rows c) g.class s → (let n = took rows v r s in TookSo s r n.0 n.1)
+  took_so (stopping.Drain d) r few class low begin is =
+      let d' : Draining = record d { taken = d.taken + length r.hand.items } in
+      drained_so d d' r (drains_on rows r.class d') r.hand.items refl few begin refl
+      (subst (λ (k : Class). IsDrainNext (limits_of rows c) g.class d' (drains_on rows k d')) (sym class)
+      (drains_come (limits_of rows c) g.class d' low is.0 (omega (arith, is.1, few))))
+  took_so (stopping.Resize x) r few class low begin is = (
+    as_left turn (cpu.Take (stopping.Resize x)) v r _ _ (goes_on rows c v (cpu.Take (stopping.Resize x)) (cpu.SetCap x) g r refl few
+        (record { begin = begin; few = few; freed = refl }, is.0, class ∙ is.1)),
+    begin,
+  )
+
+  pub take_does_all : (s : Stopping) → There (cpu.Take s) → Does turn (cpu.Take s)
+  take_does_all s there =
+      let shape : Shape (cpu.Take s) = there.sits.regs in
+      let k : ℕ = g.class.0 in
+      let h : Contents Addr = drains.taken_to p k g.hand in
+      let r : Regs = record g { hand = h } in
+      let has = held_of (cpu.Take s) s true (empty_to_take k s) there refl refl in
+      let low : k < length rows = there.ready.class in
+      let within : k < length p.slab.rows = omega (arith, there.part.classes, low) in
+      let x : Takes p k g.hand = take_does (length rows) k p g.hand there.part low in
+      let none : length g.hand.items ≡ 0 = ap length shape.0.hand in
+      let back = length-reverse (held (row_at p.slab k)) in
+      let all : length h.items ≡ length (held (row_at p.slab k)) = omega (arith, none, back, length-append g.hand.items (reverse (held (row_at p.slab k)))) in
+      let n : Regs × Next = took rows v r s in
+      let z : TookSo s r n.0 n.1 = took_so s r (omega (arith, all, x.few)) refl low (record { pc = shape.0.begin.pc; nothing = shape.0.begin.nothing })
+      shape.1 in
+      let m : IsMoved turn (drains.taken p k) r = record {
+        same =
+            record { thread = refl; class = refl; seq = refl; hand_room = omega (arith, none, all, back, x.all, x.few, there.ready.room); loaded_room = refl };
+        ran = omega arith;
+        epoch = omega arith;
+        others = λ j m apart. ap (λ (y : SlabRow). objects_at m (held y)) (x.others j apart);
+        moves = λ m. omega (
+          arith,
+          ap (objects_at m) x.row,
+          ap (objects_at m) x.items,
+          objects_append m g.hand.items (reverse (held (row_at p.slab k))),
+          objects_reverse m (held (row_at p.slab k)),
+        );
+      } in
+      record {
+        fits = record {
+          fenced = record { stopper = stopper_is (cpu.Take s) there has.stopper; fenced = has.fenced refl };
+          there = within;
+          room = omega (arith, x.all, x.few, none, there.ready.room);
+          empty = shape.0.hand;
+          few = omega (arith, x.all, x.few, taken_few (limits_of rows c) g.class s there.are low shape.1);
+        };
+        acts = goes turn (cpu.Take s) (drains.taken p k) r n.0 _ _ n.1 there m z.0 z.1 refl
+            (lawful.takes (length rows) (cpu_of s).0 k (thread_no t) p (at (cpu.Take s)) h (empty_of k s) there.part there.pair
+            (record { pc = shape.0.begin.pc; old = record { cpu = (cpu_of s).0; fenced = true; empty = empty_to_take k s }; is = refl; here = refl; fenced = refl }) low
+            (is_empty (limits_of rows c) g.class g.hand p s x within shape.1 (λ j known. (has.empty j known).1)));
+      }
+
+  -- SetCap
+  pub set_cap_does : (x : Resizing) → There (cpu.SetCap x) → Does turn (cpu.SetCap x)
+  set_cap_does x there =
+      let shape : Shape (cpu.SetCap x) = there.sits.regs in
+      let k : ℕ = g.class.0 in
+      let mark : ℕ → Bool = alone x.class.0 in
+      let has = held_of (cpu.SetCap x) (stopping.Resize x) true mark there refl refl in
+      let within : k < length p.slab.rows = omega (arith, there.part.classes, there.ready.class) in
+      let zero : (row_at p.slab k).top ≡ 0 = (has.empty k (eq-eqb k x.class.0 (ap (λ (j : Class). j.0) shape.2))).1 in
+      record {
+        fits = record { fenced = record { stopper = stopper_is (cpu.SetCap x) there has.stopper; fenced = has.fenced refl }; there = within; empty = zero };
+        acts = quiet (cpu.SetCap x) (drains.capped p k x.cap)
+            (next.Decide (cap_answer (cap_fault p.slab k x.cap)) (Some (front.Cpu (cpu.Start (stopping.Resize x))))) (stands x.cpu true mark)
+            (stands x.cpu true mark) there shape.0.begin refl
+            (record { next = (cap_other x (cap_fault p.slab k x.cap), refl, refl); regs = (shape.0, shape.1); stands = refl; same = refl }) (omega arith)
+            (capped_rows p.slab k x.cap within (cap_fault p.slab k x.cap))
+            (lawful.sets_cap (length rows) x.cpu.0 k x.cap (thread_no t) p (at (cpu.SetCap x)) mark there.part there.pair
+            (record { pc = shape.0.begin.pc; old = record { cpu = x.cpu.0; fenced = true; empty = mark }; is = refl; here = refl; fenced = refl })
+            there.ready.class zero (λ j known. (has.empty j known).1));
+      }
+
+  -- Start
+  starts : (s : Stopping) (n : Next) → There (cpu.Start s) → IsAtBegin g → Behind (cpu.Start s) g None n
+      → Acts turn (cpu.Start s) (leaving (drains.started p) v g n)
+  starts s n there begin b =
+      quiet (cpu.Start s) (drains.started p) n None None there begin refl b (omega arith) (λ j. refl)
+      (lawful.starts (length rows) (cpu_of s).0 (thread_no t) p (at (cpu.Start s))
+      (record { cpu = (cpu_of s).0; fenced = true; empty = empty_to_start rows s }) there.part there.pair begin.pc refl refl)
+
+  taken_behind : (x : Resizing) (xs : List Addr) → g.hand.items ≡ xs → HasHand most_slots (seated v g)
+      → Behind (cpu.Start (stopping.Resize x)) g None (gives_taken v xs)
+  taken_behind x [] is n = record { next = (refl, is); regs = n.begin; stands = refl; same = refl }
+  taken_behind x (y ∷ ys) is n = gives_away rows c v (front.Cpu (cpu.Start (stopping.Resize x))) g g giving.End refl n.begin n.few tt
+
+  start_by : (s : Stopping) → There (cpu.Start s) → Shape (cpu.Start s) → Acts turn (cpu.Start s) (leaving (drains.started p) v g (started v g.hand.items s))
+  start_by (stopping.Drain d) there shape = starts (stopping.Drain d) _ there shape.0.begin
+      (record { next = (tt, refl, shape.0.hand); regs = shape.0.begin; stands = refl; same = refl })
+  start_by (stopping.Resize x) there shape = starts (stopping.Resize x) _ there shape.0.begin (taken_behind x g.hand.items refl shape.0)
+
+  pub start_does : (s : Stopping) → There (cpu.Start s) → Does turn (cpu.Start s)
+  start_does s there =
+      let has = held_of (cpu.Start s) s true (empty_to_start rows s) there refl refl in
+      record { fits = record { stopper = stopper_is (cpu.Start s) there has.stopper; fenced = has.fenced refl }; acts = start_by s there there.sits.regs }
+
+  -- Leave
+  leave_by : (o : Option MoveTo) → There cpu.Leave → v.moved ≡ o → is_some o ≡ true → Acts turn cpu.Leave (left_for p v g o)
+  leave_by None there is some = absurd (cc)
+  leave_by (Some move) there is some =
+      let shape : Shape cpu.Leave = there.sits.regs in
+      leave_acts turn cpu.Leave move next.End None there refl is refl
+      (record { next = (refl, shape.0.hand); regs = record { pc = refl; nothing = refl }; stands = refl; same = refl })
+
+  pub leave_does : There cpu.Leave → Does turn cpu.Leave
+  leave_does there =
+      let shape : Shape cpu.Leave = there.sits.regs in
+      record { fits = (shape.1, omega (arith, there.epoch)); acts = leave_by v.moved there refl shape.1 }

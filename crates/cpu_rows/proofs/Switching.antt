@@ -1,0 +1,323 @@
+-- In polite orders few threads switch in: a thread that did goes on until what is open at its CPU comes to an end.
+use Rattle.std.proofs.Common.{◌≡◌, ℕ, ◌+◌, ◌<◌, ◌≤◌, ◌⊎◌, true, eqb, ltb, List, [], ◌∷◌, ◌++◌, length, Some, refl, sym, ap, ◌∙◌, subst, inl, inr, arith}
+use Rattle.std.specs.Prelude.{slice_get}
+use Rattle.std.proofs.lemmas.Bool.{cases_eq, eq-eqb, false_from_ne_true, eqb-true, false≢true, lt-ltb}
+use Rattle.std.proofs.lemmas.List.{length-append}
+use Rattle.tc_units.specs.declared.units.ThreadNo.{ThreadNo}
+use Rattle.tc_units.specs.declared.units.CpuNo.{CpuNo}
+use Rattle.tc_model.specs.declared.machine.PartNo.{PartNo}
+use Rattle.tc_model.specs.declared.machine.TheConstants.{MOST_PICKS}
+use Rattle.tc_model.specs.Input.{Input}
+use Rattle.tc_model.specs.Run.{Rules, World, start, pick, with_pair}
+use Rattle.tc_model.specs.Chains.{IsPoliteMove, IsPolite}
+use Rattle.tc_model.proofs.MovingFacts.{pick_moves}
+use Rattle.tc_model.proofs.Lists.{set_here, set_elsewhere}
+use Rattle.rseq_core.specs.declared.cpu_part.CpuPart.{CpuPart}
+use Rattle.call_steps.specs.PerCpu.{CpuLocal as Local, Step}
+use Rattle.call_steps.specs.declared.step.Step.TheVariants as does
+use Rattle.call_steps.specs.declared.step.CpuRow.TheVariants as front
+use Rattle.call_steps.specs.declared.step.CpuStep.TheVariants.{Pop, Grow, Stock, Push, PopBatch, Stop, Fence, Take, SetCap, Start, Leave}
+use Rattle.call_steps.specs.declared.step.CpuStep.{CpuStep}
+use Rattle.call_steps.specs.Local.{thread_no}
+use Rattle.cpu_rows.specs.Machine.{Part, Cpu, front_of, after, rules}
+use Rattle.alloc_rules.specs.declared.part.Part.TheVariants.{Front, Shard, Heap, Map, Names}
+use Rattle.cpu_rows.specs.CpuFront as at
+use Rattle.alloc_rules.specs.Machine.{number, front_after}
+use Rattle.alloc_rules.specs.Machine as machine
+use Rattle.call_steps.specs.CpuActs.{runs_open, yields_row, yields_for}
+use Rattle.call_steps.specs.CpuRows.{about_row}
+use Rattle.cpu_rows.specs.Switches.{Kind, enters, closes, neither, act_kind, kind_at, kind_of, step_kind, entry, closing, count_at, SwitchesAreFew}
+use Rattle.cpu_rows.specs.CpuHolds.{CpuHolds, IsSeated, limits_of, cpu_planned, cpu_fits}
+use Rattle.cpu_rows.specs.Valid.{IsValid}
+use Rattle.cpu_rows.proofs.Valid.{valid_all, lawful}
+use Rattle.alloc_rules.specs.Standings.{standing_of}
+use Rattle.std.specs.Prelude.{Option, option_map}
+use Rattle.std.proofs.lemmas.Option.{slice_get-map}
+use Rattle.cpu_rows.proofs.Entering.{cpu_pair, executed, CopiesFew, executed_few, HasToEnter, Enters, Executes, Stays, DoesAs, act_as}
+use Rattle.alloc_rules.proofs.Serving.{IsServed}
+use Rattle.alloc_rules.proofs.First.{served_first}
+use Rattle.alloc_rules.proofs.Runs.{served_kept}
+
+-- A thread that switched in at CPU c, where nothing has ended since: it is in its sequence, and all that was executed there is its own.
+pub record HasEntered (c ins ends : ℕ) (w : World Part Local) : Type 0 where
+  pub cpu : CpuPart
+  pub thread : ℕ
+  pub local : Local
+  pub there : slice_get w.parts c ≡ Some (Cpu cpu)
+  pub mine : slice_get w.locals thread ≡ Some local
+  pub runs : cpu.running ≡ Some (thread_no thread)
+  pub marked : cpu.is_open ≡ true
+  pub home : local.seat.cpu.0 ≡ c
+  pub has : HasToEnter local.step
+  pub few : CopiesFew local.regs.count local.regs.pc
+  pub ran : cpu.ran ≤ executed local.regs.count local.regs.pc
+  pub one : ins ≤ ends + 1
+
+-- so many acts In and so many ends at a CPU
+abbrev pub Balance : ℕ → ℕ → ℕ → World Part Local → Type 0
+Balance c ins ends w = (ins ≤ ends) ⊎ HasEntered c ins ends w
+
+-- the part that a thread wants
+abbrev place_of : Input → Local → Option PartNo
+place_of input l = machine.place_of (front_of input) about_row l
+
+-- the part that a thread wants before it enters is its own CPU
+home_by : (input : Input) (l : Local) (s : Step) → l.step ≡ s → HasToEnter s → l.seat.cpu.0 < input.asked.config.cpus → place_of input l ≡ Some (number l.seat.cpu.0)
+home_by input l (does.Front (front.Cpu (Pop a))) is has low = rw (is, lt-ltb l.seat.cpu.0 input.asked.config.cpus low)
+home_by input l (does.Front (front.Cpu (Grow a))) is has low = rw (is, lt-ltb l.seat.cpu.0 input.asked.config.cpus low)
+home_by input l (does.Front (front.Cpu (Stock s))) is has low = rw (is, lt-ltb l.seat.cpu.0 input.asked.config.cpus low)
+home_by input l (does.Front (front.Cpu (Push f))) is has low = rw (is, lt-ltb l.seat.cpu.0 input.asked.config.cpus low)
+home_by input l (does.Front (front.Cpu (PopBatch f))) is has low = rw (is, lt-ltb l.seat.cpu.0 input.asked.config.cpus low)
+home_by input l other is has low = absurd has
+
+-- An act of thread t, of this local.
+module _ (input : Input) (c ins ends : ℕ) (w : World Part Local) (t : ℕ) (l : Local) (mine : slice_get w.locals t ≡ Some l) (low : l.seat.cpu.0 < input.asked.config.cpus) where
+  -- the thread that has entered is t, or another, which the act leaves as it is
+  is_own : (e : HasEntered c ins ends w) → e.thread ≡ t → e.local ≡ l
+  is_own e same =
+      let h : Some e.local ≡ Some l = sym e.mine ∙ (ap (λ n. slice_get w.locals n) same ∙ mine) in
+      cc
+
+  -- Elsewhere: another thread has entered at c, since this one would be there.
+  other_place : (place : PartNo) → place_of input l ≡ Some place → (place.0 ≡ c → ⊥) → (e : HasEntered c ins ends w) → e.thread ≡ t → ⊥
+  other_place place want apart e same =
+      let own : e.local ≡ l = is_own e same in
+      let home : place_of input l ≡ Some (number l.seat.cpu.0) = home_by input l l.step refl (subst (λ (k : Local). HasToEnter k.step) own e.has) low in
+      let at : Some place ≡ Some (number l.seat.cpu.0) = sym want ∙ home in
+      let is : place ≡ number l.seat.cpu.0 = (cc) in
+      apart (ap (λ (n : PartNo). n.0) is ∙ (ap (λ (k : Local). k.seat.cpu.0) (sym own) ∙ e.home))
+
+  stays_elsewhere : (place : PartNo) (pair : Part × Local) → place_of input l ≡ Some place → (place.0 ≡ c → ⊥) → Balance c ins ends w → Balance c (ins + 0) (ends + 0) (with_pair w place.0 t pair)
+  stays_elsewhere place pair want apart (inl few) = inl (omega arith)
+  stays_elsewhere place pair want apart (inr e) =
+      inr (record {
+        cpu = e.cpu;
+        thread = e.thread;
+        local = e.local;
+        there = set_elsewhere w.parts place.0 c pair.0 apart ∙ e.there;
+        mine = set_elsewhere w.locals t e.thread pair.1 (λ same. other_place place want apart e (sym same)) ∙ e.mine;
+        runs = e.runs;
+        marked = e.marked;
+        home = e.home;
+        has = e.has;
+        few = e.few;
+        ran = e.ran;
+        one = omega (arith, e.one);
+      })
+
+  -- at CPU c
+  module _ (place : PartNo) (want : place_of input l ≡ Some place) (here : place.0 ≡ c) (p : CpuPart) (there : slice_get w.parts c ≡ Some (Cpu p)) (thread : l.regs.thread.0 ≡ t) (x : CpuPart × Local) where
+    abbrev v : World Part Local
+    v = with_pair w c t (Cpu x.0, x.1)
+
+    same_cpu : (e : HasEntered c ins ends w) → e.cpu ≡ p
+    same_cpu e = let h : Some (Cpu e.cpu) ≡ Some (Cpu p) = sym e.there ∙ there in cc
+
+    runs_own : Some l.regs.thread ≡ Some (thread_no t)
+    runs_own = ap (λ n. Some (thread_no n)) thread
+
+    home_of : HasToEnter l.step → l.seat.cpu.0 ≡ c
+    home_of has =
+        let home : place_of input l ≡ Some (number l.seat.cpu.0) = home_by input l l.step refl has low in
+        let at : Some place ≡ Some (number l.seat.cpu.0) = sym want ∙ home in
+        let is : place ≡ number l.seat.cpu.0 = (cc) in
+        ap (λ (n : PartNo). n.0) (sym is) ∙ here
+
+    runs_by : (e : HasEntered c ins ends w) → p.running ≡ Some (thread_no e.thread)
+    runs_by e = ap (λ (q : CpuPart). q.running) (sym (same_cpu e)) ∙ e.runs
+
+    open_by : (e : HasEntered c ins ends w) → p.is_open ≡ true
+    open_by e = ap (λ (q : CpuPart). q.is_open) (sym (same_cpu e)) ∙ e.marked
+
+    ran_by : (e : HasEntered c ins ends w) → p.ran ≤ executed e.local.regs.count e.local.regs.pc
+    ran_by e = subst (λ (q : CpuPart). q.ran ≤ executed e.local.regs.count e.local.regs.pc) (same_cpu e) e.ran
+
+    -- what was begun there goes on
+    still_open : (e : HasEntered c ins ends w) → runs_open p ≡ true
+    still_open e =
+        let low : ltb p.ran 256 ≡ true = lt-ltb p.ran 256 (omega (arith, ran_by e, executed_few e.local.regs.count e.local.regs.pc e.few)) in
+        rw (runs_by e, open_by e, low) refl
+
+    entered_there : Enters p l x → Balance c ins ends w → Balance c (ins + 1) (ends + 0) v
+    entered_there a (inl few) =
+        inr (record {
+          cpu = x.0;
+          thread = t;
+          local = x.1;
+          there = set_here w.parts c (Cpu x.0) (Cpu p) there;
+          mine = set_here w.locals t x.1 l mine;
+          runs = ap (λ (q : CpuPart). q.running) a.cpu ∙ runs_own;
+          marked = ap (λ (q : CpuPart). q.is_open) a.cpu;
+          home = ap (λ (n : CpuNo). n.0) a.home ∙ home_of a.has;
+          has = subst HasToEnter (sym a.step) a.has;
+          few = subst (CopiesFew x.1.regs.count) (sym a.begin) tt;
+          ran = omega (arith, ap (λ (q : CpuPart). q.ran) a.cpu);
+          one = omega arith;
+        })
+    entered_there a (inr e) = absurd (false≢true (sym a.closed ∙ still_open e))
+
+    executes_there : Executes p l x → Balance c ins ends w → Balance c (ins + 0) (ends + 0) v
+    executes_there a (inl few) = inl (omega arith)
+    executes_there a (inr e) =
+        let both : Some (thread_no e.thread) ≡ Some l.regs.thread = sym (runs_by e) ∙ a.runs in
+        let who : thread_no e.thread ≡ l.regs.thread = (cc) in
+        let own : e.local ≡ l = is_own e (ap (λ (n : ThreadNo). n.0) who ∙ thread) in
+        let next = a.few (subst (λ (k : Local). CopiesFew k.regs.count k.regs.pc) own e.few) in
+        let ran : p.ran ≤ executed l.regs.count l.regs.pc = subst (λ (k : Local). p.ran ≤ executed k.regs.count k.regs.pc) own (ran_by e) in
+        inr (record {
+          cpu = x.0;
+          thread = t;
+          local = x.1;
+          there = set_here w.parts c (Cpu x.0) (Cpu p) there;
+          mine = set_here w.locals t x.1 l mine;
+          runs = a.same ∙ (a.runs ∙ runs_own);
+          marked = a.marked (open_by e);
+          home = ap (λ (n : CpuNo). n.0) a.home ∙ home_of a.has;
+          has = subst HasToEnter (sym a.step) a.has;
+          few = next.0;
+          ran = omega (arith, a.ran, ran, next.1);
+          one = omega (arith, e.one);
+        })
+
+    stays_there : Stays p l x → Balance c ins ends w → Balance c (ins + 0) (ends + 0) v
+    stays_there a (inl few) = inl (omega arith)
+    stays_there a (inr e) =
+        inr (record {
+          cpu = x.0;
+          thread = e.thread;
+          local = e.local;
+          there = set_here w.parts c (Cpu x.0) (Cpu p) there;
+          mine = set_elsewhere w.locals t e.thread x.1 (λ same. a.away (subst (λ (k : Local). HasToEnter k.step) (is_own e (sym same)) e.has)) ∙ e.mine;
+          runs = a.same ∙ runs_by e;
+          marked = a.marked ∙ open_by e;
+          home = e.home;
+          has = e.has;
+          few = e.few;
+          ran = omega (arith, a.ran, ran_by e);
+          one = omega (arith, e.one);
+        })
+
+    does_there : (k : Kind) → DoesAs k p l x → Balance c ins ends w → Balance c (ins + entry k) (ends + closing k) v
+    does_there enters a b = entered_there a b
+    does_there closes a (inl few) = inl (omega arith)
+    does_there closes a (inr e) = inl (omega (arith, e.one))
+    does_there neither (inl a) b = executes_there a b
+    does_there neither (inr a) b = stays_there a b
+
+-- the kind of a pick, by the thread's place and the part there
+kind_by_place : (r : Rules Part Local) (w : World Part Local) (c t : ℕ) (l : Local) (place : PartNo) → slice_get w.locals t ≡ Some l → r.want l ≡ Some place → kind_of r w c t ≡ kind_at w c l (Some place)
+kind_by_place r w c t l place local want = rw (local, want) refl
+
+kind_here : (w : World Part Local) (c : ℕ) (l : Local) (place : PartNo) (part : Part) → place.0 ≡ c → slice_get w.parts c ≡ Some part → act_kind l (Some part) ≡ kind_at w c l (Some place)
+kind_here w c l place part here there = rw (eq-eqb place.0 c here, there) refl
+
+kind_elsewhere : (w : World Part Local) (c : ℕ) (l : Local) (place : PartNo) → (place.0 ≡ c → ⊥) → neither ≡ kind_at w c l (Some place)
+kind_elsewhere w c l place apart = rw (false_from_ne_true (eqb place.0 c) (λ is. apart (eqb-true place.0 c is))) refl
+
+-- what is known of every run
+abbrev Served : Input → World Part Local → List ℕ → Type 0
+Served input w past = IsServed (front_of input) about_row (cpu_planned input.rows input.asked.config) (CpuHolds input.rows input.asked.config) input.asked w past
+
+-- an act at a CPU, as the rules have it
+pair_is : (input : Input) (p : CpuPart) (l : Local) (s : Step) → (let y = front_after (front_of input) about_row (at.Cpu p) l s in let pair : Part × Local = (Front y.0, y.1) in pair) ≡ (let x = cpu_pair input.rows p l s in (Cpu x.0, x.1))
+pair_is input p l (does.Front (front.Cpu row)) = refl
+pair_is input p l (does.Front (front.Domain row)) = refl
+pair_is input p l (does.Shard row) = refl
+pair_is input p l (does.Heap row) = refl
+pair_is input p l (does.Map row) = refl
+pair_is input p l (does.Names row) = refl
+pair_is input p l does.Ended = refl
+
+-- and whether it is polite
+row_yields : (p : CpuPart) (l : Local) (row : CpuStep) → yields_row p (at.seated l.seat l.regs) row ≡ yields_row p l row
+row_yields p l (Pop a) = refl
+row_yields p l (Grow a) = refl
+row_yields p l (Stock x) = refl
+row_yields p l (Push f) = refl
+row_yields p l (PopBatch f) = refl
+row_yields p l (Stop x) = refl
+row_yields p l (Fence x) = refl
+row_yields p l (Take x) = refl
+row_yields p l (SetCap x) = refl
+row_yields p l (Start x) = refl
+row_yields p l Leave = refl
+
+yields_is : (input : Input) (p : CpuPart) (l : Local) (s : Step) → machine.front_yields (front_of input) about_row (at.Cpu p) l s ≡ yields_for p l s
+yields_is input p l (does.Front (front.Cpu row)) = row_yields p l row
+yields_is input p l (does.Front (front.Domain row)) = refl
+yields_is input p l (does.Shard row) = refl
+yields_is input p l (does.Heap row) = refl
+yields_is input p l (does.Map row) = refl
+yields_is input p l (does.Names row) = refl
+yields_is input p l does.Ended = refl
+
+-- a polite pick keeps the balance
+module _ (input : Input) (valid : IsValid input) (c : ℕ) (w : World Part Local) (past : List ℕ) (served : Served input w past) (t : ℕ) (m : IsPoliteMove (rules input) w t) where
+  abbrev r : Rules Part Local
+  r = rules input
+
+  there_in : slice_get served.locals t ≡ Some m.local
+  there_in = ap (λ (u : World Part Local). slice_get u.locals t) (sym served.is) ∙ m.local_there
+
+  seat : IsSeated input.rows input.asked.config t (standing_of m.local)
+  seat = served.front.threads t (standing_of m.local) (slice_get-map standing_of served.locals t ∙ ap (option_map standing_of) there_in)
+
+  pub moves_to : pick r w t ≡ with_pair w m.place.0 t (after input m.part m.local)
+  moves_to = pick_moves r w t (record { local = m.local; place = m.place; part = m.part; local_there = m.local_there; wants = m.wants; part_there = m.part_there; goes = m.moves })
+
+  class : m.local.regs.class.0 < length input.rows
+  class = (served.works t m.local there_in).shaped.class
+
+  kind_is : kind_of r w c t ≡ kind_at w c m.local (Some m.place)
+  kind_is = kind_by_place r w c t m.local m.place m.local_there m.wants
+
+  module _ (ins ends : ℕ) where
+    -- after a pick of this kind
+    abbrev Behind : Kind → World Part Local → Type 0
+    Behind k u = Balance c (ins + entry k) (ends + closing k) u
+
+    not_there : (part : Part) → slice_get w.parts c ≡ Some part → (u : World Part Local) → ((e : CpuPart) → part ≡ Cpu e → ⊥) → Balance c ins ends w → Behind neither u
+    not_there part there u other (inl few) = inl (omega arith)
+    not_there part there u other (inr e) = let h : Some part ≡ Some (Cpu e.cpu) = sym there ∙ e.there in absurd (other e.cpu (cc))
+
+    at_part : (part : Part) → m.place.0 ≡ c → slice_get w.parts c ≡ Some part → machine.yields (front_of input) about_row part m.local ≡ true → Balance c ins ends w → Behind (act_kind m.local (Some part)) (with_pair w c t (after input part m.local))
+    at_part (Front (at.Cpu p)) here there polite b =
+        let act = act_as (limits_of input.rows input.asked.config) p m.local valid.rows class seat.regs (sym (yields_is input p m.local m.local.step) ∙ polite) in
+        subst (λ (pair : Part × Local). Behind (act_kind m.local (Some (Front (at.Cpu p)))) (with_pair w c t pair)) (sym (pair_is input p m.local m.local.step))
+        (does_there input c ins ends w t m.local m.local_there seat.home m.place m.wants here p there (ap (λ (n : ThreadNo). n.0) seat.thread) (cpu_pair input.rows p m.local m.local.step) (step_kind p m.local m.local.step) act b)
+    at_part (Shard s) here there polite b = not_there (Shard s) there _ (λ e is. cc) b
+    at_part (Heap h) here there polite b = not_there (Heap h) there _ (λ e is. cc) b
+    at_part (Map x) here there polite b = not_there (Map x) there _ (λ e is. cc) b
+    at_part (Names n) here there polite b = not_there (Names n) there _ (λ e is. cc) b
+    at_part (Front (at.Domain k d)) here there polite b = not_there (Front (at.Domain k d)) there _ (λ e is. cc) b
+
+    pub keeps : Balance c ins ends w → Behind (kind_of r w c t) (pick r w t)
+    keeps b =
+        subst (λ (u : World Part Local). Behind (kind_of r w c t) u) (sym moves_to) (subst (λ (k : Kind). Behind k (with_pair w m.place.0 t (after input m.part m.local))) (sym kind_is) (
+        elim (cases_eq m.place.0 c) [
+          | inl here ↦
+              let there : slice_get w.parts c ≡ Some m.part = subst (λ n. slice_get w.parts n ≡ Some m.part) here m.part_there in
+              let at : Behind (act_kind m.local (Some m.part)) (with_pair w c t (after input m.part m.local)) = at_part m.part here there m.polite b in
+              let kind : act_kind m.local (Some m.part) ≡ kind_at w c m.local (Some m.place) = kind_here w c m.local m.place m.part here there in
+              subst (λ n. Behind (kind_at w c m.local (Some m.place)) (with_pair w n t (after input m.part m.local))) (sym here)
+              (subst (λ (k : Kind). Behind k (with_pair w c t (after input m.part m.local))) kind at)
+          | inr apart ↦
+              let kind : neither ≡ kind_at w c m.local (Some m.place) = kind_elsewhere w c m.local m.place apart in
+              subst (λ (k : Kind). Behind k (with_pair w m.place.0 t (after input m.part m.local))) kind (stays_elsewhere input c ins ends w t m.local m.local_there seat.home m.place (after input m.part m.local) m.wants apart b)
+        ]))
+
+few_of : (c ins ends : ℕ) (w : World Part Local) → Balance c ins ends w → ins ≤ ends + 1
+few_of c ins ends w (inl few) = omega arith
+few_of c ins ends w (inr e) = e.one
+
+switches_from : (input : Input) → IsValid input → (c : ℕ) (order past : List ℕ) (w : World Part Local) (ins ends : ℕ) → length past + length order ≤ MOST_PICKS → Served input w past → IsPolite (rules input) w order → Balance c ins ends w → ins + count_at entry (rules input) w c order ≤ ends + count_at closing (rules input) w c order + 1
+switches_from input valid c [] past w ins ends few served polite balance = omega (arith, few_of c ins ends w balance)
+switches_from input valid c (t ∷ ts) past w ins ends few served polite balance =
+    let m = polite.0 in
+    let next : Served input (pick (rules input) w t) (past ++ t ∷ []) = subst (λ (u : World Part Local). Served input u (past ++ t ∷ [])) (sym (moves_to input valid c w past served t m)) (served_kept (front_of input) about_row (cpu_planned input.rows input.asked.config) (CpuHolds input.rows input.asked.config) (cpu_fits input.rows) (lawful input valid) input.asked (valid_all input valid) w past t m.local m.place m.part (omega arith) served m.local_there m.wants m.part_there m.moves) in
+    let rest = switches_from input valid c ts (past ++ t ∷ []) (pick (rules input) w t) (ins + entry (kind_of (rules input) w c t)) (ends + closing (kind_of (rules input) w c t)) (omega (arith, length-append past (t ∷ []))) next polite.1 (keeps input valid c w past served t m ins ends balance) in
+    omega (arith, rest)
+
+-- in every polite order
+pub switches_are_few : (input : Input) → IsValid input → (order : List ℕ) → length order ≤ MOST_PICKS → IsPolite (rules input) (start (rules input)) order → SwitchesAreFew (rules input) order
+switches_are_few input valid order few polite c = let all = switches_from input valid c order [] (start (rules input)) 0 0 (omega arith) (served_first (front_of input) about_row (cpu_planned input.rows input.asked.config) (CpuHolds input.rows input.asked.config) (cpu_fits input.rows) (lawful input valid) input.asked (valid_all input valid)) polite (inl (omega arith)) in omega (arith, all)

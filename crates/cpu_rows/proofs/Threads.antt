@@ -1,0 +1,97 @@
+-- The standing of a thread changes, and no part does.
+use Rattle.std.proofs.Common.{◌≡◌, ℕ, ◌≤◌, List, length, Option, refl, sym, ap, ◌∙◌, subst, arith}
+use Rattle.std.specs.Prelude.{slice_set}
+use Rattle.tc_units.specs.declared.spans.ClassRow.{ClassRow}
+use Rattle.tc_units.specs.declared.units.ThreadNo.{ThreadNo}
+use Rattle.tc_model.specs.declared.config.Config.{Config}
+use Rattle.rseq_core.specs.declared.sequence.Pc.TheVariants.{Begin}
+use Rattle.rseq_core.specs.declared.cpu_part.CpuPart.{CpuPart}
+use Rattle.rseq_core.specs.declared.regs.Regs.{Regs}
+use Rattle.rseq_core.specs.Bags.{room}
+use Rattle.cpu_drain.specs.Seats as seats
+use Rattle.cpu_drain.specs.Seats.{CpuOk, SeatOk, SeatKeeps, AreSet}
+use Rattle.cpu_drain.proofs.Lawful as lawful
+use Rattle.call_steps.specs.declared.seat.CpuSeat.{CpuSeat}
+use Rattle.call_steps.specs.declared.step.CpuRow.{CpuRow}
+use Rattle.cpu_rows.specs.Shapes.{IsAtBegin}
+use Rattle.call_steps.specs.Local.{thread_no}
+use Rattle.alloc_rules.specs.Standings.{At, Standing, stand}
+use Rattle.cpu_rows.specs.CpuFront.{CpuFrontPart}
+use Rattle.cpu_rows.specs.CpuHolds.{limits_of, stopping_at, seat_at, RegsAt, IsSeated, CpuHolds}
+use Rattle.cpu_rows.proofs.Lists.{Here, There, set_twice}
+
+-- no act
+pub same_keeps : (k i : ℕ) (t : ThreadNo) (p : CpuPart) (s : seats.Seat) → CpuOk k p → SeatOk i t p s → SeatKeeps k i t p s p s
+same_keeps k i t p s part pair = record { part = part; both = pair; others = λ u v apart other. other; elsewhere = λ c q apart other. other }
+
+module _ (rows : List ClassRow) (c : Config) where
+  -- a seat is that of another standing
+  pub seat_as : (i t : ℕ) (p : CpuPart) (g : Regs) (cpu : ℕ) (o : Option seats.Standing) (new : Standing CpuSeat CpuRow) → new.regs ≡ g
+      → new.seat.cpu.0 ≡ cpu → stopping_at rows new.regs new.at ≡ o → SeatOk i (thread_no t) p (record { regs = g; cpu = cpu; standing = o }) → SeatOk i
+      (thread_no t) p (seat_at rows new)
+  seat_as i t p g cpu o new regs home stands ok =
+      subst (λ (x : Option seats.Standing). SeatOk i (thread_no t) p (record { regs = new.regs; cpu = new.seat.cpu.0; standing = x })) (sym stands)
+      (subst (λ (n : ℕ). SeatOk i (thread_no t) p (record { regs = new.regs; cpu = n; standing = o })) (sym home)
+      (subst (λ (r : Regs). SeatOk i (thread_no t) p (record { regs = r; cpu = cpu; standing = o })) (sym regs) ok))
+
+  -- what holds stays, where it does of the thread and of each CPU with it
+  pub changes : (n more t : ℕ) (ps : List CpuFrontPart) (us : List (Standing CpuSeat CpuRow)) (s new : Standing CpuSeat CpuRow) → n ≤ more
+      → (IsSeated rows c t s → IsSeated rows c t new)
+      → ((i : ℕ) (p : CpuPart) → IsSeated rows c t s → CpuOk (length rows) p → SeatOk i (thread_no t) p (seat_at rows s) → SeatOk i (thread_no t) p
+      (seat_at rows new))
+      → CpuHolds rows c n ps (slice_set us t s) → CpuHolds rows c more ps (slice_set us t new)
+  changes n more t ps us s new le sits agrees h =
+      record {
+        placed = h.placed;
+        cpu_is_sound = h.cpu_is_sound;
+        slab_is_of_heads = h.slab_is_of_heads;
+        cache_has_room = h.cache_has_room;
+        epoch_is_within_picks = λ i p at. let e = h.epoch_is_within_picks i p at in omega (arith, e, le);
+        threads = λ u x at.
+            elim (set_twice us t s new u x at) [
+              | Here here is was ↦ subst (λ (j : ℕ). IsSeated rows c j x) (sym here) (subst (IsSeated rows c t) (sym is) (sits (h.threads t s was)))
+              | There apart there ↦ h.threads u x there
+            ];
+        seats_agree = λ i u p x cpu at.
+            elim (set_twice us t s new u x at) [
+              | Here here is was ↦
+                  let ok : SeatOk i (thread_no t) p (seat_at rows new) = agrees i p (h.threads t s was) (h.cpu_is_sound i p cpu)
+                  (h.seats_agree i t p s cpu was) in
+                  subst (λ (j : ℕ). SeatOk i (thread_no j) p (seat_at rows x)) (sym here)
+                  (subst (λ (y : Standing CpuSeat CpuRow). SeatOk i (thread_no t) p (seat_at rows y)) (sym is) ok)
+              | There apart there ↦ h.seats_agree i u p x cpu there
+            ];
+      }
+
+  -- registers of the same thread, with nothing loaded before and then
+  pub record KeepsRegs (g new : Regs) : Type 0 where
+    pub thread : new.thread ≡ g.thread
+    pub loaded : new.loaded ≡ g.loaded
+    pub ran : new.ran ≤ g.ran
+    pub epoch : new.epoch ≡ g.epoch
+    pub pc : g.pc ≡ Begin → new.pc ≡ Begin
+
+  -- the thread comes elsewhere, and no sequence is under way
+  pub record Comes (v : CpuSeat) (g new : Regs) (at to : At CpuRow) : Type 0 where
+    pub begin : IsAtBegin g
+    pub regs : IsAtBegin new → RegsAt (limits_of rows c) v new to
+    pub stands : stopping_at rows new to ≡ stopping_at rows g at
+
+  pub begins : (g new : Regs) → KeepsRegs g new → IsAtBegin g → IsAtBegin new
+  begins g new keeps begin = record { pc = keeps.pc begin.pc; nothing = ap (λ b. b.items) keeps.loaded ∙ begin.nothing }
+
+  pub comes : (n t : ℕ) (ps : List CpuFrontPart) (us : List (Standing CpuSeat CpuRow)) (v : CpuSeat) (g new : Regs) (count more : ℕ) (at to : At CpuRow)
+      → count ≤ more → KeepsRegs g new → (RegsAt (limits_of rows c) v g at → Comes v g new at to)
+      → CpuHolds rows c n ps (slice_set us t (stand v g count at)) → CpuHolds rows c n ps (slice_set us t (stand v new more to))
+  comes n t ps us v g new count more at to le keeps come h =
+      changes n n t ps us (stand v g count at) (stand v new more to) (omega arith)
+      (λ o. let x = come o.regs in
+      record { thread = keeps.thread ∙ o.thread; home = o.home; domains = o.domains; move = o.move; loaded = ap (λ b. room b) keeps.loaded ∙ o.loaded; ran = omega (arith, keeps.ran, o.ran, le); regs = x.regs (begins g new keeps x.begin) })
+      (λ i p o part ok.
+      let x = come o.regs in
+      let b : IsAtBegin new = begins g new keeps x.begin in
+      let s : seats.Seat = seat_at rows (stand v g count at) in
+      seat_as i t p new v.cpu.0 s.standing (stand v new more to) refl refl x.stands
+      (lawful.sets (length rows) i (thread_no t) p p s s new (record { pc = b.pc; nothing = b.nothing; epoch = keeps.epoch })
+      (same_keeps (length rows) i (thread_no t) p s part ok)).both)
+      h

@@ -1,0 +1,89 @@
+-- The per-CPU caches as a front-end: its parts, what they hold, and its rules.
+use Rattle.std.specs.Prelude.{ℕ, ◌%◌, ◌==◌, if◌then◌else◌, Bool, true, false, List, [], ◌++◌, length, map, replicate, None}
+use Rattle.std.specs.List.{range_with_len, flat_map}
+use Rattle.tc_units.specs.declared.spans.ClassRow.{ClassRow}
+use Rattle.tc_model.specs.declared.config.Config.{Config}
+use Rattle.cpu_slab.specs.Slots as slots
+use Rattle.cpu_slab.specs.Slots.{row_at, held}
+use Rattle.rseq_core.specs.declared.cpu_part.CpuPart.{CpuPart}
+use Rattle.rseq_core.specs.declared.regs.Regs.{Regs}
+use Rattle.holdings.specs.Runs.{objects_at}
+use Rattle.call_steps.specs.declared.seat.CpuSeat.{CpuSeat}
+use Rattle.call_steps.specs.declared.step.CpuRow.{CpuRow}
+use Rattle.call_steps.specs.declared.step.CpuRow.TheVariants as front
+use Rattle.call_steps.specs.declared.step.Next.TheVariants as next
+use Rattle.call_steps.specs.Local.{idle_local}
+use Rattle.call_steps.specs.PerCpu.{CpuLocal}
+use Rattle.call_steps.specs.CpuRows.{cpu_place}
+use Rattle.call_steps.specs.CpuActs as acts
+use Rattle.call_steps.specs.CpuActs.{cpu_acts, domain_acts, yields_row}
+use Rattle.call_steps.specs.CpuCalls.{cpu_calls, cpu_refuses}
+use Rattle.alloc_rules.specs.FrontLaw.{Left, FrontRules}
+pub use Rattle.cpu_rows.specs.declared.part.CpuFrontPart.{CpuFrontPart}
+pub use Rattle.cpu_rows.specs.declared.part.CpuFrontPart.TheVariants.{Cpu, Domain}
+
+-- how many objects of a class are at an address there
+abbrev pub cpu_stored : CpuFrontPart → ℕ → ℕ → ℕ
+cpu_stored (Cpu p) k n = objects_at n (held (row_at p.slab k))
+cpu_stored (Domain c t) k n = if c.0 == k then objects_at n t.objects else 0
+
+-- what an act leaves
+abbrev pub left_with : {P : Type 0} → (P → CpuFrontPart) → acts.Left P → Left CpuFrontPart CpuSeat CpuRow
+left_with as_part x = record { part = as_part x.part; seat = x.seat; regs = x.regs; next = x.next }
+
+abbrev pub front_acts : List ClassRow → CpuFrontPart → CpuSeat → Regs → CpuRow → Left CpuFrontPart CpuSeat CpuRow
+front_acts rows (Cpu p) v g (front.Cpu row) = left_with Cpu (cpu_acts rows p v g row)
+front_acts rows (Domain c t) v g (front.Domain row) = left_with (Domain c) (domain_acts rows t v g row)
+front_acts rows p v g row = record { part = p; seat = v; regs = g; next = next.Row row }
+
+-- a thread with this seat and these registers, as far as yielding asks
+abbrev pub seated : CpuSeat → Regs → CpuLocal
+seated v g = record (idle_local g.thread v) { regs = g }
+
+abbrev pub front_yields : CpuFrontPart → CpuSeat → Regs → CpuRow → Bool
+front_yields (Cpu p) v g (front.Cpu row) = yields_row p (seated v g) row
+front_yields p v g row = true
+
+-- the parts at the start: the CPUs, and behind them for each domain its caches by classes
+abbrev pub first_cpu : List ClassRow → Config → CpuPart
+first_cpu rows c =
+    record {
+      running = None;
+      epoch = 0;
+      is_open = false;
+      ran = 0;
+      stopper = None;
+      fenced = false;
+      slab = slots.opened rows c.slab c.percpu;
+    }
+
+abbrev pub first_cache : Config → ℕ → CpuFrontPart
+first_cache c k = Domain (record { 0 = k }) (record { objects = []; room = c.transfer })
+
+abbrev pub domain_caches : List ClassRow → Config → List CpuFrontPart
+domain_caches rows c = map (first_cache c) (range_with_len 0 (length rows))
+
+abbrev pub all_caches : ℕ → List CpuFrontPart → List CpuFrontPart
+all_caches domains caches = flat_map (λ (one : List CpuFrontPart). one) (replicate domains caches)
+
+abbrev pub front_parts : List ClassRow → Config → List CpuFrontPart
+front_parts rows c = replicate c.cpus (Cpu (first_cpu rows c)) ++ all_caches c.domains (domain_caches rows c)
+
+-- thread t starts at CPU t mod cpus
+abbrev pub first_seat : Config → ℕ → CpuSeat
+first_seat c t = record { cpu = record { 0 = t % c.cpus }; moved = None; domains = c.domains }
+
+-- the rules of the per-CPU caches, under a class table and the heads of a trace
+abbrev pub cpu_front : List ClassRow → Config → FrontRules CpuFrontPart CpuSeat CpuRow
+cpu_front rows c =
+    record {
+      parts = front_parts rows c;
+      split = c.cpus;
+      seats = first_seat c;
+      calls = cpu_calls rows;
+      place = cpu_place c.cpus (length rows);
+      acts = front_acts rows;
+      yields = front_yields;
+      stored = cpu_stored;
+      refuses = cpu_refuses;
+    }

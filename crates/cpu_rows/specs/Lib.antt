@@ -1,0 +1,10 @@
+pub mod Shapes
+pub mod Slabs
+pub mod CpuFront
+pub mod CpuHolds
+pub mod Laws
+pub mod Machine
+pub mod Valid
+pub mod Answers
+pub mod Switches
+pub mod Law

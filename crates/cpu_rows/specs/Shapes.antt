@@ -1,0 +1,170 @@
+-- What holds of a thread by its row at the caches: its registers, its hand, and what its call has done to the CPU that it stopped.
+use Rattle.std.specs.Prelude.{◌≡◌, ℕ, ◌*◌, ◌<◌, ◌≤◌, Bool, true, false, ◌==◌, nat_lt, List, [], ◌∷◌, length, Option, Some, None, is_some}
+use Rattle.tc_units.specs.Classes.{class_of}
+use Rattle.tc_units.specs.declared.units.CpuNo.{CpuNo}
+use Rattle.tc_units.specs.declared.units.Class.{Class}
+use Rattle.tc_units.specs.declared.units.Addr.{Addr}
+use Rattle.tc_units.specs.declared.spans.ClassRow.{ClassRow}
+use Rattle.tc_model.specs.declared.calls.Call.{Call}
+use Rattle.tc_model.specs.declared.calls.Call.TheVariants.{Malloc, Free, Release, Drain, Resize}
+use Rattle.tc_model.specs.declared.calls.MoveTo.{MoveTo}
+use Rattle.tc_model.specs.declared.calls.Planned.{Planned}
+use Rattle.rseq_core.specs.declared.sequence.Seq.{Seq}
+use Rattle.rseq_core.specs.declared.sequence.Seq.TheVariants as seq
+use Rattle.rseq_core.specs.declared.sequence.Pc.TheVariants.{Begin}
+use Rattle.rseq_core.specs.declared.regs.Regs.{Regs}
+use Rattle.rseq_core.specs.declared.regs.TheConstants.{LOADED_ROOM}
+use Rattle.cpu_drain.specs.Seats.{Standing}
+use Rattle.call_steps.specs.declared.step.Asking.{Asking}
+use Rattle.call_steps.specs.declared.step.Stopping.{Stopping}
+use Rattle.call_steps.specs.declared.step.Stopping.TheVariants as stopping
+use Rattle.call_steps.specs.PerCpu.{CpuLocal as Local, Giving}
+use Rattle.call_steps.specs.declared.step.Giving.TheVariants as giving
+use Rattle.call_steps.specs.declared.step.CpuRow.{CpuRow}
+use Rattle.call_steps.specs.declared.step.CpuRow.TheVariants as front
+use Rattle.call_steps.specs.declared.step.CpuStep.{CpuStep}
+use Rattle.call_steps.specs.declared.step.CpuStep.TheVariants as cpu
+use Rattle.call_steps.specs.declared.step.DomainStep.{DomainStep}
+use Rattle.call_steps.specs.declared.step.DomainStep.TheVariants as domain
+use Rattle.call_steps.specs.Local.{class_row}
+use Rattle.call_steps.specs.Calls.{HasNoLabel}
+use Rattle.call_steps.specs.CpuRows.{about_cpu, as_row, cpu_of}
+use Rattle.call_steps.specs.Shapes.{BeginsWith, most_slots}
+
+-- What a call has done to the CPU that it stopped: whether it is fenced, and which classes the call has emptied.
+abbrev pub stands : CpuNo → Bool → (ℕ → Bool) → Option Standing
+stands c fenced empty = Some (record { cpu = c.0; fenced = fenced; empty = empty })
+
+-- no class, the classes below a number, and one class
+abbrev pub no_class_empty : ℕ → Bool
+no_class_empty j = false
+
+abbrev pub below : ℕ → ℕ → Bool
+below n j = nat_lt j n
+
+abbrev pub alone : ℕ → ℕ → Bool
+alone k j = j == k
+
+-- A drain empties one class after another: those below class k, before it takes class k; and all, before it starts the CPU
+-- again. A resize empties its own class.
+abbrev pub empty_to_take : ℕ → Stopping → ℕ → Bool
+empty_to_take k (stopping.Drain d) = below k
+empty_to_take k (stopping.Resize r) = no_class_empty
+
+abbrev pub empty_to_start : List ClassRow → Stopping → ℕ → Bool
+empty_to_start rows (stopping.Drain d) = below (length rows)
+empty_to_start rows (stopping.Resize r) = alone r.class.0
+
+-- by the step of a local whose class is k
+abbrev pub cpu_standing : List ClassRow → ℕ → CpuStep → Option Standing
+cpu_standing rows k (cpu.Fence s) = stands (cpu_of s) false no_class_empty
+cpu_standing rows k (cpu.Take s) = stands (cpu_of s) true (empty_to_take k s)
+cpu_standing rows k (cpu.SetCap r) = stands r.cpu true (alone r.class.0)
+cpu_standing rows k (cpu.Start s) = stands (cpu_of s) true (empty_to_start rows s)
+cpu_standing rows k other = None
+
+-- while its hand is given away a call stands as at the row that comes behind that, which is at a CPU
+abbrev pub later_standing : List ClassRow → ℕ → CpuRow → Option Standing
+later_standing rows k (front.Cpu row) = cpu_standing rows k row
+later_standing rows k (front.Domain row) = None
+
+abbrev pub giving_standing : List ClassRow → Giving → Option Standing
+giving_standing rows (giving.Row k row) = later_standing rows k.0 row
+giving_standing rows other = None
+
+abbrev pub domain_standing : List ClassRow → DomainStep → Option Standing
+domain_standing rows (domain.Put g) = giving_standing rows (as_row g)
+domain_standing rows other = None
+
+-- The limits that locals are within: the table's rows and so many CPUs.
+pub record Limits : Type 0 where
+  pub rows : List ClassRow
+  pub cpus : ℕ
+
+-- the CPU of a move is there, and so are the CPU and the class of a call
+abbrev pub IsMove : Limits → Option MoveTo → Type 0
+IsMove m None = Unit {0}
+IsMove m (Some move) = move.cpu.0 < m.cpus
+
+abbrev pub IsCallThere : Limits → Call → Type 0
+IsCallThere m (Malloc label size) = Unit {0}
+IsCallThere m (Free label) = Unit {0}
+IsCallThere m (Release pages) = Unit {0}
+IsCallThere m (Drain c) = c.0 < m.cpus
+IsCallThere m (Resize c class cap) = (c.0 < m.cpus) × (class.0 < length m.rows)
+
+pub record IsPlanned (m : Limits) (p : Planned) : Type 0 where
+  pub call : IsCallThere m p.call
+  pub move : IsMove m p.moved
+
+-- no sequence is under way, and nothing is loaded
+pub record IsAtBegin (r : Regs) : Type 0 where
+  pub pc : r.pc ≡ Begin
+  pub nothing : r.loaded.items ≡ []
+
+abbrev pub IsStop : Limits → Class → Stopping → Type 0
+IsStop m k (stopping.Drain d) = (d.cpu.0 < m.cpus) × (d.taken ≤ k.0 * most_slots)
+IsStop m k (stopping.Resize r) = (r.cpu.0 < m.cpus) × (k ≡ r.class)
+
+-- a drain begins at class 0
+abbrev pub IsAtFirst : Class → Stopping → Type 0
+IsAtFirst k (stopping.Drain d) = k.0 ≡ 0
+IsAtFirst k (stopping.Resize r) = Unit {0}
+
+-- what an allocation asks for has the registers' class
+abbrev pub IsAsked : Limits → Local → Asking → Type 0
+IsAsked m l a = class_of m.rows a.size ≡ Some l.regs.class
+
+-- at most so many objects are in hand, with no span to give back, and no sequence under way
+pub record HasHand (most : ℕ) (l : Local) : Type 0 where
+  pub begin : IsAtBegin l.regs
+  pub few : length l.regs.hand.items ≤ most
+  pub freed : l.freed.items ≡ []
+
+-- nothing is in hand
+pub record HasNone (l : Local) : Type 0 where
+  pub begin : IsAtBegin l.regs
+  pub hand : l.regs.hand.items ≡ []
+  pub freed : l.freed.items ≡ []
+
+-- the registers are set for this sequence, and there is no span to give back
+pub record InSequence (s : Seq) (l : Local) : Type 0 where
+  pub seq : l.regs.seq ≡ s
+  pub freed : l.freed.items ≡ []
+
+-- by the step
+abbrev pub CpuShape : Limits → Local → CpuStep → Type 0
+CpuShape m l (cpu.Pop a) = InSequence seq.Pop l × (l.regs.hand.items ≡ []) × IsAsked m l a
+CpuShape m l (cpu.Grow a) = HasNone l × IsAsked m l a
+CpuShape m l (cpu.Stock s) = InSequence seq.PushBatch l × (0 < length l.regs.hand.items) × (length l.regs.hand.items ≤ LOADED_ROOM)
+CpuShape m l (cpu.Push f) = InSequence seq.Push l × (l.regs.hand.items ≡ f.addr ∷ [])
+CpuShape m l (cpu.PopBatch f) = InSequence (seq.PopBatch (class_row m.rows l).batch) l × (l.regs.hand.items ≡ f.addr ∷ [])
+CpuShape m l (cpu.Stop s) = HasNone l × IsStop m l.regs.class s × IsAtFirst l.regs.class s
+CpuShape m l (cpu.Fence s) = HasNone l × IsStop m l.regs.class s × IsAtFirst l.regs.class s
+CpuShape m l (cpu.Take s) = HasNone l × IsStop m l.regs.class s
+CpuShape m l (cpu.SetCap r) = HasHand most_slots l × (r.cpu.0 < m.cpus) × (l.regs.class ≡ r.class)
+CpuShape m l (cpu.Start (stopping.Drain d)) = HasNone l × (d.cpu.0 < m.cpus)
+CpuShape m l (cpu.Start (stopping.Resize r)) = HasHand most_slots l × (r.cpu.0 < m.cpus)
+CpuShape m l cpu.Leave = HasNone l × (is_some l.seat.moved ≡ true)
+
+-- A row that comes once a hand is given away: it is of a call without a label, and has its shape with nothing in hand.
+pub record IsToCome (m : Limits) (k : Class) (row : CpuStep) : Type 0 where
+  pub class : k.0 < length m.rows
+  pub other : HasNoLabel (about_cpu row)
+  pub shape : (l : Local) → HasNone l → l.regs.class ≡ k → CpuShape m l row
+
+abbrev pub IsLater : Limits → Class → CpuRow → Type 0
+IsLater m k (front.Cpu row) = IsToCome m k row
+IsLater m k (front.Domain row) = ⊥
+
+-- what is given away, and what comes then
+abbrev pub IsGiving : Limits → List Addr → Giving → Type 0
+IsGiving m hand (giving.Rest s) = Unit {0}
+IsGiving m hand (giving.Freed f) = BeginsWith f.addr hand
+IsGiving m hand (giving.Row k row) = IsLater m k row
+IsGiving m hand giving.End = Unit {0}
+
+-- by the step
+abbrev pub DomainShape : Limits → Local → DomainStep → Type 0
+DomainShape m l (domain.Take a) = HasNone l × IsAsked m l a × (0 < l.seat.domains)
+DomainShape m l (domain.Put g) = HasHand most_slots l × IsGiving m l.regs.hand.items (as_row g) × (0 < l.seat.domains)
