@@ -1,0 +1,2 @@
+pub mod NoCaches
+pub mod Laws

@@ -1,0 +1,66 @@
+-- No caches before the shards, as a front-end: it has no part and no row, so that small objects are fetched from their
+-- shards and given back to them.
+use Rattle.std.specs.Prelude.{ℕ, true, false, List, [], None}
+use Rattle.tc_units.specs.declared.spans.ClassRow.{ClassRow}
+use Rattle.tc_model.specs.declared.calls.Planned.{Planned}
+use Rattle.rseq_core.specs.declared.regs.Regs.{Regs}
+use Rattle.call_steps.specs.Calls.{About, Other}
+use Rattle.call_steps.specs.Fronts.{FrontCalls}
+use Rattle.alloc_rules.specs.FrontLaw.{FrontRules, IsOwn}
+use Rattle.alloc_rules.specs.Standings.{Standing}
+
+-- its parts, its seats and its rows: none, nothing to know, and none
+pub data NoPart : Type 0 where
+
+pub data NoRow : Type 0 where
+
+pub record NoSeat : Type 0 where
+
+abbrev pub no_seat : NoSeat
+no_seat = record {}
+
+-- no row is about a call
+abbrev pub about_none : NoRow → About
+about_none row = Other None
+
+-- calls begin and go on behind it
+abbrev pub no_calls : List ClassRow → FrontCalls NoSeat NoRow
+no_calls rows =
+    record {
+      rows = rows;
+      begins = λ v o. v;
+      first = λ v a. None;
+      to_first = λ g. g;
+      rest = λ v s. None;
+      to_rest = λ g. g;
+      free = λ v f. None;
+      to_free = λ g. g;
+      other = λ v call. None;
+      to_other = λ call g. g;
+      last = λ v. None;
+    }
+
+abbrev pub no_caches : List ClassRow → FrontRules NoPart NoSeat NoRow
+no_caches rows =
+    record {
+      parts = [];
+      split = 0;
+      seats = λ t. no_seat;
+      calls = no_calls rows;
+      place = λ v g row. 0;
+      acts = λ p v g row. elim row [ ];
+      yields = λ p v g row. true;
+      stored = λ p k n. 0;
+      refuses = λ row answer. false;
+    }
+
+-- the calls that a trace may plan: no drain and no resize
+abbrev pub planned : Planned → Type 0
+planned p = IsOwn p.call → ⊥
+
+-- nothing is to be kept, and nothing has to fit
+abbrev pub Holds : ℕ → List NoPart → List (Standing NoSeat NoRow) → Type 0
+Holds n ps us = Unit {0}
+
+abbrev pub fits : NoPart → NoSeat → Regs → NoRow → Type 0
+fits p v g row = Unit {0}
