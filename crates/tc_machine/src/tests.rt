@@ -9,7 +9,7 @@ use size_classes::ClassTable;
 use std::alloc::{AllocError, Global};
 use std::process::Abort;
 use std::test::Fail;
-use tc_model::{Answer, CallLine, StepFault, Stepped};
+use tc_model::{Answer, CallLine, Finished, StepFault, Stepped};
 use tc_units::{Addr, Label, Page, RowKind, RowView, Run as PageRun, ThreadNo};
 use trace_reader::read_trace;
 
@@ -77,6 +77,12 @@ fn assert_told(rt: &impl Abort, told: &[CallLine], lines: &[(u8, Answer)]) {
     }
 }
 
+/// What a run has to tell, all of whose scripts have ended.
+fn told_at_end(rt: &impl Abort, state: &State) -> Result<Finished, Fail> {
+    assert!(rt; state.ended());
+    Ok(state.finish()?)
+}
+
 /// Asserts what comes of a run, and how many picks moved.
 fn assert_run(rt: &impl Abort, alloc: Global, run: &Run, left: Left) -> Result<usize, Fail> {
     let threads = u16::from(run.threads);
@@ -84,8 +90,7 @@ fn assert_run(rt: &impl Abort, alloc: Global, run: &Run, left: Left) -> Result<u
     let picks = picks_of(alloc, run.picks)?;
     assert!(rt; picks.iter().all(|thread| *thread < threads));
     assert_eq!(rt; state.run_order(&picks), Ok(()));
-    assert!(rt; state.ended());
-    let finished = state.finish()?;
+    let finished = told_at_end(rt, &state)?;
     assert_told(rt, finished.calls.as_slice(), run.lines);
     let found = (
         finished.live,
@@ -599,8 +604,7 @@ fn in_region(used: u32, allocs: u32, backed: u32, longest: u32) -> RowView {
 fn assert_rows(rt: &impl Abort, alloc: Global, text: &[u8], rows: &[RowView]) -> Result<(), Fail> {
     let mut state = opened(rt, alloc, text, 1)?;
     assert_eq!(rt; state.run_serial(), Ok(()));
-    assert!(rt; state.ended());
-    let told = state.finish()?;
+    let told = told_at_end(rt, &state)?;
     assert_eq!(rt; told.rows.as_slice(), rows);
     Ok(())
 }
