@@ -62,7 +62,8 @@ use Rattle.call_steps.specs.Shapes.{IsClassRow, AreRows, BeginsWith, most_slots}
 use Rattle.alloc_rules.specs.Standings.{At, Here, Away, Standing, stand, at_row, at_onward, at_next, regs_next, at_shard, at_heap, at_map, at_step}
 use Rattle.alloc_rules.specs.Shapes.{IsAsked, HandAbout, HasNone, HasSpans, IsLater, IsOnward, ShardShape, HeapShape, MapShape, StepShape, IsShaped}
 use Rattle.alloc_rules.specs.FrontLaw as fronts
-use Rattle.alloc_rules.specs.FrontLaw.{FrontRules, Left, IsReady, IsAct, IsLawful}
+use Rattle.alloc_rules.specs.FrontLaw.{IsReady, IsAct, IsLawful}
+use Rattle.call_steps.specs.Fronts.{FrontRules, Left}
 use Rattle.call_steps.specs.Fits.{FitsShard, FitsMap}
 use Rattle.alloc_rules.specs.Laws.{IsKept, IsLowRun, ShardActsKeep, HeapActsKeep, IsKindThere, IsFoundClass, MapActsKeep, NamesActsKeep, FrontActsKeep}
 use Rattle.alloc_rules.proofs.Keeping.{IsCommon, common_of, IsNext, behind, stays_away, goes_away, publishes_next, ends_next, serves_next, entry_shape, entry_at, later_shape, waits_at, NotHere, giving_not, onward_not, clears_next, gave_next, given_back_next}

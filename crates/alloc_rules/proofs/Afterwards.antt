@@ -53,7 +53,8 @@ use Rattle.alloc_rules.specs.declared.part.Part.{Part}
 use Rattle.alloc_rules.specs.Accounts.{account_of}
 use Rattle.alloc_rules.specs.Standings.{Standing}
 use Rattle.alloc_rules.specs.Shapes.{StepShape}
-use Rattle.alloc_rules.specs.FrontLaw.{FrontRules, IsLawful}
+use Rattle.alloc_rules.specs.FrontLaw.{IsLawful}
+use Rattle.call_steps.specs.Fronts.{FrontRules}
 use Rattle.alloc_rules.proofs.Elsewhere.{refuses_there}
 
 -- an allocation gets none exactly where none fits

@@ -13,13 +13,12 @@ use Rattle.holdings.specs.Runs.{address_of}
 use Rattle.call_steps.specs.declared.step.Asking.{Asking}
 use Rattle.call_steps.specs.declared.step.Step.TheVariants as does
 use Rattle.call_steps.specs.declared.step.HeapStep.TheVariants as heap
-use Rattle.call_steps.specs.Fronts.{FrontCalls}
+use Rattle.call_steps.specs.Fronts.{FrontCalls, FrontRules}
 use Rattle.call_steps.specs.Local.{Decided, closes, ends, class_row, Local}
 use Rattle.call_steps.specs.Acts.{after_new, after_new_span, heap_after}
 use Rattle.alloc_rules.specs.Answers.{Decides, pages_asked, AnswersNone}
 use Rattle.call_steps.specs.declared.step.Step.{Step}
 use Rattle.call_steps.specs.Calls.{About}
-use Rattle.alloc_rules.specs.FrontLaw.{FrontRules}
 
 pub decides_by : {V R : Type 0} (l next : Local V R) (call : Call) (x y : Answer) → next.answers ≡ l.answers ++ record { act = l.acts; call = call; answer = x } ∷ [] → Decides l next y ↔ (x ≡ y)
 decides_by l next call x y is = (

@@ -22,7 +22,7 @@ use Rattle.holdings.proofs.MapFacts.{span_all, span_at_found}
 use Rattle.alloc_rules.specs.Machine.{Parts}
 use Rattle.alloc_rules.specs.Stocks.{no_shard, shard_at, stock_of, IsShardOf}
 use Rattle.alloc_rules.proofs.Counting.{objects_count, spans_count, begun_count}
-use Rattle.alloc_rules.specs.FrontLaw.{FrontRules}
+use Rattle.call_steps.specs.Fronts.{FrontRules}
 use Rattle.call_steps.specs.Calls.{About}
 
 -- the spans of a shard are of its row

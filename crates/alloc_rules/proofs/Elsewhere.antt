@@ -42,19 +42,19 @@ use Rattle.call_steps.specs.declared.step.HeapStep.TheVariants as heap
 use Rattle.call_steps.specs.declared.step.MapStep.TheVariants as mapped
 use Rattle.call_steps.specs.declared.step.NamesStep.{NamesStep}
 use Rattle.call_steps.specs.declared.step.NamesStep.TheVariants as names
-use Rattle.call_steps.specs.Fronts.{FrontCalls}
+use Rattle.call_steps.specs.Fronts.{FrontCalls, FrontRules}
 use Rattle.call_steps.specs.Local.{Local, decided, ends, class_row, Decided}
 use Rattle.call_steps.specs.Calls.{About, call_about}
 use Rattle.call_steps.specs.Hands.{with_hand, stocks, serves_first, goes_onward, gave, clears, with_freed}
 use Rattle.call_steps.specs.Follows.{says as says_in, goes_or_ends, follows}
 use Rattle.call_steps.specs.ShardActs.{with_more, fetches, with_spans_behind, shard_row}
-use Rattle.call_steps.specs.Acts.{after_new, after_new_span, frees_span, without_first_span, heap_row, found, after_lookup, clears_span, map_row, after_take, names_row, shard_after, heap_after, map_after, names_after}
+use Rattle.call_steps.specs.Acts.{after_new, after_new_span, frees_span, without_first_span, heap_row, found, after_lookup, clears_span, map_row, after_take, names_row, shard_after, heap_after, map_after, names_after, front_after}
 use Rattle.call_steps.specs.Refusals.{is_refusal, may_refuse}
 use Rattle.alloc_rules.specs.Answers.{Decides, RefusesThere}
 use Rattle.alloc_rules.specs.declared.part.Part.{Part}
 use Rattle.alloc_rules.specs.declared.part.Part.TheVariants as part
-use Rattle.alloc_rules.specs.FrontLaw.{FrontRules, RefusesAs}
-use Rattle.alloc_rules.specs.Machine.{front_after, after}
+use Rattle.alloc_rules.specs.FrontLaw.{RefusesAs}
+use Rattle.alloc_rules.specs.Machine.{after}
 use Rattle.alloc_rules.proofs.Answering.{GoesAs, ends_goes, decides_by, decides_none}
 
 -- An act leaves no fewer ended calls, and refused none.

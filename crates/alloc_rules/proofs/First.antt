@@ -45,8 +45,9 @@ use Rattle.call_steps.specs.declared.step.HeapStep.TheVariants as heap_step
 use Rattle.call_steps.specs.declared.step.NamesStep.TheVariants as names_step
 use Rattle.tc_units.specs.Bag.{Contents}
 use Rattle.std.proofs.Math.Seq.{append_snoc}
-use Rattle.call_steps.specs.Fronts.{FrontCalls}
-use Rattle.call_steps.specs.Local.{Local, Decided, told, step_or, first_regs, idle_local, first_of_malloc, first_of_call, first_act, regs_of_malloc, regs_of_call, regs_by, thread_no}
+use Rattle.call_steps.specs.Fronts.{FrontCalls, AreEntries, FrontRules, IsEntry}
+use Rattle.call_steps.specs.Local.{Local, Decided, told, step_or, idle_local, first_of_malloc, first_of_call, first_act, regs_of_malloc, regs_of_call, regs_by, thread_no}
+use Rattle.rseq_core.specs.Registers.{first_regs}
 use Rattle.call_steps.specs.Calls as calls_are
 use Rattle.call_steps.specs.Calls.{About}
 use Rattle.call_steps.specs.Kept.{call_at}
@@ -56,7 +57,7 @@ use Rattle.alloc_rules.specs.Heads.{HasRoom}
 use Rattle.alloc_rules.specs.Accounts.{account_of, doing_of, doing_about, off_of, apart_of, mapped_of, clears_of}
 use Rattle.alloc_rules.specs.Stocks.{shard_at, IsShardOf, stored_in, stock_of}
 use Rattle.alloc_rules.specs.Standings.{Standing, standing_of}
-use Rattle.alloc_rules.specs.FrontLaw.{FrontRules, AreEntries, IsEntry, IsLawful, idle}
+use Rattle.alloc_rules.specs.FrontLaw.{IsLawful, idle}
 use Rattle.alloc_rules.specs.Scripts.{IsIn}
 use Rattle.alloc_rules.specs.Valid.{IsValid}
 use Rattle.alloc_rules.specs.Law.{calls, setup_of}

@@ -14,7 +14,7 @@ use Rattle.call_steps.specs.Local.{Local}
 use Rattle.call_steps.specs.Calls.{About}
 use Rattle.tc_model.specs.declared.calls.Planned.{Planned}
 use Rattle.alloc_rules.specs.Accounts.{account_of, doing_of}
-use Rattle.alloc_rules.specs.FrontLaw.{FrontRules}
+use Rattle.call_steps.specs.Fronts.{FrontRules}
 use Rattle.alloc_rules.specs.Machine.{Parts}
 use Rattle.alloc_rules.specs.Acts.{IsBefore}
 

@@ -39,8 +39,10 @@ use Rattle.alloc_rules.specs.Accounts.{account_of, doing_about}
 use Rattle.alloc_rules.proofs.Weighing.{bare, weighs_same, none_in_hand}
 use Rattle.alloc_rules.proofs.Goings.{other_doing, Closes, ends_as, comes_as, carries, gets_object, frees_object, says_other}
 use Rattle.alloc_rules.specs.Shapes.{HandAbout, IsGiving, StepShape}
-use Rattle.alloc_rules.specs.FrontLaw.{FrontRules, AreEntries, Left, IsNext, IsAct}
-use Rattle.alloc_rules.specs.Machine.{Parts, front_row}
+use Rattle.alloc_rules.specs.FrontLaw.{IsNext, IsAct}
+use Rattle.call_steps.specs.Fronts.{AreEntries, FrontRules, Left}
+use Rattle.alloc_rules.specs.Machine.{Parts}
+use Rattle.call_steps.specs.Acts.{front_row}
 use Rattle.alloc_rules.specs.Stocks.{stock_of, Does}
 use Rattle.alloc_rules.specs.Acts.{setup, IsBefore}
 use Rattle.alloc_rules.specs.Laws.{FrontActsMove}

@@ -34,9 +34,8 @@ use Rattle.alloc_rules.specs.Stocks.{stock_of, AreBooksOf, decided_at, Does}
 use Rattle.alloc_rules.proofs.Weighing.{bare, quiet, weighs_is, weighs_quiet, weighs_next, ends_counts, entry_is}
 use Rattle.alloc_rules.proofs.Stored.{with_stores, settled, does_by}
 use Rattle.call_steps.specs.declared.step.ShardStep.TheVariants as shard
-use Rattle.call_steps.specs.Fronts.{FrontCalls}
+use Rattle.call_steps.specs.Fronts.{FrontCalls, AreEntries, FrontRules}
 use Rattle.call_steps.specs.Calls as calls
-use Rattle.alloc_rules.specs.FrontLaw.{FrontRules, AreEntries}
 use Rattle.alloc_rules.specs.Shapes.{IsGiving}
 use Rattle.alloc_rules.specs.Acts.{setup}
 

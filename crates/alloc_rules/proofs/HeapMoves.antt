@@ -38,7 +38,7 @@ use Rattle.alloc_rules.proofs.Placing.{placed}
 use Rattle.tc_model.specs.declared.calls.Planned.{Planned}
 use Rattle.call_steps.specs.Calls.{About}
 use Rattle.alloc_rules.specs.Accounts.{account_of, onward_doing, first_run}
-use Rattle.alloc_rules.specs.FrontLaw.{FrontRules, AreEntries}
+use Rattle.call_steps.specs.Fronts.{AreEntries, FrontRules}
 use Rattle.alloc_rules.specs.Machine.{Parts}
 use Rattle.alloc_rules.specs.Stocks.{AreBooksOf, Does}
 use Rattle.alloc_rules.specs.Acts.{setup, IsBefore}

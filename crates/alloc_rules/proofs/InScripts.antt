@@ -12,9 +12,8 @@ use Rattle.call_steps.specs.Local.{Local, Decided, first_act}
 use Rattle.call_steps.specs.Calls.{undecided, under, About}
 use Rattle.call_steps.specs.Kept.{call_at}
 use Rattle.call_steps.specs.declared.step.Step.{Step}
-use Rattle.call_steps.specs.Fronts.{FrontCalls}
+use Rattle.call_steps.specs.Fronts.{FrontCalls, AreEntries}
 use Rattle.alloc_rules.specs.Accounts.{account_of, doing_of}
-use Rattle.alloc_rules.specs.FrontLaw.{AreEntries}
 use Rattle.alloc_rules.specs.Scripts.{IsIn, GoesOn, Closes, Path, Stays, Comes, is_under_way}
 use Rattle.alloc_rules.proofs.ScriptFacts.{HasRow, undecided_under, first_is_of, first_under, next_way, next_weighs, asks_first}
 

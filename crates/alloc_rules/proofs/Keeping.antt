@@ -39,7 +39,8 @@ use Rattle.call_steps.specs.Calls.{About, HasNoLabel}
 use Rattle.call_steps.specs.Shapes.{AreRows, most_slots}
 use Rattle.alloc_rules.specs.Standings.{At, Here, Later, Away, Standing, stand, at_row, at_giving, at_onward, at_step, standing_of}
 use Rattle.alloc_rules.specs.Shapes.{IsAsked, HandAbout, HasNone, IsGiving, IsOnward, StepShape, IsShaped}
-use Rattle.alloc_rules.specs.FrontLaw.{FrontRules, IsEntry, IsOwn, IsLawful}
+use Rattle.alloc_rules.specs.FrontLaw.{IsOwn, IsLawful}
+use Rattle.call_steps.specs.Fronts.{FrontRules, IsEntry}
 
 -- the class of a request is in the table
 class_low_by : (n len : ℕ) (k : Class) (b : Bool) → ltb n len ≡ b → option_map (λ (j : ℕ). let c : Class = record { 0 = j } in c) (cond b (Some n) None) ≡ Some k → k.0 < len

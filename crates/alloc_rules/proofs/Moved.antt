@@ -18,7 +18,7 @@ use Rattle.alloc_rules.specs.Machine.{Parts}
 use Rattle.alloc_rules.specs.Stocks.{stock_of, AreBooksOf}
 use Rattle.call_steps.specs.Local.{Local}
 use Rattle.call_steps.specs.Calls.{About}
-use Rattle.alloc_rules.specs.FrontLaw.{FrontRules}
+use Rattle.call_steps.specs.Fronts.{FrontRules}
 
 -- where the stock stays, and names are changed so
 pub moved_names : {P V R : Type 0} (r : FrontRules P V R) (about : R → About) (m : Setup) (p : Parts P) (locals : List (Local V R)) (b : Books) → AreBooksOf r about p locals b → (f : List NameState → List NameState) (a after : Account) (heap : List Run) (spans : List SpanRef) (said : List Said) → Move m b a b.stock heap spans (f b.names) after said → Move m b a (stock_of r about p) heap spans (f p.names) after said

@@ -26,7 +26,7 @@ use Rattle.alloc_rules.proofs.Onwards.{weighs_end}
 use Rattle.alloc_rules.proofs.Moved.{moved_names}
 use Rattle.tc_model.specs.declared.calls.Planned.{Planned}
 use Rattle.call_steps.specs.Calls.{About}
-use Rattle.alloc_rules.specs.FrontLaw.{FrontRules, AreEntries}
+use Rattle.call_steps.specs.Fronts.{AreEntries, FrontRules}
 use Rattle.alloc_rules.specs.Machine.{Parts}
 use Rattle.alloc_rules.specs.Stocks.{Does}
 use Rattle.alloc_rules.specs.Acts.{setup, IsBefore}

@@ -5,7 +5,7 @@ use Rattle.tc_units.specs.declared.spans.ClassRow.{ClassRow}
 use Rattle.holdings.specs.Accounts.{Doing, Other, WeighSame}
 use Rattle.call_steps.specs.declared.step.Onward.{Onward}
 use Rattle.call_steps.specs.declared.step.Onward.TheVariants as onward
-use Rattle.call_steps.specs.Fronts.{FrontCalls}
+use Rattle.call_steps.specs.Fronts.{FrontCalls, AreEntries}
 use Rattle.call_steps.specs.Local.{Local, ends}
 use Rattle.call_steps.specs.Hands.{goes_onward, comes_to}
 use Rattle.call_steps.specs.Calls.{About}
@@ -13,7 +13,6 @@ use Rattle.alloc_rules.specs.Accounts.{account_of, onward_doing}
 use Rattle.alloc_rules.proofs.Weighing.{bare, weighs_same}
 use Rattle.alloc_rules.proofs.Goings.{other_doing, Closes, ends_as, comes_as}
 use Rattle.alloc_rules.specs.Shapes.{IsOnward}
-use Rattle.alloc_rules.specs.FrontLaw.{AreEntries}
 
 -- one act more, and no answer
 pub record Counts {V R : Type 0} (l after : Local V R) : Type 0 where

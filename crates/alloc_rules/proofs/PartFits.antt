@@ -45,7 +45,7 @@ use Rattle.alloc_rules.proofs.Published.{within}
 use Rattle.alloc_rules.proofs.Moved.{no_row}
 use Rattle.tc_model.specs.declared.calls.Planned.{Planned}
 use Rattle.call_steps.specs.Calls.{About}
-use Rattle.alloc_rules.specs.FrontLaw.{FrontRules, AreEntries}
+use Rattle.call_steps.specs.Fronts.{AreEntries, FrontRules}
 use Rattle.call_steps.specs.declared.step.Step.{Step}
 use Rattle.call_steps.specs.declared.step.Onward.{Onward}
 use Rattle.call_steps.specs.declared.step.HeapStep.{HeapStep}

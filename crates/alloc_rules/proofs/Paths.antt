@@ -40,7 +40,7 @@ use Rattle.call_steps.specs.declared.step.NamesStep.TheVariants as names
 use Rattle.call_steps.specs.Local.{Local, step_or, Decided, first_act, decided, goes, closes, ends, class_row}
 use Rattle.call_steps.specs.Hands.{with_hand, with_regs, stocks, serves_first, goes_onward, gave, clears, with_freed}
 use Rattle.call_steps.specs.ShardActs.{with_more, fetches, with_spans_behind, shard_row}
-use Rattle.call_steps.specs.Acts.{after_new, after_new_span, frees_span, without_first_span, heap_row, found, after_lookup, clears_span, map_row, after_take, names_row, waits_row}
+use Rattle.call_steps.specs.Acts.{after_new, after_new_span, frees_span, without_first_span, heap_row, found, after_lookup, clears_span, map_row, after_take, names_row, waits_row, front_row}
 use Rattle.holdings.specs.Accounts.{is_unpublished}
 use Rattle.call_steps.specs.Calls as calls
 use Rattle.call_steps.specs.Calls.{About, undecided, under, without_call, about_giving, about_onward, call_about}
@@ -52,10 +52,9 @@ use Rattle.call_steps.specs.declared.step.Step.{Step}
 use Rattle.call_steps.specs.declared.step.ShardStep.{ShardStep}
 use Rattle.call_steps.specs.declared.step.HeapStep.{HeapStep}
 use Rattle.call_steps.specs.declared.step.MapStep.{MapStep}
-use Rattle.call_steps.specs.Fronts.{FrontCalls}
+use Rattle.call_steps.specs.Fronts.{FrontCalls, AreEntries, FrontRules, IsEntry}
 use Rattle.call_steps.specs.Fits.{FitsNames, FirstLives, FirstIsThere, FitsHeap, FitsMap}
-use Rattle.alloc_rules.specs.FrontLaw.{FrontRules, AreEntries, IsEntry, IsNext, IsAct}
-use Rattle.alloc_rules.specs.Machine.{front_row}
+use Rattle.alloc_rules.specs.FrontLaw.{IsNext, IsAct}
 use Rattle.alloc_rules.specs.Laws.{AddsSome}
 use Rattle.alloc_rules.specs.Scripts.{GoesOn, Closes, Path, Stays, Comes, is_under_way}
 

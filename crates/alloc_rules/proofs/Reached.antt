@@ -21,15 +21,16 @@ use Rattle.call_steps.specs.Local.{Local, Decided}
 use Rattle.call_steps.specs.Calls.{About}
 use Rattle.call_steps.specs.Kept.{target_at}
 use Rattle.call_steps.specs.ShardActs.{shard_row}
-use Rattle.call_steps.specs.Acts.{heap_row, map_row, names_row, shard_after, heap_after, map_after, names_after, waits_for}
+use Rattle.call_steps.specs.Acts.{heap_row, map_row, names_row, shard_after, heap_after, map_after, names_after, waits_for, front_row, front_after}
 use Rattle.alloc_rules.specs.declared.part.Part.{Part}
 use Rattle.alloc_rules.specs.declared.part.Part.TheVariants.{Front, Shard, Heap, Map, Names}
-use Rattle.alloc_rules.specs.Machine.{number_of, Parts, parts_of, front_row, front_after, after, waits}
+use Rattle.alloc_rules.specs.Machine.{number_of, Parts, parts_of, after, waits}
 use Rattle.alloc_rules.specs.Standings.{Standing, standing_of}
-use Rattle.alloc_rules.specs.FrontLaw.{FrontRules, FitsAt, IsLawful}
+use Rattle.alloc_rules.specs.FrontLaw.{FitsAt, IsLawful}
+use Rattle.call_steps.specs.Fronts.{FrontRules}
 use Rattle.alloc_rules.specs.Stocks.{AreBooksOf}
-use Rattle.alloc_rules.specs.Fits.{Fits, fits_step, FitsFrontStep}
-use Rattle.call_steps.specs.Fits.{FitsShardStep, FitsHeapStep, FitsMapStep, FitsNamesStep}
+use Rattle.alloc_rules.specs.Fits.{Fits, fits_step}
+use Rattle.call_steps.specs.Fits.{FitsShardStep, FitsHeapStep, FitsMapStep, FitsNamesStep, FitsFrontStep}
 use Rattle.alloc_rules.specs.Valid.{IsValid}
 use Rattle.alloc_rules.specs.Law.{calls, setup_of}
 use Rattle.alloc_rules.proofs.Numbers.{front_number, get_front, set_front, get_shard, set_shard, get_heap, set_heap, get_map, set_map, get_names, set_names}
@@ -81,7 +82,7 @@ module _ {P V R : Type 0} (r : FrontRules P V R) (about : R → About) (planned 
       subst Reached (ap (λ (k : ℕ). front_number r.split k i) classes_are) (record {
         part = Front q;
         there = get_front r.split p split_few i ∙ ap (option_map Front) q0.there;
-        fit = fits_by (Front q) (subst (FitsFrontStep r.calls.rows fits q l) (sym step) q0.fit);
+        fit = fits_by (Front q) (subst (FitsFrontStep fits q l) (sym step) q0.fit);
         goes = λ goes. record {
           parts = _;
           left = (front_row r about q l row).1;

@@ -14,12 +14,12 @@ use Rattle.call_steps.specs.declared.step.Asking.{Asking}
 use Rattle.call_steps.specs.declared.step.Step.{Step}
 use Rattle.call_steps.specs.declared.step.Step.TheVariants as does
 use Rattle.call_steps.specs.declared.step.ShardStep.TheVariants as shard
-use Rattle.call_steps.specs.Fronts.{FrontCalls}
+use Rattle.call_steps.specs.Fronts.{FrontCalls, AreEntries, IsEntry}
 use Rattle.call_steps.specs.Local.{step_or, first_of_malloc, first_of_call, first_act}
 use Rattle.call_steps.specs.Calls as calls
 use Rattle.call_steps.specs.Calls.{About, undecided, under, without_call, call_about, IsOf}
 use Rattle.alloc_rules.specs.Accounts.{doing_of, doing_about}
-use Rattle.alloc_rules.specs.FrontLaw.{AreEntries, IsEntry, IsOwn}
+use Rattle.alloc_rules.specs.FrontLaw.{IsOwn}
 use Rattle.alloc_rules.specs.Scripts.{is_under_way}
 
 without : (o : Option Call) → is_some o ≡ true → without_call o ≡ 0

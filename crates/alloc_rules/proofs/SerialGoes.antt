@@ -36,7 +36,7 @@ use Rattle.alloc_rules.specs.declared.part.Part.TheVariants.{Front, Shard, Heap,
 use Rattle.alloc_rules.specs.Machine.{number, number_of, Parts, parts_of, waits, first_of, rules, turns}
 use Rattle.alloc_rules.specs.Valid.{got_in, IsInOrder, IsValid}
 use Rattle.alloc_rules.specs.Standings.{Standing}
-use Rattle.alloc_rules.specs.FrontLaw.{FrontRules}
+use Rattle.call_steps.specs.Fronts.{FrontRules}
 use Rattle.alloc_rules.specs.Fits.{Fits}
 use Rattle.alloc_rules.specs.Scripts.{IsIn, is_under_way}
 use Rattle.alloc_rules.proofs.Inputs.{got_push}

@@ -23,7 +23,8 @@ use Rattle.call_steps.specs.Local.{Local}
 use Rattle.call_steps.specs.Calls.{About}
 use Rattle.alloc_rules.specs.declared.part.Part.{Part}
 use Rattle.alloc_rules.specs.Standings.{Standing}
-use Rattle.alloc_rules.specs.FrontLaw.{FrontRules, IsLawful}
+use Rattle.alloc_rules.specs.FrontLaw.{IsLawful}
+use Rattle.call_steps.specs.Fronts.{FrontRules}
 use Rattle.alloc_rules.specs.Machine.{Parts, parts_of, place_of, first_of, rules, turns}
 use Rattle.alloc_rules.specs.Fits.{Fits}
 use Rattle.alloc_rules.specs.Scripts.{IsIn, is_under_way}

@@ -22,7 +22,7 @@ use Rattle.call_steps.specs.Local.{Decided, told, Local}
 use Rattle.alloc_rules.proofs.Sets.{each_set}
 use Rattle.alloc_rules.proofs.Published.{stays_out, keeps_unpublished, said_few}
 use Rattle.alloc_rules.proofs.Telling.{own_lines, others_lines}
-use Rattle.call_steps.specs.Fronts.{FrontCalls}
+use Rattle.call_steps.specs.Fronts.{FrontCalls, AreEntries, FrontRules}
 use Rattle.call_steps.specs.Calls.{About}
 use Rattle.alloc_rules.specs.declared.part.Part.{Part}
 use Rattle.alloc_rules.specs.Machine.{heap_config, Parts, parts_of}
@@ -32,7 +32,6 @@ use Rattle.alloc_rules.specs.Accounts.{account_of}
 use Rattle.alloc_rules.specs.Stocks.{decided_at, stock_of, ArePartsOk, AreBooksOf, Does}
 use Rattle.alloc_rules.specs.Standings.{Standing, standing_of}
 use Rattle.alloc_rules.specs.Shapes.{IsShaped}
-use Rattle.alloc_rules.specs.FrontLaw.{FrontRules, AreEntries}
 use Rattle.alloc_rules.specs.Scripts.{IsIn, Path, is_under_way}
 use Rattle.alloc_rules.specs.Law.{calls, setup_of}
 use Rattle.alloc_rules.proofs.MapMoves.{account_at}

@@ -34,7 +34,7 @@ use Rattle.alloc_rules.proofs.Freeing.{own_account}
 use Rattle.tc_model.specs.declared.calls.Planned.{Planned}
 use Rattle.call_steps.specs.Calls.{About}
 use Rattle.alloc_rules.specs.Accounts.{account_of, mapped_of}
-use Rattle.alloc_rules.specs.FrontLaw.{FrontRules, AreEntries}
+use Rattle.call_steps.specs.Fronts.{AreEntries, FrontRules}
 use Rattle.alloc_rules.specs.Machine.{Parts}
 use Rattle.alloc_rules.specs.Stocks.{stock_of, no_shard, shard_at, IsShardOf}
 use Rattle.alloc_rules.specs.Acts.{setup, IsBefore}

@@ -46,7 +46,7 @@ use Rattle.alloc_rules.proofs.ShardFits.{of_class, shard_is, row_is, class_row_i
 use Rattle.alloc_rules.proofs.Goings.{adding, carries_as, gets_object, gets_first, gives_hand, gives_spans}
 use Rattle.tc_model.specs.declared.calls.Planned.{Planned}
 use Rattle.call_steps.specs.Calls.{About}
-use Rattle.alloc_rules.specs.FrontLaw.{FrontRules, AreEntries}
+use Rattle.call_steps.specs.Fronts.{AreEntries, FrontRules}
 use Rattle.alloc_rules.specs.Machine.{Parts}
 use Rattle.alloc_rules.specs.Stocks.{stock_of, Does, no_shard, shard_at, IsShardOf}
 use Rattle.alloc_rules.specs.Acts.{setup, IsBefore}

@@ -31,15 +31,16 @@ use Rattle.call_steps.specs.declared.step.NamesStep.{NamesStep}
 use Rattle.call_steps.specs.Local.{Local, Decided}
 use Rattle.call_steps.specs.Calls.{About, undecided}
 use Rattle.call_steps.specs.ShardActs.{shard_row}
-use Rattle.call_steps.specs.Acts.{heap_row, map_row, names_row, waits_row}
+use Rattle.call_steps.specs.Acts.{heap_row, map_row, names_row, waits_row, front_row}
 use Rattle.call_steps.specs.Fits.{FitsNames, FitsShard, FitsHeap, FitsMap}
-use Rattle.alloc_rules.specs.Machine.{heap_config, Parts, front_row}
+use Rattle.alloc_rules.specs.Machine.{heap_config, Parts}
 use Rattle.alloc_rules.specs.Heads.{HasRoom}
 use Rattle.alloc_rules.specs.Stocks.{IsShardOf, AreBooksOf}
 use Rattle.alloc_rules.proofs.Sets.{each_set}
 use Rattle.alloc_rules.specs.Standings.{Here, Standing, stand, at_step, standing_of}
 use Rattle.alloc_rules.specs.Shapes.{ShardShape, StepShape}
-use Rattle.alloc_rules.specs.FrontLaw.{FrontRules, IsAct, IsLawful, IsReady}
+use Rattle.alloc_rules.specs.FrontLaw.{IsAct, IsLawful, IsReady}
+use Rattle.call_steps.specs.Fronts.{FrontRules}
 use Rattle.alloc_rules.specs.Acts.{IsBefore}
 use Rattle.alloc_rules.specs.Laws.{IsKept, FrontKept, AddsSome}
 use Rattle.alloc_rules.specs.Scripts.{Path, is_under_way}

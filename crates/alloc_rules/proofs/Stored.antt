@@ -14,7 +14,7 @@ use Rattle.call_steps.specs.Local.{Local}
 use Rattle.call_steps.specs.Calls.{About}
 use Rattle.alloc_rules.specs.Accounts.{account_of}
 use Rattle.alloc_rules.specs.Stocks.{decided_at, stored_in, stock_of, AreBooksOf, Does}
-use Rattle.alloc_rules.specs.FrontLaw.{FrontRules}
+use Rattle.call_steps.specs.Fronts.{FrontRules}
 use Rattle.alloc_rules.specs.Machine.{Parts}
 
 -- the parts with others of the front-end, and other shards

@@ -15,11 +15,10 @@ use Rattle.call_steps.specs.declared.step.Asking.{Asking}
 use Rattle.call_steps.specs.declared.step.Step.{Step}
 use Rattle.call_steps.specs.declared.step.Step.TheVariants as step
 use Rattle.call_steps.specs.declared.step.ShardStep.TheVariants as shard
-use Rattle.call_steps.specs.Fronts.{FrontCalls}
+use Rattle.call_steps.specs.Fronts.{FrontCalls, AreEntries, IsEntry}
 use Rattle.call_steps.specs.Calls as about
 use Rattle.call_steps.specs.Calls.{About}
 use Rattle.alloc_rules.specs.Accounts.{account_of, doing_about}
-use Rattle.alloc_rules.specs.FrontLaw.{AreEntries, IsEntry}
 
 -- an account that holds no span and no run, and one that has nothing to do with a label either
 abbrev pub bare : Doing → ℕ → List Addr → List Planned → Account

@@ -8,7 +8,7 @@ use Rattle.holdings.specs.Facts.{Facts}
 use Rattle.call_steps.specs.Local.{Local}
 use Rattle.call_steps.specs.Calls.{About}
 use Rattle.call_steps.specs.Shapes.{AreRows}
-use Rattle.alloc_rules.specs.FrontLaw.{FrontRules}
+use Rattle.call_steps.specs.Fronts.{FrontRules}
 use Rattle.alloc_rules.specs.Machine.{Parts}
 use Rattle.alloc_rules.specs.Stocks.{ArePartsOk, AreBooksOf}
 use Rattle.alloc_rules.specs.Shapes.{IsShaped}

@@ -16,7 +16,7 @@ use Rattle.alloc_rules.specs.Machine.{after}
 use Rattle.call_steps.specs.declared.step.Step.{Step}
 use Rattle.call_steps.specs.Calls.{About}
 use Rattle.alloc_rules.specs.declared.part.Part.{Part}
-use Rattle.alloc_rules.specs.FrontLaw.{FrontRules}
+use Rattle.call_steps.specs.Fronts.{FrontRules}
 
 -- an act decides a call with this answer
 pub record Decides {V R : Type 0} (before after : Local V R) (answer : Answer) : Type 0 where

@@ -3,20 +3,14 @@ use Rattle.std.specs.Prelude.{◌≤◌, List}
 use Rattle.tc_units.specs.declared.spans.ClassRow.{ClassRow}
 use Rattle.tc_model.specs.declared.machine.TheConstants.{MOST_PICKS}
 use Rattle.rseq_core.specs.declared.regs.Regs.{Regs}
-use Rattle.call_steps.specs.declared.step.Step.{Step}
-use Rattle.call_steps.specs.declared.step.Step.TheVariants as step
 use Rattle.call_steps.specs.Local.{Local}
 use Rattle.alloc_rules.specs.declared.part.Part.{Part}
 use Rattle.alloc_rules.specs.declared.part.Part.TheVariants as part
-use Rattle.call_steps.specs.Fits.{FitsShardStep, FitsHeapStep, FitsMapStep, FitsNamesStep}
+use Rattle.call_steps.specs.Fits.{FitsFrontStep, FitsShardStep, FitsHeapStep, FitsMapStep, FitsNamesStep}
 
 module _ {P V R : Type 0} (rows : List ClassRow) (fits : P → V → Regs → R → Type 0) where
-  abbrev pub FitsFrontStep : P → Local V R → Step R → Type 0
-  FitsFrontStep p l (step.Front row) = fits p l.seat l.regs row
-  FitsFrontStep p l other = ⊥
-
   abbrev pub fits_step : Part P → Local V R → Type 0
-  fits_step (part.Front p) l = FitsFrontStep p l l.step
+  fits_step (part.Front p) l = FitsFrontStep fits p l l.step
   fits_step (part.Shard s) l = FitsShardStep rows s l l.step
   fits_step (part.Heap heap) l = FitsHeapStep rows heap l l.step
   fits_step (part.Map map) l = FitsMapStep map l l.step

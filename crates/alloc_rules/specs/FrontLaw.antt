@@ -19,8 +19,9 @@ use Rattle.call_steps.specs.declared.step.Freeing.{Freeing}
 use Rattle.call_steps.specs.declared.step.Giving.TheVariants as giving
 use Rattle.call_steps.specs.declared.step.Next.{Next}
 use Rattle.call_steps.specs.declared.step.Next.TheVariants as next
-use Rattle.call_steps.specs.Fronts.{FrontCalls}
-use Rattle.call_steps.specs.Local.{first_regs, thread_no}
+use Rattle.call_steps.specs.Fronts.{Left, FrontRules, AreEntries}
+use Rattle.call_steps.specs.Local.{thread_no}
+use Rattle.rseq_core.specs.Registers.{first_regs}
 use Rattle.call_steps.specs.Calls.{About, Asks, Publishes, Frees, Other, HasNoLabel, about_giving}
 use Rattle.call_steps.specs.Follows.{MayDecide}
 use Rattle.call_steps.specs.Shapes.{most_slots}
@@ -28,56 +29,9 @@ use Rattle.call_steps.specs.Refusals.{is_refusal}
 use Rattle.alloc_rules.specs.Standings.{Here, Later, Away, Standing, stand, at_row, at_next, regs_next}
 use Rattle.alloc_rules.specs.Shapes.{IsAsked, HandAbout, IsLater, IsGiving}
 
--- what an act of the front-end leaves: its part, the thread's seat and registers, and what comes next
-pub record Left (P V R : Type 0) : Type 0 where
-  pub part : P
-  pub seat : V
-  pub regs : Regs
-  pub next : Next R
-
--- A front-end of parts P, seats V and rows R: its parts at the start, how many of them have the first numbers (the others come
--- behind the names), the seat of each thread at the start, what calls need of it, the number of the part that a row is at
--- among its parts, what the act of a row leaves, whether it is polite, how many objects of a class are at an address in a
--- part, and which row may refuse a call, and how.
-pub record FrontRules (P V R : Type 0) : Type 0 where
-  pub parts : List P
-  pub split : ℕ
-  pub seats : ℕ → V
-  pub calls : FrontCalls V R
-  pub place : V → Regs → R → ℕ
-  pub acts : P → V → Regs → R → Left P V R
-  pub yields : P → V → Regs → R → Bool
-  pub stored : P → ℕ → ℕ → ℕ
-  pub refuses : R → Answer → Bool
-
 -- the hand that a call has then, for a class
 abbrev pub with_hand : Regs → Class → Contents Addr → Regs
 with_hand g k hand = record g { class = k; hand = hand }
-
--- registers with the thread, the class and the hand of others
-pub record KeepsHand (g new : Regs) : Type 0 where
-  pub thread : new.thread ≡ g.thread
-  pub class : new.class ≡ g.class
-  pub hand : new.hand ≡ g.hand
-
--- a row with which a call begins or goes on is about that
-abbrev pub IsEntry : {R : Type 0} → (R → About) → About → Option R → Type 0
-IsEntry about a None = Unit {0}
-IsEntry about a (Some row) = about row ≡ a
-
--- The rows with which calls begin and go on are about them, and the registers keep their hand, and their class but for a call
--- of the front-end's own.
-pub record AreEntries {V R : Type 0} (e : FrontCalls V R) (about : R → About) : Type 0 where
-  pub first_about : (v : V) (a : Asking) → IsEntry about (Asks a) (e.first v a)
-  pub rest_about : (v : V) (s : Serving) → IsEntry about (Publishes s) (e.rest v s)
-  pub free_about : (v : V) (f : Freeing) → IsEntry about (Frees f) (e.free v f)
-  pub other_about : (v : V) (call : Call) → IsEntry about (Other (Some call)) (e.other v call)
-  pub last_about : (v : V) → IsEntry about (Other None) (e.last v)
-  pub to_first : (g : Regs) → KeepsHand g (e.to_first g)
-  pub to_rest : (g : Regs) → KeepsHand g (e.to_rest g)
-  pub to_free : (g : Regs) → KeepsHand g (e.to_free g)
-  pub to_other : (call : Call) (g : Regs) → (e.to_other call g).hand ≡ g.hand
-  pub other_thread : (call : Call) (g : Regs) → (e.to_other call g).thread ≡ g.thread
 
 -- registers as an act of the front-end finds them: the thread's own, of a class of the table, with the hand of a row about this
 pub record IsReady {P V R : Type 0} (r : FrontRules P V R) (t : ℕ) (g : Regs) (a : About) : Type 0 where

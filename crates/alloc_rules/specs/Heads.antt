@@ -4,7 +4,7 @@ use Rattle.tc_model.specs.Input.{labels_of, Asked}
 use Rattle.transfer_cache.specs.Transfer.{Transfer}
 use Rattle.alloc_rules.specs.Machine.{Parts}
 use Rattle.call_steps.specs.Local.{Local}
-use Rattle.alloc_rules.specs.FrontLaw.{FrontRules}
+use Rattle.call_steps.specs.Fronts.{FrontRules}
 
 -- a transfer list, or the cache of a domain, has room for so many objects, and no more of them
 pub record HasRoom (most : ℕ) (t : Transfer) : Type 0 where

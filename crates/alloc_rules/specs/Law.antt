@@ -34,7 +34,7 @@ use Rattle.alloc_rules.specs.Told.{lines_by, TellsFirst, TellsScript}
 use Rattle.alloc_rules.specs.Accounts.{account_of}
 use Rattle.alloc_rules.specs.Stocks.{IsShardOf, stock_of}
 use Rattle.alloc_rules.specs.Standings.{Standing, standing_of}
-use Rattle.alloc_rules.specs.FrontLaw.{FrontRules}
+use Rattle.call_steps.specs.Fronts.{FrontRules}
 use Rattle.alloc_rules.specs.Acts.{setup}
 use Rattle.alloc_rules.specs.Fits.{Fits}
 use Rattle.alloc_rules.specs.Answers.{AnswersNone, RefusesThere}
@@ -135,13 +135,13 @@ module _ {P V R : Type 0} (r : FrontRules P V R) (about : R → About) (Holds : 
     -- the front-end keeps its own invariant, of its parts and of the threads as it sees them
     pub front : Holds (length order) parts.fronts (map standing_of locals)
 
-  -- The laws of the rules: every pair that a pick takes fits; in every run the thread of the earliest call that hasn't ended
-  -- moves, and where each call has ended each script has; no pick lowers a number of ended calls; and all that holds between
-  -- any two picks.
-  pub record AreLawful (fits : P → V → Regs → R → Type 0) : Type 0 where
-    pub sound : IsSound (rules r about asked) (Fits r.calls.rows fits)
-    pub threads : AreThreads (rules r about asked) (turns asked)
-    pub never_waits : NeverWaits (rules r about asked) (turns asked)
-    pub rises : Rises (rules r about asked)
-    pub ends : Ends (rules r about asked) (turns asked)
-    pub holds : (order : List ℕ) → IsOrder (rules r about asked) order → HoldsAfter order
+-- The laws of the rules: every pair that a pick takes fits; in every run the thread of the earliest call that hasn't ended
+-- moves, and where each call has ended each script has; no pick lowers a number of ended calls; and what holds between any
+-- two picks.
+pub record AreLawful {P V R : Type 0} (r : FrontRules P V R) (about : R → About) (asked : Asked) (fits : P → V → Regs → R → Type 0) (After : List ℕ → Type 0) : Type 0 where
+  pub sound : IsSound (rules r about asked) (Fits r.calls.rows fits)
+  pub threads : AreThreads (rules r about asked) (turns asked)
+  pub never_waits : NeverWaits (rules r about asked) (turns asked)
+  pub rises : Rises (rules r about asked)
+  pub ends : Ends (rules r about asked) (turns asked)
+  pub holds : (order : List ℕ) → IsOrder (rules r about asked) order → After order

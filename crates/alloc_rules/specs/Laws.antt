@@ -26,13 +26,14 @@ use Rattle.call_steps.specs.declared.step.NamesStep.{NamesStep}
 use Rattle.call_steps.specs.Local.{Local, class_row}
 use Rattle.call_steps.specs.Calls.{About}
 use Rattle.call_steps.specs.ShardActs.{shard_row}
-use Rattle.call_steps.specs.Acts.{heap_row, map_row, names_row, waits_row}
+use Rattle.call_steps.specs.Acts.{heap_row, map_row, names_row, waits_row, front_row}
 use Rattle.call_steps.specs.Fits.{FitsNames, FitsShard, FitsHeap, FitsMap}
 use Rattle.call_steps.specs.Shapes.{AreRows}
 use Rattle.alloc_rules.specs.Standings.{Standing, standing_of}
 use Rattle.alloc_rules.specs.Shapes.{IsShaped}
-use Rattle.alloc_rules.specs.FrontLaw.{FrontRules, IsAct}
-use Rattle.alloc_rules.specs.Machine.{Parts, front_row}
+use Rattle.alloc_rules.specs.FrontLaw.{IsAct}
+use Rattle.call_steps.specs.Fronts.{FrontRules}
+use Rattle.alloc_rules.specs.Machine.{Parts}
 use Rattle.alloc_rules.specs.Stocks.{Does}
 use Rattle.alloc_rules.specs.Acts.{setup, IsBefore}
 

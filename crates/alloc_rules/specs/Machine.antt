@@ -16,14 +16,11 @@ use Rattle.call_steps.specs.declared.step.Target.{Target}
 use Rattle.call_steps.specs.declared.step.Target.TheVariants as target
 use Rattle.call_steps.specs.Local.{first_local, Local}
 use Rattle.call_steps.specs.Kept.{target_of}
-use Rattle.call_steps.specs.Acts.{shard_after, heap_after, map_after, names_after, waits_for}
+use Rattle.call_steps.specs.Acts.{front_after, front_yields, shard_after, heap_after, map_after, names_after, waits_for}
 use Rattle.alloc_rules.specs.declared.part.Part.TheVariants.{Front, Shard as OfClass, Heap, Map, Names}
-use Rattle.call_steps.specs.declared.step.Step.{Step}
-use Rattle.call_steps.specs.declared.step.Step.TheVariants as step
-use Rattle.call_steps.specs.Calls.{About, call_about}
-use Rattle.call_steps.specs.Follows.{follows}
+use Rattle.call_steps.specs.Calls.{About}
 use Rattle.alloc_rules.specs.declared.part.Part.{Part}
-use Rattle.alloc_rules.specs.FrontLaw.{FrontRules}
+use Rattle.call_steps.specs.Fronts.{FrontRules}
 
 -- the number of a part that an act is on, where so many parts of the front-end stand before the shards of so many classes
 abbrev pub number : ℕ → PartNo
@@ -74,27 +71,16 @@ module _ {P V R : Type 0} (r : FrontRules P V R) (about : R → About) where
   place_of l = option_map (number_of r.split (length r.calls.rows)) (target_of r.place l)
 
   -- the pair that an act leaves
-  abbrev pub front_row : P → Local V R → R → P × Local V R
-  front_row p l row = let x = r.acts p l.seat l.regs row in (x.part, follows r.calls (record l { seat = x.seat; regs = x.regs }) (call_about (about row)) x.next)
-
-  abbrev pub front_after : P → Local V R → Step R → P × Local V R
-  front_after p l (step.Front row) = front_row p l row
-  front_after p l other = (p, l)
-
   abbrev pub after : Part P → Local V R → Part P × Local V R
-  after (Front p) l = (Front (front_after p l l.step).0, (front_after p l l.step).1)
+  after (Front p) l = (Front (front_after r about p l l.step).0, (front_after r about p l l.step).1)
   after (OfClass s) l = (OfClass (shard_after r.calls s l l.step).0, (shard_after r.calls s l l.step).1)
   after (Heap heap) l = (Heap (heap_after r.calls heap l l.step).0, (heap_after r.calls heap l l.step).1)
   after (Map m) l = (Map (map_after r.calls m l l.step).0, (map_after r.calls m l l.step).1)
   after (Names names) l = (Names (names_after r.calls names l l.step).0, (names_after r.calls names l l.step).1)
 
   -- whether it is polite
-  abbrev pub front_yields : P → Local V R → Step R → Bool
-  front_yields p l (step.Front row) = r.yields p l.seat l.regs row
-  front_yields p l other = true
-
   abbrev pub yields : Part P → Local V R → Bool
-  yields (Front p) l = front_yields p l l.step
+  yields (Front p) l = front_yields r p l l.step
   yields other l = true
 
   -- a thread of a trace

@@ -18,7 +18,7 @@ use Rattle.call_steps.specs.Local.{Decided, Local}
 use Rattle.alloc_rules.specs.Machine.{Parts}
 use Rattle.call_steps.specs.Calls.{About}
 use Rattle.alloc_rules.specs.Accounts.{account_of}
-use Rattle.alloc_rules.specs.FrontLaw.{FrontRules}
+use Rattle.call_steps.specs.Fronts.{FrontRules}
 
 -- the shard of a class, and the cache of a class in a domain; of a class that isn't there, one without anything
 abbrev pub no_shard : Shard

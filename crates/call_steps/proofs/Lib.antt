@@ -1,3 +1,2 @@
 pub mod ScriptFacts
 pub mod HandFacts
-pub mod Nexts

@@ -1,57 +1,45 @@
 -- How a script goes on behind a call, and which calls its answers decide.
-use Rattle.std.proofs.Common.{◌≡◌, refl, ℕ, zero, suc, List, [], ◌∷◌, ◌++◌, length, drop, ap, sym, subst, arith, map, ◌+◌, ◌<◌, ◌≤◌, ◌^◌, ◌∙◌, true}
-use Rattle.std.specs.Prelude.{Option, Some, None, is_some, option_map, slice_get}
+use Rattle.std.proofs.Common.{◌≡◌, refl, ℕ, zero, suc, List, [], ◌∷◌, ◌++◌, length, drop, ap, sym, arith, map, ◌+◌, ◌<◌, ◌≤◌, ◌^◌, ◌∙◌, true}
+use Rattle.std.specs.Prelude.{Option, Some, None, is_some, slice_get}
 use Rattle.std.proofs.lemmas.List.{drop_all}
 use Rattle.tc_units.specs.Bag.{Contents}
-use Rattle.tc_units.specs.Classes.{class_of}
-use Rattle.tc_units.specs.declared.units.Class.{Class}
-use Rattle.tc_units.specs.declared.units.Label.{Label}
-use Rattle.tc_units.specs.declared.spans.ClassRow.{ClassRow}
 use Rattle.tc_model.specs.declared.answers.Answered.{Answered}
 use Rattle.tc_model.specs.declared.calls.Call.{Call}
-use Rattle.tc_model.specs.declared.calls.Call.TheVariants.{Malloc, Free, Release, Drain, Resize}
 use Rattle.tc_model.specs.declared.calls.Planned.{Planned}
-use Rattle.call_steps.specs.declared.seat.CpuSeat.{CpuSeat}
-use Rattle.call_steps.specs.CpuCalls.{cpu_calls}
-use Rattle.call_steps.specs.Local.{Decided, first_of_malloc, first_of_call, first_act}
-use Rattle.call_steps.specs.Calls.{undecided, under, without_call, IsOf}
-use Rattle.call_steps.specs.PerCpu.{Step}
+use Rattle.call_steps.specs.Local.{Decided, step_or}
+use Rattle.call_steps.specs.Calls.{About, call_about, undecided, under, without_call, IsOf}
+use Rattle.call_steps.specs.Fronts.{IsEntry}
+use Rattle.call_steps.specs.declared.step.Step.{Step}
 use Rattle.call_steps.specs.declared.step.Step.TheVariants as does
 use Rattle.call_steps.specs.Kept.{decided_by, call_at, IsKept}
-use Rattle.call_steps.specs.CpuRows.{about_row}
 
 without : (o : Option Call) → is_some o ≡ true → without_call o ≡ 0
 without None is = absurd (cc)
 without (Some call) is = refl
 
--- a call that isn't decided isn't counted as one that is
-pub undecided_under : (s : Step) → is_some (undecided about_row s) ≡ true → under about_row s ≡ 0
-undecided_under (does.Front row) is = without (undecided about_row (does.Front row)) is
-undecided_under (does.Shard row) is = without (undecided about_row (does.Shard row)) is
-undecided_under (does.Heap row) is = without (undecided about_row (does.Heap row)) is
-undecided_under (does.Map row) is = without (undecided about_row (does.Map row)) is
-undecided_under (does.Names row) is = without (undecided about_row (does.Names row)) is
-undecided_under does.Ended is = absurd (cc)
+module _ {R : Type 0} (about : R → About) where
+  -- a call that isn't decided isn't counted as one that is
+  pub undecided_under : (s : Step R) → is_some (undecided about s) ≡ true → under about s ≡ 0
+  undecided_under (does.Front row) is = without (undecided about (does.Front row)) is
+  undecided_under (does.Shard row) is = without (undecided about (does.Shard row)) is
+  undecided_under (does.Heap row) is = without (undecided about (does.Heap row)) is
+  undecided_under (does.Map row) is = without (undecided about (does.Map row)) is
+  undecided_under (does.Names row) is = without (undecided about (does.Names row)) is
+  undecided_under does.Ended is = absurd (cc)
 
--- the first act of a call is of that call, and decides nothing before it is done
-of_malloc : (rows : List ClassRow) (v : CpuSeat) (k : Option Class) (label : Label) (size : ℕ) → undecided about_row (first_of_malloc (cpu_calls rows) v k label size) ≡ Some (Malloc label size)
-of_malloc rows v None label size = refl
-of_malloc rows v (Some k) label size = refl
+  -- a row of the front-end with which a call begins, or what it begins with else, is of that call and decides nothing yet
+  pub entry_of : (a : About) (call : Call) (other : Step R) (o : Option R) → IsEntry about a o → call_about a ≡ Some call → IsOf about other (Some call) → IsOf about (step_or other o) (Some call)
+  entry_of a call other None entry is of = of
+  entry_of a call other (Some row) entry is of = λ c at. sym is ∙ (sym (ap call_about entry) ∙ at)
 
-of_call : (rows : List ClassRow) (v : CpuSeat) (c : Call) → undecided about_row (first_of_call (cpu_calls rows) v c) ≡ Some c
-of_call rows v (Malloc label size) = of_malloc rows v (class_of rows size) label size
-of_call rows v (Free label) = refl
-of_call rows v (Release pages) = refl
-of_call rows v (Drain cpu) = refl
-of_call rows v (Resize cpu class cap) = refl
+  pub entry_under : (a : About) (call : Call) (other : Step R) (o : Option R) → IsEntry about a o → call_about a ≡ Some call → under about other ≡ 0 → under about (step_or other o) ≡ 0
+  entry_under a call other None entry is none = none
+  entry_under a call other (Some row) entry is none = without (call_about (about row)) (ap is_some (ap call_about entry ∙ is))
 
-pub first_is_of : (rows : List ClassRow) (v : CpuSeat) (o : Option Planned) → IsOf about_row (first_act (cpu_calls rows) v o) (option_map (λ (p : Planned). p.call) o)
-first_is_of rows v None = λ c is. absurd (cc)
-first_is_of rows v (Some p) = λ c is. sym (of_call rows v p.call) ∙ is
-
-pub first_under : (rows : List ClassRow) (v : CpuSeat) (o : Option Planned) → under about_row (first_act (cpu_calls rows) v o) ≡ 0
-first_under rows v None = refl
-first_under rows v (Some p) = undecided_under (first_of_call (cpu_calls rows) v p.call) (ap is_some (of_call rows v p.call))
+  -- what the code keeps, once the thread has come to a call
+  pub kept_at : (script : List Planned) (place : ℕ) (next : Step R) (answers : Contents Answered) → place ≤ length script → length script < 2 ^ 64 → length answers.items ≡ place → length answers.items + answers.spare ≡ length script
+      → IsOf about next (call_at script place) → under about next ≡ 0 → IsKept about script place next answers
+  kept_at script place next answers within few count room of none = record { within = within; few = few; count = omega (arith, count, none); room = room; call = of }
 
 -- one answer more decides the call behind those that were answered
 pub decided_more : (script : List Planned) (answers : List Answered) (a : Answered) (call : Call) → call_at script (length answers) ≡ Some call → decided_by script (answers ++ a ∷ []) ≡ decided_by script answers ++ record { act = a.act; call = call; answer = a.answer } ∷ []
@@ -59,17 +47,6 @@ decided_more [] [] a call at = absurd (cc)
 decided_more [] (b ∷ bs) a call at = absurd (cc)
 decided_more (p ∷ ps) [] a call at = cc
 decided_more (p ∷ ps) (b ∷ bs) a call at = ap (λ ds. record { act = b.act; call = p.call; answer = b.answer } ∷ ds) (decided_more ps bs a call at)
-
--- what the code keeps, once the thread has come to a call
-pub kept_at : (rows : List ClassRow) (v : CpuSeat) (script : List Planned) (place : ℕ) (next : Step) (answers : Contents Answered) → place ≤ length script → length script < 2 ^ 64 → length answers.items ≡ place → length answers.items + answers.spare ≡ length script → next ≡ first_act (cpu_calls rows) v (slice_get script place) → IsKept script place next answers
-kept_at rows v script place next answers within few count room is =
-    record {
-      within = within;
-      few = few;
-      count = omega (arith, count, ap (under about_row) is, first_under rows v (slice_get script place));
-      room = room;
-      call = subst (λ s. IsOf about_row s (call_at script place)) (sym is) (first_is_of rows v (slice_get script place));
-    }
 
 -- the decided calls are told by the answers and the script
 pub acts_told : (script : List Planned) (answers : List Answered) → length answers ≤ length script → map (λ (a : Answered). a.act) answers ≡ map (λ (d : Decided). d.act) (decided_by script answers)

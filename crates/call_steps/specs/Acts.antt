@@ -1,5 +1,5 @@
 -- The acts at the page heap, at the page map and at the names, and the act of a local at any part behind the front-end.
-use Rattle.std.specs.Prelude.{ℕ, ◌+◌, ◌*◌, ◌/◌, Bool, false, List, [], ◌∷◌, find, Option, Some, None, slice_set}
+use Rattle.std.specs.Prelude.{ℕ, ◌+◌, ◌*◌, ◌/◌, Bool, true, false, List, [], ◌∷◌, find, Option, Some, None, slice_set}
 use Rattle.tc_units.specs.Units.{page_bytes, pages_holding}
 use Rattle.tc_units.specs.Bag.{Contents}
 use Rattle.tc_units.specs.declared.units.Addr.{Addr}
@@ -34,10 +34,12 @@ use Rattle.call_steps.specs.declared.step.HeapStep.TheVariants.{New, NewSpan, Gi
 use Rattle.call_steps.specs.declared.step.MapStep.TheVariants.{Set, SetSpan, Lookup, Clear, ClearSpan}
 use Rattle.call_steps.specs.declared.step.NamesStep.{NamesStep}
 use Rattle.call_steps.specs.declared.step.NamesStep.TheVariants.{Publish, Take}
-use Rattle.call_steps.specs.Fronts.{FrontCalls}
+use Rattle.call_steps.specs.Calls.{About, call_about}
+use Rattle.call_steps.specs.Fronts.{FrontCalls, FrontRules}
 use Rattle.call_steps.specs.Local.{Local, step_or, decided, goes, ends, class_row}
 use Rattle.call_steps.specs.Hands.{with_regs, with_freed, clears}
 use Rattle.call_steps.specs.ShardActs.{shard_row}
+use Rattle.call_steps.specs.Follows.{follows}
 
 -- New decides an allocation: its block is the new run, or there is none.
 abbrev pub after_new : {V R : Type 0} → heaps.Heap → Local V R → Label → ℕ → Option Placed → heaps.Heap × Local V R
@@ -126,3 +128,18 @@ waits_row names (Take label) = is_unpublished (state_of names label.0)
 abbrev pub waits_for : {R : Type 0} → List NameState → Step R → Bool
 waits_for names (step.Names row) = waits_row names row
 waits_for names other = false
+
+module _ {P V R : Type 0} (r : FrontRules P V R) where
+  -- an act of the front-end, with what comes behind it by what its row is about
+  module _ (about : R → About) where
+    abbrev pub front_row : P → Local V R → R → P × Local V R
+    front_row p l row = let x = r.acts p l.seat l.regs row in (x.part, follows r.calls (record l { seat = x.seat; regs = x.regs }) (call_about (about row)) x.next)
+
+    abbrev pub front_after : P → Local V R → Step R → P × Local V R
+    front_after p l (step.Front row) = front_row p l row
+    front_after p l other = (p, l)
+
+  -- whether it is polite
+  abbrev pub front_yields : P → Local V R → Step R → Bool
+  front_yields p l (step.Front row) = r.yields p l.seat l.regs row
+  front_yields p l other = true

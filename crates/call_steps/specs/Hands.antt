@@ -14,6 +14,7 @@ use Rattle.call_steps.specs.declared.step.Giving.{Giving}
 use Rattle.call_steps.specs.declared.step.Onward.{Onward}
 use Rattle.call_steps.specs.declared.step.Giving.TheVariants as giving
 use Rattle.call_steps.specs.declared.step.Onward.TheVariants as onward
+use Rattle.call_steps.specs.declared.step.Step.{Step}
 use Rattle.call_steps.specs.declared.step.Step.TheVariants as step
 use Rattle.call_steps.specs.declared.step.ShardStep.TheVariants as shard
 use Rattle.call_steps.specs.declared.step.MapStep.TheVariants as map
@@ -33,9 +34,16 @@ abbrev pub publishes : {V R : Type 0} → Local V R → Serving → Local V R
 publishes l s = goes l (step.Names (names.Publish s.label (Some s.addr)))
 
 -- with what it fetched besides it stocks the front-end first
+abbrev pub stock_step : {V R : Type 0} → FrontCalls V R → V → Serving → List Addr → Step R
+stock_step e v s [] = step.Names (names.Publish s.label (Some s.addr))
+stock_step e v s (a ∷ others) = step_or (step.Shard (shard.Give (giving.Rest s))) (e.rest v s)
+
+abbrev pub stock_regs : {V R : Type 0} → FrontCalls V R → Regs → List Addr → Regs
+stock_regs e r [] = r
+stock_regs e r (a ∷ others) = e.to_rest r
+
 abbrev pub stocks : {V R : Type 0} → FrontCalls V R → Local V R → Serving → List Addr → Local V R
-stocks e l s [] = publishes l s
-stocks e l s (a ∷ others) = goes (with_regs l (e.to_rest l.regs)) (step_or (step.Shard (shard.Give (giving.Rest s))) (e.rest l.seat s))
+stocks e l s others = goes (with_regs l (stock_regs e l.regs others)) (stock_step e l.seat s others)
 
 -- An allocation is decided by the objects that came to its hand: the first is its answer, and the others are left in hand.
 abbrev pub serves_first : {V R : Type 0} → FrontCalls V R → Local V R → Asking → List Addr → Local V R

@@ -8,17 +8,15 @@ use Rattle.tc_model.specs.declared.calls.Planned.{Planned}
 use Rattle.rseq_core.specs.declared.regs.Regs.{Regs}
 use Rattle.call_steps.specs.declared.step.Target.{Target}
 use Rattle.call_steps.specs.declared.step.Target.TheVariants as target
-use Rattle.call_steps.specs.declared.seat.CpuSeat.{CpuSeat}
-use Rattle.call_steps.specs.declared.step.Step.{Step as AnyStep}
-use Rattle.call_steps.specs.PerCpu.{Step}
+use Rattle.call_steps.specs.declared.step.Step.{Step}
 use Rattle.call_steps.specs.declared.step.Step.TheVariants as step
-use Rattle.call_steps.specs.PerCpu.{CpuLocal}
+use Rattle.call_steps.specs.declared.step.MapStep.TheVariants as map
+use Rattle.call_steps.specs.declared.step.Onward.TheVariants as onward
 use Rattle.call_steps.specs.Local.{Local, Decided}
-use Rattle.call_steps.specs.Calls.{under, IsOf}
-use Rattle.call_steps.specs.CpuRows.{about_row}
+use Rattle.call_steps.specs.Calls.{About, under, IsOf}
 
 -- the part that the next act is on, by the places of the front-end's rows
-abbrev pub target_at : {V R : Type 0} → (V → Regs → R → ℕ) → Local V R → AnyStep R → Option Target
+abbrev pub target_at : {V R : Type 0} → (V → Regs → R → ℕ) → Local V R → Step R → Option Target
 target_at place l (step.Front row) = Some (target.Front (place l.seat l.regs row))
 target_at place l (step.Shard row) = Some (target.Shard l.regs.class)
 target_at place l (step.Heap row) = Some target.Heap
@@ -49,15 +47,15 @@ abbrev pub call_at : List Planned → ℕ → Option Call
 call_at script j = option_map (λ p. p.call) (slice_get script j)
 
 -- the code of a local: its place in its script is the call under way, which has room for its answer until it is decided
-pub record IsKept (script : List Planned) (place : ℕ) (now : Step) (answers : Contents Answered) : Type 0 where
+pub record IsKept {R : Type 0} (about : R → About) (script : List Planned) (place : ℕ) (now : Step R) (answers : Contents Answered) : Type 0 where
   pub within : place ≤ length script
   pub few : length script < 2 ^ 64
-  pub count : length answers.items ≡ place + under about_row now
+  pub count : length answers.items ≡ place + under about now
   pub room : length answers.items + answers.spare ≡ length script
-  pub call : IsOf about_row now (call_at script place)
+  pub call : IsOf about now (call_at script place)
 
 -- the local that it means
-abbrev pub local_of : CpuSeat → List Planned → ℕ → Step → Regs → Contents SpanRef → ℕ → List Answered → CpuLocal
+abbrev pub local_of : {V R : Type 0} → V → List Planned → ℕ → Step R → Regs → Contents SpanRef → ℕ → List Answered → Local V R
 local_of seat script place now regs freed acts answers =
     record {
       seat = seat;
@@ -69,3 +67,7 @@ local_of seat script place now regs freed acts answers =
       acts = acts;
       answers = decided_by script answers;
     }
+
+-- the call under way is decided, and nothing is left of it but its end
+abbrev pub over : {R : Type 0} → Step R
+over = step.Map (map.ClearSpan onward.End)

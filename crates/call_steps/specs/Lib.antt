@@ -1,15 +1,11 @@
+pub mod Calls
 pub mod Fronts
 pub mod Local
-pub mod PerCpu
-pub mod Calls
-pub mod CpuRows
 pub mod Hands
-pub mod CpuActs
 pub mod ShardActs
 pub mod Refusals
 pub mod Follows
 pub mod Acts
-pub mod CpuCalls
 pub mod Fits
 pub mod Kept
 pub mod Shapes

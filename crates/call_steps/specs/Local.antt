@@ -13,11 +13,9 @@ use Rattle.tc_model.specs.declared.calls.Call.TheVariants.{Malloc, Free, Release
 use Rattle.tc_model.specs.declared.calls.Planned.{Planned}
 use Rattle.tc_model.specs.declared.answers.Answer.{Answer}
 use Rattle.tc_model.specs.declared.answers.CallLine.{CallLine}
-use Rattle.rseq_core.specs.declared.sequence.Seq.{Seq}
-use Rattle.rseq_core.specs.declared.sequence.Seq.TheVariants as seq
-use Rattle.rseq_core.specs.declared.sequence.Pc.TheVariants.{Begin}
 use Rattle.rseq_core.specs.declared.regs.Regs.{Regs}
-use Rattle.rseq_core.specs.declared.regs.TheConstants.{HAND_ROOM, LOADED_ROOM}
+use Rattle.rseq_core.specs.declared.regs.TheConstants.{HAND_ROOM}
+use Rattle.rseq_core.specs.Registers.{first_regs}
 use Rattle.call_steps.specs.declared.step.Asking.{Asking}
 use Rattle.call_steps.specs.declared.step.Step.{Step}
 use Rattle.call_steps.specs.declared.step.Step.TheVariants as step
@@ -44,10 +42,6 @@ pub record Local (V R : Type 0) : Type 0 where
   pub ended : ℕ
   pub acts : ℕ
   pub answers : List Decided
-
--- registers that are set for a sequence of a class
-abbrev pub set_for : Class → Seq → Regs → Regs
-set_for class s r = record r { class = class; seq = s; pc = Begin }
 
 -- a step of the front-end where it has a row, and else another one
 abbrev pub step_or : {R : Type 0} → Step R → Option R → Step R
@@ -102,22 +96,6 @@ next_call e l calls =
 
 abbrev pub thread_no : ℕ → ThreadNo
 thread_no t = record { 0 = t }
-
--- the registers of a thread before its first act
-abbrev pub first_regs : ThreadNo → Regs
-first_regs thread =
-    record {
-      thread = thread;
-      class = record { 0 = 0 };
-      seq = seq.Pop;
-      pc = Begin;
-      epoch = 0;
-      top = 0;
-      count = 0;
-      ran = 0;
-      hand = record { items = []; spare = HAND_ROOM };
-      loaded = record { items = []; spare = LOADED_ROOM };
-    }
 
 -- a thread without a call
 abbrev pub idle_local : {V R : Type 0} → ThreadNo → V → Local V R

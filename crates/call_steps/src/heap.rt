@@ -3,27 +3,27 @@ ghost use Rattle.std.specs.Prelude.{◌≡◌, ◌<◌, ◌-◌, ◌*◌, ◌^�
 ghost use Rattle.tc_units.specs.Units.{page_bytes};
 ghost use Rattle.tc_model.specs.declared.answers.Answer.TheVariants.{Block};
 ghost use Rattle.holdings.specs.Runs.{address_of, run_of};
-ghost use Rattle.call_steps.specs.CpuCalls.{cpu_calls};
 ghost use Rattle.call_steps.specs.declared.step.Step.TheVariants as does;
 ghost use Rattle.call_steps.specs.declared.step.NamesStep.TheVariants as named;
 ghost use Rattle.call_steps.specs.Acts.{heap_after};
 ghost use Rattle.call_steps.specs.Fits.{FitsHeapStep};
 
+use crate::front::FrontEnd;
 use crate::local::Local;
-use crate::step::{CpuRow, HeapStep, MapStep, NamesStep, Step};
+use crate::setting::{Setting, row_of};
+use crate::step::{HeapStep, MapStep, NamesStep, Step};
 use page_heap::PageHeap;
-use size_classes::ClassTable;
 use tc_model::Answer;
 use tc_units::{Label, PAGE_BYTES, Run, SpanRef, addr_of, pages_for};
 
 /// The act at the page heap that the thread does next: it asks for a run, which decides the allocation of
 /// a large block, or of none; it frees a run, which decides the free of a large block; or it unbacks free
 /// pages, which decides a release, whose answer is how many pages lost their backing.
-pub fn act_heap(table: &ClassTable, heap: &mut PageHeap, local: &mut Local)
-    requires fits { FitsHeapStep table.now heap.old local.old local.old.step }
+pub fn act_heap<F: FrontEnd>(setting: &Setting, heap: &mut PageHeap, local: &mut Local<F>)
+    requires fits { FitsHeapStep (F.rules setting.now).calls.rows heap.old local.old local.old.step }
     requires acts { local.old.acts < 2 ^ 64 - 1 }
-    ensures heap { heap.new ≡ (heap_after (cpu_calls table.now) heap.old local.old local.old.step).0 }
-    ensures local { local.new ≡ (heap_after (cpu_calls table.now) heap.old local.old local.old.step).1 }
+    ensures heap { heap.new ≡ (heap_after (F.rules setting.now).calls heap.old local.old local.old.step).0 }
+    ensures local { local.new ≡ (heap_after (F.rules setting.now).calls heap.old local.old local.old.step).1 }
 {
     match local.step() {
         Step::Heap(HeapStep::New { label, size }) => match heap.new_run(pages_for(size)) {
@@ -33,7 +33,7 @@ pub fn act_heap(table: &ClassTable, heap: &mut PageHeap, local: &mut Local)
             None => local.go_deciding(Answer::NoBlock, publish_null(label)),
         },
         Step::Heap(HeapStep::NewSpan(asking)) => {
-            let pages = u32::from(table.row(local.regs.class).pages);
+            let pages = u32::from(row_of::<F>(setting, local.regs.class).pages);
             match heap.new_run(pages) {
                 Some(run) => local.go(Step::Map(MapStep::SetSpan { asking, run })),
                 None => local.go_deciding(Answer::NoBlock, publish_null(asking.label)),
@@ -42,25 +42,25 @@ pub fn act_heap(table: &ClassTable, heap: &mut PageHeap, local: &mut Local)
         Step::Heap(HeapStep::GiveBack { run, .. }) => {
             heap.free_run(run);
             let addr = addr_of(run.first);
-            local.end_deciding(table, Answer::Freed { addr });
+            local.end_deciding(setting, Answer::Freed { addr });
         }
         Step::Heap(HeapStep::FreeSpan(onward)) => {
             let Some(span) = local.freed.take_first() else {
                 unreachable!()
             };
             heap.free_run(run_of(span));
-            local.clear(table, onward);
+            local.clear(setting, onward);
         }
         Step::Heap(HeapStep::Unback { pages }) => {
             let pages = heap.release(pages);
-            local.end_deciding(table, Answer::Released { pages });
+            local.end_deciding(setting, Answer::Released { pages });
         }
         _ => unreachable!(),
     }
 }
 
 /// An allocation that got nothing publishes null.
-fn publish_null(label: Label) -> Step<CpuRow>
+fn publish_null<R: Copy>(label: Label) -> Step<R>
     ensures { result ≡ does.Names (named.Publish label None) }
 {
     Step::Names(NamesStep::Publish { label, value: None })

@@ -2,28 +2,26 @@
 //! part.
 #![tactic(auto)]
 
-mod cpu;
-mod domain;
+mod acts;
+mod front;
 mod hands;
 mod heap;
 mod local;
 mod map;
 mod names;
-mod seat;
+mod setting;
 mod shard;
 mod step;
-#[cfg(test)]
-mod tests;
 
-pub use cpu::{act_cpu, yields};
-pub use domain::act_domain;
+pub use acts::{act_front, yields};
+pub use front::FrontEnd;
 pub use heap::act_heap;
 pub use local::Local;
 pub use map::act_map;
 pub use names::{act_names, waits};
-pub use seat::CpuSeat;
+pub use setting::Setting;
 pub use shard::act_shard;
 pub use step::{
-    Asking, CpuRow, CpuStep, DomainStep, Draining, Freeing, Giving, HeapStep, MapStep, NamesStep,
-    Next, Onward, Resizing, Serving, ShardStep, Step, Stopping, Target,
+    Asking, Freeing, Giving, HeapStep, MapStep, NamesStep, Next, Onward, Serving, ShardStep, Step,
+    Target,
 };

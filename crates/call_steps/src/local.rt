@@ -2,33 +2,28 @@
 //! its answers.
 ghost use Rattle.std.specs.Prelude.{◌≡◌, ℕ, ◌+◌, ◌-◌, ◌<◌, ◌≤◌, ◌^◌, [], length, drop, map, option_map, slice_get, Option, Some, None, IfOk, is_some, true};
 ghost use Rattle.tc_model.specs.declared.calls.Call as call;
-ghost use Rattle.call_steps.specs.CpuCalls.{cpu_calls};
-ghost use Rattle.call_steps.specs.declared.step.Step.TheVariants as does;
-ghost use Rattle.call_steps.specs.declared.step.CpuRow.TheVariants as front;
-ghost use Rattle.call_steps.specs.declared.step.CpuStep.TheVariants.{Leave};
 ghost use Rattle.call_steps.specs.Local.{next_call, step_or, first_of_call, regs_of_call, first_act, regs_by, first_local, goes, ends, decided, told};
-ghost use Rattle.call_steps.specs.Calls.{undecided, under};
-ghost use Rattle.call_steps.specs.CpuRows.{about_row, cpu_place};
-ghost use Rattle.call_steps.specs.Kept.{target_of, IsLowWant};
+ghost use Rattle.call_steps.specs.Calls.{undecided, under, IsOf};
+ghost use Rattle.call_steps.specs.Kept.{target_of, IsLowWant, over};
 
-use crate::seat::{CpuSeat, place};
-use crate::step::{Asking, CpuRow, CpuStep, HeapStep, NamesStep, ShardStep, Step, Target};
-use rseq_core::{HAND_ROOM, Regs, Seq};
-use size_classes::ClassTable;
+use crate::front::FrontEnd;
+use crate::setting::Setting;
+use crate::step::{Asking, HeapStep, MapStep, NamesStep, Onward, ShardStep, Step, Target};
+use rseq_core::{HAND_ROOM, Regs};
 use std::alloc::{AllocError, Global};
 use std::marker::Model;
 use tc_model::{Answer, Answered, Call, CallLine, Planned, Script};
-use tc_units::{Bag, Class, Listed, SpanRef, ThreadNo};
+use tc_units::{Bag, Listed, SpanRef, ThreadNo};
 
 /// A thread's script, its place in it, the next act of the call there with what the call has in hand, and
 /// the answers of the calls that were decided.
 #[derive(Drop)]
-pub struct Local {
-    pub(crate) seat: CpuSeat,
+pub struct Local<F: FrontEnd> {
+    pub(crate) seat: F::Seat,
     script: Listed<Planned>,
     /// Calls that have ended.
     place: usize,
-    pub(crate) step: Step<CpuRow>,
+    pub(crate) step: Step<F::Row>,
     /// The registers, with the objects in hand.
     pub(crate) regs: Regs,
     /// Spans that left a shard and are to be given back.
@@ -38,41 +33,42 @@ pub struct Local {
     answers: Bag<Answered>,
 }
 
-impl Model for Local {
-    ghost use Rattle.call_steps.specs.PerCpu as meant;
+impl<F: FrontEnd> Model for Local<F> {
+    ghost use Rattle.call_steps.specs.Local as meant;
     ghost use Rattle.call_steps.specs.Kept.{IsKept, local_of};
 
-    ghost Value = { meant.CpuLocal };
+    ghost Value = { meant.Local F.Seat F.Row };
 
     ghost view = { λ l. local_of l.seat l.script l.place l.step l.regs l.freed l.acts l.answers.items };
 
-    ghost invariant = { λ l. IsKept l.script l.place l.step l.answers };
+    ghost invariant = { λ l. IsKept F.about l.script l.place l.step l.answers };
 }
 
-impl Local {
-    /// A thread before its first act, under this class table and seated so. All room for its answers, its
-    /// hand and its spans is taken here.
+impl<F: FrontEnd> Local<F> {
+    /// A thread before its first act, at its seat at the start. All room for its answers, its hand and its
+    /// spans is taken here.
     pub fn new(
         alloc: Global,
-        table: &ClassTable,
+        setting: &Setting,
         thread: ThreadNo,
-        seat: CpuSeat,
         script: Script,
     ) -> Result<Self, AllocError>
-        ensures { IfOk result (λ l. l ≡ first_local (cpu_calls table.now) thread seat script.calls) }
+        requires { F.can_open setting.now }
+        ensures { IfOk result (λ l. l ≡ first_local (F.rules setting.now).calls thread ((F.rules setting.now).seats thread.0) script.calls) }
     {
         let Script { calls } = script;
         let answers = Bag::open(alloc, calls.as_slice().len())?;
         let freed = Bag::open(alloc, HAND_ROOM)?;
         let mut regs = Regs::open(alloc, thread)?;
+        let mut seat = F::seat(setting, thread);
         let first = calls.as_slice().first().copied();
-        set_regs(table, first, &mut regs);
-        let seat = seat.beginning(first);
+        F::begin(setting, &mut seat, first);
+        let step = first_act::<F>(setting, &seat, &mut regs, first);
         Ok(Local {
             seat,
             script: calls,
             place: 0,
-            step: first_act(table, &seat, first),
+            step,
             regs,
             freed,
             acts: 0,
@@ -80,16 +76,13 @@ impl Local {
         })
     }
 
-    /// The part that the next act is on, where there are so many CPUs and classes. `None` where the script has ended.
-    pub fn want(&self, cpus: u8, classes: u32) -> Option<Target>
-        requires { classes ≤ 120 }
-        ensures target { result ≡ target_of (cpu_place cpus classes) self.now }
+    /// The part that the next act is on. `None` where the script has ended.
+    pub fn want(&self, setting: &Setting) -> Option<Target>
+        ensures target { result ≡ target_of (F.rules setting.now).place self.now }
         ensures low { IsLowWant result }
     {
         match self.step {
-            Step::Front(row) => Some(Target::Front(place(
-                cpus, classes, &self.seat, &self.regs, row,
-            ))),
+            Step::Front(row) => Some(Target::Front(F::place(setting, &self.seat, &self.regs, row))),
             Step::Shard(_) => Some(Target::Shard(self.regs.class)),
             Step::Heap(_) => Some(Target::Heap),
             Step::Map(_) => Some(Target::Map),
@@ -99,7 +92,7 @@ impl Local {
     }
 
     /// The next act.
-    pub fn step(&self) -> Step<CpuRow>
+    pub fn step(&self) -> Step<F::Row>
         ensures { result ≡ self.now.step }
     {
         self.step
@@ -140,10 +133,10 @@ impl Local {
     }
 
     /// The act is done, and the call goes on with `next`.
-    pub(crate) fn go(&mut self, next: Step<CpuRow>)
+    pub(crate) fn go(&mut self, next: Step<F::Row>)
         requires acts { self.old.acts < 2 ^ 64 - 1 }
-        requires under { under about_row next ≡ under about_row self.old.step }
-        requires call { undecided about_row next ≡ undecided about_row self.old.step }
+        requires under { under F.about next ≡ under F.about self.old.step }
+        requires call { undecided F.about next ≡ undecided F.about self.old.step }
         ensures { self.new ≡ goes self.old next }
     {
         self.step = next;
@@ -151,64 +144,63 @@ impl Local {
     }
 
     /// The act is done: it decides the call under way, which goes on with `next`.
-    pub(crate) fn go_deciding(&mut self, answer: Answer, next: Step<CpuRow>)
+    pub(crate) fn go_deciding(&mut self, answer: Answer, next: Step<F::Row>)
         requires acts { self.old.acts < 2 ^ 64 - 1 }
-        requires undecided { is_some (undecided about_row self.old.step) ≡ true }
-        requires decided { (under about_row next ≡ 1) × (undecided about_row next ≡ None) }
-        ensures { (call : call.Call) → undecided about_row self.old.step ≡ Some call → self.new ≡ goes (decided self.old call answer) next }
+        requires undecided { is_some (undecided F.about self.old.step) ≡ true }
+        requires decided { (under F.about next ≡ 1) × (undecided F.about next ≡ None) }
+        ensures { (call : call.Call) → undecided F.about self.old.step ≡ Some call → self.new ≡ goes (decided self.old call answer) next }
     {
         self.decide(answer);
         self.go(next);
     }
 
     /// The act is done, and the call ends, which was decided before. A row of the front-end may come first.
-    pub(crate) fn end(&mut self, table: &ClassTable)
+    pub(crate) fn end(&mut self, setting: &Setting)
         requires acts { self.old.acts < 2 ^ 64 - 1 }
-        requires decided { under about_row self.old.step ≡ 1 }
-        ensures { self.new ≡ ends (cpu_calls table.now) self.old }
+        requires decided { under F.about self.old.step ≡ 1 }
+        ensures { self.new ≡ ends (F.rules setting.now).calls self.old }
     {
         self.acts += 1;
-        match self.seat.last() {
+        match F::last(setting, &self.seat) {
             Some(row) => self.step = Step::Front(row),
-            None => self.come_to_next(table),
+            None => self.come_to_next(setting),
         }
     }
 
     /// The act is done: it decides the call under way and ends it.
-    pub(crate) fn end_deciding(&mut self, table: &ClassTable, answer: Answer)
+    pub(crate) fn end_deciding(&mut self, setting: &Setting, answer: Answer)
         requires acts { self.old.acts < 2 ^ 64 - 1 }
-        requires undecided { is_some (undecided about_row self.old.step) ≡ true }
-        ensures { (call : call.Call) → undecided about_row self.old.step ≡ Some call → self.new ≡ ends (cpu_calls table.now) (decided self.old call answer) }
+        requires undecided { is_some (undecided F.about self.old.step) ≡ true }
+        ensures { (call : call.Call) → undecided F.about self.old.step ≡ Some call → self.new ≡ ends (F.rules setting.now).calls (decided self.old call answer) }
     {
         self.decide(answer);
-        self.end(table);
+        self.end(setting);
     }
 
     /// The next act decides the call under way, of which nothing is left to do then but to end.
     pub(crate) fn decide(&mut self, answer: Answer)
-        requires { is_some (undecided about_row self.old.step) ≡ true }
-        ensures step { self.new.step ≡ does.Front (front.Cpu Leave) }
+        requires { is_some (undecided F.about self.old.step) ≡ true }
+        ensures step { self.new.step ≡ over }
         ensures acts { self.new.acts ≡ self.old.acts }
         ensures seat { self.new.seat ≡ self.old.seat }
-        ensures decided { (call : call.Call) → undecided about_row self.old.step ≡ Some call → self.new ≡ record (decided self.old call answer) { step = does.Front (front.Cpu Leave) } }
+        ensures decided { (call : call.Call) → undecided F.about self.old.step ≡ Some call → self.new ≡ record (decided self.old call answer) { step = over } }
     {
         self.answers.push(Answered {
             act: self.acts,
             answer,
         });
-        self.step = Step::Front(CpuRow::Cpu(CpuStep::Leave));
+        self.step = Step::Map(MapStep::ClearSpan(Onward::End));
     }
 
     /// The call under way has ended, and the thread comes to the next one.
-    fn come_to_next(&mut self, table: &ClassTable)
-        requires { under about_row self.old.step ≡ 1 }
-        ensures { self.new ≡ next_call (cpu_calls table.now) (record self.old { ended = self.old.ended + 1 }) self.old.rest }
+    fn come_to_next(&mut self, setting: &Setting)
+        requires { under F.about self.old.step ≡ 1 }
+        ensures { self.new ≡ next_call (F.rules setting.now).calls (record self.old { ended = self.old.ended + 1 }) self.old.rest }
     {
         self.place += 1;
         let planned = planned_at(self.script.as_slice(), self.place);
-        set_regs(table, planned, &mut self.regs);
-        self.seat = self.seat.beginning(planned);
-        self.step = first_act(table, &self.seat, planned);
+        F::begin(setting, &mut self.seat, planned);
+        self.step = first_act::<F>(setting, &self.seat, &mut self.regs, planned);
     }
 }
 
@@ -219,66 +211,65 @@ fn planned_at(script: &[Planned], place: usize) -> Option<Planned>
     script.get(place).copied()
 }
 
-/// The first act of the call that is planned next.
-fn first_act(table: &ClassTable, seat: &CpuSeat, planned: Option<Planned>) -> Step<CpuRow>
-    ensures { result ≡ first_act (cpu_calls table.now) seat.now planned }
+/// The first act of the call that is planned next, for which the registers are set.
+fn first_act<F: FrontEnd>(
+    setting: &Setting,
+    seat: &F::Seat,
+    regs: &mut Regs,
+    planned: Option<Planned>,
+) -> Step<F::Row>
+    ensures step { result ≡ first_act (F.rules setting.now).calls seat.now planned }
+    ensures regs { regs.new ≡ regs_by (F.rules setting.now).calls planned regs.old }
+    ensures of { IsOf F.about result (option_map (λ p. p.call) planned) }
+    ensures none { under F.about result ≡ 0 }
 {
     match planned {
-        Some(planned) => first_of_call(table, seat, planned.call),
+        Some(planned) => {
+            let step = first_of_call::<F>(setting, seat, regs, planned.call);
+            regs.ran = 0;
+            step
+        }
         None => Step::Ended,
     }
 }
 
-/// The first act of a call.
-fn first_of_call(table: &ClassTable, seat: &CpuSeat, call: Call) -> Step<CpuRow>
-    ensures { result ≡ first_of_call (cpu_calls table.now) seat.now call }
+/// The first act of a call, for whose class the registers are set, where it has one.
+fn first_of_call<F: FrontEnd>(
+    setting: &Setting,
+    seat: &F::Seat,
+    regs: &mut Regs,
+    call: Call,
+) -> Step<F::Row>
+    ensures step { result ≡ first_of_call (F.rules setting.now).calls seat.now call }
+    ensures regs { regs.new ≡ regs_of_call (F.rules setting.now).calls call regs.old }
+    ensures of { IsOf F.about result (Some call) }
+    ensures none { under F.about result ≡ 0 }
 {
     match call {
-        Call::Malloc { label, size } => match table.class_of(size) {
-            Some(_) => {
+        Call::Malloc { label, size } => match setting.table.class_of(size) {
+            Some(class) => {
+                regs.class = class;
                 let asking = Asking { label, size };
-                step_or(Step::Shard(ShardStep::Fetch(asking)), seat.first(asking))
+                let row = F::first(setting, seat, regs, asking);
+                step_or(Step::Shard(ShardStep::Fetch(asking)), row)
             }
             None => Step::Heap(HeapStep::New { label, size }),
         },
         Call::Free { label } => Step::Names(NamesStep::Take { label }),
         Call::Release { pages } => Step::Heap(HeapStep::Unback { pages }),
-        Call::Drain { .. } | Call::Resize { .. } => step_or(Step::Ended, seat.other(call)),
+        Call::Drain { .. } | Call::Resize { .. } => step_or(
+            Step::Ended,
+            F::other(setting, seat, regs, call),
+        ),
     }
 }
 
 /// A step of the front-end where it has a row, and else another one.
-pub(crate) fn step_or(other: Step<CpuRow>, row: Option<CpuRow>) -> Step<CpuRow>
+fn step_or<R: Copy>(other: Step<R>, row: Option<R>) -> Step<R>
     ensures { result ≡ step_or other row }
 {
     match row {
         Some(row) => Step::Front(row),
         None => other,
-    }
-}
-
-/// Sets the registers for the call that is planned next.
-fn set_regs(table: &ClassTable, planned: Option<Planned>, regs: &mut Regs)
-    ensures { regs.new ≡ regs_by (cpu_calls table.now) planned regs.old }
-{
-    if let Some(planned) = planned {
-        set_class(table, planned.call, regs);
-        regs.ran = 0;
-    }
-}
-
-/// Sets the registers for the class of a call, where it has one.
-fn set_class(table: &ClassTable, call: Call, regs: &mut Regs)
-    ensures { regs.new ≡ regs_of_call (cpu_calls table.now) call regs.old }
-{
-    match call {
-        Call::Malloc { size, .. } => {
-            if let Some(class) = table.class_of(size) {
-                regs.start(class, Seq::Pop);
-            }
-        }
-        Call::Drain { .. } => regs.start(Class(0), Seq::Pop),
-        Call::Resize { class, .. } => regs.start(class, Seq::Pop),
-        Call::Free { .. } | Call::Release { .. } => {}
     }
 }

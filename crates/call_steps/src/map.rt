@@ -2,16 +2,15 @@
 ghost use Rattle.std.specs.Prelude.{◌≡◌, ◌<◌, ◌-◌, ◌^◌, OnOk, OnErr};
 ghost use Rattle.call_steps.specs.declared.step.Step.TheVariants as does;
 ghost use Rattle.call_steps.specs.declared.step.MapStep.TheVariants.{Lookup};
-ghost use Rattle.call_steps.specs.CpuCalls.{cpu_calls};
 ghost use Rattle.call_steps.specs.Acts.{map_after, found};
 ghost use Rattle.call_steps.specs.Fits.{FitsMapStep};
 
+use crate::front::FrontEnd;
 use crate::heap::run_of;
 use crate::local::Local;
-use crate::step::{CpuRow, CpuStep, Freeing, HeapStep, MapStep, NamesStep, ShardStep, Step};
+use crate::setting::Setting;
+use crate::step::{Freeing, Giving, HeapStep, MapStep, NamesStep, ShardStep, Step};
 use page_map::PageMap;
-use rseq_core::Seq;
-use size_classes::ClassTable;
 use std::alloc::AllocError;
 use tc_units::{Addr, Label, Run, SpanKind, SpanRef, addr_of, page_of};
 
@@ -27,11 +26,15 @@ pub(crate) fn span_of(run: Run, kind: SpanKind) -> SpanRef
 }
 
 /// The act at the page map that the thread does next. Where memory is wanting, all is as before.
-pub fn act_map(table: &ClassTable, map: &mut PageMap, local: &mut Local) -> Result<(), AllocError>
+pub fn act_map<F: FrontEnd>(
+    setting: &Setting,
+    map: &mut PageMap,
+    local: &mut Local<F>,
+) -> Result<(), AllocError>
     requires fits { FitsMapStep map.old local.old local.old.step }
     requires acts { local.old.acts < 2 ^ 64 - 1 }
-    ensures map { OnOk result (map.new ≡ (map_after (cpu_calls table.now) map.old local.old local.old.step).0) }
-    ensures local { OnOk result (local.new ≡ (map_after (cpu_calls table.now) map.old local.old local.old.step).1) }
+    ensures map { OnOk result (map.new ≡ (map_after (F.rules setting.now).calls map.old local.old local.old.step).0) }
+    ensures local { OnOk result (local.new ≡ (map_after (F.rules setting.now).calls map.old local.old local.old.step).1) }
     ensures err { OnErr result ((map.new ≡ map.old) × (local.new ≡ local.old)) }
 {
     match local.step() {
@@ -45,7 +48,7 @@ pub fn act_map(table: &ClassTable, map: &mut PageMap, local: &mut Local) -> Resu
             local.go(Step::Shard(ShardStep::AddFetch { asking, run }));
         }
         Step::Map(MapStep::Lookup { label, addr }) => match map.get(page_of(addr)) {
-            Some(span) => find(table, local, label, addr, span),
+            Some(span) => find(setting, local, label, addr, span),
             None => unreachable!(),
         },
         Step::Map(MapStep::Clear { label, run }) => {
@@ -66,17 +69,28 @@ pub fn act_map(table: &ClassTable, map: &mut PageMap, local: &mut Local) -> Resu
 
 /// A free found the span that holds its address: an object comes to the hand, to be pushed, and the span
 /// of a large block is to be cleared.
-fn find(table: &ClassTable, local: &mut Local, label: Label, addr: Addr, span: SpanRef)
+fn find<F: FrontEnd>(
+    setting: &Setting,
+    local: &mut Local<F>,
+    label: Label,
+    addr: Addr,
+    span: SpanRef,
+)
     requires acts { local.old.acts < 2 ^ 64 - 1 }
     requires step { local.old.step ≡ does.Map (Lookup label addr) }
     requires room { 0 < local.old.regs.hand.spare }
-    ensures { local.new ≡ found (cpu_calls table.now) local.old label addr span span.kind }
+    ensures { local.new ≡ found (F.rules setting.now).calls local.old label addr span span.kind }
 {
     match span.kind {
         SpanKind::Small(class) => {
-            local.regs.start(class, Seq::Push);
+            local.regs.class = class;
             local.regs.hand.push(addr);
-            local.go(Step::Front(CpuRow::Cpu(CpuStep::Push(Freeing { label, addr }))));
+            let freeing = Freeing { label, addr };
+            let next = match F::free(setting, &local.seat, &mut local.regs, freeing) {
+                Some(row) => Step::Front(row),
+                None => Step::Shard(ShardStep::Give(Giving::Freed(freeing))),
+            };
+            local.go(next);
         }
         SpanKind::Large => {
             let run = run_of(span);

@@ -1,34 +1,38 @@
 //! The acts at the names.
 ghost use Rattle.std.specs.Prelude.{◌≡◌, ◌<◌, ◌-◌, ◌^◌};
 ghost use Rattle.tc_model.specs.Steps.{acted};
-ghost use Rattle.call_steps.specs.CpuCalls.{cpu_calls};
 ghost use Rattle.call_steps.specs.Acts.{names_after, waits_for};
 ghost use Rattle.call_steps.specs.Fits.{FitsNamesStep};
 
+use crate::front::FrontEnd;
 use crate::local::Local;
+use crate::setting::Setting;
 use crate::step::{MapStep, NamesStep, Step};
 use name_table::{NameTable, Taken};
-use size_classes::ClassTable;
 use tc_model::{Acted, Answer};
 
 /// The act at the names that the thread does next. `NotYet` exactly where it takes a label that isn't
 /// published, and then nothing changes.
-pub fn act_names(table: &ClassTable, names: &mut NameTable, local: &mut Local) -> Acted
+pub fn act_names<F: FrontEnd>(
+    setting: &Setting,
+    names: &mut NameTable,
+    local: &mut Local<F>,
+) -> Acted
     requires fits { FitsNamesStep names.old local.old.step }
     requires acts { local.old.acts < 2 ^ 64 - 1 }
-    ensures names { names.new ≡ (names_after (cpu_calls table.now) names.old local.old local.old.step).0 }
-    ensures local { local.new ≡ (names_after (cpu_calls table.now) names.old local.old local.old.step).1 }
+    ensures names { names.new ≡ (names_after (F.rules setting.now).calls names.old local.old local.old.step).0 }
+    ensures local { local.new ≡ (names_after (F.rules setting.now).calls names.old local.old local.old.step).1 }
     ensures answer { result ≡ acted (waits_for names.old local.old.step) }
 {
     match local.step() {
         Step::Names(NamesStep::Publish { label, value }) => {
             names.publish(label, value);
-            local.end(table);
+            local.end(setting);
             Acted::Moved
         }
         Step::Names(NamesStep::Take { label }) => match names.take(label) {
             Taken::Set(None) => {
-                local.end_deciding(table, Answer::FreedNull);
+                local.end_deciding(setting, Answer::FreedNull);
                 Acted::Moved
             }
             Taken::Set(Some(addr)) => {
@@ -42,7 +46,7 @@ pub fn act_names(table: &ClassTable, names: &mut NameTable, local: &mut Local) -
 }
 
 /// Whether the thread's next act takes a label that isn't published.
-pub fn waits(names: &NameTable, local: &Local) -> bool
+pub fn waits<F: FrontEnd>(names: &NameTable, local: &Local<F>) -> bool
     requires { FitsNamesStep names.now local.now.step }
     ensures { result ≡ waits_for names.now local.now.step }
 {

@@ -19,16 +19,16 @@ use Rattle.cpu_drain.specs.Seats.{CpuOk, SeatOk, SeatKeeps}
 use Rattle.cpu_drain.specs.Laws.{IsHome, AreOfSame}
 use Rattle.cpu_drain.proofs.Lawful as lawful
 use Rattle.holdings.specs.Runs.{objects_at}
-use Rattle.call_steps.specs.declared.seat.CpuSeat.{CpuSeat}
-use Rattle.call_steps.specs.declared.step.CpuRow.{CpuRow}
-use Rattle.call_steps.specs.declared.step.CpuRow.TheVariants as front
-use Rattle.call_steps.specs.declared.step.CpuStep.{CpuStep}
-use Rattle.call_steps.specs.PerCpu.{Next}
+use Rattle.cpu_rows.specs.declared.seat.CpuSeat.{CpuSeat}
+use Rattle.cpu_rows.specs.declared.row.CpuRow.{CpuRow}
+use Rattle.cpu_rows.specs.declared.row.CpuRow.TheVariants as front
+use Rattle.cpu_rows.specs.declared.row.CpuStep.{CpuStep}
+use Rattle.cpu_rows.specs.PerCpu.{Next}
 use Rattle.call_steps.specs.Calls.{HasNoLabel, About, Asks, Publishes, Frees, Other, about_giving}
-use Rattle.call_steps.specs.CpuActs as acts
-use Rattle.call_steps.specs.CpuActs.{cpu_acts, leaving, moves_to, leaves, looks_on, gives, at_cpu_next}
-use Rattle.call_steps.specs.CpuRows.{about_cpu, about_row, at_cpu, as_row}
-use Rattle.call_steps.specs.Fits.{FitsCpu}
+use Rattle.cpu_rows.specs.CpuActs as acts
+use Rattle.cpu_rows.specs.CpuActs.{cpu_acts, leaving, moves_to, leaves, looks_on, gives, at_cpu_next}
+use Rattle.cpu_rows.specs.CpuRows.{about_cpu, about_row, at_cpu, as_row}
+use Rattle.cpu_rows.specs.CpuFits.{FitsCpu}
 use Rattle.call_steps.specs.Local.{thread_no}
 use Rattle.call_steps.specs.Shapes.{AreRows, most_slots}
 use Rattle.cpu_rows.specs.Shapes.{IsMove, IsAtBegin, HasNone, IsGiving, CpuShape, cpu_standing, giving_standing}
@@ -40,7 +40,7 @@ use Rattle.call_steps.specs.declared.step.Asking.{Asking}
 use Rattle.call_steps.specs.declared.step.Giving.{Giving}
 use Rattle.call_steps.specs.declared.step.Giving.TheVariants as giving
 use Rattle.call_steps.specs.declared.step.Next.TheVariants as next
-use Rattle.call_steps.specs.declared.step.DomainStep.TheVariants as domain
+use Rattle.cpu_rows.specs.declared.row.DomainStep.TheVariants as domain
 use Rattle.alloc_rules.specs.Shapes.{IsAsked, HandAbout}
 
 -- a number of domains that isn't 0

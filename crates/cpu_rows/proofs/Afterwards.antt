@@ -7,12 +7,12 @@ use Rattle.tc_model.specs.Input.{Input}
 use Rattle.tc_model.specs.Sound.{IsOrder}
 use Rattle.rseq_core.specs.declared.cpu_part.CpuPart.{CpuPart}
 use Rattle.cpu_drain.specs.Seats.{SeatOk, IsStopping}
-use Rattle.call_steps.specs.declared.step.Resizing.{Resizing}
-use Rattle.call_steps.specs.declared.step.Stopping.{Stopping}
+use Rattle.cpu_rows.specs.declared.row.Resizing.{Resizing}
+use Rattle.cpu_rows.specs.declared.row.Stopping.{Stopping}
 use Rattle.call_steps.specs.declared.step.Step.TheVariants as does
-use Rattle.call_steps.specs.declared.step.CpuRow.TheVariants as front
-use Rattle.call_steps.specs.declared.step.CpuStep.TheVariants as cpu
-use Rattle.call_steps.specs.PerCpu.{CpuLocal as Local, Step}
+use Rattle.cpu_rows.specs.declared.row.CpuRow.TheVariants as front
+use Rattle.cpu_rows.specs.declared.row.CpuStep.TheVariants as cpu
+use Rattle.cpu_rows.specs.PerCpu.{CpuLocal as Local, Step}
 use Rattle.call_steps.specs.Local.{thread_no}
 use Rattle.alloc_rules.specs.Standings.{at_step, standing_of}
 use Rattle.alloc_rules.specs.Law as allocator
@@ -22,7 +22,7 @@ use Rattle.cpu_rows.specs.CpuHolds.{CpuHolds, IsSeated, RegsAt, limits_of, cpu_p
 use Rattle.cpu_rows.specs.Machine.{front_of, rules}
 use Rattle.cpu_rows.specs.Valid.{IsValid}
 use Rattle.cpu_rows.specs.Law.{HoldsAfter, InEveryOrder}
-use Rattle.call_steps.specs.CpuRows.{about_row}
+use Rattle.cpu_rows.specs.CpuRows.{about_row}
 use Rattle.cpu_rows.proofs.Answering.{answers_busy, answers_cap}
 use Rattle.cpu_rows.proofs.Switching.{switches_are_few}
 use Rattle.cpu_rows.proofs.Valid.{valid_all, lawful}

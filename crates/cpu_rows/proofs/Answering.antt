@@ -12,21 +12,21 @@ use Rattle.tc_model.specs.declared.answers.Answer.TheVariants.{Busy, CapSet, Ove
 use Rattle.cpu_slab.specs.Slots.{CpuSlab}
 use Rattle.cpu_slab.specs.Caps.{cap_fault}
 use Rattle.rseq_core.specs.declared.cpu_part.CpuPart.{CpuPart}
-use Rattle.call_steps.specs.PerCpu.{CpuLocal as Local, Step}
+use Rattle.cpu_rows.specs.PerCpu.{CpuLocal as Local, Step}
 use Rattle.call_steps.specs.declared.step.Step.TheVariants as does
-use Rattle.call_steps.specs.declared.step.CpuRow.TheVariants as front
-use Rattle.call_steps.specs.declared.step.CpuStep.TheVariants as cpu
-use Rattle.call_steps.specs.declared.step.Stopping.{Stopping}
-use Rattle.call_steps.specs.declared.step.Resizing.{Resizing}
+use Rattle.cpu_rows.specs.declared.row.CpuRow.TheVariants as front
+use Rattle.cpu_rows.specs.declared.row.CpuStep.TheVariants as cpu
+use Rattle.cpu_rows.specs.declared.row.Stopping.{Stopping}
+use Rattle.cpu_rows.specs.declared.row.Resizing.{Resizing}
 use Rattle.call_steps.specs.Local.{ends, decided}
-use Rattle.call_steps.specs.CpuActs.{cap_answer, stops}
+use Rattle.cpu_rows.specs.CpuActs.{cap_answer, stops}
 use Rattle.call_steps.specs.Follows.{follows}
-use Rattle.call_steps.specs.CpuCalls.{cpu_calls}
-use Rattle.call_steps.specs.CpuRows.{call_of}
+use Rattle.cpu_rows.specs.CpuCalls.{cpu_calls}
+use Rattle.cpu_rows.specs.CpuRows.{call_of}
 use Rattle.tc_model.specs.Input.{Input}
-use Rattle.call_steps.specs.CpuRows.{about_row}
+use Rattle.cpu_rows.specs.CpuRows.{about_row}
 use Rattle.alloc_rules.specs.Answers.{Decides}
-use Rattle.alloc_rules.specs.Machine.{front_after}
+use Rattle.call_steps.specs.Acts.{front_after}
 use Rattle.alloc_rules.proofs.Answering.{decides_by, decides_none, ends_goes}
 use Rattle.cpu_rows.specs.CpuFront as caches
 use Rattle.cpu_rows.specs.CpuFront.{CpuFrontPart}

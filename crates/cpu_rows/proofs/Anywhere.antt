@@ -20,11 +20,11 @@ use Rattle.rseq_core.specs.declared.sequence.Reply.TheVariants.{Empty, Full}
 use Rattle.rseq_core.specs.Tables.{Cell, is_pop, wanted, closes, counted, cell}
 use Rattle.rseq_core.specs.Acts as rseq
 use Rattle.cpu_drain.specs.Drains as drains
-use Rattle.call_steps.specs.declared.seat.CpuSeat.{CpuSeat}
-use Rattle.call_steps.specs.declared.step.CpuStep.{CpuStep}
-use Rattle.call_steps.specs.declared.step.CpuStep.TheVariants as cpu
-use Rattle.call_steps.specs.declared.step.Stopping.{Stopping}
-use Rattle.call_steps.specs.CpuActs.{due, sequence_by, stops, left_for, cpu_acts, looks_on, gives, after_pop, after_stock, after_push, replied, instructed_to, grew_to, drains_on, drained, took, cap_answer, gives_taken, started, takes, fits_into, put_in, domain_acts}
+use Rattle.cpu_rows.specs.declared.seat.CpuSeat.{CpuSeat}
+use Rattle.cpu_rows.specs.declared.row.CpuStep.{CpuStep}
+use Rattle.cpu_rows.specs.declared.row.CpuStep.TheVariants as cpu
+use Rattle.cpu_rows.specs.declared.row.Stopping.{Stopping}
+use Rattle.cpu_rows.specs.CpuActs.{due, sequence_by, stops, left_for, cpu_acts, looks_on, gives, after_pop, after_stock, after_push, replied, instructed_to, grew_to, drains_on, drained, took, cap_answer, gives_taken, started, takes, fits_into, put_in, domain_acts}
 use Rattle.cpu_rows.specs.Slabs.{slab_class, IsSlabOf}
 use Rattle.tc_units.specs.declared.units.Addr.{Addr}
 use Rattle.tc_units.specs.declared.units.Class.{Class}
@@ -38,18 +38,18 @@ use Rattle.rseq_core.specs.declared.answers.Grew.TheVariants as grew
 use Rattle.rseq_core.specs.Bags.{emptied}
 use Rattle.transfer_cache.specs.Transfer.{Transfer, last_first}
 use Rattle.call_steps.specs.declared.step.Asking.{Asking}
-use Rattle.call_steps.specs.declared.step.Stopping.TheVariants as stopping
+use Rattle.cpu_rows.specs.declared.row.Stopping.TheVariants as stopping
 use Rattle.call_steps.specs.declared.step.Giving.{Giving}
 use Rattle.call_steps.specs.declared.step.Giving.TheVariants as giving
 use Rattle.call_steps.specs.declared.step.Next.TheVariants as next
-use Rattle.call_steps.specs.declared.step.CpuRow.{CpuRow}
-use Rattle.call_steps.specs.declared.step.CpuRow.TheVariants as front
-use Rattle.call_steps.specs.declared.step.DomainStep.{DomainStep}
-use Rattle.call_steps.specs.declared.step.DomainStep.TheVariants as domain
-use Rattle.call_steps.specs.PerCpu.{Next}
+use Rattle.cpu_rows.specs.declared.row.CpuRow.{CpuRow}
+use Rattle.cpu_rows.specs.declared.row.CpuRow.TheVariants as front
+use Rattle.cpu_rows.specs.declared.row.DomainStep.{DomainStep}
+use Rattle.cpu_rows.specs.declared.row.DomainStep.TheVariants as domain
+use Rattle.cpu_rows.specs.PerCpu.{Next}
 use Rattle.call_steps.specs.Local.{row_of}
-use Rattle.call_steps.specs.CpuCalls.{cpu_refuses}
-use Rattle.call_steps.specs.CpuRows.{as_row}
+use Rattle.cpu_rows.specs.CpuCalls.{cpu_refuses}
+use Rattle.cpu_rows.specs.CpuRows.{as_row}
 use Rattle.call_steps.specs.Refusals.{is_refusal}
 use Rattle.alloc_rules.specs.FrontLaw.{RefusesAs}
 use Rattle.cpu_rows.specs.CpuFront.{CpuFrontPart, Cpu, Domain, front_acts}

@@ -8,15 +8,15 @@ use Rattle.tc_model.proofs.Lists.{set_there}
 use Rattle.rseq_core.specs.declared.cpu_part.CpuPart.{CpuPart}
 use Rattle.rseq_core.specs.declared.regs.Regs.{Regs}
 use Rattle.transfer_cache.specs.Transfer.{Transfer}
-use Rattle.call_steps.specs.declared.seat.CpuSeat.{CpuSeat}
-use Rattle.call_steps.specs.declared.step.CpuRow.{CpuRow}
-use Rattle.call_steps.specs.declared.step.CpuRow.TheVariants as front
-use Rattle.call_steps.specs.declared.step.CpuStep.{CpuStep}
-use Rattle.call_steps.specs.declared.step.CpuStep.TheVariants as cpu
-use Rattle.call_steps.specs.declared.step.DomainStep.{DomainStep}
-use Rattle.call_steps.specs.CpuActs.{cpu_acts, domain_acts}
-use Rattle.call_steps.specs.CpuRows.{at_cpu, domain_of, about_row}
-use Rattle.call_steps.specs.Fits.{FitsDomain}
+use Rattle.cpu_rows.specs.declared.seat.CpuSeat.{CpuSeat}
+use Rattle.cpu_rows.specs.declared.row.CpuRow.{CpuRow}
+use Rattle.cpu_rows.specs.declared.row.CpuRow.TheVariants as front
+use Rattle.cpu_rows.specs.declared.row.CpuStep.{CpuStep}
+use Rattle.cpu_rows.specs.declared.row.CpuStep.TheVariants as cpu
+use Rattle.cpu_rows.specs.declared.row.DomainStep.{DomainStep}
+use Rattle.cpu_rows.specs.CpuActs.{cpu_acts, domain_acts}
+use Rattle.cpu_rows.specs.CpuRows.{at_cpu, domain_of, about_row}
+use Rattle.cpu_rows.specs.CpuFits.{FitsDomain}
 use Rattle.call_steps.specs.Shapes.{AreRows}
 use Rattle.cpu_rows.specs.Shapes.{DomainShape}
 use Rattle.alloc_rules.specs.Standings.{Here, Standing, stand, regs_next, at_next}

@@ -11,21 +11,21 @@ use Rattle.rseq_core.specs.declared.regs.TheConstants.{HAND_ROOM, LOADED_ROOM}
 use Rattle.rseq_core.specs.Bags.{appended, emptied, room}
 use Rattle.transfer_cache.specs.Transfer.{Transfer, last_first, without_last}
 use Rattle.holdings.specs.Runs.{objects_at}
-use Rattle.call_steps.specs.declared.seat.CpuSeat.{CpuSeat}
+use Rattle.cpu_rows.specs.declared.seat.CpuSeat.{CpuSeat}
 use Rattle.call_steps.specs.declared.step.Asking.{Asking}
 use Rattle.call_steps.specs.declared.step.Giving.{Giving}
 use Rattle.call_steps.specs.declared.step.Giving.TheVariants as giving
 use Rattle.call_steps.specs.declared.step.Next.TheVariants as next
-use Rattle.call_steps.specs.declared.step.CpuRow.TheVariants as front
-use Rattle.call_steps.specs.declared.step.CpuStep.{CpuStep}
-use Rattle.call_steps.specs.declared.step.DomainStep.{DomainStep}
-use Rattle.call_steps.specs.declared.step.DomainStep.TheVariants as domain
-use Rattle.call_steps.specs.PerCpu.{Next}
+use Rattle.cpu_rows.specs.declared.row.CpuRow.TheVariants as front
+use Rattle.cpu_rows.specs.declared.row.CpuStep.{CpuStep}
+use Rattle.cpu_rows.specs.declared.row.DomainStep.{DomainStep}
+use Rattle.cpu_rows.specs.declared.row.DomainStep.TheVariants as domain
+use Rattle.cpu_rows.specs.PerCpu.{Next}
 use Rattle.call_steps.specs.Local.{no_class, row_of}
-use Rattle.call_steps.specs.CpuActs as acts
-use Rattle.call_steps.specs.CpuActs.{leaving, takes, puts, fits_into, put_in, domain_acts}
-use Rattle.call_steps.specs.CpuRows.{about_row, as_row}
-use Rattle.call_steps.specs.Fits.{FitsDomain}
+use Rattle.cpu_rows.specs.CpuActs as acts
+use Rattle.cpu_rows.specs.CpuActs.{leaving, takes, puts, fits_into, put_in, domain_acts}
+use Rattle.cpu_rows.specs.CpuRows.{about_row, as_row}
+use Rattle.cpu_rows.specs.CpuFits.{FitsDomain}
 use Rattle.call_steps.specs.Shapes.{AreRows}
 use Rattle.cpu_rows.specs.Shapes.{DomainShape, giving_standing}
 use Rattle.alloc_rules.specs.Heads.{HasRoom}

@@ -20,23 +20,23 @@ use Rattle.rseq_core.specs.Acts.{runs, stands, open_after, instruction, with_cel
 use Rattle.cpu_drain.specs.Drains as drains
 use Rattle.cpu_drain.proofs.Steps.{runs_is}
 use Rattle.call_steps.specs.declared.step.Asking.{Asking}
-use Rattle.call_steps.specs.declared.step.Stopping.{Stopping}
-use Rattle.call_steps.specs.declared.step.CpuStep.{CpuStep}
-use Rattle.call_steps.specs.declared.step.CpuStep.TheVariants.{Pop, Grow, Stock, Push, PopBatch, Stop, Fence, Take, SetCap, Start, Leave}
-use Rattle.call_steps.specs.PerCpu.{CpuLocal as Local, Step}
+use Rattle.cpu_rows.specs.declared.row.Stopping.{Stopping}
+use Rattle.cpu_rows.specs.declared.row.CpuStep.{CpuStep}
+use Rattle.cpu_rows.specs.declared.row.CpuStep.TheVariants.{Pop, Grow, Stock, Push, PopBatch, Stop, Fence, Take, SetCap, Start, Leave}
+use Rattle.cpu_rows.specs.PerCpu.{CpuLocal as Local, Step}
 use Rattle.call_steps.specs.declared.step.Step.TheVariants as does
-use Rattle.call_steps.specs.declared.step.CpuRow.TheVariants as front
+use Rattle.cpu_rows.specs.declared.row.CpuRow.TheVariants as front
 use Rattle.call_steps.specs.Local.{goes, no_class, class_row}
-use Rattle.call_steps.specs.CpuActs.{due, instructed_to, instructs, sequence_by, grows, stops, runs_open, yields_to_enter, yields_for}
+use Rattle.cpu_rows.specs.CpuActs.{due, instructed_to, instructs, sequence_by, grows, stops, runs_open, yields_to_enter}
 use Rattle.call_steps.specs.Calls.{call_about}
 use Rattle.call_steps.specs.Hands.{with_regs}
 use Rattle.call_steps.specs.Follows.{follows}
-use Rattle.call_steps.specs.CpuCalls.{cpu_calls, with_next, cpu_row}
+use Rattle.cpu_rows.specs.CpuCalls.{cpu_calls, with_next, cpu_row, yields_for}
 use Rattle.call_steps.specs.Shapes.{AreRows}
 use Rattle.cpu_rows.specs.Shapes.{Limits}
 use Rattle.alloc_rules.specs.Standings.{at_step}
 use Rattle.cpu_rows.specs.CpuHolds.{RegsAt}
-use Rattle.call_steps.specs.CpuRows.{about_cpu, call_of}
+use Rattle.cpu_rows.specs.CpuRows.{about_cpu, call_of}
 use Rattle.cpu_rows.specs.Switches.{Kind, enters, closes, neither, instructed_kind, sequence_kind, growth_kind, step_kind}
 
 -- how many instructions of a sequence were executed before its next one, where it copies so many objects
@@ -142,7 +142,7 @@ polite_closed true marked polite other = absurd (cc)
 polite_closed false true polite other = absurd (cc)
 polite_closed false false polite other = refl
 
-module _ (rows : List ClassRow) (p : CpuPart) (l : Local) (has : HasToEnter l.step) (polite : yields_to_enter p l ≡ true) where
+module _ (rows : List ClassRow) (p : CpuPart) (l : Local) (has : HasToEnter l.step) (polite : yields_to_enter p l.regs.thread ≡ true) where
   enters_as : (row : CpuStep) (regs : Regs) (next : Local) → l.step ≡ does.Front (front.Cpu row) → regs.pc ≡ Begin → next ≡ goes (with_regs l regs) (does.Front (front.Cpu row)) → runs p.running l.regs.thread ≡ false → Enters p l (entered p l.regs.thread, next)
   enters_as row regs next own begin is other =
       record {
@@ -183,7 +183,7 @@ module _ (rows : List ClassRow) (p : CpuPart) (l : Local) (has : HasToEnter l.st
   grows_as asking true true own is = tt
 
 -- with a move that is due the thread leaves
-sequence_as : (rows : List ClassRow) (p : CpuPart) (l : Local) (row : CpuStep) → l.step ≡ does.Front (front.Cpu row) → HasToEnter l.step → wanted l.regs.seq l.regs.hand.items ≤ LOADED_ROOM → (o : Option MoveTo) → (is_some o || yields_to_enter p l) ≡ true → DoesAs (sequence_kind p l o) p l (with_next rows l (about_cpu row) (sequence_by rows p l.seat l.regs row o))
+sequence_as : (rows : List ClassRow) (p : CpuPart) (l : Local) (row : CpuStep) → l.step ≡ does.Front (front.Cpu row) → HasToEnter l.step → wanted l.regs.seq l.regs.hand.items ≤ LOADED_ROOM → (o : Option MoveTo) → (is_some o || yields_to_enter p l.regs.thread) ≡ true → DoesAs (sequence_kind p l o) p l (with_next rows l (about_cpu row) (sequence_by rows p l.seat l.regs row o))
 sequence_as rows p l row own has few None polite = instructs_as rows p l has polite row own few (runs p.running l.regs.thread) (eqb l.regs.epoch p.epoch) refl
 sequence_as rows p l row own has few (Some move) polite = tt
 

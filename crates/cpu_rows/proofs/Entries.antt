@@ -15,23 +15,24 @@ use Rattle.rseq_core.specs.declared.sequence.Seq.TheVariants as seq
 use Rattle.rseq_core.specs.declared.sequence.Pc.TheVariants.{Begin}
 use Rattle.rseq_core.specs.declared.regs.Regs.{Regs}
 use Rattle.rseq_core.specs.declared.regs.TheConstants.{LOADED_ROOM}
-use Rattle.call_steps.specs.declared.seat.CpuSeat.{CpuSeat}
+use Rattle.cpu_rows.specs.declared.seat.CpuSeat.{CpuSeat}
 use Rattle.call_steps.specs.declared.step.Asking.{Asking}
 use Rattle.call_steps.specs.declared.step.Serving.{Serving}
 use Rattle.call_steps.specs.declared.step.Freeing.{Freeing}
-use Rattle.call_steps.specs.declared.step.Stopping.TheVariants as stopping
-use Rattle.call_steps.specs.declared.step.CpuRow.{CpuRow}
-use Rattle.call_steps.specs.declared.step.CpuRow.TheVariants as front
-use Rattle.call_steps.specs.declared.step.CpuStep.{CpuStep}
-use Rattle.call_steps.specs.declared.step.CpuStep.TheVariants as cpu
+use Rattle.cpu_rows.specs.declared.row.Stopping.TheVariants as stopping
+use Rattle.cpu_rows.specs.declared.row.CpuRow.{CpuRow}
+use Rattle.cpu_rows.specs.declared.row.CpuRow.TheVariants as front
+use Rattle.cpu_rows.specs.declared.row.CpuStep.{CpuStep}
+use Rattle.cpu_rows.specs.declared.row.CpuStep.TheVariants as cpu
 use Rattle.call_steps.specs.Calls.{Other}
-use Rattle.call_steps.specs.CpuCalls.{cpu_calls, to_sequence, move_of, with_move, stop_row, to_stop, leave_row}
-use Rattle.call_steps.specs.CpuRows.{about_row}
+use Rattle.cpu_rows.specs.CpuCalls.{cpu_calls, to_sequence, move_of, with_move, stop_row, to_stop, leave_row}
+use Rattle.cpu_rows.specs.CpuRows.{about_row}
 use Rattle.call_steps.specs.Shapes.{AreRows}
 use Rattle.cpu_rows.specs.Shapes.{IsMove, IsCallThere, IsAtBegin, CpuShape}
 use Rattle.alloc_rules.specs.Standings.{At, Here, Later, Away, Standing, stand, at_row}
 use Rattle.alloc_rules.specs.Shapes.{IsAsked}
-use Rattle.alloc_rules.specs.FrontLaw.{with_hand, IsEntry, AreEntries, IsOwn}
+use Rattle.alloc_rules.specs.FrontLaw.{with_hand, IsOwn}
+use Rattle.call_steps.specs.Fronts.{AreEntries, IsEntry}
 use Rattle.cpu_rows.specs.CpuFront.{CpuFrontPart, seated}
 use Rattle.cpu_rows.specs.CpuHolds.{limits_of, cpu_planned, seat_at, CpuHolds}
 use Rattle.cpu_rows.proofs.Threads.{changes, KeepsRegs, comes}

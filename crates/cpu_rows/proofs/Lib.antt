@@ -1,3 +1,4 @@
+pub mod Nexts
 mod Acts
 pub mod ValidProp
 mod Answering
@@ -13,6 +14,6 @@ mod Lists
 mod Moves
 mod Parts
 mod Sequences
-mod Start
+pub mod Start
 mod Stops
 mod Threads

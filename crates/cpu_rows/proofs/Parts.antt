@@ -12,15 +12,15 @@ use Rattle.rseq_core.specs.declared.cpu_part.CpuPart.{CpuPart}
 use Rattle.rseq_core.specs.declared.regs.Regs.{Regs}
 use Rattle.cpu_drain.specs.Seats.{CpuOk, SeatOk, SeatKeeps}
 use Rattle.transfer_cache.specs.Transfer.{Transfer}
-use Rattle.call_steps.specs.declared.seat.CpuSeat.{CpuSeat}
-use Rattle.call_steps.specs.declared.step.Stopping.{Stopping}
-use Rattle.call_steps.specs.declared.step.Stopping.TheVariants as stopping
-use Rattle.call_steps.specs.declared.step.CpuRow.{CpuRow}
-use Rattle.call_steps.specs.declared.step.CpuStep.{CpuStep}
-use Rattle.call_steps.specs.declared.step.CpuStep.TheVariants as cpu
-use Rattle.call_steps.specs.declared.step.DomainStep.{DomainStep}
-use Rattle.call_steps.specs.declared.step.DomainStep.TheVariants as domain
-use Rattle.call_steps.specs.CpuRows.{at_cpu, cpu_of, domain_of}
+use Rattle.cpu_rows.specs.declared.seat.CpuSeat.{CpuSeat}
+use Rattle.cpu_rows.specs.declared.row.Stopping.{Stopping}
+use Rattle.cpu_rows.specs.declared.row.Stopping.TheVariants as stopping
+use Rattle.cpu_rows.specs.declared.row.CpuRow.{CpuRow}
+use Rattle.cpu_rows.specs.declared.row.CpuStep.{CpuStep}
+use Rattle.cpu_rows.specs.declared.row.CpuStep.TheVariants as cpu
+use Rattle.cpu_rows.specs.declared.row.DomainStep.{DomainStep}
+use Rattle.cpu_rows.specs.declared.row.DomainStep.TheVariants as domain
+use Rattle.cpu_rows.specs.CpuRows.{at_cpu, cpu_of, domain_of}
 use Rattle.call_steps.specs.Local.{thread_no}
 use Rattle.cpu_rows.specs.Shapes.{Limits, IsStop, CpuShape, DomainShape}
 use Rattle.alloc_rules.specs.Heads.{HasRoom}

@@ -28,19 +28,19 @@ use Rattle.cpu_drain.specs.Laws.{MovesUp, AnswerMoves, ReplyMoves, HasRoom, AreO
 use Rattle.cpu_drain.proofs.Lawful as lawful
 use Rattle.cpu_drain.proofs.Does.{instruct_does, grow_does}
 use Rattle.holdings.specs.Runs.{objects_at}
-use Rattle.call_steps.specs.declared.seat.CpuSeat.{CpuSeat}
+use Rattle.cpu_rows.specs.declared.seat.CpuSeat.{CpuSeat}
 use Rattle.call_steps.specs.declared.step.Asking.{Asking}
 use Rattle.call_steps.specs.declared.step.Serving.{Serving}
 use Rattle.call_steps.specs.declared.step.Freeing.{Freeing}
 use Rattle.call_steps.specs.declared.step.Giving.TheVariants as giving
-use Rattle.call_steps.specs.declared.step.CpuRow.TheVariants as front
-use Rattle.call_steps.specs.declared.step.CpuStep.{CpuStep}
-use Rattle.call_steps.specs.declared.step.CpuStep.TheVariants as cpu
-use Rattle.call_steps.specs.PerCpu.{Next}
+use Rattle.cpu_rows.specs.declared.row.CpuRow.TheVariants as front
+use Rattle.cpu_rows.specs.declared.row.CpuStep.{CpuStep}
+use Rattle.cpu_rows.specs.declared.row.CpuStep.TheVariants as cpu
+use Rattle.cpu_rows.specs.PerCpu.{Next}
 use Rattle.call_steps.specs.Local.{no_class, row_of, thread_no}
-use Rattle.call_steps.specs.CpuActs.{leaving, moves_to, gives, at_cpu_next, is_due, due, after_stock, replied, instructed_to, sequence_by, sequence, grew_to}
-use Rattle.call_steps.specs.CpuRows.{about_cpu, at_cpu}
-use Rattle.call_steps.specs.Fits.{FitsSequence}
+use Rattle.cpu_rows.specs.CpuActs.{leaving, moves_to, gives, at_cpu_next, is_due, due, after_stock, replied, instructed_to, sequence_by, sequence, grew_to}
+use Rattle.cpu_rows.specs.CpuRows.{about_cpu, at_cpu}
+use Rattle.cpu_rows.specs.CpuFits.{FitsSequence}
 use Rattle.call_steps.specs.Shapes.{most_slots, BeginsWith}
 use Rattle.cpu_rows.specs.Shapes.{IsAtBegin, HasNone, CpuShape, cpu_standing}
 use Rattle.alloc_rules.specs.Shapes.{IsAsked}

@@ -18,8 +18,8 @@ use Rattle.cpu_drain.specs.Seats.{CpuOk, SeatOk}
 use Rattle.transfer_cache.specs.Transfer.{Transfer}
 use Rattle.holdings.specs.Runs.{objects_at}
 use Rattle.holdings.proofs.Sums.{of_all}
-use Rattle.call_steps.specs.declared.seat.CpuSeat.{CpuSeat}
-use Rattle.call_steps.specs.declared.step.CpuRow.{CpuRow}
+use Rattle.cpu_rows.specs.declared.seat.CpuSeat.{CpuSeat}
+use Rattle.cpu_rows.specs.declared.row.CpuRow.{CpuRow}
 use Rattle.call_steps.specs.Local.{thread_no}
 use Rattle.call_steps.specs.Shapes.{AreRows}
 use Rattle.alloc_rules.specs.Heads.{HasRoom}

@@ -27,20 +27,20 @@ use Rattle.cpu_drain.proofs.Lawful as lawful
 use Rattle.cpu_drain.proofs.Does.{take_does}
 use Rattle.holdings.specs.Runs.{objects_at}
 use Rattle.holdings.specs.Moves.{IsOther}
-use Rattle.call_steps.specs.declared.step.Draining.{Draining}
-use Rattle.call_steps.specs.declared.step.Resizing.{Resizing}
-use Rattle.call_steps.specs.declared.step.Stopping.{Stopping}
-use Rattle.call_steps.specs.declared.step.Stopping.TheVariants as stopping
+use Rattle.cpu_rows.specs.declared.row.Draining.{Draining}
+use Rattle.cpu_rows.specs.declared.row.Resizing.{Resizing}
+use Rattle.cpu_rows.specs.declared.row.Stopping.{Stopping}
+use Rattle.cpu_rows.specs.declared.row.Stopping.TheVariants as stopping
 use Rattle.call_steps.specs.declared.step.Giving.TheVariants as giving
 use Rattle.call_steps.specs.declared.step.Next.TheVariants as next
-use Rattle.call_steps.specs.declared.step.CpuRow.TheVariants as front
-use Rattle.call_steps.specs.declared.step.CpuStep.{CpuStep}
-use Rattle.call_steps.specs.declared.step.CpuStep.TheVariants as cpu
-use Rattle.call_steps.specs.PerCpu.{Next}
+use Rattle.cpu_rows.specs.declared.row.CpuRow.TheVariants as front
+use Rattle.cpu_rows.specs.declared.row.CpuStep.{CpuStep}
+use Rattle.cpu_rows.specs.declared.row.CpuStep.TheVariants as cpu
+use Rattle.cpu_rows.specs.PerCpu.{Next}
 use Rattle.call_steps.specs.Calls.{Other}
-use Rattle.call_steps.specs.CpuActs.{leaving, gives, at_cpu_next, stops, drains_on, drained, took, cap_answer, gives_taken, started, left_for}
-use Rattle.call_steps.specs.CpuRows.{about_cpu, at_cpu, call_of, cpu_of}
-use Rattle.call_steps.specs.Fits.{taken_by}
+use Rattle.cpu_rows.specs.CpuActs.{leaving, gives, at_cpu_next, stops, drains_on, drained, took, cap_answer, gives_taken, started, left_for}
+use Rattle.cpu_rows.specs.CpuRows.{about_cpu, at_cpu, call_of, cpu_of}
+use Rattle.cpu_rows.specs.CpuFits.{taken_by}
 use Rattle.call_steps.specs.Local.{thread_no}
 use Rattle.call_steps.specs.Shapes.{AreRows, most_slots}
 use Rattle.cpu_rows.specs.Shapes.{Limits, stands, no_class_empty, below, alone, empty_to_take, empty_to_start, cpu_standing, IsStop, IsAtFirst, IsAtBegin, IsToCome, HasHand, CpuShape}

@@ -13,19 +13,21 @@ use Rattle.tc_model.specs.Chains.{IsPoliteMove, IsPolite}
 use Rattle.tc_model.proofs.MovingFacts.{pick_moves}
 use Rattle.tc_model.proofs.Lists.{set_here, set_elsewhere}
 use Rattle.rseq_core.specs.declared.cpu_part.CpuPart.{CpuPart}
-use Rattle.call_steps.specs.PerCpu.{CpuLocal as Local, Step}
+use Rattle.cpu_rows.specs.PerCpu.{CpuLocal as Local, Step}
 use Rattle.call_steps.specs.declared.step.Step.TheVariants as does
-use Rattle.call_steps.specs.declared.step.CpuRow.TheVariants as front
-use Rattle.call_steps.specs.declared.step.CpuStep.TheVariants.{Pop, Grow, Stock, Push, PopBatch, Stop, Fence, Take, SetCap, Start, Leave}
-use Rattle.call_steps.specs.declared.step.CpuStep.{CpuStep}
+use Rattle.cpu_rows.specs.declared.row.CpuRow.TheVariants as front
+use Rattle.cpu_rows.specs.declared.row.CpuStep.TheVariants.{Pop, Grow, Stock, Push, PopBatch, Stop, Fence, Take, SetCap, Start, Leave}
+use Rattle.cpu_rows.specs.declared.row.CpuStep.{CpuStep}
 use Rattle.call_steps.specs.Local.{thread_no}
 use Rattle.cpu_rows.specs.Machine.{Part, Cpu, front_of, after, rules}
 use Rattle.alloc_rules.specs.declared.part.Part.TheVariants.{Front, Shard, Heap, Map, Names}
 use Rattle.cpu_rows.specs.CpuFront as at
-use Rattle.alloc_rules.specs.Machine.{number, front_after}
+use Rattle.alloc_rules.specs.Machine.{number}
+use Rattle.call_steps.specs.Acts.{front_after, front_yields}
 use Rattle.alloc_rules.specs.Machine as machine
-use Rattle.call_steps.specs.CpuActs.{runs_open, yields_row, yields_for}
-use Rattle.call_steps.specs.CpuRows.{about_row}
+use Rattle.cpu_rows.specs.CpuActs.{runs_open}
+use Rattle.cpu_rows.specs.CpuCalls.{yields_for}
+use Rattle.cpu_rows.specs.CpuRows.{about_row}
 use Rattle.cpu_rows.specs.Switches.{Kind, enters, closes, neither, act_kind, kind_at, kind_of, step_kind, entry, closing, count_at, SwitchesAreFew}
 use Rattle.cpu_rows.specs.CpuHolds.{CpuHolds, IsSeated, limits_of, cpu_planned, cpu_fits}
 use Rattle.cpu_rows.specs.Valid.{IsValid}
@@ -229,21 +231,8 @@ pair_is input p l (does.Names row) = refl
 pair_is input p l does.Ended = refl
 
 -- and whether it is polite
-row_yields : (p : CpuPart) (l : Local) (row : CpuStep) → yields_row p (at.seated l.seat l.regs) row ≡ yields_row p l row
-row_yields p l (Pop a) = refl
-row_yields p l (Grow a) = refl
-row_yields p l (Stock x) = refl
-row_yields p l (Push f) = refl
-row_yields p l (PopBatch f) = refl
-row_yields p l (Stop x) = refl
-row_yields p l (Fence x) = refl
-row_yields p l (Take x) = refl
-row_yields p l (SetCap x) = refl
-row_yields p l (Start x) = refl
-row_yields p l Leave = refl
-
-yields_is : (input : Input) (p : CpuPart) (l : Local) (s : Step) → machine.front_yields (front_of input) about_row (at.Cpu p) l s ≡ yields_for p l s
-yields_is input p l (does.Front (front.Cpu row)) = row_yields p l row
+yields_is : (input : Input) (p : CpuPart) (l : Local) (s : Step) → front_yields (front_of input) (at.Cpu p) l s ≡ yields_for p l s
+yields_is input p l (does.Front (front.Cpu row)) = refl
 yields_is input p l (does.Front (front.Domain row)) = refl
 yields_is input p l (does.Shard row) = refl
 yields_is input p l (does.Heap row) = refl

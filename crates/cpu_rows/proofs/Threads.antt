@@ -11,8 +11,8 @@ use Rattle.rseq_core.specs.Bags.{room}
 use Rattle.cpu_drain.specs.Seats as seats
 use Rattle.cpu_drain.specs.Seats.{CpuOk, SeatOk, SeatKeeps, AreSet}
 use Rattle.cpu_drain.proofs.Lawful as lawful
-use Rattle.call_steps.specs.declared.seat.CpuSeat.{CpuSeat}
-use Rattle.call_steps.specs.declared.step.CpuRow.{CpuRow}
+use Rattle.cpu_rows.specs.declared.seat.CpuSeat.{CpuSeat}
+use Rattle.cpu_rows.specs.declared.row.CpuRow.{CpuRow}
 use Rattle.cpu_rows.specs.Shapes.{IsAtBegin}
 use Rattle.call_steps.specs.Local.{thread_no}
 use Rattle.alloc_rules.specs.Standings.{At, Standing, stand}

@@ -1,6 +1,6 @@
 -- A valid input is valid for the caches' law, which they meet then.
 use Rattle.tc_model.specs.Input.{Input}
-use Rattle.call_steps.specs.CpuRows.{about_row}
+use Rattle.cpu_rows.specs.CpuRows.{about_row}
 use Rattle.alloc_rules.specs.FrontLaw.{IsLawful}
 use Rattle.alloc_rules.specs.Valid as allocator
 use Rattle.cpu_rows.specs.CpuHolds.{cpu_planned, cpu_fits, CpuHolds}

@@ -6,12 +6,12 @@ use Rattle.tc_model.specs.declared.answers.Answer.TheVariants.{Busy, CapSet, Ove
 use Rattle.cpu_slab.specs.Slots.{CpuSlab, with_cap}
 use Rattle.cpu_slab.specs.Growth.{used}
 use Rattle.rseq_core.specs.declared.cpu_part.CpuPart.{CpuPart}
-use Rattle.call_steps.specs.PerCpu.{CpuLocal as Local}
+use Rattle.cpu_rows.specs.PerCpu.{CpuLocal as Local}
 use Rattle.call_steps.specs.declared.step.Step.TheVariants as does
-use Rattle.call_steps.specs.declared.step.CpuRow.TheVariants as front
-use Rattle.call_steps.specs.declared.step.CpuStep.TheVariants as cpu
-use Rattle.call_steps.specs.declared.step.Stopping.{Stopping}
-use Rattle.call_steps.specs.declared.step.Resizing.{Resizing}
+use Rattle.cpu_rows.specs.declared.row.CpuRow.TheVariants as front
+use Rattle.cpu_rows.specs.declared.row.CpuStep.TheVariants as cpu
+use Rattle.cpu_rows.specs.declared.row.Stopping.{Stopping}
+use Rattle.cpu_rows.specs.declared.row.Resizing.{Resizing}
 use Rattle.tc_model.specs.Input.{Input}
 use Rattle.alloc_rules.specs.Answers.{Decides}
 use Rattle.cpu_rows.specs.Machine.{Cpu, after}

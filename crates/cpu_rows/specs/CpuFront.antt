@@ -8,17 +8,16 @@ use Rattle.cpu_slab.specs.Slots.{row_at, held}
 use Rattle.rseq_core.specs.declared.cpu_part.CpuPart.{CpuPart}
 use Rattle.rseq_core.specs.declared.regs.Regs.{Regs}
 use Rattle.holdings.specs.Runs.{objects_at}
-use Rattle.call_steps.specs.declared.seat.CpuSeat.{CpuSeat}
-use Rattle.call_steps.specs.declared.step.CpuRow.{CpuRow}
-use Rattle.call_steps.specs.declared.step.CpuRow.TheVariants as front
+use Rattle.cpu_rows.specs.declared.seat.CpuSeat.{CpuSeat}
+use Rattle.cpu_rows.specs.declared.row.CpuRow.{CpuRow}
+use Rattle.cpu_rows.specs.declared.row.CpuRow.TheVariants as front
 use Rattle.call_steps.specs.declared.step.Next.TheVariants as next
 use Rattle.call_steps.specs.Local.{idle_local}
-use Rattle.call_steps.specs.PerCpu.{CpuLocal}
-use Rattle.call_steps.specs.CpuRows.{cpu_place}
-use Rattle.call_steps.specs.CpuActs as acts
-use Rattle.call_steps.specs.CpuActs.{cpu_acts, domain_acts, yields_row}
-use Rattle.call_steps.specs.CpuCalls.{cpu_calls, cpu_refuses}
-use Rattle.alloc_rules.specs.FrontLaw.{Left, FrontRules}
+use Rattle.cpu_rows.specs.PerCpu.{CpuLocal}
+use Rattle.cpu_rows.specs.CpuRows.{cpu_place}
+use Rattle.cpu_rows.specs.CpuActs.{Left, cpu_acts, domain_acts, yields_row}
+use Rattle.cpu_rows.specs.CpuCalls.{cpu_calls, cpu_refuses}
+use Rattle.call_steps.specs.Fronts.{FrontRules}
 pub use Rattle.cpu_rows.specs.declared.part.CpuFrontPart.{CpuFrontPart}
 pub use Rattle.cpu_rows.specs.declared.part.CpuFrontPart.TheVariants.{Cpu, Domain}
 
@@ -28,20 +27,21 @@ cpu_stored (Cpu p) k n = objects_at n (held (row_at p.slab k))
 cpu_stored (Domain c t) k n = if c.0 == k then objects_at n t.objects else 0
 
 -- what an act leaves
-abbrev pub left_with : {P : Type 0} → (P → CpuFrontPart) → acts.Left P → Left CpuFrontPart CpuSeat CpuRow
+abbrev pub left_with : {P : Type 0} → (P → CpuFrontPart) → Left P → Left CpuFrontPart
 left_with as_part x = record { part = as_part x.part; seat = x.seat; regs = x.regs; next = x.next }
 
-abbrev pub front_acts : List ClassRow → CpuFrontPart → CpuSeat → Regs → CpuRow → Left CpuFrontPart CpuSeat CpuRow
+abbrev pub front_acts : List ClassRow → CpuFrontPart → CpuSeat → Regs → CpuRow → Left CpuFrontPart
 front_acts rows (Cpu p) v g (front.Cpu row) = left_with Cpu (cpu_acts rows p v g row)
 front_acts rows (Domain c t) v g (front.Domain row) = left_with (Domain c) (domain_acts rows t v g row)
 front_acts rows p v g row = record { part = p; seat = v; regs = g; next = next.Row row }
 
--- a thread with this seat and these registers, as far as yielding asks
+-- a thread with this seat and these registers, and without a call
 abbrev pub seated : CpuSeat → Regs → CpuLocal
 seated v g = record (idle_local g.thread v) { regs = g }
 
+-- whether it is polite
 abbrev pub front_yields : CpuFrontPart → CpuSeat → Regs → CpuRow → Bool
-front_yields (Cpu p) v g (front.Cpu row) = yields_row p (seated v g) row
+front_yields (Cpu p) v g (front.Cpu row) = yields_row p v g row
 front_yields p v g row = true
 
 -- the parts at the start: the CPUs, and behind them for each domain its caches by classes

@@ -12,11 +12,11 @@ use Rattle.rseq_core.specs.Bags.{room}
 use Rattle.cpu_drain.specs.Seats as seats
 use Rattle.cpu_drain.specs.Seats.{CpuOk, SeatOk}
 use Rattle.transfer_cache.specs.Transfer.{Transfer}
-use Rattle.call_steps.specs.declared.seat.CpuSeat.{CpuSeat}
-use Rattle.call_steps.specs.declared.step.CpuRow.{CpuRow}
-use Rattle.call_steps.specs.declared.step.CpuRow.TheVariants as front
+use Rattle.cpu_rows.specs.declared.seat.CpuSeat.{CpuSeat}
+use Rattle.cpu_rows.specs.declared.row.CpuRow.{CpuRow}
+use Rattle.cpu_rows.specs.declared.row.CpuRow.TheVariants as front
 use Rattle.cpu_rows.specs.Shapes.{Limits, IsMove, IsPlanned, IsAtBegin, IsLater, CpuShape, DomainShape, cpu_standing, domain_standing, later_standing}
-use Rattle.call_steps.specs.Fits.{FitsCpu, FitsDomain}
+use Rattle.cpu_rows.specs.CpuFits.{FitsCpu, FitsDomain}
 use Rattle.call_steps.specs.Local.{thread_no}
 use Rattle.cpu_rows.specs.Slabs.{IsSlabOf}
 use Rattle.alloc_rules.specs.Heads.{HasRoom}

@@ -4,22 +4,20 @@ use Rattle.tc_units.specs.declared.units.Class.{Class}
 use Rattle.tc_model.specs.Input.{Input}
 use Rattle.tc_model.specs.Run.{start}
 use Rattle.tc_model.specs.Chains.{IsPolite}
-use Rattle.tc_model.specs.Sound.{IsOrder, IsSound}
-use Rattle.tc_model.specs.Serial.{AreThreads, NeverWaits, Rises, Ends}
+use Rattle.tc_model.specs.Sound.{IsOrder}
 use Rattle.rseq_core.specs.declared.cpu_part.CpuPart.{CpuPart}
 use Rattle.transfer_cache.specs.Transfer.{Transfer}
 use Rattle.cpu_drain.specs.Seats.{CpuOk, SeatOk}
-use Rattle.call_steps.specs.PerCpu.{CpuLocal as Local}
-use Rattle.call_steps.specs.CpuRows.{about_row}
+use Rattle.cpu_rows.specs.PerCpu.{CpuLocal as Local}
+use Rattle.cpu_rows.specs.CpuRows.{about_row}
 use Rattle.call_steps.specs.Local.{thread_no}
 use Rattle.alloc_rules.specs.Standings.{standing_of}
-use Rattle.alloc_rules.specs.Fits.{Fits}
 use Rattle.alloc_rules.specs.Heads.{HasRoom}
 use Rattle.alloc_rules.specs.Law as allocator
 use Rattle.cpu_rows.specs.CpuFront.{Cpu, Domain}
 use Rattle.cpu_rows.specs.CpuHolds.{CpuHolds, cpu_fits, seat_at}
 use Rattle.cpu_rows.specs.Slabs.{IsSlabOf}
-use Rattle.cpu_rows.specs.Machine.{front_of, rules, turns}
+use Rattle.cpu_rows.specs.Machine.{front_of, rules}
 use Rattle.cpu_rows.specs.Valid.{IsValid}
 use Rattle.cpu_rows.specs.Answers.{AnswersBusy, AnswersCap}
 use Rattle.cpu_rows.specs.Switches.{SwitchesAreFew}
@@ -48,16 +46,9 @@ pub record HoldsAfter (input : Input) (order : List ℕ) : Type 0 where
   -- where each pick was polite, at each CPU the acts In are at most one more than the exits, commits and acts Grow, Leave and Back
   pub switches : IsPolite (rules input) (start (rules input)) order → SwitchesAreFew (rules input) order
 
--- The laws of the rules of an input: every pair that a pick takes fits; in every run the thread of the earliest call that
--- hasn't ended moves, and where each call has ended each script has; no pick lowers a number of ended calls; and all that
--- holds between any two picks.
-pub record AreLawful (input : Input) : Type 0 where
-  pub sound : IsSound (rules input) (Fits input.rows (cpu_fits input.rows))
-  pub threads : AreThreads (rules input) (turns input)
-  pub never_waits : NeverWaits (rules input) (turns input)
-  pub rises : Rises (rules input)
-  pub ends : Ends (rules input) (turns input)
-  pub holds : (order : List ℕ) → IsOrder (rules input) order → HoldsAfter input order
+-- the laws of the rules of an input
+abbrev pub AreLawful : Input → Type 0
+AreLawful input = allocator.AreLawful (front_of input) about_row input.asked (cpu_fits input.rows) (HoldsAfter input)
 
 abbrev pub InEveryOrder : Type 0
 InEveryOrder = (input : Input) → IsValid input → AreLawful input

@@ -2,7 +2,7 @@
 use Rattle.std.specs.Prelude.{◌<◌, ◌≤◌, List}
 use Rattle.tc_units.specs.declared.spans.ClassRow.{ClassRow}
 use Rattle.tc_model.specs.declared.config.Config.{Config}
-use Rattle.call_steps.specs.CpuRows.{about_row}
+use Rattle.cpu_rows.specs.CpuRows.{about_row}
 use Rattle.call_steps.specs.Shapes.{AreRows}
 use Rattle.alloc_rules.specs.FrontLaw.{IsLawful}
 use Rattle.cpu_rows.specs.CpuFront.{cpu_front}

@@ -1,3 +1,8 @@
+pub mod PerCpu
+pub mod CpuRows
+pub mod CpuActs
+pub mod CpuCalls
+pub mod CpuFits
 pub mod Shapes
 pub mod Slabs
 pub mod CpuFront

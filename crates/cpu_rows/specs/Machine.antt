@@ -5,13 +5,13 @@ use Rattle.tc_model.specs.Run.{Rules}
 use Rattle.rseq_core.specs.declared.cpu_part.CpuPart.{CpuPart}
 use Rattle.transfer_cache.specs.Transfer.{Transfer}
 use Rattle.tc_units.specs.declared.units.Class.{Class}
-use Rattle.call_steps.specs.declared.seat.CpuSeat.{CpuSeat}
-use Rattle.call_steps.specs.declared.step.CpuRow.{CpuRow}
-use Rattle.call_steps.specs.PerCpu.{CpuLocal}
-use Rattle.call_steps.specs.CpuRows.{about_row}
+use Rattle.cpu_rows.specs.declared.seat.CpuSeat.{CpuSeat}
+use Rattle.cpu_rows.specs.declared.row.CpuRow.{CpuRow}
+use Rattle.cpu_rows.specs.PerCpu.{CpuLocal}
+use Rattle.cpu_rows.specs.CpuRows.{about_row}
 use Rattle.alloc_rules.specs.declared.part.Part.{Part as AnyPart}
 use Rattle.alloc_rules.specs.declared.part.Part.TheVariants as part
-use Rattle.alloc_rules.specs.FrontLaw.{FrontRules}
+use Rattle.call_steps.specs.Fronts.{FrontRules}
 use Rattle.alloc_rules.specs.Machine as machine
 use Rattle.cpu_rows.specs.CpuFront as caches
 use Rattle.cpu_rows.specs.CpuFront.{CpuFrontPart, cpu_front}

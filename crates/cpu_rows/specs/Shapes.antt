@@ -16,19 +16,19 @@ use Rattle.rseq_core.specs.declared.regs.Regs.{Regs}
 use Rattle.rseq_core.specs.declared.regs.TheConstants.{LOADED_ROOM}
 use Rattle.cpu_drain.specs.Seats.{Standing}
 use Rattle.call_steps.specs.declared.step.Asking.{Asking}
-use Rattle.call_steps.specs.declared.step.Stopping.{Stopping}
-use Rattle.call_steps.specs.declared.step.Stopping.TheVariants as stopping
-use Rattle.call_steps.specs.PerCpu.{CpuLocal as Local, Giving}
+use Rattle.cpu_rows.specs.declared.row.Stopping.{Stopping}
+use Rattle.cpu_rows.specs.declared.row.Stopping.TheVariants as stopping
+use Rattle.cpu_rows.specs.PerCpu.{CpuLocal as Local, Giving}
 use Rattle.call_steps.specs.declared.step.Giving.TheVariants as giving
-use Rattle.call_steps.specs.declared.step.CpuRow.{CpuRow}
-use Rattle.call_steps.specs.declared.step.CpuRow.TheVariants as front
-use Rattle.call_steps.specs.declared.step.CpuStep.{CpuStep}
-use Rattle.call_steps.specs.declared.step.CpuStep.TheVariants as cpu
-use Rattle.call_steps.specs.declared.step.DomainStep.{DomainStep}
-use Rattle.call_steps.specs.declared.step.DomainStep.TheVariants as domain
+use Rattle.cpu_rows.specs.declared.row.CpuRow.{CpuRow}
+use Rattle.cpu_rows.specs.declared.row.CpuRow.TheVariants as front
+use Rattle.cpu_rows.specs.declared.row.CpuStep.{CpuStep}
+use Rattle.cpu_rows.specs.declared.row.CpuStep.TheVariants as cpu
+use Rattle.cpu_rows.specs.declared.row.DomainStep.{DomainStep}
+use Rattle.cpu_rows.specs.declared.row.DomainStep.TheVariants as domain
 use Rattle.call_steps.specs.Local.{class_row}
 use Rattle.call_steps.specs.Calls.{HasNoLabel}
-use Rattle.call_steps.specs.CpuRows.{about_cpu, as_row, cpu_of}
+use Rattle.cpu_rows.specs.CpuRows.{about_cpu, as_row, cpu_of}
 use Rattle.call_steps.specs.Shapes.{BeginsWith, most_slots}
 
 -- What a call has done to the CPU that it stopped: whether it is fenced, and which classes the call has emptied.

@@ -9,12 +9,12 @@ use Rattle.rseq_core.specs.declared.answers.Instructed.TheVariants.{In, Back, Ra
 use Rattle.rseq_core.specs.declared.answers.Grew.{Grew}
 use Rattle.rseq_core.specs.declared.answers.Grew.TheVariants as grew
 use Rattle.rseq_core.specs.Acts.{instructed, grew_here}
-use Rattle.call_steps.specs.declared.step.CpuStep.{CpuStep}
-use Rattle.call_steps.specs.declared.step.CpuStep.TheVariants.{Pop, Grow, Stock, Push, PopBatch, Stop, Fence, Take, SetCap, Start, Leave}
-use Rattle.call_steps.specs.PerCpu.{CpuLocal as Local, Step}
+use Rattle.cpu_rows.specs.declared.row.CpuStep.{CpuStep}
+use Rattle.cpu_rows.specs.declared.row.CpuStep.TheVariants.{Pop, Grow, Stock, Push, PopBatch, Stop, Fence, Take, SetCap, Start, Leave}
+use Rattle.cpu_rows.specs.PerCpu.{CpuLocal as Local, Step}
 use Rattle.call_steps.specs.declared.step.Step.TheVariants as step
-use Rattle.call_steps.specs.declared.step.CpuRow.TheVariants as front
-use Rattle.call_steps.specs.CpuActs.{due}
+use Rattle.cpu_rows.specs.declared.row.CpuRow.TheVariants as front
+use Rattle.cpu_rows.specs.CpuActs.{due}
 use Rattle.cpu_rows.specs.Machine.{Part}
 use Rattle.alloc_rules.specs.declared.part.Part.TheVariants.{Front}
 use Rattle.cpu_rows.specs.CpuFront as at

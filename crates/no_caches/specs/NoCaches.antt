@@ -5,8 +5,8 @@ use Rattle.tc_units.specs.declared.spans.ClassRow.{ClassRow}
 use Rattle.tc_model.specs.declared.calls.Planned.{Planned}
 use Rattle.rseq_core.specs.declared.regs.Regs.{Regs}
 use Rattle.call_steps.specs.Calls.{About, Other}
-use Rattle.call_steps.specs.Fronts.{FrontCalls}
-use Rattle.alloc_rules.specs.FrontLaw.{FrontRules, IsOwn}
+use Rattle.call_steps.specs.Fronts.{FrontCalls, FrontRules}
+use Rattle.alloc_rules.specs.FrontLaw.{IsOwn}
 use Rattle.alloc_rules.specs.Standings.{Standing}
 
 -- its parts, its seats and its rows: none, nothing to know, and none

@@ -4,3 +4,4 @@ pub mod Agrees
 pub mod Acts
 pub mod Alone
 pub mod Rooms
+pub mod Registers

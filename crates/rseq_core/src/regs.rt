@@ -38,25 +38,13 @@ impl Regs {
     ghost use Rattle.rseq_core.specs.Acts.{dropped};
     ghost use Rattle.rseq_core.specs.Tables.{is_pop, wanted};
     ghost use Rattle.rseq_core.specs.Bags.{emptied};
-    ghost use Rattle.rseq_core.specs.Rooms.{hand_room, loaded_room};
+    ghost use Rattle.rseq_core.specs.Registers.{first_regs, set_for};
     ghost use Rattle.rseq_core.specs.declared.sequence.Pc.TheVariants.{Begin};
-    ghost use Rattle.rseq_core.specs.declared.sequence.Seq.TheVariants.{Pop};
 
     /// The registers of a thread that has nothing in hand and is at the begin of a pop. All memory
     /// of the registers is taken here.
     pub fn open(alloc: Global, thread: ThreadNo) -> Result<Self, AllocError>
-        ensures { IfOk result (λ r. r ≡ record {
-          thread = thread;
-          class = record { 0 = 0 };
-          seq = Pop;
-          pc = Begin;
-          epoch = 0;
-          top = 0;
-          count = 0;
-          ran = 0;
-          hand = record { items = []; spare = hand_room };
-          loaded = record { items = []; spare = loaded_room };
-        }) }
+        ensures { IfOk result (λ r. r ≡ first_regs thread) }
     {
         Ok(Regs {
             thread,
@@ -74,7 +62,7 @@ impl Regs {
 
     /// Sets the next sequence. The epoch stays.
     pub fn start(&mut self, class: Class, seq: Seq)
-        ensures { self.new ≡ record self.old { class = class; seq = seq; pc = Begin } }
+        ensures { self.new ≡ set_for class seq self.old }
     {
         self.class = class;
         self.seq = seq;

@@ -14,7 +14,7 @@ use Rattle.tc_model.specs.Input.{Input}
 use Rattle.tc_model.specs.Run.{World}
 use Rattle.heap_rules.specs.declared.config.HeapConfig.{HeapConfig}
 use Rattle.heap_rules.specs.Heap.{Heap, opened, used_pages, backed_pages, row_of}
-use Rattle.call_steps.specs.PerCpu.{CpuLocal as Local}
+use Rattle.cpu_rows.specs.PerCpu.{CpuLocal as Local}
 use Rattle.cpu_rows.specs.Machine.{Part}
 use Rattle.alloc_rules.specs.declared.part.Part.TheVariants as part
 use Rattle.cpu_rows.specs.Machine.{parts_of}
@@ -28,14 +28,14 @@ use Rattle.tc_machine.specs.Finish.{finished, finished_in, heap_by, heap_in, hea
 use Rattle.tc_machine.proofs.StateFacts.{IsTold}
 
 -- the heap that is read is the one behind the CPUs and the shards
-pub read_at : (m : AllocMachine) (parts now : List Part) (n : ℕ) (heap : Heap) → now ≡ parts → n ≡ m.config.cpus + length m.table → slice_get now n ≡ Some (part.Heap heap) → slice_get parts (heap_place (input_in m)) ≡ Some (part.Heap heap)
+pub read_at : (m : AllocMachine) (parts now : List Part) (n : ℕ) (heap : Heap) → now ≡ parts → n ≡ m.setting.config.cpus + length m.setting.table → slice_get now n ≡ Some (part.Heap heap) → slice_get parts (heap_place (input_in m)) ≡ Some (part.Heap heap)
 read_at m parts now n heap same at is =
-    let place : n ≡ heap_place (input_in m) = at ∙ ap (λ (config : Config). config.cpus + length m.table) m.same_config in
+    let place : n ≡ heap_place (input_in m) = at in
     ap (λ ps. slice_get ps (heap_place (input_in m))) (sym same) ∙ (ap (slice_get now) (sym place) ∙ is)
 
-pub place_at : (m : AllocMachine) (parts now : List Part) (n : ℕ) (heap : Heap) → now ≡ parts → n ≡ m.config.cpus + length m.table → slice_get parts (heap_place (input_in m)) ≡ Some (part.Heap heap) → slice_get now n ≡ Some (part.Heap heap)
+pub place_at : (m : AllocMachine) (parts now : List Part) (n : ℕ) (heap : Heap) → now ≡ parts → n ≡ m.setting.config.cpus + length m.setting.table → slice_get parts (heap_place (input_in m)) ≡ Some (part.Heap heap) → slice_get now n ≡ Some (part.Heap heap)
 place_at m parts now n heap same at is =
-    let place : n ≡ heap_place (input_in m) = at ∙ ap (λ (config : Config). config.cpus + length m.table) m.same_config in
+    let place : n ≡ heap_place (input_in m) = at in
     ap (λ ps. slice_get ps n) same ∙ (ap (slice_get parts) place ∙ is)
 
 module _ (input : Input) (order : List ℕ) (parts : List Part) (locals : List Local) (told : IsTold input order parts locals) where

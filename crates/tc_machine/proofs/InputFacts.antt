@@ -13,9 +13,9 @@ use Rattle.tc_model.specs.Input.{Input, Asked, ThreadCall, script_of, scripts_of
 use Rattle.trace_reader.specs.declared.trace.Trace.{Trace}
 use Rattle.trace_reader.specs.Traces.{trace_of}
 use Rattle.trace_reader.specs.Valid.{IsAsked, AreCalls}
-use Rattle.call_steps.specs.CpuCalls.{cpu_calls}
+use Rattle.cpu_rows.specs.CpuCalls.{cpu_calls}
 use Rattle.cpu_rows.specs.CpuFront.{first_seat}
-use Rattle.call_steps.specs.PerCpu.{CpuLocal as Local}
+use Rattle.cpu_rows.specs.PerCpu.{CpuLocal as Local}
 use Rattle.call_steps.specs.Local.{first_local}
 use Rattle.tc_model.specs.Run.{world_of, start}
 use Rattle.cpu_rows.specs.Machine.{first_of, parts_of}

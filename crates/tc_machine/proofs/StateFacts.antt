@@ -12,7 +12,7 @@ use Rattle.tc_model.specs.Input.{Input}
 use Rattle.tc_model.specs.Run.{Rules, World, world_of, start, run}
 use Rattle.tc_model.specs.Steps.{AllMove, moving}
 use Rattle.tc_model.proofs.MovingFacts.{IsKeptWith, run_keeps_with, front_moves, move_all}
-use Rattle.call_steps.specs.PerCpu.{CpuLocal as Local}
+use Rattle.cpu_rows.specs.PerCpu.{CpuLocal as Local}
 use Rattle.cpu_rows.specs.Machine.{Part}
 use Rattle.alloc_rules.specs.declared.part.Part.TheVariants as part
 use Rattle.cpu_rows.specs.Law.{AreLawful, HoldsAfter}
@@ -32,16 +32,12 @@ locals_count input = length-map (range_with_len 0 input.asked.config.threads) (f
 pub below_locals : (input : Input) (t : ℕ) → t < input.asked.config.threads → t < length (allocator.rules input).locals
 below_locals input t below = omega (arith, below, locals_count input)
 
--- the most picks that may move
-pub limit_is : (m : AllocMachine) (limit : ℕ) → limit ≡ m.config.events → limit ≡ (input_in m).asked.config.events
-limit_is m limit is = is ∙ ap (λ (config : Config). config.events) m.same_config
-
 -- what holds between any two picks of an order
-pub lawful_in : (m : AllocMachine) (order : List ℕ) (limit : ℕ) → moving (allocator.rules (input_in m)) (start (allocator.rules (input_in m))) order ≡ order → length order ≤ limit → limit ≡ m.config.events → IsLawful (input_in m) order
+pub lawful_in : (m : AllocMachine) (order : List ℕ) (limit : ℕ) → moving (allocator.rules (input_in m)) (start (allocator.rules (input_in m))) order ≡ order → length order ≤ limit → limit ≡ m.setting.config.events → IsLawful (input_in m) order
 lawful_in m order limit moves few is =
     let r : Rules Part Local = allocator.rules (input_in m) in
     let law : AreLawful (input_in m) = cpu_in_every_order (input_in m) m.valid in
-    let most : length order ≤ (input_in m).asked.config.events = omega (arith, few, limit_is m limit is) in
+    let most : length order ≤ (input_in m).asked.config.events = omega (arith, few, is) in
     record {
       moves = moves;
       few = most;

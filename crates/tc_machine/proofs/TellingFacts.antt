@@ -10,7 +10,7 @@ use Rattle.std.proofs.lemmas.Bool.{cases_eq, false≢true, eqb-true, ne_eqb, con
 use Rattle.tc_model.specs.declared.answers.CallLine.{CallLine}
 use Rattle.tc_model.specs.Calls.{AreRising, first_at, picks_of, answers_at, calls_from, decided_by}
 use Rattle.tc_model.proofs.Rising.{rising_first}
-use Rattle.call_steps.specs.PerCpu.{CpuLocal as Thread}
+use Rattle.cpu_rows.specs.PerCpu.{CpuLocal as Thread}
 use Rattle.call_steps.specs.Local.{Decided, told}
 use Rattle.tc_machine.specs.declared.telling.Mark.{Mark}
 use Rattle.tc_machine.specs.Telling.{decided_at, is_of, IsMark}

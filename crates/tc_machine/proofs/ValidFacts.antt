@@ -21,6 +21,7 @@ use Rattle.holdings.specs.Accounts.{got, put}
 use Rattle.call_steps.specs.Shapes.{IsClassRow, AreRows}
 use Rattle.cpu_rows.specs.Shapes.{Limits, IsMove, IsCallThere}
 use Rattle.alloc_rules.specs.Valid.{IsInOrder}
+use Rattle.cpu_rows.specs.Laws.{AreCpuLimits}
 use Rattle.cpu_rows.specs.Valid.{IsValid, AreLimits}
 use Rattle.tc_machine.specs.Inputs.{IsRead, input_of}
 use Rattle.tc_machine.proofs.InputFacts.{input_is}
@@ -110,6 +111,9 @@ limits_of config is =
       slots = is.slab.1;
       percpu = is.percpu;
     }
+
+pub cpu_limits_of : (config : Config) → reads.IsConfig config → AreCpuLimits config
+cpu_limits_of config is = record { cpus = omega (arith, is.cpus.0); slab = omega (arith, is.slab.0); slots = is.slab.1; percpu = is.percpu }
 
 valid_asked : (rows : List ClassRow) (asked : Asked) → table.IsTable rows → reads.IsAsked (length rows) asked → IsValid (record { rows = rows; asked = asked })
 valid_asked rows asked is valid =

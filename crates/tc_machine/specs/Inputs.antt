@@ -6,9 +6,11 @@ use Rattle.tc_units.specs.declared.spans.ClassRow.{ClassRow}
 use Rattle.tc_model.specs.declared.calls.Planned.{Planned}
 use Rattle.tc_model.specs.declared.calls.Script.{Script}
 use Rattle.tc_model.specs.Input.{Input, Asked, ThreadCall}
+use Rattle.tc_model.specs.declared.config.Config.{Config}
 use Rattle.trace_reader.specs.declared.trace.Trace.{Trace}
 use Rattle.trace_reader.specs.Traces.{trace_of}
 use Rattle.trace_reader.specs.Valid.{IsAsked}
+use Rattle.call_steps.specs.declared.setting.Setting.{Setting}
 
 -- a trace is what the reader answers for what this asks, where there are so many size classes
 pub record IsRead (classes : ℕ) (trace : Trace) (asked : Asked) : Type 0 where
@@ -28,9 +30,16 @@ abbrev pub calls_by : List ThreadNo → (ℕ → List Planned) → List ThreadCa
 calls_by [] left = []
 calls_by (t ∷ turns) left = next_call t (left t.0) ++ calls_by turns (λ u. if u == t.0 then drop 1 (left u) else left u)
 
--- what a trace asks for, and the input under a class table
+-- what a trace asks for under these heads, and the input under a class table
+abbrev pub asked_under : Config → Trace → Asked
+asked_under config trace = record { config = config; calls = calls_by trace.turns (script_at trace.scripts) }
+
+abbrev pub input_under : Setting → Trace → Input
+input_under setting trace = record { rows = setting.table; asked = asked_under setting.config trace }
+
+-- under its own heads
 abbrev pub asked_of : Trace → Asked
-asked_of trace = record { config = trace.config; calls = calls_by trace.turns (script_at trace.scripts) }
+asked_of trace = asked_under trace.config trace
 
 abbrev pub input_of : List ClassRow → Trace → Input
 input_of rows trace = record { rows = rows; asked = asked_of trace }

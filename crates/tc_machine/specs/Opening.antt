@@ -5,8 +5,8 @@ use Rattle.tc_units.specs.declared.spans.ClassRow.{ClassRow}
 use Rattle.tc_model.specs.declared.config.Config.{Config}
 use Rattle.tc_model.specs.declared.calls.Script.{Script}
 use Rattle.name_table.specs.declared.table.NameState.TheVariants as name
-use Rattle.call_steps.specs.CpuCalls.{cpu_calls}
-use Rattle.call_steps.specs.PerCpu.{CpuLocal as Local}
+use Rattle.cpu_rows.specs.CpuCalls.{cpu_calls}
+use Rattle.cpu_rows.specs.PerCpu.{CpuLocal as Local}
 use Rattle.call_steps.specs.Local.{first_local}
 use Rattle.cpu_rows.specs.CpuFront.{first_seat}
 use Rattle.cpu_rows.specs.Machine.{Parts, first_parts}

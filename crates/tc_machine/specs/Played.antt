@@ -2,7 +2,7 @@
 use Rattle.std.specs.Prelude.{ℕ, List}
 use Rattle.tc_model.specs.Input.{Input}
 use Rattle.tc_model.specs.Run.{World, run}
-use Rattle.call_steps.specs.PerCpu.{CpuLocal as Local}
+use Rattle.cpu_rows.specs.PerCpu.{CpuLocal as Local}
 use Rattle.cpu_rows.specs.Machine.{Part}
 use Rattle.cpu_rows.specs.Machine.{rules}
 

@@ -21,7 +21,8 @@ use crate::machine::AllocMachine;
 use crate::opening::{locals_of, parts_of};
 use crate::telling::told_calls;
 use alloc_rules::Part;
-use call_steps::Local;
+use call_steps::Setting;
+use cpu_front::CpuLocal;
 use cpu_rows::CpuFrontPart;
 use size_classes::ClassTable;
 use std::alloc::{AllocError, Global};
@@ -48,7 +49,7 @@ impl Model for State {
 
     ghost view = { λ s. record { input = input_in s.replay.machine; order = s.replay.order.items } };
 
-    ghost invariant = { λ s. s.replay.limit ≡ s.replay.machine.config.events };
+    ghost invariant = { λ s. s.replay.limit ≡ s.replay.machine.setting.config.events };
 }
 
 impl State {
@@ -59,18 +60,18 @@ impl State {
         ensures asked { IfOk result (λ s. (asked : Asked) → IsRead (length table) trace asked → s.input ≡ record { rows = table; asked = asked }) }
         ensures order { IfOk result (λ s. s.order ≡ []) }
     {
-        let parts = parts_of(alloc, &table, &trace.config, trace.labels)?;
         let seen = Snapshot::of(&trace);
         let Trace {
             config,
             scripts,
             turns,
-            labels: _,
+            labels,
         } = trace;
-        let locals = locals_of(alloc, &table, &config, scripts.into_vec())?;
+        let setting = Setting { table, config };
+        let parts = parts_of(&setting, alloc, labels)?;
+        let locals = locals_of(&setting, alloc, scripts.into_vec())?;
         let machine = AllocMachine {
-            table,
-            config,
+            setting,
             turns,
             trace: seen,
         };
@@ -83,7 +84,7 @@ impl State {
     pub fn threads(&self) -> u8
         ensures { result ≡ self.now.input.asked.config.threads }
     {
-        self.replay.machine.config.threads
+        self.replay.machine.setting.config.threads
     }
 
     /// Picks a thread. Its act and its entry in the order are done both or neither.
@@ -172,7 +173,7 @@ impl State {
     }
 
     /// The machine with its parts and locals, at its start.
-    pub fn split(self) -> (AllocMachine, Vec<Part<CpuFrontPart>>, Vec<Local>)
+    pub fn split(self) -> (AllocMachine, Vec<Part<CpuFrontPart>>, Vec<CpuLocal>)
         requires { self.order ≡ [] }
         ensures input { input_in result.0 ≡ self.input }
         ensures start { world_of result.1.items result.2.items ≡ start (allocator.rules self.input) }
@@ -186,7 +187,7 @@ impl State {
         alloc: Global,
         machine: AllocMachine,
         parts: Vec<Part<CpuFrontPart>>,
-        locals: Vec<Local>,
+        locals: Vec<CpuLocal>,
         order: Vec<u16>,
     ) -> State
         requires run { world_of parts.items locals.items ≡ run (allocator.rules (input_in machine)) order.items }
@@ -195,7 +196,7 @@ impl State {
         ensures input { result.input ≡ input_in machine }
         ensures order { result.order ≡ order.items }
     {
-        let limit = machine.config.events;
+        let limit = machine.setting.config.events;
         let replay = Replay::gather(alloc, machine, parts, locals, order, limit);
         State { replay, alloc }
     }
@@ -215,7 +216,7 @@ impl State {
         let calls = told_calls(self.alloc, &replay.locals, &replay.order)?;
         let standing = standing_after(self.alloc, &calls)?;
         let heap = heap_of(&replay.parts, replay.machine.heap_place());
-        let rows = rows_of(self.alloc, heap, replay.machine.config.huge)?;
+        let rows = rows_of(self.alloc, heap, replay.machine.setting.config.huge)?;
         Ok(Finished {
             calls: Listed::new(calls),
             live: standing.count,

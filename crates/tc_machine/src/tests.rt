@@ -2,9 +2,8 @@
 ghost use Rattle.std.specs.Prelude.{◌≡◌, [], IfOk};
 
 use crate::State;
-use call_steps::{
-    Asking, CpuRow, CpuStep, Freeing, HeapStep, MapStep, NamesStep, Serving, ShardStep, Step,
-};
+use call_steps::{Asking, Freeing, HeapStep, MapStep, NamesStep, Serving, ShardStep, Step};
+use cpu_rows::{CpuRow, CpuStep};
 use size_classes::ClassTable;
 use std::alloc::{AllocError, Global};
 use std::process::Abort;

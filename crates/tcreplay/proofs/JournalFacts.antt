@@ -19,7 +19,7 @@ use Rattle.tc_model.specs.Calls.{picks_of, calls_from, answers_at, decided_by}
 use Rattle.tc_model.specs.Input.{Input, script_of, scripts_of}
 use Rattle.tc_model.specs.Replays.{HaveEnded}
 use Rattle.tc_model.specs.Run.{World, run}
-use Rattle.call_steps.specs.PerCpu.{CpuLocal as Local}
+use Rattle.cpu_rows.specs.PerCpu.{CpuLocal as Local}
 use Rattle.call_steps.specs.Local.{Decided, told}
 use Rattle.cpu_rows.specs.Machine.{Part}
 use Rattle.cpu_rows.specs.Machine.{rules}

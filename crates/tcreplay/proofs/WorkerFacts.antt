@@ -17,7 +17,7 @@ use Rattle.tc_model.specs.Chains.{IsPolite}
 use Rattle.tc_model.specs.Serial.{completed, completion}
 use Rattle.tc_model.proofs.Longer.{polite_moves}
 use Rattle.tc_model.proofs.MovingFacts.{moving_all}
-use Rattle.call_steps.specs.PerCpu.{CpuLocal as Local}
+use Rattle.cpu_rows.specs.PerCpu.{CpuLocal as Local}
 use Rattle.cpu_rows.specs.Machine.{Part}
 use Rattle.cpu_rows.specs.Machine.{rules, turns, first_of}
 use Rattle.replay_workers.specs.Runs.{halt_among}

@@ -5,7 +5,7 @@ use Rattle.std.proofs.lemmas.List.{take_more, append-nil, length-take, length-ap
 use Rattle.std.proofs.lemmas.List.Sums.{count_by-le-length}
 use Rattle.tc_model.specs.declared.answers.CallLine.{CallLine}
 use Rattle.tc_model.specs.Calls.{calls_from, decided_by}
-use Rattle.call_steps.specs.PerCpu.{CpuLocal as Thread}
+use Rattle.cpu_rows.specs.PerCpu.{CpuLocal as Thread}
 use Rattle.call_steps.specs.Local.{told}
 use Rattle.tc_machine.proofs.TellingFacts.{act_of, AreMarks, here_is, next_marks, told_next}
 use Rattle.tc_machine.proofs.telling.told_calls.Goals as goal

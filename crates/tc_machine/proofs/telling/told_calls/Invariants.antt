@@ -1,6 +1,6 @@
 use Rattle.std.proofs.Common.{◌≡◌, ◌≤◌, [], length, take}
 use Rattle.tc_model.specs.Calls.{calls_from, decided_by}
-use Rattle.call_steps.specs.PerCpu.{CpuLocal as Thread}
+use Rattle.cpu_rows.specs.PerCpu.{CpuLocal as Thread}
 use Rattle.call_steps.specs.Local.{Decided, told}
 use Rattle.tc_machine.proofs.TellingFacts.{AreMarks}
 use Rattle.tc_machine.proofs.telling.told_calls.Given as goal

@@ -1,40 +1,41 @@
 use Rattle.std.proofs.Common.{◌≡◌, ap, ◌∙◌, sym, arith, length, ◌<◌, get_or}
 use Rattle.std.specs.Prelude.{Some, option_map, slice_get}
 use Rattle.std.proofs.lemmas.Option.{slice_get-get_or}
-use Rattle.call_steps.specs.PerCpu.{CpuLocal as Local}
+use Rattle.call_steps.specs.Local.{Local}
 use Rattle.call_steps.specs.Local.{told}
 use Rattle.call_steps.proofs.ScriptFacts.{answered_within, decided_at}
+use Rattle.call_steps.proofs.local.Local.call_line.Given.{Over}
 use Rattle.call_steps.proofs.local.Local.call_line.Goals as goal
 
-answered : (c : goal.After-as_slice) → c.args.i < length c.self.inside.answers.items
-answered c = let l = c.self.inside in answered_within l.script l.answers.items c.args.self.now.answers c.args.i (omega (arith, c.self.invariant.room)) (ap (λ (m : Local). m.answers) c.self.view_is) c.requires
+answered : (g : Over) (c : goal.After-as_slice g) → c.args.i < length c.self.inside.answers.items
+answered g c = let l = c.self.inside in answered_within l.script l.answers.items c.args.self.now.answers c.args.i (omega (arith, c.self.invariant.room)) (ap (λ (m : Local g.row.F-Seat.Denot g.row.F-Row.Denot). m.answers) c.self.view_is) c.requires
 
 pub offset_bounds-as_slice-i : goal.offset_bounds-as_slice-i
-offset_bounds-as_slice-i c = omega (arith, answered c, c.self.invariant.room, ap length c.as_slice.ensures, c.as_slice.type_inv.1)
+offset_bounds-as_slice-i g c = omega (arith, answered g c, c.self.invariant.room, ap length c.as_slice.ensures, c.as_slice.type_inv.1)
 
 pub bounds-as_slice-i : goal.bounds-as_slice-i
-bounds-as_slice-i c = omega (arith, answered c, c.self.invariant.room, ap length c.as_slice.ensures)
+bounds-as_slice-i g c = omega (arith, answered g c, c.self.invariant.room, ap length c.as_slice.ensures)
 
-answered_there : (c : goal.After-as_slice-2) → c.args.i < length c.as_slice-2.result.now
-answered_there c =
+answered_there : (g : Over) (c : goal.After-as_slice-2 g) → c.args.i < length c.as_slice-2.result.now
+answered_there g c =
     let l = c.self.inside in
-    let within : c.args.i < length l.answers.items = answered_within l.script l.answers.items c.args.self.now.answers c.args.i (omega (arith, c.self.invariant.room)) (ap (λ (m : Local). m.answers) c.self.view_is) c.requires in
+    let within : c.args.i < length l.answers.items = answered_within l.script l.answers.items c.args.self.now.answers c.args.i (omega (arith, c.self.invariant.room)) (ap (λ (m : Local g.row.F-Seat.Denot g.row.F-Row.Denot). m.answers) c.self.view_is) c.requires in
     omega (arith, within, ap length c.as_slice-2.ensures)
 
 pub offset_bounds-as_slice-i-2 : goal.offset_bounds-as_slice-i-2
-offset_bounds-as_slice-i-2 c = omega (arith, answered_there c, c.as_slice-2.type_inv.1)
+offset_bounds-as_slice-i-2 g c = omega (arith, answered_there g c, c.as_slice-2.type_inv.1)
 
 pub bounds-as_slice-i-2 : goal.bounds-as_slice-i-2
-bounds-as_slice-i-2 c = answered_there c
+bounds-as_slice-i-2 g c = answered_there g c
 
 pub returns : goal.returns
-returns c =
+returns g c =
     let l = c.self.inside in
     let i = c.args.i in
-    let within : i < length l.answers.items = answered_within l.script l.answers.items c.args.self.now.answers i (omega (arith, c.self.invariant.room)) (ap (λ (m : Local). m.answers) c.self.view_is) c.requires in
+    let within : i < length l.answers.items = answered_within l.script l.answers.items c.args.self.now.answers i (omega (arith, c.self.invariant.room)) (ap (λ (m : Local g.row.F-Seat.Denot g.row.F-Row.Denot). m.answers) c.self.view_is) c.requires in
     let planned : i < length c.as_slice.result.now = omega (arith, within, c.self.invariant.room, ap length c.as_slice.ensures) in
     let answer : i < length c.as_slice-2.result.now = omega (arith, within, ap length c.as_slice-2.ensures) in
     let at : slice_get l.script i ≡ Some (get_or c.as_slice.result.now i _) = ap (λ xs. slice_get xs i) (sym c.as_slice.ensures) ∙ slice_get-get_or c.as_slice.result.now i _ planned in
     let there : slice_get l.answers.items i ≡ Some (get_or c.as_slice-2.result.now i _) = ap (λ xs. slice_get xs i) (sym c.as_slice-2.ensures) ∙ slice_get-get_or c.as_slice-2.result.now i _ answer in
     sym (ap (option_map (told l.regs.thread.0)) (decided_at l.script l.answers.items i _ _ at there))
-    ∙ ap (λ (m : Local). option_map (told m.regs.thread.0) (slice_get m.answers i)) c.self.view_is
+    ∙ ap (λ (m : Local g.row.F-Seat.Denot g.row.F-Row.Denot). option_map (told m.regs.thread.0) (slice_get m.answers i)) c.self.view_is

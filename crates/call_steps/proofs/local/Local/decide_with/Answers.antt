@@ -1,13 +1,11 @@
 use Rattle.std.proofs.Common.{ap, sym, ◌∙◌}
-use Rattle.call_steps.specs.CpuCalls.{cpu_calls}
 use Rattle.call_steps.specs.Calls.{undecided}
 use Rattle.call_steps.specs.Follows.{says, goes_or_ends}
-use Rattle.call_steps.proofs.Nexts.{ends_by}
+use Rattle.call_steps.proofs.HandFacts.{ends_by}
 use Rattle.call_steps.proofs.local.Local.decide_with.Goals as goal
-use Rattle.call_steps.specs.CpuRows.{about_row}
 
 pub returns-in-None : goal.returns-in-None
-returns-in-None c =
-    let rows = c.args.table.now in
+returns-in-None g c =
+    let e = (g.F.FrontEnd.rules c.args.setting.now).calls in
     let l = c.args.self.now in
-    ends_by rows l c.end_deciding.new.self (undecided about_row l.step) c.args.answer c.requires.undecided c.end_deciding.ensures ∙ ap (goes_or_ends (cpu_calls rows) (says l (undecided about_row l.step) c.args.answer)) (sym c.in-None.is)
+    ends_by e l c.end_deciding.new.self (undecided g.F.FrontEnd.about l.step) c.args.answer c.requires.undecided c.end_deciding.ensures ∙ ap (goes_or_ends e (says l (undecided g.F.FrontEnd.about l.step) c.args.answer)) (sym c.in-None.is)

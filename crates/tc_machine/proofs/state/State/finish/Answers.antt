@@ -10,7 +10,7 @@ use Rattle.tc_model.specs.declared.config.Config.{Config}
 use Rattle.tc_model.specs.Blocks.{IsBlockRun}
 use Rattle.alloc_rules.specs.declared.part.Part.TheVariants as part
 use Rattle.alloc_rules.specs.Law.{calls}
-use Rattle.call_steps.specs.PerCpu.{CpuLocal as Local}
+use Rattle.cpu_rows.specs.PerCpu.{CpuLocal as Local}
 use Rattle.tc_machine.specs.Held.{input_in}
 use Rattle.tc_machine.specs.Played.{Played}
 use Rattle.tc_machine.specs.Finish.{finished_in, heap_place}
@@ -57,10 +57,10 @@ rows_of-requires-clause-all c =
     let r = c.self.inside.replay in
     let told = told_of r.machine r.parts.items r.locals.items r.order.items r.limit r.is_run r.moves r.few r.most in
     let there : slice_get r.parts.items (heap_place (input_in r.machine)) ≡ Some (part.Heap c.heap_of-heap.result.now) = read_at r.machine r.parts.items c.deref-4.result.now c.heap_place.result c.heap_of-heap.result.now c.deref-4.ensures.value c.heap_place.ensures c.heap_of-heap.ensures in
-    ap (λ (config : Config). config.huge) r.machine.same_config ∙ sym (huge_is (input_in r.machine) r.order.items r.parts.items r.locals.items told c.heap_of-heap.result.now there)
+    sym (huge_is (input_in r.machine) r.order.items r.parts.items r.locals.items told c.heap_of-heap.result.now there)
 
 pub rows_of-requires-clause-few : goal.rows_of-requires-clause-few
-rows_of-requires-clause-few c = let r = c.self.inside.replay in omega (arith, r.machine.valid.limits.few, ap (λ (config : Config). config.huge) r.machine.same_config)
+rows_of-requires-clause-few c = let r = c.self.inside.replay in omega (arith, r.machine.valid.limits.few)
 
 pub returns-clause-value : goal.returns-clause-value
 returns-clause-value c =
@@ -73,7 +73,7 @@ returns-clause-value c =
     let heap = c.heap_of-heap.result.now in
     let huge = huge_is i r.order.items r.parts.items r.locals.items told heap there in
     let rows : c.new-2.result ≡ map (row_of heap) (range_with_len 1 heap.config.huge) =
-    c.new-2.ensures ∙ (c.in_ok-rows.ensures ∙ ap (λ n. map (row_of heap) (range_with_len 1 n)) (sym (huge ∙ sym (ap (λ (config : Config). config.huge) r.machine.same_config)))) in
+    c.new-2.ensures ∙ (c.in_ok-rows.ensures ∙ ap (λ n. map (row_of heap) (range_with_len 1 n)) (sym huge)) in
     let made : List CallLine → List RowView → Finished = λ ls vs. record { calls = ls; live = c.in_ok-standing.standing.count; live_bytes = c.in_ok-standing.standing.bytes; used = c.used_pages.result; resident = c.backed_pages.result; rows = vs } in
     ap (λ ls. made ls c.new-2.result) c.new.ensures
     ∙ (finished_is i r.order.items r.parts.items r.locals.items told c.in_ok-calls.calls.items heap c.in_ok-standing.standing c.used_pages.result c.backed_pages.result c.new-2.result lines there stand c.used_pages.ensures.value c.backed_pages.ensures.value rows

@@ -8,7 +8,7 @@ use Rattle.tc_model.specs.Serial.{completed, followed, IsCutShort}
 use Rattle.cpu_rows.specs.Machine as allocator
 use Rattle.tc_machine.specs.Played.{Played}
 use Rattle.tc_machine.specs.Held.{input_in}
-use Rattle.tc_machine.proofs.StateFacts.{below_locals, limit_is, lawful_in}
+use Rattle.tc_machine.proofs.StateFacts.{below_locals, lawful_in}
 use Rattle.tc_machine.proofs.state.State.run_order.Goals as goal
 
 pub run_order-requires : goal.run_order-requires
@@ -21,7 +21,7 @@ returns-clause-ok c =
     let i = input_in r.machine in
     let picks = c.args.picks.now in
     let new = c.run_order.new.self.order.items in
-    let ok = subst (λ n. OnOk c.run_order.result (new ≡ completed (allocator.rules i) (allocator.turns i) n (followed (allocator.rules i) n r.order.items picks))) (limit_is r.machine r.limit c.self.invariant) c.run_order.ensures.ok in
+    let ok = subst (λ n. OnOk c.run_order.result (new ≡ completed (allocator.rules i) (allocator.turns i) n (followed (allocator.rules i) n r.order.items picks))) c.self.invariant c.run_order.ensures.ok in
     subst (λ (p : Played). OnOk c.run_order.result (new ≡ completed (allocator.rules p.input) (allocator.turns p.input) p.input.asked.config.events (followed (allocator.rules p.input) p.input.asked.config.events p.order picks))) c.self.view_is ok
 
 pub returns-clause-ended : goal.returns-clause-ended
@@ -34,11 +34,11 @@ returns-clause-fault c =
     let r = c.self.inside.replay in
     let i = input_in r.machine in
     let picks = c.args.picks.now in
-    let fault = subst (λ n. IfErr c.run_order.result (IsCutShort (allocator.rules i) n (completed (allocator.rules i) (allocator.turns i) n (followed (allocator.rules i) n r.order.items picks)) c.run_order.new.self.order.items)) (limit_is r.machine r.limit c.self.invariant) c.run_order.ensures.err in
+    let fault = subst (λ n. IfErr c.run_order.result (IsCutShort (allocator.rules i) n (completed (allocator.rules i) (allocator.turns i) n (followed (allocator.rules i) n r.order.items picks)) c.run_order.new.self.order.items)) c.self.invariant c.run_order.ensures.err in
     subst (λ (p : Played). IfErr c.run_order.result (IsCutShort (allocator.rules p.input) p.input.asked.config.events (completed (allocator.rules p.input) (allocator.turns p.input) p.input.asked.config.events (followed (allocator.rules p.input) p.input.asked.config.events p.order picks)) c.run_order.new.self.order.items)) c.self.view_is fault
 
 pub returns-clause-lawful : goal.returns-clause-lawful
 returns-clause-lawful c =
     let r = c.run_order.new.self in
-    let limit : r.limit ≡ r.machine.config.events = c.run_order.ensures.limit ∙ (c.self.invariant ∙ ap (λ (m : AllocMachine). m.config.events) (sym c.run_order.ensures.machine)) in
+    let limit : r.limit ≡ r.machine.setting.config.events = c.run_order.ensures.limit ∙ (c.self.invariant ∙ ap (λ (m : AllocMachine). m.setting.config.events) (sym c.run_order.ensures.machine)) in
     lawful_in r.machine r.order.items r.limit r.moves r.few limit

@@ -7,7 +7,7 @@ use Rattle.tc_model.specs.Serial.{completed, IsCutShort}
 use Rattle.cpu_rows.specs.Machine as allocator
 use Rattle.tc_machine.specs.Played.{Played}
 use Rattle.tc_machine.specs.Held.{input_in}
-use Rattle.tc_machine.proofs.StateFacts.{limit_is, lawful_in}
+use Rattle.tc_machine.proofs.StateFacts.{lawful_in}
 use Rattle.tc_machine.proofs.state.State.run_serial.Goals as goal
 
 pub returns-clause-ok : goal.returns-clause-ok
@@ -15,7 +15,7 @@ returns-clause-ok c =
     let r = c.self.inside.replay in
     let i = input_in r.machine in
     let new = c.run_serial.new.self.order.items in
-    let ok = subst (λ n. OnOk c.run_serial.result (new ≡ completed (allocator.rules i) (allocator.turns i) n r.order.items)) (limit_is r.machine r.limit c.self.invariant) c.run_serial.ensures.ok in
+    let ok = subst (λ n. OnOk c.run_serial.result (new ≡ completed (allocator.rules i) (allocator.turns i) n r.order.items)) c.self.invariant c.run_serial.ensures.ok in
     subst (λ (p : Played). OnOk c.run_serial.result (new ≡ completed (allocator.rules p.input) (allocator.turns p.input) p.input.asked.config.events p.order)) c.self.view_is ok
 
 pub returns-clause-ended : goal.returns-clause-ended
@@ -27,11 +27,11 @@ pub returns-clause-fault : goal.returns-clause-fault
 returns-clause-fault c =
     let r = c.self.inside.replay in
     let i = input_in r.machine in
-    let fault = subst (λ n. IfErr c.run_serial.result (IsCutShort (allocator.rules i) n (completed (allocator.rules i) (allocator.turns i) n r.order.items) c.run_serial.new.self.order.items)) (limit_is r.machine r.limit c.self.invariant) c.run_serial.ensures.err in
+    let fault = subst (λ n. IfErr c.run_serial.result (IsCutShort (allocator.rules i) n (completed (allocator.rules i) (allocator.turns i) n r.order.items) c.run_serial.new.self.order.items)) c.self.invariant c.run_serial.ensures.err in
     subst (λ (p : Played). IfErr c.run_serial.result (IsCutShort (allocator.rules p.input) p.input.asked.config.events (completed (allocator.rules p.input) (allocator.turns p.input) p.input.asked.config.events p.order) c.run_serial.new.self.order.items)) c.self.view_is fault
 
 pub returns-clause-lawful : goal.returns-clause-lawful
 returns-clause-lawful c =
     let r = c.run_serial.new.self in
-    let limit : r.limit ≡ r.machine.config.events = c.run_serial.ensures.limit ∙ (c.self.invariant ∙ ap (λ (m : AllocMachine). m.config.events) (sym c.run_serial.ensures.machine)) in
+    let limit : r.limit ≡ r.machine.setting.config.events = c.run_serial.ensures.limit ∙ (c.self.invariant ∙ ap (λ (m : AllocMachine). m.setting.config.events) (sym c.run_serial.ensures.machine)) in
     lawful_in r.machine r.order.items r.limit r.moves r.few limit

@@ -1,0 +1,9 @@
+//! The per-CPU caches as a front-end of the allocator: their parts at the start, and the acts of their rows.
+#![tactic(auto)]
+
+mod caches;
+mod opening;
+#[cfg(test)]
+mod tests;
+
+pub use caches::{CpuCaches, CpuLocal};

@@ -1,0 +1,316 @@
+//! The acts at a CPU: the thread's own, which it may leave for another CPU before an instruction, and those
+//! of a thread that stops it.
+ghost use Rattle.std.specs.Prelude.{◌≡◌, ◌≢◌, ◌<◌, ◌+◌, ◌-◌, ◌^◌, length, None, Some, is_some, true};
+ghost use Rattle.tc_model.specs.declared.calls.Call.TheVariants.{Drain};
+ghost use Rattle.cpu_slab.specs.Caps.{cap_fault};
+ghost use Rattle.rseq_core.specs.Acts as rseq;
+ghost use Rattle.cpu_drain.specs.Drains as drains;
+ghost use Rattle.cpu_rows.specs.declared.row.CpuRow.TheVariants as front;
+ghost use Rattle.cpu_rows.specs.declared.row.CpuStep.TheVariants.{Start};
+ghost use Rattle.call_steps.specs.declared.step.Next.TheVariants as next;
+ghost use Rattle.cpu_rows.specs.declared.row.Stopping.TheVariants as stopping;
+ghost use Rattle.cpu_rows.specs.CpuActs.{due, cpu_acts, sequence, replied, after_pop, after_stock, after_push, grew_to, stops, drains_on, took, cap_answer, started, left_for, yields_to_enter, yields_row};
+ghost use Rattle.cpu_rows.specs.CpuFits.{FitsCpu, FitsSequence, FitsSetCap, IsSequence, taken_by};
+
+use crate::row::{CpuRow, CpuStep, Draining, Resizing, Stopping};
+use crate::seat::CpuSeat;
+use call_steps::{Asking, Freeing, Giving, Next, Serving};
+use cpu_drain::{StopAnswer, fence, set_cap, start, stop, take_class};
+use cpu_slab::CapFault;
+use rseq_core::{CpuPart, Grew, Instructed, Regs, Reply, Seq, grow_here, instruct, leave};
+use size_classes::ClassTable;
+use tc_model::{Answer, MoveTo};
+use tc_units::{Class, ThreadNo};
+
+/// Executed instructions since a switch from which on a thread that runs is polite to be switched out.
+const LONG_RUN: u32 = 256;
+
+/// The act of a row at a CPU, and what comes behind it.
+pub fn act_cpu(
+    table: &ClassTable,
+    cpu: &mut CpuPart,
+    seat: &mut CpuSeat,
+    regs: &mut Regs,
+    row: CpuStep,
+) -> Next<CpuRow>
+    requires { FitsCpu table.now cpu.old seat.old regs.old row }
+    ensures cpu { cpu.new ≡ (cpu_acts table.now cpu.old seat.old regs.old row).part }
+    ensures seat { seat.new ≡ (cpu_acts table.now cpu.old seat.old regs.old row).seat }
+    ensures regs { regs.new ≡ (cpu_acts table.now cpu.old seat.old regs.old row).regs }
+    ensures next { result ≡ (cpu_acts table.now cpu.old seat.old regs.old row).next }
+{
+    let thread = regs.thread;
+    match row {
+        CpuStep::Grow(asking) => grow(cpu, seat, regs, asking),
+        CpuStep::Stop(stopping) => stop_cpu(cpu, thread, stopping),
+        CpuStep::Fence(stopping) => {
+            fence(cpu, thread);
+            Next::Row(CpuRow::Cpu(CpuStep::Take(stopping)))
+        }
+        CpuStep::Take(stopping) => {
+            let class = regs.class;
+            take_class(cpu, thread, class, &mut regs.hand);
+            took(table, seat, regs, stopping)
+        }
+        CpuStep::SetCap(resizing) => resize(cpu, regs, resizing),
+        CpuStep::Start(stopping) => {
+            start(cpu, thread);
+            started(seat, regs, stopping)
+        }
+        CpuStep::Leave => leave_at_end(cpu, seat, regs),
+        row => sequence(table, cpu, seat, regs, row),
+    }
+}
+
+/// The thread's move, where it comes before the next instruction.
+fn due(seat: &CpuSeat, ran: u32) -> Option<MoveTo>
+    requires { ran < 2 ^ 32 - 1 }
+    ensures { result ≡ due seat.now.moved ran }
+{
+    match seat.moved {
+        Some(to) if to.before == ran + 1 => Some(to),
+        _ => None,
+    }
+}
+
+/// A thread with a sequence leaves for the CPU of its move, switches in, goes back, or executes one
+/// instruction.
+fn sequence(
+    table: &ClassTable,
+    cpu: &mut CpuPart,
+    seat: &mut CpuSeat,
+    regs: &mut Regs,
+    row: CpuStep,
+) -> Next<CpuRow>
+    requires fits { FitsSequence table.now cpu.old regs.old }
+    requires row { IsSequence row }
+    ensures cpu { cpu.new ≡ (sequence table.now cpu.old seat.old regs.old row).part }
+    ensures seat { seat.new ≡ (sequence table.now cpu.old seat.old regs.old row).seat }
+    ensures regs { regs.new ≡ (sequence table.now cpu.old seat.old regs.old row).regs }
+    ensures next { result ≡ (sequence table.now cpu.old seat.old regs.old row).next }
+{
+    if let Some(to) = due(seat, regs.ran) {
+        leave(cpu, regs);
+        seat.arrive(to.cpu);
+        return Next::Row(CpuRow::Cpu(row));
+    }
+    match instruct(cpu, regs) {
+        Instructed::Done(reply) => go_on(table, seat, regs, row, reply),
+        _ => Next::Row(CpuRow::Cpu(row)),
+    }
+}
+
+/// The call goes on by what its sequence replied.
+fn go_on(
+    table: &ClassTable,
+    seat: &CpuSeat,
+    regs: &mut Regs,
+    row: CpuStep,
+    reply: Reply,
+) -> Next<CpuRow>
+    requires class { regs.old.class.0 < length table.now }
+    requires row { IsSequence row }
+    ensures regs { regs.new ≡ (replied table.now seat.now regs.old row reply).0 }
+    ensures next { result ≡ (replied table.now seat.now regs.old row reply).1 }
+{
+    match row {
+        CpuStep::Pop(asking) => popped(seat, asking, reply),
+        CpuStep::Stock(serving) => stocked(seat, regs, serving),
+        CpuStep::Push(freeing) => pushed(table, seat, regs, freeing, reply),
+        CpuStep::PopBatch(freeing) => seat.give_away(Giving::Freed(freeing)),
+        _ => unreachable!(),
+    }
+}
+
+/// An allocation has its object, or lets its class grow, or looks elsewhere.
+fn popped(seat: &CpuSeat, asking: Asking, reply: Reply) -> Next<CpuRow>
+    ensures { result ≡ after_pop seat.now asking reply }
+{
+    match reply {
+        Reply::Popped => Next::Serve(asking),
+        Reply::Empty => Next::Row(CpuRow::Cpu(CpuStep::Grow(asking))),
+        _ => seat.look_on(asking),
+    }
+}
+
+/// An allocation has pushed all that it fetched besides, or gives the rest away.
+fn stocked(seat: &CpuSeat, regs: &Regs, serving: Serving) -> Next<CpuRow>
+    ensures { result ≡ after_stock seat.now serving regs.now.hand.items }
+{
+    if regs.hand.as_slice().is_empty() {
+        Next::Publish(serving)
+    } else {
+        seat.give_away(Giving::Rest(serving))
+    }
+}
+
+/// A free has pushed its object, or pops a batch to give it away too, or gives its object away.
+fn pushed(
+    table: &ClassTable,
+    seat: &CpuSeat,
+    regs: &mut Regs,
+    freeing: Freeing,
+    reply: Reply,
+) -> Next<CpuRow>
+    requires class { regs.old.class.0 < length table.now }
+    ensures regs { regs.new ≡ (after_push table.now seat.now regs.old freeing reply).0 }
+    ensures next { result ≡ (after_push table.now seat.now regs.old freeing reply).1 }
+{
+    match reply {
+        Reply::Pushed { .. } => Next::Freed(freeing),
+        Reply::Full => {
+            let class = regs.class;
+            let want = u32::from(table.row(class).batch);
+            regs.start(class, Seq::PopBatch { want });
+            Next::Row(CpuRow::Cpu(CpuStep::PopBatch(freeing)))
+        }
+        _ => seat.give_away(Giving::Freed(freeing)),
+    }
+}
+
+/// A thread with a growth to do switches in, goes back, or lets its class grow.
+fn grow(cpu: &mut CpuPart, seat: &CpuSeat, regs: &mut Regs, asking: Asking) -> Next<CpuRow>
+    requires class { regs.old.class.0 < length cpu.old.slab.rows }
+    requires epoch { cpu.old.epoch < 2 ^ 64 - 1 }
+    ensures cpu { cpu.new ≡ (rseq.grew_here cpu.old regs.old).cpu }
+    ensures regs { regs.new ≡ (rseq.grew_here cpu.old regs.old).regs }
+    ensures next { result ≡ grew_to seat.now asking (rseq.grew_here cpu.old regs.old).answer }
+{
+    match grow_here(cpu, regs) {
+        Grew::Done => seat.look_on(asking),
+        _ => Next::Row(CpuRow::Cpu(CpuStep::Grow(asking))),
+    }
+}
+
+/// A drain or a resize stops a CPU, or ends where another thread has.
+fn stop_cpu(cpu: &mut CpuPart, thread: ThreadNo, stopping: Stopping) -> Next<CpuRow>
+    requires { cpu.old.stopper ≢ Some thread }
+    ensures cpu { cpu.new ≡ (stops cpu.old thread stopping cpu.old.stopper).0 }
+    ensures next { result ≡ (stops cpu.old thread stopping cpu.old.stopper).1 }
+{
+    match stop(cpu, thread) {
+        StopAnswer::Stopped => Next::Row(CpuRow::Cpu(CpuStep::Fence(stopping))),
+        StopAnswer::Busy { owner } => {
+            let answer = Answer::Busy { owner };
+            Next::Decide { answer, row: None }
+        }
+    }
+}
+
+/// A drain gives away what it took of a class, and a resize sets the capacity first.
+fn took(table: &ClassTable, seat: &CpuSeat, regs: &mut Regs, stopping: Stopping) -> Next<CpuRow>
+    requires { taken_by stopping + length regs.old.hand.items < 2 ^ 64 }
+    ensures regs { regs.new ≡ (took table.now seat.now regs.old stopping).0 }
+    ensures next { result ≡ (took table.now seat.now regs.old stopping).1 }
+{
+    match stopping {
+        Stopping::Drain(draining) => drained(table, seat, regs, draining),
+        Stopping::Resize(resizing) => Next::Row(CpuRow::Cpu(CpuStep::SetCap(resizing))),
+    }
+}
+
+/// A drain gives away what it took of a class, and counts it.
+fn drained(table: &ClassTable, seat: &CpuSeat, regs: &mut Regs, draining: Draining) -> Next<CpuRow>
+    requires { draining.taken + length regs.old.hand.items < 2 ^ 64 }
+    ensures regs { regs.new ≡ (took table.now seat.now regs.old (stopping.Drain draining)).0 }
+    ensures next { result ≡ (took table.now seat.now regs.old (stopping.Drain draining)).1 }
+{
+    let came = regs.hand.as_slice().len();
+    let taken = draining.taken + came as u64;
+    let (class, row) = drain_on(table, regs.class, Draining { taken, ..draining });
+    if came == 0 {
+        regs.class = class;
+        Next::Row(CpuRow::Cpu(row))
+    } else {
+        seat.give_away(Giving::Row { class, row })
+    }
+}
+
+/// A drain takes the next class, and starts the CPU again behind the last one.
+fn drain_on(table: &ClassTable, class: Class, draining: Draining) -> (Class, CpuStep)
+    ensures { result ≡ drains_on table.now class draining }
+{
+    let stopping = Stopping::Drain(draining);
+    if u32::from(class.0) + 1 < table.len() {
+        (Class(class.0 + 1), CpuStep::Take(stopping))
+    } else {
+        (class, CpuStep::Start(stopping))
+    }
+}
+
+/// A resize sets the capacity of the class, or that is refused.
+fn resize(cpu: &mut CpuPart, regs: &Regs, resizing: Resizing) -> Next<CpuRow>
+    requires { FitsSetCap cpu.old regs.now }
+    ensures cpu { cpu.new ≡ drains.capped cpu.old regs.now.class.0 resizing.cap }
+    ensures next { result ≡ next.Decide (cap_answer (cap_fault cpu.old.slab regs.now.class.0 resizing.cap)) (Some (front.Cpu (Start (stopping.Resize resizing)))) }
+{
+    let answer = match set_cap(cpu, regs.thread, regs.class, resizing.cap) {
+        Ok(()) => Answer::CapSet,
+        Err(CapFault::OverStatic { cap }) => Answer::OverStatic { cap },
+        Err(CapFault::OverLimit { sum }) => Answer::OverLimit { sum },
+    };
+    let row = CpuStep::Start(Stopping::Resize(resizing));
+    Next::Decide {
+        answer,
+        row: Some(CpuRow::Cpu(row)),
+    }
+}
+
+/// A drain ends, and a resize gives away what it took.
+fn started(seat: &CpuSeat, regs: &Regs, stopping: Stopping) -> Next<CpuRow>
+    ensures { result ≡ started seat.now regs.now.hand.items stopping }
+{
+    match stopping {
+        Stopping::Drain(draining) => {
+            let objects = draining.taken;
+            let answer = Answer::Drained { objects };
+            Next::Decide { answer, row: None }
+        }
+        Stopping::Resize(_) if regs.hand.as_slice().is_empty() => Next::End,
+        Stopping::Resize(_) => seat.give_away(Giving::End),
+    }
+}
+
+/// The thread leaves for the CPU of its move, and its call ends.
+fn leave_at_end(cpu: &mut CpuPart, seat: &mut CpuSeat, regs: &mut Regs) -> Next<CpuRow>
+    requires moved { is_some seat.old.moved ≡ true }
+    requires epoch { cpu.old.epoch < 2 ^ 64 - 1 }
+    ensures cpu { cpu.new ≡ (left_for cpu.old seat.old regs.old seat.old.moved).part }
+    ensures seat { seat.new ≡ (left_for cpu.old seat.old regs.old seat.old.moved).seat }
+    ensures regs { regs.new ≡ (left_for cpu.old seat.old regs.old seat.old.moved).regs }
+    ensures next { result ≡ next.End }
+{
+    match seat.moved {
+        Some(to) => {
+            leave(cpu, regs);
+            seat.arrive(to.cpu);
+            Next::End
+        }
+        None => unreachable!(),
+    }
+}
+
+/// Whether it is polite to let the thread act at a CPU now: not where it would switch in while another
+/// thread runs there that has begun something and has executed fewer than 256 instructions.
+pub fn yields(cpu: &CpuPart, seat: &CpuSeat, regs: &Regs, row: CpuStep) -> bool
+    requires { regs.now.ran < 2 ^ 32 - 1 }
+    ensures { result ≡ yields_row cpu.now seat.now regs.now row }
+{
+    match row {
+        CpuStep::Grow(_) => may_enter(cpu, regs.thread),
+        CpuStep::Pop(_) | CpuStep::Stock(_) | CpuStep::Push(_) | CpuStep::PopBatch(_) => {
+            due(seat, regs.ran).is_some() || may_enter(cpu, regs.thread)
+        }
+        _ => true,
+    }
+}
+
+/// Whether the thread runs there, or it is polite to switch it in.
+fn may_enter(cpu: &CpuPart, thread: ThreadNo) -> bool
+    ensures { result ≡ yields_to_enter cpu.now thread }
+{
+    match cpu.running {
+        Some(running) => { running.0 == thread.0 || !cpu.is_open || cpu.ran >= LONG_RUN }
+        None => true,
+    }
+}

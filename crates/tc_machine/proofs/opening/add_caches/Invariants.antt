@@ -1,8 +1,0 @@
-use Rattle.std.proofs.Common.{◌≡◌, ◌++◌, map}
-use Rattle.std.specs.List.{range_with_len}
-use Rattle.alloc_rules.specs.declared.part.Part.TheVariants as part
-use Rattle.cpu_rows.specs.CpuFront.{first_cache}
-use Rattle.tc_machine.proofs.opening.add_caches.Given as goal
-
-abbrev pub invariant-loop-class : goal.invariant-loop-class
-invariant-loop-class l = l.parts.items ≡ l.fn.parts.items ++ map part.Front (map (first_cache l.config) (range_with_len 0 l.class))
