@@ -14,8 +14,10 @@ use Rattle.tc_model.specs.Input.{Input}
 use Rattle.tc_model.specs.Run.{Rules, World, world_of, start, run}
 use Rattle.tc_model.specs.Steps.{moving}
 use Rattle.tc_model.specs.Chains.{IsPolite}
+use Rattle.tc_model.specs.Replays.{HaveEnded}
 use Rattle.tc_model.specs.Serial.{completed, completion}
 use Rattle.tc_model.proofs.Longer.{polite_moves}
+use Rattle.tc_model.proofs.Picks.{length_run}
 use Rattle.tc_model.proofs.MovingFacts.{moving_all}
 use Rattle.cpu_rows.specs.PerCpu.{CpuLocal as Local}
 use Rattle.cpu_rows.specs.Machine.{Part}
@@ -38,6 +40,12 @@ few_threads input parts locals n is same few =
     let b = length-map (range_with_len 0 input.asked.config.threads) (first_of input) in
     let d = length-range_with_len 0 input.asked.config.threads in
     omega (arith, a, b, d, same, few)
+
+-- behind any order there are as many as at the start
+pub many_locals : (input : Input) (order : List ℕ) → length (run (rules input) order).locals ≡ input.asked.config.threads
+many_locals input order =
+    let each = length-map (range_with_len 0 input.asked.config.threads) (first_of input) in
+    length_run (rules input) order ∙ (each ∙ length-range_with_len 0 input.asked.config.threads)
 
 -- what was left is the run of the order that came
 pub left_run : {P L : Type 0} (r : Rules P L) (parts : List P) (locals : List L) (es : List Entry) (order : List ℕ) → IsRun r parts locals es → order ≡ threads_in es → world_of parts locals ≡ run r order
@@ -67,16 +75,19 @@ by_threads_result telling other input came order (Err e) same is polite ran_so =
 -- what was left under part locks
 pub parts_left : (input other : Input) (es : List Entry) (lasts : List Turn) (halt : Option Halt) (result : Result Came AllocError)
     → other ≡ input → IsPolite (rules input) (start (rules input)) (threads_in es) → halt ≡ halt_among lasts → (halt_among lasts ≡ None → All (λ last. last ≡ Ended) lasts)
-    → (halt ≡ Some Full → length es ≡ input.asked.config.events)
+    → (halt ≡ Some Full → length es ≡ input.asked.config.events) → length lasts ≡ input.asked.config.threads
+    → (halt ≡ None → HaveEnded (rules input) (run (rules input) (threads_in es)))
     → IfOk result (λ c. c.state.input ≡ other) → IfOk result (λ c. c.state.order ≡ threads_in es) → IfOk result (λ c. c.locks ≡ Parts) → IfOk result (λ c. c.lasts.items ≡ lasts)
     → IfOk result (λ c. c.halt ≡ halt) → IfOk result (λ c. c.halt ≡ Some Memory → ⊥) → IfOk result (IsLeft input Parts)
-parts_left input other es lasts halt (Ok c) same polite is over full i o k l h enough = record {
+parts_left input other es lasts halt (Ok c) same polite is over full each ended i o k l h enough = record {
   input_is = i ∙ same;
   locks_are = k;
   polite = subst (IsPolite (rules input) (start (rules input))) (sym o) polite;
+  each = ap length l ∙ each;
   halt_is = h ∙ (is ∙ ap halt_among (sym l));
   enough = enough;
   over = λ none. subst (All (λ last. last ≡ Ended)) (sym l) (over (sym is ∙ (sym h ∙ none)));
+  ended = λ _ none. subst (λ x. HaveEnded (rules input) (run (rules input) x)) (sym o) (ended (sym h ∙ none));
   full = λ _ at_limit. ap length o ∙ (length-map es (λ (e : Entry). e.thread.0) ∙ full (sym h ∙ at_limit));
 }
-parts_left input other es lasts halt (Err e) same polite is over full i o k l h enough = tt
+parts_left input other es lasts halt (Err e) same polite is over full each ended i o k l h enough = tt

@@ -16,6 +16,9 @@ const SERIAL: &str = "tcreplay serial --classes T0";
 
 const ORDER: &str = "tcreplay order --order O --classes T0";
 
+/// The journal stands on the shelf as `O`, as an order file does.
+const AUDIT: &str = "tcreplay audit --journal O --classes T0";
+
 /// 37 pages of 8192 bytes, at the start of the first hugepage.
 pub(crate) const ONE: &[u8] = b"a 0 0 300000\n";
 
@@ -430,18 +433,24 @@ fn pieces(rt: HostRuntime) -> Result<(), Fail> {
 #[test]
 fn memory_that_runs_out(rt: HostRuntime) -> Result<(), Fail> {
     let alloc = rt.alloc();
-    let Ok(mut ends) = open(alloc, OBJECTS, OBJECTS_ORDER) else {
-        return Ok(());
-    };
-    let Ok(outcome) = replay(&rt, alloc, ORDER, &mut ends) else {
-        return Ok(());
-    };
-    let memory = refused(ORDER, 7, End::Memory, b"tcreplay: out of memory\n");
-    if outcome.end == End::Memory {
-        assert_case(&rt, &memory, &outcome, &ends);
-    } else {
-        assert_eq!(rt; outcome.end, End::Done);
-        assert_eq!(rt; ends.out.taken(), OBJECTS_TEXT);
+    for (command, trace, file, text) in [
+        (SERIAL, SMALL, b"".as_slice(), SMALL_TEXT),
+        (ORDER, OBJECTS, OBJECTS_ORDER, OBJECTS_TEXT),
+        (AUDIT, OBJECTS, OBJECTS_TEXT, b"yes 6\n".as_slice()),
+    ] {
+        let Ok(mut ends) = open(alloc, trace, file) else {
+            return Ok(());
+        };
+        let Ok(outcome) = replay(&rt, alloc, command, &mut ends) else {
+            return Ok(());
+        };
+        if outcome.end == End::Memory {
+            let memory = refused(command, 7, End::Memory, b"tcreplay: out of memory\n");
+            assert_case(&rt, &memory, &outcome, &ends);
+        } else {
+            assert_eq!(rt; outcome.end, End::Done, "at {command}");
+            assert_eq!(rt; ends.out.taken(), text, "at {command}");
+        }
     }
     Ok(())
 }

@@ -152,12 +152,12 @@ fn run_under<R: Threads + Wait + Sync, G: Gate + Sync>(
     }
 }
 
-/// Ends every call of a state that threads left, in trace order.
-fn complete(alloc: Global, state: State, telling: Telling) -> Result<Ran, AllocError>
-    requires polite { IsPolite (allocator.rules state.input) (start (allocator.rules state.input)) state.order }
-    ensures { IfOk result (IsRanByThreads telling state.input) }
+/// Ends every call of what threads left, in trace order.
+fn complete(alloc: Global, came: Came, telling: Telling) -> Result<Ran, AllocError>
+    requires left { IsLeft came.state.input came.locks came }
+    ensures { IfOk result (IsRanByThreads telling came.state.input) }
 {
-    let mut state = state;
+    let mut state = came.state;
     let completed = state.run_serial();
     come_to(alloc, state, completed, telling)
 }
@@ -182,5 +182,5 @@ pub fn run_by_threads<R: Threads + Wait + Sync, G: Gate + Sync>(
     let events = trace.config.events;
     let state = State::open(alloc, table, trace)?;
     let came = run_under(rt, alloc, gate, state, locks, events)?;
-    complete(alloc, came.state, telling)
+    complete(alloc, came, telling)
 }

@@ -8,13 +8,13 @@ use Rattle.tcreplay.proofs.workers.complete.Goals as goal
 
 pub come_to-requires-clause-fault : goal.come_to-requires-clause-fault
 come_to-requires-clause-fault c =
-    let input = c.args.state.input in
-    let all = completed (rules input) (turns input) input.asked.config.events c.args.state.order in
+    let input = c.args.came.state.input in
+    let all = completed (rules input) (turns input) input.asked.config.events c.args.came.state.order in
     (all, subst (λ (i : Input). IfErr c.run_serial-completed.result (IsCutShort (rules i) i.asked.config.events all c.run_serial-completed.new.self.order)) (sym c.run_serial-completed.ensures.input) c.run_serial-completed.ensures.fault)
 
 pub returns : goal.returns
 returns c =
-    let input = c.args.state.input in
-    let all = completed (rules input) (turns input) input.asked.config.events c.args.state.order in
+    let input = c.args.came.state.input in
+    let all = completed (rules input) (turns input) input.asked.config.events c.args.came.state.order in
     let fault = subst (λ (i : Input). IfErr c.run_serial-completed.result (IsCutShort (rules i) i.asked.config.events all c.run_serial-completed.new.self.order)) (sym c.run_serial-completed.ensures.input) c.run_serial-completed.ensures.fault in
-    by_threads_result c.args.telling c.run_serial-completed.new.self.input input c.args.state.order all c.come_to.result c.run_serial-completed.ensures.input refl c.requires.polite (c.come_to.ensures.ran all c.run_serial-completed.ensures.ok fault)
+    by_threads_result c.args.telling c.run_serial-completed.new.self.input input c.args.came.state.order all c.come_to.result c.run_serial-completed.ensures.input refl c.requires.left.polite (c.come_to.ensures.ran all c.run_serial-completed.ensures.ok fault)

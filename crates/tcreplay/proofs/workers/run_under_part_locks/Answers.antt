@@ -1,12 +1,14 @@
-use Rattle.std.proofs.Common.{◌≡◌, Some, sym, ap, ◌∙◌, subst, arith}
+use Rattle.std.proofs.Common.{◌≡◌, Some, None, length, sym, ap, ◌∙◌, subst, arith}
+use Rattle.std.specs.Prelude.{All}
 use Rattle.tc_model.specs.declared.board.Halt.TheVariants.{Full}
 use Rattle.tc_model.specs.Input.{Input}
-use Rattle.tc_model.specs.Run.{start}
+use Rattle.tc_model.specs.Run.{start, run}
+use Rattle.tc_model.specs.Replays.{HaveEnded}
 use Rattle.tc_model.specs.Chains.{IsPolite}
 use Rattle.cpu_rows.specs.Machine.{rules}
 use Rattle.tc_machine.specs.Held.{input_in}
 use Rattle.relay.specs.Ends.{IsRun, threads_in}
-use Rattle.tcreplay.proofs.WorkerFacts.{few_threads, parts_left}
+use Rattle.tcreplay.proofs.WorkerFacts.{few_threads, many_locals, parts_left}
 use Rattle.tcreplay.proofs.workers.run_under_part_locks.Goals as goal
 
 pub run_all-requires-clause-few : goal.run_all-requires-clause-few
@@ -24,7 +26,13 @@ returns g c =
     let input = c.args.state.input in
     let polite = subst (λ (i : Input). IsPolite (rules i) (start (rules i)) (threads_in left.order.items)) c.split-machine.ensures.input c.in-Some.ensures.run.polite in
     let full = λ (is : left.halt ≡ Some Full). c.in-Some.ensures.full is ∙ c.requires.events in
+    let machine = input_in c.split-machine.result.0 in
+    let picks = threads_in left.order.items in
+    let behind = many_locals machine picks ∙ ap (λ (i : Input). i.asked.config.threads) c.split-machine.ensures.input in
+    let each = c.in-Some.ensures.lasts.many ∙ (ap length c.in-Some.ensures.run.locals_are ∙ behind) in
+    let ended = λ (none : left.halt ≡ None). subst (λ (i : Input). HaveEnded (rules i) (run (rules i) picks)) c.split-machine.ensures.input
+    (subst (All (λ l. (rules machine).want l ≡ None)) c.in-Some.ensures.run.locals_are (c.in-Some.ensures.ended none)) in
     record {
-      left = parts_left input (input_in left.closed.machine) left.order.items left.lasts.items left.halt c.gathered.result (ap input_in c.in-Some.ensures.machine ∙ c.split-machine.ensures.input) polite c.in-Some.ensures.halt c.in-Some.ensures.lasts.over full
+      left = parts_left input (input_in left.closed.machine) left.order.items left.lasts.items left.halt c.gathered.result (ap input_in c.in-Some.ensures.machine ∙ c.split-machine.ensures.input) polite c.in-Some.ensures.halt c.in-Some.ensures.lasts.over full each ended
           c.gathered.ensures.input c.gathered.ensures.order c.gathered.ensures.locks c.gathered.ensures.lasts c.gathered.ensures.halt c.gathered.ensures.enough;
     }
