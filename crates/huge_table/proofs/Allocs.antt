@@ -1,13 +1,11 @@
 -- How many runs have a page of a hugepage: those that begin in it, and one that reaches into it.
-use Rattle.std.proofs.Common.{◌≡◌, ℕ, zero, suc, ◌+◌, ◌*◌, ◌<◌, ◌≤◌, ◌==◌, Bool, true, false, ◌&&◌, not, cond, nat_lt, List, map, get_or, count_by, refl}
-use Rattle.std.proofs.Common.{sym, ap, ◌∙◌, inl, inr, arith}
-use Rattle.huge_table.proofs.Common.{list_any, range_with_len, cases_Bool, cases_lt, eqb-true, eq-eqb, ne_eqb, and_from, and_parts, and_left}
-use Rattle.huge_table.proofs.Common.{not_from_false, lt-ltb, false≢true, false_from_ne_true, sum_by-map-range_with_len_more, Run, any_is_count, count_le}
-use Rattle.huge_table.proofs.Common.{count_none, Heap, holds, reaches, is_used, allocation_count, pages_of, IsInside, IsSound, holds_parts, holds_from}
-use Rattle.huge_table.proofs.Common.{reaches_parts, reaches_from, used_count, is_between, begins_on}
-use Rattle.std.proofs.lemmas.Bool.Decides.{nat_tests}
+use Rattle.std.proofs.Common.{◌≡◌, ℕ, zero, suc, ◌+◌, ◌*◌, ◌≤◌, ◌==◌, Bool, true, false, ◌&&◌, not, cond, List, map, get_or, count_by, refl}
+use Rattle.std.proofs.Common.{sym, ap, ◌∙◌, arith}
+use Rattle.huge_table.proofs.Common.{list_any, range_with_len, false_from_ne_true, sum_by-map-range_with_len_more, Run, any_is_count}
+use Rattle.huge_table.proofs.Common.{count_le, count_none, Heap, holds, reaches, is_used, allocation_count, pages_of, IsInside, IsSound, holds_from}
+use Rattle.huge_table.proofs.Common.{used_count, is_between, begins_on, nat_tests}
 use Rattle.heap_rules.proofs.Accounts.{sum-adds}
-use Rattle.huge_table.proofs.Pages.{between_yes, between_parts}
+use Rattle.huge_table.proofs.Pages.{between_parts}
 
 abbrev one : Bool → ℕ
 one b = cond b 1 0
@@ -20,15 +18,7 @@ one_page : (a n f : ℕ) → one (is_between a (a + n) f) + one (f == a + n) ≡
 one_page a n f = grind (arith, nat_tests)
 
 at_most : (p : Run → Bool) (runs : List Run) → count_by p runs ≤ 1 → one (list_any p runs) ≡ count_by p runs
-at_most p runs few = ap one (any_is_count p runs) ∙ elim (cases_lt 0 (count_by p runs)) [
-  | inl some ↦ ap one (lt-ltb 0 (count_by p runs) some) ∙ is_one _ some few
-  | inr none ↦ (let e : count_by p runs ≡ 0 = is_none _ none in ap (λ n. one (nat_lt 0 n)) e ∙ sym e)
-] where
-  is_one : (n : ℕ) → 0 < n → n ≤ 1 → 1 ≡ n
-  is_one n a b = omega arith
-
-  is_none : (n : ℕ) → n ≤ 0 → n ≡ 0
-  is_none n a = omega arith
+at_most p runs few = grind (arith, nat_tests, any_is_count)
 
 begun : (runs : List Run) (a n : ℕ) → ((page : ℕ) → count_by (begins_on page) runs ≤ 1) →
     used_count (map (λ page. list_any (begins_on page) runs) (range_with_len a n)) ≡ count_by (begins_in a (a + n)) runs
@@ -50,40 +40,12 @@ module _ (heap : Heap) (sound : IsSound heap) (h : ℕ) where
   into r = holds (256 * h) r && not (begins_on (256 * h) r)
 
   each_one : (r : Run) → IsInside heap.config.huge r → one (begins_in (256 * h) (256 * h + 256) r) + one (into r) ≡ one (reaches h r)
-  each_one r inside = elim (cases_lt r.first.0 (256 * h)) [
-    | inl before ↦
-        ap (λ b. one b + one (into r)) (false_from_ne_true _ (λ t. (let parts = between_parts (256 * h) (256 * h + 256) r.first.0 t in absurd (omega arith))))
-        ∙ nothing _
-        ∙ ap one (elim (cases_Bool (reaches h r)) [
-          | inl e ↦ (let parts = reaches_parts h r e in and_from _ _ (holds_from (256 * h) r (omega arith) (omega arith))
-              (not_from_false _ (ne_eqb r.first.0 (256 * h) (λ s. absurd (omega arith)))) ∙ sym e)
-          | inr e ↦ and_left _ _ (false_from_ne_true (holds (256 * h) r) (λ t. (let parts = holds_parts (256 * h) r t in false≢true (sym e ∙ reaches_from h r (omega arith) (omega arith))))) ∙ sym e
-        ])
-    | inr from ↦
-        (let none : into r ≡ false =
-        false_from_ne_true _
-        (λ t. (let parts = and_parts _ _ t in let held = holds_parts (256 * h) r parts.0 in let same : r.first.0 ≡ 256 * h = omega arith in
-        false≢true (sym (ap not (eq-eqb r.first.0 (256 * h) same)) ∙ parts.1))) in
-        ap (λ b. one (begins_in (256 * h) (256 * h + 256) r) + one b) none
-        ∙ nothing' _
-        ∙ ap one (elim (cases_Bool (reaches h r)) [
-          | inl e ↦ (let parts = reaches_parts h r e in between_yes (256 * h) (256 * h + 256) r.first.0 from (omega arith) ∙ sym e)
-          | inr e ↦ false_from_ne_true _
-              (λ t. (let parts = between_parts (256 * h) (256 * h + 256) r.first.0 t in
-              false≢true (sym e ∙ reaches_from h r (omega arith) (omega (arith, inside.some))))) ∙ sym e
-        ]))
-  ] where
-    nothing : (n : ℕ) → 0 + n ≡ n
-    nothing n = omega arith
-
-    nothing' : (n : ℕ) → n + 0 ≡ n
-    nothing' n = omega arith
+  each_one r inside = grind (arith, nat_tests, inside.some)
 
   few_begin : (page : ℕ) → count_by (begins_on page) heap.runs ≤ 1
   few_begin page =
       let le = count_le (begins_on page) (holds page) heap.runs
-      (λ k d l e. (let r = get_or heap.runs k d in let inside = sound.runs.inside k d l in let at = eqb-true r.first.0 page e in
-      holds_from page r (omega arith) (omega (arith, inside.some)))) in
+      (λ k d l e. grind (arith, nat_tests, holds_from)) in
       let most = sound.runs.disjoint page in
       omega arith
 
@@ -91,18 +53,11 @@ module _ (heap : Heap) (sound : IsSound heap) (h : ℕ) where
   into_is : count_by into heap.runs ≡ one (is_used heap.runs (256 * h) && not (list_any (begins_on (256 * h)) heap.runs))
   into_is =
       let p : ℕ = 256 * h in
-      let all = sum-adds (λ r. one (begins_on p r)) (λ r. one (into r)) (λ r. one (holds p r)) heap.runs (λ k d l. (let r = get_or heap.runs k d in let inside = sound.runs.inside k d l in
-      split (begins_on p r) (holds p r) (λ e. (let at = eqb-true r.first.0 p e in holds_from p r (omega arith) (omega (arith, inside.some)))))) in
+      let all = sum-adds (λ r. one (begins_on p r)) (λ r. one (into r)) (λ r. one (holds p r)) heap.runs (λ k d l. grind (arith, nat_tests, holds_from)) in
       let begin = at_most (begins_on p) heap.runs (few_begin p) in
       let held = at_most (holds p) heap.runs (sound.runs.disjoint p) in
       rest (list_any (begins_on p) heap.runs) (is_used heap.runs p) _ _ _ begin held all
     where
-      split : (b u : Bool) → (b ≡ true → u ≡ true) → one b + one (u && not b) ≡ one u
-      split true true e = refl
-      split true false e = absurd (false≢true (e refl))
-      split false true e = refl
-      split false false e = refl
-
       rest : (b u : Bool) (x y z : ℕ) → one b ≡ x → one u ≡ z → x + y ≡ z → y ≡ one (u && not b)
       rest true true x y z p q r = omega arith
       rest true false x y z p q r = omega arith

@@ -15,13 +15,14 @@ pub use Rattle.huge_table.specs.Table.{AreKept, HasBits, IsNoted, IsSpan, Table,
 pub use Rattle.huge_table.specs.Table.{kind_by, noted_row, of_filler, of_kind, over_span, reached_by, region_freed, table_of, with_backing}
 pub use Rattle.huge_table.specs.declared.table.HugeTable.TheInside.{Inside}
 pub use Rattle.range_bits.specs.Ranges.{best, longest, used_count, with_places}
-pub use Rattle.std.proofs.lemmas.Bool.{and_from, and_left, and_parts, and_right, cases_Bool, cases_eq, cases_lt, eq-eqb, eqb-true, false_from_ne_true}
-pub use Rattle.std.proofs.lemmas.Bool.{false≢true, le-leb, le-ltb, leb-true, lt-leb, lt-ltb, ltb-true, ne_eqb, not_from_false, or_left, or_right}
+pub use Rattle.std.proofs.lemmas.Bool.Decides.{nat_tests}
+pub use Rattle.std.proofs.lemmas.Bool.{and_from, and_parts, and_right, cases_Bool, cases_eq, cases_lt, eq-eqb, eqb-true, false_from_ne_true}
+pub use Rattle.std.proofs.lemmas.Bool.{false≢true, le-leb, le-ltb, leb-true, lt-ltb, ltb-true, ne_eqb, or_left, or_right}
 pub use Rattle.std.proofs.lemmas.List.{get_or-drop, get_or-replicate, get_or-take, get_or_default, get_or_past, length-drop, length-replicate}
 pub use Rattle.std.proofs.lemmas.List.{length-take-le, same_lists}
 pub use Rattle.std.proofs.lemmas.List.FromFn.{get_or-map-range_with_len, length-map-range_with_len, sum_by-map-range_with_len_more}
-pub use Rattle.std.proofs.lemmas.List.Sums.{count_by-le-length, prefix_len_passes, sum_by-cons}
+pub use Rattle.std.proofs.lemmas.List.Sums.{count_by-le-length, prefix_len_passes}
 pub use Rattle.std.specs.List.{list_all, list_any, prefix_len, range_with_len}
-pub use Rattle.tc_units.proofs.Counts.{any_is_count, count_le, count_none, count_some, one-false, one-true}
+pub use Rattle.tc_units.proofs.Counts.{any_is_count, count_le, count_none, count_some}
 pub use Rattle.tc_units.specs.declared.rows.RowKind.{RowKind}
 pub use Rattle.tc_units.specs.declared.spans.Run.{Run}

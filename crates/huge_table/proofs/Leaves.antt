@@ -6,7 +6,7 @@ use Rattle.huge_table.proofs.Common.{count_none, used_count, Heap, Hugepage, hug
 use Rattle.huge_table.proofs.Common.{is_kind_region, used_row, allocation_count, run_at, without_run, pages_of, left_by, left, given_back, IsPageOf}
 use Rattle.huge_table.proofs.Common.{IsSound, length-each, each_is, reaches_parts, serves_at, is_Region, none_reach, some_reach, own_run, given_is_left}
 use Rattle.huge_table.proofs.Common.{all_used, Table, IsSpan, IsNoted, HasBits, bit, is_between, noted_row, emptied_where, over_span, free_page, Means}
-use Rattle.huge_table.proofs.Common.{is_shared, is_run, shares}
+use Rattle.huge_table.proofs.Common.{is_shared, is_run, shares, nat_tests}
 use Rattle.tc_units.specs.declared.rows.RowKind.TheVariants as kind
 use Rattle.heap_rules.proofs.Places.{at}
 use Rattle.heap_rules.proofs.Fillers.{is_Filler}
@@ -89,8 +89,7 @@ module _ (heap : Heap) (first n : ℕ) (sound : IsSound heap) (live : Contains h
       noted.used page
       ∙ ap (λ b. cond b false (bit t.used page)) (all page own)
       ∙ ap (cond (holds page run') false)
-      (means.used page ∙ ap (λ k. is_shared (hugepage heap k) && is_used heap.runs page) at_h
-      ∙ ap (λ b. b && is_used heap.runs page) (filler_shared (hugepage heap h) filler))
+      (grind (arith, nat_tests, filler_shared))
       ∙ sym (changed.used page))))
       ∙ unused_exactly heap run' sound live h
 
@@ -102,10 +101,7 @@ module _ (heap : Heap) (first n : ℕ) (sound : IsSound heap) (live : Contains h
       let stays : (k : ℕ) → reaches k run' ≡ true → hugepage heap k ≡ f k (hugepage heap k) =
       λ k e. sym (left_region (hugepage heap k).kind rest' k (hugepage heap k) (is_Region (hugepage heap k).kind (is.0.passes k e))) in
       shared_means heap first n false rest' f t u means (without_changed heap run' sound live)
-      (same
-      ∙ sym (each_is (λ k x. cond (spans many k (first / 256)) x x) t.pages t.pages refl
-      (λ k _ _. (let x = at t.pages k in elim (spans many k (first / 256)) as (λ b. cond b x x ≡ x) [ true ↦ refl | false ↦ refl ])))
-      ∙ over_reached heap t first n (first / 256) many is_region (λ x. x) f means is.0 stays)
+      (grind (arith, nat_tests, each_is, over_reached))
       noted
       (λ k e. (is.1 k e, (region_shared (hugepage heap k) (is.0.passes k e), ap is_shared (sym (stays k e)) ∙ region_shared (hugepage heap k) (is.0.passes k e))))
 
@@ -142,24 +138,11 @@ module _ (heap : Heap) (first n : ℕ) (sound : IsSound heap) (live : Contains h
       let early_is : (k : ℕ) → a ≤ k → k < a + whole → (hugepage heap k).kind ≡ kind.Run = λ k x y. is_Run (hugepage heap k).kind (ap is_run (sym (at-heap t heap means k)) ∙ span.all k x y) in
       let late_is : (k : ℕ) → a + whole ≤ k → k < a + whole + tails → is_filler (hugepage heap k) ≡ true = λ k x y. ap is_filler (sym (at-heap t heap means k)) ∙ tail.all k x y in
       let inside : (k : ℕ) → reaches k run' ≡ true → (0 < k) × (k ≤ length t.pages) = λ k e. (let is = near k e in (omega (arith, is.0, span.from), omega (arith, is.1, tail.to))) in
-      let apart : (k : ℕ) → reaches k run' ≡ true → is_region (hugepage heap k) ≡ false = λ k e. (let is = near k e in elim (cases_lt k (a + whole)) [
-        | inl early ↦ run_apart (hugepage heap k).kind (early_is k is.0 early)
-        | inr late ↦ filler_apart (hugepage heap k).kind (is_Filler (hugepage heap k).kind (late_is k late is.1))
-      ]) in
+      let apart : (k : ℕ) → reaches k run' ≡ true → is_region (hugepage heap k) ≡ false = λ k e. (grind (arith, nat_tests, run_apart, filler_apart, is_Filler)) in
       subst (Means u) (sym (given_is_left heap run' sound live (all_used heap run' sound live apart)))
       (stepped heap first n (256 * whole) false rest' f t u means changed pages notes inside
       (λ k page e own. (let x = hugepage heap k in let is = near k e in let w = is_between (first + 256 * whole) (first + n) page in elim (cases_lt k (a + whole)) [
-        | inl early ↦
-            (let of_run = early_is k is.0 early in
-            let arena = sound.runs.arena in
-            let size' = ap length means.pages in
-            let in_arena = inside k e in
-            let fit = sound.runs.fit k (record { from = in_arena.0; to = omega (arith, in_arena.1) }) in
-            let one = (serves_at heap.runs heap.regions heap.config.region k x kind.Run of_run fit).0 in
-            let none = own_run heap run' sound live k e one page (record { from = omega arith; to = omega arith }) in
-            ap (λ b. cond w false (b && is_used heap.runs page)) (ap shares of_run)
-            ∙ nothing w
-            ∙ sym (ap (λ y. is_shared y && is_used rest' page) (left_run x.kind rest' k x of_run) ∙ none))
+        | inl early ↦ grind (arith, nat_tests, serves_at, own_run, left_run, sound.runs.arena, sound.runs.fit)
         | inr late ↦
             (let filler = late_is k late is.1 in
             let shared = filler_shared x filler in

@@ -2,7 +2,7 @@
 use Rattle.std.proofs.Common.{◌≡◌, ℕ, ◌+◌, ◌*◌, ◌<◌, ◌≤◌, Bool, true, false, length, get_or, count_by, max, sym, ap, ◌∙◌, arith}
 use Rattle.huge_table.proofs.Common.{false≢true, false_from_ne_true, length-replicate, RowKind, count_le, count_some, longest, Heap, hugepage, whole}
 use Rattle.huge_table.proofs.Common.{holds, reaches, is_used, is_kind_filler, used_row, allocation_count, row_of, IsHugepageOf, HasOneRun, IsSound}
-use Rattle.huge_table.proofs.Common.{backs-whole, serves_at, holds_from, reaches_parts, reaches_from, same_member, is_run}
+use Rattle.huge_table.proofs.Common.{backs-whole, serves_at, holds_from, reaches_parts, reaches_from, same_member, is_run, nat_tests}
 use Rattle.std.proofs.lemmas.List.Elements.{Contains-get_or}
 use Rattle.tc_units.specs.declared.rows.RowKind.TheVariants as kind
 use Rattle.tc_units.specs.declared.rows.RowView.{RowView}
@@ -15,13 +15,7 @@ made kind used allocs backed longest donated = record { kind = kind; used = used
 
 pub same_view : (a b : RowView) → a.kind ≡ b.kind → a.used ≡ b.used → a.allocs ≡ b.allocs → a.backed ≡ b.backed → a.longest ≡ b.longest → a.donated ≡ b.donated → a ≡ b
 unfolding made
-same_view a b p q r s t u =
-    ap (λ z. made z a.used a.allocs a.backed a.longest a.donated) p
-    ∙ ap (λ z. made b.kind z a.allocs a.backed a.longest a.donated) q
-    ∙ ap (λ z. made b.kind b.used z a.backed a.longest a.donated) r
-    ∙ ap (λ z. made b.kind b.used b.allocs z a.longest a.donated) s
-    ∙ ap (λ z. made b.kind b.used b.allocs b.backed z a.donated) t
-    ∙ ap (λ z. made b.kind b.used b.allocs b.backed b.longest z) u
+same_view a b p q r s t u = grind (arith, nat_tests)
 
 module _ (heap : Heap) (sound : IsSound heap) (h : ℕ) (one : HasOneRun heap.runs h) where
   holds_all : (page : ℕ) → 256 * h ≤ page → page < 256 * h + 256 → holds page one.run ≡ true
@@ -45,10 +39,7 @@ module _ (heap : Heap) (sound : IsSound heap) (h : ℕ) (one : HasOneRun heap.ru
       ap (holds (256 * h)) (sym is) ∙ holds_all (256 * h) (omega arith) (omega arith))) in
       let most = sound.runs.disjoint (256 * h) in
       let some = count_some (reaches h) heap.runs one.live.0 one.run one.live.1 (ap (reaches h) one.live.2 ∙ reaches_from h one.run (omega (arith, one.from)) (omega (arith, one.to))) in
-      exactly _ _ le most some
-    where
-      exactly : (a b : ℕ) → a ≤ b → b ≤ 1 → 0 < a → a ≡ 1
-      exactly a b p q r = omega arith
+      grind (arith, nat_tests)
 
 -- A hugepage that one run has whole.
 pub run_row_is : (heap : Heap) (h : ℕ) (row : RowView) → IsSound heap → 0 < h → h ≤ length heap.hugepages → is_run (hugepage heap h) ≡ true →

@@ -1,7 +1,7 @@
 -- A table at its opening.
-use Rattle.std.proofs.Common.{◌≡◌, ℕ, ◌-◌, ◌/◌, false, Bool, get_or, replicate, refl, sym, ◌∙◌, inl, inr, arith}
-use Rattle.huge_table.proofs.Common.{cases_lt, and_right, length-replicate, get_or-replicate, get_or_past, length-map-range_with_len, Hugepage, hugepage}
-use Rattle.huge_table.proofs.Common.{untouched, opened, at-place, bit, by_bits, of_filler, hugepage_of, table_of, Means, is_shared, Inside, same_pages}
+use Rattle.std.proofs.Common.{◌≡◌, ℕ, false, Bool, get_or, replicate, refl, inl, inr, arith}
+use Rattle.huge_table.proofs.Common.{cases_lt, length-replicate, get_or-replicate, get_or_past, length-map-range_with_len, Hugepage}
+use Rattle.huge_table.proofs.Common.{untouched, opened, at-place, bit, by_bits, table_of, Means, Inside, same_pages, nat_tests}
 use Rattle.heap_rules.specs.declared.config.HeapConfig.{HeapConfig}
 use Rattle.huge_table.proofs.Pages.{at-table}
 
@@ -14,13 +14,5 @@ untouched_is g s b x p q r = rw (p, q, r) refl
 pub opens : (t : Inside) → ((h : ℕ) → bit t.grouped h ≡ false) → ((h : ℕ) → bit t.shared h ≡ false) → ((h : ℕ) → bit t.backed h ≡ false) →
     ((page : ℕ) → bit t.used page ≡ false) → ((page : ℕ) → bit t.begins page ≡ false) → ((page : ℕ) → bit t.ends page ≡ false) → (config : HeapConfig) →
     config.huge ≡ t.huge → Means (table_of t) (opened config)
-opens t grouped shared backed used begins ends config same = record {
-  pages = (let size = length-map-range_with_len (hugepage_of t) 1 t.huge in let size' = length-replicate config.huge untouched in
-      same_pages (table_of t).pages (replicate config.huge untouched) (size ∙ sym same ∙ sym size') (λ h some inside.
-      at-table t h some (omega arith)
-      ∙ untouched_is (bit t.grouped h) (bit t.shared h) (bit t.backed h) (of_filler (bit t.donated h) t.page_backed h) (grouped h) (shared h) (backed h)
-      ∙ sym (at-place (replicate config.huge untouched) h some ∙ none_of config.huge (h - 1) untouched)));
-  used = λ page. used page ∙ sym (and_right (is_shared (hugepage (opened config) (page / 256))) false refl);
-  begins = begins;
-  ends = ends;
-}
+opens t grouped shared backed used begins ends config same =
+    grind (arith, nat_tests, length-map-range_with_len, length-replicate, same_pages, at-table, untouched_is, at-place, none_of)

@@ -1,14 +1,13 @@
 -- What bits say of each hugepage, and tables whose hugepages change.
 use Rattle.std.proofs.Common.{◌≡◌, ℕ, ◌+◌, ◌-◌, ◌*◌, ◌/◌, ◌%◌, ◌<◌, ◌≤◌, Bool, true, false, ◌||◌, not, cond, eqb, List, length, get_or, take}
 use Rattle.std.proofs.Common.{drop, map, refl, sym, ap, ◌∙◌, inl, inr, arith}
-use Rattle.huge_table.proofs.Common.{list_all, range_with_len, cases_Bool, cases_eq, and_from, and_parts, le-leb, lt-ltb, leb-true, ltb-true, eq-eqb}
-use Rattle.huge_table.proofs.Common.{ne_eqb, false≢true, false_from_ne_true, same_lists, get_or_default, length-replicate, length-take-le, length-drop}
-use Rattle.huge_table.proofs.Common.{get_or-take, get_or-drop, length-map-range_with_len, get_or-map-range_with_len}
-use Rattle.huge_table.proofs.Common.{RowKind, used_count, with_places, Hugepage, untouched, spans, whole, pages_of, backs, backed_count, holds, run_at}
-use Rattle.huge_table.proofs.Common.{is_free, is_filler, is_region, run_page, region_page, filler_page, more_backed, emptied, IsPageOf, at-place}
-use Rattle.huge_table.proofs.Common.{length-each, at-each, each_is, page_of, backs-map, backs-whole, spans_parts, spans_from, holds_parts, Table, IsSpan}
-use Rattle.huge_table.proofs.Common.{bit, by_bits, kind_by, of_kind, free_page, is_even, with_backing, region_freed, of_filler, hugepage_of, table_of}
-use Rattle.huge_table.proofs.Common.{over_span, is_between, shares, Inside}
+use Rattle.huge_table.proofs.Common.{list_all, range_with_len, cases_Bool, and_from, and_parts, le-leb, lt-ltb, leb-true, ltb-true, false≢true}
+use Rattle.huge_table.proofs.Common.{false_from_ne_true, same_lists, get_or_default, length-replicate, length-take-le, length-drop, get_or-take, get_or-drop}
+use Rattle.huge_table.proofs.Common.{length-map-range_with_len, get_or-map-range_with_len, RowKind, used_count, with_places, Hugepage, untouched, spans}
+use Rattle.huge_table.proofs.Common.{whole, pages_of, backs, backed_count, holds, run_at, is_free, is_filler, is_region, run_page, region_page, filler_page}
+use Rattle.huge_table.proofs.Common.{more_backed, emptied, IsPageOf, at-place, length-each, at-each, each_is, page_of, backs-map, backs-whole, spans_parts}
+use Rattle.huge_table.proofs.Common.{spans_from, holds_parts, Table, IsSpan, bit, by_bits, kind_by, of_kind, free_page, is_even, with_backing, region_freed}
+use Rattle.huge_table.proofs.Common.{of_filler, hugepage_of, table_of, over_span, is_between, shares, Inside, nat_tests}
 use Rattle.tc_units.specs.declared.rows.RowKind.TheVariants as kind
 use Rattle.range_bits.proofs.Placing.{get_or-with_places}
 use Rattle.heap_rules.proofs.Places.{at}
@@ -24,10 +23,7 @@ changed t u first many f same all =
     let old = (table_of t).pages in
     let size = length-map-range_with_len (hugepage_of t) 1 t.huge in
     let size' = length-map-range_with_len (hugepage_of u) 1 u.huge in
-    sym (each_is (λ h x. cond (spans many h first) (f x) x) old (table_of u).pages (omega arith) (λ h some l.
-    ap (λ x. cond (spans many h first) (f x) x) (at-table t h some (omega arith))
-    ∙ sym (all h some (omega arith))
-    ∙ sym (at-table u h some (omega arith))))
+    grind (arith, nat_tests, each_is, at-table)
 
 -- a bit of a row of which adjacent places changed
 pub span_bit : (row : List Bool) (first many : ℕ) (v : Bool) (h : ℕ) → first + many ≤ length row → bit (with_places row first many v) h ≡ cond (spans many h first) v (bit row h)
@@ -131,8 +127,7 @@ span_pages bs first many h v fits = elim (cases_Bool (spans many h first)) [
       get_or-with_places bs (256 * first) (256 * many) v page false fits
       ∙ ap (λ b. cond b v (bit bs page))
       (false_from_ne_true _
-      (λ e. (let parts = spans_parts (256 * many) page (256 * first) e in
-      false≢true (sym f ∙ spans_from many h first (omega (arith, own.from, own.to)) (omega (arith, own.from, own.to)))))))
+      (λ e. grind (arith, nat_tests, spans_parts, spans_from, own.from, own.to))))
       ∙ sym (ap (λ b. cond b (whole v) (map (bit bs) (pages_of h))) f)
 ]
 
@@ -141,10 +136,7 @@ pub over : (t u : Inside) (now : Table) (first many : ℕ) (f : Hugepage → Hug
     record (table_of u) { pages = (table_of t).pages } ≡ table_of t →
     ((h : ℕ) → 0 < h → h ≤ t.huge → hugepage_of u h ≡ cond (spans many h first) (f (hugepage_of t h)) (hugepage_of t h)) →
     table_of u ≡ over_span first many f now
-over t u now first many f view same rest all =
-    ap (λ (xs : List Hugepage). record (table_of u) { pages = xs }) (changed t u first many f same all)
-    ∙ ap (λ (x : Table). record x { pages = (over_span first many f (table_of t)).pages }) rest
-    ∙ ap (over_span first many f) view
+over t u now first many f view same rest all = grind (arith, nat_tests, changed)
 
 -- hugepages that the filler gets, and pages of one of its own that are backed
 pub filler_put : (bs new : List Bool) (first many h : ℕ) (v d d' : Bool) → d' ≡ cond (spans many h first) v d →
@@ -174,8 +166,7 @@ filler_backs bs new first n h d e ends fits = ap (λ (row : List Bool). of_fille
       get_or-with_places bs first n true page false fits
       ∙ ap (λ s. cond s true (bit bs page))
       (false_from_ne_true (holds page (run_at first n))
-      (λ s. (let parts = holds_parts page (run_at first n) s in
-      false≢true (sym f ∙ spans_from 1 h (first / 256) (omega (arith, own.from, own.to)) (omega (arith, own.from, own.to))))))))
+      (λ s. grind (arith, nat_tests, holds_parts, spans_from, own.from, own.to)))))
       ∙ sym (ap (λ b. cond b (more_backed (run_at first n) (first / 256) (of_filler d bs h)) (of_filler d bs h)) f)
 ] where
   or_set : (s v : Bool) → cond s true v ≡ (v || s)
@@ -187,27 +178,14 @@ filler_backs bs new first n h d e ends fits = ap (λ (row : List Bool). of_fille
 -- a slice of a row, place by place
 pub slice_is : (row : List Bool) (s n : ℕ) → s + n ≤ length row → take n (drop s row) ≡ map (bit row) (range_with_len s n)
 slice_is row s n fits =
-    let rest = length-drop s row in
-    let size = length-take-le n (drop s row) (omega arith) in
-    let size' = length-map-range_with_len (bit row) s n in
-    same_lists (take n (drop s row)) (map (bit row) (range_with_len s n)) (size ∙ sym size') (λ k d l.
-    get_or-take n (drop s row) k d (omega arith)
-    ∙ get_or-drop s row k d
-    ∙ get_or_default row (s + k) d false (omega arith)
-    ∙ sym (get_or-map-range_with_len (bit row) s n k (s + k) d (omega arith) refl))
+    grind (arith, nat_tests, length-drop, length-take-le, length-map-range_with_len, same_lists, get_or-take, get_or-drop, get_or_default, get_or-map-range_with_len)
 
 -- one place, by its number and by the next one's
 pub one_place : (first page : ℕ) → is_between first (first + 1) page ≡ eqb first page
-one_place first page = elim (cases_eq first page) [
-  | inl same ↦ spans_from 1 page first (omega arith) (omega arith) ∙ sym (eq-eqb first page same)
-  | inr other ↦ false_from_ne_true _ (λ e. (let parts = spans_parts 1 page first e in other (omega arith))) ∙ sym (ne_eqb first page other)
-]
+one_place first page = grind (arith, nat_tests)
 
 pub last_place : (end page : ℕ) → 0 < end → is_between (end - 1) (end - 1 + 1) page ≡ eqb end (page + 1)
-last_place end page some = one_place (end - 1) page ∙ elim (cases_eq (end - 1) page) [
-  | inl same ↦ eq-eqb (end - 1) page same ∙ sym (eq-eqb end (page + 1) (omega arith))
-  | inr other ↦ ne_eqb (end - 1) page other ∙ sym (ne_eqb end (page + 1) (λ e. other (omega arith)))
-]
+last_place end page some = grind (arith, nat_tests)
 
 -- no hugepage is changed
 pub over_none : (t : Table) (a : ℕ) (f : Hugepage → Hugepage) → t ≡ over_span a 0 f t
@@ -221,12 +199,7 @@ span_after s t a many f b m test e far span =
     record {
       from = span.from;
       to = omega (arith, span.to);
-      all = λ h x y. (
-          let old = at t.pages h in
-          ap test (ap (λ (z : Table). at z.pages h) e
-          ∙ at-each (λ k z. cond (spans many k a) (f z) z) t.pages h (omega (arith, span.from)) (omega (arith, span.to))
-          ∙ ap (λ p. cond p (f old) old) (false_from_ne_true (spans many h a) (λ p. (let parts = spans_parts many h a p in absurd (omega arith)))))
-          ∙ span.all h x y);
+      all = grind (arith, nat_tests, at-each, spans_parts, span.from, span.to, span.all);
     }
 
 pub span_same : (s t : Table) (b m : ℕ) (test : Hugepage → Bool) → s.pages ≡ t.pages → IsSpan t b m test → IsSpan s b m test

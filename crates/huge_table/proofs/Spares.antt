@@ -1,16 +1,14 @@
 -- A hugepage of the filler backs its used pages alone.
-use Rattle.std.proofs.Common.{◌≡◌, ℕ, ◌+◌, ◌*◌, ◌/◌, ◌≤◌, Bool, true, false, ◌&&◌, cond, List, length, take, drop, map, refl, sym, subst, ap, ◌∙◌, inl}
-use Rattle.std.proofs.Common.{inr, arith}
-use Rattle.huge_table.proofs.Common.{cases_Bool, false≢true, false_from_ne_true, used_count, Heap, Hugepage, hugepage, spans, backs, is_used, is_filler}
+use Rattle.std.proofs.Common.{◌≡◌, ℕ, ◌+◌, ◌*◌, ◌≤◌, Bool, true, false, ◌&&◌, cond, List, length, take, drop, map, refl, sym, subst, ap, ◌∙◌, inl, inr, arith}
+use Rattle.huge_table.proofs.Common.{cases_Bool, used_count, Heap, Hugepage, hugepage, spans, backs, is_used, is_filler}
 use Rattle.huge_table.proofs.Common.{pages_of, IsPageOf, each_where, backs-map, spans_parts, spans_from, Table, IsSpan, AreKept, bit, of_filler}
-use Rattle.huge_table.proofs.Common.{hugepage_of, table_of, over_span, Means, is_shared, used_alone, Inside}
+use Rattle.huge_table.proofs.Common.{hugepage_of, table_of, over_span, Means, used_alone, Inside, nat_tests}
 use Rattle.range_bits.specs.Fills.{StaysUsed}
 use Rattle.heap_rules.specs.Release.{only_used, spare_pages}
 use Rattle.heap_rules.proofs.Places.{at}
 use Rattle.heap_rules.proofs.Accounts.{both}
 use Rattle.huge_table.proofs.Sizes.{arena}
 use Rattle.huge_table.proofs.Pages.{over, spanned, own_is, over_pages, slice_is, filler_bits, at-now, between_yes, between_parts}
-use Rattle.huge_table.proofs.Shared.{filler_shared}
 use Rattle.huge_table.proofs.Steps.{at-heap}
 use Rattle.huge_table.proofs.Stays.{kept_means}
 
@@ -40,11 +38,7 @@ module _ (bs used new : List Bool) (h : ℕ) (stays : StaysUsed bs used new (64 
         (λ page own. ap (λ b. b && bit used page) (sym (ap (λ i. backs (of_filler d bs i) page) (sym here) ∙ backs-map (bit bs) h page own))))
         ∙ sym (ap (λ b. cond b (only_by (bit used) h (of_filler d bs k)) (of_filler d bs k)) e))
     | inr e ↦
-        ap (λ row. record (of_filler d bs k) { backed = row }) (over_pages (bit new) (bit bs) k (λ page own.
-        stays.each page ∙ ap (λ b. cond b (bit bs page && bit used page) (bit bs page))
-        (false_from_ne_true _
-        (λ t. (let parts = between_parts (64 * (4 * h)) (64 * (4 * h + 4)) page t in
-        false≢true (sym e ∙ spans_from 1 k h (omega (arith, own.from, own.to)) (omega (arith, own.from, own.to))))))))
+        ap (λ row. record (of_filler d bs k) { backed = row }) (over_pages (bit new) (bit bs) k (λ page own. grind (arith, nat_tests, between_parts, spans_from, stays.each)))
         ∙ sym (ap (λ b. cond b (only_by (bit used) h (of_filler d bs k)) (of_filler d bs k)) e)
   ]
 
@@ -64,12 +58,7 @@ module _ (t : Inside) (now : Table) (kept : AreKept t) (view : table_of t ≡ no
     filler = ap is_filler (sym (at-heap now heap means h)) ∙ span.all h (omega arith) (omega arith)
 
     noted : (page : ℕ) → IsPageOf h page → bit t.used page ≡ is_used heap.runs page
-    noted page own =
-        let at_h : page / 256 ≡ h = omega (arith, own.from, own.to) in
-        ap (λ (x : Table). bit x.used page) view
-        ∙ means.used page
-        ∙ ap (λ k. is_shared (hugepage heap k) && is_used heap.runs page) at_h
-        ∙ ap (λ b. b && is_used heap.runs page) (filler_shared (hugepage heap h) filler)
+    noted page own = grind (arith, nat_tests, own.from, own.to)
 
     pub spared_means : Means (table_of (record t { page_backed = new })) (used_alone heap h)
     spared_means =
@@ -88,9 +77,7 @@ module _ (t : Inside) (now : Table) (kept : AreKept t) (view : table_of t ≡ no
           | inr e ↦ ap (λ b. cond b (only_by (bit t.used) h x) x) e ∙ sym (ap (λ b. cond b (only_used heap.runs k x) x) e)
         ])))))
         (kept_means now heap (λ k x. cond (spans 1 k h) (only_used heap.runs k x) x) heap.regions heap.counts means
-        (λ k some inside.
-        (let x = hugepage heap k in elim (spans 1 k h) as (λ b. is_shared (cond b (only_used heap.runs k x) x) ≡ is_shared x)
-        [ true ↦ refl | false ↦ refl ])))
+        (λ k some inside. grind (arith, nat_tests)))
 
     -- the filler's hugepage by its own bits, and how many pages it gives
     own_bits : hugepage heap h ≡ of_filler (bit t.donated h) t.page_backed h

@@ -1,9 +1,8 @@
 -- Hugepages change while no run comes or leaves: regions open and end, and backing is lost.
 use Rattle.std.proofs.Common.{◌≡◌, ℕ, zero, suc, ◌/◌, ◌<◌, ◌≤◌, Bool, true, ◌&&◌, cond, List, length, refl, sym, ap, subst, ◌∙◌, inl, inr, arith}
-use Rattle.huge_table.proofs.Common.{cases_Bool, cases_lt, get_or_past, ended, Heap, Hugepage, hugepage, untouched, each, spans, is_used, is_free}
-use Rattle.huge_table.proofs.Common.{is_region, region_page, with_region, with_new_region, used_regions, without_unused_regions, AreRunsSound, at-each}
-use Rattle.huge_table.proofs.Common.{length-each, each_where, spans_parts, Table, IsSpan, region_freed, over_span, Means, IsEnding, is_shared}
-use Rattle.huge_table.proofs.Common.{unbacked_span}
+use Rattle.huge_table.proofs.Common.{cases_lt, get_or_past, ended, Heap, Hugepage, hugepage, untouched, each, spans, is_used, is_free, is_region}
+use Rattle.huge_table.proofs.Common.{region_page, with_region, with_new_region, used_regions, without_unused_regions, AreRunsSound, at-each, length-each}
+use Rattle.huge_table.proofs.Common.{each_where, spans_parts, Table, IsSpan, region_freed, over_span, Means, IsEnding, is_shared, unbacked_span, nat_tests}
 use Rattle.heap_rules.specs.Settle.{unbacked}
 use Rattle.heap_rules.proofs.Places.{at}
 use Rattle.huge_table.proofs.Shared.{free_shared, region_shared}
@@ -31,11 +30,7 @@ span_means : (t : Table) (heap : Heap) (first many : ℕ) (g : Hugepage → Huge
     IsSpan t first many test → ((x : Hugepage) → test x ≡ true → is_shared (g x) ≡ is_shared x) →
     Means (over_span first many g t) (record heap { regions = regions; hugepages = each (λ h x. cond (spans many h first) (g x) x) heap.hugepages })
 span_means t heap first many g test regions means span same =
-    kept_means t heap (λ h x. cond (spans many h first) (g x) x) regions heap.counts means (λ h some inside. (let x = hugepage heap h in
-    elim (cases_Bool (spans many h first)) [
-      | inl e ↦ (let parts = spans_parts many h first e in ap (λ b. is_shared (cond b (g x) x)) e ∙ same x (ap test (sym (at-heap t heap means h)) ∙ span.all h parts.0 parts.1))
-      | inr e ↦ ap (λ b. is_shared (cond b (g x) x)) e
-    ]))
+    kept_means t heap (λ h x. cond (spans many h first) (g x) x) regions heap.counts means (λ h some inside. grind (arith, nat_tests, spans_parts, at-heap, span.all))
 
 pub opened_means : (t : Table) (heap : Heap) (first width : ℕ) → IsSpan t first width is_free → heap.config.region ≡ width → Means t heap →
     Means (over_span first width region_page t) (with_new_region heap first)
@@ -57,9 +52,5 @@ module _ (heap : Heap) (first : ℕ) (sound : AreRunsSound heap) (ending : IsEnd
   ended_means t span means =
       subst (λ xs. Means (over_span first width region_freed t) (record heap { regions = used_regions heap; hugepages = xs }))
       (each_where _ _ heap.hugepages
-      (λ h some inside.
-      (let x = hugepage heap h in
-      ap (λ b. cond b (region_freed x) x)
-      (sym (ended heap first sound ending.known ending.unused ending.alone h some inside
-      (λ e. (let parts = spans_parts width h first e in ap is_region (sym (at-heap t heap means h)) ∙ span.all h parts.0 parts.1)))))))
+      (λ h some inside. grind (arith, nat_tests, ended, spans_parts, at-heap, ending.known, ending.unused, ending.alone, span.all)))
       (span_means t heap first width region_freed is_region (used_regions heap) means span (λ x region. sym (region_shared x region)))

@@ -1,11 +1,10 @@
 -- A run comes or leaves: what is noted changes as the heap's runs do.
-use Rattle.std.proofs.Common.{◌≡◌, ℕ, zero, suc, ◌+◌, ◌*◌, ◌/◌, ◌<◌, ◌≤◌, ◌==◌, Bool, true, false, ◌&&◌, cond, nat_le, nat_lt, List, length, take, drop}
+use Rattle.std.proofs.Common.{◌≡◌, ℕ, zero, suc, ◌+◌, ◌*◌, ◌/◌, ◌<◌, ◌≤◌, Bool, true, false, ◌&&◌, cond, nat_le, nat_lt, List, length, take, drop}
 use Rattle.std.proofs.Common.{count_by, get_or, Contains, refl, sym, ap, subst, ◌∙◌, add-zero, inl, inr, arith}
-use Rattle.huge_table.proofs.Common.{list_any, cases_Bool, cases_lt, and_parts, eqb-true, leb-true, ltb-true, lt-ltb, false≢true, false_from_ne_true}
-use Rattle.huge_table.proofs.Common.{get_or_past, Run, any_is_count, count_le, one-true, one-false, Heap, Hugepage, hugepage, untouched, each, holds}
-use Rattle.huge_table.proofs.Common.{reaches, is_used, used_row, run_at, with_run, without_run, placed, IsInside, IsSound, at-each, length-each}
-use Rattle.huge_table.proofs.Common.{each_where, page_of, holds_from, unreached_unheld, spans_parts, spans_reaches, count_rest, Table, AreKept, IsSpan}
-use Rattle.huge_table.proofs.Common.{IsNoted, bit, is_between, over_span, table_of, Inside, Means, is_shared, begins_on, ends_on}
+use Rattle.huge_table.proofs.Common.{list_any, cases_lt, eqb-true, get_or_past, Run, any_is_count, count_le, Heap, Hugepage, hugepage, untouched, each, holds}
+use Rattle.huge_table.proofs.Common.{reaches, is_used, used_row, run_at, with_run, without_run, placed, IsInside, IsSound, at-each, length-each, each_where}
+use Rattle.huge_table.proofs.Common.{page_of, holds_from, unreached_unheld, spans_parts, spans_reaches, count_rest, Table, AreKept, IsSpan, IsNoted, bit}
+use Rattle.huge_table.proofs.Common.{is_between, over_span, table_of, Inside, Means, is_shared, begins_on, ends_on, nat_tests}
 use Rattle.heap_rules.proofs.Places.{at}
 use Rattle.heap_rules.proofs.Live.{count-with}
 use Rattle.huge_table.proofs.Sizes.{arena}
@@ -18,15 +17,7 @@ pub record AreChanged (runs rest : List Run) (run : Run) (came : Bool) : Type 0 
   pub ends : (page : ℕ) → list_any (ends_on page) rest ≡ cond (ends_on page run) came (list_any (ends_on page) runs)
 
 any_with : (run : Run) (runs : List Run) (p : Run → Bool) → list_any p (with_run run runs) ≡ cond (p run) true (list_any p runs)
-any_with run runs p =
-    any_is_count p (with_run run runs)
-    ∙ ap (nat_lt 0) (count-with p run runs)
-    ∙ one_more (p run)
-    ∙ ap (cond (p run) true) (sym (any_is_count p runs))
-  where
-    one_more : (b : Bool) → nat_lt 0 (cond b 1 0 + count_by p runs) ≡ cond b true (nat_lt 0 (count_by p runs))
-    one_more true = lt-ltb 0 (1 + count_by p runs) (omega arith)
-    one_more false = let e : 0 + count_by p runs ≡ count_by p runs = omega arith in ap (nat_lt 0) e
+any_with run runs p = grind (arith, nat_tests, any_is_count, count-with)
 
 pub with_changed : (run : Run) (runs : List Run) → AreChanged runs (with_run run runs) run true
 with_changed run runs = record { used = λ page. any_with run runs (holds page); begins = λ page. any_with run runs (begins_on page); ends = λ page. any_with run runs (ends_on page) }
@@ -36,14 +27,7 @@ module _ (heap : Heap) (run : Run) (sound : IsSound heap) (live : Contains heap.
   rest = without_run run heap.runs
 
   any_without : (p : Run → Bool) → count_by p heap.runs ≤ 1 → list_any p rest ≡ cond (p run) false (list_any p heap.runs)
-  any_without p most =
-      let all = count_rest heap run sound live p in
-      any_is_count p rest
-      ∙ elim (cases_Bool (p run)) [
-        | inl t ↦ (let one = one-true (p run) t in let none : count_by p rest ≡ 0 = omega arith in ap (nat_lt 0) none ∙ sym (ap (λ b. cond b false (list_any p heap.runs)) t))
-        | inr f ↦ (let no_one = one-false (p run) f in let same : count_by p rest ≡ count_by p heap.runs = omega arith in ap (nat_lt 0) same
-            ∙ sym (any_is_count p heap.runs) ∙ sym (ap (λ b. cond b false (list_any p heap.runs)) f))
-      ]
+  any_without p most = grind (arith, nat_tests, count_rest, any_is_count)
 
   held : (p : Run → Bool) (page : ℕ) → ((r : Run) → IsInside heap.config.huge r → p r ≡ true → holds page r ≡ true) → count_by p heap.runs ≤ 1
   held p page is =
@@ -97,23 +81,8 @@ module _ (heap : Heap) (first n skipped : ℕ) (came : Bool) (rest : List Run) (
       ((h : ℕ) → reaches h run ≡ true → (0 < h) × (h ≤ length t.pages)) →
       ((h page : ℕ) → reaches h run ≡ true → page / 256 ≡ h → cond (is_between (first + skipped) (first + n) page) came
       (is_shared (hugepage heap h) && is_used heap.runs page) ≡ (is_shared (f h (hugepage heap h)) && is_used rest page)) → Means u after
-  stepped t u means changed pages noted inside here = record {
-    pages = pages ∙ ap (each step) means.pages;
-    used = λ page. (let h : ℕ = page / 256 in noted.used page ∙ ap (cond (is_between (first + skipped) (first + n) page) came) (means.used page) ∙ elim (cases_Bool (reaches h run)) [
-      | inl e ↦ (let is = inside h e in let size = ap length means.pages in here h page e refl ∙ ap (λ x. is_shared x && is_used rest page) (sym (reached h is.0 (omega (arith, is.1)) e)))
-      | inr e ↦
-          (let away = unreached_unheld h page run (page_of page) e in
-          ap (λ b. cond b came (is_shared (hugepage heap h) && is_used heap.runs page)) (apart page away)
-          ∙ ap (λ b. is_shared (hugepage heap h) && b) (sym (changed.used page ∙ ap (λ b. cond b came (is_used heap.runs page)) away))
-          ∙ ap (λ x. is_shared x && is_used rest page) (sym (unreached h e)))
-    ]);
-    begins = λ page. noted.begins page ∙ ap (cond (first == page) came) (means.begins page) ∙ sym (changed.begins page);
-    ends = λ page. noted.ends page ∙ ap (cond (first + n == page + 1) came) (means.ends page) ∙ sym (changed.ends page);
-  } where
-    apart : (page : ℕ) → holds page run ≡ false → is_between (first + skipped) (first + n) page ≡ false
-    apart page away = false_from_ne_true _
-        (λ t. (let parts = and_parts _ _ t in let from = leb-true (first + skipped) page parts.0 in
-        false≢true (sym away ∙ holds_from page run (omega arith) (ltb-true page (first + n) parts.1))))
+  stepped t u means changed pages noted inside here =
+      grind (arith, nat_tests, reached, unreached_unheld, page_of, unreached, holds_from, noted.begins, means.begins, changed.begins, noted.ends, means.ends, changed.ends)
 
 -- Runs all of whose hugepages are shared, before and after.
 pub shared_means : (heap : Heap) (first n : ℕ) (came : Bool) (rest : List Run) (f : ℕ → Hugepage → Hugepage) (t u : Table) → Means t heap →
@@ -121,10 +90,7 @@ pub shared_means : (heap : Heap) (first n : ℕ) (came : Bool) (rest : List Run)
     ((h : ℕ) → reaches h (run_at first n) ≡ true →
     ((0 < h) × (h ≤ length t.pages)) × ((is_shared (hugepage heap h) ≡ true) × (is_shared (f h (hugepage heap h)) ≡ true))) →
     Means u (after heap first n 0 came rest f)
-shared_means heap first n came rest f t u means changed pages noted all =
-    stepped heap first n 0 came rest f t u means changed pages noted (λ h e. (all h e).0) (λ h page e own. (let kinds = (all h e).1 in
-    shared_step (hugepage heap h) (f h (hugepage heap h)) (is_between (first + 0) (first + n) page) came (is_used heap.runs page) (is_used rest page) kinds.0 kinds.1
-    (changed.used page ∙ ap (λ b. cond b came (is_used heap.runs page)) (sym (all_of first n page)))))
+shared_means heap first n came rest f t u means changed pages noted all = grind (arith, nat_tests, stepped, shared_step, all_of)
 
 -- the hugepages of a table, and of a heap that it means
 pub at-heap : (t : Table) (heap : Heap) → Means t heap → (h : ℕ) → at t.pages h ≡ hugepage heap h
@@ -166,12 +132,7 @@ pub over_reached : (heap : Heap) (t : Table) (first n a many : ℕ) (test : Huge
     Means t heap → IsOver heap first n a many test → ((h : ℕ) → reaches h (run_at first n) ≡ true → g (hugepage heap h) ≡ f h (hugepage heap h)) →
     (over_span a many g t).pages ≡ each (λ h x. cond (reaches h (run_at first n)) (f h x) x) t.pages
 over_reached heap t first n a many test g f means is same =
-    each_where _ _ t.pages (λ h _ _. (let x = at t.pages h in
-    ap (λ b. cond b (g x) x) (spans_reaches first n a many h is.from is.near is.far is.to is.some)
-    ∙ elim (cases_Bool (reaches h (run_at first n))) [
-      | inl e ↦ ap (λ b. cond b (g x) x) e ∙ ap g (at-heap t heap means h) ∙ same h e ∙ ap (f h) (sym (at-heap t heap means h)) ∙ sym (ap (λ b. cond b (f h x) x) e)
-      | inr e ↦ ap (λ b. cond b (g x) x) e ∙ sym (ap (λ b. cond b (f h x) x) e)
-    ]))
+    grind (arith, nat_tests, each_where, spans_reaches, at-heap, is.from, is.near, is.far, is.to, is.some)
 
 -- a run that comes into shared hugepages, of which each is changed first
 pub comes : (heap : Heap) (t s u : Table) (first n a many : ℕ) (test : Hugepage → Bool) (g : Hugepage → Hugepage) (f : ℕ → Hugepage → Hugepage) →
@@ -193,8 +154,4 @@ pub row_at : (t : Inside) (now : Table) (heap : Heap) (h : ℕ) → table_of t �
 row_at t now heap h view kept means inside shared =
     let size = arena t now view in
     slice_is t.used (256 * h) 256 (omega (arith, kept.used))
-    ∙ over_pages (bit t.used) (is_used heap.runs) h (λ page own. (let at_h : page / 256 ≡ h = omega (arith, own.from, own.to) in
-    ap (λ (x : Table). bit x.used page) view
-    ∙ means.used page
-    ∙ ap (λ k. is_shared (hugepage heap k) && is_used heap.runs page) at_h
-    ∙ ap (λ b. b && is_used heap.runs page) shared))
+    ∙ over_pages (bit t.used) (is_used heap.runs) h (λ page own. grind (arith, nat_tests))

@@ -3,7 +3,7 @@ use Rattle.std.proofs.Common.{◌≡◌, ℕ, zero, suc, ◌+◌, ◌-◌, ◌*�
 use Rattle.std.proofs.Common.{map, All, Contains, refl, sym, subst, ap, ◌∙◌, inl, inr, arith}
 use Rattle.huge_table.proofs.Common.{list_any, range_with_len, prefix_len, cases_lt, cases_eq, eqb-true, eq-eqb, ne_eqb, lt-ltb, le-ltb, false≢true}
 use Rattle.huge_table.proofs.Common.{false_from_ne_true, get_or-drop, length-drop, prefix_len_passes, Run, Heap, run_at, holds, with_run, without_run}
-use Rattle.huge_table.proofs.Common.{IsInside, IsSound, holds_from, same_member, Table, bit, Means, begins_on, ends_on}
+use Rattle.huge_table.proofs.Common.{IsInside, IsSound, holds_from, same_member, Table, bit, Means, begins_on, ends_on, nat_tests}
 use Rattle.std.proofs.lemmas.List.Elements.{All-head, All-tail, All-contains, Contains-get_or}
 use Rattle.std.proofs.lemmas.List.Folds.{Any-from_list_any, list_any_at}
 use Rattle.heap_rules.proofs.Longest.{prefix_long}
@@ -47,10 +47,7 @@ without_one : (a : ℕ) (run : Run) (runs : List Run) → AreInOrderFrom a runs 
 without_one a run [] o = tt
 without_one a run (r ∷ runs) o =
     let rest = without_one (r.first.0 + 1) run runs o.1 in
-    elim (r.first.0 == run.first.0) as (λ b. AreInOrderFrom a (cond (not b) (r ∷ without_run run runs) (without_run run runs))) [
-      | true ↦ later a (r.first.0 + 1) (without_run run runs) (omega (arith, o.0)) rest
-      | false ↦ (o.0, rest)
-    ]
+    grind (arith, nat_tests, later)
 
 -- The pages where runs begin, and the runs from there.
 told : (ends : List Bool) (test : ℕ → Bool) (runs : List Run) (a n : ℕ) → AreInOrderFrom a runs → All (λ r. r.first.0 < a + n) runs →
@@ -121,8 +118,4 @@ module _ (table : Table) (heap : Heap) (sound : IsSound heap) (places : HasPlace
       (λ page _. means.begins page)
 
 pub tells : (table : Table) → HasPlaces table → TellsRuns table
-tells table places = record {
-  told = λ heap sound order means. runs_are table heap sound places means order;
-  with_one = λ run runs order none. with_one 0 run runs (omega arith) order none;
-  without_one = λ run runs order. without_one 0 run runs order;
-}
+tells table places = grind (arith, nat_tests, told, runs_are, with_one, without_one)

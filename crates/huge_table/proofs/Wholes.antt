@@ -1,14 +1,14 @@
 -- Runs of whole hugepages, with a tail, come and leave.
 use Rattle.std.proofs.Common.{◌≡◌, ℕ, ◌+◌, ◌-◌, ◌*◌, ◌/◌, ◌%◌, ◌<◌, ◌≤◌, ◌⊎◌, true, false, ◌&&◌, cond, nat_lt, length, refl, sym, ap, ◌∙◌, inl, inr, arith}
-use Rattle.huge_table.proofs.Common.{cases_Bool, cases_lt, le-leb, lt-leb, le-ltb, lt-ltb, leb-true, and_parts, and_right, false≢true, false_from_ne_true}
+use Rattle.huge_table.proofs.Common.{cases_lt, le-leb, le-ltb, leb-true, and_parts, and_right, false_from_ne_true}
 use Rattle.huge_table.proofs.Common.{Run, Heap, Hugepage, hugepage, each, spans, reaches, holds, is_used, is_free, run_at, with_run, run_page, filler_page}
 use Rattle.huge_table.proofs.Common.{run_or_tail, IsSound, each_each, each_where, reaches_parts, spans_reaches, spans_parts, spans_from, serves_at}
-use Rattle.huge_table.proofs.Common.{is_Free, Table, IsSpan, IsNoted, is_between, over_span, Means, is_shared, taken}
+use Rattle.huge_table.proofs.Common.{is_Free, Table, IsSpan, IsNoted, is_between, over_span, Means, is_shared, taken, nat_tests}
 use Rattle.tc_units.specs.declared.rows.RowKind.TheVariants as kind
 use Rattle.heap_rules.specs.Choice.{hugepages_for}
 use Rattle.heap_rules.proofs.Places.{at}
 use Rattle.huge_table.proofs.Shared.{free_shared}
-use Rattle.huge_table.proofs.Steps.{stepped, with_changed, shared_step, all_of, is_over}
+use Rattle.huge_table.proofs.Steps.{stepped, with_changed, shared_step, is_over}
 
 -- what a run of n pages makes of a hugepage that it has whole, and of the one where it ends
 abbrev pub becomes : ℕ → ℕ → ℕ → Hugepage
@@ -18,10 +18,7 @@ pub whole_is : (n end k : ℕ) → 256 ≤ n → 256 * (k + 1) ≤ end → becom
 whole_is n end k large h = rw (le-ltb n 256 large, le-leb (256 * (k + 1)) end h) refl
 
 pub tail_is : (n end k : ℕ) → end < 256 * (k + 1) → becomes n end k ≡ filler_page (nat_lt 0 (n / 256))
-tail_is n end k h = elim (cases_lt n 256) [
-  | inl small ↦ rw (lt-ltb n 256 small, le-ltb 0 (n / 256) (omega arith)) refl
-  | inr large ↦ rw (le-ltb n 256 large, lt-leb (256 * (k + 1)) end h, lt-ltb 0 (n / 256) (omega arith)) refl
-]
+tail_is n end k h = grind (arith, nat_tests)
 
 -- Where a run lies: in adjacent hugepages from the start of the first one on, of which it has the first ones whole, or
 -- inside one hugepage.
@@ -35,25 +32,11 @@ pub record IsLaid (first n a whole tails : ℕ) : Type 0 where
   pub to : first + n ≤ 256 * (a + (whole + tails))
 
 pub laid : (first n tails : ℕ) → 0 < n → (first % 256 ≡ 0) ⊎ (first % 256 + n ≤ 256) → tails ≡ (n + 255) / 256 - n / 256 → IsLaid first n (first / 256) (n / 256) tails
-laid first n tails some (inl begins) e =
-    record { some = some; few = omega arith; begins = inr begins; from = omega arith; within = omega arith; near = omega arith; to = omega arith }
-laid first n tails some (inr ends) e = record {
-  some = some;
-  few = omega arith;
-  begins = elim (cases_lt n 256) [ inl small ↦ inl (omega arith) | inr large ↦ inr (omega arith) ];
-  from = omega arith;
-  within = omega arith;
-  near = omega arith;
-  to = omega arith;
-}
+laid first n tails some lies e = grind (arith, nat_tests)
 
 -- the pages of the hugepage behind those that it has whole are noted as those that it holds
 pub tail_held : (first n a whole tails page : ℕ) → IsLaid first n a whole tails → a + whole ≤ page / 256 → is_between (first + 256 * whole) (first + n) page ≡ holds page (run_at first n)
-tail_held first n a whole tails page laid late = elim laid.begins [
-  | inl none ↦ rw none (all_of first n page)
-  | inr begins ↦
-      ap (λ b. b && nat_lt page (first + n)) (le-leb (first + 256 * whole) page (omega (arith, laid.within)) ∙ sym (le-leb first page (omega (arith, laid.within))))
-]
+tail_held first n a whole tails page laid late = grind (arith, nat_tests, laid.begins, laid.within)
 
 -- Adjacent hugepages, of which the first ones and those behind them are changed in two ways.
 pub two_spans : (t s u : Table) (a whole tails first n : ℕ) (g g' : Hugepage → Hugepage) (f : ℕ → Hugepage → Hugepage) →
@@ -64,29 +47,7 @@ pub two_spans : (t s u : Table) (a whole tails first n : ℕ) (g g' : Hugepage �
 two_spans t s u a whole tails first n g g' f p q laid is is' =
     q ∙ ap (each (λ k x. cond (spans tails k (a + whole)) (g' x) x)) p
     ∙ each_each (λ k x. cond (spans tails k (a + whole)) (g' x) x) (λ k x. cond (spans whole k a) (g x) x) t.pages
-    ∙ each_where _ _ t.pages (λ k _ _. (let x = at t.pages k in
-    let reach = spans_reaches first n a (whole + tails) k laid.from laid.within laid.near laid.to laid.some in
-    elim (cases_Bool (spans whole k a)) [
-      | inl e ↦
-          (let parts = spans_parts whole k a e in
-          let no = false_from_ne_true (spans tails k (a + whole)) (λ e'. (let other = spans_parts tails k (a + whole) e' in absurd (omega arith))) in
-          ap (λ b. cond (spans tails k (a + whole)) (g' (cond b (g x) x)) (cond b (g x) x)) e
-          ∙ ap (λ b. cond b (g' (g x)) (g x)) no
-          ∙ is k parts.0 parts.1
-          ∙ sym (ap (λ b. cond b (f k x) x) (sym reach ∙ spans_from (whole + tails) k a (omega arith) (omega arith))))
-      | inr e ↦ ap (λ b. cond (spans tails k (a + whole)) (g' (cond b (g x) x)) (cond b (g x) x)) e ∙ elim (cases_Bool (spans tails k (a + whole))) [
-        | inl e' ↦
-            (let parts = spans_parts tails k (a + whole) e' in
-            ap (λ b. cond b (g' x) x) e' ∙ is' k parts.0 parts.1
-            ∙ sym (ap (λ b. cond b (f k x) x) (sym reach ∙ spans_from (whole + tails) k a (omega arith) (omega arith))))
-        | inr e' ↦
-            ap (λ b. cond b (g' x) x) e'
-            ∙ sym (ap (λ b. cond b (f k x) x) (false_from_ne_true _ (λ r. (let parts = spans_parts (whole + tails) k a (reach ∙ r) in elim (cases_lt k (a + whole)) [
-              | inl early ↦ false≢true (sym e ∙ spans_from whole k a (omega arith) early)
-              | inr late ↦ false≢true (sym e' ∙ spans_from tails k (a + whole) late (omega arith))
-            ]))))
-      ]
-    ]))
+    ∙ each_where _ _ t.pages (λ k _ _. grind (arith, nat_tests, spans_reaches, spans_parts, spans_from, laid.from, laid.within, laid.near, laid.to, laid.some))
 
 module _ (heap : Heap) (sound : IsSound heap) (h n : ℕ) (some : 0 < n) (t u : Table) (means : Means t heap) (span : IsSpan t h (hugepages_for n) is_free) where
   abbrev run : Run

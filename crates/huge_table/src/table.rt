@@ -199,6 +199,7 @@ impl HugeTable {
     }
 
     /// Free hugepages become a region, and stay backed where they are.
+    #[tactic(auto, using(crate::proofs::Stays::opened_means))]
     pub fn open_region(&mut self, first: Huge, width: u32)
         requires { IsSpan self.old first.0 width is_free }
         ensures { (heap : Heap) → heap.config.region ≡ width → Means self.old heap
@@ -208,6 +209,7 @@ impl HugeTable {
     }
 
     /// The one region without a used page ends. Its hugepages are free, with their backing.
+    #[tactic(auto, using(crate::proofs::Stays::ended_means))]
     pub fn end_region(&mut self, first: Huge, width: u32)
         requires { IsSpan self.old first.0 width is_region }
         ensures { (heap : Heap) → heap.config.region ≡ width → AreRunsSound heap → IsEnding heap first.0
@@ -238,6 +240,7 @@ impl HugeTable {
     }
 
     /// How many hugepages the arena has.
+    #[tactic(auto, using(crate::proofs::Sizes::arena, crate::proofs::Told::tells))]
     pub fn huge(&self) -> u32
         ensures value { result ≡ length self.now.pages }
         ensures most { result ≤ 4096 }
@@ -303,6 +306,7 @@ impl HugeTable {
     }
 
     /// Whether one run has a hugepage whole.
+    #[tactic(auto, using(crate::proofs::Pages::run_is))]
     fn is_run(&self, huge: Huge) -> bool
         requires low { 0 < huge.0 }
         requires high { huge.0 ≤ length self.now.pages }

@@ -1,5 +1,5 @@
 use Rattle.std.proofs.Common.{ℕ, true, false, refl, arith}
-use Rattle.huge_table.proofs.Common.{spans, filler_page, bit, of_filler}
+use Rattle.huge_table.proofs.Common.{filler_page, nat_tests}
 use Rattle.huge_table.proofs.Sizes.{arena}
 use Rattle.huge_table.proofs.Pages.{over, put_bit, filler_put, adopt_is}
 use Rattle.huge_table.proofs.table.HugeTable.adopt.Goals as goal
@@ -14,9 +14,4 @@ returns c =
     let shared = put_bit c.put-2.new.self t.shared first many true c.put-2.ensures (omega arith) in
     let donated = put_bit c.put-3.new.self t.donated first many c.args.donated c.put-3.ensures (omega arith) in
     over t (record t { grouped = c.put.new.self; shared = c.put-2.new.self; donated = c.put-3.new.self; page_backed = c.put-4.new.self }) c.args.self.now
-    first many (λ _. filler_page c.args.donated) c.self.view_is refl refl (λ h _ _.
-    rw (grouped h, shared h)
-    (adopt_is (spans many h first) (bit t.grouped h) (bit t.shared h) (bit t.backed h) c.args.donated (of_filler (bit t.donated h) t.page_backed h)
-    (of_filler (bit c.put-3.new.self h) c.put-4.new.self h)
-    (filler_put t.page_backed c.put-4.new.self first many h c.args.donated (bit t.donated h) (bit c.put-3.new.self h) (donated h) c.put-4.ensures
-    (omega arith))))
+    first many (λ _. filler_page c.args.donated) c.self.view_is refl refl (λ h _ _. grind (arith, nat_tests, adopt_is, filler_put, c.put-4.ensures))

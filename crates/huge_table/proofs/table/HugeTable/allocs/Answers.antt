@@ -1,4 +1,4 @@
-use Rattle.std.proofs.Common.{◌≡◌, ℕ, ◌+◌, ◌*◌, ◌/◌, ◌≤◌, Bool, true, false, ◌&&◌, not, cond, List, length, Fits, w32, take, drop, map, ap, ◌∙◌, arith}
+use Rattle.std.proofs.Common.{◌≡◌, ℕ, ◌+◌, ◌*◌, ◌/◌, ◌≤◌, Bool, true, false, ◌&&◌, not, cond, List, length, take, drop, map, ap, ◌∙◌, arith}
 use Rattle.huge_table.proofs.Common.{list_any, get_or_default, length-take-le, length-drop, count_by-le-length, used_count, hugepage, is_used, pages_of}
 use Rattle.huge_table.proofs.Common.{Table, bit, is_shared, begins_on}
 use Rattle.huge_table.proofs.Sizes.{arena}
@@ -14,20 +14,14 @@ few : (row : List Bool) (s m : ℕ) → s + 256 ≤ length row → m ≡ used_co
 few row s m fits e =
     let size : length (take 256 (drop s row)) ≡ 256 = length-take-le 256 (drop s row) (omega (arith, length-drop s row)) in
     let le = count_by-le-length (λ b. b) (take 256 (drop s row)) in
-    bound _ _ _ e size le
-  where
-    bound : (m n k : ℕ) → m ≡ n → k ≡ 256 → n ≤ k → m ≤ 256
-    bound m n k p q r = omega arith
+    grind arith
 
 pub overflow_add-result : goal.overflow_add-result
 overflow_add-result c =
     let size = arena c.self.inside c.args.self.now c.self.view_is in
     let begin = few c.self.inside.begins (256 * c.from-first.result) c.used_in-begin.result (omega (arith, c.self.invariant.begins, c.from-first.ensures)) c.used_in-begin.ensures in
     let one = most (c.is_used.result && not c.is_used-2.result) c.reaching_in.result c.reaching_in.ensures in
-    sum_fits c.used_in-begin.result c.reaching_in.result begin one
-  where
-    sum_fits : (a b : ℕ) → a ≤ 256 → b ≤ 1 → Fits w32 (a + b)
-    sum_fits a b p q = omega arith
+    grind arith
 
 pub returns : goal.returns
 returns c heap sound means shared =
@@ -55,7 +49,4 @@ returns c heap sound means shared =
     ∙ over_pages (bit t.begins) (λ page. list_any (begins_on page) heap.runs) h
     (λ page own. ap (λ (x : Table). bit x.begins page) c.self.view_is ∙ means.begins page)) in
     let one = c.reaching_in.ensures ∙ ap (λ (u : Bool). cond (u && not c.is_used-2.result) 1 0) used ∙ ap (λ (b : Bool). cond (is_used heap.runs (256 * h) && not b) 1 0) begins in
-    together _ _ _ _ _ begun one (allocs_are heap sound h)
-  where
-    together : (a b c d e : ℕ) → a ≡ c → b ≡ d → c + d ≡ e → a + b ≡ e
-    together a b c d e p q r = omega arith
+    grind (arith, allocs_are)

@@ -1,6 +1,5 @@
 use Rattle.std.proofs.Common.{◌≡◌, ℕ, ◌*◌, false, map, eqb, refl, ap, ◌∙◌, arith}
-use Rattle.huge_table.proofs.Common.{list_all, range_with_len, length-map-range_with_len, used_count, spans, is_filler, pages_of, emptied, spans_parts}
-use Rattle.huge_table.proofs.Common.{bit}
+use Rattle.huge_table.proofs.Common.{list_all, range_with_len, length-map-range_with_len, used_count, spans, is_filler, pages_of, emptied, spans_parts, bit}
 use Rattle.huge_table.proofs.Sizes.{arena}
 use Rattle.heap_rules.proofs.Accounts.{whole_exactly}
 use Rattle.huge_table.proofs.Pages.{over, spanned, put_bit, empty_is, slice_is}

@@ -1,5 +1,5 @@
 use Rattle.std.proofs.Common.{ℕ, true, false, refl, arith}
-use Rattle.huge_table.proofs.Common.{spans, bit, free_page, of_filler}
+use Rattle.huge_table.proofs.Common.{free_page}
 use Rattle.huge_table.proofs.Sizes.{arena}
 use Rattle.huge_table.proofs.Pages.{over, put_bit, give_is}
 use Rattle.huge_table.proofs.table.HugeTable.give.Goals as goal
@@ -13,5 +13,4 @@ returns c =
     let grouped = put_bit c.put.new.self t.grouped first many false c.put.ensures (omega arith) in
     let shared = put_bit c.put-2.new.self t.shared first many false c.put-2.ensures (omega arith) in
     let backed = put_bit c.put-3.new.self t.backed first many true c.put-3.ensures (omega arith) in
-    over t (record t { grouped = c.put.new.self; shared = c.put-2.new.self; backed = c.put-3.new.self }) c.args.self.now first many (λ _. free_page true) c.self.view_is refl refl (λ h _ _.
-    rw (grouped h, shared h, backed h) (give_is (spans many h first) (bit t.grouped h) (bit t.shared h) (bit t.backed h) (of_filler (bit t.donated h) t.page_backed h)))
+    over t (record t { grouped = c.put.new.self; shared = c.put-2.new.self; backed = c.put-3.new.self }) c.args.self.now first many (λ _. free_page true) c.self.view_is refl refl (λ h _ _. grind (arith, give_is))

@@ -9,18 +9,14 @@ use Rattle.huge_table.proofs.Wholes.{laid}
 use Rattle.huge_table.proofs.table.HugeTable.give_run.Goals as goal
 
 pub note-requires-clause-high : goal.note-requires-clause-high
-note-requires-clause-high c =
-    let n : ℕ = c.args.run.pages in
-    let lies = laid c.args.run.first.0 n (c.div_ceil.result - n / 256) c.requires.some c.requires.lies (omega (arith, c.div_ceil.ensures)) in
-    omega (arith, lies.to, c.requires.tail.to, c.div_ceil.ensures)
+note-requires-clause-high c = grind (arith, c.requires.some, c.requires.lies, c.div_ceil.ensures, c.requires.tail.to)
 
 pub empty_tail-requires-clause-filler : goal.empty_tail-requires-clause-filler
 empty_tail-requires-clause-filler c =
     let whole : ℕ = c.args.run.pages / 256 in
     let place : ℕ = c.args.run.first.0 / 256 in
     span_after c.give.new.self c.note.new.self place whole (λ _. free_page true) (place + whole) (c.div_ceil.result - whole) is_filler c.give.ensures (omega arith)
-    (span_same c.note.new.self c.args.self.now (place + whole) (c.div_ceil.result - whole) is_filler c.note.ensures.pages
-    (span_of c.args.self.now (place + whole) (hugepages_for c.args.run.pages - whole) (c.div_ceil.result - whole) is_filler is_filler (omega (arith, c.div_ceil.ensures)) (λ x e. e) c.requires.tail))
+    (grind (arith, span_same, span_of, c.div_ceil.ensures, c.requires.tail))
 
 pub returns : goal.returns
 returns c heap sound means live =

@@ -17,6 +17,4 @@ returns c heap means =
     (ap (λ k. more_backed (run_at first n) k x) here, (filler_shared x filler, filler_shared x filler)))
 
 pub note-requires-clause-high : goal.note-requires-clause-high
-note-requires-clause-high c =
-    let size = length-over c.back_pages.new.self c.args.self.now (c.args.first.0 / 256) 1 (more_backed (run_at c.args.first.0 c.args.n) (c.args.first.0 / 256)) c.back_pages.ensures in
-    omega (arith, c.requires.place.to, c.requires.ends)
+note-requires-clause-high c = grind (arith, length-over, c.back_pages.ensures, c.requires.place.to, c.requires.ends)

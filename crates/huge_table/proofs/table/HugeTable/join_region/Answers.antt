@@ -6,9 +6,7 @@ use Rattle.huge_table.proofs.Shared.{region_shared, region_even, span_of}
 use Rattle.huge_table.proofs.table.HugeTable.join_region.Goals as goal
 
 pub overflow_add-first : goal.overflow_add-first
-overflow_add-first c =
-    let size = arena c.self.inside c.args.self.now c.self.view_is in
-    omega (arith, c.requires.place.to, c.self.invariant.most)
+overflow_add-first c = grind (arith, arena, c.self.view_is, c.requires.place.to, c.self.invariant.most)
 
 pub back-requires : goal.back-requires
 back-requires c = span_of c.args.self.now (c.args.first.0 / 256) (reached_by c.args.first.0 c.args.n) _ is_region is_even (omega (arith, c.div_ceil-end.ensures)) region_even c.requires.place
@@ -25,6 +23,4 @@ returns c heap means =
     (λ h x e region. (refl, (region_shared x region, region_shared x region)))
 
 pub note-requires-clause-high : goal.note-requires-clause-high
-note-requires-clause-high c =
-    let size = length-over c.back.new.self c.args.self.now (c.args.first.0 / 256) (c.div_ceil-end.result - c.args.first.0 / 256) (with_backing true) c.back.ensures in
-    omega (arith, c.requires.place.to)
+note-requires-clause-high c = grind (arith, length-over, c.back.ensures, c.requires.place.to)

@@ -1,6 +1,6 @@
 use Rattle.std.proofs.Common.{◌≡◌, ℕ, ◌+◌, ◌-◌, Bool, false, cond, eqb, ap, ◌∙◌, arith}
 use Rattle.range_bits.proofs.Placing.{get_or-with_places}
-use Rattle.huge_table.proofs.Common.{Table, bit, is_between}
+use Rattle.huge_table.proofs.Common.{Table, bit}
 use Rattle.huge_table.proofs.Sizes.{arena}
 use Rattle.huge_table.proofs.Pages.{one_place, last_place}
 use Rattle.huge_table.proofs.table.HugeTable.note.Goals as goal
@@ -16,16 +16,8 @@ returns-clause-noted c =
     let end : first + skipped + (n - skipped) ≡ first + n = omega arith in
     let last : first + n - 1 + 1 ≡ first + n = omega arith in
     record {
-      used = λ page.
-          ap (λ row. bit row page) c.put.ensures
-          ∙ get_or-with_places t.used (first + skipped) (n - skipped) v page false (omega (arith, c.self.invariant.used))
-          ∙ ap (λ (to : ℕ). cond (is_between (first + skipped) to page) v (bit t.used page)) end
-          ∙ ap (λ (x : Table). cond (is_between (first + skipped) (first + n) page) v (bit x.used page)) c.self.view_is;
-      begins = λ page.
-          ap (λ row. bit row page) c.put-2.ensures
-          ∙ get_or-with_places t.begins first 1 v page false (omega (arith, c.self.invariant.begins))
-          ∙ ap (λ b. cond b v (bit t.begins page)) (one_place first page)
-          ∙ ap (λ (x : Table). cond (eqb first page) v (bit x.begins page)) c.self.view_is;
+      used = grind (arith, get_or-with_places, c.put.ensures, c.self.view_is);
+      begins = grind (arith, get_or-with_places, one_place, c.put-2.ensures, c.self.invariant.begins, c.self.view_is);
       ends = λ page.
           ap (λ row. bit row page) c.put-3.ensures
           ∙ get_or-with_places t.ends (first + n - 1) 1 v page false (omega (arith, c.self.invariant.ends))

@@ -15,21 +15,11 @@ given a b s x y p q r = omega arith
 
 pub overflow_sub-result : goal.overflow_sub-result
 overflow_sub-result c =
-    let t = c.self.inside in
-    let h : ℕ = c.args.huge.0 in
-    let before = counted t.page_backed c.from-place.result h c.used_in-before.result c.from-place.ensures c.used_in-before.ensures in
-    let after = counted c.keep_used.new.self c.from-place.result h c.used_in.result c.from-place.ensures c.used_in.ensures in
-    omega (
-      arith,
-      before,
-      after,
-      spared_fewer t c.args.self.now c.self.invariant c.self.view_is h c.requires c.keep_used.new.self
-          (cut c.self.inside.page_backed c.self.inside.used c.keep_used.new.self c.from.result c.args.huge.0 c.from.ensures c.keep_used.ensures),
-    )
+    grind (arith, counted, spared_fewer, cut, c.from-place.ensures, c.used_in-before.ensures, c.used_in.ensures, c.self.invariant, c.self.view_is, c.requires, c.from.ensures, c.keep_used.ensures)
 
 pub returns-clause-heap : goal.returns-clause-heap
-returns-clause-heap c heap means = spared_means c.self.inside c.args.self.now c.self.invariant c.self.view_is c.args.huge.0 c.requires c.keep_used.new.self
-    (cut c.self.inside.page_backed c.self.inside.used c.keep_used.new.self c.from.result c.args.huge.0 c.from.ensures c.keep_used.ensures) heap means
+returns-clause-heap c heap means =
+    grind (arith, spared_means, cut, c.self.invariant, c.self.view_is, c.requires, c.from.ensures, c.keep_used.ensures)
 
 pub returns-clause-pages : goal.returns-clause-pages
 returns-clause-pages c heap means =
@@ -38,5 +28,4 @@ returns-clause-pages c heap means =
     let before = counted t.page_backed c.from-place.result h c.used_in-before.result c.from-place.ensures c.used_in-before.ensures in
     let after = counted c.keep_used.new.self c.from-place.result h c.used_in.result c.from-place.ensures c.used_in.ensures in
     given _ _ _ _ _ before after
-    (spared_count t c.args.self.now c.self.invariant c.self.view_is h c.requires c.keep_used.new.self
-    (cut c.self.inside.page_backed c.self.inside.used c.keep_used.new.self c.from.result c.args.huge.0 c.from.ensures c.keep_used.ensures) heap means)
+    (grind (arith, spared_count, cut, c.self.invariant, c.self.view_is, c.requires, c.from.ensures, c.keep_used.ensures))

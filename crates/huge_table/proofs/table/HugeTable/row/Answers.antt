@@ -1,4 +1,4 @@
-use Rattle.std.proofs.Common.{◌≡◌, ℕ, Bool, true, false, not, length, refl, sym, ap, ◌∙◌, arith}
+use Rattle.std.proofs.Common.{◌≡◌, ℕ, Bool, true, false, not, refl, sym, ap, ◌∙◌, arith}
 use Rattle.huge_table.proofs.Common.{false≢true, Hugepage, hugepage, backed_count, row_of, is_shared, is_run}
 use Rattle.huge_table.proofs.Steps.{at-heap}
 use Rattle.huge_table.proofs.Measures.{run_row_is, same_view}
@@ -6,10 +6,7 @@ use Rattle.huge_table.proofs.table.HugeTable.row.Goals as goal
 
 pub returns-then-is_run : goal.returns-then-is_run
 returns-then-is_run c heap sound means =
-    let h : ℕ = c.args.huge.0 in
-    let size = ap length means.pages in
-    run_row_is heap h c.run_row.result sound c.requires.low (omega (arith, c.requires.high))
-    (sym (ap is_run (at-heap c.args.self.now heap means h)) ∙ sym c.is_run.ensures ∙ c.if-is_run.true) c.run_row.ensures
+    grind (arith, run_row_is, at-heap, c.requires.low, c.requires.high, c.is_run.ensures, c.if-is_run.true, c.run_row.ensures)
 
 pub returns : goal.returns
 returns c heap sound means =

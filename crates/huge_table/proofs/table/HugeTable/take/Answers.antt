@@ -1,5 +1,5 @@
 use Rattle.std.proofs.Common.{ℕ, true, false, refl, arith}
-use Rattle.huge_table.proofs.Common.{spans, run_page, bit, of_filler}
+use Rattle.huge_table.proofs.Common.{run_page}
 use Rattle.huge_table.proofs.Sizes.{arena}
 use Rattle.huge_table.proofs.Pages.{over, put_bit, take_is}
 use Rattle.huge_table.proofs.table.HugeTable.take.Goals as goal
@@ -12,5 +12,4 @@ returns c =
     let size = arena t c.args.self.now c.self.view_is in
     let grouped = put_bit c.put.new.self t.grouped first many true c.put.ensures (omega arith) in
     let shared = put_bit c.put-2.new.self t.shared first many false c.put-2.ensures (omega arith) in
-    over t (record t { grouped = c.put.new.self; shared = c.put-2.new.self }) c.args.self.now first many (λ _. run_page) c.self.view_is refl refl (λ h _ _.
-    rw (grouped h, shared h) (take_is (spans many h first) (bit t.grouped h) (bit t.shared h) (bit t.backed h) (of_filler (bit t.donated h) t.page_backed h)))
+    over t (record t { grouped = c.put.new.self; shared = c.put-2.new.self }) c.args.self.now first many (λ _. run_page) c.self.view_is refl refl (λ h _ _. grind (arith, take_is))

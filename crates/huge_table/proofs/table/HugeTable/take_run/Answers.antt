@@ -9,16 +9,10 @@ pub take-requires-clause-high : goal.take-requires-clause-high
 take-requires-clause-high c = omega (arith, c.requires.free.to, c.from-place.ensures)
 
 pub adopt-requires-clause-high : goal.adopt-requires-clause-high
-adopt-requires-clause-high c =
-    let size = length-over c.take.new.self c.args.self.now c.from-place.result (c.args.n / 256) (λ _. run_page) c.take.ensures in
-    omega (arith, c.requires.free.to, c.from-place.ensures, c.div_ceil.ensures)
+adopt-requires-clause-high c = grind (arith, length-over, c.take.ensures, c.requires.free.to, c.from-place.ensures, c.div_ceil.ensures)
 
 pub note-requires-clause-high : goal.note-requires-clause-high
-note-requires-clause-high c =
-    let size = length-over c.take.new.self c.args.self.now c.from-place.result (c.args.n / 256) (λ _. run_page) c.take.ensures in
-    let size' = length-over c.adopt.new.self c.take.new.self (c.from-place.result + c.args.n / 256) (c.div_ceil.result - c.args.n / 256)
-    (λ _. filler_page (nat_lt 0 (c.args.n / 256))) c.adopt.ensures in
-    omega (arith, c.requires.free.to, c.from-place.ensures)
+note-requires-clause-high c = search (arith, length-over, c.take.ensures, c.adopt.ensures, c.requires.free.to, c.from-place.ensures)
 
 pub returns : goal.returns
 returns c heap sound means =
@@ -40,5 +34,4 @@ returns c heap sound means =
     (ap (λ (x : Table). x.pages) took) (c.note.ensures.pages ∙ ap (λ (x : Table). x.pages) adopted) lies
     (λ k from to. sym (whole_is n (256 * h + n) k (omega arith) (omega arith)))
     (λ k from to. sym (tail_is n (256 * h + n) k (omega arith))))
-    (noted_after old c.take.new.self c.note.new.self h whole (λ _. run_page) (256 * h) n (256 * whole) true took
-    (noted_after c.take.new.self c.adopt.new.self c.note.new.self (h + whole) tails (λ _. filler_page marked) (256 * h) n (256 * whole) true adopted noted))
+    (grind (arith, noted_after))
