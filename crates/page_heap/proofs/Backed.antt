@@ -2,7 +2,7 @@
 use Rattle.std.proofs.Common.{◌≡◌, ℕ, ◌+◌, ◌*◌, ◌<◌, ◌≤◌, Bool, length, get_or, take, sum_by, sym, ap, ◌∙◌, arith}
 use Rattle.page_heap.proofs.Common.{get_or_default, take_all, sum_by-le, count_by-le-length, sum_by_more, sum_by-take-le, range-within, Heap, Hugepage}
 use Rattle.page_heap.proofs.Common.{hugepage, untouched, numbers, used_count, backed_count, used_pages, backed_pages, IsSound, self, sum-adds, sum-map'}
-use Rattle.page_heap.proofs.Common.{at-next, spare_of}
+use Rattle.page_heap.proofs.Common.{at-next, spare_of, nat_tests}
 use Rattle.page_heap.proofs.Measured.{pages_split}
 
 module _ (heap : Heap) (sound : IsSound heap) where
@@ -38,20 +38,10 @@ module _ (heap : Heap) (sound : IsSound heap) where
 
   -- hugepage after hugepage
   pub backed_more : (k : ℕ) → k < length heap.hugepages → sum_by backed_count (take k heap.hugepages) + backed_count (hugepage heap (k + 1)) ≡ sum_by backed_count (take (k + 1) heap.hugepages)
-  backed_more k l =
-      let at : k + 1 ≡ 1 + k = omega arith in
-      ap (λ i. sum_by backed_count (take k heap.hugepages) + backed_count (hugepage heap i)) at
-      ∙ ap (λ x. sum_by backed_count (take k heap.hugepages) + backed_count x) (at-next heap.hugepages k)
-      ∙ sym (sum_by_more backed_count heap.hugepages k untouched l)
+  backed_more k l = grind (arith, nat_tests, sum_by, at-next, sum_by_more)
 
   pub backed_few : (k : ℕ) → sum_by backed_count (take k heap.hugepages) ≤ 256 * heap.config.huge
-  backed_few k = both _ _ _ (sum_by-take-le backed_count heap.hugepages k) backed_most
-    where
-      both : (a b c : ℕ) → a ≤ b → b ≤ c → a ≤ c
-      both a b c p q = omega arith
+  backed_few k = grind (arith, nat_tests, sum_by-take-le, backed_most)
 
   pub backed_all : (k : ℕ) → k ≡ heap.config.huge → sum_by backed_count (take k heap.hugepages) ≡ backed_pages heap
-  backed_all k e = ap (sum_by backed_count) (take_all k heap.hugepages (enough _ _ _ e sound.runs.arena))
-    where
-      enough : (k a b : ℕ) → k ≡ b → a ≡ b → a ≤ k
-      enough k a b e f = omega arith
+  backed_all k e = grind (arith, nat_tests, sum_by, take_all)

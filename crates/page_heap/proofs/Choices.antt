@@ -1,14 +1,11 @@
 -- The filler's choice by its measures is that of the heap.
-use Rattle.std.proofs.Common.{◌≡◌, ℕ, zero, suc, ◌+◌, ◌-◌, ◌<◌, ◌≤◌, ◌⊎◌, Bool, true, false, not, ◌&&◌, ◌||◌, cond, nat_lt, nat_eq, List, [], ◌∷◌, length}
+use Rattle.std.proofs.Common.{◌≡◌, ℕ, zero, suc, ◌+◌, ◌-◌, ◌<◌, ◌≤◌, ◌⊎◌, Bool, true, false, not, cond, List, [], ◌∷◌, length}
 use Rattle.std.proofs.Common.{get_or, filter, All, Contains, Option, Some, None, IfSome, refl, sym, ap, subst, ◌∙◌, inl, inr, arith}
 use Rattle.page_heap.proofs.Common.{list_all, range_with_len, cases_Bool, cases_eq, leb-true, le-leb, length-map, get_or-map, All-head, All-tail}
-use Rattle.page_heap.proofs.Common.{length-range_with_len, get_or-range_with_len, none-some, same_Some, Run, longest, first_of_two, first_least}
-use Rattle.page_heap.proofs.Common.{first_least-all, Heap, Hugepage, hugepage, numbers, longest_range, is_filler, FillerRow, filler_row, filler_rows}
-use Rattle.page_heap.proofs.Common.{IsHugepageOf, IsRowWithRoom, rows_fit, filter_holds, Huge, Measures, measures_at, prefers, IsPreferred, measures_of}
-use Rattle.page_heap.proofs.Common.{measured, measures}
-use Rattle.std.proofs.lemmas.Bool.Decides.{nat_tests}
+use Rattle.page_heap.proofs.Common.{length-range_with_len, get_or-range_with_len, none-some, same_Some, Run, first_of_two, first_least, first_least-all, Heap}
+use Rattle.page_heap.proofs.Common.{Hugepage, hugepage, numbers, longest_range, is_filler, FillerRow, filler_row, filler_rows, IsHugepageOf, IsRowWithRoom}
+use Rattle.page_heap.proofs.Common.{rows_fit, filter_holds, Huge, Measures, measures_at, prefers, IsPreferred, measures_of, measured, measures, nat_tests}
 use Rattle.heap_rules.specs.FillerRows.{is_preferred, has_room}
-use Rattle.heap_rules.proofs.Orders.{by_first, last_is}
 use Rattle.page_heap.proofs.Frames.{length-measures, measures_there, measured_none, measured_some}
 
 -- One that comes before each other one is the first.
@@ -34,24 +31,8 @@ first_is less (x ∷ xs) r (suc k) d l at all =
     ap (λ o. Some (first_of_two less x o)) rest ∙ ap Some (passes_on less r x (All-head (IsBehind less r) x xs all))
 
 -- No two are each before the other.
-pub not_both : (x y : ℕ) (l m : Bool) → (l ≡ true → m ≡ false) → (nat_lt x y || (nat_eq x y && l)) ≡ true → (nat_lt y x || (nat_eq y x && m)) ≡ false
-not_both x y true m h e = let z = h refl in rw z (grind (arith, nat_tests))
-not_both x y false m h e = grind (arith, nat_tests)
-
-abbrev longest_of : FillerRow → ℕ
-longest_of row = longest row.used
-
 one_way : (a b : FillerRow) → is_preferred a b ≡ true → is_preferred b a ≡ false
-one_way a b e =
-    let in_order : (x y : FillerRow) →
-    is_preferred x y ≡
-    (nat_lt x.tier y.tier ||
-    (nat_eq x.tier y.tier &&
-    (nat_lt (longest_of x) (longest_of y) ||
-    (nat_eq (longest_of x) (longest_of y) && (nat_lt y.allocs x.allocs || (nat_eq y.allocs x.allocs && nat_lt x.number y.number)))))) = λ x y.
-    by_first x.tier y.tier _ _ (by_first (longest_of x) (longest_of y) _ _ (by_first y.allocs x.allocs _ _ (last_is (nat_lt x.number y.number) (nat_eq x.number y.number)))) in
-    in_order b a
-    ∙ not_both a.tier b.tier _ _ (not_both (longest_of a) (longest_of b) _ _ (not_both b.allocs a.allocs _ _ (λ t. grind (arith, nat_tests)))) (sym (in_order a b) ∙ e)
+one_way a b e = grind (arith, nat_tests)
 
 listed_at : (m h : ℕ) → 0 < h → h ≤ m → Contains (range_with_len 1 m) h
 listed_at m h from to = (let size = length-range_with_len 1 m in let at : 1 + (h - 1) ≡ h = omega arith in (h - 1, omega arith, get_or-range_with_len 1 m (h - 1) h (omega arith) ∙ at))

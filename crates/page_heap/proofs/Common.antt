@@ -4,7 +4,7 @@ pub use Rattle.heap_rules.proofs.Chosen.{AreFree, mapped, run_choice_free}
 pub use Rattle.heap_rules.proofs.Ended.{all_used, ended, free_leaves, given_back_sound, given_is_left, none_kept, range_used}
 pub use Rattle.heap_rules.proofs.Fillers.{AreUnused, IsFitting, IsRowWithRoom, given_filler, is_Filler, rows_fit, unused_at}
 pub use Rattle.heap_rules.proofs.Fits.{holds_from, holds_parts, is_Free, is_Region, reaches_from, reaches_parts, serves_at, spans_from, spans_parts}
-pub use Rattle.heap_rules.proofs.Fits.{spans_reaches, unreached_unheld}
+pub use Rattle.heap_rules.proofs.Fits.{unreached_unheld}
 pub use Rattle.heap_rules.proofs.Left.{count_rest, fewer, left_kinds, left_runs, live_inside, own_run, same_member, unused_rest, used_rest}
 pub use Rattle.heap_rules.proofs.Live.{Contains-filter, count-with, counts_used, filter_holds, unused_counts, used_counts, used_with_new}
 pub use Rattle.heap_rules.proofs.Longest.{prefix_long}
@@ -22,7 +22,7 @@ pub use Rattle.heap_rules.specs.Laws.{BacksNone, IsGiven, IsReleased, IsRid}
 pub use Rattle.heap_rules.specs.New.{Placed, all_backed, filler_page, in_filler, in_fresh, in_new_region, in_region, more_backed, new_unsettled, new_whole}
 pub use Rattle.heap_rules.specs.New.{none_fits, placed, region_page, run_or_tail, run_page, settled_placed, slack, with_new_region}
 pub use Rattle.heap_rules.specs.RegionRows.{RegionRow, place_in_region, region_place}
-pub use Rattle.heap_rules.specs.Release.{Released, after_free, after_regions, free_given, givable_pages, idle_given, is_idle, only_used, release}
+pub use Rattle.heap_rules.specs.Release.{Released, after_free, after_regions, free_given, idle_given, is_idle, only_used, release}
 pub use Rattle.heap_rules.specs.Release.{spare_given, spare_pages, spare_row, spare_rows, whole_given}
 pub use Rattle.heap_rules.specs.Settle.{counted, settled, unbacked}
 pub use Rattle.heap_rules.specs.Sound.{AreLimits, AreRunsSound, HasNoUsed, IsHugepageOf, IsInside, IsRegion, IsSound}
@@ -42,8 +42,9 @@ pub use Rattle.page_heap.specs.declared.heap.PageHeap.TheInside.{Inside}
 pub use Rattle.range_bits.proofs.Placing.{get_or-with_places, length-with_places}
 pub use Rattle.range_bits.proofs.RangeLemmas.{filter-agree, first_least-all, range-within}
 pub use Rattle.range_bits.specs.Ranges.{best, first_least, first_of_two, free_from, longest, with_places}
-pub use Rattle.std.proofs.lemmas.Bool.{and_from, and_left, and_parts, and_right, cases_Bool, cases_eq, cases_lt, eq-eqb, eqb-true, false_from_ne_true}
-pub use Rattle.std.proofs.lemmas.Bool.{false≢true, le-leb, le-ltb, leb-true, lt-leb, lt-ltb, ltb-true, ne_eqb, not-false, not-true, not_from_false}
+pub use Rattle.std.proofs.lemmas.Bool.Decides.{nat_tests}
+pub use Rattle.std.proofs.lemmas.Bool.{and_left, and_parts, and_right, cases_Bool, cases_eq, cases_lt, eq-eqb, false_from_ne_true}
+pub use Rattle.std.proofs.lemmas.Bool.{false≢true, le-leb, le-ltb, leb-true, lt-leb, lt-ltb, ne_eqb, not-false, not-true, not_from_false}
 pub use Rattle.std.proofs.lemmas.List.{get_or-drop, get_or-map, get_or-replicate, get_or-set_other, get_or-set_same, get_or_default, get_or_past}
 pub use Rattle.std.proofs.lemmas.List.{length-drop, length-map, length-replicate, length-set, same_lists, take_all}
 pub use Rattle.std.proofs.lemmas.List.Elements.{All-contains, All-filter, All-head, All-tail, Contains-get_or}

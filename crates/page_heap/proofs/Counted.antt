@@ -1,8 +1,8 @@
 -- The used pages of a range, counted run by run.
-use Rattle.std.proofs.Common.{◌≡◌, ℕ, zero, suc, ◌+◌, ◌-◌, ◌*◌, ◌≤◌, Bool, cond, min, max, List, [], ◌∷◌, length, get_or, count_by, sum_by, refl, sym, ◌∙◌}
+use Rattle.std.proofs.Common.{◌≡◌, ℕ, zero, suc, ◌+◌, ◌-◌, ◌*◌, ◌≤◌, Bool, cond, min, max, List, [], ◌∷◌, get_or, count_by, sum_by, refl, sym, ◌∙◌}
 use Rattle.std.proofs.Common.{inl, inr, arith}
-use Rattle.page_heap.proofs.Common.{range_with_len, cases_Bool, cases_lt, false≢true, sum_by-cons, Run, count-cons, one-true, one-false, Heap, is_used}
-use Rattle.page_heap.proofs.Common.{used_count, used_pages, IsSound, used_counts, unused_counts, holds_parts, holds_from, same_sums, sum-adds}
+use Rattle.page_heap.proofs.Common.{range_with_len, cases_Bool, sum_by-cons, Run, count-cons, one-true, one-false, Heap, is_used}
+use Rattle.page_heap.proofs.Common.{used_count, used_pages, IsSound, used_counts, unused_counts, holds_parts, holds_from, same_sums, sum-adds, nat_tests}
 use Rattle.heap_rules.specs.Heap.{holds, used_from}
 use Rattle.page_heap.proofs.Steps.{count-map}
 
@@ -28,17 +28,7 @@ held_count run first zero = omega arith
 held_count run first (suc n) =
     let rest = held_count run (first + 1) n in
     let a = count-cons (λ p. holds p run) first (range_with_len (first + 1) n) in
-    elim (cases_Bool (holds first run)) [
-      | inl t ↦ (let parts = holds_parts first run t in let one = one-true (holds first run) t in omega arith)
-      | inr f ↦ (let none = one-false (holds first run) f in
-          elim (cases_lt first run.first.0) [
-            | inl before ↦ omega arith
-            | inr from ↦ elim (cases_lt first (run.first.0 + run.pages)) [
-              | inl inside ↦ absurd (false≢true (sym f ∙ holds_from first run from inside))
-              | inr past ↦ omega arith
-            ]
-          ])
-    ]
+    grind (arith, nat_tests, holds_parts, holds_from)
 
 -- a page of disjoint runs is used where one holds it
 one_holds : (runs : List Run) (p : ℕ) → count_by (holds p) runs ≤ 1 → cond (is_used runs p) 1 0 ≡ count_by (holds p) runs
@@ -74,8 +64,4 @@ module _ (runs : List Run) (disjoint : (p : ℕ) → count_by (holds p) runs ≤
 
 -- the used pages of a heap are those of its runs
 pub used_pages_are : (heap : Heap) → IsSound heap → used_pages heap ≡ sum_by (λ run. run.pages) heap.runs
-used_pages_are heap sound =
-    let len = sound.runs.arena in
-    used_of_hugepages heap.runs sound.runs.disjoint 1 (length heap.hugepages)
-    ∙ same_sums (pages_in (256 * 1) (256 * length heap.hugepages)) (λ r. r.pages) heap.runs
-    (λ k d l. let inside = sound.runs.inside k d l in omega (arith, inside.from, inside.to))
+used_pages_are heap sound = grind (arith, nat_tests, used_of_hugepages, same_sums, sound.runs.arena, sound.runs.disjoint)

@@ -1,16 +1,15 @@
 -- A run leaves a region, which ends where it has no used page left.
-use Rattle.std.proofs.Common.{◌≡◌, ◌≢◌, ℕ, ◌+◌, ◌-◌, ◌*◌, ◌/◌, ◌<◌, ◌≤◌, ◌==◌, Bool, true, false, not, ◌&&◌, cond, nat_lt, List, [], ◌∷◌, length, get_or}
-use Rattle.std.proofs.Common.{map, filter, drop, count_by, Contains, Some, refl, sym, ap, subst, ◌∙◌, inl, inr, arith}
-use Rattle.page_heap.proofs.Common.{list_any, list_all, cases_Bool, cases_eq, cases_lt, eq-eqb, ne_eqb, lt-ltb, le-ltb, not-true, not-false, false≢true}
-use Rattle.page_heap.proofs.Common.{false_from_ne_true, length-map, length-drop, get_or-drop, length-map-range_with_len, get_or-map-range_with_len}
-use Rattle.page_heap.proofs.Common.{All-contains, Contains-get_or, Run, RowKind, any_is_count, count_some, filter-agree, HeapConfig, Heap, Hugepage}
-use Rattle.page_heap.proofs.Common.{hugepage, is_used, reaches, region_row, is_free, is_filler, is_region, spans, RegionRow, region_row_of}
-use Rattle.page_heap.proofs.Common.{left_by, used_regions, without_unused_regions, given_back, IsHugepageOf, IsRegion, AreRunsSound, IsSound, range_used}
-use Rattle.page_heap.proofs.Common.{given_back_sound, given_is_left, ended, holds_from, reaches_parts, spans_parts, spans_from, is_Region}
-use Rattle.page_heap.proofs.Common.{unreached_unheld, left_runs, left_kinds, same_member, unused_rest, used_rest, counts_used, prefix_long, at, map-at}
-use Rattle.page_heap.proofs.Common.{page_of, here, Means, IsEnding, AllUsed, has_used, Table, IsSpan, reached_by, Cache, Regions, region_with}
-use Rattle.page_heap.proofs.Common.{with_changed, without_region, start_in, is_unused, AreUsedIn, Inside, AreFreed, measured, measures, cache_of}
-use Rattle.page_heap.proofs.Common.{regions_of, IsInRegion, IsTold}
+use Rattle.std.proofs.Common.{◌≡◌, ◌≢◌, ℕ, ◌+◌, ◌-◌, ◌*◌, ◌/◌, ◌<◌, ◌≤◌, ◌==◌, Bool, true, false, not, ◌&&◌, cond, List, [], ◌∷◌, length, get_or}
+use Rattle.std.proofs.Common.{map, filter, drop, Contains, Some, refl, sym, ap, subst, ◌∙◌, inl, inr, arith}
+use Rattle.page_heap.proofs.Common.{list_any, list_all, cases_Bool, cases_eq, not-true, not-false, false≢true, false_from_ne_true, length-map, length-drop}
+use Rattle.page_heap.proofs.Common.{get_or-drop, length-map-range_with_len, get_or-map-range_with_len, All-contains, Contains-get_or, Run, RowKind}
+use Rattle.page_heap.proofs.Common.{any_is_count, count_some, filter-agree, HeapConfig, Heap, Hugepage, hugepage, is_used, reaches, is_free, is_filler}
+use Rattle.page_heap.proofs.Common.{is_region, spans, RegionRow, region_row_of, left_by, used_regions, without_unused_regions, given_back, IsHugepageOf}
+use Rattle.page_heap.proofs.Common.{IsRegion, AreRunsSound, IsSound, range_used, given_back_sound, given_is_left, ended, holds_from, reaches_parts}
+use Rattle.page_heap.proofs.Common.{spans_parts, spans_from, is_Region, unreached_unheld, left_runs, left_kinds, same_member, unused_rest, used_rest}
+use Rattle.page_heap.proofs.Common.{counts_used, prefix_long, at, map-at, page_of, here, Means, IsEnding, AllUsed, has_used, Table, IsSpan, reached_by, Cache}
+use Rattle.page_heap.proofs.Common.{Regions, region_with, with_changed, without_region, start_in, is_unused, AreUsedIn, Inside, AreFreed, measured, measures}
+use Rattle.page_heap.proofs.Common.{cache_of, regions_of, IsInRegion, IsTold, nat_tests}
 use Rattle.tc_units.specs.Sorted.{without_key}
 use Rattle.tc_units.specs.declared.rows.RowKind.TheVariants as kind
 use Rattle.range_bits.specs.Ranges.{used_from}
@@ -31,18 +30,11 @@ filter-map : {X Y : Type 0} (p : Y → Bool) (g : X → Y) (xs : List X) → fil
 filter-map p g [] = refl
 filter-map p g (x ∷ xs) =
     let rest = filter-map p g xs in
-    rw rest (elim (p (g x)) as (λ b. cond b (g x ∷ map g (filter (λ y. p (g y)) xs)) (map g (filter (λ y. p (g y)) xs)) ≡ map g
-    (cond b (x ∷ filter (λ y. p (g y)) xs) (filter (λ y. p (g y)) xs))) [ true ↦ refl | false ↦ refl ])
+    rw rest (grind (arith, nat_tests))
 
 -- whether a region's row has a used page
 unused_is : (heap : Heap) (r : ℕ) → is_unused (region_row_of heap r) ≡ not (has_used heap r)
-unused_is heap r = zero_or (count_by (λ b. b) (region_row heap.runs heap.config.region r)) ∙ ap not (sym (any_is_count (λ b. b) (region_row heap.runs heap.config.region r)))
-  where
-    zero_or : (n : ℕ) → (n == 0) ≡ not (nat_lt 0 n)
-    zero_or n = elim (cases_lt 0 n) [
-      | inl some ↦ ne_eqb n 0 (λ e. omega arith) ∙ sym (ap not (lt-ltb 0 n some))
-      | inr none ↦ eq-eqb n 0 (omega arith) ∙ sym (ap not (le-ltb 0 n none))
-    ]
+unused_is heap r = grind (arith, nat_tests, any_is_count)
 
 -- as many pages of a row are used as a run has from there on
 used_long : (runs : List Run) (first many s n : ℕ) → s + n ≤ many → ((page : ℕ) → first + s ≤ page → page < first + s + n → is_used runs page ≡ true) →
@@ -70,18 +62,13 @@ module _ (heap : Heap) (r : ℕ) (sound : AreRunsSound heap) (ending : IsEnding 
   e h x = cond (is_region x && not (list_any (spans width h) regions')) (record x { kind = kind.Free }) x
 
   becomes : (h : ℕ) → IsHugepageOf heap.config.huge h → e h (hugepage heap h) ≡ cond (spans width h r) (record (hugepage heap h) { kind = kind.Free }) (hugepage heap h)
-  becomes h is =
-      let arena = sound.arena in
-      ap (λ b. cond b (record (hugepage heap h) { kind = kind.Free }) (hugepage heap h)) (ended heap r sound ending.known ending.unused ending.alone h is.from (omega (arith, is.to)) (kinds h))
+  becomes h is = grind (arith, nat_tests, ended, sound, kinds, is.from, is.to)
 
   end_is : (h : ℕ) → IsHugepageOf heap.config.huge h → hugepage after_end h ≡ cond (spans width h r) (record (hugepage heap h) { kind = kind.Free }) (hugepage heap h)
   end_is h is = here heap heap.runs regions' e heap.counts sound h is ∙ becomes h is
 
   pub end_free : (h : ℕ) → spans width h r ≡ true → is_free (hugepage after_end h) ≡ true
-  end_free h t =
-      let parts = spans_parts width h r t in
-      let own : IsHugepageOf heap.config.huge h = record { from = omega arith; to = omega arith } in
-      ap is_free (end_is h own ∙ ap (λ b. cond b (record (hugepage heap h) { kind = kind.Free }) (hugepage heap h)) t)
+  end_free h t = grind (arith, nat_tests, spans_parts, end_is)
 
   pub end_measures : measures heap ≡ measures after_end
   end_measures =
@@ -96,18 +83,10 @@ module _ (heap : Heap) (r : ℕ) (sound : AreRunsSound heap) (ending : IsEnding 
 
   kept_is : regions' ≡ without_key (λ k. k) r heap.regions
   kept_is = filter-agree (has_used heap) (λ k. not (k == r)) heap.regions
-      (λ k d l. (let s = get_or heap.regions k d in elim (cases_eq s r) [
-        | inl same ↦ ap (has_used heap) same ∙ ending.unused ∙ sym (ap not (eq-eqb s r same))
-        | inr other ↦ (elim (cases_Bool (has_used heap s)) [
-          | inl t ↦ t
-          | inr f ↦ absurd (other (ending.alone s (Contains-get_or heap.regions k d l) f))
-        ]) ∙ sym (ap not (ne_eqb s r other))
-      ]))
+      (λ k d l. grind (arith, nat_tests, Contains-get_or, ending.unused, ending.alone))
 
   pub end_regions : without_region (regions_of heap) r ≡ regions_of after_end
-  end_regions =
-      ap (λ (rows : List RegionRow). record (regions_of heap) { rows = rows })
-      (filter-map (λ (x : RegionRow). not (x.first == r)) (region_row_of heap) heap.regions ∙ ap (map (region_row_of heap)) (sym kept_is))
+  end_regions = grind (arith, nat_tests, filter-map, kept_is)
 
   -- the free hugepages, with those of the region
   end_flags : (p : Hugepage → Bool) (flag : ℕ → Bool) (row : List Bool) → ((h : ℕ) → spans width h r ≡ true → flag h ≡ p (hugepage after_end h)) →

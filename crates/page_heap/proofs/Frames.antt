@@ -1,11 +1,10 @@
 -- What the choosers are told of a heap whose hugepages change, place by place.
 use Rattle.std.proofs.Common.{◌≡◌, ◌≢◌, ℕ, ◌+◌, ◌-◌, ◌*◌, ◌/◌, ◌<◌, ◌≤◌, Bool, true, false, not, cond, List, [], ◌∷◌, length, get_or, set, map, All}
-use Rattle.std.proofs.Common.{Option, None, refl, sym, ap, subst, ◌∙◌, inl, inr, arith}
+use Rattle.std.proofs.Common.{Option, None, refl, sym, ap, ◌∙◌, inl, inr, arith}
 use Rattle.page_heap.proofs.Common.{cases_Bool, cases_eq, false_from_ne_true, false≢true, length-set, length-map, All-head, All-tail, Run, with_places}
-use Rattle.page_heap.proofs.Common.{length-with_places, RegionRow, Heap, Hugepage, hugepage, untouched, reaches, spans, is_free, is_free_backed, is_filler}
-use Rattle.page_heap.proofs.Common.{each, at-each}
-use Rattle.page_heap.proofs.Common.{is_region, region_row_of, IsHugepageOf, IsRegion, AreRunsSound, map-at, unreached_unheld, spans_from, remade, here}
-use Rattle.page_heap.proofs.Common.{measures_at, with_measures, Cache, is_backed, measures_of, measured, measures, cache_of, regions_of}
+use Rattle.page_heap.proofs.Common.{length-with_places, Heap, Hugepage, hugepage, untouched, reaches, spans, is_free, is_free_backed, is_filler, each}
+use Rattle.page_heap.proofs.Common.{at-each, is_region, region_row_of, IsHugepageOf, IsRegion, AreRunsSound, map-at, unreached_unheld, spans_from, remade}
+use Rattle.page_heap.proofs.Common.{here, measures_at, with_measures, Cache, is_backed, measures_of, measured, measures, cache_of, regions_of, nat_tests}
 use Rattle.huge_cache.specs.Cache.{holds}
 use Rattle.page_heap.proofs.Numbered.{numbered, same_numbered, numbered-each, length-each, one_is, one_not, numbered-set, numbered-with_places}
 use Rattle.page_heap.proofs.Steps.{IsStep, row-away, measured-away}
@@ -115,20 +114,12 @@ module _ (heap : Heap) (f : ℕ → Hugepage → Hugepage) (sound : AreRunsSound
   pub flags_run : (p : Hugepage → Bool) (r many : ℕ) (t : Bool) → 0 < r → r + many ≤ length heap.hugepages + 1 →
       ((h : ℕ) → IsHugepageOf heap.config.huge h → cond (spans many h r) t (p (hugepage heap h)) ≡ p (f h (hugepage heap h))) →
       with_places (map p heap.hugepages) (r - 1) many t ≡ map p then
-  flags_run p r many t some fits same =
-      let row = map p heap.hugepages in
-      let len = length-map heap.hugepages p in
-      flags_are p (with_places row (r - 1) many t) (length-with_places row (r - 1) many t (omega arith) ∙ len)
-      (λ h is. numbered-with_places row r many t h true some is.from (omega arith) ∙ ap (cond (spans many h r) t) (flag p h is) ∙ same h is)
+  flags_run p r many t some fits same = grind (arith, nat_tests, length-map, flags_are, length-with_places, numbered-with_places, flag)
 
   pub flags_set : (p : Hugepage → Bool) (r : ℕ) (t : Bool) → 0 < r → r ≤ length heap.hugepages →
       ((h : ℕ) → IsHugepageOf heap.config.huge h → cond (spans 1 h r) t (p (hugepage heap h)) ≡ p (f h (hugepage heap h))) →
       set (map p heap.hugepages) (r - 1) t ≡ map p then
-  flags_set p r t some fits same =
-      let row = map p heap.hugepages in
-      let len = length-map heap.hugepages p in
-      flags_are p (set row (r - 1) t) (length-set row (r - 1) t ∙ len)
-      (λ h is. numbered-set row r t h true some (omega arith) is.from ∙ ap (cond (spans 1 h r) t) (flag p h is) ∙ same h is)
+  flags_set p r t some fits same = grind (arith, nat_tests, length-map, flags_are, length-set, numbered-set, flag)
 
   -- a range is set, and then one
   pub flags_two : (p : Hugepage → Bool) (r many k : ℕ) (t u : Bool) → 0 < r → r + many ≤ length heap.hugepages + 1 → 0 < k → k ≤ length heap.hugepages →
@@ -140,10 +131,7 @@ module _ (heap : Heap) (f : ℕ → Hugepage → Hugepage) (sound : AreRunsSound
       let all = with_places row (r - 1) many t in
       let size = length-with_places row (r - 1) many t (omega arith) in
       flags_are p (set all (k - 1) u) (length-set all (k - 1) u ∙ size ∙ len)
-      (λ h is.
-      numbered-set all k u h true some' (omega arith) is.from
-      ∙ ap (cond (spans 1 h k) u) (numbered-with_places row r many t h true some is.from (omega arith) ∙ ap (cond (spans many h r) t) (flag p h is))
-      ∙ same h is)
+      (λ h is. grind (arith, nat_tests, numbered-set, numbered-with_places, flag))
 
   pub flags_same : (p : Hugepage → Bool) → ((h : ℕ) → IsHugepageOf heap.config.huge h → p (hugepage heap h) ≡ p (f h (hugepage heap h))) → map p heap.hugepages ≡ map p then
   flags_same p same = flags_are p (map p heap.hugepages) (length-map heap.hugepages p) (λ h is. flag p h is ∙ same h is)
@@ -157,8 +145,7 @@ module _ (heap : Heap) (f : ℕ → Hugepage → Hugepage) (sound : AreRunsSound
 regions_same : (heap : Heap) (rest : List Run) (f : ℕ → Hugepage → Hugepage) →
     All (λ r. region_row_of heap r ≡ region_row_of (remade heap rest heap.regions f heap.counts) r) heap.regions →
     regions_of heap ≡ regions_of (remade heap rest heap.regions f heap.counts)
-regions_same heap rest f same =
-    ap (λ (rs : List RegionRow). record (regions_of heap) { rows = rs }) (map_same (region_row_of heap) (region_row_of (remade heap rest heap.regions f heap.counts)) heap.regions same)
+regions_same heap rest f same = grind (arith, nat_tests, map_same, remade)
 
 -- A run comes or leaves, and changes hugepages that it reaches alone.
 module _ (heap : Heap) (rest : List Run) (g : ℕ → Hugepage → Hugepage) (run : Run) (sound : AreRunsSound heap) (step : IsStep heap.runs rest run) where
@@ -209,19 +196,11 @@ module _ (heap : Heap) (rest : List Run) (g : ℕ → Hugepage → Hugepage) (ru
       (λ k d l. region_away (get_or heap.regions k d) (λ h e. false_from_ne_true (reaches h run) (λ t. false≢true (sym (apart h t) ∙ (regions k d l).kinds h e))))
 
   -- the cache, where none that it reaches is free before or after
-  not_free : (x y : Hugepage) → is_free x ≡ false → is_free y ≡ false → (is_free x ≡ is_free y) × (is_free_backed x ≡ is_free_backed y)
-  not_free x y e f = rw (e, f) (refl, refl)
-
   kept_flags : ((h : ℕ) → IsHugepageOf heap.config.huge h → reaches h run ≡ true →
       (is_free (hugepage heap h) ≡ false) × (is_free (g h (hugepage heap h)) ≡ false)) → (h : ℕ) → IsHugepageOf heap.config.huge h →
       (is_free (hugepage heap h) ≡ is_free (stepped h (hugepage heap h))) ×
       (is_free_backed (hugepage heap h) ≡ is_free_backed (stepped h (hugepage heap h)))
-  kept_flags busy h is = (let x = hugepage heap h in
-      let P : Hugepage → Type 0 = λ y. (is_free x ≡ is_free y) × (is_free_backed x ≡ is_free_backed y) in
-      elim (cases_Bool (reaches h run)) [
-        | inl t ↦ (let both = busy h is t in subst P (sym (reached_is h x t)) (not_free x (g h x) both.0 both.1))
-        | inr n ↦ subst P (sym (unreached_is h x n)) (refl, refl)
-      ])
+  kept_flags busy h is = grind (arith, nat_tests)
 
   pub cache_step : ((h : ℕ) → IsHugepageOf heap.config.huge h → reaches h run ≡ true →
       (is_free (hugepage heap h) ≡ false) × (is_free (g h (hugepage heap h)) ≡ false)) → cache_of heap ≡ cache_of after'

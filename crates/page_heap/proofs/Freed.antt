@@ -1,18 +1,12 @@
 -- Hugepages of a region that has ended become free, one after another.
-use Rattle.std.proofs.Common.{◌≡◌, ℕ, ◌+◌, ◌-◌, ◌<◌, ◌≤◌, Bool, true, false, not, cond, List, length, set, refl, sym, ap, ◌∙◌, inl, inr, arith}
-use Rattle.page_heap.proofs.Common.{list_all, cases_Bool, cases_eq, cases_lt, false≢true, false_from_ne_true, length-set, Heap, hugepage, spans, is_free}
-use Rattle.page_heap.proofs.Common.{spans_parts, spans_from, Cache, with_huge, AreFreed, with_freed}
+use Rattle.std.proofs.Common.{◌≡◌, ℕ, ◌+◌, ◌-◌, ◌<◌, ◌≤◌, Bool, true, false, not, cond, List, length, set, ap, ◌∙◌, arith}
+use Rattle.page_heap.proofs.Common.{list_all, false_from_ne_true, length-set, Heap, hugepage, spans, is_free}
+use Rattle.page_heap.proofs.Common.{spans_parts, spans_from, Cache, with_huge, AreFreed, with_freed, nat_tests}
 use Rattle.huge_cache.specs.Cache.{holds}
 use Rattle.page_heap.proofs.Numbered.{numbered, numbered-set, one_is, one_not}
 
-none_spans : (h first : ℕ) → spans 0 h first ≡ false
-none_spans h first = false_from_ne_true _ (λ t. let parts = spans_parts 0 h first t in omega arith)
-
 more_spans : (many h first : ℕ) → h < first + many → spans (many + 1) h first ≡ spans many h first
-more_spans many h first l = elim (cases_Bool (spans many h first)) [
-  | inl t ↦ (let parts = spans_parts many h first t in spans_from (many + 1) h first parts.0 (omega arith) ∙ sym t)
-  | inr f ↦ false_from_ne_true _ (λ t. let parts = spans_parts (many + 1) h first t in false≢true (sym f ∙ spans_from many h first parts.0 l)) ∙ sym f
-]
+more_spans many h first l = grind (arith, nat_tests)
 
 past_spans : (many h first : ℕ) → first + many ≤ h → spans many h first ≡ false
 past_spans many h first l = false_from_ne_true _ (λ t. let parts = spans_parts many h first t in omega arith)
@@ -22,28 +16,10 @@ more_at : (row now : List Bool) (flag : ℕ → Bool) (first many : ℕ) → 0 <
     ((h : ℕ) → 0 < h → h ≤ length row → numbered now h true ≡ cond (spans many h first) (flag h) (numbered row h true)) → (h : ℕ) → 0 < h →
     h ≤ length row → numbered (set now (first + many - 1) (flag (first + many))) h true ≡ cond (spans (many + 1) h first) (flag h) (numbered row h true)
 more_at row now flag first many from inside was h some l =
-    let k : ℕ = first + many in
-    numbered-set now k (flag k) h true (omega arith) inside some
-    ∙ elim (cases_eq h k) [
-      | inl e ↦
-          ap (λ b. cond b (flag k) (numbered now h true)) (one_is h k e) ∙ ap flag (sym e)
-          ∙ sym (ap (λ b. cond b (flag h) (numbered row h true)) (spans_from (many + 1) h first (omega arith) (omega arith)))
-      | inr ne ↦
-          ap (λ b. cond b (flag k) (numbered now h true)) (one_not h k ne) ∙ was h some l
-          ∙ ap (λ b. cond b (flag h) (numbered row h true)) (elim (cases_lt h k) [
-            | inl before ↦ sym (more_spans many h first before)
-            | inr past ↦ past_spans many h first past ∙ sym (past_spans (many + 1) h first (omega (arith, ne)))
-          ])
-    ]
+    grind (arith, nat_tests, numbered-set, numbered, one_is, spans_from, one_not, more_spans, past_spans)
 
 pub freed_none : (cache : Cache) (heap : Heap) (first : ℕ) → AreFreed cache cache heap first 0
-freed_none cache heap first = record {
-  rest = refl;
-  size = refl;
-  unready_size = refl;
-  taken = λ h _ _. sym (ap (λ b. cond b false (numbered cache.taken h true)) (none_spans h first));
-  unready = λ h _ _. sym (ap (λ b. cond b (not (list_all (λ v. v) (hugepage heap h).backed)) (numbered cache.unready h true)) (none_spans h first));
-}
+freed_none cache heap first = grind (arith, nat_tests, cache.taken, cache.unready)
 
 pub freed_more : (old now new : Cache) (heap : Heap) (first many : ℕ) → AreFreed old now heap first many →
     new ≡ with_freed now (first + many) (hugepage heap (first + many)) → 0 < first → first + many ≤ length old.taken →
@@ -55,9 +31,7 @@ freed_more old now new heap first many is e from inside same free =
     let taken : new.taken ≡ set now.taken (k - 1) false = ap (λ (c : Cache). c.taken) made in
     let unready : new.unready ≡ set now.unready (k - 1) (flag k) = ap (λ (c : Cache). c.unready) made in
     record {
-      rest = made ∙ ap (λ (c : Cache). record c { taken = set now.taken (k - 1) false; unready = set now.unready (k - 1) (flag k) }) is.rest
-          ∙ ap (λ (t : List Bool). record old { taken = t; unready = set now.unready (k - 1) (flag k) }) (sym taken)
-          ∙ ap (λ (u : List Bool). record old { taken = new.taken; unready = u }) (sym unready);
+      rest = grind (arith, nat_tests, now.taken, now.unready, is.rest, new.taken);
       size = ap length taken ∙ length-set now.taken (k - 1) false ∙ is.size;
       unready_size = ap length unready ∙ length-set now.unready (k - 1) (flag k) ∙ is.unready_size;
       taken = λ h some l. ap (λ row. numbered row h true) taken ∙ more_at old.taken now.taken (λ _. false) first many from (omega (arith, is.size)) is.taken h some l;

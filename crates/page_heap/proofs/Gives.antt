@@ -1,13 +1,13 @@
 -- A heap settles or releases pages by one hugepage after another.
-use Rattle.std.proofs.Common.{◌≡◌, ℕ, zero, suc, zero-add, ◌+◌, ◌-◌, ◌*◌, ◌<◌, ◌≤◌, Bool, true, false, ◌&&◌, ◌||◌, ◌==◌, cond, nat_le, nat_lt, List, []}
+use Rattle.std.proofs.Common.{◌≡◌, ℕ, zero, suc, zero-add, ◌+◌, ◌-◌, ◌*◌, ◌<◌, ◌≤◌, Bool, true, false, ◌&&◌, ◌||◌, ◌==◌, cond, nat_lt, List, []}
 use Rattle.std.proofs.Common.{◌∷◌, length, get_or, set, drop, take, map, count_by, refl, sym, ap, subst, ◌∙◌, inl, inr, arith}
-use Rattle.page_heap.proofs.Common.{list_all, range_with_len, cases_Bool, cases_lt, cases_eq, and_left, and_right, lt-ltb, le-ltb, le-leb, lt-leb}
+use Rattle.page_heap.proofs.Common.{list_all, range_with_len, cases_lt, cases_eq, and_left, and_right, le-ltb}
 use Rattle.page_heap.proofs.Common.{false≢true, length-map, length-set, length-drop, get_or-drop, get_or_default, get_or_past, length-range_with_len}
 use Rattle.page_heap.proofs.Common.{length-map-range_with_len, count_by-le-length, Huge, count-cons, count_none, one-true, range-within, Heap, Hugepage}
-use Rattle.page_heap.proofs.Common.{hugepage, untouched, numbers, spans, run_at, used_count, is_free, is_region, is_free_backed, unbacked, counted}
+use Rattle.page_heap.proofs.Common.{hugepage, numbers, spans, run_at, used_count, is_free, is_region, is_free_backed, unbacked, counted}
 use Rattle.page_heap.proofs.Common.{settled, Released, whole_given, free_given, is_idle, idle_given, spare_given, after_regions, after_free, release}
 use Rattle.page_heap.proofs.Common.{IsHugepageOf, IsSound, at_number-place, at_number-next, at, length-each, each_is, each_where, each_each, map-at}
-use Rattle.page_heap.proofs.Common.{idle_at, free_sound, idle_sound, here, sum-adds, unbacked_span, over_limit, behind, IsLast}
+use Rattle.page_heap.proofs.Common.{idle_at, free_sound, idle_sound, here, sum-adds, unbacked_span, over_limit, behind, IsLast, nat_tests}
 use Rattle.heap_rules.specs.Numbered.{at_number}
 use Rattle.heap_rules.specs.CacheFlags.{is_over, limit}
 use Rattle.heap_rules.specs.GiveUp.{gives_whole}
@@ -20,29 +20,16 @@ use Rattle.page_heap.proofs.Counted.{held_count}
 pub released_is : (r : Released) (heap : Heap) (pages : ℕ) → r.heap ≡ heap → r.pages ≡ pages → ◌≡◌ {A = Released} r (record { heap = heap; pages = pages })
 released_is r heap pages e f = ap (λ h. record { heap = h; pages = r.pages }) e ∙ ap (λ n. record { heap = heap; pages = n }) f
 
-pub behind_twice : (a b c : ℕ) (r : Released) → a + b ≡ c → behind a (behind b r) ≡ behind c r
-behind_twice a b c r e = let same : a + (b + r.pages) ≡ c + r.pages = omega arith in ap (λ n. record { heap = r.heap; pages = n }) same
-
 pub behind_none : (a : ℕ) (heap : Heap) (r : Released) → r ≡ record { heap = heap; pages = 0 } → behind a r ≡ record { heap = heap; pages = a }
 behind_none a heap r e = let same : a + 0 ≡ a = omega arith in ap (behind a) e ∙ ap (λ n. record { heap = heap; pages = n }) same
 
 -- Where none gives.
 pub whole_none : (flags : List Bool) (heap : Heap) (n : ℕ) → ((k : ℕ) → 0 < k → k ≤ length heap.hugepages → gives_whole flags n k ≡ false) →
     whole_given flags heap n ≡ record { heap = heap; pages = 0 }
-whole_none flags heap n none =
-    let f : ℕ → Hugepage → Hugepage = λ k x. cond (gives_whole flags n k) (unbacked x) x in
-    let no_one : count_by (gives_whole flags n) (numbers heap) ≡ 0 =
-    count_none (gives_whole flags n) (numbers heap)
-    (λ k d l. (let in' = range-within 1 (length heap.hugepages) k d l in none (get_or (numbers heap) k d) in'.0 (omega (arith, in'.1)))) in
-    released_is (whole_given flags heap n) heap 0
-    (ap (λ xs. record heap { hugepages = xs }) (each_is f heap.hugepages heap.hugepages refl (λ k from to. ap (λ b. cond b (unbacked (at heap.hugepages k)) (at heap.hugepages k)) (none k from to))))
-    (ap (λ m. 256 * m) no_one)
+whole_none flags heap n none = grind (arith, nat_tests, count_none, range-within, released_is, each_is)
 
 pub whole_few : (flags : List Bool) (heap : Heap) (n : ℕ) → (whole_given flags heap n).pages ≤ 256 * length heap.hugepages
-whole_few flags heap n = few _ _ _ (count_by-le-length (gives_whole flags n) (numbers heap)) (length-range_with_len 1 (length heap.hugepages))
-  where
-    few : (a b c : ℕ) → a ≤ b → b ≡ c → 256 * a ≤ 256 * c
-    few a b c h e = omega arith
+whole_few flags heap n = grind (arith, nat_tests, count_by-le-length, length-range_with_len)
 
 -- One flag less.
 cleared_behind : (flags : List Bool) (j k : ℕ) → j < length flags → get_or flags j false ≡ true → k ≤ j → count_by (λ b. b) (drop k flags) ≡ count_by (λ b. b) (drop k (set flags j false)) + 1
@@ -56,10 +43,7 @@ cleared_behind (x ∷ xs) (suc j) zero l t a =
 cleared_behind (x ∷ xs) (suc j) (suc k) l t a = cleared_behind xs j k (omega arith) t (omega arith)
 
 shifted : (a b n : ℕ) → a ≡ b + 1 → nat_lt (256 * a) n ≡ nat_lt (256 * b) (n - 256)
-shifted a b n e = elim (cases_lt (256 * a) n) [
-  | inl lt ↦ lt-ltb (256 * a) n lt ∙ sym (lt-ltb (256 * b) (n - 256) (omega arith))
-  | inr ge ↦ le-ltb (256 * a) n ge ∙ sym (le-ltb (256 * b) (n - 256) (omega arith))
-]
+shifted a b n e = grind (arith, nat_tests)
 
 module _ (flags : List Bool) (n h : ℕ) (some : 0 < n) (from : 0 < h) (to : h ≤ length flags) (flag : at_number false flags h ≡ true) (last : (i : ℕ) → h < i → at_number false flags i ≡ false) where
   abbrev cleared : List Bool
@@ -71,23 +55,7 @@ module _ (flags : List Bool) (n h : ℕ) (some : 0 < n) (from : 0 < h) (to : h �
       get_or_default (drop h flags) i d false l ∙ get_or-drop h flags i false ∙ sym (at_number-next false flags (h + i)) ∙ last (1 + (h + i)) (omega arith)))
 
   next_gives : (k : ℕ) → 0 < k → gives_whole flags n k ≡ (spans 1 k h || gives_whole cleared (n - 256) k)
-  next_gives k pos = elim (cases_eq k h) [
-    | inl same ↦
-        (let none = none_behind in
-        let all : gives_whole flags n h ≡ true = ap (λ b. b && nat_lt (256 * count_by (λ b. b) (drop h flags)) n) flag ∙ lt-ltb (256 * count_by (λ b. b) (drop h flags)) n (omega arith) in
-        ap (gives_whole flags n) same ∙ all ∙ sym (ap (λ b. b || gives_whole cleared (n - 256) k) (one_is k h same)))
-    | inr other ↦
-        ap (λ b. b && nat_lt (256 * count_by (λ b. b) (drop k flags)) n) (sym (numbered-set flags h false k false from to pos ∙ ap (λ b. cond b false (at_number false flags k)) (one_not k h other)))
-        ∙ elim (cases_lt k h) [
-          | inl before ↦
-              ap (λ b. at_number false cleared k && b) (shifted _ _ n (cleared_behind flags (h - 1) k (omega arith) (sym (at_number-place false flags h from) ∙ flag) (omega arith)))
-          | inr past ↦
-              (let off : at_number false cleared k ≡ false = numbered-set flags h false k false from to pos
-              ∙ ap (λ b. cond b false (at_number false flags k)) (one_not k h other) ∙ last k (omega arith) in
-              and_left _ _ off ∙ sym (and_left _ _ off))
-        ]
-        ∙ sym (ap (λ b. b || gives_whole cleared (n - 256) k) (one_not k h other))
-  ]
+  next_gives k pos = grind (arith, nat_tests, none_behind, one_is, numbered-set, one_not, shifted, cleared_behind, at_number-place)
 
   module _ (heap : Heap) (size : length flags ≡ length heap.hugepages) where
     next_page : (s g : Bool) (x : Hugepage) → cond (s || g) (unbacked x) x ≡ cond g (unbacked (cond s (unbacked x) x)) (cond s (unbacked x) x)
@@ -112,12 +80,7 @@ module _ (flags : List Bool) (n h : ℕ) (some : 0 < n) (from : 0 < h) (to : h �
         let next : ℕ → Hugepage → Hugepage = λ k x. cond (gives_whole cleared (n - 256) k) (unbacked x) x in
         let one : ℕ → Hugepage → Hugepage = λ k x. cond (spans 1 k h) (unbacked x) x in
         let sum = sum-adds (λ k. cond (spans 1 k h) 1 0) (λ k. cond (gives_whole cleared (n - 256) k) 1 0) (λ k. cond (gives_whole flags n k) 1 0) (numbers heap)
-        (λ i d l. (let k : ℕ = get_or (numbers heap) i d in
-        let in' = range-within 1 (length heap.hugepages) i d l in
-        counted_apart (gives_whole flags n k) (spans 1 k h) (gives_whole cleared (n - 256) k) (next_gives k in'.0) (λ t. elim (cases_eq k h) [
-          | inl same ↦ ap (gives_whole cleared (n - 256)) same ∙ own_off
-          | inr other ↦ absurd (false≢true (sym (one_not k h other) ∙ t))
-        ]))) in
+        (λ i d l. grind (arith, nat_tests, range-within, counted_apart, next_gives, own_off, one_not)) in
         released_is (whole_given flags heap n) _ _
         (ap (λ xs. record heap { hugepages = xs }) (each_where (λ k x. cond (gives_whole flags n k) (unbacked x) x) (λ k x. next k (one k x)) heap.hugepages
         (λ k pos inside. (let x = at heap.hugepages k in ap (λ b. cond b (unbacked x) x) (next_gives k pos) ∙ next_page (spans 1 k h) (gives_whole cleared (n - 256) k) x))
@@ -132,8 +95,7 @@ flag_at : (heap : Heap) (k : ℕ) → at_number false (map is_free_backed heap.h
 flag_at heap zero = refl
 flag_at heap (suc k) = elim (cases_lt k (length heap.hugepages)) [
   | inl inside ↦ map-at is_free_backed heap.hugepages (suc k) false (omega arith) (omega arith)
-  | inr past ↦ (let len = length-map heap.hugepages is_free_backed in get_or_past (map is_free_backed heap.hugepages) k false (omega arith)
-      ∙ sym (ap is_free_backed (get_or_past heap.hugepages k untouched past)))
+  | inr past ↦ grind (arith, nat_tests, length-map, get_or_past)
 ]
 
 unbacked_there : (x : Hugepage) → is_free_backed (unbacked x) ≡ false
@@ -149,8 +111,7 @@ free_next heap n huge sound some is =
     let to : h ≤ length heap.hugepages = omega (arith, is.own.to) in
     whole_next flags n h some is.own.from (omega arith) (flag_at heap h ∙ is.passes) (λ i past. flag_at heap i ∙ is.behind i past) heap len
     ∙ ap (λ all. behind 256 (whole_given all (unbacked_span heap h 1) (n - 256)))
-    (flags_set heap (λ k x. cond (spans 1 k h) (unbacked x) x) sound.runs is_free_backed h false is.own.from to
-    (λ k own. (let x = hugepage heap k in elim (spans 1 k h) as (λ b. cond b false (is_free_backed x) ≡ is_free_backed (cond b (unbacked x) x)) [ true ↦ sym (unbacked_there x) | false ↦ refl ])))
+    (grind (arith, nat_tests, flags_set, unbacked_there, is.own.from))
 
 pub free_none : (heap : Heap) (n : ℕ) → ((h : ℕ) → is_free_backed (hugepage heap h) ≡ false) → free_given heap n ≡ record { heap = heap; pages = 0 }
 free_none heap n none = whole_none (map is_free_backed heap.hugepages) heap n (λ k from to. and_left _ _ (flag_at heap k ∙ none k))
@@ -164,9 +125,7 @@ idle_there : (heap : Heap) (k : ℕ) → at_number false (map (is_idle heap) (nu
 idle_there heap zero = refl
 idle_there heap (suc k) = elim (cases_lt k (length heap.hugepages)) [
   | inl inside ↦ idle_at heap (suc k) (omega arith) (omega arith)
-  | inr past ↦ (let len = length-map-range_with_len (is_idle heap) 1 (length heap.hugepages) in get_or_past (map (is_idle heap) (numbers heap)) k false
-      (omega arith) ∙ sym
-      (ap (λ (x : Hugepage). is_region x && used_count heap.runs (suc k) == 0 && list_all (λ b. b) x.backed) (get_or_past heap.hugepages k untouched past)))
+  | inr past ↦ grind (arith, nat_tests, length-map-range_with_len, get_or_past)
 ]
 
 module _ (heap : Heap) (huge : Huge) (sound : IsSound heap) (is : IsLast heap (is_idle heap) huge) where
@@ -237,20 +196,7 @@ take_drop (x ∷ xs) (suc k) l t =
     let a = count-cons (λ b. b) x xs in let b = count-cons (λ b. b) x (take k xs) in let rest = take_drop xs k (omega arith) t in omega arith
 
 over_is : (xs : List Bool) (limit k : ℕ) → 0 < k → k ≤ length xs → is_over limit xs k ≡ gives_whole xs (256 * (count_by (λ b. b) xs - limit)) k
-over_is xs limit k from to = elim (cases_Bool (at_number false xs k)) [
-  | inr f ↦ and_left _ _ f ∙ sym (and_left _ _ f)
-  | inl t ↦
-      (let split = take_drop xs (k - 1) (omega arith) (sym (at_number-place false xs k from) ∙ t) in
-      let next : suc (k - 1) ≡ k = omega arith in
-      let all : count_by (λ b. b) (take (k - 1) xs) + 1 + count_by (λ b. b) (drop k xs) ≡ count_by (λ b. b) xs =
-      subst (λ i. count_by (λ b. b) (take (k - 1) xs) + 1 + count_by (λ b. b) (drop i xs) ≡ count_by (λ b. b) xs) next split in
-      ap (λ b. at_number false xs k && b) (same_tests (count_by (λ b. b) (take (k - 1) xs)) (count_by (λ b. b) (drop k xs)) (count_by (λ b. b) xs) limit all))
-] where
-  same_tests : (a b c m : ℕ) → a + 1 + b ≡ c → nat_le m a ≡ nat_lt (256 * b) (256 * (c - m))
-  same_tests a b c m e = elim (cases_lt a m) [
-    | inr le ↦ le-leb m a le ∙ sym (lt-ltb (256 * b) (256 * (c - m)) (omega arith))
-    | inl gt ↦ lt-leb m a gt ∙ sym (le-ltb (256 * b) (256 * (c - m)) (omega arith))
-  ]
+over_is xs limit k from to = grind (arith, nat_tests, take_drop, at_number-place)
 
 pub settled_is : (heap : Heap) → settled heap ≡ (free_given (noted heap) (256 * over_limit (noted heap))).heap
 settled_is heap =
@@ -283,23 +229,11 @@ released_by given first second third n m k a b c p q e f g =
 -- A loop that gives until enough was given, by what one step makes of what is left to give.
 module _ (give : Heap → ℕ → Released) where
   pub loop_begins : (heap : Heap) (n : ℕ) → give heap n ≡ behind 0 (give heap (n - 0))
-  loop_begins heap n = let none : n ≡ n - 0 = omega arith in ap (give heap) none ∙ same (give heap (n - 0))
-    where
-      same : (r : Released) → r ≡ behind 0 r
-      same r = let e : r.pages ≡ 0 + r.pages = omega arith in ap (λ k. record { heap = r.heap; pages = k }) e
-
-  pub loop_goes_on : (first heap after : Heap) (n given m : ℕ) → give first n ≡ behind given (give heap (n - given)) →
-      give heap (n - given) ≡ behind m (give after (n - given - m)) → give first n ≡ behind (given + m) (give after (n - (given + m)))
-  loop_goes_on first heap after n given m so_far step =
-      let left : n - given - m ≡ n - (given + m) = omega arith in
-      so_far ∙ ap (behind given) step ∙ behind_twice given m (given + m) (give after (n - given - m)) refl ∙ ap (λ k. behind (given + m) (give after k)) left
+  loop_begins heap n = grind (arith, nat_tests)
 
   pub loop_ends : (first heap : Heap) (n given : ℕ) → give first n ≡ behind given (give heap (n - given)) →
       give heap (n - given) ≡ record { heap = heap; pages = 0 } → give first n ≡ record { heap = heap; pages = given }
   loop_ends first heap n given so_far done = so_far ∙ behind_none given heap (give heap (n - given)) done
 
   pub loop_few : (first heap : Heap) (n given most : ℕ) → give first n ≡ behind given (give heap (n - given)) → (give first n).pages ≤ most → given ≤ most
-  loop_few first heap n given most so_far few = within _ _ _ most (ap (λ (r : Released). r.pages) so_far) few
-    where
-      within : (a b c m : ℕ) → a ≡ b + c → a ≤ m → b ≤ m
-      within a b c m e f = omega arith
+  loop_few first heap n given most so_far few = grind (arith, nat_tests)

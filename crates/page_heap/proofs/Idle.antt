@@ -1,8 +1,8 @@
 -- Unused hugepages of regions that are backed: which is the last.
 use Rattle.std.proofs.Common.{◌≡◌, ℕ, zero, suc, ◌<◌, ◌≤◌, true, false, ◌==◌, ◌&&◌, length, Some, None, sym, ap, ◌∙◌, inl, inr, arith}
-use Rattle.page_heap.proofs.Common.{cases_Bool, cases_lt, and_left, false≢true, get_or_past, All-contains, none-some, RowView, Heap, hugepage, untouched}
-use Rattle.page_heap.proofs.Common.{used_count, row_of, is_kind_region, is_region, RegionRow, region_row_of, is_idle, IsHugepageOf, IsRegion, IsSound}
-use Rattle.page_heap.proofs.Common.{serves_at, spans_parts, is_Region, Regions, region_with, Inside, regions_of}
+use Rattle.page_heap.proofs.Common.{cases_Bool, cases_lt, and_left, false≢true, get_or_past, All-contains, none-some, RowView, Heap, hugepage}
+use Rattle.page_heap.proofs.Common.{row_of, is_kind_region, is_region, RegionRow, region_row_of, is_idle, IsHugepageOf, IsRegion, IsSound}
+use Rattle.page_heap.proofs.Common.{serves_at, spans_parts, is_Region, Regions, region_with, Inside, regions_of, nat_tests}
 use Rattle.tc_units.specs.declared.rows.RowKind.TheVariants as kind
 use Rattle.page_heap.proofs.Measured.{backed_whole}
 use Rattle.page_heap.proofs.RegionRows.{region_found, region_of_row}
@@ -11,10 +11,7 @@ use Rattle.page_heap.proofs.Results.{IsHeap}
 -- a region's hugepage is one of the arena, and has a region
 region_own : (heap : Heap) (h : ℕ) → is_region (hugepage heap h) ≡ true → (0 < h) × (h ≤ length heap.hugepages)
 region_own heap zero e = absurd (false≢true e)
-region_own heap (suc k) e = elim (cases_lt k (length heap.hugepages)) [
-  | inl inside ↦ (omega arith, omega arith)
-  | inr past ↦ absurd (false≢true (sym (ap is_region (get_or_past heap.hugepages k untouched past)) ∙ e))
-]
+region_own heap (suc k) e = grind (arith, nat_tests, get_or_past)
 
 no_region : (heap : Heap) (h : ℕ) → IsSound heap → region_with (regions_of heap) h ≡ None → is_region (hugepage heap h) ≡ false
 no_region heap h sound none = elim (cases_Bool (is_region (hugepage heap h))) [
@@ -33,9 +30,7 @@ not_idle heap h e = and_left _ _ (and_left _ _ e)
 -- as it is shown
 pub idle_shown : (heap : Heap) (h : ℕ) (row : RowView) → IsSound heap → IsHugepageOf heap.config.huge h → row ≡ row_of heap h →
     (is_kind_region row.kind && row.used == 0 && row.backed == 256) ≡ is_idle heap h
-idle_shown heap h row sound own e =
-    ap (λ (r : RowView). is_kind_region r.kind && r.used == 0 && r.backed == 256) e
-    ∙ ap (λ b. is_region (hugepage heap h) && used_count heap.runs h == 0 && b) (backed_whole heap sound h own)
+idle_shown heap h row sound own e = grind (arith, nat_tests, backed_whole)
 
 -- where no region has a hugepage, it isn't idle
 pub idle_nowhere : {t : Inside} {heap : Heap} → IsHeap t heap → (h : ℕ) → region_with t.regions h ≡ None → is_idle heap h ≡ false

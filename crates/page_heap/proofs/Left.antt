@@ -1,12 +1,12 @@
 -- A run leaves the hugepages that it has whole, and what it has of one more: what that keeps.
 use Rattle.std.proofs.Common.{◌≡◌, ℕ, ◌+◌, ◌-◌, ◌*◌, ◌/◌, ◌%◌, ◌<◌, ◌≤◌, ◌⊎◌, Bool, true, false, not, ◌&&◌, cond, List, length, get_or, drop, map}
 use Rattle.std.proofs.Common.{Contains, refl, sym, ap, subst, ◌∙◌, inl, inr, arith}
-use Rattle.page_heap.proofs.Common.{list_all, cases_Bool, cases_lt, cases_eq, false≢true, false_from_ne_true, not_from_false, and_left, and_right}
+use Rattle.page_heap.proofs.Common.{list_all, cases_Bool, cases_lt, cases_eq, false_from_ne_true, not_from_false, and_left, and_right}
 use Rattle.page_heap.proofs.Common.{length-map, length-drop, get_or-drop, Run, RowKind, length-with_places, Heap, Hugepage, hugepage, reaches, spans}
-use Rattle.page_heap.proofs.Common.{is_free, is_kind_free, is_kind_filler, is_kind_region, is_filler, hugepages_for, left_by, given_back}
+use Rattle.page_heap.proofs.Common.{is_free, is_kind_free, is_kind_region, is_filler, hugepages_for, left_by, given_back}
 use Rattle.page_heap.proofs.Common.{IsHugepageOf, IsInside, IsSound, given_back_sound, given_is_left, all_used, reaches_parts, reaches_from, spans_parts}
 use Rattle.page_heap.proofs.Common.{spans_from, live_inside, prefix_long, at, map-place, here, IsSpan, is_run, shares, Cache, with_huge, with_backed_run}
-use Rattle.page_heap.proofs.Common.{Inside, measures, cache_of, regions_of, IsInOneHugepage, IsInHugepages, remeasured, with_freed}
+use Rattle.page_heap.proofs.Common.{Inside, measures, cache_of, regions_of, IsInOneHugepage, IsInHugepages, remeasured, with_freed, nat_tests}
 use Rattle.tc_units.specs.declared.rows.RowKind.TheVariants as kind
 use Rattle.range_bits.specs.Ranges.{used_from}
 use Rattle.heap_rules.specs.Heap.{without_run}
@@ -43,24 +43,7 @@ module _ (heap : Heap) (run : Run) (sound : IsSound heap) (live : Contains heap.
   last_of = (run.first.0 + run.pages - 1) / 256
 
   pub laid : IsInOneHugepage heap run ⊎ IsInHugepages heap run → IsLaid heap run (run.first.0 / 256) (run.pages / 256) last_of
-  laid (inl one) =
-      let at : run.first.0 / 256 ≡ last_of = omega (arith, one.ends, inside.some) in
-      record {
-        lies = inr one.ends;
-        some = inside.some;
-        from = omega (arith, inside.from);
-        first = omega (arith, at);
-        to = omega (arith, inside.to);
-        ends = omega (arith, one.ends, one.below, inside.some);
-        most = omega (arith, one.below);
-        least = omega (arith, at);
-        begins = omega arith;
-        near = omega arith;
-        far = omega (arith, inside.some);
-        past = omega arith;
-        whole = λ h a b. absurd (omega (arith, one.below));
-        tail = λ _. ap (λ h. (hugepage heap h).kind) (sym at) ∙ one.filler;
-      }
+  laid (inl one) = grind (arith, nat_tests, one.ends, one.below)
   laid (inr whole) = record {
     lies = inl whole.begins;
     some = inside.some;
@@ -125,9 +108,7 @@ module _ (old : Inside) (heap : Heap) (is : IsHeap old heap) (run : Run) (live :
   other_kind : (h : ℕ) (test : RowKind → Bool) → test kind.Run ≡ false → test kind.Filler ≡ false → start ≤ h → h ≤ last → test (hugepage heap h).kind ≡ false
   other_kind h test p q a b = elim (cases_lt h last) [
     | inl l ↦ ap test (before_last h a l) ∙ p
-    | inr e ↦
-        (let same : h ≡ last = omega arith in
-        ap (λ i. test (hugepage heap i).kind) same ∙ elim last_kind [ inl r ↦ ap test r ∙ p | inr t ↦ ap test t ∙ q ])
+    | inr e ↦ grind (arith, nat_tests, last_kind)
   ]
 
   no_region : (h : ℕ) → reaches h run ≡ true → is_kind_region (hugepage heap h).kind ≡ false
@@ -161,9 +142,7 @@ module _ (old : Inside) (heap : Heap) (is : IsHeap old heap) (run : Run) (live :
               ap (λ s. cond s false (p (hugepage heap h))) t
               ∙ sym (ap (λ s. p (cond s (g h (hugepage heap h)) (hugepage heap h))) r
               ∙ ap (λ k. p (left_by k rest h (hugepage heap h))) (before_last h parts.0 (omega (arith, parts.1))) ∙ freed h (hugepage heap h)))
-          | inr n ↦
-              (let out = false_from_ne_true (reaches h run) (λ r. (let near = reached h r in false≢true (sym n ∙ spans_from (last - start) h start near.0 (omega (arith, near.1, ne))))) in
-              ap (λ s. cond s false (p (hugepage heap h))) n ∙ sym (ap (λ s. p (cond s (g h (hugepage heap h)) (hugepage heap h))) out))
+          | inr n ↦ grind (arith, nat_tests, reached, spans_from)
         ]
   ] where
     at_last : (b : Bool) → is_free left_last ≡ b → (b ≡ true → u ≡ p left_last) → cond (b && spans 1 last last) u (cond (spans (last - start) last start) false (p (hugepage heap last))) ≡ p left_last
@@ -190,12 +169,7 @@ module _ (old : Inside) (heap : Heap) (is : IsHeap old heap) (run : Run) (live :
       (λ t. ap (λ s. not (s && full)) (sym (e ∙ t)) ∙ ap (λ z. not (is_free left_last && list_all (λ v. v) z)) (ap (λ (z : Hugepage). z.backed) is_y))
       h in
       elim (cases_Bool (is_free y)) [
-        | inl free ↦
-            (let e : is_free left_last ≡ true = ap is_free (sym is_y) ∙ free in
-            ap (λ b. cond b (with_huge c last full) c) free
-            ∙ same_cache (with_huge c last full) _ _
-            (flags_two heap f sound.runs is_taken start (last - start) last false false at'.from to last_own.from upto (λ h _. flags true e h))
-            (flags_two heap f sound.runs is_unready start (last - start) last false (not full) at'.from to last_own.from upto (λ h _. backs true e h)))
+        | inl free ↦ grind (arith, nat_tests, same_cache, flags_two, is_taken, is_unready, at'.from)
         | inr busy ↦
             (let e : is_free left_last ≡ false = ap is_free (sym is_y) ∙ busy in
             ap (λ b. cond b (with_huge c last full) c) busy
@@ -238,13 +212,11 @@ module _ (old : Inside) (heap : Heap) (is : IsHeap old heap) (run : Run) (live :
         tail_span = record {
           from = omega (arith, at'.from);
           to = omega (arith, at'.ends, at'.most, at'.to);
-          all = λ h a b. in_table h is_filler (let e : last ≡ h = omega (arith, at'.ends, at'.least) in ap (λ i. is_filler (hugepage heap i)) (sym e)
-              ∙ ap is_kind_filler (at'.tail (omega (arith, at'.least))));
+          all = grind (arith, nat_tests, in_table, at'.ends, at'.least, at'.tail);
         };
         whole_out = out;
         size = length-with_places old.cache.taken (start - 1) (last - start) false (omega (arith, at'.to, at'.from));
-        last_out = ap not (numbered-with_places old.cache.taken start (last - start) false last true at'.from last_own.from (omega (arith, at'.to, at'.from))
-            ∙ ap (λ b. cond b false (numbered old.cache.taken last true)) (false_from_ne_true _ (λ t. let parts = spans_parts (last - start) last start t in absurd (omega (arith, parts.1)))))
+        last_out = ap not (grind (arith, nat_tests, numbered-with_places, numbered, spans_parts, old.cache.taken, at'.from, at'.to))
             ∙ ap (λ (k : Cache). holds k last) is.shows.cache
             ∙ holds_there heap last last_own.from (let all = sound.runs.arena in omega (arith, at'.to))
             ∙ other_kind last is_kind_free refl refl at'.first (omega arith);
@@ -253,11 +225,8 @@ module _ (old : Inside) (heap : Heap) (is : IsHeap old heap) (run : Run) (live :
         makes = left_made old heap is run live _ _ _
             (ap (λ rows. remeasured rows after last) is.shows.filler ∙ ap (λ b. remeasured (measures heap) b last) same
             ∙ measures_step heap rest g run sound.runs step last last_own
-            (λ h _ ne e. (let near = reached h e in
-            let run_is = before_last h near.0 (omega (arith, near.1, ne)) in
-            (ap is_kind_filler run_is, ap (λ k. is_filler (left_by k rest h (hugepage heap h))) run_is)))
+            (λ h _ ne e. grind (arith, nat_tests, reached, before_last))
             ∙ ap measures (sym same))
-            (ap (λ k. with_freed (c k) last (hugepage after last)) is.shows.cache
-            ∙ ap (λ (b : Heap). with_freed (c (cache_of heap)) last (hugepage b last)) same ∙ freed_cache ∙ ap cache_of (sym same))
+            (grind (arith, nat_tests, same, freed_cache))
             (is.shows.regions ∙ regions_away heap rest g run sound.runs step sound.regions no_region ∙ ap regions_of (sym same));
       }

@@ -1,9 +1,8 @@
 -- Lists with a place for each hugepage, h at place h - 1: two are the same where they agree at each number.
-use Rattle.std.proofs.Common.{◌≡◌, ◌≢◌, ℕ, ◌+◌, ◌-◌, ◌<◌, ◌≤◌, Bool, true, false, cond, List, length, get_or, set, map, sym, ap, ◌∙◌, inl, inr, arith}
-use Rattle.page_heap.proofs.Common.{enumerate_from, cases_Bool, cases_eq, and_from, and_parts, le-leb, lt-ltb, leb-true, ltb-true, false≢true}
-use Rattle.page_heap.proofs.Common.{false_from_ne_true, same_lists, get_or_default, length-map, get_or-map, get_or-set_same, get_or-set_other}
+use Rattle.std.proofs.Common.{◌≡◌, ◌≢◌, ℕ, ◌+◌, ◌-◌, ◌<◌, ◌≤◌, Bool, true, false, cond, List, length, get_or, set, map, sym, ap, ◌∙◌, arith}
+use Rattle.page_heap.proofs.Common.{enumerate_from, false_from_ne_true, same_lists, get_or_default, length-map, get_or-map, get_or-set_same, get_or-set_other}
 use Rattle.page_heap.proofs.Common.{length-enumerate_from, get_or-enumerate_from, with_places, get_or-with_places, spans, at_number-place, at_number-next}
-use Rattle.page_heap.proofs.Common.{spans_parts, spans_from}
+use Rattle.page_heap.proofs.Common.{spans_parts, spans_from, nat_tests}
 use Rattle.range_bits.proofs.BitFacts.{is_between}
 use Rattle.heap_rules.specs.Numbered.{at_number}
 
@@ -39,28 +38,12 @@ pub one_not : (h r : ℕ) → h ≢ r → spans 1 h r ≡ false
 one_not h r ne = false_from_ne_true (spans 1 h r) (λ t. let parts = spans_parts 1 h r t in ne (omega arith))
 
 pub numbered-set : {X : Type 0} (xs : List X) (r : ℕ) (x : X) (h : ℕ) (d : X) → 0 < r → r ≤ length xs → 0 < h → numbered (set xs (r - 1) x) h d ≡ cond (spans 1 h r) x (numbered xs h d)
-numbered-set xs r x h d from to some =
-    at_number-place d (set xs (r - 1) x) h some
-    ∙ elim (cases_eq h r) [
-      | inl same ↦ (let at : h - 1 ≡ r - 1 = omega arith in ap (λ k. get_or (set xs (r - 1) x) k d) at ∙ get_or-set_same xs (r - 1) x d (omega arith)
-          ∙ sym (ap (λ b. cond b x (numbered xs h d)) (one_is h r same)))
-      | inr other ↦ (let far : (h - 1) ≢ (r - 1) = (λ e. other (omega arith)) in get_or-set_other xs (r - 1) (h - 1) x d far
-          ∙ sym (at_number-place d xs h some) ∙ sym (ap (λ b. cond b x (numbered xs h d)) (one_not h r other)))
-    ]
+numbered-set xs r x h d from to some = grind (arith, nat_tests, at_number-place, get_or-set_same, one_is, get_or-set_other, one_not)
 
 -- with flags of which n, from a number on, are set
 next_between : (r n h : ℕ) → 0 < r → 0 < h → is_between (r - 1) (r - 1 + n) (h - 1) ≡ spans n h r
-next_between r n h from some = elim (cases_Bool (spans n h r)) [
-  | inl t ↦ (let parts = spans_parts n h r t in and_from _ _ (le-leb (r - 1) (h - 1) (omega arith)) (lt-ltb (h - 1) (r - 1 + n) (omega arith)) ∙ sym t)
-  | inr f ↦ false_from_ne_true _
-      (λ t. (let parts = and_parts _ _ t in let a = leb-true (r - 1) (h - 1) parts.0 in let b = ltb-true (h - 1) (r - 1 + n) parts.1 in
-      false≢true (sym f ∙ spans_from n h r (omega arith) (omega arith)))) ∙ sym f
-]
+next_between r n h from some = grind (arith, nat_tests)
 
 pub numbered-with_places : (row : List Bool) (r n : ℕ) (used : Bool) (h : ℕ) (d : Bool) → 0 < r → 0 < h → r - 1 + n ≤ length row →
     numbered (with_places row (r - 1) n used) h d ≡ cond (spans n h r) used (numbered row h d)
-numbered-with_places row r n used h d from some inside =
-    at_number-place d (with_places row (r - 1) n used) h some
-    ∙ get_or-with_places row (r - 1) n used (h - 1) d inside
-    ∙ ap (λ (b : Bool). cond b used (get_or row (h - 1) d)) (next_between r n h from some)
-    ∙ ap (cond (spans n h r) used) (sym (at_number-place d row h some))
+numbered-with_places row r n used h d from some inside = grind (arith, nat_tests, at_number-place, get_or-with_places, next_between)

@@ -7,7 +7,7 @@ use Rattle.page_heap.proofs.Common.{hugepage, is_used, region_row, reaches, run_
 use Rattle.page_heap.proofs.Common.{run_choice, all_backed, region_page, with_new_region, in_new_region, IsHugepageOf, AreRunsSound, IsSound, IsGiven}
 use Rattle.page_heap.proofs.Common.{AreFree, run_choice_free, reaches_parts, spans_parts, spans_from, at, page_of, here, Means, Table, IsSpan, reached_by}
 use Rattle.page_heap.proofs.Common.{Cache, Regions, region_with, with_changed, joined, start_in, AreFreeIn, Inside, measured, measures, cache_of}
-use Rattle.page_heap.proofs.Common.{regions_of, IsRouted}
+use Rattle.page_heap.proofs.Common.{regions_of, IsRouted, nat_tests}
 use Rattle.std.proofs.lemmas.List.Folds.{prefix_len-replicate}
 use Rattle.tc_units.specs.Sorted.{with_item}
 use Rattle.heap_rules.specs.Heap.{used_from}
@@ -101,8 +101,7 @@ module _ (old : Inside) (heap : Heap) (is : IsHeap old heap) (n r : ℕ) (some :
   ])
 
   flag : (p : Hugepage → Bool) → ((x : Hugepage) → p (region_page x) ≡ true) → (h : ℕ) → cond (spans width h r) true (p (hugepage heap h)) ≡ p (f h (hugepage heap h))
-  flag p busy h = elim (spans width h r) as (λ b. cond b true (p (hugepage heap h)) ≡ p (cond b (region_page (hugepage heap h)) (hugepage heap h)))
-      [ true ↦ sym (busy (hugepage heap h)) | false ↦ refl ]
+  flag p busy h = grind (arith, nat_tests)
 
   opened_cache : without_run (cache_of heap) r width ≡ cache_of between
   opened_cache =

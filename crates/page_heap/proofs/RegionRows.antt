@@ -1,11 +1,10 @@
 -- The rows of a heap's regions: which one has a hugepage, and what a run that comes or leaves makes of them.
-use Rattle.std.proofs.Common.{◌≡◌, ℕ, zero, suc, ◌+◌, ◌-◌, ◌*◌, ◌/◌, ◌<◌, ◌≤◌, ◌==◌, Bool, true, false, nat_le, nat_lt, cond, List, [], ◌∷◌, length}
-use Rattle.std.proofs.Common.{get_or, map, count_by, Contains, Option, Some, None, option_map, refl, sym, ap, subst, ◌∙◌, inl, inr, arith}
-use Rattle.page_heap.proofs.Common.{find, cases_Bool, cases_eq, false≢true, false_from_ne_true, eq-eqb, ne_eqb, and_from, le-leb, lt-ltb, leb-true}
-use Rattle.page_heap.proofs.Common.{ltb-true, and_parts, same_lists, length-map-range_with_len, get_or-map-range_with_len, All-contains, Contains-get_or}
-use Rattle.page_heap.proofs.Common.{none-some, same_Some, Run, with_places, length-with_places, get_or-with_places, RegionRow, Heap, Hugepage, hugepage}
-use Rattle.page_heap.proofs.Common.{is_used, region_row, is_region, spans, region_row_of, IsRegion, IsSound, holds_parts, holds_from}
-use Rattle.page_heap.proofs.Common.{spans_from, same_member, region_with, with_changed, regions_of}
+use Rattle.std.proofs.Common.{◌≡◌, ℕ, zero, suc, ◌+◌, ◌-◌, ◌*◌, ◌/◌, ◌<◌, ◌≤◌, ◌==◌, Bool, true, false, cond, List, [], ◌∷◌}
+use Rattle.std.proofs.Common.{get_or, map, count_by, Contains, Option, Some, None, option_map, refl, sym, ap, ◌∙◌, inl, inr, arith}
+use Rattle.page_heap.proofs.Common.{find, cases_Bool, cases_eq, false≢true, false_from_ne_true, ne_eqb, same_lists, length-map-range_with_len}
+use Rattle.page_heap.proofs.Common.{get_or-map-range_with_len, All-contains, Contains-get_or, none-some, same_Some, Run, with_places, length-with_places}
+use Rattle.page_heap.proofs.Common.{get_or-with_places, RegionRow, Heap, Hugepage, hugepage, is_used, is_region, spans, region_row_of, IsRegion, IsSound}
+use Rattle.page_heap.proofs.Common.{holds_parts, holds_from, spans_from, same_member, region_with, with_changed, regions_of, nat_tests}
 use Rattle.range_bits.proofs.BitFacts.{is_between}
 use Rattle.heap_rules.specs.Heap.{holds, used_from}
 use Rattle.page_heap.proofs.Steps.{IsStep, used-away, row-away}
@@ -72,29 +71,7 @@ region_missing heap h sound other = of_found (region_with (regions_of heap) h) r
 pub row_put : (runs rest : List Run) (run : Run) (b : Bool) → IsStep runs rest run → ((page : ℕ) → holds page run ≡ true → is_used rest page ≡ b) →
     (first many s : ℕ) → run.first.0 ≡ first + s → s + run.pages ≤ many → with_places (used_from runs first many) s run.pages b ≡ used_from rest first many
 row_put runs rest run b step own first many s at fits =
-    let row = used_from runs first many in
-    let len = length-map-range_with_len (is_used runs) first many in
-    let len' = length-map-range_with_len (is_used rest) first many in
-    let inside : s + run.pages ≤ length row = omega arith in
-    let size = length-with_places row s run.pages b inside in
-    same_lists (with_places row s run.pages b) (used_from rest first many) (omega arith)
-    (λ k d l.
-    let short : k < many = omega arith in
-    let old = get_or-map-range_with_len (is_used runs) first many k (first + k) d short refl in
-    get_or-with_places row s run.pages b k d inside
-    ∙ elim (cases_Bool (is_between s (s + run.pages) k)) [
-      | inl t ↦
-          (let parts : (nat_le s k ≡ true) × (nat_lt k (s + run.pages) ≡ true) = and_parts _ _ t in
-          let held : holds (first + k) run ≡ true = holds_from (first + k) run (omega (arith, leb-true s k parts.0)) (omega (arith, ltb-true k (s + run.pages) parts.1)) in
-          ap (λ (u : Bool). cond u b (get_or row k d)) t ∙ sym (own (first + k) held))
-      | inr f ↦
-          (let away : holds (first + k) run ≡ false =
-          false_from_ne_true _
-          (λ t. (let parts = holds_parts (first + k) run t in
-          false≢true (sym f ∙ and_from _ _ (le-leb s k (omega (arith, parts.0))) (lt-ltb k (s + run.pages) (omega (arith, parts.1)))))) in
-          ap (λ (u : Bool). cond u b (get_or row k d)) f ∙ old ∙ sym (used-away runs rest run step (first + k) away))
-    ]
-    ∙ sym (get_or-map-range_with_len (is_used rest) first many k (first + k) d short refl))
+    grind (arith, nat_tests, length-map-range_with_len, length-with_places, same_lists, get_or-map-range_with_len, get_or-with_places, is_between, holds_from, holds_parts, used-away)
 
 -- A run comes to a region, or leaves one.
 module _ (heap : Heap) (rest : List Run) (hugepages : List Hugepage) (run : Run) (b : Bool) (step : IsStep heap.runs rest run) (own : (page : ℕ) → holds page run ≡ true → is_used rest page ≡ b) where
@@ -115,11 +92,7 @@ module _ (heap : Heap) (rest : List Run) (hugepages : List Hugepage) (run : Run)
       (λ k d l.
       (let s = get_or heap.regions k d in
       elim (cases_eq s r) [
-        | inl same ↦
-            ap (λ (t : Bool). cond t (change (region_row_of heap s)) (region_row_of heap s)) (eq-eqb s r same)
-            ∙ ap (λ (row : List Bool). let x : RegionRow = record { first = s; used = row } in x)
-            (subst (λ (i : ℕ). with_places (region_row heap.runs width i) (run.first.0 - 256 * r) run.pages b ≡ region_row rest width i) (sym same)
-            (row_put heap.runs rest run b step own (256 * r) (256 * width) (run.first.0 - 256 * r) (omega arith) (omega arith)))
+        | inl same ↦ grind (arith, nat_tests, row_put)
         | inr other ↦
             ap (λ (t : Bool). cond t (change (region_row_of heap s)) (region_row_of heap s)) (ne_eqb s r other)
             ∙ ap (λ (row : List Bool). let x : RegionRow = record { first = s; used = row } in x)

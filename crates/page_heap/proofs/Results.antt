@@ -1,11 +1,11 @@
 -- A page heap that means what it should: after a run has come, after one has left, and where none did.
-use Rattle.std.proofs.Common.{◌≡◌, ℕ, ◌+◌, ◌-◌, ◌*◌, ◌^◌, ◌<◌, ◌≤◌, Bool, false, not, List, [], ◌∷◌, length, get_or, map, sum_by, Contains, Option, Some}
+use Rattle.std.proofs.Common.{◌≡◌, ℕ, ◌+◌, ◌-◌, ◌*◌, ◌^◌, ◌<◌, ◌≤◌, Bool, false, List, [], ◌∷◌, length, get_or, map, sum_by, Contains, Option, Some}
 use Rattle.std.proofs.Common.{refl, sym, ap, subst, ◌∙◌, arith}
 use Rattle.page_heap.proofs.Common.{length-map, sum_by-le, count_by-le-length, length-map-range_with_len, length-range_with_len, Run, sum_by-with_item}
-use Rattle.page_heap.proofs.Common.{HeapConfig, RegionRow, Heap, Hugepage, numbers, each, is_free, is_used, with_run, used_row, used_count, given_back}
-use Rattle.page_heap.proofs.Common.{region_row_of, Placed, AreLimits, IsHugepageOf, IsSound, IsGiven, given_back_sound, holds_from, Table, Means, Cache}
-use Rattle.page_heap.proofs.Common.{Measures, Regions, Inside, heap_of, measures, cache_of, regions_of, Shows, IsWell, IsKept, IsRouted, IsTold}
-use Rattle.huge_table.specs.Runs.{TellsRuns, AreInOrder}
+use Rattle.page_heap.proofs.Common.{HeapConfig, RegionRow, Heap, Hugepage, numbers, each, is_used, used_row, used_count, given_back}
+use Rattle.page_heap.proofs.Common.{region_row_of, Placed, IsHugepageOf, IsSound, IsGiven, given_back_sound, holds_from, Table, Means, Cache}
+use Rattle.page_heap.proofs.Common.{Measures, Regions, Inside, heap_of, measures, cache_of, regions_of, Shows, IsWell, IsKept, IsRouted, IsTold, nat_tests}
+use Rattle.huge_table.specs.Runs.{TellsRuns}
 use Rattle.page_heap.proofs.Counted.{used_pages_are}
 use Rattle.page_heap.proofs.Frames.{length-measures}
 use Rattle.page_heap.proofs.Routed.{routed_given_back, routed_same}
@@ -21,9 +21,7 @@ made config runs regions hugepages counts = record { config = config; runs = run
 
 same_heap : (a b : Heap) → a.config ≡ b.config → a.runs ≡ b.runs → a.regions ≡ b.regions → a.hugepages ≡ b.hugepages → a.counts ≡ b.counts → a ≡ b
 unfolding made
-same_heap a b p q r s t = ap (λ c. made c a.runs a.regions a.hugepages a.counts) p ∙ ap (λ c. made b.config c a.regions a.hugepages a.counts) q
-    ∙ ap (λ c. made b.config b.runs c a.hugepages a.counts) r ∙ ap (λ c. made b.config b.runs b.regions c a.counts) s
-    ∙ ap (λ c. made b.config b.runs b.regions b.hugepages c) t
+same_heap a b p q r s t = grind (arith, nat_tests)
 
 firsts : (heap : Heap) (rs : List ℕ) → map (λ (x : RegionRow). x.first) (map (region_row_of heap) rs) ≡ rs
 firsts heap [] = refl
@@ -38,11 +36,7 @@ pub is_heap : {t : Inside} {heap : Heap} → IsKept t → heap_of t ≡ heap →
 is_heap {t} kept view = subst (IsHeap t) view (record { shows = kept.shows; well = kept.well })
 
 pub view_by : {t : Inside} {heap : Heap} → IsHeap t heap → heap_of t ≡ heap
-view_by {t} {heap} is = same_heap (heap_of t) heap is.shows.config
-    (is.shows.runs.told heap is.well.sound is.well.ordered is.shows.means)
-    (ap (λ (all : Regions). map (λ (x : RegionRow). x.first) all.rows) is.shows.regions ∙ firsts heap heap.regions)
-    is.shows.means.pages
-    (ap (λ (c : Cache). c.counts) is.shows.cache)
+view_by {t} {heap} is = grind (arith, nat_tests, same_heap, firsts, is.shows.runs.told, is.well.sound, is.well.ordered, is.shows.means)
 
 pub kept_by : {t : Inside} {heap : Heap} → IsHeap t heap → IsKept t
 kept_by {t} is = let view = view_by is in record { shows = subst (Shows t) (sym view) is.shows; well = subst IsWell (sym view) is.well }
@@ -59,18 +53,7 @@ pub record IsMade (after : Heap) (config : HeapConfig) (filler : List (Option Me
 pub made_heap : {t : Inside} {after : Heap} {config : HeapConfig} {filler : List (Option Measures)} {cache : Cache} {regions : Regions} {used : ℕ} →
     IsMade after config filler cache regions used → t.config ≡ config → Means t.table after → TellsRuns t.table → t.filler ≡ filler → t.cache ≡ cache →
     t.regions ≡ regions → t.used ≡ used → IsHeap t after
-made_heap made config means tells filler cache regions used = record {
-  shows = record {
-    config = config ∙ made.same;
-    means = means;
-    runs = tells;
-    filler = filler ∙ made.measured;
-    cache = cache ∙ made.free;
-    regions = regions ∙ made.rows;
-    used = used ∙ made.sum;
-  };
-  well = made.well;
-}
+made_heap made config means tells filler cache regions used = grind (arith, nat_tests, made.same, made.measured, made.free, made.rows, made.sum, made.well)
 
 short_row : (a b : ℕ) → a ≤ b → b ≡ 256 → a ≤ 256
 short_row a b h e = omega arith
@@ -104,11 +87,7 @@ within a c d k h p q e l = (omega arith, omega arith)
 pub measuring : {old : Inside} {heap : Heap} → IsHeap old heap → (after : Heap) → after.config ≡ heap.config → IsSound after → {u : Table} →
     Means u after → (h k : ℕ) → IsHugepageOf heap.config.huge h → k ≡ h → IsMeasuring old u k
 measuring {old} {heap} is after config sound means h k own e =
-    let size = ap length means.pages ∙ sound.runs.arena ∙ ap (λ (c : HeapConfig). c.huge) config in
-    let arena = is.well.sound.runs.arena in
-    let all = within _ _ _ k h size (ap length is.shows.filler ∙ length-measures heap ∙ arena) e own.to in
-    let free = within _ _ _ k h size (ap (λ (c : Cache). length c.taken) is.shows.cache ∙ length-map heap.hugepages (λ x. not (is_free x)) ∙ arena) e own.to in
-    record { low = subst (λ i. 0 < i) (sym e) own.from; high = all.0; same = all.1; taken = free.1; told = (after, record { sound = sound; means = means }) }
+    grind (arith, nat_tests, within, length-measures, length-map, sound.runs.arena, is.well.sound.runs.arena, own.to, own.from)
 
 -- A run has come.
 module _ (old : Inside) (heap : Heap) (is : IsHeap old heap) (n : ℕ) (p : Placed) (some : 0 < n) (given : IsGiven heap n p) where
@@ -120,21 +99,7 @@ module _ (old : Inside) (heap : Heap) (is : IsHeap old heap) (n : ℕ) (p : Plac
 
   pub came_made : (filler : List (Option Measures)) (cache : Cache) (regions : Regions) → ((z : Run) → Contains p.heap.runs z → IsRouted p.heap z) →
       filler ≡ measures p.heap → cache ≡ cache_of p.heap → regions ≡ regions_of p.heap → IsMade p.heap old.config filler cache regions (old.used + n)
-  came_made filler cache regions routed measured free rows = record {
-    well = record {
-      limits = subst AreLimits (sym given.config) is.well.limits;
-      sound = given.sound;
-      ordered = subst AreInOrder (sym given.runs) (is.shows.runs.with_one p.run heap.runs is.well.ordered (none_begins heap p.run.first.0 is.well.sound first_unused));
-      routed = routed;
-    };
-    same = is.shows.config ∙ sym given.config;
-    measured = measured;
-    free = free;
-    rows = rows;
-    sum = (let sum = sum_by-with_item (λ (r : Run). r.first.0) (λ (r : Run). r.pages) p.run heap.runs in
-        let all : old.used + n ≡ sum_by (λ r. r.pages) (with_run p.run heap.runs) = omega (arith, is.shows.used, given.pages) in
-        all ∙ ap (sum_by (λ (r : Run). r.pages)) (sym given.runs));
-  }
+  came_made filler cache regions routed measured free rows = grind (arith, nat_tests, none_begins, first_unused, sum_by-with_item, sum_by)
 
 -- A run has left.
 module _ (old : Inside) (heap : Heap) (is : IsHeap old heap) (run : Run) (live : Contains heap.runs run) where
@@ -163,11 +128,5 @@ pub same_made : (old : Inside) (heap : Heap) → IsHeap old heap → (f : ℕ �
     IsSound (record heap { hugepages = each f heap.hugepages }) → (filler : List (Option Measures)) (cache : Cache) →
     filler ≡ measures (record heap { hugepages = each f heap.hugepages }) → cache ≡ cache_of (record heap { hugepages = each f heap.hugepages }) →
     IsMade (record heap { hugepages = each f heap.hugepages }) old.config filler cache old.regions old.used
-same_made old heap is f kinds sound filler cache measured free = record {
-  well = record { limits = is.well.limits; sound = sound; ordered = is.well.ordered; routed = routed_same heap f heap.counts is.well.sound kinds is.well.routed };
-  same = is.shows.config;
-  measured = measured;
-  free = free;
-  rows = is.shows.regions;
-  sum = is.shows.used;
-}
+same_made old heap is f kinds sound filler cache measured free =
+    grind (arith, nat_tests, routed_same, is.well.limits, is.well.ordered, is.well.sound, is.well.routed)

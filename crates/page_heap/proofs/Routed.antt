@@ -1,11 +1,11 @@
 -- By which route a live run was placed stays true of it while others come and go.
-use Rattle.std.proofs.Common.{◌≡◌, ℕ, ◌+◌, ◌*◌, ◌/◌, ◌<◌, ◌≤◌, ◌⊎◌, ◌==◌, true, false, not, ◌&&◌, cond, max, List, get_or, All, Contains, refl, sym, ap}
+use Rattle.std.proofs.Common.{◌≡◌, ℕ, ◌+◌, ◌*◌, ◌<◌, ◌≤◌, ◌⊎◌, ◌==◌, true, false, not, ◌&&◌, cond, max, List, get_or, All, Contains, refl, sym, ap}
 use Rattle.std.proofs.Common.{subst, ◌∙◌, inl, inr, arith}
 use Rattle.page_heap.proofs.Common.{list_any, cases_Bool, ne_eqb, and_parts, not-true, false≢true, All-contains, All-filter, Contains-get_or, Run, RowKind}
 use Rattle.page_heap.proofs.Common.{count_some, All-with_item, Heap, Hugepage, hugepage, each, reaches, with_run, allocation_count, is_free, is_region}
 use Rattle.page_heap.proofs.Common.{spans, left_by, emptied, used_regions, given_back, IsInside, IsHugepageOf, HasNoUsed, IsRegion, AreRunsSound, IsSound}
-use Rattle.page_heap.proofs.Common.{Contains-filter, counts_used, at, holds_from, reaches_parts, reaches_from, serves_at, is_Free, is_Region, remade, here}
-use Rattle.page_heap.proofs.Common.{fewer, own_run, left_runs, left_kinds, none_kept, range_used, has_used, IsRouted}
+use Rattle.page_heap.proofs.Common.{Contains-filter, counts_used, at, holds_from, reaches_parts, serves_at, is_Free, is_Region, remade, here}
+use Rattle.page_heap.proofs.Common.{fewer, own_run, left_runs, left_kinds, none_kept, range_used, has_used, IsRouted, nat_tests}
 use Rattle.tc_units.specs.declared.rows.RowKind.TheVariants as kind
 use Rattle.heap_rules.specs.Heap.{holds, without_run}
 use Rattle.heap_rules.specs.Free.{left}
@@ -32,32 +32,16 @@ pub route_kept : (heap : Heap) (runs : List Run) (regions : List ℕ) (hugepages
     IsRouted heap z → ((h : ℕ) → reaches h z ≡ true → (at hugepages h).kind ≡ (hugepage heap h).kind) →
     ((r : ℕ) → Contains heap.regions r → 256 * r ≤ z.first.0 → z.first.0 + z.pages ≤ 256 * (r + heap.config.region) → Contains regions r) →
     IsRouted (record heap { runs = runs; regions = regions; hugepages = hugepages; counts = counts }) z
-route_kept heap runs regions hugepages counts z some (inl one) kinds known = inl (record {
-  filler = kinds (z.first.0 / 256) (reaches_from (z.first.0 / 256) z (omega arith) (omega arith)) ∙ one.filler;
-  ends = one.ends;
-  below = one.below;
-})
-route_kept heap runs regions hugepages counts z some (inr (inl whole)) kinds known = inr (inl (record {
-  begins = whole.begins;
-  long = whole.long;
-  whole = λ h a b. kinds h (reaches_from h z (omega arith) (omega arith)) ∙ whole.whole h a b;
-  tail = λ h a b. kinds h (reaches_from h z (omega (arith, whole.long)) a) ∙ whole.tail h a b;
-}))
-route_kept heap runs regions hugepages counts z some (inr (inr in')) kinds known = inr (inr (record {
-  region = in'.region;
-  known = known in'.region in'.known in'.from in'.to;
-  from = in'.from;
-  to = in'.to;
-}))
+route_kept heap runs regions hugepages counts z some (inl one) kinds known = grind (arith, nat_tests, one.ends, one.below)
+route_kept heap runs regions hugepages counts z some (inr (inl whole)) kinds known =
+    grind (arith, nat_tests, whole.begins, whole.long, whole.whole, whole.tail)
+route_kept heap runs regions hugepages counts z some (inr (inr in')) kinds known = grind (arith, nat_tests, in'.known, in'.from, in'.to)
 
 pub some_pages : (heap : Heap) (z : Run) → IsSound heap → Contains heap.runs z → 0 < z.pages
 some_pages heap z sound live = let inside : IsInside heap.config.huge z = All-contains (IsInside heap.config.huge) heap.runs z sound.runs.inside live in inside.some
 
 pub in_arena : (heap : Heap) (z : Run) (h : ℕ) → IsSound heap → Contains heap.runs z → reaches h z ≡ true → IsHugepageOf heap.config.huge h
-in_arena heap z h sound live e =
-    let inside : IsInside heap.config.huge z = All-contains (IsInside heap.config.huge) heap.runs z sound.runs.inside live in
-    let parts = reaches_parts h z e in
-    record { from = omega (arith, inside.from, parts.0); to = omega (arith, inside.to, parts.1) }
+in_arena heap z h sound live e = grind (arith, nat_tests)
 
 -- Where hugepages change in other ways alone.
 pub routed_same : (heap : Heap) (f : ℕ → Hugepage → Hugepage) (counts : List ℕ) → IsSound heap → ((h : ℕ) (x : Hugepage) → (f h x).kind ≡ x.kind) →
@@ -160,7 +144,6 @@ module _ (heap : Heap) (run : Run) (sound : IsSound heap) (live : Contains heap.
       ]))
       (λ r known a b.
       (let used = range_used rest (256 * r) (256 * heap.config.region) z.first.0 a (omega (arith, some))
-      (counts_used rest z.first.0
-      (count_some (holds z.first.0) rest has.0 z has.1 (ap (holds z.first.0) at ∙ holds_from z.first.0 z (omega arith) (omega arith)))) in
+      (grind (arith, nat_tests, counts_used, count_some, holds_from)) in
       let place : get_or heap.regions known.0 r ≡ r = known.2 in
       subst (Contains kept) place (Contains-filter (has_used before) heap.regions known.0 r known.1 (ap (has_used before) place ∙ used))))

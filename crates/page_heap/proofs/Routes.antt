@@ -1,7 +1,7 @@
 -- The route that placed a live run, by what its first hugepage serves.
-use Rattle.std.proofs.Common.{◌≡◌, ℕ, ◌*◌, ◌+◌, ◌/◌, ◌<◌, ◌≤◌, ◌⊎◌, false, length, Contains, sym, ap, ◌∙◌, inl, inr, arith}
-use Rattle.page_heap.proofs.Common.{false≢true, All-contains, Run, Heap, hugepage, is_kind_region, IsInside, IsRegion, IsSound}
-use Rattle.page_heap.proofs.Common.{spans_from, is_Region, live_inside, Inside, IsInOneHugepage, IsInHugepages, IsInRegion, IsRouted}
+use Rattle.std.proofs.Common.{◌≡◌, ℕ, ◌*◌, ◌+◌, ◌/◌, ◌<◌, ◌≤◌, ◌⊎◌, false, length, Contains, arith}
+use Rattle.page_heap.proofs.Common.{Run, Heap, hugepage, is_kind_region, IsInside, IsSound}
+use Rattle.page_heap.proofs.Common.{live_inside, Inside, IsInOneHugepage, IsInHugepages, IsInRegion, IsRouted, nat_tests}
 use Rattle.tc_units.specs.declared.rows.RowKind.TheVariants as kind
 use Rattle.page_heap.proofs.Results.{IsHeap, as_many}
 
@@ -37,20 +37,10 @@ module _ (t : Inside) (heap : Heap) (is : IsHeap t heap) (run : Run) (live : Con
   whole_kind route = route.whole h (omega (arith, route.begins)) (omega (arith, route.begins, route.long))
 
   region_kind : (route : IsInRegion heap run) → (hugepage heap h).kind ≡ kind.Region
-  region_kind route =
-      let its : IsRegion heap route.region = All-contains (IsRegion heap) heap.regions route.region sound.regions route.known in
-      is_Region (hugepage heap h).kind (its.kinds h (spans_from heap.config.region h route.region (omega (arith, route.from)) (omega (arith, route.to, inside.some))))
+  region_kind route = grind (arith, nat_tests, route.known, route.from, route.to)
 
   pub route_region : (hugepage heap h).kind ≡ kind.Region → IsInRegion heap run
-  route_region e = elim routed [
-    | inl a ↦ absurd (false≢true (ap is_kind_region (sym a.filler ∙ e)))
-    | inr (inl b) ↦ absurd (false≢true (ap is_kind_region (sym (whole_kind b) ∙ e)))
-    | inr (inr c) ↦ c
-  ]
+  route_region e = grind (arith, nat_tests, routed, whole_kind)
 
   pub route_others : is_kind_region (hugepage heap h).kind ≡ false → IsInOneHugepage heap run ⊎ IsInHugepages heap run
-  route_others e = elim routed [
-    | inl a ↦ inl a
-    | inr (inl b) ↦ inr b
-    | inr (inr c) ↦ absurd (false≢true (sym e ∙ ap is_kind_region (region_kind c)))
-  ]
+  route_others e = grind (arith, nat_tests)

@@ -1,9 +1,8 @@
 -- The slack, by the measures that the filler has.
 use Rattle.std.proofs.Common.{◌≡◌, ℕ, ◌+◌, ◌-◌, ◌*◌, ◌%◌, ◌<◌, ◌≤◌, Bool, true, false, cond, length, map, sum_by, None, refl, sym, ap, ◌∙◌, inl, inr, arith}
 use Rattle.page_heap.proofs.Common.{cases_Bool, false≢true, false_from_ne_true, same_lists, length-map, get_or-map, length-range_with_len}
-use Rattle.page_heap.proofs.Common.{length-map-range_with_len, get_or-map-range_with_len, sum-map, sum_by-le, Heap, hugepage, numbers, used_count}
-use Rattle.page_heap.proofs.Common.{is_filler, hugepages_for, slack, IsHugepageOf, IsSound, at_number-next, donated_free, free_of_donated, Inside}
-use Rattle.page_heap.proofs.Common.{measured, measures}
+use Rattle.page_heap.proofs.Common.{length-map-range_with_len, get_or-map-range_with_len, sum-map, sum_by-le, Heap, hugepage, numbers, used_count, is_filler}
+use Rattle.page_heap.proofs.Common.{hugepages_for, slack, IsHugepageOf, IsSound, at_number-next, donated_free, free_of_donated, Inside, measured, measures}
 use Rattle.page_heap.proofs.Frames.{length-measures, measures_there, measured_none, measured_some}
 use Rattle.page_heap.proofs.Results.{IsHeap}
 

@@ -1,22 +1,20 @@
 -- The filler's hugepages give what they spare, one after another.
-use Rattle.std.proofs.Common.{◌≡◌, ◌≢◌, ℕ, zero, suc, zero-add, ◌+◌, ◌-◌, ◌*◌, ◌<◌, ◌≤◌, ◌⊎◌, Bool, true, false, not, ◌&&◌, ◌||◌, cond, nat_lt, nat_eq}
+use Rattle.std.proofs.Common.{◌≡◌, ◌≢◌, ℕ, zero, suc, zero-add, ◌+◌, ◌-◌, ◌*◌, ◌<◌, ◌≤◌, ◌⊎◌, Bool, true, false, not, ◌&&◌, cond, nat_lt}
 use Rattle.std.proofs.Common.{List, [], ◌∷◌, length, get_or, map, filter, count_by, sum_by, All, Some, refl, sym, ap, subst, ◌∙◌, inl, inr, arith}
 use Rattle.page_heap.proofs.Common.{range_with_len, cases_Bool, cases_lt, cases_eq, and_left, and_right, lt-ltb, le-ltb, false≢true, false_from_ne_true}
 use Rattle.page_heap.proofs.Common.{get_or_past, sum_by-cons, All-head, All-tail, length-map-range_with_len, length-range_with_len, get_or-range_with_len}
-use Rattle.page_heap.proofs.Common.{Huge, Run, count_none, count_some, range-within, Heap, Hugepage, hugepage, untouched, numbers, spans, backs, is_used}
+use Rattle.page_heap.proofs.Common.{Huge, Run, count_none, count_some, range-within, Heap, Hugepage, hugepage, numbers, spans, backs, is_used}
 use Rattle.page_heap.proofs.Common.{is_filler, is_free, is_free_backed, Released, is_idle, spare_pages, spare_row, spare_rows, only_used, spare_given}
 use Rattle.page_heap.proofs.Common.{IsHugepageOf, IsSound, sum-filter, sum-adds, sum-map', own_backs, spare_counts, at, at-each, length-each, each_is}
 use Rattle.page_heap.proofs.Common.{each_where, each_each, backs-map, spare_sound, IsSpan, used_alone, Measures, measures_at, IsCandidate, Inside}
-use Rattle.page_heap.proofs.Common.{spare_of, measured, measures_of, measures, behind, IsFirstGiver, given_by, remeasured}
-use Rattle.std.proofs.lemmas.Bool.Decides.{nat_tests}
+use Rattle.page_heap.proofs.Common.{spare_of, measured, measures_of, measures, behind, IsFirstGiver, given_by, remeasured, nat_tests}
 use Rattle.heap_rules.specs.GiveUp.{SpareRow, gives_before, gives_spare}
-use Rattle.heap_rules.proofs.Orders.{by_first, last_is}
 use Rattle.page_heap.specs.declared.source.Source.{Source}
 use Rattle.page_heap.specs.declared.source.Source.TheVariants as source
 use Rattle.page_heap.proofs.Numbered.{one_is, one_not}
 use Rattle.page_heap.proofs.Steps.{over_range}
 use Rattle.page_heap.proofs.Frames.{length-measures, measures_there, measures_set, measured_some, cache_same}
-use Rattle.page_heap.proofs.Choices.{not_both, its_there}
+use Rattle.page_heap.proofs.Choices.{its_there}
 use Rattle.page_heap.proofs.Filled.{filler_not_free}
 use Rattle.page_heap.proofs.Backed.{backed_most}
 use Rattle.page_heap.proofs.Gives.{released_is, whole_zero, whole_few}
@@ -58,10 +56,7 @@ spent_then runs h x =
 
 -- No two each give before the other.
 pub one_way : (a b : SpareRow) → gives_before b a ≡ true → gives_before a b ≡ false
-one_way a b e =
-    let order : (x y : SpareRow) → gives_before y x ≡ (nat_lt x.used y.used || (nat_eq x.used y.used && nat_lt y.number x.number)) =
-    λ x y. by_first x.used y.used _ _ (last_is (nat_lt y.number x.number) (nat_eq y.number x.number)) in
-    order b a ∙ not_both a.used b.used _ _ (λ t. grind (arith, nat_tests)) (sym (order a b) ∙ e)
+one_way a b e = grind (arith, nat_tests)
 
 itself : (a : SpareRow) → gives_before a a ≡ false
 itself a = elim (cases_Bool (gives_before a a)) [ inl t ↦ one_way a a t | inr f ↦ f ]
@@ -79,10 +74,7 @@ zero_term true true spare none = elim (cases_lt 0 spare) [ inl some ↦ absurd (
 
 nested : (heap : Heap) (p : SpareRow → Bool) → sum_by (λ r. r.spare) (filter p (spare_rows heap)) ≡ sum_by
     (λ j. cond (is_filler (hugepage heap j)) (cond (p (spare_row heap j)) (spare_pages heap j) 0) 0) (numbers heap)
-nested heap p =
-    sum-filter (λ r. r.spare) p (spare_rows heap)
-    ∙ sum-map' (λ r. cond (p r) r.spare 0) (spare_row heap) (filter (λ j. is_filler (hugepage heap j)) (numbers heap))
-    ∙ sum-filter (λ j. cond (p (spare_row heap j)) (spare_pages heap j) 0) (λ j. is_filler (hugepage heap j)) (numbers heap)
+nested heap p = grind (arith, nat_tests, sum-filter, sum-map')
 
 sum_none : (h s first many : ℕ) → h < first → sum_by (λ j. cond (spans 1 j h) s 0) (range_with_len first many) ≡ 0
 sum_none h s first zero l = refl
@@ -97,10 +89,7 @@ sum_one h s first zero a b = absurd (omega arith)
 sum_one h s first (suc n) a b =
     let c = sum_by-cons (λ j. cond (spans 1 j h) s 0) first (range_with_len (first + 1) n) in
     elim (cases_eq first h) [
-      | inl same ↦
-          (let here' = ap (λ t. cond t s 0) (one_is first h same) in
-          let rest = sum_none h s (first + 1) n (omega arith) in
-          omega arith)
+      | inl same ↦ grind (arith, nat_tests, one_is, sum_none)
       | inr other ↦
           (let out = ap (λ t. cond t s 0) (one_not first h other) in
           let rest = sum_one h s (first + 1) n (omega arith) (omega arith) in
@@ -108,10 +97,7 @@ sum_one h s first (suc n) a b =
     ]
 
 shifted : (a b s n : ℕ) → a ≡ s + b → nat_lt a n ≡ nat_lt b (n - s)
-shifted a b s n e = elim (cases_lt a n) [
-  | inl lt ↦ lt-ltb a n lt ∙ sym (lt-ltb b (n - s) (omega arith))
-  | inr ge ↦ le-ltb a n ge ∙ sym (le-ltb b (n - s) (omega arith))
-]
+shifted a b s n e = grind (arith, nat_tests)
 
 module _ (heap : Heap) (n : ℕ) (huge : Huge) (sound : IsSound heap) (some : 0 < n) (is : IsFirstGiver heap huge) where
   abbrev h : ℕ
@@ -145,10 +131,6 @@ module _ (heap : Heap) (n : ℕ) (huge : Huge) (sound : IsSound heap) (some : 0 
   spent : spare_pages after h ≡ 0
   spent = ap (spare_of runs h) mine ∙ spent_then runs h (hugepage heap h)
 
-  -- and what stands in sums by it
-  term : (q : ℕ → Bool) (k : ℕ) → ℕ
-  term q k = cond (is_filler (hugepage heap k)) (cond (q k) (spare_pages heap k) 0) 0
-
   less : (q q' : ℕ → Bool) (c : Bool) → q h ≡ c →
       ((k : ℕ) → k ≢ h → 0 < k → k ≤ length heap.hugepages → is_filler (hugepage heap k) ≡ true → 0 < spare_pages heap k → q k ≡ q' k) →
       sum_by (λ j. cond (is_filler (hugepage heap j)) (cond (q j) (spare_pages heap j) 0) 0) (numbers heap) ≡ cond c s 0 + sum_by
@@ -165,8 +147,7 @@ module _ (heap : Heap) (n : ℕ) (huge : Huge) (sound : IsSound heap) (some : 0 
         | inl e ↦
             subst (λ k. cond (spans 1 k h) (cond c s 0) 0 + right k ≡ left k) (sym e)
             (own_term (is_filler (hugepage after h)) (q' h) (spare_pages after h) (cond (spans 1 h h) (cond c s 0) 0) (left h) spent
-            (ap (λ b. cond b (cond c s 0) 0) (one_is h h refl)
-            ∙ sym (ap (λ b. cond b (cond (q h) s 0) 0) is.filler ∙ ap (λ b. cond b s 0) own_is)))
+            (grind (arith, nat_tests, one_is)))
         | inr ne ↦
             (let x_is = other j in'.0 (omega (arith, in'.1)) ne in
             ap (λ b. cond b (cond c s 0) 0 + right j) (one_not j h ne)
@@ -317,10 +298,7 @@ one_spared heap huge sound is =
 -- a hugepage of the filler is one of the arena
 filler_in : (heap : Heap) (h : ℕ) → is_filler (hugepage heap h) ≡ true → (0 < h) × (h ≤ length heap.hugepages)
 filler_in heap zero e = absurd (false≢true e)
-filler_in heap (suc k) e = elim (cases_lt k (length heap.hugepages)) [
-  | inl inside ↦ (omega arith, omega arith)
-  | inr past ↦ absurd (false≢true (ap is_filler (sym (get_or_past heap.hugepages k untouched past)) ∙ e))
-]
+filler_in heap (suc k) e = grind (arith, nat_tests, get_or_past)
 
 measured_there : (heap : Heap) (h : ℕ) → is_filler (hugepage heap h) ≡ true → measures_at (measures heap) h ≡ Some (measures_of heap.runs h (hugepage heap h))
 measured_there heap h filler = (let in' = filler_in heap h filler in measures_there heap h in'.0 in'.1 ∙ measured_some heap.runs h (hugepage heap h) filler)
@@ -358,11 +336,8 @@ module _ (old : Inside) (heap : Heap) (whole : IsHeap old heap) (huge : Huge) (i
       (λ k _ ne. ap (λ b. measured heap.runs k (cond b (only_used heap.runs k (hugepage heap k)) (hugepage heap k))) (sym (one_not k huge.0 ne))))
       (whole.shows.cache ∙ cache_same heap change sound.runs
       (λ k _. (let x = hugepage heap k in elim (cases_eq k huge.0) [
-        | inl e ↦
-            (let busy : is_free x ≡ false = filler_not_free x (ap (λ i. is_filler (hugepage heap i)) e ∙ is.filler) in
-            still_busy x (spans 1 k huge.0) (only_used heap.runs k x) busy busy)
-        | inr ne ↦ subst (λ b. (is_free x ≡ is_free (cond b (only_used heap.runs k x) x)) ×
-            (is_free_backed x ≡ is_free_backed (cond b (only_used heap.runs k x) x))) (sym (one_not k huge.0 ne)) (refl, refl)
+        | inl e ↦ grind (arith, nat_tests, filler_not_free, still_busy)
+        | inr ne ↦ grind (arith, nat_tests, one_not)
       ])))
 
 -- What the filler says of the first to give.

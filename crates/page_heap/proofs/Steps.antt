@@ -1,10 +1,10 @@
 -- What one live run more or less leaves as it was.
 use Rattle.std.proofs.Common.{◌≡◌, ℕ, zero, suc, ◌+◌, ◌*◌, ◌<◌, ◌≤◌, ◌==◌, Bool, true, false, not, ◌&&◌, cond, nat_lt, List, [], ◌∷◌, length, get_or, map}
 use Rattle.std.proofs.Common.{filter, count_by, sum_by, Contains, Option, Some, None, refl, sym, ap, ◌∙◌, inl, inr, arith}
-use Rattle.page_heap.proofs.Common.{list_any, range_with_len, cases_Bool, false≢true, false_from_ne_true, eqb-true, eq-eqb, sum_by-cons, Run, count-cons}
+use Rattle.page_heap.proofs.Common.{list_any, range_with_len, cases_Bool, eq-eqb, sum_by-cons, Run, count-cons}
 use Rattle.page_heap.proofs.Common.{any_is_count, count_some, count_le, one-true, one-false, without_none, Heap, Hugepage, tier, is_filler, backs, is_used}
 use Rattle.page_heap.proofs.Common.{reaches, used_row, allocation_count, pages_of, with_run, IsSound, count-with, counts_used, holds_from}
-use Rattle.page_heap.proofs.Common.{unreached_unheld, count_rest, longest, begins_on, Measures, spare_of, measured}
+use Rattle.page_heap.proofs.Common.{unreached_unheld, count_rest, longest, begins_on, Measures, spare_of, measured, nat_tests}
 use Rattle.std.proofs.lemmas.List.Folds.{Any-from_list_any}
 use Rattle.heap_rules.specs.Heap.{holds, used_from, without_run}
 
@@ -69,12 +69,7 @@ module _ (runs rest : List Run) (run : Run) (step : IsStep runs rest run) where
 pub sum_rest : {X : Type 0} (f : X → ℕ) (q : X → Bool) (xs : List X) (k : ℕ) (d : X) → k < length xs → q (get_or xs k d) ≡ true → count_by q xs ≤ 1 →
     sum_by f (filter (λ x. not (q x)) xs) + f (get_or xs k d) ≡ sum_by f xs
 sum_rest f q [] k d l t most = absurd (omega arith)
-sum_rest f q (x ∷ xs) zero d l t most =
-    let a = count-cons q x xs in
-    let one = one-true (q x) t in
-    let stays = without_none q xs (omega arith) in
-    let b = sum_by-cons f x xs in
-    rw (t, stays) (omega arith)
+sum_rest f q (x ∷ xs) zero d l t most = grind (arith, nat_tests, count-cons, without_none, sum_by-cons)
 sum_rest f q (x ∷ xs) (suc k) d l t most =
     let a = count-cons q x xs in
     let some = count_some q xs k d (omega arith) t in
@@ -91,10 +86,7 @@ sum_rest f q (x ∷ xs) (suc k) d l t most =
 pub pages_rest : (heap : Heap) (run : Run) → IsSound heap → Contains heap.runs run → sum_by (λ r. r.pages) (without_run run heap.runs) + run.pages ≡ sum_by (λ r. r.pages) heap.runs
 pages_rest heap run sound live =
     let q : Run → Bool = λ r. r.first.0 == run.first.0 in
-    let le = count_le q (holds run.first.0) heap.runs (λ k d l e. (let r = get_or heap.runs k d in
-    let inside = sound.runs.inside k d l in
-    let same = eqb-true r.first.0 run.first.0 e in
-    holds_from run.first.0 r (omega arith) (omega (arith, inside.some)))) in
+    let le = count_le q (holds run.first.0) heap.runs (λ k d l e. grind (arith, nat_tests, holds_from)) in
     let disjoint = sound.runs.disjoint run.first.0 in
     let most : count_by q heap.runs ≤ 1 = omega arith in
     let there : get_or heap.runs live.0 run ≡ run = live.2 in
@@ -104,13 +96,4 @@ pages_rest heap run sound live =
 
 -- where a page isn't used, no run begins
 pub none_begins : (heap : Heap) (page : ℕ) → IsSound heap → is_used heap.runs page ≡ false → list_any (begins_on page) heap.runs ≡ false
-none_begins heap page sound unused =
-    false_from_ne_true _ (λ t. (let any = Any-from_list_any (begins_on page) heap.runs t in
-    let r : Run = any.1 in
-    let there : get_or heap.runs any.0 r ≡ r = any.3 in
-    let inside = sound.runs.inside any.0 r any.2 in
-    let at = eqb-true r.first.0 page any.4 in
-    let first = ap (λ (x : Run). x.first.0) there in
-    let pages = ap (λ (x : Run). x.pages) there in
-    let held : holds page r ≡ true = holds_from page r (omega arith) (omega (arith, inside.some)) in
-    false≢true (sym unused ∙ counts_used heap.runs page (count_some (holds page) heap.runs any.0 r any.2 (ap (holds page) there ∙ held)))))
+none_begins heap page sound unused = grind (arith, nat_tests, Any-from_list_any, holds_from, counts_used, count_some)

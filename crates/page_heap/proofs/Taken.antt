@@ -1,11 +1,11 @@
 -- Runs that take free hugepages: the last one is the filler's, where the run has only a part of it.
-use Rattle.std.proofs.Common.{◌≡◌, ◌≢◌, ℕ, ◌+◌, ◌-◌, ◌*◌, ◌/◌, ◌^◌, ◌<◌, ◌≤◌, Bool, true, false, not, cond, nat_le, nat_lt, length, get_or, drop, Some}
+use Rattle.std.proofs.Common.{◌≡◌, ◌≢◌, ℕ, ◌+◌, ◌-◌, ◌*◌, ◌^◌, ◌<◌, ◌≤◌, Bool, true, false, not, cond, nat_lt, length, get_or, drop, Some}
 use Rattle.std.proofs.Common.{option_map, refl, sym, ap, subst, ◌∙◌, inl, inr, arith}
-use Rattle.page_heap.proofs.Common.{cases_Bool, cases_lt, and_left, le-leb, lt-leb, le-ltb, lt-ltb, false_from_ne_true, length-map, length-drop}
+use Rattle.page_heap.proofs.Common.{cases_Bool, cases_lt, and_left, le-leb, le-ltb, lt-ltb, false_from_ne_true, length-map, length-drop}
 use Rattle.page_heap.proofs.Common.{get_or-drop, Run, free_from, Heap, Hugepage, hugepage, reaches, run_at, spans, is_free, is_filler}
 use Rattle.page_heap.proofs.Common.{is_region, run_choice, hugepages_for, taken_row, placed, filler_page, run_page, run_or_tail, in_fresh, new_whole}
-use Rattle.page_heap.proofs.Common.{IsHugepageOf, IsSound, IsGiven, AreFree, run_choice_free, reaches_from, spans_reaches, prefix_long, at, map-place}
-use Rattle.page_heap.proofs.Common.{here, taken, IsSpan, Cache, Inside, cache_of, IsRouted, remeasured}
+use Rattle.page_heap.proofs.Common.{IsHugepageOf, IsSound, IsGiven, AreFree, run_choice_free, reaches_from, prefix_long, at, map-place}
+use Rattle.page_heap.proofs.Common.{here, taken, IsSpan, Cache, Inside, cache_of, IsRouted, remeasured, nat_tests}
 use Rattle.tc_units.specs.declared.rows.RowKind.TheVariants as kind
 use Rattle.heap_rules.proofs.Routes.{given_free, given_fresh, reached_free, free_not_region}
 use Rattle.huge_cache.specs.Cache.{without_run}
@@ -73,17 +73,13 @@ module _ (old : Inside) (heap : Heap) (is : IsHeap old heap) (n h : ℕ) (some :
 
   -- What each of them becomes: all but the last are the run's, and that one is the run's or the filler's.
   busy : (k : ℕ) → is_free (becomes k) ≡ false
-  busy k = elim (nat_lt n 256) as (λ b. is_free (cond b (filler_page false) (run_or_tail (256 * h + n) k)) ≡ false) [
-    | true ↦ refl
-    | false ↦ elim (nat_le (256 * (k + 1)) (256 * h + n)) as (λ b. is_free (cond b run_page (filler_page true)) ≡ false) [ true ↦ refl | false ↦ refl ]
-  ]
+  busy k = grind (arith, nat_tests)
 
   whole_is : (k : ℕ) → 256 ≤ n → 256 * (k + 1) ≤ 256 * h + n → becomes k ≡ run_page
   whole_is k large l = rw (le-ltb n 256 large, le-leb (256 * (k + 1)) (256 * h + n) l) refl
 
   tail_is : (k : ℕ) → 256 * h + n < 256 * (k + 1) → (becomes k).kind ≡ kind.Filler
-  tail_is k l = rw (lt-leb (256 * (k + 1)) (256 * h + n) l)
-      (elim (nat_lt n 256) as (λ b. (cond b (filler_page false) (filler_page true)).kind ≡ kind.Filler) [ true ↦ refl | false ↦ refl ])
+  tail_is k l = grind (arith, nat_tests)
 
   reached : (k : ℕ) → reaches k run ≡ true → (h ≤ k) × (k < h + m)
   reached k e = reached_free heap n h m sound some (omega arith) are k e
@@ -109,30 +105,10 @@ module _ (old : Inside) (heap : Heap) (is : IsHeap old heap) (n h : ℕ) (some :
       ∙ ap (λ t. (cond t (becomes k) (hugepage heap k)).kind) (reaches_from k run (omega arith) b)
 
   own_route : IsRouted after run
-  own_route = elim (cases_lt n 256) [
-    | inl small ↦
-        (let huge : 256 * h / 256 ≡ h = omega arith in
-        inl (record {
-          filler = ap (λ k. (hugepage after k).kind) huge ∙ made h (omega arith) (omega arith) ∙ tail_is h (omega arith);
-          ends = omega arith;
-          below = small;
-        }))
-    | inr large ↦ inr (inl (record {
-      begins = omega arith;
-      long = large;
-      whole = λ k a b. made k (omega arith) (omega arith) ∙ ap (λ (x : Hugepage). x.kind) (whole_is k large (omega arith));
-      tail = λ k a b. made k (omega arith) a ∙ tail_is k (omega arith);
-    }))
-  ]
+  own_route = grind (arith, nat_tests, made, tail_is, whole_is)
 
   flag : (p : Hugepage → Bool) → ((k : ℕ) → p (becomes k) ≡ true) → (k : ℕ) → IsHugepageOf heap.config.huge k → cond (spans m k h) true (p (hugepage heap k)) ≡ p (f k (hugepage heap k))
-  flag p set k _ =
-      let x = hugepage heap k in
-      ap (λ b. cond b true (p x)) (spans_reaches (256 * h) n h m k (omega arith) (omega arith) (omega arith) (omega arith) some)
-      ∙ elim (cases_Bool (reaches k run)) [
-        | inl t ↦ ap (λ b. cond b true (p x)) t ∙ sym (ap (λ b. p (cond b (becomes k) x)) t ∙ set k)
-        | inr e ↦ ap (λ b. cond b true (p x)) e ∙ sym (ap (λ b. p (cond b (becomes k) x)) e)
-      ]
+  flag p set k _ = grind (arith, nat_tests)
 
   taken_cache : without_run (cache_of heap) h m ≡ cache_of after
   taken_cache =
@@ -165,12 +141,7 @@ module _ (old : Inside) (heap : Heap) (is : IsHeap old heap) (n h : ℕ) (some :
 
 -- that is what the rules say of a run below a hugepage, and of a larger one
 pub as_fresh : (heap : Heap) (n : ℕ) → 0 < n → n < 256 → option_map (in_fresh heap n) (run_choice heap 1) ≡ option_map (taken heap n) (run_choice heap (hugepages_for n))
-as_fresh heap n some small =
-    let one : 1 ≡ hugepages_for n = omega arith in
-    ap (λ k. option_map (in_fresh heap n) (run_choice heap k)) one
-    ∙ ap (λ b. option_map (λ h. placed heap (256 * h) n (λ k _. cond b (filler_page false) (run_or_tail (256 * h + n) k))) (run_choice heap (hugepages_for n))) (sym (lt-ltb n 256 small))
+as_fresh heap n some small = grind (arith, nat_tests)
 
 pub as_whole : (heap : Heap) (n : ℕ) → 256 ≤ n → new_whole heap n ≡ option_map (taken heap n) (run_choice heap (hugepages_for n))
-as_whole heap n large =
-    ap (λ b. option_map (λ h. placed heap (256 * h) n (λ k _. cond b (filler_page false) (run_or_tail (256 * h + n) k)))
-    (run_choice heap (hugepages_for n))) (sym (le-ltb n 256 large))
+as_whole heap n large = grind (arith, nat_tests)

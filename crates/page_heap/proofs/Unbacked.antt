@@ -1,10 +1,9 @@
 -- A hugepage that is free or of a region loses its backing: what that keeps.
-use Rattle.std.proofs.Common.{◌≡◌, ℕ, zero, suc, true, false, not, cond, length, Option, Some, None, IfSome, IfNone, refl, sym, ap, subst, ◌∙◌, inl, inr}
-use Rattle.std.proofs.Common.{arith}
+use Rattle.std.proofs.Common.{◌≡◌, ℕ, zero, suc, true, false, not, cond, length, Option, Some, None, IfSome, IfNone, refl, sym, ap, subst, ◌∙◌, inl, inr, arith}
 use Rattle.std.proofs.lemmas.Bool.{or_left, or_right}
-use Rattle.page_heap.proofs.Common.{cases_lt, cases_eq, and_parts, and_left, and_right, length-map, get_or_past, Huge, Heap, Hugepage, hugepage, untouched}
-use Rattle.page_heap.proofs.Common.{spans, is_free, is_free_backed, is_filler, is_region, unready_row, unbacked, IsHugepageOf, IsSound, at, unbacked_span}
-use Rattle.page_heap.proofs.Common.{IsSpan, is_even, Cache, is_backed, without_backing, IsLastBacked, Inside, measured, measures, cache_of, IsLast}
+use Rattle.page_heap.proofs.Common.{cases_lt, cases_eq, and_parts, length-map, get_or_past, Huge, Heap, Hugepage, hugepage, untouched}
+use Rattle.page_heap.proofs.Common.{spans, is_free, is_free_backed, is_filler, is_region, unready_row, unbacked, IsHugepageOf, IsSound, unbacked_span}
+use Rattle.page_heap.proofs.Common.{IsSpan, is_even, Cache, is_backed, without_backing, IsLastBacked, Inside, measured, measures, cache_of, IsLast, nat_tests}
 use Rattle.page_heap.proofs.Numbered.{one_not}
 use Rattle.page_heap.proofs.Frames.{is_taken, is_unready, measures_same, measured_none, flags_set, flags_same, same_cache, cache_same, backed_there}
 use Rattle.page_heap.proofs.Filled.{free_not_filler}
@@ -58,13 +57,7 @@ module _ (old : Inside) (heap : Heap) (is : IsHeap old heap) (huge : Huge) (own 
   f k x = cond (spans 1 k huge.0) (unbacked x) x
 
   pub unback_span : is_even (hugepage heap huge.0) ≡ true → IsSpan old.table huge.0 1 is_even
-  unback_span e =
-      let size = ap length is.shows.means.pages ∙ sound.runs.arena in
-      record {
-        from = own.from;
-        to = omega (arith, own.to);
-        all = λ k a b. (let same : huge.0 ≡ k = omega arith in ap (λ xs. is_even (at xs k)) is.shows.means.pages ∙ subst (λ i. is_even (hugepage heap i) ≡ true) same e);
-      }
+  unback_span e = grind (arith, nat_tests)
 
   -- the filler, where it isn't the filler's
   still_measured : is_filler (hugepage heap huge.0) ≡ false → measures heap ≡ measures after
@@ -79,9 +72,7 @@ module _ (old : Inside) (heap : Heap) (is : IsHeap old heap) (huge : Huge) (own 
       ]))
 
   made : IsSound after → (cache : Cache) → is_filler (hugepage heap huge.0) ≡ false → cache ≡ cache_of after → IsMade after old.config old.filler cache old.regions old.used
-  made sound' cache other free = same_made old heap is f
-      (λ k x. elim (spans 1 k huge.0) as (λ b. (cond b (unbacked x) x).kind ≡ x.kind) [ true ↦ refl | false ↦ refl ])
-      sound' old.filler cache (is.shows.filler ∙ still_measured other) free
+  made sound' cache other free = grind (arith, nat_tests, same_made, still_measured)
 
   -- a free one
   pub free_made : is_free_backed (hugepage heap huge.0) ≡ true → IsSound after → IsMade after old.config old.filler (without_backing old.cache huge.0) old.regions old.used
@@ -90,26 +81,13 @@ module _ (old : Inside) (heap : Heap) (is : IsHeap old heap) (huge : Huge) (own 
       made sound' (without_backing old.cache huge.0) (free_not_filler (hugepage heap huge.0) (and_parts _ _ passes).0)
       (ap (λ c. without_backing c huge.0) is.shows.cache
       ∙ same_cache (without_backing (cache_of heap) huge.0) _ _
-      (flags_same heap f sound.runs is_taken
-      (λ k _. (let x = hugepage heap k in elim (spans 1 k huge.0) as (λ b. not (is_free x) ≡ not (is_free (cond b (unbacked x) x)))
-      [ true ↦ refl | false ↦ refl ])))
-      (flags_set heap f sound.runs is_unready huge.0 true own.from (omega (arith, own.to))
-      (λ k _. (let x = hugepage heap k in
-      elim (spans 1 k huge.0) as (λ b. cond b true (not (is_free_backed x)) ≡ not (is_free_backed (cond b (unbacked x) x)))
-      [ true ↦ ap not (sym (and_right (is_free x) false refl)) | false ↦ refl ]))))
+      (grind (arith, nat_tests, flags_same, is_taken))
+      (grind (arith, nat_tests, flags_set, is_unready, own.from, own.to)))
 
   -- one of a region
   pub idle_made : is_region (hugepage heap huge.0) ≡ true → IsSound after → IsMade after old.config old.filler old.cache old.regions old.used
   idle_made region sound' = made sound' old.cache (region_no_filler (hugepage heap huge.0) region)
-      (is.shows.cache ∙ cache_same heap f sound.runs
-      (λ k _. (let x = hugepage heap k in
-      let P : Hugepage → Type 0 = λ y. (is_free x ≡ is_free y) × (is_free_backed x ≡ is_free_backed y) in
-      elim (cases_eq k huge.0) [
-        | inl e ↦
-            (let busy = region_busy x (ap (λ i. is_region (hugepage heap i)) e ∙ region) in
-            elim (spans 1 k huge.0) as (λ b. P (cond b (unbacked x) x)) [ true ↦ (refl, and_left _ _ busy ∙ sym (and_left _ _ busy)) | false ↦ (refl, refl) ])
-        | inr ne ↦ subst (λ b. P (cond b (unbacked x) x)) (sym (one_not k huge.0 ne)) (refl, refl)
-      ])))
+      (grind (arith, nat_tests, cache_same, region_busy, one_not))
 
 -- what the cache asks
 pub free_backed : (old : Inside) (heap : Heap) → IsHeap old heap → (h : ℕ) → is_free_backed (hugepage heap h) ≡ true → is_backed old.cache h ≡ true

@@ -1,5 +1,5 @@
 use Rattle.std.proofs.Common.{◌≡◌, ℕ, ◌+◌, ◌≤◌, true, length, sym, ap, ◌∙◌, arith}
-use Rattle.page_heap.proofs.Common.{hugepage, is_free, at, with_shown}
+use Rattle.page_heap.proofs.Common.{hugepage, is_free, at}
 use Rattle.page_heap.proofs.Freed.{freed_none, freed_more, freed_holds}
 use Rattle.page_heap.proofs.Measured.{shown_freed, told_own}
 use Rattle.page_heap.proofs.in_regions.give_freed.Goals as goal
@@ -9,9 +9,7 @@ loop-place-init c = record { freed = λ heap _. freed_none c.args.cache.now heap
 
 pub give_emptied-requires-clause-high : goal.give_emptied-requires-clause-high
 give_emptied-requires-clause-high c =
-    let told = c.requires.told in
-    let is = c.loop-place.invariant.freed told.0 told.1 in
-    omega (arith, is.size, c.requires.span.to, c.requires.taken, c.loop-place-test.true)
+    grind (arith, c.requires.told, c.loop-place.invariant.freed, c.requires.span.to, c.requires.taken, c.loop-place-test.true)
 
 pub give_emptied-requires-clause-out : goal.give_emptied-requires-clause-out
 give_emptied-requires-clause-out c =
@@ -30,7 +28,6 @@ loop-place-preserved c = record {
       let to : h ≤ length c.args.table.now.pages = omega (arith, c.requires.span.to, c.loop-place-test.true) in
       let free : is_free (hugepage heap h) ≡ true = ap (λ xs. is_free (at xs h)) (sym told.means.pages) ∙ c.requires.span.all h (omega arith) (omega (arith, c.loop-place-test.true)) in
       freed_more c.args.cache.now c.loop-place.cache c.give_emptied.new.cache heap first c.loop-place.place (c.loop-place.invariant.freed heap told)
-      (c.give_emptied.ensures ∙ ap (with_shown c.loop-place.cache h) (c.row.ensures heap told.sound told.means)
-      ∙ shown_freed c.loop-place.cache heap h told.sound (told_own c.args.table.now heap h told (omega arith) to))
+      (grind (arith, shown_freed, told_own, c.give_emptied.ensures, c.row.ensures, told.sound, told.means))
       from (omega (arith, c.requires.span.to, c.requires.taken, c.loop-place-test.true)) (c.requires.unready ∙ sym c.requires.taken) free);
 }

@@ -1,5 +1,5 @@
-use Rattle.std.proofs.Common.{ap, ◌∙◌}
-use Rattle.page_heap.proofs.Common.{with_measures, measures_by, with_shown}
+use Rattle.std.proofs.Common.{ap, ◌∙◌, arith}
+use Rattle.page_heap.proofs.Common.{with_measures, measures_by}
 use Rattle.page_heap.proofs.Measured.{shown_covered, shown_measures, shown_freed, told_own}
 use Rattle.page_heap.proofs.told.tell_left.Goals as goal
 
@@ -15,6 +15,4 @@ returns-clause-filler c heap is =
 
 pub returns-clause-cache : goal.returns-clause-cache
 returns-clause-cache c heap is =
-    c.give_emptied.ensures
-    ∙ ap (with_shown c.args.cache.now c.args.huge.0) (c.row-row.ensures heap is.sound is.means)
-    ∙ shown_freed c.args.cache.now heap c.args.huge.0 is.sound (told_own c.args.table.now heap c.args.huge.0 is c.requires.low c.requires.high)
+    grind (arith, shown_freed, told_own, c.give_emptied.ensures, c.row-row.ensures, is.sound, is.means, c.requires.low, c.requires.high)

@@ -1,5 +1,5 @@
-use Rattle.std.proofs.Common.{◌≡◌, ℕ, ◌+◌, ◌*◌, ◌<◌, ◌≤◌, length, take, sum_by, ap, ◌∙◌, arith}
-use Rattle.page_heap.proofs.Common.{RowView, HeapConfig, Heap, backed_count, backed_pages}
+use Rattle.std.proofs.Common.{◌≡◌, ℕ, ◌+◌, ◌*◌, ◌<◌, ◌≤◌, take, sum_by, arith}
+use Rattle.page_heap.proofs.Common.{backed_count, backed_pages}
 use Rattle.page_heap.proofs.Backed.{covers, backed_more, backed_few, backed_all}
 use Rattle.page_heap.proofs.Results.{IsHeap, is_heap}
 use Rattle.page_heap.proofs.heap.PageHeap.backed_pages.Goals as goal
@@ -16,10 +16,7 @@ summed p t x b s r e f g h = omega arith
 
 more : (c : After-from-pages) → c.loop-place.pages + c.from-pages.result ≡ sum_by backed_count (take (c.loop-place.place + 1) c.args.self.now.hugepages)
 more c =
-    let heap : Heap = c.args.self.now in
-    let whole = is_heap c.self.invariant c.self.view_is in
-    let short = within c.loop-place.place _ _ (length heap.hugepages) c.loop-place-test.true (ap (λ (x : HeapConfig). x.huge) whole.shows.config) whole.well.sound.runs.arena in
-    summed _ _ _ _ _ _ c.loop-place.invariant c.from-pages.ensures (ap (λ (row : RowView). row.backed) c.row.ensures) (backed_more heap whole.well.sound c.loop-place.place short)
+    grind (arith, is_heap, within, summed, backed_more, c.self.invariant, c.self.view_is, c.loop-place.place, c.loop-place-test.true, c.loop-place.invariant, c.from-pages.ensures, c.row.ensures)
 
 bounded : (x s h : ℕ) → x ≡ s → s ≤ 256 * h → h ≤ 4096 → x < 18446744073709551616
 bounded x s h e f g = omega arith
@@ -36,10 +33,7 @@ loop-place-preserved c = more c
 
 -- all hugepages are counted then
 counted : (c : After-loop-place) → c.self.inside.config.huge ≤ c.loop-place.place → c.loop-place.pages ≡ backed_pages c.args.self.now
-counted c e =
-    let same = ap (λ (x : HeapConfig). x.huge) (is c).shows.config in
-    let most = c.loop-place.auto.place-end in
-    c.loop-place.invariant ∙ backed_all c.args.self.now (is c).well.sound c.loop-place.place (omega arith)
+counted c e = grind (arith, is, backed_all, c.loop-place.auto.place-end, c.loop-place.invariant, c.loop-place.place)
 
 at_most : (a b c : ℕ) → a ≡ b → b ≤ c → a ≤ c
 at_most a b c e f = omega arith

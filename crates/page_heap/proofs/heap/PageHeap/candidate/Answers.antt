@@ -1,14 +1,12 @@
-use Rattle.std.proofs.Common.{◌≡◌, ℕ, Some}
-use Rattle.page_heap.proofs.Common.{spare_given, Measures, measures_at, IsCandidate, IsFirstGiver}
+use Rattle.std.proofs.Common.{◌≡◌, ℕ, Some, arith}
+use Rattle.page_heap.proofs.Common.{spare_given, Measures, measures_at}
 use Rattle.page_heap.proofs.Results.{is_heap}
 use Rattle.page_heap.proofs.Unbacked.{if_some, if_none}
 use Rattle.page_heap.proofs.Spared.{first_is, none_is, spare_nothing}
 use Rattle.page_heap.proofs.heap.PageHeap.candidate.Goals as goal
 
 pub returns-clause-found : goal.returns-clause-found
-returns-clause-found c =
-    if_some c.candidate.result (IsCandidate c.self.inside.filler) (IsFirstGiver c.args.self.now)
-    (λ huge is. first_is c.self.inside c.args.self.now (is_heap c.self.invariant c.self.view_is) huge is) c.candidate.ensures.found
+returns-clause-found c = grind (arith, if_some, first_is, is_heap, c.self.invariant, c.self.view_is, c.candidate.ensures.found)
 
 pub returns-clause-none : goal.returns-clause-none
 returns-clause-none c =

@@ -1,7 +1,6 @@
 use Rattle.std.proofs.Common.{◌≡◌, ℕ, ◌+◌, ◌*◌, ◌<◌, ◌≤◌, Some, [], IsSome, filter, option_map, refl, sym, ap, subst, ◌∙◌, arith}
-use Rattle.page_heap.proofs.Common.{length-map-range_with_len, best, first_least, hugepage, is_used, used_row, place_in_row}
-use Rattle.page_heap.proofs.Common.{filler_rows, shares, Measures, measures_at}
-use Rattle.heap_rules.specs.FillerRows.{is_preferred, has_room}
+use Rattle.page_heap.proofs.Common.{length-map-range_with_len, best, hugepage, is_used, used_row, place_in_row, filler_rows, shares}
+use Rattle.heap_rules.specs.FillerRows.{has_room}
 use Rattle.range_bits.proofs.RangeFacts.{best_there, best_is_fit}
 use Rattle.heap_rules.proofs.Fillers.{is_Filler}
 use Rattle.page_heap.proofs.Choices.{IsFound, found, none_there, all_fail}
@@ -10,14 +9,10 @@ use Rattle.page_heap.proofs.heap.PageHeap.find_in_filler.Goals as goal
 use Rattle.page_heap.proofs.heap.PageHeap.find_in_filler.Goals.{In_err-huge, In_ok-huge, After-best}
 
 none : (c : In_err-huge) → filter (has_room c.args.n) (filler_rows c.args.self.now) ≡ []
-none c =
-    let few = subst (λ rows. (h : ℕ) (its : Measures) → measures_at rows h ≡ Some its → its.longest < c.args.n) (is_heap c.self.invariant c.self.view_is).shows.filler c.in_err-huge.ensures.none in
-    none_there c.args.self.now c.args.n few
+none c = grind (arith, is_heap, none_there, c.self.invariant, c.self.view_is, c.in_err-huge.ensures.none)
 
 pub returns-in_err-huge-clause-place : goal.returns-in_err-huge-clause-place
-returns-in_err-huge-clause-place c =
-    let e = none (goal.at.returns-in_err-huge-clause-place c).In_err-huge in
-    rw c.from_residual.ensures (ap (λ rows. place_in_row c.args.n (first_least is_preferred rows)) (sym e))
+returns-in_err-huge-clause-place c = grind (arith, none, c.from_residual.ensures)
 
 pub returns-in_err-huge-clause-none : goal.returns-in_err-huge-clause-none
 returns-in_err-huge-clause-none c =

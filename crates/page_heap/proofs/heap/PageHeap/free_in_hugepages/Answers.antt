@@ -1,5 +1,4 @@
-use Rattle.std.proofs.Common.{◌≡◌, ℕ, ◌+◌, ◌-◌, ◌/◌, ◌≤◌, Bool, List, length, false, refl, ap, ◌∙◌, arith}
-use Rattle.range_bits.specs.Ranges.{used_from}
+use Rattle.std.proofs.Common.{◌≡◌, ℕ, ◌+◌, ◌-◌, ◌/◌, false, refl, ap, ◌∙◌, arith}
 use Rattle.page_heap.proofs.Common.{Heap, hugepage, given_back, Cache, with_backed_run, IsTold, remeasured, with_freed}
 use Rattle.huge_cache.specs.Cache.{holds}
 use Rattle.page_heap.proofs.Results.{IsHeap, is_heap, kept_by, view_by, made_heap, IsMeasuring, measuring}
@@ -21,11 +20,8 @@ here c =
     leaving _ _ is c.args.run c.requires.live _ _ _ (laid c.args.self.now c.args.run is.well.sound c.requires.live c.requires.route)
 
 pub give_whole-requires-clause-out : goal.give_whole-requires-clause-out
-give_whole-requires-clause-out c = out c.self.inside.cache.taken _ _ _ _ _ c.from.ensures c.huge_of-last.ensures c.huge_of-first.ensures
-    (here (goal.at.give_whole-requires-clause-out c).After-give_run).whole_out
-  where
-    out : (taken : List Bool) (first last k x y : ℕ) → k ≡ last - first → last ≡ y → first ≡ x → y - x ≤ used_from taken (x - 1) → k ≤ used_from taken (first - 1)
-    out taken first last k x y p q r l = rw (p, q, r) l
+give_whole-requires-clause-out c =
+    grind (arith, here, c.self.inside.cache.taken, c.from.ensures, c.huge_of-last.ensures, c.huge_of-first.ensures)
 
 -- the cache with the hugepages before the last one
 given_is : (cache new : Cache) (first last k x y : ℕ) → new ≡ with_backed_run cache first k → k ≡ last - first → last ≡ y → first ≡ x → new ≡ with_backed_run cache x (y - x)
@@ -45,14 +41,7 @@ tell_left-requires c =
     let means = d.give_run.ensures d.args.self.now is.well.sound is.shows.means d.requires.live in
     let given = given_is _ _ _ _ _ _ _ d.give_whole.ensures d.from.ensures d.huge_of-last.ensures d.huge_of-first.ensures in
     let m : IsMeasuring d.self.inside d.give_run.new.self d.huge_of-last.result.0 = measuring is (given_back d.args.self.now d.args.run) refl h.sound means _ _ h.own d.huge_of-last.ensures in
-    record {
-      low = m.low;
-      high = m.high;
-      same = m.same;
-      taken = ap (λ (x : Cache). length x.taken) given ∙ h.size ∙ m.taken;
-      out = out_is _ _ _ _ given d.huge_of-last.ensures h.last_out;
-      told = m.told;
-    }
+    grind (arith, out_is, m.low, m.high, m.same, h.size, m.taken, d.huge_of-last.ensures, h.last_out, m.told)
 
 pub overflow_sub-self : goal.overflow_sub-self
 overflow_sub-self c = let h = here (goal.at.overflow_sub-self c).After-give_run in omega (arith, h.counted, c.from-2.ensures)

@@ -20,7 +20,7 @@ serves c = sym (c.kind.ensures.heap c.args.self.now (is_heap c.self.invariant c.
 
 pub free_in_region-requires-clause-route : goal.free_in_region-requires-clause-route
 free_in_region-requires-clause-route c =
-    route_region _ _ (is_heap c.self.invariant c.self.view_is) c.args.run c.requires (serves (goal.at.free_in_region-requires-clause-route c).After-kind ∙ c.in-Region.is)
+    grind (arith, route_region, is_heap, serves, After-kind, c.self.invariant, c.self.view_is, c.requires, c.in-Region.is)
 
 others : (k : RowKind) → (k ≡ kind.Free) ⊎ ((k ≡ kind.Run) ⊎ (k ≡ kind.Filler)) → is_kind_region k ≡ false
 others k (inl e) = ap is_kind_region e

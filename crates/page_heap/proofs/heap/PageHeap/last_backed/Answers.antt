@@ -1,14 +1,12 @@
-use Rattle.std.proofs.Common.{◌≡◌, ℕ, false}
-use Rattle.page_heap.proofs.Common.{hugepage, is_free_backed, free_given, is_backed, IsLastBacked, IsLast}
+use Rattle.std.proofs.Common.{◌≡◌, ℕ, false, arith}
+use Rattle.page_heap.proofs.Common.{free_given, is_backed}
 use Rattle.page_heap.proofs.Gives.{free_none}
 use Rattle.page_heap.proofs.Results.{is_heap}
 use Rattle.page_heap.proofs.Unbacked.{if_some, if_none, last_is, none_is}
 use Rattle.page_heap.proofs.heap.PageHeap.last_backed.Goals as goal
 
 pub returns-clause-last : goal.returns-clause-last
-returns-clause-last c =
-    if_some c.last_backed.result (IsLastBacked c.self.inside.cache) (IsLast c.args.self.now (λ h. is_free_backed (hugepage c.args.self.now h)))
-    (λ huge is. last_is c.self.inside c.args.self.now (is_heap c.self.invariant c.self.view_is) huge is) c.last_backed.ensures.last
+returns-clause-last c = grind (arith, if_some, last_is, is_heap, c.self.invariant, c.self.view_is, c.last_backed.ensures.last)
 
 pub returns-clause-none : goal.returns-clause-none
 returns-clause-none c =

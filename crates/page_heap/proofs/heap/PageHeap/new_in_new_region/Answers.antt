@@ -1,6 +1,5 @@
-use Rattle.std.proofs.Common.{◌≡◌, ℕ, ◌+◌, ◌<◌, ◌≤◌, cond, Some, None, option_map, sym, ap, ◌∙◌, arith}
-use Rattle.page_heap.proofs.Common.{le-leb, lt-leb, HeapConfig, Heap, run_choice, in_new_region, slack, Cache}
-use Rattle.heap_rules.specs.CacheFlags as cache
+use Rattle.std.proofs.Common.{◌≡◌, ℕ, ◌+◌, ◌<◌, ◌≤◌, Some, option_map, ap, arith}
+use Rattle.page_heap.proofs.Common.{le-leb, lt-leb, HeapConfig, run_choice, slack}
 use Rattle.page_heap.proofs.Results.{is_heap, answer_is}
 use Rattle.page_heap.proofs.Slack.{slack_is, few_donated}
 use Rattle.page_heap.proofs.heap.PageHeap.new_in_new_region.Goals as goal
@@ -26,26 +25,14 @@ least : (c : After-from) → c.self.inside.config.slack ≡ c.args.self.now.conf
 least c = ap (λ (x : HeapConfig). x.slack) (is_heap c.self.invariant c.self.view_is).shows.config
 
 pub returns-then-donated_free-from-clause-new : goal.returns-then-donated_free-from-clause-new
-returns-then-donated_free-from-clause-new c =
-    let d = (goal.at.returns-then-donated_free-from-clause-new c).After-from in
-    let heap : Heap = d.args.self.now in
-    let below : slack heap d.args.n < heap.config.slack = below_is _ _ _ _ (slack_now d) (least d) c.if-donated_free-from.true in
-    ap (λ b. cond b (option_map (in_new_region heap d.args.n) (run_choice heap heap.config.region)) None) (lt-leb heap.config.slack (slack heap d.args.n) below)
+returns-then-donated_free-from-clause-new c = grind (arith, below_is, slack_now, least, option_map, lt-leb, c.if-donated_free-from.true)
 
 place : (c : In_ok-first) → run_choice c.args.self.now c.args.self.now.config.region ≡ Some c.in_ok-first.first.0
-place c =
-    let is = is_heap c.self.invariant c.self.view_is in
-    ap (run_choice c.args.self.now) (ap (λ (x : HeapConfig). x.region) (sym is.shows.config))
-    ∙ ap (λ (k : Cache). cache.run_choice k.taken k.unready c.self.inside.config.region) (sym is.shows.cache) ∙ sym c.in_ok-first.ensures.place
+place c = grind (arith, c.self.invariant, c.self.view_is, c.in_ok-first.ensures.place)
 
 pub open_for-requires-clause-place : goal.open_for-requires-clause-place
 open_for-requires-clause-place c = place (goal.at.open_for-requires-clause-place c).In_ok-first
 
 pub returns-clause-new : goal.returns-clause-new
 returns-clause-new c =
-    let d = (goal.at.returns-clause-new c).After-from in
-    let heap : Heap = c.args.self.now in
-    let enough : heap.config.slack ≤ slack heap c.args.n = above_is _ _ _ _ (slack_now d) (least d) c.if-donated_free-from.false in
-    ap (λ b. cond b (option_map (in_new_region heap c.args.n) (run_choice heap heap.config.region)) None) (le-leb heap.config.slack (slack heap c.args.n) enough)
-    ∙ ap (option_map (in_new_region heap c.args.n)) (place (goal.at.returns-clause-new c).In_ok-first)
-    ∙ answer_is (in_new_region heap c.args.n c.in_ok-first.first.0) c.open_for.result c.open_for.new.self (sym c.open_for.ensures.run) (sym c.open_for.ensures.heap)
+    grind (arith, above_is, slack_now, least, option_map, le-leb, place, answer_is, c.if-donated_free-from.false, c.open_for.ensures.heap)

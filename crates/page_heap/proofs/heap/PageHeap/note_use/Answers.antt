@@ -1,4 +1,4 @@
-use Rattle.std.proofs.Common.{◌≡◌, ℕ, ◌-◌, ◌*◌, not, get_or, map, count_by, ap, ◌∙◌}
+use Rattle.std.proofs.Common.{◌≡◌, ℕ, ◌-◌, not, get_or, map, count_by, ap, ◌∙◌, arith}
 use Rattle.heap_rules.specs.CacheFlags.{limit}
 use Rattle.page_heap.proofs.Common.{Heap, is_free_backed, Cache, over_count, Inside, heap_of, cache_of, IsKept, over_limit}
 use Rattle.huge_cache.specs.Cache.{noted}
@@ -24,6 +24,4 @@ over_is t kept cache n e =
     ap (λ m. m - limit cache.most cache.counts) ready ∙ ap (λ m. count_by is_free_backed heap.hugepages - limit m cache.counts) most
 
 pub returns-clause-over : goal.returns-clause-over
-returns-clause-over c =
-    ap (λ k. k * c.from-2.result) c.from.ensures
-    ∙ ap (λ k. 256 * k) (c.from-2.ensures ∙ c.over.ensures ∙ over_is c.self.inside c.self.invariant c.note_use.new.self c.in_use-in_use.result c.note_use.ensures)
+returns-clause-over c = grind (arith, over_is, c.from.ensures, c.from-2.ensures, c.over.ensures, c.self.invariant, c.note_use.ensures)

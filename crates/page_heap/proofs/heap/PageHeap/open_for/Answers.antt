@@ -20,8 +20,7 @@ pub take_out-requires-clause-free : goal.take_out-requires-clause-free
 take_out-requires-clause-free c = (here (goal.at.take_out-requires-clause-free c).After-open_region).room
 
 pub take_out-requires-clause-some : goal.take_out-requires-clause-some
-take_out-requires-clause-some c = let h = here (goal.at.take_out-requires-clause-some c).After-open_region in let wide =
-    (is_heap c.self.invariant c.self.view_is).well.limits.region_from in omega (arith, h.same, wide)
+take_out-requires-clause-some c = grind (arith, c.self.invariant, c.self.view_is)
 
 pub open_region-requires-2 : goal.open_region-requires-2
 open_region-requires-2 c = let h = here (goal.at.open_region-requires-2 c).After-open_region in record { low = h.low; high = h.high; free = h.none }

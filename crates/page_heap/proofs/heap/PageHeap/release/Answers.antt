@@ -1,5 +1,5 @@
-use Rattle.std.proofs.Common.{◌≡◌, ◌+◌, ◌≤◌, subst}
-use Rattle.page_heap.proofs.Common.{Released, release, givable_pages, IsReleased, BacksNone, release_keeps}
+use Rattle.std.proofs.Common.{◌≡◌, ◌+◌, subst, arith}
+use Rattle.page_heap.proofs.Common.{Released, release, IsReleased, BacksNone, release_keeps}
 use Rattle.heap_rules.proofs.NoneBacked.{release_backs_none}
 use Rattle.heap_rules.proofs.Enough.{release_is_enough}
 use Rattle.page_heap.proofs.Gives.{released_by}
@@ -25,6 +25,4 @@ pub returns-clause-backs_none : goal.returns-clause-backs_none
 returns-clause-backs_none c = subst (λ (r : Released). BacksNone c.args.self.now r.heap) (all c) (release_backs_none c.args.self.now c.args.n)
 
 pub returns-clause-enough : goal.returns-clause-enough
-returns-clause-enough c =
-    subst (λ (r : Released). (c.args.n ≤ r.pages → c.args.n ≤ givable_pages c.args.self.now) × (c.args.n ≤ givable_pages c.args.self.now → c.args.n ≤ r.pages)) (all c)
-    (release_is_enough c.args.self.now c.args.n c.release_from-free.ensures.sound)
+returns-clause-enough c = grind (arith, all, release_is_enough, c.release_from-free.ensures.sound)

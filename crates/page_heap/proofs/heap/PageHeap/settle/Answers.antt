@@ -1,14 +1,11 @@
-use Rattle.std.proofs.Common.{◌*◌, sym, ap, subst, ◌∙◌}
-use Rattle.page_heap.proofs.Common.{Heap, Released, free_given, IsSound, free_sound, over_limit}
+use Rattle.std.proofs.Common.{ap, subst, arith}
+use Rattle.page_heap.proofs.Common.{Released, IsSound, free_sound}
 use Rattle.page_heap.proofs.Gives.{settled_is}
 use Rattle.page_heap.proofs.heap.PageHeap.settle.Goals as goal
 
 pub returns-clause-settled : goal.returns-clause-settled
 returns-clause-settled c =
-    sym (settled_is c.args.self.now
-    ∙ ap (λ (heap : Heap). (free_given heap (256 * over_limit heap)).heap) (sym c.note_use-over.ensures.noted)
-    ∙ ap (λ k. (free_given c.note_use-over.new.self k).heap) (sym c.note_use-over.ensures.over)
-    ∙ ap (λ (r : Released). r.heap) c.release_from-pages.ensures.given)
+    grind (arith, settled_is, c.note_use-over.ensures.noted, c.note_use-over.ensures.over, c.release_from-pages.ensures.given)
 
 pub returns-clause-sound : goal.returns-clause-sound
 returns-clause-sound c =

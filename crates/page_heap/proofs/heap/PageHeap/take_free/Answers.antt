@@ -1,5 +1,5 @@
-use Rattle.std.proofs.Common.{◌≡◌, ℕ, ◌+◌, ◌-◌, ◌<◌, ◌≤◌, subst, sym, refl, ap, ◌∙◌, arith}
-use Rattle.page_heap.proofs.Common.{free_from, Heap, hugepages_for, taken, remeasured}
+use Rattle.std.proofs.Common.{◌≡◌, ℕ, ◌+◌, ◌-◌, ◌<◌, ◌≤◌, refl, ap, ◌∙◌, arith}
+use Rattle.page_heap.proofs.Common.{Heap, hugepages_for, taken, remeasured}
 use Rattle.huge_cache.specs.Cache.{without_run}
 use Rattle.page_heap.proofs.Results.{IsHeap, is_heap, kept_by, view_by, made_heap, IsMeasuring, measuring}
 use Rattle.page_heap.proofs.Taken.{IsTaking, taking}
@@ -17,13 +17,10 @@ here : (c : After-take_run) → IsTaking c.self.inside c.args.self.now c.args.n 
 here c = taking _ _ (is_heap c.self.invariant c.self.view_is) c.args.n c.args.first.0 c.requires.some c.requires.place _ (at c.args.first.0 c.args.n c.requires.some)
 
 pub take_out-requires-clause-free : goal.take_out-requires-clause-free
-take_out-requires-clause-free c =
-    let m : c.div_ceil-many.result ≡ hugepages_for c.args.n = omega (arith, c.div_ceil-many.ensures) in
-    subst (λ k. k ≤ free_from c.self.inside.cache.taken (c.args.first.0 - 1)) (sym m) (here (goal.at.take_out-requires-clause-free c).After-take_run).free
+take_out-requires-clause-free c = grind (arith, here, c.div_ceil-many.ensures, c.self.inside.cache.taken)
 
 last : (c : After-from) → c.from.result + c.div_ceil-many.result - 1 ≡ c.args.first.0 + hugepages_for c.args.n - 1
-last c = let m : c.div_ceil-many.result ≡ hugepages_for c.args.n = omega (arith, c.div_ceil-many.ensures) in
-    ap (λ k. k + c.div_ceil-many.result - 1) c.from.ensures ∙ ap (λ k. c.args.first.0 + k - 1) m
+last c = grind (arith, c.div_ceil-many.ensures, c.from.ensures)
 
 low : (a b huge : ℕ) → a ≡ b → b ≤ huge → huge ≤ 4096 → a < 65536
 low a b huge e p q = omega arith
