@@ -1,20 +1,20 @@
--- The tightest and the longest range of a row, found among its listed ranges.
-use Rattle.std.proofs.Common.{◌≡◌, ℕ, zero, suc, ◌+◌, ◌<◌, ◌≤◌, ◌&&◌, Bool, true, false, cond, nat_lt, nat_le, List, [], ◌∷◌, length, get_or, filter, Option, Some, None, IfSome, All, Contains, refl, sym, ap, subst, ◌∙◌, inl, inr, arith}
-use Rattle.std.specs.List.{range_with_len}
-use Rattle.std.proofs.lemmas.Bool.{cases_lt, cases_Bool, and_parts, and_from, leb-true, le-leb, lt-ltb, le-ltb}
+-- The tightest, the longest and the last range of a row, found among its listed ranges.
+use Rattle.std.proofs.Common.{◌≡◌, ℕ, zero, suc, ◌+◌, ◌-◌, ◌<◌, ◌≤◌, ◌==◌, ◌||◌, ◌⊎◌, Bool, true, false, not, nat_lt, List, [], length, get_or, drop, Option, Some, None, IfSome, All, Contains, refl, sym, ap, subst, ◌∙◌, inl, inr, arith, eqb-true}
+use Rattle.std.proofs.lemmas.Bool.{cases_lt, cases_Bool, and_parts, not-true, not-false}
 use Rattle.std.proofs.lemmas.Bool.Decides.{nat_tests}
+use Rattle.std.proofs.lemmas.List.{length-drop, get_or-drop}
+use Rattle.std.proofs.lemmas.List.Sums.{prefix_len_stops}
 use Rattle.std.proofs.lemmas.List.FromFn.{length-range_with_len, get_or-range_with_len}
-use Rattle.std.proofs.lemmas.List.Elements.{All-filter, filter_passes}
-use Rattle.range_bits.specs.Ranges.{free_from, begins_range, places, best, longest, first_least, first_of_two}
-use Rattle.range_bits.proofs.RangeFacts.{best_is_fit, some_or_none}
-use Rattle.range_bits.proofs.RangeLemmas.{longest-at, start_of, first_least-all, range-within}
-use Rattle.range_bits.proofs.Scan.{greatest-ge}
-use Rattle.sorted_list.specs.Measures.{not_yes}
+use Rattle.std.proofs.lemmas.List.Elements.{All-filter, All-contains, filter_passes}
+use Rattle.range_bits.specs.Ranges.{free_from, begins_range, places, best, longest}
+use Rattle.range_bits.proofs.RangeFacts.{free_is_inside}
+use Rattle.range_bits.proofs.RangeLemmas.{free_at, range-within}
+use Rattle.range_bits.proofs.Scan.{begins, best_is, best_none, longest_is}
 use Rattle.sorted_list.specs.Order.{first_by, IsFirstFrom, IsLast}
 use Rattle.sorted_list.specs.Rows.{IsIndexOf}
 use Rattle.sorted_list.proofs.Rows.{key_held, row_held}
 use Rattle.free_ranges.specs.declared.range.FreeRange.{FreeRange}
-use Rattle.free_ranges.specs.Ranges.{comes_before, range_at, starts}
+use Rattle.free_ranges.specs.Ranges.{comes_before, range_at, starts, IsRange, IsLastUpto, IsLastRange}
 use Rattle.free_ranges.specs.Total.{total}
 use Rattle.free_ranges.proofs.Lists.{kept_by}
 
@@ -24,119 +24,122 @@ is_start row p inside begins =
     let at : get_or (places row) p p ≡ p = get_or-range_with_len 0 (length row) p p inside ∙ omega arith in
     kept_by (begins_range row) (places row) p (p, omega (arith, length-range_with_len 0 (length row)), at) begins
 
--- of two places, where the other one's measure isn't less
-stays : (f : ℕ → ℕ) (x : ℕ) (o : Option ℕ) → IfSome o (λ y. f x ≤ f y) → first_of_two (λ x y. nat_lt (f x) (f y)) x o ≡ x
-stays f x None h = refl
-stays f x (Some y) h = ap (λ (b : Bool). cond b y x) (le-ltb (f y) (f x) h)
+or_cases : (a b : Bool) → (a || b) ≡ true → (a ≡ true) ⊎ (b ≡ true)
+or_cases true b e = inl refl
+or_cases false b e = inr e
 
-not_below : (len n start : ℕ) → n ≤ len → first_by len n (nat_lt start 0) ≡ false
+-- the maximal free range that begins at a place
+pub range_of : (row : List Bool) (s : ℕ) → s < length row → begins_range row s ≡ true → IsRange row (range_at row s)
+range_of row s inside starts =
+    let parts = and_parts (not (get_or row s true)) (s == 0 || get_or row (s - 1) true) starts in
+    let far : s + free_from row s ≤ length row = free_is_inside row s (omega arith) in
+    let stop : s + free_from row s < length row → get_or row (s + free_from row s) true ≡ true =
+    λ l. (let size = length-drop s row in sym (get_or-drop s row (free_from row s) true) ∙ not-false _ (prefix_len_stops not (drop s row) true (omega arith))) in
+    record {
+      some = elim (cases_lt 0 (free_from row s)) [
+        | inl some ↦ some
+        | inr none ↦
+            (let e : s + free_from row s ≡ s = omega arith in
+            let used : get_or row s true ≡ true = sym (ap (λ (k : ℕ). get_or row k true) e) ∙ stop (omega arith) in
+            absurd (let c : true ≡ false = sym used ∙ not-true _ parts.0 in cc))
+      ];
+      within = far;
+      free = λ p low high. (let e : s + (p - s) ≡ p = omega arith in ap (λ (k : ℕ). get_or row k true) (sym e) ∙ free_at row s (free_from row s) (p - s) true (omega arith) (omega arith));
+      before = λ pos. elim (or_cases (s == 0) (get_or row (s - 1) true) parts.1) [ inl first ↦ absurd (omega (arith, eqb-true s 0 first)) | inr used ↦ used ];
+      end = stop;
+    }
+
+-- no place is free where no range begins
+used_here : (row : List Bool) (p : ℕ) → (0 < p → get_or row (p - 1) true ≡ true) → begins_range row p ≡ false → get_or row p true ≡ true
+used_here row p before none = grind (arith, nat_tests, begins)
+
+none_free : (row : List Bool) (a k p : ℕ) → p ≡ a + k → get_or row a true ≡ true → ((q : ℕ) → a < q → q ≤ p → begins_range row q ≡ false) → get_or row p true ≡ true
+none_free row a zero p at base none = let e : p ≡ a = omega arith in ap (λ (i : ℕ). get_or row i true) e ∙ base
+none_free row a (suc k) p at base none = grind (arith, nat_tests, used_here, none_free row a k (p - 1) (omega arith) base)
+
+-- of two keys that are compared by a measure first
+pub not_first : (x y : ℕ) (r : Bool) → first_by x y r ≡ false → y ≤ x
+not_first x y r h = grind (arith, nat_tests)
+
+pub not_below : (len n start : ℕ) → n ≤ len → first_by len n (nat_lt start 0) ≡ false
 not_below len n start l = grind (arith, nat_tests)
 
--- the first place of the least measure
-least_place : (f : ℕ → ℕ) (p : ℕ → Bool) (a n s : ℕ) → a ≤ s → s < a + n → p s ≡ true → ((y : ℕ) → a ≤ y → y < a + n → p y ≡ true → f s ≤ f y) → ((y : ℕ) → a ≤ y → y < s → p y ≡ true → f s < f y) → first_least (λ x y. nat_lt (f x) (f y)) (filter p (range_with_len a n)) ≡ Some s
-least_place f p a zero s low high pass least ties = absurd (omega arith)
-least_place f p a (suc n) s low high pass least ties =
-    let rest : List ℕ = filter p (range_with_len (a + 1) n) in
-    let by : ℕ → ℕ → Bool = λ x y. nat_lt (f x) (f y) in
-    elim (cases_lt a s) [
-      | inl later ↦
-          (let ih = least_place f p (a + 1) n s (omega arith) (omega arith) pass (λ y l h. least y (omega arith) (omega arith)) (λ y l h. ties y (omega arith) h) in
-          elim (cases_Bool (p a)) [
-            | inl t ↦
-                (let here : filter p (range_with_len a (suc n)) ≡ a ∷ rest = ap (λ (b : Bool). cond b (a ∷ rest) rest) t in
-                ap (first_least by) here ∙ ap (λ (o : Option ℕ). Some (first_of_two by a o)) ih ∙ ap (λ (b : Bool). Some (cond b s a)) (lt-ltb (f s) (f a) (ties a (omega arith) later t)))
-            | inr fails ↦ ap (λ (b : Bool). first_least by (cond b (a ∷ rest) rest)) fails ∙ ih
-          ])
-      | inr first ↦
-          (let same : a ≡ s = omega arith in
-          let t : p a ≡ true = ap p same ∙ pass in
-          let here : filter p (range_with_len a (suc n)) ≡ a ∷ rest = ap (λ (b : Bool). cond b (a ∷ rest) rest) t in
-          let others = first_least-all (λ y. f a ≤ f y) by rest (λ k d l.
-          let passes = filter_passes p (range_with_len (a + 1) n) k d l in
-          let near = All-filter p (λ y. (a + 1 ≤ y) × (y < a + 1 + n)) (range_with_len (a + 1) n) (range-within (a + 1) n) k d l in
-          let e : f a ≡ f s = ap f same in
-          omega (arith, least (get_or rest k d) (omega (arith, near.0)) (omega (arith, near.1)) passes)) in
-          ap (first_least by) here ∙ ap Some (stays f a (first_least by rest) others ∙ same))
-    ]
+pub below : (len n start : ℕ) → first_by len n (nat_lt start 0) ≡ true → len < n
+below len n start h = grind (arith, nat_tests)
 
--- the range of a held key
-pub ranged : (row : List Bool) (keys : List FreeRange) (key : FreeRange) → IsIndexOf (range_at row) (starts row) keys → Contains keys key → (s : ℕ) × (s < length row) × (begins_range row s ≡ true) × (range_at row s ≡ key)
-ranged row keys key index held =
-    let at = row_held comes_before total (range_at row) (starts row) keys key index held in
-    let k : ℕ = at.1.0 in
-    let passes = filter_passes (begins_range row) (places row) k at.0 at.1.1 in
-    let near = All-filter (begins_range row) (λ y. (0 ≤ y) × (y < 0 + length row)) (places row) (range-within 0 (length row)) k at.0 at.1.1 in
-    let inside : get_or (starts row) k at.0 < length row = omega (arith, near.1) in
-    let P : ℕ → Type 0 = λ y. (y < length row) × (begins_range row y ≡ true) in
-    let p = subst P at.1.2 (inside, passes) in
-    (at.0, p.0, p.1, at.2)
+tighter : (x len y start free : ℕ) → first_by x len (nat_lt y start) ≡ false → free ≡ len → (free ≤ x) × (y < start → free < x)
+tighter x len y start free h e = grind (arith, nat_tests)
 
--- the range of a start is held
-pub listed : (row : List Bool) (keys : List FreeRange) (s : ℕ) → IsIndexOf (range_at row) (starts row) keys → s < length row → begins_range row s ≡ true → Contains keys (range_at row s)
-listed row keys s index inside begins = key_held comes_before total (range_at row) (starts row) keys s index (is_start row s inside begins)
+module _ (row : List Bool) (keys : List FreeRange) (index : IsIndexOf (range_at row) (starts row) keys) where
+  -- where the range of a held key begins, and how long it is
+  pub ranged : (key : FreeRange) → Contains keys key → (key.start < length row) × (begins_range row key.start ≡ true) × (free_from row key.start ≡ key.len)
+  ranged key held =
+      let at = row_held comes_before total (range_at row) (starts row) keys key index held in
+      let near = All-contains (λ y. (0 ≤ y) × (y < 0 + length row)) (starts row) at.0
+      (All-filter (begins_range row) (λ y. (0 ≤ y) × (y < 0 + length row)) (places row) (range-within 0 (length row))) at.1 in
+      let passes = All-contains (λ y. begins_range row y ≡ true) (starts row) at.0 (filter_passes (begins_range row) (places row)) at.1 in
+      subst (λ (r : FreeRange). (r.start < length row) × (begins_range row r.start ≡ true) × (free_from row r.start ≡ r.len)) at.2 (omega (arith, near.1), passes, refl)
 
-pub best_found : (row : List Bool) (keys : List FreeRange) (n : ℕ) (key : FreeRange) → IsIndexOf (range_at row) (starts row) keys → IsFirstFrom comes_before keys (record { len = n; start = 0 }) key → best row n ≡ Some key.start
-best_found row keys n key index is =
-    let at = ranged row keys key index is.held in
-    let s : ℕ = at.0 in
-    let len : free_from row s ≡ key.len = ap (λ (r : FreeRange). r.len) at.3 in
-    let start : s ≡ key.start = ap (λ (r : FreeRange). r.start) at.3 in
-    let long : n ≤ key.len =
-    elim (not_yes key.len n _ is.behind) [ inl l ↦ omega arith | inr e ↦ omega (arith, e.0) ] in
-    let fits : ℕ → Bool = λ p. begins_range row p && nat_le n (free_from row p) in
-    let other : (y : ℕ) → y < length row → fits y ≡ true → comes_before (range_at row y) key ≡ false =
-    λ y inside pass.
-    let parts = and_parts (begins_range row y) (nat_le n (free_from row y)) pass in
-    let held = listed row keys y index inside parts.0 in
-    let enough : n ≤ free_from row y = leb-true n (free_from row y) parts.1 in
-    let late : comes_before (range_at row y) (record { len = n; start = 0 }) ≡ false = not_below (free_from row y) n y enough in
-    let first = is.first held.0 (range_at row y) held.1 (ap (λ (r : FreeRange). comes_before r (record { len = n; start = 0 })) held.2 ∙ late) in
-    sym (ap (λ (r : FreeRange). comes_before r key) held.2) ∙ first in
-    least_place (free_from row) fits 0 (length row) s (omega arith) (omega (arith, at.1)) (and_from _ _ at.2 (le-leb n (free_from row s) (omega arith)))
-    (λ y low high pass.
-    elim (not_yes (free_from row y) key.len _ (other y (omega arith) pass)) [ inl l ↦ omega arith | inr e ↦ omega (arith, e.0) ])
-    (λ y low high pass.
-    elim (not_yes (free_from row y) key.len _ (other y (omega (arith, at.1)) pass)) [
-      | inl l ↦ omega arith
-      | inr e ↦ absurd (let c : true ≡ false = sym (lt-ltb y key.start (omega arith)) ∙ e.1 in cc)
-    ])
-    ∙ ap Some start
+  -- the range of a start is held, and what each key has
+  pub listed : (s : ℕ) → s < length row → begins_range row s ≡ true → Contains keys (range_at row s)
+  listed s inside begins = key_held comes_before total (range_at row) (starts row) keys s index (is_start row s inside begins)
 
-pub best_nowhere : (row : List Bool) (keys : List FreeRange) (n : ℕ) → 0 < n → IsIndexOf (range_at row) (starts row) keys → All (λ key. comes_before key (record { len = n; start = 0 }) ≡ true) keys → best row n ≡ None
-best_nowhere row keys n some index all =
-    elim (some_or_none (best row n)) [
-      | inl none ↦ none
-      | inr found ↦
-          (let fit = best_is_fit row n found.0 found.1 in
-          let s = start_of row n found.0 fit.0 some fit.1 in
-          let held = listed row keys s.0 index s.1 s.3 in
-          let early : comes_before (range_at row s.0) (record { len = n; start = 0 }) ≡ true = sym (ap (λ (r : FreeRange). comes_before r (record { len = n; start = 0 })) held.2) ∙ all held.0 (range_at row s.0) held.1 in
-          absurd (let c : true ≡ false = sym early ∙ not_below (free_from row s.0) n s.0 s.2 in cc))
-    ]
+  each : (P : FreeRange → Type 0) → All P keys → (s : ℕ) → s < length row → begins_range row s ≡ true → P (range_at row s)
+  each P all s inside begins = All-contains P keys (range_at row s) all (listed s inside begins)
 
--- a range that isn't longer than the longest one, which a key has
-pub longest_found : (row : List Bool) (keys : List FreeRange) (key : FreeRange) → IsIndexOf (range_at row) (starts row) keys → IsLast comes_before keys key → longest row ≡ key.len
-longest_found row keys key index is =
-    let at = ranged row keys key index is.held in
-    let len : free_from row at.0 ≡ key.len = ap (λ (r : FreeRange). r.len) at.3 in
-    let least = greatest-ge (free_from row) 0 (length row) at.0 (omega arith) (omega (arith, at.1)) in
-    elim (cases_lt key.len (longest row)) [
-      | inr most ↦ omega arith
-      | inl longer ↦
-          (let far = longest-at row (longest row) (omega arith) (omega arith) in
-          let s = start_of row (longest row) far.0 far.1 (omega arith) far.2 in
-          let held = listed row keys s.0 index s.1 s.3 in
-          let last : comes_before key (range_at row s.0) ≡ false = sym (ap (comes_before key) held.2) ∙ is.last held.0 (range_at row s.0) held.1 in
-          elim (not_yes key.len (free_from row s.0) _ last) [ inl l ↦ absurd (omega (arith, s.2)) | inr e ↦ absurd (omega (arith, s.2, e.0)) ])
-    ]
+  pub best_found : (n : ℕ) (key : FreeRange) → IsFirstFrom comes_before keys (record { len = n; start = 0 }) key → best row n ≡ Some key.start
+  best_found n key is =
+      let at = ranged key is.held in
+      let other : (y : ℕ) → y < length row → begins_range row y ≡ true → n ≤ free_from row y → comes_before (range_at row y) key ≡ false =
+      λ y inside begins long. each (λ r. comes_before r (record { len = n; start = 0 }) ≡ false → comes_before r key ≡ false) is.first y inside begins (not_below (free_from row y) n y long) in
+      best_is row n (length row) key.start (omega arith) (record {
+        before = at.0;
+        inside = at.0;
+        starts = at.1;
+        long = omega (arith, at.2, not_first key.len n _ is.behind);
+        least = λ y inside begins long. tighter (free_from row y) key.len y key.start (free_from row key.start) (other y inside begins long) at.2;
+      })
 
-pub longest_nowhere : (row : List Bool) (keys : List FreeRange) → IsIndexOf (range_at row) (starts row) keys → keys ≡ [] → longest row ≡ 0
-longest_nowhere row keys index none =
-    elim (cases_lt 0 (longest row)) [
-      | inr nothing ↦ omega arith
-      | inl some ↦
-          (let far = longest-at row (longest row) some (omega arith) in
-          let s = start_of row (longest row) far.0 far.1 some far.2 in
-          let held = listed row keys s.0 index s.1 s.3 in
-          absurd (omega (arith, held.1, ap (λ (ks : List FreeRange). length ks) none)))
-    ]
+  pub best_nowhere : (n : ℕ) → 0 < n → All (λ key. comes_before key (record { len = n; start = 0 }) ≡ true) keys → best row n ≡ None
+  best_nowhere n some all = best_none row n some (λ y inside begins. below (free_from row y) n y (each (λ r. comes_before r (record { len = n; start = 0 }) ≡ true) all y inside begins))
+
+  -- no range is longer than the last key's
+  pub longest_found : (key : FreeRange) → IsLast comes_before keys key → longest row ≡ key.len
+  longest_found key is =
+      let at = ranged key is.held in
+      longest_is row (length row) key.len (omega arith) (record {
+        bound = λ y inside begins. not_first key.len (free_from row y) _ (each (λ r. comes_before key r ≡ false) is.last y inside begins);
+        there = λ some. (key.start, at.0, omega (arith, at.2));
+      })
+
+  pub longest_nowhere : keys ≡ [] → longest row ≡ 0
+  longest_nowhere none =
+      longest_is row (length row) 0 (omega arith) (record {
+        bound = λ y inside begins. absurd (omega (arith, (listed y inside begins).1, ap (λ (ks : List FreeRange). length ks) none));
+        there = λ some. absurd (omega arith);
+      })
+
+  -- the last listed range up to a place is the row's, and where there is none no place up to it is free
+  not_begun : (p : ℕ) → p < length row → ((range : FreeRange) → Contains keys range → range.start ≡ p → ⊥) → begins_range row p ≡ false
+  not_begun p there none = elim (cases_Bool (begins_range row p)) [ inl t ↦ absurd (none (range_at row p) (listed p there t) refl) | inr f ↦ f ]
+
+  pub last_found : (place : ℕ) → place < length row → (o : Option FreeRange) → IfSome o (IsLastUpto keys place) → IfSome o (IsLastRange row place)
+  last_found place inside None h = tt
+  last_found place inside (Some key) is =
+      let at = ranged key is.held in
+      let range : IsRange row key = subst (λ (m : ℕ). IsRange row (record { len = m; start = key.start })) at.2 (range_of row key.start at.0 at.1) in
+      record {
+        maximal = range;
+        upto = is.upto;
+        behind = λ p low high. none_free row (key.start + key.len) (p - (key.start + key.len)) p (omega arith) (range.end (omega arith)) (λ q low' high'.
+            not_begun q (omega arith) (λ r held e. omega (arith, is.last r held (omega arith), range.some)));
+      }
+
+  pub none_found : (place : ℕ) → place < length row → ((range : FreeRange) → Contains keys range → place < range.start) → (p : ℕ) → p ≤ place → get_or row p true ≡ true
+  none_found place inside none p upto =
+      let no : (q : ℕ) → q ≤ place → begins_range row q ≡ false = λ q l. not_begun q (omega arith) (λ r held e. omega (arith, none r held)) in
+      none_free row 0 p p (omega arith) (used_here row 0 (λ pos. absurd (omega arith)) (no 0 (omega arith))) (λ q low high. no q (omega arith))
+
+pub range_small : (row : List Bool) (place most : ℕ) (o : Option FreeRange) → length row < most → IfSome o (IsLastRange row place) → IfSome o (λ r. r.start + r.len < most)
+range_small row place most None l h = tt
+range_small row place most (Some r) l h = omega (arith, h.maximal.within)

@@ -45,10 +45,7 @@ count_same f g a (suc n) same =
 
 pub count_no_one : (f : ℕ → Bool) (a n : ℕ) → ((p : ℕ) → a ≤ p → p < a + n → f p ≡ false) → count_by f (range_with_len a n) ≡ 0
 count_no_one f a zero none = refl
-count_no_one f a (suc n) none =
-    let rest = count_no_one f (a + 1) n (λ p from to. none p (omega arith) (omega arith)) in
-    let here : ◌≡◌ {A = ℕ} (cond (f a) 1 0) 0 = ap (λ (b : Bool). cond b 1 0) (none a (omega arith) (omega arith)) in
-    omega (arith, sum_by-cons (λ (p : ℕ). cond (f p) 1 0) a (range_with_len (a + 1) n))
+count_no_one f a (suc n) none = grind (arith, nat_tests, sum_by-cons, count_no_one f (a + 1) n)
 
 pub count_cut : (f : ℕ → Bool) (a b c : ℕ) → a ≤ b → b ≤ c → count_by f (range_with_len a (c - a)) ≡ count_by f (range_with_len a (b - a)) + count_by f (range_with_len b (c - b))
 count_cut f a b c low high =

@@ -1,9 +1,10 @@
 -- The ranges that begin in a part of a row.
+use Rattle.std.proofs.lemmas.Bool.Decides.{nat_tests}
 use Rattle.std.proofs.Common.{◌≡◌, ℕ, suc, ◌+◌, ◌-◌, ◌<◌, ◌≤◌, ◌&&◌, Bool, true, false, cond, nat_lt, List, ◌∷◌, length, get_or, count_by, sym, ap, ◌∙◌, inl, inr, arith}
 use Rattle.std.specs.List.{range_with_len}
 use Rattle.std.proofs.lemmas.Bool.{cases_lt, lt-ltb, le-ltb}
 use Rattle.std.proofs.lemmas.List.Sums.{sum_by-cons}
-use Rattle.range_bits.specs.Ranges.{free_from, begins_range, places}
+use Rattle.range_bits.specs.Ranges.{free_from, begins_range}
 use Rattle.range_bits.proofs.Scan.{free_run, used_begins, behind_free, begins}
 use Rattle.free_ranges.specs.declared.range.FreeRange.{FreeRange}
 use Rattle.free_ranges.specs.Ranges.{range_at, starts}
@@ -34,7 +35,8 @@ pub used_part : (row : List Bool) (test : FreeRange → Bool) (from to : ℕ) �
 used_part row test from to used = count_no_one (tested row test) from (to - from) (λ p low high. not_tested row test p (used_begins row p (used p low (omega arith))))
 
 -- one begins in a free part between used places, where it has places
-pub free_part : (row : List Bool) (test : FreeRange → Bool) (from to : ℕ) → from ≤ to → to ≤ length row → ((p : ℕ) → from ≤ p → p < to → get_or row p true ≡ false) → (0 < from → get_or row (from - 1) true ≡ true) → (to < length row → get_or row to true ≡ true) → count_in row test from to ≡ counts test from (to - from)
+pub free_part : (row : List Bool) (test : FreeRange → Bool) (from to : ℕ) → from ≤ to → to ≤ length row → ((p : ℕ) → from ≤ p → p < to → get_or row p true ≡ false)
+    → (0 < from → get_or row (from - 1) true ≡ true) → (to < length row → get_or row to true ≡ true) → count_in row test from to ≡ counts test from (to - from)
 free_part row test from to order inside free before behind =
     elim (cases_lt from to) [
       | inr none ↦
@@ -44,7 +46,8 @@ free_part row test from to order inside free before behind =
           (let rest : ℕ = to - from - 1 in
           let whole : to - from ≡ suc rest = omega arith in
           let next : from + (to - from) ≡ to = omega arith in
-          let len : free_from row from ≡ to - from = free_run row (to - from) from (omega arith) (λ j low high. free j low (omega arith)) (λ l. ap (λ (k : ℕ). get_or row k true) next ∙ behind (omega arith)) in
+          let len : free_from row from ≡ to - from = free_run row (to - from) from (omega arith) (λ j low high. free j low (omega arith))
+          (λ l. ap (λ (k : ℕ). get_or row k true) next ∙ behind (omega arith)) in
           let here : tested row test from ≡ test (record { len = to - from; start = from }) =
           ap (λ (b : Bool). b && test (range_at row from)) (begins row from (free from (omega arith) some) before)
           ∙ ap (λ (l : ℕ). test (record { len = l; start = from })) len in
@@ -58,6 +61,4 @@ free_part row test from to order inside free before behind =
 
 -- the ranges of a whole row
 pub all_parts : (row : List Bool) (test : FreeRange → Bool) → count_by (λ p. test (range_at row p)) (starts row) ≡ count_in row test 0 (length row)
-all_parts row test =
-    let whole : length row ≡ length row - 0 = omega arith in
-    count_filter (begins_range row) (λ p. test (range_at row p)) (places row) ∙ ap (λ (n : ℕ). count_by (tested row test) (range_with_len 0 n)) whole
+all_parts row test = grind (arith, nat_tests, count_filter, tested)

@@ -1,7 +1,7 @@
-//! The free ranges of a row by their lengths, as far as there is room for them.
+//! The free ranges of a row by their lengths and by their places, as far as there is room for them.
 ghost use Rattle.std.specs.Prelude.{◌≡◌, ◌+◌, ◌<◌, ◌≤◌, ◌&&◌, Bool, true, nat_lt, None, [], All, Contains, IfOk, IfSome, count_by, if◌then◌else◌};
 
-use crate::range::FreeRange;
+use crate::range::{FreeRange, Placed};
 use sorted_list::SortedList;
 use std::alloc::{AllocError, Global};
 use std::marker::Model;
@@ -9,22 +9,28 @@ use std::marker::Model;
 /// Free ranges in the order of their lengths. Contracts see them, and whether none was left out.
 #[derive(Drop)]
 pub struct RangeList {
-    list: SortedList<FreeRange>,
+    by_length: SortedList<FreeRange>,
+    /// The same ones, the last first.
+    by_place: SortedList<Placed>,
     /// Whether there was room for all.
     complete: bool,
 }
 
 impl Model for RangeList {
+    ghost use Rattle.std.specs.Prelude.{◌≡◌};
+    ghost use Rattle.sorted_list.specs.Rows.{IsIndexOf};
     ghost use Rattle.free_ranges.specs.Ranges.{Listing};
 
     ghost Value = { Listing };
 
-    ghost view = { λ l. record { complete = l.complete; ranges = l.list.keys } };
+    ghost view = { λ l. record { complete = l.complete; ranges = l.by_length.keys } };
+
+    ghost invariant = { λ l. IsIndexOf (λ p. p.range) l.by_place.keys l.by_length.keys × (l.by_place.spare ≡ l.by_length.spare) };
 }
 
 impl RangeList {
     ghost use Rattle.sorted_list.specs.Order.{IsFirstFrom, IsLast};
-    ghost use Rattle.free_ranges.specs.Ranges.{comes_before};
+    ghost use Rattle.free_ranges.specs.Ranges.{comes_before, IsLastUpto};
     ghost use Rattle.free_ranges.specs.declared.range.FreeRange.{FreeRange};
 
     /// No range, with room for `room` of them.
@@ -32,7 +38,8 @@ impl RangeList {
         ensures { IfOk result (λ list. list ≡ record { complete = true; ranges = [] }) }
     {
         Ok(RangeList {
-            list: SortedList::open(alloc, room)?,
+            by_length: SortedList::open(alloc, room)?,
+            by_place: SortedList::open(alloc, room)?,
             complete: true,
         })
     }
@@ -54,11 +61,13 @@ impl RangeList {
         if len == 0 || !self.complete {
             return;
         }
-        if self.list.is_full() {
+        if self.by_length.is_full() {
             self.complete = false;
             return;
         }
-        self.list.insert(FreeRange { len, start });
+        let range = FreeRange { len, start };
+        self.by_length.insert(range);
+        self.by_place.insert(Placed { range });
     }
 
     /// Takes a range out, unless it is empty.
@@ -72,7 +81,9 @@ impl RangeList {
         if len == 0 || !self.complete {
             return;
         }
-        self.list.remove(FreeRange { len, start });
+        let range = FreeRange { len, start };
+        self.by_place.remove(Placed { range });
+        self.by_length.remove(range);
     }
 
     /// The first range that isn't shorter than `n`: of the shortest ones the earliest.
@@ -80,7 +91,8 @@ impl RangeList {
         ensures found { IfSome result (IsFirstFrom comes_before self.now.ranges (record { len = n; start = 0 })) }
         ensures none { result ≡ None → All (λ range. comes_before range (record { len = n; start = 0 }) ≡ true) self.now.ranges }
     {
-        self.list.first_at_or_after(FreeRange { len: n, start: 0 })
+        self.by_length
+            .first_at_or_after(FreeRange { len: n, start: 0 })
     }
 
     /// The longest range.
@@ -88,6 +100,23 @@ impl RangeList {
         ensures found { IfSome result (IsLast comes_before self.now.ranges) }
         ensures none { result ≡ None → self.now.ranges ≡ [] }
     {
-        self.list.last()
+        self.by_length.last()
+    }
+
+    /// The last range that begins at a place or before it.
+    pub fn last_upto(&self, place: u32) -> Option<FreeRange>
+        ensures found { IfSome result (IsLastUpto self.now.ranges place) }
+        ensures none { result ≡ None → (range : FreeRange) → Contains self.now.ranges range → place < range.start }
+    {
+        let from = Placed {
+            range: FreeRange {
+                len: 0,
+                start: place,
+            },
+        };
+        match self.by_place.first_at_or_after(from) {
+            Some(found) => Some(found.range),
+            None => None,
+        }
     }
 }

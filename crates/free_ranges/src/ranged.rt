@@ -1,16 +1,21 @@
-//! A row of places with its free ranges in the order of their lengths.
-ghost use Rattle.std.specs.Prelude.{◌≡◌, ◌+◌, ◌*◌, ◌<◌, ◌≤◌, ◌↔◌, ◌==◌, true, false, Some, None, length, replicate, IfOk};
+//! A row of places with its free ranges in the order of their lengths, and in that of their places.
+ghost use Rattle.std.specs.Prelude.{◌≡◌, ◌+◌, ◌*◌, ◌<◌, ◌≤◌, ◌↔◌, ◌==◌, ◌^◌, ℕ, true, false, None, length, take, drop, replicate, IfOk, IfSome};
 ghost use Rattle.std.specs.List.{slice_index_or};
+ghost use Rattle.range_bits.specs.Fills.{IsEnd};
 ghost use Rattle.range_bits.specs.Ranges.{free_from, used_from, used_count, longest, best, with_places};
+ghost use Rattle.range_bits.specs.Words.{IsNext};
+ghost use Rattle.free_ranges.specs.Ranges.{IsRange, IsLastRange};
 
 use crate::listing::RangeList;
+use crate::range::FreeRange;
 use range_bits::WideBits;
 use std::alloc::{AllocError, Global};
 use std::marker::Model;
 
 /// Which of 64 places a word are used. Contracts see a truth value for each place, in order. The tightest
-/// and the longest free range are found by a search among the free ranges, and without a look at the
-/// places, as long as there never were more ranges than there was room for; else by a look at all places.
+/// and the longest free range, and those beside a place, are found by a search among the free ranges, and
+/// without a look at the places, as long as there never were more ranges than there was room for; else by a
+/// look at all places.
 #[derive(Drop)]
 pub struct RangedBits {
     bits: WideBits,
@@ -76,42 +81,96 @@ impl RangedBits {
         self.longest() == self.bits.places()
     }
 
+    /// The last free range that begins at a place or before it.
+    fn last_range(&self, place: u32) -> Option<FreeRange>
+        requires { place < length self.now }
+        ensures found { IfSome result (IsLastRange self.now place) }
+        ensures none { result ≡ None → (p : ℕ) → p ≤ place → slice_index_or self.now p true ≡ true }
+        ensures places { IfSome result (λ range. range.start + range.len < 2 ^ 32) }
+    {
+        // The places are numbered by a `u32`.
+        let _ = self.bits.places();
+        if self.ranges.is_complete() {
+            return self.ranges.last_upto(place);
+        }
+        let end = self.bits.free_end(place + 1);
+        if end == 0 {
+            return None;
+        }
+        let start = self.bits.used_end(end);
+        let len = self.bits.next_used(end) - start;
+        Some(FreeRange { len, start })
+    }
+
+    /// Where the last used place before a place ends; 0 where there is none.
+    fn used_end(&self, before: u32) -> u32
+        requires { before ≤ length self.now }
+        ensures { IsEnd self.now before true result }
+    {
+        if before == 0 {
+            return 0;
+        }
+        match self.last_range(before - 1) {
+            Some(range) if before <= range.start + range.len => range.start,
+            _ => before,
+        }
+    }
+
+    /// The first used place from a place on; the number of places where there is none.
+    fn next_used(&self, from: u32) -> u32
+        requires { from ≤ length self.now }
+        ensures { IsNext self.now from true result }
+    {
+        if from == self.bits.places() {
+            return from;
+        }
+        match self.last_range(from) {
+            Some(range) if from < range.start + range.len => range.start + range.len,
+            _ => from,
+        }
+    }
+
+    /// Where the last free place before a place ends; 0 where there is none.
+    pub fn free_end(&self, before: u32) -> u32
+        requires { before ≤ length self.now }
+        ensures { IsEnd self.now before false result }
+    {
+        if before == 0 {
+            return 0;
+        }
+        match self.last_range(before - 1) {
+            Some(range) => before.min(range.start + range.len),
+            None => 0,
+        }
+    }
+
+    /// Makes `n` places of a free range used, from `start` on.
+    fn part(&mut self, range: FreeRange, start: u32, n: u32)
+        requires some { 1 ≤ n }
+        requires maximal { IsRange self.old range }
+        requires order { range.start ≤ start }
+        requires within { start + n ≤ range.start + range.len }
+        ensures { self.new ≡ with_places self.old start n true }
+    {
+        // The places are numbered by a `u32`.
+        let _ = self.bits.places();
+        self.bits.put(start, n, true);
+        self.ranges.remove(range.start, range.len);
+        self.ranges.add(range.start, start - range.start);
+        self.ranges
+            .add(start + n, range.start + range.len - (start + n));
+    }
+
     /// Makes `n` free places used, from `start` on.
     pub fn mark(&mut self, start: u32, n: u32)
         requires some { 1 ≤ n }
         requires free { n ≤ free_from self.old start }
         ensures { self.new ≡ with_places self.old start n true }
     {
-        // The places are numbered by a `u32`.
-        let _ = self.bits.places();
-        let begin = self.bits.used_end(start);
-        let end = self.bits.next_used(start + n);
-        self.bits.put(start, n, true);
-        self.ranges.remove(begin, end - begin);
-        self.ranges.add(begin, start - begin);
-        self.ranges.add(start + n, end - (start + n));
-    }
-
-    /// Makes the first `n` places of the tightest free range used, which begins at `start`. Where the range
-    /// ends is known from the list.
-    pub fn mark_tightest(&mut self, start: u32, n: u32)
-        requires some { 1 ≤ n }
-        requires tightest { best self.old n ≡ Some start }
-        ensures { self.new ≡ with_places self.old start n true }
-    {
-        if !self.ranges.is_complete() {
-            self.mark(start, n);
-            return;
-        }
-        let len = match self.ranges.tightest(n) {
-            Some(range) => range.len,
+        match self.last_range(start) {
+            Some(range) => self.part(range, start, n),
             None => unreachable!(),
-        };
-        // The places are numbered by a `u32`.
-        let _ = self.bits.places();
-        self.bits.put(start, n, true);
-        self.ranges.remove(start, len);
-        self.ranges.add(start + n, len - n);
+        }
     }
 
     /// Makes `n` used places free, from `start` on.
@@ -122,12 +181,42 @@ impl RangedBits {
     {
         // The places are numbered by a `u32`.
         let _ = self.bits.places();
-        let begin = self.bits.used_end(start);
-        let end = self.bits.next_used(start + n);
+        let begin = self.used_end(start);
+        let end = self.next_used(start + n);
         self.bits.put(start, n, false);
         self.ranges.remove(begin, start - begin);
         self.ranges.remove(start + n, end - (start + n));
         self.ranges.add(begin, end - begin);
+    }
+
+    /// Makes `n` places used, from `start` on, whatever they were: one free range after another, the last
+    /// first.
+    pub fn fill(&mut self, start: u32, n: u32)
+        requires { start + n ≤ length self.old }
+        ensures { self.new ≡ with_places self.old start n true }
+    {
+        // The places are numbered by a `u32`.
+        let _ = self.bits.places();
+        let mut end = start + n;
+        while start < end {
+            match self.last_range(end - 1) {
+                Some(range) if start < range.start + range.len => {
+                    let low = start.max(range.start);
+                    let high = end.min(range.start + range.len);
+                    self.part(range, low, high - low);
+                    end = low;
+                }
+                _ => return,
+            }
+        }
+    }
+
+    /// How many of `n` places are used, from `start` on.
+    pub fn used_in(&self, start: u32, n: u32) -> u32
+        requires { start + n ≤ length self.now }
+        ensures { result ≡ used_count (take n (drop start self.now)) }
+    {
+        self.bits.used_in(start, n)
     }
 
     /// How many places there are.

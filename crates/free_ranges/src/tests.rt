@@ -62,7 +62,20 @@ fn ranges_part_and_join(rt: HostRuntime) -> Result<(), Fail> {
     Ok(())
 }
 
-/// Whether both rows have the same tightest ranges for some lengths, and the same longest one.
+/// Makes three places used, whatever they were, of both rows.
+fn put_three(bits: &mut RangedBits, plain: &mut WideBits, place: u32)
+    ensures bits { length bits.new ≡ length bits.old }
+    ensures plain { length plain.new ≡ length plain.old }
+{
+    let places = bits.places().min(plain.places());
+    if place >= places || places - place < 3 {
+        return;
+    }
+    bits.fill(place, 3);
+    plain.put(place, 3, true);
+}
+
+/// Whether both rows have the same tightest ranges for some lengths, and the same longest and last one.
 fn agree(bits: &RangedBits, plain: &WideBits) -> bool {
     for n in [1, 2, 3, 5, 8, 13, 21, 64, 65, 128] {
         if bits.best(n) != plain.best(n) {
@@ -70,6 +83,7 @@ fn agree(bits: &RangedBits, plain: &WideBits) -> bool {
         }
     }
     bits.longest() == plain.longest()
+        && bits.free_end(bits.places()) == plain.free_end(plain.places())
 }
 
 /// Changes places that look random, and compares the rows each time.
@@ -80,6 +94,9 @@ fn agree_over(bits: &mut RangedBits, plain: &mut WideBits, count: u32) -> bool {
         let used = seed % 3 > 0;
         put(bits, seed / 8 % 192, used);
         put_plain(plain, seed / 8 % 192, used);
+        if seed % 13 == 0 {
+            put_three(bits, plain, seed / 64 % 192);
+        }
         if !agree(bits, plain) {
             return false;
         }

@@ -1,4 +1,5 @@
 -- The greatest of the last counts: what a newer count and the oldest one's leaving make of them.
+use Rattle.std.proofs.lemmas.Grind.{common_steps}
 use Rattle.std.proofs.Common.{◌≡◌, ℕ, zero, suc, ◌+◌, ◌-◌, ◌<◌, ◌≤◌, Bool, true, false, nat_le, nat_lt, eqb, cond, Option, Some, None, unwrap_or, is_some, List, [], ◌∷◌, ◌++◌, length, get_or, take, drop, filter, fold, max, All, refl, sym, ap, ◌∙◌, inl, inr, arith}
 use Rattle.std.proofs.lemmas.Bool.Decides.{nat_tests}
 use Rattle.std.specs.List.{last_or}
@@ -22,17 +23,7 @@ same_test x y ys h = grind (arith, nat_tests, fold_max, lt-leb, le-leb)
 -- an older count stays in front where no later one is greater
 older : (x : ℕ) (l xs : List ℕ) → fold with_newest (x ∷ l) xs ≡ cond (nat_le (fold max 0 xs) x) (x ∷ fold with_newest l xs) (fold with_newest l xs)
 older x l [] = sym (ap (λ (b : Bool). cond b (x ∷ l) l) (le-leb 0 x (omega arith)))
-older x l (y ∷ ys) =
-    let rest : List ℕ = fold with_newest (with_newest l y) ys in
-    elim (cases_lt x y) [
-      | inl less ↦
-          ap (λ (k : List ℕ). fold with_newest k ys) (lost_first x y l less)
-          ∙ sym (ap (λ (b : Bool). cond b (x ∷ rest) rest) (lt-leb (fold max 0 (y ∷ ys)) x (omega (arith, fold_max (max 0 y) ys))))
-      | inr more ↦
-          ap (λ (k : List ℕ). fold with_newest k ys) (kept_first x y l more)
-          ∙ older x (with_newest l y) ys
-          ∙ ap (λ (b : Bool). cond b (x ∷ rest) rest) (same_test x y ys more)
-    ]
+older x l (y ∷ ys) = grind (arith, nat_tests, cases_lt, lost_first, lt-leb, fold_max, kept_first, same_test, older x (with_newest l y) ys)
 
 oldest : (x : ℕ) (xs : List ℕ) → greatest_of (x ∷ xs) ≡ cond (nat_le (fold max 0 xs) x) (x ∷ greatest_of xs) (greatest_of xs)
 oldest x xs = older x [] xs
@@ -117,12 +108,7 @@ falling-take (suc n) (x ∷ l) h = (All-take (λ y. y ≤ x) n l h.0, falling-ta
 
 -- one that is below leaves from the end
 pub below_leaves : (y : ℕ) (l : List ℕ) → 0 < length l → get_or l (length l - 1) 0 < y → filter (λ x. nat_le y x) (take (length l - 1) l) ≡ filter (λ x. nat_le y x) l
-below_leaves y l some below =
-    let i : ℕ = length l - 1 in
-    let whole : take (i + 1) l ≡ l = take_all (i + 1) l (omega arith) in
-    sym (append-nil (filter (λ x. nat_le y x) (take i l)))
-    ∙ sym (filter_more (λ x. nat_le y x) l i 0 (omega arith) ∙ ap (λ (b : Bool). filter (λ x. nat_le y x) (take i l) ++ cond b (get_or l i 0 ∷ []) []) (lt-leb y (get_or l i 0) below))
-    ∙ ap (filter (λ x. nat_le y x)) whole
+below_leaves y l some below = grind (arith, nat_tests, common_steps, take_all, append-nil, filter_more, lt-leb)
 
 keep_all : (p : ℕ → Bool) (l : List ℕ) → All (λ x. p x ≡ true) l → filter p l ≡ l
 keep_all p [] h = refl

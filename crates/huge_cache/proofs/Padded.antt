@@ -2,12 +2,12 @@
 use Rattle.std.proofs.Common.{◌≡◌, ℕ, zero, suc, ◌+◌, ◌-◌, ◌<◌, ◌≤◌, ◌&&◌, Bool, true, false, not, cond, nat_le, nat_lt, List, [], ◌∷◌, ◌++◌, length, get_or, set, take, drop, replicate, filter, All, refl, sym, ap, ◌∙◌, arith, add-one}
 use Rattle.std.proofs.lemmas.Bool.Decides.{nat_tests}
 use Rattle.std.specs.List.{prefix_len, range_with_len}
-use Rattle.std.proofs.lemmas.Bool.{and_left, not_from_true}
-use Rattle.std.proofs.lemmas.List.{append_assoc, append-nil, length-append, length-replicate, length-take-le, take-append-le, take_at, take-take, drop-take, drop-append-le, drop_all, drop-replicate, get_or_append_left, get_or-append_right, get_or-replicate, get_or-take, set_split}
+use Rattle.std.proofs.lemmas.Bool.{cases_lt, and_left, not_from_true}
+use Rattle.std.proofs.lemmas.List.{append_assoc, append-nil, length-append, length-replicate, length-take-le, take-append-le, take_at, take-take, drop-take, drop-append-le, drop_all, take-replicate, replicate-append-replicate, get_or_append_left, get_or-append_right, get_or-replicate, get_or-take, set_split}
 use Rattle.std.proofs.lemmas.List.Sums.{count_by-le-length}
 use Rattle.std.proofs.lemmas.List.Elements.{filter-append, All-weaker, All-filter}
 use Rattle.range_bits.specs.Fills.{IsEnd}
-use Rattle.range_bits.specs.Ranges.{free_from, used_count, places, begins_range, first_least, best, with_places}
+use Rattle.range_bits.specs.Ranges.{free_from, used_from, used_count, places, begins_range, first_least, best, with_places}
 use Rattle.range_bits.proofs.RangeLemmas.{range-within, filter-agree, filter-none, first_least-agree}
 use Rattle.range_bits.proofs.Scan.{range-append}
 use Rattle.range_bits.proofs.Placing.{length-with_places}
@@ -42,9 +42,7 @@ begins-padded : (v : List Bool) (k p : ℕ) → p < length v → begins_range (v
 begins-padded v k p inside = grind (arith, nat_tests, pad, get_or_append_left)
 
 begins-behind : (v : List Bool) (k p : ℕ) → length v ≤ p → p < length v + k → begins_range (v ++ pad k) p ≡ false
-begins-behind v k p behind inside =
-    let used : get_or (v ++ pad k) p true ≡ true = get_or-append_right v (pad k) (length v) p true refl behind ∙ get_or-replicate k (p - length v) true true (omega arith) in
-    and_left _ _ (not_from_true _ used)
+begins-behind v k p behind inside = grind (arith, nat_tests, pad, get_or-append_right, get_or-replicate, and_left, not_from_true)
 
 abbrev fits : List Bool → ℕ → ℕ → Bool
 fits row n place = begins_range row place && nat_le n (free_from row place)
@@ -125,6 +123,16 @@ place-front huge row p d h inside = sym (get_or-take huge row p d inside)
 pub end-front : (len : ℕ) (row : List Bool) (end : ℕ) → IsPadded len row → IsEnd row len false end → IsEnd (take len row) (length (take len row)) false end
 end-front len row end h is = grind (arith, nat_tests, front_length, place-front)
 
--- a row at its opening: all places are used, and then its own become what they are to be
-pub opened : (len n : ℕ) (used : Bool) → len ≤ n → with_places (with_places (replicate n false) 0 n true) 0 len used ≡ replicate len used ++ pad (n - len)
-opened len n used order = grind (arith, nat_tests, length-replicate, drop_all, pad, drop-replicate, append-nil)
+-- a row at its opening: the places behind its own become used, or all
+pub opened : (len n first : ℕ) (used : Bool) → len ≤ n → first ≡ len - cond used len 0 → with_places (replicate n false) first (n - first) true ≡ replicate len used ++ pad (n - len)
+opened len n first true order is = grind (arith, nat_tests, drop_all, length-replicate, append-nil, replicate-append-replicate)
+opened len n first false order is = grind (arith, nat_tests, drop_all, length-replicate, append-nil, take-replicate, append_assoc)
+
+-- what is used in the arena's part
+longer : (xs ys : List Bool) → prefix_len (λ used. used) xs ≤ prefix_len (λ used. used) (xs ++ ys)
+longer [] ys = omega arith
+longer (true ∷ xs) ys = omega (arith, longer xs ys)
+longer (false ∷ xs) ys = omega arith
+
+pub used-front : (huge : ℕ) (row : List Bool) (p : ℕ) → IsPadded huge row → used_from (take huge row) p ≤ used_from row p
+used-front huge row p h = grind (arith, nat_tests, front_length, cases_lt, drop_all, longer, pad, drop-append-le)

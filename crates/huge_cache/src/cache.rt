@@ -92,7 +92,9 @@ impl HugeCache {
     fn put(&mut self, first: Huge, many: u32, taken: bool, unready: bool)
         requires low { 0 < first.0 }
         requires inside { first.0 - 1 + many ≤ length self.old.taken }
+        requires some { 0 < many }
         requires sound { taken ≡ true → unready ≡ true }
+        requires out { taken ≡ false → many ≤ used_from self.old.taken (first.0 - 1) }
         ensures run { self.new ≡ with_run self.old first.0 many taken unready }
         ensures lengths { length self.old.unready ≡ length self.old.taken }
     {

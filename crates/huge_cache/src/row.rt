@@ -1,16 +1,17 @@
-//! A row of any number of places, in words of 64: places behind its own are used.
+//! A row of any number of places, in words of 64: places behind its own are used. Its free ranges are kept
+//! in order, so that none of the questions looks at the places.
 ghost use Rattle.std.specs.Prelude.{◌≡◌, ◌+◌, ◌<◌, ◌≤◌, true, false, length, replicate, IfOk, if◌then◌else◌};
 ghost use Rattle.range_bits.specs.Fills.{free_count, IsEnd};
-ghost use Rattle.range_bits.specs.Ranges.{best, used_count, with_places};
+ghost use Rattle.range_bits.specs.Ranges.{best, used_count, used_from, with_places};
 
-use range_bits::WideBits;
+use free_ranges::RangedBits;
 use std::alloc::{AllocError, Global};
 use std::marker::Model;
 
 /// Places that are used or free. Contracts see a truth value for each, in order.
 #[derive(Drop)]
 pub struct Row {
-    bits: WideBits,
+    bits: RangedBits,
     len: u32,
     /// How many of them are used.
     used: u32,
@@ -35,15 +36,31 @@ fn used_of(n: u32, used: bool) -> u32
     if used { n } else { 0 }
 }
 
+/// Makes `n` places used, whatever they were, or used ones free.
+fn change(bits: &mut RangedBits, start: u32, n: u32, used: bool)
+    requires some { 0 < n }
+    requires inside { start + n ≤ length bits.old }
+    requires taken { used ≡ false → n ≤ used_from bits.old start }
+    ensures { bits.new ≡ with_places bits.old start n used }
+{
+    if used {
+        bits.fill(start, n);
+    } else {
+        bits.unmark(start, n);
+    }
+}
+
 impl Row {
     /// A row of `len` places, all of them used, or all free.
     pub fn open(alloc: Global, len: u32, used: bool) -> Result<Self, AllocError>
         ensures { IfOk result (λ row. row ≡ replicate len used) }
     {
-        let mut bits = WideBits::open(alloc, (len as usize).div_ceil(64))?;
+        let words = (len as usize).div_ceil(64);
+        // Between two free ranges there is a used place.
+        let mut bits = RangedBits::open(alloc, words, (len as usize).div_ceil(2))?;
         let places = bits.places();
-        bits.put(0, places, true);
-        bits.put(0, len, used);
+        let first = len - used_of(len, used);
+        bits.fill(first, places - first);
         Ok(Row {
             bits,
             len,
@@ -60,13 +77,15 @@ impl Row {
         self.bits.best(n)
     }
 
-    /// Makes `n` places used or free, from `start` on, whatever they were.
+    /// Makes `n` places used, from `start` on, whatever they were, or used ones free.
     pub fn put(&mut self, start: u32, n: u32, used: bool)
-        requires { start + n ≤ length self.old }
+        requires some { 0 < n }
+        requires inside { start + n ≤ length self.old }
+        requires taken { used ≡ false → n ≤ used_from self.old start }
         ensures { self.new ≡ with_places self.old start n used }
     {
         let was = self.bits.used_in(start, n);
-        self.bits.put(start, n, used);
+        change(&mut self.bits, start, n, used);
         self.used = self.used - was + used_of(n, used);
     }
 

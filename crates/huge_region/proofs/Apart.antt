@@ -92,8 +92,7 @@ module _ (w : ℕ) where
       others : (from first : ℕ) (rows : List RegionRow) (change : RegionRow → RegionRow) → AreApartFrom w from rows → first < from → map (λ r. cond (r.first == first) (change r) r) rows ≡ rows
       others from first [] change apart l = refl
       others from first (r ∷ rows) change apart l = rw (ne_eqb r.first first (λ e. omega (arith, apart.0))) (ap (λ rs. r ∷ rs) (others (r.first + w) first rows change apart.1 (omega (arith, apart.0))))
-  at_place from (r ∷ rows) (suc i) change d apart some l =
-      rw (ne_eqb r.first (get_or rows i d).first (λ e. omega (arith, begins (r.first + w) rows i d apart.1 (omega arith)))) (ap (λ rs. r ∷ rs) (at_place (r.first + w) rows i change d apart.1 some (omega arith)))
+  at_place from (r ∷ rows) (suc i) change d apart some l = grind (arith, nat_tests, ne_eqb, begins, at_place (r.first + w) rows i change d apart.1 some (omega arith))
 
   pub apart_set : (from : ℕ) (rows : List RegionRow) (i : ℕ) (r d : RegionRow) → r.first ≡ (get_or rows i d).first → AreApartFrom w from rows → AreApartFrom w from (set rows i r)
   apart_set from [] i r d same apart = tt
@@ -128,8 +127,7 @@ module _ (w : ℕ) where
       others : (from first : ℕ) (rows : List RegionRow) → AreApartFrom w from rows → first < from → filter (λ (x : RegionRow). not (x.first == first)) rows ≡ rows
       others from first [] apart l = refl
       others from first (r ∷ rows) apart l = rw (ne_eqb r.first first (λ e. omega (arith, apart.0))) (ap (λ rs. r ∷ rs) (others (r.first + w) first rows apart.1 (omega (arith, apart.0))))
-  removed_is from (r ∷ rows) (suc i) d apart some l =
-      rw (ne_eqb r.first (get_or rows i d).first (λ e. omega (arith, begins (r.first + w) rows i d apart.1 (omega arith)))) (ap (λ rs. r ∷ rs) (removed_is (r.first + w) rows i d apart.1 some (omega arith)))
+  removed_is from (r ∷ rows) (suc i) d apart some l = grind (arith, nat_tests, ne_eqb, begins, removed_is (r.first + w) rows i d apart.1 some (omega arith))
 
   pub apart_filter : (p : RegionRow → Bool) (from : ℕ) (rows : List RegionRow) → AreApartFrom w from rows → AreApartFrom w from (filter p rows)
   apart_filter p from [] apart = tt

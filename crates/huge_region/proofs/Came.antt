@@ -1,5 +1,7 @@
 -- A run that came may leave.
-use Rattle.std.proofs.Common.{◌≡◌, ℕ, ◌/◌, ◌<◌, cond, ◌==◌, List, [], ◌∷◌, map, Some, refl, ap, ◌∙◌, true, false, Bool, option_map}
+use Rattle.std.proofs.lemmas.Bool.Decides.{nat_tests}
+use Rattle.std.proofs.Common.{arith}
+use Rattle.std.proofs.Common.{◌≡◌, ℕ, ◌/◌, ◌<◌, cond, ◌==◌, List, [], ◌∷◌, map, Some, refl, ap, ◌∙◌, Bool, option_map}
 use Rattle.std.specs.List.{find}
 use Rattle.std.proofs.lemmas.Bool.{eq-eqb}
 use Rattle.tc_units.specs.Units.{huge_pages}
@@ -14,10 +16,7 @@ at_first first change r = cond (r.first == first) (change r) r
 
 find_changed : (w h first : ℕ) (change : RegionRow → RegionRow) (rows : List RegionRow) → ((r : RegionRow) → (change r).first ≡ r.first) → find (λ (r : RegionRow). spans w h r.first) (map (at_first first change) rows) ≡ option_map (at_first first change) (find (λ (r : RegionRow). spans w h r.first) rows)
 find_changed w h first change [] keeps = refl
-find_changed w h first change (r ∷ rows) keeps =
-    let same : (at_first first change r).first ≡ r.first = elim (r.first == first) as (λ b. (cond b (change r) r).first ≡ r.first) [ true ↦ keeps r | false ↦ refl ] in
-    ap (λ (x : ℕ). cond (spans w h x) (Some (at_first first change r)) (find (λ (y : RegionRow). spans w h y.first) (map (at_first first change) rows))) same
-    ∙ elim (spans w h r.first) as (λ b. cond b (Some (at_first first change r)) (find (λ (y : RegionRow). spans w h y.first) (map (at_first first change) rows)) ≡ option_map (at_first first change) (cond b (Some r) (find (λ (y : RegionRow). spans w h y.first) rows))) [ true ↦ refl | false ↦ find_changed w h first change rows keeps ]
+find_changed w h first change (r ∷ rows) keeps = grind (arith, nat_tests, at_first, find_changed w h first change rows keeps)
 
 pub came : (all : Regions) (page n : ℕ) (r : RegionRow) → 0 < n → AreFreeIn all page n r → AreUsedIn (with_changed all r.first (joined (start_in r page) n)) page n (joined (start_in r page) n r)
 came all page n r some is =

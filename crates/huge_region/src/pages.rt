@@ -71,17 +71,13 @@ impl RegionPages {
         self.used.best(n)
     }
 
-    /// A run of `n` pages comes. It mostly comes where the shortest range that is long enough begins.
+    /// A run of `n` pages comes.
     pub fn join(&mut self, start: u32, n: u32)
         requires some { 0 < n }
         requires free { n ≤ free_from self.old.used start }
         ensures { self.new ≡ joined start n self.old }
     {
-        if self.used.best(n) == Some(start) {
-            self.used.mark_tightest(start, n);
-        } else {
-            self.used.mark(start, n);
-        }
+        self.used.mark(start, n);
     }
 
     /// A run of `n` pages leaves.

@@ -2,7 +2,7 @@
 use Rattle.std.proofs.Common.{◌≡◌, ℕ, zero, suc, ◌+◌, ◌-◌, ◌*◌, ◌/◌, ◌%◌, ◌<◌, ◌≤◌, Bool, true, false, ◌==◌, nat_lt, nat_le, List, [], ◌∷◌, ◌++◌, length, get_or, set, replicate, find, is_some, IsSome, All, AllPairs, Contains, Option, Some, None, cond, refl, sym, ◌∙◌, ap, subst, inl, inr, arith}
 use Rattle.std.proofs.lemmas.Bool.Decides.{nat_tests}
 use Rattle.std.specs.Option.{option_to_list}
-use Rattle.std.proofs.lemmas.List.Elements.{All-cons, All-nil, All-head, All-tail, All-contains}
+use Rattle.std.proofs.lemmas.List.Elements.{All-cons, All-head, All-tail, All-contains}
 use Rattle.std.proofs.lemmas.List.{get_or_default, get_or_past, length-set, length-replicate, get_or-replicate, get_or-set_same, get_or-set_other}
 use Rattle.std.proofs.lemmas.Bool.{cases_Bool, cases_lt, cases_eq, and_from, and_parts, leb-true, ltb-true, le-leb, lt-ltb, eq-eqb, ne_eqb, eqb-true, true≢false}
 use Rattle.tc_units.specs.declared.spans.SpanRef.{SpanRef}
@@ -25,9 +25,7 @@ first_later page x xs first later = All-cons (λ s. page < s.first.0) x xs first
 spans_from-is : (begin : ℕ → Option SpanRef) (page n : ℕ) (xs : List SpanRef) → AllPairs IsBefore xs → All HasPages xs → All (λ s. page ≤ s.first.0) xs → All (λ s. s.first.0 < page + n) xs → ((p : ℕ) → page ≤ p → option_to_list (begin p) ≡ option_to_list (find (begins p) xs)) → spans_from begin page n ≡ xs
 spans_from-is begin page zero [] order some low high told = refl
 spans_from-is begin page zero (x ∷ xs) order some low high told = grind (arith, nat_tests, All-head)
-spans_from-is begin page (suc n) [] order some low high told =
-    ap (λ b. b ++ spans_from begin (page + 1) n) (told page (omega arith))
-    ∙ spans_from-is begin (page + 1) n [] order some (All-nil (λ s. page + 1 ≤ s.first.0)) (All-nil (λ s. s.first.0 < page + 1 + n)) (λ p from. told p (omega arith))
+spans_from-is begin page (suc n) [] order some low high told = grind (arith, nat_tests, told, spans_from-is begin (page + 1) n)
 spans_from-is begin page (suc n) (x ∷ xs) order some low high told =
     let l : page ≤ x.first.0 = All-head (λ s. page ≤ s.first.0) x xs low in
     let pages : 0 < x.pages = All-head HasPages x xs some in
@@ -175,9 +173,7 @@ module _ (leaves : List (Option Leaf)) (marks : List Bool) (map : SpanMap) (page
 
   -- past the arena, or where no span has begun
   pub outside : 256 * length leaves ≤ page → None ≡ find (holds page) map.spans
-  outside past =
-      let size : length leaves - 1 ≡ map.huge = ap (λ (m : SpanMap). m.huge) view in
-      find_none (holds page) map.spans (λ k d within. let i : IsInside map.huge (get_or map.spans k d) = all_well.inside k d within in ends_before page (get_or map.spans k d) (omega (arith, i.to, size, all_well.some)))
+  outside past = grind (arith, nat_tests, find_none, ends_before)
 
   pub none_begun : IsLast (λ k. get_or marks k false) 0 page None → None ≡ find (holds page) map.spans
   none_begun none =

@@ -35,11 +35,7 @@ find_there p (y ∷ ys) x e =
 -- where `find` gives nothing, nothing passes
 pub find_nowhere : {X : Type 0} (p : X → Bool) (xs : List X) → None ≡ find p xs → All (λ x. p x ≡ false) xs
 find_nowhere p [] e = All-nil (λ x. p x ≡ false)
-find_nowhere p (y ∷ ys) e =
-    elim (cases_Bool (p y)) [
-      | inl passes ↦ absurd (none-some y (let F : Bool → Type 0 = λ b. None ≡ cond b (Some y) (find p ys) in subst F passes e))
-      | inr fails ↦ All-cons (λ x. p x ≡ false) y ys fails (find_nowhere p ys (let F : Bool → Type 0 = λ b. None ≡ cond b (Some y) (find p ys) in subst F fails e))
-    ]
+find_nowhere p (y ∷ ys) e = grind (arith, nat_tests, cases_Bool, none-some, find_nowhere p ys)
 
 -- and the other way round
 pub find_none : {X : Type 0} (p : X → Bool) (xs : List X) → All (λ x. p x ≡ false) xs → None ≡ find p xs
@@ -163,9 +159,7 @@ find_left_step p x left later false false true same other rest at = ap (λ t. co
 find_left_step p x left later false false false same other rest at = ap (λ t. cond t (Some x) (find p left)) at ∙ rest
 
 find_left : (p : SpanRef → Bool) (span : SpanRef) (xs : List SpanRef) → All (Relates p span) xs → find p (without_span span xs) ≡ cond (p span) None (find p xs)
-find_left p span [] all =
-    let N : Bool → Type 0 = λ b. (let nothing : Option SpanRef = None in nothing ≡ cond b None None) in
-    elim (p span) as N [ true ↦ refl | false ↦ refl ]
+find_left p span [] all = grind (arith, nat_tests)
 find_left p span (x ∷ xs) all =
     let rest : find p (without_span span xs) ≡ cond (p span) None (find p xs) = find_left p span xs (All-tail (Relates p span) x xs all) in
     let here : Relates p span x = All-head (Relates p span) x xs all in

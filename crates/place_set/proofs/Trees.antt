@@ -1,5 +1,6 @@
 -- Searches and changes of a level, by those of the level above it.
-use Rattle.std.proofs.Common.{◌≡◌, ℕ, ◌+◌, ◌-◌, ◌*◌, ◌/◌, ◌%◌, ◌^◌, ◌<◌, ◌≤◌, Bool, true, false, not, ◌&&◌, nat_le, nat_lt, cond, ◌==◌, List, [], ◌∷◌, ◌++◌, length, get_or, set, take, drop, replicate, Option, Some, None, refl, sym, ap, subst, ◌∙◌, inl, inr, arith, w64}
+use Rattle.std.proofs.lemmas.Grind.{common_steps}
+use Rattle.std.proofs.Common.{◌≡◌, ℕ, ◌+◌, ◌-◌, ◌*◌, ◌/◌, ◌%◌, ◌^◌, ◌<◌, ◌≤◌, Bool, true, false, not, ◌&&◌, nat_le, nat_lt, cond, ◌==◌, List, [], ◌∷◌, length, get_or, set, take, drop, replicate, Option, Some, None, refl, sym, ap, subst, ◌∙◌, inl, inr, arith, w64}
 use Rattle.std.proofs.lemmas.Bool.Decides.{nat_tests}
 use Rattle.std.proofs.lemmas.Bool.{cases_lt, cases_eq, and_left, and_right, lt-leb, le-ltb, eq-eqb, ne_eqb, false≢true, false_from_ne_true}
 use Rattle.std.proofs.lemmas.List.{same_lists, take_all, drop_all, append-nil, length-set, length-replicate, get_or-replicate, get_or_default, get_or_past, get_or-set_same, get_or-set_other}
@@ -33,44 +34,16 @@ module _ (own above : ℕ → Bool) (tells : (index : ℕ) → HasAny own index 
 
   -- the last place, where the place's own word has none before it
   last_by : (place index : ℕ) (r : Option ℕ) → IsLast own (64 * (place / 64)) place None → IsLastAt above 0 (place / 64 - 1) index → 64 ≤ place → IsLast own (64 * ((index * 64 + 63) / 64)) (index * 64 + 63) r → IsLast own 0 place r
-  last_by place index None here up some found =
-      let one = one_below index up.there in
-      absurd (false≢true (sym (found one.0 (omega (arith, one.1)) (omega (arith, one.1))) ∙ one.2))
-  last_by place index (Some last) here up some found = record {
-    from = omega arith;
-    to = omega (arith, up.to, found.to);
-    there = found.there;
-    behind = λ k from to.
-        elim (cases_lt (index * 64 + 63) k) [
-          | inr inside ↦ found.behind k from inside
-          | inl past ↦ elim (cases_lt k (64 * (place / 64))) [
-            | inr late ↦ here k late to
-            | inl early ↦ none_below k (up.behind (k / 64) (omega arith) (omega arith))
-          ]
-        ];
-  }
+  last_by place index None here up some found = grind (arith, nat_tests, one_below)
+  last_by place index (Some last) here up some found = grind (arith, nat_tests, cases_lt, none_below)
 
   last_nowhere : (place : ℕ) → IsLast own (64 * (place / 64)) place None → IsLast above 0 (place / 64 - 1) None → 64 ≤ place → IsLast own 0 place None
   last_nowhere place here up some = grind (arith, nat_tests, none_below)
 
   -- and the first place
   first_by : (place high high' index : ℕ) (r : Option ℕ) → IsFirst own place (64 * (place / 64) + 63) None → IsFirstAt above (place / 64 + 1) high' index → ((k : ℕ) → own k ≡ true → k ≤ high) → IsFirst own (index * 64) (64 * (index * 64 / 64) + 63) r → IsFirst own place high r
-  first_by place high high' index None here up most found =
-      let one = one_below index up.there in
-      absurd (false≢true (sym (found one.0 (omega (arith, one.1)) (omega (arith, one.1))) ∙ one.2))
-  first_by place high high' index (Some first) here up most found = record {
-    from = omega (arith, up.from, found.from);
-    to = most first found.there;
-    there = found.there;
-    before = λ k from to.
-        elim (cases_lt k (index * 64)) [
-          | inr inside ↦ found.before k inside to
-          | inl before ↦ elim (cases_lt (64 * (place / 64) + 63) k) [
-            | inr early ↦ here k from early
-            | inl late ↦ none_below k (up.before (k / 64) (omega arith) (omega arith))
-          ]
-        ];
-  }
+  first_by place high high' index None here up most found = grind (arith, nat_tests, one_below)
+  first_by place high high' index (Some first) here up most found = grind (arith, nat_tests, cases_lt, none_below)
 
   first_nowhere : (place high high' : ℕ) → IsFirst own place (64 * (place / 64) + 63) None → IsFirst above (place / 64 + 1) high' None → high / 64 ≤ high' → IsFirst own place high None
   first_nowhere place high high' here up most = grind (arith, nat_tests, none_below)
@@ -97,13 +70,7 @@ any_of words index w is fits =
 
 -- One bit of a word changed is one place.
 bit_at_place : (b k : ℕ) → (k ≡ b → (nat_le b k && nat_lt k (b + 1)) ≡ true) × ((k ≡ b → ⊥) → (nat_le b k && nat_lt k (b + 1)) ≡ false)
-bit_at_place b k = (
-  (λ e. grind (arith, nat_tests)),
-  (λ other. elim (cases_lt k b) [
-    | inl below ↦ and_left (nat_le b k) (nat_lt k (b + 1)) (lt-leb b k below)
-    | inr from ↦ and_right (nat_le b k) (nat_lt k (b + 1)) (le-ltb k (b + 1) (omega (arith, other)))
-  ]),
-)
+bit_at_place b k = grind (arith, nat_tests, cases_lt, and_left, lt-leb, and_right, le-ltb)
 
 pub put_place : (words : List ℕ) (place word w : ℕ) (is_in : Bool) → place < 64 * length words → word ≡ get_or words (place / 64) 0 → ((k : ℕ) → k < 64 → is_one w k ≡ cond (nat_le (place % 64) k && nat_lt k (place % 64 + 1)) is_in (is_one word k)) → (k : ℕ) → is_marked (set words (place / 64) w) k ≡ cond (k == place) is_in (is_marked words k)
 put_place words place word w is_in inside is changed k = grind (arith, nat_tests, eq-eqb, bit_at_place, ne_eqb, get_or-set_same, get_or-set_other)
@@ -130,16 +97,14 @@ last_some (own ∷ (above ∷ rest)) place index first again r tree inside is is
 
 pub first_none : (levels : List Level) (place : ℕ) (first : Level) (r : Option ℕ) → IsTree levels → place < places_of levels → first ≡ get_or levels 0 first → IsFirst (is_marked first.words.items) place (64 * (place / 64) + 63) None → (64 * (place / 64 + 1) ≡ places_of levels → ⊥) → IsFirst (has_at (uppers levels)) (place / 64 + 1) (places_of (uppers levels) - 1) None → r ≡ None → IsFirst (has_at levels) place (places_of levels - 1) r
 first_none [] place first r tree inside is here more up e = absurd (omega arith)
-first_none (own ∷ []) place first r tree inside is here more up e =
-    absurd (more (omega (arith, tree)))
+first_none (own ∷ []) place first r tree inside is here more up e = grind (arith, nat_tests)
 first_none (own ∷ (above ∷ rest)) place first r tree inside is here more up e =
     subst (IsFirst (is_marked own.words.items) place (64 * length own.words.items - 1)) (sym e)
     (first_nowhere (is_marked own.words.items) (is_marked above.words.items) tree.0.tells place (64 * length own.words.items - 1) (64 * length above.words.items - 1) (subst (λ (level : Level). IsFirst (is_marked level.words.items) place (64 * (place / 64) + 63) None) is here) (subst (λ (ls : List Level). IsFirst (has_at ls) (place / 64 + 1) (places_of ls - 1) None) (uppers_are own (above ∷ rest)) up) (omega (arith, tree.0.size)))
 
 pub first_some : (levels : List Level) (place index : ℕ) (first again : Level) (r : Option ℕ) → IsTree levels → place < places_of levels → first ≡ get_or levels 0 first → again ≡ get_or levels 0 again → IsFirst (is_marked first.words.items) place (64 * (place / 64) + 63) None → (64 * (place / 64 + 1) ≡ places_of levels → ⊥) → IsFirstAt (has_at (uppers levels)) (place / 64 + 1) (places_of (uppers levels) - 1) index → IsFirst (is_marked again.words.items) (index * 64) (64 * (index * 64 / 64) + 63) r → IsFirst (has_at levels) place (places_of levels - 1) r
 first_some [] place index first again r tree inside is is' here more up found = absurd (omega arith)
-first_some (own ∷ []) place index first again r tree inside is is' here more up found =
-    absurd (more (omega (arith, tree)))
+first_some (own ∷ []) place index first again r tree inside is is' here more up found = grind (arith, nat_tests)
 first_some (own ∷ (above ∷ rest)) place index first again r tree inside is is' here more up found =
     first_by (is_marked own.words.items) (is_marked above.words.items) tree.0.tells place (64 * length own.words.items - 1) (64 * length above.words.items - 1) index r
     (subst (λ (level : Level). IsFirst (is_marked level.words.items) place (64 * (place / 64) + 63) None) is here) (subst (λ (ls : List Level). IsFirstAt (has_at ls) (place / 64 + 1) (places_of ls - 1) index) (uppers_are own (above ∷ rest)) up)
@@ -149,13 +114,8 @@ first_some (own ∷ (above ∷ rest)) place index first again r tree inside is i
 -- the word of a place above that is in the set is one of the level's
 pub index_inside : (levels : List Level) (place index : ℕ) (again : Level) → IsTree levels → place < places_of levels → again ≡ get_or levels 0 again → (64 * (place / 64 + 1) ≡ places_of levels → ⊥) → IsFirstAt (has_at (uppers levels)) (place / 64 + 1) (places_of (uppers levels) - 1) index → index < length again.words.items
 index_inside [] place index again tree inside is' more up = absurd (omega arith)
-index_inside (own ∷ []) place index again tree inside is' more up =
-    absurd (more (omega (arith, tree)))
-index_inside (own ∷ (above ∷ rest)) place index again tree inside is' more up =
-    let one = one_below (is_marked own.words.items) (is_marked above.words.items) tree.0.tells index (ap (λ (ls : List Level). has_at ls index) (sym (uppers_are own (above ∷ rest))) ∙ up.there) in
-    let low = marked_inside own.words.items one.0 one.2 in
-    let same : length again.words.items ≡ length own.words.items = ap (λ (level : Level). length level.words.items) is' in
-    omega (arith, one.1)
+index_inside (own ∷ []) place index again tree inside is' more up = grind (arith, nat_tests)
+index_inside (own ∷ (above ∷ rest)) place index again tree inside is' more up = grind (arith, nat_tests, common_steps, one_below, uppers_are, marked_inside)
 
 -- a word where its places are as before
 any_same : (own now : ℕ → Bool) (index : ℕ) (b : Bool) → ((k : ℕ) → k / 64 ≡ index → now k ≡ own k) → HasAny own index b → HasAny now index b
@@ -167,14 +127,12 @@ tells_still : (own now above above' : ℕ → Bool) (place : ℕ) (is_in any : B
 tells_still own now above above' place is_in any tells changed has changed' index = grind (arith, nat_tests, eq-eqb, ne_eqb, any_same)
 
 put_tail : (x : Level) (xs ys : List Level) → put_mid 1 (length (x ∷ xs) - 1) (x ∷ xs) ys ≡ x ∷ ys
-put_tail x xs ys =
-    ap (λ (zs : List Level). x ∷ (ys ++ zs)) (drop_all (length (x ∷ xs) - 1) xs (omega arith)) ∙ ap (λ (zs : List Level). x ∷ zs) (append-nil ys)
+put_tail x xs ys = grind (arith, nat_tests, drop_all, append-nil)
 
 pub put_tree : (levels ys : List Level) (place : ℕ) (is_in any : Bool) (first now : Level) → IsTree levels → 1 < length levels → first ≡ get_or levels 0 first → length now.words.items ≡ length first.words.items → ((k : ℕ) → is_marked now.words.items k ≡ cond (k == place) is_in (is_marked first.words.items k)) → HasAny (is_marked now.words.items) (place / 64) any → place < places_of levels → IsTree ys → places_of ys ≡ places_of (uppers (set levels 0 now)) → ((k : ℕ) → has_at ys k ≡ cond (k == place / 64) any (has_at (uppers (set levels 0 now)) k)) → IsTree (put_mid 1 (length (set levels 0 now) - 1) (set levels 0 now) ys)
 put_tree [] ys place is_in any first now tree more is size changed has inside tree' size' changed' = absurd (omega arith)
 put_tree (own ∷ []) ys place is_in any first now tree more is size changed has inside tree' size' changed' = absurd (omega arith)
-put_tree (own ∷ (above ∷ rest)) [] place is_in any first now tree more is size changed has inside tree' size' changed' =
-    absurd (omega (arith, tree.0.size, size', ap places_of (uppers_are now (above ∷ rest))))
+put_tree (own ∷ (above ∷ rest)) [] place is_in any first now tree more is size changed has inside tree' size' changed' = grind (arith, nat_tests, common_steps, uppers_are)
 put_tree (own ∷ (above ∷ rest)) (y ∷ ys) place is_in any first now tree more is size changed has inside tree' size' changed' =
     let same : length first.words.items ≡ length own.words.items = ap (λ (level : Level). length level.words.items) is in
     let ups = uppers_are now (above ∷ rest) in
@@ -193,13 +151,7 @@ unmarked n k = grind (arith, nat_tests, get_or-replicate, length-replicate, bit_
 
 pub open_tree : (own : Level) (levels : List Level) (words : ℕ) → own.words.items ≡ replicate words 0 → 1 < words → IsTree levels → places_of levels ≡ 64 * ((words + 63) / 64) → ((place : ℕ) → has_at levels place ≡ false) → IsTree (own ∷ levels)
 open_tree own [] words is more tree size none = absurd (omega arith)
-open_tree own (above ∷ rest) words is more tree size none = (
-  record {
-    size = (let len : length own.words.items ≡ words = ap length is ∙ length-replicate {A = ℕ} words 0 in omega arith);
-    tells = λ index. subst (HasAny (is_marked own.words.items) index) (sym (none index)) (λ k _. ap (λ (ws : List ℕ). is_marked ws k) is ∙ unmarked words k);
-  },
-  tree,
-)
+open_tree own (above ∷ rest) words is more tree size none = grind (arith, nat_tests, length-replicate, unmarked)
 
 -- The row of the lowest level, place by place.
 pub length-row_at : (levels : List Level) → length (row_at levels) ≡ places_of levels

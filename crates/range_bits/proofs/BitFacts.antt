@@ -30,9 +30,7 @@ mask_fits low high within = grind (arith, nat_tests, pow-le-pow_right, pow_pos)
 
 -- made 1
 pub used_bits : (word low high k : ℕ) → low ≤ high → is_one (bit_or word (2 ^ high - 2 ^ low)) k ≡ cond (is_between low high k) true (is_one word k)
-used_bits word low high k order =
-    ap (λ (b : ℕ). eqb b 1) (bit_at_or word (2 ^ high - 2 ^ low) k)
-    ∙ or_bit (bit_at word k) (bit_at (2 ^ high - 2 ^ low) k) (is_between low high k) (bit_at-lt word k) (mask_bit low high k order)
+used_bits word low high k order = grind (arith, nat_tests, bit_at_or, or_bit, is_between, bit_at-lt, mask_bit)
 
 -- made 0
 pub free_bits : (word low high k : ℕ) → low ≤ high → high ≤ 64 → k < 64 → is_one (bit_and word (bit_not w64 (2 ^ high - 2 ^ low))) k ≡ cond (is_between low high k) false (is_one word k)
@@ -64,9 +62,7 @@ kept_inside : (seen low k : ℕ) → k < 64 → low ≤ k → bit_at (bit_and se
 kept_inside seen low k small from = grind (arith, nat_tests, bit_at-lt, kept_bit)
 
 kept_below : (seen low k : ℕ) → k < low → low ≤ 64 → bit_at (bit_and seen (2 ^ 64 - 2 ^ low)) k ≡ 0
-kept_below seen low k below order =
-    let e = kept_bit seen low k (omega arith) order in
-    grind (arith, nat_tests)
+kept_below seen low k below order = grind (arith, nat_tests, kept_bit)
 
 first_one : (seen low kept : ℕ) → seen < 2 ^ 64 → low < 64 → kept ≡ bit_and seen (2 ^ 64 - 2 ^ low) → FirstBit seen low true (trailing_zeros w64 kept)
 first_one seen low kept fits small e =

@@ -67,6 +67,4 @@ ones_in_word words index n to low inside short at fits same =
 -- a whole word, and how many places can be used as far as its end
 pub ones_of_word : (words : List ℕ) (index : ℕ) → index < length words → get_or words index 0 < 2 ^ 64 →
     (count_ones (get_or words index 0) + used_count (take (64 * index) (row_of words)) ≡ used_count (take (64 * (index + 1)) (row_of words))) × (used_count (take (64 * (index + 1)) (row_of words)) ≤ 64 * length words)
-ones_of_word words index inside fits =
-    let upto : List Bool = take (64 * (index + 1)) (row_of words) in
-    (ones_in_word words index 64 (64 * (index + 1)) (get_or words index 0) inside (omega arith) (omega arith) fits (λ k l. refl), omega (arith, count_by-le-length (λ used. used) upto, length-take (64 * (index + 1)) (row_of words), length-row_of words))
+ones_of_word words index inside fits = grind (arith, nat_tests, ones_in_word, count_by-le-length, length-take, length-row_of)

@@ -19,14 +19,10 @@ pub record EndBit (word high : ℕ) (used : Bool) (end : ℕ) : Type 0 where
   pub there : 0 < end → is_one word (end - 1) ≡ used
 
 kept_low : (seen high k : ℕ) → k < high → bit_at (bit_and seen (2 ^ high - 1)) k ≡ bit_at seen k
-kept_low seen high k low =
-    let both = bit_at_and seen (2 ^ high - 1) k in
-    omega (arith, bit_at_ones high k low, bit_at-lt seen k)
+kept_low seen high k low = grind (arith, nat_tests, bit_at_and, bit_at_ones, bit_at-lt)
 
 kept_high : (seen high k : ℕ) → high ≤ k → bit_at (bit_and seen (2 ^ high - 1)) k ≡ 0
-kept_high seen high k above =
-    let both = bit_at_and seen (2 ^ high - 1) k in
-    omega (arith, bit_at_ones_above high k above)
+kept_high seen high k above = grind (arith, nat_tests, bit_at_and, bit_at_ones_above)
 
 -- the greatest bit of a number between two powers
 top_bit : (n j : ℕ) → 2 ^ j ≤ n → n < 2 ^ suc j → bit_at n j ≡ 1

@@ -2,7 +2,7 @@
 use Rattle.std.proofs.Common.{◌≡◌, ◌≢◌, ℕ, ◌+◌, ◌-◌, ◌*◌, ◌/◌, ◌%◌, ◌<◌, ◌≤◌, Bool, true, false, cond, List, ◌++◌, length, get_or, set, take, drop, replicate, min, sym, ap, ◌∙◌, inl, inr, arith}
 use Rattle.std.proofs.lemmas.Bool.{cases_lt}
 use Rattle.std.proofs.lemmas.Bool.Decides.{nat_tests}
-use Rattle.std.proofs.lemmas.List.{same_lists, get_or-set_same, get_or-set_other, get_or_append_left, get_or-append_right, length-take-le, length-replicate, length-drop, length-append, get_or-take, get_or-drop, get_or-replicate}
+use Rattle.std.proofs.lemmas.List.{same_lists, ext_get_or, get_or-set_same, get_or-set_other, get_or_append_left, get_or-append_right, length-take-le, length-replicate, length-drop, length-append, get_or-take, get_or-drop, get_or-replicate}
 use Rattle.range_bits.specs.Ranges.{with_places}
 use Rattle.range_bits.specs.Words.{is_one, is_marked, row_of}
 use Rattle.range_bits.proofs.BitFacts.{is_between}
@@ -12,14 +12,8 @@ use Rattle.range_bits.proofs.RowFacts.{length-row_of, get_or-row_of, marked_in_w
 pub record Placed (old words : List ℕ) (start to : ℕ) (used : Bool) : Type 0 where
   pub each : (p : ℕ) → is_marked words p ≡ cond (is_between start to p) used (is_marked old p)
 
-outside_below : (start to p : ℕ) → p < start → is_between start to p ≡ false
-outside_below start to p l = grind (arith, nat_tests)
-
 outside_above : (start to p : ℕ) → to ≤ p → is_between start to p ≡ false
 outside_above start to p l = grind (arith, nat_tests)
-
-inside_both : (start to p : ℕ) → start ≤ p → p < to → is_between start to p ≡ true
-inside_both start to p a b = grind (arith, nat_tests)
 
 outside_all : (start to p : ℕ) → to ≤ start → is_between start to p ≡ false
 outside_all start to p none = grind (arith, nat_tests)
@@ -85,6 +79,13 @@ module _ (row : List Bool) (start n : ℕ) (used : Bool) (inside : start + n ≤
 
 pub get_or-with_places : (row : List Bool) (start n : ℕ) (used : Bool) (k : ℕ) (d : Bool) → start + n ≤ length row → get_or (with_places row start n used) k d ≡ cond (is_between start (start + n) k) used (get_or row k d)
 get_or-with_places row start n used k d inside = grind (arith, nat_tests, place_behind, place_in, place_before)
+
+-- places that were made used or free before, and places that are so
+pub placed_again : (row : List Bool) (low m start n : ℕ) (a b : Bool) → start ≤ low → low + m ≤ start + n → start + n ≤ length row → with_places (with_places row low m a) start n b ≡ with_places row start n b
+placed_again row low m start n a b from to inside = grind (arith, nat_tests, get_or-with_places, same_lists, length-with_places, is_between)
+
+pub placed_already : (row : List Bool) (start n : ℕ) (used : Bool) → start + n ≤ length row → ((k : ℕ) → start ≤ k → k < start + n → get_or row k true ≡ used) → with_places row start n used ≡ row
+placed_already row start n used inside same = grind (arith, nat_tests, get_or-with_places, ext_get_or true (with_places row start n used) row, length-with_places, is_between)
 
 pub placed_all : (old words : List ℕ) (start to : ℕ) (used : Bool) → start ≤ to → to ≤ 64 * length old → length words ≡ length old → Placed old words start to used → row_of words ≡ with_places (row_of old) start (to - start) used
 placed_all old words start to used order inside size placed =

@@ -1,5 +1,7 @@
 -- Free ranges of a row: bounds on the longest, and where the best one begins.
-use Rattle.std.proofs.Common.{◌≡◌, ℕ, zero, suc, ◌+◌, ◌-◌, ◌<◌, ◌≤◌, ◌==◌, ◌⊎◌, Bool, true, false, not, ◌&&◌, cond, nat_lt, nat_le, List, [], ◌∷◌, length, get_or, drop, map, filter, fold, max, count_by, Option, Some, None, IfSome, All, refl, ap, subst, ◌∙◌, inl, inr, arith}
+use Rattle.std.proofs.lemmas.Grind.{common_steps}
+use Rattle.std.proofs.lemmas.Bool.Decides.{nat_tests}
+use Rattle.std.proofs.Common.{◌≡◌, ℕ, zero, suc, ◌+◌, ◌<◌, ◌≤◌, ◌⊎◌, Bool, true, false, not, ◌&&◌, cond, nat_lt, nat_le, List, [], ◌∷◌, length, get_or, drop, map, filter, fold, max, Option, Some, None, IfSome, All, refl, ap, subst, ◌∙◌, inl, inr, arith}
 use Rattle.std.specs.List.{range_with_len}
 use Rattle.std.proofs.lemmas.Bool.{cases_Bool, and_from, and_parts, not-true, not_from_false, le-leb, leb-true, or_right, cases_lt}
 use Rattle.std.proofs.lemmas.List.{length-drop, get_or-drop, get_or-map, nil_from_length, length-map}
@@ -18,9 +20,7 @@ pub free_fits : (row : List Bool) (place n : ℕ) → 0 < n → n ≤ free_from 
 free_fits row place n some h = omega (arith, prefix_len-le-length not (drop place row), length-drop place row)
 
 pub free_at : (row : List Bool) (place n k : ℕ) (d : Bool) → n ≤ free_from row place → k < n → get_or row (place + k) d ≡ false
-free_at row place n k d h l =
-    let passes = prefix_len_passes not (drop place row) k d (omega arith) in
-    not-true (get_or row (place + k) d) (rw get_or-drop at passes)
+free_at row place n k d h l = grind (arith, nat_tests, prefix_len_passes, not-true, get_or-drop)
 
 -- no range is longer than the row
 fold_max-le : (m a : ℕ) (xs : List ℕ) → a ≤ m → All (λ x. x ≤ m) xs → fold max a xs ≤ m
@@ -62,9 +62,7 @@ longest-at row n some h =
     ]
 
 start_after : (row : List Bool) (place : ℕ) → get_or row (suc place) true ≡ false → get_or row place true ≡ true → begins_range row (suc place) ≡ true
-start_after row place free before =
-    let e : suc place - 1 ≡ place = omega arith in
-    rw (e, free, before) (or_right (suc place == 0) true refl)
+start_after row place free before = grind (arith, nat_tests, or_right)
 
 -- a maximal free range begins at or before each free place, and is as long
 pub start_of : (row : List Bool) (n place : ℕ) → place < length row → 0 < n → n ≤ free_from row place → (s : ℕ) × (s < length row) × (n ≤ free_from row s) × (begins_range row s ≡ true)
@@ -115,12 +113,7 @@ pub filter-none : {X : Type 0} (p : X → Bool) (xs : List X) → All (λ x. p x
 filter-none p xs h = nil_from_length (filter p xs) (length-filter p xs ∙ count_none p xs h)
 
 pub filter-some : {X : Type 0} (p : X → Bool) (xs : List X) (k : ℕ) (d : X) → k < length xs → p (get_or xs k d) ≡ true → filter p xs ≡ [] → ⊥
-filter-some p xs k d h pass none =
-    let n = length-filter p xs in
-    let most = get_or-le-sum_by (λ x. cond (p x) 1 0) xs k d h in
-    let e : length (filter p xs) ≡ 0 = ap length none in
-    let most' : 1 ≤ count_by p xs = rw pass at most in
-    omega arith
+filter-some p xs k d h pass none = grind (arith, nat_tests, common_steps, length-filter, get_or-le-sum_by)
 
 -- whether a place begins a maximal free range of at least n places
 abbrev pub fits_at : List Bool → ℕ → ℕ → Bool

@@ -1,13 +1,13 @@
--- One free range more of a row: what the next range adds to the longest and to the best so far.
-use Rattle.std.proofs.Common.{◌≡◌, ℕ, zero, suc, ◌+◌, ◌-◌, ◌<◌, ◌≤◌, ◌==◌, ◌||◌, ◌&&◌, Bool, true, false, not, nat_lt, nat_le, List, [], ◌∷◌, ◌++◌, length, get_or, map, filter, fold, max, Option, Some, None, cond, refl, sym, ap, ◌∙◌, inl, inr, arith, option_map, eq-eqb, eqb-true, ◌↔◌}
+-- One free range more of a row: the longest and the best so far, and what the next range makes of them.
+use Rattle.std.proofs.lemmas.Grind.{common_steps}
+use Rattle.std.proofs.Common.{◌≡◌, ℕ, zero, suc, ◌+◌, ◌-◌, ◌<◌, ◌≤◌, ◌==◌, ◌⊎◌, Bool, true, false, not, nat_lt, nat_le, List, ◌∷◌, ◌++◌, length, get_or, map, filter, fold, max, Option, Some, None, IfSome, cond, refl, sym, ap, ◌∙◌, inl, inr, arith, option_map, eq-eqb, ◌↔◌}
 use Rattle.std.specs.List.{range_with_len}
-use Rattle.std.proofs.lemmas.List.{map-append, append-nil}
-use Rattle.std.proofs.lemmas.List.Sums.{fold-append, get_or-le-sum_by, prefix_len-drop_yes, prefix_len-drop_no, prefix_len-drop_all}
-use Rattle.std.proofs.lemmas.List.Elements.{filter-append}
-use Rattle.std.proofs.lemmas.Bool.{cases_Bool, cases_lt, and_from, and_left, and_right, or_left, or_right, le-leb, lt-leb, ne_eqb}
+use Rattle.std.proofs.lemmas.List.Elements.{All-filter, filter_passes}
+use Rattle.std.proofs.lemmas.List.Sums.{get_or-le-sum_by, prefix_len-drop_yes, prefix_len-drop_no, prefix_len-drop_all}
+use Rattle.std.proofs.lemmas.Bool.{cases_Bool, cases_lt, cond_both, and_from, and_parts, and_left, and_right, or_left, or_right, le-leb, leb-true, leb-false, le-ltb, lt-ltb, ne_eqb}
 use Rattle.std.proofs.lemmas.Bool.Decides.{nat_tests}
-use Rattle.range_bits.proofs.RangeFacts.{fold_max, best_is_fit, longest_is_short}
-use Rattle.range_bits.proofs.RangeLemmas.{fits_at, longest-at, longest-le-length, free_fits, free_at}
+use Rattle.range_bits.proofs.RangeFacts.{fold_max, best_is_fit, longest_is_short, some_or_none}
+use Rattle.range_bits.proofs.RangeLemmas.{fits_at, longest-at, longest-le-length, free_fits, free_at, start_of, range-within, first_least-all}
 use Rattle.tc_units.proofs.Counts.{count_none}
 use Rattle.range_bits.specs.Ranges.{free_from, begins_range, first_of_two, first_least, longest, best, used_count}
 use Rattle.range_bits.specs.Words.{IsNextRange}
@@ -25,11 +25,7 @@ range-append a (suc m) n =
 
 -- how long a free stretch is from each of its places on
 pub free_run : (row : List Bool) (m k : ℕ) → k + m ≤ length row → ((j : ℕ) → k ≤ j → j < k + m → get_or row j true ≡ false) → (k + m < length row → get_or row (k + m) true ≡ true) → free_from row k ≡ m
-free_run row zero k inside free end =
-    elim (cases_lt k (length row)) [
-      | inl here ↦ (let same : k + 0 ≡ k = omega arith in let used : get_or row k true ≡ true = ap (λ (p : ℕ). get_or row p true) (sym same) ∙ end (omega arith) in prefix_len-drop_no not row k true here (ap not used))
-      | inr past ↦ prefix_len-drop_all not row k past
-    ]
+free_run row zero k inside free end = grind (arith, nat_tests, common_steps, cases_lt, prefix_len-drop_no, prefix_len-drop_all)
 free_run row (suc m) k inside free end =
     let here : get_or row k true ≡ false = free k (omega arith) (omega arith) in
     let next : k + 1 + m ≡ k + suc m = omega arith in
@@ -37,19 +33,7 @@ free_run row (suc m) k inside free end =
     let step : free_from row k ≡ 1 + free_from row (k + 1) = prefix_len-drop_yes not row k true (omega arith) (ap not here) in
     omega arith
 
--- no free stretch begins at a used place
-pub free_from-used : (row : List Bool) (k : ℕ) → k < length row → get_or row k true ≡ true → free_from row k ≡ 0
-free_from-used row k inside used = prefix_len-drop_no not row k true inside (ap not used)
-
--- the greatest value of a function over numbers in a row, from bounds at each
-greatest-le : (f : ℕ → ℕ) (most a n : ℕ) → ((k : ℕ) → a ≤ k → k < a + n → f k ≤ most) → fold max 0 (map f (range_with_len a n)) ≤ most
-greatest-le f most a zero bound = omega arith
-greatest-le f most a (suc n) bound =
-    let rest = greatest-le f most (a + 1) n (λ k from to. bound k (omega arith) (omega arith)) in
-    let here : f a ≤ most = bound a (omega arith) (omega arith) in
-    let step = fold_max (max 0 (f a)) (map f (range_with_len (a + 1) n)) in
-    omega arith
-
+-- the greatest value of a function over numbers in a row
 pub greatest-ge : (f : ℕ → ℕ) (a n k : ℕ) → a ≤ k → k < a + n → f k ≤ fold max 0 (map f (range_with_len a n))
 greatest-ge f a zero k from to = absurd (omega arith)
 greatest-ge f a (suc n) k from to =
@@ -59,74 +43,12 @@ greatest-ge f a (suc n) k from to =
       | inr here ↦ (let same : f k ≡ f a = ap f (omega arith) in omega arith)
     ]
 
--- the longest free stretch that begins before a place
-abbrev pub longest_before : List Bool → ℕ → ℕ
-longest_before row p = fold max 0 (map (free_from row) (range_with_len 0 p))
-
-range_length : (row : List Bool) (from start len k : ℕ) → IsNextRange row from start len → start ≤ k → k < start + len → free_from row k ≡ start + len - k
-range_length row from start len k range first last =
-    let to : k + (start + len - k) ≡ start + len = omega arith in
-    free_run row (start + len - k) k (omega (arith, range.within)) (λ j a b. range.free j (omega arith) (omega arith)) (λ before. ap (λ (p : ℕ). get_or row p true) to ∙ range.end (omega arith))
-
-pub longest_more : (row : List Bool) (from start len : ℕ) → IsNextRange row from start len → longest_before row (start + len) ≡ max len (longest_before row from)
-longest_more row from start len range =
-    let n : ℕ = start + len - from in
-    let to : from + n ≡ start + len = omega (arith, range.rises) in
-    let f : ℕ → ℕ = free_from row in
-    let parts : longest_before row (start + len) ≡ max (longest_before row from) (fold max 0 (map f (range_with_len from n))) =
-    ap (longest_before row) (sym to)
-    ∙ ap (λ (xs : List ℕ). fold max 0 (map f xs)) (range-append 0 from n ∙ ap (λ (a : ℕ). range_with_len 0 from ++ range_with_len a n) (omega arith))
-    ∙ ap (fold max 0) (map-append f (range_with_len 0 from) (range_with_len from n))
-    ∙ fold-append max 0 (map f (range_with_len 0 from)) (map f (range_with_len from n))
-    ∙ fold_max (longest_before row from) (map f (range_with_len from n)) in
-    let most : fold max 0 (map f (range_with_len from n)) ≤ len =
-    greatest-le f len from n
-    (λ k a b.
-    elim (cases_lt k start) [
-      | inl early ↦ omega (arith, free_from-used row k (omega (arith, range.within)) (range.used k a early))
-      | inr late ↦ omega (arith, range_length row from start len k range late (omega arith))
-    ]) in
-    let least : len ≤ fold max 0 (map f (range_with_len from n)) =
-    elim (cases_lt 0 len) [
-      | inl some ↦ omega (arith, greatest-ge f from n start range.behind (omega (arith, range.behind)), range_length row from start len start range (omega arith) (omega arith))
-      | inr none ↦ omega arith
-    ] in
-    omega arith
-
--- of the best so far and one place more, the place only where its stretch is shorter
-abbrev pub nearer : (ℕ → ℕ) → Option ℕ → ℕ → ℕ
-nearer f None z = z
-nearer f (Some y) z = cond (nat_lt (f z) (f y)) z y
-
-first_of-nearer : (f : ℕ → ℕ) (x z : ℕ) (o : Option ℕ) → first_of_two (λ a b. nat_lt (f a) (f b)) x (Some (nearer f o z)) ≡ nearer f (Some (first_of_two (λ a b. nat_lt (f a) (f b)) x o)) z
-first_of-nearer f x z None = refl
-first_of-nearer f x z (Some y) = grind (arith, nat_tests)
-
-first_least-push : (f : ℕ → ℕ) (xs : List ℕ) (z : ℕ) → first_least (λ a b. nat_lt (f a) (f b)) (xs ++ z ∷ []) ≡ Some (nearer f (first_least (λ a b. nat_lt (f a) (f b)) xs) z)
-first_least-push f [] z = refl
-first_least-push f (x ∷ xs) z =
-    ap (λ (o : Option ℕ). Some (first_of_two (λ a b. nat_lt (f a) (f b)) x o)) (first_least-push f xs z)
-    ∙ ap Some (first_of-nearer f x z (first_least (λ a b. nat_lt (f a) (f b)) xs))
-
-filter-none : (p : ℕ → Bool) (a n : ℕ) → ((k : ℕ) → a ≤ k → k < a + n → p k ≡ false) → filter p (range_with_len a n) ≡ []
-filter-none p a zero no_one = refl
-filter-none p a (suc n) no_one =
-    let here : p a ≡ false = no_one a (omega arith) (omega arith) in
-    ap (λ (b : Bool). cond b (a ∷ filter p (range_with_len (a + 1) n)) (filter p (range_with_len (a + 1) n))) here
-    ∙ filter-none p (a + 1) n (λ k from to. no_one k (omega arith) (omega arith))
-
--- the shortest of those that begin before a place
-abbrev pub best_before : List Bool → ℕ → ℕ → Option ℕ
-best_before row n p = first_least (λ a b. nat_lt (free_from row a) (free_from row b)) (filter (fits_at row n) (range_with_len 0 p))
-
 -- no range begins at a used place, nor behind a free one; one begins at a free place with none before it
 pub used_begins : (row : List Bool) (p : ℕ) → get_or row p true ≡ true → begins_range row p ≡ false
 used_begins row p used = and_left _ _ (ap not used)
 
 pub behind_free : (row : List Bool) (p : ℕ) → 0 < p → get_or row (p - 1) true ≡ false → begins_range row p ≡ false
-behind_free row p pos free =
-    let first : (p == 0) ≡ false = ne_eqb p 0 (λ e. omega arith) in
-    and_right (not (get_or row p true)) (p == 0 || get_or row (p - 1) true) (ap (λ (b : Bool). b || get_or row (p - 1) true) first ∙ free)
+behind_free row p pos free = grind (arith, nat_tests, ne_eqb, and_right)
 
 pub begins : (row : List Bool) (p : ℕ) → get_or row p true ≡ false → (0 < p → get_or row (p - 1) true ≡ true) → begins_range row p ≡ true
 begins row p free edge = grind (arith, nat_tests, or_left, and_from, or_right, eq-eqb)
@@ -135,76 +57,158 @@ begins row p free edge = grind (arith, nat_tests, or_left, and_from, or_right, e
 starts : (row : List Bool) (from start len : ℕ) → IsNextRange row from start len → (0 < from → from < length row → get_or row from true ≡ true) → 0 < len → begins_range row start ≡ true
 starts row from start len range edge some = grind (arith, nat_tests, begins)
 
-found_in : (row : List Bool) (n from start len : ℕ) → IsNextRange row from start len → (0 < from → from < length row → get_or row from true ≡ true) → 0 < n → filter (fits_at row n) (range_with_len from (start + len - from)) ≡ cond (nat_le n len) (start ∷ []) []
-found_in row n from start len range edge pos =
-    elim (cases_lt 0 len) [
-      | inr none ↦
-          (let short : nat_le n len ≡ false = lt-leb n len (omega arith) in
-          filter-none (fits_at row n) from (start + len - from) (λ k a b. and_left _ _ (used_begins row k (range.used k a (omega (arith, range.behind)))))
-          ∙ sym (ap (λ (b : Bool). cond b (start ∷ []) []) short))
-      | inl some ↦
-          (let p : ℕ → Bool = fits_at row n in
-          let before : ℕ = start - from in
-          let after : ℕ = len - 1 in
-          let cut : start + len - from ≡ before + suc after = omega (arith, range.behind) in
-          let at : from + before ≡ start = omega (arith, range.behind) in
-          let here : p start ≡ nat_le n len =
-          ap (λ (b : Bool). b && nat_le n (free_from row start)) (starts row from start len range edge some)
-          ∙ ap (nat_le n) (range_length row from start len start range (omega arith) (omega arith) ∙ omega arith) in
-          let none_before : filter p (range_with_len from before) ≡ [] = filter-none p from before (λ k a b. and_left _ _ (used_begins row k (range.used k a (omega (arith, range.behind))))) in
-          let none_after : filter p (range_with_len (start + 1) after) ≡ [] = filter-none p (start + 1) after (λ k a b. and_left _ _ (behind_free row k (omega arith) (range.free (k - 1) (omega arith) (omega arith)))) in
-          ap (λ (m : ℕ). filter p (range_with_len from m)) cut
-          ∙ ap (filter p) (range-append from before (suc after))
-          ∙ filter-append p (range_with_len from before) (range_with_len (from + before) (suc after))
-          ∙ ap (λ (front : List ℕ). front ++ filter p (range_with_len (from + before) (suc after))) none_before
-          ∙ ap (λ (a : ℕ). filter p (range_with_len a (suc after))) at
-          ∙ ap (λ (rest : List ℕ). cond (p start) (start ∷ rest) rest) none_after
-          ∙ ap (λ (b : Bool). cond b (start ∷ []) []) here)
+-- up to its end nothing but its start begins a range, and there the range is as long
+reach : (row : List Bool) (from start len y : ℕ) → IsNextRange row from start len → y < start + len → begins_range row y ≡ true → (y < from) ⊎ ((y ≡ start) × (free_from row y ≡ len))
+reach row from start len y range to here =
+    elim (cases_lt y from) [
+      | inl early ↦ inl early
+      | inr low ↦ inr (elim (cases_lt y start) [
+        | inl before ↦ absurd (let c : true ≡ false = sym here ∙ used_begins row y (range.used y low before) in cc)
+        | inr late ↦ elim (cases_lt start y) [
+          | inl inside ↦ absurd (let c : true ≡ false = sym here ∙ behind_free row y (omega arith) (range.free (y - 1) (omega arith) (omega arith)) in cc)
+          | inr same ↦ (omega arith, ap (free_from row) (omega arith) ∙ free_run row len start range.within range.free range.end)
+        ]
+      ])
     ]
 
-best_push : (row : List Bool) (n from start : ℕ) (fits : Bool) → first_least (λ a b. nat_lt (free_from row a) (free_from row b)) (filter (fits_at row n) (range_with_len 0 from) ++ cond fits (start ∷ []) []) ≡ cond fits (Some (nearer (free_from row) (best_before row n from) start)) (best_before row n from)
-best_push row n from start true = first_least-push (free_from row) (filter (fits_at row n) (range_with_len 0 from)) start
-best_push row n from start false = ap (first_least (λ a b. nat_lt (free_from row a) (free_from row b))) (append-nil (filter (fits_at row n) (range_with_len 0 from)))
+-- a length that no range exceeds which begins before a place, and that one has
+pub record IsLongest (row : List Bool) (to most : ℕ) : Type 0 where
+  pub bound : (y : ℕ) → y < to → begins_range row y ≡ true → free_from row y ≤ most
+  pub there : 0 < most → (y : ℕ) × (y < length row) × (most ≤ free_from row y)
 
-pub best_more : (row : List Bool) (n from start len : ℕ) → IsNextRange row from start len → (0 < from → from < length row → get_or row from true ≡ true) → 0 < n → best_before row n (start + len) ≡ cond (nat_le n len) (Some (nearer (free_from row) (best_before row n from) start)) (best_before row n from)
-best_more row n from start len range edge pos =
-    let p : ℕ → Bool = fits_at row n in
-    let m : ℕ = start + len - from in
-    let to : start + len ≡ from + m = omega (arith, range.rises) in
-    let least : List ℕ → Option ℕ = first_least (λ a b. nat_lt (free_from row a) (free_from row b)) in
-    ap (best_before row n) to
-    ∙ ap (λ (xs : List ℕ). least (filter p xs)) (range-append 0 from m ∙ ap (λ (a : ℕ). range_with_len 0 from ++ range_with_len a m) (omega arith))
-    ∙ ap least (filter-append p (range_with_len 0 from) (range_with_len from m))
-    ∙ ap (λ (xs : List ℕ). least (filter p (range_with_len 0 from) ++ xs)) (found_in row n from start len range edge pos)
-    ∙ best_push row n from start (nat_le n len)
+pub longest_is : (row : List Bool) (to most : ℕ) → length row ≤ to → IsLongest row to most → longest row ≡ most
+longest_is row to most all is =
+    let above : longest row ≤ most =
+    elim (cases_lt 0 (longest row)) [
+      | inr none ↦ omega arith
+      | inl some ↦
+          (let far = longest-at row (longest row) some (omega arith) in
+          let s = start_of row (longest row) far.0 far.1 some far.2 in
+          omega (arith, is.bound s.0 (omega (arith, s.1)) s.3, s.2))
+    ] in
+    elim (cases_lt 0 most) [
+      | inl some ↦ (let at = is.there some in omega (arith, at.2, greatest-ge (free_from row) 0 (length row) at.0 (omega arith) (omega (arith, at.1))))
+      | inr none ↦ omega arith
+    ]
 
--- a free range with its length
-abbrev pub view : List Bool → ℕ → FreeRange
-view row s = record { start = s; len = free_from row s }
+pub longest_more : (row : List Bool) (from start len most : ℕ) → IsNextRange row from start len → IsLongest row from most → IsLongest row (start + len) (max len most)
+longest_more row from start len most range is =
+    record {
+      bound = λ y to here. elim (reach row from start len y range to here) [ inl early ↦ omega (arith, is.bound y early here) | inr at ↦ omega (arith, at.1) ];
+      there = λ some.
+          elim (cases_lt len most) [
+            | inl less ↦ (let at = is.there (omega arith) in (at.0, at.1, omega (arith, at.2)))
+            | inr more ↦ (start, omega (arith, range.within), omega (arith, free_run row len start range.within range.free range.end))
+          ];
+    }
 
-shorter_of-view : (row : List Bool) (o : Option ℕ) (z : ℕ) → shorter_of (option_map (view row) o) (view row z) ≡ view row (nearer (free_from row) o z)
-shorter_of-view row None z = refl
-shorter_of-view row (Some y) z = grind (arith, nat_tests)
+-- of two places, where the other one's measure isn't less
+stays : (f : ℕ → ℕ) (x : ℕ) (o : Option ℕ) → IfSome o (λ y. f x ≤ f y) → first_of_two (λ x y. nat_lt (f x) (f y)) x o ≡ x
+stays f x None h = refl
+stays f x (Some y) h = ap (λ (b : Bool). cond b y x) (le-ltb (f y) (f x) h)
 
--- a range that is long enough is kept where it is shorter, and another one isn't
-pub range_taken : (row : List Bool) (n from : ℕ) (found : Option FreeRange) (range : FreeRange) → IsNextRange row from range.start range.len → (0 < from → from < length row → get_or row from true ≡ true) → 0 < n → found ≡ option_map (view row) (best_before row n from) → n ≤ range.len → Some (shorter_of found range) ≡ option_map (view row) (best_before row n (range.start + range.len))
-range_taken row n from found range next edge pos so_far long =
-    let len : range.len ≡ free_from row range.start = sym (range_length row from range.start range.len range.start next (omega arith) (omega arith) ∙ omega arith) in
-    let seen : range ≡ view row range.start = ap (λ (l : ℕ). let r : FreeRange = record { start = range.start; len = l } in r) len in
-    ap (λ (o : Option FreeRange). Some (shorter_of o range)) so_far
-    ∙ ap (λ (r : FreeRange). Some (shorter_of (option_map (view row) (best_before row n from)) r)) seen
-    ∙ ap Some (shorter_of-view row (best_before row n from) range.start)
-    ∙ sym (ap (option_map (view row)) (best_more row n from range.start range.len next edge pos ∙ ap (λ (b : Bool). cond b (Some (nearer (free_from row) (best_before row n from) range.start)) (best_before row n from)) (le-leb n range.len long)))
+-- the first place of the least measure
+least_place : (f : ℕ → ℕ) (p : ℕ → Bool) (a n s : ℕ) → a ≤ s → s < a + n → p s ≡ true → ((y : ℕ) → a ≤ y → y < a + n → p y ≡ true → (f s ≤ f y) × (y < s → f s < f y)) → first_least (λ x y. nat_lt (f x) (f y)) (filter p (range_with_len a n)) ≡ Some s
+least_place f p a zero s low high pass least = absurd (omega arith)
+least_place f p a (suc n) s low high pass least =
+    let rest : List ℕ = filter p (range_with_len (a + 1) n) in
+    let by : ℕ → ℕ → Bool = λ x y. nat_lt (f x) (f y) in
+    elim (cases_lt a s) [
+      | inl later ↦
+          (let ih = least_place f p (a + 1) n s (omega arith) (omega arith) pass (λ y l h. least y (omega arith) (omega arith)) in
+          elim (cases_Bool (p a)) [
+            | inl t ↦
+                (let here : filter p (range_with_len a (suc n)) ≡ a ∷ rest = ap (λ (b : Bool). cond b (a ∷ rest) rest) t in
+                ap (first_least by) here ∙ ap (λ (o : Option ℕ). Some (first_of_two by a o)) ih ∙ ap (λ (b : Bool). Some (cond b s a)) (lt-ltb (f s) (f a) ((least a (omega arith) (omega arith) t).1 later)))
+            | inr fails ↦ ap (λ (b : Bool). first_least by (cond b (a ∷ rest) rest)) fails ∙ ih
+          ])
+      | inr first ↦
+          (let same : a ≡ s = omega arith in
+          let t : p a ≡ true = ap p same ∙ pass in
+          let here : filter p (range_with_len a (suc n)) ≡ a ∷ rest = ap (λ (b : Bool). cond b (a ∷ rest) rest) t in
+          let others = first_least-all (λ y. f a ≤ f y) by rest (λ k d l.
+          let passes = filter_passes p (range_with_len (a + 1) n) k d l in
+          let near = All-filter p (λ y. (a + 1 ≤ y) × (y < a + 1 + n)) (range_with_len (a + 1) n) (range-within (a + 1) n) k d l in
+          let e : f a ≡ f s = ap f same in
+          omega (arith, (least (get_or rest k d) (omega (arith, near.0)) (omega (arith, near.1)) passes).0)) in
+          ap (first_least by) here ∙ ap Some (stays f a (first_least by rest) others ∙ same))
+    ]
 
-pub range_passed : (row : List Bool) (n from start len : ℕ) (found : Option FreeRange) → IsNextRange row from start len → (0 < from → from < length row → get_or row from true ≡ true) → 0 < n → found ≡ option_map (view row) (best_before row n from) → len < n → found ≡ option_map (view row) (best_before row n (start + len))
-range_passed row n from start len found next edge pos so_far short =
-    so_far
-    ∙ sym (ap (option_map (view row)) (best_more row n from start len next edge pos ∙ ap (λ (b : Bool). cond b (Some (nearer (free_from row) (best_before row n from) start)) (best_before row n from)) (lt-leb n len short)))
+-- the shortest of the ranges that are long enough and begin before a place: of several as short the first
+pub record IsShortest (row : List Bool) (n to s : ℕ) : Type 0 where
+  pub before : s < to
+  pub inside : s < length row
+  pub starts : begins_range row s ≡ true
+  pub long : n ≤ free_from row s
+  pub least : (y : ℕ) → y < to → begins_range row y ≡ true → n ≤ free_from row y → (free_from row s ≤ free_from row y) × (y < s → free_from row s < free_from row y)
 
--- where those ranges begin
-pub starts_of_view : (row : List Bool) (o : Option ℕ) → option_map (λ (range : FreeRange). range.start) (option_map (view row) o) ≡ o
-starts_of_view row None = refl
-starts_of_view row (Some s) = refl
+pub best_is : (row : List Bool) (n to s : ℕ) → length row ≤ to → IsShortest row n to s → best row n ≡ Some s
+best_is row n to s all is =
+    least_place (free_from row) (fits_at row n) 0 (length row) s (omega arith) (omega (arith, is.inside)) (and_from _ _ is.starts (le-leb n (free_from row s) is.long)) (λ y low high pass.
+    let parts = and_parts (begins_range row y) (nat_le n (free_from row y)) pass in
+    is.least y (omega arith) parts.0 (leb-true n (free_from row y) parts.1))
+
+pub best_none : (row : List Bool) (n : ℕ) → 0 < n → ((y : ℕ) → y < length row → begins_range row y ≡ true → free_from row y < n) → best row n ≡ None
+best_none row n some short =
+    elim (some_or_none (best row n)) [
+      | inl none ↦ none
+      | inr found ↦
+          (let fit = best_is_fit row n found.0 found.1 in
+          let s = start_of row n found.0 fit.0 some fit.1 in
+          absurd (omega (arith, s.2, short s.0 s.1 s.3)))
+    ]
+
+-- the best so far as a range
+abbrev pub IsBest : List Bool → ℕ → ℕ → Option FreeRange → Type 0
+IsBest row n to None = (y : ℕ) → y < to → begins_range row y ≡ true → free_from row y < n
+IsBest row n to (Some range) = IsShortest row n to range.start × (free_from row range.start ≡ range.len)
+
+pub best_found : (row : List Bool) (n to : ℕ) (found : Option FreeRange) → 0 < n → length row ≤ to → IsBest row n to found → option_map (λ (range : FreeRange). range.start) found ≡ best row n
+best_found row n to None some all is = sym (best_none row n some (λ y inside here. is y (omega arith) here))
+best_found row n to (Some range) some all is = sym (best_is row n to range.start all is.0)
+
+-- a range more: the best so far stays, or it is the best
+best_stays : (row : List Bool) (n from start len s : ℕ) → IsNextRange row from start len → (n ≤ len → free_from row s ≤ len) → IsShortest row n from s → IsShortest row n (start + len) s
+best_stays row n from start len s range most is =
+    record {
+      before = omega (arith, is.before, range.rises);
+      inside = is.inside;
+      starts = is.starts;
+      long = is.long;
+      least = λ y to here long.
+          elim (reach row from start len y range to here) [
+            | inl early ↦ is.least y early here long
+            | inr at ↦ (omega (arith, at.1, most (omega (arith, at.1))), λ less. absurd (omega (arith, at.0, range.behind, is.before)))
+          ];
+    }
+
+best_new : (row : List Bool) (n from : ℕ) (range : FreeRange) → IsNextRange row from range.start range.len → (0 < from → from < length row → get_or row from true ≡ true) → 0 < n → n ≤ range.len → ((y : ℕ) → y < from → begins_range row y ≡ true → n ≤ free_from row y → range.len < free_from row y) → IsBest row n (range.start + range.len) (Some range)
+best_new row n from range next edge some long others =
+    let len : free_from row range.start ≡ range.len = free_run row range.len range.start next.within next.free next.end in (
+      record {
+        before = omega arith;
+        inside = omega (arith, next.within);
+        starts = starts row from range.start range.len next edge (omega arith);
+        long = omega arith;
+        least = λ y to here long.
+            elim (reach row from range.start range.len y next to here) [
+              | inl early ↦ (omega (arith, others y early here long), λ less. omega (arith, others y early here long))
+              | inr at ↦ (omega (arith, at.1), λ less. absurd (omega (arith, at.0)))
+            ];
+      },
+      len,
+    )
+
+pub best_passed : (row : List Bool) (n from start len : ℕ) (found : Option FreeRange) → IsNextRange row from start len → len < n → IsBest row n from found → IsBest row n (start + len) found
+best_passed row n from start len None range short is = λ y to here. elim (reach row from start len y range to here) [ inl early ↦ is y early here | inr at ↦ omega (arith, at.1) ]
+best_passed row n from start len (Some old) range short is = (best_stays row n from start len old.start range (λ long. absurd (omega arith)) is.0, is.1)
+
+pub best_taken : (row : List Bool) (n from : ℕ) (found : Option FreeRange) (range : FreeRange) → IsNextRange row from range.start range.len → (0 < from → from < length row → get_or row from true ≡ true) → 0 < n → n ≤ range.len → IsBest row n from found → IsBest row n (range.start + range.len) (Some (shorter_of found range))
+best_taken row n from None range next edge some long is = best_new row n from range next edge some long (λ y early here far. absurd (omega (arith, is y early here)))
+best_taken row n from (Some old) range next edge some long is =
+    cond_both (nat_le old.len range.len) old range (λ r. IsBest row n (range.start + range.len) (Some r))
+    (λ t. (best_stays row n from range.start range.len old.start next (λ l. omega (arith, is.1, leb-true old.len range.len t)) is.0, is.1))
+    (λ f. best_new row n from range next edge some long (λ y early here far. omega (arith, is.1, leb-false old.len range.len f, (is.0.least y early here far).0)))
 
 -- there is no best range exactly where the longest is too short
 pub none_exactly : (row : List Bool) (n : ℕ) (r : Option ℕ) → 0 < n → r ≡ best row n → (r ≡ None) ↔ (longest row < n)
@@ -234,7 +238,4 @@ all_free row none =
     ]
 
 pub whole_free : (row : List Bool) → (longest row == length row) ≡ (used_count row == 0)
-whole_free row = elim (cases_Bool (longest row == length row)) [
-  | inl t ↦ t ∙ sym (eq-eqb (used_count row) 0 (none_used row (eqb-true (longest row) (length row) t)))
-  | inr f ↦ f ∙ sym (ne_eqb (used_count row) 0 (λ e. absurd (let c : true ≡ false = sym (eq-eqb (longest row) (length row) (all_free row e)) ∙ f in cc)))
-]
+whole_free row = grind (arith, nat_tests, cases_Bool, none_used, ne_eqb, all_free)

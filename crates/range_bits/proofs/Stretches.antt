@@ -1,5 +1,6 @@
 -- Stretches that are put into a state: how many places are used then, and how many are free.
-use Rattle.std.proofs.Common.{◌≡◌, ℕ, zero, suc, ◌+◌, ◌<◌, ◌≤◌, Bool, true, false, not, cond, List, [], ◌∷◌, ◌++◌, length, take, drop, replicate, ap, ◌∙◌, arith}
+use Rattle.std.proofs.lemmas.Bool.Decides.{nat_tests}
+use Rattle.std.proofs.Common.{◌≡◌, ℕ, zero, suc, ◌+◌, ◌<◌, ◌≤◌, Bool, true, false, not, cond, List, [], ◌∷◌, ◌++◌, length, take, drop, replicate, arith}
 use Rattle.std.specs.List.{sum_by, prefix_len}
 use Rattle.std.proofs.lemmas.List.{append_assoc, drop_at, length-take-le, drop-drop}
 use Rattle.std.proofs.lemmas.List.Sums.{sum_by-append, sum_by-take-drop, sum_by-cons}
@@ -32,11 +33,7 @@ used_before zero rest = omega arith
 used_before (suc n) rest = omega (arith, used_before n rest)
 
 pub used_then : (row : List Bool) (start n : ℕ) → 0 < n → n ≤ free_from row start → n ≤ used_from (with_places row start n true) start
-used_then row start n some free =
-    let rest : List Bool = replicate n true ++ drop (start + n) row in
-    let inside = free_inside row start n some free in
-    let behind : drop start (with_places row start n true) ≡ rest = ap (drop start) (append_assoc (take start row) (replicate n true) (drop (start + n) row)) ∙ drop_at (take start row) rest start (length-take-le start row (omega arith)) in
-    omega (arith, ap (prefix_len (λ used. used)) behind, used_before n (drop (start + n) row))
+used_then row start n some free = grind (arith, nat_tests, free_inside, append_assoc, drop_at, length-take-le, used_before)
 
 -- what is used where a stretch is put into a state
 pub state_count : (n : ℕ) (used : Bool) → used_count (replicate n used) ≡ cond used n 0
@@ -44,6 +41,4 @@ state_count n true = omega (arith, sum_by-replicate used_one n true)
 state_count n false = omega (arith, sum_by-replicate used_one n false)
 
 pub put_count : (row : List Bool) (start n : ℕ) (used : Bool) → used_count (with_places row start n used) + used_count (take n (drop start row)) ≡ used_count row + cond used n 0
-put_count row start n used =
-    let behind : used_count (drop n (drop start row)) ≡ used_count (drop (start + n) row) = ap used_count (drop-drop n start row) in
-    omega (arith, sum_by-append used_one (take start row ++ replicate n used) (drop (start + n) row), sum_by-append used_one (take start row) (replicate n used), state_count n used, sum_by-take-drop used_one row start, sum_by-take-drop used_one (drop start row) n)
+put_count row start n used = grind (arith, nat_tests, drop-drop, sum_by-append, used_one, state_count, sum_by-take-drop)

@@ -1,4 +1,5 @@
 -- Sorted keys with a key more, fewer or changed.
+use Rattle.std.proofs.lemmas.Grind.{common_steps}
 use Rattle.std.proofs.Common.{◌≡◌, ℕ, ◌+◌, ◌-◌, ◌<◌, ◌≤◌, Bool, false, cond, nat_le, List, [], ◌∷◌, length, get_or, insert, remove, Contains, IsPermutation, sym, ap, subst, ◌∙◌, inl, inr, arith}
 use Rattle.std.proofs.lemmas.Bool.Decides.{nat_tests}
 use Rattle.std.proofs.lemmas.Bool.{cases_lt, le-leb, lt-leb}
@@ -20,9 +21,7 @@ module _ {K : Type 0} (before : K → K → Bool) (total : IsOrder K before) whe
   item_at keys key place i d e within = ap (λ (j : ℕ). get_or (insert keys place key) j d) (sym e) ∙ get_or-insert_at keys place key d within
 
   item_above : (keys : List K) (key : K) (place i : ℕ) (d : K) → place < i → place ≤ length keys → get_or (insert keys place key) i d ≡ get_or keys (i - 1) d
-  item_above keys key place i d l within =
-      let e : i - 1 + 1 ≡ i = omega arith in
-      ap (λ (j : ℕ). get_or (insert keys place key) j d) (sym e) ∙ get_or-insert_above keys place key d (i - 1) (omega arith) within
+  item_above keys key place i d l within = grind (arith, nat_tests, get_or-insert_above)
 
   both : {a b x y : K} → a ≡ x → b ≡ y → before x y ≡ false → before a b ≡ false
   both {a} {b} {x} {y} e h k = ap (λ (t : K). before t b) e ∙ ap (λ (t : K). before x t) h ∙ k
@@ -73,9 +72,7 @@ module _ {K : Type 0} (before : K → K → Bool) (total : IsOrder K before) whe
       inserted_in_order (remove keys place) to (cond (nat_le target place) target (target - 1)) (removed_in_order keys place order inside) (place_among keys place inside to target goal)
 
   pub rekeyed_is_held : (keys : List K) (from to : K) (place target : ℕ) → IsInOrder before keys → IsPlaceOf before keys from place → IsPlaceOf before keys to target → Contains keys from → Contains (insert (remove keys place) (cond (nat_le target place) target (target - 1)) to) to
-  rekeyed_is_held keys from to place target order at goal held =
-      let inside = (held_at keys from place order at held).0 in
-      inserted_is_held (remove keys place) to (cond (nat_le target place) target (target - 1)) (place_among keys place inside to target goal).within
+  rekeyed_is_held keys from to place target order at goal held = grind (arith, nat_tests, common_steps, held_at, inserted_is_held, place_among)
 
   pub rekeyed_keys : (keys : List K) (from to : K) (place slot : ℕ) → IsInOrder before keys → IsPlaceOf before keys from place → Contains keys from → IsPermutation (to ∷ keys) (from ∷ insert (remove keys place) slot to)
   rekeyed_keys keys from to place slot order at held =

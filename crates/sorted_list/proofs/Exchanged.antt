@@ -1,4 +1,5 @@
 -- A key in place of another one: the keys between the two places, turned by one, are those of a removal and an insert.
+use Rattle.std.proofs.lemmas.Bool.Decides.{nat_tests}
 use Rattle.std.proofs.Common.{◌≡◌, ℕ, suc, ◌+◌, ◌-◌, ◌<◌, ◌≤◌, List, [], ◌∷◌, ◌++◌, length, get_or, take, drop, set, insert, remove, sym, ap, ◌∙◌, arith}
 use Rattle.std.proofs.lemmas.List.{append_assoc, drop_more, drop_all, take-take, drop-take, drop-drop, set_at, length-take-le, length-drop, length-append}
 use Rattle.std.proofs.lemmas.List.Edits.{insert-append_left, insert-append_right}
@@ -6,9 +7,7 @@ use borrow.Rule.Slice.PartMut.{put_mid, mid_of}
 
 -- all but the last, and the last, of m elements
 last_of : {X : Type 0} (xs : List X) (m : ℕ) (d : X) → length xs ≡ m → 0 < m → drop (m - 1) xs ≡ get_or xs (m - 1) d ∷ []
-last_of xs m d size some =
-    let next : m - 1 + 1 ≡ m = omega arith in
-    drop_more xs (m - 1) d (omega arith) ∙ ap (λ (ys : List _). get_or xs (m - 1) d ∷ ys) (ap (λ (k : ℕ). drop k xs) next ∙ drop_all m xs (omega arith))
+last_of xs m d size some = grind (arith, nat_tests, drop_more, drop_all)
 
 module _ {X : Type 0} (keys : List X) (place target : ℕ) (key : X) (held : place < length keys) where
   size_before : length (take place keys) ≡ place

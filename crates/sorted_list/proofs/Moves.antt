@@ -1,5 +1,6 @@
 -- A key that comes, changes or leaves: what is kept, and which keys are there then.
-use Rattle.std.proofs.Common.{◌≡◌, ℕ, ◌+◌, ◌-◌, ◌<◌, ◌≤◌, Bool, cond, nat_le, nat_lt, List, ◌∷◌, ◌++◌, length, get_or, set, take, drop, insert, remove, Contains, IsPermutation, sym, ap, subst, ◌∙◌, arith}
+use Rattle.std.proofs.lemmas.Grind.{common_steps}
+use Rattle.std.proofs.Common.{◌≡◌, ℕ, ◌+◌, ◌-◌, ◌<◌, ◌≤◌, Bool, cond, nat_le, List, ◌∷◌, ◌++◌, length, get_or, set, take, drop, insert, remove, Contains, IsPermutation, sym, ap, subst, ◌∙◌, arith}
 use Rattle.std.proofs.lemmas.Bool.Decides.{nat_tests}
 use Rattle.std.proofs.lemmas.Bool.{le-leb, lt-leb}
 use Rattle.std.proofs.lemmas.List.{length-set, take_at}
@@ -35,16 +36,7 @@ module _ {K : Type 0} (before : K → K → Bool) (total : IsOrder K before) (sa
 
   -- an order in which a slot's number moved, with new keys in the slots
   still : (slots' : List K) (place at slot len' : ℕ) → place < length order → at < length order → slot ≡ get_or order place slot → length slots' ≡ length slots → len' ≤ length order → IsInOrder before (keys_of sample slots' (insert (remove order place) at slot) len') → IsKept before sample slots' (insert (remove order place) at slot) len'
-  still slots' place at slot len' inside near is long within sorted =
-      let short = length-remove order place inside in
-      let count : length (insert (remove order place) at slot) ≡ length order = omega (arith, length-insert (remove order place) at slot (omega arith)) in
-      record {
-        once = λ s. times_moved order place at slot s inside (sym is) ∙ kept.once s ∙ ap (λ (n : ℕ). cond (nat_lt s n) 1 0) (sym long);
-        sorted = sorted;
-        within = omega arith;
-        size = omega (arith, kept.size);
-        most = omega (arith, kept.most);
-      }
+  still slots' place at slot len' inside near is long within sorted = grind (arith, nat_tests, common_steps, length-remove, length-insert, times_moved, size)
 
   pub came : (key : K) (place slot : ℕ) (order' : List ℕ) → IsInOrder before now → IsPlaceOf before now key place → len < length order → slot ≡ get_or order len slot → order' ≡ insert (remove order len) (landing len place) slot → IsKept before sample (set slots slot key) order' (len + 1) × IsPermutation (key ∷ now) (keys_of sample (set slots slot key) order' (len + 1)) × Contains (keys_of sample (set slots slot key) order' (len + 1)) key
   came key place slot order' sorted at room is e =

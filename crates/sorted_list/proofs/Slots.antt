@@ -1,11 +1,12 @@
 -- The keys in the slots of an order: what a slot that isn't there, or moves, makes of them.
+use Rattle.std.proofs.lemmas.Grind.{common_steps}
 use Rattle.std.proofs.Common.{◌≡◌, ◌≢◌, ℕ, suc, ◌+◌, ◌-◌, ◌<◌, ◌≤◌, Bool, true, false, cond, nat_lt, ◌==◌, List, [], ◌∷◌, ◌++◌, length, get_or, map, set, take, drop, insert, remove, Some, refl, sym, ap, ◌∙◌, inl, inr, arith, eq-eqb}
 use Rattle.std.proofs.lemmas.Bool.Decides.{nat_tests}
 use Rattle.std.specs.List.{take-map, drop-map}
 use Rattle.std.proofs.lemmas.Bool.{cases_lt, cases_Bool, lt-ltb, le-ltb, ne_eqb}
 use Rattle.std.proofs.lemmas.List.{map-append, drop_more, length-take-le, get_or-set_same, get_or-set_other, get_or-take, get_or-map, get_or_default, length-map}
 use Rattle.std.proofs.lemmas.List.Sums.{sum_by-append, sum_by-cons, sum_by-take-drop}
-use Rattle.std.proofs.lemmas.List.Sorted.{sum_by-IsPermutation, IsPermutation-insert, IsPermutation-remove}
+use Rattle.std.proofs.lemmas.List.Sorted.{sum_by-IsPermutation, IsPermutation-remove}
 use Rattle.std.specs.Prelude.{slice_get}
 use Rattle.std.proofs.lemmas.Option.{slice_get_read}
 use Rattle.tc_units.proofs.Counts.{count_some}
@@ -39,10 +40,7 @@ unseen sample key slots slot (x ∷ xs) h =
 
 -- a number that moves stands as often as before
 pub times_moved : (order : List ℕ) (place target slot s : ℕ) → place < length order → get_or order place slot ≡ slot → times s (insert (remove order place) target slot) ≡ times s order
-times_moved order place target slot s inside is =
-    let out = sum_by-IsPermutation (λ (x : ℕ). cond (x == s) 1 0) order (slot ∷ remove order place) (IsPermutation-remove order place slot inside (sym is)) in
-    let back = sum_by-IsPermutation (λ (x : ℕ). cond (x == s) 1 0) (slot ∷ remove order place) (insert (remove order place) target slot) (IsPermutation-insert (remove order place) target slot) in
-    omega (arith, out, back)
+times_moved order place target slot s inside is = grind (arith, nat_tests, common_steps, sum_by-IsPermutation)
 
 module _ (order : List ℕ) (size : ℕ) (once : (s : ℕ) → times s order ≡ cond (nat_lt s size) 1 0) where
   -- a slot of the order is there
@@ -103,9 +101,7 @@ module _ {K : Type 0} (sample key : K) (slots : List K) (order : List ℕ) (len 
       ∙ ap (insert (remove (keys_of sample slots order len) place) target) (put place (omega arith) is)
 
   pub key_left : (place : ℕ) → len ≤ length order → place < len → keys_of sample slots (insert (remove order place) (len - 1) slot) (len - 1) ≡ remove (keys_of sample slots order len) place
-  key_left place within inside =
-      let old : ℕ → K = λ s. get_or slots s sample in
-      ap (map old) (moved_out order len slot within place inside) ∙ map-remove old (take len order) place
+  key_left place within inside = grind (arith, nat_tests, moved_out, map-remove)
 
 -- one slot more
 pub counted_more : (order : List ℕ) (n s : ℕ) → times s order ≡ cond (nat_lt s n) 1 0 → times s (order ++ n ∷ []) ≡ cond (nat_lt s (n + 1)) 1 0

@@ -1,13 +1,13 @@
-use Rattle.std.proofs.Common.{◌≡◌, ◌-◌, ◌*◌, ◌<◌, ◌≤◌, true, length, get_or, option_map}
+use Rattle.std.proofs.Common.{◌≡◌, ◌-◌, ◌*◌, ◌<◌, ◌≤◌, true, length, get_or}
 use Rattle.range_bits.specs.Words.{row_of}
-use Rattle.range_bits.proofs.Scan.{best_before, view}
+use Rattle.range_bits.proofs.Scan.{IsBest}
 use Rattle.range_bits.proofs.ranges.best_range.Given as goal
 
 abbrev pub invariant-loop-from : goal.invariant-loop-from
 invariant-loop-from l = record {
   inside : l.from ≤ 64 * length l.words;
   edge : 0 < l.from → l.from < length (row_of l.words) → get_or (row_of l.words) l.from true ≡ true;
-  best : l.found ≡ option_map (view (row_of l.words)) (best_before (row_of l.words) l.n l.from);
+  best : IsBest (row_of l.words) l.n l.from l.found;
 }
 
 abbrev pub decreases-loop-from : goal.decreases-loop-from

@@ -1,7 +1,20 @@
 use Rattle.std.proofs.Common.{ap, count_by, arith}
 use Rattle.free_ranges.specs.Ranges.{Listing}
-use Rattle.free_ranges.proofs.Listed.{added}
+use Rattle.free_ranges.proofs.Listed.{added, index_added}
 use Rattle.free_ranges.proofs.listing.RangeList.add.Goals as goal
 
 pub returns-clause-ranges : goal.returns-clause-ranges
-returns-clause-ranges c _ test = omega (arith, added test c.self.inside.list.keys c.insert.new.self.keys c.args.start c.args.len (omega arith) c.insert.ensures.keys, ap (λ (l : Listing). count_by test l.ranges) c.self.view_is)
+returns-clause-ranges c _ test =
+    omega (
+      arith,
+      added test c.self.inside.by_length.keys c.insert.new.self.keys c.args.start c.args.len (omega arith) c.insert.ensures.keys,
+      ap
+          (λ (l : Listing). count_by test l.ranges) c.self.view_is,
+    )
+
+pub invariant_of-self-2 : goal.invariant_of-self-2
+invariant_of-self-2 c = (
+  index_added (λ p. p.range) c.self.inside.by_place.keys c.insert-2.new.self.keys c.self.inside.by_length.keys c.insert.new.self.keys _ c.self.invariant.0
+      c.insert-2.ensures.keys c.insert.ensures.keys,
+  omega arith,
+)

@@ -1,7 +1,6 @@
-use Rattle.std.proofs.Common.{false, length, subst, refl, arith}
+use Rattle.std.proofs.lemmas.Grind.{common_steps}
+use Rattle.std.proofs.Common.{arith}
 use Rattle.std.proofs.lemmas.Bool.Decides.{nat_tests}
-use Rattle.range_bits.specs.Fills.{IsEnd}
-use Rattle.huge_cache.specs.Cache.{Cache}
 use Rattle.huge_cache.proofs.Kept.{none_backed, last_is}
 use Rattle.huge_cache.proofs.cache.HugeCache.last_backed.Goals as goal
 
@@ -12,5 +11,4 @@ pub returns-then-end-eq0-clause-none : goal.returns-then-end-eq0-clause-none
 returns-then-end-eq0-clause-none c = grind (arith, nat_tests, none_backed)
 
 pub returns-clause-last : goal.returns-clause-last
-returns-clause-last c =
-    last_is c.args.self.now c.free_end-end.result _ (subst (λ (v : Cache). IsEnd v.unready (length v.unready) false c.free_end-end.result) c.self.view_is c.free_end-end.ensures) (omega (arith, c.if-end-eq0.false)) refl
+returns-clause-last c = grind (arith, nat_tests, common_steps, last_is)

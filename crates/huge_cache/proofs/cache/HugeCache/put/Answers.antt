@@ -1,15 +1,30 @@
 use Rattle.std.proofs.Common.{◌≡◌, ℕ, ◌-◌, length, ap, ◌∙◌, arith}
+use Rattle.std.proofs.lemmas.Bool.{cases_Bool}
 use Rattle.std.proofs.lemmas.Bool.Decides.{nat_tests}
-use Rattle.range_bits.specs.Ranges.{with_places}
+use Rattle.range_bits.specs.Ranges.{used_from, with_places}
 use Rattle.huge_cache.specs.Cache.{Cache}
+use Rattle.huge_cache.proofs.Found.{used_too}
 use Rattle.huge_cache.proofs.Kept.{cache_of, sound_put}
 use Rattle.huge_cache.proofs.cache.HugeCache.put.Goals as goal
 
-pub put-requires : goal.put-requires
-put-requires c = omega (arith, c.requires.inside, c.place_of-place.ensures, ap (λ (v : Cache). length v.taken) c.self.view_is)
+pub put-requires-clause-inside : goal.put-requires-clause-inside
+put-requires-clause-inside c = omega (arith, c.requires.inside, c.place_of-place.ensures, ap (λ (v : Cache). length v.taken) c.self.view_is)
 
-pub put-requires-2 : goal.put-requires-2
-put-requires-2 c = omega (arith, c.requires.inside, c.place_of-place.ensures, ap (λ (v : Cache). length v.taken) c.self.view_is, c.self.invariant.lengths)
+pub put-requires-clause-taken : goal.put-requires-clause-taken
+put-requires-clause-taken c free =
+    omega (
+      arith,
+      c.requires.out free,
+      ap (used_from c.self.inside.taken) c.place_of-place.ensures,
+      ap
+          (λ (v : Cache). used_from v.taken (c.args.first.0 - 1)) c.self.view_is,
+    )
+
+pub put-requires-2-clause-inside : goal.put-requires-2-clause-inside
+put-requires-2-clause-inside c = omega (arith, c.requires.inside, c.place_of-place.ensures, ap (λ (v : Cache). length v.taken) c.self.view_is, c.self.invariant.lengths)
+
+pub put-requires-2-clause-taken : goal.put-requires-2-clause-taken
+put-requires-2-clause-taken c free = grind (arith, nat_tests, cases_Bool, used_too)
 
 taken_is : (c : goal.After-put-2) → c.put.new.self ≡ with_places c.self.inside.taken (c.args.first.0 - 1) c.args.many c.args.taken
 taken_is c = c.put.ensures ∙ ap (λ (p : ℕ). with_places c.self.inside.taken p c.args.many c.args.taken) c.place_of-place.ensures

@@ -1,27 +1,37 @@
-use Rattle.std.proofs.Common.{List, Bool, length, ap, ◌∙◌, arith}
-use Rattle.range_bits.specs.Ranges.{with_places}
-use Rattle.huge_cache.proofs.Padded.{changed, front_length}
+use Rattle.std.proofs.lemmas.Bool.Decides.{nat_tests}
+use Rattle.std.proofs.lemmas.Grind.{common_steps}
+use Rattle.std.proofs.Common.{List, Bool, length, ap, arith}
+use Rattle.range_bits.specs.Ranges.{used_from}
+use Rattle.huge_cache.proofs.Padded.{changed, front_length, used-front}
 use Rattle.huge_cache.proofs.row.Row.put.Goals as goal
 
 pub used_in-was-requires : goal.used_in-was-requires
 used_in-was-requires c = omega (arith, c.requires, front_length c.self.inside.len c.self.inside.bits c.self.invariant.0, ap (λ (r : List Bool). length r) c.self.view_is, c.self.invariant.0.within)
 
+pub change-requires-clause-taken : goal.change-requires-clause-taken
+change-requires-clause-taken c free =
+    omega (
+      arith,
+      c.requires.taken free,
+      used-front c.self.inside.len c.self.inside.bits c.args.start c.self.invariant.0,
+      ap
+          (λ (r : List Bool). used_from r c.args.start) c.self.view_is,
+    )
+
 pub overflow_sub-self : goal.overflow_sub-self
 overflow_sub-self c =
-    let to = changed c.put.new.self c.args.start c.args.n c.args.used c.self.invariant.0 c.put.ensures (omega (arith, c.requires, ap (λ (r : List Bool). length r) c.self.view_is)) in
+    let to = changed c.change.new.bits c.args.start c.args.n c.args.used c.self.invariant.0 c.change.ensures (omega (arith, c.requires, ap (λ (r : List Bool). length r) c.self.view_is)) in
     omega (arith, to.was, c.self.invariant.1)
 
 pub overflow_add-self : goal.overflow_add-self
 overflow_add-self c =
-    let to = changed c.put.new.self c.args.start c.args.n c.args.used c.self.invariant.0 c.put.ensures (omega (arith, c.requires, ap (λ (r : List Bool). length r) c.self.view_is)) in
+    let to = changed c.change.new.bits c.args.start c.args.n c.args.used c.self.invariant.0 c.change.ensures (omega (arith, c.requires, ap (λ (r : List Bool). length r) c.self.view_is)) in
     omega (arith, to.count, to.few, c.self.invariant.1)
 
 pub invariant_of-self : goal.invariant_of-self
 invariant_of-self c =
-    let to = changed c.put.new.self c.args.start c.args.n c.args.used c.self.invariant.0 c.put.ensures (omega (arith, c.requires, ap (λ (r : List Bool). length r) c.self.view_is)) in
+    let to = changed c.change.new.bits c.args.start c.args.n c.args.used c.self.invariant.0 c.change.ensures (omega (arith, c.requires, ap (λ (r : List Bool). length r) c.self.view_is)) in
     (to.padded, omega (arith, to.count, c.self.invariant.1))
 
 pub returns : goal.returns
-returns c =
-    let to = changed c.put.new.self c.args.start c.args.n c.args.used c.self.invariant.0 c.put.ensures (omega (arith, c.requires, ap (λ (r : List Bool). length r) c.self.view_is)) in
-    to.front ∙ ap (λ (r : List Bool). with_places r c.args.start c.args.n c.args.used) c.self.view_is
+returns c = grind (arith, nat_tests, common_steps, changed)

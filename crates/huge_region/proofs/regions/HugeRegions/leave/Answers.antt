@@ -1,3 +1,4 @@
+use Rattle.std.proofs.lemmas.Bool.Decides.{nat_tests}
 use Rattle.std.proofs.Common.{◌≡◌, ℕ, ◌-◌, ◌*◌, ◌≤◌, false, length, ap, subst, ◌∙◌, arith}
 use Rattle.range_bits.specs.Ranges.{used_from}
 use Rattle.range_bits.proofs.Counts.{used_inside}
@@ -14,10 +15,7 @@ pub huge_of-huge-requires : goal.huge_of-huge-requires
 huge_of-huge-requires c = in_arena c.self.inside c.args.self.now c.args.run.first.0 c.requires.used.0 c.self.invariant c.self.view_is c.requires.used.1.row
 
 pub overflow_sub-run : goal.overflow_sub-run
-overflow_sub-run c =
-    let old = c.index_mut-region.result.now in
-    let at = stands (regions_of c.self.inside) c.args.self.now c.huge_of-huge.result.0 c.place_of-index.result old c.self.view_is c.self.invariant.0.sound c.place_of-index.ensures.within c.place_of-index.ensures.found c.index_mut-region.ensures.value in
-    omega (arith, at.has.low, c.from.ensures, ap (λ (k : RegionKey). k.first.0) c.key-before.ensures, c.huge_of-huge.ensures)
+overflow_sub-run c = grind (arith, nat_tests, stands)
 
 pub rekey-requires : goal.rekey-requires
 rekey-requires c =

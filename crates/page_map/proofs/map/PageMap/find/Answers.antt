@@ -1,10 +1,11 @@
-use Rattle.std.proofs.Common.{Some, None, cond, sym, ap, ◌∙◌, length, ◌*◌}
+use Rattle.std.proofs.lemmas.Bool.Decides.{nat_tests}
+use Rattle.std.proofs.Common.{arith}
+use Rattle.std.proofs.Common.{Some, None, cond, sym, ap, ◌∙◌}
 use Rattle.page_map.proofs.Meaning.{outside, none_begun, begun, past_by}
 use Rattle.page_map.proofs.map.PageMap.find.Goals as goal
 
 pub returns-then-not-have-clause-first : goal.returns-then-not-have-clause-first
-returns-then-not-have-clause-first c =
-    outside c.self.inside.leaves.leaves.items c.self.inside.begins c.args.self.now c.args.page.0 c.self.view_is c.self.invariant (past_by c.have.result c.args.page.0 (256 * length c.self.inside.leaves.leaves.items) c.if-not-have.true c.have.ensures.1)
+returns-then-not-have-clause-first c = grind (arith, nat_tests, outside, past_by)
 
 pub returns-in_err-begin-clause-first : goal.returns-in_err-begin-clause-first
 returns-in_err-begin-clause-first c = c.from_residual.ensures ∙ none_begun c.self.inside.leaves.leaves.items c.self.inside.begins c.args.self.now c.args.page.0 c.self.view_is c.self.invariant c.in_err-begin.ensures

@@ -1,5 +1,7 @@
-use Rattle.std.proofs.Common.{Some, ◌∙◌, ◌==◌, sym, ap, cond, set, find, true, subst}
-use Rattle.page_map.specs.Spans.{holds, with_span}
+use Rattle.std.proofs.lemmas.Bool.Decides.{nat_tests}
+use Rattle.std.proofs.Common.{arith}
+use Rattle.std.proofs.Common.{Some, ◌∙◌, ◌==◌, sym, ap, cond, set, true, subst}
+use Rattle.page_map.specs.Spans.{with_span}
 use Rattle.page_map.specs.Begins.{IsKept}
 use Rattle.page_map.proofs.SpanFacts.{find-with_span}
 use Rattle.page_map.proofs.Meaning.{Means, means_with}
@@ -21,5 +23,4 @@ pub returns-clause-well_formed : goal.returns-clause-well_formed
 returns-clause-well_formed c = (meaning c).kept.well_formed
 
 pub returns-clause-reads : goal.returns-clause-reads
-returns-clause-reads c =
-    λ page. ap (λ m. find (holds page) m.spans) (meaning c).is ∙ find-with_span page c.args.span c.args.self.now.spans c.requires.apart
+returns-clause-reads c = grind (arith, nat_tests, meaning, find-with_span)

@@ -1,11 +1,8 @@
-use Rattle.std.proofs.Common.{◌≡◌, ◌+◌, ◌-◌, arith}
+use Rattle.std.proofs.lemmas.Bool.Decides.{nat_tests}
+use Rattle.std.proofs.Common.{arith}
 use Rattle.range_bits.proofs.RowFacts.{places_of}
 use Rattle.range_bits.proofs.Parts.{row_of-part}
 use Rattle.range_bits.proofs.wide_bits.WideBits.best_in.Goals as goal
 
 pub returns : goal.returns
-returns c =
-    let size = places_of c.self.inside.words.items c.args.self.now c.self.view_is in
-    let count : c.args.first + c.args.words - c.args.first ≡ c.args.words = omega arith in
-    let part = row_of-part c.deref.result.now c.args.first c.args.words (omega arith) in
-    grind (arith, count, part, c.self.view_is, c.deref.ensures.value)
+returns c = grind (arith, nat_tests, places_of, row_of-part)
