@@ -1,4 +1,4 @@
--- The acts at the heap, the map, the names and the caches of domains fit.
+-- The acts at the heap, the map and the names fit.
 use Rattle.std.proofs.Common.{◌≡◌, ℕ, zero, suc, ◌/◌, ◌^◌, ◌<◌, ◌≤◌, eqb, List, [], ◌∷◌, length, get_or, All, Contains, Some, None, refl, sym, ap, ◌∙◌, inl, inr, arith}
 use Rattle.std.specs.Prelude.{find, is_some, slice_get}
 use Rattle.std.proofs.lemmas.Bool.{eq-eqb, le-leb}

@@ -6,7 +6,7 @@ use Rattle.alloc_rules.specs.Machine.{Parts}
 use Rattle.call_steps.specs.Local.{Local}
 use Rattle.call_steps.specs.Fronts.{FrontRules}
 
--- a transfer list, or the cache of a domain, has room for so many objects, and no more of them
+-- a transfer list has room for so many objects, and no more of them
 pub record HasRoom (most : ℕ) (t : Transfer) : Type 0 where
   pub room : t.room ≡ most
   pub within : length t.objects ≤ most

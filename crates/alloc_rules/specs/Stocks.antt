@@ -20,7 +20,7 @@ use Rattle.call_steps.specs.Calls.{About}
 use Rattle.alloc_rules.specs.Accounts.{account_of}
 use Rattle.call_steps.specs.Fronts.{FrontRules}
 
--- the shard of a class, and the cache of a class in a domain; of a class that isn't there, one without anything
+-- the shard of a class; of a class that isn't there, one without anything
 abbrev pub no_shard : Shard
 no_shard = record { class = class_number 0; transfer = record { objects = []; room = 0 }; central = record { row = no_row; spans = [] } }
 
