@@ -1,4 +1,4 @@
-//! The rows of the per-CPU caches and of the domains' transfer caches, and the law that they meet.
+//! The rows of the per-CPU caches and of the domains' transfer caches, their acts, and the law that they meet.
 #![tactic(auto)]
 
 mod cpu;
