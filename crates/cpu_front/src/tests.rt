@@ -1,4 +1,6 @@
 //! How calls begin, with steps that were worked out by hand.
+ghost use Rattle.cpu_rows.specs.Laws.{AreCpuLimits};
+
 use crate::CpuLocal;
 use call_steps::{Asking, HeapStep, Local, NamesStep, Setting, Step, Target};
 use cpu_rows::{CpuRow, CpuStep, Draining, Resizing, Stopping};
@@ -26,7 +28,9 @@ const CONFIG: Config = Config {
 };
 
 /// A table of 16, 64 and 8192 bytes, with four CPUs in two domains.
-fn setting_of(rt: &impl Abort, alloc: Global) -> Setting {
+fn setting_of(rt: &impl Abort, alloc: Global) -> Setting
+    ensures { AreCpuLimits result.config }
+{
     Setting {
         table: ClassTable::read(alloc, b"16,1,4\n64,1,2\n8192,1,2\n").expect(rt, "a table"),
         config: CONFIG,
@@ -34,7 +38,9 @@ fn setting_of(rt: &impl Abort, alloc: Global) -> Setting {
 }
 
 /// Thread 3 with one call, which begins at CPU 3.
-fn local_of(alloc: Global, setting: &Setting, call: Call) -> Result<CpuLocal, AllocError> {
+fn local_of(alloc: Global, setting: &Setting, call: Call) -> Result<CpuLocal, AllocError>
+    requires { AreCpuLimits setting.now.config }
+{
     let planned = vec![in alloc; Planned {
         line: 5,
         call,
