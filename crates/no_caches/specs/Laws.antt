@@ -3,7 +3,7 @@ use Rattle.std.specs.Prelude.{List}
 use Rattle.tc_units.specs.declared.spans.ClassRow.{ClassRow}
 use Rattle.tc_model.specs.Input.{Asked}
 use Rattle.alloc_rules.specs.FrontLaw.{IsLawful}
-use Rattle.alloc_rules.specs.Law.{AreLawful}
+use Rattle.alloc_rules.specs.Law.{HoldsAfter, AreLawful}
 use Rattle.alloc_rules.specs.Valid.{IsValid}
 use Rattle.no_caches.specs.NoCaches.{no_caches, about_none, planned, Holds, fits}
 
@@ -11,4 +11,4 @@ abbrev pub AreNoCachesLawful : Type 0
 AreNoCachesLawful = (rows : List ClassRow) → IsLawful (no_caches rows) about_none planned Holds fits
 
 abbrev pub InEveryOrder : Type 0
-InEveryOrder = (rows : List ClassRow) (asked : Asked) → IsValid rows planned asked → AreLawful (no_caches rows) about_none Holds asked fits
+InEveryOrder = (rows : List ClassRow) (asked : Asked) → IsValid rows planned asked → AreLawful (no_caches rows) about_none asked fits (HoldsAfter (no_caches rows) about_none Holds asked)
