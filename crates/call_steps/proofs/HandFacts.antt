@@ -1,12 +1,12 @@
 -- Hands as their items and their room, and how calls go on.
-use Rattle.std.proofs.Common.{◌≡◌, ℕ, ◌+◌, ◌-◌, List, ◌∷◌, ◌++◌, length, drop, Option, Some, None, true, ap, sym, ◌∙◌, refl, arith}
+use Rattle.std.proofs.Common.{◌≡◌, ℕ, ◌+◌, List, ◌∷◌, drop, Option, Some, None, true, ap, sym, ◌∙◌, refl}
 use Rattle.std.specs.Prelude.{is_some}
 use Rattle.tc_units.specs.Bag.{Contents}
 use Rattle.tc_units.specs.declared.units.Addr.{Addr}
 use Rattle.tc_units.specs.declared.spans.ClassRow.{ClassRow}
 use Rattle.tc_model.specs.declared.calls.Call.{Call}
 use Rattle.tc_model.specs.declared.answers.Answer.{Answer}
-use Rattle.rseq_core.specs.Bags.{without_first, appended}
+use Rattle.rseq_core.specs.Bags.{without_first}
 use Rattle.tc_model.specs.declared.calls.Call.TheVariants.{Malloc}
 use Rattle.tc_model.specs.declared.answers.Answer.TheVariants.{Block}
 use Rattle.rseq_core.specs.declared.regs.Regs.{Regs}
@@ -25,10 +25,6 @@ bag_is {T} b items spare is room = ap (λ xs. let c : Contents T = record { item
 
 without_is : (old new : Contents Addr) (a : Addr) → old.items ≡ a ∷ new.items → new.spare ≡ old.spare + 1 → new ≡ without_first 1 old
 without_is old new a is room = bag_is new (drop 1 old.items) (old.spare + 1) (sym (ap (drop 1) is)) room
-
--- a bag with more items is one with these behind it
-pub appended_is : (old new : Contents Addr) (objects : List Addr) → new.items ≡ old.items ++ objects → new.spare + length objects ≡ old.spare → new ≡ appended old objects
-appended_is old new objects is room = bag_is new (old.items ++ objects) (old.spare - length objects) is (omega (arith, room))
 
 -- a call that was undecided is decided, and ends
 pub ends_by : {V R : Type 0} (e : FrontCalls V R) (l new : Local V R) (o : Option Call) (answer : Answer) → is_some o ≡ true → ((call : Call) → o ≡ Some call → new ≡ ends e (decided l call answer)) → new ≡ follows e l o (next.Decide answer None)

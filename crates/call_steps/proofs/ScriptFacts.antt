@@ -1,17 +1,15 @@
 -- How a script goes on behind a call, and which calls its answers decide.
-use Rattle.std.proofs.Common.{◌≡◌, refl, ℕ, zero, suc, List, [], ◌∷◌, ◌++◌, length, drop, ap, sym, arith, map, ◌+◌, ◌<◌, ◌≤◌, ◌^◌, ◌∙◌, true}
+use Rattle.std.proofs.Common.{◌≡◌, refl, ℕ, zero, suc, List, [], ◌∷◌, ◌++◌, length, drop, ap, sym, arith, map, ◌+◌, ◌<◌, ◌≤◌, ◌∙◌, true}
 use Rattle.std.specs.Prelude.{Option, Some, None, is_some, slice_get}
 use Rattle.std.proofs.lemmas.List.{drop_all}
-use Rattle.tc_units.specs.Bag.{Contents}
 use Rattle.tc_model.specs.declared.answers.Answered.{Answered}
 use Rattle.tc_model.specs.declared.calls.Call.{Call}
 use Rattle.tc_model.specs.declared.calls.Planned.{Planned}
-use Rattle.call_steps.specs.Local.{Decided, step_or}
-use Rattle.call_steps.specs.Calls.{About, call_about, undecided, under, without_call, IsOf}
-use Rattle.call_steps.specs.Fronts.{IsEntry}
+use Rattle.call_steps.specs.Local.{Decided}
+use Rattle.call_steps.specs.Calls.{About, undecided, under, without_call}
 use Rattle.call_steps.specs.declared.step.Step.{Step}
 use Rattle.call_steps.specs.declared.step.Step.TheVariants as does
-use Rattle.call_steps.specs.Kept.{decided_by, call_at, IsKept}
+use Rattle.call_steps.specs.Kept.{decided_by, call_at}
 
 without : (o : Option Call) → is_some o ≡ true → without_call o ≡ 0
 without None is = absurd (cc)
@@ -26,20 +24,6 @@ module _ {R : Type 0} (about : R → About) where
   undecided_under (does.Map row) is = without (undecided about (does.Map row)) is
   undecided_under (does.Names row) is = without (undecided about (does.Names row)) is
   undecided_under does.Ended is = absurd (cc)
-
-  -- a row of the front-end with which a call begins, or what it begins with else, is of that call and decides nothing yet
-  pub entry_of : (a : About) (call : Call) (other : Step R) (o : Option R) → IsEntry about a o → call_about a ≡ Some call → IsOf about other (Some call) → IsOf about (step_or other o) (Some call)
-  entry_of a call other None entry is of = of
-  entry_of a call other (Some row) entry is of = λ c at. sym is ∙ (sym (ap call_about entry) ∙ at)
-
-  pub entry_under : (a : About) (call : Call) (other : Step R) (o : Option R) → IsEntry about a o → call_about a ≡ Some call → under about other ≡ 0 → under about (step_or other o) ≡ 0
-  entry_under a call other None entry is none = none
-  entry_under a call other (Some row) entry is none = without (call_about (about row)) (ap is_some (ap call_about entry ∙ is))
-
-  -- what the code keeps, once the thread has come to a call
-  pub kept_at : (script : List Planned) (place : ℕ) (next : Step R) (answers : Contents Answered) → place ≤ length script → length script < 2 ^ 64 → length answers.items ≡ place → length answers.items + answers.spare ≡ length script
-      → IsOf about next (call_at script place) → under about next ≡ 0 → IsKept about script place next answers
-  kept_at script place next answers within few count room of none = record { within = within; few = few; count = omega (arith, count, none); room = room; call = of }
 
 -- one answer more decides the call behind those that were answered
 pub decided_more : (script : List Planned) (answers : List Answered) (a : Answered) (call : Call) → call_at script (length answers) ≡ Some call → decided_by script (answers ++ a ∷ []) ≡ decided_by script answers ++ record { act = a.act; call = call; answer = a.answer } ∷ []
