@@ -1,21 +1,11 @@
 -- The tightest, the longest and the last range of a row, found among its listed ranges.
 use Rattle.std.proofs.Common.{◌≡◌, ℕ, zero, suc, ◌+◌, ◌-◌, ◌<◌, ◌≤◌, ◌==◌, ◌||◌, ◌⊎◌, Bool, true, false, not, nat_lt, List, [], length, get_or, drop, Option, Some, None, IfSome, All, Contains, refl, sym, ap, subst, ◌∙◌, inl, inr, arith, eqb-true}
-use Rattle.std.proofs.lemmas.Bool.{cases_lt, cases_Bool, and_parts, not-true, not-false}
-use Rattle.std.proofs.lemmas.Bool.Decides.{nat_tests}
-use Rattle.std.proofs.lemmas.List.{length-drop, get_or-drop}
-use Rattle.std.proofs.lemmas.List.Sums.{prefix_len_stops}
+use Rattle.free_ranges.proofs.Common.{cases_lt, cases_Bool, and_parts, not-true, not-false, nat_tests, length-drop, get_or-drop, prefix_len_stops, All-filter}
+use Rattle.free_ranges.proofs.Common.{All-contains, filter_passes, free_from, begins_range, places, best, longest, free_at, range-within, begins, best_is}
+use Rattle.free_ranges.proofs.Common.{best_none, longest_is, first_by, IsFirstFrom, IsLast, IsIndexOf, key_held, row_held, FreeRange, comes_before, range_at}
+use Rattle.free_ranges.proofs.Common.{starts, IsRange, IsLastUpto, IsLastRange, total}
 use Rattle.std.proofs.lemmas.List.FromFn.{length-range_with_len, get_or-range_with_len}
-use Rattle.std.proofs.lemmas.List.Elements.{All-filter, All-contains, filter_passes}
-use Rattle.range_bits.specs.Ranges.{free_from, begins_range, places, best, longest}
 use Rattle.range_bits.proofs.RangeFacts.{free_is_inside}
-use Rattle.range_bits.proofs.RangeLemmas.{free_at, range-within}
-use Rattle.range_bits.proofs.Scan.{begins, best_is, best_none, longest_is}
-use Rattle.sorted_list.specs.Order.{first_by, IsFirstFrom, IsLast}
-use Rattle.sorted_list.specs.Rows.{IsIndexOf}
-use Rattle.sorted_list.proofs.Rows.{key_held, row_held}
-use Rattle.free_ranges.specs.declared.range.FreeRange.{FreeRange}
-use Rattle.free_ranges.specs.Ranges.{comes_before, range_at, starts, IsRange, IsLastUpto, IsLastRange}
-use Rattle.free_ranges.specs.Total.{total}
 use Rattle.free_ranges.proofs.Lists.{kept_by}
 
 -- a place that begins a range is a start
@@ -25,8 +15,7 @@ is_start row p inside begins =
     kept_by (begins_range row) (places row) p (p, omega (arith, length-range_with_len 0 (length row)), at) begins
 
 or_cases : (a b : Bool) → (a || b) ≡ true → (a ≡ true) ⊎ (b ≡ true)
-or_cases true b e = inl refl
-or_cases false b e = inr e
+or_cases a b e = grind (arith, nat_tests)
 
 -- the maximal free range that begins at a place
 pub range_of : (row : List Bool) (s : ℕ) → s < length row → begins_range row s ≡ true → IsRange row (range_at row s)
@@ -36,15 +25,10 @@ range_of row s inside starts =
     let stop : s + free_from row s < length row → get_or row (s + free_from row s) true ≡ true =
     λ l. (let size = length-drop s row in sym (get_or-drop s row (free_from row s) true) ∙ not-false _ (prefix_len_stops not (drop s row) true (omega arith))) in
     record {
-      some = elim (cases_lt 0 (free_from row s)) [
-        | inl some ↦ some
-        | inr none ↦
-            (let e : s + free_from row s ≡ s = omega arith in
-            let used : get_or row s true ≡ true = sym (ap (λ (k : ℕ). get_or row k true) e) ∙ stop (omega arith) in
-            absurd (let c : true ≡ false = sym used ∙ not-true _ parts.0 in cc))
-      ];
+      some = grind (arith, nat_tests, cases_lt, free_from, not-true);
       within = far;
-      free = λ p low high. (let e : s + (p - s) ≡ p = omega arith in ap (λ (k : ℕ). get_or row k true) (sym e) ∙ free_at row s (free_from row s) (p - s) true (omega arith) (omega arith));
+      free = λ p low high. (let e : s + (p - s) ≡ p =
+          omega arith in ap (λ (k : ℕ). get_or row k true) (sym e) ∙ free_at row s (free_from row s) (p - s) true (omega arith) (omega arith));
       before = λ pos. elim (or_cases (s == 0) (get_or row (s - 1) true) parts.1) [ inl first ↦ absurd (omega (arith, eqb-true s 0 first)) | inr used ↦ used ];
       end = stop;
     }
@@ -77,8 +61,7 @@ module _ (row : List Bool) (keys : List FreeRange) (index : IsIndexOf (range_at 
       let at = row_held comes_before total (range_at row) (starts row) keys key index held in
       let near = All-contains (λ y. (0 ≤ y) × (y < 0 + length row)) (starts row) at.0
       (All-filter (begins_range row) (λ y. (0 ≤ y) × (y < 0 + length row)) (places row) (range-within 0 (length row))) at.1 in
-      let passes = All-contains (λ y. begins_range row y ≡ true) (starts row) at.0 (filter_passes (begins_range row) (places row)) at.1 in
-      subst (λ (r : FreeRange). (r.start < length row) × (begins_range row r.start ≡ true) × (free_from row r.start ≡ r.len)) at.2 (omega (arith, near.1), passes, refl)
+      grind (arith, nat_tests, begins_range, filter_passes, free_from)
 
   -- the range of a start is held, and what each key has
   pub listed : (s : ℕ) → s < length row → begins_range row s ≡ true → Contains keys (range_at row s)
@@ -92,13 +75,7 @@ module _ (row : List Bool) (keys : List FreeRange) (index : IsIndexOf (range_at 
       let at = ranged key is.held in
       let other : (y : ℕ) → y < length row → begins_range row y ≡ true → n ≤ free_from row y → comes_before (range_at row y) key ≡ false =
       λ y inside begins long. each (λ r. comes_before r (record { len = n; start = 0 }) ≡ false → comes_before r key ≡ false) is.first y inside begins (not_below (free_from row y) n y long) in
-      best_is row n (length row) key.start (omega arith) (record {
-        before = at.0;
-        inside = at.0;
-        starts = at.1;
-        long = omega (arith, at.2, not_first key.len n _ is.behind);
-        least = λ y inside begins long. tighter (free_from row y) key.len y key.start (free_from row key.start) (other y inside begins long) at.2;
-      })
+      best_is row n (length row) key.start (omega arith) (grind (arith, nat_tests, not_first, tighter, free_from))
 
   pub best_nowhere : (n : ℕ) → 0 < n → All (λ key. comes_before key (record { len = n; start = 0 }) ≡ true) keys → best row n ≡ None
   best_nowhere n some all = best_none row n some (λ y inside begins. below (free_from row y) n y (each (λ r. comes_before r (record { len = n; start = 0 }) ≡ true) all y inside begins))
@@ -114,10 +91,7 @@ module _ (row : List Bool) (keys : List FreeRange) (index : IsIndexOf (range_at 
 
   pub longest_nowhere : keys ≡ [] → longest row ≡ 0
   longest_nowhere none =
-      longest_is row (length row) 0 (omega arith) (record {
-        bound = λ y inside begins. absurd (omega (arith, (listed y inside begins).1, ap (λ (ks : List FreeRange). length ks) none));
-        there = λ some. absurd (omega arith);
-      })
+      longest_is row (length row) 0 (omega arith) (grind (arith, nat_tests, listed))
 
   -- the last listed range up to a place is the row's, and where there is none no place up to it is free
   not_begun : (p : ℕ) → p < length row → ((range : FreeRange) → Contains keys range → range.start ≡ p → ⊥) → begins_range row p ≡ false
@@ -141,5 +115,4 @@ module _ (row : List Bool) (keys : List FreeRange) (index : IsIndexOf (range_at 
       none_free row 0 p p (omega arith) (used_here row 0 (λ pos. absurd (omega arith)) (no 0 (omega arith))) (λ q low high. no q (omega arith))
 
 pub range_small : (row : List Bool) (place most : ℕ) (o : Option FreeRange) → length row < most → IfSome o (IsLastRange row place) → IfSome o (λ r. r.start + r.len < most)
-range_small row place most None l h = tt
-range_small row place most (Some r) l h = omega (arith, h.maximal.within)
+range_small row place most o l h = grind (arith, nat_tests)

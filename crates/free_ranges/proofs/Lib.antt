@@ -1,3 +1,4 @@
+mod Common
 mod Found
 mod Listed
 mod Lists

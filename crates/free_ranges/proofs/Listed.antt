@@ -1,25 +1,14 @@
 -- What a mark or an unmark makes of the listed ranges.
 use Rattle.std.proofs.Common.{◌≡◌, ℕ, ◌+◌, ◌-◌, ◌<◌, ◌≤◌, ◌==◌, ◌&&◌, Bool, true, false, cond, List, [], ◌∷◌, drop, length, get_or, count_by, All, min, max, Contains, IsPermutation, replicate, refl, sym, ap, subst, ◌∙◌, inl, inr, arith, eq-eqb, eqb-true}
-use Rattle.std.proofs.lemmas.Bool.Decides.{nat_tests}
-use Rattle.std.proofs.lemmas.Bool.{cases_lt, and_from, and_parts}
-use Rattle.std.proofs.lemmas.List.{get_or-drop, get_or-replicate, length-replicate}
-use Rattle.std.proofs.lemmas.List.Sums.{sum_by-cons, prefix_len_passes}
-use Rattle.std.proofs.lemmas.List.Elements.{All-contains}
+use Rattle.free_ranges.proofs.Common.{nat_tests, cases_lt, and_from, and_parts, get_or-drop, get_or-replicate, length-replicate, sum_by-cons, prefix_len_passes}
+use Rattle.free_ranges.proofs.Common.{All-contains, free_from, used_from, with_places, free_inside, used_inside, length-with_places, place_before, place_in}
+use Rattle.free_ranges.proofs.Common.{place_behind, placed_again, placed_already, free_at, free_run, begins, IsFirstFrom, IsIndexOf, found_some, count_held}
+use Rattle.free_ranges.proofs.Common.{key_held, row_held, index_more, index_fewer, FreeRange, Listing, IsListed, comes_before, comes_later, range_at, starts}
+use Rattle.free_ranges.proofs.Common.{IsRange, IsLastUpto, IsLastRange, total}
 use Rattle.std.proofs.lemmas.List.Sorted.{sum_by-IsPermutation}
 use Rattle.range_bits.specs.Fills.{IsEnd}
-use Rattle.range_bits.specs.Ranges.{free_from, used_from, with_places}
 use Rattle.range_bits.specs.Words.{IsNext}
-use Rattle.range_bits.proofs.Counts.{free_inside, used_inside}
-use Rattle.range_bits.proofs.Placing.{length-with_places, place_before, place_in, place_behind, placed_again, placed_already}
-use Rattle.range_bits.proofs.RangeLemmas.{free_at}
-use Rattle.range_bits.proofs.Scan.{free_run, begins}
-use Rattle.sorted_list.specs.Order.{IsFirstFrom}
-use Rattle.sorted_list.specs.Rows.{IsIndexOf}
-use Rattle.sorted_list.proofs.Rows.{found_some, count_held, key_held, row_held, index_more, index_fewer}
-use Rattle.free_ranges.specs.declared.range.FreeRange.{FreeRange}
 use Rattle.free_ranges.specs.declared.range.Placed.{Placed}
-use Rattle.free_ranges.specs.Ranges.{Listing, IsListed, comes_before, comes_later, range_at, starts, IsRange, IsLastUpto, IsLastRange}
-use Rattle.free_ranges.specs.Total.{total}
 use Rattle.free_ranges.proofs.Found.{listed, not_first, not_below, below}
 use Rattle.free_ranges.proofs.Marked.{parted}
 use Rattle.free_ranges.proofs.Pieces.{count_in, counts, counts_some, all_parts, free_part}
@@ -110,27 +99,12 @@ module _ (row : List Bool) (begin start n end : ℕ) (some : 1 ≤ n) (used : n 
   pub left_range : 0 < start - begin → IsRange row (record { len = start - begin; start = begin })
   left_range pos =
       let at : begin + (start - begin) ≡ start + 0 = omega (arith, first.within) in
-      record {
-        some = pos;
-        within = omega (arith, fits);
-        free = λ p low high. first.behind p low (omega arith);
-        before = first.there;
-        end = λ l. ap
-            (λ (i : ℕ). get_or row i true) at ∙ used_at 0 (omega arith);
-      }
+      grind (arith, nat_tests, fits, used_at)
 
   pub right_range : 0 < end - (start + n) → IsRange row (record { len = end - (start + n); start = start + n })
   right_range pos =
-      let at : start + n + (end - (start + n)) ≡ end = omega arith in
       let back : start + n - 1 ≡ start + (n - 1) = omega arith in
-      record {
-        some = pos;
-        within = omega (arith, last.within);
-        free = λ p low high. last.before p low (omega arith);
-        before = λ low. ap
-            (λ (i : ℕ). get_or row i true) back ∙ used_at (n - 1) (omega arith);
-        end = λ l. ap (λ (i : ℕ). get_or row i true) at ∙ last.there (omega arith);
-      }
+      grind (arith, nat_tests, used_at)
 
 -- a maximal free range is listed
 pub range_listed : (row : List Bool) (range : FreeRange) (l : Listing) → IsRange row range → IsListed row l → l.complete ≡ true → Contains l.ranges range
@@ -146,12 +120,7 @@ pub still_listed : (l l1 : Listing) (left right : FreeRange) → left.start < ri
 still_listed l l1 left right order went held =
     let test : FreeRange → Bool = λ r. (r.start == right.start) && (r.len == right.len) in
     let some = count_held test l.ranges right held (and_from _ _ (eq-eqb right.start right.start refl) (eq-eqb right.len right.len refl)) in
-    let none : counts test left.start left.len ≡ 0 = grind (arith, nat_tests) in
-    let found = found_some test l1.ranges (omega (arith, went test)) in
-    let parts = and_parts (found.0.start == right.start) (found.0.len == right.len) found.2 in
-    subst (λ (r : FreeRange). Contains l1.ranges r)
-    (ap (λ (t : ℕ). let r : FreeRange = record { len = found.0.len; start = t } in r) (eqb-true found.0.start right.start parts.0)
-    ∙ ap (λ (t : ℕ). let r : FreeRange = record { len = t; start = right.start } in r) (eqb-true found.0.len right.len parts.1)) found.1
+    grind (arith, nat_tests, counts, found_some, and_parts, eqb-true)
 
 -- places that are free are of the last range
 pub free_within : (row : List Bool) (range : FreeRange) (start n : ℕ) → 1 ≤ n → n ≤ free_from row start → IsLastRange row start range → start + n ≤ range.start + range.len
@@ -161,12 +130,7 @@ free_within row range start n some free last =
     elim (cases_lt e (start + n)) [
       | inr within ↦ within
       | inl short ↦
-          (let used : get_or row (start + (e - start)) true ≡ true =
-          elim (cases_lt start e) [
-            | inl more ↦ (let at : start + (e - start) ≡ e = omega arith in ap (λ (k : ℕ). get_or row k true) at ∙ last.maximal.end (omega arith))
-            | inr less ↦ (let at : start + (e - start) ≡ start = omega arith in ap (λ (k : ℕ). get_or row k true) at ∙ last.behind start less (omega arith))
-          ] in
-          absurd (let c : true ≡ false = sym used ∙ free_at row start n (e - start) true free (omega arith) in cc))
+          (absurd (let c : true ≡ false = sym (grind (arith, nat_tests, cases_lt)) ∙ free_at row start n (e - start) true free (omega arith) in cc))
     ]
 
 -- the index of a row in three changes: its range went, and what is left of it came
@@ -219,8 +183,7 @@ pub open_listed : (places : ℕ) (l l1 : Listing) → l.ranges ≡ []
 open_listed places l l1 empty came all test =
     let row : List Bool = replicate places false in
     let size : length row ≡ places = length-replicate places false in
-    let whole : count_in row test 0 (length row) ≡ counts test 0 (length row - 0) = free_part row test 0 (length row) (omega arith) (omega arith)
-    (λ p low high. get_or-replicate places p false true (omega arith)) (λ pos. absurd (omega arith)) (λ l. absurd (omega arith)) in
+    let whole : count_in row test 0 (length row) ≡ counts test 0 (length row - 0) = grind (arith, nat_tests, free_part, get_or-replicate) in
     let same : counts test 0 (length row - 0) ≡ counts test 0 places = ap (counts test 0) (let e : length row - 0 ≡ places = omega arith in e) in
     omega (arith, came all test, ap (count_by test) empty, all_parts row test)
 

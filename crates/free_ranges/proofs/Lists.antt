@@ -1,10 +1,7 @@
 -- Counts of elements that pass a test.
-use Rattle.std.proofs.Common.{◌≡◌, ℕ, zero, suc, ◌+◌, ◌-◌, ◌<◌, ◌≤◌, Bool, true, false, ◌&&◌, cond, List, [], ◌∷◌, count_by, filter, Contains, refl, sym, ap, subst, ◌∙◌, inl, inr, arith}
-use Rattle.std.proofs.lemmas.Bool.Decides.{nat_tests}
-use Rattle.std.specs.List.{range_with_len}
-use Rattle.std.proofs.lemmas.Bool.{cases_Bool}
-use Rattle.std.proofs.lemmas.List.Sums.{sum_by-cons, sum_by-append}
-use Rattle.range_bits.proofs.Scan.{range-append}
+use Rattle.std.proofs.Common.{◌≡◌, ℕ, zero, suc, ◌+◌, ◌-◌, ◌<◌, ◌≤◌, Bool, true, false, ◌&&◌, cond, List, [], ◌∷◌, count_by, filter, Contains, refl, sym, ap}
+use Rattle.std.proofs.Common.{subst, inl, inr, arith}
+use Rattle.free_ranges.proofs.Common.{nat_tests, range_with_len, cases_Bool, sum_by-cons, sum_by-append, range-append}
 
 -- those that pass another test beside
 pub count_filter : {X : Type 0} (p q : X → Bool) (xs : List X) → count_by q (filter p xs) ≡ count_by (λ x. p x && q x) xs
@@ -17,10 +14,7 @@ count_filter p q (x ∷ xs) =
           (let e : count_by q (filter p (x ∷ xs)) ≡ count_by q (x ∷ filter p xs) = ap (λ (b : Bool). count_by q (cond b (x ∷ filter p xs) (filter p xs))) t in
           let here : ◌≡◌ {A = ℕ} (cond (p x && q x) 1 0) (cond (q x) 1 0) = ap (λ (b : Bool). cond (b && q x) 1 0) t in
           omega (arith, sum_by-cons (λ y. cond (q y) 1 0) x (filter p xs)))
-      | inr f ↦
-          (let e : count_by q (filter p (x ∷ xs)) ≡ count_by q (filter p xs) = ap (λ (b : Bool). count_by q (cond b (x ∷ filter p xs) (filter p xs))) f in
-          let here : ◌≡◌ {A = ℕ} (cond (p x && q x) 1 0) 0 = ap (λ (b : Bool). cond (b && q x) 1 0) f in
-          omega arith)
+      | inr f ↦ grind (arith, nat_tests, count_by)
     ]
 
 -- an element that passes is kept
@@ -50,8 +44,4 @@ count_no_one f a (suc n) none = grind (arith, nat_tests, sum_by-cons, count_no_o
 pub count_cut : (f : ℕ → Bool) (a b c : ℕ) → a ≤ b → b ≤ c → count_by f (range_with_len a (c - a)) ≡ count_by f (range_with_len a (b - a)) + count_by f (range_with_len b (c - b))
 count_cut f a b c low high =
     let whole : c - a ≡ (b - a) + (c - b) = omega arith in
-    let at : a + (b - a) ≡ b = omega arith in
-    ap (λ (n : ℕ). count_by f (range_with_len a n)) whole
-    ∙ ap (count_by f) (range-append a (b - a) (c - b))
-    ∙ sum_by-append (λ (p : ℕ). cond (f p) 1 0) (range_with_len a (b - a)) (range_with_len (a + (b - a)) (c - b))
-    ∙ ap (λ (m : ℕ). count_by f (range_with_len a (b - a)) + count_by f (range_with_len m (c - b))) at
+    grind (arith, nat_tests, count_by, range_with_len, range-append, sum_by-append)

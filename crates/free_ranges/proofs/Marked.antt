@@ -1,12 +1,7 @@
 -- A free range of which some places come into use: its range goes, and what is left of it on both sides comes.
-use Rattle.std.proofs.Common.{◌≡◌, ℕ, ◌+◌, ◌-◌, ◌<◌, ◌≤◌, ◌&&◌, Bool, true, List, length, get_or, sym, ap, ◌∙◌, inl, inr, arith}
-use Rattle.std.proofs.lemmas.Bool.Decides.{nat_tests}
-use Rattle.std.proofs.lemmas.Bool.{cases_lt, false≢true}
-use Rattle.range_bits.specs.Ranges.{free_from, begins_range, with_places}
-use Rattle.range_bits.proofs.Placing.{length-with_places, place_before, place_in, place_behind}
-use Rattle.range_bits.proofs.Scan.{free_run, used_begins}
-use Rattle.free_ranges.specs.declared.range.FreeRange.{FreeRange}
-use Rattle.free_ranges.specs.Ranges.{range_at, IsRange}
+use Rattle.std.proofs.Common.{◌≡◌, ℕ, ◌+◌, ◌-◌, ◌<◌, ◌≤◌, Bool, true, List, length, get_or, sym, ap, ◌∙◌, inl, inr, arith}
+use Rattle.free_ranges.proofs.Common.{nat_tests, cases_lt, false≢true, free_from, begins_range, with_places, length-with_places, place_before, place_in}
+use Rattle.free_ranges.proofs.Common.{place_behind, free_run, used_begins, FreeRange, range_at, IsRange}
 use Rattle.free_ranges.proofs.Found.{range_of}
 use Rattle.free_ranges.proofs.Lists.{count_same, count_cut}
 use Rattle.free_ranges.proofs.Pieces.{tested, count_in, counts, used_part, free_part}
@@ -48,9 +43,7 @@ module _ (row : List Bool) (range : FreeRange) (start n : ℕ) (is : IsRange row
   alike test p here before len = grind (arith, nat_tests)
 
   front_same : (test : FreeRange → Bool) → count_in (with_places row start n true) test 0 range.start ≡ count_in row test 0 range.start
-  front_same test =
-      count_same (tested (with_places row start n true) test) (tested row test) 0 (range.start - 0)
-      (λ p low high. alike test p (early p (omega arith)) (early (p - 1) (omega arith)) (same_len p (omega arith)))
+  front_same test = grind (arith, nat_tests, count_same, tested, with_places, alike, early, same_len)
 
   -- It goes, and what is left of it comes.
   pub parted : (test : FreeRange → Bool) → count_in (with_places row start n true) test 0 (length row) + counts test range.start range.len
@@ -61,13 +54,7 @@ module _ (row : List Bool) (range : FreeRange) (start n : ℕ) (is : IsRange row
       let end : ℕ = range.start + range.len in
       let inside = is.within in
       let back : count_in after test end (length row) ≡ count_in row test end (length row) =
-      count_same (tested after test) (tested row test) end (length row - end) (λ p low high.
-      elim (cases_lt end p) [
-        | inl behind ↦ alike test p (late p (omega arith)) (late (p - 1) (omega arith)) (same_rest p (omega arith) (omega arith))
-        | inr first ↦ (let used : get_or row p true ≡ true = ap (λ (k : ℕ). get_or row k true) (let e : p ≡ end = omega arith in e)
-            ∙ is.end (omega arith) in ap (λ (b : Bool). b && test (range_at after p)) (used_begins after p (late p (omega arith) ∙ used))
-            ∙ sym (ap (λ (b : Bool). b && test (range_at row p)) (used_begins row p used)))
-      ]) in
+      grind (arith, nat_tests, count_same, tested, cases_lt, alike, late, same_rest, range_at, used_begins) in
       let whole = count_cut (tested row test) 0 begin (length row) (omega arith) (omega arith) in
       let rest = count_cut (tested row test) begin end (length row) (omega arith) inside in
       let middle = free_part row test begin end (omega arith) inside is.free is.before is.end in

@@ -1,13 +1,8 @@
 -- The ranges that begin in a part of a row.
-use Rattle.std.proofs.lemmas.Bool.Decides.{nat_tests}
-use Rattle.std.proofs.Common.{◌≡◌, ℕ, suc, ◌+◌, ◌-◌, ◌<◌, ◌≤◌, ◌&&◌, Bool, true, false, cond, nat_lt, List, ◌∷◌, length, get_or, count_by, sym, ap, ◌∙◌, inl, inr, arith}
-use Rattle.std.specs.List.{range_with_len}
-use Rattle.std.proofs.lemmas.Bool.{cases_lt, lt-ltb, le-ltb}
-use Rattle.std.proofs.lemmas.List.Sums.{sum_by-cons}
-use Rattle.range_bits.specs.Ranges.{free_from, begins_range}
-use Rattle.range_bits.proofs.Scan.{free_run, used_begins, behind_free, begins}
-use Rattle.free_ranges.specs.declared.range.FreeRange.{FreeRange}
-use Rattle.free_ranges.specs.Ranges.{range_at, starts}
+use Rattle.free_ranges.proofs.Common.{nat_tests, range_with_len, cases_lt, lt-ltb, le-ltb, sum_by-cons, free_from, begins_range, free_run, used_begins}
+use Rattle.free_ranges.proofs.Common.{behind_free, FreeRange, range_at, starts}
+use Rattle.std.proofs.Common.{◌≡◌, ℕ, suc, ◌+◌, ◌-◌, ◌<◌, ◌≤◌, ◌&&◌, Bool, true, false, cond, nat_lt, List, length, get_or, count_by, sym, ap, ◌∙◌, inl, inr}
+use Rattle.std.proofs.Common.{arith}
 use Rattle.free_ranges.proofs.Lists.{count_filter, count_no_one}
 
 -- whether a range that passes a test begins at a place
@@ -48,15 +43,10 @@ free_part row test from to order inside free before behind =
           let next : from + (to - from) ≡ to = omega arith in
           let len : free_from row from ≡ to - from = free_run row (to - from) from (omega arith) (λ j low high. free j low (omega arith))
           (λ l. ap (λ (k : ℕ). get_or row k true) next ∙ behind (omega arith)) in
-          let here : tested row test from ≡ test (record { len = to - from; start = from }) =
-          ap (λ (b : Bool). b && test (range_at row from)) (begins row from (free from (omega arith) some) before)
-          ∙ ap (λ (l : ℕ). test (record { len = l; start = from })) len in
           let none : count_by (tested row test) (range_with_len (from + 1) rest) ≡ 0 =
           count_no_one (tested row test) (from + 1) rest (λ p low high. not_tested row test p (behind_free row p (omega arith) (free (p - 1) (omega arith) (omega arith)))) in
           let step = sum_by-cons (λ (p : ℕ). cond (tested row test p) 1 0) from (range_with_len (from + 1) rest) in
-          let first : ◌≡◌ {A = ℕ} (cond (tested row test from) 1 0) (cond (test (record { len = to - from; start = from })) 1 0) = ap (λ (b : Bool). cond b 1 0) here in
-          let list : count_in row test from to ≡ count_by (tested row test) (from ∷ range_with_len (from + 1) rest) = ap (λ (n : ℕ). count_by (tested row test) (range_with_len from n)) whole in
-          omega (arith, counts_some test from (to - from) (omega arith)))
+          grind (arith, nat_tests, count_by, range_with_len, counts_some))
     ]
 
 -- the ranges of a whole row

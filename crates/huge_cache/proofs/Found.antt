@@ -1,15 +1,8 @@
 -- The place that is found for adjacent hugepages.
-use Rattle.std.proofs.Common.{◌≡◌, ℕ, suc, ◌+◌, ◌<◌, ◌≤◌, ◌↔◌, Bool, true, false, not, List, [], ◌∷◌, length, get_or, drop, Option, Some, None, IsNone, IfSome, refl, sym, ap, subst, ◌∙◌, arith}
-use Rattle.std.specs.List.{prefix_len}
-use Rattle.std.proofs.lemmas.List.{length-drop, get_or-drop}
-use Rattle.range_bits.specs.Ranges.{free_from, used_from, longest, best}
-use Rattle.range_bits.proofs.RangeFacts.{best_is_fit}
-use Rattle.range_bits.proofs.RangeLemmas.{free_fits}
-use Rattle.range_bits.proofs.Scan.{greatest-ge}
-use Rattle.range_bits.proofs.Scan.{none_exactly}
-use Rattle.heap_rules.specs.CacheFlags.{or_else}
-use Rattle.huge_cache.specs.Cache.{Cache}
-use Rattle.huge_cache.specs.Rows.{IsSound}
+use Rattle.std.proofs.Common.{◌≡◌, ℕ, suc, ◌+◌, ◌<◌, ◌≤◌, ◌↔◌, Bool, true, false, not, List, [], ◌∷◌, length, get_or, drop, Option, Some, None, IsNone, IfSome}
+use Rattle.std.proofs.Common.{refl, sym, subst, ◌∙◌, arith}
+use Rattle.huge_cache.proofs.Common.{prefix_len, length-drop, get_or-drop, free_from, used_from, longest, best, best_is_fit, free_fits, greatest-ge, nat_tests}
+use Rattle.huge_cache.proofs.Common.{none_exactly, or_else, Cache, IsSound}
 
 -- stretches of two rows of which the second is used where the first is
 used_prefix : (xs ys : List Bool) → length xs ≡ length ys → ((k : ℕ) → get_or xs k true ≡ true → get_or ys k true ≡ true) → prefix_len (λ used. used) xs ≤ prefix_len (λ used. used) ys
@@ -53,16 +46,10 @@ found_backed c n place h some e =
     let fit = best_is_fit c.unready n place e in
     let far : n ≤ free_from c.taken place = omega (arith, fit.1, free_too c place h) in
     let there = fits_there c n place h some (omega (arith, fit.0, h.lengths)) far in
-    record {
-      place = ap (λ (o : Option ℕ). or_else o (best c.taken n)) (sym e);
-      none = ((λ (no : true ≡ false). absurd (cc)), (λ short. absurd (omega (arith, there.0))));
-      free = far;
-      inside = there.1;
-    }
+    grind (arith, nat_tests, or_else)
 
 none_is : (r : Option ℕ) → IsNone r → r ≡ None
-none_is None h = refl
-none_is (Some x) h = absurd (let c : true ≡ false = h in cc)
+none_is r h = grind (arith, nat_tests)
 
 is_none : (r : Option ℕ) → r ≡ None → IsNone r
 is_none r e = subst (λ (o : Option ℕ). IsNone o) (sym e) refl
@@ -77,9 +64,4 @@ pub found_free : (c : Cache) (n : ℕ) (r : Option ℕ) → IsSound c → 0 < n 
 found_free c n r h some none e =
     let exactly = none_exactly c.taken n r some e in
     let free = some_free c n r h some e in
-    record {
-      place = e ∙ ap (λ (o : Option ℕ). or_else o (best c.taken n)) (sym none);
-      none = ((λ no. exactly.0 (none_is r no)), (λ short. is_none r (exactly.1 short)));
-      free = free.0;
-      inside = free.1;
-    }
+    grind (arith, nat_tests, or_else, none_is, is_none)

@@ -1,15 +1,10 @@
 -- The greatest of the last counts: what a newer count and the oldest one's leaving make of them.
-use Rattle.std.proofs.lemmas.Grind.{common_steps}
-use Rattle.std.proofs.Common.{◌≡◌, ℕ, zero, suc, ◌+◌, ◌-◌, ◌<◌, ◌≤◌, Bool, true, false, nat_le, nat_lt, eqb, cond, Option, Some, None, unwrap_or, is_some, List, [], ◌∷◌, ◌++◌, length, get_or, take, drop, filter, fold, max, All, refl, sym, ap, ◌∙◌, inl, inr, arith}
-use Rattle.std.proofs.lemmas.Bool.Decides.{nat_tests}
-use Rattle.std.specs.List.{last_or}
-use Rattle.std.specs.Option.{option_eq}
-use Rattle.std.proofs.lemmas.Bool.{cases_lt, le-leb, lt-leb, leb-true, lt-ltb, eqb-true, eqb-false, cond_both}
-use Rattle.std.proofs.lemmas.List.{take_all, length_push, append-nil}
-use Rattle.std.proofs.lemmas.List.Elements.{All-head, All-tail, All-take, All-filter, All-push, All-get_or, All-nil, All-from_get_or, filter_passes, filter_more}
-use Rattle.std.proofs.lemmas.List.Sums.{length-filter, count_by-le-length}
-use Rattle.range_bits.proofs.RangeFacts.{fold_max}
-use Rattle.huge_cache.specs.Uses.{with_newest, greatest_of, IsFalling}
+use Rattle.huge_cache.proofs.Common.{common_steps, nat_tests, last_or, option_eq, cases_lt, le-leb, lt-leb, leb-true, lt-ltb, eqb-true, eqb-false, cond_both}
+use Rattle.huge_cache.proofs.Common.{take_all, length_push, append-nil, All-head, All-tail, All-take, All-filter, All-push, All-get_or, All-nil}
+use Rattle.huge_cache.proofs.Common.{All-from_get_or, filter_passes, filter_more, length-filter, count_by-le-length, fold_max, with_newest, greatest_of}
+use Rattle.huge_cache.proofs.Common.{IsFalling}
+use Rattle.std.proofs.Common.{◌≡◌, ℕ, zero, suc, ◌+◌, ◌-◌, ◌<◌, ◌≤◌, Bool, true, false, nat_le, nat_lt, eqb, cond, Option, Some, unwrap_or, is_some, List, []}
+use Rattle.std.proofs.Common.{◌∷◌, ◌++◌, length, get_or, take, drop, filter, fold, max, All, refl, sym, ap, ◌∙◌, inl, inr, arith}
 
 kept_first : (x y : ℕ) (l : List ℕ) → y ≤ x → with_newest (x ∷ l) y ≡ x ∷ with_newest l y
 kept_first x y l h = ap (λ (b : Bool). cond b (x ∷ filter (λ z. nat_le y z) l) (filter (λ z. nat_le y z) l) ++ y ∷ []) (le-leb y x h)
@@ -38,27 +33,21 @@ first_greatest (x ∷ xs) =
           (let rest : get_or (greatest_of (x ∷ xs)) 0 0 ≡ get_or (greatest_of xs) 0 0 = ap (λ (k : List ℕ). get_or k 0 0) (oldest x xs ∙ ap (λ (b : Bool). cond b (x ∷ greatest_of xs) (greatest_of xs)) (lt-leb (fold max 0 xs) x less)) in
           let before = first_greatest xs in
           omega arith)
-      | inr not_less ↦
-          (let here : get_or (greatest_of (x ∷ xs)) 0 0 ≡ x = ap (λ (k : List ℕ). get_or k 0 0) (oldest x xs ∙ ap (λ (b : Bool). cond b (x ∷ greatest_of xs) (greatest_of xs)) (le-leb (fold max 0 xs) x not_less)) in
-          omega arith)
+      | inr not_less ↦ grind (arith, nat_tests, greatest_of, oldest, le-leb)
     ]
 
 -- the oldest count leaves: it is the first of the greatest ones, or none of them
 first_leaves : (counts : List ℕ) → 0 < length counts → get_or counts 0 0 ≡ get_or (greatest_of counts) 0 0 → drop 1 (greatest_of counts) ≡ greatest_of (drop 1 counts)
-first_leaves [] some same = absurd (omega arith)
-first_leaves (x ∷ xs) some same = grind (arith, nat_tests, first_greatest, fold_max, le-leb, oldest)
+first_leaves counts some same = grind (arith, nat_tests, first_greatest, fold_max, le-leb, oldest)
 
 was_less : (counts : List ℕ) → 0 < length counts → ((l : List ℕ) → greatest_of counts ≡ get_or counts 0 0 ∷ l → ⊥) → greatest_of counts ≡ greatest_of (drop 1 counts)
-was_less [] some other = absurd (omega arith)
-was_less (x ∷ xs) some other = grind (arith, nat_tests, lt-leb, le-leb, oldest)
+was_less counts some other = grind (arith, nat_tests, lt-leb, le-leb, oldest)
 
 same_option : (x : ℕ) (f : Option ℕ) → option_eq eqb (Some x) f ≡ true → x ≡ unwrap_or f 0
-same_option x None h = cc
-same_option x (Some y) h = eqb-true x y h
+same_option x f h = grind (arith, nat_tests, eqb-true)
 
 other_option : (x : ℕ) (f : Option ℕ) → option_eq eqb (Some x) f ≡ false → is_some f ≡ true → unwrap_or f 0 ≡ x → ⊥
-other_option x None h some e = cc
-other_option x (Some y) h some e = eqb-false x y h (sym e)
+other_option x f h some e = grind (arith, nat_tests, eqb-false)
 
 pub oldest_is_first : (counts greatest : List ℕ) (o f : Option ℕ) → 0 < length counts → greatest ≡ greatest_of counts → o ≡ Some (get_or counts 0 0) → unwrap_or f 0 ≡ get_or greatest 0 0 → option_eq eqb o f ≡ true → drop 1 greatest ≡ greatest_of (drop 1 counts)
 oldest_is_first counts greatest o f some kept here first same = grind (arith, nat_tests, first_leaves, eqb, same_option, unwrap_or)
@@ -72,9 +61,7 @@ newest o [] some = absurd (omega arith)
 newest o (x ∷ []) some = refl
 newest o (x ∷ (y ∷ xs)) some =
     let rest = newest (Some x) (y ∷ xs) (omega arith) in
-    let e : suc (suc (length xs)) - 1 ≡ suc (length xs) = omega arith in
-    let f : suc (length xs) - 1 ≡ length xs = omega arith in
-    rest ∙ ap (λ (i : ℕ). Some (get_or (y ∷ xs) i 0)) f ∙ sym (ap (λ (i : ℕ). Some (get_or (x ∷ (y ∷ xs)) i 0)) e)
+    grind (arith, nat_tests)
 
 -- the greatest counts fall
 falling-filter : (p : ℕ → Bool) (l : List ℕ) → IsFalling l → IsFalling (filter p l)
@@ -122,10 +109,7 @@ last_least (x ∷ []) (suc i) h inside = absurd (omega arith)
 last_least (x ∷ (z ∷ l)) zero h inside = let rest = All-get_or (λ y. y ≤ x) (z ∷ l) (length l) 0 (omega arith) h.0 in let e : suc (suc (length l)) - 1 ≡ suc (length l) = omega arith in rw e rest
 last_least (x ∷ (z ∷ l)) (suc i) h inside =
     let rest = last_least (z ∷ l) i h.1 (omega arith) in
-    let e : suc (suc (length l)) - 1 ≡ suc (length l) = omega arith in
-    let f : suc (length l) - 1 ≡ length l = omega arith in
-    let rest' : get_or (z ∷ l) (length l) 0 ≤ get_or (z ∷ l) i 0 = rw f at rest in
-    rw e rest'
+    grind (arith, nat_tests)
 
 -- where the last isn't below, none is
 pub none_below : (y : ℕ) (l : List ℕ) → IsFalling l → y ≤ get_or l (length l - 1) 0 → filter (λ x. nat_le y x) l ≡ l

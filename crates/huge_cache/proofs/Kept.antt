@@ -1,25 +1,15 @@
 -- What isn't free stays not free and backed, through each change of both rows.
 use Rattle.std.proofs.Common.{◌≡◌, ℕ, ◌+◌, ◌-◌, ◌<◌, ◌≤◌, Bool, true, false, not, cond, map, count_by, List, [], ◌∷◌, length, get_or, refl, ap, inl, inr, arith}
-use Rattle.std.proofs.lemmas.Bool.Decides.{nat_tests}
-use Rattle.std.proofs.lemmas.Bool.{cases_lt}
-use Rattle.std.proofs.lemmas.Grind.{get_or_head}
-use Rattle.std.proofs.lemmas.List.{get_or_past}
-use Rattle.std.proofs.lemmas.List.Sums.{sum_by-cons}
-use Rattle.range_bits.specs.Ranges.{with_places}
-use Rattle.range_bits.specs.Fills.{free_count, IsEnd}
+use Rattle.huge_cache.proofs.Common.{nat_tests, cases_lt, get_or_head, get_or_past, sum_by-cons, with_places, free_count, IsEnd, length-with_places}
+use Rattle.huge_cache.proofs.Common.{get_or-with_places, at_number-place, Cache, is_backed, IsLastBacked, IsSound}
 use Rattle.range_bits.proofs.BitFacts.{is_between}
-use Rattle.range_bits.proofs.Placing.{length-with_places, get_or-with_places}
-use Rattle.heap_rules.proofs.Numbered.{at_number-place}
 use Rattle.tc_units.specs.declared.units.Huge.{Huge}
-use Rattle.huge_cache.specs.Cache.{Cache, is_backed, IsLastBacked}
-use Rattle.huge_cache.specs.Rows.{IsSound}
 
 abbrev pub cache_of : Cache → List Bool → List Bool → Cache
 cache_of c taken unready = record { most = c.most; window = c.window; taken = taken; unready = unready; counts = c.counts }
 
 one_state : (inside a b t u : Bool) → (a ≡ true → b ≡ true) → (t ≡ true → u ≡ true) → cond inside a t ≡ true → cond inside b u ≡ true
-one_state true a b t u change before h = change h
-one_state false a b t u change before h = before h
+one_state inside a b t u change before h = grind (arith, nat_tests)
 
 module _ (c : Cache) (sound : IsSound c) where
   pub sound_put : (taken unready : List Bool) (start n : ℕ) (a b : Bool) → start + n ≤ length c.taken → (a ≡ true → b ≡ true) → taken ≡ with_places c.taken start n a → unready ≡ with_places c.unready start n b → IsSound (cache_of c taken unready)

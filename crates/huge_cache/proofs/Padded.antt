@@ -1,18 +1,12 @@
 -- Rows with used places behind the arena's: what each question and change makes of the arena's part.
-use Rattle.std.proofs.Common.{◌≡◌, ℕ, zero, suc, ◌+◌, ◌-◌, ◌<◌, ◌≤◌, ◌&&◌, Bool, true, false, not, cond, nat_le, nat_lt, List, [], ◌∷◌, ◌++◌, length, get_or, set, take, drop, replicate, filter, All, refl, sym, ap, ◌∙◌, arith, add-one}
-use Rattle.std.proofs.lemmas.Bool.Decides.{nat_tests}
-use Rattle.std.specs.List.{prefix_len, range_with_len}
-use Rattle.std.proofs.lemmas.Bool.{cases_lt, and_left, not_from_true}
-use Rattle.std.proofs.lemmas.List.{append_assoc, append-nil, length-append, length-replicate, length-take-le, take-append-le, take_at, take-take, drop-take, drop-append-le, drop_all, take-replicate, replicate-append-replicate, get_or_append_left, get_or-append_right, get_or-replicate, get_or-take, set_split}
-use Rattle.std.proofs.lemmas.List.Sums.{count_by-le-length}
-use Rattle.std.proofs.lemmas.List.Elements.{filter-append, All-weaker, All-filter}
-use Rattle.range_bits.specs.Fills.{IsEnd}
-use Rattle.range_bits.specs.Ranges.{free_from, used_from, used_count, places, begins_range, first_least, best, with_places}
-use Rattle.range_bits.proofs.RangeLemmas.{range-within, filter-agree, filter-none, first_least-agree}
-use Rattle.range_bits.proofs.Scan.{range-append}
-use Rattle.range_bits.proofs.Placing.{length-with_places}
-use Rattle.range_bits.proofs.Stretches.{put_count}
-use Rattle.huge_cache.specs.Rows.{IsPadded}
+use Rattle.std.proofs.Common.{◌≡◌, ℕ, ◌+◌, ◌-◌, ◌<◌, ◌≤◌, ◌&&◌, Bool, true, false, not, cond, nat_le, nat_lt, List, [], ◌∷◌, ◌++◌, length, get_or, set, take}
+use Rattle.std.proofs.Common.{drop, replicate, filter, All, refl, sym, ap, ◌∙◌, arith, add-one}
+use Rattle.huge_cache.proofs.Common.{nat_tests, prefix_len, range_with_len, cases_lt, and_left, not_from_true, append_assoc, append-nil, length-append}
+use Rattle.huge_cache.proofs.Common.{length-replicate, length-take-le, take-append-le, take_at, take-take, drop-take, drop-append-le, drop_all, take-replicate}
+use Rattle.huge_cache.proofs.Common.{replicate-append-replicate, get_or_append_left, get_or-append_right, get_or-replicate, get_or-take, set_split}
+use Rattle.huge_cache.proofs.Common.{count_by-le-length, filter-append, All-weaker, All-filter, IsEnd, free_from, used_from, used_count, places, begins_range}
+use Rattle.huge_cache.proofs.Common.{first_least, best, with_places, range-within, filter-agree, filter-none, first_least-agree, range-append}
+use Rattle.huge_cache.proofs.Common.{length-with_places, put_count, IsPadded}
 
 -- used places behind a row
 abbrev pub pad : ℕ → List Bool
@@ -26,8 +20,7 @@ front_length huge row h = length-take-le huge row h.within
 
 -- free stretches
 stretch_end : (k : ℕ) → prefix_len not (pad k) ≡ 0
-stretch_end zero = refl
-stretch_end (suc k) = refl
+stretch_end k = grind (arith, nat_tests)
 
 stretch : (v : List Bool) (k : ℕ) → prefix_len not (v ++ pad k) ≡ prefix_len not v
 stretch [] k = stretch_end k
@@ -53,16 +46,13 @@ nearer row a b = nat_lt (free_from row a) (free_from row b)
 found-padded : (v : List Bool) (k n : ℕ) → filter (fits (v ++ pad k) n) (places (v ++ pad k)) ≡ filter (fits v n) (places v)
 found-padded v k n =
     let m : ℕ = length v in
-    let size : length (v ++ pad k) ≡ m + k = omega (arith, length-append v (pad k), length-replicate k true) in
     let inside : All (λ p. fits (v ++ pad k) n p ≡ fits v n p) (range_with_len 0 m) =
-    All-weaker (λ p. (0 ≤ p) × (p < 0 + m)) (λ p. fits (v ++ pad k) n p ≡ fits v n p)
-    (λ p h. ap (λ (b : Bool). b && nat_le n (free_from (v ++ pad k) p)) (begins-padded v k p (omega (arith, h.1))) ∙ ap (λ (l : ℕ). begins_range v p && nat_le n l) (free_from-padded v k p (omega (arith, h.1))))
-    (range_with_len 0 m) (range-within 0 m) in
+    grind (arith, nat_tests, nat_le, free_from, begins-padded, begins_range, free_from-padded, range_with_len, range-within) in
     let behind : All (λ p. fits (v ++ pad k) n p ≡ false) (range_with_len m k) =
     All-weaker (λ p. (m ≤ p) × (p < m + k)) (λ p. fits (v ++ pad k) n p ≡ false)
     (λ p h. and_left _ _ (begins-behind v k p h.0 h.1))
     (range_with_len m k) (range-within m k) in
-    ap (λ (l : ℕ). filter (fits (v ++ pad k) n) (range_with_len 0 l)) size
+    ap (λ (l : ℕ). filter (fits (v ++ pad k) n) (range_with_len 0 l)) (omega (arith, length-append v (pad k), length-replicate k true))
     ∙ ap (filter (fits (v ++ pad k) n)) (range-append 0 m k)
     ∙ filter-append (fits (v ++ pad k) n) (range_with_len 0 m) (range_with_len (0 + m) k)
     ∙ ap (λ (a : ℕ). filter (fits (v ++ pad k) n) (range_with_len 0 m) ++ filter (fits (v ++ pad k) n) (range_with_len a k)) (omega arith)
@@ -107,10 +97,8 @@ changed {huge} {row} new start n used h is inside =
     let got = padded_by huge new (with_places v start n used) k (length-with_places v start n used (omega arith) ∙ size) whole in
     let at : start + (huge - start) ≡ huge = omega arith in
     let part : take n (drop start v) ≡ take n (drop start row) = ap (λ (m : ℕ). take n (drop start (take m row))) (sym at) ∙ ap (take n) (drop-take start (huge - start) row) ∙ take-take n (huge - start) (drop start row) (omega arith) in
-    let same = ap used_count part in
     let off = put_count v start n false in
-    let after = ap used_count got.1 in
-    record { padded = got.0; front = got.1; was = omega arith; count = omega (arith, put_count v start n used); few = few huge new got.0 }
+    grind (arith, nat_tests, used_count, put_count, few)
 
 -- the same questions of a padded row
 pub best-front : (huge : ℕ) (row : List Bool) (n : ℕ) → IsPadded huge row → best row n ≡ best (take huge row) n
@@ -125,8 +113,7 @@ end-front len row end h is = grind (arith, nat_tests, front_length, place-front)
 
 -- a row at its opening: the places behind its own become used, or all
 pub opened : (len n first : ℕ) (used : Bool) → len ≤ n → first ≡ len - cond used len 0 → with_places (replicate n false) first (n - first) true ≡ replicate len used ++ pad (n - len)
-opened len n first true order is = grind (arith, nat_tests, drop_all, length-replicate, append-nil, replicate-append-replicate)
-opened len n first false order is = grind (arith, nat_tests, drop_all, length-replicate, append-nil, take-replicate, append_assoc)
+opened len n first used order is = grind (arith, nat_tests, drop_all, length-replicate, append-nil, replicate-append-replicate, take-replicate, append_assoc)
 
 -- what is used in the arena's part
 longer : (xs ys : List Bool) → prefix_len (λ used. used) xs ≤ prefix_len (λ used. used) (xs ++ ys)

@@ -1,21 +1,15 @@
 -- The lists and the count follow what a hugepage measures.
-use Rattle.std.proofs.Common.{◌≡◌, ℕ, ◌+◌, ◌-◌, ◌<◌, ◌≤◌, ◌*◌, Bool, true, false, cond, List, [], ◌∷◌, ◌++◌, length, get_or, set, replicate, Option, Some, None, IfSome, Contains, IsPermutation, sym, ap, subst, ◌∙◌, inl, inr, arith}
-use Rattle.std.proofs.lemmas.Bool.{cases_eq}
-use Rattle.std.proofs.lemmas.List.{length-set, get_or-set_same, get_or-set_other, get_or_default, get_or-replicate, length-replicate}
-use Rattle.std.proofs.lemmas.List.Sums.{sum_by-set, sum_by-le, get_or-le-sum_by}
+use Rattle.std.proofs.lemmas.Bool.Decides.{nat_tests}
+use Rattle.std.proofs.Common.{◌≡◌, ℕ, ◌+◌, ◌-◌, ◌<◌, ◌≤◌, Bool, List, [], ◌∷◌, ◌++◌, length, get_or, set, replicate, Option, Some, None, IfSome, Contains}
+use Rattle.std.proofs.Common.{IsPermutation, sym, ap, subst, ◌∙◌, inl, inr, arith}
+use Rattle.huge_filler.proofs.Common.{cases_eq, length-set, get_or-set_same, get_or-set_other, get_or_default, get_or-replicate, length-replicate, sum_by-set}
+use Rattle.huge_filler.proofs.Common.{sum_by-le, get_or-le-sum_by, at_number-place, IsOrder, Key, Giver, Measures, free_of_donated, donated_free, key_of}
+use Rattle.huge_filler.proofs.Common.{giver_of, Lists, IsKept}
 use Rattle.std.proofs.lemmas.List.Folds.{sum_by-replicate}
-use Rattle.heap_rules.proofs.Numbered.{at_number-place}
-use Rattle.sorted_list.specs.Order.{IsOrder}
-use Rattle.huge_index.specs.declared.key.Key.{Key}
-use Rattle.huge_filler.specs.declared.giver.Giver.{Giver}
-use Rattle.huge_filler.specs.declared.measures.Measures.{Measures}
-use Rattle.huge_filler.specs.Measures.{free_of_donated, donated_free}
-use Rattle.huge_filler.specs.Keys.{key_of, giver_of, Lists, IsKept}
 use Rattle.huge_filler.proofs.Listed.{stands, listed_more, listed_set, key_at}
 
 free_le : (o : Option Measures) → free_of_donated o ≤ 256
-free_le None = omega arith
-free_le (Some its) = elim its.donated as (λ b. cond b (256 - its.used) 0 ≤ 256) [ true ↦ omega arith | false ↦ omega arith ]
+free_le o = grind (arith, nat_tests)
 
 pub free_bound : (rows : List (Option Measures)) (o : Option Measures) → length rows ≤ 4096 → donated_free rows + free_of_donated o ≤ 1048832
 free_bound rows o few = omega (arith, free_le o, sum_by-le free_of_donated 256 rows (λ k d l. free_le (get_or rows k d)))
@@ -38,8 +32,7 @@ module _ (rows : List (Option Measures)) (h i : ℕ) (o : Option Measures) (some
   moved : {K : Type 0} (key : ℕ → Option Measures → K) (after : Option Measures) (keys keys' : List K) (k k' : K) → Lists key rows keys → k ≡ key h o → k' ≡ key h after → IsPermutation (k' ∷ keys) (k ∷ keys') → Lists key (set rows i after) keys'
   moved {K} key after keys keys' k k' lists e e' turn =
       listed_set key rows i after keys keys' inside lists
-      (subst (λ (x : K). IsPermutation (x ∷ keys) (key (1 + i) (get_or rows i None) ∷ keys')) (e' ∙ ap (λ (n : ℕ). key n after) (sym number))
-      (subst (λ (x : K). IsPermutation (k' ∷ keys) (x ∷ keys')) (e ∙ ap (λ (n : ℕ). key n o) (sym number) ∙ ap (key (1 + i)) (sym here)) turn))
+      (grind (arith, nat_tests, number, here))
 
   pub kept_set : (index index' : List Key) (order order' : List Giver) (donated m n : ℕ) (after : Option Measures) (k k' : Key) (g g' : Giver) → IsKept rows index order donated → IfSome after (λ its. its.tier ≤ 2) → k ≡ key_of h o → k' ≡ key_of h after → IsPermutation (k' ∷ index) (k ∷ index') → g ≡ giver_of h o → g' ≡ giver_of h after → IsPermutation (g' ∷ order) (g ∷ order') → m ≡ free_of_donated o → n ≡ free_of_donated after → IsKept (set rows i after) index' order' (donated - m + n)
   kept_set index index' order order' donated m n after k k' g g' kept tier e e' turn f f' also less more =
@@ -67,14 +60,4 @@ listed_next {K} key rows rows' place keys keys' k is more lists e turn =
 
 pub kept_none : (rows : List (Option Measures)) (huge : ℕ) (index : List Key) (order : List Giver) → huge ≤ 4096 → rows ≡ replicate huge None → Lists key_of rows index → Lists giver_of rows order → IsKept rows index order 0
 kept_none rows huge index order most is keys givers =
-    let none : huge * 0 ≡ 0 = omega arith in
-    record {
-      arena = omega (arith, ap length is, length-replicate {A = Option Measures} huge None);
-      tiers = λ h its e.
-          let at = stands rows h its e in
-          let free : get_or rows (h - 1) None ≡ None = ap (λ (r : List (Option Measures)). get_or r (h - 1) None) is ∙ get_or-replicate huge (h - 1) None None (omega (arith, at.1, ap length is, length-replicate {A = Option Measures} huge None)) in
-          absurd (let clash : None ≡ Some its = sym free ∙ at.2 in cc);
-      keys = keys;
-      givers = givers;
-      counted = sym (ap donated_free is ∙ sum_by-replicate free_of_donated huge None ∙ none);
-    }
+    grind (arith, nat_tests, length-replicate, stands, get_or-replicate, donated_free, sum_by-replicate, free_of_donated)

@@ -1,4 +1,5 @@
 mod Choosing
+mod Common
 mod Giving
 mod Kept
 mod Listed

@@ -1,47 +1,35 @@
 -- A list that has one key for each hugepage, whatever it measures.
-use Rattle.std.proofs.Common.{◌≡◌, ℕ, zero, suc, ◌+◌, ◌-◌, ◌<◌, Bool, cond, List, [], ◌∷◌, ◌++◌, length, get_or, set, Option, Some, None, Contains, IsPermutation, sym, ap, subst, ◌∙◌, inl, inr, arith}
+use Rattle.std.proofs.lemmas.Bool.Decides.{nat_tests}
+use Rattle.std.proofs.Common.{◌≡◌, ℕ, zero, suc, ◌+◌, ◌-◌, ◌<◌, Bool, cond, List, [], ◌∷◌, ◌++◌, length, get_or, set, Option, Some, None, Contains}
+use Rattle.std.proofs.Common.{IsPermutation, ap, subst, ◌∙◌, arith}
+use Rattle.huge_filler.proofs.Common.{cases_lt, get_or_default, get_or_past, sum_by-set, sum_by-append, sum_by-cons, at_number-there, IsOrder, Measures}
+use Rattle.huge_filler.proofs.Common.{measures_at, Lists}
 use Rattle.std.specs.List.{enumerate_from, sum_by}
-use Rattle.std.proofs.lemmas.Bool.{cases_lt}
-use Rattle.std.proofs.lemmas.List.{get_or_default, get_or_past}
 use Rattle.std.proofs.lemmas.List.FromFn.{length-enumerate_from, get_or-enumerate_from}
-use Rattle.std.proofs.lemmas.List.Sums.{sum_by-set, sum_by-append, sum_by-cons}
 use Rattle.std.proofs.lemmas.Option.{none-some}
-use Rattle.heap_rules.proofs.Numbered.{at_number-there}
-use Rattle.sorted_list.specs.Order.{IsOrder}
 use Rattle.sorted_list.proofs.Rows.{key_held, row_held, index_changed, index_more}
-use Rattle.huge_filler.specs.declared.measures.Measures.{Measures}
-use Rattle.huge_filler.specs.Measures.{measures_at}
-use Rattle.huge_filler.specs.Keys.{Lists}
 
 enumerate-set : {X : Type 0} (n : ℕ) (xs : List X) (i : ℕ) (y : X) → i < length xs → enumerate_from n (set xs i y) ≡ set (enumerate_from n xs) i (n + i, y)
 enumerate-set n [] i y l = absurd (omega arith)
 enumerate-set n (x ∷ xs) zero y l = let at : n ≡ n + 0 = omega arith in ap (λ k. (k, y) ∷ enumerate_from (n + 1) xs) at
 enumerate-set n (x ∷ xs) (suc i) y l =
-    let at : n + 1 + i ≡ n + suc i = omega arith in
-    ap (λ ps. (n, x) ∷ ps) (enumerate-set (n + 1) xs i y (omega arith) ∙ ap (λ k. set (enumerate_from (n + 1) xs) i (k, y)) at)
+    ap (λ ps. (n, x) ∷ ps) (enumerate-set (n + 1) xs i y (omega arith) ∙ ap (λ k. set (enumerate_from (n + 1) xs) i (k, y)) (omega arith))
 
 enumerate-push : {X : Type 0} (n : ℕ) (xs : List X) (y : X) → enumerate_from n (xs ++ y ∷ []) ≡ enumerate_from n xs ++ (n + length xs, y) ∷ []
 enumerate-push n [] y = let at : n ≡ n + 0 = omega arith in ap (λ k. (k, y) ∷ []) at
 enumerate-push n (x ∷ xs) y =
-    let at : n + 1 + length xs ≡ n + suc (length xs) = omega arith in
-    ap (λ ps. (n, x) ∷ ps) (enumerate-push (n + 1) xs y ∙ ap (λ k. enumerate_from (n + 1) xs ++ (k, y) ∷ []) at)
+    ap (λ ps. (n, x) ∷ ps) (enumerate-push (n + 1) xs y ∙ ap (λ k. enumerate_from (n + 1) xs ++ (k, y) ∷ []) (omega arith))
 
 -- where a hugepage stands
 pub stands : (rows : List (Option Measures)) (h : ℕ) (its : Measures) → measures_at rows h ≡ Some its → (0 < h) × (h - 1 < length rows) × (get_or rows (h - 1) None ≡ Some its)
-stands rows h its e =
-    let there = at_number-there rows h its e in
-    elim (cases_lt (h - 1) (length rows)) [
-      | inl inside ↦ (there.0, inside, there.1)
-      | inr past ↦ absurd (none-some its (sym (get_or_past rows (h - 1) None past) ∙ there.1))
-    ]
+stands rows h its e = grind (arith, nat_tests, at_number-there, cases_lt, none-some, get_or_past)
 
 module _ {K : Type 0} (key : ℕ → Option Measures → K) where
   -- a hugepage more, and one that measures something else
   pub listed_more : (rows : List (Option Measures)) (y : Option Measures) (keys keys' : List K) → Lists key rows keys → IsPermutation (key (1 + length rows) y ∷ keys) keys' → Lists key (rows ++ y ∷ []) keys'
   listed_more rows y keys keys' lists moved =
       index_more (λ (p : ℕ × Option Measures). key p.0 p.1) (enumerate_from 1 rows) (enumerate_from 1 (rows ++ y ∷ [])) keys keys' (key (1 + length rows) y) lists moved (λ test.
-      let f : ℕ × Option Measures → ℕ = λ p. cond (test (key p.0 p.1)) 1 0 in
-      omega (arith, ap (sum_by f) (enumerate-push 1 rows y), sum_by-append f (enumerate_from 1 rows) ((1 + length rows, y) ∷ []), sum_by-cons f (1 + length rows, y) []))
+      grind (arith, nat_tests, enumerate-push, sum_by-append, sum_by-cons))
 
   pub listed_set : (rows : List (Option Measures)) (i : ℕ) (y : Option Measures) (keys keys' : List K) → i < length rows → Lists key rows keys → IsPermutation (key (1 + i) y ∷ keys) (key (1 + i) (get_or rows i None) ∷ keys') → Lists key (set rows i y) keys'
   listed_set rows i y keys keys' inside lists moved =
@@ -71,9 +59,4 @@ module _ {K : Type 0} (key : ℕ → Option Measures → K) where
     pub place_of : (k : K) → Contains keys k → (i : ℕ) × (i < length rows) × (key (1 + i) (get_or rows i None) ≡ k)
     place_of k held =
         let at = row_held before total (λ (p : ℕ × Option Measures). key p.0 p.1) (enumerate_from 1 rows) keys k lists held in
-        let inside : at.1.0 < length rows = omega (arith, at.1.1, length-enumerate_from 1 rows) in
-        let read = sym (get_or-enumerate_from 1 rows at.1.0 at.0 inside) ∙ at.1.2 in (
-          at.1.0,
-          inside,
-          ap (key (1 + at.1.0)) (get_or_default rows at.1.0 None at.0.1 inside) ∙ ap (λ (p : ℕ × Option Measures). key p.0 p.1) read ∙ at.2,
-        )
+        grind (arith, nat_tests, length-enumerate_from, get_or-enumerate_from, get_or_default)

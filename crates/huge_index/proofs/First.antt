@@ -1,34 +1,25 @@
 -- The first key from the least one on that could serve.
-use Rattle.std.proofs.Common.{◌≡◌, ◌≢◌, ℕ, ◌≤◌, true, false, List, ◌∷◌, get_or, IsPermutation, All, sym, subst, ◌∙◌, arith}
+use Rattle.std.proofs.lemmas.Bool.Decides.{nat_tests}
+use Rattle.std.proofs.Common.{◌≡◌, ◌≢◌, ℕ, ◌≤◌, true, nat_lt, List, ◌∷◌, IsPermutation, All, sym, subst, arith}
+use Rattle.std.proofs.lemmas.Bool.{cases_lt}
 use Rattle.std.proofs.lemmas.List.Elements.{All-cons, All-tail}
 use Rattle.std.proofs.lemmas.List.Sorted.{All-permutation}
 use Rattle.sorted_list.specs.Order.{IsFirstFrom}
 use Rattle.huge_index.specs.declared.key.Key.{Key}
 use Rattle.huge_index.specs.Contents.{AreCounted}
 use Rattle.huge_index.specs.Order.{comes_before, least_of, Serves, IsFirstOf}
-use Rattle.huge_index.proofs.Orders.{later_tier, tier_serves, serves_late}
 
 -- where it is of the tier, it is the first that serves
 pub first_is : (keys : List Key) (tier n : ℕ) (key : Key) → AreCounted keys → IsFirstFrom comes_before keys (least_of tier n) key → key.tier ≡ tier → IsFirstOf keys tier n key
-first_is keys tier n key few is same =
-    record {
-      held = is.held;
-      serves = tier_serves tier n key is.behind same;
-      first = λ i d l. λ serves. is.first i d l (serves_late tier n (get_or keys i d) serves (few i d l));
-    }
+first_is keys tier n key few is same = grind (arith, nat_tests, nat_lt, cases_lt)
 
 -- where it is of another tier, none serves
 pub other_tier : (keys : List Key) (tier n : ℕ) (key : Key) → AreCounted keys → IsFirstFrom comes_before keys (least_of tier n) key → key.tier ≢ tier → All (λ k. ¬ (Serves tier n k)) keys
-other_tier keys tier n key few is other i d l = λ serves.
-    let up = later_tier key (get_or keys i d) (is.first i d l (serves_late tier n (get_or keys i d) serves (few i d l))) in
-    let low = later_tier (least_of tier n) key is.behind in
-    other (omega (arith, serves.0))
+other_tier keys tier n key few is other i d l = grind (arith, nat_tests, nat_lt, cases_lt)
 
 -- and where there is none
 pub none_there : (keys : List Key) (tier n : ℕ) → AreCounted keys → All (λ key. comes_before key (least_of tier n) ≡ true) keys → All (λ k. ¬ (Serves tier n k)) keys
-none_there keys tier n few all i d l = λ serves.
-    let c : true ≡ false = sym (all i d l) ∙ serves_late tier n (get_or keys i d) serves (few i d l) in
-    absurd (cc)
+none_there keys tier n few all i d l = grind (arith, nat_tests, nat_lt, cases_lt)
 
 -- one that serves first serves
 pub some_serves : (keys : List Key) (tier n : ℕ) (key : Key) → IsFirstOf keys tier n key → All (λ k. ¬ (Serves tier n k)) keys → ⊥

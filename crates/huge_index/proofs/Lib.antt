@@ -1,3 +1,1 @@
 mod First
-pub mod Orders
-pub mod Rows

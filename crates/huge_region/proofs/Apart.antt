@@ -1,15 +1,8 @@
 -- Rows of regions in their order: which one has a hugepage, and what stays where one changes, comes or leaves.
 use Rattle.std.proofs.Common.{◌≡◌, ℕ, zero, suc, ◌+◌, ◌-◌, ◌*◌, ◌<◌, ◌≤◌, Bool, true, false, cond, ◌==◌, not, List, [], ◌∷◌, length, get_or, set, insert, remove, map, filter, Option, Some, None, All, Contains, refl, sym, ap, ◌∙◌, inl, inr, arith}
-use Rattle.std.specs.List.{find}
-use Rattle.std.proofs.Math.Nat.{suc-mul}
-use Rattle.std.proofs.lemmas.Bool.{cases_Bool, cases_lt, lt-ltb, le-ltb, leb-true, ltb-true, eq-eqb, ne_eqb, and_parts}
-use Rattle.std.proofs.lemmas.Bool.Decides.{nat_tests}
-use Rattle.std.proofs.lemmas.Option.{none-some, same_Some}
-use Rattle.std.proofs.lemmas.List.Elements.{All-head, All-tail}
+use Rattle.huge_region.proofs.Common.{find, suc-mul, cases_Bool, cases_lt, lt-ltb, le-ltb, leb-true, ltb-true, eq-eqb, ne_eqb, and_parts, nat_tests, none-some}
+use Rattle.huge_region.proofs.Common.{same_Some, All-head, All-tail, spans, RegionRow, AreApartFrom}
 use Rattle.tc_units.specs.Sorted.{with_item, without_key}
-use Rattle.heap_rules.specs.Heap.{spans}
-use Rattle.heap_rules.specs.RegionRows.{RegionRow}
-use Rattle.huge_region.specs.Kept.{AreApartFrom}
 
 -- a row that has a hugepage, or hasn't
 pub spans_at : (w h first : ℕ) → first ≤ h → h < first + w → spans w h first ≡ true
@@ -133,10 +126,7 @@ module _ (w : ℕ) where
   apart_filter p from [] apart = tt
   apart_filter p from (r ∷ rows) apart =
       let rest = apart_filter p (r.first + w) rows apart.1 in
-      elim (p r) as (λ b. AreApartFrom w from (cond b (r ∷ filter p rows) (filter p rows))) [
-        | true ↦ (apart.0, rest)
-        | false ↦ lower (r.first + w) from (filter p rows) (omega (arith, apart.0)) rest
-      ]
+      grind (arith, nat_tests, lower)
 
   -- The arena has room for so many.
   pub they_fit : (from huge : ℕ) (rows : List RegionRow) → AreApartFrom w from rows → All (λ r. r.first + w ≤ huge + 1) rows → from ≤ huge + 1 → from + length rows * w ≤ huge + 1

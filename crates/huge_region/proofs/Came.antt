@@ -1,14 +1,8 @@
 -- A run that came may leave.
-use Rattle.std.proofs.lemmas.Bool.Decides.{nat_tests}
+use Rattle.huge_region.proofs.Common.{nat_tests, find, eq-eqb, huge_pages, spans, RegionRow, Regions, with_changed, joined, start_in, AreFreeIn, AreUsedIn}
 use Rattle.std.proofs.Common.{arith}
 use Rattle.std.proofs.Common.{◌≡◌, ℕ, ◌/◌, ◌<◌, cond, ◌==◌, List, [], ◌∷◌, map, Some, refl, ap, ◌∙◌, Bool, option_map}
-use Rattle.std.specs.List.{find}
-use Rattle.std.proofs.lemmas.Bool.{eq-eqb}
-use Rattle.tc_units.specs.Units.{huge_pages}
 use Rattle.range_bits.proofs.Stretches.{used_then}
-use Rattle.heap_rules.specs.Heap.{spans}
-use Rattle.heap_rules.specs.RegionRows.{RegionRow}
-use Rattle.huge_region.specs.Regions.{Regions, with_changed, joined, start_in, AreFreeIn, AreUsedIn}
 
 -- a region that changed is found by its hugepages as before
 abbrev at_first : ℕ → (RegionRow → RegionRow) → RegionRow → RegionRow

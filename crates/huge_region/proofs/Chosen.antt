@@ -1,29 +1,17 @@
 -- The region whose key is found is the preferred one, and the place in it.
 use Rattle.std.proofs.Common.{◌≡◌, ℕ, ◌+◌, ◌*◌, ◌/◌, ◌<◌, ◌≤◌, true, false, not, nat_lt, nat_eq, List, get_or, filter, Some, None, option_map, All, Contains, sym, ap, subst, ◌∙◌, inl, inr, arith}
-use Rattle.std.specs.List.{list_all}
-use Rattle.std.proofs.lemmas.Bool.{cases_Bool, cases_lt, le-leb, lt-leb, leb-true, not_from_false, not-true}
-use Rattle.std.proofs.lemmas.Bool.Decides.{nat_tests}
-use Rattle.std.proofs.lemmas.List.Elements.{All-contains, All-filter, All-contains_itself, filter_passes, Contains-get_or}
+use Rattle.huge_region.proofs.Common.{list_all, cases_Bool, cases_lt, le-leb, lt-leb, leb-true, not_from_false, not-true, nat_tests, All-contains, All-filter}
+use Rattle.huge_region.proofs.Common.{All-contains_itself, filter_passes, Contains-get_or, none-some, longest, best, first_least, best_is_fit}
+use Rattle.huge_region.proofs.Common.{RegionRow, is_preferred, has_room, region_place, place_in_region, row_held, key_held, RegionKey, Inside, comes_before}
+use Rattle.huge_region.proofs.Common.{total, IsSound, IsInside, regions_of, key_of, Regions, region_with, start_in, AreFreeIn}
 use Rattle.std.proofs.lemmas.List.Sums.{list_all-from_AllPass, AllPass-from_list_all}
-use Rattle.std.proofs.lemmas.Option.{none-some}
-use Rattle.range_bits.specs.Ranges.{longest, best, first_least}
 use Rattle.range_bits.proofs.RangeLemmas.{filter-none}
-use Rattle.range_bits.proofs.RangeFacts.{best_is_fit}
-use Rattle.range_bits.proofs.Counts.{free_inside}
 use Rattle.range_bits.proofs.Least.{IsBehind, least_is_first}
-use Rattle.heap_rules.specs.RegionRows.{RegionRow, is_preferred, has_room, region_place, place_in_region}
 use Rattle.heap_rules.proofs.Orders.{by_first, last_is}
 use Rattle.heap_rules.proofs.Live.{filter_holds}
 use Rattle.sorted_list.specs.Measures.{not_yes}
 use Rattle.sorted_list.specs.Order.{IsFirstFrom}
 use Rattle.sorted_list.specs.Rows.{IsIndexOf}
-use Rattle.sorted_list.proofs.Rows.{row_held, key_held}
-use Rattle.huge_region.specs.declared.key.RegionKey.{RegionKey}
-use Rattle.huge_region.specs.declared.regions.HugeRegions.TheInside.{Inside}
-use Rattle.huge_region.specs.Order.{comes_before}
-use Rattle.huge_region.specs.Total.{total}
-use Rattle.huge_region.specs.Kept.{IsSound, IsInside, regions_of, key_of}
-use Rattle.huge_region.specs.Regions.{Regions, region_with, start_in, AreFreeIn}
 use Rattle.huge_region.proofs.Kept.{held_has, one_region, HasHuge, has_huge}
 
 -- the key before which no region comes that has n adjacent unused pages
@@ -86,10 +74,7 @@ none_chosen all keys n index none =
     list_all-from_AllPass (λ row. not (has_room n row)) all.rows (λ i d l.
     let r : RegionRow = get_or all.rows i d in
     let before = All-contains (λ k. comes_before k (least_of n) ≡ true) keys (key_of r) none (key_held comes_before total key_of all.rows keys r index (Contains-get_or all.rows i d l)) in
-    elim (cases_lt (longest r.used) n) [
-      | inl short ↦ not_from_false (has_room n r) (lt-leb n (longest r.used) short)
-      | inr long ↦ absurd (let c : true ≡ false = sym before ∙ not_before n (key_of r) long in cc)
-    ])
+    grind (arith, nat_tests, cases_lt, not_from_false, has_room, lt-leb, not_before, key_of))
 
 no_place : (rows : List RegionRow) (n : ℕ) → list_all (λ row. not (has_room n row)) rows ≡ true → first_least is_preferred (filter (has_room n) rows) ≡ None
 no_place rows n all = ap (first_least is_preferred) (filter-none (has_room n) rows (λ i d l. not-true (has_room n (get_or rows i d)) (AllPass-from_list_all (λ row. not (has_room n row)) rows all i d l)))
@@ -110,7 +95,6 @@ pub record IsPlaced (all : Regions) (n page : ℕ) : Type 0 where
 pub placed : (all : Regions) (n h start : ℕ) (r : RegionRow) → IsSound all → 0 < n → IsChosen all n h r → best r.used n ≡ Some start → IsPlaced all n (256 * h + start)
 placed all n h start r sound some is e =
     let fit = best_is_fit r.used n start e in
-    let inside = free_inside r.used start n some fit.1 in
     let first : 256 * r.first + start ≡ 256 * h + start = ap (λ (x : ℕ). 256 * x + start) is.first in
     let huge : (256 * h + start) / 256 ≡ h + start / 256 = omega arith in
     let offset : start_in r (256 * h + start) ≡ start = omega (arith, is.first) in

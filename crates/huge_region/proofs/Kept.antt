@@ -1,26 +1,14 @@
 -- What is kept of regions and beside them, where one changes, comes or leaves.
 use Rattle.std.proofs.Common.{◌≡◌, ℕ, ◌+◌, ◌*◌, ◌/◌, ◌<◌, ◌≤◌, Bool, true, false, ◌==◌, not, cond, List, [], ◌∷◌, ◌++◌, length, get_or, set, insert, remove, filter, replicate, Some, None, Contains, IsPermutation, refl, sym, ap, subst, ◌∙◌, inl, inr, arith}
-use Rattle.std.proofs.lemmas.Bool.Decides.{nat_tests}
-use Rattle.std.proofs.Math.Nat.{le-div_iff_mul-le}
-use Rattle.std.proofs.lemmas.Bool.{cases_Bool, eqb-true}
-use Rattle.std.proofs.lemmas.Option.{same_Some}
-use Rattle.std.proofs.lemmas.List.{length-set, length-replicate, length_push}
+use Rattle.huge_region.proofs.Common.{nat_tests, le-div_iff_mul-le, cases_Bool, eqb-true, same_Some, length-set, length-replicate, length_push, All-contains}
+use Rattle.huge_region.proofs.Common.{All-set, All-push, All-pop, All-filter, huge_pages, used_count, with_places, RegionRow, index_more, index_fewer}
+use Rattle.huge_region.proofs.Common.{index_changed, key_held, RegionKey, Inside, comes_before, total, IsSound, IsKept, IsSpare, IsInside, regions_of, key_of}
+use Rattle.huge_region.proofs.Common.{Regions, region_with, with_changed, with_region, without_region, unused, is_unused, start_in}
 use Rattle.std.proofs.lemmas.List.Edits.{length-insert, length-remove}
-use Rattle.std.proofs.lemmas.List.Elements.{All-contains, All-set, All-push, All-pop, All-filter}
 use Rattle.std.proofs.lemmas.List.Sums.{sum_by-cons, sum_by-set, sum_by-insert, sum_by-remove}
-use Rattle.tc_units.specs.Units.{huge_pages}
 use Rattle.tc_units.specs.Sorted.{without_key}
 use Rattle.tc_units.proofs.SortedFacts.{All-with_item, length-with_item}
-use Rattle.range_bits.specs.Ranges.{used_count, with_places}
-use Rattle.heap_rules.specs.RegionRows.{RegionRow}
 use Rattle.sorted_list.specs.Contents.{Contents}
-use Rattle.sorted_list.proofs.Rows.{index_more, index_fewer, index_changed, key_held}
-use Rattle.huge_region.specs.declared.key.RegionKey.{RegionKey}
-use Rattle.huge_region.specs.declared.regions.HugeRegions.TheInside.{Inside}
-use Rattle.huge_region.specs.Order.{comes_before}
-use Rattle.huge_region.specs.Total.{total}
-use Rattle.huge_region.specs.Kept.{IsSound, IsKept, IsSpare, IsInside, regions_of, key_of}
-use Rattle.huge_region.specs.Regions.{Regions, region_with, with_changed, with_region, without_region, unused, is_unused, start_in}
 use Rattle.huge_region.proofs.Apart.{begins, found_parts, spans_parts, found_there, at_place, apart_set, inserted_is, apart_with, removed_is, apart_filter, they_fit}
 
 abbrev pub with_rows : Regions → List RegionRow → Regions
@@ -62,9 +50,7 @@ pub record Stands (v : Regions) (h place : ℕ) (r : RegionRow) : Type 0 where
   pub has : HasHuge v h r
 
 pub stands : (v now : Regions) (h place : ℕ) (r : RegionRow) → v ≡ now → IsSound v → place < length now.rows → ((d : RegionRow) → region_with now h ≡ Some (get_or now.rows place d)) → r ≡ get_or v.rows place r → Stands v h place r
-stands v now h place r same sound inside found value =
-    let there : region_with v h ≡ Some r = rw same (found r ∙ ap (λ (x : Regions). Some (get_or x.rows place r)) (sym same) ∙ ap (λ (x : RegionRow). Some x) (sym value)) in
-    record { inside = omega (arith, ap (λ (x : Regions). length x.rows) same); is = sym value; found = there; has = has_huge v h r sound there }
+stands v now h place r same sound inside found value = grind (arith, nat_tests, region_with, has_huge)
 
 -- the key of a region that stands there is held
 pub held_key : (v : Regions) (keys : Contents RegionKey) (spare : List RegionRow) (h place : ℕ) (r : RegionRow) (key : RegionKey) → IsKept v keys spare → Stands v h place r → key ≡ key_of r → Contains keys.keys key

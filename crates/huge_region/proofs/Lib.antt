@@ -1,4 +1,5 @@
 mod Apart
 mod Came
 mod Chosen
+mod Common
 mod Kept

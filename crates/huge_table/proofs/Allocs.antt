@@ -1,5 +1,5 @@
 -- How many runs have a page of a hugepage: those that begin in it, and one that reaches into it.
-use Rattle.std.proofs.Common.{◌≡◌, ℕ, zero, suc, ◌+◌, ◌*◌, ◌≤◌, ◌==◌, Bool, true, false, ◌&&◌, not, cond, List, map, get_or, count_by, refl}
+use Rattle.std.proofs.Common.{◌≡◌, ℕ, zero, suc, ◌+◌, ◌*◌, ◌≤◌, ◌==◌, Bool, ◌&&◌, not, cond, List, map, get_or, count_by, refl}
 use Rattle.std.proofs.Common.{sym, ap, ◌∙◌, arith}
 use Rattle.huge_table.proofs.Common.{list_any, range_with_len, false_from_ne_true, sum_by-map-range_with_len_more, Run, any_is_count}
 use Rattle.huge_table.proofs.Common.{count_le, count_none, Heap, holds, reaches, is_used, allocation_count, pages_of, IsInside, IsSound, holds_from}
@@ -46,7 +46,6 @@ module _ (heap : Heap) (sound : IsSound heap) (h : ℕ) where
   few_begin page =
       let le = count_le (begins_on page) (holds page) heap.runs
       (λ k d l e. grind (arith, nat_tests, holds_from)) in
-      let most = sound.runs.disjoint page in
       omega arith
 
   -- one such run is there where the page is used and no run begins on it
@@ -54,15 +53,7 @@ module _ (heap : Heap) (sound : IsSound heap) (h : ℕ) where
   into_is =
       let p : ℕ = 256 * h in
       let all = sum-adds (λ r. one (begins_on p r)) (λ r. one (into r)) (λ r. one (holds p r)) heap.runs (λ k d l. grind (arith, nat_tests, holds_from)) in
-      let begin = at_most (begins_on p) heap.runs (few_begin p) in
-      let held = at_most (holds p) heap.runs (sound.runs.disjoint p) in
-      rest (list_any (begins_on p) heap.runs) (is_used heap.runs p) _ _ _ begin held all
-    where
-      rest : (b u : Bool) (x y z : ℕ) → one b ≡ x → one u ≡ z → x + y ≡ z → y ≡ one (u && not b)
-      rest true true x y z p q r = omega arith
-      rest true false x y z p q r = omega arith
-      rest false true x y z p q r = omega arith
-      rest false false x y z p q r = omega arith
+      grind (arith, nat_tests, at_most, begins_on, few_begin, list_any, is_used)
 
   pub allocs_are : used_count (map (λ page. list_any (begins_on page) heap.runs) (pages_of h)) + one
       (is_used heap.runs (256 * h) && not (list_any (begins_on (256 * h)) heap.runs)) ≡ allocation_count heap.runs h

@@ -1,5 +1,5 @@
 -- A run leaves, and its hugepages become free where they serve nothing more.
-use Rattle.std.proofs.Common.{◌≡◌, ℕ, ◌+◌, ◌*◌, ◌/◌, ◌<◌, ◌≤◌, ◌==◌, Bool, true, false, not, ◌&&◌, cond, eqb, List, length, map, Contains, refl, sym, ap}
+use Rattle.std.proofs.Common.{◌≡◌, ℕ, ◌+◌, ◌*◌, ◌/◌, ◌<◌, ◌≤◌, ◌==◌, Bool, true, false, not, cond, eqb, List, length, map, Contains, refl, sym, ap}
 use Rattle.std.proofs.Common.{subst, ◌∙◌, inl, inr, arith}
 use Rattle.huge_table.proofs.Common.{cases_lt, cases_eq, eq-eqb, ne_eqb, false≢true, length-map-range_with_len, get_or-map-range_with_len, Run, RowKind}
 use Rattle.huge_table.proofs.Common.{count_none, used_count, Heap, Hugepage, hugepage, each, spans, reaches, holds, is_used, is_filler, is_region}
@@ -50,18 +50,13 @@ left_region : (k : RowKind) (runs : List Run) (h : ℕ) (x : Hugepage) → k ≡
 left_region k runs h x e = ap (λ j. left_by j runs h x) e
 
 emptied_shared : (b : Bool) (x : Hugepage) → is_shared x ≡ true → is_shared (emptied_where b x) ≡ true
-emptied_shared true x e = refl
-emptied_shared false x e = e
+emptied_shared b x e = grind (arith, nat_tests)
 
 pub is_Run : (k : RowKind) → not (shares k) ≡ true → k ≡ kind.Run
-is_Run kind.Free e = absurd (false≢true e)
-is_Run kind.Filler e = absurd (false≢true e)
-is_Run kind.Run e = refl
-is_Run kind.Region e = absurd (false≢true e)
+is_Run k e = grind (arith, nat_tests)
 
 unnot : (b : Bool) → not b ≡ true → b ≡ false
-unnot true e = absurd (false≢true e)
-unnot false e = refl
+unnot b e = grind (arith, nat_tests)
 
 filler_apart : (k : RowKind) → k ≡ kind.Filler → is_kind_region k ≡ false
 filler_apart k e = ap is_kind_region e
@@ -86,11 +81,7 @@ module _ (heap : Heap) (first n : ℕ) (sound : IsSound heap) (live : Contains h
       ap (λ row. eqb (used_count row) 0)
       (slice_is s.used (256 * h) 256 (omega arith)
       ∙ over_pages (bit s.used) (is_used rest') h (λ page own. (let at_h : page / 256 ≡ h = omega (arith, own.from, own.to) in
-      noted.used page
-      ∙ ap (λ b. cond b false (bit t.used page)) (all page own)
-      ∙ ap (cond (holds page run') false)
-      (grind (arith, nat_tests, filler_shared))
-      ∙ sym (changed.used page))))
+      grind (arith, nat_tests, filler_shared))))
       ∙ unused_exactly heap run' sound live h
 
   pub region_means : (t u : Table) (many : ℕ) → Means t heap → IsSpan t (first / 256) many is_region → 256 * (first / 256 + many) < first + n + 256 →
@@ -146,9 +137,7 @@ module _ (heap : Heap) (first n : ℕ) (sound : IsSound heap) (live : Contains h
         | inr late ↦
             (let filler = late_is k late is.1 in
             let shared = filler_shared x filler in
-            let after = ap is_shared (left_filler x.kind rest' k x (is_Filler x.kind filler)) ∙ emptied_shared _ x shared in
-            ap (λ b. cond b false (is_shared x && is_used heap.runs page)) (tail_held first n a whole tails page laid (omega arith))
-            ∙ shared_step x (f k x) (holds page run') false (is_used heap.runs page) (is_used rest' page) shared after (changed.used page))
+            grind (arith, nat_tests, is_shared, is_used, tail_held, shared_step))
       ])))
     where
       nothing : (w : Bool) → cond w false false ≡ false

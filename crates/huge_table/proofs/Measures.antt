@@ -1,7 +1,7 @@
 -- The measures of a hugepage.
 use Rattle.std.proofs.Common.{◌≡◌, ℕ, ◌+◌, ◌*◌, ◌<◌, ◌≤◌, Bool, true, false, length, get_or, count_by, max, sym, ap, ◌∙◌, arith}
 use Rattle.huge_table.proofs.Common.{false≢true, false_from_ne_true, length-replicate, RowKind, count_le, count_some, longest, Heap, hugepage, whole}
-use Rattle.huge_table.proofs.Common.{holds, reaches, is_used, is_kind_filler, used_row, allocation_count, row_of, IsHugepageOf, HasOneRun, IsSound}
+use Rattle.huge_table.proofs.Common.{holds, reaches, is_used, is_kind_filler, used_row, allocation_count, row_of, HasOneRun, IsSound}
 use Rattle.huge_table.proofs.Common.{backs-whole, serves_at, holds_from, reaches_parts, reaches_from, same_member, is_run, nat_tests}
 use Rattle.std.proofs.lemmas.List.Elements.{Contains-get_or}
 use Rattle.tc_units.specs.declared.rows.RowKind.TheVariants as kind
@@ -30,16 +30,14 @@ module _ (heap : Heap) (sound : IsSound heap) (h : ℕ) (one : HasOneRun heap.ru
   pub one_alloc : allocation_count heap.runs h ≡ 1
   one_alloc =
       let le = count_le (reaches h) (holds (256 * h)) heap.runs (λ k d l e. (let r = get_or heap.runs k d in
-      let inside = sound.runs.inside k d l in
       let parts = reaches_parts h r e in
       let q : ℕ = max r.first.0 (256 * h) in
-      let its : holds q r ≡ true = holds_from q r (omega arith) (omega (arith, inside.some)) in
+      let its : holds q r ≡ true = holds_from q r (omega arith) (omega (arith, (sound.runs.inside k d l).some)) in
       let mine : holds q one.run ≡ true = holds_all q (omega arith) (omega arith) in
       let is = same_member (holds q) heap.runs one.run r one.live (Contains-get_or heap.runs k d l) mine its (sound.runs.disjoint q) in
       ap (holds (256 * h)) (sym is) ∙ holds_all (256 * h) (omega arith) (omega arith))) in
       let most = sound.runs.disjoint (256 * h) in
-      let some = count_some (reaches h) heap.runs one.live.0 one.run one.live.1 (ap (reaches h) one.live.2 ∙ reaches_from h one.run (omega (arith, one.from)) (omega (arith, one.to))) in
-      grind (arith, nat_tests)
+      grind (arith, nat_tests, count_some, reaches_from)
 
 -- A hugepage that one run has whole.
 pub run_row_is : (heap : Heap) (h : ℕ) (row : RowView) → IsSound heap → 0 < h → h ≤ length heap.hugepages → is_run (hugepage heap h) ≡ true →
@@ -47,9 +45,7 @@ pub run_row_is : (heap : Heap) (h : ℕ) (row : RowView) → IsSound heap → 0 
 run_row_is heap h row sound some inside run e =
     let x = hugepage heap h in
     let of_run = is_Run x.kind run in
-    let arena = sound.runs.arena in
-    let own : IsHugepageOf heap.config.huge h = record { from = some; to = omega arith } in
-    let fit = sound.runs.fit h own in
+    let fit = sound.runs.fit h (record { from = some; to = omega arith }) in
     let serves = serves_at heap.runs heap.regions heap.config.region h x kind.Run of_run fit in
     e ∙ same_view _ (row_of heap h) (sym of_run)
     (sym (ap (λ r. count_by (λ b. b) r) (all_used heap sound h serves.0)))

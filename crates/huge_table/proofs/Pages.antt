@@ -1,14 +1,13 @@
 -- What bits say of each hugepage, and tables whose hugepages change.
 use Rattle.std.proofs.Common.{◌≡◌, ℕ, ◌+◌, ◌-◌, ◌*◌, ◌/◌, ◌%◌, ◌<◌, ◌≤◌, Bool, true, false, ◌||◌, not, cond, eqb, List, length, get_or, take}
 use Rattle.std.proofs.Common.{drop, map, refl, sym, ap, ◌∙◌, inl, inr, arith}
-use Rattle.huge_table.proofs.Common.{list_all, range_with_len, cases_Bool, and_from, and_parts, le-leb, lt-ltb, leb-true, ltb-true, false≢true}
+use Rattle.huge_table.proofs.Common.{list_all, range_with_len, cases_Bool, and_from, and_parts, le-leb, lt-ltb, leb-true, ltb-true}
 use Rattle.huge_table.proofs.Common.{false_from_ne_true, same_lists, get_or_default, length-replicate, length-take-le, length-drop, get_or-take, get_or-drop}
 use Rattle.huge_table.proofs.Common.{length-map-range_with_len, get_or-map-range_with_len, RowKind, used_count, with_places, Hugepage, untouched, spans}
 use Rattle.huge_table.proofs.Common.{whole, pages_of, backs, backed_count, holds, run_at, is_free, is_filler, is_region, run_page, region_page, filler_page}
 use Rattle.huge_table.proofs.Common.{more_backed, emptied, IsPageOf, at-place, length-each, at-each, each_is, page_of, backs-map, backs-whole, spans_parts}
 use Rattle.huge_table.proofs.Common.{spans_from, holds_parts, Table, IsSpan, bit, by_bits, kind_by, of_kind, free_page, is_even, with_backing, region_freed}
 use Rattle.huge_table.proofs.Common.{of_filler, hugepage_of, table_of, over_span, is_between, shares, Inside, nat_tests}
-use Rattle.tc_units.specs.declared.rows.RowKind.TheVariants as kind
 use Rattle.range_bits.proofs.Placing.{get_or-with_places}
 use Rattle.heap_rules.proofs.Places.{at}
 
@@ -20,7 +19,6 @@ pub changed : (t u : Inside) (first many : ℕ) (f : Hugepage → Hugepage) → 
     ((h : ℕ) → 0 < h → h ≤ t.huge → hugepage_of u h ≡ cond (spans many h first) (f (hugepage_of t h)) (hugepage_of t h)) →
     (table_of u).pages ≡ (over_span first many f (table_of t)).pages
 changed t u first many f same all =
-    let old = (table_of t).pages in
     let size = length-map-range_with_len (hugepage_of t) 1 t.huge in
     let size' = length-map-range_with_len (hugepage_of u) 1 u.huge in
     grind (arith, nat_tests, each_is, at-table)
@@ -34,56 +32,37 @@ put_bit row' row first many v e fits h = ap (λ (r : List Bool). bit r h) e ∙ 
 
 -- What new bits say of the hugepages of a span, and of others.
 pub take_is : (p g s b : Bool) (x : Hugepage) → by_bits (cond p true g) (cond p false s) b x ≡ cond p run_page (by_bits g s b x)
-take_is true g s b x = refl
-take_is false g s b x = refl
+take_is p g s b x = grind (arith, nat_tests)
 
 pub give_is : (p g s b : Bool) (x : Hugepage) → by_bits (cond p false g) (cond p false s) (cond p true b) x ≡ cond p (free_page true) (by_bits g s b x)
-give_is true g s b x = refl
-give_is false g s b x = refl
+give_is p g s b x = grind (arith, nat_tests)
 
 -- the filler's hugepages are no others
 pub gather_is : (p g s b d : Bool) (bs : List Bool) (h : ℕ) → (p ≡ true → is_free (by_bits g s b (of_filler d bs h)) ≡ true) →
     by_bits (cond p true g) (cond p true s) b (of_filler d bs h) ≡ cond p (region_page (by_bits g s b (of_filler d bs h)))
     (by_bits g s b (of_filler d bs h))
-gather_is false g s b d bs h e = refl
-gather_is true false false b d bs h e = refl
-gather_is true false true b d bs h e = absurd (false≢true (e refl))
-gather_is true true false b d bs h e = absurd (false≢true (e refl))
-gather_is true true true b d bs h e = absurd (false≢true (e refl))
+gather_is p g s b d bs h e = grind (arith, nat_tests)
 
 pub scatter_is : (p g s b d : Bool) (bs : List Bool) (h : ℕ) → (p ≡ true → is_region (by_bits g s b (of_filler d bs h)) ≡ true) →
     by_bits (cond p false g) (cond p false s) b (of_filler d bs h) ≡ cond p (region_freed (by_bits g s b (of_filler d bs h)))
     (by_bits g s b (of_filler d bs h))
-scatter_is false g s b d bs h e = refl
-scatter_is true false false b d bs h e = absurd (false≢true (e refl))
-scatter_is true false true b d bs h e = absurd (false≢true (e refl))
-scatter_is true true false b d bs h e = absurd (false≢true (e refl))
-scatter_is true true true b d bs h e = refl
+scatter_is p g s b d bs h e = grind (arith, nat_tests)
 
 pub back_is : (p g s b v d : Bool) (bs : List Bool) (h : ℕ) → (p ≡ true → is_even (by_bits g s b (of_filler d bs h)) ≡ true) →
     by_bits g s (cond p v b) (of_filler d bs h) ≡ cond p (with_backing v (by_bits g s b (of_filler d bs h))) (by_bits g s b (of_filler d bs h))
-back_is false g s b v d bs h e = refl
-back_is true false false b v d bs h e = refl
-back_is true false true b v d bs h e = absurd (false≢true (e refl))
-back_is true true false b v d bs h e = absurd (false≢true (e refl))
-back_is true true true b v d bs h e = refl
+back_is p g s b v d bs h e = grind (arith, nat_tests)
 
 pub adopt_is : (p g s b d : Bool) (x y : Hugepage) → y ≡ cond p (filler_page d) x → by_bits (cond p false g) (cond p true s) b y ≡ cond p (filler_page d) (by_bits g s b x)
-adopt_is true g s b d x y e = e
-adopt_is false g s b d x y e = ap (by_bits g s b) e
+adopt_is p g s b d x y e = grind (arith, nat_tests, by_bits)
 
 -- a hugepage of the filler by its own bits
 pub filler_bits : (g s b d : Bool) (bs : List Bool) (h : ℕ) → is_filler (by_bits g s b (of_filler d bs h)) ≡ true → (g ≡ false) × (s ≡ true)
-filler_bits false false b d bs h e = absurd (false≢true e)
-filler_bits false true b d bs h e = (refl, refl)
-filler_bits true false b d bs h e = absurd (false≢true e)
-filler_bits true true b d bs h e = absurd (false≢true e)
+filler_bits g s b d bs h e = grind (arith, nat_tests)
 
 pub own_is : (p g s b d : Bool) (bs : List Bool) (h : ℕ) (f : Hugepage → Hugepage) (y : Hugepage) →
     (p ≡ true → is_filler (by_bits g s b (of_filler d bs h)) ≡ true) → y ≡ cond p (f (of_filler d bs h)) (of_filler d bs h) →
     by_bits g s b y ≡ cond p (f (by_bits g s b (of_filler d bs h))) (by_bits g s b (of_filler d bs h))
-own_is true g s b d bs h f y e same = let own = filler_bits g s b d bs h (e refl) in rw (own.0, own.1) same
-own_is false g s b d bs h f y e same = ap (by_bits g s b) same
+own_is p g s b d bs h f y e same = grind (arith, nat_tests, filler_bits, by_bits)
 
 pub empty_is : (p g s b v d : Bool) (bs : List Bool) (h : ℕ) → (p ≡ true → is_filler (by_bits g s b (of_filler d bs h)) ≡ true) →
     (p ≡ true → v ≡ list_all (λ x. x) (map (bit bs) (pages_of h))) → by_bits (cond p false g) (cond p false s) (cond p v b) (of_filler d bs h) ≡ cond p
@@ -102,10 +81,9 @@ spanned t now first many test view span h some inside e =
 pub row_is : (f : ℕ → Bool) (h : ℕ) (ys : List Bool) → length ys ≡ 256 → ((page : ℕ) → IsPageOf h page → f page ≡ get_or ys (page % 256) false) → map f (pages_of h) ≡ ys
 row_is f h ys size same =
     let len = length-map-range_with_len f (256 * h) 256 in
-    same_lists (map f (pages_of h)) ys (len ∙ sym size) (λ k d l. (let e : (256 * h + k) % 256 ≡ k = omega arith in
-    get_or-map-range_with_len f (256 * h) 256 k (256 * h + k) d (omega arith) refl
+    same_lists (map f (pages_of h)) ys (len ∙ sym size) (λ k d l. (get_or-map-range_with_len f (256 * h) 256 k (256 * h + k) d (omega arith) refl
     ∙ same (256 * h + k) (record { from = omega arith; to = omega arith })
-    ∙ ap (λ i. get_or ys i false) e
+    ∙ ap (λ i. get_or ys i false) (omega arith)
     ∙ get_or_default ys k false d (omega arith)))
 
 pub over_pages : (f g : ℕ → Bool) (h : ℕ) → ((page : ℕ) → IsPageOf h page → f page ≡ g page) → map f (pages_of h) ≡ map g (pages_of h)
@@ -207,10 +185,7 @@ span_same s t b m test e span = let size = ap length e in record { from = span.f
 
 -- what bits say that a hugepage serves, and whether a page of it is backed
 pub kind_is : (g s b d : Bool) (bs : List Bool) (h : ℕ) → kind_by g s ≡ (by_bits g s b (of_filler d bs h)).kind
-kind_is false false b d bs h = refl
-kind_is true false b d bs h = refl
-kind_is false true b d bs h = refl
-kind_is true true b d bs h = refl
+kind_is g s b d bs h = grind (arith, nat_tests)
 
 pub at-now : (t : Inside) (now : Table) (h : ℕ) → table_of t ≡ now → 0 < h → h ≤ t.huge → at now.pages h ≡ hugepage_of t h
 at-now t now h view some inside = sym (ap (λ (x : Table). at x.pages h) view) ∙ at-table t h some inside
@@ -223,16 +198,10 @@ between_parts from to k e = let parts = and_parts _ _ e in (leb-true from k part
 
 -- what a hugepage's own bits say of it
 pub run_is : (k : RowKind) → of_kind k true false false ≡ not (shares k)
-run_is kind.Free = refl
-run_is kind.Filler = refl
-run_is kind.Run = refl
-run_is kind.Region = refl
+run_is k = grind (arith, nat_tests)
 
 pub donated_is : (g s b d : Bool) (bs : List Bool) (h : ℕ) → of_kind (by_bits g s b (of_filler d bs h)).kind false false d ≡ (by_bits g s b (of_filler d bs h)).donated
-donated_is false false b d bs h = refl
-donated_is true false b d bs h = refl
-donated_is false true b d bs h = refl
-donated_is true true b d bs h = refl
+donated_is g s b d bs h = grind (arith, nat_tests)
 
 pub backs_is : (g s b d : Bool) (bs : List Bool) (page : ℕ) → of_kind (by_bits g s b (of_filler d bs (page / 256))).kind true b (bit bs page) ≡ backs (by_bits g s b (of_filler d bs (page / 256))) page
 backs_is false false b d bs page = sym (backs-whole b page)
@@ -241,12 +210,8 @@ backs_is false true b d bs page = sym (backs-map (bit bs) (page / 256) page (pag
 backs_is true true b d bs page = sym (backs-whole b page)
 
 even_count : (b : Bool) → cond b 256 0 ≡ used_count (whole b)
-even_count true = refl
-even_count false = refl
+even_count b = grind (arith, nat_tests)
 
 pub backed_is : (g s b d : Bool) (bs : List Bool) (h m : ℕ) → m ≡ used_count (map (bit bs) (pages_of h)) →
     of_kind (by_bits g s b (of_filler d bs h)).kind 256 (cond b 256 0) m ≡ backed_count (by_bits g s b (of_filler d bs h))
-backed_is false false b d bs h m e = even_count b
-backed_is true false b d bs h m e = even_count true
-backed_is false true b d bs h m e = e
-backed_is true true b d bs h m e = even_count b
+backed_is g s b d bs h m e = grind (arith, nat_tests, even_count)

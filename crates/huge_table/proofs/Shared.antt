@@ -1,8 +1,7 @@
 -- What is noted of a hugepage, by what it serves.
 use Rattle.std.proofs.Common.{◌≡◌, ℕ, Bool, true, ap, arith}
-use Rattle.huge_table.proofs.Common.{or_right, Hugepage, is_free, is_filler, is_region, Table, IsSpan, is_even, shares, is_shared}
+use Rattle.huge_table.proofs.Common.{or_right, Hugepage, is_free, is_filler, is_region, Table, IsSpan, is_even, shares, is_shared, is_Free, is_Region}
 use Rattle.heap_rules.proofs.Fillers.{is_Filler}
-use Rattle.heap_rules.proofs.Fits.{is_Free, is_Region}
 use Rattle.heap_rules.proofs.Places.{at}
 
 pub free_shared : (x : Hugepage) → is_free x ≡ true → is_shared x ≡ true

@@ -24,8 +24,7 @@ fewer a b c d e p q r = omega arith
 
 module _ (bs used new : List Bool) (h : ℕ) (stays : StaysUsed bs used new (64 * (4 * h)) (64 * (4 * h + 4))) where
   pub spared_row : map (bit new) (pages_of h) ≡ map (λ page. bit bs page && bit used page) (pages_of h)
-  spared_row = over_pages (bit new) (λ page. bit bs page && bit used page) h (λ page own.
-      stays.each page ∙ ap (λ b. cond b (bit bs page && bit used page) (bit bs page)) (between_yes (64 * (4 * h)) (64 * (4 * h + 4)) page (omega (arith, own.from)) (omega (arith, own.to))))
+  spared_row = over_pages (bit new) (λ page. bit bs page && bit used page) h (grind (arith, nat_tests, between_yes))
 
   pub filler_spares : (d : Bool) (k : ℕ) → of_filler d new k ≡ cond (spans 1 k h) (only_by (bit used) h (of_filler d bs k)) (of_filler d bs k)
   filler_spares d k = elim (cases_Bool (spans 1 k h)) [
@@ -67,12 +66,11 @@ module _ (t : Inside) (now : Table) (kept : AreKept t) (view : table_of t ≡ no
         elim (cases_Bool (spans 1 k h)) [
           | inl e ↦
               (let parts = spans_parts 1 k h e in
-              let here : h ≡ k = omega arith in
               ap (λ b. cond b (only_by (bit t.used) h x) x) e
               ∙ ap (λ row. record x { backed = row })
               (over_pages (λ page. backs x page && bit t.used page) (λ page. backs x page && is_used heap.runs page) h
               (λ page own. ap (λ b. backs x page && b) (noted page own)))
-              ∙ ap (λ i. only_used heap.runs i x) here
+              ∙ ap (λ i. only_used heap.runs i x) (omega arith)
               ∙ sym (ap (λ b. cond b (only_used heap.runs k x) x) e))
           | inr e ↦ ap (λ b. cond b (only_by (bit t.used) h x) x) e ∙ sym (ap (λ b. cond b (only_used heap.runs k x) x) e)
         ])))))
@@ -106,8 +104,6 @@ module _ (t : Inside) (now : Table) (kept : AreKept t) (view : table_of t ≡ no
   pub spared_fewer : used_count (take 256 (drop (256 * h) new)) ≤ used_count (take 256 (drop (256 * h) t.page_backed))
   spared_fewer =
       let inside : 256 * h + 256 ≤ length t.page_backed = omega (arith, kept.page_backed, high) in
-      let inside' : 256 * h + 256 ≤ length new = omega (arith, stays.len) in
-      let after = ap used_count (slice_is new (256 * h) 256 inside' ∙ spared_row t.page_backed t.used new h stays) in
-      let before = ap used_count (slice_is t.page_backed (256 * h) 256 inside) in
+      let after = ap used_count (slice_is new (256 * h) 256 (omega (arith, stays.len)) ∙ spared_row t.page_backed t.used new h stays) in
       let all = both (map (bit t.page_backed) (pages_of h)) (bit t.used) (pages_of h) (bit t.page_backed) refl in
-      fewer _ _ _ _ _ after before all
+      fewer _ _ _ _ _ after (ap used_count (slice_is t.page_backed (256 * h) 256 inside)) all

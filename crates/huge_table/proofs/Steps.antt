@@ -1,7 +1,7 @@
 -- A run comes or leaves: what is noted changes as the heap's runs do.
-use Rattle.std.proofs.Common.{◌≡◌, ℕ, zero, suc, ◌+◌, ◌*◌, ◌/◌, ◌<◌, ◌≤◌, Bool, true, false, ◌&&◌, cond, nat_le, nat_lt, List, length, take, drop}
-use Rattle.std.proofs.Common.{count_by, get_or, Contains, refl, sym, ap, subst, ◌∙◌, add-zero, inl, inr, arith}
-use Rattle.huge_table.proofs.Common.{list_any, cases_lt, eqb-true, get_or_past, Run, any_is_count, count_le, Heap, Hugepage, hugepage, untouched, each, holds}
+use Rattle.std.proofs.Common.{◌≡◌, ℕ, ◌+◌, ◌*◌, ◌/◌, ◌<◌, ◌≤◌, Bool, true, false, ◌&&◌, cond, nat_le, nat_lt, List, length, take, drop}
+use Rattle.std.proofs.Common.{count_by, get_or, Contains, sym, ap, subst, ◌∙◌, add-zero, arith}
+use Rattle.huge_table.proofs.Common.{list_any, cases_lt, eqb-true, get_or_past, Run, any_is_count, count_le, Heap, Hugepage, hugepage, each, holds}
 use Rattle.huge_table.proofs.Common.{reaches, is_used, used_row, run_at, with_run, without_run, placed, IsInside, IsSound, at-each, length-each, each_where}
 use Rattle.huge_table.proofs.Common.{page_of, holds_from, unreached_unheld, spans_parts, spans_reaches, count_rest, Table, AreKept, IsSpan, IsNoted, bit}
 use Rattle.huge_table.proofs.Common.{is_between, over_span, table_of, Inside, Means, is_shared, begins_on, ends_on, nat_tests}
@@ -32,7 +32,6 @@ module _ (heap : Heap) (run : Run) (sound : IsSound heap) (live : Contains heap.
   held : (p : Run → Bool) (page : ℕ) → ((r : Run) → IsInside heap.config.huge r → p r ≡ true → holds page r ≡ true) → count_by p heap.runs ≤ 1
   held p page is =
       let le = count_le p (holds page) heap.runs (λ k d l e. is (get_or heap.runs k d) (sound.runs.inside k d l) e) in
-      let most = sound.runs.disjoint page in
       omega arith
 
   pub without_changed : AreChanged heap.runs rest run false
@@ -54,11 +53,7 @@ all_of first n page = ap (λ k. nat_le k page && nat_lt page (first + n)) (add-z
 
 -- a change of each hugepage, at one that it leaves as it is, be it of the arena or not
 outside : (h : ℕ) (f : ℕ → Hugepage → Hugepage) (xs : List Hugepage) → f h (at xs h) ≡ at xs h → at (each f xs) h ≡ at xs h
-outside zero f xs e = refl
-outside (suc k) f xs e = elim (cases_lt k (length xs)) [
-  | inl inside ↦ at-each f xs (suc k) (omega arith) (omega arith) ∙ e
-  | inr past ↦ get_or_past (each f xs) k untouched (let size = length-each f xs in omega arith) ∙ sym (get_or_past xs k untouched past)
-]
+outside h f xs e = grind (arith, nat_tests, cases_lt, at-each, get_or_past, length-each)
 
 module _ (heap : Heap) (first n skipped : ℕ) (came : Bool) (rest : List Run) (f : ℕ → Hugepage → Hugepage) where
   abbrev run : Run
@@ -81,8 +76,7 @@ module _ (heap : Heap) (first n skipped : ℕ) (came : Bool) (rest : List Run) (
       ((h : ℕ) → reaches h run ≡ true → (0 < h) × (h ≤ length t.pages)) →
       ((h page : ℕ) → reaches h run ≡ true → page / 256 ≡ h → cond (is_between (first + skipped) (first + n) page) came
       (is_shared (hugepage heap h) && is_used heap.runs page) ≡ (is_shared (f h (hugepage heap h)) && is_used rest page)) → Means u after
-  stepped t u means changed pages noted inside here =
-      grind (arith, nat_tests, reached, unreached_unheld, page_of, unreached, holds_from, noted.begins, means.begins, changed.begins, noted.ends, means.ends, changed.ends)
+  stepped t u means changed pages noted inside here = grind (arith, nat_tests, reached, unreached_unheld, page_of, unreached, holds_from)
 
 -- Runs all of whose hugepages are shared, before and after.
 pub shared_means : (heap : Heap) (first n : ℕ) (came : Bool) (rest : List Run) (f : ℕ → Hugepage → Hugepage) (t u : Table) → Means t heap →
@@ -131,8 +125,7 @@ is_over t heap first n a many test means span p q r s some =
 pub over_reached : (heap : Heap) (t : Table) (first n a many : ℕ) (test : Hugepage → Bool) (g : Hugepage → Hugepage) (f : ℕ → Hugepage → Hugepage) →
     Means t heap → IsOver heap first n a many test → ((h : ℕ) → reaches h (run_at first n) ≡ true → g (hugepage heap h) ≡ f h (hugepage heap h)) →
     (over_span a many g t).pages ≡ each (λ h x. cond (reaches h (run_at first n)) (f h x) x) t.pages
-over_reached heap t first n a many test g f means is same =
-    grind (arith, nat_tests, each_where, spans_reaches, at-heap, is.from, is.near, is.far, is.to, is.some)
+over_reached heap t first n a many test g f means is same = grind (arith, nat_tests, each_where, spans_reaches, at-heap)
 
 -- a run that comes into shared hugepages, of which each is changed first
 pub comes : (heap : Heap) (t s u : Table) (first n a many : ℕ) (test : Hugepage → Bool) (g : Hugepage → Hugepage) (f : ℕ → Hugepage → Hugepage) →

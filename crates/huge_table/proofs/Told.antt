@@ -84,7 +84,6 @@ module _ (table : Table) (heap : Heap) (sound : IsSound heap) (places : HasPlace
   run_is r live =
       let inside = All-contains (IsInside heap.config.huge) heap.runs r sound.runs.inside live in
       let rest = drop r.first.0 table.ends in
-      let arena = sound.runs.arena in
       let same_size = ap length means.pages in
       let size = length-drop r.first.0 table.ends in
       let far : r.pages - 1 ≤ prefix_len not rest = prefix_long not rest (r.pages - 1) false (omega (arith, inside.to, places.ends)) (λ k h.

@@ -1,5 +1,5 @@
 -- Runs of whole hugepages, with a tail, come and leave.
-use Rattle.std.proofs.Common.{◌≡◌, ℕ, ◌+◌, ◌-◌, ◌*◌, ◌/◌, ◌%◌, ◌<◌, ◌≤◌, ◌⊎◌, true, false, ◌&&◌, cond, nat_lt, length, refl, sym, ap, ◌∙◌, inl, inr, arith}
+use Rattle.std.proofs.Common.{◌≡◌, ℕ, ◌+◌, ◌-◌, ◌*◌, ◌/◌, ◌%◌, ◌<◌, ◌≤◌, ◌⊎◌, true, false, ◌&&◌, cond, nat_lt, length, refl, ap, ◌∙◌, inl, inr, arith}
 use Rattle.huge_table.proofs.Common.{cases_lt, le-leb, le-ltb, leb-true, and_parts, and_right, false_from_ne_true}
 use Rattle.huge_table.proofs.Common.{Run, Heap, Hugepage, hugepage, each, spans, reaches, holds, is_used, is_free, run_at, with_run, run_page, filler_page}
 use Rattle.huge_table.proofs.Common.{run_or_tail, IsSound, each_each, each_where, reaches_parts, spans_reaches, spans_parts, spans_from, serves_at}
@@ -71,15 +71,11 @@ module _ (heap : Heap) (sound : IsSound heap) (h n : ℕ) (some : 0 < n) (t u : 
       let arena = sound.runs.arena in
       let size = ap length means.pages in
       let free = is.0.passes k e in
-      let w = is_between (256 * h + 256 * whole) end page in
       let fit = sound.runs.fit k (record { from = inside.0; to = omega (arith, inside.1) }) in
       let serves = serves_at heap.runs heap.regions heap.config.region k x kind.Free (is_Free x.kind free) fit in
       let none : is_used heap.runs page ≡ false = serves.0 page (record { from = omega arith; to = omega arith }) in
       elim (cases_lt k (h + whole)) [
-        | inl early ↦
-            (let out : w ≡ false = false_from_ne_true w (λ b. (let from = leb-true (256 * h + 256 * whole) page (and_parts _ _ b).0 in absurd (omega arith))) in
-            ap (λ b. cond b true (is_shared x && is_used heap.runs page)) out ∙ and_right (is_shared x) (is_used heap.runs page) none
-            ∙ sym (ap (λ y. is_shared y && is_used (with_run run heap.runs) page) (whole_is n end k (omega arith) (omega arith))))
+        | inl early ↦ grind (arith, nat_tests, false_from_ne_true, leb-true, and_parts, is_shared, is_used, and_right, with_run, whole_is)
         | inr late ↦
             ap (λ b. cond b true (is_shared x && is_used heap.runs page)) (tail_held (256 * h) n h whole tails page laid (omega arith))
             ∙ shared_step x (becomes n end k) (holds page run) true (is_used heap.runs page) (is_used (with_run run heap.runs) page) (free_shared x free)

@@ -1,6 +1,6 @@
 -- The filler's choice by its measures is that of the heap.
 use Rattle.std.proofs.Common.{◌≡◌, ℕ, zero, suc, ◌+◌, ◌-◌, ◌<◌, ◌≤◌, ◌⊎◌, Bool, true, false, not, cond, List, [], ◌∷◌, length}
-use Rattle.std.proofs.Common.{get_or, filter, All, Contains, Option, Some, None, IfSome, refl, sym, ap, subst, ◌∙◌, inl, inr, arith}
+use Rattle.std.proofs.Common.{get_or, filter, All, Contains, Option, Some, IfSome, refl, sym, ap, subst, ◌∙◌, inl, inr, arith}
 use Rattle.page_heap.proofs.Common.{list_all, range_with_len, cases_Bool, cases_eq, leb-true, le-leb, length-map, get_or-map, All-head, All-tail}
 use Rattle.page_heap.proofs.Common.{length-range_with_len, get_or-range_with_len, none-some, same_Some, Run, first_of_two, first_least, first_least-all, Heap}
 use Rattle.page_heap.proofs.Common.{Hugepage, hugepage, numbers, longest_range, is_filler, FillerRow, filler_row, filler_rows, IsHugepageOf, IsRowWithRoom}
@@ -13,13 +13,10 @@ abbrev IsBehind : {X : Type 0} → (X → X → Bool) → X → X → Type 0
 IsBehind less r x = (x ≡ r) ⊎ ((less r x ≡ true) × (less x r ≡ false))
 
 keeps_first : {X : Type 0} (less : X → X → Bool) (r : X) (o : Option X) → IfSome o (IsBehind less r) → first_of_two less r o ≡ r
-keeps_first less r None h = refl
-keeps_first less r (Some y) (inl same) = elim (less y r) as (λ b. cond b y r ≡ r) [ true ↦ same | false ↦ refl ]
-keeps_first less r (Some y) (inr far) = ap (λ b. cond b y r) far.1
+keeps_first less r o h = grind (arith, nat_tests)
 
 passes_on : {X : Type 0} (less : X → X → Bool) (r x : X) → IsBehind less r x → first_of_two less x (Some r) ≡ r
-passes_on less r x (inl same) = elim (less r x) as (λ b. cond b r x ≡ r) [ true ↦ refl | false ↦ same ]
-passes_on less r x (inr far) = ap (λ b. cond b r x) far.0
+passes_on less r x h = grind (arith, nat_tests)
 
 first_is : {X : Type 0} (less : X → X → Bool) (xs : List X) (r : X) (k : ℕ) (d : X) → k < length xs → get_or xs k d ≡ r → All (IsBehind less r) xs → first_least less xs ≡ Some r
 first_is less [] r k d l at all = absurd (omega arith)
@@ -48,9 +45,8 @@ module _ (heap : Heap) (n : ℕ) where
   pub row_there : (h : ℕ) → 0 < h → h ≤ length heap.hugepages → is_filler (hugepage heap h) ≡ true → n ≤ longest_range heap.runs h →
       Contains (filter (has_room n) (filler_rows heap)) (filler_row heap h)
   row_there h from to own room =
-      let listed : Contains (numbers heap) h = listed_at (length heap.hugepages) h from to in
       let fillers = filter (λ k. is_filler (hugepage heap k)) (numbers heap) in
-      let kept : Contains fillers h = filter_holds (λ k. is_filler (hugepage heap k)) (numbers heap) h listed own in
+      let kept : Contains fillers h = filter_holds (λ k. is_filler (hugepage heap k)) (numbers heap) h (listed_at (length heap.hugepages) h from to) own in
       let len = length-map fillers (filler_row heap) in
       let row : Contains (filler_rows heap) (filler_row heap h) =
       (kept.0, short _ _ _ kept.1 len, get_or-map (filler_row heap) fillers kept.0 h (filler_row heap h) kept.1 ∙ ap (filler_row heap) kept.2) in
@@ -69,8 +65,7 @@ module _ (heap : Heap) (n : ℕ) where
   preferred_is huge is own its to =
       let h : ℕ = huge.0 in
       let rows = filter (has_room n) (filler_rows heap) in
-      let room : n ≤ longest_range heap.runs h = subst (λ (m : Measures). n ≤ m.longest) its is.room in
-      let has = row_there h is.from to own room in
+      let has = row_there h is.from to own (subst (λ (m : Measures). n ≤ m.longest) its is.room) in
       first_is is_preferred rows (filler_row heap h) has.0 (filler_row heap h) has.1 has.2
       (λ k d l.
       (let row = get_or rows k d in
@@ -90,8 +85,7 @@ module _ (heap : Heap) (n : ℕ) where
   none_there none = no_element (filter (has_room n) (filler_rows heap)) (λ k d l.
       (let row = get_or (filter (has_room n) (filler_rows heap)) k d in
       let fit : IsRowWithRoom heap n row = rows_fit heap n k d l in
-      let few = none fit.number (measures_of heap.runs fit.number (hugepage heap fit.number)) (there row fit) in
-      contra _ n few (roomy row fit)))
+      contra _ n (none fit.number (measures_of heap.runs fit.number (hugepage heap fit.number)) (there row fit)) (roomy row fit)))
     where
       no_element : {X : Type 0} (xs : List X) → All (λ x. ⊥) xs → xs ≡ []
       no_element [] h = refl

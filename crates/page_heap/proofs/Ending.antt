@@ -29,8 +29,7 @@ use Rattle.page_heap.proofs.Results.{IsHeap, IsMade, run_counted, left_made}
 filter-map : {X Y : Type 0} (p : Y → Bool) (g : X → Y) (xs : List X) → filter p (map g xs) ≡ map g (filter (λ x. p (g x)) xs)
 filter-map p g [] = refl
 filter-map p g (x ∷ xs) =
-    let rest = filter-map p g xs in
-    rw rest (grind (arith, nat_tests))
+    rw (filter-map p g xs) (grind (arith, nat_tests))
 
 -- whether a region's row has a used page
 unused_is : (heap : Heap) (r : ℕ) → is_unused (region_row_of heap r) ≡ not (has_used heap r)
@@ -94,7 +93,6 @@ module _ (heap : Heap) (r : ℕ) (sound : AreRunsSound heap) (ending : IsEnding 
       ((h : ℕ) → 0 < h → h ≤ length (map p heap.hugepages) → numbered row h true ≡ cond (spans width h r) (flag h)
       (numbered (map p heap.hugepages) h true)) → row ≡ map p after_end.hugepages
   end_flags p flag row same size is_row =
-      let arena = sound.arena in
       let len = length-map heap.hugepages p in
       flags_are heap e sound p row (size ∙ len)
       (λ h is.

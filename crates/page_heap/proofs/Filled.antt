@@ -20,7 +20,6 @@ pub record IsFilled (heap : Heap) (n page : ℕ) : Type 0 where
 filled_at : (heap : Heap) (n page h s : ℕ) → IsSound heap → 0 < n → IsFitting heap n h → AreUnused heap.runs (256 * h) 256 s n → 256 * h + s ≡ page → IsFilled heap n page
 filled_at heap n page h s sound some fit are e =
     let huge : h ≡ page / 256 = omega (arith, are.to) in
-    let place : s ≡ page % 256 = omega (arith, are.to) in
     record {
       fitting = subst (IsFitting heap n) huge fit;
       fits = omega (arith, are.to);
@@ -35,8 +34,7 @@ filled_by heap n page sound some (Some row) is e =
     let h : ℕ = is.number in
     let at : row.number ≡ h = ap (λ (r : FillerRow). r.number) is.row_is in
     let place : best (used_row heap.runs h) n ≡ Some s = ap (λ (r : FillerRow). best r.used n) (sym is.row_is) ∙ of.1 in
-    let end : 256 * h + s ≡ page = ap (λ k. 256 * k + s) (sym at) ∙ of.2 in
-    filled_at heap n page h s sound some is.fitting (unused_at heap.runs (256 * h) 256 n s some place) end
+    filled_at heap n page h s sound some is.fitting (unused_at heap.runs (256 * h) 256 n s some place) (ap (λ k. 256 * k + s) (sym at) ∙ of.2)
 
 filled : (heap : Heap) (n page : ℕ) → IsSound heap → 0 < n → filler_place (filler_rows heap) n ≡ Some page → IsFilled heap n page
 filled heap n page sound some e = filled_by heap n page sound some (first_least is_preferred (filter (has_room n) (filler_rows heap)))

@@ -23,8 +23,7 @@ pub measured_some : (runs : List Run) (h : ℕ) (x : Hugepage) → is_filler x �
 measured_some runs h x e = rw e refl
 
 pub not-not : (b : Bool) → not (not b) ≡ b
-not-not true = refl
-not-not false = refl
+not-not b = grind (arith, nat_tests)
 
 pub holds_there : (heap : Heap) (h : ℕ) → 0 < h → h ≤ length heap.hugepages → holds (cache_of heap) h ≡ is_free (hugepage heap h)
 holds_there heap h some inside = ap not (map-at (λ x. not (is_free x)) heap.hugepages h true some inside) ∙ not-not (is_free (hugepage heap h))
@@ -60,7 +59,6 @@ module _ (heap : Heap) (rest : List Run) (f : ℕ → Hugepage → Hugepage) (so
 
   measured_after : (h : ℕ) → IsHugepageOf heap.config.huge h → measures_at (measures after) h ≡ measured rest h (f h (hugepage heap h))
   measured_after h is =
-      let arena = sound.arena in
       let size = length-each f heap.hugepages in
       measures_there after h is.from (omega (arith, is.to)) ∙ ap (measured rest h) (here heap rest heap.regions f heap.counts sound h is)
 
@@ -68,7 +66,6 @@ module _ (heap : Heap) (rest : List Run) (f : ℕ → Hugepage → Hugepage) (so
       ((h : ℕ) → IsHugepageOf heap.config.huge h → h ≢ k → measured heap.runs h (hugepage heap h) ≡ measured rest h (f h (hugepage heap h))) →
       with_measures (measures heap) k (measured rest k (hugepage after k)) ≡ measures after
   measures_set k own others =
-      let arena = sound.arena in
       let len = length-measures heap in
       let its = measured rest k (hugepage after k) in
       let size = length-set (measures heap) (k - 1) its in

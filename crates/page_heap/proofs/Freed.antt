@@ -15,8 +15,7 @@ past_spans many h first l = false_from_ne_true _ (λ t. let parts = spans_parts 
 more_at : (row now : List Bool) (flag : ℕ → Bool) (first many : ℕ) → 0 < first → first + many ≤ length now →
     ((h : ℕ) → 0 < h → h ≤ length row → numbered now h true ≡ cond (spans many h first) (flag h) (numbered row h true)) → (h : ℕ) → 0 < h →
     h ≤ length row → numbered (set now (first + many - 1) (flag (first + many))) h true ≡ cond (spans (many + 1) h first) (flag h) (numbered row h true)
-more_at row now flag first many from inside was h some l =
-    grind (arith, nat_tests, numbered-set, numbered, one_is, spans_from, one_not, more_spans, past_spans)
+more_at row now flag first many from inside was h some l = grind (arith, nat_tests, numbered-set, numbered, one_is, spans_from, one_not, more_spans, past_spans)
 
 pub freed_none : (cache : Cache) (heap : Heap) (first : ℕ) → AreFreed cache cache heap first 0
 freed_none cache heap first = grind (arith, nat_tests, cache.taken, cache.unready)

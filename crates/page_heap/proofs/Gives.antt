@@ -2,7 +2,7 @@
 use Rattle.std.proofs.Common.{◌≡◌, ℕ, zero, suc, zero-add, ◌+◌, ◌-◌, ◌*◌, ◌<◌, ◌≤◌, Bool, true, false, ◌&&◌, ◌||◌, ◌==◌, cond, nat_lt, List, []}
 use Rattle.std.proofs.Common.{◌∷◌, length, get_or, set, drop, take, map, count_by, refl, sym, ap, subst, ◌∙◌, inl, inr, arith}
 use Rattle.page_heap.proofs.Common.{list_all, range_with_len, cases_lt, cases_eq, and_left, and_right, le-ltb}
-use Rattle.page_heap.proofs.Common.{false≢true, length-map, length-set, length-drop, get_or-drop, get_or_default, get_or_past, length-range_with_len}
+use Rattle.page_heap.proofs.Common.{length-map, length-set, length-drop, get_or-drop, get_or_default, get_or_past, length-range_with_len}
 use Rattle.page_heap.proofs.Common.{length-map-range_with_len, count_by-le-length, Huge, count-cons, count_none, one-true, range-within, Heap, Hugepage}
 use Rattle.page_heap.proofs.Common.{hugepage, numbers, spans, run_at, used_count, is_free, is_region, is_free_backed, unbacked, counted}
 use Rattle.page_heap.proofs.Common.{settled, Released, whole_given, free_given, is_idle, idle_given, spare_given, after_regions, after_free, release}
@@ -51,7 +51,6 @@ module _ (flags : List Bool) (n h : ℕ) (some : 0 < n) (from : 0 < h) (to : h �
 
   none_behind : count_by (λ b. b) (drop h flags) ≡ 0
   none_behind = count_none (λ b. b) (drop h flags) (λ i d l. (let len = length-drop h flags in
-      let at' : 1 + (h + i) ≡ 1 + h + i = omega arith in
       get_or_default (drop h flags) i d false l ∙ get_or-drop h flags i false ∙ sym (at_number-next false flags (h + i)) ∙ last (1 + (h + i)) (omega arith)))
 
   next_gives : (k : ℕ) → 0 < k → gives_whole flags n k ≡ (spans 1 k h || gives_whole cleared (n - 256) k)
@@ -59,14 +58,10 @@ module _ (flags : List Bool) (n h : ℕ) (some : 0 < n) (from : 0 < h) (to : h �
 
   module _ (heap : Heap) (size : length flags ≡ length heap.hugepages) where
     next_page : (s g : Bool) (x : Hugepage) → cond (s || g) (unbacked x) x ≡ cond g (unbacked (cond s (unbacked x) x)) (cond s (unbacked x) x)
-    next_page true true x = refl
-    next_page true false x = refl
-    next_page false g x = refl
+    next_page s g x = grind (arith, nat_tests)
 
     counted_apart : (p s q : Bool) → p ≡ (s || q) → (s ≡ true → q ≡ false) → cond s 1 0 + cond q 1 0 ≡ cond p 1 0
-    counted_apart p true true e apart = absurd (false≢true (sym (apart refl)))
-    counted_apart p true false e apart = rw e refl
-    counted_apart p false q e apart = rw e (zero-add (cond q 1 0))
+    counted_apart p s q e apart = grind (arith, nat_tests, zero-add)
 
     own_off : gives_whole cleared (n - 256) h ≡ false
     own_off = and_left _ _ (numbered-set flags h false h false from to from ∙ ap (λ b. cond b false (at_number false flags h)) (one_is h h refl))
@@ -92,11 +87,7 @@ module _ (flags : List Bool) (n h : ℕ) (some : 0 < n) (from : 0 < h) (to : h �
 
 -- Free hugepages.
 flag_at : (heap : Heap) (k : ℕ) → at_number false (map is_free_backed heap.hugepages) k ≡ is_free_backed (hugepage heap k)
-flag_at heap zero = refl
-flag_at heap (suc k) = elim (cases_lt k (length heap.hugepages)) [
-  | inl inside ↦ map-at is_free_backed heap.hugepages (suc k) false (omega arith) (omega arith)
-  | inr past ↦ grind (arith, nat_tests, length-map, get_or_past)
-]
+flag_at heap k = grind (arith, nat_tests, cases_lt, map-at, is_free_backed, length-map, get_or_past)
 
 unbacked_there : (x : Hugepage) → is_free_backed (unbacked x) ≡ false
 unbacked_there x = and_right (is_free x) false refl
@@ -108,7 +99,6 @@ free_next heap n huge sound some is =
     let arena = sound.runs.arena in
     let flags = map is_free_backed heap.hugepages in
     let len = length-map heap.hugepages is_free_backed in
-    let to : h ≤ length heap.hugepages = omega (arith, is.own.to) in
     whole_next flags n h some is.own.from (omega arith) (flag_at heap h ∙ is.passes) (λ i past. flag_at heap i ∙ is.behind i past) heap len
     ∙ ap (λ all. behind 256 (whole_given all (unbacked_span heap h 1) (n - 256)))
     (grind (arith, nat_tests, flags_set, unbacked_there, is.own.from))
@@ -141,7 +131,6 @@ module _ (heap : Heap) (huge : Huge) (sound : IsSound heap) (is : IsLast heap (i
   idle_flags : set idle_row (huge.0 - 1) false ≡ map (is_idle unidle) (numbers unidle)
   idle_flags =
       let f : ℕ → Hugepage → Hugepage = λ k x. cond (spans 1 k huge.0) (unbacked x) x in
-      let arena = sound.runs.arena in
       let len = length-map-range_with_len (is_idle heap) 1 (length heap.hugepages) in
       let len' = length-map-range_with_len (is_idle unidle) 1 (length unidle.hugepages) in
       let size = length-each f heap.hugepages in

@@ -1,6 +1,6 @@
 -- Unused hugepages of regions that are backed: which is the last.
-use Rattle.std.proofs.Common.{◌≡◌, ℕ, zero, suc, ◌<◌, ◌≤◌, true, false, ◌==◌, ◌&&◌, length, Some, None, sym, ap, ◌∙◌, inl, inr, arith}
-use Rattle.page_heap.proofs.Common.{cases_Bool, cases_lt, and_left, false≢true, get_or_past, All-contains, none-some, RowView, Heap, hugepage}
+use Rattle.std.proofs.Common.{◌≡◌, ℕ, ◌<◌, ◌≤◌, true, false, ◌==◌, ◌&&◌, length, Some, None, sym, ap, ◌∙◌, inl, inr, arith}
+use Rattle.page_heap.proofs.Common.{cases_Bool, cases_lt, and_left, get_or_past, All-contains, none-some, RowView, Heap, hugepage}
 use Rattle.page_heap.proofs.Common.{row_of, is_kind_region, is_region, RegionRow, region_row_of, is_idle, IsHugepageOf, IsRegion, IsSound}
 use Rattle.page_heap.proofs.Common.{serves_at, spans_parts, is_Region, Regions, region_with, Inside, regions_of, nat_tests}
 use Rattle.tc_units.specs.declared.rows.RowKind.TheVariants as kind
@@ -10,15 +10,13 @@ use Rattle.page_heap.proofs.Results.{IsHeap}
 
 -- a region's hugepage is one of the arena, and has a region
 region_own : (heap : Heap) (h : ℕ) → is_region (hugepage heap h) ≡ true → (0 < h) × (h ≤ length heap.hugepages)
-region_own heap zero e = absurd (false≢true e)
-region_own heap (suc k) e = grind (arith, nat_tests, get_or_past)
+region_own heap h e = grind (arith, nat_tests, get_or_past)
 
 no_region : (heap : Heap) (h : ℕ) → IsSound heap → region_with (regions_of heap) h ≡ None → is_region (hugepage heap h) ≡ false
 no_region heap h sound none = elim (cases_Bool (is_region (hugepage heap h))) [
   | inr f ↦ f
   | inl t ↦
       (let inside = region_own heap h t in
-      let arena = sound.runs.arena in
       let own : IsHugepageOf heap.config.huge h = record { from = inside.0; to = omega (arith, inside.1) } in
       let lies = (serves_at heap.runs heap.regions heap.config.region h (hugepage heap h) kind.Region (is_Region (hugepage heap h).kind t) (sound.runs.fit h own)).0 in
       absurd (none-some (region_row_of heap lies.region) (sym none ∙ region_found heap lies.region h (sound.runs.apart h) lies.known lies.spanned)))

@@ -1,9 +1,9 @@
 -- A run in a region that has room.
-use Rattle.std.proofs.Common.{◌≡◌, ℕ, ◌+◌, ◌-◌, ◌*◌, ◌/◌, ◌^◌, ◌<◌, ◌≤◌, true, false, cond, length, filter, Contains, Option, Some, None, IfSome, refl}
+use Rattle.std.proofs.Common.{◌≡◌, ℕ, ◌+◌, ◌-◌, ◌*◌, ◌/◌, ◌^◌, ◌<◌, ◌≤◌, true, false, cond, length, filter, Contains, Option, Some, IfSome, refl}
 use Rattle.std.proofs.Common.{ap, subst, ◌∙◌, inr, arith}
 use Rattle.page_heap.proofs.Common.{All-contains, none-some, Run, best, first_least, free_from, first_least-all, Heap, Hugepage, hugepage, reaches, run_at}
 use Rattle.page_heap.proofs.Common.{region_row, is_free, is_filler, is_region, is_kind_free, is_kind_filler, spans, RegionRow, place_in_region}
-use Rattle.page_heap.proofs.Common.{region_place, region_row_of, region_rows, all_backed, in_region, IsRegion, AreRunsSound, IsSound, IsGiven, mapped}
+use Rattle.page_heap.proofs.Common.{region_place, region_row_of, region_rows, all_backed, in_region, IsRegion, AreRunsSound, IsSound, IsGiven}
 use Rattle.page_heap.proofs.Common.{unused_at, reaches_parts, is_Region, spans_from, used_with_new, at, IsSpan, reached_by, Regions, region_with}
 use Rattle.page_heap.proofs.Common.{with_changed, joined, start_in, AreFreeIn, Inside, measures, cache_of, regions_of, nat_tests}
 use Rattle.range_bits.proofs.RangeFacts.{best_is_fit}
@@ -75,8 +75,7 @@ placed_at heap n page r s sound some known place e =
     }
 
 placed_by : (heap : Heap) (n page : ℕ) → IsSound heap → 0 < n → (o : Option RegionRow) → IfSome o (IsRegionWithRoom heap n) → place_in_region n o ≡ Some page → IsPlaced heap n page
-placed_by heap n page sound some None is e = absurd (none-some page e)
-placed_by heap n page sound some (Some row) is e = grind (arith, nat_tests, mapped, placed_at, is.row_is, is.own)
+placed_by heap n page sound some o is e = grind (arith, nat_tests, none-some, placed_at)
 
 placed_in : (heap : Heap) (n page : ℕ) → IsSound heap → 0 < n → region_place (region_rows heap) n ≡ Some page → IsPlaced heap n page
 placed_in heap n page sound some e =

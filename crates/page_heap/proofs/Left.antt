@@ -43,23 +43,7 @@ module _ (heap : Heap) (run : Run) (sound : IsSound heap) (live : Contains heap.
   last_of = (run.first.0 + run.pages - 1) / 256
 
   pub laid : IsInOneHugepage heap run ⊎ IsInHugepages heap run → IsLaid heap run (run.first.0 / 256) (run.pages / 256) last_of
-  laid (inl one) = grind (arith, nat_tests, one.ends, one.below)
-  laid (inr whole) = record {
-    lies = inl whole.begins;
-    some = inside.some;
-    from = omega (arith, inside.from);
-    first = omega (arith, inside.some);
-    to = omega (arith, inside.to);
-    ends = omega (arith, whole.begins, inside.some);
-    most = omega (arith, whole.begins, whole.long);
-    least = omega (arith, whole.begins);
-    begins = omega arith;
-    near = omega arith;
-    far = omega (arith, inside.some);
-    past = omega arith;
-    whole = λ h a b. whole.whole h (omega (arith, whole.begins)) (omega (arith, whole.begins));
-    tail = λ e. whole.tail last_of (omega (arith, inside.some)) (omega (arith, whole.begins, e));
-  }
+  laid h = grind (arith, nat_tests, inside)
 
 -- What the calls ask as it leaves, and what that makes.
 pub record IsLeaving (old : Inside) (heap : Heap) (run : Run) (start many last : ℕ) : Type 0 where
@@ -159,7 +143,6 @@ module _ (old : Inside) (heap : Heap) (is : IsHeap old heap) (run : Run) (live :
       let full : Bool = list_all (λ t. t) y.backed in
       let size = sound.runs.arena in
       let to : start + (last - start) ≤ length heap.hugepages + 1 = omega (arith, at'.to, at'.first) in
-      let upto : last ≤ length heap.hugepages = omega (arith, at'.to) in
       let flags : (b : Bool) → is_free left_last ≡ b → (h : ℕ) →
       cond (b && spans 1 h last) false (cond (spans (last - start) h start) false (is_taken (hugepage heap h))) ≡ is_taken (f h (hugepage heap h)) =
       λ b e h. flag is_taken false (λ _ _. refl) (λ x n. ap not n) b e (λ t. sym (ap not (e ∙ t))) h in
@@ -188,9 +171,8 @@ module _ (old : Inside) (heap : Heap) (is : IsHeap old heap) (run : Run) (live :
       subst (λ (c : Cache). last - start ≤ used_from c.taken (start - 1)) (sym is.shows.cache)
       (prefix_long (λ used. used) (drop (start - 1) row) (last - start) false (omega (arith, at'.to, at'.from))
       (λ k l.
-      (let place : start - 1 + k ≡ start + k - 1 = omega (arith, at'.from) in
-      get_or-drop (start - 1) row k false
-      ∙ ap (λ i. get_or row i false) place
+      (get_or-drop (start - 1) row k false
+      ∙ ap (λ i. get_or row i false) (omega (arith, at'.from))
       ∙ map-place is_taken heap.hugepages (start + k) false (omega (arith, at'.from)) (omega (arith, at'.to))
       ∙ not_from_false _ (ap is_kind_free (before_last (start + k) (omega arith) (omega arith))))))
 
@@ -200,7 +182,6 @@ module _ (old : Inside) (heap : Heap) (is : IsHeap old heap) (run : Run) (live :
       let after : Heap = given_back heap run in
       let size = ap (λ (c : Cache). length c.taken) is.shows.cache ∙ length-map heap.hugepages is_taken ∙ sound.runs.arena in
       let table = arena in
-      let c : Cache → Cache = λ k. with_backed_run k start (last - start) in
       record {
         laid = at';
         own = last_own;

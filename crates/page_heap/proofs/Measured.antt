@@ -45,8 +45,7 @@ module _ (heap : Heap) (sound : IsSound heap) (h : ℕ) (own : IsHugepageOf heap
             spare;
         donated = x.donated;
       })) None in
-      let spare : backed_count x - used_count heap.runs h ≡ spare_of heap.runs h x = rest_of _ _ _ pages_split in
-      ap (λ b. made (cond b (cond x.donated 1 0) 2) (backed_count x - used_count heap.runs h)) backed_whole ∙ ap (made (tier x)) spare
+      ap (λ b. made (cond b (cond x.donated 1 0) 2) (backed_count x - used_count heap.runs h)) backed_whole ∙ ap (made (tier x)) (rest_of _ _ _ pages_split)
 
 -- a hugepage of the table is one of the arena
 pub told_own : (table : Table) (heap : Heap) (h : ℕ) → IsTold table heap → 0 < h → h ≤ length table.pages → IsHugepageOf heap.config.huge h

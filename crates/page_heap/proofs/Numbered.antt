@@ -20,11 +20,10 @@ pub numbered-each : {X Y : Type 0} (f : ℕ → X → Y) (xs : List X) (h : ℕ)
     numbered (map (λ (p : ℕ × X). f p.0 p.1) (enumerate_from 1 xs)) h e ≡ f h (numbered xs h d)
 numbered-each {X} f xs h d e some inside =
     let len = length-enumerate_from 1 xs in
-    let at : 1 + (h - 1) ≡ h = omega arith in
     at_number-place e (map (λ (p : ℕ × X). f p.0 p.1) (enumerate_from 1 xs)) h some
     ∙ get_or-map (λ (p : ℕ × X). f p.0 p.1) (enumerate_from 1 xs) (h - 1) (0, d) e (omega arith)
     ∙ ap (λ (p : ℕ × X). f p.0 p.1) (get_or-enumerate_from 1 xs (h - 1) (0, d) (omega arith))
-    ∙ ap (λ k. f k (get_or xs (h - 1) d)) at
+    ∙ ap (λ k. f k (get_or xs (h - 1) d)) (omega arith)
     ∙ ap (f h) (sym (at_number-place d xs h some))
 
 pub length-each : {X Y : Type 0} (f : ℕ → X → Y) (xs : List X) → length (map (λ (p : ℕ × X). f p.0 p.1) (enumerate_from 1 xs)) ≡ length xs

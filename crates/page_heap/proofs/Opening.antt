@@ -26,11 +26,7 @@ use Rattle.page_heap.proofs.Results.{IsHeap, IsMade, fits_used, came_made}
 -- a range of which no page is used
 used_from-none : (runs : List Run) (first many : ℕ) → ((page : ℕ) → first ≤ page → page < first + many → is_used runs page ≡ false) → used_from runs first many ≡ replicate many false
 used_from-none runs first many none =
-    let len = length-map-range_with_len (is_used runs) first many in
-    same_lists _ _ (len ∙ sym (length-replicate many false))
-    (λ k d l.
-    let short : k < many = omega arith in
-    get_or-map-range_with_len (is_used runs) first many k (first + k) d short refl ∙ none (first + k) (omega arith) (omega arith) ∙ sym (get_or-replicate many k false d short))
+    grind (arith, nat_tests, length-map-range_with_len, is_used, same_lists, length-replicate, get_or-map-range_with_len, get_or-replicate)
 
 -- What the calls ask as a region opens for a run, and what that makes.
 pub record IsOpening (old : Inside) (heap : Heap) (n r page : ℕ) : Type 0 where
@@ -104,10 +100,7 @@ module _ (old : Inside) (heap : Heap) (is : IsHeap old heap) (n r : ℕ) (some :
   flag p busy h = grind (arith, nat_tests)
 
   opened_cache : without_run (cache_of heap) r width ≡ cache_of between
-  opened_cache =
-      same_cache (without_run (cache_of heap) r width) _ _
-      (flags_run heap f sound.runs is_taken r width true are.from are.to (λ h _. flag is_taken (λ x. refl) h))
-      (flags_run heap f sound.runs is_unready r width true are.from are.to (λ h _. flag is_unready (λ x. refl) h))
+  opened_cache = grind (arith, nat_tests, same_cache, cache_of, flags_run, sound, is_taken, are, flag, is_unready)
 
   row_is : region_row heap.runs width r ≡ replicate (256 * width) false
   row_is = used_from-none heap.runs (256 * r) (256 * width) (λ page a b. (let h : ℕ = page / 256 in
@@ -146,7 +139,6 @@ module _ (old : Inside) (heap : Heap) (is : IsHeap old heap) (n r : ℕ) (some :
       let same : old.config.region ≡ width = ap (λ (c : HeapConfig). c.region) is.shows.config in
       let huge : old.regions.huge ≡ heap.config.huge = ap (λ (all : Regions). all.huge) is.shows.regions in
       let wide_is : old.regions.width ≡ width = ap (λ (all : Regions). all.width) is.shows.regions in
-      let arena = sound.runs.arena in
       let free_row : n ≤ free_from (region_row heap.runs width r) (256 * r - 256 * r) =
       (let none : 256 * r - 256 * r ≡ 0 = omega arith in let all = prefix_len-replicate not (256 * width) false refl in rw (row_is, none) (omega arith)) in
       record {

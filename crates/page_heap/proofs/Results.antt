@@ -86,8 +86,7 @@ within a c d k h p q e l = (omega arith, omega arith)
 
 pub measuring : {old : Inside} {heap : Heap} → IsHeap old heap → (after : Heap) → after.config ≡ heap.config → IsSound after → {u : Table} →
     Means u after → (h k : ℕ) → IsHugepageOf heap.config.huge h → k ≡ h → IsMeasuring old u k
-measuring {old} {heap} is after config sound means h k own e =
-    grind (arith, nat_tests, within, length-measures, length-map, sound.runs.arena, is.well.sound.runs.arena, own.to, own.from)
+measuring {old} {heap} is after config sound means h k own e = grind (arith, nat_tests, within, length-measures, length-map)
 
 -- A run has come.
 module _ (old : Inside) (heap : Heap) (is : IsHeap old heap) (n : ℕ) (p : Placed) (some : 0 < n) (given : IsGiven heap n p) where
@@ -128,5 +127,4 @@ pub same_made : (old : Inside) (heap : Heap) → IsHeap old heap → (f : ℕ �
     IsSound (record heap { hugepages = each f heap.hugepages }) → (filler : List (Option Measures)) (cache : Cache) →
     filler ≡ measures (record heap { hugepages = each f heap.hugepages }) → cache ≡ cache_of (record heap { hugepages = each f heap.hugepages }) →
     IsMade (record heap { hugepages = each f heap.hugepages }) old.config filler cache old.regions old.used
-same_made old heap is f kinds sound filler cache measured free =
-    grind (arith, nat_tests, routed_same, is.well.limits, is.well.ordered, is.well.sound, is.well.routed)
+same_made old heap is f kinds sound filler cache measured free = grind (arith, nat_tests, routed_same)

@@ -32,10 +32,7 @@ pub route_kept : (heap : Heap) (runs : List Run) (regions : List ℕ) (hugepages
     IsRouted heap z → ((h : ℕ) → reaches h z ≡ true → (at hugepages h).kind ≡ (hugepage heap h).kind) →
     ((r : ℕ) → Contains heap.regions r → 256 * r ≤ z.first.0 → z.first.0 + z.pages ≤ 256 * (r + heap.config.region) → Contains regions r) →
     IsRouted (record heap { runs = runs; regions = regions; hugepages = hugepages; counts = counts }) z
-route_kept heap runs regions hugepages counts z some (inl one) kinds known = grind (arith, nat_tests, one.ends, one.below)
-route_kept heap runs regions hugepages counts z some (inr (inl whole)) kinds known =
-    grind (arith, nat_tests, whole.begins, whole.long, whole.whole, whole.tail)
-route_kept heap runs regions hugepages counts z some (inr (inr in')) kinds known = grind (arith, nat_tests, in'.known, in'.from, in'.to)
+route_kept heap runs regions hugepages counts z some h kinds known = grind (arith, nat_tests)
 
 pub some_pages : (heap : Heap) (z : Run) → IsSound heap → Contains heap.runs z → 0 < z.pages
 some_pages heap z sound live = let inside : IsInside heap.config.huge z = All-contains (IsInside heap.config.huge) heap.runs z sound.runs.inside live in inside.some
@@ -97,8 +94,7 @@ module _ (heap : Heap) (run : Run) (sound : IsSound heap) (live : Contains heap.
   kind_left z h kind.Region has e is = elim (reaches h run) as (λ b. (cond b (hugepage heap h) (hugepage heap h)).kind ≡ kind.Region) [ true ↦ is | false ↦ is ]
   kind_left z h kind.Filler has e is =
       (let x = hugepage heap h in
-      let more : (allocation_count rest h == 0) ≡ false = ne_eqb (allocation_count rest h) 0 (not_none _ (reached_some rest z h has e)) in
-      ap (λ b. (cond (reaches h run) (cond b (emptied x) x) x).kind) more
+      ap (λ b. (cond (reaches h run) (cond b (emptied x) x) x).kind) (ne_eqb (allocation_count rest h) 0 (not_none _ (reached_some rest z h has e)))
       ∙ (elim (reaches h run) as (λ b. (cond b x x).kind ≡ kind.Filler) [ true ↦ is | false ↦ is ]))
     where
       not_none : (n : ℕ) → 0 < n → n ≡ 0 → ⊥
@@ -126,7 +122,6 @@ module _ (heap : Heap) (run : Run) (sound : IsSound heap) (live : Contains heap.
       let kept : List ℕ = used_regions before in
       let g : ℕ → Hugepage → Hugepage = λ h x. cond (is_region x && not (list_any (spans heap.config.region h) kept)) (record x { kind = kind.Free }) x in
       let region : (r : ℕ) → Contains heap.regions r → IsRegion heap r = λ r known. All-contains (IsRegion heap) heap.regions r sound.regions known in
-      let at : get_or rest has.0 z ≡ z = has.2 in
       let some = some_pages heap z sound (others z has) in
       route_kept before rest kept (each g before.hugepages) heap.counts z some (routed_left z has)
       (λ h e.

@@ -36,9 +36,6 @@ module _ (t : Inside) (heap : Heap) (is : IsHeap t heap) (run : Run) (live : Con
   whole_kind : (route : IsInHugepages heap run) → (hugepage heap h).kind ≡ kind.Run
   whole_kind route = route.whole h (omega (arith, route.begins)) (omega (arith, route.begins, route.long))
 
-  region_kind : (route : IsInRegion heap run) → (hugepage heap h).kind ≡ kind.Region
-  region_kind route = grind (arith, nat_tests, route.known, route.from, route.to)
-
   pub route_region : (hugepage heap h).kind ≡ kind.Region → IsInRegion heap run
   route_region e = grind (arith, nat_tests, routed, whole_kind)
 

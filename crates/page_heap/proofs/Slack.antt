@@ -1,6 +1,6 @@
 -- The slack, by the measures that the filler has.
-use Rattle.std.proofs.Common.{◌≡◌, ℕ, ◌+◌, ◌-◌, ◌*◌, ◌%◌, ◌<◌, ◌≤◌, Bool, true, false, cond, length, map, sum_by, None, refl, sym, ap, ◌∙◌, inl, inr, arith}
-use Rattle.page_heap.proofs.Common.{cases_Bool, false≢true, false_from_ne_true, same_lists, length-map, get_or-map, length-range_with_len}
+use Rattle.std.proofs.Common.{◌≡◌, ℕ, ◌+◌, ◌-◌, ◌*◌, ◌%◌, ◌≤◌, Bool, cond, length, map, sum_by, None, refl, sym, ap, ◌∙◌, inl, inr, arith}
+use Rattle.page_heap.proofs.Common.{cases_Bool, false≢true, false_from_ne_true, same_lists, length-map, get_or-map, length-range_with_len, nat_tests}
 use Rattle.page_heap.proofs.Common.{length-map-range_with_len, get_or-map-range_with_len, sum-map, sum_by-le, Heap, hugepage, numbers, used_count, is_filler}
 use Rattle.page_heap.proofs.Common.{hugepages_for, slack, IsHugepageOf, IsSound, at_number-next, donated_free, free_of_donated, Inside, measured, measures}
 use Rattle.page_heap.proofs.Frames.{length-measures, measures_there, measured_none, measured_some}
@@ -26,11 +26,10 @@ donated_is heap sound =
     let count = length-map-range_with_len (free_pages heap) 1 (length heap.hugepages) in
     let same : map free_of_donated (measures heap) ≡ map (free_pages heap) (numbers heap) = same_lists _ _ (omega arith)
     (λ k d l.
-    (let short : k < length heap.hugepages = omega arith in
-    get_or-map free_of_donated (measures heap) k None d (omega arith)
+    (get_or-map free_of_donated (measures heap) k None d (omega arith)
     ∙ ap free_of_donated (sym (at_number-next None (measures heap) k) ∙ measures_there heap (1 + k) (omega arith) (omega arith))
     ∙ free_there heap (1 + k) sound (record { from = omega arith; to = omega arith })
-    ∙ sym (get_or-map-range_with_len (free_pages heap) 1 (length heap.hugepages) k (1 + k) d short refl))) in
+    ∙ sym (get_or-map-range_with_len (free_pages heap) 1 (length heap.hugepages) k (1 + k) d (omega arith) refl))) in
     sym (sum-map free_of_donated (measures heap)) ∙ ap (sum_by (λ x. x)) same ∙ sum-map (free_pages heap) (numbers heap)
 
 -- what n pages leave in their last hugepage
@@ -41,8 +40,7 @@ pub slack_is : {old : Inside} {heap : Heap} → IsHeap old heap → (n : ℕ) �
 slack_is {old} {heap} is n = ap (λ m. donated_free old.filler + m) (left_is n) ∙ ap (λ m. m + (256 * hugepages_for n - n)) (ap donated_free is.shows.filler ∙ donated_is heap is.well.sound)
 
 small : (b : Bool) (m : ℕ) → cond b (256 - m) 0 ≤ 256
-small true m = omega arith
-small false m = omega arith
+small b m = grind (arith, nat_tests)
 
 bound : (a b c d e : ℕ) → a ≡ b → b ≤ c * 256 → c ≡ d → d ≡ e → e ≤ 4096 → a ≤ 1048576
 bound a b c d e p q r s t = omega arith

@@ -33,9 +33,7 @@ spares_each f first many none p a b =
     absurd (omega arith)))
 
 kept_backing : (b u : Bool) → (b && not u) ≡ false → (b && u) ≡ b
-kept_backing true true e = refl
-kept_backing true false e = sym e
-kept_backing false u e = refl
+kept_backing b u e = grind (arith, nat_tests)
 
 pub spares_none : (runs : List Run) (h : ℕ) (x : Hugepage) → length x.backed ≡ 256 → spare_of runs h x ≡ 0 → only_used runs h x ≡ x
 spares_none runs h x size none =
@@ -45,9 +43,7 @@ spares_none runs h x size none =
     ∙ sym (own_backs h x size))
 
 gone : (b u : Bool) → ((b && u) && not u) ≡ false
-gone true true = refl
-gone true false = refl
-gone false u = refl
+gone b u = grind (arith, nat_tests)
 
 pub spent_then : (runs : List Run) (h : ℕ) (x : Hugepage) → spare_of runs h (only_used runs h x) ≡ 0
 spent_then runs h x =
@@ -68,9 +64,7 @@ sum_zero f (x ∷ xs) all =
     let a = sum_by-cons f x xs in let rest = sum_zero f xs (All-tail (λ y. f y ≡ 0) x xs all) in let head : f x ≡ 0 = All-head (λ y. f y ≡ 0) x xs all in omega arith
 
 zero_term : (f q : Bool) (spare : ℕ) → (f ≡ true → 0 < spare → q ≡ false) → cond f (cond q spare 0) 0 ≡ 0
-zero_term false q spare none = refl
-zero_term true false spare none = refl
-zero_term true true spare none = elim (cases_lt 0 spare) [ inl some ↦ absurd (false≢true (sym (none refl some))) | inr few ↦ omega arith ]
+zero_term f q spare none = grind (arith, nat_tests, cases_lt)
 
 nested : (heap : Heap) (p : SpareRow → Bool) → sum_by (λ r. r.spare) (filter p (spare_rows heap)) ≡ sum_by
     (λ j. cond (is_filler (hugepage heap j)) (cond (p (spare_row heap j)) (spare_pages heap j) 0) 0) (numbers heap)
@@ -149,9 +143,8 @@ module _ (heap : Heap) (n : ℕ) (huge : Huge) (sound : IsSound heap) (some : 0 
             (own_term (is_filler (hugepage after h)) (q' h) (spare_pages after h) (cond (spans 1 h h) (cond c s 0) 0) (left h) spent
             (grind (arith, nat_tests, one_is)))
         | inr ne ↦
-            (let x_is = other j in'.0 (omega (arith, in'.1)) ne in
-            ap (λ b. cond b (cond c s 0) 0 + right j) (one_not j h ne)
-            ∙ ap (λ (x : Hugepage). 0 + cond (is_filler x) (cond (q' j) (spare_of runs j x) 0) 0) x_is
+            (ap (λ b. cond b (cond c s 0) 0 + right j) (one_not j h ne)
+            ∙ ap (λ (x : Hugepage). 0 + cond (is_filler x) (cond (q' j) (spare_of runs j x) 0) 0) (other j in'.0 (omega (arith, in'.1)) ne)
             ∙ other_term (is_filler (hugepage heap j)) (q j) (q' j) (spare_pages heap j) (same j ne in'.0 (omega (arith, in'.1))))
       ])) in
       let one = sum_one h (cond c s 0) 1 (length heap.hugepages) is.own.from (inside _ _ arena_own) in
@@ -246,9 +239,8 @@ pub spare_still : (heap : Heap) (n : ℕ) →
     ((spare_pages heap k ≡ 0) × (only_used heap.runs k (hugepage heap k) ≡ hugepage heap k))) → spare_given heap n ≡ record { heap = heap; pages = 0 }
 spare_still heap n none =
     let gives : ℕ → Bool = λ k. gives_spare (spare_rows heap) n (spare_row heap k) in
-    let f : ℕ → Hugepage → Hugepage = λ k x. cond (is_filler x && gives k) (only_used heap.runs k x) x in
     released_is (spare_given heap n) heap 0
-    (ap (λ xs. record heap { hugepages = xs }) (each_is f heap.hugepages heap.hugepages refl
+    (ap (λ xs. record heap { hugepages = xs }) (each_is (λ k x. cond (is_filler x && gives k) (only_used heap.runs k x) x) heap.hugepages heap.hugepages refl
     (λ k from to. (let x = hugepage heap k in
     elim (cases_Bool (is_filler x)) [
       | inr no_filler ↦ ap (λ b. cond b (only_used heap.runs k x) x) (and_left _ _ no_filler)
@@ -297,8 +289,7 @@ one_spared heap huge sound is =
 
 -- a hugepage of the filler is one of the arena
 filler_in : (heap : Heap) (h : ℕ) → is_filler (hugepage heap h) ≡ true → (0 < h) × (h ≤ length heap.hugepages)
-filler_in heap zero e = absurd (false≢true e)
-filler_in heap (suc k) e = grind (arith, nat_tests, get_or_past)
+filler_in heap h e = grind (arith, nat_tests, get_or_past)
 
 measured_there : (heap : Heap) (h : ℕ) → is_filler (hugepage heap h) ≡ true → measures_at (measures heap) h ≡ Some (measures_of heap.runs h (hugepage heap h))
 measured_there heap h filler = (let in' = filler_in heap h filler in measures_there heap h in'.0 in'.1 ∙ measured_some heap.runs h (hugepage heap h) filler)
@@ -324,8 +315,7 @@ module _ (old : Inside) (heap : Heap) (whole : IsHeap old heap) (huge : Huge) (i
       }
 
   still_busy : (x : Hugepage) (b : Bool) (y : Hugepage) → is_free x ≡ false → is_free y ≡ false → (is_free x ≡ is_free (cond b y x)) × (is_free_backed x ≡ is_free_backed (cond b y x))
-  still_busy x true y e f = (e ∙ sym f, and_left _ _ e ∙ sym (and_left _ _ f))
-  still_busy x false y e f = (refl, refl)
+  still_busy x b y e f = grind (arith, nat_tests, and_left)
 
   pub spared_made : IsMade then old.config (remeasured old.filler then huge.0) old.cache old.regions old.used
   spared_made = same_made old heap whole change
@@ -352,9 +342,8 @@ first_is t heap whole huge given =
       filler = its.0;
       some = subst (λ m. 0 < m) spare is.some;
       first = λ h filler more ne.
-          (let there = measured_there heap h filler in
-          subst (λ (m : Measures). gives_before (spare_row heap h) (record { number = huge.0; used = m.used; spare = m.spare }) ≡ true) its.1
-          (is.first h (measures_of heap.runs h (hugepage heap h)) there more ne));
+          (subst (λ (m : Measures). gives_before (spare_row heap h) (record { number = huge.0; used = m.used; spare = m.spare }) ≡ true) its.1
+          (is.first h (measures_of heap.runs h (hugepage heap h)) (measured_there heap h filler) more ne));
     }
 
 pub none_is : (t : Inside) (heap : Heap) → IsHeap t heap → ((h : ℕ) (its : Measures) → measures_at t.filler h ≡ Some its → its.spare ≡ 0) → (h : ℕ) →
@@ -372,9 +361,7 @@ spare_few heap n sound few = bounded _ _ _ _ (spare_counts heap n (λ h from to.
 
 -- Each source gives nothing where none is wanted, and no more than the arena has.
 pub given_zero : (source : Source) (heap : Heap) (n : ℕ) → n ≡ 0 → given_by source heap n ≡ record { heap = heap; pages = 0 }
-given_zero source.Free heap n e = whole_zero (map is_free_backed heap.hugepages) heap n e
-given_zero source.Regions heap n e = whole_zero (map (is_idle heap) (numbers heap)) heap n e
-given_zero source.Filler heap n e = spare_zero heap n e
+given_zero source heap n e = grind (arith, nat_tests, whole_zero, is_free_backed, is_idle, spare_zero)
 
 most_pages : (a b : ℕ) → a ≤ 256 * b → (c : ℕ) → b ≡ c → c ≤ 4096 → a ≤ 1048576
 most_pages a b l c e f = omega arith

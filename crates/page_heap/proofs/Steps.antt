@@ -28,9 +28,8 @@ went heap run sound live = record { counts = λ p e. none_less _ _ _ (count_rest
 pub over_range : {X : Type 0} (f g : ℕ → X) (first many : ℕ) → ((k : ℕ) → first ≤ k → k < first + many → f k ≡ g k) → map f (range_with_len first many) ≡ map g (range_with_len first many)
 over_range f g first zero same = refl
 over_range f g first (suc n) same =
-    let head : f first ≡ g first = same first (omega arith) (omega arith) in
     let rest = over_range f g (first + 1) n (λ k a b. same k (omega arith) (omega arith)) in
-    rw (head, rest) refl
+    rw (same first (omega arith) (omega arith), rest) refl
 
 pub count-map : {X : Type 0} (f : X → Bool) (xs : List X) → count_by (λ b. b) (map f xs) ≡ count_by f xs
 count-map f [] = refl
@@ -76,8 +75,7 @@ sum_rest f q (x ∷ xs) (suc k) d l t most =
     elim (cases_Bool (q x)) [
       | inl s ↦ (let one = one-true (q x) s in absurd (omega arith))
       | inr n ↦
-          (let none = one-false (q x) n in
-          let rest = sum_rest f q xs k d (omega arith) t (omega arith) in
+          (let rest = sum_rest f q xs k d (omega arith) t (omega arith) in
           let b = sum_by-cons f x xs in
           let c = sum_by-cons f x (filter (λ y. not (q y)) xs) in
           rw n (omega arith))
@@ -87,7 +85,6 @@ pub pages_rest : (heap : Heap) (run : Run) → IsSound heap → Contains heap.ru
 pages_rest heap run sound live =
     let q : Run → Bool = λ r. r.first.0 == run.first.0 in
     let le = count_le q (holds run.first.0) heap.runs (λ k d l e. grind (arith, nat_tests, holds_from)) in
-    let disjoint = sound.runs.disjoint run.first.0 in
     let most : count_by q heap.runs ≤ 1 = omega arith in
     let there : get_or heap.runs live.0 run ≡ run = live.2 in
     let here = eq-eqb run.first.0 run.first.0 refl in

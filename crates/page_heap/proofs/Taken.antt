@@ -31,9 +31,8 @@ free_there old heap is h m are =
     subst (λ (c : Cache). m ≤ free_from c.taken (h - 1)) (sym is.shows.cache)
     (prefix_long not (drop (h - 1) row) m false (omega arith)
     (λ k l.
-    (let place : h - 1 + k ≡ h + k - 1 = omega arith in
-    ap not (get_or-drop (h - 1) row k false
-    ∙ ap (λ i. get_or row i false) place
+    (ap not (get_or-drop (h - 1) row k false
+    ∙ ap (λ i. get_or row i false) (omega arith)
     ∙ map-place is_taken heap.hugepages (h + k) false (omega arith) (omega arith)
     ∙ ap not (are.free (h + k) (omega arith) (omega arith))))))
 
@@ -111,10 +110,7 @@ module _ (old : Inside) (heap : Heap) (is : IsHeap old heap) (n h : ℕ) (some :
   flag p set k _ = grind (arith, nat_tests)
 
   taken_cache : without_run (cache_of heap) h m ≡ cache_of after
-  taken_cache =
-      same_cache (without_run (cache_of heap) h m) _ _
-      (flags_run heap f sound.runs is_taken h m true are.from are.to (flag is_taken (λ k. ap not (busy k))))
-      (flags_run heap f sound.runs is_unready h m true are.from are.to (flag is_unready (λ k. ap not (and_left _ _ (busy k)))))
+  taken_cache = grind (arith, nat_tests, same_cache, cache_of, flags_run, sound, is_taken, are, flag, busy, is_unready, and_left)
 
   pub taking : (last : ℕ) → last + 1 ≡ h + m → IsTaking old heap n h last
   taking last e =

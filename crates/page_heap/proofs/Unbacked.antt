@@ -1,7 +1,7 @@
 -- A hugepage that is free or of a region loses its backing: what that keeps.
-use Rattle.std.proofs.Common.{◌≡◌, ℕ, zero, suc, true, false, not, cond, length, Option, Some, None, IfSome, IfNone, refl, sym, ap, subst, ◌∙◌, inl, inr, arith}
+use Rattle.std.proofs.Common.{◌≡◌, ℕ, true, false, cond, Option, None, IfSome, IfNone, sym, ap, subst, ◌∙◌, inl, inr, arith}
 use Rattle.std.proofs.lemmas.Bool.{or_left, or_right}
-use Rattle.page_heap.proofs.Common.{cases_lt, cases_eq, and_parts, length-map, get_or_past, Huge, Heap, Hugepage, hugepage, untouched}
+use Rattle.page_heap.proofs.Common.{cases_lt, cases_eq, and_parts, length-map, get_or_past, Huge, Heap, Hugepage, hugepage}
 use Rattle.page_heap.proofs.Common.{spans, is_free, is_free_backed, is_filler, is_region, unready_row, unbacked, IsHugepageOf, IsSound, unbacked_span}
 use Rattle.page_heap.proofs.Common.{IsSpan, is_even, Cache, is_backed, without_backing, IsLastBacked, Inside, measured, measures, cache_of, IsLast, nat_tests}
 use Rattle.page_heap.proofs.Numbered.{one_not}
@@ -11,26 +11,19 @@ use Rattle.page_heap.proofs.InRegion.{region_no_filler, region_busy}
 use Rattle.page_heap.proofs.Results.{IsHeap, IsMade, same_made}
 
 pub if_some : {X : Type 0} (o : Option X) (P Q : X → Type 0) → ((x : X) → P x → Q x) → IfSome o P → IfSome o Q
-if_some None P Q f h = tt
-if_some (Some x) P Q f h = f x h
+if_some o P Q f h = grind (arith, nat_tests)
 
 pub if_none : {X : Type 0} (o : Option X) (P Q : Type 0) → (P → Q) → IfNone o P → IfNone o Q
-if_none None P Q f h = f h
-if_none (Some x) P Q f h = tt
+if_none o P Q f h = grind (arith, nat_tests)
 
 -- What the cache says of the last free and backed hugepage.
 backed_all : (heap : Heap) (h : ℕ) → is_backed (cache_of heap) h ≡ is_free_backed (hugepage heap h)
-backed_all heap zero = refl
-backed_all heap (suc k) = elim (cases_lt k (length heap.hugepages)) [
-  | inl inside ↦ backed_there heap (suc k) (omega arith) (omega arith)
-  | inr past ↦ (let len = length-map heap.hugepages is_unready in ap not (get_or_past (unready_row heap) k true (omega arith)) ∙ sym (ap is_free_backed (get_or_past heap.hugepages k untouched past)))
-]
+backed_all heap h = grind (arith, nat_tests, cases_lt, backed_there, length-map, is_unready, get_or_past, unready_row, is_free_backed)
 
 pub last_is : (t : Inside) (heap : Heap) → IsHeap t heap → (huge : Huge) → IsLastBacked t.cache huge → IsLast heap (λ h. is_free_backed (hugepage heap h)) huge
 last_is t heap whole huge given =
     let is = subst (λ c. IsLastBacked c huge) whole.shows.cache given in
     let len = length-map heap.hugepages is_unready in
-    let arena = whole.well.sound.runs.arena in
     record {
       own = record { from = is.from; to = omega (arith, is.to) };
       passes = sym (backed_all heap huge.0) ∙ is.backed;
@@ -77,7 +70,6 @@ module _ (old : Inside) (heap : Heap) (is : IsHeap old heap) (huge : Huge) (own 
   -- a free one
   pub free_made : is_free_backed (hugepage heap huge.0) ≡ true → IsSound after → IsMade after old.config old.filler (without_backing old.cache huge.0) old.regions old.used
   free_made passes sound' =
-      let arena = sound.runs.arena in
       made sound' (without_backing old.cache huge.0) (free_not_filler (hugepage heap huge.0) (and_parts _ _ passes).0)
       (ap (λ c. without_backing c huge.0) is.shows.cache
       ∙ same_cache (without_backing (cache_of heap) huge.0) _ _

@@ -1,5 +1,6 @@
 -- A leaf that is made for a hugepage in which no span has begun.
-use Rattle.std.proofs.Common.{◌≡◌, ℕ, ◌/◌, ◌%◌, ◌<◌, List, length, get_or, set, replicate, false, is_some, Option, Some, None, refl, sym, ap, ◌∙◌, inl, inr, arith}
+use Rattle.std.proofs.lemmas.Bool.Decides.{nat_tests}
+use Rattle.std.proofs.Common.{◌≡◌, ℕ, ◌/◌, ◌%◌, ◌<◌, List, length, get_or, set, replicate, false, is_some, Option, Some, None, sym, ap, ◌∙◌, inl, inr, arith}
 use Rattle.std.proofs.lemmas.Bool.{cases_eq, true≢false}
 use Rattle.std.proofs.lemmas.List.{get_or-replicate, get_or-set_same, get_or-set_other}
 use Rattle.tc_units.specs.declared.spans.SpanRef.{SpanRef}
@@ -7,8 +8,7 @@ use Rattle.page_map.specs.declared.leaf.Leaf.{Leaf}
 use Rattle.page_map.specs.Begins.{begin_in, begin_at}
 
 pub none_by : (o : Option Leaf) → is_some o ≡ false → o ≡ None
-none_by None e = refl
-none_by (Some leaf) e = absurd (true≢false e)
+none_by o e = grind (arith, nat_tests, true≢false)
 
 pub leaf_made : (leaves : List (Option Leaf)) (index : ℕ) (leaf : Leaf) → index < length leaves → get_or leaves index None ≡ None → leaf.begins.items ≡ replicate 256 None → (k : ℕ) → begin_at (set leaves index (Some leaf)) k ≡ begin_at leaves k
 leaf_made leaves index leaf inside none is k =

@@ -1,5 +1,7 @@
 -- The spans that leaves mean: a list of spans in order is told by what begins at each page.
-use Rattle.std.proofs.Common.{◌≡◌, ℕ, zero, suc, ◌+◌, ◌-◌, ◌*◌, ◌/◌, ◌%◌, ◌<◌, ◌≤◌, Bool, true, false, ◌==◌, nat_lt, nat_le, List, [], ◌∷◌, ◌++◌, length, get_or, set, replicate, find, is_some, IsSome, All, AllPairs, Contains, Option, Some, None, cond, refl, sym, ◌∙◌, ap, subst, inl, inr, arith}
+use Rattle.std.proofs.Common.{◌≡◌, ℕ, zero, suc, ◌+◌, ◌-◌, ◌*◌, ◌/◌, ◌<◌, ◌≤◌, Bool, true, false, ◌==◌, nat_lt, nat_le, List, [], ◌∷◌, ◌++◌, length, get_or}
+use Rattle.std.proofs.Common.{set, replicate, find, is_some, IsSome, All, AllPairs, Contains, Option, Some, None, cond, refl, sym, ◌∙◌, ap, subst, inl, inr}
+use Rattle.std.proofs.Common.{arith}
 use Rattle.std.proofs.lemmas.Bool.Decides.{nat_tests}
 use Rattle.std.specs.Option.{option_to_list}
 use Rattle.std.proofs.lemmas.List.Elements.{All-cons, All-head, All-tail, All-contains}
@@ -9,8 +11,8 @@ use Rattle.tc_units.specs.declared.spans.SpanRef.{SpanRef}
 use Rattle.place_set.specs.Places.{IsLast, IsLastAt}
 use Rattle.page_map.specs.declared.leaf.Leaf.{Leaf}
 use Rattle.page_map.specs.Spans.{SpanMap, holds, with_span, without_span, IsInside, IsBefore, AreApart, IsWellFormed}
-use Rattle.page_map.specs.Begins.{begins, begin_in, begin_at, spans_from, map_of, IsKept}
-use Rattle.page_map.proofs.SpanFacts.{AllPairs-head, AllPairs-tail, ends_before, apart_holds, find_there, find_nowhere, find_none, with_span-well_formed, without_span-well_formed, begins-with_span, begins-without_span}
+use Rattle.page_map.specs.Begins.{begins, begin_at, spans_from, map_of, IsKept}
+use Rattle.page_map.proofs.SpanFacts.{AllPairs-head, AllPairs-tail, ends_before, find_there, find_nowhere, find_none, with_span-well_formed, without_span-well_formed, begins-with_span, begins-without_span}
 
 abbrev HasPages : SpanRef → Type 0
 HasPages span = 0 < span.pages
@@ -57,19 +59,7 @@ means leaves marks huge xs size well told places len =
     spans_from-is (begin_at leaves) 0 (256 * length leaves) xs well.apart (λ k d within. (well.inside k d within).some) (λ k d within. omega arith)
     (λ k d within. let i : IsInside huge (get_or xs k d) = well.inside k d within in omega (arith, i.some, i.to, size))
     (λ p from. ap option_to_list (told p)) in
-    let same_huge : length leaves - 1 ≡ huge = omega arith in
-    let same : map_of leaves ≡ record { huge = huge; spans = xs } =
-    ap (λ (h : ℕ). (let m : SpanMap = record { huge = h; spans = spans_from (begin_at leaves) 0 (256 * length leaves) } in m)) same_huge
-    ∙ ap (λ (ys : List SpanRef). (let m : SpanMap = record { huge = huge; spans = ys } in m)) spans in
-    record {
-      is = same;
-      kept = record {
-        well_formed = subst IsWellFormed (sym same) well;
-        begins = λ page. told page ∙ ap (λ (ys : List SpanRef). find (begins page) ys) (sym spans);
-        places = places;
-        size = len;
-      };
-    }
+    grind (arith, nat_tests)
 
 -- where none begins
 pub unmarked : (n k : ℕ) → get_or (replicate n false) k false ≡ false
@@ -98,14 +88,7 @@ module _ (old new : List (Option Leaf)) (marks : List Bool) (span : SpanRef) (ma
 
   -- where a span begins there is a leaf
   pub leaf_there : Contains map.spans span → IsSome (get_or old (span.first.0 / 256) None)
-  leaf_there there =
-      by_leaf (get_or old (span.first.0 / 256) None) refl
-    where
-      by_leaf : (o : Option Leaf) → get_or old (span.first.0 / 256) None ≡ o → IsSome o
-      by_leaf (Some leaf) e = refl
-      by_leaf None e =
-          let nothing : None ≡ find (begins span.first.0) map.spans = sym (ap (λ (o : Option Leaf). begin_in o (span.first.0 % 256)) e) ∙ told span.first.0 in
-          absurd (true≢false (sym (eq-eqb span.first.0 span.first.0 refl) ∙ All-contains (λ s. begins span.first.0 s ≡ false) map.spans span (find_nowhere (begins span.first.0) map.spans nothing) there))
+  leaf_there there = grind (arith, nat_tests, told, true≢false, eq-eqb, find_nowhere)
 
   -- a span more, of pages that none has, begins at one page more
   pub means_with : IsInside map.huge span → All (AreApart span) map.spans → ((page : ℕ) → begin_at new page ≡ cond (page == span.first.0) (Some span) (begin_at old page)) → Means new (set marks span.first.0 true) (record map { spans = with_span span map.spans })
@@ -129,17 +112,8 @@ module _ (old new : List (Option Leaf)) (marks : List Bool) (span : SpanRef) (ma
 -- two spans of a map that hold one page are one
 same_span : (map : SpanMap) (s t : SpanRef) (page : ℕ) → IsWellFormed map → Contains map.spans s → Contains map.spans t → holds page s ≡ true → holds page t ≡ true → s ≡ t
 same_span map s t page well s_there t_there s_holds t_holds =
-    let apart : AreApart s t → s ≡ t = λ apart. absurd (true≢false (sym s_holds ∙ apart_holds page s t apart t_holds)) in
     let at : (get_or map.spans s_there.0 s ≡ s) × (get_or map.spans t_there.0 s ≡ t) = (s_there.2, get_or_default map.spans t_there.0 s t t_there.1 ∙ t_there.2) in
-    elim (cases_eq s_there.0 t_there.0) [
-      | inl same ↦ sym at.0 ∙ ap (λ k. get_or map.spans k s) same ∙ at.1
-      | inr other ↦ elim (cases_lt s_there.0 t_there.0) [
-        | inl less ↦ apart (inl (let before : IsBefore (get_or map.spans s_there.0 s) (get_or map.spans t_there.0 s) = well.apart s_there.0 t_there.0 s less t_there.1 in
-            subst (λ x. IsBefore x t) at.0 (subst (λ x. IsBefore (get_or map.spans s_there.0 s) x) at.1 before)))
-        | inr above ↦ apart (inr (let before : IsBefore (get_or map.spans t_there.0 s) (get_or map.spans s_there.0 s) = well.apart t_there.0 s_there.0 s (omega arith) s_there.1 in
-            subst (λ x. IsBefore x s) at.1 (subst (λ x. IsBefore (get_or map.spans t_there.0 s) x) at.0 before)))
-      ]
-    ]
+    grind (arith, nat_tests, cases_eq, cases_lt)
 
 -- a span that begins at a page, and one that holds a page beginning at or before it
 begins_at : (page : ℕ) (xs : List SpanRef) (s : SpanRef) → find (begins page) xs ≡ Some s → Contains xs s × (page ≡ s.first.0)
@@ -155,11 +129,7 @@ module _ (leaves : List (Option Leaf)) (marks : List Bool) (map : SpanMap) (page
 
   -- no span begins where the set has no place
   none_begins_at : (k : ℕ) → get_or marks k false ≡ false → All (λ s. begins k s ≡ false) map.spans
-  none_begins_at k e = find_nowhere (begins k) map.spans (sym (is_none (begin_at leaves k) (sym (kept.places k) ∙ e)) ∙ begin_is k)
-    where
-      is_none : (o : Option SpanRef) → is_some o ≡ false → o ≡ None
-      is_none None e = refl
-      is_none (Some s) e = absurd (true≢false e)
+  none_begins_at k e = grind (arith, nat_tests, find_nowhere, begin_is, is_some, true≢false)
 
   -- a span that holds the page begins at a place of the set, at or before it
   holder_begins : (t : SpanRef) → Contains map.spans t → holds page t ≡ true → (t.first.0 ≤ page) × (get_or marks t.first.0 false ≡ true)
@@ -189,24 +159,13 @@ module _ (leaves : List (Option Leaf)) (marks : List Bool) (map : SpanMap) (page
       let own = begins_at at map.spans s (sym (begin_is at) ∙ begin) in
       let from = holder_begins t there held in
       let low : t.first.0 ≤ at =
-      elim (cases_lt at t.first.0) [
-        | inl late ↦ absurd (true≢false (sym from.1 ∙ last.behind t.first.0 late from.0))
-        | inr early ↦ early
-      ] in
+      grind (arith, nat_tests, cases_lt, true≢false) in
       let s_some : 0 < s.pages = subst (λ (x : SpanRef). 0 < x.pages) own.0.2 (all_well.inside own.0.0 s own.0.1).some in
       let high : page < t.first.0 + t.pages = ltb-true page (t.first.0 + t.pages) (and_parts (nat_le t.first.0 page) (nat_lt page (t.first.0 + t.pages)) held).1 in
       let reach : at ≤ page = last.to in
-      let first : at ≡ s.first.0 = own.1 in
       same_span map s t at all_well own.0 there
       (and_from (nat_le s.first.0 at) (nat_lt at (s.first.0 + s.pages)) (le-leb s.first.0 at (omega arith)) (lt-ltb at (s.first.0 + s.pages) (omega arith)))
       (and_from (nat_le t.first.0 at) (nat_lt at (t.first.0 + t.pages)) (le-leb t.first.0 at low) (lt-ltb at (t.first.0 + t.pages) (omega arith)))
 
   pub begun : (at : ℕ) (s : SpanRef) → IsLastAt (λ k. get_or marks k false) 0 page at → begin_at leaves at ≡ Some s → cond (holds page s) (Some s) None ≡ find (holds page) map.spans
-  begun at s last begin =
-      by_holder (find (holds page) map.spans) refl
-    where
-      by_holder : (o : Option SpanRef) → o ≡ find (holds page) map.spans → cond (holds page s) (Some s) None ≡ o
-      by_holder None e =
-          let own = begins_at at map.spans s (sym (begin_is at) ∙ begin) in
-          ap (λ (b : Bool). cond b (Some s) None) (All-contains (λ x. holds page x ≡ false) map.spans s (find_nowhere (holds page) map.spans e) own.0)
-      by_holder (Some t) e = grind (arith, nat_tests, find_there, last_alone)
+  begun at s last begin = grind (arith, nat_tests, begins_at, begin_is, find_nowhere, find_there, last_alone)

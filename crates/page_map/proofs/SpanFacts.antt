@@ -1,5 +1,6 @@
 -- What spans in the order of their first pages give: the one that holds a page, one more, and one less.
-use Rattle.std.proofs.Common.{◌≡◌, ℕ, zero, suc, ◌+◌, ◌<◌, ◌≤◌, ◌≢◌, Bool, true, false, ◌==◌, not, nat_lt, nat_le, List, [], ◌∷◌, length, get_or, find, All, AllPairs, Contains, IsTrue, IfSome, IsNone, Option, Some, None, cond, refl, sym, ◌∙◌, ap, subst, inl, inr, arith}
+use Rattle.std.proofs.Common.{◌≡◌, ℕ, zero, suc, ◌+◌, ◌<◌, ◌≤◌, ◌≢◌, Bool, true, false, ◌==◌, not, nat_lt, nat_le, List, [], ◌∷◌, length, get_or, find, All}
+use Rattle.std.proofs.Common.{AllPairs, Contains, IsTrue, IfSome, IsNone, Option, Some, None, cond, refl, sym, ◌∙◌, subst, inl, inr, arith}
 use Rattle.std.proofs.lemmas.Bool.Decides.{nat_tests}
 use Rattle.std.proofs.lemmas.List.Elements.{All-cons, All-nil, All-head, All-tail, All-filter}
 use Rattle.std.proofs.lemmas.List.Kept.{AllPairs-cons, AllPairs-filter}
@@ -21,14 +22,9 @@ pub find_there : {X : Type 0} (p : X → Bool) (xs : List X) (x : X) → Some x 
 find_there p [] x e = absurd (none-some x (sym e))
 find_there p (y ∷ ys) x e =
     elim (cases_Bool (p y)) [
-      | inl passes ↦
-          (let here : Some x ≡ Some y = (let F : Bool → Type 0 = λ b. Some x ≡ cond b (Some y) (find p ys) in subst F passes e) in
-          let same : x ≡ y = same_Some x y here in
-          let P : _ → Type 0 = λ z. p z ≡ true in
-          ((0, omega arith, sym same), subst P (sym same) passes))
+      | inl passes ↦ grind (arith, nat_tests, same_Some)
       | inr fails ↦
-          (let later : Some x ≡ find p ys = (let F : Bool → Type 0 = λ b. Some x ≡ cond b (Some y) (find p ys) in subst F fails e) in
-          let r = find_there p ys x later in
+          (let r = find_there p ys x (let F : Bool → Type 0 = λ b. Some x ≡ cond b (Some y) (find p ys) in subst F fails e) in
           ((suc r.0.0, omega arith, r.0.2), r.1))
     ]
 
@@ -44,12 +40,10 @@ find_none p (y ∷ ys) all = rw (All-head (λ x. p x ≡ false) y ys all) (find_
 
 -- what `find` gives, as a contract says it
 pub found : {X : Type 0} (p : X → Bool) (xs : List X) (o : Option X) → o ≡ find p xs → IfSome o (λ x. Contains xs x × IsTrue (p x))
-found p xs None is = tt
-found p xs (Some x) is = find_there p xs x is
+found p xs o is = grind (arith, nat_tests, find_there)
 
 pub found_none : {X : Type 0} (p : X → Bool) (xs : List X) (o : Option X) → o ≡ find p xs → (IsNone o → All (λ x. p x ≡ false) xs) × (All (λ x. p x ≡ false) xs → IsNone o)
-found_none p xs None is = (λ _. find_nowhere p xs is, λ _. refl)
-found_none p xs (Some x) is = (λ clash. absurd (true≢false clash), λ all. absurd (none-some x (find_none p xs all ∙ sym is)))
+found_none p xs o is = grind (arith, nat_tests, find_nowhere, true≢false, none-some, find_none)
 
 -- a page behind a span's last one, or before its first one, is not held by it
 pub ends_before : (page : ℕ) (s : SpanRef) → s.first.0 + s.pages ≤ page → holds page s ≡ false
@@ -78,10 +72,7 @@ with_span-apart span (x ∷ xs) some apart order =
     let rest : AllPairs IsBefore xs = AllPairs-tail IsBefore x xs order in
     let first : AreApart span x = All-head (AreApart span) x xs apart in
     cond_both (nat_lt span.first.0 x.first.0) (span ∷ x ∷ xs) (x ∷ with_span span xs) (AllPairs IsBefore)
-    (λ e.
-    let less : span.first.0 < x.first.0 = ltb-true span.first.0 x.first.0 e in
-    let before : IsBefore span x = elim first [ inl ok ↦ ok | inr wrong ↦ absurd (omega arith) ] in
-    AllPairs-cons IsBefore span (x ∷ xs) (All-cons (IsBefore span) x xs before (λ k d within. (let l : IsBefore x (get_or xs k d) = later k d within in omega arith))) order)
+    (grind (arith, nat_tests, ltb-true))
     (λ e.
     let above : x.first.0 ≤ span.first.0 = ltb-false span.first.0 x.first.0 e in
     let before : IsBefore x span = elim first [ inl wrong ↦ absurd (omega arith) | inr ok ↦ ok ] in
@@ -126,13 +117,8 @@ find-with p span (x ∷ xs) apart =
     elim (cases_Bool (p x)) [
       | inl held ↦
           (let not_span : p span ≡ false = All-head (λ y. p y ≡ true → p span ≡ false) x xs apart held in
-          let F : Bool → Bool → Type 0 = λ h g. cond h (Some x) (find p (with_span span xs)) ≡ cond g (Some span) (cond h (Some x) (find p xs)) in
-          let at : F true (p span) = (let G : Bool → Type 0 = λ g. F true g in subst G (sym not_span) refl) in
-          let H : Bool → Type 0 = λ h. F h (p span) in
-          subst H (sym held) at)
-      | inr free ↦
-          (let H : Bool → Type 0 = λ h. cond h (Some x) (find p (with_span span xs)) ≡ cond (p span) (Some span) (cond h (Some x) (find p xs)) in
-          subst H (sym free) rest)
+          grind (arith, nat_tests))
+      | inr free ↦ grind (arith, nat_tests)
     ])
 
 -- so what a page is held by, and what begins there
@@ -149,14 +135,7 @@ record Relates (p : SpanRef → Bool) (span s : SpanRef) : Type 0 where
 
 -- a step of the next lemma, by what its three tests answer
 find_left_step : (p : SpanRef → Bool) (x : SpanRef) (left : List SpanRef) (later : Option SpanRef) (cut held gone : Bool) → (cut ≡ true → held ≡ gone) → (cut ≡ false → gone ≡ true → held ≡ false) → find p left ≡ cond gone None later → p x ≡ held → find p (cond (not cut) (x ∷ left) left) ≡ cond gone None (cond held (Some x) later)
-find_left_step p x left later true true true same other rest at = rest
-find_left_step p x left later true true false same other rest at = absurd (true≢false (same refl))
-find_left_step p x left later true false true same other rest at = absurd (true≢false (sym (same refl)))
-find_left_step p x left later true false false same other rest at = rest
-find_left_step p x left later false true true same other rest at = absurd (true≢false (other refl refl))
-find_left_step p x left later false true false same other rest at = ap (λ t. cond t (Some x) (find p left)) at
-find_left_step p x left later false false true same other rest at = ap (λ t. cond t (Some x) (find p left)) at ∙ rest
-find_left_step p x left later false false false same other rest at = ap (λ t. cond t (Some x) (find p left)) at ∙ rest
+find_left_step p x left later cut held gone same other rest at = grind (arith, nat_tests, true≢false)
 
 find_left : (p : SpanRef → Bool) (span : SpanRef) (xs : List SpanRef) → All (Relates p span) xs → find p (without_span span xs) ≡ cond (p span) None (find p xs)
 find_left p span [] all = grind (arith, nat_tests)
@@ -173,26 +152,7 @@ relates : (huge : ℕ) (page : ℕ) (span : SpanRef) (xs : List SpanRef) → IsW
 relates huge page span xs well there = λ k d within.
     let at = there in
     let here : get_or xs at.0 d ≡ span = get_or_default xs at.0 d span at.1 ∙ at.2 in
-    let same_first : (get_or xs at.0 d).first.0 ≡ span.first.0 = ap (λ t. t.first.0) here in
-    elim (cases_eq k at.0) [
-      | inl is ↦
-          (let equal : get_or xs k d ≡ span = ap (λ i. get_or xs i d) is ∙ here in
-          record {
-            same = λ _. ap (holds page) equal;
-            other = λ clash held. absurd (eqb-false (get_or xs k d).first.0 span.first.0 clash (ap (λ t. t.first.0) equal));
-          })
-      | inr is_not ↦
-          (let differ : (get_or xs k d).first.0 ≡ span.first.0 → ⊥ = λ e. first_pages_differ huge xs d k at.0 well within at.1 is_not (e ∙ sym same_first) in
-          let apart : AreApart (get_or xs k d) (get_or xs at.0 d) =
-          (elim (cases_lt k at.0) [
-            | inl less ↦ inl (well.apart k at.0 d less at.1)
-            | inr above ↦ inr (well.apart at.0 k d (omega arith) within)
-          ]) in
-          record {
-            same = λ clash. absurd (differ (eqb-true (get_or xs k d).first.0 span.first.0 clash));
-            other = λ _ held. apart_holds page (get_or xs k d) (get_or xs at.0 d) apart (ap (holds page) here ∙ held);
-          })
-    ]
+    grind (arith, nat_tests, cases_eq, eqb-false, first_pages_differ, cases_lt, eqb-true, apart_holds)
 
 -- what a page is held by once a span is cleared
 pub find-without_span : (huge : ℕ) (page : ℕ) (span : SpanRef) (xs : List SpanRef) → IsWellFormed (record { huge = huge; spans = xs }) → Contains xs span → find (holds page) (without_span span xs) ≡ cond (holds page span) None (find (holds page) xs)

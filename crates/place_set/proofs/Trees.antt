@@ -1,6 +1,7 @@
 -- Searches and changes of a level, by those of the level above it.
 use Rattle.std.proofs.lemmas.Grind.{common_steps}
-use Rattle.std.proofs.Common.{◌≡◌, ℕ, ◌+◌, ◌-◌, ◌*◌, ◌/◌, ◌%◌, ◌^◌, ◌<◌, ◌≤◌, Bool, true, false, not, ◌&&◌, nat_le, nat_lt, cond, ◌==◌, List, [], ◌∷◌, length, get_or, set, take, drop, replicate, Option, Some, None, refl, sym, ap, subst, ◌∙◌, inl, inr, arith, w64}
+use Rattle.std.proofs.Common.{◌≡◌, ℕ, ◌+◌, ◌-◌, ◌*◌, ◌/◌, ◌%◌, ◌^◌, ◌<◌, ◌≤◌, Bool, true, false, not, ◌&&◌, nat_le, nat_lt, cond, ◌==◌, List, [], ◌∷◌, length}
+use Rattle.std.proofs.Common.{get_or, set, take, drop, replicate, Option, None, refl, sym, ap, subst, ◌∙◌, inl, inr, arith, w64}
 use Rattle.std.proofs.lemmas.Bool.Decides.{nat_tests}
 use Rattle.std.proofs.lemmas.Bool.{cases_lt, cases_eq, and_left, and_right, lt-leb, le-ltb, eq-eqb, ne_eqb, false≢true, false_from_ne_true}
 use Rattle.std.proofs.lemmas.List.{same_lists, take_all, drop_all, append-nil, length-set, length-replicate, get_or-replicate, get_or_default, get_or_past, get_or-set_same, get_or-set_other}
@@ -34,16 +35,14 @@ module _ (own above : ℕ → Bool) (tells : (index : ℕ) → HasAny own index 
 
   -- the last place, where the place's own word has none before it
   last_by : (place index : ℕ) (r : Option ℕ) → IsLast own (64 * (place / 64)) place None → IsLastAt above 0 (place / 64 - 1) index → 64 ≤ place → IsLast own (64 * ((index * 64 + 63) / 64)) (index * 64 + 63) r → IsLast own 0 place r
-  last_by place index None here up some found = grind (arith, nat_tests, one_below)
-  last_by place index (Some last) here up some found = grind (arith, nat_tests, cases_lt, none_below)
+  last_by place index r here up some found = grind (arith, nat_tests, one_below, cases_lt, none_below)
 
   last_nowhere : (place : ℕ) → IsLast own (64 * (place / 64)) place None → IsLast above 0 (place / 64 - 1) None → 64 ≤ place → IsLast own 0 place None
   last_nowhere place here up some = grind (arith, nat_tests, none_below)
 
   -- and the first place
   first_by : (place high high' index : ℕ) (r : Option ℕ) → IsFirst own place (64 * (place / 64) + 63) None → IsFirstAt above (place / 64 + 1) high' index → ((k : ℕ) → own k ≡ true → k ≤ high) → IsFirst own (index * 64) (64 * (index * 64 / 64) + 63) r → IsFirst own place high r
-  first_by place high high' index None here up most found = grind (arith, nat_tests, one_below)
-  first_by place high high' index (Some first) here up most found = grind (arith, nat_tests, cases_lt, none_below)
+  first_by place high high' index r here up most found = grind (arith, nat_tests, one_below, cases_lt, none_below)
 
   first_nowhere : (place high high' : ℕ) → IsFirst own place (64 * (place / 64) + 63) None → IsFirst above (place / 64 + 1) high' None → high / 64 ≤ high' → IsFirst own place high None
   first_nowhere place high high' here up most = grind (arith, nat_tests, none_below)
@@ -60,12 +59,7 @@ any_of words index w is fits =
           let at : ℕ = trailing_zeros w64 w in
           let found = bit_at-trailing_zeros w64 w some fits in
           let word : (64 * index + at) / 64 ≡ index = omega (arith, found.0) in
-          let bit : (64 * index + at) % 64 ≡ at = omega (arith, found.0) in
-          subst (HasAny (is_marked words) index) (sym (ap not (ne_eqb w 0 other))) (
-            64 * index + at,
-            word,
-            ap (λ (i : ℕ). is_one (get_or words i 0) ((64 * index + at) % 64)) word ∙ ap (λ (b : ℕ). is_one (get_or words index 0) b) bit ∙ ap (λ (v : ℕ). is_one v at) (sym is) ∙ ap (λ (b : ℕ). b == 1) found.1,
-          ))
+          grind (arith, nat_tests, ne_eqb))
     ]
 
 -- One bit of a word changed is one place.
@@ -77,8 +71,7 @@ put_place words place word w is_in inside is changed k = grind (arith, nat_tests
 
 -- The same of levels, of which `first` is the lowest.
 pub places_are : (levels : List Level) (place : ℕ) (first : Level) → place < places_of levels → first ≡ get_or levels 0 first → places_of levels ≡ 64 * length first.words.items
-places_are [] place first inside is = absurd (omega arith)
-places_are (own ∷ above) place first inside is = ap (λ (level : Level). 64 * length level.words.items) (sym is)
+places_are levels place first inside is = grind (arith, nat_tests)
 
 pub last_none : (levels : List Level) (place : ℕ) (first : Level) (r : Option ℕ) → IsTree levels → place < places_of levels → first ≡ get_or levels 0 first → IsLast (is_marked first.words.items) (64 * (place / 64)) place None → 64 ≤ place → IsLast (has_at (uppers levels)) 0 (place / 64 - 1) None → r ≡ None → IsLast (has_at levels) 0 place r
 last_none [] place first r tree inside is here some up e = absurd (omega arith)
@@ -119,8 +112,7 @@ index_inside (own ∷ (above ∷ rest)) place index again tree inside is' more u
 
 -- a word where its places are as before
 any_same : (own now : ℕ → Bool) (index : ℕ) (b : Bool) → ((k : ℕ) → k / 64 ≡ index → now k ≡ own k) → HasAny own index b → HasAny now index b
-any_same own now index true same any = (any.0, any.1, same any.0 any.1 ∙ any.2)
-any_same own now index false same any = λ k e. same k e ∙ any k e
+any_same own now index b same any = grind (arith, nat_tests)
 
 -- the level above tells of the word that changed
 tells_still : (own now above above' : ℕ → Bool) (place : ℕ) (is_in any : Bool) → ((index : ℕ) → HasAny own index (above index)) → ((k : ℕ) → now k ≡ cond (k == place) is_in (own k)) → HasAny now (place / 64) any → ((k : ℕ) → above' k ≡ cond (k == place / 64) any (above k)) → (index : ℕ) → HasAny now index (above' index)
@@ -155,12 +147,10 @@ open_tree own (above ∷ rest) words is more tree size none = grind (arith, nat_
 
 -- The row of the lowest level, place by place.
 pub length-row_at : (levels : List Level) → length (row_at levels) ≡ places_of levels
-length-row_at [] = refl
-length-row_at (own ∷ above) = length-row_of own.words.items
+length-row_at levels = grind (arith, nat_tests, length-row_of)
 
 pub get_or-row_at : (levels : List Level) (k : ℕ) → get_or (row_at levels) k false ≡ has_at levels k
-get_or-row_at [] k = refl
-get_or-row_at (own ∷ above) k = grind (arith, nat_tests, marked_inside, false_from_ne_true, get_or_past, get_or-row_of, length-row_of)
+get_or-row_at levels k = grind (arith, nat_tests, marked_inside, false_from_ne_true, get_or_past, get_or-row_of, length-row_of)
 
 row_by : (levels : List Level) (row : List Bool) → length row ≡ places_of levels → ((k : ℕ) → k < length row → get_or row k false ≡ has_at levels k) → row_at levels ≡ row
 row_by levels row size same =
@@ -176,19 +166,13 @@ pub row_put : (old new : List Level) (place : ℕ) (is_in : Bool) → place < pl
 row_put old new place is_in inside size changed =
     let len = length-row_at old in
     row_by new (set (row_at old) place is_in) (length-set (row_at old) place is_in ∙ len ∙ sym size)
-    (λ k l.
-    elim (cases_eq k place) [
-      | inl same ↦ ap (λ (i : ℕ). get_or (set (row_at old) place is_in) i false) same ∙ get_or-set_same (row_at old) place is_in false (omega arith) ∙ sym (changed k ∙ ap (λ (b : Bool). cond b is_in (has_at old k)) (eq-eqb k place same))
-      | inr other ↦ get_or-set_other (row_at old) place k is_in false other ∙ get_or-row_at old k ∙ sym (changed k ∙ ap (λ (b : Bool). cond b is_in (has_at old k)) (ne_eqb k place other))
-    ])
+    (grind (arith, nat_tests, cases_eq, get_or-set_same, eq-eqb, get_or-set_other, get_or-row_at, ne_eqb))
 
 pub last_as : (has has' : ℕ → Bool) (low high : ℕ) (r : Option ℕ) → ((k : ℕ) → has' k ≡ has k) → IsLast has low high r → IsLast has' low high r
-last_as has has' low high None same is = λ k from to. same k ∙ is k from to
-last_as has has' low high (Some last) same is = record { from = is.from; to = is.to; there = same last ∙ is.there; behind = λ k from to. same k ∙ is.behind k from to }
+last_as has has' low high r same is = grind (arith, nat_tests)
 
 pub first_as : (has has' : ℕ → Bool) (low high : ℕ) (r : Option ℕ) → ((k : ℕ) → has' k ≡ has k) → IsFirst has low high r → IsFirst has' low high r
-first_as has has' low high None same is = λ k from to. same k ∙ is k from to
-first_as has has' low high (Some first) same is = record { from = is.from; to = is.to; there = same first ∙ is.there; before = λ k from to. same k ∙ is.before k from to }
+first_as has has' low high r same is = grind (arith, nat_tests)
 
 pub read_in : (levels : List Level) (row : List Bool) (k : ℕ) → row_at levels ≡ row → get_or row k false ≡ has_at levels k
 read_in levels row k is = ap (λ (r : List Bool). get_or r k false) (sym is) ∙ get_or-row_at levels k

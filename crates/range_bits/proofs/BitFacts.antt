@@ -1,13 +1,8 @@
 -- Bits of words: the first one from a bit on, and bits that a mask makes 1 or 0.
 use Rattle.std.proofs.Common.{◌≡◌, ℕ, ◌-◌, ◌^◌, ◌<◌, ◌≤◌, Bool, true, false, cond, eqb, not, nat_le, nat_lt, ◌&&◌, min, max, sym, ap, ◌∙◌, inl, inr, arith, bit_and, bit_or, w64}
-use Rattle.std.proofs.lemmas.Bool.{cases_lt}
-use Rattle.std.proofs.lemmas.Bool.Decides.{nat_tests}
-use Rattle.std.proofs.lemmas.Nat.Bits.{bit_at_and, bit_at_or, bit_at_not, bit_at-lt, bit_at-zero, bit_at-trailing_zeros, bit_at_mask_inside, bit_at_mask_below, bit_at_mask_above}
-use Rattle.std.proofs.lemmas.Nat.{and_le_l, pow_pos}
-use Rattle.std.proofs.Math.Nat.{pow-le-pow_right}
+use Rattle.range_bits.proofs.Common.{cases_lt, nat_tests, bit_at_and, bit_at_or, bit_at_not, bit_at-lt, bit_at-zero, bit_at-trailing_zeros, bit_at_mask_inside}
+use Rattle.range_bits.proofs.Common.{bit_at_mask_below, bit_at_mask_above, and_le_l, pow_pos, pow-le-pow_right, bit_at, bit_not, trailing_zeros, is_one}
 use Rattle.std.specs.Int.Count.{trailing_of_zero}
-use Rattle.std.specs.Int.{bit_at, bit_not, trailing_zeros}
-use Rattle.range_bits.specs.Words.{is_one}
 
 -- whether a bit is one of those from `low` up to `high`
 abbrev pub is_between : ℕ → ℕ → ℕ → Bool
@@ -18,12 +13,10 @@ mask_bit : (low high k : ℕ) → low ≤ high → bit_at (2 ^ high - 2 ^ low) k
 mask_bit low high k order = grind (arith, nat_tests, bit_at_mask_inside, bit_at_mask_above, bit_at_mask_below)
 
 or_bit : (b m : ℕ) (inside : Bool) → b < 2 → m ≡ cond inside 1 0 → eqb (max b m) 1 ≡ cond inside true (eqb b 1)
-or_bit b m true small e = let one : max b m ≡ 1 = omega arith in ap (λ (t : ℕ). eqb t 1) one
-or_bit b m false small e = let same : max b m ≡ b = omega arith in ap (λ (t : ℕ). eqb t 1) same
+or_bit b m inside small e = grind (arith, nat_tests)
 
 and_not_bit : (b m : ℕ) (inside : Bool) → b < 2 → m ≡ cond inside 1 0 → eqb (min b (1 - m)) 1 ≡ cond inside false (eqb b 1)
-and_not_bit b m true small e = let none : min b (1 - m) ≡ 0 = omega arith in ap (λ (t : ℕ). eqb t 1) none
-and_not_bit b m false small e = let same : min b (1 - m) ≡ b = omega arith in ap (λ (t : ℕ). eqb t 1) same
+and_not_bit b m inside small e = grind (arith, nat_tests)
 
 mask_fits : (low high : ℕ) → high ≤ 64 → 2 ^ high - 2 ^ low < 2 ^ 64
 mask_fits low high within = grind (arith, nat_tests, pow-le-pow_right, pow_pos)
@@ -52,7 +45,6 @@ turned word seen k true true fits small e is = ap (λ (s : ℕ). is_one s k) (sy
 turned word seen k true false fits small e is = ap (λ (s : ℕ). is_one s k) (sym e) ∙ is
 turned word seen k false b fits small e is =
     let other : bit_at seen k ≡ 1 - bit_at word k = ap (λ (s : ℕ). bit_at s k) e ∙ bit_at_not w64 word k fits small in
-    let lt = bit_at-lt word k in
     grind (arith, nat_tests)
 
 kept_bit : (seen low k : ℕ) → k < 64 → low ≤ 64 → bit_at (bit_and seen (2 ^ 64 - 2 ^ low)) k ≡ min (bit_at seen k) (cond (is_between low 64 k) 1 0)
@@ -69,19 +61,8 @@ first_one seen low kept fits small e =
     elim (cases_lt 0 kept) [
       | inl some ↦
           (let size : kept < 2 ^ 64 = omega (arith, and_le_l seen (2 ^ 64 - 2 ^ low)) in
-          let at : ℕ = trailing_zeros w64 kept in
           let found = bit_at-trailing_zeros w64 kept some size in
-          let behind : low ≤ at =
-          elim (cases_lt at low) [
-            | inl below ↦ (let none : bit_at kept at ≡ 0 = ap (λ (n : ℕ). bit_at n at) e ∙ kept_below seen low at below (omega arith) in absurd (omega (arith, none, found.1)))
-            | inr from ↦ from
-          ] in
-          record {
-            behind = behind;
-            within = omega (arith, found.0);
-            before = λ k from before. ap (λ (b : ℕ). eqb b 1) (sym (kept_inside seen low k (omega (arith, found.0)) from) ∙ ap (λ (n : ℕ). bit_at n k) (sym e) ∙ found.2 k before);
-            there = λ inside. ap (λ (b : ℕ). eqb b 1) (sym (kept_inside seen low at inside behind) ∙ ap (λ (n : ℕ). bit_at n at) (sym e) ∙ found.1);
-          })
+          grind (arith, nat_tests, cases_lt, kept_below, kept_inside))
       | inr none ↦
           (let zero_kept : kept ≡ 0 = omega arith in
           let end : trailing_zeros w64 kept ≡ 64 = ap (trailing_zeros w64) zero_kept ∙ trailing_of_zero 64 in

@@ -1,17 +1,13 @@
 -- How many places are used, where marked places lie, and rows of free places alone.
-use Rattle.std.proofs.Common.{◌≡◌, ℕ, zero, suc, ◌+◌, ◌-◌, ◌*◌, ◌^◌, ◌<◌, ◌≤◌, Bool, false, not, cond, eqb, List, [], ◌∷◌, length, get_or, take, drop, replicate, refl, sym, ap, ◌∙◌, arith}
-use Rattle.std.proofs.lemmas.Bool.Decides.{nat_tests}
-use Rattle.std.specs.List.{prefix_len}
-use Rattle.std.specs.Int.{bit_at}
+use Rattle.std.proofs.Common.{◌≡◌, ℕ, ◌+◌, ◌-◌, ◌*◌, ◌^◌, ◌<◌, ◌≤◌, Bool, false, not, cond, eqb, List, [], ◌∷◌, length, get_or, take, drop, replicate, refl}
+use Rattle.std.proofs.Common.{sym, ap, ◌∙◌, arith}
+use Rattle.range_bits.proofs.Common.{nat_tests, prefix_len, bit_at, same_lists, length-take, length-take-le, length-replicate, length-drop, get_or-take}
+use Rattle.range_bits.proofs.Common.{get_or-drop, get_or-replicate, sum_by-append, sum_by-cons, count_by-le-length, prefix_len-le-length, bit_at-zero}
+use Rattle.range_bits.proofs.Common.{bit_at-lt, same_from_bits_below, free_from, used_from, used_count, is_one, row_of}
 use Rattle.std.specs.Int.RustNames.{count_ones}
 use Rattle.std.specs.Simd.Lanes.{mask_l}
 use Rattle.std.proofs.Math.Seq.{take-add}
-use Rattle.std.proofs.lemmas.List.{same_lists, length-take, length-take-le, length-replicate, length-drop, get_or-take, get_or-drop, get_or-replicate}
-use Rattle.std.proofs.lemmas.List.Sums.{sum_by-append, sum_by-cons, count_by-le-length, prefix_len-le-length}
-use Rattle.std.proofs.lemmas.Nat.Bits.{bit_at-zero, bit_at-lt, same_from_bits_below}
 use Rattle.std.proofs.lemmas.Simd.{mask_l-lt, bit_mask_l, ones-mask_l_cons}
-use Rattle.range_bits.specs.Ranges.{free_from, used_from, used_count}
-use Rattle.range_bits.specs.Words.{is_one, row_of}
 use Rattle.range_bits.proofs.RowFacts.{length-row_of, get_or-row_of, marked_in_word}
 
 -- a stretch of places that pass a test
@@ -41,9 +37,7 @@ ones_of_bits [] = refl
 ones_of_bits (used ∷ row) = omega (arith, ones-mask_l_cons used row, ones_of_bits row, sum_by-cons (λ used. cond used 1 0) used row)
 
 bit_of_one : (b : ℕ) → b < 2 → cond {A = ℕ} (eqb b 1) 1 0 ≡ b
-bit_of_one zero l = refl
-bit_of_one (suc zero) l = refl
-bit_of_one (suc (suc b)) l = absurd (omega arith)
+bit_of_one b l = grind (arith, nat_tests)
 
 -- the places of a word as far as a place are used where the number of the word's bits as far has a one
 pub ones_in_word : (words : List ℕ) (index n to low : ℕ) → index < length words → n ≤ 64 → 64 * index + n ≡ to → low < 2 ^ n → ((k : ℕ) → k < n → bit_at low k ≡ bit_at (get_or words index 0) k) →

@@ -1,14 +1,9 @@
 -- Where the last bit below a bit ends that is 1, or that is 0, and the same of places of a row.
-use Rattle.std.proofs.Common.{◌≡◌, ℕ, suc, ◌+◌, ◌-◌, ◌*◌, ◌/◌, ◌^◌, ◌<◌, ◌≤◌, Bool, true, false, not, cond, eqb, List, length, get_or, sym, ap, ◌∙◌, inl, inr, arith, bit_and, w64}
-use Rattle.std.proofs.lemmas.Bool.Decides.{nat_tests}
-use Rattle.std.proofs.lemmas.Bool.{cases_lt}
-use Rattle.std.proofs.lemmas.Nat.{and_le_r, pow_pos}
-use Rattle.std.proofs.lemmas.Nat.Bits.{bit_at_and, bit_at-lt, bit_at_ones, bit_at_ones_above, bit_at_above, bit_at_cat_high, ones_shr}
-use Rattle.std.proofs.Math.Nat.{pow-le-pow_right, pow-succ'}
+use Rattle.std.proofs.Common.{◌≡◌, ℕ, suc, ◌+◌, ◌-◌, ◌*◌, ◌/◌, ◌^◌, ◌<◌, ◌≤◌, Bool, true, false, not, cond, List, length, get_or, ap, ◌∙◌, inl, inr, arith}
+use Rattle.std.proofs.Common.{bit_and, w64}
+use Rattle.range_bits.proofs.Common.{nat_tests, cases_lt, and_le_r, pow_pos, bit_at_and, bit_at-lt, bit_at_ones, bit_at_ones_above, bit_at_above}
+use Rattle.range_bits.proofs.Common.{bit_at_cat_high, ones_shr, pow-le-pow_right, pow-succ', bit_at, bit_not, leading_zeros, is_one, is_marked, row_of, IsEnd}
 use Rattle.std.specs.Int.Count.{leading_of_zero, leading_top}
-use Rattle.std.specs.Int.{bit_at, bit_not, leading_zeros}
-use Rattle.range_bits.specs.Words.{is_one, is_marked, row_of}
-use Rattle.range_bits.specs.Fills.{IsEnd}
 use Rattle.range_bits.proofs.BitFacts.{turned}
 use Rattle.range_bits.proofs.RowFacts.{length-row_of, get_or-row_of, marked_in_word}
 
@@ -35,37 +30,19 @@ end_one seen high kept small e =
       | inr none ↦
           (let zero_kept : kept ≡ 0 = omega arith in
           let all : leading_zeros w64 kept ≡ 64 = ap (leading_zeros w64) zero_kept ∙ leading_of_zero 64 in
-          record {
-            within = omega arith;
-            behind = λ k from low. ap (λ (b : ℕ). eqb b 1) (sym (kept_low seen high k low) ∙ sym (at k) ∙ ap (λ (n : ℕ). bit_at n k) zero_kept ∙ bit_at_above 0 0 k (omega arith) (omega arith));
-            there = λ some. absurd (omega arith);
-          })
+          grind (arith, nat_tests, kept_low, bit_at, bit_at_above))
       | inl some ↦
           (let most : 2 ^ high ≤ 2 ^ 64 = pow-le-pow_right (omega arith) small in
           let positive : 0 < 2 ^ high = pow_pos high in
           let size : kept < 2 ^ 64 = omega (arith, and_le_r seen (2 ^ high - 1)) in
           let top = leading_top 64 kept some size in
-          let j : ℕ = top.0 in
-          let one : bit_at kept j ≡ 1 = top_bit kept j top.2 top.3 in
-          let end : 64 - leading_zeros w64 kept ≡ suc j = omega (arith, top.1) in
-          let before : 64 - leading_zeros w64 kept - 1 ≡ j = omega arith in
-          let low : j < high =
-          elim (cases_lt j high) [
-            | inl l ↦ l
-            | inr above ↦ (let none : bit_at kept j ≡ 0 = at j ∙ kept_high seen high j above in absurd (omega arith))
-          ] in
-          record {
-            within = omega arith;
-            behind = λ k from under. ap (λ (b : ℕ). eqb b 1) (sym (kept_low seen high k under) ∙ sym (at k) ∙ bit_at_above kept (suc j) k top.3 (omega arith));
-            there = λ _. ap (λ (b : ℕ). eqb b 1) (ap (bit_at seen) before ∙ sym (kept_low seen high j low) ∙ sym (at j) ∙ one);
-          })
+          grind (arith, nat_tests, top_bit, cases_lt, kept_high, kept_low, bit_at_above))
     ]
 
 -- found in the word itself, or in the word turned round
 pub found_end : (word seen high mask : ℕ) (used : Bool) → word < 2 ^ 64 → high ≤ 64 → mask ≡ (2 ^ 64 - 1) / 2 ^ (64 - high) → seen ≡ cond used word (bit_not w64 word) → EndBit word high used (64 - leading_zeros w64 (bit_and seen mask))
 found_end word seen high mask used fits small m e =
-    let back : 64 - (64 - high) ≡ high = omega arith in
-    let low : mask ≡ 2 ^ high - 1 = m ∙ ones_shr 64 (64 - high) (omega arith) ∙ ap (λ (n : ℕ). 2 ^ n - 1) back in
+    let low : mask ≡ 2 ^ high - 1 = m ∙ ones_shr 64 (64 - high) (omega arith) ∙ ap (λ (n : ℕ). 2 ^ n - 1) (omega arith) in
     let one = end_one seen high (bit_and seen mask) small (ap (bit_and seen) low) in
     record {
       within = one.within;
@@ -75,8 +52,7 @@ found_end word seen high mask used fits small m e =
 
 -- an end in a word is the row's, where no place behind the word's part is in that state
 pub end_in_row : (words : List ℕ) (before index end bit : ℕ) (used : Bool) → before ≤ 64 * length words → end ≤ before → 64 * index < end → end ≤ 64 * index + 64 → ((k : ℕ) → end ≤ k → k < before → is_marked words k ≡ not used) → EndBit (get_or words index 0) (end - 64 * index) used bit → 0 < bit → IsEnd (row_of words) before used (64 * index + bit)
-end_in_row words before index end bit used inside order low high behind found some =
-    grind (arith, nat_tests, marked_in_word, get_or-row_of, length-row_of)
+end_in_row words before index end bit used inside order low high behind found some = grind (arith, nat_tests, marked_in_word, get_or-row_of, length-row_of)
 
 pub none_in_word : (words : List ℕ) (index end : ℕ) (used : Bool) → 64 * index < end → end ≤ 64 * index + 64 → EndBit (get_or words index 0) (end - 64 * index) used 0 → (k : ℕ) → 64 * index ≤ k → k < end → is_marked words k ≡ not used
 none_in_word words index end used low high found k from to = marked_in_word words index k from (omega arith) ∙ found.behind (k - 64 * index) (omega arith) (omega arith)

@@ -1,9 +1,7 @@
 -- The first of those than which none is less, where one is less than all others.
-use Rattle.std.proofs.Common.{◌≡◌, zero, suc, Bool, true, false, cond, List, [], ◌∷◌, Option, Some, None, IfSome, get_or, All, Contains, refl, sym, ap, ◌∙◌, subst, inl, inr, ◌⊎◌, arith}
-use Rattle.std.proofs.lemmas.Bool.Decides.{nat_tests}
-use Rattle.std.proofs.lemmas.Bool.{cases_Bool}
-use Rattle.std.proofs.lemmas.List.Elements.{All-head, All-tail, All-cons, All-nil}
-use Rattle.range_bits.specs.Ranges.{first_of_two, first_least}
+use Rattle.std.proofs.Common.{◌≡◌, zero, suc, Bool, true, false, List, [], ◌∷◌, Option, Some, None, IfSome, All, Contains, refl, sym, ap, ◌∙◌, subst, inl, inr}
+use Rattle.std.proofs.Common.{◌⊎◌, arith}
+use Rattle.range_bits.proofs.Common.{nat_tests, cases_Bool, All-head, All-tail, All-cons, All-nil, first_of_two, first_least}
 use Rattle.range_bits.proofs.RangeLemmas.{first_least-all, first_least-none}
 
 -- an element is the least of a list where each element is it, or comes behind it
@@ -16,8 +14,7 @@ module _ {X : Type 0} (less : X → X → Bool) (x : X) where
   wins y behind = grind (arith, nat_tests)
 
   stays : (o : Option X) → ((y : X) → o ≡ Some y → IsBehind less x y) → first_of_two less x o ≡ x
-  stays None behind = refl
-  stays (Some y) behind = grind (arith, nat_tests)
+  stays o behind = grind (arith, nat_tests)
 
   pub least_is_first : (xs : List X) → Contains xs x → All (IsBehind less x) xs → first_least less xs ≡ Some x
   least_is_first [] held all = absurd (omega (arith, held.1))
@@ -36,9 +33,6 @@ none_less {X} less one_way passes (x ∷ xs) first e =
       | None ↦ λ none. All-cons (λ z. less z x ≡ false) x xs (itself x) (subst (λ (ys : List X). All (λ z. less z x ≡ false) ys) (sym (first_least-none less xs none)) (All-nil (λ z. less z x ≡ false)))
       | Some y ↦ λ some.
           let rest = none_less less one_way passes xs y some in
-          elim (cases_Bool (less y x)) [
-            | inl t ↦ subst Q (sym (ap (λ (b : Bool). cond b y x) t)) (All-cons (λ z. less z y ≡ false) x xs (one_way y x t) rest)
-            | inr f ↦ subst Q (sym (ap (λ (b : Bool). cond b y x) f)) (All-cons (λ z. less z x ≡ false) x xs (itself x) (λ k d l. passes (get_or xs k d) y x (rest k d l) f))
-          ]
+          grind (arith, nat_tests, cases_Bool)
     ] in
     subst Q (let same : first_of_two less x (first_least less xs) ≡ first = cc in same) (alone (first_least less xs) refl)

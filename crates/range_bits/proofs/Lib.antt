@@ -1,4 +1,5 @@
 pub mod BitFacts
+mod Common
 pub mod Counts
 mod Cuts
 mod EndBits

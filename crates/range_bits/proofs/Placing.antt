@@ -1,10 +1,8 @@
 -- Places that are made used or free, a word at a time.
+use Rattle.range_bits.proofs.Common.{common_steps, cases_lt, nat_tests, same_lists, ext_get_or, get_or-set_same, get_or-set_other, get_or_append_left}
+use Rattle.range_bits.proofs.Common.{get_or-append_right, length-take-le, length-replicate, length-drop, length-append, get_or-take, get_or-drop}
+use Rattle.range_bits.proofs.Common.{get_or-replicate, with_places, is_one, is_marked, row_of}
 use Rattle.std.proofs.Common.{◌≡◌, ◌≢◌, ℕ, ◌+◌, ◌-◌, ◌*◌, ◌/◌, ◌%◌, ◌<◌, ◌≤◌, Bool, true, false, cond, List, ◌++◌, length, get_or, set, take, drop, replicate, min, sym, ap, ◌∙◌, inl, inr, arith}
-use Rattle.std.proofs.lemmas.Bool.{cases_lt}
-use Rattle.std.proofs.lemmas.Bool.Decides.{nat_tests}
-use Rattle.std.proofs.lemmas.List.{same_lists, ext_get_or, get_or-set_same, get_or-set_other, get_or_append_left, get_or-append_right, length-take-le, length-replicate, length-drop, length-append, get_or-take, get_or-drop, get_or-replicate}
-use Rattle.range_bits.specs.Ranges.{with_places}
-use Rattle.range_bits.specs.Words.{is_one, is_marked, row_of}
 use Rattle.range_bits.proofs.BitFacts.{is_between}
 use Rattle.range_bits.proofs.RowFacts.{length-row_of, get_or-row_of, marked_in_word}
 
@@ -43,19 +41,9 @@ placed_word old words start to index low high word used row some l h made so_far
                 ∙ so_far.each p
                 ∙ ap (λ (b : Bool). cond b used (is_marked old p)) (test_below base start to p below)
             | inr from ↦ elim (cases_lt p (base + 64)) [
-              | inl inside ↦
-                  (let k : ℕ = p - base in
-                  let kept : is_one (get_or words index 0) k ≡ is_marked old p =
-                  sym (marked_in_word words index p from inside) ∙ so_far.each p ∙ ap (λ (b : Bool). cond b used (is_marked old p)) (outside_above start (min to base) p (omega arith)) in
-                  marked_in_word (set words index word) index p from inside
-                  ∙ ap (λ (w : ℕ). is_one w k) (get_or-set_same words index word 0 row)
-                  ∙ made k (omega arith)
-                  ∙ ap (λ (b : Bool). cond (is_between low high k) used b) kept
-                  ∙ ap (λ (b : Bool). cond b used (is_marked old p)) (same_test base low high start to k p (omega arith) l h (omega arith) some))
+              | inl inside ↦ grind (arith, nat_tests, common_steps, marked_in_word, outside_above, get_or-set_same, is_between, same_test)
               | inr past ↦
-                  other_word words index word p (λ e. omega arith)
-                  ∙ so_far.each p
-                  ∙ ap (λ (b : Bool). cond b used (is_marked old p)) (outside_above start (min to base) p (omega arith) ∙ sym (outside_above start (min to (base + 64)) p (omega arith)))
+                  grind (arith, nat_tests, other_word, is_marked, outside_above)
             ]
           ];
     }

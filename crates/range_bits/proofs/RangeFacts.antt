@@ -1,9 +1,6 @@
 -- When a best range of a row is there, and where it lies.
 use Rattle.std.proofs.Common.{◌≡◌, ℕ, ◌+◌, ◌<◌, ◌≤◌, Bool, List, [], ◌∷◌, length, drop, fold, max, Option, Some, None, refl, inl, inr, arith, ◌⊎◌, not}
-use Rattle.std.proofs.lemmas.Bool.{cases_lt}
-use Rattle.std.proofs.lemmas.List.{length-drop}
-use Rattle.std.proofs.lemmas.List.Sums.{prefix_len-le-length}
-use Rattle.range_bits.specs.Ranges.{free_from, longest, best}
+use Rattle.range_bits.proofs.Common.{cases_lt, length-drop, prefix_len-le-length, free_from, longest, best}
 use Rattle.range_bits.proofs.RangeLemmas.{longest-at, best-at, best-some}
 
 pub fold_max : (a : ℕ) (xs : List ℕ) → fold max a xs ≡ max a (fold max 0 xs)

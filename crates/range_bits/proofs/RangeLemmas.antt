@@ -1,15 +1,11 @@
 -- Free ranges of a row: bounds on the longest, and where the best one begins.
-use Rattle.std.proofs.lemmas.Grind.{common_steps}
-use Rattle.std.proofs.lemmas.Bool.Decides.{nat_tests}
-use Rattle.std.proofs.Common.{◌≡◌, ℕ, zero, suc, ◌+◌, ◌<◌, ◌≤◌, ◌⊎◌, Bool, true, false, not, ◌&&◌, cond, nat_lt, nat_le, List, [], ◌∷◌, length, get_or, drop, map, filter, fold, max, Option, Some, None, IfSome, All, refl, ap, subst, ◌∙◌, inl, inr, arith}
-use Rattle.std.specs.List.{range_with_len}
-use Rattle.std.proofs.lemmas.Bool.{cases_Bool, and_from, and_parts, not-true, not_from_false, le-leb, leb-true, or_right, cases_lt}
-use Rattle.std.proofs.lemmas.List.{length-drop, get_or-drop, get_or-map, nil_from_length, length-map}
+use Rattle.range_bits.proofs.Common.{common_steps, nat_tests, range_with_len, cases_Bool, and_from, and_parts, not-true, not_from_false, le-leb, leb-true}
+use Rattle.range_bits.proofs.Common.{or_right, cases_lt, length-drop, get_or-drop, get_or-map, nil_from_length, length-map, prefix_len_passes}
+use Rattle.range_bits.proofs.Common.{prefix_len-le-length, prefix_len-drop_yes, length-filter, get_or-le-sum_by, All-head, All-tail, All-from_get_or}
+use Rattle.range_bits.proofs.Common.{filter_passes, free_from, places, longest, begins_range, first_of_two, first_least, best, count_none}
+use Rattle.std.proofs.Common.{◌≡◌, ℕ, zero, suc, ◌+◌, ◌<◌, ◌≤◌, ◌⊎◌, Bool, true, false, not, ◌&&◌, nat_lt, nat_le, List, [], ◌∷◌, length, get_or, drop, map}
+use Rattle.std.proofs.Common.{filter, fold, max, Option, Some, None, IfSome, All, refl, ap, subst, ◌∙◌, inl, inr, arith}
 use Rattle.std.proofs.lemmas.List.FromFn.{length-range_with_len, get_or-range_with_len}
-use Rattle.std.proofs.lemmas.List.Sums.{prefix_len_passes, prefix_len-le-length, prefix_len-drop_yes, length-filter, get_or-le-sum_by}
-use Rattle.std.proofs.lemmas.List.Elements.{All-head, All-tail, All-from_get_or, All-filter, filter_passes}
-use Rattle.range_bits.specs.Ranges.{free_from, places, longest, begins_range, first_of_two, first_least, best}
-use Rattle.tc_units.proofs.Counts.{count_none}
 
 -- the numbers of a range lie in it
 pub range-within : (a n : ℕ) → All (λ h. (a ≤ h) × (h < a + n)) (range_with_len a n)
@@ -41,10 +37,7 @@ fold_max-at : (n a : ℕ) (xs : List ℕ) → n ≤ fold max a xs → (n ≤ a) 
 fold_max-at n a [] h = inl h
 fold_max-at n a (x ∷ xs) h =
     elim (fold_max-at n (max a x) xs h) [
-      | inl l ↦ elim (cases_lt a n) [
-        | inl small ↦ inr (0, omega arith, omega arith)
-        | inr large ↦ inl large
-      ]
+      | inl l ↦ grind (arith, nat_tests, cases_lt)
       | inr r ↦ inr (suc r.0, omega (arith, r.1), r.2)
     ]
 
@@ -55,10 +48,7 @@ longest-at row n some h =
       | inr r ↦
           let short : r.0 < length (places row) = rw length-map at r.1 in
           let e = get_or-map (free_from row) (places row) r.0 0 0 short in
-          let len = length-range_with_len 0 (length row) in
-          let here = get_or-range_with_len 0 (length row) r.0 0 (omega arith) in
-          let far : n ≤ free_from row (get_or (places row) r.0 0) = rw e at r.2 in
-          (get_or (places row) r.0 0, omega arith, far)
+          grind (arith, nat_tests, length-range_with_len, get_or-range_with_len)
     ]
 
 start_after : (row : List Bool) (place : ℕ) → get_or row (suc place) true ≡ false → get_or row place true ≡ true → begins_range row (suc place) ≡ true
@@ -78,12 +68,10 @@ start_of row n (suc place) h some far =
     ]
 
 one_of : {X : Type 0} (P : X → Type 0) (less : X → X → Bool) (x : X) (o : Option X) → P x → IfSome o P → P (first_of_two less x o)
-one_of P less x None h k = h
-one_of P less x (Some y) h k = elim (less y x) as (λ b. P (cond b y x)) [ true ↦ k | false ↦ h ]
+one_of P less x o h k = grind (arith, nat_tests)
 
 two_agree : {X : Type 0} (P : X → Type 0) (less other : X → X → Bool) (x : X) (o : Option X) → ((a b : X) → P a → P b → less a b ≡ other a b) → P x → IfSome o P → first_of_two less x o ≡ first_of_two other x o
-two_agree P less other x None agree h k = refl
-two_agree P less other x (Some y) agree h k = rw (agree y x k h)
+two_agree P less other x o agree h k = grind (arith, nat_tests)
 
 -- the first of a list is one of it, and there is one where the list has an element
 pub first_least-all : {X : Type 0} (P : X → Type 0) (less : X → X → Bool) (xs : List X) → All P xs → IfSome (first_least less xs) P
@@ -105,9 +93,7 @@ first_least-agree P less other (x ∷ xs) agree h =
 pub filter-agree : {X : Type 0} (p q : X → Bool) (xs : List X) → All (λ x. p x ≡ q x) xs → filter p xs ≡ filter q xs
 filter-agree p q [] h = refl
 filter-agree p q (x ∷ xs) h =
-    let head = All-head (λ y. p y ≡ q y) x xs h in
-    let rest = filter-agree p q xs (All-tail (λ y. p y ≡ q y) x xs h) in
-    rw (head, rest)
+    rw (All-head (λ y. p y ≡ q y) x xs h, filter-agree p q xs (All-tail (λ y. p y ≡ q y) x xs h))
 
 pub filter-none : {X : Type 0} (p : X → Bool) (xs : List X) → All (λ x. p x ≡ false) xs → filter p xs ≡ []
 filter-none p xs h = nil_from_length (filter p xs) (length-filter p xs ∙ count_none p xs h)
@@ -124,11 +110,7 @@ pub best-at : (row : List Bool) (n s : ℕ) → best row n ≡ Some s → (s < l
 best-at row n s h =
     let P : ℕ → Type 0 = λ place. (place < length row) × (n ≤ free_from row place) in
     let all = first_least-all P (λ a b. nat_lt (free_from row a) (free_from row b)) (filter (fits_at row n) (places row))
-    (λ k d l.
-    let passes = filter_passes (fits_at row n) (places row) k d l in
-    let inside = All-filter (fits_at row n) (λ place. (0 ≤ place) × (place < 0 + length row)) (places row) (range-within 0 (length row)) k d l in
-    let far : n ≤ free_from row (get_or (filter (fits_at row n) (places row)) k d) = leb-true n _ (and_parts _ _ passes).1 in
-    (omega (arith, inside.1), far)) in
+    (grind (arith, nat_tests, common_steps, filter_passes, range-within, leb-true, and_parts)) in
     subst (λ o. IfSome o P) h all
 
 pub best-some : (row : List Bool) (n place : ℕ) → place < length row → 0 < n → n ≤ free_from row place → best row n ≡ None → ⊥

@@ -1,8 +1,8 @@
 -- Rows and the words that stand for them: each place, and the next used or free one.
 use Rattle.std.proofs.Common.{◌≡◌, ℕ, ◌+◌, ◌-◌, ◌*◌, ◌<◌, ◌≤◌, Bool, true, false, not, List, length, get_or, sym, ap, ◌∙◌, arith}
-use Rattle.std.proofs.lemmas.Bool.Decides.{nat_tests}
+use Rattle.range_bits.proofs.Common.{nat_tests, is_one, is_marked, IsNext, IsNextRange}
 use Rattle.std.proofs.lemmas.List.FromFn.{length-map-range_with_len, get_or-map-range_with_len}
-use Rattle.range_bits.specs.Words.{is_one, is_marked, row_of, IsNext, IsNextRange}
+use Rattle.range_bits.specs.Words.{row_of}
 use Rattle.range_bits.proofs.BitFacts.{FirstBit}
 
 pub length-row_of : (words : List ℕ) → length (row_of words) ≡ 64 * length words

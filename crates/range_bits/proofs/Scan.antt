@@ -1,16 +1,11 @@
 -- One free range more of a row: the longest and the best so far, and what the next range makes of them.
-use Rattle.std.proofs.lemmas.Grind.{common_steps}
+use Rattle.range_bits.proofs.Common.{common_steps, range_with_len, All-filter, filter_passes, get_or-le-sum_by, prefix_len-drop_yes, prefix_len-drop_no}
+use Rattle.range_bits.proofs.Common.{prefix_len-drop_all, cases_Bool, cases_lt, cond_both, and_from, and_parts, and_left, and_right, or_left, or_right, le-leb}
+use Rattle.range_bits.proofs.Common.{leb-true, leb-false, le-ltb, lt-ltb, ne_eqb, nat_tests, count_none, free_from, begins_range, first_of_two, first_least}
+use Rattle.range_bits.proofs.Common.{longest, best, used_count, IsNextRange}
 use Rattle.std.proofs.Common.{◌≡◌, ℕ, zero, suc, ◌+◌, ◌-◌, ◌<◌, ◌≤◌, ◌==◌, ◌⊎◌, Bool, true, false, not, nat_lt, nat_le, List, ◌∷◌, ◌++◌, length, get_or, map, filter, fold, max, Option, Some, None, IfSome, cond, refl, sym, ap, ◌∙◌, inl, inr, arith, option_map, eq-eqb, ◌↔◌}
-use Rattle.std.specs.List.{range_with_len}
-use Rattle.std.proofs.lemmas.List.Elements.{All-filter, filter_passes}
-use Rattle.std.proofs.lemmas.List.Sums.{get_or-le-sum_by, prefix_len-drop_yes, prefix_len-drop_no, prefix_len-drop_all}
-use Rattle.std.proofs.lemmas.Bool.{cases_Bool, cases_lt, cond_both, and_from, and_parts, and_left, and_right, or_left, or_right, le-leb, leb-true, leb-false, le-ltb, lt-ltb, ne_eqb}
-use Rattle.std.proofs.lemmas.Bool.Decides.{nat_tests}
 use Rattle.range_bits.proofs.RangeFacts.{fold_max, best_is_fit, longest_is_short, some_or_none}
 use Rattle.range_bits.proofs.RangeLemmas.{fits_at, longest-at, longest-le-length, free_fits, free_at, start_of, range-within, first_least-all}
-use Rattle.tc_units.proofs.Counts.{count_none}
-use Rattle.range_bits.specs.Ranges.{free_from, begins_range, first_of_two, first_least, longest, best, used_count}
-use Rattle.range_bits.specs.Words.{IsNextRange}
 use Rattle.range_bits.specs.FreeRanges.{shorter_of}
 use Rattle.range_bits.specs.declared.ranges.FreeRange.{FreeRange}
 
@@ -30,8 +25,7 @@ free_run row (suc m) k inside free end =
     let here : get_or row k true ≡ false = free k (omega arith) (omega arith) in
     let next : k + 1 + m ≡ k + suc m = omega arith in
     let more : free_from row (k + 1) ≡ m = free_run row m (k + 1) (omega arith) (λ j from to. free j (omega arith) (omega arith)) (λ before. ap (λ (p : ℕ). get_or row p true) next ∙ end (omega arith)) in
-    let step : free_from row k ≡ 1 + free_from row (k + 1) = prefix_len-drop_yes not row k true (omega arith) (ap not here) in
-    omega arith
+    grind (arith, nat_tests, prefix_len-drop_yes)
 
 -- the greatest value of a function over numbers in a row
 pub greatest-ge : (f : ℕ → ℕ) (a n k : ℕ) → a ≤ k → k < a + n → f k ≤ fold max 0 (map f (range_with_len a n))
@@ -83,8 +77,7 @@ longest_is row to most all is =
       | inr none ↦ omega arith
       | inl some ↦
           (let far = longest-at row (longest row) some (omega arith) in
-          let s = start_of row (longest row) far.0 far.1 some far.2 in
-          omega (arith, is.bound s.0 (omega (arith, s.1)) s.3, s.2))
+          grind (arith, nat_tests, start_of))
     ] in
     elim (cases_lt 0 most) [
       | inl some ↦ (let at = is.there some in omega (arith, at.2, greatest-ge (free_from row) 0 (length row) at.0 (omega arith) (omega (arith, at.1))))
@@ -104,8 +97,7 @@ longest_more row from start len most range is =
 
 -- of two places, where the other one's measure isn't less
 stays : (f : ℕ → ℕ) (x : ℕ) (o : Option ℕ) → IfSome o (λ y. f x ≤ f y) → first_of_two (λ x y. nat_lt (f x) (f y)) x o ≡ x
-stays f x None h = refl
-stays f x (Some y) h = ap (λ (b : Bool). cond b y x) (le-ltb (f y) (f x) h)
+stays f x o h = grind (arith, nat_tests, le-ltb)
 
 -- the first place of the least measure
 least_place : (f : ℕ → ℕ) (p : ℕ → Bool) (a n s : ℕ) → a ≤ s → s < a + n → p s ≡ true → ((y : ℕ) → a ≤ y → y < a + n → p y ≡ true → (f s ≤ f y) × (y < s → f s < f y)) → first_least (λ x y. nat_lt (f x) (f y)) (filter p (range_with_len a n)) ≡ Some s
@@ -116,12 +108,7 @@ least_place f p a (suc n) s low high pass least =
     elim (cases_lt a s) [
       | inl later ↦
           (let ih = least_place f p (a + 1) n s (omega arith) (omega arith) pass (λ y l h. least y (omega arith) (omega arith)) in
-          elim (cases_Bool (p a)) [
-            | inl t ↦
-                (let here : filter p (range_with_len a (suc n)) ≡ a ∷ rest = ap (λ (b : Bool). cond b (a ∷ rest) rest) t in
-                ap (first_least by) here ∙ ap (λ (o : Option ℕ). Some (first_of_two by a o)) ih ∙ ap (λ (b : Bool). Some (cond b s a)) (lt-ltb (f s) (f a) ((least a (omega arith) (omega arith) t).1 later)))
-            | inr fails ↦ ap (λ (b : Bool). first_least by (cond b (a ∷ rest) rest)) fails ∙ ih
-          ])
+          grind (arith, nat_tests, cases_Bool, lt-ltb))
       | inr first ↦
           (let same : a ≡ s = omega arith in
           let t : p a ≡ true = ap p same ∙ pass in
@@ -129,8 +116,7 @@ least_place f p a (suc n) s low high pass least =
           let others = first_least-all (λ y. f a ≤ f y) by rest (λ k d l.
           let passes = filter_passes p (range_with_len (a + 1) n) k d l in
           let near = All-filter p (λ y. (a + 1 ≤ y) × (y < a + 1 + n)) (range_with_len (a + 1) n) (range-within (a + 1) n) k d l in
-          let e : f a ≡ f s = ap f same in
-          omega (arith, (least (get_or rest k d) (omega (arith, near.0)) (omega (arith, near.1)) passes).0)) in
+          grind (arith, nat_tests)) in
           ap (first_least by) here ∙ ap Some (stays f a (first_least by rest) others ∙ same))
     ]
 
@@ -145,8 +131,7 @@ pub record IsShortest (row : List Bool) (n to s : ℕ) : Type 0 where
 pub best_is : (row : List Bool) (n to s : ℕ) → length row ≤ to → IsShortest row n to s → best row n ≡ Some s
 best_is row n to s all is =
     least_place (free_from row) (fits_at row n) 0 (length row) s (omega arith) (omega (arith, is.inside)) (and_from _ _ is.starts (le-leb n (free_from row s) is.long)) (λ y low high pass.
-    let parts = and_parts (begins_range row y) (nat_le n (free_from row y)) pass in
-    is.least y (omega arith) parts.0 (leb-true n (free_from row y) parts.1))
+    grind (arith, nat_tests, and_parts, nat_le, leb-true))
 
 pub best_none : (row : List Bool) (n : ℕ) → 0 < n → ((y : ℕ) → y < length row → begins_range row y ≡ true → free_from row y < n) → best row n ≡ None
 best_none row n some short =
@@ -154,8 +139,7 @@ best_none row n some short =
       | inl none ↦ none
       | inr found ↦
           (let fit = best_is_fit row n found.0 found.1 in
-          let s = start_of row n found.0 fit.0 some fit.1 in
-          absurd (omega (arith, s.2, short s.0 s.1 s.3)))
+          grind (arith, nat_tests, start_of))
     ]
 
 -- the best so far as a range
@@ -164,8 +148,7 @@ IsBest row n to None = (y : ℕ) → y < to → begins_range row y ≡ true → 
 IsBest row n to (Some range) = IsShortest row n to range.start × (free_from row range.start ≡ range.len)
 
 pub best_found : (row : List Bool) (n to : ℕ) (found : Option FreeRange) → 0 < n → length row ≤ to → IsBest row n to found → option_map (λ (range : FreeRange). range.start) found ≡ best row n
-best_found row n to None some all is = sym (best_none row n some (λ y inside here. is y (omega arith) here))
-best_found row n to (Some range) some all is = sym (best_is row n to range.start all is.0)
+best_found row n to found some all is = grind (arith, nat_tests, best_none, best_is)
 
 -- a range more: the best so far stays, or it is the best
 best_stays : (row : List Bool) (n from start len s : ℕ) → IsNextRange row from start len → (n ≤ len → free_from row s ≤ len) → IsShortest row n from s → IsShortest row n (start + len) s
@@ -222,20 +205,13 @@ none_exactly row n (Some s) pos e =
 none_used : (row : List Bool) → longest row ≡ length row → used_count row ≡ 0
 none_used row long = count_none (λ used. used) row (λ k d l.
     let far = longest-at row (length row) (omega arith) (omega arith) in
-    let at : far.0 + k ≡ k = omega (arith, free_fits row far.0 (length row) (omega arith) far.2) in
-    ap (λ (i : ℕ). get_or row i d) (sym at) ∙ free_at row far.0 (length row) k d far.2 l)
+    ap (λ (i : ℕ). get_or row i d) (sym (omega (arith, free_fits row far.0 (length row) (omega arith) far.2))) ∙ free_at row far.0 (length row) k d far.2 l)
 
 all_free : (row : List Bool) → used_count row ≡ 0 → longest row ≡ length row
 all_free row none =
-    let free : (k : ℕ) → k < length row → get_or row k true ≡ false = λ k l. elim (cases_Bool (get_or row k true)) [
-      | inl t ↦ absurd (let one : ◌≡◌ {A = ℕ} (cond (get_or row k true) 1 0) 1 = ap (λ (b : Bool). cond b 1 0) t in omega (arith, get_or-le-sum_by (λ used. cond used 1 0) row k true l))
-      | inr f ↦ f
-    ] in
+    let free : (k : ℕ) → k < length row → get_or row k true ≡ false = grind (arith, nat_tests, cases_Bool, get_or-le-sum_by) in
     let whole = free_run row (length row) 0 (omega arith) (λ j low high. free j (omega arith)) (λ l. absurd (omega arith)) in
-    elim (cases_lt 0 (length row)) [
-      | inl some ↦ omega (arith, longest-le-length row, greatest-ge (free_from row) 0 (length row) 0 (omega arith) (omega arith))
-      | inr empty ↦ omega (arith, longest-le-length row)
-    ]
+    grind (arith, nat_tests, cases_lt, longest-le-length, greatest-ge, free_from)
 
 pub whole_free : (row : List Bool) → (longest row == length row) ≡ (used_count row == 0)
 whole_free row = grind (arith, nat_tests, cases_Bool, none_used, ne_eqb, all_free)

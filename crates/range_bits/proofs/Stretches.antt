@@ -1,12 +1,8 @@
 -- Stretches that are put into a state: how many places are used then, and how many are free.
-use Rattle.std.proofs.lemmas.Bool.Decides.{nat_tests}
-use Rattle.std.proofs.Common.{◌≡◌, ℕ, zero, suc, ◌+◌, ◌<◌, ◌≤◌, Bool, true, false, not, cond, List, [], ◌∷◌, ◌++◌, length, take, drop, replicate, arith}
-use Rattle.std.specs.List.{sum_by, prefix_len}
-use Rattle.std.proofs.lemmas.List.{append_assoc, drop_at, length-take-le, drop-drop}
-use Rattle.std.proofs.lemmas.List.Sums.{sum_by-append, sum_by-take-drop, sum_by-cons}
+use Rattle.range_bits.proofs.Common.{nat_tests, sum_by, prefix_len, append_assoc, drop_at, length-take-le, drop-drop, sum_by-append, sum_by-take-drop}
+use Rattle.range_bits.proofs.Common.{sum_by-cons, free_from, used_from, used_count, with_places, free_count}
+use Rattle.std.proofs.Common.{◌≡◌, ℕ, zero, suc, ◌+◌, ◌<◌, ◌≤◌, Bool, true, not, cond, List, [], ◌∷◌, ◌++◌, length, take, drop, replicate, arith}
 use Rattle.std.proofs.lemmas.List.Folds.{sum_by-replicate}
-use Rattle.range_bits.specs.Ranges.{free_from, used_from, used_count, with_places}
-use Rattle.range_bits.specs.Fills.{free_count}
 use Rattle.range_bits.proofs.Counts.{free_inside}
 
 -- all free places, and used ones, are the places
@@ -17,8 +13,7 @@ abbrev free_one : Bool → ℕ
 free_one used = cond (not used) 1 0
 
 one_each : (used : Bool) → used_one used + free_one used ≡ 1
-one_each true = omega arith
-one_each false = omega arith
+one_each used = grind (arith, nat_tests)
 
 each_once : (row : List Bool) → sum_by used_one row + sum_by free_one row ≡ length row
 each_once [] = omega arith
@@ -37,8 +32,7 @@ used_then row start n some free = grind (arith, nat_tests, free_inside, append_a
 
 -- what is used where a stretch is put into a state
 pub state_count : (n : ℕ) (used : Bool) → used_count (replicate n used) ≡ cond used n 0
-state_count n true = omega (arith, sum_by-replicate used_one n true)
-state_count n false = omega (arith, sum_by-replicate used_one n false)
+state_count n used = grind (arith, nat_tests, sum_by-replicate)
 
 pub put_count : (row : List Bool) (start n : ℕ) (used : Bool) → used_count (with_places row start n used) + used_count (take n (drop start row)) ≡ used_count row + cond used n 0
 put_count row start n used = grind (arith, nat_tests, drop-drop, sum_by-append, used_one, state_count, sum_by-take-drop)

@@ -1,12 +1,8 @@
 -- Sorted keys with a key more, fewer or changed.
-use Rattle.std.proofs.lemmas.Grind.{common_steps}
+use Rattle.sorted_list.proofs.Common.{common_steps, nat_tests, cases_lt, le-leb, lt-leb, length-insert, get_or-insert_below, get_or-insert_at}
+use Rattle.sorted_list.proofs.Common.{get_or-insert_above, length-remove, get_or-remove_below, get_or-remove_above, IsPermutation-insert, IsPermutation-remove}
+use Rattle.sorted_list.proofs.Common.{IsPermutation-cons, IsPermutation-trans, IsPermutation-middle, IsPermutation-sym, IsOrder, IsInOrder, IsPlaceOf}
 use Rattle.std.proofs.Common.{◌≡◌, ℕ, ◌+◌, ◌-◌, ◌<◌, ◌≤◌, Bool, false, cond, nat_le, List, [], ◌∷◌, length, get_or, insert, remove, Contains, IsPermutation, sym, ap, subst, ◌∙◌, inl, inr, arith}
-use Rattle.std.proofs.lemmas.Bool.Decides.{nat_tests}
-use Rattle.std.proofs.lemmas.Bool.{cases_lt, le-leb, lt-leb}
-use Rattle.std.proofs.lemmas.List.Edits.{length-insert, get_or-insert_below, get_or-insert_at, get_or-insert_above, length-remove, get_or-remove_below, get_or-remove_above}
-use Rattle.std.proofs.lemmas.List.Sorted.{IsPermutation-insert, IsPermutation-remove, IsPermutation-cons, IsPermutation-trans, IsPermutation-middle, IsPermutation-sym}
-use Rattle.sorted_list.specs.Order.{IsOrder, IsInOrder}
-use Rattle.sorted_list.specs.Search.{IsPlaceOf}
 
 module _ {K : Type 0} (before : K → K → Bool) (total : IsOrder K before) where
   -- no key comes before itself
@@ -40,8 +36,7 @@ module _ {K : Type 0} (before : K → K → Bool) (total : IsOrder K before) whe
 
   -- without a key the others keep their order
   pub removed_in_order : (keys : List K) (place : ℕ) → IsInOrder before keys → place < length keys → IsInOrder before (remove keys place)
-  removed_in_order keys place order inside i j d less last =
-      grind (arith, nat_tests, length-remove, remove, get_or-remove_above, both, get_or-remove_below)
+  removed_in_order keys place order inside i j d less last = grind (arith, nat_tests, length-remove, get_or-remove_above, both, get_or-remove_below)
 
   module _ (keys : List K) (place : ℕ) (inside : place < length keys) where
     stays : (i : ℕ) (d to : K) (b : Bool) → i < place → before (get_or keys i d) to ≡ b → before (get_or (remove keys place) i d) to ≡ b

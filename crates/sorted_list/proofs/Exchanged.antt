@@ -1,8 +1,7 @@
 -- A key in place of another one: the keys between the two places, turned by one, are those of a removal and an insert.
-use Rattle.std.proofs.lemmas.Bool.Decides.{nat_tests}
+use Rattle.sorted_list.proofs.Common.{nat_tests, append_assoc, drop_more, drop_all, take-take, drop-take, drop-drop, set_at, length-take-le, length-drop}
+use Rattle.sorted_list.proofs.Common.{length-append, insert-append_left, insert-append_right}
 use Rattle.std.proofs.Common.{◌≡◌, ℕ, suc, ◌+◌, ◌-◌, ◌<◌, ◌≤◌, List, [], ◌∷◌, ◌++◌, length, get_or, take, drop, set, insert, remove, sym, ap, ◌∙◌, arith}
-use Rattle.std.proofs.lemmas.List.{append_assoc, drop_more, drop_all, take-take, drop-take, drop-drop, set_at, length-take-le, length-drop, length-append}
-use Rattle.std.proofs.lemmas.List.Edits.{insert-append_left, insert-append_right}
 use borrow.Rule.Slice.PartMut.{put_mid, mid_of}
 
 -- all but the last, and the last, of m elements
@@ -28,15 +27,7 @@ module _ {X : Type 0} (keys : List X) (place target : ℕ) (key : X) (held : pla
       ∙ ap (λ (xs : List X). get_or part (m - 1) key ∷ xs) (take-take (place - target) m (drop target keys) (omega arith)) in
       let behind : drop m (drop target keys) ≡ drop (suc place) keys = drop-drop m target keys ∙ ap (λ (k : ℕ). drop k keys) (let next : target + m ≡ suc place = omega arith in next) in
       let whole : target + (place - target) ≡ place = omega arith in
-      ap (λ (ys : List X). set (take target keys ++ (ys ++ drop m (drop target keys))) target key) shape
-      ∙ set_at (take target keys) (get_or part (m - 1) key) (front ++ drop m (drop target keys)) key target (length-take-le target keys (omega arith))
-      ∙ ap (λ (ys : List X). take target keys ++ key ∷ (front ++ ys)) behind
-      ∙ sym (
-      insert-append_left (take place keys) (drop (suc place) keys) target key (omega (arith, size_before))
-      ∙ append_assoc (take target (take place keys)) (key ∷ drop target (take place keys)) (drop (suc place) keys)
-      ∙ ap (λ (xs : List X). xs ++ key ∷ (drop target (take place keys) ++ drop (suc place) keys)) (take-take target place keys order)
-      ∙ ap (λ (k : ℕ). take target keys ++ key ∷ (drop target (take k keys) ++ drop (suc place) keys)) (sym whole)
-      ∙ ap (λ (xs : List X). take target keys ++ key ∷ (xs ++ drop (suc place) keys)) (drop-take target (place - target) keys))
+      grind (arith, nat_tests, set_at, length-take-le, insert-append_left, size_before, append_assoc, take-take, drop-take)
 
   -- towards the end
   pub moved_down : (turned : List X) → place < target → target ≤ length keys → turned ≡ drop 1 (mid_of place (target - place) keys) ++ take 1 (mid_of place (target - place) keys) → set (put_mid place (target - place) keys turned) (target - 1) key ≡ insert (remove keys place) (target - 1) key

@@ -1,11 +1,7 @@
 -- A key that was read at a place, and those before and behind it.
 use Rattle.std.proofs.Common.{◌≡◌, ℕ, ◌+◌, ◌<◌, ◌≤◌, Bool, false, List, length, get_or, Some, Contains, sym, ap, ◌∙◌, inl, inr, arith}
-use Rattle.std.proofs.lemmas.Bool.Decides.{nat_tests}
-use Rattle.std.specs.Prelude.{slice_get}
-use Rattle.std.proofs.lemmas.Bool.{cases_lt}
-use Rattle.std.proofs.lemmas.Option.{get_or_from_slice_get, slice_get_within}
-use Rattle.sorted_list.specs.Order.{IsOrder, IsInOrder, IsFirstFrom, IsFirst, IsLast}
-use Rattle.sorted_list.specs.Search.{IsPlaceOf}
+use Rattle.sorted_list.proofs.Common.{nat_tests, slice_get, cases_lt, get_or_from_slice_get, slice_get_within, IsOrder, IsInOrder, IsFirstFrom, IsFirst, IsLast}
+use Rattle.sorted_list.proofs.Common.{IsPlaceOf}
 use Rattle.sorted_list.proofs.Changes.{not_itself}
 
 module _ {K : Type 0} (before : K → K → Bool) (total : IsOrder K before) (keys : List K) (order : IsInOrder before keys) (place : ℕ) (key : K) (found : slice_get keys place ≡ Some key) where

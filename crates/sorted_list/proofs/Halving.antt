@@ -1,8 +1,7 @@
 -- A search by halving: what a read key tells of all others, and how many reads are made.
 use Rattle.std.proofs.Common.{◌≡◌, ℕ, ◌+◌, ◌-◌, ◌*◌, ◌^◌, ◌<◌, ◌≤◌, Bool, true, false, List, length, get_or, ap, ◌∙◌, arith, add-one}
-use Rattle.std.proofs.lemmas.Bool.Decides.{nat_tests}
+use Rattle.sorted_list.proofs.Common.{nat_tests, IsOrder, IsInOrder}
 use Rattle.std.proofs.Math.Nat.{mul-le-mul_left, pow-succ'}
-use Rattle.sorted_list.specs.Order.{IsOrder, IsInOrder}
 
 module _ {K : Type 0} (before : K → K → Bool) (total : IsOrder K before) (keys : List K) (order : IsInOrder before keys) where
   -- before a key that comes before another one, all keys do
@@ -20,8 +19,7 @@ halved k size half n some split most =
     let twice : 2 ^ (k + 1) ≡ 2 * p = ap (λ (e : ℕ). 2 ^ e) (add-one k) ∙ pow-succ' 2 k in
     let both : 2 ^ (k + 1) * half ≡ 2 * p * half = ap (λ (t : ℕ). t * half) twice in
     let less : p * (half + half) ≤ p * size = mul-le-mul_left p split in
-    let once : p * 1 ≤ p * size = mul-le-mul_left p some in
-    (omega arith, omega arith)
+    grind (arith, nat_tests, mul-le-mul_left)
 
 -- the same for counters
 pub halved_steps : (before after start size half n : ℕ) → start ≤ before → after ≡ before + 1 → 0 < size → half + half ≤ size → 2 ^ (before - start) * size ≤ n → (2 ^ (after - start) * half ≤ n) × (2 ^ (after - start) ≤ 2 * n + 1)
@@ -30,5 +28,4 @@ halved_steps before after start size half n order e some split most =
     let next : after - start ≡ k + 1 = omega arith in
     let same : 2 ^ (after - start) ≡ 2 ^ (k + 1) = ap (λ (t : ℕ). 2 ^ t) next in
     let got = halved k size half n some split most in
-    let product : 2 ^ (after - start) * half ≡ 2 ^ (k + 1) * half = ap (λ (t : ℕ). t * half) same in
-    (omega (arith, got.0), omega (arith, got.1))
+    grind (arith, nat_tests)

@@ -1,4 +1,5 @@
 pub mod Changes
+mod Common
 mod Exchanged
 mod Found
 mod Halving

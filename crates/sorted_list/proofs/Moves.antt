@@ -1,15 +1,7 @@
 -- A key that comes, changes or leaves: what is kept, and which keys are there then.
-use Rattle.std.proofs.lemmas.Grind.{common_steps}
+use Rattle.sorted_list.proofs.Common.{common_steps, nat_tests, le-leb, lt-leb, length-set, take_at, length-insert, length-remove, IsPermutation-insert}
+use Rattle.sorted_list.proofs.Common.{IsPermutation-remove, keys_of, IsKept, IsOrder, IsInOrder, IsPlaceOf}
 use Rattle.std.proofs.Common.{◌≡◌, ℕ, ◌+◌, ◌-◌, ◌<◌, ◌≤◌, Bool, cond, nat_le, List, ◌∷◌, ◌++◌, length, get_or, set, take, drop, insert, remove, Contains, IsPermutation, sym, ap, subst, ◌∙◌, arith}
-use Rattle.std.proofs.lemmas.Bool.Decides.{nat_tests}
-use Rattle.std.proofs.lemmas.Bool.{le-leb, lt-leb}
-use Rattle.std.proofs.lemmas.List.{length-set, take_at}
-use Rattle.std.proofs.lemmas.List.Edits.{length-insert, length-remove}
-use Rattle.std.proofs.lemmas.List.Sorted.{IsPermutation-insert, IsPermutation-remove}
-use Rattle.sorted_list.specs.Contents.{keys_of}
-use Rattle.sorted_list.specs.Kept.{IsKept}
-use Rattle.sorted_list.specs.Order.{IsOrder, IsInOrder}
-use Rattle.sorted_list.specs.Search.{IsPlaceOf}
 use Rattle.sorted_list.proofs.Changes.{inserted_in_order, inserted_is_held, held_at, removed_in_order, rekeyed_in_order, rekeyed_is_held, rekeyed_keys}
 use Rattle.sorted_list.proofs.Slots.{times_moved, key_came, key_changed, key_left, keys_len}
 

@@ -1,10 +1,7 @@
 -- A sorted list of rows' keys: what it says of them, and how it follows their changes.
+use Rattle.std.proofs.lemmas.Bool.Decides.{nat_tests}
 use Rattle.std.proofs.Common.{◌≡◌, ℕ, suc, ◌+◌, ◌<◌, Bool, true, not, ◌&&◌, cond, List, [], ◌∷◌, count_by, Contains, IsPermutation, refl, sym, ap, subst, ◌∙◌, inl, inr, arith}
-use Rattle.std.proofs.lemmas.Bool.{cases_Bool, and_parts, and_from, not_from_false, not-true}
-use Rattle.std.proofs.lemmas.List.Sums.{sum_by-cons}
-use Rattle.std.proofs.lemmas.List.Sorted.{sum_by-IsPermutation}
-use Rattle.tc_units.proofs.Counts.{count_some}
-use Rattle.sorted_list.specs.Order.{IsOrder}
+use Rattle.sorted_list.proofs.Common.{cases_Bool, and_parts, and_from, not_from_false, not-true, sum_by-cons, sum_by-IsPermutation, count_some, IsOrder}
 use Rattle.sorted_list.specs.Rows.{IsIndexOf}
 use Rattle.sorted_list.proofs.Changes.{not_itself}
 
@@ -46,8 +43,7 @@ module _ {K : Type 0} (before : K → K → Bool) (total : IsOrder K before) whe
   pub row_held : {R : Type 0} (key : R → K) (rows : List R) (keys : List K) (k : K) → IsIndexOf key rows keys → Contains keys k → (row : R) × Contains rows row × (key row ≡ k)
   row_held key rows keys k index held =
       let some = count_held (is_same before k) keys k held (same_itself k) in
-      let there = found_some (λ r. is_same before k (key r)) rows (omega (arith, index (is_same before k))) in
-      (there.0, there.1, sym (same_keys k (key there.0) there.2))
+      grind (arith, nat_tests, found_some, same_keys)
 
 module _ {R K : Type 0} (key : R → K) where
   -- as many keys as rows
@@ -57,13 +53,11 @@ module _ {R K : Type 0} (key : R → K) where
   -- Changes: a row comes, a row leaves, a row becomes another one.
   pub index_more : (rows rows' : List R) (keys keys' : List K) (k : K) → IsIndexOf key rows keys → IsPermutation (k ∷ keys) keys' → ((test : K → Bool) → count_by (λ row. test (key row)) rows' ≡ cond (test k) 1 0 + count_by (λ row. test (key row)) rows) → IsIndexOf key rows' keys'
   index_more rows rows' keys keys' k index moved came test =
-      let count = sum_by-IsPermutation (λ x. cond (test x) 1 0) (k ∷ keys) keys' moved in
-      omega (arith, count, sum_by-cons (λ x. cond (test x) 1 0) k keys, index test, came test)
+      omega (arith, sum_by-IsPermutation (λ x. cond (test x) 1 0) (k ∷ keys) keys' moved, sum_by-cons (λ x. cond (test x) 1 0) k keys, index test, came test)
 
   pub index_fewer : (rows rows' : List R) (keys keys' : List K) (k : K) → IsIndexOf key rows keys → IsPermutation keys (k ∷ keys') → ((test : K → Bool) → cond (test k) 1 0 + count_by (λ row. test (key row)) rows' ≡ count_by (λ row. test (key row)) rows) → IsIndexOf key rows' keys'
   index_fewer rows rows' keys keys' k index moved gone test =
-      let count = sum_by-IsPermutation (λ x. cond (test x) 1 0) keys (k ∷ keys') moved in
-      omega (arith, count, sum_by-cons (λ x. cond (test x) 1 0) k keys', index test, gone test)
+      omega (arith, sum_by-IsPermutation (λ x. cond (test x) 1 0) keys (k ∷ keys') moved, sum_by-cons (λ x. cond (test x) 1 0) k keys', index test, gone test)
 
   pub index_changed : (rows rows' : List R) (keys keys' : List K) (k k' : K) → IsIndexOf key rows keys → IsPermutation (k' ∷ keys) (k ∷ keys') → ((test : K → Bool) → cond (test k) 1 0 + count_by (λ row. test (key row)) rows' ≡ cond (test k') 1 0 + count_by (λ row. test (key row)) rows) → IsIndexOf key rows' keys'
   index_changed rows rows' keys keys' k k' index moved changed test =

@@ -1,17 +1,9 @@
 -- The keys in the slots of an order: what a slot that isn't there, or moves, makes of them.
-use Rattle.std.proofs.lemmas.Grind.{common_steps}
+use Rattle.sorted_list.proofs.Common.{common_steps, nat_tests, cases_lt, cases_Bool, lt-ltb, le-ltb, ne_eqb, map-append, drop_more, length-take-le}
+use Rattle.sorted_list.proofs.Common.{get_or-set_same, get_or-set_other, get_or-take, get_or-map, get_or_default, length-map, sum_by-append, sum_by-cons}
+use Rattle.sorted_list.proofs.Common.{sum_by-take-drop, sum_by-IsPermutation, IsPermutation-remove, slice_get, slice_get_read, count_some, keys_of, times}
 use Rattle.std.proofs.Common.{◌≡◌, ◌≢◌, ℕ, suc, ◌+◌, ◌-◌, ◌<◌, ◌≤◌, Bool, true, false, cond, nat_lt, ◌==◌, List, [], ◌∷◌, ◌++◌, length, get_or, map, set, take, drop, insert, remove, Some, refl, sym, ap, ◌∙◌, inl, inr, arith, eq-eqb}
-use Rattle.std.proofs.lemmas.Bool.Decides.{nat_tests}
 use Rattle.std.specs.List.{take-map, drop-map}
-use Rattle.std.proofs.lemmas.Bool.{cases_lt, cases_Bool, lt-ltb, le-ltb, ne_eqb}
-use Rattle.std.proofs.lemmas.List.{map-append, drop_more, length-take-le, get_or-set_same, get_or-set_other, get_or-take, get_or-map, get_or_default, length-map}
-use Rattle.std.proofs.lemmas.List.Sums.{sum_by-append, sum_by-cons, sum_by-take-drop}
-use Rattle.std.proofs.lemmas.List.Sorted.{sum_by-IsPermutation, IsPermutation-remove}
-use Rattle.std.specs.Prelude.{slice_get}
-use Rattle.std.proofs.lemmas.Option.{slice_get_read}
-use Rattle.tc_units.proofs.Counts.{count_some}
-use Rattle.sorted_list.specs.Contents.{keys_of}
-use Rattle.sorted_list.specs.Kept.{times}
 use Rattle.sorted_list.proofs.Turns.{moved, moved_out, moved_in}
 
 -- edits of a list and of what a function makes of it
@@ -34,8 +26,7 @@ unseen sample key slots slot (x ∷ xs) h =
       | inr f ↦
           (let none : ◌≡◌ {A = ℕ} (cond (x == slot) 1 0) 0 = ap (λ (b : Bool). cond b 1 0) f in
           let rest = unseen sample key slots slot xs (omega arith) in
-          let here : get_or (set slots slot key) x sample ≡ get_or slots x sample = get_or-set_other slots slot x key sample (apart x slot f) in
-          ap (λ k. k ∷ map (λ s. get_or (set slots slot key) s sample) xs) here ∙ ap (λ ks. get_or slots x sample ∷ ks) rest)
+          grind (arith, nat_tests, get_or-set_other, apart))
     ]
 
 -- a number that moves stands as often as before
@@ -113,10 +104,7 @@ key_at {K} sample slots order len place slot key inside within s fits k =
     let size : length (take len order) ≡ len = length-take-le len order within in
     let front : get_or (take len order) place slot ≡ slot = get_or-take len order place slot inside ∙ sym s in
     let this : get_or (keys_of sample slots order len) place key ≡ key =
-    get_or-map (λ s. get_or slots s sample) (take len order) place slot key (omega arith)
-    ∙ ap (λ (i : ℕ). get_or slots i sample) front
-    ∙ get_or_default slots slot sample key fits
-    ∙ sym k in
+    grind (arith, nat_tests, get_or-map, get_or_default) in
     slice_get_read (keys_of sample slots order len) len place key (sym (length-map (take len order) (λ s. get_or slots s sample) ∙ size)) inside (sym this)
 
 pub keys_len : {K : Type 0} (sample : K) (slots : List K) (order : List ℕ) (len : ℕ) → len ≤ length order → length (keys_of sample slots order len) ≡ len

@@ -1,8 +1,7 @@
 -- Numbers that move within a list: what becomes of its front.
 use Rattle.std.proofs.Common.{◌≡◌, ℕ, ◌+◌, ◌-◌, ◌<◌, ◌≤◌, List, ◌++◌, length, take, drop, insert, remove, sym, ap, ◌∙◌, arith}
-use Rattle.std.proofs.lemmas.Bool.Decides.{nat_tests}
-use Rattle.std.proofs.lemmas.List.{take-append-drop, take_at, length-take-le}
-use Rattle.std.proofs.lemmas.List.Edits.{length-insert, length-remove, insert-append_left, insert-append_right, remove-append_left, remove-append_right}
+use Rattle.sorted_list.proofs.Common.{nat_tests, take-append-drop, take_at, length-take-le, length-insert, length-remove, insert-append_left}
+use Rattle.sorted_list.proofs.Common.{insert-append_right, remove-append_left, remove-append_right}
 
 module _ {X : Type 0} (xs : List X) (n : ℕ) (x : X) (within : n ≤ length xs) where
   size : length (take n xs) ≡ n

@@ -1,7 +1,5 @@
 use Rattle.std.proofs.Common.{◌-◌, ◌≤◌, sym, subst}
-use Rattle.range_bits.specs.Ranges.{used_from}
-use Rattle.range_bits.proofs.Stretches.{used_then}
-use Rattle.huge_cache.specs.Cache.{Cache}
+use Rattle.huge_cache.proofs.Common.{used_from, used_then, Cache}
 use Rattle.huge_cache.proofs.tests.all_backed.Goals as goal
 
 pub give_run-requires-clause-out : goal.give_run-requires-clause-out

@@ -1,7 +1,5 @@
 use Rattle.std.proofs.Common.{◌≡◌, ℕ, ◌+◌, ◌-◌, true, not, List, Bool, get_or, drop, sym, ap, ◌∙◌, arith}
-use Rattle.std.proofs.lemmas.List.{get_or-drop}
-use Rattle.std.proofs.lemmas.List.Sums.{prefix_len_passes}
-use Rattle.heap_rules.proofs.Numbered.{at_number-place}
+use Rattle.huge_cache.proofs.Common.{get_or-drop, prefix_len_passes, at_number-place}
 use Rattle.huge_cache.proofs.tests.keep_first.Goals as goal
 
 pub give-requires-clause-out : goal.give-requires-clause-out

@@ -1,9 +1,5 @@
 use Rattle.std.proofs.Common.{ℕ, ◌-◌, ◌≤◌, true, List, Bool, length, sym, subst, ap, arith}
-use Rattle.range_bits.specs.Ranges.{used_from}
-use Rattle.range_bits.proofs.Counts.{free_inside}
-use Rattle.range_bits.proofs.Stretches.{used_then}
-use Rattle.range_bits.proofs.Placing.{length-with_places}
-use Rattle.huge_cache.specs.Cache.{Cache}
+use Rattle.huge_cache.proofs.Common.{used_from, free_inside, used_then, length-with_places, Cache}
 use Rattle.huge_cache.proofs.tests.take.Goals as goal
 
 pub returns-clause-inside : goal.returns-clause-inside

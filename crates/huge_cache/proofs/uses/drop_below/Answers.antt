@@ -1,7 +1,5 @@
 use Rattle.std.proofs.Common.{◌≡◌, ℕ, ◌-◌, ◌<◌, nat_le, List, length, get_or, filter, take, refl, sym, ap, subst, ◌∙◌, arith}
-use Rattle.std.specs.VecDeque.{deque_len}
-use Rattle.std.proofs.lemmas.List.{get_or_read, length-take}
-use Rattle.huge_cache.specs.Uses.{IsFalling}
+use Rattle.huge_cache.proofs.Common.{deque_len, get_or_read, length-take, IsFalling}
 use Rattle.huge_cache.proofs.Greatest.{falling-take, below_leaves, none_below}
 use Rattle.huge_cache.proofs.uses.drop_below.Goals as goal
 

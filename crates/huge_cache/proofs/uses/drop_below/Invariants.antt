@@ -1,6 +1,5 @@
 use Rattle.std.proofs.Common.{◌≡◌, ◌≤◌, nat_le, filter}
-use Rattle.std.specs.VecDeque.{deque_len, deque_capacity}
-use Rattle.huge_cache.specs.Uses.{IsFalling}
+use Rattle.huge_cache.proofs.Common.{deque_len, deque_capacity, IsFalling}
 use Rattle.huge_cache.proofs.uses.drop_below.Given as goal
 
 abbrev pub invariant-loop-last : goal.invariant-loop-last

@@ -1,7 +1,6 @@
 use Rattle.std.proofs.Common.{◌≡◌, ℕ, Option, Some, None, unwrap_or, is_some, sym, ap, ◌∙◌, arith}
+use Rattle.huge_cache.proofs.Common.{option_copied, greatest_of}
 use Rattle.std.specs.Borrow.{Bor}
-use Rattle.std.specs.Option.{option_copied}
-use Rattle.huge_cache.specs.Uses.{greatest_of}
 use Rattle.huge_cache.proofs.Greatest.{oldest_is_first, oldest_is_other}
 use Rattle.huge_cache.proofs.uses.drop_oldest.Goals as goal
 

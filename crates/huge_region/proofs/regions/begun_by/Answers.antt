@@ -1,8 +1,7 @@
 use Rattle.std.proofs.Common.{◌≡◌, ℕ, true, false, nat_le, get_or, inl, inr, ap, arith, rules, tests}
+use Rattle.huge_region.proofs.Common.{cases_lt, leb-true, leb-false, RegionRow}
 use Rattle.std.specs.List.Sorted.{IsPartitionPoint}
-use Rattle.std.proofs.lemmas.Bool.{cases_lt, leb-true, leb-false}
 use Rattle.std.proofs.lemmas.List.Sorted.{IsPartitionPoint-from_clause, IsPartitionedBy-leb}
-use Rattle.heap_rules.specs.RegionRows.{RegionRow}
 use Rattle.huge_region.proofs.Apart.{in_order}
 use Rattle.huge_region.proofs.regions.begun_by.Goals as goal
 use Rattle.huge_region.proofs.regions.begun_by.Goals.{After-partition_point}

@@ -1,7 +1,5 @@
 use Rattle.std.proofs.Common.{◌≡◌, ℕ, ◌<◌, length, get_or, sym, ap, ◌∙◌, inl, inr, arith}
-use Rattle.std.proofs.lemmas.Bool.{cases_lt}
-use Rattle.std.proofs.lemmas.List.{get_or_default}
-use Rattle.heap_rules.specs.RegionRows.{RegionRow}
+use Rattle.huge_region.proofs.Common.{cases_lt, get_or_default, RegionRow}
 use Rattle.huge_region.proofs.Apart.{found_there, none_behind}
 use Rattle.huge_region.proofs.regions.index_in.Goals as goal
 

@@ -1,6 +1,5 @@
 use Rattle.std.proofs.Common.{ℕ, ◌<◌, sym, subst, arith}
-use Rattle.heap_rules.specs.RegionRows.{RegionRow}
-use Rattle.huge_region.specs.Regions.{Regions, joined, start_in, AreUsedIn}
+use Rattle.huge_region.proofs.Common.{RegionRow, Regions, joined, start_in, AreUsedIn}
 use Rattle.huge_region.proofs.Came.{came}
 use Rattle.huge_region.proofs.tests.pass_through.Goals as goal
 

@@ -1,5 +1,5 @@
-use Rattle.std.proofs.Common.{◌≡◌, ℕ, ◌+◌, ◌≤◌, true, length, sym, ap, ◌∙◌, arith}
-use Rattle.page_heap.proofs.Common.{hugepage, is_free, at}
+use Rattle.std.proofs.Common.{◌≡◌, ℕ, ◌+◌, true, sym, ap, ◌∙◌, arith}
+use Rattle.page_heap.proofs.Common.{hugepage, is_free, at, nat_tests}
 use Rattle.page_heap.proofs.Freed.{freed_none, freed_more, freed_holds}
 use Rattle.page_heap.proofs.Measured.{shown_freed, told_own}
 use Rattle.page_heap.proofs.in_regions.give_freed.Goals as goal
@@ -8,8 +8,7 @@ pub loop-place-init : goal.loop-place-init
 loop-place-init c = record { freed = λ heap _. freed_none c.args.cache.now heap c.args.first.0 }
 
 pub give_emptied-requires-clause-high : goal.give_emptied-requires-clause-high
-give_emptied-requires-clause-high c =
-    grind (arith, c.requires.told, c.loop-place.invariant.freed, c.requires.span.to, c.requires.taken, c.loop-place-test.true)
+give_emptied-requires-clause-high c = grind (arith, nat_tests)
 
 pub give_emptied-requires-clause-out : goal.give_emptied-requires-clause-out
 give_emptied-requires-clause-out c =
@@ -25,7 +24,6 @@ loop-place-preserved c = record {
       (let first : ℕ = c.args.first.0 in
       let h : ℕ = first + c.loop-place.place in
       let from = c.requires.span.from in
-      let to : h ≤ length c.args.table.now.pages = omega (arith, c.requires.span.to, c.loop-place-test.true) in
       let free : is_free (hugepage heap h) ≡ true = ap (λ xs. is_free (at xs h)) (sym told.means.pages) ∙ c.requires.span.all h (omega arith) (omega (arith, c.loop-place-test.true)) in
       freed_more c.args.cache.now c.loop-place.cache c.give_emptied.new.cache heap first c.loop-place.place (c.loop-place.invariant.freed heap told)
       (grind (arith, shown_freed, told_own, c.give_emptied.ensures, c.row.ensures, told.sound, told.means))

@@ -1,5 +1,5 @@
 use Rattle.std.proofs.Common.{ap, ◌∙◌, arith}
-use Rattle.page_heap.proofs.Common.{with_measures, measures_by}
+use Rattle.page_heap.proofs.Common.{with_measures, measures_by, nat_tests}
 use Rattle.page_heap.proofs.Measured.{shown_covered, shown_measures, shown_freed, told_own}
 use Rattle.page_heap.proofs.told.tell_left.Goals as goal
 
@@ -14,5 +14,4 @@ returns-clause-filler c heap is =
     ∙ shown_measures heap is.sound c.args.huge.0 (told_own c.args.table.now heap c.args.huge.0 is c.requires.low c.requires.high))
 
 pub returns-clause-cache : goal.returns-clause-cache
-returns-clause-cache c heap is =
-    grind (arith, shown_freed, told_own, c.give_emptied.ensures, c.row-row.ensures, is.sound, is.means, c.requires.low, c.requires.high)
+returns-clause-cache c heap is = grind (arith, nat_tests, shown_freed, told_own)

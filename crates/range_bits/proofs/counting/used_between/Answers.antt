@@ -1,7 +1,5 @@
 use Rattle.std.proofs.Common.{◌≡◌, ℕ, ◌*◌, ◌/◌, take, ap, arith}
-use Rattle.std.proofs.lemmas.Bool.Decides.{nat_tests}
-use Rattle.range_bits.specs.Ranges.{used_count}
-use Rattle.range_bits.specs.Words.{row_of}
+use Rattle.range_bits.proofs.Common.{nat_tests, used_count, row_of}
 use Rattle.range_bits.proofs.Counts.{used_behind, ones_of_word}
 use Rattle.range_bits.proofs.counting.used_between.Goals as goal
 

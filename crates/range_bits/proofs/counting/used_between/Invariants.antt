@@ -1,6 +1,5 @@
 use Rattle.std.proofs.Common.{◌≡◌, ◌+◌, ◌*◌, ◌/◌, take}
-use Rattle.range_bits.specs.Ranges.{used_count}
-use Rattle.range_bits.specs.Words.{row_of}
+use Rattle.range_bits.proofs.Common.{used_count, row_of}
 use Rattle.range_bits.proofs.counting.used_between.Given as goal
 
 abbrev pub invariant-loop-index : goal.invariant-loop-index

@@ -1,8 +1,5 @@
 use Rattle.std.proofs.Common.{◌≡◌, ℕ, ◌/◌, ◌%◌, get_or, bit_and, ap, ◌∙◌, arith}
-use Rattle.std.proofs.lemmas.Bool.Decides.{nat_tests}
-use Rattle.std.specs.Int.{bit_at}
-use Rattle.std.proofs.lemmas.Nat.{and_le_r, pow_pos}
-use Rattle.std.proofs.lemmas.Nat.Bits.{bit_at_and, bit_at_ones, bit_at-lt}
+use Rattle.range_bits.proofs.Common.{nat_tests, bit_at, and_le_r, pow_pos, bit_at_and, bit_at_ones, bit_at-lt}
 use Rattle.range_bits.proofs.Counts.{ones_in_word}
 use Rattle.range_bits.proofs.counting.used_in_word.Goals as goal
 

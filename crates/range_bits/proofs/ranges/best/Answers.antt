@@ -1,6 +1,5 @@
 use Rattle.std.proofs.Common.{◌≡◌, rules}
-use Rattle.range_bits.specs.Ranges.{best}
-use Rattle.range_bits.specs.Words.{row_of}
+use Rattle.range_bits.proofs.Common.{best, row_of}
 use Rattle.range_bits.proofs.Scan.{none_exactly}
 use Rattle.range_bits.proofs.ranges.best.Goals as goal
 

@@ -1,5 +1,5 @@
 use Rattle.std.proofs.Common.{◌+◌, Some, sym, ap, subst, ◌∙◌, arith}
-use Rattle.range_bits.specs.Words.{row_of}
+use Rattle.range_bits.proofs.Common.{row_of}
 use Rattle.range_bits.proofs.RowFacts.{length-row_of}
 use Rattle.range_bits.proofs.Scan.{IsBest, best_taken, best_passed, best_found}
 use Rattle.range_bits.proofs.ranges.best_range.Goals as goal

@@ -1,5 +1,5 @@
 use Rattle.std.proofs.Common.{◌≡◌, ◌-◌, ◌*◌, ◌<◌, ◌≤◌, true, length, get_or}
-use Rattle.range_bits.specs.Words.{row_of}
+use Rattle.range_bits.proofs.Common.{row_of}
 use Rattle.range_bits.proofs.Scan.{IsBest}
 use Rattle.range_bits.proofs.ranges.best_range.Given as goal
 

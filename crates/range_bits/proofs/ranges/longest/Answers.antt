@@ -1,6 +1,5 @@
-use Rattle.range_bits.specs.Words.{row_of}
+use Rattle.range_bits.proofs.Common.{row_of, nat_tests}
 use Rattle.std.proofs.Common.{sym, arith}
-use Rattle.std.proofs.lemmas.Bool.Decides.{nat_tests}
 use Rattle.range_bits.proofs.RowFacts.{length-row_of}
 use Rattle.range_bits.proofs.Scan.{longest_is, longest_more}
 use Rattle.range_bits.proofs.ranges.longest.Goals as goal

@@ -1,5 +1,5 @@
 use Rattle.std.proofs.Common.{◌-◌, ◌*◌, ◌≤◌, length}
-use Rattle.range_bits.specs.Words.{row_of}
+use Rattle.range_bits.proofs.Common.{row_of}
 use Rattle.range_bits.proofs.Scan.{IsLongest}
 use Rattle.range_bits.proofs.ranges.longest.Given as goal
 

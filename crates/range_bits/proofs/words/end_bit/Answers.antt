@@ -1,5 +1,5 @@
 use Rattle.std.proofs.Common.{◌≡◌, ◌/◌, ◌-◌, ◌^◌, ◌<◌, cond, sym, ap, ◌∙◌, arith, w64, bit_and, Bool, refl}
-use Rattle.std.specs.Int.{bit_not, leading_zeros}
+use Rattle.range_bits.proofs.Common.{bit_not, leading_zeros}
 use Rattle.range_bits.proofs.EndBits.{EndBit, found_end}
 use Rattle.range_bits.proofs.words.end_bit.Goals as goal
 use Rattle.range_bits.proofs.words.end_bit.Goals.{then-used, else-used}

@@ -1,7 +1,5 @@
 use Rattle.std.proofs.Common.{◌≡◌, ℕ, ◌+◌, ◌-◌, ◌*◌, ◌/◌, get_or, subst, arith}
-use Rattle.std.proofs.lemmas.Bool.Decides.{nat_tests}
-use Rattle.range_bits.specs.Fills.{IsEnd}
-use Rattle.range_bits.specs.Words.{row_of}
+use Rattle.range_bits.proofs.Common.{nat_tests, IsEnd, row_of}
 use Rattle.range_bits.proofs.EndBits.{EndBit, end_in_row, none_in_word, end_nowhere}
 use Rattle.range_bits.proofs.words.end_place.Goals as goal
 

@@ -1,5 +1,5 @@
 use Rattle.std.proofs.Common.{◌≡◌, ℕ, ◌<◌, ◌≤◌, not}
-use Rattle.range_bits.specs.Words.{is_marked}
+use Rattle.range_bits.proofs.Common.{is_marked}
 use Rattle.range_bits.proofs.words.end_place.Given as goal
 
 abbrev pub invariant-loop-end : goal.invariant-loop-end

@@ -1,6 +1,5 @@
 use Rattle.std.proofs.Common.{◌≡◌, ◌*◌, ◌^◌, ◌%◌, ◌<◌, cond, sym, ap, ◌∙◌, arith, w64, bit_and, Bool}
-use Rattle.std.proofs.lemmas.Nat.Bits.{ones_shl}
-use Rattle.std.specs.Int.{bit_not, trailing_zeros}
+use Rattle.range_bits.proofs.Common.{ones_shl, bit_not, trailing_zeros}
 use Rattle.range_bits.proofs.BitFacts.{FirstBit, found_bit}
 use Rattle.range_bits.proofs.words.next_bit.Goals as goal
 use Rattle.range_bits.proofs.words.next_bit.Goals.{then-used, else-used}

@@ -1,5 +1,5 @@
 use Rattle.std.proofs.Common.{◌≡◌, ℕ, ◌+◌, ◌*◌, set, min, subst, arith}
-use Rattle.std.proofs.lemmas.Bool.Decides.{nat_tests}
+use Rattle.range_bits.proofs.Common.{nat_tests}
 use Rattle.range_bits.proofs.Placing.{Placed, placed_none, placed_word, placed_all}
 use Rattle.range_bits.proofs.words.set_places.Goals as goal
 

@@ -1,9 +1,5 @@
 use Rattle.std.proofs.Common.{◌≡◌, ◌-◌, ◌^◌, sym, ap, ◌∙◌, arith, w64, bit_and, bit_or, cond, ℕ, Bool}
-use Rattle.std.proofs.lemmas.Bool.Decides.{nat_tests}
-use Rattle.std.proofs.Math.Nat.{pow-le-pow_right}
-use Rattle.std.proofs.lemmas.Nat.{pow_pos}
-use Rattle.std.specs.Int.{bit_not}
-use Rattle.range_bits.specs.Words.{is_one}
+use Rattle.range_bits.proofs.Common.{nat_tests, pow-le-pow_right, pow_pos, bit_not, is_one}
 use Rattle.range_bits.proofs.BitFacts.{is_between, used_bits, free_bits}
 use Rattle.range_bits.proofs.words.with_bits.Goals as goal
 

@@ -1,7 +1,5 @@
-use Rattle.std.proofs.lemmas.Bool.Decides.{nat_tests}
+use Rattle.sorted_list.proofs.Common.{nat_tests, slice_get_within, le-leb, lt-leb}
 use Rattle.std.proofs.Common.{arith}
-use Rattle.std.proofs.lemmas.Option.{slice_get_within}
-use Rattle.std.proofs.lemmas.Bool.{le-leb, lt-leb}
 use Rattle.sorted_list.proofs.Exchanged.{moved_up, moved_down}
 use Rattle.sorted_list.proofs.list.turn.Goals as goal
 

@@ -1,5 +1,5 @@
 use Rattle.std.proofs.Common.{ap, count_by, arith}
-use Rattle.free_ranges.specs.Ranges.{Listing}
+use Rattle.free_ranges.proofs.Common.{Listing}
 use Rattle.free_ranges.proofs.Listed.{added, index_added}
 use Rattle.free_ranges.proofs.listing.RangeList.add.Goals as goal
 

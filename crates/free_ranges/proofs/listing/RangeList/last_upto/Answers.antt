@@ -1,6 +1,5 @@
 use Rattle.std.proofs.Common.{◌<◌, Contains, subst}
-use Rattle.free_ranges.specs.declared.range.FreeRange.{FreeRange}
-use Rattle.free_ranges.specs.Ranges.{Listing}
+use Rattle.free_ranges.proofs.Common.{FreeRange, Listing}
 use Rattle.free_ranges.proofs.Listed.{last_placed, none_placed}
 use Rattle.free_ranges.proofs.listing.RangeList.last_upto.Goals as goal
 

@@ -1,6 +1,5 @@
-use Rattle.std.proofs.lemmas.Bool.Decides.{nat_tests}
+use Rattle.free_ranges.proofs.Common.{nat_tests, Listing}
 use Rattle.std.proofs.Common.{Contains, ap, count_by, arith}
-use Rattle.free_ranges.specs.Ranges.{Listing}
 use Rattle.free_ranges.proofs.Listed.{taken, index_taken, placed_held}
 use Rattle.free_ranges.proofs.listing.RangeList.remove.Goals as goal
 use Rattle.free_ranges.proofs.listing.RangeList.remove.Goals.{After-remove-arg-1}

@@ -1,6 +1,5 @@
 use Rattle.std.proofs.Common.{◌≡◌, true, List, Bool, Some, None, sym, ap, ◌∙◌}
-use Rattle.range_bits.specs.Ranges.{best}
-use Rattle.range_bits.proofs.Scan.{none_exactly}
+use Rattle.free_ranges.proofs.Common.{best, none_exactly}
 use Rattle.free_ranges.proofs.Found.{best_found, best_nowhere}
 use Rattle.free_ranges.proofs.ranged.RangedBits.best.Goals as goal
 

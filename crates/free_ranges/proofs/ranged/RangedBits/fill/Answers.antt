@@ -1,8 +1,5 @@
-use Rattle.std.proofs.lemmas.Bool.Decides.{nat_tests}
+use Rattle.free_ranges.proofs.Common.{nat_tests, cases_lt, with_places, length-with_places, placed_again}
 use Rattle.std.proofs.Common.{◌+◌, ◌-◌, ◌≤◌, List, Bool, true, length, get_or, ap, ◌∙◌, arith}
-use Rattle.std.proofs.lemmas.Bool.{cases_lt}
-use Rattle.range_bits.specs.Ranges.{with_places}
-use Rattle.range_bits.proofs.Placing.{length-with_places, placed_again}
 use Rattle.free_ranges.proofs.Listed.{filled_down, filled}
 use Rattle.free_ranges.proofs.ranged.RangedBits.fill.Goals as goal
 

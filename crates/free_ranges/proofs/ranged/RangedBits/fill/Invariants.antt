@@ -1,5 +1,5 @@
 use Rattle.std.proofs.Common.{◌≡◌, ℕ, ◌+◌, ◌-◌, ◌<◌, ◌≤◌, true, length, get_or}
-use Rattle.range_bits.specs.Ranges.{with_places}
+use Rattle.free_ranges.proofs.Common.{with_places}
 use Rattle.free_ranges.proofs.ranged.RangedBits.fill.Given as goal
 
 abbrev pub invariant-loop-end : goal.invariant-loop-end

@@ -1,6 +1,5 @@
-use Rattle.std.proofs.lemmas.Bool.Decides.{nat_tests}
+use Rattle.free_ranges.proofs.Common.{nat_tests, whole_free}
 use Rattle.std.proofs.Common.{arith}
-use Rattle.range_bits.proofs.Scan.{whole_free}
 use Rattle.free_ranges.proofs.ranged.RangedBits.is_free.Goals as goal
 
 pub returns : goal.returns

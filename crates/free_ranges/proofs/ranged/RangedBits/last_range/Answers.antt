@@ -1,6 +1,5 @@
-use Rattle.std.proofs.lemmas.Bool.Decides.{nat_tests}
+use Rattle.free_ranges.proofs.Common.{nat_tests, IsListed, IsLastRange}
 use Rattle.std.proofs.Common.{◌^◌, List, Bool, length, IfSome, sym, ap, ◌∙◌, arith}
-use Rattle.free_ranges.specs.Ranges.{IsListed, IsLastRange}
 use Rattle.free_ranges.proofs.Found.{last_found, none_found, range_small}
 use Rattle.free_ranges.proofs.ranged.RangedBits.last_range.Goals as goal
 use Rattle.free_ranges.proofs.ranged.RangedBits.last_range.Goals.{After-last_upto}

@@ -1,5 +1,5 @@
 use Rattle.std.proofs.Common.{◌≡◌, true, List, Bool, sym, ap, ◌∙◌}
-use Rattle.range_bits.specs.Ranges.{longest}
+use Rattle.free_ranges.proofs.Common.{longest}
 use Rattle.free_ranges.proofs.Found.{longest_found, longest_nowhere}
 use Rattle.free_ranges.proofs.ranged.RangedBits.longest.Goals as goal
 

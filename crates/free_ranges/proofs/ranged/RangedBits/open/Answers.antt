@@ -1,6 +1,5 @@
 use Rattle.std.proofs.Common.{◌≡◌, ℕ, ◌*◌, false, List, Bool, length, replicate, sym, ap, subst, ◌∙◌}
-use Rattle.std.proofs.lemmas.List.{length-replicate}
-use Rattle.free_ranges.specs.Ranges.{Listing, IsListed}
+use Rattle.free_ranges.proofs.Common.{length-replicate, Listing, IsListed}
 use Rattle.free_ranges.proofs.Listed.{open_listed}
 use Rattle.free_ranges.proofs.ranged.RangedBits.open.Goals as goal
 

@@ -1,6 +1,5 @@
 use Rattle.std.proofs.Common.{◌≡◌, true}
-use Rattle.range_bits.specs.Ranges.{with_places}
-use Rattle.free_ranges.specs.Ranges.{IsListed}
+use Rattle.free_ranges.proofs.Common.{with_places, IsListed}
 use Rattle.free_ranges.proofs.Listed.{range_listed, marked_listed}
 use Rattle.free_ranges.proofs.ranged.RangedBits.part.Goals as goal
 

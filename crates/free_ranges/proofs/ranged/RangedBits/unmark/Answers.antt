@@ -1,7 +1,5 @@
 use Rattle.std.proofs.Common.{◌≡◌, ◌-◌, true, false, List, Bool, length, sym, ap, subst, ◌∙◌, arith}
-use Rattle.range_bits.specs.Ranges.{with_places}
-use Rattle.range_bits.proofs.Counts.{used_inside}
-use Rattle.free_ranges.specs.Ranges.{IsListed, IsRange}
+use Rattle.free_ranges.proofs.Common.{with_places, used_inside, IsListed, IsRange}
 use Rattle.free_ranges.proofs.Listed.{room_freed, freed_back, left_range, right_range, range_listed, still_listed, freed_listed}
 use Rattle.free_ranges.proofs.ranged.RangedBits.unmark.Goals as goal
 

@@ -1,6 +1,5 @@
 use Rattle.std.proofs.Common.{ap, arith}
-use Rattle.range_bits.specs.Fills.{free_count}
-use Rattle.huge_cache.specs.Cache.{Cache}
+use Rattle.huge_cache.proofs.Common.{free_count, Cache}
 use Rattle.huge_cache.proofs.Kept.{ready_is}
 use Rattle.huge_cache.proofs.cache.HugeCache.backed.Goals as goal
 

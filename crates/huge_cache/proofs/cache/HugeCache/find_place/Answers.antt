@@ -1,7 +1,5 @@
 use Rattle.std.proofs.Common.{◌≡◌, Some, None, subst, sym, ap, ◌∙◌}
-use Rattle.range_bits.specs.Ranges.{best}
-use Rattle.huge_cache.specs.Cache.{Cache}
-use Rattle.huge_cache.specs.Rows.{IsSound}
+use Rattle.huge_cache.proofs.Common.{best, Cache, IsSound}
 use Rattle.huge_cache.proofs.Found.{FoundPlace, found_backed, found_free}
 use Rattle.huge_cache.proofs.cache.HugeCache.find_place.Goals as goal
 

@@ -1,5 +1,5 @@
 use Rattle.std.proofs.Common.{arith}
-use Rattle.std.proofs.lemmas.Bool.Decides.{nat_tests}
+use Rattle.huge_cache.proofs.Common.{nat_tests}
 use Rattle.huge_cache.proofs.Kept.{cache_of}
 use Rattle.huge_cache.proofs.Padded.{one_place}
 use Rattle.huge_cache.proofs.cache.HugeCache.give.Goals as goal

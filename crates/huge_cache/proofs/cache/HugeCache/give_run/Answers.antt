@@ -1,5 +1,5 @@
 use Rattle.std.proofs.Common.{◌-◌}
-use Rattle.range_bits.proofs.Counts.{used_inside}
+use Rattle.huge_cache.proofs.Common.{used_inside}
 use Rattle.huge_cache.proofs.cache.HugeCache.give_run.Goals as goal
 
 pub put-requires-clause-inside : goal.put-requires-clause-inside

@@ -1,6 +1,5 @@
-use Rattle.std.proofs.lemmas.Grind.{common_steps}
+use Rattle.huge_cache.proofs.Common.{common_steps, nat_tests}
 use Rattle.std.proofs.Common.{arith}
-use Rattle.std.proofs.lemmas.Bool.Decides.{nat_tests}
 use Rattle.huge_cache.proofs.Kept.{none_backed, last_is}
 use Rattle.huge_cache.proofs.cache.HugeCache.last_backed.Goals as goal
 

@@ -1,6 +1,5 @@
 use Rattle.std.proofs.Common.{ap, arith}
-use Rattle.heap_rules.specs.CacheFlags.{limit}
-use Rattle.huge_cache.specs.Cache.{Cache}
+use Rattle.huge_cache.proofs.Common.{limit, Cache}
 use Rattle.huge_cache.proofs.cache.HugeCache.over.Goals as goal
 
 pub returns : goal.returns

@@ -1,8 +1,5 @@
 use Rattle.std.proofs.Common.{◌≡◌, ℕ, ◌-◌, length, ap, ◌∙◌, arith}
-use Rattle.std.proofs.lemmas.Bool.{cases_Bool}
-use Rattle.std.proofs.lemmas.Bool.Decides.{nat_tests}
-use Rattle.range_bits.specs.Ranges.{used_from, with_places}
-use Rattle.huge_cache.specs.Cache.{Cache}
+use Rattle.huge_cache.proofs.Common.{cases_Bool, nat_tests, used_from, with_places, Cache}
 use Rattle.huge_cache.proofs.Found.{used_too}
 use Rattle.huge_cache.proofs.Kept.{cache_of, sound_put}
 use Rattle.huge_cache.proofs.cache.HugeCache.put.Goals as goal

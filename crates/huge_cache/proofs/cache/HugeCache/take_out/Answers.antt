@@ -1,5 +1,5 @@
 use Rattle.std.proofs.Common.{◌-◌}
-use Rattle.range_bits.proofs.Counts.{free_inside}
+use Rattle.huge_cache.proofs.Common.{free_inside}
 use Rattle.huge_cache.proofs.cache.HugeCache.take_out.Goals as goal
 
 pub put-requires-clause-inside : goal.put-requires-clause-inside

@@ -1,7 +1,5 @@
 use Rattle.std.proofs.Common.{◌≡◌, ℕ, ◌-◌, ◌<◌, ◌≤◌, true, length, ap, ◌∙◌, arith}
-use Rattle.std.proofs.lemmas.Bool.Decides.{nat_tests}
-use Rattle.range_bits.specs.Ranges.{with_places}
-use Rattle.huge_cache.specs.Cache.{Cache}
+use Rattle.huge_cache.proofs.Common.{nat_tests, with_places, Cache}
 use Rattle.huge_cache.proofs.Kept.{cache_of, sound_more, backed_inside}
 use Rattle.huge_cache.proofs.Padded.{one_place}
 use Rattle.huge_cache.proofs.cache.HugeCache.unback.Goals as goal

@@ -1,5 +1,5 @@
 use Rattle.std.proofs.Common.{List, Bool, ap, ◌∙◌}
-use Rattle.range_bits.specs.Ranges.{best}
+use Rattle.huge_cache.proofs.Common.{best}
 use Rattle.huge_cache.proofs.Padded.{best-front}
 use Rattle.huge_cache.proofs.row.Row.best.Goals as goal
 

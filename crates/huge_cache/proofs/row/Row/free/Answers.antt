@@ -1,6 +1,5 @@
 use Rattle.std.proofs.Common.{arith}
-use Rattle.std.proofs.lemmas.Bool.Decides.{nat_tests}
-use Rattle.range_bits.proofs.Stretches.{used_and_free}
+use Rattle.huge_cache.proofs.Common.{nat_tests, used_and_free}
 use Rattle.huge_cache.proofs.Padded.{front_length, few}
 use Rattle.huge_cache.proofs.row.Row.free.Goals as goal
 

@@ -1,5 +1,5 @@
 use Rattle.std.proofs.Common.{List, Bool, false, length, subst, arith}
-use Rattle.range_bits.specs.Fills.{IsEnd}
+use Rattle.huge_cache.proofs.Common.{IsEnd}
 use Rattle.huge_cache.proofs.Padded.{end-front}
 use Rattle.huge_cache.proofs.row.Row.free_end.Goals as goal
 

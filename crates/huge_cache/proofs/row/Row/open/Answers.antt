@@ -1,8 +1,5 @@
-use Rattle.std.proofs.lemmas.Bool.Decides.{nat_tests}
+use Rattle.huge_cache.proofs.Common.{nat_tests, length-replicate, used_count, state_count}
 use Rattle.std.proofs.Common.{◌≡◌, ◌-◌, ◌*◌, ◌++◌, replicate, sym, ap, ◌∙◌, arith}
-use Rattle.std.proofs.lemmas.List.{length-replicate}
-use Rattle.range_bits.specs.Ranges.{used_count}
-use Rattle.range_bits.proofs.Stretches.{state_count}
 use Rattle.huge_cache.proofs.Padded.{pad, padded_by, opened}
 use Rattle.huge_cache.proofs.row.Row.open.Goals as goal
 use Rattle.huge_cache.proofs.row.Row.open.Goals.{After-used_of-2}

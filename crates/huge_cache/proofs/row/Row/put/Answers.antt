@@ -1,7 +1,5 @@
-use Rattle.std.proofs.lemmas.Bool.Decides.{nat_tests}
-use Rattle.std.proofs.lemmas.Grind.{common_steps}
+use Rattle.huge_cache.proofs.Common.{nat_tests, common_steps, used_from}
 use Rattle.std.proofs.Common.{List, Bool, length, ap, arith}
-use Rattle.range_bits.specs.Ranges.{used_from}
 use Rattle.huge_cache.proofs.Padded.{changed, front_length, used-front}
 use Rattle.huge_cache.proofs.row.Row.put.Goals as goal
 

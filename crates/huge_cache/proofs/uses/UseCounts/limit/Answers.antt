@@ -1,6 +1,5 @@
 use Rattle.std.proofs.Common.{unwrap_or, arith}
-use Rattle.std.proofs.lemmas.Bool.Decides.{nat_tests}
-use Rattle.std.proofs.lemmas.List.{get_or_read}
+use Rattle.huge_cache.proofs.Common.{nat_tests, get_or_read}
 use Rattle.huge_cache.proofs.Greatest.{first_greatest, newest}
 use Rattle.huge_cache.proofs.uses.UseCounts.limit.Goals as goal
 

@@ -1,7 +1,5 @@
 use Rattle.std.proofs.Common.{◌≡◌, ℕ, nat_le, List, [], ◌∷◌, ◌++◌, filter, subst, sym, ap, ◌∙◌, arith}
-use Rattle.std.proofs.lemmas.Bool.Decides.{nat_tests}
-use Rattle.std.proofs.lemmas.List.Sums.{fold_push}
-use Rattle.huge_cache.specs.Uses.{with_newest, greatest_of, IsFalling}
+use Rattle.huge_cache.proofs.Common.{nat_tests, fold_push, with_newest, greatest_of, IsFalling}
 use Rattle.huge_cache.proofs.Greatest.{greatest_fall, length-greatest}
 use Rattle.huge_cache.proofs.uses.UseCounts.note.Goals as goal
 

@@ -1,7 +1,5 @@
 use Rattle.std.proofs.Common.{◌≡◌, ℕ, List, Option, Some, subst}
-use Rattle.std.proofs.lemmas.Bool.{not-true}
-use Rattle.huge_filler.specs.declared.measures.Measures.{Measures}
-use Rattle.huge_filler.specs.Measures.{measures_at, IsCandidate}
+use Rattle.huge_filler.proofs.Common.{not-true, Measures, measures_at, IsCandidate}
 use Rattle.huge_filler.proofs.Giving.{candidate_is, none_spare, no_givers, turned}
 use Rattle.huge_filler.proofs.filler.HugeFiller.candidate.Goals as goal
 

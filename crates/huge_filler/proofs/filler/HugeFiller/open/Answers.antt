@@ -1,7 +1,5 @@
 use Rattle.std.proofs.Common.{◌≡◌, ℕ, refl, replicate, List, [], ◌∷◌, ◌++◌, Option, None, ap, ◌∙◌, arith}
-use Rattle.std.proofs.lemmas.List.{replicate_more}
-use Rattle.huge_filler.specs.declared.measures.Measures.{Measures}
-use Rattle.huge_filler.specs.Keys.{key_of, giver_of}
+use Rattle.huge_filler.proofs.Common.{replicate_more, Measures, key_of, giver_of}
 use Rattle.huge_filler.proofs.Kept.{listed_next, kept_none}
 use Rattle.huge_filler.proofs.filler.HugeFiller.open.Goals as goal
 

@@ -1,5 +1,5 @@
 use Rattle.std.proofs.Common.{◌≡◌, ◌+◌, replicate, None}
-use Rattle.huge_filler.specs.Keys.{key_of, giver_of, Lists}
+use Rattle.huge_filler.proofs.Common.{key_of, giver_of, Lists}
 use Rattle.huge_filler.proofs.filler.HugeFiller.open.Given as goal
 
 abbrev pub invariant-loop-place : goal.invariant-loop-place

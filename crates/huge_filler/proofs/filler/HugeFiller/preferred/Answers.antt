@@ -1,7 +1,5 @@
 use Rattle.std.proofs.Common.{◌≡◌, ℕ, ◌<◌, List, Option, Some, All, subst, refl, arith, below_more}
-use Rattle.huge_index.specs.Order.{Serves}
-use Rattle.huge_filler.specs.declared.measures.Measures.{Measures}
-use Rattle.huge_filler.specs.Measures.{measures_at, IsPreferred}
+use Rattle.huge_filler.proofs.Common.{Serves, Measures, measures_at, IsPreferred}
 use Rattle.huge_filler.proofs.Choosing.{preferred_is, none_has_room}
 use Rattle.huge_filler.proofs.filler.HugeFiller.preferred.Goals as goal
 

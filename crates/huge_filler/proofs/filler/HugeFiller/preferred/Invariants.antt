@@ -1,5 +1,5 @@
 use Rattle.std.proofs.Common.{ℕ, ◌<◌, All}
-use Rattle.huge_index.specs.Order.{Serves}
+use Rattle.huge_filler.proofs.Common.{Serves}
 use Rattle.huge_filler.proofs.filler.HugeFiller.preferred.Given as goal
 
 abbrev pub invariant-loop-tier : goal.invariant-loop-tier

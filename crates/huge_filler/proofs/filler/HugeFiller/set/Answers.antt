@@ -1,9 +1,7 @@
 use Rattle.std.proofs.Common.{ℕ, ◌-◌, ◌≤◌, List, Option, length, ap, arith}
 use Rattle.huge_index.specs.Order as preference
 use Rattle.huge_index.specs.Total as preference_is
-use Rattle.huge_filler.specs.declared.measures.Measures.{Measures}
-use Rattle.huge_filler.specs.Keys.{key_of, giver_of, comes_before}
-use Rattle.huge_filler.specs.GivingOrder.{total}
+use Rattle.huge_filler.proofs.Common.{Measures, key_of, giver_of, comes_before, total}
 use Rattle.huge_filler.proofs.Kept.{is_held, kept_set, free_bound}
 use Rattle.huge_filler.proofs.filler.HugeFiller.set.Goals as goal
 

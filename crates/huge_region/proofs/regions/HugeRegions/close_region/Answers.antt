@@ -1,8 +1,5 @@
 use Rattle.std.proofs.Common.{◌≡◌, ℕ, true, Bool, ◌∷◌, [], ◌++◌, is_ok, cond, sym, ap, ◌∙◌, arith}
-use Rattle.std.proofs.lemmas.Option.{same_Some}
-use Rattle.heap_rules.specs.RegionRows.{RegionRow}
-use Rattle.huge_region.specs.Kept.{regions_of}
-use Rattle.huge_region.specs.Regions.{Regions, region_with, without_region, is_unused}
+use Rattle.huge_region.proofs.Common.{same_Some, RegionRow, regions_of, Regions, region_with, without_region, is_unused}
 use Rattle.huge_region.proofs.Kept.{stands, held_key, gone, Became}
 use Rattle.huge_region.proofs.regions.HugeRegions.close_region.Goals as goal
 use Rattle.huge_region.proofs.regions.HugeRegions.close_region.Goals.{Joined-push}

@@ -1,9 +1,5 @@
 use Rattle.std.proofs.Common.{◌≡◌, ℕ, ◌<◌, ◌≤◌, Some, List, length, get_or, sym, ap, subst, ◌∙◌, inl, inr, arith}
-use Rattle.std.proofs.lemmas.Bool.{cases_lt}
-use Rattle.std.proofs.lemmas.List.{get_or_default}
-use Rattle.heap_rules.specs.RegionRows.{RegionRow}
-use Rattle.huge_region.specs.Kept.{regions_of}
-use Rattle.huge_region.specs.Regions.{Regions, region_with}
+use Rattle.huge_region.proofs.Common.{cases_lt, get_or_default, RegionRow, regions_of, Regions, region_with}
 use Rattle.huge_region.proofs.Apart.{found_there, none_behind}
 use Rattle.huge_region.proofs.regions.HugeRegions.last_upto.Goals as goal
 

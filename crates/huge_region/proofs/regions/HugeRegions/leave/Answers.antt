@@ -1,12 +1,5 @@
-use Rattle.std.proofs.lemmas.Bool.Decides.{nat_tests}
+use Rattle.huge_region.proofs.Common.{nat_tests, used_from, used_inside, length-with_places, RegionRow, RegionKey, regions_of, region_with, start_in}
 use Rattle.std.proofs.Common.{◌≡◌, ℕ, ◌-◌, ◌*◌, ◌≤◌, false, length, ap, subst, ◌∙◌, arith}
-use Rattle.range_bits.specs.Ranges.{used_from}
-use Rattle.range_bits.proofs.Counts.{used_inside}
-use Rattle.range_bits.proofs.Placing.{length-with_places}
-use Rattle.heap_rules.specs.RegionRows.{RegionRow}
-use Rattle.huge_region.specs.declared.key.RegionKey.{RegionKey}
-use Rattle.huge_region.specs.Kept.{regions_of}
-use Rattle.huge_region.specs.Regions.{region_with, start_in}
 use Rattle.huge_region.proofs.Kept.{stands, held_key, read_there, in_arena, put_in, put, IsPut}
 use Rattle.huge_region.proofs.regions.HugeRegions.leave.Goals as goal
 use Rattle.huge_region.proofs.regions.HugeRegions.leave.Goals.{Joined-unused}

@@ -1,6 +1,5 @@
-use Rattle.std.proofs.lemmas.Bool.Decides.{nat_tests}
+use Rattle.huge_region.proofs.Common.{nat_tests, length-append}
 use Rattle.std.proofs.Common.{arith}
-use Rattle.std.proofs.lemmas.List.{length-append}
 use Rattle.huge_region.proofs.regions.HugeRegions.open.Goals as goal
 
 pub loop-made-preserved : goal.loop-made-preserved

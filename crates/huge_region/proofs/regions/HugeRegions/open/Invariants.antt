@@ -1,5 +1,5 @@
 use Rattle.std.proofs.Common.{◌≡◌, ◌≤◌, All, length, vec_capacity}
-use Rattle.huge_region.specs.Kept.{IsSpare}
+use Rattle.huge_region.proofs.Common.{IsSpare}
 use Rattle.huge_region.proofs.regions.HugeRegions.open.Given as goal
 
 abbrev pub invariant-loop-made : goal.invariant-loop-made

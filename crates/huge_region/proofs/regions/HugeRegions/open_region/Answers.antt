@@ -1,8 +1,6 @@
 use Rattle.std.proofs.Common.{◌≡◌, true, Bool, ◌++◌, Option, insert, is_ok, cond, ap, ◌∙◌, arith}
+use Rattle.huge_region.proofs.Common.{RegionRow, regions_of, Regions, with_region}
 use Rattle.std.specs.Option.{option_to_list}
-use Rattle.heap_rules.specs.RegionRows.{RegionRow}
-use Rattle.huge_region.specs.Kept.{regions_of}
-use Rattle.huge_region.specs.Regions.{Regions, with_region}
 use Rattle.huge_region.proofs.Kept.{new_there, comes, came, Became}
 use Rattle.huge_region.proofs.regions.HugeRegions.open_region.Goals as goal
 use Rattle.huge_region.proofs.regions.HugeRegions.open_region.Goals.{Joined-insert}

@@ -1,11 +1,6 @@
 use Rattle.std.proofs.Common.{◌≡◌, ℕ, ◌+◌, ◌*◌, true, false, not, Some, is_some, option_map, refl, sym, ap, subst, ◌∙◌, arith}
-use Rattle.std.specs.List.{list_all}
+use Rattle.huge_region.proofs.Common.{list_all, best, best_there, RegionRow, has_room, regions_of, Regions}
 use Rattle.tc_units.specs.declared.units.Page.{Page}
-use Rattle.range_bits.specs.Ranges.{best}
-use Rattle.range_bits.proofs.RangeFacts.{best_there}
-use Rattle.heap_rules.specs.RegionRows.{RegionRow, has_room}
-use Rattle.huge_region.specs.Kept.{regions_of}
-use Rattle.huge_region.specs.Regions.{Regions}
 use Rattle.huge_region.proofs.Chosen.{IsPlaced, none_chosen, placed_nowhere, some_has_room, chosen_by, placed}
 use Rattle.huge_region.proofs.Kept.{read_there}
 use Rattle.huge_region.proofs.regions.HugeRegions.place.Goals as goal

@@ -1,26 +1,23 @@
 use Rattle.std.proofs.Common.{◌≡◌, ℕ, ◌+◌, ◌*◌, ◌/◌, ◌≤◌, Bool, true, false, ◌&&◌, not, cond, List, length, take, drop, map, ap, ◌∙◌, arith}
-use Rattle.huge_table.proofs.Common.{list_any, get_or_default, length-take-le, length-drop, count_by-le-length, used_count, hugepage, is_used, pages_of}
-use Rattle.huge_table.proofs.Common.{Table, bit, is_shared, begins_on}
+use Rattle.huge_table.proofs.Common.{list_any, get_or_default, length-take-le, length-drop, count_by-le-length, used_count, is_used, pages_of}
+use Rattle.huge_table.proofs.Common.{Table, bit, is_shared, begins_on, nat_tests}
 use Rattle.huge_table.proofs.Sizes.{arena}
 use Rattle.huge_table.proofs.Pages.{slice_is, over_pages}
 use Rattle.huge_table.proofs.Allocs.{allocs_are}
 use Rattle.huge_table.proofs.table.HugeTable.allocs.Goals as goal
 
 most : (b : Bool) (m : ℕ) → m ≡ cond b 1 0 → m ≤ 1
-most true m e = omega arith
-most false m e = omega arith
+most b m e = grind (arith, nat_tests)
 
 few : (row : List Bool) (s m : ℕ) → s + 256 ≤ length row → m ≡ used_count (take 256 (drop s row)) → m ≤ 256
 few row s m fits e =
     let size : length (take 256 (drop s row)) ≡ 256 = length-take-le 256 (drop s row) (omega (arith, length-drop s row)) in
-    let le = count_by-le-length (λ b. b) (take 256 (drop s row)) in
-    grind arith
+    grind (arith, nat_tests, count_by-le-length)
 
 pub overflow_add-result : goal.overflow_add-result
 overflow_add-result c =
     let size = arena c.self.inside c.args.self.now c.self.view_is in
     let begin = few c.self.inside.begins (256 * c.from-first.result) c.used_in-begin.result (omega (arith, c.self.invariant.begins, c.from-first.ensures)) c.used_in-begin.ensures in
-    let one = most (c.is_used.result && not c.is_used-2.result) c.reaching_in.result c.reaching_in.ensures in
     grind arith
 
 pub returns : goal.returns
@@ -31,12 +28,7 @@ returns c heap sound means shared =
     let size = arena t now c.self.view_is in
     let at_h : 256 * h / 256 ≡ h = omega arith in
     let used : c.is_used.result ≡ is_used heap.runs (256 * h) =
-    c.is_used.ensures ∙ get_or_default t.used (256 * c.from-first.result) true false (omega (arith, c.self.invariant.used, c.from-first.ensures))
-    ∙ ap (λ (k : ℕ). bit t.used (256 * k)) c.from-first.ensures
-    ∙ ap (λ (x : Table). bit x.used (256 * h)) c.self.view_is
-    ∙ means.used (256 * h)
-    ∙ ap (λ k. is_shared (hugepage heap k) && is_used heap.runs (256 * h)) at_h
-    ∙ ap (λ b. b && is_used heap.runs (256 * h)) shared in
+    grind (arith, nat_tests, get_or_default, is_shared, is_used) in
     let begins : c.is_used-2.result ≡ list_any (begins_on (256 * h)) heap.runs =
     c.is_used-2.ensures ∙ get_or_default t.begins (256 * c.from-first.result) true false (omega (arith, c.self.invariant.begins, c.from-first.ensures))
     ∙ ap (λ (k : ℕ). bit t.begins (256 * k)) c.from-first.ensures

@@ -1,4 +1,4 @@
-use Rattle.std.proofs.Common.{ℕ, ◌/◌, ◌≤◌, refl, arith}
+use Rattle.std.proofs.Common.{ℕ, ◌/◌, refl, arith}
 use Rattle.huge_table.proofs.Common.{spans, is_filler, run_at, more_backed, bit, of_filler}
 use Rattle.huge_table.proofs.Sizes.{arena}
 use Rattle.huge_table.proofs.Pages.{over, spanned, own_is, filler_backs}
@@ -11,7 +11,6 @@ returns c =
     let n : ℕ = c.args.n in
     let size = arena t c.args.self.now c.self.view_is in
     let place = c.requires.place in
-    let high : first / 256 ≤ t.huge = omega (arith, place.to) in
     over t (record t { page_backed = c.put.new.self }) c.args.self.now (first / 256) 1 (more_backed (run_at first n) (first / 256)) c.self.view_is refl refl (λ h some inside.
     own_is (spans 1 h (first / 256)) (bit t.grouped h) (bit t.shared h) (bit t.backed h) (bit t.donated h) t.page_backed h
     (more_backed (run_at first n) (first / 256)) (of_filler (bit t.donated h) c.put.new.self h)

@@ -1,5 +1,5 @@
 use Rattle.std.proofs.Common.{ℕ, ◌*◌, ◌≤◌, true, false, take, drop, ap, ◌∙◌, arith}
-use Rattle.huge_table.proofs.Common.{get_or_default, RowKind, used_count, bit, hugepage_of}
+use Rattle.huge_table.proofs.Common.{get_or_default, used_count, bit, hugepage_of, nat_tests}
 use Rattle.huge_table.proofs.Sizes.{arena}
 use Rattle.huge_table.proofs.Pages.{backed_is, slice_is, at-now}
 use Rattle.huge_table.proofs.table.HugeTable.backed_pages.Goals as goal
@@ -14,5 +14,4 @@ returns c =
     let even = c.is_used.ensures ∙ get_or_default t.backed c.from-place.result true false (omega (arith, c.from-place.ensures)) ∙ ap (bit t.backed) c.from-place.ensures in
     let own = c.used_in-own.ensures ∙ ap (λ (k : ℕ). used_count (take 256 (drop (256 * k) t.page_backed))) c.from-place.ensures
     ∙ ap used_count (slice_is t.page_backed (256 * h) 256 (omega (arith, c.self.invariant.page_backed))) in
-    let kind : RowKind = (hugepage_of t h).kind in
-    grind (arith, backed_is, c.by_kind.ensures, c.whole_pages-even.ensures)
+    grind (arith, nat_tests, hugepage_of, backed_is)

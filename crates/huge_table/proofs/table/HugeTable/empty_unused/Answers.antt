@@ -1,5 +1,5 @@
 use Rattle.std.proofs.Common.{◌≡◌, ℕ, ◌*◌, Bool, true, false, cond, List, length, take, drop, eqb, refl, sym, ap, ◌∙◌, arith}
-use Rattle.huge_table.proofs.Common.{ne_eqb, used_count, Hugepage, spans, Table, emptied_where, over_span, noted_row, HasBits, table_of, AreKept}
+use Rattle.huge_table.proofs.Common.{ne_eqb, used_count, Hugepage, spans, Table, emptied_where, over_span, noted_row, HasBits, table_of, AreKept, nat_tests}
 use Rattle.huge_table.proofs.Common.{Inside, each_is}
 use Rattle.huge_table.proofs.Sizes.{arena}
 use Rattle.huge_table.proofs.table.HugeTable.empty_unused.Goals as goal
@@ -18,8 +18,7 @@ stays t h = ap (λ (xs : List Hugepage). record t { pages = xs }) (sym (each_is 
     same false x = refl
 
 pub returns-then-used_in-eq0 : goal.returns-then-used_in-eq0
-returns-then-used_in-eq0 c =
-    grind (arith, noted, room, c.empty.ensures, c.self.view_is, c.used_in.ensures, c.if-used_in-eq0.true, c.self.invariant)
+returns-then-used_in-eq0 c = grind (arith, nat_tests, noted, room)
 
 pub returns-else-used_in-eq0 : goal.returns-else-used_in-eq0
 returns-else-used_in-eq0 c = record {

@@ -1,5 +1,5 @@
 use Rattle.std.proofs.Common.{ℕ, ◌≤◌, arith}
-use Rattle.huge_table.proofs.Common.{get_or_default, RowKind, hugepage_of}
+use Rattle.huge_table.proofs.Common.{get_or_default, hugepage_of, nat_tests}
 use Rattle.huge_table.proofs.Sizes.{arena}
 use Rattle.huge_table.proofs.Pages.{donated_is, at-now}
 use Rattle.huge_table.proofs.table.HugeTable.is_donated.Goals as goal
@@ -11,5 +11,4 @@ returns c =
     let size = arena t c.args.self.now c.self.view_is in
     let inside : h ≤ t.huge = omega (arith, c.requires.high) in
     let x_is = at-now t c.args.self.now h c.self.view_is c.requires.low inside in
-    let kind : RowKind = (hugepage_of t h).kind in
-    grind (arith, get_or_default, donated_is, c.by_kind.ensures, c.is_used-own.ensures, c.from.ensures)
+    grind (arith, nat_tests, hugepage_of, get_or_default, donated_is)

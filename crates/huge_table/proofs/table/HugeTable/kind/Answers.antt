@@ -1,4 +1,4 @@
-use Rattle.std.proofs.Common.{◌≡◌, ℕ, ◌≤◌, true, false, sym, ap, ◌∙◌, arith}
+use Rattle.std.proofs.Common.{◌≡◌, ℕ, true, false, sym, ap, ◌∙◌, arith}
 use Rattle.huge_table.proofs.Common.{get_or_default, Hugepage, bit, kind_by}
 use Rattle.heap_rules.proofs.Places.{at}
 use Rattle.huge_table.proofs.Sizes.{arena}
@@ -12,13 +12,12 @@ of_table c =
     let h : ℕ = c.args.huge.0 in
     let place : ℕ = c.from-place.result in
     let size = arena t c.args.self.now c.self.view_is in
-    let inside : h ≤ t.huge = omega (arith, c.requires.high) in
     c.kind_of.ensures
     ∙ ap (λ b. kind_by b c.is_used-2.result) (c.is_used.ensures ∙ get_or_default t.grouped place true false (omega (arith, c.from-place.ensures)))
     ∙ ap (kind_by (bit t.grouped place)) (c.is_used-2.ensures ∙ get_or_default t.shared place true false (omega (arith, c.from-place.ensures)))
     ∙ ap (λ (k : ℕ). kind_by (bit t.grouped k) (bit t.shared k)) c.from-place.ensures
     ∙ kind_is (bit t.grouped h) (bit t.shared h) (bit t.backed h) (bit t.donated h) t.page_backed h
-    ∙ sym (ap (λ (x : Hugepage). x.kind) (at-now t c.args.self.now h c.self.view_is c.requires.low inside))
+    ∙ sym (ap (λ (x : Hugepage). x.kind) (at-now t c.args.self.now h c.self.view_is c.requires.low (omega (arith, c.requires.high))))
 
 pub returns-clause-kind : goal.returns-clause-kind
 returns-clause-kind c = of_table c

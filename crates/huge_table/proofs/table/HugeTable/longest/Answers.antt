@@ -1,11 +1,10 @@
-use Rattle.std.proofs.Common.{◌≡◌, ℕ, ◌*◌, take, drop, ap, ◌∙◌, arith}
+use Rattle.std.proofs.Common.{ℕ, take, drop, ap, ◌∙◌, arith}
 use Rattle.huge_table.proofs.Common.{longest}
 use Rattle.huge_table.proofs.Steps.{row_at}
 use Rattle.huge_table.proofs.table.HugeTable.longest.Goals as goal
 
 pub returns : goal.returns
 returns c heap means shared =
-    let start : 64 * (4 * c.from.result) ≡ 256 * c.args.huge.0 = omega (arith, c.from.ensures) in
     c.longest_in.ensures
-    ∙ ap (λ (k : ℕ). longest (take 256 (drop k c.self.inside.used))) start
+    ∙ ap (λ (k : ℕ). longest (take 256 (drop k c.self.inside.used))) (omega (arith, c.from.ensures))
     ∙ ap longest (row_at c.self.inside c.args.self.now heap c.args.huge.0 c.self.view_is c.self.invariant means c.requires.high shared)

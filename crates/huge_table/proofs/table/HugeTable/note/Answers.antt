@@ -13,7 +13,6 @@ returns-clause-noted c =
     let skipped : ℕ = c.args.skipped in
     let v : Bool = c.args.state in
     let size = arena t c.args.self.now c.self.view_is in
-    let end : first + skipped + (n - skipped) ≡ first + n = omega arith in
     let last : first + n - 1 + 1 ≡ first + n = omega arith in
     record {
       used = grind (arith, get_or-with_places, c.put.ensures, c.self.view_is);

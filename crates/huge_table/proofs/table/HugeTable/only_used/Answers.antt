@@ -1,5 +1,5 @@
 use Rattle.std.proofs.Common.{◌≡◌, ℕ, ◌+◌, ◌-◌, ◌*◌, List, Bool, take, drop, subst, ap, ◌∙◌, arith}
-use Rattle.huge_table.proofs.Common.{used_count}
+use Rattle.huge_table.proofs.Common.{used_count, nat_tests}
 use Rattle.range_bits.specs.Fills.{StaysUsed}
 use Rattle.huge_table.proofs.Spares.{spared_means, spared_count, spared_fewer}
 use Rattle.huge_table.proofs.table.HugeTable.only_used.Goals as goal
@@ -14,18 +14,15 @@ given : (a b s x y : ℕ) → b ≡ y → a ≡ x → x + s ≡ y → b - a ≡ 
 given a b s x y p q r = omega arith
 
 pub overflow_sub-result : goal.overflow_sub-result
-overflow_sub-result c =
-    grind (arith, counted, spared_fewer, cut, c.from-place.ensures, c.used_in-before.ensures, c.used_in.ensures, c.self.invariant, c.self.view_is, c.requires, c.from.ensures, c.keep_used.ensures)
+overflow_sub-result c = grind (arith, nat_tests, counted, spared_fewer, cut)
 
 pub returns-clause-heap : goal.returns-clause-heap
-returns-clause-heap c heap means =
-    grind (arith, spared_means, cut, c.self.invariant, c.self.view_is, c.requires, c.from.ensures, c.keep_used.ensures)
+returns-clause-heap c heap means = grind (arith, nat_tests, spared_means, cut)
 
 pub returns-clause-pages : goal.returns-clause-pages
 returns-clause-pages c heap means =
     let t = c.self.inside in
     let h : ℕ = c.args.huge.0 in
-    let before = counted t.page_backed c.from-place.result h c.used_in-before.result c.from-place.ensures c.used_in-before.ensures in
     let after = counted c.keep_used.new.self c.from-place.result h c.used_in.result c.from-place.ensures c.used_in.ensures in
-    given _ _ _ _ _ before after
+    given _ _ _ _ _ (counted t.page_backed c.from-place.result h c.used_in-before.result c.from-place.ensures c.used_in-before.ensures) after
     (grind (arith, spared_count, cut, c.self.invariant, c.self.view_is, c.requires, c.from.ensures, c.keep_used.ensures))

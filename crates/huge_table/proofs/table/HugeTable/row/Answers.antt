@@ -1,12 +1,11 @@
 use Rattle.std.proofs.Common.{◌≡◌, ℕ, Bool, true, false, not, refl, sym, ap, ◌∙◌, arith}
-use Rattle.huge_table.proofs.Common.{false≢true, Hugepage, hugepage, backed_count, row_of, is_shared, is_run}
+use Rattle.huge_table.proofs.Common.{false≢true, Hugepage, hugepage, backed_count, row_of, is_shared, is_run, nat_tests}
 use Rattle.huge_table.proofs.Steps.{at-heap}
 use Rattle.huge_table.proofs.Measures.{run_row_is, same_view}
 use Rattle.huge_table.proofs.table.HugeTable.row.Goals as goal
 
 pub returns-then-is_run : goal.returns-then-is_run
-returns-then-is_run c heap sound means =
-    grind (arith, run_row_is, at-heap, c.requires.low, c.requires.high, c.is_run.ensures, c.if-is_run.true, c.run_row.ensures)
+returns-then-is_run c heap sound means = grind (arith, nat_tests, run_row_is, at-heap)
 
 pub returns : goal.returns
 returns c heap sound means =

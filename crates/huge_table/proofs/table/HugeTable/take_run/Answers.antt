@@ -1,5 +1,5 @@
-use Rattle.std.proofs.Common.{◌≡◌, ℕ, ◌+◌, ◌-◌, ◌*◌, ◌/◌, Bool, true, nat_lt, subst, sym, ap, ◌∙◌, inl, arith}
-use Rattle.huge_table.proofs.Common.{run_page, filler_page, Table, IsNoted, over_span}
+use Rattle.std.proofs.Common.{◌≡◌, ℕ, ◌+◌, ◌-◌, ◌*◌, ◌/◌, Bool, nat_lt, subst, sym, ap, ◌∙◌, inl, arith}
+use Rattle.huge_table.proofs.Common.{run_page, filler_page, Table, over_span}
 use Rattle.huge_table.proofs.Sizes.{length-over}
 use Rattle.huge_table.proofs.Steps.{noted_after}
 use Rattle.huge_table.proofs.Wholes.{becomes, whole_is, tail_is, IsLaid, laid, two_spans, took_means}
@@ -28,7 +28,6 @@ returns c heap sound means =
     (laid (256 * h) n tails c.requires.some (inl (omega arith)) (omega (arith, c.div_ceil.ensures))) in
     let took = c.take.ensures ∙ ap (λ (k : ℕ). over_span k whole (λ _. run_page) old) at_h in
     let adopted = c.adopt.ensures ∙ ap (λ (k : ℕ). over_span (k + whole) tails (λ _. filler_page marked) c.take.new.self) at_h in
-    let noted = subst (λ (k : ℕ). IsNoted c.adopt.new.self c.note.new.self (256 * k) n (256 * whole) true) at_h c.note.ensures.noted in
     took_means heap sound h n c.requires.some old c.note.new.self means c.requires.free tails lies
     (two_spans old c.take.new.self c.note.new.self h whole tails (256 * h) n (λ _. run_page) (λ _. filler_page marked) (λ k _. becomes n (256 * h + n) k)
     (ap (λ (x : Table). x.pages) took) (c.note.ensures.pages ∙ ap (λ (x : Table). x.pages) adopted) lies

@@ -1,5 +1,5 @@
 use Rattle.std.proofs.Common.{◌≡◌, ℕ, ◌+◌, ◌*◌, ◌<◌, ◌≤◌, take, sum_by, arith}
-use Rattle.page_heap.proofs.Common.{backed_count, backed_pages}
+use Rattle.page_heap.proofs.Common.{backed_count, backed_pages, nat_tests}
 use Rattle.page_heap.proofs.Backed.{covers, backed_more, backed_few, backed_all}
 use Rattle.page_heap.proofs.Results.{IsHeap, is_heap}
 use Rattle.page_heap.proofs.heap.PageHeap.backed_pages.Goals as goal
@@ -15,8 +15,7 @@ summed : (p t x b s r : ℕ) → p ≡ t → x ≡ r → r ≡ b → t + b ≡ s
 summed p t x b s r e f g h = omega arith
 
 more : (c : After-from-pages) → c.loop-place.pages + c.from-pages.result ≡ sum_by backed_count (take (c.loop-place.place + 1) c.args.self.now.hugepages)
-more c =
-    grind (arith, is_heap, within, summed, backed_more, c.self.invariant, c.self.view_is, c.loop-place.place, c.loop-place-test.true, c.loop-place.invariant, c.from-pages.ensures, c.row.ensures)
+more c = grind (arith, nat_tests, is_heap, within, summed, backed_more)
 
 bounded : (x s h : ℕ) → x ≡ s → s ≤ 256 * h → h ≤ 4096 → x < 18446744073709551616
 bounded x s h e f g = omega arith

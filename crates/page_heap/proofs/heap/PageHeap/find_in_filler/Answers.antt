@@ -1,8 +1,7 @@
 use Rattle.std.proofs.Common.{◌≡◌, ℕ, ◌+◌, ◌*◌, ◌<◌, ◌≤◌, Some, [], IsSome, filter, option_map, refl, sym, ap, subst, ◌∙◌, arith}
-use Rattle.page_heap.proofs.Common.{length-map-range_with_len, best, hugepage, is_used, used_row, place_in_row, filler_rows, shares}
+use Rattle.page_heap.proofs.Common.{length-map-range_with_len, best, hugepage, is_used, used_row, place_in_row, filler_rows, shares, is_Filler}
 use Rattle.heap_rules.specs.FillerRows.{has_room}
 use Rattle.range_bits.proofs.RangeFacts.{best_there, best_is_fit}
-use Rattle.heap_rules.proofs.Fillers.{is_Filler}
 use Rattle.page_heap.proofs.Choices.{IsFound, found, none_there, all_fail}
 use Rattle.page_heap.proofs.Results.{is_heap, as_many}
 use Rattle.page_heap.proofs.heap.PageHeap.find_in_filler.Goals as goal
@@ -16,8 +15,7 @@ returns-in_err-huge-clause-place c = grind (arith, none, c.from_residual.ensures
 
 pub returns-in_err-huge-clause-none : goal.returns-in_err-huge-clause-none
 returns-in_err-huge-clause-none c =
-    let e = none (goal.at.returns-in_err-huge-clause-none c).In_err-huge in
-    rw c.from_residual.ensures (all_fail (has_room c.args.n) (filler_rows c.args.self.now) e)
+    rw c.from_residual.ensures (all_fail (has_room c.args.n) (filler_rows c.args.self.now) (none (goal.at.returns-in_err-huge-clause-none c).In_err-huge))
 
 is : (c : In_ok-huge) → IsFound c.args.self.now c.args.n c.in_ok-huge.huge.0
 is c =
@@ -56,7 +54,6 @@ pub returns-clause-place : goal.returns-clause-place
 returns-clause-place c =
     let d = (goal.at.returns-clause-place c).After-best in
     let f = is (goal.at.returns-clause-place c).In_ok-huge in
-    let h = d.in_ok-huge.huge.0 in
     ap (λ k. Some (256 * k + c.unwrap-start.result)) c.from.ensures
-    ∙ ap (option_map (λ start. 256 * h + start)) (sym c.unwrap-start.ensures ∙ at d f)
+    ∙ ap (option_map (λ start. 256 * d.in_ok-huge.huge.0 + start)) (sym c.unwrap-start.ensures ∙ at d f)
     ∙ ap (place_in_row d.args.n) (sym f.first)

@@ -1,5 +1,5 @@
 use Rattle.std.proofs.Common.{◌≡◌, ℕ, ◌+◌, ◌-◌, ◌/◌, false, refl, ap, ◌∙◌, arith}
-use Rattle.page_heap.proofs.Common.{Heap, hugepage, given_back, Cache, with_backed_run, IsTold, remeasured, with_freed}
+use Rattle.page_heap.proofs.Common.{Heap, hugepage, given_back, Cache, with_backed_run, IsTold, remeasured, with_freed, nat_tests}
 use Rattle.huge_cache.specs.Cache.{holds}
 use Rattle.page_heap.proofs.Results.{IsHeap, is_heap, kept_by, view_by, made_heap, IsMeasuring, measuring}
 use Rattle.page_heap.proofs.Left.{laid, IsLeaving, leaving}
@@ -20,8 +20,7 @@ here c =
     leaving _ _ is c.args.run c.requires.live _ _ _ (laid c.args.self.now c.args.run is.well.sound c.requires.live c.requires.route)
 
 pub give_whole-requires-clause-out : goal.give_whole-requires-clause-out
-give_whole-requires-clause-out c =
-    grind (arith, here, c.self.inside.cache.taken, c.from.ensures, c.huge_of-last.ensures, c.huge_of-first.ensures)
+give_whole-requires-clause-out c = grind (arith, nat_tests, here)
 
 -- the cache with the hugepages before the last one
 given_is : (cache new : Cache) (first last k x y : ℕ) → new ≡ with_backed_run cache first k → k ≡ last - first → last ≡ y → first ≡ x → new ≡ with_backed_run cache x (y - x)

@@ -1,5 +1,5 @@
-use Rattle.std.proofs.Common.{◌≡◌, ◌⊎◌, ◌/◌, false, sym, ap, ◌∙◌, inl, inr, arith}
-use Rattle.page_heap.proofs.Common.{RowKind, hugepage, is_kind_region}
+use Rattle.std.proofs.Common.{◌≡◌, ◌⊎◌, ◌/◌, false, sym, ap, ◌∙◌, arith}
+use Rattle.page_heap.proofs.Common.{RowKind, hugepage, is_kind_region, nat_tests}
 use Rattle.tc_units.specs.declared.rows.RowKind.TheVariants as kind
 use Rattle.page_heap.proofs.Results.{is_heap}
 use Rattle.page_heap.proofs.Routes.{first_near, first_low, first_high, route_region, route_others}
@@ -19,15 +19,10 @@ serves : (c : After-kind) → (hugepage c.args.self.now (c.args.run.first.0 / 25
 serves c = sym (c.kind.ensures.heap c.args.self.now (is_heap c.self.invariant c.self.view_is).shows.means ∙ ap (λ k. (hugepage c.args.self.now k).kind) c.huge_of.ensures)
 
 pub free_in_region-requires-clause-route : goal.free_in_region-requires-clause-route
-free_in_region-requires-clause-route c =
-    grind (arith, route_region, is_heap, serves, After-kind, c.self.invariant, c.self.view_is, c.requires, c.in-Region.is)
+free_in_region-requires-clause-route c = grind (arith, nat_tests, route_region, is_heap, serves)
 
 others : (k : RowKind) → (k ≡ kind.Free) ⊎ ((k ≡ kind.Run) ⊎ (k ≡ kind.Filler)) → is_kind_region k ≡ false
-others k (inl e) = ap is_kind_region e
-others k (inr (inl e)) = ap is_kind_region e
-others k (inr (inr e)) = ap is_kind_region e
+others k h = grind (arith, nat_tests, is_kind_region)
 
 pub free_in_hugepages-requires-clause-route : goal.free_in_hugepages-requires-clause-route
-free_in_hugepages-requires-clause-route c =
-    let s = serves (goal.at.free_in_hugepages-requires-clause-route c).After-kind in
-    route_others _ _ (is_heap c.self.invariant c.self.view_is) c.args.run c.requires (ap is_kind_region s ∙ others c.kind.result c.in-Free.is)
+free_in_hugepages-requires-clause-route c = grind (arith, nat_tests, serves, route_others, is_heap, is_kind_region, others)

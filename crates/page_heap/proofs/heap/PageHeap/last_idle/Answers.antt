@@ -10,10 +10,9 @@ loop-above-init c = record { within = c.requires.small; behind = c.requires.behi
 
 pub returns-in_err-huge-clause-none : goal.returns-in_err-huge-clause-none
 returns-in_err-huge-clause-none c =
-    let is = is_heap c.self.invariant c.self.view_is in
     rw c.from_residual.ensures (λ n. idle_none c.args.self.now n (λ h. elim (cases_lt c.loop-above.above h) [
       | inl far ↦ c.loop-above.invariant.behind h far
-      | inr near ↦ idle_nowhere is h (c.in_err-huge.ensures.none h near)
+      | inr near ↦ idle_nowhere (is_heap c.self.invariant c.self.view_is) h (c.in_err-huge.ensures.none h near)
     ]))
 
 pub is_idle-requires : goal.is_idle-requires
@@ -30,14 +29,12 @@ returns-then-is_idle-clause-last c =
 
 pub overflow_sub-above : goal.overflow_sub-above
 overflow_sub-above c =
-    let own = region_there (is_heap c.self.invariant c.self.view_is) c.in_ok-huge.huge.0 c.in_ok-huge.ensures.found in
-    omega (arith, own.from, c.from-above.ensures)
+    omega (arith, (region_there (is_heap c.self.invariant c.self.view_is) c.in_ok-huge.huge.0 c.in_ok-huge.ensures.found).from, c.from-above.ensures)
 
 pub loop-above-preserved : goal.loop-above-preserved
 loop-above-preserved c =
     let is = is_heap c.self.invariant c.self.view_is in
     let huge = c.in_ok-huge.huge.0 in
-    let own = region_there is huge c.in_ok-huge.ensures.found in
     record {
       within = omega (arith, c.from-above.ensures);
       behind = λ h l. elim (cases_eq h huge) [

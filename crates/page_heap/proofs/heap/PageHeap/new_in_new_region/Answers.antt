@@ -1,5 +1,5 @@
 use Rattle.std.proofs.Common.{◌≡◌, ℕ, ◌+◌, ◌<◌, ◌≤◌, Some, option_map, ap, arith}
-use Rattle.page_heap.proofs.Common.{le-leb, lt-leb, HeapConfig, run_choice, slack}
+use Rattle.page_heap.proofs.Common.{le-leb, lt-leb, HeapConfig, run_choice, slack, nat_tests}
 use Rattle.page_heap.proofs.Results.{is_heap, answer_is}
 use Rattle.page_heap.proofs.Slack.{slack_is, few_donated}
 use Rattle.page_heap.proofs.heap.PageHeap.new_in_new_region.Goals as goal
@@ -34,5 +34,4 @@ pub open_for-requires-clause-place : goal.open_for-requires-clause-place
 open_for-requires-clause-place c = place (goal.at.open_for-requires-clause-place c).In_ok-first
 
 pub returns-clause-new : goal.returns-clause-new
-returns-clause-new c =
-    grind (arith, above_is, slack_now, least, option_map, le-leb, place, answer_is, c.if-donated_free-from.false, c.open_for.ensures.heap)
+returns-clause-new c = grind (arith, nat_tests, above_is, slack_now, least, option_map, le-leb, place, answer_is)

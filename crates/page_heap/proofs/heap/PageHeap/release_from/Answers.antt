@@ -1,5 +1,5 @@
 use Rattle.std.proofs.Common.{◌≡◌, ℕ, ◌+◌, ◌-◌, ◌<◌, ◌≤◌, arith}
-use Rattle.page_heap.proofs.Common.{Huge, Heap, Inside, behind, given_by, IsNext, IsPast}
+use Rattle.page_heap.proofs.Common.{Huge, Heap, Inside, behind, given_by, IsNext, IsPast, nat_tests}
 use Rattle.page_heap.specs.declared.source.Source.{Source}
 use Rattle.page_heap.specs.declared.source.Source.TheVariants as source
 use Rattle.page_heap.proofs.Gives.{loop_begins, loop_ends, loop_few}
@@ -28,9 +28,7 @@ pub overflow_add-given : goal.overflow_add-given
 overflow_add-given c = grind (arith, is_heap, loop_few, next, given_few)
 
 next_low : (from : Source) (heap : Heap) (huge : Huge) → IsNext from heap huge → 0 < huge.0
-next_low source.Free heap huge is = is.own.from
-next_low source.Regions heap huge is = is.own.from
-next_low source.Filler heap huge is = is.own.from
+next_low from heap huge is = grind (arith, nat_tests)
 
 pub overflow_sub-most : goal.overflow_sub-most
 overflow_sub-most c = let low = next_low c.args.source c.loop-given.self c.in-Some.huge c.in-Some.ensures.next in omega (arith, low, c.from-most.ensures)
@@ -45,12 +43,10 @@ pub loop-given-smaller : goal.loop-given-smaller
 loop-given-smaller c = smaller c.args.n c.loop-given.given c.from-given.result _ c.loop-given-test.true c.from-given.ensures c.give_up.ensures.some
 
 pub returns-in_default-clause-few : goal.returns-in_default-clause-few
-returns-in_default-clause-few c =
-    grind (arith, is_heap, loop_few, given_few, c.self.invariant, c.self.view_is, c.loop-given.given, c.loop-given.invariant.given)
+returns-in_default-clause-few c = grind (arith, nat_tests, is_heap, loop_few, given_few)
 
 pub returns-clause-few : goal.returns-clause-few
-returns-clause-few c =
-    grind (arith, is_heap, loop_few, given_few, c.self.invariant, c.self.view_is, c.loop-given.given, c.loop-given.invariant.given)
+returns-clause-few c = grind (arith, nat_tests, is_heap, loop_few, given_few)
 
 pub returns-in_default-clause-given : goal.returns-in_default-clause-given
 returns-in_default-clause-given c = grind (arith, c.loop-given.given, c.loop-given.invariant.given, c.in_default.ensures.none)

@@ -1,11 +1,10 @@
 use Rattle.std.proofs.Common.{ap, subst, arith}
-use Rattle.page_heap.proofs.Common.{Released, IsSound, free_sound}
+use Rattle.page_heap.proofs.Common.{Released, IsSound, free_sound, nat_tests}
 use Rattle.page_heap.proofs.Gives.{settled_is}
 use Rattle.page_heap.proofs.heap.PageHeap.settle.Goals as goal
 
 pub returns-clause-settled : goal.returns-clause-settled
-returns-clause-settled c =
-    grind (arith, settled_is, c.note_use-over.ensures.noted, c.note_use-over.ensures.over, c.release_from-pages.ensures.given)
+returns-clause-settled c = grind (arith, nat_tests, settled_is)
 
 pub returns-clause-sound : goal.returns-clause-sound
 returns-clause-sound c =

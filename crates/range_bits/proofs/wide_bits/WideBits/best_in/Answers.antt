@@ -1,4 +1,4 @@
-use Rattle.std.proofs.lemmas.Bool.Decides.{nat_tests}
+use Rattle.range_bits.proofs.Common.{nat_tests}
 use Rattle.std.proofs.Common.{arith}
 use Rattle.range_bits.proofs.RowFacts.{places_of}
 use Rattle.range_bits.proofs.Parts.{row_of-part}

@@ -1,7 +1,5 @@
 use Rattle.std.proofs.Common.{eqb, arith}
-use Rattle.std.proofs.lemmas.Bool.Decides.{nat_tests}
-use Rattle.std.proofs.lemmas.List.{get_or_read}
-use Rattle.std.proofs.lemmas.Nat.Bits.{shr_and_one}
+use Rattle.range_bits.proofs.Common.{nat_tests, get_or_read, shr_and_one}
 use Rattle.range_bits.proofs.RowFacts.{get_or-row_of, places_of}
 use Rattle.range_bits.proofs.wide_bits.WideBits.is_used.Goals as goal
 

@@ -1,6 +1,5 @@
 use Rattle.std.proofs.Common.{arith}
-use Rattle.std.proofs.lemmas.Bool.Decides.{nat_tests}
-use Rattle.std.proofs.lemmas.List.{length-replicate}
+use Rattle.range_bits.proofs.Common.{nat_tests, length-replicate}
 use Rattle.range_bits.proofs.Counts.{row_of-zeros}
 use Rattle.range_bits.proofs.wide_bits.WideBits.open.Goals as goal
 

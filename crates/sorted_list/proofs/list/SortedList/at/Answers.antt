@@ -1,6 +1,5 @@
 use Rattle.std.proofs.Common.{◌<◌, length, ap, sym, ◌∙◌, arith}
-use Rattle.std.specs.Prelude.{slice_get}
-use Rattle.sorted_list.specs.Contents.{Contents}
+use Rattle.sorted_list.proofs.Common.{slice_get, Contents}
 use Rattle.sorted_list.proofs.Slots.{slot_fits, key_at, keys_len}
 use Rattle.sorted_list.proofs.list.SortedList.at.Goals as goal
 

@@ -1,7 +1,5 @@
 use Rattle.std.proofs.Common.{◌<◌, length, ap, sym, arith}
-use Rattle.std.proofs.lemmas.Bool.Decides.{nat_tests}
-use Rattle.std.proofs.lemmas.Option.{slice_get_read}
-use Rattle.sorted_list.specs.Contents.{Contents}
+use Rattle.sorted_list.proofs.Common.{nat_tests, slice_get_read, Contents}
 use Rattle.sorted_list.proofs.Moves.{written, came}
 use Rattle.sorted_list.proofs.Slots.{slot_fits}
 use Rattle.sorted_list.proofs.list.SortedList.insert.Goals as goal

@@ -1,6 +1,5 @@
 use Rattle.std.proofs.Common.{◌≡◌, cond, nat_lt, length, ap, sym, ◌∙◌, arith}
-use Rattle.std.proofs.lemmas.Bool.Decides.{nat_tests}
-use Rattle.std.proofs.lemmas.List.{length-append}
+use Rattle.sorted_list.proofs.Common.{nat_tests, length-append}
 use Rattle.sorted_list.proofs.Slots.{counted_more}
 use Rattle.sorted_list.proofs.list.SortedList.open.Goals as goal
 

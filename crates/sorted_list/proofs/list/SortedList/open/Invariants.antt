@@ -1,5 +1,5 @@
 use Rattle.std.proofs.Common.{◌≡◌, ℕ, length, cond, nat_lt}
-use Rattle.sorted_list.specs.Kept.{times}
+use Rattle.sorted_list.proofs.Common.{times}
 use Rattle.sorted_list.proofs.list.SortedList.open.Given as goal
 
 abbrev pub invariant-loop-slot : goal.invariant-loop-slot

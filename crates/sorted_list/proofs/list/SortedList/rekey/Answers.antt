@@ -1,7 +1,5 @@
 use Rattle.std.proofs.Common.{length, ap, sym, arith}
-use Rattle.std.proofs.lemmas.Bool.Decides.{nat_tests}
-use Rattle.std.proofs.lemmas.Option.{slice_get_read}
-use Rattle.sorted_list.specs.Contents.{Contents}
+use Rattle.sorted_list.proofs.Common.{nat_tests, slice_get_read, Contents}
 use Rattle.sorted_list.proofs.Changes.{held_at}
 use Rattle.sorted_list.proofs.Moves.{written, changed}
 use Rattle.sorted_list.proofs.Slots.{slot_fits, keys_len}

@@ -1,7 +1,6 @@
-use Rattle.std.proofs.lemmas.Bool.Decides.{nat_tests}
+use Rattle.sorted_list.proofs.Common.{nat_tests, Contents}
 use Rattle.std.proofs.Common.{arith}
 use Rattle.std.proofs.Common.{ap}
-use Rattle.sorted_list.specs.Contents.{Contents}
 use Rattle.sorted_list.proofs.Moves.{written, left}
 use Rattle.sorted_list.proofs.list.SortedList.remove.Goals as goal
 

@@ -1,5 +1,5 @@
 use Rattle.std.proofs.Common.{◌+◌, ◌-◌, ◌/◌, length, sym, ap, ◌∙◌, arith}
-use Rattle.std.proofs.lemmas.Option.{get_or_from_slice_get}
+use Rattle.sorted_list.proofs.Common.{get_or_from_slice_get}
 use Rattle.sorted_list.proofs.Halving.{all_before, none_behind, halved_steps}
 use Rattle.sorted_list.proofs.list.SortedList.search.Goals as goal
 
