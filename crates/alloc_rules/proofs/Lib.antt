@@ -41,3 +41,5 @@ pub mod SerialLaws
 pub mod Telling
 pub mod Afterwards
 pub mod Laws
+pub mod ValidProp
+pub mod Orders

@@ -8,8 +8,10 @@ pub mod Accounts
 pub mod Stocks
 pub mod Acts
 pub mod Valid
+pub mod Inputs
 pub mod Told
 pub mod Answers
 pub mod Law
+pub mod Lawful
 pub mod Laws
 pub mod Scripts

@@ -1,5 +1,5 @@
 -- Which calls a run told of a thread.
-use Rattle.std.specs.Prelude.{◌≡◌, ℕ, ◌==◌, List, map, filter, take}
+use Rattle.std.specs.Prelude.{◌≡◌, ℕ, ◌<◌, ◌≤◌, ◌==◌, List, [], map, filter, take}
 use Rattle.tc_model.specs.declared.calls.Call.{Call}
 use Rattle.tc_model.specs.declared.calls.Planned.{Planned}
 use Rattle.tc_model.specs.declared.answers.CallLine.{CallLine}
@@ -24,3 +24,8 @@ TellsFirst asked t n lines = told_of t lines ≡ take n (calls_in asked t)
 -- the calls of thread t among these lines, in their order, are its whole script
 abbrev pub TellsScript : Asked → ℕ → List CallLine → Type 0
 TellsScript asked t lines = told_of t lines ≡ calls_in asked t
+
+-- The lines tell the whole script of each thread, and nothing of a thread that isn't there.
+pub record TellsScripts (asked : Asked) (lines : List CallLine) : Type 0 where
+  pub each : (t : ℕ) → t < asked.config.threads → TellsScript asked t lines
+  pub others : (t : ℕ) → asked.config.threads ≤ t → lines_by t lines ≡ []

@@ -24,11 +24,17 @@ IsInOrder earlier (Release pages) = Unit {0}
 IsInOrder earlier (Drain cpu) = Unit {0}
 IsInOrder earlier (Resize cpu class cap) = Unit {0}
 
--- the limits of a trace, as far as every front-end needs them
+-- the limits of a trace, as far as the core and its front-ends need them
 pub record AreLimits (c : Config) : Type 0 where
+  pub cpus : 0 < c.cpus
+  pub threads : 0 < c.threads
+  pub few_threads : c.threads ≤ 64
   pub some : 0 < c.huge
   pub few : c.huge ≤ 4096
   pub region : 2 ≤ c.region
+  pub slab : 0 < c.slab
+  pub slots : c.slab ≤ 2048
+  pub percpu : c.percpu ≤ 268435456
 
 module _ (table : List ClassRow) (takes : Planned → Type 0) (asked : Asked) where
   pub record IsCall (earlier : List ThreadCall) (c : ThreadCall) : Type 0 where

@@ -3,6 +3,8 @@
 //! front-end proves its law once, and has the allocator's by `in_every_order`.
 #![tactic(auto)]
 
+mod front;
 mod part;
 
+pub use front::LawfulFront;
 pub use part::{Part, number_of};

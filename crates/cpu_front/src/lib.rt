@@ -2,8 +2,12 @@
 #![tactic(auto)]
 
 mod caches;
+mod lawful;
 mod opening;
+#[cfg(test)]
+mod state_tests;
 #[cfg(test)]
 mod tests;
 
 pub use caches::{CpuCaches, CpuLocal};
+pub use lawful::{CpuMachine, CpuState};

@@ -31,11 +31,12 @@ use Rattle.cpu_rows.specs.CpuRows.{about_cpu, about_row, at_cpu, as_row}
 use Rattle.cpu_rows.specs.CpuFits.{FitsCpu}
 use Rattle.call_steps.specs.Local.{thread_no}
 use Rattle.call_steps.specs.Shapes.{AreRows, most_slots}
-use Rattle.cpu_rows.specs.Shapes.{IsMove, IsAtBegin, HasNone, IsGiving, CpuShape, cpu_standing, giving_standing}
+use Rattle.cpu_rows.specs.Shapes.{IsAtBegin, HasNone, IsGiving, CpuShape, cpu_standing, giving_standing}
+use Rattle.alloc_rules.specs.Inputs.{IsMove, limits_of}
 use Rattle.alloc_rules.specs.Standings.{Standing, Here, stand, at_next, regs_next}
 use Rattle.alloc_rules.specs.FrontLaw.{IsReady, IsAct, IsNext}
 use Rattle.cpu_rows.specs.CpuFront.{Cpu, left_with, cpu_front, seated}
-use Rattle.cpu_rows.specs.CpuHolds.{limits_of, stopping_at, seat_at, IsSeated, RegsAt}
+use Rattle.cpu_rows.specs.CpuHolds.{stopping_at, seat_at, IsSeated, RegsAt}
 use Rattle.call_steps.specs.declared.step.Asking.{Asking}
 use Rattle.call_steps.specs.declared.step.Giving.{Giving}
 use Rattle.call_steps.specs.declared.step.Giving.TheVariants as giving

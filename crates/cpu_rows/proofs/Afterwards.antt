@@ -18,16 +18,17 @@ use Rattle.alloc_rules.specs.Standings.{at_step, standing_of}
 use Rattle.alloc_rules.specs.Law as allocator
 use Rattle.alloc_rules.proofs.Laws.{in_every_order}
 use Rattle.cpu_rows.specs.CpuFront.{Cpu}
-use Rattle.cpu_rows.specs.CpuHolds.{CpuHolds, IsSeated, RegsAt, limits_of, cpu_planned, cpu_fits, seat_at, stopping_at}
+use Rattle.cpu_rows.specs.CpuHolds.{CpuHolds, IsSeated, RegsAt, cpu_planned, cpu_fits, seat_at, stopping_at}
+use Rattle.alloc_rules.specs.Inputs.{limits_of}
 use Rattle.cpu_rows.specs.Machine.{front_of, rules}
-use Rattle.cpu_rows.specs.Valid.{IsValid}
+use Rattle.alloc_rules.specs.Inputs.{IsValidInput}
 use Rattle.cpu_rows.specs.Law.{HoldsAfter, InEveryOrder}
 use Rattle.cpu_rows.specs.CpuRows.{about_row}
 use Rattle.cpu_rows.proofs.Answering.{answers_busy, answers_cap}
 use Rattle.cpu_rows.proofs.Switching.{switches_are_few}
-use Rattle.cpu_rows.proofs.Valid.{valid_all, lawful}
+use Rattle.cpu_rows.proofs.CpuLaw.{lawful_in}
 
-module _ (input : Input) (valid : IsValid input) (order : List ℕ) (of : IsOrder (rules input) order) (all : allocator.HoldsAfter (front_of input) about_row (CpuHolds input.rows input.asked.config) input.asked order) where
+module _ (input : Input) (valid : IsValidInput input) (order : List ℕ) (of : IsOrder (rules input) order) (all : allocator.HoldsAfter (front_of input) about_row (CpuHolds input.rows input.asked.config) input.asked order) where
   seated : (t : ℕ) (l : Local) → slice_get all.locals t ≡ Some l → IsSeated input.rows input.asked.config t (standing_of l)
   seated t l at = all.front.threads t (standing_of l) (slice_get-map standing_of all.locals t ∙ ap (option_map standing_of) at)
 
@@ -60,7 +61,7 @@ module _ (input : Input) (valid : IsValid input) (order : List ℕ) (of : IsOrde
 
 pub cpu_in_every_order : InEveryOrder
 cpu_in_every_order input valid =
-    let law = in_every_order (front_of input) about_row (cpu_planned input.rows input.asked.config) (CpuHolds input.rows input.asked.config) (cpu_fits input.rows) (lawful input valid) input.asked (valid_all input valid) in
+    let law = in_every_order (front_of input) about_row (cpu_planned input.rows input.asked.config) (CpuHolds input.rows input.asked.config) (cpu_fits input.rows) (lawful_in input valid) input.asked valid in
     record {
       sound = law.sound;
       threads = law.threads;

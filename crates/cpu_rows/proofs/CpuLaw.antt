@@ -4,6 +4,7 @@ use Rattle.std.specs.Prelude.{slice_get, slice_set}
 use Rattle.tc_units.specs.declared.spans.ClassRow.{ClassRow}
 use Rattle.tc_model.specs.declared.config.Config.{Config}
 use Rattle.tc_model.specs.declared.machine.TheConstants.{MOST_PICKS}
+use Rattle.tc_model.specs.Input.{Input}
 use Rattle.tc_model.proofs.Lists.{set_there}
 use Rattle.rseq_core.specs.declared.cpu_part.CpuPart.{CpuPart}
 use Rattle.rseq_core.specs.declared.regs.Regs.{Regs}
@@ -20,10 +21,12 @@ use Rattle.cpu_rows.specs.CpuFits.{FitsDomain}
 use Rattle.call_steps.specs.Shapes.{AreRows}
 use Rattle.cpu_rows.specs.Shapes.{DomainShape}
 use Rattle.alloc_rules.specs.Standings.{Here, Standing, stand, regs_next, at_next}
-use Rattle.alloc_rules.specs.FrontLaw.{IsReady, IsAct}
+use Rattle.alloc_rules.specs.FrontLaw.{IsReady, IsAct, IsLawful}
 use Rattle.cpu_rows.specs.CpuFront.{CpuFrontPart, Cpu, Domain, seated, front_acts, cpu_front}
-use Rattle.cpu_rows.specs.CpuHolds.{limits_of, cpu_fits, CpuHolds}
-use Rattle.cpu_rows.specs.Laws.{CpuIsLawful}
+use Rattle.cpu_rows.specs.CpuHolds.{cpu_planned, cpu_fits, CpuHolds}
+use Rattle.alloc_rules.specs.Valid.{AreLimits}
+use Rattle.alloc_rules.specs.Inputs.{IsValidInput, limits_of}
+use Rattle.cpu_rows.specs.Laws.{AreCpuLimits, CpuIsLawful}
 use Rattle.cpu_rows.proofs.Threads.{comes}
 use Rattle.cpu_rows.proofs.Entries as entries
 use Rattle.cpu_rows.proofs.Entries.{cpu_entries}
@@ -167,3 +170,11 @@ cpu_law rows c are limits =
       other_there = λ v p planned own. (entries.other rows c p.call).there own;
       refuses = refuses rows c;
     }
+
+-- a valid input's heads are such
+pub cpu_limits : (c : Config) → AreLimits c → AreCpuLimits c
+cpu_limits c limits = record { cpus = limits.cpus; slab = limits.slab; slots = limits.slots; percpu = limits.percpu }
+
+-- so they do under the table and the heads of a valid input
+pub lawful_in : (input : Input) → IsValidInput input → IsLawful (cpu_front input.rows input.asked.config) about_row (cpu_planned input.rows input.asked.config) (CpuHolds input.rows input.asked.config) (cpu_fits input.rows)
+lawful_in input valid = cpu_law input.rows input.asked.config valid.rows (cpu_limits input.asked.config valid.limits)

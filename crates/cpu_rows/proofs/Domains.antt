@@ -32,7 +32,7 @@ use Rattle.alloc_rules.specs.Heads.{HasRoom}
 use Rattle.alloc_rules.specs.Standings.{Here, at_next, regs_next}
 use Rattle.alloc_rules.specs.FrontLaw.{IsNext, IsAct}
 use Rattle.cpu_rows.specs.CpuFront.{Domain, seated, cpu_stored, left_with, cpu_front}
-use Rattle.cpu_rows.specs.CpuHolds.{limits_of}
+use Rattle.alloc_rules.specs.Inputs.{limits_of}
 use Rattle.cpu_rows.proofs.Threads.{KeepsRegs, Comes}
 use Rattle.cpu_rows.proofs.Acts.{IsBehind, gives_to_shard}
 use Rattle.cpu_rows.proofs.Moves.{objects_append, objects_last}

@@ -33,7 +33,7 @@ use Rattle.call_steps.specs.Hands.{with_regs}
 use Rattle.call_steps.specs.Follows.{follows}
 use Rattle.cpu_rows.specs.CpuCalls.{cpu_calls, with_next, cpu_row, yields_for}
 use Rattle.call_steps.specs.Shapes.{AreRows}
-use Rattle.cpu_rows.specs.Shapes.{Limits}
+use Rattle.alloc_rules.specs.Inputs.{Limits}
 use Rattle.alloc_rules.specs.Standings.{at_step}
 use Rattle.cpu_rows.specs.CpuHolds.{RegsAt}
 use Rattle.cpu_rows.specs.CpuRows.{about_cpu, call_of}

@@ -28,13 +28,14 @@ use Rattle.call_steps.specs.Calls.{Other}
 use Rattle.cpu_rows.specs.CpuCalls.{cpu_calls, to_sequence, move_of, with_move, stop_row, to_stop, leave_row}
 use Rattle.cpu_rows.specs.CpuRows.{about_row}
 use Rattle.call_steps.specs.Shapes.{AreRows}
-use Rattle.cpu_rows.specs.Shapes.{IsMove, IsCallThere, IsAtBegin, CpuShape}
+use Rattle.cpu_rows.specs.Shapes.{IsAtBegin, CpuShape}
+use Rattle.alloc_rules.specs.Inputs.{IsMove, IsCallThere, limits_of}
 use Rattle.alloc_rules.specs.Standings.{At, Here, Later, Away, Standing, stand, at_row}
 use Rattle.alloc_rules.specs.Shapes.{IsAsked}
 use Rattle.alloc_rules.specs.FrontLaw.{with_hand, IsOwn}
 use Rattle.call_steps.specs.Fronts.{AreEntries, IsEntry}
 use Rattle.cpu_rows.specs.CpuFront.{CpuFrontPart, seated}
-use Rattle.cpu_rows.specs.CpuHolds.{limits_of, cpu_planned, seat_at, CpuHolds}
+use Rattle.cpu_rows.specs.CpuHolds.{cpu_planned, seat_at, CpuHolds}
 use Rattle.cpu_rows.proofs.Threads.{changes, KeepsRegs, comes}
 
 module _ (rows : List ClassRow) (c : Config) where

@@ -1,8 +1,6 @@
 pub mod Nexts
 mod Acts
-pub mod ValidProp
 mod Answering
-pub mod Valid
 mod Entering
 mod Switching
 pub mod Afterwards

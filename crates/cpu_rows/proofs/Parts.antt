@@ -22,7 +22,8 @@ use Rattle.cpu_rows.specs.declared.row.DomainStep.{DomainStep}
 use Rattle.cpu_rows.specs.declared.row.DomainStep.TheVariants as domain
 use Rattle.cpu_rows.specs.CpuRows.{at_cpu, cpu_of, domain_of}
 use Rattle.call_steps.specs.Local.{thread_no}
-use Rattle.cpu_rows.specs.Shapes.{Limits, IsStop, CpuShape, DomainShape}
+use Rattle.cpu_rows.specs.Shapes.{IsStop, CpuShape, DomainShape}
+use Rattle.alloc_rules.specs.Inputs.{Limits}
 use Rattle.alloc_rules.specs.Heads.{HasRoom}
 use Rattle.cpu_rows.specs.Slabs.{IsSlabOf}
 use Rattle.alloc_rules.specs.Standings.{Standing}

@@ -45,7 +45,7 @@ use Rattle.call_steps.specs.Shapes.{most_slots, BeginsWith}
 use Rattle.cpu_rows.specs.Shapes.{IsAtBegin, HasNone, CpuShape, cpu_standing}
 use Rattle.alloc_rules.specs.Shapes.{IsAsked}
 use Rattle.cpu_rows.specs.CpuFront.{seated}
-use Rattle.cpu_rows.specs.CpuHolds.{limits_of}
+use Rattle.alloc_rules.specs.Inputs.{limits_of}
 use Rattle.cpu_rows.proofs.Acts.{Turn, IsBehind, hand_same, looks, gives_away, goes_on, seat, Keeps, IsThere, Acts, Does, IsMoved, GoesOn, as_left, still, goes, home_of, agrees_of, leave_acts}
 use Rattle.cpu_rows.proofs.Moves.{answer_moves}
 

@@ -43,9 +43,9 @@ use Rattle.cpu_rows.specs.CpuRows.{about_cpu, at_cpu, call_of, cpu_of}
 use Rattle.cpu_rows.specs.CpuFits.{taken_by}
 use Rattle.call_steps.specs.Local.{thread_no}
 use Rattle.call_steps.specs.Shapes.{AreRows, most_slots}
-use Rattle.cpu_rows.specs.Shapes.{Limits, stands, no_class_empty, below, alone, empty_to_take, empty_to_start, cpu_standing, IsStop, IsAtFirst, IsAtBegin, IsToCome, HasHand, CpuShape}
+use Rattle.cpu_rows.specs.Shapes.{stands, no_class_empty, below, alone, empty_to_take, empty_to_start, cpu_standing, IsStop, IsAtFirst, IsAtBegin, IsToCome, HasHand, CpuShape}
+use Rattle.alloc_rules.specs.Inputs.{Limits, limits_of}
 use Rattle.cpu_rows.specs.CpuFront.{seated}
-use Rattle.cpu_rows.specs.CpuHolds.{limits_of}
 use Rattle.cpu_rows.proofs.Threads.{same_keeps}
 use Rattle.cpu_rows.proofs.Acts.{Turn, IsBehind, gives_away, goes_on, seat, Keeps, IsThere, Acts, Does, IsMoved, GoesOn, as_left, goes, moves_none, slab_same, leave_acts}
 use Rattle.cpu_rows.proofs.Moves.{objects_append, objects_reverse}

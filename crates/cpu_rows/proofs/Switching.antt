@@ -29,9 +29,10 @@ use Rattle.cpu_rows.specs.CpuActs.{runs_open}
 use Rattle.cpu_rows.specs.CpuCalls.{yields_for}
 use Rattle.cpu_rows.specs.CpuRows.{about_row}
 use Rattle.cpu_rows.specs.Switches.{Kind, enters, closes, neither, act_kind, kind_at, kind_of, step_kind, entry, closing, count_at, SwitchesAreFew}
-use Rattle.cpu_rows.specs.CpuHolds.{CpuHolds, IsSeated, limits_of, cpu_planned, cpu_fits}
-use Rattle.cpu_rows.specs.Valid.{IsValid}
-use Rattle.cpu_rows.proofs.Valid.{valid_all, lawful}
+use Rattle.cpu_rows.specs.CpuHolds.{CpuHolds, IsSeated, cpu_planned, cpu_fits}
+use Rattle.alloc_rules.specs.Inputs.{limits_of}
+use Rattle.alloc_rules.specs.Inputs.{IsValidInput}
+use Rattle.cpu_rows.proofs.CpuLaw.{lawful_in}
 use Rattle.alloc_rules.specs.Standings.{standing_of}
 use Rattle.std.specs.Prelude.{Option, option_map}
 use Rattle.std.proofs.lemmas.Option.{slice_get-map}
@@ -241,7 +242,7 @@ yields_is input p l (does.Names row) = refl
 yields_is input p l does.Ended = refl
 
 -- a polite pick keeps the balance
-module _ (input : Input) (valid : IsValid input) (c : ℕ) (w : World Part Local) (past : List ℕ) (served : Served input w past) (t : ℕ) (m : IsPoliteMove (rules input) w t) where
+module _ (input : Input) (valid : IsValidInput input) (c : ℕ) (w : World Part Local) (past : List ℕ) (served : Served input w past) (t : ℕ) (m : IsPoliteMove (rules input) w t) where
   abbrev r : Rules Part Local
   r = rules input
 
@@ -299,14 +300,14 @@ few_of : (c ins ends : ℕ) (w : World Part Local) → Balance c ins ends w → 
 few_of c ins ends w (inl few) = omega arith
 few_of c ins ends w (inr e) = e.one
 
-switches_from : (input : Input) → IsValid input → (c : ℕ) (order past : List ℕ) (w : World Part Local) (ins ends : ℕ) → length past + length order ≤ MOST_PICKS → Served input w past → IsPolite (rules input) w order → Balance c ins ends w → ins + count_at entry (rules input) w c order ≤ ends + count_at closing (rules input) w c order + 1
+switches_from : (input : Input) → IsValidInput input → (c : ℕ) (order past : List ℕ) (w : World Part Local) (ins ends : ℕ) → length past + length order ≤ MOST_PICKS → Served input w past → IsPolite (rules input) w order → Balance c ins ends w → ins + count_at entry (rules input) w c order ≤ ends + count_at closing (rules input) w c order + 1
 switches_from input valid c [] past w ins ends few served polite balance = omega (arith, few_of c ins ends w balance)
 switches_from input valid c (t ∷ ts) past w ins ends few served polite balance =
     let m = polite.0 in
-    let next : Served input (pick (rules input) w t) (past ++ t ∷ []) = subst (λ (u : World Part Local). Served input u (past ++ t ∷ [])) (sym (moves_to input valid c w past served t m)) (served_kept (front_of input) about_row (cpu_planned input.rows input.asked.config) (CpuHolds input.rows input.asked.config) (cpu_fits input.rows) (lawful input valid) input.asked (valid_all input valid) w past t m.local m.place m.part (omega arith) served m.local_there m.wants m.part_there m.moves) in
+    let next : Served input (pick (rules input) w t) (past ++ t ∷ []) = subst (λ (u : World Part Local). Served input u (past ++ t ∷ [])) (sym (moves_to input valid c w past served t m)) (served_kept (front_of input) about_row (cpu_planned input.rows input.asked.config) (CpuHolds input.rows input.asked.config) (cpu_fits input.rows) (lawful_in input valid) input.asked valid w past t m.local m.place m.part (omega arith) served m.local_there m.wants m.part_there m.moves) in
     let rest = switches_from input valid c ts (past ++ t ∷ []) (pick (rules input) w t) (ins + entry (kind_of (rules input) w c t)) (ends + closing (kind_of (rules input) w c t)) (omega (arith, length-append past (t ∷ []))) next polite.1 (keeps input valid c w past served t m ins ends balance) in
     omega (arith, rest)
 
 -- in every polite order
-pub switches_are_few : (input : Input) → IsValid input → (order : List ℕ) → length order ≤ MOST_PICKS → IsPolite (rules input) (start (rules input)) order → SwitchesAreFew (rules input) order
-switches_are_few input valid order few polite c = let all = switches_from input valid c order [] (start (rules input)) 0 0 (omega arith) (served_first (front_of input) about_row (cpu_planned input.rows input.asked.config) (CpuHolds input.rows input.asked.config) (cpu_fits input.rows) (lawful input valid) input.asked (valid_all input valid)) polite (inl (omega arith)) in omega (arith, all)
+pub switches_are_few : (input : Input) → IsValidInput input → (order : List ℕ) → length order ≤ MOST_PICKS → IsPolite (rules input) (start (rules input)) order → SwitchesAreFew (rules input) order
+switches_are_few input valid order few polite c = let all = switches_from input valid c order [] (start (rules input)) 0 0 (omega arith) (served_first (front_of input) about_row (cpu_planned input.rows input.asked.config) (CpuHolds input.rows input.asked.config) (cpu_fits input.rows) (lawful_in input valid) input.asked valid) polite (inl (omega arith)) in omega (arith, all)

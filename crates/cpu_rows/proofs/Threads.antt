@@ -17,7 +17,8 @@ use Rattle.cpu_rows.specs.Shapes.{IsAtBegin}
 use Rattle.call_steps.specs.Local.{thread_no}
 use Rattle.alloc_rules.specs.Standings.{At, Standing, stand}
 use Rattle.cpu_rows.specs.CpuFront.{CpuFrontPart}
-use Rattle.cpu_rows.specs.CpuHolds.{limits_of, stopping_at, seat_at, RegsAt, IsSeated, CpuHolds}
+use Rattle.cpu_rows.specs.CpuHolds.{stopping_at, seat_at, RegsAt, IsSeated, CpuHolds}
+use Rattle.alloc_rules.specs.Inputs.{limits_of}
 use Rattle.cpu_rows.proofs.Lists.{Here, There, set_twice}
 
 -- no act

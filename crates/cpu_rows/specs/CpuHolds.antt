@@ -15,17 +15,14 @@ use Rattle.transfer_cache.specs.Transfer.{Transfer}
 use Rattle.cpu_rows.specs.declared.seat.CpuSeat.{CpuSeat}
 use Rattle.cpu_rows.specs.declared.row.CpuRow.{CpuRow}
 use Rattle.cpu_rows.specs.declared.row.CpuRow.TheVariants as front
-use Rattle.cpu_rows.specs.Shapes.{Limits, IsMove, IsPlanned, IsAtBegin, IsLater, CpuShape, DomainShape, cpu_standing, domain_standing, later_standing}
+use Rattle.alloc_rules.specs.Inputs.{Limits, limits_of, IsMove, IsPlanned}
+use Rattle.cpu_rows.specs.Shapes.{IsAtBegin, IsLater, CpuShape, DomainShape, cpu_standing, domain_standing, later_standing}
 use Rattle.cpu_rows.specs.CpuFits.{FitsCpu, FitsDomain}
 use Rattle.call_steps.specs.Local.{thread_no}
 use Rattle.cpu_rows.specs.Slabs.{IsSlabOf}
 use Rattle.alloc_rules.specs.Heads.{HasRoom}
 use Rattle.alloc_rules.specs.Standings.{At, Here, Later, Away, Standing}
 use Rattle.cpu_rows.specs.CpuFront.{CpuFrontPart, Cpu, Domain, seated}
-
--- what a local is within: the table's rows and so many CPUs
-abbrev pub limits_of : List ClassRow → Config → Limits
-limits_of rows c = record { rows = rows; cpus = c.cpus }
 
 -- the calls that a trace may plan
 abbrev pub cpu_planned : List ClassRow → Config → Planned → Type 0

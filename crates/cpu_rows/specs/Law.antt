@@ -18,7 +18,7 @@ use Rattle.cpu_rows.specs.CpuFront.{Cpu, Domain}
 use Rattle.cpu_rows.specs.CpuHolds.{CpuHolds, cpu_fits, seat_at}
 use Rattle.cpu_rows.specs.Slabs.{IsSlabOf}
 use Rattle.cpu_rows.specs.Machine.{front_of, rules}
-use Rattle.cpu_rows.specs.Valid.{IsValid}
+use Rattle.alloc_rules.specs.Inputs.{IsValidInput}
 use Rattle.cpu_rows.specs.Answers.{AnswersBusy, AnswersCap}
 use Rattle.cpu_rows.specs.Switches.{SwitchesAreFew}
 
@@ -51,4 +51,4 @@ abbrev pub AreLawful : Input → Type 0
 AreLawful input = allocator.AreLawful (front_of input) about_row input.asked (cpu_fits input.rows) (HoldsAfter input)
 
 abbrev pub InEveryOrder : Type 0
-InEveryOrder = (input : Input) → IsValid input → AreLawful input
+InEveryOrder = (input : Input) → IsValidInput input → AreLawful input

@@ -9,7 +9,6 @@ pub mod CpuFront
 pub mod CpuHolds
 pub mod Laws
 pub mod Machine
-pub mod Valid
 pub mod Answers
 pub mod Switches
 pub mod Law

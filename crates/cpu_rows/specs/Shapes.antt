@@ -30,6 +30,7 @@ use Rattle.call_steps.specs.Local.{class_row}
 use Rattle.call_steps.specs.Calls.{HasNoLabel}
 use Rattle.cpu_rows.specs.CpuRows.{about_cpu, as_row, cpu_of}
 use Rattle.call_steps.specs.Shapes.{BeginsWith, most_slots}
+use Rattle.alloc_rules.specs.Inputs.{Limits}
 
 -- What a call has done to the CPU that it stopped: whether it is fenced, and which classes the call has emptied.
 abbrev pub stands : CpuNo → Bool → (ℕ → Bool) → Option Standing
@@ -75,27 +76,6 @@ giving_standing rows other = None
 abbrev pub domain_standing : List ClassRow → DomainStep → Option Standing
 domain_standing rows (domain.Put g) = giving_standing rows (as_row g)
 domain_standing rows other = None
-
--- The limits that locals are within: the table's rows and so many CPUs.
-pub record Limits : Type 0 where
-  pub rows : List ClassRow
-  pub cpus : ℕ
-
--- the CPU of a move is there, and so are the CPU and the class of a call
-abbrev pub IsMove : Limits → Option MoveTo → Type 0
-IsMove m None = Unit {0}
-IsMove m (Some move) = move.cpu.0 < m.cpus
-
-abbrev pub IsCallThere : Limits → Call → Type 0
-IsCallThere m (Malloc label size) = Unit {0}
-IsCallThere m (Free label) = Unit {0}
-IsCallThere m (Release pages) = Unit {0}
-IsCallThere m (Drain c) = c.0 < m.cpus
-IsCallThere m (Resize c class cap) = (c.0 < m.cpus) × (class.0 < length m.rows)
-
-pub record IsPlanned (m : Limits) (p : Planned) : Type 0 where
-  pub call : IsCallThere m p.call
-  pub move : IsMove m p.moved
 
 -- no sequence is under way, and nothing is loaded
 pub record IsAtBegin (r : Regs) : Type 0 where

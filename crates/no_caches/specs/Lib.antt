@@ -1,2 +1,3 @@
 pub mod NoCaches
 pub mod Laws
+pub mod NoCachesLaw

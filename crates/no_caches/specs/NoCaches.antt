@@ -1,21 +1,20 @@
 -- No caches before the shards, as a front-end: it has no part and no row, so that small objects are fetched from their
 -- shards and given back to them.
-use Rattle.std.specs.Prelude.{ℕ, true, false, List, [], None}
+use Rattle.std.specs.Prelude.{ℕ, Bool, true, false, List, [], None}
 use Rattle.tc_units.specs.declared.spans.ClassRow.{ClassRow}
+use Rattle.tc_model.specs.declared.calls.Call.{Call}
+use Rattle.tc_model.specs.declared.calls.Call.TheVariants.{Malloc, Free, Release, Drain, Resize}
 use Rattle.tc_model.specs.declared.calls.Planned.{Planned}
 use Rattle.rseq_core.specs.declared.regs.Regs.{Regs}
+use Rattle.no_caches.specs.declared.front.NoPart.{NoPart}
+use Rattle.no_caches.specs.declared.front.NoRow.{NoRow}
+use Rattle.no_caches.specs.declared.front.NoSeat.{NoSeat}
 use Rattle.call_steps.specs.Calls.{About, Other}
 use Rattle.call_steps.specs.Fronts.{FrontCalls, FrontRules}
 use Rattle.alloc_rules.specs.FrontLaw.{IsOwn}
 use Rattle.alloc_rules.specs.Standings.{Standing}
 
--- its parts, its seats and its rows: none, nothing to know, and none
-pub data NoPart : Type 0 where
-
-pub data NoRow : Type 0 where
-
-pub record NoSeat : Type 0 where
-
+-- a thread knows nothing there
 abbrev pub no_seat : NoSeat
 no_seat = record {}
 
@@ -54,7 +53,14 @@ no_caches rows =
       refuses = λ row answer. false;
     }
 
--- the calls that a trace may plan: no drain and no resize
+-- the calls that it takes, as every front-end does: no drain and no resize
+abbrev pub is_shared : Call → Bool
+is_shared (Malloc label size) = true
+is_shared (Free label) = true
+is_shared (Release pages) = true
+is_shared (Drain cpu) = false
+is_shared (Resize cpu class cap) = false
+
 abbrev pub planned : Planned → Type 0
 planned p = IsOwn p.call → ⊥
 

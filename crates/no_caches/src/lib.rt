@@ -2,6 +2,8 @@
 //! only the per-CPU caches could meet.
 #![tactic(auto)]
 
+mod front;
 mod laws;
 
+pub use front::{NoCaches, NoPart, NoRow, NoSeat, PlainLocal, PlainMachine, PlainState};
 pub use laws::{holds_in_every_order, no_caches_are_lawful};

@@ -1,77 +1,151 @@
--- What a run has to tell, from what is kept of it.
-use Rattle.std.proofs.Common.{◌≡◌, ℕ, ◌+◌, ◌*◌, ◌≤◌, List, length, map, Some, ap, sym, ◌∙◌, arith}
-use Rattle.std.specs.Prelude.{sum_by}
+-- What a run has to tell, from what holds after its order.
+use Rattle.std.proofs.Common.{◌≡◌, ℕ, ◌+◌, ◌*◌, ◌≤◌, ◌<◌, ◌==◌, List, ◌∷◌, [], ◌++◌, length, map, filter, Option, None, Some, refl, ap, ap₂, sym, subst, ◌∙◌, inl, inr, arith}
+use Rattle.std.specs.Prelude.{All, sum_by}
 use Rattle.std.specs.List.{range_with_len, slice_get}
-use Rattle.std.proofs.lemmas.Option.{get_or_from_slice_get}
+use Rattle.std.proofs.lemmas.List.{length-set}
+use Rattle.std.proofs.lemmas.Bool.{cases_eq, ne_eqb}
+use Rattle.std.proofs.lemmas.List.Elements.{All-append, All-cons, All-nil, filter-append}
+use Rattle.std.proofs.lemmas.Option.{slice_get_within, slice_get_past, get_or_from_slice_get}
 use Rattle.tc_units.specs.Units.{page_bytes}
 use Rattle.tc_units.specs.declared.rows.RowView.{RowView}
 use Rattle.tc_units.specs.declared.spans.Run.{Run}
-use Rattle.tc_model.specs.declared.config.Config.{Config}
 use Rattle.tc_model.specs.declared.answers.CallLine.{CallLine}
 use Rattle.tc_model.specs.declared.answers.Finished.{Finished}
+use Rattle.tc_model.specs.Calls.{picks_of, calls_from, answers_at, decided_by}
+use Rattle.tc_model.specs.Replays.{HaveEnded}
 use Rattle.tc_model.specs.Blocks.{live_count, live_bytes}
-use Rattle.tc_model.specs.Input.{Input}
-use Rattle.tc_model.specs.Run.{World}
+use Rattle.tc_model.specs.Input.{Asked}
+use Rattle.tc_model.specs.Run.{Rules, World, world_of, start, run}
+use Rattle.tc_model.specs.Steps.{moving}
+use Rattle.tc_model.proofs.MovingFacts.{IsKeptWith, run_keeps_with, move_all}
 use Rattle.heap_rules.specs.declared.config.HeapConfig.{HeapConfig}
 use Rattle.heap_rules.specs.Heap.{Heap, opened, used_pages, backed_pages, row_of}
-use Rattle.cpu_rows.specs.PerCpu.{CpuLocal as Local}
-use Rattle.cpu_rows.specs.Machine.{Part}
+use Rattle.rseq_core.specs.declared.regs.Regs.{Regs}
+use Rattle.call_steps.specs.Calls.{About}
+use Rattle.call_steps.specs.Fronts.{FrontRules}
+use Rattle.call_steps.specs.Local.{Local, Decided, told as tells}
+use Rattle.alloc_rules.specs.declared.part.Part.{Part}
 use Rattle.alloc_rules.specs.declared.part.Part.TheVariants as part
-use Rattle.cpu_rows.specs.Machine.{parts_of}
-use Rattle.alloc_rules.specs.Machine.{heap_config}
-use Rattle.alloc_rules.specs.Law.{calls}
-use Rattle.tc_machine.specs.declared.machine.AllocMachine.{AllocMachine}
-use Rattle.tc_machine.specs.declared.standing.Standing.{Standing}
-use Rattle.tc_machine.specs.Held.{input_in}
+use Rattle.alloc_rules.specs.Standings.{Standing}
+use Rattle.alloc_rules.specs.Machine.{heap_config, parts_of, rules}
+use Rattle.alloc_rules.specs.Law.{calls, HoldsAfter, AreLawful}
+use Rattle.alloc_rules.specs.Told.{lines_by, TellsScripts}
+use Rattle.alloc_rules.proofs.Numbers.{get_heap}
+use Rattle.alloc_rules.proofs.Orders.{order_is}
+use Rattle.tc_machine.specs.declared.standing.Standing.{Standing as Kept}
 use Rattle.tc_machine.specs.Standing.{AreStanding}
 use Rattle.tc_machine.specs.Finish.{finished, finished_in, heap_by, heap_in, heap_place}
-use Rattle.tc_machine.proofs.StateFacts.{IsTold}
 
--- the heap that is read is the one behind the CPUs and the shards
-pub read_at : (m : AllocMachine) (parts now : List Part) (n : ℕ) (heap : Heap) → now ≡ parts → n ≡ m.setting.config.cpus + length m.setting.table → slice_get now n ≡ Some (part.Heap heap) → slice_get parts (heap_place (input_in m)) ≡ Some (part.Heap heap)
-read_at m parts now n heap same at is =
-    let place : n ≡ heap_place (input_in m) = at in
-    ap (λ ps. slice_get ps (heap_place (input_in m))) (sym same) ∙ (ap (slice_get now) (sym place) ∙ is)
+-- The picks of an order are of threads that there are.
+record HasThreads {P L : Type 0} (n : ℕ) (w : World P L) (order : List ℕ) : Type 0 where
+  pub count : length w.locals ≡ n
+  pub below : All (λ t. t < n) order
 
-pub place_at : (m : AllocMachine) (parts now : List Part) (n : ℕ) (heap : Heap) → now ≡ parts → n ≡ m.setting.config.cpus + length m.setting.table → slice_get parts (heap_place (input_in m)) ≡ Some (part.Heap heap) → slice_get now n ≡ Some (part.Heap heap)
-place_at m parts now n heap same at is =
-    let place : n ≡ heap_place (input_in m) = at in
-    ap (λ ps. slice_get ps n) same ∙ (ap (slice_get parts) place ∙ is)
+threads_kept : {P L : Type 0} (r : Rules P L) (n : ℕ) → IsKeptWith 40000000 r (HasThreads n)
+threads_kept r n w order t l place q few good local want there goes =
+    let within : t < n = omega (arith, slice_get_within w.locals t l local, good.count) in
+    record { count = length-set w.locals t (r.after q l).1 ∙ good.count; below = All-append (λ u. u < n) order (t ∷ []) good.below (All-cons (λ u. u < n) t [] within (All-nil (λ u. u < n))) }
 
-module _ (input : Input) (order : List ℕ) (parts : List Part) (locals : List Local) (told : IsTold input order parts locals) where
-  pub heap_there : slice_get parts (heap_place input) ≡ Some (part.Heap told.holds.all.parts.heap)
-  heap_there = told.heap_at
+threads_below : {P L : Type 0} (r : Rules P L) (order : List ℕ) → length order ≤ 40000000 → moving r (start r) order ≡ order → HasThreads (length r.locals) (run r order) order
+threads_below r order few moves = run_keeps_with 40000000 r (HasThreads (length r.locals)) (threads_kept r (length r.locals)) (record { count = refl; below = All-nil (λ u. u < length r.locals) }) order few (move_all r order moves)
 
-  pub heap_is : (heap : Heap) → slice_get parts (heap_place input) ≡ Some (part.Heap heap) → heap ≡ told.holds.all.parts.heap
-  heap_is heap is = let e : Some (part.Heap heap) ≡ Some (part.Heap told.holds.all.parts.heap) = sym is ∙ heap_there in cc
+-- nothing is told of a thread that isn't there
+module _ {V R : Type 0} (locals : List (Local V R)) (t : ℕ) (none : slice_get locals t ≡ None) where
+  abbrev decided : ℕ → ℕ → List CallLine
+  decided = decided_by (λ (l : Local V R). l.answers) (λ (d : Decided). d.act) tells locals
 
-  pub huge_is : (heap : Heap) → slice_get parts (heap_place input) ≡ Some (part.Heap heap) → heap.config.huge ≡ input.asked.config.huge
-  huge_is heap is = ap (λ (h : Heap). h.config.huge) (heap_is heap is) ∙ ap (λ (config : HeapConfig). config.huge) told.holds.all.config
+  others : (u : ℕ) → (u ≡ t → ⊥) → (ds : List Decided) → lines_by t (map (tells u) ds) ≡ []
+  others u apart [] = refl
+  others u apart (d ∷ ds) = rw (ne_eqb u t apart) (others u apart ds)
 
-  heap_in_is : heap_in input (parts_of input.asked.config.cpus told.holds.all.parts) ≡ told.holds.all.parts.heap
-  heap_in_is =
-      let first : Heap = opened (heap_config input.asked.config) in
-      ap (heap_by first) (get_or_from_slice_get (parts_of input.asked.config.cpus told.holds.all.parts) (heap_place input) (part.Heap told.holds.all.parts.heap) (part.Heap first) (ap (λ ps. slice_get ps (heap_place input)) (sym told.parts_are) ∙ heap_there))
+  silent : (u n : ℕ) → lines_by t (decided u n) ≡ []
+  silent u n = elim (cases_eq u t) [
+    | inl same ↦
+        let gone : slice_get locals u ≡ None = ap (slice_get locals) same ∙ none in
+        ap (λ (o : Option (Local V R)). lines_by t (map (tells u) (filter (λ (d : Decided). d.act == n) (answers_at (λ (l : Local V R). l.answers) o)))) gone
+    | inr apart ↦ others u apart (filter (λ (d : Decided). d.act == n) (answers_at (λ (l : Local V R). l.answers) (slice_get locals u)))
+  ]
 
-  pub calls_are : (lines : List CallLine) → lines ≡ calls locals order → lines ≡ calls told.holds.all.locals order
-  calls_are lines is = is ∙ ap (λ ls. calls ls order) told.locals_are
+  no_lines : (earlier order : List ℕ) → lines_by t (calls_from decided earlier order) ≡ []
+  no_lines earlier [] = refl
+  no_lines earlier (u ∷ us) =
+      filter-append (λ (c : CallLine). c.thread.0 == t) (decided u (picks_of u earlier)) (calls_from decided (u ∷ earlier) us)
+      ∙ ap₂ (λ (xs ys : List CallLine). xs ++ ys) (silent u (picks_of u earlier)) (no_lines (u ∷ earlier) us)
 
-  pub finished_is : (lines : List CallLine) (heap : Heap) (s : Standing) (used resident : ℕ) (rows : List RowView) → lines ≡ calls locals order → slice_get parts (heap_place input) ≡ Some (part.Heap heap) → AreStanding lines s → used ≡ used_pages heap → resident ≡ backed_pages heap → rows ≡ map (row_of heap) (range_with_len 1 heap.config.huge) →
-      record { calls = lines; live = s.count; live_bytes = s.bytes; used = used; resident = resident; rows = rows } ≡ finished_in input order
-  finished_is lines heap s used resident rows is there stand used_is resident_is rows_are =
-      let made : List CallLine → ℕ → ℕ → ℕ → ℕ → List RowView → Finished = λ ls live bytes pages backed views. record { calls = ls; live = live; live_bytes = bytes; used = pages; resident = backed; rows = views } in
-      ap (λ n. made lines n s.bytes used resident rows) stand.count
-      ∙ (ap (λ n. made lines (live_count lines) n used resident rows) stand.bytes
-      ∙ (ap (λ n. made lines (live_count lines) (live_bytes lines) n resident rows) used_is
-      ∙ (ap (λ n. made lines (live_count lines) (live_bytes lines) (used_pages heap) n rows) resident_is
-      ∙ (ap (λ vs. made lines (live_count lines) (live_bytes lines) (used_pages heap) (backed_pages heap) vs) rows_are
-      ∙ (ap (λ ls. finished ls heap) (calls_are lines is)
-      ∙ (ap (λ h. finished (calls told.holds.all.locals order) h) (heap_is heap there)
-      ∙ (ap (λ h. finished (calls told.holds.all.locals order) h) (sym heap_in_is)
-      ∙ sym (ap (λ (w : World Part Local). finished (calls w.locals order) (heap_in input w.parts)) told.holds.all.is))))))))
+module _ {P V R : Type 0} (r : FrontRules P V R) (about : R → About) (Holds : ℕ → List P → List (Standing V R) → Type 0) (asked : Asked) (order : List ℕ) where
+  -- What holds tells of the parts and the locals.
+  pub record IsTold (parts : List (Part P)) (locals : List (Local V R)) : Type 0 where
+    pub holds : HoldsAfter r about Holds asked order
+    pub parts_are : parts ≡ parts_of r.split holds.parts
+    pub locals_are : locals ≡ holds.locals
+    pub heap_at : slice_get parts (heap_place r) ≡ Some (part.Heap holds.parts.heap)
+    pub threads : All (λ t. t < length locals) order
 
-  pub covered_is : (lines : List CallLine) (heap : Heap) (s : Standing) (used resident : ℕ) → lines ≡ calls locals order → slice_get parts (heap_place input) ≡ Some (part.Heap heap) → AreStanding lines s → used ≡ used_pages heap → used ≡ sum_by (λ (r : Run). r.pages) heap.runs → used_pages heap ≤ resident → s.bytes ≤ resident * page_bytes
-  covered_is lines heap s used resident is there stand used_is runs covers =
-      let bytes : live_bytes lines ≡ live_bytes (calls told.holds.all.locals order) = ap live_bytes (calls_are lines is) in
-      let same : sum_by (λ (r : Run). r.pages) heap.runs ≡ sum_by (λ (r : Run). r.pages) told.holds.all.parts.heap.runs = ap (λ (h : Heap). sum_by (λ (r : Run). r.pages) h.runs) (heap_is heap there) in
-      omega (arith, stand.bytes, bytes, told.holds.all.covered, same, used_is, runs, covers)
+  -- the heap is the part behind the shards
+  heap_of : (h : HoldsAfter r about Holds asked order) → r.split ≤ length r.parts → slice_get (parts_of r.split h.parts) (heap_place r) ≡ Some (part.Heap h.parts.heap)
+  heap_of h within = ap (λ n. slice_get (parts_of r.split h.parts) (r.split + n)) (sym h.counts.shards) ∙ get_heap r.split h.parts (omega (arith, within, h.counts.fronts))
+
+  told_of : (h : HoldsAfter r about Holds asked order) → r.split ≤ length r.parts → (parts : List (Part P)) (locals : List (Local V R)) → world_of parts locals ≡ run (rules r about asked) order → moving (rules r about asked) (start (rules r about asked)) order ≡ order → length order ≤ 40000000 → IsTold parts locals
+  told_of h within parts locals is moves few =
+      let same : world_of parts locals ≡ world_of (parts_of r.split h.parts) h.locals = is ∙ h.is in
+      let t = threads_below (rules r about asked) order few moves in
+      let parts_are : parts ≡ parts_of r.split h.parts = ap (λ (w : World (Part P) (Local V R)). w.parts) same in
+      let count : length locals ≡ length (rules r about asked).locals = ap (λ (w : World (Part P) (Local V R)). length w.locals) is ∙ t.count in
+      record {
+        holds = h;
+        parts_are = parts_are;
+        locals_are = ap (λ (w : World (Part P) (Local V R)). w.locals) same;
+        heap_at = ap (λ ps. slice_get ps (heap_place r)) parts_are ∙ heap_of h within;
+        threads = subst (λ n. All (λ u. u < n) order) (sym count) t.below;
+      }
+
+  -- so does its law, in every order whose picks move
+  pub told_under : (fits : P → V → Regs → R → Type 0) (After : List ℕ → Type 0) (laws : AreLawful r about asked fits After) → (After order → HoldsAfter r about Holds asked order) → r.split ≤ length r.parts → asked.config.events ≤ 40000000
+      → (parts : List (Part P)) (locals : List (Local V R)) → world_of parts locals ≡ run (rules r about asked) order → moving (rules r about asked) (start (rules r about asked)) order ≡ order → length order ≤ asked.config.events → IsTold parts locals
+  told_under fits After laws shared within bound parts locals is moves few =
+      let most : length order ≤ 40000000 = omega (arith, few, bound) in
+      told_of (shared (laws.holds order (order_is (rules r about asked) order moves most))) within parts locals is moves most
+
+  module _ (parts : List (Part P)) (locals : List (Local V R)) (told : IsTold parts locals) where
+    pub calls_are : (lines : List CallLine) → lines ≡ calls locals order → lines ≡ calls told.holds.locals order
+    calls_are lines is = is ∙ ap (λ ls. calls ls order) told.locals_are
+
+    -- the calls tell each thread's whole script, where all scripts have ended
+    pub scripts_are : HaveEnded (rules r about asked) (run (rules r about asked) order) → (lines : List CallLine) → lines ≡ calls locals order → TellsScripts asked lines
+    scripts_are ended lines is =
+        let h = told.holds in
+        subst (TellsScripts asked) (sym (calls_are lines is)) (record {
+          each = h.all_told ended;
+          others = λ t high. no_lines h.locals t (slice_get_past h.locals t (let n = h.counts.threads in omega (arith, n, high))) [] order;
+        })
+
+    pub heap_is : (heap : Heap) → slice_get parts (heap_place r) ≡ Some (part.Heap heap) → heap ≡ told.holds.parts.heap
+    heap_is heap is = let e : Some (part.Heap heap) ≡ Some (part.Heap told.holds.parts.heap) = sym is ∙ told.heap_at in cc
+
+    pub huge_is : (heap : Heap) → slice_get parts (heap_place r) ≡ Some (part.Heap heap) → heap.config.huge ≡ asked.config.huge
+    huge_is heap is = ap (λ (h : Heap). h.config.huge) (heap_is heap is) ∙ ap (λ (config : HeapConfig). config.huge) told.holds.config
+
+    heap_in_is : heap_in r asked (parts_of r.split told.holds.parts) ≡ told.holds.parts.heap
+    heap_in_is =
+        let first : Heap = opened (heap_config asked.config) in
+        ap (heap_by first) (get_or_from_slice_get (parts_of r.split told.holds.parts) (heap_place r) (part.Heap told.holds.parts.heap) (part.Heap first) (ap (λ ps. slice_get ps (heap_place r)) (sym told.parts_are) ∙ told.heap_at))
+
+    pub finished_is : (lines : List CallLine) (heap : Heap) (s : Kept) (used resident : ℕ) (rows : List RowView) → lines ≡ calls locals order → slice_get parts (heap_place r) ≡ Some (part.Heap heap) → AreStanding lines s → used ≡ used_pages heap → resident ≡ backed_pages heap → rows ≡ map (row_of heap) (range_with_len 1 heap.config.huge) →
+        record { calls = lines; live = s.count; live_bytes = s.bytes; used = used; resident = resident; rows = rows } ≡ finished_in r about asked order
+    finished_is lines heap s used resident rows is there stand used_is resident_is rows_are =
+        let made : List CallLine → ℕ → ℕ → ℕ → ℕ → List RowView → Finished = λ ls live bytes pages backed views. record { calls = ls; live = live; live_bytes = bytes; used = pages; resident = backed; rows = views } in
+        ap (λ n. made lines n s.bytes used resident rows) stand.count
+        ∙ (ap (λ n. made lines (live_count lines) n used resident rows) stand.bytes
+        ∙ (ap (λ n. made lines (live_count lines) (live_bytes lines) n resident rows) used_is
+        ∙ (ap (λ n. made lines (live_count lines) (live_bytes lines) (used_pages heap) n rows) resident_is
+        ∙ (ap (λ vs. made lines (live_count lines) (live_bytes lines) (used_pages heap) (backed_pages heap) vs) rows_are
+        ∙ (ap (λ ls. finished ls heap) (calls_are lines is)
+        ∙ (ap (λ h. finished (calls told.holds.locals order) h) (heap_is heap there)
+        ∙ (ap (λ h. finished (calls told.holds.locals order) h) (sym heap_in_is)
+        ∙ sym (ap (λ (w : World (Part P) (Local V R)). finished (calls w.locals order) (heap_in r asked w.parts)) told.holds.is))))))))
+
+    pub covered_is : (lines : List CallLine) (heap : Heap) (s : Kept) (used resident : ℕ) → lines ≡ calls locals order → slice_get parts (heap_place r) ≡ Some (part.Heap heap) → AreStanding lines s → used ≡ used_pages heap → used ≡ sum_by (λ (x : Run). x.pages) heap.runs → used_pages heap ≤ resident → s.bytes ≤ resident * page_bytes
+    covered_is lines heap s used resident is there stand used_is runs covers =
+        let bytes : live_bytes lines ≡ live_bytes (calls told.holds.locals order) = ap live_bytes (calls_are lines is) in
+        let same : sum_by (λ (x : Run). x.pages) heap.runs ≡ sum_by (λ (x : Run). x.pages) told.holds.parts.heap.runs = ap (λ (h : Heap). sum_by (λ (x : Run). x.pages) h.runs) (heap_is heap there) in
+        omega (arith, stand.bytes, bytes, told.holds.covered, same, used_is, runs, covers)

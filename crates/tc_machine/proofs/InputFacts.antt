@@ -13,13 +13,11 @@ use Rattle.tc_model.specs.Input.{Input, Asked, ThreadCall, script_of, scripts_of
 use Rattle.trace_reader.specs.declared.trace.Trace.{Trace}
 use Rattle.trace_reader.specs.Traces.{trace_of}
 use Rattle.trace_reader.specs.Valid.{IsAsked, AreCalls}
-use Rattle.cpu_rows.specs.CpuCalls.{cpu_calls}
-use Rattle.cpu_rows.specs.CpuFront.{first_seat}
-use Rattle.cpu_rows.specs.PerCpu.{CpuLocal as Local}
-use Rattle.call_steps.specs.Local.{first_local}
 use Rattle.tc_model.specs.Run.{world_of, start}
-use Rattle.cpu_rows.specs.Machine.{first_of, parts_of}
-use Rattle.cpu_rows.specs.Machine as allocator
+use Rattle.call_steps.specs.Calls.{About}
+use Rattle.call_steps.specs.Fronts.{FrontRules}
+use Rattle.call_steps.specs.Local.{Local, first_local}
+use Rattle.alloc_rules.specs.Machine.{first_of, parts_of, rules, turns}
 use Rattle.tc_machine.specs.Inputs.{IsRead, script_at, next_call, calls_by, asked_of, input_of}
 use Rattle.tc_machine.specs.Opening.{local_at, locals_at, parts_at}
 
@@ -104,25 +102,25 @@ threads_are classes trace asked read =
     ap (λ (t : Trace). length t.scripts) read.is ∙ (scripts_count asked ∙ sym (ap (λ (t : Trace). t.config.threads) read.is))
 
 -- the turns of the rules are those of the trace
-pub turns_are : (rows : List ClassRow) (classes : ℕ) (trace : Trace) (asked : Asked) → IsRead classes trace asked → map (λ (t : ThreadNo). t.0) trace.turns ≡ allocator.turns (input_of rows trace)
+pub turns_are : (rows : List ClassRow) (classes : ℕ) (trace : Trace) (asked : Asked) → IsRead classes trace asked → map (λ (t : ThreadNo). t.0) trace.turns ≡ turns (asked_of trace)
 turns_are rows classes trace asked read =
     ap (λ (t : Trace). map (λ (u : ThreadNo). u.0) t.turns) read.is
     ∙ (map_twice (λ (c : ThreadCall). c.thread) (λ (u : ThreadNo). u.0) asked.calls
-    ∙ sym (ap allocator.turns (input_is rows classes trace asked read)))
+    ∙ sym (ap turns (asked_is classes trace asked read)))
 
 -- the threads at the start, and the whole start
-locals_are : (rows : List ClassRow) (asked : Asked) → locals_at rows asked.config (scripts_of asked) ≡ (allocator.rules (record { rows = rows; asked = asked })).locals
-locals_are rows asked =
-    let input : Input = record { rows = rows; asked = asked } in
-    let n : ℕ = asked.config.threads in
-    let local : ℕ → List Planned → Local = λ t ps. first_local (cpu_calls rows) (record { 0 = t }) (first_seat asked.config t) ps in
-    ap (λ k. map (local_at rows asked.config (scripts_of asked)) (range_with_len 0 k)) (scripts_count asked)
-    ∙ same_below (local_at rows asked.config (scripts_of asked)) (first_of input) n (λ t below. ap (local t) (script_at_is n asked.calls t below))
+module _ {P V R : Type 0} (r : FrontRules P V R) (about : R → About) where
+  locals_are : (asked : Asked) → locals_at r about (scripts_of asked) ≡ (rules r about asked).locals
+  locals_are asked =
+      let n : ℕ = asked.config.threads in
+      let local : ℕ → List Planned → Local V R = λ t ps. first_local r.calls (record { 0 = t }) (r.seats t) ps in
+      ap (λ k. map (local_at r about (scripts_of asked)) (range_with_len 0 k)) (scripts_count asked)
+      ∙ same_below (local_at r about (scripts_of asked)) (first_of r about asked) n (λ t below. ap (local t) (script_at_is n asked.calls t below))
 
-start_again : (rows : List ClassRow) (asked : Asked) → world_of (parts_of asked.config.cpus (parts_at rows asked.config (labels_of asked))) (locals_at rows asked.config (scripts_of asked)) ≡ start (allocator.rules (record { rows = rows; asked = asked }))
-start_again rows asked = ap (λ ls. world_of (parts_of asked.config.cpus (parts_at rows asked.config (labels_of asked))) ls) (locals_are rows asked)
+  start_again : (asked : Asked) → world_of (parts_of r.split (parts_at r about asked.config (labels_of asked))) (locals_at r about (scripts_of asked)) ≡ start (rules r about asked)
+  start_again asked = ap (λ ls. world_of (parts_of r.split (parts_at r about asked.config (labels_of asked))) ls) (locals_are asked)
 
-pub start_is : (rows : List ClassRow) (classes : ℕ) (trace : Trace) (asked : Asked) → IsRead classes trace asked → world_of (parts_of trace.config.cpus (parts_at rows trace.config trace.labels)) (locals_at rows trace.config trace.scripts) ≡ start (allocator.rules (input_of rows trace))
-start_is rows classes trace asked read =
-    ap (λ (t : Trace). world_of (parts_of t.config.cpus (parts_at rows t.config t.labels)) (locals_at rows t.config t.scripts)) read.is
-    ∙ (start_again rows asked ∙ sym (ap (λ i. start (allocator.rules i)) (input_is rows classes trace asked read)))
+  pub start_is : (classes : ℕ) (trace : Trace) (asked : Asked) → IsRead classes trace asked → world_of (parts_of r.split (parts_at r about trace.config trace.labels)) (locals_at r about trace.scripts) ≡ start (rules r about (asked_of trace))
+  start_is classes trace asked read =
+      ap (λ (t : Trace). world_of (parts_of r.split (parts_at r about t.config t.labels)) (locals_at r about t.scripts)) read.is
+      ∙ (start_again asked ∙ sym (ap (λ a. start (rules r about a)) (asked_is classes trace asked read)))

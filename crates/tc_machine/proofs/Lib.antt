@@ -1,7 +1,7 @@
 pub mod InputFacts
 pub mod OpeningFacts
 pub mod ValidFacts
-pub mod StateFacts
 pub mod FinishFacts
 pub mod StandingFacts
 pub mod TellingFacts
+pub mod TakingFacts

@@ -10,8 +10,7 @@ use Rattle.std.proofs.lemmas.Bool.{cases_eq, false≢true, eqb-true, ne_eqb, con
 use Rattle.tc_model.specs.declared.answers.CallLine.{CallLine}
 use Rattle.tc_model.specs.Calls.{AreRising, first_at, picks_of, answers_at, calls_from, decided_by}
 use Rattle.tc_model.proofs.Rising.{rising_first}
-use Rattle.cpu_rows.specs.PerCpu.{CpuLocal as Thread}
-use Rattle.call_steps.specs.Local.{Decided, told}
+use Rattle.call_steps.specs.Local.{Decided, Local, told}
 use Rattle.tc_machine.specs.declared.telling.Mark.{Mark}
 use Rattle.tc_machine.specs.Telling.{decided_at, is_of, IsMark}
 
@@ -99,51 +98,52 @@ slice_get-replicate zero x i below = absurd (omega (arith, below))
 slice_get-replicate (suc n) x zero below = refl
 slice_get-replicate (suc n) x (suc i) below = slice_get-replicate n x i (omega (arith, below))
 
--- The marks of all threads, after some picks.
-pub record AreMarks (locals : List Thread) (marks : List Mark) (past : List ℕ) : Type 0 where
-  pub count : length marks ≡ length locals
-  pub each : (u : ℕ) (k : Thread) (m : Mark) → slice_get locals u ≡ Some k → slice_get marks u ≡ Some m → (m.picks ≡ picks_of u past) × IsMark k.answers m
-
-pub first_marks : (locals : List Thread) (marks : List Mark) → marks ≡ replicate (length locals) (record { picks = 0; told = 0 }) → ((t : ℕ) (l : Thread) → slice_get locals t ≡ Some l → AreRising act_of 0 l.answers) → AreMarks locals marks []
-first_marks locals marks is rising =
-    let none : Mark = record { picks = 0; told = 0 } in
-    record {
-      count = ap length is ∙ length-replicate (length locals) none;
-      each = λ u k m local mark.
-          let within : u < length locals = slice_get_within locals u k local in
-          let there : slice_get (replicate (length locals) none) u ≡ Some none = slice_get-replicate (length locals) none u within in
-          let same : Some none ≡ Some m = sym there ∙ (ap (λ xs. slice_get xs u) (sym is) ∙ mark) in
-          let e : none ≡ m = cc in
-          subst (λ (x : Mark). (x.picks ≡ 0) × IsMark k.answers x) e (refl, record { within = omega arith; behind = rising u k local; later = λ n from. refl });
-    }
-
--- one pick more
-pub next_marks : (locals : List Thread) (marks : List Mark) (past : List ℕ) (t : ℕ) (k : Thread) (m m' : Mark) → AreMarks locals marks past → slice_get locals t ≡ Some k → slice_get marks t ≡ Some m → m'.picks ≡ m.picks + 1 → IsMark k.answers m' → AreMarks locals (slice_set marks t m') (past ++ t ∷ [])
-next_marks locals marks past t k m m' are local mark picks next =
-    record {
-      count = length-set marks t m' ∙ are.count;
-      each = λ u l x there at. elim (cases_eq t u) [
-        | inl same ↦
-            let e : Some m' ≡ Some x = sym (set_here marks t m' m mark) ∙ (ap (λ v. slice_get (slice_set marks t m') v) same ∙ at) in
-            let d : m' ≡ x = cc in
-            let f : Some k ≡ Some l = sym local ∙ (ap (slice_get locals) same ∙ there) in
-            let g : k ≡ l = cc in
-            let n : picks_of u (past ++ t ∷ []) ≡ picks_of t past + 1 = ap (λ v. picks_of v (past ++ t ∷ [])) (sym same) ∙ picks-push_same t past in
-            (omega (arith, ap (λ (y : Mark). y.picks) d, picks, (are.each t k m local mark).0, n), subst (λ (y : Mark). IsMark l.answers y) d (subst (λ (y : Thread). IsMark y.answers m') g next))
-        | inr apart ↦
-            let old = are.each u l x there (sym (set_elsewhere marks t u m' apart) ∙ at) in
-            (old.0 ∙ sym (picks-push_other u t past apart), old.1)
-      ];
-    }
-
 pub here_is : {X : Type 0} (xs : List X) (t : ℕ) (x : X) → t < length xs → x ≡ get_or xs t x → slice_get xs t ≡ Some x
 here_is xs t x below is = slice_get-get_or xs t x below ∙ ap (λ y. Some y) (sym is)
 
--- what the next pick of thread t adds to the calls
-pub told_next : (locals : List Thread) (past : List ℕ) (t n : ℕ) (k : Thread) (added : List CallLine) → slice_get locals t ≡ Some k → k.regs.thread.0 ≡ t → n ≡ picks_of t past → added ≡ map (told k.regs.thread.0) (decided_at n k.answers) →
-    calls_from (decided_by (λ (l : Thread). l.answers) act_of told locals) [] (past ++ t ∷ []) ≡ calls_from (decided_by (λ (l : Thread). l.answers) act_of told locals) [] past ++ added
-told_next locals past t n k added local own picks is =
-    let decided = decided_by (λ (l : Thread). l.answers) act_of told locals in
-    let number : picks_of t [] + picks_of t past ≡ n = omega (arith, picks) in
-    let same : decided t n ≡ added = ap (λ o. map (told t) (decided_at n (answers_at (λ (l : Thread). l.answers) o))) local ∙ (ap (λ u. map (told u) (decided_at n k.answers)) (sym own) ∙ sym is) in
-    calls_from-push decided [] past t ∙ ap (λ xs. calls_from decided [] past ++ xs) (ap (decided t) number ∙ same)
+module _ {V R : Type 0} where
+  -- The marks of all threads, after some picks.
+  pub record AreMarks (locals : List (Local V R)) (marks : List Mark) (past : List ℕ) : Type 0 where
+    pub count : length marks ≡ length locals
+    pub each : (u : ℕ) (k : Local V R) (m : Mark) → slice_get locals u ≡ Some k → slice_get marks u ≡ Some m → (m.picks ≡ picks_of u past) × IsMark k.answers m
+
+  pub first_marks : (locals : List (Local V R)) (marks : List Mark) → marks ≡ replicate (length locals) (record { picks = 0; told = 0 }) → ((t : ℕ) (l : Local V R) → slice_get locals t ≡ Some l → AreRising act_of 0 l.answers) → AreMarks locals marks []
+  first_marks locals marks is rising =
+      let none : Mark = record { picks = 0; told = 0 } in
+      record {
+        count = ap length is ∙ length-replicate (length locals) none;
+        each = λ u k m local mark.
+            let within : u < length locals = slice_get_within locals u k local in
+            let there : slice_get (replicate (length locals) none) u ≡ Some none = slice_get-replicate (length locals) none u within in
+            let same : Some none ≡ Some m = sym there ∙ (ap (λ xs. slice_get xs u) (sym is) ∙ mark) in
+            let e : none ≡ m = cc in
+            subst (λ (x : Mark). (x.picks ≡ 0) × IsMark k.answers x) e (refl, record { within = omega arith; behind = rising u k local; later = λ n from. refl });
+      }
+
+  -- one pick more
+  pub next_marks : (locals : List (Local V R)) (marks : List Mark) (past : List ℕ) (t : ℕ) (k : Local V R) (m m' : Mark) → AreMarks locals marks past → slice_get locals t ≡ Some k → slice_get marks t ≡ Some m → m'.picks ≡ m.picks + 1 → IsMark k.answers m' → AreMarks locals (slice_set marks t m') (past ++ t ∷ [])
+  next_marks locals marks past t k m m' are local mark picks next =
+      record {
+        count = length-set marks t m' ∙ are.count;
+        each = λ u l x there at. elim (cases_eq t u) [
+          | inl same ↦
+              let e : Some m' ≡ Some x = sym (set_here marks t m' m mark) ∙ (ap (λ v. slice_get (slice_set marks t m') v) same ∙ at) in
+              let d : m' ≡ x = cc in
+              let f : Some k ≡ Some l = sym local ∙ (ap (slice_get locals) same ∙ there) in
+              let g : k ≡ l = cc in
+              let n : picks_of u (past ++ t ∷ []) ≡ picks_of t past + 1 = ap (λ v. picks_of v (past ++ t ∷ [])) (sym same) ∙ picks-push_same t past in
+              (omega (arith, ap (λ (y : Mark). y.picks) d, picks, (are.each t k m local mark).0, n), subst (λ (y : Mark). IsMark l.answers y) d (subst (λ (y : Local V R). IsMark y.answers m') g next))
+          | inr apart ↦
+              let old = are.each u l x there (sym (set_elsewhere marks t u m' apart) ∙ at) in
+              (old.0 ∙ sym (picks-push_other u t past apart), old.1)
+        ];
+      }
+
+  -- what the next pick of thread t adds to the calls
+  pub told_next : (locals : List (Local V R)) (past : List ℕ) (t n : ℕ) (k : Local V R) (added : List CallLine) → slice_get locals t ≡ Some k → k.regs.thread.0 ≡ t → n ≡ picks_of t past → added ≡ map (told k.regs.thread.0) (decided_at n k.answers) →
+      calls_from (decided_by (λ (l : Local V R). l.answers) act_of told locals) [] (past ++ t ∷ []) ≡ calls_from (decided_by (λ (l : Local V R). l.answers) act_of told locals) [] past ++ added
+  told_next locals past t n k added local own picks is =
+      let decided = decided_by (λ (l : Local V R). l.answers) act_of told locals in
+      let number : picks_of t [] + picks_of t past ≡ n = omega (arith, picks) in
+      let same : decided t n ≡ added = ap (λ o. map (told t) (decided_at n (answers_at (λ (l : Local V R). l.answers) o))) local ∙ (ap (λ u. map (told u) (decided_at n k.answers)) (sym own) ∙ sym is) in
+      calls_from-push decided [] past t ∙ ap (λ xs. calls_from decided [] past ++ xs) (ap (decided t) number ∙ same)

@@ -19,10 +19,8 @@ use Rattle.trace_reader.specs.Valid as reads
 use Rattle.holdings.specs.Runs.{bit}
 use Rattle.holdings.specs.Accounts.{got, put}
 use Rattle.call_steps.specs.Shapes.{IsClassRow, AreRows}
-use Rattle.cpu_rows.specs.Shapes.{Limits, IsMove, IsCallThere}
-use Rattle.alloc_rules.specs.Valid.{IsInOrder}
-use Rattle.cpu_rows.specs.Laws.{AreCpuLimits}
-use Rattle.cpu_rows.specs.Valid.{IsValid, AreLimits}
+use Rattle.alloc_rules.specs.Inputs.{Limits, limits_of, IsMove, IsCallThere, IsValidInput}
+use Rattle.alloc_rules.specs.Valid.{IsInOrder, AreLimits}
 use Rattle.tc_machine.specs.Inputs.{IsRead, input_of}
 use Rattle.tc_machine.proofs.InputFacts.{input_is}
 
@@ -100,10 +98,12 @@ all_rows above (row ∷ rows) are = All-cons IsClassRow row rows (row_of row are
 rows_of : (rows : List ClassRow) → table.IsTable rows → AreRows rows
 rows_of rows is = record { some = omega (arith, is.some); few = is.most; each = all_rows 0 rows is.rows_rise }
 
-limits_of : (config : Config) → reads.IsConfig config → AreLimits config
-limits_of config is =
+pub heads_of : (config : Config) → reads.IsConfig config → AreLimits config
+heads_of config is =
     record {
       cpus = omega (arith, is.cpus.0);
+      threads = omega (arith, is.threads.0);
+      few_threads = is.threads.1;
       some = omega (arith, is.huge.0);
       few = is.huge.1;
       region = is.region.0;
@@ -112,15 +112,12 @@ limits_of config is =
       percpu = is.percpu;
     }
 
-pub cpu_limits_of : (config : Config) → reads.IsConfig config → AreCpuLimits config
-cpu_limits_of config is = record { cpus = omega (arith, is.cpus.0); slab = omega (arith, is.slab.0); slots = is.slab.1; percpu = is.percpu }
-
-valid_asked : (rows : List ClassRow) (asked : Asked) → table.IsTable rows → reads.IsAsked (length rows) asked → IsValid (record { rows = rows; asked = asked })
+valid_asked : (rows : List ClassRow) (asked : Asked) → table.IsTable rows → reads.IsAsked (length rows) asked → IsValidInput (record { rows = rows; asked = asked })
 valid_asked rows asked is valid =
-    let m : Limits = record { rows = rows; cpus = asked.config.cpus } in
+    let m : Limits = limits_of rows asked.config in
     record {
       rows = rows_of rows is;
-      limits = limits_of asked.config valid.config;
+      limits = heads_of asked.config valid.config;
       calls = λ earlier c later there.
           let read = valid.calls earlier c later there in
           record {
@@ -130,5 +127,5 @@ valid_asked rows asked is valid =
           };
     }
 
-pub valid_read : (rows : List ClassRow) (trace : Trace) (asked : Asked) → table.IsTable rows → IsRead (length rows) trace asked → IsValid (input_of rows trace)
-valid_read rows trace asked is read = subst IsValid (sym (input_is rows (length rows) trace asked read)) (valid_asked rows asked is read.valid)
+pub valid_read : (rows : List ClassRow) (trace : Trace) (asked : Asked) → table.IsTable rows → IsRead (length rows) trace asked → IsValidInput (input_of rows trace)
+valid_read rows trace asked is read = subst IsValidInput (sym (input_is rows (length rows) trace asked read)) (valid_asked rows asked is read.valid)

@@ -8,14 +8,13 @@ ghost use Rattle.tc_machine.specs.Standing.{AreStanding};
 
 use crate::standing::Standing;
 use alloc_rules::Part;
-use cpu_rows::CpuFrontPart;
 use page_heap::PageHeap;
 use std::alloc::{AllocError, Global};
 use tc_model::CallLine;
 use tc_units::{Huge, RowView};
 
 /// The page heap, which is the part with this number.
-pub fn heap_of(parts: &[Part<CpuFrontPart>], place: usize) -> &PageHeap
+pub(crate) fn heap_of<P: Drop>(parts: &[Part<P>], place: usize) -> &PageHeap
     requires { (heap : Heap) × (slice_get parts.now place ≡ Some (part.Heap heap)) }
     ensures { slice_get parts.now place ≡ Some (part.Heap result.now) }
 {
@@ -26,7 +25,7 @@ pub fn heap_of(parts: &[Part<CpuFrontPart>], place: usize) -> &PageHeap
 }
 
 /// The measures of each hugepage, in order.
-pub fn rows_of(alloc: Global, heap: &PageHeap, huge: u32) -> Result<Vec<RowView>, AllocError>
+pub(crate) fn rows_of(alloc: Global, heap: &PageHeap, huge: u32) -> Result<Vec<RowView>, AllocError>
     requires all { huge ≡ heap.now.config.huge }
     requires few { huge ≤ 4096 }
     ensures { IfOk result (λ rows. rows.items ≡ map (row_of heap.now) (range_with_len 1 huge)) }

@@ -1,62 +1,63 @@
-//! The allocator as a machine of parts and locals.
+//! The allocator over a front-end, as a machine of parts and locals.
 ghost use Rattle.std.specs.Prelude.{◌≡◌, ◌+◌, ◌≤◌, length, map};
 ghost use Rattle.tc_units.specs.declared.units.ThreadNo.{ThreadNo};
-ghost use Rattle.cpu_rows.specs.Machine.{turns as turns_of_input};
-ghost use Rattle.cpu_rows.specs.Valid.{IsValid};
-ghost use Rattle.cpu_rows.proofs.ValidProp.{valid_prop};
+ghost use Rattle.alloc_rules.specs.Inputs.{IsValidInput, not_taken};
+ghost use Rattle.alloc_rules.specs.Machine.{turns as turns_of};
+ghost use Rattle.alloc_rules.proofs.ValidProp.{valid_prop};
 ghost use Rattle.tc_machine.specs.Inputs.{input_under};
 
-use alloc_rules::{Part, number_of};
-use call_steps::{Setting, act_front, act_heap, act_map, act_names, act_shard, waits, yields};
-use cpu_front::CpuLocal;
-use cpu_rows::CpuFrontPart;
+use alloc_rules::{LawfulFront, Part, number_of};
+use call_steps::{
+    Local, Setting, act_front, act_heap, act_map, act_names, act_shard, waits, yields,
+};
 use std::alloc::{AllocError, Global};
+use std::marker::PhantomData;
 use std::snapshot::Snapshot;
 use tc_model::{Acted, Machine, PartNo, Serial};
 use tc_units::{Listed, ThreadNo};
 use trace_reader::Trace;
 
-/// The allocator under a class table, for the calls of a trace.
+/// The allocator under a class table, for the calls of a trace, over the front-end F.
 #[derive(Drop)]
-pub struct AllocMachine {
-    pub(crate) setting: Setting,
+pub struct AllocMachine<F: LawfulFront> {
+    pub setting: Setting,
     /// The thread of each call, in trace order.
-    pub(crate) turns: Listed<ThreadNo>,
+    pub turns: Listed<ThreadNo>,
     /// What the trace asked for, which contracts alone see.
-    pub(crate) trace: Snapshot<Trace>,
-    pub(crate) ghost few: { setting.config.events ≤ 40000000 },
-    pub(crate) ghost same_turns: { map (λ (t : ThreadNo). t.0) turns ≡ turns_of_input (input_under setting trace.value) },
-    pub(crate) ghost valid: { IsValid (input_under setting trace.value) } by { valid_prop (input_under setting trace.value) },
+    pub trace: Snapshot<Trace>,
+    pub of: PhantomData<F>,
+    pub ghost few: { setting.config.events ≤ 40000000 },
+    pub ghost same_turns: { map (λ (t : ThreadNo). t.0) turns ≡ turns_of (input_under setting trace.value).asked },
+    pub ghost valid: { IsValidInput (input_under setting trace.value) } by { valid_prop (input_under setting trace.value) },
+    pub ghost taken: { not_taken F.takes (input_under setting trace.value).asked.calls ≡ 0 },
 }
 
-impl AllocMachine {
+impl<F: LawfulFront> AllocMachine<F> {
     /// The number of the page heap among the parts.
     pub(crate) fn heap_place(&self) -> usize
-        ensures { result ≡ self.now.setting.config.cpus + length self.now.setting.table }
+        ensures { result ≡ (F.rules self.now.setting).split + length self.now.setting.table }
     {
-        usize::from(self.setting.config.cpus) + self.setting.table.len() as usize
+        usize::from(F::split(&self.setting)) + self.setting.table.len() as usize
     }
 }
 
-impl Machine for AllocMachine {
-    type Part = Part<CpuFrontPart>;
+impl<F: LawfulFront> Machine for AllocMachine<F> {
+    type Part = Part<F::Part>;
 
-    type Local = CpuLocal;
+    type Local = Local<F>;
 
-    ghost use Rattle.cpu_rows.specs.Machine.{rules};
+    ghost use Rattle.alloc_rules.specs.Machine.{rules};
     ghost use Rattle.alloc_rules.specs.Fits.{Fits};
-    ghost use Rattle.cpu_rows.specs.CpuHolds.{cpu_fits};
-    ghost use Rattle.cpu_rows.proofs.Afterwards.{cpu_in_every_order};
     ghost use Rattle.tc_machine.specs.Inputs.{input_under};
 
-    ghost rules = { λ m. rules (input_under m.setting m.trace.value) };
+    ghost rules = { λ m. rules (F.rules m.setting) F.about (input_under m.setting m.trace.value).asked };
 
-    ghost fits = { λ m. Fits m.setting.table (cpu_fits m.setting.table) };
+    ghost fits = { λ m. Fits (F.rules m.setting).calls.rows (F.fits m.setting) };
 
-    fn want(&self, local: &CpuLocal) -> Option<PartNo> {
+    fn want(&self, local: &Local<F>) -> Option<PartNo> {
         match local.want(&self.setting) {
             Some(target) => Some(number_of(
-                self.setting.config.cpus,
+                F::split(&self.setting),
                 self.setting.table.len(),
                 target,
             )),
@@ -64,18 +65,18 @@ impl Machine for AllocMachine {
         }
     }
 
-    fn done(&self, local: &CpuLocal) -> u64 {
+    fn done(&self, local: &Local<F>) -> u64 {
         local.done()
     }
 
-    fn waits(&self, part: &Part<CpuFrontPart>, local: &CpuLocal) -> bool {
+    fn waits(&self, part: &Part<F::Part>, local: &Local<F>) -> bool {
         match part {
             Part::Names(names) => waits(names, local),
             _ => false,
         }
     }
 
-    fn yields(&self, part: &Part<CpuFrontPart>, local: &CpuLocal) -> bool {
+    fn yields(&self, part: &Part<F::Part>, local: &Local<F>) -> bool {
         match part {
             Part::Front(part) => yields(&self.setting, part, local),
             _ => true,
@@ -85,8 +86,8 @@ impl Machine for AllocMachine {
     fn act(
         &self,
         _alloc: Global,
-        part: &mut Part<CpuFrontPart>,
-        local: &mut CpuLocal,
+        part: &mut Part<F::Part>,
+        local: &mut Local<F>,
     ) -> Result<Acted, AllocError> {
         match part {
             Part::Front(part) => act_front(&self.setting, part, local)?,
@@ -98,15 +99,14 @@ impl Machine for AllocMachine {
         Ok(Acted::Moved)
     }
 
-    ghost sound = { λ m. (cpu_in_every_order (input_under m.setting m.trace.value) m.valid).sound };
+    ghost sound = { λ m. (F.lawful (input_under m.setting m.trace.value) m.valid m.taken).sound };
 }
 
-impl Serial for AllocMachine {
-    ghost use Rattle.cpu_rows.specs.Machine as allocator;
-    ghost use Rattle.cpu_rows.proofs.Afterwards.{cpu_in_every_order};
+impl<F: LawfulFront> Serial for AllocMachine<F> {
+    ghost use Rattle.alloc_rules.specs.Machine as allocator;
     ghost use Rattle.tc_machine.specs.Inputs.{input_under};
 
-    ghost turns = { λ m. allocator.turns (input_under m.setting m.trace.value) };
+    ghost turns = { λ m. allocator.turns (input_under m.setting m.trace.value).asked };
 
     fn calls(&self) -> usize {
         self.turns.as_slice().len()
@@ -116,11 +116,11 @@ impl Serial for AllocMachine {
         u16::from(self.turns.as_slice()[call].0)
     }
 
-    ghost threads = { λ m. (cpu_in_every_order (input_under m.setting m.trace.value) m.valid).threads };
+    ghost threads = { λ m. (F.lawful (input_under m.setting m.trace.value) m.valid m.taken).threads };
 
-    ghost never_waits = { λ m. (cpu_in_every_order (input_under m.setting m.trace.value) m.valid).never_waits };
+    ghost never_waits = { λ m. (F.lawful (input_under m.setting m.trace.value) m.valid m.taken).never_waits };
 
-    ghost rises = { λ m. (cpu_in_every_order (input_under m.setting m.trace.value) m.valid).rises };
+    ghost rises = { λ m. (F.lawful (input_under m.setting m.trace.value) m.valid m.taken).rises };
 
-    ghost ends = { λ m. (cpu_in_every_order (input_under m.setting m.trace.value) m.valid).ends };
+    ghost ends = { λ m. (F.lawful (input_under m.setting m.trace.value) m.valid m.taken).ends };
 }

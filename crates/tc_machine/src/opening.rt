@@ -3,16 +3,12 @@ ghost use Rattle.std.specs.Prelude.{◌≡◌, ◌≤◌, ◌++◌, length, map,
 ghost use Rattle.size_classes.specs.Rows.{IsTable};
 ghost use Rattle.trace_reader.specs.Valid.{IsConfig};
 ghost use Rattle.alloc_rules.specs.declared.part.Part.TheVariants as part;
-ghost use Rattle.alloc_rules.specs.Machine.{heap_config, first_shards, middle_of};
-ghost use Rattle.cpu_rows.specs.Machine.{parts_of};
-ghost use Rattle.cpu_rows.specs.Laws.{AreCpuLimits};
+ghost use Rattle.alloc_rules.specs.Machine.{heap_config, first_shards, middle_of, parts_of};
 ghost use Rattle.tc_machine.specs.Opening.{parts_at, locals_at};
 
 use alloc_rules::Part;
 use call_steps::{FrontEnd, Local, Setting};
 use class_shard::ClassShard;
-use cpu_front::{CpuCaches, CpuLocal};
-use cpu_rows::CpuFrontPart;
 use name_table::NameTable;
 use page_heap::{HeapConfig, PageHeap};
 use page_map::PageMap;
@@ -63,14 +59,14 @@ fn add_shards<P: Drop>(
 }
 
 /// An empty heap, an empty page map, and labels without meaning.
-fn add_middle(
+fn add_middle<F: FrontEnd>(
     setting: &Setting,
     alloc: Global,
     labels: u32,
-    parts: &mut Vec<Part<CpuFrontPart>>,
+    parts: &mut Vec<Part<F::Part>>,
 ) -> Result<(), AllocError>
     requires { IsConfig setting.now.config }
-    ensures { OnOk result (parts.new.items ≡ parts.old.items ++ middle_of (parts_at setting.now.table setting.now.config labels)) }
+    ensures { OnOk result (parts.new.items ≡ parts.old.items ++ middle_of (parts_at (F.rules setting.now) F.about setting.now.config labels)) }
 {
     let config = &setting.config;
     parts.push(Part::Heap(PageHeap::open(alloc, &heap_limits(config))?))?;
@@ -80,33 +76,33 @@ fn add_middle(
 }
 
 /// All parts at their start, by their numbers.
-pub fn parts_of(
+pub(crate) fn parts_of<F: FrontEnd>(
     setting: &Setting,
     alloc: Global,
     labels: u32,
-) -> Result<Vec<Part<CpuFrontPart>>, AllocError>
+) -> Result<Vec<Part<F::Part>>, AllocError>
     requires config { IsConfig setting.now.config }
-    requires opens { AreCpuLimits setting.now.config }
-    ensures parts { IfOk result (λ parts. parts.items ≡ parts_of setting.now.config.cpus (parts_at setting.now.table setting.now.config labels)) }
+    requires opens { F.can_open setting.now }
+    ensures parts { IfOk result (λ parts. parts.items ≡ parts_of (F.rules setting.now).split (parts_at (F.rules setting.now) F.about setting.now.config labels)) }
     ensures table { OnOk result (IsTable setting.now.table) }
 {
     let mut parts = Vec::new(alloc);
-    add_fronts(CpuCaches::first_parts(setting, alloc)?, &mut parts)?;
+    add_fronts(F::first_parts(setting, alloc)?, &mut parts)?;
     add_shards(setting, alloc, &mut parts)?;
-    add_middle(setting, alloc, labels, &mut parts)?;
-    add_fronts(CpuCaches::later_parts(setting, alloc)?, &mut parts)?;
+    add_middle::<F>(setting, alloc, labels, &mut parts)?;
+    add_fronts(F::later_parts(setting, alloc)?, &mut parts)?;
     Ok(parts)
 }
 
 /// A thread for each script.
-pub fn locals_of(
+pub(crate) fn locals_of<F: FrontEnd>(
     setting: &Setting,
     alloc: Global,
     scripts: Vec<Script>,
-) -> Result<Vec<CpuLocal>, AllocError>
+) -> Result<Vec<Local<F>>, AllocError>
     requires few { length scripts.items ≤ 64 }
-    requires opens { AreCpuLimits setting.now.config }
-    ensures { IfOk result (λ locals. locals.items ≡ locals_at setting.now.table setting.now.config scripts.items) }
+    requires opens { F.can_open setting.now }
+    ensures { IfOk result (λ locals. locals.items ≡ locals_at (F.rules setting.now) F.about scripts.items) }
 {
     let mut locals = Vec::new(alloc);
     for script in scripts {

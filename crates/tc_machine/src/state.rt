@@ -1,82 +1,65 @@
 //! The state of the allocator: its parts and its threads, after the picks of an order.
 ghost use Rattle.std.specs.Prelude.{◌≡◌, ℕ, ◌*◌, ◌<◌, ◌≤◌, ◌↔◌, [], length, All, IfOk, IfErr, OnErr, OnOk, IsTrue};
+ghost use Rattle.tc_units.specs.Units.{page_bytes, huge_pages};
+ghost use Rattle.tc_units.specs.Classes.{length_of};
+ghost use Rattle.tc_model.specs.Blocks.{IsBlockRun};
 ghost use Rattle.tc_model.specs.Input.{Asked};
 ghost use Rattle.tc_model.specs.Run.{world_of, start, run};
 ghost use Rattle.tc_model.specs.Steps.{stepped, order_with, moving};
 ghost use Rattle.tc_model.specs.Replays.{IsFaultAt, is_polite, done_in, HaveEnded};
 ghost use Rattle.tc_model.specs.Serial.{completed, followed, IsCutShort};
 ghost use Rattle.tc_model.specs.declared.steps.Stepped.TheVariants as step;
-ghost use Rattle.cpu_rows.specs.Machine as allocator;
-ghost use Rattle.tc_machine.specs.Inputs.{IsRead, input_of};
+ghost use Rattle.alloc_rules.specs.Inputs.{not_taken};
+ghost use Rattle.alloc_rules.specs.Machine.{turns};
+ghost use Rattle.alloc_rules.specs.Told.{TellsScripts};
+ghost use Rattle.tc_machine.specs.Inputs.{IsRead, asked_of, input_of};
 ghost use Rattle.tc_machine.specs.Played.{world};
-ghost use Rattle.tc_machine.specs.Held.{input_in};
-ghost use Rattle.tc_machine.specs.Lawful.{IsLawful};
-ghost use Rattle.tc_machine.specs.Finish.{finished_in};
-ghost use Rattle.tc_units.specs.Units.{page_bytes, huge_pages};
-ghost use Rattle.tc_units.specs.Classes.{length_of};
-ghost use Rattle.tc_model.specs.Blocks.{IsBlockRun};
 
-use crate::finish::{heap_of, rows_of, standing_after};
-use crate::machine::AllocMachine;
-use crate::opening::{locals_of, parts_of};
-use crate::telling::told_calls;
-use alloc_rules::Part;
-use call_steps::Setting;
-use cpu_front::CpuLocal;
-use cpu_rows::CpuFrontPart;
+use crate::allocator::{Allocator, Opened};
 use size_classes::ClassTable;
 use std::alloc::{AllocError, Global};
 use std::marker::Model;
-use std::snapshot::Snapshot;
 use tc_model::{Finished, Replay, StepFault, Stepped};
-use tc_units::{Listed, ThreadNo};
+use tc_units::ThreadNo;
 use trace_reader::Trace;
 
 /// The allocator's parts and its threads, after the picks of an order. Contracts see what it is a run of
 /// and that order: no other state can be made. A pick that doesn't move isn't entered.
 #[derive(Drop)]
-pub struct State {
-    pub(crate) replay: Replay<AllocMachine>,
+pub struct State<M: Allocator> {
+    pub(crate) replay: Replay<M>,
     alloc: Global,
 }
 
-impl Model for State {
+impl<M: Allocator> Model for State<M> {
     ghost use Rattle.std.specs.Prelude.{◌≡◌};
     ghost use Rattle.tc_machine.specs.Played.{Played};
-    ghost use Rattle.tc_machine.specs.Held.{input_in};
 
     ghost Value = { Played };
 
-    ghost view = { λ s. record { input = input_in s.replay.machine; order = s.replay.order.items } };
+    ghost view = { λ s. record { input = M.input s.replay.machine; order = s.replay.order.items } };
 
-    ghost invariant = { λ s. s.replay.limit ≡ s.replay.machine.setting.config.events };
+    ghost invariant = { λ s. s.replay.limit ≡ (M.input s.replay.machine).asked.config.events };
 }
 
-impl State {
-    /// The start of a run. Its condition is that the reader answers this trace for some text.
-    pub fn open(alloc: Global, table: ClassTable, trace: Trace) -> Result<State, AllocError>
+impl<M: Allocator> State<M> {
+    /// The start of a run. Its condition is that the reader answers this trace for some text, and that the machine takes its
+    /// calls.
+    pub fn open(alloc: Global, table: ClassTable, trace: Trace) -> Result<State<M>, AllocError>
         requires read { (asked : Asked) × IsRead (length table) trace asked }
+        requires taken { not_taken M.takes (asked_of trace).calls ≡ 0 }
         ensures input { IfOk result (λ s. s.input ≡ input_of table trace) }
         ensures asked { IfOk result (λ s. (asked : Asked) → IsRead (length table) trace asked → s.input ≡ record { rows = table; asked = asked }) }
         ensures order { IfOk result (λ s. s.order ≡ []) }
     {
-        let seen = Snapshot::of(&trace);
-        let Trace {
-            config,
-            scripts,
-            turns,
-            labels,
-        } = trace;
-        let setting = Setting { table, config };
-        let parts = parts_of(&setting, alloc, labels)?;
-        let locals = locals_of(&setting, alloc, scripts.into_vec())?;
-        let machine = AllocMachine {
-            setting,
-            turns,
-            trace: seen,
-        };
+        let Opened {
+            machine,
+            parts,
+            locals,
+        } = M::open(alloc, table, trace)?;
+        let limit = machine.most_picks();
         let order = Vec::new(alloc);
-        let replay = Replay::gather(alloc, machine, parts, locals, order, config.events);
+        let replay = Replay::gather(alloc, machine, parts, locals, order, limit);
         Ok(State { replay, alloc })
     }
 
@@ -84,7 +67,7 @@ impl State {
     pub fn threads(&self) -> u8
         ensures { result ≡ self.now.input.asked.config.threads }
     {
-        self.replay.machine.setting.config.threads
+        self.replay.machine.threads()
     }
 
     /// Picks a thread. Its act and its entry in the order are done both or neither.
@@ -95,12 +78,12 @@ impl State {
     pub fn step(&mut self, thread: ThreadNo) -> Result<Stepped, StepFault>
         requires { thread.0 < self.old.input.asked.config.threads }
         ensures input { self.new.input ≡ self.old.input }
-        ensures answer { IfOk result (λ s. s ≡ stepped (allocator.rules self.old.input) (world self.old) thread.0) }
+        ensures answer { IfOk result (λ s. s ≡ stepped (M.rules_of self.old.input) (world M.rules_of self.old) thread.0) }
         ensures order { IfOk result (λ s. self.new.order ≡ order_with self.old.order thread.0 s) }
         ensures room { IfOk result (λ s. s ≡ step.Moved → length self.old.order < self.old.input.asked.config.events) }
-        ensures fault { IfErr result (IsFaultAt (allocator.rules self.old.input) self.old.input.asked.config.events self.old.order thread.0) }
+        ensures fault { IfErr result (IsFaultAt (M.rules_of self.old.input) self.old.input.asked.config.events self.old.order thread.0) }
         ensures same { OnErr result (self.new ≡ self.old) }
-        ensures lawful { IsLawful self.new.input self.new.order }
+        ensures lawful { M.lawful self.new.input self.new.order }
     {
         self.replay.step(u16::from(thread.0))
     }
@@ -110,10 +93,10 @@ impl State {
     /// After a fault the state is that of the picks before it.
     pub fn run_serial(&mut self) -> Result<(), StepFault>
         ensures input { self.new.input ≡ self.old.input }
-        ensures ok { OnOk result (self.new.order ≡ completed (allocator.rules self.old.input) (allocator.turns self.old.input) self.old.input.asked.config.events self.old.order) }
-        ensures ended { OnOk result (HaveEnded (allocator.rules self.new.input) (world self.new)) }
-        ensures fault { IfErr result (IsCutShort (allocator.rules self.old.input) self.old.input.asked.config.events (completed (allocator.rules self.old.input) (allocator.turns self.old.input) self.old.input.asked.config.events self.old.order) self.new.order) }
-        ensures lawful { IsLawful self.new.input self.new.order }
+        ensures ok { OnOk result (self.new.order ≡ completed (M.rules_of self.old.input) (turns self.old.input.asked) self.old.input.asked.config.events self.old.order) }
+        ensures ended { OnOk result (HaveEnded (M.rules_of self.new.input) (world M.rules_of self.new)) }
+        ensures fault { IfErr result (IsCutShort (M.rules_of self.old.input) self.old.input.asked.config.events (completed (M.rules_of self.old.input) (turns self.old.input.asked) self.old.input.asked.config.events self.old.order) self.new.order) }
+        ensures lawful { M.lawful self.new.input self.new.order }
     {
         self.replay.run_serial()
     }
@@ -124,10 +107,10 @@ impl State {
     pub fn run_order(&mut self, picks: &[u16]) -> Result<(), StepFault>
         requires { All (λ t. t < self.old.input.asked.config.threads) picks.now }
         ensures input { self.new.input ≡ self.old.input }
-        ensures ok { OnOk result (self.new.order ≡ completed (allocator.rules self.old.input) (allocator.turns self.old.input) self.old.input.asked.config.events (followed (allocator.rules self.old.input) self.old.input.asked.config.events self.old.order picks.now)) }
-        ensures ended { OnOk result (HaveEnded (allocator.rules self.new.input) (world self.new)) }
-        ensures fault { IfErr result (IsCutShort (allocator.rules self.old.input) self.old.input.asked.config.events (completed (allocator.rules self.old.input) (allocator.turns self.old.input) self.old.input.asked.config.events (followed (allocator.rules self.old.input) self.old.input.asked.config.events self.old.order picks.now)) self.new.order) }
-        ensures lawful { IsLawful self.new.input self.new.order }
+        ensures ok { OnOk result (self.new.order ≡ completed (M.rules_of self.old.input) (turns self.old.input.asked) self.old.input.asked.config.events (followed (M.rules_of self.old.input) self.old.input.asked.config.events self.old.order picks.now)) }
+        ensures ended { OnOk result (HaveEnded (M.rules_of self.new.input) (world M.rules_of self.new)) }
+        ensures fault { IfErr result (IsCutShort (M.rules_of self.old.input) self.old.input.asked.config.events (completed (M.rules_of self.old.input) (turns self.old.input.asked) self.old.input.asked.config.events (followed (M.rules_of self.old.input) self.old.input.asked.config.events self.old.order picks.now)) self.new.order) }
+        ensures lawful { M.lawful self.new.input self.new.order }
     {
         self.replay.run_order(picks)
     }
@@ -135,7 +118,7 @@ impl State {
     /// The threads of the picks that moved.
     pub fn order(&self) -> &[u16]
         ensures order { result.now ≡ self.now.order }
-        ensures lawful { IsLawful self.now.input self.now.order }
+        ensures lawful { M.lawful self.now.input self.now.order }
     {
         self.replay.order()
     }
@@ -143,15 +126,22 @@ impl State {
     /// The order, without the rest.
     pub fn into_order(self) -> Vec<u16>
         ensures order { result.items ≡ self.order }
-        ensures lawful { IsLawful self.input self.order }
+        ensures lawful { M.lawful self.input self.order }
     {
         let State { replay, alloc: _ } = self;
         replay.into_order()
     }
 
+    /// The threads, as the picks so far left them.
+    pub fn locals(&self) -> &[M::Local]
+        ensures { result.now ≡ (world M.rules_of self.now).locals }
+    {
+        &self.replay.locals
+    }
+
     /// Whether all scripts have ended.
     pub fn ended(&self) -> bool
-        ensures { IsTrue result ↔ HaveEnded (allocator.rules self.now.input) (world self.now) }
+        ensures { IsTrue result ↔ HaveEnded (M.rules_of self.now.input) (world M.rules_of self.now) }
     {
         self.replay.ended()
     }
@@ -159,7 +149,7 @@ impl State {
     /// How many calls of a thread have ended.
     pub fn done(&self, thread: ThreadNo) -> u64
         requires { thread.0 < self.now.input.asked.config.threads }
-        ensures { result ≡ done_in (allocator.rules self.now.input) (world self.now) thread.0 }
+        ensures { result ≡ done_in (M.rules_of self.now.input) (world M.rules_of self.now) thread.0 }
     {
         self.replay.done(u16::from(thread.0))
     }
@@ -167,16 +157,18 @@ impl State {
     /// Whether it is polite to pick a thread now. It is where the thread's script has ended.
     pub fn yields(&self, thread: ThreadNo) -> bool
         requires { thread.0 < self.now.input.asked.config.threads }
-        ensures { result ≡ is_polite (allocator.rules self.now.input) (world self.now) thread.0 }
+        ensures { result ≡ is_polite (M.rules_of self.now.input) (world M.rules_of self.now) thread.0 }
     {
         self.replay.yields(u16::from(thread.0))
     }
 
     /// The machine with its parts and locals, at its start.
-    pub fn split(self) -> (AllocMachine, Vec<Part<CpuFrontPart>>, Vec<CpuLocal>)
+    pub fn split(self) -> (M, Vec<M::Part>, Vec<M::Local>)
         requires { self.order ≡ [] }
-        ensures input { input_in result.0 ≡ self.input }
-        ensures start { world_of result.1.items result.2.items ≡ start (allocator.rules self.input) }
+        ensures input { M.input result.0 ≡ self.input }
+        ensures start { world_of result.1.items result.2.items ≡ start (M.rules_of self.input) }
+        ensures rules { M.rules result.0 ≡ M.rules_of self.input }
+        ensures all { length result.2.items ≡ self.input.asked.config.threads }
     {
         let State { replay, alloc: _ } = self;
         replay.split()
@@ -185,45 +177,38 @@ impl State {
     /// The state that the picks of an order left.
     pub fn gather(
         alloc: Global,
-        machine: AllocMachine,
-        parts: Vec<Part<CpuFrontPart>>,
-        locals: Vec<CpuLocal>,
+        machine: M,
+        parts: Vec<M::Part>,
+        locals: Vec<M::Local>,
         order: Vec<u16>,
-    ) -> State
-        requires run { world_of parts.items locals.items ≡ run (allocator.rules (input_in machine)) order.items }
-        requires moves { moving (allocator.rules (input_in machine)) (start (allocator.rules (input_in machine))) order.items ≡ order.items }
-        requires few { length order.items ≤ (input_in machine).asked.config.events }
-        ensures input { result.input ≡ input_in machine }
+    ) -> State<M>
+        requires run { world_of parts.items locals.items ≡ run (M.rules_of (M.input machine)) order.items }
+        requires moves { moving (M.rules_of (M.input machine)) (start (M.rules_of (M.input machine))) order.items ≡ order.items }
+        requires few { length order.items ≤ (M.input machine).asked.config.events }
+        ensures input { result.input ≡ M.input machine }
         ensures order { result.order ≡ order.items }
     {
-        let limit = machine.setting.config.events;
-        let replay = Replay::gather(alloc, machine, parts, locals, order, limit);
+        let most = machine.most_picks();
+        let replay = Replay::gather(alloc, machine, parts, locals, order, most);
         State { replay, alloc }
     }
 
     /// What a run has to tell once all scripts have ended: its calls in the order in which they were
     /// decided, the blocks that they leave, and the heap's pages.
     pub fn finish(&self) -> Result<Finished, AllocError>
-        requires { HaveEnded (allocator.rules self.now.input) (world self.now) }
-        ensures value { IfOk result (λ f. f ≡ finished_in self.now.input self.now.order) }
+        requires { HaveEnded (M.rules_of self.now.input) (world M.rules_of self.now) }
+        ensures value { IfOk result (λ f. f ≡ M.told self.now.input self.now.order) }
         ensures blocks { IfOk result (λ f. IsBlockRun self.now.input.asked.config.huge (length_of self.now.input.rows) f.calls) }
+        ensures scripts { IfOk result (λ f. TellsScripts self.now.input.asked f.calls) }
 
         // A live block's bytes are backed, and no more is backed than the arena has.
         ensures covered { IfOk result (λ f. f.live_bytes ≤ f.resident * page_bytes) }
         ensures most { IfOk result (λ f. f.resident ≤ huge_pages * self.now.input.asked.config.huge) }
+        ensures arena { IfOk result (λ f. f.resident ≤ huge_pages * 4096) }
     {
         let replay = &self.replay;
-        let calls = told_calls(self.alloc, &replay.locals, &replay.order)?;
-        let standing = standing_after(self.alloc, &calls)?;
-        let heap = heap_of(&replay.parts, replay.machine.heap_place());
-        let rows = rows_of(self.alloc, heap, replay.machine.setting.config.huge)?;
-        Ok(Finished {
-            calls: Listed::new(calls),
-            live: standing.count,
-            live_bytes: standing.bytes,
-            used: heap.used_pages(),
-            resident: heap.backed_pages(),
-            rows: Listed::new(rows),
-        })
+        replay
+            .machine
+            .finish(self.alloc, &replay.parts, &replay.locals, &replay.order)
     }
 }

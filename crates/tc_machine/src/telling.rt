@@ -2,12 +2,11 @@
 ghost use Rattle.std.specs.Prelude.{◌≡◌, ℕ, ◌+◌, ◌-◌, ◌^◌, ◌<◌, ◌≤◌, List, length, map, All, IfOk, Some, IsTrue, slice_get};
 ghost use Rattle.std.specs.Option.{option_to_list};
 ghost use Rattle.tc_model.specs.Calls.{AreRising};
-ghost use Rattle.cpu_rows.specs.PerCpu.{CpuLocal as Thread};
-ghost use Rattle.call_steps.specs.Local.{Decided, told};
+ghost use Rattle.call_steps.specs.Local.{Decided, Local as Thread, told};
 ghost use Rattle.alloc_rules.specs.Law.{calls};
 ghost use Rattle.tc_machine.specs.Telling.{decided_at, is_of, IsMark};
 
-use cpu_front::CpuLocal;
+use call_steps::{FrontEnd, Local};
 use std::alloc::{AllocError, Global};
 use tc_model::CallLine;
 
@@ -19,7 +18,7 @@ pub(crate) struct Mark {
 }
 
 /// Whether the thread's next pick decided a call.
-fn is_decided(local: &CpuLocal, mark: &Mark) -> bool
+fn is_decided<F: FrontEnd>(local: &Local<F>, mark: &Mark) -> bool
     ensures answer { result ≡ is_of mark.now.picks (slice_get local.now.answers mark.now.told) }
     ensures fits { IsTrue result → mark.now.told < 2 ^ 64 - 1 }
 {
@@ -30,7 +29,7 @@ fn is_decided(local: &CpuLocal, mark: &Mark) -> bool
 }
 
 /// The call that the thread's next pick decided, if it decided one.
-fn next_line(local: &CpuLocal, mark: &mut Mark) -> Option<CallLine>
+fn next_line<F: FrontEnd>(local: &Local<F>, mark: &mut Mark) -> Option<CallLine>
     requires mark { IsMark local.now.answers mark.old }
     requires few { mark.old.picks < 2 ^ 64 - 1 }
     ensures line { option_to_list result ≡ map (told local.now.regs.thread.0) (decided_at mark.old.picks local.now.answers) }
@@ -49,15 +48,15 @@ fn next_line(local: &CpuLocal, mark: &mut Mark) -> Option<CallLine>
 }
 
 /// The calls that the picks of an order decided, in their order.
-pub fn told_calls(
+pub(crate) fn told_calls<F: FrontEnd>(
     alloc: Global,
-    locals: &[CpuLocal],
+    locals: &[Local<F>],
     order: &[u16],
 ) -> Result<Vec<CallLine>, AllocError>
     requires threads { All (λ t. t < length locals.now) order.now }
     requires few { length order.now ≤ 40000000 }
-    requires own { (t : ℕ) (l : Thread) → slice_get locals.now t ≡ Some l → l.regs.thread.0 ≡ t }
-    requires rising { (t : ℕ) (l : Thread) → slice_get locals.now t ≡ Some l → AreRising (λ (d : Decided). d.act) 0 l.answers }
+    requires own { (t : ℕ) (l : Thread F.Seat F.Row) → slice_get locals.now t ≡ Some l → l.regs.thread.0 ≡ t }
+    requires rising { (t : ℕ) (l : Thread F.Seat F.Row) → slice_get locals.now t ≡ Some l → AreRising (λ (d : Decided). d.act) 0 l.answers }
     ensures calls { IfOk result (λ lines. lines.items ≡ calls locals.now order.now) }
     ensures few { IfOk result (λ lines. length lines.items ≤ length order.now) }
 {

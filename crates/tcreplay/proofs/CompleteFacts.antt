@@ -11,6 +11,7 @@ use Rattle.journal_audit.specs.declared.verdict.Verdict as journal
 use Rattle.journal_audit.specs.declared.verdict.Verdict.TheVariants.{Yes, No}
 use Rattle.tcreplay.specs.Tasks.{Replay, Workload, Audit, Task, ToReplay, ToGenerate, ToAudit, file_of}
 use Rattle.cpu_rows.specs.Machine.{rules}
+use Rattle.cpu_front.specs.Machine.{finished_in}
 use Rattle.tc_model.specs.Run.{run}
 use Rattle.tcreplay.specs.Verdict.{Given, Job, and_then, rows_in, asked_in, picks_or, job_with, job_of, run_verdict, have_ended, order_of_job, Verdict}
 use Rattle.tc_ports.specs.Faults.{Rose}
@@ -83,7 +84,7 @@ run_usage : (telling : Telling) (replay : Replay) (given : Given) (r : Result Jo
 run_usage telling replay given (Err end) is = job_fails is_usage replay given end not_usage is
 run_usage telling replay given (Ok job) is = by_end (have_ended (rules job.input) (run (rules job.input) (order_of_job job))) telling job
   where
-    by_end : (ended : Bool) (telling : Telling) (job : Job) → is_usage (verdict_if ended telling job.input (order_of_job job)).end ≡ false
+    by_end : (ended : Bool) (telling : Telling) (job : Job) → is_usage (verdict_if rules finished_in ended telling job.input (order_of_job job)).end ≡ false
     by_end true telling job = refl
     by_end false telling job = refl
 

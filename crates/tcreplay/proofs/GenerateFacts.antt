@@ -17,7 +17,7 @@ use Rattle.tcreplay.specs.Verdict.{Job, Verdict, and_then, or_end, trace_end, ro
 use Rattle.tcreplay.specs.Reads.{IsCounted, Reading, Shelving, IsLoad, is_behind_run, seen_job}
 use Rattle.tcreplay.specs.Ran.{seen_ran, IsRan}
 use Rattle.tcreplay.specs.Writes.{Writing, Ends, TookText, IsRunEnd, IsLastEnd}
-use Rattle.tc_machine.specs.Lawful.{IsLawful}
+use Rattle.cpu_front.specs.Machine.{IsLawful}
 use Rattle.tcreplay.specs.Order.{IsOrderOf}
 use Rattle.tcreplay.specs.Generating.{trace_of, generation_job_with, generation_job, generation_verdict, IsMade, IsGenerationAnswer, IsGenerationEnd, AreWritten, IsGenerationHeadline, HasGenerated}
 use Rattle.tcreplay.proofs.EndFacts.{FailsTable, table_fails}

@@ -14,74 +14,18 @@ use Rattle.tc_model.specs.Chains.{IsPolite}
 use Rattle.tc_model.specs.Replays.{HaveEnded}
 use Rattle.tc_model.specs.Serial.{completed, order_to, followed, IsAtLimit}
 use Rattle.tc_model.proofs.Longer.{polite_moves}
-use Rattle.cpu_rows.specs.Machine.{rules, turns}
-use Rattle.tc_machine.specs.Finish.{finished_in}
+use Rattle.alloc_rules.specs.Machine.{turns}
 use Rattle.tcreplay.specs.declared.outcome.End.TheVariants.{Done, Full}
 use Rattle.tcreplay.specs.declared.run.Ran.{Ran}
 use Rattle.tcreplay.specs.declared.run.Telling.{Telling}
-use Rattle.tcreplay.specs.Verdict.{Job, Verdict, have_ended, judged, order_of_job, told_by}
-use Rattle.tcreplay.specs.Reads.{IsMadeOf}
+use Rattle.tcreplay.specs.Verdict.{Job, Verdict, have_ended, judged_by, order_by, told_by}
 use Rattle.tcreplay.specs.Order.{IsFilled}
-use Rattle.tcreplay.specs.Ran.{IsRan}
+use Rattle.tcreplay.specs.Ran.{IsRunOf}
 use Rattle.tcreplay.proofs.Ended.{ended_true, not_ended}
-
--- the order of an input's run: picks behind an order, completed
-abbrev pub whole : Input → List ℕ → List ℕ → List ℕ
-whole input order picks = completed (rules input) (turns input) input.asked.config.events (followed (rules input) input.asked.config.events order picks)
-
-pub whole_is : (job : Job) (input : Input) (order picks : List ℕ) → input ≡ job.input → order ≡ [] → picks ≡ job.picks → whole input order picks ≡ order_of_job job
-whole_is job input order picks same none given = ap (λ i. whole i order picks) same ∙ (ap (λ o. whole job.input o picks) none ∙ ap (whole job.input []) given)
-
--- the verdict on an order of a run that has ended, and of one that stands at the limit
-abbrev pub at_end : Telling → Input → List ℕ → Verdict
-at_end telling input order = record { end = Done; order = order; text = told_by telling (finished_in input order) }
-
-abbrev pub at_limit : Input → List ℕ → Verdict
-at_limit input order = record { end = Full input.asked.config.events; order = order; text = [] }
-
--- the verdict on an order answers with that order, and is `Done` only where the run has ended
-abbrev pub verdict_if : Bool → Telling → Input → List ℕ → Verdict
-verdict_if ended telling input order = cond ended (at_end telling input order) (at_limit input order)
-
-pub its_order : (ended : Bool) (telling : Telling) (input : Input) (order : List ℕ) → (verdict_if ended telling input order).order ≡ order
-its_order true telling input order = refl
-its_order false telling input order = refl
-
-pub its_end : (ended : Bool) (telling : Telling) (input : Input) (order : List ℕ) → (verdict_if ended telling input order).end ≡ Done → ended ≡ true
-its_end true telling input order done = refl
-its_end false telling input order done = absurd (cc)
-
--- the verdict on a run that has ended, and on one that stands at the limit
-pub told_done : (telling : Telling) (input : Input) (order items text : List ℕ) (f : Finished) → HaveEnded (rules input) (run (rules input) order) → f ≡ finished_in input order → items ≡ order → text ≡ told_by telling f → record { end = Done; order = items; text = text } ≡ judged telling input order
-told_done telling input order items text f ended finished given printed =
-    let done : have_ended (rules input) (run (rules input) order) ≡ true = ended_true (rules input) (run (rules input) order) ended in
-    let words : text ≡ told_by telling (finished_in input order) = printed ∙ ap (told_by telling) finished in
-    let seen : Verdict = record { end = Done; order = items; text = text } in
-    let here : seen ≡ at_end telling input order = ap (λ o. let v : Verdict = record { end = Done; order = o; text = text } in v) given ∙ ap (λ t. let v : Verdict = record { end = Done; order = order; text = t } in v) words in
-    here ∙ sym (ap (λ b. verdict_if b telling input order) done)
-
-pub told_full : (telling : Telling) (input : Input) (whole order items text : List ℕ) (ticket : ℕ) → IsAtLimit (rules input) input.asked.config.events whole order ticket → items ≡ order → text ≡ [] → record { end = Full ticket; order = items; text = text } ≡ judged telling input order
-told_full telling input whole order items text ticket limit given empty =
-    let going : have_ended (rules input) (run (rules input) order) ≡ false = not_ended (rules input) (run (rules input) order) limit.thread limit.would_move in
-    let seen : Verdict = record { end = Full ticket; order = items; text = text } in
-    let here : seen ≡ at_limit input order = ap (λ n. let v : Verdict = record { end = Full n; order = items; text = text } in v) limit.ticket_is ∙ (ap (λ o. let v : Verdict = record { end = Full input.asked.config.events; order = o; text = text } in v) given ∙ ap (λ t. let v : Verdict = record { end = Full input.asked.config.events; order = order; text = t } in v) empty) in
-    here ∙ sym (ap (λ b. verdict_if b telling input order) going)
 
 -- what holds of a fault holds of the one that came
 pub cut_by : {A : Type 0} (r : Result A StepFault) (P : StepFault → Type 0) (found fault : StepFault) → r ≡ Err found → found ≡ fault → IfErr r P → P fault
 cut_by {A} r P found fault is same holds = subst P same (subst (λ (x : Result A StepFault). IfErr x P) is holds)
-
--- at the limit an order has as many picks as may move
-pub filled_at : (input : Input) (whole order : List ℕ) (ticket : ℕ) → IsAtLimit (rules input) input.asked.config.events whole order ticket → IsFilled input (Full ticket) order
-filled_at input whole order ticket limit = record { limit = limit.ticket_is; full = limit.full ∙ sym limit.ticket_is; thread = limit.thread; would_move = limit.would_move }
-
--- what an input's run came to, for what is the same input and order
-pub same_run : (telling : Telling) (input other : Input) (order whole : List ℕ) (ran : Ran) → input ≡ other → order ≡ whole → IsRan telling input order ran → IsRan telling other whole ran
-same_run telling input other order whole ran same is ran_so = subst (λ (o : List ℕ). IsRan telling other o ran) is (subst (λ (i : Input). IsRan telling i order ran) same ran_so)
-
-pub same_result : (telling : Telling) (input other : Input) (order whole : List ℕ) (result : Result Ran AllocError) → input ≡ other → order ≡ whole → IfOk result (IsRan telling input order) → IfOk result (IsRan telling other whole)
-same_result telling input other order whole (Ok ran) same is ran_so = same_run telling input other order whole ran same is ran_so
-same_result telling input other order whole (Err e) same is ran_so = tt
 
 -- picks that are polite and no more than may move are followed one by one
 followed_each : {P L : Type 0} (r : Rules P L) (limit : ℕ) (past picks : List ℕ) → IsPolite r (run r past) picks → length past + length picks ≤ limit → followed r limit past picks ≡ past ++ picks
@@ -92,6 +36,66 @@ followed_each r limit past (t ∷ ts) polite few =
     let next : IsPolite r (run r (past ++ t ∷ [])) ts = subst (λ w. IsPolite r w ts) (sym (fold-append (pick r) (start r) past (t ∷ []))) polite.1 in
     ap (λ o. followed r limit o ts) step ∙ (followed_each r limit (past ++ t ∷ []) ts next (let l = length-append past (t ∷ []) in omega (arith, l)) ∙ append_assoc past (t ∷ []) ts)
 
--- the order of a job whose picks threads made is these picks, completed
-pub completed_is : (input : Input) (came : List ℕ) → IsMadeOf input came → completed (rules input) (turns input) input.asked.config.events came ≡ order_of_job (record { input = input; picks = came })
-completed_is input came made = sym (ap (completed (rules input) (turns input) input.asked.config.events) (followed_each (rules input) input.asked.config.events [] came made.polite (let few = made.few in omega arith)))
+-- over the rules of a machine
+module _ {P L : Type 0} (rules : Input → Rules P L) where
+  -- the order of an input's run: picks behind an order, completed
+  abbrev pub whole : Input → List ℕ → List ℕ → List ℕ
+  whole input order picks = completed (rules input) (turns input.asked) input.asked.config.events (followed (rules input) input.asked.config.events order picks)
+
+  pub whole_is : (job : Job) (input : Input) (order picks : List ℕ) → input ≡ job.input → order ≡ [] → picks ≡ job.picks → whole input order picks ≡ order_by rules job
+  whole_is job input order picks same none given = ap (λ i. whole i order picks) same ∙ (ap (λ o. whole job.input o picks) none ∙ ap (whole job.input []) given)
+
+  abbrev pub at_limit : Input → List ℕ → Verdict
+  at_limit input order = record { end = Full input.asked.config.events; order = order; text = [] }
+
+  -- at the limit an order has as many picks as may move
+  pub filled_at : (input : Input) (whole order : List ℕ) (ticket : ℕ) → IsAtLimit (rules input) input.asked.config.events whole order ticket → IsFilled rules input (Full ticket) order
+  filled_at input whole order ticket limit = record { limit = limit.ticket_is; full = limit.full ∙ sym limit.ticket_is; thread = limit.thread; would_move = limit.would_move }
+
+  -- the order of a job whose picks threads made is these picks, completed
+  pub completed_is : (input : Input) (came : List ℕ) → IsPolite (rules input) (start (rules input)) came → length came ≤ input.asked.config.events → completed (rules input) (turns input.asked) input.asked.config.events came ≡ order_by rules (record { input = input; picks = came })
+  completed_is input came polite few = sym (ap (completed (rules input) (turns input.asked) input.asked.config.events) (followed_each (rules input) input.asked.config.events [] came polite (omega arith)))
+
+  -- and what a run of it tells
+  module _ (told : Input → List ℕ → Finished) where
+    -- the verdict on an order of a run that has ended, and of one that stands at the limit
+    abbrev pub at_end : Telling → Input → List ℕ → Verdict
+    at_end telling input order = record { end = Done; order = order; text = told_by telling (told input order) }
+
+    -- the verdict on an order answers with that order, and is `Done` only where the run has ended
+    abbrev pub verdict_if : Bool → Telling → Input → List ℕ → Verdict
+    verdict_if ended telling input order = cond ended (at_end telling input order) (at_limit input order)
+
+    pub its_order : (ended : Bool) (telling : Telling) (input : Input) (order : List ℕ) → (verdict_if ended telling input order).order ≡ order
+    its_order true telling input order = refl
+    its_order false telling input order = refl
+
+    pub its_end : (ended : Bool) (telling : Telling) (input : Input) (order : List ℕ) → (verdict_if ended telling input order).end ≡ Done → ended ≡ true
+    its_end true telling input order done = refl
+    its_end false telling input order done = absurd (cc)
+
+    -- the verdict on a run that has ended, and on one that stands at the limit
+    pub told_done : (telling : Telling) (input : Input) (order items text : List ℕ) (f : Finished) → HaveEnded (rules input) (run (rules input) order) → f ≡ told input order → items ≡ order → text ≡ told_by telling f → record { end = Done; order = items; text = text } ≡ judged_by rules told telling input order
+    told_done telling input order items text f ended finished given printed =
+        let done : have_ended (rules input) (run (rules input) order) ≡ true = ended_true (rules input) (run (rules input) order) ended in
+        let words : text ≡ told_by telling (told input order) = printed ∙ ap (told_by telling) finished in
+        let seen : Verdict = record { end = Done; order = items; text = text } in
+        let here : seen ≡ at_end telling input order = ap (λ o. let v : Verdict = record { end = Done; order = o; text = text } in v) given ∙ ap (λ t. let v : Verdict = record { end = Done; order = order; text = t } in v) words in
+        here ∙ sym (ap (λ b. verdict_if b telling input order) done)
+
+    pub told_full : (telling : Telling) (input : Input) (whole order items text : List ℕ) (ticket : ℕ) → IsAtLimit (rules input) input.asked.config.events whole order ticket → items ≡ order → text ≡ [] → record { end = Full ticket; order = items; text = text } ≡ judged_by rules told telling input order
+    told_full telling input whole order items text ticket limit given empty =
+        let going : have_ended (rules input) (run (rules input) order) ≡ false = not_ended (rules input) (run (rules input) order) limit.thread limit.would_move in
+        let seen : Verdict = record { end = Full ticket; order = items; text = text } in
+        let here : seen ≡ at_limit input order = ap (λ n. let v : Verdict = record { end = Full n; order = items; text = text } in v) limit.ticket_is ∙ (ap (λ o. let v : Verdict = record { end = Full input.asked.config.events; order = o; text = text } in v) given ∙ ap (λ t. let v : Verdict = record { end = Full input.asked.config.events; order = order; text = t } in v) empty) in
+        here ∙ sym (ap (λ b. verdict_if b telling input order) going)
+
+    -- and its law for an order
+    module _ (lawful : Input → List ℕ → Type 0) where
+      -- what an input's run came to, for what is the same input and order
+      pub same_run : (telling : Telling) (input other : Input) (order whole : List ℕ) (ran : Ran) → input ≡ other → order ≡ whole → IsRunOf rules told lawful telling input order ran → IsRunOf rules told lawful telling other whole ran
+      same_run telling input other order whole ran same is ran_so = subst (λ (o : List ℕ). IsRunOf rules told lawful telling other o ran) is (subst (λ (i : Input). IsRunOf rules told lawful telling i order ran) same ran_so)
+
+      pub same_result : (telling : Telling) (input other : Input) (order whole : List ℕ) (result : Result Ran AllocError) → input ≡ other → order ≡ whole → IfOk result (IsRunOf rules told lawful telling input order) → IfOk result (IsRunOf rules told lawful telling other whole)
+      same_result telling input other order whole (Ok ran) same is ran_so = same_run telling input other order whole ran same is ran_so
+      same_result telling input other order whole (Err e) same is ran_so = tt

@@ -3,6 +3,7 @@ use Rattle.std.proofs.Common.{◌≡◌, ℕ, true, false, List, [], Option, Som
 use Rattle.tc_units.specs.declared.spans.ClassRow.{ClassRow}
 use Rattle.tc_model.specs.Input.{Asked}
 use Rattle.tc_ports.specs.Told.{Took}
+use Rattle.cpu_rows.specs.Machine.{rules}
 use Rattle.tcreplay.specs.declared.outcome.End.{End}
 use Rattle.tcreplay.specs.declared.outcome.End.TheVariants.{Done, WriteFault, Memory}
 use Rattle.tcreplay.specs.declared.input.Job.{Job}
@@ -16,13 +17,13 @@ use Rattle.tcreplay.specs.Verdict.{Given, Verdict, and_then, rows_in, asked_in, 
 use Rattle.tcreplay.specs.Reads.{Reading, Shelving, IsMadeOf, HaveCome, AreGiven, HasRead, IsJobRead, is_behind_run, seen_job}
 use Rattle.tcreplay.specs.Ran.{seen_ran, IsRan, IsRanByThreads}
 use Rattle.tcreplay.specs.Writes.{Writing, IsWritten, IsLastEnd}
-use Rattle.tc_machine.specs.Lawful.{IsLawful}
+use Rattle.cpu_front.specs.Machine.{IsLawful}
 use Rattle.tcreplay.specs.Order.{IsCompleted, IsOrderOf}
 use Rattle.tcreplay.specs.Replayed.{IsAnswer, IsHeadline, HasTried, verdict_on}
 use Rattle.tcreplay.proofs.EndFacts.{job_fails}
 use Rattle.tcreplay.proofs.JobFacts.{not_run, cut_early, gone_for}
 use Rattle.tcreplay.proofs.RunFacts.{completed_is}
-use Rattle.tcreplay.proofs.RanFacts.{order_is, lawful, text_is, have_all_ended, told_scripts, legal_journal, its_run}
+use Rattle.tcreplay.proofs.RanFacts.{made_by, order_is, lawful, text_is, have_all_ended, told_scripts, legal_journal, its_run}
 
 -- what was read without a refusal was read for any end
 pub read_for : (file : Option (List ℕ)) (given : Given) (t u : Reading) (f g : Shelving) (end : End) → HasRead file given t u f g Done → HasRead file given t u f g end
@@ -194,15 +195,16 @@ came_is (ByThreads other) locks job came threads made = made
 completed_by : (schedule : Schedule) (locks : Locks) (job : verdict.Job) (came : List ℕ) → locks_in schedule ≡ Some locks → IsMadeOf job.input came → IsCompleted schedule (job_behind job came) (order_of_job (job_behind job came))
 completed_by InTurn locks job came threads made = tt
 completed_by (ByFile file) locks job came threads made = tt
-completed_by (ByThreads other) locks job came threads made = sym (completed_is job.input came made)
+completed_by (ByThreads other) locks job came threads made = sym (completed_is rules job.input came made.polite made.few)
 
 -- with worker threads
 pub tried_threads : (replay : Replay) (locks : Locks) (t u : Reading) (f g : Shelving) (before after : Writing) (job : Job) (ran : Ran) (end : End) (order : List ℕ) → locks_in replay.schedule ≡ Some locks → IsJobRead replay t u f g (Ok job) → IsRanByThreads (Whole replay.rows) (seen_job job).input ran → IsLastEnd ran.end end → order ≡ ran.order.items → IsWritten end ran.text.items before after → HasTried replay t u f g before after end order
 tried_threads replay locks t u f g before after job ran end order threads read by_threads last same written =
     let came : List ℕ = by_threads.came in
+    let made = made_by (Whole replay.rows) (seen_job job).input ran by_threads in
     let given : Given = given_with read.given came in
     let none : file_of replay.schedule ≡ None = no_file replay.schedule locks threads in
     let asked : job_of replay given ≡ Ok (job_behind (seen_job job) came) = behind_rows replay read.given came (seen_job job) none (rows_in read.given.table) read.answer in
-    let told : AreGiven replay f.files t.left given = record { told = record { table = read.told.table; trace = read.told.trace; file = read.told.file }; came = subst (λ j. HaveCome replay.schedule j came) (sym asked) (came_is replay.schedule locks (seen_job job) came threads by_threads.made) } in
+    let told : AreGiven replay f.files t.left given = record { told = record { table = read.told.table; trace = read.told.trace; file = read.told.file }; came = subst (λ j. HaveCome replay.schedule j came) (sym asked) (came_is replay.schedule locks (seen_job job) came threads made) } in
     let had : HasRead (file_of replay.schedule) given t u f g Done = record { files = read.read.files; loads = elim read.read.loads [ inl once ↦ inl once | inr two ↦ inr (record { twice = two.twice; named = two.named; good = two.good; drained = two.drained }) ]; behind_run = read.read.behind_run; behind_file = read.read.behind_file; file_count = read.read.file_count; untouched = read.read.untouched; lost = read.read.lost; reads = read.read.reads; drained = read.read.drained; trace_count = read.read.trace_count } in
-    tried_by replay given t u f g before after (job_behind (seen_job job) came) ran end order told asked had by_threads.whole (completed_by replay.schedule locks (seen_job job) came threads by_threads.made) last same written
+    tried_by replay given t u f g before after (job_behind (seen_job job) came) ran end order told asked had by_threads.whole (completed_by replay.schedule locks (seen_job job) came threads made) last same written

@@ -1,17 +1,16 @@
 -- What threads left of a run, and what it comes to once it is completed.
 use Rattle.std.proofs.Common.{◌≡◌, ℕ, ◌≤◌, ◌-◌, List, length, Result, Ok, Err, refl, sym, ap, subst, ◌∙◌, arith}
 use Rattle.std.specs.Prelude.{IfOk, All, Option, Some, None}
-use Rattle.std.specs.List.{range_with_len}
 use Rattle.std.specs.declared.alloc.AllocError.{AllocError}
 use Rattle.std.proofs.lemmas.List.{length-append, length-map}
-use Rattle.std.proofs.lemmas.List.FromFn.{length-range_with_len}
 use Rattle.tc_model.specs.declared.board.Entry.{Entry}
 use Rattle.tc_model.specs.declared.board.Halt.{Halt}
 use Rattle.tc_model.specs.declared.board.Halt.TheVariants.{Memory, Full}
 use Rattle.tc_model.specs.declared.board.Turn.{Turn}
 use Rattle.tc_model.specs.declared.board.Turn.TheVariants.{Ended}
+use Rattle.tc_model.specs.declared.answers.Finished.{Finished}
 use Rattle.tc_model.specs.Input.{Input}
-use Rattle.tc_model.specs.Run.{Rules, World, world_of, start, run}
+use Rattle.tc_model.specs.Run.{Rules, world_of, start, run}
 use Rattle.tc_model.specs.Steps.{moving}
 use Rattle.tc_model.specs.Chains.{IsPolite}
 use Rattle.tc_model.specs.Replays.{HaveEnded}
@@ -19,33 +18,17 @@ use Rattle.tc_model.specs.Serial.{completed, completion}
 use Rattle.tc_model.proofs.Longer.{polite_moves}
 use Rattle.tc_model.proofs.Picks.{length_run}
 use Rattle.tc_model.proofs.MovingFacts.{moving_all}
-use Rattle.cpu_rows.specs.PerCpu.{CpuLocal as Local}
-use Rattle.cpu_rows.specs.Machine.{Part}
-use Rattle.cpu_rows.specs.Machine.{rules, turns, first_of}
+use Rattle.alloc_rules.specs.Machine.{turns}
+use Rattle.tc_machine.specs.Played.{Played}
 use Rattle.replay_workers.specs.Runs.{halt_among}
 use Rattle.relay.specs.Ends.{IsRun, threads_in}
 use Rattle.tcreplay.specs.declared.run.Ran.{Ran}
 use Rattle.tcreplay.specs.declared.run.Telling.{Telling}
+use Rattle.tcreplay.specs.declared.words.Locks.{Locks}
 use Rattle.tcreplay.specs.declared.words.Locks.TheVariants.{Parts}
-use Rattle.tcreplay.specs.declared.workers.Came.{Came}
 use Rattle.tcreplay.specs.Came.{IsLeft}
-use Rattle.tcreplay.specs.Reads.{IsMadeOf}
-use Rattle.tcreplay.specs.Ran.{IsRan, IsRanByThreads}
+use Rattle.tcreplay.specs.Ran.{IsRunOf, IsRunByThreads}
 use Rattle.tcreplay.proofs.RunFacts.{same_run, completed_is}
-
--- there are as many locals as threads
-pub few_threads : (input : Input) (parts : List Part) (locals : List Local) (n : ℕ) → world_of parts locals ≡ start (rules input) → n ≡ input.asked.config.threads → n ≤ 255 → length locals ≤ 256
-few_threads input parts locals n is same few =
-    let a = ap (λ (w : World Part Local). length w.locals) is in
-    let b = length-map (range_with_len 0 input.asked.config.threads) (first_of input) in
-    let d = length-range_with_len 0 input.asked.config.threads in
-    omega (arith, a, b, d, same, few)
-
--- behind any order there are as many as at the start
-pub many_locals : (input : Input) (order : List ℕ) → length (run (rules input) order).locals ≡ input.asked.config.threads
-many_locals input order =
-    let each = length-map (range_with_len 0 input.asked.config.threads) (first_of input) in
-    length_run (rules input) order ∙ (each ∙ length-range_with_len 0 input.asked.config.threads)
 
 -- what was left is the run of the order that came
 pub left_run : {P L : Type 0} (r : Rules P L) (parts : List P) (locals : List L) (es : List Entry) (order : List ℕ) → IsRun r parts locals es → order ≡ threads_in es → world_of parts locals ≡ run r order
@@ -57,37 +40,44 @@ left_moves r parts locals es order left is = subst (λ o. moving r (start r) o �
 pub left_few : (es : List Entry) (order : List ℕ) (events : ℕ) → order ≡ threads_in es → length es ≤ events → length order ≤ events
 left_few es order events is few = let n = length-map es (λ (e : Entry). e.thread.0) in let m = ap length is in omega (arith, n, m, few)
 
--- a run that threads began and that was completed
-pub by_threads : (telling : Telling) (other input : Input) (came order : List ℕ) (ran : Ran) → other ≡ input → order ≡ completed (rules input) (turns input) input.asked.config.events came → IsPolite (rules input) (start (rules input)) came → IsRan telling other order ran → IsRanByThreads telling input ran
-by_threads telling other input came order ran same is polite ran_so =
-    let whole : List ℕ = completed (rules input) (turns input) input.asked.config.events came in
-    let here : IsRan telling input whole ran = same_run telling other input order whole ran same is ran_so in
-    let long = length-append came (completion (rules input) (turns input) (input.asked.config.events - length came) (run (rules input) came)) in
-    let few : length came ≤ input.asked.config.events = (let most = here.law.few in omega (arith, long, most)) in
-    let behind = here.law.holds came (completion (rules input) (turns input) (input.asked.config.events - length came) (run (rules input) came)) refl in
-    let made : IsMadeOf input came = record { polite = polite; few = few; switches = behind.switches polite } in
-    record { came = came; made = made; whole = subst (λ o. IsRan telling input o ran) (completed_is input came made) here }
+-- over the rules of a machine
+module _ {P L : Type 0} (rules : Input → Rules P L) where
+  -- behind any order there are as many as at the start
+  pub many_locals : (input : Input) (order : List ℕ) → length (rules input).locals ≡ input.asked.config.threads → length (run (rules input) order).locals ≡ input.asked.config.threads
+  many_locals input order many = length_run (rules input) order ∙ many
 
-pub by_threads_result : (telling : Telling) (other input : Input) (came order : List ℕ) (result : Result Ran AllocError) → other ≡ input → order ≡ completed (rules input) (turns input) input.asked.config.events came → IsPolite (rules input) (start (rules input)) came → IfOk result (IsRan telling other order) → IfOk result (IsRanByThreads telling input)
-by_threads_result telling other input came order (Ok ran) same is polite ran_so = by_threads telling other input came order ran same is polite ran_so
-by_threads_result telling other input came order (Err e) same is polite ran_so = tt
+  -- a run that threads began and that was completed
+  module _ (told : Input → List ℕ → Finished) (lawful : Input → List ℕ → Type 0) (is_few : (input : Input) (order : List ℕ) → lawful input order → length order ≤ input.asked.config.events) where
+    by_threads : (telling : Telling) (other input : Input) (came order : List ℕ) (ran : Ran) → other ≡ input → order ≡ completed (rules input) (turns input.asked) input.asked.config.events came → IsPolite (rules input) (start (rules input)) came
+        → IsRunOf rules told lawful telling other order ran → IsRunByThreads rules told lawful telling input ran
+    by_threads telling other input came order ran same is polite ran_so =
+        let whole : List ℕ = completed (rules input) (turns input.asked) input.asked.config.events came in
+        let here : IsRunOf rules told lawful telling input whole ran = same_run rules told lawful telling other input order whole ran same is ran_so in
+        let long = length-append came (completion (rules input) (turns input.asked) (input.asked.config.events - length came) (run (rules input) came)) in
+        let few : length came ≤ input.asked.config.events = (let most = is_few input whole here.law in omega (arith, long, most)) in
+        record { came = came; polite = polite; few = few; whole = subst (λ o. IsRunOf rules told lawful telling input o ran) (completed_is rules input came polite few) here }
 
--- what was left under part locks
-pub parts_left : (input other : Input) (es : List Entry) (lasts : List Turn) (halt : Option Halt) (result : Result Came AllocError)
-    → other ≡ input → IsPolite (rules input) (start (rules input)) (threads_in es) → halt ≡ halt_among lasts → (halt_among lasts ≡ None → All (λ last. last ≡ Ended) lasts)
-    → (halt ≡ Some Full → length es ≡ input.asked.config.events) → length lasts ≡ input.asked.config.threads
-    → (halt ≡ None → HaveEnded (rules input) (run (rules input) (threads_in es)))
-    → IfOk result (λ c. c.state.input ≡ other) → IfOk result (λ c. c.state.order ≡ threads_in es) → IfOk result (λ c. c.locks ≡ Parts) → IfOk result (λ c. c.lasts.items ≡ lasts)
-    → IfOk result (λ c. c.halt ≡ halt) → IfOk result (λ c. c.halt ≡ Some Memory → ⊥) → IfOk result (IsLeft input Parts)
-parts_left input other es lasts halt (Ok c) same polite is over full each ended i o k l h enough = record {
-  input_is = i ∙ same;
-  locks_are = k;
-  polite = subst (IsPolite (rules input) (start (rules input))) (sym o) polite;
-  each = ap length l ∙ each;
-  halt_is = h ∙ (is ∙ ap halt_among (sym l));
-  enough = enough;
-  over = λ none. subst (All (λ last. last ≡ Ended)) (sym l) (over (sym is ∙ (sym h ∙ none)));
-  ended = λ _ none. subst (λ x. HaveEnded (rules input) (run (rules input) x)) (sym o) (ended (sym h ∙ none));
-  full = λ _ at_limit. ap length o ∙ (length-map es (λ (e : Entry). e.thread.0) ∙ full (sym h ∙ at_limit));
-}
-parts_left input other es lasts halt (Err e) same polite is over full each ended i o k l h enough = tt
+    pub by_threads_result : (telling : Telling) (other input : Input) (came order : List ℕ) (result : Result Ran AllocError) → other ≡ input → order ≡ completed (rules input) (turns input.asked) input.asked.config.events came → IsPolite (rules input) (start (rules input)) came
+        → IfOk result (IsRunOf rules told lawful telling other order) → IfOk result (IsRunByThreads rules told lawful telling input)
+    by_threads_result telling other input came order (Ok ran) same is polite ran_so = by_threads telling other input came order ran same is polite ran_so
+    by_threads_result telling other input came order (Err e) same is polite ran_so = tt
+
+  -- what was left under part locks
+  pub parts_left : {C : Type 0} (result : Result C AllocError) (state : C → Played) (under : C → Locks) (last : C → List Turn) (stopped : C → Option Halt) (input other : Input) (es : List Entry) (lasts : List Turn) (halt : Option Halt)
+      → other ≡ input → IsPolite (rules input) (start (rules input)) (threads_in es) → halt ≡ halt_among lasts → (halt_among lasts ≡ None → All (λ last. last ≡ Ended) lasts)
+      → (halt ≡ Some Full → length es ≡ input.asked.config.events) → length lasts ≡ input.asked.config.threads
+      → (halt ≡ None → HaveEnded (rules input) (run (rules input) (threads_in es)))
+      → IfOk result (λ c. (state c).input ≡ other) → IfOk result (λ c. (state c).order ≡ threads_in es) → IfOk result (λ c. under c ≡ Parts) → IfOk result (λ c. last c ≡ lasts)
+      → IfOk result (λ c. stopped c ≡ halt) → IfOk result (λ c. stopped c ≡ Some Memory → ⊥) → IfOk result (λ c. IsLeft rules input Parts (state c) (under c) (last c) (stopped c))
+  parts_left (Ok c) state under last stopped input other es lasts halt same polite is over full each ended i o k l h enough = record {
+    input_is = i ∙ same;
+    locks_are = k;
+    polite = subst (IsPolite (rules input) (start (rules input))) (sym o) polite;
+    each = ap length l ∙ each;
+    halt_is = h ∙ (is ∙ ap halt_among (sym l));
+    enough = enough;
+    over = λ none. subst (All (λ last. last ≡ Ended)) (sym l) (over (sym is ∙ (sym h ∙ none)));
+    ended = λ _ none. subst (λ x. HaveEnded (rules input) (run (rules input) x)) (sym o) (ended (sym h ∙ none));
+    full = λ _ at_limit. ap length o ∙ (length-map es (λ (e : Entry). e.thread.0) ∙ full (sym h ∙ at_limit));
+  }
+  parts_left (Err e) state under last stopped input other es lasts halt same polite is over full each ended i o k l h enough = tt

@@ -10,7 +10,7 @@ use Rattle.tc_ports.specs.Told.{Took}
 use Rattle.tc_ports.specs.Shelves.{Files}
 use Rattle.trace_gen.specs.TraceText.{trace_text}
 use Rattle.cpu_rows.specs.Machine as allocator
-use Rattle.tc_machine.specs.Finish.{finished_in}
+use Rattle.cpu_front.specs.Machine.{finished_in}
 use Rattle.tcreplay.specs.declared.run.Telling.TheVariants.{Summary}
 use Rattle.tcreplay.specs.declared.generate.Made.{Made}
 use Rattle.tcreplay.specs.declared.outcome.End.{End}
@@ -19,7 +19,7 @@ use Rattle.tcreplay.specs.Tasks.{Workload, InTurn}
 use Rattle.tcreplay.specs.Verdict.{Job, Verdict, and_then, rows_in, asked_of_text, order_of_job, run_verdict, summary_in}
 use Rattle.tcreplay.specs.Reads.{Shelving, IsFile, IsLoad, IsCounted, is_behind_run, seen_job}
 use Rattle.tcreplay.specs.Writes.{Writing, Ends, TookText, TookPartOf}
-use Rattle.tc_machine.specs.Lawful.{IsLawful}
+use Rattle.cpu_front.specs.Machine.{IsLawful}
 use Rattle.tcreplay.specs.Order.{IsOrderOf}
 
 -- the trace of a workload

@@ -2,7 +2,7 @@
 use Rattle.std.specs.Prelude.{◌≡◌, ℕ, List, length}
 use Rattle.tc_model.specs.Input.{Input}
 use Rattle.tc_model.specs.declared.steps.Stepped.TheVariants as step
-use Rattle.tc_model.specs.Run.{run}
+use Rattle.tc_model.specs.Run.{Rules, run}
 use Rattle.tc_model.specs.Steps.{stepped}
 use Rattle.tc_model.specs.Serial.{completed}
 use Rattle.cpu_rows.specs.Machine as allocator
@@ -19,17 +19,17 @@ IsCompleted (ByFile file) job order = Unit {0}
 IsCompleted (ByThreads locks) job order = order ≡ completed (allocator.rules job.input) (allocator.turns job.input) job.input.asked.config.events job.picks
 
 -- as many picks moved as may, which is the number told, and one pick more would move
-pub record IsFull (input : Input) (order : List ℕ) (ticket : ℕ) : Type 0 where
-  pub limit : ticket ≡ input.asked.config.events
+pub record IsFull {P L : Type 0} (r : Rules P L) (events : ℕ) (order : List ℕ) (ticket : ℕ) : Type 0 where
+  pub limit : ticket ≡ events
   pub full : length order ≡ ticket
   pub thread : ℕ
-  pub would_move : stepped (allocator.rules input) (run (allocator.rules input) order) thread ≡ step.Moved
+  pub would_move : stepped r (run r order) thread ≡ step.Moved
 
-abbrev pub IsFilled : Input → End → List ℕ → Type 0
-IsFilled input (Full ticket) order = IsFull input order ticket
-IsFilled input end order = Unit {0}
+abbrev pub IsFilled : {P L : Type 0} → (Input → Rules P L) → Input → End → List ℕ → Type 0
+IsFilled rules input (Full ticket) order = IsFull (rules input) input.asked.config.events order ticket
+IsFilled rules input end order = Unit {0}
 
 pub record IsOrderOf (schedule : Schedule) (job : Job) (end : End) (order : List ℕ) : Type 0 where
   pub whole : order ≡ order_of_job job
   pub completed : IsCompleted schedule job order
-  pub filled : IsFilled job.input end order
+  pub filled : IsFilled allocator.rules job.input end order

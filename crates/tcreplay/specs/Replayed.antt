@@ -5,7 +5,7 @@ use Rattle.tc_model.specs.Replays.{HaveEnded}
 use Rattle.tc_ports.specs.Told.{Took}
 use Rattle.cpu_rows.specs.Machine as allocator
 use Rattle.alloc_rules.specs.Told.{TellsScript}
-use Rattle.tc_machine.specs.Finish.{finished_in}
+use Rattle.cpu_front.specs.Machine.{finished_in}
 use Rattle.journal_audit.specs.Rules.{journal_of}
 use Rattle.journal_audit.specs.Legal.{IsLegal}
 use Rattle.tcreplay.specs.declared.run.Telling.TheVariants.{Whole}
@@ -15,7 +15,7 @@ use Rattle.tcreplay.specs.Tasks.{Replay, file_of}
 use Rattle.tcreplay.specs.Verdict.{Given, Job, Verdict, job_of, order_of_job, run_verdict, text_with}
 use Rattle.tcreplay.specs.Reads.{Reading, Shelving, AreGiven, CutOff, HasRead, is_behind_run}
 use Rattle.tcreplay.specs.Writes.{Writing, IsWritten}
-use Rattle.tc_machine.specs.Lawful.{IsLawful}
+use Rattle.cpu_front.specs.Machine.{IsLawful}
 use Rattle.tcreplay.specs.Order.{IsOrderOf}
 use Rattle.tcreplay.specs.Auditing.{plan_in}
 

@@ -15,8 +15,9 @@ use Rattle.trace_reader.specs.declared.why.LineWhy.{LineWhy}
 use Rattle.trace_reader.specs.declared.why.OrderWhy.{OrderWhy}
 use Rattle.trace_reader.specs.Reading.{BadLine, asked_by}
 use Rattle.trace_reader.specs.Orders.{picks_by}
+use Rattle.alloc_rules.specs.Machine.{turns}
 use Rattle.cpu_rows.specs.Machine as allocator
-use Rattle.tc_machine.specs.Finish.{finished_in}
+use Rattle.cpu_front.specs.Machine.{finished_in}
 use Rattle.usage_report.specs.Report.{text_of, summary_of}
 use Rattle.tcreplay.specs.declared.run.Telling.{Telling}
 use Rattle.tcreplay.specs.declared.run.Telling.TheVariants.{Whole, Summary}
@@ -132,16 +133,25 @@ told_by Summary f = summary_in f
 abbrev pub have_ended : {P L : Type 0} → Rules P L → World P L → Bool
 have_ended r w = list_all (λ l. is_none (r.want l)) w.locals
 
--- the order of a job: its picks, and then the rest in trace order, up to the limit
-abbrev pub order_of_job : Job → List ℕ
-order_of_job job = order_of (allocator.rules job.input) (allocator.turns job.input) job.input.asked.config.events job.picks
+-- Over the rules of a machine, and what a run of it tells:
+module _ {P L : Type 0} (rules : Input → Rules P L) where
+  -- the order of a job: its picks, and then the rest in trace order, up to the limit
+  abbrev pub order_by : Job → List ℕ
+  order_by job = order_of (rules job.input) (turns job.input.asked) job.input.asked.config.events job.picks
 
--- the verdict on an order: the run has ended, or it stands at the limit
+  -- the verdict on an order: the run has ended, or it stands at the limit
+  abbrev pub judged_by : (Input → List ℕ → Finished) → Telling → Input → List ℕ → Verdict
+  judged_by told telling input order =
+      if have_ended (rules input) (run (rules input) order)
+      then record { end = Done; order = order; text = told_by telling (told input order) }
+      else record { end = Full input.asked.config.events; order = order; text = [] }
+
+-- over the per-CPU caches
+abbrev pub order_of_job : Job → List ℕ
+order_of_job = order_by allocator.rules
+
 abbrev pub judged : Telling → Input → List ℕ → Verdict
-judged telling input order =
-    if have_ended (allocator.rules input) (run (allocator.rules input) order)
-    then record { end = Done; order = order; text = told_by telling (finished_in input order) }
-    else record { end = Full input.asked.config.events; order = order; text = [] }
+judged = judged_by allocator.rules finished_in
 
 abbrev pub run_verdict : Telling → Result Job End → Verdict
 run_verdict telling (Err end) = refused end

@@ -13,6 +13,7 @@ use crate::input::{Job, load_table, trace_of};
 use crate::outcome::{End, Outcome};
 use crate::run::{Ran, Telling, run};
 use crate::task::Workload;
+use cpu_front::CpuMachine;
 use std::alloc::Global;
 use tc_ports::{Failed, Shelf, Sink};
 
@@ -123,7 +124,7 @@ pub fn generate<F: Shelf, K: Sink, N: Sink>(
         Ok(made) => made,
         Err(end) => return Outcome::without_run(alloc, end),
     };
-    match run(alloc, job, Telling::Summary) {
+    match run::<CpuMachine>(alloc, job, Telling::Summary) {
         Ok(ran) => write(out, notes, &text, ran),
         Err(_) => Outcome::without_run(alloc, End::Memory),
     }

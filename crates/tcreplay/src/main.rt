@@ -7,6 +7,8 @@ ghost use Rattle.tcreplay.specs.Status.{status_of};
 ghost use Rattle.tcreplay.specs.Writes.{IsNoted};
 
 mod audit;
+#[cfg(test)]
+mod front_tests;
 mod generate;
 #[cfg(test)]
 mod generate_tests;

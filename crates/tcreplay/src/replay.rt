@@ -17,6 +17,7 @@ use crate::run::{Ran, run};
 use crate::task::{Replay, Schedule, Task, task_by};
 use crate::words::Locks;
 use crate::workers::run_by_threads;
+use cpu_front::CpuMachine;
 use std::alloc::Global;
 use std::sync::Wait;
 use std::thread::Threads;
@@ -66,7 +67,7 @@ fn try_replay<S: Source, F: Shelf, K: Sink>(
         Ok(job) => job,
         Err(end) => return Outcome::without_run(alloc, end),
     };
-    match run(alloc, job, replay.telling()) {
+    match run::<CpuMachine>(alloc, job, replay.telling()) {
         Ok(ran) => write(out, ran),
         Err(_) => Outcome::without_run(alloc, End::Memory),
     }

@@ -5,19 +5,20 @@ ghost use Rattle.tc_units.specs.Units.{page_bytes};
 ghost use Rattle.tc_model.specs.Replays.{HaveEnded};
 ghost use Rattle.tc_model.specs.declared.steps.StepFault.TheVariants as faults;
 ghost use Rattle.tc_model.specs.Serial.{IsAtLimit, IsCutShort};
-ghost use Rattle.cpu_rows.specs.Machine as allocator;
+ghost use Rattle.alloc_rules.specs.Inputs.{not_taken};
+ghost use Rattle.tc_machine.specs.Inputs.{asked_of};
 ghost use Rattle.tc_machine.specs.Played.{world};
 ghost use Rattle.usage_report.specs.Report.{can_answer};
-ghost use Rattle.tcreplay.specs.Verdict.{told_by, order_of_job};
+ghost use Rattle.tcreplay.specs.Verdict.{told_by, order_by};
 ghost use Rattle.tcreplay.specs.Reads.{seen_job, IsRunnable};
-ghost use Rattle.tcreplay.specs.Ran.{AreTellable, IsRan};
+ghost use Rattle.tcreplay.specs.Ran.{AreTellable, IsRunOf};
 ghost use Rattle.tcreplay.specs.declared.run.Telling.{Telling};
 
 use crate::input::Job;
 use crate::outcome::End;
 use journal_audit::journal_law;
 use std::alloc::{AllocError, Global};
-use tc_machine::State;
+use tc_machine::{Allocator, State};
 use tc_model::{Finished, StepFault};
 use usage_report::{report, summary};
 
@@ -56,9 +57,9 @@ fn told(alloc: Global, finished: &Finished, telling: Telling) -> Result<Vec<u8>,
 }
 
 /// What a run came to whose scripts have all ended.
-fn tell(alloc: Global, state: State, telling: Telling) -> Result<Ran, AllocError>
-    requires ended { HaveEnded (allocator.rules state.input) (world state) }
-    ensures { IfOk result (IsRan telling state.input state.order) }
+fn tell<M: Allocator>(alloc: Global, state: State<M>, telling: Telling) -> Result<Ran, AllocError>
+    requires ended { HaveEnded (M.rules_of state.input) (world M.rules_of state) }
+    ensures { IfOk result (IsRunOf M.rules_of M.told M.lawful telling state.input state.order) }
 {
     let finished = state.finish()?;
     let order = state.into_order();
@@ -72,9 +73,9 @@ fn tell(alloc: Global, state: State, telling: Telling) -> Result<Ran, AllocError
 }
 
 /// What a run came to that stands at its limit, where one pick more would move.
-fn stop(alloc: Global, state: State, ticket: u64) -> Ran
-    requires limit { (whole : List ℕ) × IsAtLimit (allocator.rules state.input) state.input.asked.config.events whole state.order ticket }
-    ensures { (telling : Telling) → IsRan telling state.input state.order result }
+fn stop<M: Allocator>(alloc: Global, state: State<M>, ticket: u64) -> Ran
+    requires limit { (whole : List ℕ) × IsAtLimit (M.rules_of state.input) state.input.asked.config.events whole state.order ticket }
+    ensures { (telling : Telling) → IsRunOf M.rules_of M.told M.lawful telling state.input state.order result }
 {
     let order = state.into_order();
     Ran {
@@ -85,15 +86,15 @@ fn stop(alloc: Global, state: State, ticket: u64) -> Ran
 }
 
 /// What a run came to that was to be completed. Where it stands at its limit it is no want of memory that ends it.
-pub fn come_to(
+pub fn come_to<M: Allocator>(
     alloc: Global,
-    state: State,
+    state: State<M>,
     completed: Result<(), StepFault>,
     telling: Telling,
 ) -> Result<Ran, AllocError>
-    requires ended { OnOk completed (HaveEnded (allocator.rules state.input) (world state)) }
-    requires fault { (whole : List ℕ) × IfErr completed (IsCutShort (allocator.rules state.input) state.input.asked.config.events whole state.order) }
-    ensures ran { (whole : List ℕ) → OnOk completed (state.order ≡ whole) → IfErr completed (IsCutShort (allocator.rules state.input) state.input.asked.config.events whole state.order) → IfOk result (IsRan telling state.input whole) }
+    requires ended { OnOk completed (HaveEnded (M.rules_of state.input) (world M.rules_of state)) }
+    requires fault { (whole : List ℕ) × IfErr completed (IsCutShort (M.rules_of state.input) state.input.asked.config.events whole state.order) }
+    ensures ran { (whole : List ℕ) → OnOk completed (state.order ≡ whole) → IfErr completed (IsCutShort (M.rules_of state.input) state.input.asked.config.events whole state.order) → IfOk result (IsRunOf M.rules_of M.told M.lawful telling state.input whole) }
     ensures full { IfErr completed (λ fault. (fault ≡ faults.Memory → ⊥) → IsOk result) }
 {
     match completed {
@@ -103,17 +104,18 @@ pub fn come_to(
     }
 }
 
-/// Runs a job.
-pub fn run(alloc: Global, job: Job, telling: Telling) -> Result<Ran, AllocError>
-    requires { IsRunnable job }
-    ensures { IfOk result (IsRan telling (seen_job job).input (order_of_job (seen_job job))) }
+/// Runs a job on a machine.
+pub fn run<M: Allocator>(alloc: Global, job: Job, telling: Telling) -> Result<Ran, AllocError>
+    requires runs { IsRunnable job }
+    requires taken { not_taken M.takes (asked_of job.trace).calls ≡ 0 }
+    ensures { IfOk result (IsRunOf M.rules_of M.told M.lawful telling (seen_job job).input (order_by M.rules_of (seen_job job))) }
 {
     let Job {
         table,
         trace,
         picks,
     } = job;
-    let mut state = State::open(alloc, table, trace)?;
+    let mut state = State::<M>::open(alloc, table, trace)?;
     let completed = state.run_order(&picks);
     come_to(alloc, state, completed, telling)
 }

@@ -46,7 +46,7 @@ const MIX_LIVE: &[u8] = b"calls 11\nlive 2 163840\n";
 /// Holds two threads in their first pass until both stand there, and then one of them until the other has
 /// ended a call. It gives up after so many looks.
 #[derive(Drop)]
-struct Hold {
+pub(crate) struct Hold {
     late: u8,
     standing: AtomicU64,
     ended: AtomicU64,
@@ -56,7 +56,7 @@ struct Hold {
 const MOST_LOOKS: u64 = 100_000_000;
 
 impl Hold {
-    fn new(late: u8) -> Self {
+    pub(crate) fn new(late: u8) -> Self {
         Hold {
             late,
             standing: AtomicU64::new(0),

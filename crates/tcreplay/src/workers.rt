@@ -6,21 +6,23 @@ ghost use Rattle.tc_model.specs.Run.{start};
 ghost use Rattle.tc_model.specs.Chains.{IsPolite};
 ghost use Rattle.cpu_rows.specs.Machine as allocator;
 ghost use Rattle.relay.specs.Ends.{IsRun, threads_in};
-ghost use Rattle.tc_machine.specs.Held.{input_in};
+ghost use Rattle.alloc_rules.specs.Inputs.{not_taken};
+ghost use Rattle.tc_machine.specs.Inputs.{asked_of};
 ghost use Rattle.tcreplay.specs.Reads.{seen_job, IsRunnable};
 ghost use Rattle.tcreplay.specs.Came.{IsLeft};
-ghost use Rattle.tcreplay.specs.Ran.{IsRanByThreads};
+ghost use Rattle.tcreplay.specs.Ran.{IsRanByThreads, IsRunByThreads};
 ghost use Rattle.tcreplay.specs.declared.words.Locks.TheVariants.{One, Parts};
 
 use crate::input::Job;
 use crate::run::{Ran, Telling, come_to};
 use crate::words::Locks;
+use cpu_front::{CpuMachine, CpuState};
 use part_lock::Closed;
 use relay::Finish;
 use std::alloc::{AllocError, Global};
 use std::sync::Wait;
 use std::thread::Threads;
-use tc_machine::{AllocMachine, State};
+use tc_machine::{Allocator, State};
 use tc_model::{Entry, Halt, Turn};
 use tc_ports::Gate;
 use world_lock::Left;
@@ -49,22 +51,22 @@ fn threads_in(alloc: Global, entries: &[Entry]) -> Result<Vec<u16>, AllocError>
 /// What worker threads left of a state: under which locks they ran, the last answer of each, and why one was halted, if
 /// one was.
 #[derive(Drop)]
-struct Came {
-    state: State,
+struct Came<M: Allocator> {
+    state: State<M>,
     locks: Locks,
     lasts: Vec<Turn>,
     halt: Option<Halt>,
 }
 
-/// Runs a state's threads under one lock.
+/// Runs the threads of a state of the per-CPU caches under one lock.
 fn run_under_one_lock<R: Threads + Wait + Sync, G: Gate + Sync>(
     rt: &R,
     alloc: Global,
     gate: &G,
-    state: State,
-) -> Result<Came, AllocError>
+    state: CpuState,
+) -> Result<Came<CpuMachine>, AllocError>
     requires start { state.order ≡ [] }
-    ensures left { IfOk result (IsLeft state.input One) }
+    ensures left { IfOk result (λ came. IsLeft allocator.rules state.input One came.state came.locks came.lasts.items came.halt) }
 {
     let Left { state, lasts, halt } = world_lock::run_all(rt, alloc, gate, state)?;
     unless_memory(halt)?;
@@ -77,12 +79,12 @@ fn run_under_one_lock<R: Threads + Wait + Sync, G: Gate + Sync>(
 }
 
 /// What threads left under a lock for each part: their acts in order, or want of memory where a worker lacked it.
-fn gathered(alloc: Global, left: Finish<AllocMachine>) -> Result<Came, AllocError>
-    requires run { IsRun (allocator.rules (input_in left.closed.machine)) left.closed.parts.items left.locals.items left.order.items }
-    requires few { length left.order.items ≤ (input_in left.closed.machine).asked.config.events }
+fn gathered<M: Allocator>(alloc: Global, left: Finish<M>) -> Result<Came<M>, AllocError>
+    requires run { IsRun (M.rules_of (M.input left.closed.machine)) left.closed.parts.items left.locals.items left.order.items }
+    requires few { length left.order.items ≤ (M.input left.closed.machine).asked.config.events }
     ensures memory { left.halt ≡ Some halts.Memory → IsErr result }
     ensures enough { IfOk result (λ came. came.halt ≡ Some halts.Memory → ⊥) }
-    ensures input { IfOk result (λ came. came.state.input ≡ input_in left.closed.machine) }
+    ensures input { IfOk result (λ came. came.state.input ≡ M.input left.closed.machine) }
     ensures order { IfOk result (λ came. came.state.order ≡ threads_in left.order.items) }
     ensures locks { IfOk result (λ came. came.locks ≡ Parts) }
     ensures lasts { IfOk result (λ came. came.lasts.items ≡ left.lasts.items) }
@@ -112,17 +114,20 @@ fn gathered(alloc: Global, left: Finish<AllocMachine>) -> Result<Came, AllocErro
 }
 
 /// Runs a state's threads under a lock for each part. Of its picks at most `events` may move.
-fn run_under_part_locks<R: Threads + Wait + Sync, G: Gate + Sync>(
+fn run_under_part_locks<R: Threads + Wait + Sync, M: Allocator + Sync, G: Gate + Sync>(
     rt: &R,
     alloc: Global,
     gate: &G,
-    state: State,
+    state: State<M>,
     events: u64,
-) -> Result<Came, AllocError>
+) -> Result<Came<M>, AllocError>
+where
+    M::Part: Send,
+    M::Local: Send,
     requires start { state.order ≡ [] }
     requires events { events ≡ state.input.asked.config.events }
     requires most { events ≤ 40000000 }
-    ensures left { IfOk result (IsLeft state.input Parts) }
+    ensures left { IfOk result (λ came. IsLeft M.rules_of state.input Parts came.state came.locks came.lasts.items came.halt) }
 {
     let _threads = state.threads();
     let (machine, parts, locals) = state.split();
@@ -132,37 +137,64 @@ fn run_under_part_locks<R: Threads + Wait + Sync, G: Gate + Sync>(
     gathered(alloc, left)
 }
 
-/// Runs a state's threads under these locks.
-fn run_under<R: Threads + Wait + Sync, G: Gate + Sync>(
-    rt: &R,
-    alloc: Global,
-    gate: &G,
-    state: State,
-    locks: Locks,
-    events: u64,
-) -> Result<Came, AllocError>
-    requires start { state.order ≡ [] }
-    requires events { events ≡ state.input.asked.config.events }
-    requires most { events ≤ 40000000 }
-    ensures left { IfOk result (IsLeft state.input locks) }
-{
-    match locks {
-        Locks::One => run_under_one_lock(rt, alloc, gate, state),
-        Locks::Parts => run_under_part_locks(rt, alloc, gate, state, events),
-    }
-}
-
 /// Ends every call of what threads left, in trace order.
-fn complete(alloc: Global, came: Came, telling: Telling) -> Result<Ran, AllocError>
-    requires left { IsLeft came.state.input came.locks came }
-    ensures { IfOk result (IsRanByThreads telling came.state.input) }
+fn complete<M: Allocator>(alloc: Global, came: Came<M>, telling: Telling) -> Result<Ran, AllocError>
+    requires left { IsLeft M.rules_of came.state.input came.locks came.state came.locks came.lasts.items came.halt }
+    ensures { IfOk result (IsRunByThreads M.rules_of M.told M.lawful telling came.state.input) }
 {
     let mut state = came.state;
     let completed = state.run_serial();
     come_to(alloc, state, completed, telling)
 }
 
-/// Runs a job by a thread for each of its threads, and then what they left.
+/// Runs a job on a machine by a thread for each of its threads, under a lock for each part, and then what they left.
+pub fn run_by_part_locks<R: Threads + Wait + Sync, M: Allocator + Sync, G: Gate + Sync>(
+    rt: &R,
+    alloc: Global,
+    gate: &G,
+    job: Job,
+    telling: Telling,
+) -> Result<Ran, AllocError>
+where
+    M::Part: Send,
+    M::Local: Send,
+    requires runs { IsRunnable job }
+    requires taken { not_taken M.takes (asked_of job.trace).calls ≡ 0 }
+    ensures { IfOk result (IsRunByThreads M.rules_of M.told M.lawful telling (seen_job job).input) }
+{
+    let Job {
+        table,
+        trace,
+        picks: _,
+    } = job;
+    let events = trace.config.events;
+    let state = State::<M>::open(alloc, table, trace)?;
+    let came = run_under_part_locks(rt, alloc, gate, state, events)?;
+    complete(alloc, came, telling)
+}
+
+/// Runs a job on the per-CPU caches by a thread for each of its threads, under one lock, and then what they left.
+fn run_by_one_lock<R: Threads + Wait + Sync, G: Gate + Sync>(
+    rt: &R,
+    alloc: Global,
+    gate: &G,
+    job: Job,
+    telling: Telling,
+) -> Result<Ran, AllocError>
+    requires { IsRunnable job }
+    ensures { IfOk result (IsRanByThreads telling (seen_job job).input) }
+{
+    let Job {
+        table,
+        trace,
+        picks: _,
+    } = job;
+    let state = CpuState::open(alloc, table, trace)?;
+    let came = run_under_one_lock(rt, alloc, gate, state)?;
+    complete(alloc, came, telling)
+}
+
+/// Runs a job on the per-CPU caches by a thread for each of its threads, under these locks, and then what they left.
 pub fn run_by_threads<R: Threads + Wait + Sync, G: Gate + Sync>(
     rt: &R,
     alloc: Global,
@@ -174,13 +206,8 @@ pub fn run_by_threads<R: Threads + Wait + Sync, G: Gate + Sync>(
     requires { IsRunnable job }
     ensures { IfOk result (IsRanByThreads telling (seen_job job).input) }
 {
-    let Job {
-        table,
-        trace,
-        picks: _,
-    } = job;
-    let events = trace.config.events;
-    let state = State::open(alloc, table, trace)?;
-    let came = run_under(rt, alloc, gate, state, locks, events)?;
-    complete(alloc, came, telling)
+    match locks {
+        Locks::One => run_by_one_lock(rt, alloc, gate, job, telling),
+        Locks::Parts => run_by_part_locks::<R, CpuMachine, G>(rt, alloc, gate, job, telling),
+    }
 }

@@ -10,12 +10,12 @@ ghost use Rattle.cpu_rows.specs.Switches.{SwitchesAreFew};
 use crate::board::WorldBoard;
 use crate::named::Named;
 use crate::world::World;
+use cpu_front::CpuState;
 use replay_workers::{Worker, halt_of, lasts_of, run_workers};
 use std::alloc::{AllocError, Global};
 use std::marker::Brand;
 use std::sync::Wait;
 use std::thread::Threads;
-use tc_machine::State;
 use tc_model::{Halt, Turn};
 use tc_ports::Gate;
 use tc_units::ThreadNo;
@@ -23,7 +23,7 @@ use tc_units::ThreadNo;
 /// What threads left of a state, the last answer of each thread's worker, and why one was halted, if one was.
 #[derive(Drop)]
 pub struct Left {
-    pub state: State,
+    pub state: CpuState,
     pub lasts: Vec<Turn>,
     pub halt: Option<Halt>,
 }
@@ -79,7 +79,7 @@ fn run_in<N: Named + Send + Sync, R: Threads + Wait + Sync, G: Gate + Sync>(
     rt: &R,
     alloc: Global,
     gate: &G,
-    state: State,
+    state: CpuState,
 ) -> Result<Left, AllocError>
     requires input { state.input ≡ N.input }
     requires start { state.order ≡ [] }
@@ -108,7 +108,7 @@ pub fn run_all<R: Threads + Wait + Sync, G: Gate + Sync>(
     rt: &R,
     alloc: Global,
     gate: &G,
-    state: State,
+    state: CpuState,
 ) -> Result<Left, AllocError>
     requires start { state.order ≡ [] }
     ensures input { IfOk result (λ left. left.state.input ≡ state.input) }

@@ -3,6 +3,7 @@
 ghost use Rattle.std.specs.Prelude.{◌≡◌, ◌<◌, [], All, IfOk};
 
 use crate::{Left, Named, World, run_all};
+use cpu_front::CpuState;
 use size_classes::ClassTable;
 use std::alloc::{AllocError, Global};
 use std::marker::Brand;
@@ -10,7 +11,6 @@ use std::process::Abort;
 use std::sync::Wait;
 use std::test::Fail;
 use std::thread::Threads;
-use tc_machine::State;
 use tc_model::{CallLine, Halt, StepFault, Turn};
 use tc_ports::OpenGate;
 use tc_units::ThreadNo;
@@ -32,13 +32,13 @@ const CROSSED: &[u8] = b"threads 2\na 0 0 2080768\na 1 1 2080768\nf 0 1\nf 1 0\n
 const AT_ONE_CPU: &[u8] = b"threads 2\na 0 0 16\na 1 1 16\n";
 
 /// The state of two threads at the start of a trace.
-fn opened(rt: &impl Abort, alloc: Global, text: &[u8]) -> Result<State, Fail>
+fn opened(rt: &impl Abort, alloc: Global, text: &[u8]) -> Result<CpuState, Fail>
     ensures threads { IfOk result (λ s. s.input.asked.config.threads ≡ 2) }
     ensures start { IfOk result (λ s. s.order ≡ []) }
 {
     let table = ClassTable::read(alloc, b"16,1,4\n64,1,2\n8192,1,2\n").expect(rt, "a table");
     let trace = read_trace(alloc, text, table.len()).expect(rt, "a trace");
-    let state = State::open(alloc, table, trace)?;
+    let state = CpuState::open(alloc, table, trace)?;
     assert_eq!(rt; state.threads(), 2);
     Ok(state)
 }
@@ -48,11 +48,11 @@ fn opened(rt: &impl Abort, alloc: Global, text: &[u8]) -> Result<State, Fail>
 struct Steps {
     turns: Vec<Turn>,
     done: (u64, u64),
-    state: State,
+    state: CpuState,
 }
 
 /// Picks threads under the name of the state's input.
-fn stepped_in<N: Named>(alloc: Global, state: State, picks: &[u8]) -> Result<Steps, AllocError>
+fn stepped_in<N: Named>(alloc: Global, state: CpuState, picks: &[u8]) -> Result<Steps, AllocError>
     requires input { state.input ≡ N.input }
     requires start { state.order ≡ [] }
     requires threads { state.input.asked.config.threads ≡ 2 }

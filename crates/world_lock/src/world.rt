@@ -9,8 +9,8 @@ ghost use Rattle.cpu_rows.specs.Switches.{SwitchesAreFew};
 ghost use Rattle.world_lock.specs.Stepping.{IsTurnAt, order_after, halt_after, halt_of, turn_of};
 
 use crate::named::Named;
+use cpu_front::CpuState;
 use std::marker::{Model, PhantomData};
-use tc_machine::State;
 use tc_model::{Halt, StepFault, Stepped, Turn};
 use tc_units::ThreadNo;
 
@@ -18,7 +18,7 @@ use tc_units::ThreadNo;
 /// No other such value can be made.
 #[derive(Drop)]
 pub struct World<N: Named> {
-    state: State,
+    state: CpuState,
     halt: Option<Halt>,
     of: PhantomData<N>,
 }
@@ -61,7 +61,7 @@ fn halt_of(fault: StepFault) -> Halt
 impl<N: Named> World<N> {
     /// A state under the lock. Its condition is that the state is a run of what N names, by polite picks,
     /// as it is where no pick was made yet.
-    pub fn new(state: State) -> World<N>
+    pub fn new(state: CpuState) -> World<N>
         requires input { state.input ≡ N.input }
         requires polite { IsPolite (allocator.rules N.input) (start (allocator.rules N.input)) state.order }
         ensures order { result.order ≡ state.order }
@@ -115,7 +115,7 @@ impl<N: Named> World<N> {
     /// The state, without the lock's rest. Each pick of its order moved, and was polite. So at each CPU the
     /// acts In are at most one more than the exits, commits and acts Grow, Leave and Back: threads that only
     /// switch in can't use up the picks that may move.
-    pub fn into_state(self) -> State
+    pub fn into_state(self) -> CpuState
         ensures input { result.input ≡ N.input }
         ensures order { result.order ≡ self.order }
         ensures polite { IsPolite (allocator.rules N.input) (start (allocator.rules N.input)) result.order }

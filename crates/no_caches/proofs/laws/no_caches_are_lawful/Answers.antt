@@ -1,4 +1,4 @@
-use Rattle.no_caches.proofs.NoCachesLaw.{no_caches_law}
+use Rattle.no_caches.specs.NoCachesLaw.{no_caches_law}
 use Rattle.no_caches.proofs.laws.no_caches_are_lawful.Goals as goal
 
 pub returns : goal.returns

@@ -5,31 +5,28 @@ use Rattle.std.proofs.lemmas.List.FromFn.{map-range_with_len_more, length-map-ra
 use Rattle.std.proofs.lemmas.Iterator.Adapters.{YieldsList-from_vec}
 use Rattle.std.proofs.lemmas.Iterator.Consumers.{YieldsList-turn, YieldsList-end}
 use Rattle.tc_model.specs.declared.calls.Script.{Script}
-use Rattle.cpu_rows.specs.CpuCalls.{cpu_calls}
-use Rattle.cpu_rows.specs.CpuFront.{first_seat}
-use Rattle.cpu_rows.specs.PerCpu.{CpuLocal as Local}
-use Rattle.call_steps.specs.Local.{first_local}
+use Rattle.call_steps.specs.Local.{Local, first_local}
 use Rattle.tc_machine.specs.Opening.{local_at}
 use Rattle.tc_machine.proofs.opening.locals_of.Goals as goal
 
 pub overflow_cast-thread : goal.overflow_cast-thread
-overflow_cast-thread c =
+overflow_cast-thread g c =
     let t = YieldsList-turn (YieldsList-from_vec c.args.scripts.items (cc) (cc)) c.loop-script.yielded c.loop-script.script-iterator c.loop-script.yielded_by c.next.result c.next.new.self c.in-Some.script c.in-Some.is c.next.ensures.steps in
-    let count : length c.loop-script.locals.items ≡ length c.loop-script.yielded = ap length c.loop-script.invariant ∙ length-map-range_with_len (local_at c.args.setting.now.table c.args.setting.now.config c.args.scripts.items) 0 (length c.loop-script.yielded) in
+    let count : length c.loop-script.locals.items ≡ length c.loop-script.yielded = ap length c.loop-script.invariant ∙ length-map-range_with_len (local_at (g.F.FrontEnd.rules c.args.setting.now) g.F.FrontEnd.about c.args.scripts.items) 0 (length c.loop-script.yielded) in
     omega (arith, t.0, count, c.requires.few, c.len.ensures, c.loop-script.locals.ok)
 
 pub loop-script-preserved : goal.loop-script-preserved
-loop-script-preserved c =
+loop-script-preserved g c =
     let n : ℕ = length c.loop-script.yielded in
     let scripts = c.args.scripts.items in
-    let u = c.args.setting.now in
-    let at = local_at u.table u.config scripts in
+    let r = g.F.FrontEnd.rules c.args.setting.now in
+    let at = local_at r g.F.FrontEnd.about scripts in
     let t = YieldsList-turn (YieldsList-from_vec scripts (cc) (cc)) c.loop-script.yielded c.loop-script.script-iterator c.loop-script.yielded_by c.next.result c.next.new.self c.in-Some.script c.in-Some.is c.next.ensures.steps in
     let count : length c.loop-script.locals.items ≡ n = ap length c.loop-script.invariant ∙ length-map-range_with_len at 0 n in
     let none : Script = record { calls = [] } in
     let script : c.in-Some.script ≡ slice_index_or scripts n none = t.1 ∙ get_or_default scripts n c.in-Some.script none t.0 in
     let thread : c.len.result ≡ n = omega (arith, c.len.ensures, count, c.loop-script.locals.ok) in
-    let made : ℕ → Script → Local = λ k s. first_local (cpu_calls u.table) (record { 0 = k }) (first_seat u.config k) s.calls in
+    let made : ℕ → Script → Local g.row.F-Seat.Denot g.row.F-Row.Denot = λ k s. first_local r.calls (record { 0 = k }) (r.seats k) s.calls in
     let new : c.in_ok-new.field-0 ≡ at n = c.in_ok-new.ensures ∙ ap (λ k. made k c.in-Some.script) thread ∙ ap (made n) script in
     c.in_ok-push.ensures.items
     ∙ ap (λ l. c.loop-script.locals.items ++ l ∷ []) new
@@ -38,7 +35,7 @@ loop-script-preserved c =
     ∙ ap (λ k. map at (range_with_len 0 k)) (sym (length_push c.loop-script.yielded c.in-Some.script))
 
 pub returns : goal.returns
-returns c =
+returns g c =
     let u = c.args.setting.now in
     let t = YieldsList-end (YieldsList-from_vec c.args.scripts.items (cc) (cc)) c.loop-script.yielded c.loop-script.script-iterator c.loop-script.yielded_by c.next.result c.next.new.self c.in-None.is c.next.ensures.steps in
-    c.loop-script.invariant ∙ ap (λ n. map (local_at u.table u.config c.args.scripts.items) (range_with_len 0 n)) t.1
+    c.loop-script.invariant ∙ ap (λ n. map (local_at (g.F.FrontEnd.rules u) g.F.FrontEnd.about c.args.scripts.items) (range_with_len 0 n)) t.1

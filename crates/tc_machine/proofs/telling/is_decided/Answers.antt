@@ -8,7 +8,7 @@ use Rattle.tc_machine.proofs.TellingFacts.{act_of, some_is_of, none_is_of}
 use Rattle.tc_machine.proofs.telling.is_decided.Goals as goal
 
 pub returns-in-Some : goal.returns-in-Some
-returns-in-Some c =
+returns-in-Some g c =
     let told = c.args.mark.now.told in
     let within : told < length c.answers.result.now = ltb-true told (length c.answers.result.now) (sym c.in-Some.ensures.lookup.0) in
     let here : slice_get c.answers.result.now told ≡ Some c.in-Some.answered.now = slice_get-get_or c.answers.result.now told c.in-Some.answered.now within ∙ ap (λ a. Some a) (sym c.in-Some.ensures.lookup.1) in
@@ -17,7 +17,7 @@ returns-in-Some c =
     record { answer = sym (some_is_of c.args.mark.now.picks c.in-Some.answered.now.act (slice_get c.args.local.now.answers told) acts); fits = λ is. omega (arith, within, c.answers.type_inv.0) }
 
 pub returns-in-None : goal.returns-in-None
-returns-in-None c =
+returns-in-None g c =
     let told = c.args.mark.now.told in
     let past : length c.answers.result.now ≤ told = ltb-false told (length c.answers.result.now) (sym c.in-None.ensures.lookup.0) in
     let acts : option_map act_of (slice_get c.args.local.now.answers told) ≡ None =

@@ -6,6 +6,8 @@ use Rattle.tcreplay.specs.Ran.{IsRan}
 use Rattle.tcreplay.specs.Seen.{seen_replay}
 use Rattle.tcreplay.proofs.RanFacts.{run_end}
 use Rattle.tcreplay.proofs.TriedFacts.{tried_ran, tried_at}
+use Rattle.cpu_front.proofs.Taken.{all_taken}
+use Rattle.tc_machine.specs.Inputs.{asked_of}
 use Rattle.tcreplay.proofs.replay.try_replay.Goals as goal
 
 pub returns-in-Ok-run-clause-tried : goal.returns-in-Ok-run-clause-tried
@@ -18,3 +20,6 @@ returns-in-Err-clause-tried g c =
 
 pub write-requires : goal.write-requires
 write-requires g c = run_end c.telling.result (seen_job c.in-Ok.job).input (order_of_job (seen_job c.in-Ok.job)) c.in-Ok-run.ran c.in-Ok-run.ensures
+
+pub run-requires-clause-taken : goal.run-requires-clause-taken
+run-requires-clause-taken g c = all_taken (asked_of c.in-Ok.job.trace).calls

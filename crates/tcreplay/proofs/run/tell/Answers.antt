@@ -5,13 +5,13 @@ use Rattle.tcreplay.proofs.JournalFacts.{told_legal}
 use Rattle.tcreplay.proofs.run.tell.Goals as goal
 
 pub told-requires-clause-answered : goal.told-requires-clause-answered
-told-requires-clause-answered c = answerable c.args.state.input.asked.config.huge (length_of c.args.state.input.rows) c.in_ok-finished.finished.calls c.in_ok-finished.ensures.blocks
+told-requires-clause-answered g c = answerable c.args.state.input.asked.config.huge (length_of c.args.state.input.rows) c.in_ok-finished.finished.calls c.in_ok-finished.ensures.blocks
 
 pub returns : goal.returns
-returns c = record {
-  is = told_done c.args.telling c.args.state.input c.args.state.order _ _ c.in_ok-finished.finished c.requires.ended c.in_ok-finished.ensures.value c.into_order-order.ensures.order c.in_ok-text.ensures.text;
+returns g c = record {
+  is = told_done g.M.Allocator.rules_of g.M.Allocator.told c.args.telling c.args.state.input c.args.state.order _ _ c.in_ok-finished.finished c.requires.ended c.in_ok-finished.ensures.value c.into_order-order.ensures.order c.in_ok-text.ensures.text;
   law = c.into_order-order.ensures.lawful;
   filled = tt;
-  journal = λ _. told_legal c.journal_law.ensures c.args.state.input c.args.state.order c.into_order-order.ensures.lawful c.requires.ended
-      c.args.telling c.in_ok-finished.finished c.in_ok-finished.ensures.value c.in_ok-text.ensures.tellable;
+  journal = λ _. told_legal g.M.Allocator.rules_of g.M.Allocator.told g.M.Allocator.lawful c.journal_law.ensures c.args.state.input c.args.state.order
+      c.args.telling c.in_ok-finished.finished c.in_ok-finished.ensures.value c.in_ok-finished.ensures.blocks c.in_ok-finished.ensures.scripts c.in_ok-text.ensures.tellable;
 }

@@ -2,19 +2,22 @@ use Rattle.std.proofs.Common.{refl, sym, subst}
 use Rattle.std.specs.Prelude.{IfErr}
 use Rattle.tc_model.specs.Input.{Input}
 use Rattle.tc_model.specs.Serial.{completed, IsCutShort}
-use Rattle.cpu_rows.specs.Machine.{rules, turns}
+use Rattle.alloc_rules.specs.Machine.{turns}
 use Rattle.tcreplay.proofs.WorkerFacts.{by_threads_result}
 use Rattle.tcreplay.proofs.workers.complete.Goals as goal
 
 pub come_to-requires-clause-fault : goal.come_to-requires-clause-fault
-come_to-requires-clause-fault c =
+come_to-requires-clause-fault g c =
+    let rules = g.M.Allocator.rules_of in
     let input = c.args.came.state.input in
-    let all = completed (rules input) (turns input) input.asked.config.events c.args.came.state.order in
+    let all = completed (rules input) (turns input.asked) input.asked.config.events c.args.came.state.order in
     (all, subst (λ (i : Input). IfErr c.run_serial-completed.result (IsCutShort (rules i) i.asked.config.events all c.run_serial-completed.new.self.order)) (sym c.run_serial-completed.ensures.input) c.run_serial-completed.ensures.fault)
 
 pub returns : goal.returns
-returns c =
+returns g c =
+    let rules = g.M.Allocator.rules_of in
     let input = c.args.came.state.input in
-    let all = completed (rules input) (turns input) input.asked.config.events c.args.came.state.order in
+    let all = completed (rules input) (turns input.asked) input.asked.config.events c.args.came.state.order in
     let fault = subst (λ (i : Input). IfErr c.run_serial-completed.result (IsCutShort (rules i) i.asked.config.events all c.run_serial-completed.new.self.order)) (sym c.run_serial-completed.ensures.input) c.run_serial-completed.ensures.fault in
-    by_threads_result c.args.telling c.run_serial-completed.new.self.input input c.args.came.state.order all c.come_to.result c.run_serial-completed.ensures.input refl c.requires.left.polite (c.come_to.ensures.ran all c.run_serial-completed.ensures.ok fault)
+    by_threads_result rules g.M.Allocator.told g.M.Allocator.lawful g.met.M.Allocator.is_few c.args.telling c.run_serial-completed.new.self.input input c.args.came.state.order all c.come_to.result c.run_serial-completed.ensures.input refl c.requires.left.polite
+    (c.come_to.ensures.ran all c.run_serial-completed.ensures.ok fault)

@@ -2,37 +2,41 @@ use Rattle.std.proofs.Common.{◌≡◌, Some, None, length, sym, ap, ◌∙◌,
 use Rattle.std.specs.Prelude.{All}
 use Rattle.tc_model.specs.declared.board.Halt.TheVariants.{Full}
 use Rattle.tc_model.specs.Input.{Input}
-use Rattle.tc_model.specs.Run.{start, run}
 use Rattle.tc_model.specs.Replays.{HaveEnded}
-use Rattle.tc_model.specs.Chains.{IsPolite}
-use Rattle.cpu_rows.specs.Machine.{rules}
-use Rattle.tc_machine.specs.Held.{input_in}
+use Rattle.tc_model.specs.Run.{World, run}
 use Rattle.relay.specs.Ends.{IsRun, threads_in}
-use Rattle.tcreplay.proofs.WorkerFacts.{few_threads, many_locals, parts_left}
+use Rattle.tcreplay.proofs.WorkerFacts.{many_locals, parts_left}
 use Rattle.tcreplay.proofs.workers.run_under_part_locks.Goals as goal
 
 pub run_all-requires-clause-few : goal.run_all-requires-clause-few
 run_all-requires-clause-few g c κs within =
-    let few = few_threads c.args.state.input c.split-machine.result.1.items c.split-machine.result.2.items c.threads-threads.result c.split-machine.ensures.start c.threads-threads.ensures (let fits = c.threads-threads.type_inv in omega arith) in
+    let fits = c.threads-threads.type_inv in
     let ok = c.split-machine.result.2.ok in
-    omega (arith, few, ok)
+    omega (arith, c.split-machine.ensures.all, c.threads-threads.ensures, fits, ok)
 
 pub gathered-requires-clause-run : goal.gathered-requires-clause-run
-gathered-requires-clause-run g c = subst (λ m. IsRun (rules (input_in m)) c.in-Some.left.closed.parts.items c.in-Some.left.locals.items c.in-Some.left.order.items) (sym c.in-Some.ensures.machine) c.in-Some.ensures.run
+gathered-requires-clause-run g c =
+    let left = c.in-Some.left in
+    let ruled = subst (λ q. IsRun q left.closed.parts.items left.locals.items left.order.items) c.split-machine.ensures.rules c.in-Some.ensures.run in
+    let same = ap (λ n. g.M.Allocator.input n) c.in-Some.ensures.machine ∙ c.split-machine.ensures.input in
+    subst (λ (i : Input). IsRun (g.M.Allocator.rules_of i) left.closed.parts.items left.locals.items left.order.items) (sym same) ruled
 
 pub returns : goal.returns
 returns g c =
+    let rules = g.M.Allocator.rules_of in
     let left = c.in-Some.left in
     let input = c.args.state.input in
-    let polite = subst (λ (i : Input). IsPolite (rules i) (start (rules i)) (threads_in left.order.items)) c.split-machine.ensures.input c.in-Some.ensures.run.polite in
-    let full = λ (is : left.halt ≡ Some Full). c.in-Some.ensures.full is ∙ c.requires.events in
-    let machine = input_in c.split-machine.result.0 in
     let picks = threads_in left.order.items in
-    let behind = many_locals machine picks ∙ ap (λ (i : Input). i.asked.config.threads) c.split-machine.ensures.input in
-    let each = c.in-Some.ensures.lasts.many ∙ (ap length c.in-Some.ensures.run.locals_are ∙ behind) in
-    let ended = λ (none : left.halt ≡ None). subst (λ (i : Input). HaveEnded (rules i) (run (rules i) picks)) c.split-machine.ensures.input
-    (subst (All (λ l. (rules machine).want l ≡ None)) c.in-Some.ensures.run.locals_are (c.in-Some.ensures.ended none)) in
+    let ruled = subst (λ q. IsRun q left.closed.parts.items left.locals.items left.order.items) c.split-machine.ensures.rules c.in-Some.ensures.run in
+    let same = ap (λ n. g.M.Allocator.input n) c.in-Some.ensures.machine ∙ c.split-machine.ensures.input in
+    let full = λ (is : left.halt ≡ Some Full). c.in-Some.ensures.full is ∙ c.requires.events in
+    let many = sym (ap (λ (w : World g.row.M-Part.Denot g.row.M-Local.Denot). length w.locals) c.split-machine.ensures.start) ∙ c.split-machine.ensures.all in
+    let each = c.in-Some.ensures.lasts.many ∙ (ap length ruled.locals_are ∙ many_locals rules input picks many) in
+    let ended = λ (none : left.halt ≡ None).
+    (let over = subst (λ q. All (λ l. q.want l ≡ None) left.locals.items) c.split-machine.ensures.rules (c.in-Some.ensures.ended none) in
+    subst (All (λ l. (rules input).want l ≡ None)) ruled.locals_are over) in
     record {
-      left = parts_left input (input_in left.closed.machine) left.order.items left.lasts.items left.halt c.gathered.result (ap input_in c.in-Some.ensures.machine ∙ c.split-machine.ensures.input) polite c.in-Some.ensures.halt c.in-Some.ensures.lasts.over full each ended
+      left = parts_left rules c.gathered.result (λ x. x.state) (λ x. x.locks) (λ x. x.lasts.items) (λ x. x.halt) input (g.M.Allocator.input left.closed.machine) left.order.items left.lasts.items left.halt
+          same ruled.polite c.in-Some.ensures.halt c.in-Some.ensures.lasts.over full each ended
           c.gathered.ensures.input c.gathered.ensures.order c.gathered.ensures.locks c.gathered.ensures.lasts c.gathered.ensures.halt c.gathered.ensures.enough;
     }

@@ -1,37 +1,40 @@
-use Rattle.std.proofs.Common.{◌≡◌, ap, ◌∙◌, sym, subst}
+use Rattle.std.proofs.Common.{◌≡◌, ap, ◌∙◌, sym, subst, arith}
 use Rattle.std.specs.Result.{IfErr, OnOk}
-use Rattle.tc_model.specs.Run.{run}
+use Rattle.tc_model.specs.Run.{start, run}
 use Rattle.tc_model.specs.Replays.{HaveEnded}
-use Rattle.tc_machine.specs.declared.machine.AllocMachine.{AllocMachine}
 use Rattle.tc_model.specs.Serial.{completed, IsCutShort}
-use Rattle.cpu_rows.specs.Machine as allocator
+use Rattle.alloc_rules.specs.Machine.{turns}
+use Rattle.tc_model.specs.Steps.{moving}
 use Rattle.tc_machine.specs.Played.{Played}
-use Rattle.tc_machine.specs.Held.{input_in}
-use Rattle.tc_machine.proofs.StateFacts.{lawful_in}
 use Rattle.tc_machine.proofs.state.State.run_serial.Goals as goal
 
 pub returns-clause-ok : goal.returns-clause-ok
-returns-clause-ok c =
+returns-clause-ok g c =
     let r = c.self.inside.replay in
-    let i = input_in r.machine in
     let new = c.run_serial.new.self.order.items in
-    let ok = subst (λ n. OnOk c.run_serial.result (new ≡ completed (allocator.rules i) (allocator.turns i) n r.order.items)) c.self.invariant c.run_serial.ensures.ok in
-    subst (λ (p : Played). OnOk c.run_serial.result (new ≡ completed (allocator.rules p.input) (allocator.turns p.input) p.input.asked.config.events p.order)) c.self.view_is ok
+    let ruled = subst (λ q. OnOk c.run_serial.result (new ≡ completed q (g.M.Serial.turns r.machine) r.limit r.order.items)) (g.met.M.Allocator.same_rules r.machine) c.run_serial.ensures.ok in
+    let turned = subst (λ ts. OnOk c.run_serial.result (new ≡ completed (g.M.Allocator.rules_of (g.M.Allocator.input r.machine)) ts r.limit r.order.items)) (g.met.M.Allocator.same_turns r.machine) ruled in
+    let ok = subst (λ n. OnOk c.run_serial.result (new ≡ completed (g.M.Allocator.rules_of (g.M.Allocator.input r.machine)) (turns (g.M.Allocator.input r.machine).asked) n r.order.items)) c.self.invariant turned in
+    subst (λ (p : Played). OnOk c.run_serial.result (new ≡ completed (g.M.Allocator.rules_of p.input) (turns p.input.asked) p.input.asked.config.events p.order)) c.self.view_is ok
 
 pub returns-clause-ended : goal.returns-clause-ended
-returns-clause-ended c =
+returns-clause-ended g c =
+    let r = c.self.inside.replay in
     let new = c.run_serial.new.self.order.items in
-    subst (λ (m : AllocMachine). OnOk c.run_serial.result (HaveEnded (allocator.rules (input_in m)) (run (allocator.rules (input_in m)) new))) (sym c.run_serial.ensures.machine) c.run_serial.ensures.ended
+    let ended = subst (λ q. OnOk c.run_serial.result (HaveEnded q (run q new))) (g.met.M.Allocator.same_rules r.machine) c.run_serial.ensures.ended in
+    subst (λ m. OnOk c.run_serial.result (HaveEnded (g.M.Allocator.rules_of (g.M.Allocator.input m)) (run (g.M.Allocator.rules_of (g.M.Allocator.input m)) new))) (sym c.run_serial.ensures.machine) ended
 
 pub returns-clause-fault : goal.returns-clause-fault
-returns-clause-fault c =
+returns-clause-fault g c =
     let r = c.self.inside.replay in
-    let i = input_in r.machine in
-    let fault = subst (λ n. IfErr c.run_serial.result (IsCutShort (allocator.rules i) n (completed (allocator.rules i) (allocator.turns i) n r.order.items) c.run_serial.new.self.order.items)) c.self.invariant c.run_serial.ensures.err in
-    subst (λ (p : Played). IfErr c.run_serial.result (IsCutShort (allocator.rules p.input) p.input.asked.config.events (completed (allocator.rules p.input) (allocator.turns p.input) p.input.asked.config.events p.order) c.run_serial.new.self.order.items)) c.self.view_is fault
+    let new = c.run_serial.new.self.order.items in
+    let ruled = subst (λ q. IfErr c.run_serial.result (IsCutShort q r.limit (completed q (g.M.Serial.turns r.machine) r.limit r.order.items) new)) (g.met.M.Allocator.same_rules r.machine) c.run_serial.ensures.err in
+    let turned = subst (λ ts. IfErr c.run_serial.result (IsCutShort (g.M.Allocator.rules_of (g.M.Allocator.input r.machine)) r.limit (completed (g.M.Allocator.rules_of (g.M.Allocator.input r.machine)) ts r.limit r.order.items) new)) (g.met.M.Allocator.same_turns r.machine) ruled in
+    let fault = subst (λ n. IfErr c.run_serial.result (IsCutShort (g.M.Allocator.rules_of (g.M.Allocator.input r.machine)) n (completed (g.M.Allocator.rules_of (g.M.Allocator.input r.machine)) (turns (g.M.Allocator.input r.machine).asked) n r.order.items) new)) c.self.invariant turned in
+    subst (λ (p : Played). IfErr c.run_serial.result (IsCutShort (g.M.Allocator.rules_of p.input) p.input.asked.config.events (completed (g.M.Allocator.rules_of p.input) (turns p.input.asked) p.input.asked.config.events p.order) new)) c.self.view_is fault
 
 pub returns-clause-lawful : goal.returns-clause-lawful
-returns-clause-lawful c =
+returns-clause-lawful g c =
     let r = c.run_serial.new.self in
-    let limit : r.limit ≡ r.machine.setting.config.events = c.run_serial.ensures.limit ∙ (c.self.invariant ∙ ap (λ (m : AllocMachine). m.setting.config.events) (sym c.run_serial.ensures.machine)) in
-    lawful_in r.machine r.order.items r.limit r.moves r.few limit
+    let limit : r.limit ≡ (g.M.Allocator.input r.machine).asked.config.events = c.run_serial.ensures.limit ∙ (c.self.invariant ∙ ap (λ m. (g.M.Allocator.input m).asked.config.events) (sym c.run_serial.ensures.machine)) in
+    g.met.M.Allocator.is_lawful r.machine r.order.items (subst (λ q. moving q (start q) r.order.items ≡ r.order.items) (g.met.M.Allocator.same_rules r.machine) r.moves) (omega (arith, r.few, limit))

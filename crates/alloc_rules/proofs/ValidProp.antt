@@ -1,0 +1,46 @@
+-- That an input is valid has one proof at most, so that a machine can keep it.
+use Rattle.std.proofs.Common.{List, Option, None, Some}
+use Rattle.std.proofs.Math.Nat.{ℕ_set}
+use Rattle.std.specs.Coded.{le_prop}
+use Rattle.tc_units.specs.declared.spans.ClassRow.{ClassRow}
+use Rattle.tc_model.specs.declared.calls.Call.{Call}
+use Rattle.tc_model.specs.declared.calls.Call.TheVariants.{Malloc, Free, Release, Drain, Resize}
+use Rattle.tc_model.specs.declared.calls.MoveTo.{MoveTo}
+use Rattle.tc_model.specs.declared.calls.Planned.{Planned}
+use Rattle.tc_model.specs.Input.{Input, ThreadCall}
+use Rattle.call_steps.specs.Shapes.{IsClassRow, AreRows}
+use Rattle.alloc_rules.specs.Valid.{IsInOrder, IsCall}
+use Rattle.alloc_rules.specs.Inputs.{Limits, limits_of, IsMove, IsCallThere, IsPlanned, IsValidInput}
+
+order_prop : (earlier : List ThreadCall) (call : Call) → IsProp (IsInOrder earlier call)
+order_prop earlier (Malloc label size) = hlevel (ℕ_set, le_prop)
+order_prop earlier (Free label) = hlevel (ℕ_set, le_prop)
+order_prop earlier (Release pages) = hlevel
+order_prop earlier (Drain cpu) = hlevel
+order_prop earlier (Resize cpu class n) = hlevel
+
+move_prop : (m : Limits) (moved : Option MoveTo) → IsProp (IsMove m moved)
+move_prop m None = hlevel
+move_prop m (Some move) = hlevel (le_prop)
+
+there_prop : (m : Limits) (call : Call) → IsProp (IsCallThere m call)
+there_prop m (Malloc label size) = hlevel
+there_prop m (Free label) = hlevel
+there_prop m (Release pages) = hlevel
+there_prop m (Drain cpu) = hlevel (le_prop)
+there_prop m (Resize cpu class n) = hlevel (le_prop)
+
+planned_prop : (m : Limits) (p : Planned) → IsProp (IsPlanned m p)
+planned_prop m p = hlevel (there_prop, move_prop)
+
+call_prop : (input : Input) (earlier : List ThreadCall) (c : ThreadCall) → IsProp (IsCall input.rows (IsPlanned (limits_of input.rows input.asked.config)) input.asked earlier c)
+call_prop input earlier c = hlevel (order_prop, planned_prop, le_prop)
+
+row_prop : (row : ClassRow) → IsProp (IsClassRow row)
+row_prop row = hlevel (le_prop)
+
+rows_prop : (rows : List ClassRow) → IsProp (AreRows rows)
+rows_prop rows = hlevel (row_prop, le_prop)
+
+pub valid_prop : (input : Input) → IsProp (IsValidInput input)
+valid_prop input = hlevel (call_prop, rows_prop, le_prop)

@@ -1,0 +1,101 @@
+//! What a machine of the allocator offers beside its acts: an opening from a class table and a trace, and what a
+//! run of it tells.
+ghost use Rattle.std.specs.Prelude.{◌≡◌, ℕ, Bool, ◌*◌, ◌≤◌, List, length, IfOk};
+ghost use Rattle.tc_units.specs.Units.{page_bytes, huge_pages};
+ghost use Rattle.tc_units.specs.Classes.{length_of};
+ghost use Rattle.tc_model.specs.declared.calls.Call.{Call as Asking};
+ghost use Rattle.tc_model.specs.declared.answers.Finished.{Finished as Told};
+ghost use Rattle.tc_model.specs.Blocks.{IsBlockRun};
+ghost use Rattle.tc_model.specs.Input.{Asked, Input};
+ghost use Rattle.tc_model.specs.Run.{Rules, world_of, start, run};
+ghost use Rattle.tc_model.specs.Steps.{moving};
+ghost use Rattle.tc_model.specs.Replays.{HaveEnded};
+ghost use Rattle.alloc_rules.specs.Inputs.{not_taken};
+ghost use Rattle.alloc_rules.specs.Machine.{turns as turns_of};
+ghost use Rattle.alloc_rules.specs.Told.{TellsScripts};
+ghost use Rattle.tc_machine.specs.Inputs.{IsRead, asked_of, input_of};
+
+use size_classes::ClassTable;
+use std::alloc::{AllocError, Global};
+use tc_model::{Call, Finished, Machine, Serial};
+use trace_reader::Trace;
+
+/// A machine with the parts and the locals of its start.
+#[derive(Drop)]
+pub struct Opened<M: Machine> {
+    pub machine: M,
+    pub parts: Vec<M::Part>,
+    pub locals: Vec<M::Local>,
+}
+
+/// A machine that is opened from a class table and a trace, and tells a finished run.
+pub trait Allocator: Serial + Drop {
+    // What it is a run of, and its rules as a function of that.
+    ghost input: { Self → Input };
+
+    ghost rules_of: { Input → Rules Self.Part Self.Local };
+
+    // The calls that it takes: a trace with others is none of its traces.
+    ghost takes: { Asking → Bool };
+
+    // Its law, for an order each of whose picks moves, and what its run tells.
+    ghost lawful: { Input → List ℕ → Type 0 };
+
+    ghost told: { Input → List ℕ → Told };
+
+    /// Whether it takes a call.
+    fn can_take(call: Call) -> bool
+        ensures { result ≡ takes call };
+
+    /// The machine for the calls of a trace. Its condition is that the reader answers this trace for some text, and that it
+    /// takes each call.
+    fn open(alloc: Global, table: ClassTable, trace: Trace) -> Result<Opened<Self>, AllocError>
+        requires read { (asked : Asked) × IsRead (length table) trace asked }
+        requires taken { not_taken takes (asked_of trace).calls ≡ 0 }
+        ensures input { IfOk result (λ o. input o.machine ≡ input_of table trace) }
+        ensures start { IfOk result (λ o. world_of o.parts.items o.locals.items ≡ start (rules_of (input o.machine))) };
+
+    /// How many threads there are.
+    fn threads(&self) -> u8
+        ensures { result ≡ (input self.now).asked.config.threads };
+
+    /// How many picks of a run may move.
+    fn most_picks(&self) -> u64
+        ensures is { result ≡ (input self.now).asked.config.events }
+        ensures few { result ≤ 40000000 };
+
+    /// What a run has to tell: its calls in the order in which they were decided, the blocks that they leave, and the heap's
+    /// pages. The parts and the locals are those of the run of the order, each pick of which moved, and all scripts have ended.
+    fn finish(
+        &self,
+        alloc: Global,
+        parts: &[Self::Part],
+        locals: &[Self::Local],
+        order: &[u16],
+    ) -> Result<Finished, AllocError>
+        requires run { world_of parts.now locals.now ≡ run (rules_of (input self.now)) order.now }
+        requires moves { moving (rules_of (input self.now)) (start (rules_of (input self.now))) order.now ≡ order.now }
+        requires few { length order.now ≤ (input self.now).asked.config.events }
+        requires ended { HaveEnded (rules_of (input self.now)) (run (rules_of (input self.now)) order.now) }
+        ensures value { IfOk result (λ f. f ≡ told (input self.now) order.now) }
+        ensures blocks { IfOk result (λ f. IsBlockRun (input self.now).asked.config.huge (length_of (input self.now).rows) f.calls) }
+        ensures scripts { IfOk result (λ f. TellsScripts (input self.now).asked f.calls) }
+
+        // A live block's bytes are backed, and no more is backed than the arena has.
+        ensures covered { IfOk result (λ f. f.live_bytes ≤ f.resident * page_bytes) }
+        ensures most { IfOk result (λ f. f.resident ≤ huge_pages * (input self.now).asked.config.huge) }
+        ensures arena { IfOk result (λ f. f.resident ≤ huge_pages * 4096) };
+
+    // Its rules, its turns and its threads are those of its input.
+    ghost same_rules: { (machine : Self) → Self.rules machine ≡ rules_of (input machine) };
+
+    ghost same_turns: { (machine : Self) → Self.turns machine ≡ turns_of (input machine).asked };
+
+    ghost as_many: { (machine : Self) → length (Self.rules machine).locals ≡ (input machine).asked.config.threads };
+
+    // It is lawful in every order whose picks move.
+    ghost is_lawful: { (machine : Self) (order : List ℕ) → moving (rules_of (input machine)) (start (rules_of (input machine))) order ≡ order → length order ≤ (input machine).asked.config.events → lawful (input machine) order };
+
+    // A lawful order has at most as many picks as may move.
+    ghost is_few: { (input : Input) (order : List ℕ) → lawful input order → length order ≤ input.asked.config.events };
+}

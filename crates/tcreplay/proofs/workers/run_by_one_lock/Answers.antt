@@ -1,0 +1,26 @@
+use Rattle.std.proofs.Common.{sym, subst, ◌∙◌}
+use Rattle.std.specs.Prelude.{IfOk}
+use Rattle.tc_model.specs.Input.{Input}
+use Rattle.tcreplay.specs.declared.words.Locks.{Locks}
+use Rattle.tcreplay.specs.declared.words.Locks.TheVariants.{One}
+use Rattle.cpu_rows.specs.Machine.{rules}
+use Rattle.cpu_front.proofs.Taken.{all_taken}
+use Rattle.tc_machine.specs.Inputs.{asked_of}
+use Rattle.tcreplay.specs.Came.{IsLeft}
+use Rattle.tcreplay.specs.Ran.{IsRanByThreads}
+use Rattle.tcreplay.proofs.workers.run_by_one_lock.Goals as goal
+
+pub open-requires-clause-taken : goal.open-requires-clause-taken
+open-requires-clause-taken g c = all_taken (asked_of c.args.job.trace).calls
+
+pub complete-requires : goal.complete-requires
+complete-requires g c =
+    let came = c.in_ok-came.came in
+    let left = c.in_ok-came.ensures.left in
+    record {
+      left = subst (λ (k : Locks). IsLeft rules came.state.input k came.state came.locks came.lasts.items came.halt) (sym left.locks_are)
+          (subst (λ (i : Input). IsLeft rules i One came.state came.locks came.lasts.items came.halt) (sym left.input_is) left);
+    }
+
+pub returns : goal.returns
+returns g c = subst (λ (i : Input). IfOk c.complete.result (IsRanByThreads c.args.telling i)) (c.in_ok-came.ensures.left.input_is ∙ c.in_ok-state.ensures.input) c.complete.ensures

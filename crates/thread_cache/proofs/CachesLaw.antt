@@ -1,0 +1,246 @@
+-- The caches of threads meet the law of a front-end.
+use Rattle.std.proofs.Common.{◌≡◌, ℕ, zero, suc, ◌+◌, ◌*◌, ◌%◌, ◌<◌, ◌≤◌, ltb, eqb, get_or, List, [], ◌∷◌, length, map, Some, refl, sym, ap, ◌∙◌, subst, inl, inr, arith}
+use Rattle.std.specs.Prelude.{slice_get, slice_set}
+use Rattle.std.specs.List.{range_with_len}
+use Rattle.std.proofs.Math.Nat.{mod-lt, mul_comm, mul-le-mul_left}
+use Rattle.std.proofs.lemmas.Bool.{cond_both}
+use Rattle.std.proofs.lemmas.Option.{slice_get-get_or}
+use Rattle.std.proofs.lemmas.List.{length-set, length-replicate}
+use Rattle.std.proofs.lemmas.List.Elements.{All-set, All-replicate}
+use Rattle.std.proofs.lemmas.List.Folds.{sum_by-replicate}
+use Rattle.tc_units.specs.declared.units.Addr.{Addr}
+use Rattle.tc_units.specs.declared.spans.ClassRow.{ClassRow}
+use Rattle.tc_model.specs.declared.config.Config.{Config}
+use Rattle.rseq_core.specs.declared.regs.Regs.{Regs}
+use Rattle.size_classes.specs.Rows.{sizes_of}
+use Rattle.holdings.specs.Runs.{objects_at}
+use Rattle.holdings.proofs.Sums.{of_all, shift, least}
+use Rattle.call_steps.specs.declared.step.Asking.{Asking}
+use Rattle.call_steps.specs.declared.step.Serving.{Serving}
+use Rattle.call_steps.specs.declared.step.Freeing.{Freeing}
+use Rattle.call_steps.specs.declared.step.Next.TheVariants as next
+use Rattle.call_steps.specs.Fronts.{AreEntries}
+use Rattle.call_steps.specs.Local.{no_class}
+use Rattle.call_steps.specs.Shapes.{AreRows}
+use Rattle.alloc_rules.specs.Standings.{Here, Later, Away, Standing, stand, at_next, regs_next}
+use Rattle.alloc_rules.specs.FrontLaw.{IsReady, FitsAt, RefusesAs, idle, with_hand}
+use Rattle.thread_cache.specs.declared.row.CacheRow.{CacheRow}
+use Rattle.thread_cache.specs.declared.row.CacheRow.TheVariants.{Pop, Stock, Add, Ask, Raise, AddAgain, Trim}
+use Rattle.thread_cache.specs.declared.seat.CacheSeat.{CacheSeat}
+use Rattle.thread_cache.specs.Cache.{Stack, Cache, empty_stack, no_stack, objects_of, opened, given}
+use Rattle.transfer_cache.specs.Transfer.{last_first}
+use Rattle.thread_cache.specs.Rows.{about_row, cache_place, popped, left_in, after_stock, after_add, after_again, ask_most, cache_acts, cache_calls, cache_refuses, cache_front}
+use Rattle.thread_cache.specs.Fits.{FitsRow, cache_fits}
+use Rattle.thread_cache.specs.Holds.{given_in, given_of, HandFor, limit_of, IsSeated, IsCacheOf, CachesHold}
+use Rattle.thread_cache.specs.Laws.{AreCacheLimits, CachesAreLawful}
+use Rattle.thread_cache.proofs.CacheFacts as facts
+use Rattle.thread_cache.proofs.Lists.{set_twice, set_once, sum_same, sum_none, made_at}
+use Rattle.thread_cache.proofs.Stacks.{classes}
+use Rattle.thread_cache.proofs.RowActs.{Leaves, next_low, next_apart, row_leaves}
+
+-- an empty cache
+sizes_first : (rows : List ClassRow) → map (λ (s : Stack). s.size) (map empty_stack rows) ≡ sizes_of rows
+sizes_first [] = refl
+sizes_first (row ∷ rows) = ap (λ ns. row.size ∷ ns) (sizes_first rows)
+
+none_first : (n k : ℕ) (rows : List ClassRow) → objects_at n (get_or (map empty_stack rows) k no_stack).objects ≡ 0
+none_first n k [] = refl
+none_first n zero (row ∷ rows) = refl
+none_first n (suc k) (row ∷ rows) = none_first n k rows
+
+-- no row decides a call with an answer of its own
+pops_no : (p : Cache) (g : Regs) (a : Asking) (xs : List Addr) → RefusesAs cache_refuses (Pop a) (popped p g a xs).2
+pops_no p g a [] = tt
+pops_no p g a (x ∷ xs) = tt
+
+stocks_no : (s : Serving) (xs : List Addr) → RefusesAs cache_refuses (Stock s) (after_stock xs s)
+stocks_no s [] = tt
+stocks_no s (x ∷ xs) = tt
+
+adds_no : (caches : ℕ) (f : Freeing) (xs : List Addr) → RefusesAs cache_refuses (Add f) (after_add caches xs f)
+adds_no caches f [] = tt
+adds_no caches f (x ∷ xs) = cond_both (ltb 1 caches) (next.Row (Ask f)) (next.Row (Trim f)) (RefusesAs cache_refuses (Add f)) (λ e. tt) (λ e. tt)
+
+again_no : (f : Freeing) (xs : List Addr) → RefusesAs cache_refuses (AddAgain f) (after_again xs f)
+again_no f [] = tt
+again_no f (x ∷ xs) = tt
+
+refuses : (rows : List ClassRow) (p : Cache) (v : CacheSeat) (g : Regs) (row : CacheRow) → RefusesAs cache_refuses row (cache_acts rows p v g row).next
+refuses rows p v g (Pop a) = pops_no p g a (last_first 1 (objects_of p g.class.0))
+refuses rows p v g (Stock s) = stocks_no s (left_in p g).hand.items
+refuses rows p v g (Add f) = adds_no v.caches f (left_in p g).hand.items
+refuses rows p v g (Ask f) =
+    let n : ℕ = given p (ask_most rows g) in
+    cond_both (eqb n 0) (next.Row (Trim f)) (next.Row (Raise f n)) (RefusesAs cache_refuses (Ask f)) (λ e. tt) (λ e. tt)
+refuses rows p v g (Raise f n) = tt
+refuses rows p v g (AddAgain f) = again_no f (left_in p g).hand.items
+refuses rows p v g (Trim f) = tt
+
+-- all of the caches stand before the shards
+pub split_first : (rows : List ClassRow) (c : Config) → c.threads ≤ length (cache_front rows c).parts
+split_first rows c = omega (arith, length-replicate c.threads (opened rows c.percpu))
+
+cache_entries : (rows : List ClassRow) → AreEntries (cache_calls rows) about_row
+cache_entries rows =
+    record {
+      first_about = λ v a. refl;
+      rest_about = λ v s. refl;
+      free_about = λ v f. refl;
+      other_about = λ v call. tt;
+      last_about = λ v. tt;
+      to_first = λ g. record { thread = refl; class = refl; hand = refl };
+      to_rest = λ g. record { thread = refl; class = refl; hand = refl };
+      to_free = λ g. record { thread = refl; class = refl; hand = refl };
+      to_other = λ call g. refl;
+      other_thread = λ call g. refl;
+    }
+
+module _ (rows : List ClassRow) (c : Config) where
+  -- a thread stands elsewhere, and no part changes
+  changes : (n t : ℕ) (ps : List Cache) (us : List (Standing CacheSeat CacheRow)) (s new : Standing CacheSeat CacheRow)
+      → (IsSeated c t s → IsSeated c t new)
+      → given_of new ≡ given_of s → CachesHold rows c n ps (slice_set us t s) → CachesHold rows c n ps (slice_set us t new)
+  changes n t ps us s new sits same h =
+      record {
+        many = h.many;
+        caches = h.caches;
+        threads = λ u x at. (elim (set_twice us t s new u x at) [
+          | inl a ↦ subst (λ j. IsSeated c j x) (sym a.0) (subst (IsSeated c t) a.1 (sits (h.threads t s a.2)))
+          | inr there ↦ h.threads u x there
+        ]);
+        limits = omega (arith, h.limits, sum_same given_of us t new s same);
+      }
+
+  -- a part changes, and a thread with it
+  both : (n i t : ℕ) (ps : List Cache) (us : List (Standing CacheSeat CacheRow)) (p q : Cache) (s new : Standing CacheSeat CacheRow)
+      → slice_get ps i ≡ Some p
+      → slice_get us t ≡ Some s → IsCacheOf rows q → IsSeated c t new → q.limit + given_of new ≡ p.limit + given_of s → CachesHold rows c n ps us
+      → CachesHold rows c (n + 1) (slice_set ps i q) (slice_set us t new)
+  both n i t ps us p q s new at own part sits same h =
+      record {
+        many = length-set ps i q ∙ h.many;
+        caches = All-set (IsCacheOf rows) ps i q part h.caches;
+        threads = λ u x is. (elim (set_once us t s new u x own is) [
+          | inl a ↦ subst (λ j. IsSeated c j x) (sym a.0) (subst (IsSeated c t) a.1 sits)
+          | inr there ↦ h.threads u x there
+        ]);
+        limits = omega (arith, h.limits, shift limit_of ps i p q at, shift given_of us t s new own, same);
+      }
+
+  module _ (are : AreRows rows) (limits : AreCacheLimits c) where
+    -- the start
+    first : (threads : ℕ) → CachesHold rows c 0 (cache_front rows c).parts (map (idle (cache_front rows c)) (range_with_len 0 threads))
+    first threads =
+        let f = idle (cache_front rows c) in
+        let p : Cache = opened rows c.percpu in
+        record {
+          many = length-replicate c.threads p;
+          caches = All-replicate (IsCacheOf rows) c.threads p (record { sizes = sizes_first rows; within = omega (arith, facts.none rows) });
+          threads = λ t s at. (let own : ℕ = t % c.threads in
+              subst (IsSeated c t) (made_at f threads t s at)
+              (record { own = refl; caches = refl; victim = next_low c.threads own limits.threads; apart = next_apart c.threads own; hand = tt }));
+          limits = omega (arith, sum_by-replicate limit_of c.threads p, sum_none given_of f (range_with_len 0 threads) (λ k. refl));
+        }
+
+    -- the cache of a row is there
+    place_low : (t : ℕ) (v : CacheSeat) (row : CacheRow) → v.own ≡ t % c.threads → v.victim < c.threads → cache_place v row < c.threads
+    place_low t v (Ask f) own victim = victim
+    place_low t v (Pop a) own victim = omega (arith, own, mod-lt t {m = c.threads} limits.threads)
+    place_low t v (Stock s) own victim = omega (arith, own, mod-lt t {m = c.threads} limits.threads)
+    place_low t v (Add f) own victim = omega (arith, own, mod-lt t {m = c.threads} limits.threads)
+    place_low t v (Raise f n) own victim = omega (arith, own, mod-lt t {m = c.threads} limits.threads)
+    place_low t v (AddAgain f) own victim = omega (arith, own, mod-lt t {m = c.threads} limits.threads)
+    place_low t v (Trim f) own victim = omega (arith, own, mod-lt t {m = c.threads} limits.threads)
+
+    -- and an act there fits
+    fits_row : (t : ℕ) (p : Cache) (g : Regs) (row : CacheRow) → IsReady (cache_front rows c) t g (about_row row) → HandFor g row
+        → p.limit + given_in row ≤ c.threads * c.percpu → FitsRow rows p g row
+    fits_row t p g (Pop a) ready hand sum = omega (arith, ready.room, ap length ready.hand.1)
+    fits_row t p g (Stock s) ready hand sum = omega (arith, ready.hand)
+    fits_row t p g (Add f) ready hand sum = omega (arith, ap length hand)
+    fits_row t p g (Ask f) ready hand sum = tt
+    fits_row t p g (Raise f n) ready hand sum =
+        let most = limits.percpu in
+        let by = mul-le-mul_left c.percpu limits.few in
+        omega (arith, sum, mul_comm c.threads c.percpu, by, most)
+    fits_row t p g (AddAgain f) ready hand sum = omega (arith, ap length hand)
+    fits_row t p g (Trim f) ready hand sum =
+        let row = are.each g.class.0 no_class ready.class in
+        record { class = ready.class; some = row.batch; room = omega (arith, row.few, ready.room, ap length hand) }
+
+    module _ (n : ℕ) (ps : List Cache) (us : List (Standing CacheSeat CacheRow)) (t : ℕ) (v : CacheSeat) (g : Regs) (count : ℕ) (row : CacheRow)
+        (h : CachesHold rows c n ps us) (own : slice_get us t ≡ Some (stand v g count (Here row)))
+        (ready : IsReady (cache_front rows c) t g (about_row row)) where
+      seat : IsSeated c t (stand v g count (Here row))
+      seat = h.threads t (stand v g count (Here row)) own
+
+      is_cache : (p : Cache) → slice_get ps (cache_place v row) ≡ Some p → IsCacheOf rows p
+      is_cache p at = of_all (IsCacheOf rows) ps (cache_place v row) p h.caches at
+
+      left : (p : Cache) → slice_get ps (cache_place v row) ≡ Some p → Leaves rows c are t p v g count row (cache_acts rows p v g row)
+      left p at = let some = limits.threads in row_leaves rows c are t p v g count row seat (omega (arith, seat.caches, some)) seat.caches ready (is_cache p at)
+
+      fits : (p : Cache) → slice_get ps (cache_place v row) ≡ Some p → FitsRow rows p g row
+      fits p at =
+          fits_row t p g row ready seat.hand
+          (omega (arith, least limit_of ps (cache_place v row) p at, least given_of us t (stand v g count (Here row)) own, h.limits))
+
+      is_ready : FitsAt (cache_front rows c) (cache_fits rows) ps v g row
+      is_ready =
+          let i : ℕ = cache_place v row in
+          let d : Cache = opened rows 0 in
+          let at = slice_get-get_or ps i d (omega (arith, place_low t v row seat.own seat.victim, h.many)) in
+          record {
+            part = get_or ps i d;
+            there = at;
+            fit = record {
+              class = ready.class;
+              there = omega (arith, classes rows (get_or ps i d) (is_cache (get_or ps i d) at), ready.class);
+              fit = fits (get_or ps i d) at;
+            };
+          }
+
+      keeps : (p : Cache) → slice_get ps (cache_place v row) ≡ Some p
+          → (let x = cache_acts rows p v g row in CachesHold rows c (n + 1) (slice_set ps (cache_place v row) x.part)
+          (slice_set us t (stand x.seat (regs_next x.regs x.next) (count + 1) (at_next x.next))))
+      keeps p at =
+          let x = cache_acts rows p v g row in
+          let l = left p at in
+          both n (cache_place v row) t ps us p x.part (stand v g count (Here row)) (stand x.seat (regs_next x.regs x.next) (count + 1) (at_next x.next)) at own
+          l.part (record { own = l.own ∙ seat.own; caches = l.caches ∙ seat.caches; victim = l.victim; apart = l.apart; hand = l.hand }) l.limit h
+
+pub caches_law : CachesAreLawful
+caches_law rows c are limits =
+    record {
+      start = first rows c are limits;
+      none = λ k n.
+          (let p : Cache = opened rows c.percpu in
+          let f : Cache → ℕ = λ q. objects_at n (objects_of q k) in
+          sum_by-replicate f c.threads p ∙ (ap (λ m. c.threads * m) (none_first n k rows) ∙ (let z : c.threads * 0 ≡ 0 = omega arith in z)));
+      split = split_first rows c;
+      ready = λ n ps us t v g count row few le h own ready. is_ready rows c are limits n ps us t v g count row h own ready;
+      does = λ n ps us t p v g count row few le h own at ready. (left rows c are limits n ps us t v g count row h own ready p at).act;
+      acts = λ n ps us t p v g count row few le h own at ready. keeps rows c are limits n ps us t v g count row h own ready p at;
+      passes = λ n ps us h. record { many = h.many; caches = h.caches; threads = h.threads; limits = h.limits };
+      away = λ n ps us t v g count more k hand le low same h. changes rows c n t ps us (stand v g count Away) (stand v (with_hand g k hand) more Away)
+          (λ x. record { own = x.own; caches = x.caches; victim = x.victim; apart = x.apart; hand = tt }) refl h;
+      waits = λ n ps us t v g count more j row hand le same h. changes rows c n t ps us (stand v g count (Later j row))
+          (stand v (with_hand g g.class hand) more (Later j row)) (λ x. absurd x.hand) refl h;
+      back = λ n ps us t v g count more k row hand le same none h. changes rows c n t ps us (stand v g count (Later k row))
+          (stand v (with_hand g k hand) more (Here row)) (λ x. absurd x.hand) refl h;
+      begins = λ n ps us t v g count o plan none h. h;
+      restarts = λ n ps us t v g count h. changes rows c n t ps us (stand v g count Away) (stand v (record g { ran = 0 }) count Away)
+          (λ x. record { own = x.own; caches = x.caches; victim = x.victim; apart = x.apart; hand = tt }) refl h;
+      firsts = λ n ps us t v g count a asked none h. changes rows c n t ps us (stand v g count Away) (stand v (record g { ran = 0 }) count (Here (Pop a)))
+          (λ x. record { own = x.own; caches = x.caches; victim = x.victim; apart = x.apart; hand = tt }) refl h;
+      rests = λ n ps us t v g count s some few h. changes rows c n t ps us (stand v g count Away) (stand v g count (Here (Stock s)))
+          (λ x. record { own = x.own; caches = x.caches; victim = x.victim; apart = x.apart; hand = tt }) refl h;
+      frees = λ n ps us t v g count f one h. changes rows c n t ps us (stand v g count Away) (stand v g count (Here (Add f)))
+          (λ x. record { own = x.own; caches = x.caches; victim = x.victim; apart = x.apart; hand = one }) refl h;
+      others_begin = λ n ps us t v g count p plan own none h. absurd (plan own);
+      lasts = λ n ps us t v g count none h. h;
+      entries = cache_entries rows;
+      other_class = λ p g plan own. absurd (plan own);
+      other_there = λ v p plan own. absurd (plan own);
+      refuses = refuses rows;
+    }

@@ -1,0 +1,5 @@
+pub mod Cache
+pub mod Rows
+pub mod Fits
+pub mod Holds
+pub mod Laws
