@@ -1,6 +1,6 @@
--- No caches before the shards, as a front-end: it has no part and no row, so that small objects are fetched from their
--- shards and given back to them.
-use Rattle.std.specs.Prelude.{ℕ, Bool, true, false, List, [], None}
+-- No caches before the shards, as a front-end: it has no part, and no call comes to a row of it, so that small objects are
+-- fetched from their shards and given back to them.
+use Rattle.std.specs.Prelude.{◌≡◌, ℕ, Bool, true, false, List, [], map, All, None}
 use Rattle.tc_units.specs.declared.spans.ClassRow.{ClassRow}
 use Rattle.tc_model.specs.declared.calls.Call.{Call}
 use Rattle.tc_model.specs.declared.calls.Call.TheVariants.{Malloc, Free, Release, Drain, Resize}
@@ -9,20 +9,21 @@ use Rattle.rseq_core.specs.declared.regs.Regs.{Regs}
 use Rattle.no_caches.specs.declared.front.NoPart.{NoPart}
 use Rattle.no_caches.specs.declared.front.NoRow.{NoRow}
 use Rattle.no_caches.specs.declared.front.NoSeat.{NoSeat}
+use Rattle.call_steps.specs.declared.step.Next.TheVariants.{End}
 use Rattle.call_steps.specs.Calls.{About, Other}
 use Rattle.call_steps.specs.Fronts.{FrontCalls, FrontRules}
 use Rattle.alloc_rules.specs.FrontLaw.{IsOwn}
-use Rattle.alloc_rules.specs.Standings.{Standing}
+use Rattle.alloc_rules.specs.Standings.{At, Here, Later, Away, Standing}
 
 -- a thread knows nothing there
 abbrev pub no_seat : NoSeat
 no_seat = record {}
 
--- no row is about a call
+-- its row is about no call
 abbrev pub about_none : NoRow → About
 about_none row = Other None
 
--- calls begin and go on behind it
+-- calls begin and go on behind it, at none of its rows
 abbrev pub no_calls : List ClassRow → FrontCalls NoSeat NoRow
 no_calls rows =
     record {
@@ -47,7 +48,7 @@ no_caches rows =
       seats = λ t. no_seat;
       calls = no_calls rows;
       place = λ v g row. 0;
-      acts = λ p v g row. elim row [ ];
+      acts = λ p v g row. record { part = p; seat = v; regs = g; next = End };
       yields = λ p v g row. true;
       stored = λ p k n. 0;
       refuses = λ row answer. false;
@@ -64,9 +65,16 @@ is_shared (Resize cpu class cap) = false
 abbrev pub planned : Planned → Type 0
 planned p = IsOwn p.call → ⊥
 
--- nothing is to be kept, and nothing has to fit
-abbrev pub Holds : ℕ → List NoPart → List (Standing NoSeat NoRow) → Type 0
-Holds n ps us = Unit {0}
+-- whether a thread stands at no row
+abbrev pub is_away : At NoRow → Bool
+is_away (Here row) = false
+is_away (Later class row) = false
+is_away Away = true
 
+-- none comes to a row
+abbrev pub Holds : ℕ → List NoPart → List (Standing NoSeat NoRow) → Type 0
+Holds n ps us = All (λ (away : Bool). away ≡ true) (map (λ (u : Standing NoSeat NoRow). is_away u.at) us)
+
+-- and nothing has to fit
 abbrev pub fits : NoPart → NoSeat → Regs → NoRow → Type 0
 fits p v g row = Unit {0}

@@ -9,19 +9,20 @@ use tc_machine::{AllocMachine, State};
 use tc_model::{Call, Planned};
 use tc_units::ThreadNo;
 
-/// There is no part.
+/// What a part would be; there is none.
 #[derive(Drop)]
-pub enum NoPart {}
+pub struct NoPart;
 
-/// There is no row.
+/// What a row would be; no call comes to one.
 #[derive(Clone, Copy)]
-pub enum NoRow {}
+pub struct NoRow;
 
 /// A thread has nothing there.
 #[derive(Drop)]
 pub struct NoSeat;
 
-/// No part and no row: what an allocation fetches besides goes back to the shard, and so does each object that is freed.
+/// No part, and no row that a call comes to: what an allocation fetches besides goes back to the shard, and so does each
+/// object that is freed.
 /// A drain and a resize are no calls of it.
 pub struct NoCaches;
 
@@ -109,8 +110,8 @@ impl FrontEnd for NoCaches {
         None
     }
 
-    fn place(_setting: &Setting, _seat: &NoSeat, _regs: &Regs, row: NoRow) -> u16 {
-        match row {}
+    fn place(_setting: &Setting, _seat: &NoSeat, _regs: &Regs, _row: NoRow) -> u16 {
+        0
     }
 
     fn act(
@@ -118,9 +119,9 @@ impl FrontEnd for NoCaches {
         _part: &mut NoPart,
         _seat: &mut NoSeat,
         _regs: &mut Regs,
-        row: NoRow,
+        _row: NoRow,
     ) -> Result<Next<NoRow>, AllocError> {
-        match row {}
+        Ok(Next::End)
     }
 
     fn yields(
@@ -128,9 +129,9 @@ impl FrontEnd for NoCaches {
         _part: &NoPart,
         _seat: &NoSeat,
         _regs: &Regs,
-        row: NoRow,
+        _row: NoRow,
     ) -> bool {
-        match row {}
+        true
     }
 }
 
