@@ -1,10 +1,10 @@
--- A trace whose scripts have calls that are taken alone has no other call.
-use Rattle.std.proofs.Common.{◌≡◌, ℕ, ◌+◌, ◌<◌, ◌≤◌, take, true, false, eqb, cond, List, [], ◌∷◌, ◌++◌, drop, length, refl, sym, ap, subst, inl, inr, arith}
-use Rattle.std.specs.Prelude.{Bool, All}
+-- A trace of which no line is refused has calls alone that are taken.
+use Rattle.std.proofs.Common.{◌≡◌, ℕ, ◌+◌, ◌<◌, ◌≤◌, take, true, false, eqb, cond, List, [], ◌∷◌, ◌++◌, drop, length, Option, Some, None, refl, sym, ap, ◌∙◌, subst, inl, inr, arith}
+use Rattle.std.specs.Prelude.{Bool, All, fold}
 use Rattle.std.specs.List.{slice_index_or}
 use Rattle.std.proofs.lemmas.Bool.{cases_lt}
-use Rattle.std.proofs.lemmas.List.Elements.{All-nil, All-cons, All-append, All-head, All-tail}
-use Rattle.std.proofs.lemmas.List.Sums.{sum_by-cons}
+use Rattle.std.proofs.lemmas.List.Elements.{All-nil, All-cons, All-head, All-tail}
+use Rattle.std.proofs.lemmas.List.Sums.{sum_by-cons, fold-append}
 use Rattle.std.proofs.lemmas.List.{get_or_past, take_more, take_all}
 use Rattle.tc_units.specs.declared.units.ThreadNo.{ThreadNo}
 use Rattle.tc_model.specs.declared.calls.Call.{Call}
@@ -14,13 +14,14 @@ use Rattle.tc_model.specs.Input.{ThreadCall}
 use Rattle.trace_reader.specs.declared.trace.Trace.{Trace}
 use Rattle.alloc_rules.specs.Inputs.{AreTaken, not_taken}
 use Rattle.tc_machine.specs.Inputs.{script_at, next_call, calls_by, asked_of}
+use Rattle.tc_machine.specs.Taken.{lesser, refused_at, refused_in, refused_line}
 
--- all of the first ones, and of one more; and of all
-pub all_more : {X : Type 0} (P : X → Type 0) (xs : List X) (i : ℕ) (x : X) → i < length xs → All P (take i xs) → P (slice_index_or xs i x) → All P (take (i + 1) xs)
-all_more P xs i x within all here = subst (All P) (sym (take_more xs i x within)) (All-append P (take i xs) (slice_index_or xs i x ∷ []) all (All-cons P (slice_index_or xs i x) [] here (All-nil P)))
+-- a fold over the first ones and one more, and over all
+pub fold_more : {A X : Type 0} (f : A → X → A) (a : A) (xs : List X) (i : ℕ) (x : X) → i < length xs → fold f a (take (i + 1) xs) ≡ f (fold f a (take i xs)) (slice_index_or xs i x)
+fold_more f a xs i x within = ap (fold f a) (take_more xs i x within) ∙ fold-append f a (take i xs) (slice_index_or xs i x ∷ [])
 
-pub all_whole : {X : Type 0} (P : X → Type 0) (xs : List X) (i : ℕ) → length xs ≤ i → All P (take i xs) → All P xs
-all_whole P xs i past all = subst (All P) (take_all i xs past) all
+pub fold_whole : {A X : Type 0} (f : A → X → A) (a : A) (xs : List X) (i : ℕ) → length xs ≤ i → fold f a (take i xs) ≡ fold f a xs
+fold_whole f a xs i past = ap (fold f a) (take_all i xs past)
 
 module _ (takes : Call → Bool) where
   abbrev weight : ThreadCall → ℕ
@@ -56,5 +57,34 @@ module _ (takes : Call → Bool) where
     | inr past ↦ subst (λ (s : Script). AreTaken takes s.calls) (sym (get_or_past scripts u (record { calls = [] }) past)) (All-nil (λ (q : Planned). takes q.call ≡ true))
   ]
 
-  pub all_taken : (trace : Trace) → All (λ (s : Script). AreTaken takes s.calls) trace.scripts → not_taken takes (asked_of trace).calls ≡ 0
-  all_taken trace all = none_by trace.turns (script_at trace.scripts) (λ u. script_taken trace.scripts u all)
+  -- where no line is found, each call is taken
+  none_of_both : (line other : Option ℕ) → lesser line other ≡ None → (line ≡ None) × (other ≡ None)
+  none_of_both None other is = (refl, is)
+  none_of_both (Some line) None is = absurd (cc)
+  none_of_both (Some line) (Some other) is = absurd (cc)
+
+  not_refused : (p : Planned) → refused_at takes p ≡ None → takes p.call ≡ true
+  not_refused p is = by_test (takes p.call) is
+    where
+      by_test : (b : Bool) → cond b None (Some p.line) ≡ None → b ≡ true
+      by_test true is = refl
+      by_test false is = absurd (cc)
+
+  none_in : (script : List Planned) (least : Option ℕ) → fold (λ so (p : Planned). lesser so (refused_at takes p)) least script ≡ None → (least ≡ None) × AreTaken takes script
+  none_in [] least is = (is, All-nil (λ (q : Planned). takes q.call ≡ true))
+  none_in (p ∷ ps) least is =
+      let later = none_in ps (lesser least (refused_at takes p)) is in
+      let here = none_of_both least (refused_at takes p) later.0 in
+      (here.0, All-cons (λ (q : Planned). takes q.call ≡ true) p ps (not_refused p here.1) later.1)
+
+  none_of : (scripts : List Script) (least : Option ℕ) → fold (λ so (s : Script). lesser so (refused_in takes s.calls)) least scripts ≡ None → (least ≡ None) × All (λ (s : Script). AreTaken takes s.calls) scripts
+  none_of [] least is = (is, All-nil (λ (s : Script). AreTaken takes s.calls))
+  none_of (s ∷ ss) least is =
+      let later = none_of ss (lesser least (refused_in takes s.calls)) is in
+      let here = none_of_both least (refused_in takes s.calls) later.0 in
+      (here.0, All-cons (λ (t : Script). AreTaken takes t.calls) s ss (none_in s.calls None here.1).1 later.1)
+
+  pub all_taken : (trace : Trace) → refused_line takes trace.scripts ≡ None → not_taken takes (asked_of trace).calls ≡ 0
+  all_taken trace none =
+      let all = (none_of trace.scripts None none).1 in
+      none_by trace.turns (script_at trace.scripts) (λ u. script_taken trace.scripts u all)

@@ -4,4 +4,5 @@ pub mod Finish
 pub mod Machines
 pub mod Opening
 pub mod Standing
+pub mod Taken
 pub mod Telling

@@ -14,4 +14,4 @@ mod telling;
 pub use allocator::{Allocator, Opened};
 pub use machine::AllocMachine;
 pub use state::State;
-pub use taking::takes_all;
+pub use taking::refused_line;

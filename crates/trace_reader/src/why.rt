@@ -26,6 +26,9 @@ pub enum LineWhy {
     LabelUnknown,
     #[error("an earlier free has the label")]
     LabelFreed,
+    /// No rule of this reader, which never answers it: a machine refuses the line's call, where no line is bad.
+    #[error("it has a call that its machine doesn't take")]
+    NotHere,
 }
 
 /// Why a trace was not read.
