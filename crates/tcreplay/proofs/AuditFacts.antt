@@ -1,5 +1,5 @@
 -- What an audit comes to, from what its steps come to.
-use Rattle.std.proofs.Common.{◌≡◌, ℕ, false, List, [], length, Option, Some, Result, Ok, Err, refl, sym, ap, subst, ◌∙◌, inl, inr}
+use Rattle.std.proofs.Common.{◌≡◌, ℕ, false, List, [], length, Option, Some, None, Result, Ok, Err, refl, sym, ap, subst, ◌∙◌, inl, inr}
 use Rattle.std.specs.Prelude.{IsErrAnd, IfOk, Vec}
 use Rattle.std.specs.declared.alloc.AllocError.{AllocError}
 use Rattle.std.specs.Global.{Global}
@@ -27,7 +27,7 @@ use Rattle.tcreplay.proofs.JobFacts.{IsEarly, not_run, cut_early, table_err, tra
 use Rattle.tcreplay.proofs.TriedFacts.{read_for, untouched, not_later}
 
 -- Reading: the journal is the further file.
-case_early : IsEarly case_with
+case_early : IsEarly None case_with
 case_early given end is = case_fails is_behind_run given end not_run is
 
 abbrev items_of : Vec ℕ Global → List ℕ
@@ -40,20 +40,20 @@ abbrev case_made : List ClassRow → Asked → List ℕ → Case
 case_made rows asked journal = case_of (record { rows = rows; asked = asked }) journal
 
 abbrev pub IsCaseRead : Audit → Reading → Reading → Shelving → Shelving → Result AuditJob End → Type 0
-IsCaseRead audit t u f g result = AreRead seen_case case_in audit.classes (Some audit.journal) t u f g result
+IsCaseRead audit t u f g result = AreRead None seen_case case_in audit.classes (Some audit.journal) t u f g result
 
 module _ (audit : Audit) where
   pub case_table : (t : Reading) (f g : Shelving) (end : End) (result : Result AuditJob End) → IsErrAnd result (λ e. e ≡ end) → IsLoad (λ (rows : List ClassRow). rows) rows_in audit.classes f g (Err end) → IsCaseRead audit t t f g result
-  case_table = table_err case_with case_early seen_case audit.classes (Some audit.journal)
+  case_table = table_err None case_with case_early seen_case audit.classes (Some audit.journal)
 
-  pub case_trace : (t u : Reading) (f g : Shelving) (rows : List ClassRow) (end : End) (result : Result AuditJob End) → IsErrAnd result (λ e. e ≡ end) → IsLoad (λ (rows : List ClassRow). rows) rows_in audit.classes f g (Ok rows) → IsTraceRead rows t u (Err end) → IsCaseRead audit t u f g result
-  case_trace = trace_err case_with case_early seen_case audit.classes (Some audit.journal)
+  pub case_trace : (t u : Reading) (f g : Shelving) (rows : List ClassRow) (end : End) (result : Result AuditJob End) → IsErrAnd result (λ e. e ≡ end) → IsLoad (λ (rows : List ClassRow). rows) rows_in audit.classes f g (Ok rows) → IsTraceRead None rows t u (Err end) → IsCaseRead audit t u f g result
+  case_trace = trace_err None case_with case_early seen_case audit.classes (Some audit.journal)
 
-  pub case_journal : (t u : Reading) (f g h : Shelving) (rows : List ClassRow) (trace : Trace) (end : End) (result : Result AuditJob End) → IsErrAnd result (λ e. e ≡ end) → IsLoad (λ (rows : List ClassRow). rows) rows_in audit.classes f g (Ok rows) → IsTraceRead rows t u (Ok trace) → IsLoad items_of (file_within trace_limit) audit.journal g h (Err end) → IsCaseRead audit t u f h result
-  case_journal = file_err case_with case_early seen_case audit.classes (Some audit.journal) items_of journal_in case_made audit.journal refl (λ given rows asked. refl)
+  pub case_journal : (t u : Reading) (f g h : Shelving) (rows : List ClassRow) (trace : Trace) (end : End) (result : Result AuditJob End) → IsErrAnd result (λ e. e ≡ end) → IsLoad (λ (rows : List ClassRow). rows) rows_in audit.classes f g (Ok rows) → IsTraceRead None rows t u (Ok trace) → IsLoad items_of (file_within trace_limit) audit.journal g h (Err end) → IsCaseRead audit t u f h result
+  case_journal = file_err None case_with case_early seen_case audit.classes (Some audit.journal) items_of journal_in case_made audit.journal refl (λ given rows asked. refl)
 
-  pub case_ok : (t u : Reading) (f g h : Shelving) (rows : List ClassRow) (trace : Trace) (journal : Vec ℕ Global) → IsLoad (λ (rows : List ClassRow). rows) rows_in audit.classes f g (Ok rows) → IsTraceRead rows t u (Ok trace) → IsLoad items_of (file_within trace_limit) audit.journal g h (Ok journal) → IsCaseRead audit t u f h (Ok (record { table = rows; trace = trace; journal = journal }))
-  case_ok t u f g h rows trace journal = read_with case_with case_early seen_case audit.classes (Some audit.journal) items_of journal_in case_made audit.journal refl (λ given rows asked. refl) t u f g h rows trace journal (record { table = rows; trace = trace; journal = journal }) refl
+  pub case_ok : (t u : Reading) (f g h : Shelving) (rows : List ClassRow) (trace : Trace) (journal : Vec ℕ Global) → IsLoad (λ (rows : List ClassRow). rows) rows_in audit.classes f g (Ok rows) → IsTraceRead None rows t u (Ok trace) → IsLoad items_of (file_within trace_limit) audit.journal g h (Ok journal) → IsCaseRead audit t u f h (Ok (record { table = rows; trace = trace; journal = journal }))
+  case_ok t u f g h rows trace journal = read_with None case_with case_early seen_case audit.classes (Some audit.journal) items_of journal_in case_made audit.journal refl (λ given rows asked. refl) t u f g h rows trace journal (record { table = rows; trace = trace; journal = journal }) refl
 
 -- Judging: the scripts of a trace that was read are those that it asks for.
 pub scripts_are : (classes : ℕ) (trace : Trace) → IsRead classes trace (asked_of trace) → scripts_of (asked_of trace) ≡ trace.scripts
@@ -84,7 +84,7 @@ module _ (audit : Audit) (t u : Reading) (f g : Shelving) (out : Writing) where
   stopped end order none read =
       let early : is_behind_run end ≡ false = elim read.answer [
         | inl e ↦ case_fails is_behind_run read.given end not_run e
-        | inr cut ↦ cut_early read.given t u f g end cut
+        | inr cut ↦ cut_early None read.given t u f g end cut
       ] in
       let answer : IsAuditAnswer read.given t u f g end = elim read.answer [
         | inl e ↦ inl (sym (ap (λ r. (case_verdict r).end) e))
@@ -111,7 +111,7 @@ module _ (audit : Audit) (t u : Reading) (f g : Shelving) (out : Writing) where
     told = read.told;
     answer = inr (inl tt);
     no_order = none;
-    read = read_for (Some audit.journal) read.given t u f g Memory read.read;
+    read = read_for None (Some audit.journal) read.given t u f g Memory read.read;
     out = refl;
     law = λ later. absurd (cc);
     headline = λ done. absurd (cc);
@@ -177,7 +177,7 @@ module _ (audit : Audit) (t u : Reading) (f g : Shelving) (before after : Writin
     told = read.told;
     answer = answered end last;
     no_order = none;
-    read = read_for (Some audit.journal) read.given t u f g end read.read;
+    read = read_for None (Some audit.journal) read.given t u f g end read.read;
     out = subst (λ (v : Verdict). IsWritten end v.text before after) (sym the_verdict) written;
     law = λ _. right_for;
     headline = done_by verdict refl end last written;

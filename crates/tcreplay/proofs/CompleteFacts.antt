@@ -10,8 +10,8 @@ use Rattle.tcreplay.specs.declared.outcome.End.TheVariants.{Done, Usage, ReadFau
 use Rattle.journal_audit.specs.declared.verdict.Verdict as journal
 use Rattle.journal_audit.specs.declared.verdict.Verdict.TheVariants.{Yes, No}
 use Rattle.tcreplay.specs.Tasks.{Replay, Workload, Audit, Task, ToReplay, ToGenerate, ToAudit, file_of}
-use Rattle.cpu_rows.specs.Machine.{rules}
-use Rattle.cpu_front.specs.Machine.{finished_in}
+use Rattle.tcreplay.specs.declared.machines.Front.{Front}
+use Rattle.tcreplay.specs.Machines.{Machine}
 use Rattle.tc_model.specs.Run.{run}
 use Rattle.tcreplay.specs.Verdict.{Given, Job, and_then, rows_in, asked_in, picks_or, job_with, job_of, run_verdict, have_ended, order_of_job, Verdict}
 use Rattle.tc_ports.specs.Faults.{Rose}
@@ -19,7 +19,7 @@ use Rattle.tcreplay.specs.Reads.{Reading, Shelving, IsFile, HaveCome, AreTold, A
 use Rattle.tcreplay.specs.Writes.{Writing, Ends, IsWritten, IsNoted}
 use Rattle.tcreplay.specs.Generating.{trace_of, generation_verdict, AreWritten, IsGenerationEnd, HasGenerated}
 use Rattle.tcreplay.specs.Auditing.{Case, case_with, case_in, ended_by, verdict_in, case_verdict, audit_verdict, HasAudited}
-use Rattle.tcreplay.specs.Replayed.{HasTried, verdict_on}
+use Rattle.tcreplay.specs.Replayed.{HasTried, runs, verdict_on}
 use Rattle.tcreplay.specs.Outcomes.{IsAnswered, IsOutcome, SomeRose, SomeGenerationRose, IsComplete, order_file, given_by, audit_given_by}
 use Rattle.tcreplay.proofs.EndFacts.{FailsJob, job_fails, case_fails}
 use Rattle.tcreplay.proofs.RunFacts.{verdict_if}
@@ -36,18 +36,18 @@ picks_same all (Some name) file threads came told = ap (λ f. picks_or (Some nam
 -- what is told is what was given
 job_same : (replay : Replay) (given : Given) (all : Files) (text : List ℕ) → AreGiven replay (Some all) (Some text) given → job_of replay given ≡ job_of replay (given_by replay all text given.came)
 job_same replay given all text told =
-    ap (λ file. and_then (λ rows. and_then (job_with replay given rows) (asked_in rows given.trace)) (rows_in file)) told.told.table
-    ∙ (ap (λ bytes. and_then (λ rows. and_then (job_with replay given rows) (asked_in rows bytes)) (rows_in (get all replay.classes))) told.told.trace
-    ∙ then_same (λ rows. and_then (job_with replay given rows) (asked_in rows text)) (λ rows. and_then (job_with replay (given_by replay all text given.came) rows) (asked_in rows text)) (rows_in (get all replay.classes))
-    (λ rows. then_same (job_with replay given rows) (job_with replay (given_by replay all text given.came) rows) (asked_in rows text)
+    ap (λ file. and_then (λ rows. and_then (job_with replay given rows) (asked_in (Some replay.front) rows given.trace)) (rows_in file)) told.told.table
+    ∙ (ap (λ bytes. and_then (λ rows. and_then (job_with replay given rows) (asked_in (Some replay.front) rows bytes)) (rows_in (get all replay.classes))) told.told.trace
+    ∙ then_same (λ rows. and_then (job_with replay given rows) (asked_in (Some replay.front) rows text)) (λ rows. and_then (job_with replay (given_by replay all text given.came) rows) (asked_in (Some replay.front) rows text)) (rows_in (get all replay.classes))
+    (λ rows. then_same (job_with replay given rows) (job_with replay (given_by replay all text given.came) rows) (asked_in (Some replay.front) rows text)
     (λ asked. ap (and_then (λ picks. Ok (record { input = record { rows = rows; asked = asked }; picks = picks }))) (picks_same all (file_of replay.schedule) given.file asked.config.threads given.came told.told.file))))
 
 -- what came between is want of memory, or a count that rose
-cut_by : (given : Given) (before after : Ends) (end : End) → CutOff given before.trace after.trace before.files after.files end → (end ≡ Memory) ⊎ SomeRose before after
-cut_by given before after Memory cut = inl refl
-cut_by given before after ReadFault cut = inr (inl cut.0)
-cut_by given before after FileFault cut = inr (inr (inl cut.0))
-cut_by given before after end cut = absurd cut
+cut_by : (runner : Option Front) (given : Given) (before after : Ends) (end : End) → CutOff runner given before.trace after.trace before.files after.files end → (end ≡ Memory) ⊎ SomeRose before after
+cut_by runner given before after Memory cut = inl refl
+cut_by runner given before after ReadFault cut = inr (inl cut.0)
+cut_by runner given before after FileFault cut = inr (inr (inl cut.0))
+cut_by runner given before after end cut = absurd cut
 
 told_in : (replay : Replay) (given : Given) (before : Ends) (all : Files) (text : List ℕ) → before.files.files ≡ Some all → before.trace.left ≡ Some text → AreGiven replay before.files.files before.trace.left given → AreGiven replay (Some all) (Some text) given
 told_in replay given before all text files left told = subst (λ l. AreGiven replay (Some all) l given) left (subst (λ s. AreGiven replay s before.trace.left given) files told)
@@ -56,15 +56,15 @@ complete_tried : (replay : Replay) (before after : Ends) (end : End) (order : Li
 complete_tried replay before after end order tried all text files left =
     let told = told_in replay tried.given before all text files left tried.told in
     let job = job_same replay tried.given all text told in
-    let same : verdict_on replay tried.given ≡ verdict_on replay (given_by replay all text tried.given.came) = ap (run_verdict (Whole replay.rows)) job in
+    let same : verdict_on replay tried.given ≡ verdict_on replay (given_by replay all text tried.given.came) = ap (run_verdict (runs replay) (Whole replay.rows)) job in
     elim tried.answer [
       | inl is ↦ inl (record {
         came = tried.given.came;
-        made = subst (λ j. HaveCome replay.schedule j tried.given.came) job tried.told.came;
+        made = subst (λ j. HaveCome (runs replay) replay.schedule j tried.given.came) job tried.told.came;
         end_is = is.0 ∙ ap (λ (v : Verdict). v.end) same;
         order_is = is.1 ∙ ap (λ (v : Verdict). v.order) same;
       })
-      | inr (inl cut) ↦ inr (cut_by tried.given before after end cut.1)
+      | inr (inl cut) ↦ inr (cut_by (Some replay.front) tried.given before after end cut.1)
       | inr (inr failed) ↦ inr (inr (inr (inr (subst (λ e. IsWritten e (verdict_on replay tried.given).text before.out after.out) failed.0 tried.out).rose)))
     ]
 
@@ -80,22 +80,22 @@ not_usage = record {
   order = λ _ _. refl;
 }
 
-run_usage : (telling : Telling) (replay : Replay) (given : Given) (r : Result Job End) → job_of replay given ≡ r → is_usage (run_verdict telling r).end ≡ false
-run_usage telling replay given (Err end) is = job_fails is_usage replay given end not_usage is
-run_usage telling replay given (Ok job) is = by_end (have_ended (rules job.input) (run (rules job.input) (order_of_job job))) telling job
+run_usage : (m : Machine) (telling : Telling) (replay : Replay) (given : Given) (r : Result Job End) → job_of replay given ≡ r → is_usage (run_verdict m telling r).end ≡ false
+run_usage m telling replay given (Err end) is = job_fails is_usage replay given end not_usage is
+run_usage m telling replay given (Ok job) is = by_end m (have_ended (m.rules job.input) (run (m.rules job.input) (order_of_job m job))) telling job
   where
-    by_end : (ended : Bool) (telling : Telling) (job : Job) → is_usage (verdict_if rules finished_in ended telling job.input (order_of_job job)).end ≡ false
-    by_end true telling job = refl
-    by_end false telling job = refl
+    by_end : (m : Machine) (ended : Bool) (telling : Telling) (job : Job) → is_usage (verdict_if m.rules m.told ended telling job.input (order_of_job m job)).end ≡ false
+    by_end m true telling job = refl
+    by_end m false telling job = refl
 
-cut_usage : (given : Given) (t u : Reading) (f g : Shelving) (end : End) → CutOff given t u f g end → is_usage end ≡ false
-cut_usage given t u f g Usage cut = absurd cut
-cut_usage given t u f g end cut = refl
+cut_usage : (runner : Option Front) (given : Given) (t u : Reading) (f g : Shelving) (end : End) → CutOff runner given t u f g end → is_usage end ≡ false
+cut_usage runner given t u f g Usage cut = absurd cut
+cut_usage runner given t u f g end cut = refl
 
 tried_usage : (replay : Replay) (t u : Reading) (f g : Shelving) (before after : Writing) (end : End) (order : List ℕ) → HasTried replay t u f g before after end order → is_usage end ≡ false
 tried_usage replay t u f g before after end order tried = elim tried.answer [
-  | inl is ↦ ap is_usage is.0 ∙ run_usage (Whole replay.rows) replay tried.given (job_of replay tried.given) refl
-  | inr (inl cut) ↦ cut_usage tried.given t u f g end cut.1
+  | inl is ↦ ap is_usage is.0 ∙ run_usage (runs replay) (Whole replay.rows) replay tried.given (job_of replay tried.given) refl
+  | inr (inl cut) ↦ cut_usage (Some replay.front) tried.given t u f g end cut.1
   | inr (inr failed) ↦ ap is_usage failed.0
 ]
 
@@ -137,9 +137,9 @@ generated_usage end is = refl
 -- a journal was judged
 case_same : (audit : Audit) (given : Given) (all : Files) (text : List ℕ) → AreTold audit.classes (Some audit.journal) (Some all) (Some text) given → case_in given ≡ case_in (audit_given_by audit all text)
 case_same audit given all text told =
-    ap (λ file. and_then (λ rows. and_then (case_with given rows) (asked_in rows given.trace)) (rows_in file)) told.table
-    ∙ (ap (λ bytes. and_then (λ rows. and_then (case_with given rows) (asked_in rows bytes)) (rows_in (get all audit.classes))) told.trace
-    ∙ ap (λ file. and_then (λ rows. and_then (case_with (record (audit_given_by audit all text) { file = file }) rows) (asked_in rows text)) (rows_in (get all audit.classes))) told.file)
+    ap (λ file. and_then (λ rows. and_then (case_with given rows) (asked_in None rows given.trace)) (rows_in file)) told.table
+    ∙ (ap (λ bytes. and_then (λ rows. and_then (case_with given rows) (asked_in None rows bytes)) (rows_in (get all audit.classes))) told.trace
+    ∙ ap (λ file. and_then (λ rows. and_then (case_with (record (audit_given_by audit all text) { file = file }) rows) (asked_in None rows text)) (rows_in (get all audit.classes))) told.file)
 
 audit_told_in : (audit : Audit) (given : Given) (before : Ends) (all : Files) (text : List ℕ) → before.files.files ≡ Some all → before.trace.left ≡ Some text → AreTold audit.classes (Some audit.journal) before.files.files before.trace.left given → AreTold audit.classes (Some audit.journal) (Some all) (Some text) given
 audit_told_in audit given before all text files left told =
@@ -150,7 +150,7 @@ complete_audited audit before after end order tried all text files left =
     let told = audit_told_in audit tried.given before all text files left tried.told in
     elim tried.answer [
       | inl is ↦ inl (is ∙ ap (λ r. (case_verdict r).end) (case_same audit tried.given all text told))
-      | inr (inl cut) ↦ inr (cut_by tried.given before after end cut)
+      | inr (inl cut) ↦ inr (cut_by None tried.given before after end cut)
       | inr (inr failed) ↦ inr (inr (inr (inr (subst (λ e. IsWritten e (audit_verdict tried.given).text before.out after.out) failed.0 tried.out).rose)))
     ]
 
@@ -165,7 +165,7 @@ case_usage given (Ok case) is = by_verdict (verdict_in case)
 audited_usage : (audit : Audit) (t u : Reading) (f g : Shelving) (before after : Writing) (end : End) (order : List ℕ) → HasAudited audit t u f g before after end order → is_usage end ≡ false
 audited_usage audit t u f g before after end order tried = elim tried.answer [
   | inl is ↦ ap is_usage is ∙ case_usage tried.given (case_in tried.given) refl
-  | inr (inl cut) ↦ cut_usage tried.given t u f g end cut
+  | inr (inl cut) ↦ cut_usage None tried.given t u f g end cut
   | inr (inr failed) ↦ ap is_usage failed.0
 ]
 

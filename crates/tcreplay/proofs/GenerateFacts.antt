@@ -17,7 +17,7 @@ use Rattle.tcreplay.specs.Verdict.{Job, Verdict, and_then, or_end, trace_end, ro
 use Rattle.tcreplay.specs.Reads.{IsCounted, Reading, Shelving, IsLoad, is_behind_run, seen_job}
 use Rattle.tcreplay.specs.Ran.{seen_ran, IsRan}
 use Rattle.tcreplay.specs.Writes.{Writing, Ends, TookText, IsRunEnd, IsLastEnd}
-use Rattle.cpu_front.specs.Machine.{IsLawful}
+use Rattle.tcreplay.specs.Machines.{per_cpu}
 use Rattle.tcreplay.specs.Order.{IsOrderOf}
 use Rattle.tcreplay.specs.Generating.{trace_of, generation_job_with, generation_job, generation_verdict, IsMade, IsGenerationAnswer, IsGenerationEnd, AreWritten, IsGenerationHeadline, HasGenerated}
 use Rattle.tcreplay.proofs.EndFacts.{FailsTable, table_fails}
@@ -154,7 +154,7 @@ module _ (workload : Workload) (source : Reading) (f g : Shelving) (out notes : 
   generated_stopped end order none made = elim made.made.step [
     | inl e ↦
         let bad : rows_in made.made.file ≡ Err end = table_ends workload end made.valid made.made.file (rows_in made.made.file) refl e.0 in
-        let answer : IsGenerationAnswer workload made.made.file f g end order = inl (sym (ap (λ r. (run_verdict Summary r).end) e.0), none ∙ sym (ap (λ r. (run_verdict Summary r).order) e.0)) in
+        let answer : IsGenerationAnswer workload made.made.file f g end order = inl (sym (ap (λ r. (run_verdict per_cpu Summary r).end) e.0), none ∙ sym (ap (λ r. (run_verdict per_cpu Summary r).order) e.0)) in
         stopped_by end order made answer (table_fails is_barred made.made.file end not_barred bad) (table_fails is_behind_run made.made.file end not_run bad) (inl e.1)
     | inr (inl memory) ↦ stopped_by end order made (inr (inl (none, inl memory.0))) (ap is_barred memory.0) (ap is_behind_run memory.0) (inl memory.1)
     | inr (inr failed) ↦ stopped_by end order made (inr (inl (none, inr failed))) (ap is_barred failed.0) (ap is_behind_run failed.0) (inr failed)
@@ -192,7 +192,7 @@ last_generation_end ran end is (inl same) = subst IsGenerationEnd (sym same) (ru
 last_generation_end ran end is (inr failed) = subst IsGenerationEnd (sym failed.0) tt
 
 module _ (workload : Workload) (source : Reading) (f g : Shelving) (out written_out notes written_notes : Writing) (made : Made) (text : List ℕ) (ran : Ran) (end : End) (order : List ℕ)
-    (whole : text ≡ made.text.items) (of : IsMade workload f g (Ok made)) (is : IsRan Summary (seen_job made.job).input (order_of_job (seen_job made.job)) ran) (last : IsLastEnd ran.end end) (same : order ≡ ran.order.items)
+    (whole : text ≡ made.text.items) (of : IsMade workload f g (Ok made)) (is : IsRan per_cpu Summary (seen_job made.job).input (order_of_job per_cpu (seen_job made.job)) ran) (last : IsLastEnd ran.end end) (same : order ≡ ran.order.items)
     (written : AreWritten end text ran.text.items out written_out notes written_notes) where
   abbrev job : Job
   job = seen_job made.job
@@ -201,7 +201,7 @@ module _ (workload : Workload) (source : Reading) (f g : Shelving) (out written_
   file = of.made.file
 
   verdict_is : generation_verdict workload file ≡ seen_ran ran
-  verdict_is = ap (run_verdict Summary) of.made.step.0 ∙ sym is.is
+  verdict_is = ap (run_verdict per_cpu Summary) of.made.step.0 ∙ sym is.is
 
   answered : IsLastEnd ran.end end → IsGenerationAnswer workload file f g end order
   answered (inl e) = inl (e ∙ sym (ap (λ (v : Verdict). v.end) verdict_is), same ∙ sym (ap (λ (v : Verdict). v.order) verdict_is))
@@ -217,11 +217,11 @@ module _ (workload : Workload) (source : Reading) (f g : Shelving) (out written_
   headline done = record {
     job = job;
     asked = of.made.step.0;
-    order_is = order_is Summary job ran end order is last same;
-    ended = have_all_ended Summary job ran end order is last same done;
+    order_is = order_is per_cpu Summary job ran end order is last same;
+    ended = have_all_ended per_cpu Summary job ran end order is last same done;
     trace = subst (Took out.taken written_out.taken) text_made (both done).0.taken;
-    summary = subst (Took notes.taken written_notes.taken) (text_is Summary job ran end order is last same done) (both done).1.taken;
-    law = lawful Summary job ran end order is last same;
+    summary = subst (Took notes.taken written_notes.taken) (text_is per_cpu Summary job ran end order is last same done) (both done).1.taken;
+    law = lawful per_cpu Summary job ran end order is last same;
   }
 
   -- of the one job that was made
@@ -238,13 +238,13 @@ module _ (workload : Workload) (source : Reading) (f g : Shelving) (out written_
     told = of.made.told;
     valid = of.valid;
     answer = answered last;
-    ends = last_generation_end ran.end end (run_end Summary job.input (order_of_job job) ran is) last;
+    ends = last_generation_end ran.end end (run_end per_cpu Summary job.input (order_of_job per_cpu job) ran is) last;
     trace = refl;
     files = of.made.files;
     once = of.made.once;
     file_count = inl of.made.step.1;
     written = subst (λ (v : Verdict). AreWritten end (trace_of workload) v.text out written_out notes written_notes) (sym verdict_is) (subst (λ t. AreWritten end t ran.text.items out written_out notes written_notes) text_made written);
-    law = λ _. of_job (λ (j : Job). IsLawful j.input order) (lawful Summary job ran end order is last same);
-    run = λ _. of_job (λ (j : Job). IsOrderOf InTurn j end order) (its_run Summary job ran end order is last same InTurn tt);
+    law = λ _. of_job (λ (j : Job). per_cpu.lawful j.input order) (lawful per_cpu Summary job ran end order is last same);
+    run = λ _. of_job (λ (j : Job). IsOrderOf per_cpu InTurn j end order) (its_run per_cpu Summary job ran end order is last same InTurn tt);
     headline = headline;
   }

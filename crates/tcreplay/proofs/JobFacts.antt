@@ -12,6 +12,7 @@ use Rattle.tc_machine.specs.Inputs.{asked_of}
 use Rattle.tcreplay.specs.declared.outcome.End.{End}
 use Rattle.tcreplay.specs.declared.outcome.End.TheVariants.{Done, WriteFault, Full, Memory, TooLong, ReadFault, FileFault, AuditNo}
 use Rattle.tcreplay.specs.declared.input.Job.{Job}
+use Rattle.tcreplay.specs.declared.machines.Front.{Front}
 use Rattle.tcreplay.specs.Tasks.{Replay, file_of}
 use Rattle.tcreplay.specs.Verdict as verdict
 use Rattle.tcreplay.specs.Verdict.{Given, and_then, or_end, within, file_within, table_limit, trace_limit, table_end, rows_in, asked_in, picks_in, picks_or, job_with, read_of}
@@ -36,12 +37,12 @@ not_run = record {
   order = λ _ _. refl;
 }
 
-pub cut_early : (given : Given) (t u : Reading) (f g : Shelving) (end : End) → CutOff given t u f g end → is_behind_run end ≡ false
-cut_early given t u f g Done cut = absurd cut
-cut_early given t u f g WriteFault cut = absurd cut
-cut_early given t u f g (Full ticket) cut = absurd cut
-cut_early given t u f g (AuditNo line why) cut = absurd cut
-cut_early given t u f g end cut = refl
+pub cut_early : (runner : Option Front) (given : Given) (t u : Reading) (f g : Shelving) (end : End) → CutOff runner given t u f g end → is_behind_run end ≡ false
+cut_early runner given t u f g Done cut = absurd cut
+cut_early runner given t u f g WriteFault cut = absurd cut
+cut_early runner given t u f g (Full ticket) cut = absurd cut
+cut_early runner given t u f g (AuditNo line why) cut = absurd cut
+cut_early runner given t u f g end cut = refl
 
 -- a step that ended left the count of faults, or it failed
 step_count : {A B : Type 0} (seen : B → A) (verdict : Result A End) (fault end : End) (old new : ℕ) → IsStep seen verdict fault old new (Err end) → IsCounted fault end old new
@@ -90,15 +91,15 @@ table_only file end f g is good whole (inr (inl memory)) = memory_not end memory
 table_only file end f g is good whole (inr (inr failed)) = whole failed.1
 
 -- and so does a trace that is good
-trace_only : (rows : List ClassRow) (file : Option (List ℕ)) (text : List ℕ) (end : End) (t u : Reading) → rows_in file ≡ Ok rows → is_of_file end ≡ true → IsOk (and_then (λ rows. asked_in rows text) (rows_in file)) → IsStep asked_of (asked_in rows text) ReadFault t.faults u.faults (Err end) → ⊥
-trace_only rows file text end t u table is good (inl e) =
-    let wrong : false ≡ true = sym (ap is_ok (ap (and_then (λ rows. asked_in rows text)) table ∙ e.0)) ∙ good in cc
-trace_only rows file text end t u table is good (inr (inl memory)) = memory_not end memory.0 is
-trace_only rows file text end t u table is good (inr (inr failed)) = source_not end failed.0 is
+trace_only : (runner : Option Front) (rows : List ClassRow) (file : Option (List ℕ)) (text : List ℕ) (end : End) (t u : Reading) → rows_in file ≡ Ok rows → is_of_file end ≡ true → IsOk (and_then (λ rows. asked_in runner rows text) (rows_in file)) → IsStep asked_of (asked_in runner rows text) ReadFault t.faults u.faults (Err end) → ⊥
+trace_only runner rows file text end t u table is good (inl e) =
+    let wrong : false ≡ true = sym (ap is_ok (ap (and_then (λ rows. asked_in runner rows text)) table ∙ e.0)) ∙ good in cc
+trace_only runner rows file text end t u table is good (inr (inl memory)) = memory_not end memory.0 is
+trace_only runner rows file text end t u table is good (inr (inr failed)) = source_not end failed.0 is
 
 -- what the class table and the trace gave together
-asked_is : (file : Option (List ℕ)) (text : List ℕ) (rows : List ClassRow) (trace : Trace) → rows_in file ≡ Ok rows → asked_in rows text ≡ Ok (asked_of trace) → and_then (λ rows. asked_in rows text) (rows_in file) ≡ Ok (asked_of trace)
-asked_is file text rows trace good asked = ap (and_then (λ rows. asked_in rows text)) good ∙ asked
+asked_is : (runner : Option Front) (file : Option (List ℕ)) (text : List ℕ) (rows : List ClassRow) (trace : Trace) → rows_in file ≡ Ok rows → asked_in runner rows text ≡ Ok (asked_of trace) → and_then (λ rows. asked_in runner rows text) (rows_in file) ≡ Ok (asked_of trace)
+asked_is runner file text rows trace good asked = ap (and_then (λ rows. asked_in runner rows text)) good ∙ asked
 
 -- the further file, as the shelf told it at the start
 file_told : (file : Option (List ℕ)) (name : List ℕ) (first second : Option Files) (bytes : Option (List ℕ)) → file ≡ Some name → second ≡ first → IsFile second name bytes → IfSome file (λ name. IsFile first name bytes)
@@ -111,19 +112,19 @@ handed_on (Ok given) end is = absurd is
 handed_on (Err e) end is = ap Err is
 
 -- What is behind the class table and the trace has no end that comes behind all that is read.
-abbrev pub IsEarly : {J : Type 0} → (Given → List ClassRow → Asked → Result J End) → Type 0
-IsEarly behind = (given : Given) (end : End) → read_of behind given ≡ Err end → is_behind_run end ≡ false
+abbrev pub IsEarly : {J : Type 0} → Option Front → (Given → List ClassRow → Asked → Result J End) → Type 0
+IsEarly runner behind = (given : Given) (end : End) → read_of runner behind given ≡ Err end → is_behind_run end ≡ false
 
-module _ {J K : Type 0} (behind : Given → List ClassRow → Asked → Result J End) (early : IsEarly behind) (seen : K → J) (classes : List ℕ) (named : Option (List ℕ)) where
+module _ {J K : Type 0} (runner : Option Front) (behind : Given → List ClassRow → Asked → Result J End) (early : IsEarly runner behind) (seen : K → J) (classes : List ℕ) (named : Option (List ℕ)) where
   abbrev WereRead : Reading → Reading → Shelving → Shelving → Result K End → Type 0
-  WereRead t u f g result = AreRead seen (read_of behind) classes named t u f g result
+  WereRead t u f g result = AreRead runner seen (read_of runner behind) classes named t u f g result
 
   -- a reading that stopped came to no end behind a run
-  stops_early : (given : Given) (t u : Reading) (f g : Shelving) (end : End) → IsReadAs seen (read_of behind given) given t u f g (Err end) → is_behind_run end ≡ true → ⊥
+  stops_early : (given : Given) (t u : Reading) (f g : Shelving) (end : End) → IsReadAs runner seen (read_of runner behind given) given t u f g (Err end) → is_behind_run end ≡ true → ⊥
   stops_early given t u f g end answer later =
       let early : is_behind_run end ≡ false = elim answer [
         | inl e ↦ early given end e
-        | inr cut ↦ cut_early given t u f g end cut
+        | inr cut ↦ cut_early runner given t u f g end cut
       ] in
       let e : false ≡ true = sym early ∙ later in cc
 
@@ -131,10 +132,10 @@ module _ {J K : Type 0} (behind : Given → List ClassRow → Asked → Result J
   table_stops : (t : Reading) (f g : Shelving) (end : End) → IsLoad (λ (rows : List ClassRow). rows) rows_in classes f g (Err end) → WereRead t t f g (Err end)
   table_stops t f g end load =
       let given : Given = record { table = load.file; trace = some_text t.left; file = further f.files named; came = [] } in
-      let answer : IsReadAs seen (read_of behind given) given t t f g (Err end) = elim load.step [
-        | inl e ↦ inl (ap (λ r. and_then (λ rows. and_then (behind given rows) (asked_in rows given.trace)) r) e.0)
-        | inr (inl memory) ↦ inr (subst (CutOff given t t f g) (sym memory.0) tt)
-        | inr (inr failed) ↦ inr (subst (CutOff given t t f g) (sym failed.0) (failed.1, inl (load.once, refl)))
+      let answer : IsReadAs runner seen (read_of runner behind given) given t t f g (Err end) = elim load.step [
+        | inl e ↦ inl (ap (λ r. and_then (λ rows. and_then (behind given rows) (asked_in runner rows given.trace)) r) e.0)
+        | inr (inl memory) ↦ inr (subst (CutOff runner given t t f g) (sym memory.0) tt)
+        | inr (inr failed) ↦ inr (subst (CutOff runner given t t f g) (sym failed.0) (failed.1, inl (load.once, refl)))
       ] in
       let before : is_behind_trace end ≡ false = elim load.step [
         | inl e ↦ table_fails is_behind_trace load.file end not_behind e.0
@@ -150,7 +151,7 @@ module _ {J K : Type 0} (behind : Given → List ClassRow → Asked → Result J
           files = load.files;
           loads = inl load.once;
           behind_run = λ later. absurd (stops_early given t t f g end answer later);
-          behind_file = λ file good whole. absurd (table_only load.file end f g file (then_ok rows_in (λ rows. asked_in rows given.trace) load.file good) whole load.step);
+          behind_file = λ file good whole. absurd (table_only load.file end f g file (then_ok rows_in (λ rows. asked_in runner rows given.trace) load.file good) whole load.step);
           file_count = step_count (λ (rows : List ClassRow). rows) (rows_in load.file) FileFault end f.faults g.faults load.step;
           untouched = λ _. refl;
           lost = lost_none t.left (most_gone end);
@@ -161,13 +162,13 @@ module _ {J K : Type 0} (behind : Given → List ClassRow → Asked → Result J
       }
 
   -- the trace ends the work
-  trace_stops : (t u : Reading) (f g : Shelving) (rows : List ClassRow) (end : End) → IsLoad (λ (rows : List ClassRow). rows) rows_in classes f g (Ok rows) → IsTraceRead rows t u (Err end) → WereRead t u f g (Err end)
+  trace_stops : (t u : Reading) (f g : Shelving) (rows : List ClassRow) (end : End) → IsLoad (λ (rows : List ClassRow). rows) rows_in classes f g (Ok rows) → IsTraceRead runner rows t u (Err end) → WereRead t u f g (Err end)
   trace_stops t u f g rows end load trace =
       let given : Given = record { table = load.file; trace = trace.text; file = further f.files named; came = [] } in
-      let answer : IsReadAs seen (read_of behind given) given t u f g (Err end) = elim trace.step [
-        | inl e ↦ inl (ap (λ r. and_then (λ rows. and_then (behind given rows) (asked_in rows given.trace)) r) load.step.0 ∙ ap (and_then (behind given rows)) e.0)
-        | inr (inl memory) ↦ inr (subst (CutOff given t u f g) (sym memory.0) tt)
-        | inr (inr failed) ↦ inr (subst (CutOff given t u f g) (sym failed.0) (failed.1, ap is_ok load.step.0))
+      let answer : IsReadAs runner seen (read_of runner behind given) given t u f g (Err end) = elim trace.step [
+        | inl e ↦ inl (ap (λ r. and_then (λ rows. and_then (behind given rows) (asked_in runner rows given.trace)) r) load.step.0 ∙ ap (and_then (behind given rows)) e.0)
+        | inr (inl memory) ↦ inr (subst (CutOff runner given t u f g) (sym memory.0) tt)
+        | inr (inr failed) ↦ inr (subst (CutOff runner given t u f g) (sym failed.0) (failed.1, ap is_ok load.step.0))
       ] in
       record {
         given = given;
@@ -178,22 +179,22 @@ module _ {J K : Type 0} (behind : Given → List ClassRow → Asked → Result J
           files = load.files;
           loads = inl load.once;
           behind_run = λ later. absurd (stops_early given t u f g end answer later);
-          behind_file = λ file good _. absurd (trace_only rows load.file trace.text end t u load.step.0 file good trace.step);
+          behind_file = λ file good _. absurd (trace_only runner rows load.file trace.text end t u load.step.0 file good trace.step);
           file_count = inl load.step.1;
           untouched = λ err. absurd (not_err (rows_in load.file) rows load.step.0 err);
           lost = trace.lost;
           reads = trace.reads;
           drained = trace.drained;
-          trace_count = step_count asked_of (asked_in rows trace.text) ReadFault end t.faults u.faults trace.step;
+          trace_count = step_count asked_of (asked_in runner rows trace.text) ReadFault end t.faults u.faults trace.step;
         };
       }
 
   -- what a good class table and a good trace come to
-  good_is : (given : Given) (rows : List ClassRow) (trace : Trace) → rows_in given.table ≡ Ok rows → asked_in rows given.trace ≡ Ok (asked_of trace) → read_of behind given ≡ behind given rows (asked_of trace)
-  good_is given rows trace good asked = ap (λ r. and_then (λ rows. and_then (behind given rows) (asked_in rows given.trace)) r) good ∙ ap (and_then (behind given rows)) asked
+  good_is : (given : Given) (rows : List ClassRow) (trace : Trace) → rows_in given.table ≡ Ok rows → asked_in runner rows given.trace ≡ Ok (asked_of trace) → read_of runner behind given ≡ behind given rows (asked_of trace)
+  good_is given rows trace good asked = ap (λ r. and_then (λ rows. and_then (behind given rows) (asked_in runner rows given.trace)) r) good ∙ ap (and_then (behind given rows)) asked
 
   -- all is there, and no further file is named
-  pub read_without : (t u : Reading) (f g : Shelving) (rows : List ClassRow) (trace : Trace) (gave : K) → named ≡ None → IsLoad (λ (rows : List ClassRow). rows) rows_in classes f g (Ok rows) → IsTraceRead rows t u (Ok trace)
+  pub read_without : (t u : Reading) (f g : Shelving) (rows : List ClassRow) (trace : Trace) (gave : K) → named ≡ None → IsLoad (λ (rows : List ClassRow). rows) rows_in classes f g (Ok rows) → IsTraceRead runner rows t u (Ok trace)
       → ((given : Given) → given.came ≡ [] → behind given rows (asked_of trace) ≡ Ok (seen gave)) → WereRead t u f g (Ok gave)
   read_without t u f g rows trace gave none load read gives =
       let given : Given = record { table = load.file; trace = read.text; file = None; came = [] } in
@@ -219,20 +220,20 @@ module _ {J K : Type 0} (behind : Given → List ClassRow → Asked → Result J
   pub table_err : (t : Reading) (f g : Shelving) (end : End) (result : Result K End) → IsErrAnd result (λ e. e ≡ end) → IsLoad (λ (rows : List ClassRow). rows) rows_in classes f g (Err end) → WereRead t t f g result
   table_err t f g end result is load = subst (WereRead t t f g) (sym (handed_on result end is)) (table_stops t f g end load)
 
-  pub trace_err : (t u : Reading) (f g : Shelving) (rows : List ClassRow) (end : End) (result : Result K End) → IsErrAnd result (λ e. e ≡ end) → IsLoad (λ (rows : List ClassRow). rows) rows_in classes f g (Ok rows) → IsTraceRead rows t u (Err end) → WereRead t u f g result
+  pub trace_err : (t u : Reading) (f g : Shelving) (rows : List ClassRow) (end : End) (result : Result K End) → IsErrAnd result (λ e. e ≡ end) → IsLoad (λ (rows : List ClassRow). rows) rows_in classes f g (Ok rows) → IsTraceRead runner rows t u (Err end) → WereRead t u f g result
   trace_err t u f g rows end result is load read = subst (WereRead t u f g) (sym (handed_on result end is)) (trace_stops t u f g rows end load read)
 
   -- A further file is named, of whose bytes a step makes what is needed.
   module _ {P V : Type 0} (value : V → P) (step : ℕ → Option (List ℕ) → Result P End) (made : List ClassRow → Asked → P → J)
       (name : List ℕ) (is_named : named ≡ Some name) (behind_is : (given : Given) (rows : List ClassRow) (asked : Asked) → behind given rows asked ≡ and_then (λ p. Ok (made rows asked p)) (step asked.config.threads given.file)) where
     -- what was read behind a good trace
-    behind_file : (t u : Reading) (f g h : Shelving) (rows : List ClassRow) (trace : Trace) (given : Given) (end : End) → rows_in given.table ≡ Ok rows → asked_in rows given.trace ≡ Ok (asked_of trace) → g.files ≡ f.files → h.files ≡ g.files → g.loads ≡ one_more f.loads → h.loads ≡ one_more g.loads → IsCounted FileFault end f.faults h.faults → IsTraceRead rows t u (Ok trace) → HasRead named given t u f h end
+    behind_file : (t u : Reading) (f g h : Shelving) (rows : List ClassRow) (trace : Trace) (given : Given) (end : End) → rows_in given.table ≡ Ok rows → asked_in runner rows given.trace ≡ Ok (asked_of trace) → g.files ≡ f.files → h.files ≡ g.files → g.loads ≡ one_more f.loads → h.loads ≡ one_more g.loads → IsCounted FileFault end f.faults h.faults → IsTraceRead runner rows t u (Ok trace) → HasRead runner named given t u f h end
     behind_file t u f g h rows trace given end good asked first second one two count read =
         let drained = read.drained refl in
         let all : IsAllRead named u f h = record { drained = drained; loads = two ∙ (ap one_more one ∙ sym (ap (λ o. loads_behind o f.loads) is_named)) } in
         record {
           files = second ∙ first;
-          loads = inr (record { twice = two ∙ ap one_more one; named = ap is_some is_named; good = ap is_ok (asked_is given.table given.trace rows trace good asked); drained = drained });
+          loads = inr (record { twice = two ∙ ap one_more one; named = ap is_some is_named; good = ap is_ok (asked_is runner given.table given.trace rows trace good asked); drained = drained });
           behind_run = λ _. all;
           behind_file = λ _ _ _. all;
           file_count = count;
@@ -244,13 +245,13 @@ module _ {J K : Type 0} (behind : Given → List ClassRow → Asked → Result J
         }
 
     -- the further file ends the work
-    file_stops : (t u : Reading) (f g h : Shelving) (rows : List ClassRow) (trace : Trace) (end : End) → IsLoad (λ (rows : List ClassRow). rows) rows_in classes f g (Ok rows) → IsTraceRead rows t u (Ok trace) → IsLoad value (step trace.config.threads) name g h (Err end) → WereRead t u f h (Err end)
+    file_stops : (t u : Reading) (f g h : Shelving) (rows : List ClassRow) (trace : Trace) (end : End) → IsLoad (λ (rows : List ClassRow). rows) rows_in classes f g (Ok rows) → IsTraceRead runner rows t u (Ok trace) → IsLoad value (step trace.config.threads) name g h (Err end) → WereRead t u f h (Err end)
     file_stops t u f g h rows trace end load read file =
         let given : Given = record { table = load.file; trace = read.text; file = file.file; came = [] } in
-        let answer : IsReadAs seen (read_of behind given) given t u f h (Err end) = elim file.step [
+        let answer : IsReadAs runner seen (read_of runner behind given) given t u f h (Err end) = elim file.step [
           | inl e ↦ inl (good_is given rows trace load.step.0 read.step.0 ∙ (behind_is given rows (asked_of trace) ∙ ap (and_then (λ p. Ok (made rows (asked_of trace) p))) e.0))
-          | inr (inl memory) ↦ inr (subst (CutOff given t u f h) (sym memory.0) tt)
-          | inr (inr failed) ↦ inr (subst (CutOff given t u f h) (sym failed.0) (subst (λ n. Rose n h.faults) load.step.1 failed.1, inr (ap is_ok (asked_is load.file read.text rows trace load.step.0 read.step.0))))
+          | inr (inl memory) ↦ inr (subst (CutOff runner given t u f h) (sym memory.0) tt)
+          | inr (inr failed) ↦ inr (subst (CutOff runner given t u f h) (sym failed.0) (subst (λ n. Rose n h.faults) load.step.1 failed.1, inr (ap is_ok (asked_is runner load.file read.text rows trace load.step.0 read.step.0))))
         ] in
         record {
           given = given;
@@ -261,7 +262,7 @@ module _ {J K : Type 0} (behind : Given → List ClassRow → Asked → Result J
         }
 
     -- all is there, with the further file
-    pub read_with : (t u : Reading) (f g h : Shelving) (rows : List ClassRow) (trace : Trace) (v : V) (gave : K) → made rows (asked_of trace) (value v) ≡ seen gave → IsLoad (λ (rows : List ClassRow). rows) rows_in classes f g (Ok rows) → IsTraceRead rows t u (Ok trace) → IsLoad value (step trace.config.threads) name g h (Ok v) → WereRead t u f h (Ok gave)
+    pub read_with : (t u : Reading) (f g h : Shelving) (rows : List ClassRow) (trace : Trace) (v : V) (gave : K) → made rows (asked_of trace) (value v) ≡ seen gave → IsLoad (λ (rows : List ClassRow). rows) rows_in classes f g (Ok rows) → IsTraceRead runner rows t u (Ok trace) → IsLoad value (step trace.config.threads) name g h (Ok v) → WereRead t u f h (Ok gave)
     read_with t u f g h rows trace v gave same load read file =
         let given : Given = record { table = load.file; trace = read.text; file = file.file; came = [] } in
         record {
@@ -272,11 +273,11 @@ module _ {J K : Type 0} (behind : Given → List ClassRow → Asked → Result J
           read = behind_file t u f g h rows trace given Done load.step.0 read.step.0 load.files file.files load.once file.once (inl (file.step.1 ∙ load.step.1)) read;
         }
 
-    pub file_err : (t u : Reading) (f g h : Shelving) (rows : List ClassRow) (trace : Trace) (end : End) (result : Result K End) → IsErrAnd result (λ e. e ≡ end) → IsLoad (λ (rows : List ClassRow). rows) rows_in classes f g (Ok rows) → IsTraceRead rows t u (Ok trace) → IsLoad value (step trace.config.threads) name g h (Err end) → WereRead t u f h result
+    pub file_err : (t u : Reading) (f g h : Shelving) (rows : List ClassRow) (trace : Trace) (end : End) (result : Result K End) → IsErrAnd result (λ e. e ≡ end) → IsLoad (λ (rows : List ClassRow). rows) rows_in classes f g (Ok rows) → IsTraceRead runner rows t u (Ok trace) → IsLoad value (step trace.config.threads) name g h (Err end) → WereRead t u f h result
     file_err t u f g h rows trace end result is load read file = subst (WereRead t u f h) (sym (handed_on result end is)) (file_stops t u f g h rows trace end load read file)
 
 -- Of a replay: its picks are those of an order file, or there are none.
-job_early : (replay : Replay) → IsEarly (job_with replay)
+job_early : (replay : Replay) → IsEarly (Some replay.front) (job_with replay)
 job_early replay given end is = job_fails is_behind_run replay given end not_run is
 
 abbrev job_made : List ClassRow → Asked → List ℕ → verdict.Job
@@ -293,24 +294,24 @@ no_picks replay rows asked none given came = ap (λ o. and_then (λ p. Ok (job_m
 
 module _ (replay : Replay) where
   pub job_table : (t : Reading) (f g : Shelving) (end : End) (result : Result Job End) → IsErrAnd result (λ e. e ≡ end) → IsLoad (λ (rows : List ClassRow). rows) rows_in replay.classes f g (Err end) → IsJobRead replay t t f g result
-  job_table = table_err (job_with replay) (job_early replay) seen_job replay.classes (file_of replay.schedule)
+  job_table = table_err (Some replay.front) (job_with replay) (job_early replay) seen_job replay.classes (file_of replay.schedule)
 
-  pub job_trace : (t u : Reading) (f g : Shelving) (rows : List ClassRow) (end : End) (result : Result Job End) → IsErrAnd result (λ e. e ≡ end) → IsLoad (λ (rows : List ClassRow). rows) rows_in replay.classes f g (Ok rows) → IsTraceRead rows t u (Err end) → IsJobRead replay t u f g result
-  job_trace = trace_err (job_with replay) (job_early replay) seen_job replay.classes (file_of replay.schedule)
+  pub job_trace : (t u : Reading) (f g : Shelving) (rows : List ClassRow) (end : End) (result : Result Job End) → IsErrAnd result (λ e. e ≡ end) → IsLoad (λ (rows : List ClassRow). rows) rows_in replay.classes f g (Ok rows) → IsTraceRead (Some replay.front) rows t u (Err end) → IsJobRead replay t u f g result
+  job_trace = trace_err (Some replay.front) (job_with replay) (job_early replay) seen_job replay.classes (file_of replay.schedule)
 
-  without_file : (t u : Reading) (f g h : Shelving) (rows : List ClassRow) (trace : Trace) (picks : Vec ℕ Global) → file_of replay.schedule ≡ None → IsLoad (λ (rows : List ClassRow). rows) rows_in replay.classes f g (Ok rows) → IsTraceRead rows t u (Ok trace) → h ≡ g → picks.items ≡ [] → IsJobRead replay t u f h (Ok (record { table = rows; trace = trace; picks = picks }))
+  without_file : (t u : Reading) (f g h : Shelving) (rows : List ClassRow) (trace : Trace) (picks : Vec ℕ Global) → file_of replay.schedule ≡ None → IsLoad (λ (rows : List ClassRow). rows) rows_in replay.classes f g (Ok rows) → IsTraceRead (Some replay.front) rows t u (Ok trace) → h ≡ g → picks.items ≡ [] → IsJobRead replay t u f h (Ok (record { table = rows; trace = trace; picks = picks }))
   without_file t u f g h rows trace picks none load read same empty =
       let job : Job = record { table = rows; trace = trace; picks = picks } in
       let gives : (given : Given) → given.came ≡ [] → job_with replay given rows (asked_of trace) ≡ Ok (seen_job job) = λ given came. no_picks replay rows (asked_of trace) none given came ∙ ap (λ p. Ok (job_made rows (asked_of trace) p)) (sym empty) in
-      subst (λ (s : Shelving). IsJobRead replay t u f s (Ok job)) (sym same) (read_without (job_with replay) (job_early replay) seen_job replay.classes (file_of replay.schedule) t u f g rows trace job none load read gives)
+      subst (λ (s : Shelving). IsJobRead replay t u f s (Ok job)) (sym same) (read_without (Some replay.front) (job_with replay) (job_early replay) seen_job replay.classes (file_of replay.schedule) t u f g rows trace job none load read gives)
 
-  pub job_ok : (order : Option (List ℕ)) (t u : Reading) (f g h : Shelving) (rows : List ClassRow) (trace : Trace) (picks : Vec ℕ Global) → file_of replay.schedule ≡ order → IsLoad (λ (rows : List ClassRow). rows) rows_in replay.classes f g (Ok rows) → IsTraceRead rows t u (Ok trace) → ArePicks order trace.config.threads g h (Ok picks) → IsJobRead replay t u f h (Ok (record { table = rows; trace = trace; picks = picks }))
+  pub job_ok : (order : Option (List ℕ)) (t u : Reading) (f g h : Shelving) (rows : List ClassRow) (trace : Trace) (picks : Vec ℕ Global) → file_of replay.schedule ≡ order → IsLoad (λ (rows : List ClassRow). rows) rows_in replay.classes f g (Ok rows) → IsTraceRead (Some replay.front) rows t u (Ok trace) → ArePicks order trace.config.threads g h (Ok picks) → IsJobRead replay t u f h (Ok (record { table = rows; trace = trace; picks = picks }))
   job_ok None t u f g h rows trace picks named load read are = without_file t u f g h rows trace picks named load read are.0 are.1
   job_ok (Some name) t u f g h rows trace picks named load read are =
       let job : Job = record { table = rows; trace = trace; picks = picks } in
-      read_with (job_with replay) (job_early replay) seen_job replay.classes (file_of replay.schedule) items_of picks_in job_made name named (named_picks replay name named) t u f g h rows trace picks job refl load read are
+      read_with (Some replay.front) (job_with replay) (job_early replay) seen_job replay.classes (file_of replay.schedule) items_of picks_in job_made name named (named_picks replay name named) t u f g h rows trace picks job refl load read are
 
-  pub job_picks : (order : Option (List ℕ)) (t u : Reading) (f g h : Shelving) (rows : List ClassRow) (trace : Trace) (end : End) (result : Result Job End) → file_of replay.schedule ≡ order → IsErrAnd result (λ e. e ≡ end) → IsLoad (λ (rows : List ClassRow). rows) rows_in replay.classes f g (Ok rows) → IsTraceRead rows t u (Ok trace) → ArePicks order trace.config.threads g h (Err end) → IsJobRead replay t u f h result
+  pub job_picks : (order : Option (List ℕ)) (t u : Reading) (f g h : Shelving) (rows : List ClassRow) (trace : Trace) (end : End) (result : Result Job End) → file_of replay.schedule ≡ order → IsErrAnd result (λ e. e ≡ end) → IsLoad (λ (rows : List ClassRow). rows) rows_in replay.classes f g (Ok rows) → IsTraceRead (Some replay.front) rows t u (Ok trace) → ArePicks order trace.config.threads g h (Err end) → IsJobRead replay t u f h result
   job_picks None t u f g h rows trace end result named is load read are = absurd are.1
   job_picks (Some name) t u f g h rows trace end result named is load read are =
-      file_err (job_with replay) (job_early replay) seen_job replay.classes (file_of replay.schedule) items_of picks_in job_made name named (named_picks replay name named) t u f g h rows trace end result is load read are
+      file_err (Some replay.front) (job_with replay) (job_early replay) seen_job replay.classes (file_of replay.schedule) items_of picks_in job_made name named (named_picks replay name named) t u f g h rows trace end result is load read are

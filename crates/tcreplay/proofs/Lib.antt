@@ -13,6 +13,7 @@ pub mod RanFacts
 pub mod JournalFacts
 pub mod TriedFacts
 pub mod AuditFacts
+pub mod TakenFacts
 pub mod GenerateFacts
 pub mod CompleteFacts
 pub mod WorkerFacts

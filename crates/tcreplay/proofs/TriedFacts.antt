@@ -3,31 +3,32 @@ use Rattle.std.proofs.Common.{◌≡◌, ℕ, true, false, List, [], Option, Som
 use Rattle.tc_units.specs.declared.spans.ClassRow.{ClassRow}
 use Rattle.tc_model.specs.Input.{Asked}
 use Rattle.tc_ports.specs.Told.{Took}
-use Rattle.cpu_rows.specs.Machine.{rules}
 use Rattle.tcreplay.specs.declared.outcome.End.{End}
 use Rattle.tcreplay.specs.declared.outcome.End.TheVariants.{Done, WriteFault, Memory}
 use Rattle.tcreplay.specs.declared.input.Job.{Job}
 use Rattle.tcreplay.specs.declared.run.Ran.{Ran}
 use Rattle.tcreplay.specs.declared.run.Telling.{Telling}
 use Rattle.tcreplay.specs.declared.run.Telling.TheVariants.{Whole}
-use Rattle.tcreplay.specs.declared.words.Locks.{Locks}
+use Rattle.tcreplay.specs.declared.task.Locks.{Locks}
+use Rattle.tcreplay.specs.declared.machines.Front.{Front}
+use Rattle.tcreplay.specs.declared.machines.Front.TheVariants.{Cpus, Threads}
+use Rattle.tcreplay.specs.Machines.{Machine, machine_of, locks_for}
 use Rattle.tcreplay.specs.Tasks.{Replay, Schedule, InTurn, ByFile, ByThreads, file_of, locks_in}
 use Rattle.tcreplay.specs.Verdict as verdict
 use Rattle.tcreplay.specs.Verdict.{Given, Verdict, and_then, rows_in, asked_in, picks_or, job_with, have_ended, run_verdict, order_of_job, job_of, text_with}
 use Rattle.tcreplay.specs.Reads.{Reading, Shelving, IsMadeOf, HaveCome, AreGiven, HasRead, IsJobRead, is_behind_run, seen_job}
 use Rattle.tcreplay.specs.Ran.{seen_ran, IsRan, IsRanByThreads}
 use Rattle.tcreplay.specs.Writes.{Writing, IsWritten, IsLastEnd}
-use Rattle.cpu_front.specs.Machine.{IsLawful}
 use Rattle.tcreplay.specs.Order.{IsCompleted, IsOrderOf}
-use Rattle.tcreplay.specs.Replayed.{IsAnswer, IsHeadline, HasTried, verdict_on}
+use Rattle.tcreplay.specs.Replayed.{IsAnswer, IsHeadline, HasTried, runs, verdict_on}
 use Rattle.tcreplay.proofs.EndFacts.{job_fails}
 use Rattle.tcreplay.proofs.JobFacts.{not_run, cut_early, gone_for}
 use Rattle.tcreplay.proofs.RunFacts.{completed_is}
 use Rattle.tcreplay.proofs.RanFacts.{made_by, order_is, lawful, text_is, have_all_ended, told_scripts, legal_journal, its_run}
 
 -- what was read without a refusal was read for any end
-pub read_for : (file : Option (List ℕ)) (given : Given) (t u : Reading) (f g : Shelving) (end : End) → HasRead file given t u f g Done → HasRead file given t u f g end
-read_for file given t u f g end read = record {
+pub read_for : (runner : Option Front) (file : Option (List ℕ)) (given : Given) (t u : Reading) (f g : Shelving) (end : End) → HasRead runner file given t u f g Done → HasRead runner file given t u f g end
+read_for runner file given t u f g end read = record {
   files = read.files;
   loads = read.loads;
   behind_run = λ _. read.behind_run refl;
@@ -50,25 +51,29 @@ pub not_later : (end : End) → is_behind_run end ≡ false → is_behind_run en
 not_later end early later = let e : false ≡ true = sym early ∙ later in cc
 
 -- before a run no picks came
-none_came : (schedule : Schedule) (job : Result verdict.Job End) (came : List ℕ) → came ≡ [] → HaveCome schedule job came
-none_came InTurn job came none = none
-none_came (ByFile order) job came none = none
-none_came (ByThreads locks) (Ok job) came none = subst (IsMadeOf job.input) (sym none) (record { polite = tt; few = omega arith; switches = λ c. omega arith })
-none_came (ByThreads locks) (Err end) came none = none
+none_made : (front : Front) (job : verdict.Job) → IsMadeOf (machine_of front) job.input []
+none_made Cpus job = record { polite = tt; few = omega arith; made = λ c. omega arith }
+none_made Threads job = record { polite = tt; few = omega arith; made = tt }
+
+none_came : (front : Front) (schedule : Schedule) (job : Result verdict.Job End) (came : List ℕ) → came ≡ [] → HaveCome (machine_of front) schedule job came
+none_came front InTurn job came none = none
+none_came front (ByFile order) job came none = none
+none_came front (ByThreads locks) (Ok job) came none = subst (IsMadeOf (machine_of front) job.input) (sym none) (none_made front job)
+none_came front (ByThreads locks) (Err end) came none = none
 
 -- what was read is what a replay was given, of which no thread has run
 given_to : (replay : Replay) (t u : Reading) (f g : Shelving) (result : Result Job End) (read : IsJobRead replay t u f g result) → AreGiven replay f.files t.left read.given
-given_to replay t u f g result read = record { told = read.told; came = none_came replay.schedule (job_of replay read.given) read.given.came read.none_came }
+given_to replay t u f g result read = record { told = read.told; came = none_came replay.front replay.schedule (job_of replay read.given) read.given.came read.none_came }
 
 -- the reading ended the work
 pub tried_stopped : (replay : Replay) (t u : Reading) (f g : Shelving) (out : Writing) (end : End) (order : List ℕ) → order ≡ [] → IsJobRead replay t u f g (Err end) → HasTried replay t u f g out out end order
 tried_stopped replay t u f g out end order none read =
     let early : is_behind_run end ≡ false = elim read.answer [
       | inl e ↦ job_fails is_behind_run replay read.given end not_run e
-      | inr cut ↦ cut_early read.given t u f g end cut
+      | inr cut ↦ cut_early (Some replay.front) read.given t u f g end cut
     ] in
     let answer : IsAnswer replay read.given t u f g end order = elim read.answer [
-      | inl e ↦ inl (sym (ap (λ r. (run_verdict (Whole replay.rows) r).end) e), none ∙ sym (ap (λ r. (run_verdict (Whole replay.rows) r).order) e))
+      | inl e ↦ inl (sym (ap (λ r. (run_verdict (runs replay) (Whole replay.rows) r).end) e), none ∙ sym (ap (λ r. (run_verdict (runs replay) (Whole replay.rows) r).order) e))
       | inr cut ↦ inr (inl (none, cut))
     ] in
     record {
@@ -92,7 +97,7 @@ tried_memory replay t u f g out job order none read = record {
   given = read.given;
   told = given_to replay t u f g (Ok job) read;
   answer = inr (inl (none, tt));
-  read = read_for (file_of replay.schedule) read.given t u f g Memory read.read;
+  read = read_for (Some replay.front) (file_of replay.schedule) read.given t u f g Memory read.read;
   out = refl;
   law = λ later. absurd (cc);
   run = λ later. absurd (cc);
@@ -104,10 +109,10 @@ took : (end : End) (text : List ℕ) (before after : Writing) → end ≡ Done �
 took end text before after done written = (subst (λ e. IsWritten e text before after) done written).taken
 
 module _ (replay : Replay) (given : Given) (t u : Reading) (f g : Shelving) (before after : Writing) (job : verdict.Job) (ran : Ran) (end : End) (order : List ℕ)
-    (told : AreGiven replay f.files t.left given) (asked : job_of replay given ≡ Ok job) (read : HasRead (file_of replay.schedule) given t u f g Done) (is : IsRan (Whole replay.rows) job.input (order_of_job job) ran) (made : IsCompleted replay.schedule job (order_of_job job))
+    (told : AreGiven replay f.files t.left given) (asked : job_of replay given ≡ Ok job) (read : HasRead (Some replay.front) (file_of replay.schedule) given t u f g Done) (is : IsRan (runs replay) (Whole replay.rows) job.input (order_of_job (runs replay) job) ran) (made : IsCompleted (runs replay) replay.schedule job (order_of_job (runs replay) job))
     (last : IsLastEnd ran.end end) (same : order ≡ ran.order.items) (written : IsWritten end ran.text.items before after) where
   verdict_is : verdict_on replay given ≡ seen_ran ran
-  verdict_is = ap (run_verdict (Whole replay.rows)) asked ∙ sym is.is
+  verdict_is = ap (run_verdict (runs replay) (Whole replay.rows)) asked ∙ sym is.is
 
   answered : IsLastEnd ran.end end → IsAnswer replay given t u f g end order
   answered (inl e) = inl (e ∙ sym (ap (λ (v : Verdict). v.end) verdict_is), same ∙ sym (ap (λ (v : Verdict). v.order) verdict_is))
@@ -120,12 +125,12 @@ module _ (replay : Replay) (given : Given) (t u : Reading) (f g : Shelving) (bef
   headline done = record {
     job = job;
     asked = asked;
-    order_is = order_is telling job ran end order is last same;
-    ended = have_all_ended telling job ran end order is last same done;
-    told = told_scripts telling job ran end order is last same done;
-    text = subst (Took before.taken after.taken) (text_is telling job ran end order is last same done) (took end ran.text.items before after done written);
-    journal = legal_journal telling job ran end order is last same done;
-    law = lawful telling job ran end order is last same;
+    order_is = order_is (runs replay) telling job ran end order is last same;
+    ended = have_all_ended (runs replay) telling job ran end order is last same done;
+    told = told_scripts (runs replay) telling job ran end order is last same done;
+    text = subst (Took before.taken after.taken) (text_is (runs replay) telling job ran end order is last same done) (took end ran.text.items before after done written);
+    journal = legal_journal (runs replay) telling job ran end order is last same done;
+    law = lawful (runs replay) telling job ran end order is last same;
   }
 
   -- of the one job that was given
@@ -140,21 +145,21 @@ module _ (replay : Replay) (given : Given) (t u : Reading) (f g : Shelving) (bef
     given = given;
     told = told;
     answer = answered last;
-    read = read_for (file_of replay.schedule) given t u f g end read;
+    read = read_for (Some replay.front) (file_of replay.schedule) given t u f g end read;
     out = subst (λ (v : Verdict). IsWritten end v.text before after) (sym verdict_is) written;
-    law = λ _. of_job (λ (j : verdict.Job). IsLawful j.input order) (lawful telling job ran end order is last same);
-    run = λ _. of_job (λ (j : verdict.Job). IsOrderOf replay.schedule j end order) (its_run telling job ran end order is last same replay.schedule made);
+    law = λ _. of_job (λ (j : verdict.Job). (runs replay).lawful j.input order) (lawful (runs replay) telling job ran end order is last same);
+    run = λ _. of_job (λ (j : verdict.Job). IsOrderOf (runs replay) replay.schedule j end order) (its_run (runs replay) telling job ran end order is last same replay.schedule made);
     headline = headline;
   }
 
 -- without worker threads
-alone_is : (schedule : Schedule) (job : verdict.Job) (order : List ℕ) → locks_in schedule ≡ None → IsCompleted schedule job order
-alone_is InTurn job order alone = tt
-alone_is (ByFile file) job order alone = tt
-alone_is (ByThreads locks) job order alone = absurd (cc)
+alone_is : (m : Machine) (schedule : Schedule) (job : verdict.Job) (order : List ℕ) → locks_in schedule ≡ None → IsCompleted m schedule job order
+alone_is m InTurn job order alone = tt
+alone_is m (ByFile file) job order alone = tt
+alone_is m (ByThreads locks) job order alone = absurd (cc)
 
-pub tried_ran : (replay : Replay) (t u : Reading) (f g : Shelving) (before after : Writing) (job : Job) (ran : Ran) (end : End) (order : List ℕ) → locks_in replay.schedule ≡ None → IsJobRead replay t u f g (Ok job) → IsRan (Whole replay.rows) (seen_job job).input (order_of_job (seen_job job)) ran → IsLastEnd ran.end end → order ≡ ran.order.items → IsWritten end ran.text.items before after → HasTried replay t u f g before after end order
-tried_ran replay t u f g before after job ran end order alone read is last same written = tried_by replay read.given t u f g before after (seen_job job) ran end order (given_to replay t u f g (Ok job) read) read.answer read.read is (alone_is replay.schedule (seen_job job) (order_of_job (seen_job job)) alone) last same written
+pub tried_ran : (replay : Replay) (t u : Reading) (f g : Shelving) (before after : Writing) (job : Job) (ran : Ran) (end : End) (order : List ℕ) → locks_in replay.schedule ≡ None → IsJobRead replay t u f g (Ok job) → IsRan (runs replay) (Whole replay.rows) (seen_job job).input (order_of_job (runs replay) (seen_job job)) ran → IsLastEnd ran.end end → order ≡ ran.order.items → IsWritten end ran.text.items before after → HasTried replay t u f g before after end order
+tried_ran replay t u f g before after job ran end order alone read is last same written = tried_by replay read.given t u f g before after (seen_job job) ran end order (given_to replay t u f g (Ok job) read) read.answer read.read is (alone_is (runs replay) replay.schedule (seen_job job) (order_of_job (runs replay) (seen_job job)) alone) last same written
 
 -- what was given, with the picks that came
 abbrev given_with : Given → List ℕ → Given
@@ -183,28 +188,28 @@ behind_asked replay given came job rows none (Ok asked) is =
     let same : job_made rows asked given.came ≡ job = cc in
     subst (λ (j : verdict.Job). and_then (job_with replay (given_with given came) rows) (Ok asked) ≡ Ok (job_behind j came)) same (job_came rows asked (file_of replay.schedule) given.file came none)
 
-behind_rows : (replay : Replay) (given : Given) (came : List ℕ) (job : verdict.Job) → file_of replay.schedule ≡ None → (rows : Result (List ClassRow) End) → and_then (λ rows. and_then (job_with replay given rows) (asked_in rows given.trace)) rows ≡ Ok job → and_then (λ rows. and_then (job_with replay (given_with given came) rows) (asked_in rows given.trace)) rows ≡ Ok (job_behind job came)
+behind_rows : (replay : Replay) (given : Given) (came : List ℕ) (job : verdict.Job) → file_of replay.schedule ≡ None → (rows : Result (List ClassRow) End) → and_then (λ rows. and_then (job_with replay given rows) (asked_in (Some replay.front) rows given.trace)) rows ≡ Ok job → and_then (λ rows. and_then (job_with replay (given_with given came) rows) (asked_in (Some replay.front) rows given.trace)) rows ≡ Ok (job_behind job came)
 behind_rows replay given came job none (Err end) is = absurd (cc)
-behind_rows replay given came job none (Ok rows) is = behind_asked replay given came job rows none (asked_in rows given.trace) is
+behind_rows replay given came job none (Ok rows) is = behind_asked replay given came job rows none (asked_in (Some replay.front) rows given.trace) is
 
-came_is : (schedule : Schedule) (locks : Locks) (job : verdict.Job) (came : List ℕ) → locks_in schedule ≡ Some locks → IsMadeOf job.input came → HaveCome schedule (Ok (job_behind job came)) came
-came_is InTurn locks job came threads made = absurd (cc)
-came_is (ByFile file) locks job came threads made = absurd (cc)
-came_is (ByThreads other) locks job came threads made = made
+came_is : (m : Machine) (schedule : Schedule) (locks : Locks) (job : verdict.Job) (came : List ℕ) → locks_in schedule ≡ Some locks → IsMadeOf m job.input came → HaveCome m schedule (Ok (job_behind job came)) came
+came_is m InTurn locks job came threads made = absurd (cc)
+came_is m (ByFile file) locks job came threads made = absurd (cc)
+came_is m (ByThreads other) locks job came threads made = made
 
-completed_by : (schedule : Schedule) (locks : Locks) (job : verdict.Job) (came : List ℕ) → locks_in schedule ≡ Some locks → IsMadeOf job.input came → IsCompleted schedule (job_behind job came) (order_of_job (job_behind job came))
-completed_by InTurn locks job came threads made = tt
-completed_by (ByFile file) locks job came threads made = tt
-completed_by (ByThreads other) locks job came threads made = sym (completed_is rules job.input came made.polite made.few)
+completed_by : (m : Machine) (schedule : Schedule) (locks : Locks) (job : verdict.Job) (came : List ℕ) → locks_in schedule ≡ Some locks → IsMadeOf m job.input came → IsCompleted m schedule (job_behind job came) (order_of_job m (job_behind job came))
+completed_by m InTurn locks job came threads made = tt
+completed_by m (ByFile file) locks job came threads made = tt
+completed_by m (ByThreads other) locks job came threads made = sym (completed_is m.rules job.input came made.polite made.few)
 
 -- with worker threads
-pub tried_threads : (replay : Replay) (locks : Locks) (t u : Reading) (f g : Shelving) (before after : Writing) (job : Job) (ran : Ran) (end : End) (order : List ℕ) → locks_in replay.schedule ≡ Some locks → IsJobRead replay t u f g (Ok job) → IsRanByThreads (Whole replay.rows) (seen_job job).input ran → IsLastEnd ran.end end → order ≡ ran.order.items → IsWritten end ran.text.items before after → HasTried replay t u f g before after end order
+pub tried_threads : (replay : Replay) (locks : Locks) (t u : Reading) (f g : Shelving) (before after : Writing) (job : Job) (ran : Ran) (end : End) (order : List ℕ) → locks_in replay.schedule ≡ Some locks → IsJobRead replay t u f g (Ok job) → IsRanByThreads (runs replay) (locks_for replay.front locks) (Whole replay.rows) (seen_job job).input ran → IsLastEnd ran.end end → order ≡ ran.order.items → IsWritten end ran.text.items before after → HasTried replay t u f g before after end order
 tried_threads replay locks t u f g before after job ran end order threads read by_threads last same written =
     let came : List ℕ = by_threads.came in
-    let made = made_by (Whole replay.rows) (seen_job job).input ran by_threads in
+    let made = made_by replay.front (locks_for replay.front locks) (Whole replay.rows) (seen_job job).input ran by_threads in
     let given : Given = given_with read.given came in
     let none : file_of replay.schedule ≡ None = no_file replay.schedule locks threads in
     let asked : job_of replay given ≡ Ok (job_behind (seen_job job) came) = behind_rows replay read.given came (seen_job job) none (rows_in read.given.table) read.answer in
-    let told : AreGiven replay f.files t.left given = record { told = record { table = read.told.table; trace = read.told.trace; file = read.told.file }; came = subst (λ j. HaveCome replay.schedule j came) (sym asked) (came_is replay.schedule locks (seen_job job) came threads made) } in
-    let had : HasRead (file_of replay.schedule) given t u f g Done = record { files = read.read.files; loads = elim read.read.loads [ inl once ↦ inl once | inr two ↦ inr (record { twice = two.twice; named = two.named; good = two.good; drained = two.drained }) ]; behind_run = read.read.behind_run; behind_file = read.read.behind_file; file_count = read.read.file_count; untouched = read.read.untouched; lost = read.read.lost; reads = read.read.reads; drained = read.read.drained; trace_count = read.read.trace_count } in
-    tried_by replay given t u f g before after (job_behind (seen_job job) came) ran end order told asked had by_threads.whole (completed_by replay.schedule locks (seen_job job) came threads made) last same written
+    let told : AreGiven replay f.files t.left given = record { told = record { table = read.told.table; trace = read.told.trace; file = read.told.file }; came = subst (λ j. HaveCome (runs replay) replay.schedule j came) (sym asked) (came_is (runs replay) replay.schedule locks (seen_job job) came threads made) } in
+    let had : HasRead (Some replay.front) (file_of replay.schedule) given t u f g Done = record { files = read.read.files; loads = elim read.read.loads [ inl once ↦ inl once | inr two ↦ inr (record { twice = two.twice; named = two.named; good = two.good; drained = two.drained }) ]; behind_run = read.read.behind_run; behind_file = read.read.behind_file; file_count = read.read.file_count; untouched = read.read.untouched; lost = read.read.lost; reads = read.read.reads; drained = read.read.drained; trace_count = read.read.trace_count } in
+    tried_by replay given t u f g before after (job_behind (seen_job job) came) ran end order told asked had by_threads.whole (completed_by (runs replay) replay.schedule locks (seen_job job) came threads made) last same written

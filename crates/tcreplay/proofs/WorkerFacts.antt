@@ -24,10 +24,12 @@ use Rattle.replay_workers.specs.Runs.{halt_among}
 use Rattle.relay.specs.Ends.{IsRun, threads_in}
 use Rattle.tcreplay.specs.declared.run.Ran.{Ran}
 use Rattle.tcreplay.specs.declared.run.Telling.{Telling}
-use Rattle.tcreplay.specs.declared.words.Locks.{Locks}
-use Rattle.tcreplay.specs.declared.words.Locks.TheVariants.{Parts}
+use Rattle.tcreplay.specs.declared.task.Locks.{Locks}
+use Rattle.tcreplay.specs.declared.task.Locks.TheVariants.{Parts}
 use Rattle.tcreplay.specs.Came.{IsLeft}
-use Rattle.tcreplay.specs.Ran.{IsRunOf, IsRunByThreads}
+use Rattle.tcreplay.specs.Order.{IsFilled}
+use Rattle.tcreplay.specs.Verdict.{Verdict}
+use Rattle.tcreplay.specs.Ran.{seen_ran, IsRunOf, IsRunByThreads}
 use Rattle.tcreplay.proofs.RunFacts.{same_run, completed_is}
 
 -- what was left is the run of the order that came
@@ -48,19 +50,27 @@ module _ {P L : Type 0} (rules : Input → Rules P L) where
 
   -- a run that threads began and that was completed
   module _ (told : Input → List ℕ → Finished) (lawful : Input → List ℕ → Type 0) (is_few : (input : Input) (order : List ℕ) → lawful input order → length order ≤ input.asked.config.events) where
-    by_threads : (telling : Telling) (other input : Input) (came order : List ℕ) (ran : Ran) → other ≡ input → order ≡ completed (rules input) (turns input.asked) input.asked.config.events came → IsPolite (rules input) (start (rules input)) came
-        → IsRunOf rules told lawful telling other order ran → IsRunByThreads rules told lawful telling input ran
-    by_threads telling other input came order ran same is polite ran_so =
+    by_threads : (locks : Locks) (telling : Telling) (other input : Input) (came order : List ℕ) (ran : Ran) → ran.under ≡ Some locks → other ≡ input → order ≡ completed (rules input) (turns input.asked) input.asked.config.events came → IsPolite (rules input) (start (rules input)) came
+        → IsRunOf rules told lawful telling other order ran → IsRunByThreads rules told lawful locks telling input ran
+    by_threads locks telling other input came order ran under same is polite ran_so =
         let whole : List ℕ = completed (rules input) (turns input.asked) input.asked.config.events came in
         let here : IsRunOf rules told lawful telling input whole ran = same_run rules told lawful telling other input order whole ran same is ran_so in
         let long = length-append came (completion (rules input) (turns input.asked) (input.asked.config.events - length came) (run (rules input) came)) in
         let few : length came ≤ input.asked.config.events = (let most = is_few input whole here.law in omega (arith, long, most)) in
-        record { came = came; polite = polite; few = few; whole = subst (λ o. IsRunOf rules told lawful telling input o ran) (completed_is rules input came polite few) here }
+        record { under = under; came = came; polite = polite; few = few; whole = subst (λ o. IsRunOf rules told lawful telling input o ran) (completed_is rules input came polite few) here }
 
-    pub by_threads_result : (telling : Telling) (other input : Input) (came order : List ℕ) (result : Result Ran AllocError) → other ≡ input → order ≡ completed (rules input) (turns input.asked) input.asked.config.events came → IsPolite (rules input) (start (rules input)) came
-        → IfOk result (IsRunOf rules told lawful telling other order) → IfOk result (IsRunByThreads rules told lawful telling input)
-    by_threads_result telling other input came order (Ok ran) same is polite ran_so = by_threads telling other input came order ran same is polite ran_so
-    by_threads_result telling other input came order (Err e) same is polite ran_so = tt
+    -- the same run, with the locks under which it began
+    pub by_threads_under : (locks : Locks) (telling : Telling) (other input : Input) (came order : List ℕ) (ran under : Ran) → seen_ran under ≡ seen_ran ran → under.under ≡ Some locks → other ≡ input → order ≡ completed (rules input) (turns input.asked) input.asked.config.events came
+        → IsPolite (rules input) (start (rules input)) came → IsRunOf rules told lawful telling other order ran → IsRunByThreads rules told lawful locks telling input under
+    by_threads_under locks telling other input came order ran under seen locked same is polite ran_so =
+        let ends : under.end ≡ ran.end = ap (λ (v : Verdict). v.end) seen in
+        by_threads locks telling other input came order under locked same is polite (record {
+          is = seen ∙ ran_so.is;
+          law = ran_so.law;
+          filled = subst (λ e. IsFilled rules other e order) (sym ends) ran_so.filled;
+          scripts = λ done. ran_so.scripts (sym ends ∙ done);
+          journal = λ done. ran_so.journal (sym ends ∙ done);
+        })
 
   -- what was left under part locks
   pub parts_left : {C : Type 0} (result : Result C AllocError) (state : C → Played) (under : C → Locks) (last : C → List Turn) (stopped : C → Option Halt) (input other : Input) (es : List Entry) (lasts : List Turn) (halt : Option Halt)

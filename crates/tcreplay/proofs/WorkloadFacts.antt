@@ -8,9 +8,10 @@ use Rattle.tcreplay.specs.declared.words.Kind.{Kind}
 use Rattle.tcreplay.specs.declared.words.Kind.TheVariants as kind
 use Rattle.tcreplay.specs.declared.words.Flag.{Flag}
 use Rattle.tcreplay.specs.declared.words.Flag.TheVariants as flag
-use Rattle.tcreplay.specs.Words.{Options, no_options, name_of, locks_of, number_in, once, is_rows, taken_flag, with_rows, with_value, options_of, kind_of, Command, Serial, Order, Workers, Gen, Audit, locks_or, command_with, command_of}
-use Rattle.tcreplay.specs.declared.task.Task.{Task}
-use Rattle.tcreplay.specs.Tasks.{IsTask, task_of, task_by}
+use Rattle.tcreplay.specs.Words.{Options, no_options, name_of, locks_of, number_in, once, is_switch, taken_flag, with_switch, with_value, options_of, kind_of, schedule_by, replay_with, task_under, task_with, task_by}
+use Rattle.tcreplay.specs.declared.task.Task.{Task as Asked}
+use Rattle.tcreplay.specs.declared.machines.Front.TheVariants.{Cpus, Threads}
+use Rattle.tcreplay.specs.Tasks.{IsTask, Task, ByFile, ToAudit, ToGenerate}
 use Rattle.tcreplay.specs.Seen.{seen_task}
 
 -- what holds of a value that comes holds of it under a map, and behind a step
@@ -65,18 +66,21 @@ value_ranged : (so : Options) (f : Flag) (word : List ℕ) → AreRanged so → 
 value_ranged so flag.Classes word are = mapped (λ name. record so { classes = Some name }) (λ _. Unit {0}) AreRanged (once so.classes (name_of word)) (any_one (once so.classes (name_of word))) (λ name _. record { seed = are.seed; calls = are.calls; threads = are.threads })
 value_ranged so flag.Order word are = mapped (λ name. record so { order = Some name }) (λ _. Unit {0}) AreRanged (once so.order (name_of word)) (any_one (once so.order (name_of word))) (λ name _. record { seed = are.seed; calls = are.calls; threads = are.threads })
 value_ranged so flag.Locks word are = mapped (λ locks. record so { locks = Some locks }) (λ _. Unit {0}) AreRanged (once so.locks (locks_of word)) (any_one (once so.locks (locks_of word))) (λ locks _. record { seed = are.seed; calls = are.calls; threads = are.threads })
+value_ranged so flag.Workers word are = tt
 value_ranged so flag.Rows word are = tt
 value_ranged so flag.Seed word are = mapped (λ n. record so { seed = Some n }) (λ n. (0 ≤ n) × (n ≤ 2147483647)) AreRanged (once so.seed (number_in 0 2147483647 word)) (once_is (λ n. (0 ≤ n) × (n ≤ 2147483647)) so.seed (number_in 0 2147483647 word) (in_range 0 2147483647 word)) (λ n is. record { seed = is; calls = are.calls; threads = are.threads })
 value_ranged so flag.Calls word are = mapped (λ n. record so { calls = Some n }) (λ n. (1 ≤ n) × (n ≤ 500000)) AreRanged (once so.calls (number_in 1 500000 word)) (once_is (λ n. (1 ≤ n) × (n ≤ 500000)) so.calls (number_in 1 500000 word) (in_range 1 500000 word)) (λ n is. record { seed = are.seed; calls = is; threads = are.threads })
 value_ranged so flag.Threads word are = mapped (λ n. record so { threads = Some n }) (λ n. (1 ≤ n) × (n ≤ 64)) AreRanged (once so.threads (number_in 1 64 word)) (once_is (λ n. (1 ≤ n) × (n ≤ 64)) so.threads (number_in 1 64 word) (in_range 1 64 word)) (λ n is. record { seed = are.seed; calls = are.calls; threads = is })
 value_ranged so flag.Journal word are = mapped (λ name. record so { journal = Some name }) (λ _. Unit {0}) AreRanged (once so.journal (name_of word)) (any_one (once so.journal (name_of word))) (λ name _. record { seed = are.seed; calls = are.calls; threads = are.threads })
 
-rows_ranged : (so : Options) → AreRanged so → IfSome (with_rows so) AreRanged
-rows_ranged so are = by_rows so so.rows are
-  where
-    by_rows : (so : Options) (b : Bool) → AreRanged so → IfSome (cond b None (Some (record so { rows = true }))) AreRanged
-    by_rows so true are = tt
-    by_rows so false are = record { seed = are.seed; calls = are.calls; threads = are.threads }
+unless_there : (b : Bool) (more : Options) → AreRanged more → IfSome (cond b None (Some more)) AreRanged
+unless_there true more are = tt
+unless_there false more are = are
+
+switch_ranged : (so : Options) (f : Flag) → AreRanged so → IfSome (with_switch so f) AreRanged
+switch_ranged so flag.Workers are = unless_there so.workers (record so { workers = true }) (record { seed = are.seed; calls = are.calls; threads = are.threads })
+switch_ranged so flag.Rows are = unless_there so.rows (record so { rows = true }) (record { seed = are.seed; calls = are.calls; threads = are.threads })
+switch_ranged so f are = tt
 
 either : {A : Type 0} (P : A → Type 0) (b : Bool) (one other : Option A) → IfSome one P → IfSome other P → IfSome (cond b one other) P
 either P true one other here there = here
@@ -85,43 +89,37 @@ either P false one other here there = there
 options_ranged : (k : Kind) (so : Options) (words : List (List ℕ)) → AreRanged so → IfSome (options_of k so words) AreRanged
 options_ranged k so [] are = are
 options_ranged k so (word ∷ []) are =
-    behind (λ f. cond (is_rows f) (with_rows so) None) (λ _. Unit {0}) AreRanged (taken_flag k word) (any_one (taken_flag k word)) (λ f _. either AreRanged (is_rows f) (with_rows so) None (rows_ranged so are) tt)
+    behind (λ f. cond (is_switch f) (with_switch so f) None) (λ _. Unit {0}) AreRanged (taken_flag k word) (any_one (taken_flag k word)) (λ f _. either AreRanged (is_switch f) (with_switch so f) None (switch_ranged so f are) tt)
 options_ranged k so (word ∷ value ∷ words) are =
-    behind (λ f. cond (is_rows f) (option_and_then (λ more. options_of k more (value ∷ words)) (with_rows so)) (option_and_then (λ more. options_of k more words) (with_value so f value))) (λ _. Unit {0}) AreRanged (taken_flag k word) (any_one (taken_flag k word))
-    (λ f _. either AreRanged (is_rows f) (option_and_then (λ more. options_of k more (value ∷ words)) (with_rows so)) (option_and_then (λ more. options_of k more words) (with_value so f value))
-    (behind (λ more. options_of k more (value ∷ words)) AreRanged AreRanged (with_rows so) (rows_ranged so are) (λ more is. options_ranged k more (value ∷ words) is))
+    behind (λ f. cond (is_switch f) (option_and_then (λ more. options_of k more (value ∷ words)) (with_switch so f)) (option_and_then (λ more. options_of k more words) (with_value so f value))) (λ _. Unit {0}) AreRanged (taken_flag k word) (any_one (taken_flag k word))
+    (λ f _. either AreRanged (is_switch f) (option_and_then (λ more. options_of k more (value ∷ words)) (with_switch so f)) (option_and_then (λ more. options_of k more words) (with_value so f value))
+    (behind (λ more. options_of k more (value ∷ words)) AreRanged AreRanged (with_switch so f) (switch_ranged so f are) (λ more is. options_ranged k more (value ∷ words) is))
     (behind (λ more. options_of k more words) AreRanged AreRanged (with_value so f value) (value_ranged so f value are) (λ more is. options_ranged k more words is)))
 
--- the numbers of a command are those of its options
-abbrev IsRangedCommand : Command → Type 0
-IsRangedCommand command = IsTask (task_of command)
+-- the numbers of a task are those of the options
+under_ranged : (k : Kind) (so : Options) (classes : List ℕ) → AreRanged so → IfSome (task_under k so classes) IsTask
+under_ranged kind.Serial so classes are = tt
+under_ranged kind.Order so classes are = mapped (λ order. replay_with so Cpus classes (ByFile order)) (λ _. Unit {0}) IsTask so.order (any_one so.order) (λ order _. tt)
+under_ranged kind.Workers so classes are = tt
+under_ranged kind.PerThread so classes are = mapped (replay_with so Threads classes) (λ _. Unit {0}) IsTask (schedule_by so) (any_one (schedule_by so)) (λ schedule _. tt)
+under_ranged kind.Gen so classes are =
+    let made : ℕ → ℕ → ℕ → Task = λ seed calls threads. ToGenerate (record { classes = classes; seed = seed; calls = calls; threads = threads }) in
+    behind (λ seed. option_and_then (λ calls. option_map (made seed calls) so.threads) so.calls) (λ n. (0 ≤ n) × (n ≤ 2147483647)) IsTask so.seed are.seed
+    (λ seed seeds. behind (λ calls. option_map (made seed calls) so.threads) (λ n. (1 ≤ n) × (n ≤ 500000)) IsTask so.calls are.calls
+    (λ calls count. mapped (made seed calls) (λ n. (1 ≤ n) × (n ≤ 64)) IsTask so.threads are.threads
+    (λ threads many. record { seed = seeds.1; some_calls = count.0; calls = count.1; some_threads = many.0; threads = many.1 })))
+under_ranged kind.Audit so classes are = mapped (λ journal. ToAudit (record { classes = classes; journal = journal })) (λ _. Unit {0}) IsTask so.journal (any_one so.journal) (λ journal _. tt)
 
-command_ranged : (k : Kind) (so : Options) → AreRanged so → IfSome (command_with k so) IsRangedCommand
-command_ranged kind.Serial so are = mapped (λ classes. Serial classes so.rows) (λ _. Unit {0}) IsRangedCommand so.classes (any_one so.classes) (λ classes _. tt)
-command_ranged kind.Order so are =
-    behind (λ classes. option_map (λ order. Order classes order so.rows) so.order) (λ _. Unit {0}) IsRangedCommand so.classes (any_one so.classes)
-    (λ classes _. mapped (λ order. Order classes order so.rows) (λ _. Unit {0}) IsRangedCommand so.order (any_one so.order) (λ order _. tt))
-command_ranged kind.Workers so are = mapped (λ classes. Workers classes (locks_or so.locks) so.rows) (λ _. Unit {0}) IsRangedCommand so.classes (any_one so.classes) (λ classes _. tt)
-command_ranged kind.Gen so are =
-    behind (λ classes. option_and_then (λ seed. option_and_then (λ calls. option_map (λ threads. Gen classes seed calls threads) so.threads) so.calls) so.seed) (λ _. Unit {0}) IsRangedCommand so.classes (any_one so.classes)
-    (λ classes _. behind (λ seed. option_and_then (λ calls. option_map (λ threads. Gen classes seed calls threads) so.threads) so.calls) (λ n. (0 ≤ n) × (n ≤ 2147483647)) IsRangedCommand so.seed are.seed
-    (λ seed seeds. behind (λ calls. option_map (λ threads. Gen classes seed calls threads) so.threads) (λ n. (1 ≤ n) × (n ≤ 500000)) IsRangedCommand so.calls are.calls
-    (λ calls count. mapped (λ threads. Gen classes seed calls threads) (λ n. (1 ≤ n) × (n ≤ 64)) IsRangedCommand so.threads are.threads
-    (λ threads many. record { seed = seeds.1; some_calls = count.0; calls = count.1; some_threads = many.0; threads = many.1 }))))
-command_ranged kind.Audit so are =
-    behind (λ classes. option_map (λ journal. Audit classes journal) so.journal) (λ _. Unit {0}) IsRangedCommand so.classes (any_one so.classes)
-    (λ classes _. mapped (λ journal. Audit classes journal) (λ _. Unit {0}) IsRangedCommand so.journal (any_one so.journal) (λ journal _. tt))
-
-command_of_ranged : (words : List (List ℕ)) → IfSome (command_of words) IsRangedCommand
-command_of_ranged [] = tt
-command_of_ranged (word ∷ words) =
-    behind (λ k. option_and_then (command_with k) (options_of k no_options words)) (λ _. Unit {0}) IsRangedCommand (kind_of word) (any_one (kind_of word))
-    (λ k _. behind (command_with k) AreRanged IsRangedCommand (options_of k no_options words) (options_ranged k no_options words (record { seed = tt; calls = tt; threads = tt })) (command_ranged k))
+task_with_ranged : (k : Kind) (so : Options) → AreRanged so → IfSome (task_with k so) IsTask
+task_with_ranged k so are = behind (task_under k so) (λ _. Unit {0}) IsTask so.classes (any_one so.classes) (λ classes _. under_ranged k so classes are)
 
 pub task_ranged : (words : List (List ℕ)) → IfSome (task_by words) IsTask
-task_ranged words = mapped task_of IsRangedCommand IsTask (command_of words) (command_of_ranged words) (λ command is. is)
+task_ranged [] = tt
+task_ranged (word ∷ words) =
+    behind (λ k. option_and_then (task_with k) (options_of k no_options words)) (λ _. Unit {0}) IsTask (kind_of word) (any_one (kind_of word))
+    (λ k _. behind (task_with k) AreRanged IsTask (options_of k no_options words) (options_ranged k no_options words (record { seed = tt; calls = tt; threads = tt })) (task_with_ranged k))
 
 -- of tasks as the code has them
-pub seen_ranged : (words : List (List ℕ)) (found : Option Task) → option_map seen_task found ≡ task_by words → IfSome found (λ task. IsTask (seen_task task))
+pub seen_ranged : (words : List (List ℕ)) (found : Option Asked) → option_map seen_task found ≡ task_by words → IfSome found (λ task. IsTask (seen_task task))
 seen_ranged words None is = tt
 seen_ranged words (Some task) is = subst (λ t. IfSome t IsTask) (sym is) (task_ranged words)

@@ -1,6 +1,6 @@
 -- What an audit comes to: a trace and then a journal are read, and the journal is judged by the trace. `yes` and the number
 -- of its calls are printed, or the first line that fails ends the work.
-use Rattle.std.specs.Prelude.{◌≡◌, ℕ, ◌≤◌, ◌⊎◌, ◌++◌, true, List, [], length, Some, Result, Ok, Err, codes, decimal}
+use Rattle.std.specs.Prelude.{◌≡◌, ℕ, ◌≤◌, ◌⊎◌, ◌++◌, true, List, [], length, Some, None, Result, Ok, Err, codes, decimal}
 use Rattle.tc_units.specs.declared.spans.ClassRow.{ClassRow}
 use Rattle.tc_model.specs.Input.{Input, Asked, scripts_of}
 use Rattle.tc_ports.specs.Told.{Took}
@@ -33,7 +33,7 @@ abbrev pub case_with : Given → List ClassRow → Asked → Result Case End
 case_with given rows asked = and_then (λ journal. Ok (case_of (record { rows = rows; asked = asked }) journal)) (file_within trace_limit given.file)
 
 abbrev pub case_in : Given → Result Case End
-case_in = read_of case_with
+case_in = read_of None case_with
 
 -- the arena, the class table and the threads' scripts, by which a journal is judged
 abbrev pub plan_in : Input → Plan
@@ -59,7 +59,7 @@ audit_verdict given = case_verdict (case_in given)
 
 -- The answer is the verdict; or what it reads was cut off; or the line that was to be written wasn't taken.
 abbrev pub IsAuditAnswer : Given → Reading → Reading → Shelving → Shelving → End → Type 0
-IsAuditAnswer given t u f g end = (end ≡ (audit_verdict given).end) ⊎ (CutOff given t u f g end ⊎ ((end ≡ WriteFault) × ((audit_verdict given).end ≡ Done)))
+IsAuditAnswer given t u f g end = (end ≡ (audit_verdict given).end) ⊎ (CutOff None given t u f g end ⊎ ((end ≡ WriteFault) × ((audit_verdict given).end ≡ Done)))
 
 -- the verdict on a journal is Yes exactly where that is legal and has no more lines of calls than a trace may have calls
 abbrev pub IsJudgedRight : Case → Type 0
@@ -87,7 +87,7 @@ pub record HasAudited (audit : Audit) (t u : Reading) (f g : Shelving) (before a
   pub told : AreTold audit.classes (Some audit.journal) f.files t.left given
   pub answer : IsAuditAnswer given t u f g end
   pub no_order : order ≡ []
-  pub read : HasRead (Some audit.journal) given t u f g end
+  pub read : HasRead None (Some audit.journal) given t u f g end
   pub out : IsWritten end (audit_verdict given).text before after
   pub law : is_behind_run end ≡ true → (case : Case) → case_in given ≡ Ok case → IsJudgedRight case
   pub headline : end ≡ Done → IsAuditHeadline given before after

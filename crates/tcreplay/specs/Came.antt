@@ -10,8 +10,8 @@ use Rattle.tc_model.specs.Replays.{HaveEnded}
 use Rattle.tc_model.specs.Chains.{IsPolite}
 use Rattle.replay_workers.specs.Runs.{halt_among}
 use Rattle.tc_machine.specs.Played.{Played}
-use Rattle.tcreplay.specs.declared.words.Locks.{Locks}
-use Rattle.tcreplay.specs.declared.words.Locks.TheVariants.{Parts}
+use Rattle.tcreplay.specs.declared.task.Locks.{Locks}
+use Rattle.tcreplay.specs.declared.task.Locks.TheVariants.{Parts}
 
 -- They ran on this input from its start, under these locks; each of their picks moved and was polite; each thread has a last
 -- answer; the halt is that of these, and none lacked memory; where none was halted, each answered last that its script has

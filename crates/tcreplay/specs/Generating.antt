@@ -9,8 +9,7 @@ use Rattle.tc_ports.specs.Faults.{one_more, Rose}
 use Rattle.tc_ports.specs.Told.{Took}
 use Rattle.tc_ports.specs.Shelves.{Files}
 use Rattle.trace_gen.specs.TraceText.{trace_text}
-use Rattle.cpu_rows.specs.Machine as allocator
-use Rattle.cpu_front.specs.Machine.{finished_in}
+use Rattle.tcreplay.specs.Machines.{per_cpu}
 use Rattle.tcreplay.specs.declared.run.Telling.TheVariants.{Summary}
 use Rattle.tcreplay.specs.declared.generate.Made.{Made}
 use Rattle.tcreplay.specs.declared.outcome.End.{End}
@@ -19,7 +18,6 @@ use Rattle.tcreplay.specs.Tasks.{Workload, InTurn}
 use Rattle.tcreplay.specs.Verdict.{Job, Verdict, and_then, rows_in, asked_of_text, order_of_job, run_verdict, summary_in}
 use Rattle.tcreplay.specs.Reads.{Shelving, IsFile, IsLoad, IsCounted, is_behind_run, seen_job}
 use Rattle.tcreplay.specs.Writes.{Writing, Ends, TookText, TookPartOf}
-use Rattle.cpu_front.specs.Machine.{IsLawful}
 use Rattle.tcreplay.specs.Order.{IsOrderOf}
 
 -- the trace of a workload
@@ -35,7 +33,7 @@ generation_job workload table = and_then (generation_job_with workload) (rows_in
 
 -- the end and the order of that replay, and its summary
 abbrev pub generation_verdict : Workload → Option (List ℕ) → Verdict
-generation_verdict workload table = run_verdict Summary (generation_job workload table)
+generation_verdict workload table = run_verdict per_cpu Summary (generation_job workload table)
 
 -- what a trace was made of: by one load, the class table gave what its replay needs, or why there is none
 pub record IsMade (workload : Workload) (f g : Shelving) (result : Result Made End) : Type 0 where
@@ -75,11 +73,11 @@ IsGenerationEnd end = ⊥
 pub record IsGenerationHeadline (workload : Workload) (table : Option (List ℕ)) (before after : Ends) (order : List ℕ) : Type 0 where
   pub job : Job
   pub asked : generation_job workload table ≡ Ok job
-  pub order_is : order ≡ order_of_job job
-  pub ended : HaveEnded (allocator.rules job.input) (run (allocator.rules job.input) order)
+  pub order_is : order ≡ order_of_job per_cpu job
+  pub ended : HaveEnded (per_cpu.rules job.input) (run (per_cpu.rules job.input) order)
   pub trace : Took before.out.taken after.out.taken (trace_of workload)
-  pub summary : Took before.notes.taken after.notes.taken (summary_in (finished_in job.input order))
-  pub law : IsLawful job.input order
+  pub summary : Took before.notes.taken after.notes.taken (summary_in (per_cpu.told job.input order))
+  pub law : per_cpu.lawful job.input order
 
 -- A generation was tried: the source is untouched, and one file is loaded, the class table.
 pub record HasGenerated (workload : Workload) (before after : Ends) (end : End) (order : List ℕ) : Type 0 where
@@ -93,8 +91,8 @@ pub record HasGenerated (workload : Workload) (before after : Ends) (end : End) 
   pub once : after.files.loads ≡ one_more before.files.loads
   pub file_count : IsCounted FileFault end before.files.faults after.files.faults
   pub written : AreWritten end (trace_of workload) (generation_verdict workload table).text before.out after.out before.notes after.notes
-  pub law : is_behind_run end ≡ true → (job : Job) → generation_job workload table ≡ Ok job → IsLawful job.input order
-  pub run : is_behind_run end ≡ true → (job : Job) → generation_job workload table ≡ Ok job → IsOrderOf InTurn job end order
+  pub law : is_behind_run end ≡ true → (job : Job) → generation_job workload table ≡ Ok job → per_cpu.lawful job.input order
+  pub run : is_behind_run end ≡ true → (job : Job) → generation_job workload table ≡ Ok job → IsOrderOf per_cpu InTurn job end order
   pub headline : end ≡ Done → IsGenerationHeadline workload table before after order
 
 -- where the shelf tells its files, the end and the order are those of the verdict on its class table

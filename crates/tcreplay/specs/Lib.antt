@@ -1,8 +1,9 @@
-pub mod Words
 pub mod Tasks
+pub mod Words
 pub mod Seen
 pub mod Status
 pub mod Notes
+pub mod Machines
 pub mod Verdict
 pub mod Reads
 pub mod Writes

@@ -36,6 +36,7 @@ line_word line.Class = codes "class"
 line_word line.LabelUsed = codes "labelused"
 line_word line.LabelUnknown = codes "labelunknown"
 line_word line.LabelFreed = codes "labelfreed"
+line_word line.NotHere = codes "nothere"
 
 -- the rule that a line of an order file fails
 abbrev pub order_word : OrderWhy → List ℕ

@@ -5,18 +5,19 @@ use Rattle.tc_model.specs.declared.steps.Stepped.TheVariants as step
 use Rattle.tc_model.specs.Run.{Rules, run}
 use Rattle.tc_model.specs.Steps.{stepped}
 use Rattle.tc_model.specs.Serial.{completed}
-use Rattle.cpu_rows.specs.Machine as allocator
+use Rattle.alloc_rules.specs.Machine.{turns}
 use Rattle.tcreplay.specs.declared.outcome.End.{End}
 use Rattle.tcreplay.specs.declared.outcome.End.TheVariants.{Full}
 use Rattle.tcreplay.specs.Tasks.{Schedule, InTurn, ByFile, ByThreads}
+use Rattle.tcreplay.specs.Machines.{Machine}
 use Rattle.tcreplay.specs.Verdict.{Job, order_of_job}
 
 -- The order of a run whose first picks are those of worker threads is these, completed: behind them the thread of the
 -- earliest call in trace order that hasn't ended is picked.
-abbrev pub IsCompleted : Schedule → Job → List ℕ → Type 0
-IsCompleted InTurn job order = Unit {0}
-IsCompleted (ByFile file) job order = Unit {0}
-IsCompleted (ByThreads locks) job order = order ≡ completed (allocator.rules job.input) (allocator.turns job.input) job.input.asked.config.events job.picks
+abbrev pub IsCompleted : Machine → Schedule → Job → List ℕ → Type 0
+IsCompleted m InTurn job order = Unit {0}
+IsCompleted m (ByFile file) job order = Unit {0}
+IsCompleted m (ByThreads locks) job order = order ≡ completed (m.rules job.input) (turns job.input.asked) job.input.asked.config.events job.picks
 
 -- as many picks moved as may, which is the number told, and one pick more would move
 pub record IsFull {P L : Type 0} (r : Rules P L) (events : ℕ) (order : List ℕ) (ticket : ℕ) : Type 0 where
@@ -29,7 +30,7 @@ abbrev pub IsFilled : {P L : Type 0} → (Input → Rules P L) → Input → End
 IsFilled rules input (Full ticket) order = IsFull (rules input) input.asked.config.events order ticket
 IsFilled rules input end order = Unit {0}
 
-pub record IsOrderOf (schedule : Schedule) (job : Job) (end : End) (order : List ℕ) : Type 0 where
-  pub whole : order ≡ order_of_job job
-  pub completed : IsCompleted schedule job order
-  pub filled : IsFilled allocator.rules job.input end order
+pub record IsOrderOf (m : Machine) (schedule : Schedule) (job : Job) (end : End) (order : List ℕ) : Type 0 where
+  pub whole : order ≡ order_of_job m job
+  pub completed : IsCompleted m schedule job order
+  pub filled : IsFilled m.rules job.input end order

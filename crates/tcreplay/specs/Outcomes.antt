@@ -9,7 +9,7 @@ use Rattle.tcreplay.specs.Tasks.{Replay, Audit, Task, ToReplay, ToGenerate, ToAu
 use Rattle.tcreplay.specs.Verdict.{Given, job_of}
 use Rattle.tcreplay.specs.Reads.{HaveCome}
 use Rattle.tcreplay.specs.Writes.{Writing, Ends, IsNoted}
-use Rattle.tcreplay.specs.Replayed.{HasTried, verdict_on}
+use Rattle.tcreplay.specs.Replayed.{HasTried, runs, verdict_on}
 use Rattle.tcreplay.specs.Generating.{HasGenerated, IsGenerationToldBy}
 use Rattle.tcreplay.specs.Auditing.{HasAudited, audit_verdict}
 
@@ -45,7 +45,7 @@ given_by replay all text came = record { table = get all replay.classes; trace =
 -- is so
 pub record IsToldBy (replay : Replay) (all : Files) (text : List ℕ) (end : End) (order : List ℕ) : Type 0 where
   pub came : List ℕ
-  pub made : HaveCome replay.schedule (job_of replay (given_by replay all text came)) came
+  pub made : HaveCome (runs replay) replay.schedule (job_of replay (given_by replay all text came)) came
   pub end_is : end ≡ (verdict_on replay (given_by replay all text came)).end
   pub order_is : order ≡ (verdict_on replay (given_by replay all text came)).order
 

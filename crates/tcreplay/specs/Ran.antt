@@ -1,19 +1,19 @@
 -- What a run came to.
-use Rattle.std.specs.Prelude.{◌≡◌, ℕ, ◌≤◌, List, length, All}
+use Rattle.std.specs.Prelude.{◌≡◌, ℕ, ◌≤◌, List, length, All, Some}
 use Rattle.tc_model.specs.declared.answers.CallLine.{CallLine}
 use Rattle.tc_model.specs.declared.answers.Finished.{Finished}
 use Rattle.tc_model.specs.Input.{Input}
 use Rattle.tc_model.specs.Run.{Rules, start}
 use Rattle.tc_model.specs.Chains.{IsPolite}
-use Rattle.cpu_rows.specs.Machine as allocator
+use Rattle.alloc_rules.specs.Told.{TellsScripts}
 use Rattle.tcreplay.specs.declared.run.Ran.{Ran}
 use Rattle.tcreplay.specs.declared.run.Telling.{Telling}
+use Rattle.tcreplay.specs.declared.task.Locks.{Locks}
 use Rattle.tcreplay.specs.declared.run.Telling.TheVariants.{Whole, Summary}
 use Rattle.tcreplay.specs.declared.outcome.End.TheVariants.{Done}
 use Rattle.tcreplay.specs.Verdict.{Verdict, order_by, judged_by, text_with}
 use Rattle.tcreplay.specs.Auditing.{plan_in}
-use Rattle.cpu_front.specs.Machine.{finished_in}
-use Rattle.cpu_front.specs.Machine.{IsLawful}
+use Rattle.tcreplay.specs.Machines.{Machine}
 use Rattle.usage_report.specs.Report.{IsTellable}
 use Rattle.journal_audit.specs.Rules.{journal_of}
 use Rattle.journal_audit.specs.Legal.{IsLegal}
@@ -35,23 +35,26 @@ module _ {P L : Type 0} (rules : Input → Rules P L) (told : Input → List ℕ
   IsJournal (Whole rows) input order = IsLegal (plan_in input) (journal_of (text_with rows (told input order)))
   IsJournal Summary input order = Unit {0}
 
-  -- what the run of an order came to: the verdict on it, its law, and where it has ended, that what is told is legal
+  -- What the run of an order came to: the verdict on it, its law, and where it has ended, that the calls which are told of each
+  -- thread are its whole script, and that what is told is legal.
   pub record IsRunOf (telling : Telling) (input : Input) (order : List ℕ) (ran : Ran) : Type 0 where
     pub is : seen_ran ran ≡ judged_by rules told telling input order
     pub law : lawful input order
     pub filled : IsFilled rules input ran.end order
+    pub scripts : ran.end ≡ Done → TellsScripts input.asked (told input order).calls
     pub journal : ran.end ≡ Done → IsJournal telling input order
 
-  -- what the run of an order came to that threads began and that was completed
-  pub record IsRunByThreads (telling : Telling) (input : Input) (ran : Ran) : Type 0 where
+  -- what the run of an order came to that threads began under these locks and that was completed
+  pub record IsRunByThreads (locks : Locks) (telling : Telling) (input : Input) (ran : Ran) : Type 0 where
+    pub under : ran.under ≡ Some locks
     pub came : List ℕ
     pub polite : IsPolite (rules input) (start (rules input)) came
     pub few : length came ≤ input.asked.config.events
     pub whole : IsRunOf telling input (order_by rules (record { input = input; picks = came })) ran
 
--- over the per-CPU caches
-abbrev pub IsRan : Telling → Input → List ℕ → Ran → Type 0
-IsRan = IsRunOf allocator.rules finished_in IsLawful
+-- over a machine
+abbrev pub IsRan : Machine → Telling → Input → List ℕ → Ran → Type 0
+IsRan m = IsRunOf m.rules m.told m.lawful
 
-abbrev pub IsRanByThreads : Telling → Input → Ran → Type 0
-IsRanByThreads = IsRunByThreads allocator.rules finished_in IsLawful
+abbrev pub IsRanByThreads : Machine → Locks → Telling → Input → Ran → Type 0
+IsRanByThreads m = IsRunByThreads m.rules m.told m.lawful

@@ -13,12 +13,13 @@ use Rattle.tc_ports.specs.declared.shelf.LoadFault.{LoadFault}
 use Rattle.tc_ports.specs.declared.shelf.LoadFault.TheVariants as load
 use Rattle.tc_ports.specs.Shelves.{Files}
 use Rattle.trace_reader.specs.declared.trace.Trace.{Trace}
-use Rattle.cpu_rows.specs.Machine as allocator
-use Rattle.cpu_rows.specs.Switches.{SwitchesAreFew}
+use Rattle.alloc_rules.specs.Inputs.{not_taken}
 use Rattle.tc_machine.specs.Inputs.{IsRead, asked_of, input_of}
 use Rattle.tcreplay.specs.declared.outcome.End.{End}
 use Rattle.tcreplay.specs.declared.outcome.End.TheVariants.{Done, BadTrace, ReadFault, WriteFault, Memory, TooLong, Full, BadOrder, FileFault, AuditNo}
 use Rattle.tcreplay.specs.declared.input.Job.{Job}
+use Rattle.tcreplay.specs.declared.machines.Front.{Front}
+use Rattle.tcreplay.specs.Machines.{Machine, machine_of}
 use Rattle.tcreplay.specs.Tasks.{Replay, Schedule, InTurn, ByFile, ByThreads, file_of}
 use Rattle.tcreplay.specs.Verdict.{Given, trace_limit, rows_in, asked_in, picks_in, job_of, read_of, and_then}
 use Rattle.tcreplay.specs.Verdict as verdict
@@ -103,28 +104,28 @@ is_behind_run (Full ticket) = true
 is_behind_run (AuditNo line why) = true
 is_behind_run end = false
 
--- the trace that was left gave what it asks for under these rows
-pub record IsTraceRead (rows : List ClassRow) (before after : Reading) (result : Result Trace End) : Type 0 where
+-- the trace that was left gave what it asks for under these rows, of the machine that is to run it, where one is
+pub record IsTraceRead (runner : Option Front) (rows : List ClassRow) (before after : Reading) (result : Result Trace End) : Type 0 where
   pub text : List ℕ
   pub told : IfSome before.left (λ bytes. text ≡ bytes)
-  pub step : IsStep asked_of (asked_in rows text) ReadFault before.faults after.faults result
+  pub step : IsStep asked_of (asked_in runner rows text) ReadFault before.faults after.faults result
   pub lost : LostAtMost before.left after.left (most_gone (end_of result))
   pub reads : after.reads ≤ before.reads + trace_limit + 1
   pub drained : is_behind_trace (end_of result) ≡ true → IfSome after.left (λ rest. rest ≡ [])
 
--- Picks that threads made under locks: each of them moved and was polite, they are no more than may move, and few threads
--- switched in.
-pub record IsMadeOf (input : Input) (picks : List ℕ) : Type 0 where
-  pub polite : IsPolite (allocator.rules input) (start (allocator.rules input)) picks
+-- Picks that a machine's threads made under locks: each of them moved and was polite, they are no more than may move, and
+-- what holds besides of such picks holds of them.
+pub record IsMadeOf (m : Machine) (input : Input) (picks : List ℕ) : Type 0 where
+  pub polite : IsPolite (m.rules input) (start (m.rules input)) picks
   pub few : length picks ≤ input.asked.config.events
-  pub switches : SwitchesAreFew (allocator.rules input) picks
+  pub made : m.made input picks
 
 -- the picks that came from worker threads; where none are asked for, there are none
-abbrev pub HaveCome : Schedule → Result verdict.Job End → List ℕ → Type 0
-HaveCome InTurn job picks = picks ≡ []
-HaveCome (ByFile order) job picks = picks ≡ []
-HaveCome (ByThreads locks) (Ok job) picks = IsMadeOf job.input picks
-HaveCome (ByThreads locks) (Err end) picks = picks ≡ []
+abbrev pub HaveCome : Machine → Schedule → Result verdict.Job End → List ℕ → Type 0
+HaveCome m InTurn job picks = picks ≡ []
+HaveCome m (ByFile order) job picks = picks ≡ []
+HaveCome m (ByThreads locks) (Ok job) picks = IsMadeOf m job.input picks
+HaveCome m (ByThreads locks) (Err end) picks = picks ≡ []
 
 -- what the inputs gave is what they tell, where they tell it: the class table, the trace, and the file that is loaded
 -- behind it, where one is named
@@ -136,26 +137,26 @@ pub record AreTold (classes : List ℕ) (named : Option (List ℕ)) (files : Opt
 -- and what came is what worker threads made
 pub record AreGiven (replay : Replay) (files : Option Files) (left : Option (List ℕ)) (given : Given) : Type 0 where
   pub told : AreTold replay.classes (file_of replay.schedule) files left given
-  pub came : HaveCome replay.schedule (job_of replay given) given.came
+  pub came : HaveCome (machine_of replay.front) replay.schedule (job_of replay given) given.came
 
 -- what the trace asks for, where the class table and the trace give it
-abbrev pub asked_by : Given → Result Asked End
-asked_by given = and_then (λ rows. asked_in rows given.trace) (rows_in given.table)
+abbrev pub asked_by : Option Front → Given → Result Asked End
+asked_by runner given = and_then (λ rows. asked_in runner rows given.trace) (rows_in given.table)
 
 -- What may come in place of the definitions' end: memory ran out, or a call of an end failed, so that its count of
 -- faults rose, behind steps that gave what it needs. The first load is that of the class table; a further file is loaded
 -- behind a good table and a good trace.
-abbrev pub CutOff : Given → Reading → Reading → Shelving → Shelving → End → Type 0
-CutOff given t u f g Memory = Unit {0}
-CutOff given t u f g ReadFault = Rose t.faults u.faults × IsOk (rows_in given.table)
-CutOff given t u f g FileFault = Rose f.faults g.faults × (((g.loads ≡ one_more f.loads) × (u ≡ t)) ⊎ IsOk (asked_by given))
-CutOff given t u f g end = ⊥
+abbrev pub CutOff : Option Front → Given → Reading → Reading → Shelving → Shelving → End → Type 0
+CutOff runner given t u f g Memory = Unit {0}
+CutOff runner given t u f g ReadFault = Rose t.faults u.faults × IsOk (rows_in given.table)
+CutOff runner given t u f g FileFault = Rose f.faults g.faults × (((g.loads ≡ one_more f.loads) × (u ≡ t)) ⊎ IsOk (asked_by runner given))
+CutOff runner given t u f g end = ⊥
 
 -- a further file was loaded behind the class table: one is named, and the trace was good and read to its end
-pub record IsFileLoaded (file : Option (List ℕ)) (given : Given) (u : Reading) (f g : Shelving) : Type 0 where
+pub record IsFileLoaded (runner : Option Front) (file : Option (List ℕ)) (given : Given) (u : Reading) (f g : Shelving) : Type 0 where
   pub twice : g.loads ≡ one_more (one_more f.loads)
   pub named : IsSome file
-  pub good : IsOk (asked_by given)
+  pub good : IsOk (asked_by runner given)
   pub drained : IfSome u.left (λ rest. rest ≡ [])
 
 -- how often files were loaded where all was: the class table once, and a further file once where one is named
@@ -177,11 +178,11 @@ pub record IsAllRead (file : Option (List ℕ)) (u : Reading) (f g : Shelving) :
 -- What was read at an end, where a further file is named or none: each input once at most, up to its limit, and not before
 -- its step; behind a run or an audit, and where the further file ends the work, all was read. A count of faults rose only
 -- where that is the end.
-pub record HasRead (file : Option (List ℕ)) (given : Given) (t u : Reading) (f g : Shelving) (end : End) : Type 0 where
+pub record HasRead (runner : Option Front) (file : Option (List ℕ)) (given : Given) (t u : Reading) (f g : Shelving) (end : End) : Type 0 where
   pub files : g.files ≡ f.files
-  pub loads : (g.loads ≡ one_more f.loads) ⊎ IsFileLoaded file given u f g
+  pub loads : (g.loads ≡ one_more f.loads) ⊎ IsFileLoaded runner file given u f g
   pub behind_run : is_behind_run end ≡ true → IsAllRead file u f g
-  pub behind_file : is_of_file end ≡ true → IsOk (asked_by given) → (Rose f.faults g.faults → ⊥) → IsAllRead file u f g
+  pub behind_file : is_of_file end ≡ true → IsOk (asked_by runner given) → (Rose f.faults g.faults → ⊥) → IsAllRead file u f g
   pub file_count : IsCounted FileFault end f.faults g.faults
   pub untouched : IsErr (rows_in given.table) → u ≡ t
   pub lost : LostAtMost t.left u.left (most_gone end)
@@ -193,25 +194,30 @@ pub record HasRead (file : Option (List ℕ)) (given : Given) (t u : Reading) (f
 abbrev pub seen_job : Job → verdict.Job
 seen_job job = record { input = input_of job.table job.trace; picks = job.picks.items }
 
+-- the machine that is to run a trace, where one is, takes each of its calls
+abbrev pub IsTakenBy : Option Front → Trace → Type 0
+IsTakenBy None trace = Unit {0}
+IsTakenBy (Some front) trace = not_taken (machine_of front).takes (asked_of trace).calls ≡ 0
+
 -- what the machine asks of a job: its trace was read, and the picks are of threads that there are
 pub record IsRunnable (job : Job) : Type 0 where
   pub read : IsRead (length job.table) job.trace (asked_of job.trace)
   pub picks : All (λ thread. thread < job.trace.config.threads) job.picks.items
 
 -- what the inputs give together, or why they don't
-abbrev pub IsReadAs : {J K : Type 0} → (K → J) → Result J End → Given → Reading → Reading → Shelving → Shelving → Result K End → Type 0
-IsReadAs seen verdict given t u f g (Ok gave) = verdict ≡ Ok (seen gave)
-IsReadAs seen verdict given t u f g (Err end) = (verdict ≡ Err end) ⊎ CutOff given t u f g end
+abbrev pub IsReadAs : {J K : Type 0} → Option Front → (K → J) → Result J End → Given → Reading → Reading → Shelving → Shelving → Result K End → Type 0
+IsReadAs runner seen verdict given t u f g (Ok gave) = verdict ≡ Ok (seen gave)
+IsReadAs runner seen verdict given t u f g (Err end) = (verdict ≡ Err end) ⊎ CutOff runner given t u f g end
 
 -- The inputs were read, the class table of this file, the trace, and a further file where one is named, and gave what comes
 -- of them together. No thread has run.
-pub record AreRead {J K : Type 0} (seen : K → J) (verdict : Given → Result J End) (classes : List ℕ) (file : Option (List ℕ)) (t u : Reading) (f g : Shelving) (result : Result K End) : Type 0 where
+pub record AreRead {J K : Type 0} (runner : Option Front) (seen : K → J) (verdict : Given → Result J End) (classes : List ℕ) (file : Option (List ℕ)) (t u : Reading) (f g : Shelving) (result : Result K End) : Type 0 where
   pub given : Given
   pub told : AreTold classes file f.files t.left given
   pub none_came : given.came ≡ []
-  pub answer : IsReadAs seen (verdict given) given t u f g result
-  pub read : HasRead file given t u f g (end_of result)
+  pub answer : IsReadAs runner seen (verdict given) given t u f g result
+  pub read : HasRead runner file given t u f g (end_of result)
 
 -- of a replay
 abbrev pub IsJobRead : Replay → Reading → Reading → Shelving → Shelving → Result Job End → Type 0
-IsJobRead replay t u f g result = AreRead seen_job (job_of replay) replay.classes (file_of replay.schedule) t u f g result
+IsJobRead replay t u f g result = AreRead (Some replay.front) seen_job (job_of replay) replay.classes (file_of replay.schedule) t u f g result

@@ -1,33 +1,34 @@
 -- What a replay makes of its ends, and what it answers: that is its verdict, or something came between.
-use Rattle.std.specs.Prelude.{◌≡◌, ℕ, ◌<◌, ◌⊎◌, true, List, [], Ok}
+use Rattle.std.specs.Prelude.{◌≡◌, ℕ, ◌⊎◌, true, List, [], Some, Ok}
 use Rattle.tc_model.specs.Run.{run}
 use Rattle.tc_model.specs.Replays.{HaveEnded}
 use Rattle.tc_ports.specs.Told.{Took}
-use Rattle.cpu_rows.specs.Machine as allocator
-use Rattle.alloc_rules.specs.Told.{TellsScript}
-use Rattle.cpu_front.specs.Machine.{finished_in}
+use Rattle.alloc_rules.specs.Told.{TellsScripts}
 use Rattle.journal_audit.specs.Rules.{journal_of}
 use Rattle.journal_audit.specs.Legal.{IsLegal}
 use Rattle.tcreplay.specs.declared.run.Telling.TheVariants.{Whole}
 use Rattle.tcreplay.specs.declared.outcome.End.{End}
 use Rattle.tcreplay.specs.declared.outcome.End.TheVariants.{Done, WriteFault}
 use Rattle.tcreplay.specs.Tasks.{Replay, file_of}
+use Rattle.tcreplay.specs.Machines.{Machine, machine_of}
 use Rattle.tcreplay.specs.Verdict.{Given, Job, Verdict, job_of, order_of_job, run_verdict, text_with}
 use Rattle.tcreplay.specs.Reads.{Reading, Shelving, AreGiven, CutOff, HasRead, is_behind_run}
 use Rattle.tcreplay.specs.Writes.{Writing, IsWritten}
-use Rattle.cpu_front.specs.Machine.{IsLawful}
 use Rattle.tcreplay.specs.Order.{IsOrderOf}
 use Rattle.tcreplay.specs.Auditing.{plan_in}
 
--- what a replay comes to, over what its inputs gave
+-- the machine of a replay, and what that comes to over what its inputs gave
+abbrev pub runs : Replay → Machine
+runs replay = machine_of replay.front
+
 abbrev pub verdict_on : Replay → Given → Verdict
-verdict_on replay given = run_verdict (Whole replay.rows) (job_of replay given)
+verdict_on replay given = run_verdict (runs replay) (Whole replay.rows) (job_of replay given)
 
 -- The answer is the verdict; or what it reads was cut off; or a text that was to be written wasn't taken.
 abbrev pub IsAnswer : Replay → Given → Reading → Reading → Shelving → Shelving → End → List ℕ → Type 0
 IsAnswer replay given t u f g end order =
     ((end ≡ (verdict_on replay given).end) × (order ≡ (verdict_on replay given).order))
-    ⊎ (((order ≡ []) × CutOff given t u f g end)
+    ⊎ (((order ≡ []) × CutOff (Some replay.front) given t u f g end)
     ⊎ ((end ≡ WriteFault) × (order ≡ (verdict_on replay given).order) × ((verdict_on replay given).end ≡ Done)))
 
 -- The headline. What is printed is the text of the order that is answered with it; that order is the order file's, or the
@@ -36,20 +37,20 @@ IsAnswer replay given t u f g end order =
 pub record IsHeadline (replay : Replay) (given : Given) (before after : Writing) (order : List ℕ) : Type 0 where
   pub job : Job
   pub asked : job_of replay given ≡ Ok job
-  pub order_is : order ≡ order_of_job job
-  pub ended : HaveEnded (allocator.rules job.input) (run (allocator.rules job.input) order)
-  pub told : (t : ℕ) → t < job.input.asked.config.threads → TellsScript job.input.asked t (finished_in job.input order).calls
-  pub text : Took before.taken after.taken (text_with replay.rows (finished_in job.input order))
-  pub journal : IsLegal (plan_in job.input) (journal_of (text_with replay.rows (finished_in job.input order)))
-  pub law : IsLawful job.input order
+  pub order_is : order ≡ order_of_job (runs replay) job
+  pub ended : HaveEnded ((runs replay).rules job.input) (run ((runs replay).rules job.input) order)
+  pub told : TellsScripts job.input.asked ((runs replay).told job.input order).calls
+  pub text : Took before.taken after.taken (text_with replay.rows ((runs replay).told job.input order))
+  pub journal : IsLegal (plan_in job.input) (journal_of (text_with replay.rows ((runs replay).told job.input order)))
+  pub law : (runs replay).lawful job.input order
 
 -- A replay was tried, with its trace, its files and its output before and after.
 pub record HasTried (replay : Replay) (t u : Reading) (f g : Shelving) (before after : Writing) (end : End) (order : List ℕ) : Type 0 where
   pub given : Given
   pub told : AreGiven replay f.files t.left given
   pub answer : IsAnswer replay given t u f g end order
-  pub read : HasRead (file_of replay.schedule) given t u f g end
+  pub read : HasRead (Some replay.front) (file_of replay.schedule) given t u f g end
   pub out : IsWritten end (verdict_on replay given).text before after
-  pub law : is_behind_run end ≡ true → (job : Job) → job_of replay given ≡ Ok job → IsLawful job.input order
-  pub run : is_behind_run end ≡ true → (job : Job) → job_of replay given ≡ Ok job → IsOrderOf replay.schedule job end order
+  pub law : is_behind_run end ≡ true → (job : Job) → job_of replay given ≡ Ok job → (runs replay).lawful job.input order
+  pub run : is_behind_run end ≡ true → (job : Job) → job_of replay given ≡ Ok job → IsOrderOf (runs replay) replay.schedule job end order
   pub headline : end ≡ Done → IsHeadline replay given before after order

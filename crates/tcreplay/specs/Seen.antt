@@ -1,4 +1,4 @@
--- Options, commands and their work as the grammar has them: names are bytes.
+-- Options and what a command comes to as the grammar has them: names are bytes.
 use Rattle.std.specs.Prelude.{option_map}
 use Rattle.tcreplay.specs.Words as words
 use Rattle.tcreplay.specs.Tasks as tasks
@@ -10,14 +10,13 @@ use Rattle.tcreplay.specs.declared.task.Task.{Task}
 use Rattle.tcreplay.specs.declared.task.Task.TheVariants as task
 use Rattle.tcreplay.specs.declared.task.Schedule.{Schedule}
 use Rattle.tcreplay.specs.declared.task.Schedule.TheVariants.{InTurn, ByFile, ByThreads}
-use Rattle.tcreplay.specs.declared.words.Command.{Command}
-use Rattle.tcreplay.specs.declared.words.Command.TheVariants as command
 
 abbrev pub seen : Options → words.Options
 seen o = record {
   classes = option_map (λ name. name.now) o.classes;
   order = option_map (λ name. name.now) o.order;
   locks = o.locks;
+  workers = o.workers;
   rows = o.rows;
   seed = o.seed;
   calls = o.calls;
@@ -25,20 +24,13 @@ seen o = record {
   journal = option_map (λ name. name.now) o.journal;
 }
 
-abbrev pub seen_command : Command → words.Command
-seen_command (command.Serial classes rows) = words.Serial classes.now rows
-seen_command (command.Order classes order rows) = words.Order classes.now order.now rows
-seen_command (command.Workers classes locks rows) = words.Workers classes.now locks rows
-seen_command (command.Gen classes seed calls threads) = words.Gen classes.now seed calls threads
-seen_command (command.Audit classes journal) = words.Audit classes.now journal.now
-
 abbrev pub seen_schedule : Schedule → tasks.Schedule
 seen_schedule InTurn = tasks.InTurn
 seen_schedule (ByFile order) = tasks.ByFile order.now
 seen_schedule (ByThreads locks) = tasks.ByThreads locks
 
 abbrev pub seen_replay : Replay → tasks.Replay
-seen_replay r = record { classes = r.classes.now; schedule = seen_schedule r.schedule; rows = r.rows }
+seen_replay r = record { front = r.front; classes = r.classes.now; schedule = seen_schedule r.schedule; rows = r.rows }
 
 abbrev pub seen_workload : Workload → tasks.Workload
 seen_workload r = record { classes = r.classes.now; seed = r.seed; calls = r.calls; threads = r.threads }

@@ -1,8 +1,7 @@
 -- What a command comes to: a trace is replayed, or one is generated and replayed, or a journal of its calls is judged.
-use Rattle.std.specs.Prelude.{ℕ, ◌≤◌, Bool, List, Option, Some, None, option_map, option_and_then}
-use Rattle.tcreplay.specs.declared.words.Locks.{Locks}
-use Rattle.tcreplay.specs.Words as words
-use Rattle.tcreplay.specs.Words.{Command, Serial, Order, Workers, Gen, command_of}
+use Rattle.std.specs.Prelude.{ℕ, ◌≤◌, Bool, List, Option, Some, None, option_and_then}
+use Rattle.tcreplay.specs.declared.machines.Front.{Front}
+use Rattle.tcreplay.specs.declared.task.Locks.{Locks}
 
 -- Which picks a replay makes before it goes on in trace order: none, those of an order file, or those of a running thread
 -- for each thread of the trace, under such locks.
@@ -21,8 +20,10 @@ locks_in InTurn = None
 locks_in (ByFile order) = None
 locks_in (ByThreads locks) = Some locks
 
--- the replay of a trace: the file of the class table, which picks come first, and whether the rows are printed
+-- the replay of a trace: what serves small objects first, the file of the class table, which picks come first, and whether
+-- the rows are printed
 pub record Replay : Type 0 where
+  pub front : Front
   pub classes : List ℕ
   pub schedule : Schedule
   pub rows : Bool
@@ -45,17 +46,6 @@ pub data Task : Type 0 where
   ToReplay : Replay → Task
   ToGenerate : Workload → Task
   ToAudit : Audit → Task
-
-abbrev pub task_of : Command → Task
-task_of (Serial classes rows) = ToReplay (record { classes = classes; schedule = InTurn; rows = rows })
-task_of (Order classes order rows) = ToReplay (record { classes = classes; schedule = ByFile order; rows = rows })
-task_of (Workers classes locks rows) = ToReplay (record { classes = classes; schedule = ByThreads locks; rows = rows })
-task_of (Gen classes seed calls threads) = ToGenerate (record { classes = classes; seed = seed; calls = calls; threads = threads })
-task_of (words.Audit classes journal) = ToAudit (record { classes = classes; journal = journal })
-
--- what the words ask for, where they are in the grammar
-abbrev pub task_by : List (List ℕ) → Option Task
-task_by words = option_map task_of (command_of words)
 
 -- the locks of the worker threads that are asked for, where any are
 abbrev pub task_locks : Task → Option Locks

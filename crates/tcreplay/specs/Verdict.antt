@@ -5,25 +5,27 @@ use Rattle.std.specs.List.{list_all}
 use Rattle.tc_units.specs.declared.spans.ClassRow.{ClassRow}
 use Rattle.tc_units.specs.declared.rows.RowView.{RowView}
 use Rattle.tc_model.specs.declared.answers.Finished.{Finished}
-use Rattle.tc_model.specs.Input.{Input, Asked}
+use Rattle.tc_model.specs.Input.{Input, Asked, scripts_of}
 use Rattle.tc_model.specs.Run.{Rules, World, run}
 use Rattle.tc_model.specs.Serial.{order_of}
 use Rattle.size_classes.specs.declared.fault.TableFault.{TableFault}
 use Rattle.size_classes.specs.declared.fault.TableFault.TheVariants as table
 use Rattle.size_classes.specs.Table.{table_of}
 use Rattle.trace_reader.specs.declared.why.LineWhy.{LineWhy}
+use Rattle.trace_reader.specs.declared.why.LineWhy.TheVariants.{NotHere}
 use Rattle.trace_reader.specs.declared.why.OrderWhy.{OrderWhy}
 use Rattle.trace_reader.specs.Reading.{BadLine, asked_by}
 use Rattle.trace_reader.specs.Orders.{picks_by}
 use Rattle.alloc_rules.specs.Machine.{turns}
-use Rattle.cpu_rows.specs.Machine as allocator
-use Rattle.cpu_front.specs.Machine.{finished_in}
+use Rattle.tc_machine.specs.Taken.{refused_line}
 use Rattle.usage_report.specs.Report.{text_of, summary_of}
 use Rattle.tcreplay.specs.declared.run.Telling.{Telling}
 use Rattle.tcreplay.specs.declared.run.Telling.TheVariants.{Whole, Summary}
 use Rattle.tcreplay.specs.declared.outcome.End.{End}
 use Rattle.tcreplay.specs.declared.outcome.End.TheVariants.{Done, BadTable, BadTrace, Memory, TooLong, Full, BadOrder, FileFault}
+use Rattle.tcreplay.specs.declared.machines.Front.{Front}
 use Rattle.tcreplay.specs.Tasks.{Replay, file_of}
+use Rattle.tcreplay.specs.Machines.{Machine, machine_of}
 
 -- a step behind one that gave what it needs
 abbrev pub and_then : {A B : Type 0} → (A → Result B End) → Result A End → Result B End
@@ -66,8 +68,21 @@ trace_end bad = BadTrace bad.line bad.why
 abbrev pub asked_of_text : List ClassRow → List ℕ → Result Asked End
 asked_of_text rows text = or_end trace_end (asked_by (length rows) text)
 
-abbrev pub asked_in : List ClassRow → List ℕ → Result Asked End
-asked_in rows bytes = and_then (asked_of_text rows) (within trace_limit bytes)
+-- of which a machine that is to run it takes each call, or the first that it doesn't take ends the work; no machine runs
+-- the trace of a journal
+abbrev pub unless_refused : Asked → Option ℕ → Result Asked End
+unless_refused asked None = Ok asked
+unless_refused asked (Some line) = Err (BadTrace line NotHere)
+
+abbrev pub taken_by : Option Front → Asked → Result Asked End
+taken_by None asked = Ok asked
+taken_by (Some front) asked = unless_refused asked (refused_line (machine_of front).takes (scripts_of asked))
+
+abbrev pub asked_for : Option Front → List ClassRow → List ℕ → Result Asked End
+asked_for runner rows text = and_then (taken_by runner) (asked_of_text rows text)
+
+abbrev pub asked_in : Option Front → List ClassRow → List ℕ → Result Asked End
+asked_in runner rows bytes = and_then (asked_for runner rows) (within trace_limit bytes)
 
 -- the order file: the thread of each of its picks, or its first bad line
 abbrev pub order_end : BadLine OrderWhy → End
@@ -85,8 +100,8 @@ pub record Given : Type 0 where
   pub came : List ℕ
 
 -- what comes of the class table, the trace and what is behind them together
-abbrev pub read_of : {J : Type 0} → (Given → List ClassRow → Asked → Result J End) → Given → Result J End
-read_of behind given = and_then (λ rows. and_then (behind given rows) (asked_in rows given.trace)) (rows_in given.table)
+abbrev pub read_of : {J : Type 0} → Option Front → (Given → List ClassRow → Asked → Result J End) → Given → Result J End
+read_of runner behind given = and_then (λ rows. and_then (behind given rows) (asked_in runner rows given.trace)) (rows_in given.table)
 
 -- what is run, and the picks that come first: those of the order file, where one is named, and else those that came
 pub record Job : Type 0 where
@@ -101,7 +116,7 @@ abbrev pub job_with : Replay → Given → List ClassRow → Asked → Result Jo
 job_with replay given rows asked = and_then (λ picks. Ok (record { input = record { rows = rows; asked = asked }; picks = picks })) (picks_or (file_of replay.schedule) asked.config.threads given.file given.came)
 
 abbrev pub job_of : Replay → Given → Result Job End
-job_of replay = read_of (job_with replay)
+job_of replay = read_of (Some replay.front) (job_with replay)
 
 -- how the work ends where no call of an end fails and memory suffices, the order of the picks that moved, and the text
 pub record Verdict : Type 0 where
@@ -146,13 +161,13 @@ module _ {P L : Type 0} (rules : Input → Rules P L) where
       then record { end = Done; order = order; text = told_by telling (told input order) }
       else record { end = Full input.asked.config.events; order = order; text = [] }
 
--- over the per-CPU caches
-abbrev pub order_of_job : Job → List ℕ
-order_of_job = order_by allocator.rules
+-- over a machine
+abbrev pub order_of_job : Machine → Job → List ℕ
+order_of_job m = order_by m.rules
 
-abbrev pub judged : Telling → Input → List ℕ → Verdict
-judged = judged_by allocator.rules finished_in
+abbrev pub judged : Machine → Telling → Input → List ℕ → Verdict
+judged m = judged_by m.rules m.told
 
-abbrev pub run_verdict : Telling → Result Job End → Verdict
-run_verdict telling (Err end) = refused end
-run_verdict telling (Ok job) = judged telling job.input (order_of_job job)
+abbrev pub run_verdict : Machine → Telling → Result Job End → Verdict
+run_verdict m telling (Err end) = refused end
+run_verdict m telling (Ok job) = judged m telling job.input (order_of_job m job)

@@ -2,8 +2,11 @@
 use Rattle.std.specs.Prelude.{ℕ, Bool, true, false, ◌==◌, not, nat_le, List, [], ◌∷◌, Option, Some, None, if◌then◌else◌, option_map, option_and_then, codes}
 use Rattle.std.specs.Str.{bytes_eq}
 use Rattle.tc_units.specs.Decimal.{number_of}
-use Rattle.tcreplay.specs.declared.words.Locks.{Locks}
-use Rattle.tcreplay.specs.declared.words.Locks.TheVariants.{One, Parts}
+use Rattle.tcreplay.specs.declared.machines.Front.{Front}
+use Rattle.tcreplay.specs.declared.machines.Front.TheVariants.{Cpus, Threads}
+use Rattle.tcreplay.specs.declared.task.Locks.{Locks}
+use Rattle.tcreplay.specs.declared.task.Locks.TheVariants.{One, Parts}
+use Rattle.tcreplay.specs.Tasks.{Schedule, InTurn, ByFile, ByThreads, Task, ToReplay, ToGenerate, ToAudit}
 use Rattle.tcreplay.specs.declared.words.Kind.{Kind}
 use Rattle.tcreplay.specs.declared.words.Kind.TheVariants as kind
 use Rattle.tcreplay.specs.declared.words.Flag.{Flag}
@@ -31,6 +34,7 @@ kind_of word =
     if bytes_eq word (codes "serial") then Some kind.Serial
     else if bytes_eq word (codes "order") then Some kind.Order
     else if bytes_eq word (codes "workers") then Some kind.Workers
+    else if bytes_eq word (codes "perthread") then Some kind.PerThread
     else if bytes_eq word (codes "gen") then Some kind.Gen
     else if bytes_eq word (codes "audit") then Some kind.Audit
     else None
@@ -41,6 +45,7 @@ flag_of word =
     if bytes_eq word (codes "--classes") then Some flag.Classes
     else if bytes_eq word (codes "--order") then Some flag.Order
     else if bytes_eq word (codes "--locks") then Some flag.Locks
+    else if bytes_eq word (codes "--workers") then Some flag.Workers
     else if bytes_eq word (codes "--rows") then Some flag.Rows
     else if bytes_eq word (codes "--seed") then Some flag.Seed
     else if bytes_eq word (codes "--calls") then Some flag.Calls
@@ -52,10 +57,13 @@ flag_of word =
 abbrev pub takes : Kind → Flag → Bool
 takes kind flag.Classes = true
 takes kind.Order flag.Order = true
+takes kind.PerThread flag.Order = true
 takes kind.Workers flag.Locks = true
+takes kind.PerThread flag.Workers = true
 takes kind.Serial flag.Rows = true
 takes kind.Order flag.Rows = true
 takes kind.Workers flag.Rows = true
+takes kind.PerThread flag.Rows = true
 takes kind.Gen flag.Seed = true
 takes kind.Gen flag.Calls = true
 takes kind.Gen flag.Threads = true
@@ -67,6 +75,7 @@ pub record Options : Type 0 where
   pub classes : Option (List ℕ)
   pub order : Option (List ℕ)
   pub locks : Option Locks
+  pub workers : Bool
   pub rows : Bool
   pub seed : Option ℕ
   pub calls : Option ℕ
@@ -74,7 +83,7 @@ pub record Options : Type 0 where
   pub journal : Option (List ℕ)
 
 abbrev pub no_options : Options
-no_options = record { classes = None; order = None; locks = None; rows = false; seed = None; calls = None; threads = None; journal = None }
+no_options = record { classes = None; order = None; locks = None; workers = false; rows = false; seed = None; calls = None; threads = None; journal = None }
 
 -- an option comes once, with a value that is its own
 abbrev pub once : {A : Type 0} → Option A → Option A → Option A
@@ -86,56 +95,70 @@ abbrev pub with_value : Options → Flag → List ℕ → Option Options
 with_value so flag.Classes word = option_map (λ name. record so { classes = Some name }) (once so.classes (name_of word))
 with_value so flag.Order word = option_map (λ name. record so { order = Some name }) (once so.order (name_of word))
 with_value so flag.Locks word = option_map (λ locks. record so { locks = Some locks }) (once so.locks (locks_of word))
+with_value so flag.Workers word = None
 with_value so flag.Rows word = None
 with_value so flag.Seed word = option_map (λ n. record so { seed = Some n }) (once so.seed (number_in 0 2147483647 word))
 with_value so flag.Calls word = option_map (λ n. record so { calls = Some n }) (once so.calls (number_in 1 500000 word))
 with_value so flag.Threads word = option_map (λ n. record so { threads = Some n }) (once so.threads (number_in 1 64 word))
 with_value so flag.Journal word = option_map (λ name. record so { journal = Some name }) (once so.journal (name_of word))
 
--- the options with the one that has no value
-abbrev pub with_rows : Options → Option Options
-with_rows so = if so.rows then None else Some (record so { rows = true })
+-- the options with one more that has no value
+abbrev pub with_switch : Options → Flag → Option Options
+with_switch so flag.Workers = if so.workers then None else Some (record so { workers = true })
+with_switch so flag.Rows = if so.rows then None else Some (record so { rows = true })
+with_switch so flag = None
 
 -- the option that a word names, where the command takes it
 abbrev pub taken_flag : Kind → List ℕ → Option Flag
 taken_flag kind word = option_and_then (λ flag. if takes kind flag then Some flag else None) (flag_of word)
 
--- whether a flag is the one without a value
-abbrev pub is_rows : Flag → Bool
-is_rows flag.Rows = true
-is_rows flag = false
+-- whether a flag has no value
+abbrev pub is_switch : Flag → Bool
+is_switch flag.Workers = true
+is_switch flag.Rows = true
+is_switch flag = false
 
 -- the options behind the command, in any sequence
 abbrev pub options_of : Kind → Options → List (List ℕ) → Option Options
 options_of kind so [] = Some so
-options_of kind so (word ∷ []) = option_and_then (λ flag. if is_rows flag then with_rows so else None) (taken_flag kind word)
+options_of kind so (word ∷ []) = option_and_then (λ flag. if is_switch flag then with_switch so flag else None) (taken_flag kind word)
 options_of kind so (word ∷ value ∷ words) =
-    option_and_then (λ flag. if is_rows flag
-    then option_and_then (λ more. options_of kind more (value ∷ words)) (with_rows so)
+    option_and_then (λ flag. if is_switch flag
+    then option_and_then (λ more. options_of kind more (value ∷ words)) (with_switch so flag)
     else option_and_then (λ more. options_of kind more words) (with_value so flag value)) (taken_flag kind word)
-
--- what a command line asks for: names of files are bytes
-pub data Command : Type 0 where
-  Serial : List ℕ → Bool → Command
-  Order : List ℕ → List ℕ → Bool → Command
-  Workers : List ℕ → Locks → Bool → Command
-  Gen : List ℕ → ℕ → ℕ → ℕ → Command
-  Audit : List ℕ → List ℕ → Command
 
 -- the locks of workers are one for each part, unless an option says it
 abbrev pub locks_or : Option Locks → Locks
 locks_or None = Parts
 locks_or (Some locks) = locks
 
--- a command with its options: all that it needs are there
-abbrev pub command_with : Kind → Options → Option Command
-command_with kind.Serial so = option_map (λ classes. Serial classes so.rows) so.classes
-command_with kind.Order so = option_and_then (λ classes. option_map (λ order. Order classes order so.rows) so.order) so.classes
-command_with kind.Workers so = option_map (λ classes. Workers classes (locks_or so.locks) so.rows) so.classes
-command_with kind.Gen so = option_and_then (λ classes. option_and_then (λ seed. option_and_then (λ calls. option_map (λ threads. Gen classes seed calls threads) so.threads) so.calls) so.seed) so.classes
-command_with kind.Audit so = option_and_then (λ classes. option_map (λ journal. Audit classes journal) so.journal) so.classes
+-- the picks that come first on a machine that takes an order file or worker threads, and not both
+abbrev pub schedule_with : Bool → Option (List ℕ) → Option Schedule
+schedule_with false None = Some InTurn
+schedule_with true None = Some (ByThreads Parts)
+schedule_with false (Some order) = Some (ByFile order)
+schedule_with true (Some order) = None
+
+abbrev pub schedule_by : Options → Option Schedule
+schedule_by so = schedule_with so.workers so.order
+
+-- the replay of a command with its options
+abbrev pub replay_with : Options → Front → List ℕ → Schedule → Task
+replay_with so front classes schedule = ToReplay (record { front = front; classes = classes; schedule = schedule; rows = so.rows })
+
+-- what a command with its options asks for, under a class table: all that it needs are there
+abbrev pub task_under : Kind → Options → List ℕ → Option Task
+task_under kind.Serial so classes = Some (replay_with so Cpus classes InTurn)
+task_under kind.Order so classes = option_map (λ order. replay_with so Cpus classes (ByFile order)) so.order
+task_under kind.Workers so classes = Some (replay_with so Cpus classes (ByThreads (locks_or so.locks)))
+task_under kind.PerThread so classes = option_map (replay_with so Threads classes) (schedule_by so)
+task_under kind.Gen so classes = option_and_then (λ seed. option_and_then (λ calls. option_map (λ threads. ToGenerate (record { classes = classes; seed = seed; calls = calls; threads = threads })) so.threads) so.calls) so.seed
+task_under kind.Audit so classes = option_map (λ journal. ToAudit (record { classes = classes; journal = journal })) so.journal
+
+abbrev pub task_with : Kind → Options → Option Task
+task_with kind so = option_and_then (task_under kind so) so.classes
 
 -- what the words ask for, where they are in the grammar
-abbrev pub command_of : List (List ℕ) → Option Command
-command_of [] = None
-command_of (word ∷ words) = option_and_then (λ kind. option_and_then (command_with kind) (options_of kind no_options words)) (kind_of word)
+abbrev pub task_by : List (List ℕ) → Option Task
+task_by [] = None
+task_by (word ∷ words) = option_and_then (λ kind. option_and_then (task_with kind) (options_of kind no_options words)) (kind_of word)

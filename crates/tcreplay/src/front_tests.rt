@@ -21,7 +21,7 @@ use std::process::Abort;
 use std::sync::Wait;
 use std::test::Fail;
 use std::thread::Threads;
-use tc_machine::{Allocator, takes_all};
+use tc_machine::{Allocator, refused_line};
 use tc_ports::{Gate, OpenGate};
 use thread_front::ThreadMachine;
 
@@ -135,7 +135,8 @@ fn job_of<M: Allocator>(
     let Ok(trace) = trace_of(alloc, &table, text) else {
         panic!(rt; "no trace");
     };
-    assert!(rt; takes_all::<M>(&trace));
+    let refused = refused_line::<M>(&trace);
+    assert!(rt; refused.is_none());
     let threads = u16::from(trace.config.threads);
     assert!(rt; picks.iter().all(|thread| *thread < threads));
     let picks = Vec::from_slice(alloc, picks)?;

@@ -85,6 +85,7 @@ fn write<K: Sink, N: Sink>(out: &mut K, notes: &mut N, trace: &[u8], ran: Ran) -
         end,
         order,
         text: summary,
+        ..
     } = ran;
     if end != End::Done {
         return Outcome::new(end, order);

@@ -1,20 +1,21 @@
 //! Reading what a replay or an audit works on, each input once and in its turn: the class table, the trace,
 //! and then the order file or the journal.
-ghost use Rattle.std.specs.Prelude.{◌≡◌, ◌<◌, All, IfOk, List, ℕ, Some, Vec, length, option_map};
+ghost use Rattle.std.specs.Prelude.{◌≡◌, ◌<◌, All, IfOk, List, ℕ, Some, None, Vec, length, option_map};
 ghost use Rattle.std.specs.Global.{Global as Memory};
 ghost use Rattle.tc_units.specs.declared.spans.ClassRow.{ClassRow};
 ghost use Rattle.tc_machine.specs.Inputs.{IsRead, asked_of};
 ghost use Rattle.tcreplay.specs.Seen.{seen_replay};
-ghost use Rattle.tcreplay.specs.Verdict.{file_within, rows_in, asked_of_text, picks_in};
-ghost use Rattle.tcreplay.specs.Reads.{load_end, IsLoad, ArePicks, IsPure, IsTraceRead, IsRunnable, IsJobRead, AreRead};
+ghost use Rattle.tcreplay.specs.Verdict.{file_within, rows_in, asked_of_text, asked_for, picks_in};
+ghost use Rattle.tcreplay.specs.Reads.{load_end, IsLoad, ArePicks, IsPure, IsTraceRead, IsTakenBy, IsRunnable, IsJobRead, AreRead};
 ghost use Rattle.tcreplay.specs.Auditing.{seen_case, case_in};
 
+use crate::machines::Front;
 use crate::outcome::End;
 use crate::task::{Audit, Replay};
 use size_classes::{ClassTable, TableFault};
 use std::alloc::Global;
 use tc_ports::{LoadFault, ReadAllFault, Shelf, Source, read_all};
-use trace_reader::{OrderFault, Trace, TraceFault, read_order, read_trace};
+use trace_reader::{LineWhy, OrderFault, Trace, TraceFault, read_order, read_trace};
 
 /// The most bytes of a class table (this project's own limit).
 const MOST_TABLE_BYTES: u64 = 65_536;
@@ -88,15 +89,43 @@ pub fn trace_of(alloc: Global, table: &ClassTable, text: &[u8]) -> Result<Trace,
     }
 }
 
-/// What the rest of a source asks for under a class table.
-fn load_trace<S: Source>(alloc: Global, table: &ClassTable, source: &mut S) -> Result<Trace, End>
-    ensures asked { IsTraceRead table.now
+/// What a text asks for of the machine that is to run it, where one is.
+fn trace_for(
+    alloc: Global,
+    runner: Option<Front>,
+    table: &ClassTable,
+    text: &[u8],
+) -> Result<Trace, End>
+    ensures asked { IsPure asked_of (asked_for runner table.now text.now) result }
+    ensures read { IfOk result (λ trace. IsRead (length table.now) trace (asked_of trace)) }
+    ensures taken { IfOk result (IsTakenBy runner) }
+{
+    let trace = trace_of(alloc, table, text)?;
+    let Some(front) = runner else {
+        return Ok(trace);
+    };
+    let why = LineWhy::NotHere;
+    match front.refused_line(&trace) {
+        None => Ok(trace),
+        Some(line) => Err(End::BadTrace { line, why }),
+    }
+}
+
+/// What the rest of a source asks for under a class table, of the machine that is to run it, where one is.
+fn load_trace<S: Source>(
+    alloc: Global,
+    runner: Option<Front>,
+    table: &ClassTable,
+    source: &mut S,
+) -> Result<Trace, End>
+    ensures asked { IsTraceRead runner table.now
         (record { left = S.left source.old; faults = S.faults source.old; reads = S.reads source.old })
         (record { left = S.left source.new; faults = S.faults source.new; reads = S.reads source.new }) result }
     ensures read { IfOk result (λ trace. IsRead (length table.now) trace (asked_of trace)) }
+    ensures taken { IfOk result (IsTakenBy runner) }
 {
     match read_all(alloc, source, MOST_TRACE_BYTES) {
-        Ok(text) => trace_of(alloc, table, &text),
+        Ok(text) => trace_for(alloc, runner, table, &text),
         Err(ReadAllFault::ReadFault) => Err(End::ReadFault),
         Err(ReadAllFault::TooLong) => {
             let limit = MOST_TRACE_BYTES;
@@ -157,9 +186,10 @@ pub fn read_job<S: Source, F: Shelf>(
         (record { files = F.files files.old; faults = F.faults files.old; loads = F.loads files.old })
         (record { files = F.files files.new; faults = F.faults files.new; loads = F.loads files.new }) result }
     ensures runnable { IfOk result IsRunnable }
+    ensures taken { IfOk result (λ job. IsTakenBy (Some replay.entry.front) job.trace) }
 {
     let table = load_table(alloc, replay.classes, files)?;
-    let trace = load_trace(alloc, &table, source)?;
+    let trace = load_trace(alloc, Some(replay.front), &table, source)?;
     let picks = load_picks(alloc, replay.schedule.file(), trace.config.threads, files)?;
     Ok(Job {
         table,
@@ -175,7 +205,7 @@ pub fn read_audit<S: Source, F: Shelf>(
     source: &mut S,
     files: &mut F,
 ) -> Result<AuditJob, End>
-    ensures read { AreRead seen_case case_in audit.entry.classes.now (Some audit.entry.journal.now)
+    ensures read { AreRead None seen_case case_in audit.entry.classes.now (Some audit.entry.journal.now)
         (record { left = S.left source.old; faults = S.faults source.old; reads = S.reads source.old })
         (record { left = S.left source.new; faults = S.faults source.new; reads = S.reads source.new })
         (record { files = F.files files.old; faults = F.faults files.old; loads = F.loads files.old })
@@ -183,7 +213,7 @@ pub fn read_audit<S: Source, F: Shelf>(
     ensures valid { IfOk result (λ job. IsRead (length job.table) job.trace (asked_of job.trace)) }
 {
     let table = load_table(alloc, audit.classes, files)?;
-    let trace = load_trace(alloc, &table, source)?;
+    let trace = load_trace(alloc, None, &table, source)?;
     let journal = load_file(alloc, audit.journal, MOST_TRACE_BYTES, files)?;
     Ok(AuditJob {
         table,

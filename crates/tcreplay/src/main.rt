@@ -13,8 +13,11 @@ mod generate;
 #[cfg(test)]
 mod generate_tests;
 mod input;
+mod machines;
 mod notes;
 mod outcome;
+#[cfg(test)]
+mod perthread_tests;
 mod replay;
 mod run;
 mod task;

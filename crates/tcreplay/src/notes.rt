@@ -51,6 +51,7 @@ fn line_word(why: LineWhy) -> &'static str
         LineWhy::LabelUsed => "labelused",
         LineWhy::LabelUnknown => "labelunknown",
         LineWhy::LabelFreed => "labelfreed",
+        LineWhy::NotHere => "nothere",
     }
 }
 

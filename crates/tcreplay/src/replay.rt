@@ -1,7 +1,8 @@
 //! The top calls: from words, files and a trace to bytes, a status and an order.
 ghost use Rattle.std.specs.Prelude.{◌≡◌, ◌↔◌, None, Some, map, IfSome, IfNone, IsSome, string_bytes};
 ghost use Rattle.tcreplay.specs.Status.{status_of};
-ghost use Rattle.tcreplay.specs.Tasks.{task_by, locks_in, threads_in};
+ghost use Rattle.tcreplay.specs.Tasks.{locks_in, threads_in};
+ghost use Rattle.tcreplay.specs.Words.{task_by};
 ghost use Rattle.tcreplay.specs.Seen.{seen_schedule, seen_replay};
 ghost use Rattle.tcreplay.specs.Writes.{Writing, IsWritten, IsRunEnd, IsLastEnd};
 ghost use Rattle.tcreplay.specs.Replayed.{HasTried};
@@ -13,11 +14,9 @@ use crate::generate::generate;
 use crate::input::read_job;
 use crate::notes::note;
 use crate::outcome::{End, Outcome};
-use crate::run::{Ran, run};
-use crate::task::{Replay, Schedule, Task, task_by};
-use crate::words::Locks;
-use crate::workers::run_by_threads;
-use cpu_front::CpuMachine;
+use crate::run::Ran;
+use crate::task::{Locks, Replay, Schedule, Task};
+use crate::words::task_by;
 use std::alloc::Global;
 use std::sync::Wait;
 use std::thread::Threads;
@@ -33,7 +32,12 @@ fn write<K: Sink>(out: &mut K, ran: Ran) -> Outcome
         (record { taken = K.taken out.old; faults = K.faults out.old; puts = K.puts out.old })
         (record { taken = K.taken out.new; faults = K.faults out.new; puts = K.puts out.new }) }
 {
-    let Ran { end, order, text } = ran;
+    let Ran {
+        end,
+        order,
+        text,
+        ..
+    } = ran;
     if end != End::Done {
         return Outcome::new(end, order);
     }
@@ -67,7 +71,7 @@ fn try_replay<S: Source, F: Shelf, K: Sink>(
         Ok(job) => job,
         Err(end) => return Outcome::without_run(alloc, end),
     };
-    match run::<CpuMachine>(alloc, job, replay.telling()) {
+    match replay.front.run(alloc, job, replay.telling()) {
         Ok(ran) => write(out, ran),
         Err(_) => Outcome::without_run(alloc, End::Memory),
     }
@@ -99,7 +103,11 @@ fn try_threads<R: Threads + Wait + Sync, S: Source, F: Shelf, K: Sink, G: Gate +
         Ok(job) => job,
         Err(end) => return Outcome::without_run(alloc, end),
     };
-    let Ok(ran) = run_by_threads(rt, alloc, gate, job, locks, replay.telling()) else {
+    let telling = replay.telling();
+    let Ok(ran) = replay
+        .front
+        .run_by_threads(rt, alloc, gate, job, locks, telling)
+    else {
         return Outcome::without_run(alloc, End::Memory);
     };
     write(out, ran)

@@ -16,6 +16,7 @@ ghost use Rattle.tcreplay.specs.declared.run.Telling.{Telling};
 
 use crate::input::Job;
 use crate::outcome::End;
+use crate::task::Locks;
 use journal_audit::journal_law;
 use std::alloc::{AllocError, Global};
 use tc_machine::{Allocator, State};
@@ -40,6 +41,8 @@ pub struct Ran {
     pub order: Vec<u16>,
     /// What is told of a run that has ended; else there is nothing.
     pub text: Vec<u8>,
+    /// Under which locks worker threads began it, if they did.
+    pub under: Option<Locks>,
 }
 
 /// What is told of a run that has ended.
@@ -69,6 +72,7 @@ fn tell<M: Allocator>(alloc: Global, state: State<M>, telling: Telling) -> Resul
         end: End::Done,
         order,
         text,
+        under: None,
     })
 }
 
@@ -82,6 +86,7 @@ fn stop<M: Allocator>(alloc: Global, state: State<M>, ticket: u64) -> Ran
         end: End::Full { ticket },
         order,
         text: Vec::new(alloc),
+        under: None,
     }
 }
 

@@ -1,12 +1,19 @@
 //! What a command comes to: a trace is replayed, or one is generated and replayed, or a journal of its
 //! calls is judged.
-ghost use Rattle.std.specs.Prelude.{◌≡◌, IfSome, map, option_map, string_bytes};
+ghost use Rattle.std.specs.Prelude.{◌≡◌, option_map};
 ghost use Rattle.tcreplay.specs.declared.run.Telling.TheVariants as telling;
-ghost use Rattle.tcreplay.specs.Tasks.{task_of, task_by, file_of, IsTask};
-ghost use Rattle.tcreplay.specs.Seen.{seen_command, seen_schedule, seen_task};
+ghost use Rattle.tcreplay.specs.Tasks.{file_of};
+ghost use Rattle.tcreplay.specs.Seen.{seen_schedule};
 
+use crate::machines::Front;
 use crate::run::Telling;
-use crate::words::{Command, Locks, command_of};
+
+/// Whether workers share one lock, or have one for each part.
+#[derive(Clone, Copy, Debug, PartialEq, Eq)]
+pub enum Locks {
+    One,
+    Parts,
+}
 
 /// Which picks a replay makes before it goes on in trace order.
 #[derive(Clone, Copy, Debug)]
@@ -31,10 +38,11 @@ impl<'a> Schedule<'a> {
     }
 }
 
-/// A replay: the file of the class table, which picks come first, and whether a line for each hugepage is
-/// printed.
+/// A replay: what serves small objects first, the file of the class table, which picks come first, and whether a
+/// line for each hugepage is printed.
 #[derive(Clone, Copy, Debug)]
 pub struct Replay<'a> {
+    pub front: Front,
     pub classes: &'a str,
     pub schedule: Schedule<'a>,
     pub rows: bool,
@@ -76,54 +84,4 @@ pub enum Task<'a> {
     Generate(Workload<'a>),
     /// A journal of a trace's calls is judged.
     Audit(Audit<'a>),
-}
-
-impl<'a> Task<'a> {
-    /// What a command comes to.
-    fn of(command: Command<'a>) -> Self
-        ensures { seen_task result ≡ task_of (seen_command command.entry) }
-    {
-        let (classes, schedule, rows) = match command {
-            Command::Serial { classes, rows } => (classes, Schedule::InTurn, rows),
-            Command::Order {
-                classes,
-                order,
-                rows,
-            } => (classes, Schedule::ByFile { order }, rows),
-            Command::Workers {
-                classes,
-                locks,
-                rows,
-            } => (classes, Schedule::ByThreads { locks }, rows),
-            Command::Gen {
-                classes,
-                seed,
-                calls,
-                threads,
-            } => {
-                return Task::Generate(Workload {
-                    classes,
-                    seed,
-                    calls,
-                    threads,
-                });
-            }
-            Command::Audit { classes, journal } => {
-                return Task::Audit(Audit { classes, journal });
-            }
-        };
-        Task::Replay(Replay {
-            classes,
-            schedule,
-            rows,
-        })
-    }
-}
-
-/// What the words ask for. `None` exactly where they are not in the grammar.
-pub fn task_by(words: &[String]) -> Option<Task<'_>>
-    ensures task { option_map seen_task result ≡ task_by (map string_bytes words.now) }
-    ensures ranges { IfSome result (λ task. IsTask (seen_task task)) }
-{
-    command_of(words).map(Task::of)
 }

@@ -1,16 +1,12 @@
 //! The grammar of the command line: this project's own rule.
-ghost use Rattle.std.specs.Prelude.{◌≡◌, Some, None, map, option_map, option_and_then, string_bytes};
-ghost use Rattle.tcreplay.specs.Words.{name_of, locks_of, number_in, kind_of, flag_of, takes, taken_flag, is_rows, no_options, once, with_value, with_rows, options_of, command_with, command_of};
-ghost use Rattle.tcreplay.specs.Seen.{seen, seen_command};
+ghost use Rattle.std.specs.Prelude.{◌≡◌, IfSome, Some, None, map, option_map, option_and_then, string_bytes};
+ghost use Rattle.tcreplay.specs.Tasks.{ToReplay, IsTask};
+ghost use Rattle.tcreplay.specs.Words.{name_of, locks_of, number_in, kind_of, flag_of, takes, taken_flag, is_switch, no_options, once, with_value, with_switch, options_of, schedule_by, task_with, task_by};
+ghost use Rattle.tcreplay.specs.Seen.{seen, seen_schedule, seen_task};
 
+use crate::machines::Front;
+use crate::task::{Audit, Locks, Replay, Schedule, Task, Workload};
 use tc_units::number;
-
-/// Whether workers share one lock, or have one for each part.
-#[derive(Clone, Copy, Debug, PartialEq, Eq)]
-pub enum Locks {
-    One,
-    Parts,
-}
 
 /// What the first word names.
 #[derive(Clone, Copy, Debug, PartialEq, Eq)]
@@ -18,6 +14,7 @@ pub enum Kind {
     Serial,
     Order,
     Workers,
+    PerThread,
     Gen,
     Audit,
 }
@@ -28,45 +25,12 @@ pub enum Flag {
     Classes,
     Order,
     Locks,
+    Workers,
     Rows,
     Seed,
     Calls,
     Threads,
     Journal,
-}
-
-/// What the words ask for. Files are named as they were given.
-#[derive(Clone, Copy, Debug)]
-pub enum Command<'a> {
-    /// The calls one after another, in the order of the trace.
-    Serial {
-        classes: &'a str,
-        rows: bool,
-    },
-    /// The picks of an order file, and then the rest as in `Serial`.
-    Order {
-        classes: &'a str,
-        order: &'a str,
-        rows: bool,
-    },
-    /// A running thread for each thread of the trace.
-    Workers {
-        classes: &'a str,
-        locks: Locks,
-        rows: bool,
-    },
-    /// A trace that is made from a seed.
-    Gen {
-        classes: &'a str,
-        seed: u64,
-        calls: u64,
-        threads: u64,
-    },
-    /// The judgement of a journal of a trace's calls.
-    Audit {
-        classes: &'a str,
-        journal: &'a str,
-    },
 }
 
 /// The greatest seed of a generated trace.
@@ -84,6 +48,7 @@ struct Options<'a> {
     classes: Option<&'a str>,
     order: Option<&'a str>,
     locks: Option<Locks>,
+    workers: bool,
     rows: bool,
     seed: Option<u64>,
     calls: Option<u64>,
@@ -141,6 +106,7 @@ impl Kind {
             "serial" => Some(Kind::Serial),
             "order" => Some(Kind::Order),
             "workers" => Some(Kind::Workers),
+            "perthread" => Some(Kind::PerThread),
             "gen" => Some(Kind::Gen),
             "audit" => Some(Kind::Audit),
             _ => None,
@@ -153,8 +119,9 @@ impl Kind {
     {
         match flag {
             Flag::Classes => true,
-            Flag::Order => self == Kind::Order,
+            Flag::Order => self == Kind::Order || self == Kind::PerThread,
             Flag::Locks => self == Kind::Workers,
+            Flag::Workers => self == Kind::PerThread,
             Flag::Rows => self != Kind::Gen && self != Kind::Audit,
             Flag::Seed | Flag::Calls | Flag::Threads => self == Kind::Gen,
             Flag::Journal => self == Kind::Audit,
@@ -178,6 +145,7 @@ impl Flag {
             "--classes" => Some(Flag::Classes),
             "--order" => Some(Flag::Order),
             "--locks" => Some(Flag::Locks),
+            "--workers" => Some(Flag::Workers),
             "--rows" => Some(Flag::Rows),
             "--seed" => Some(Flag::Seed),
             "--calls" => Some(Flag::Calls),
@@ -188,10 +156,10 @@ impl Flag {
     }
 
     /// Whether the option has no value.
-    fn is_rows(self) -> bool
-        ensures { result ≡ is_rows self }
+    fn is_switch(self) -> bool
+        ensures { result ≡ is_switch self }
     {
-        self == Flag::Rows
+        self == Flag::Rows || self == Flag::Workers
     }
 }
 
@@ -200,6 +168,7 @@ impl<'a> Options<'a> {
         classes: None,
         order: None,
         locks: None,
+        workers: false,
         rows: false,
         seed: None,
         calls: None,
@@ -215,7 +184,7 @@ impl<'a> Options<'a> {
             Flag::Classes => self.classes = Some(once(self.classes, name_of(word))?),
             Flag::Order => self.order = Some(once(self.order, name_of(word))?),
             Flag::Locks => self.locks = Some(once(self.locks, Locks::of(word))?),
-            Flag::Rows => return None,
+            Flag::Workers | Flag::Rows => return None,
             Flag::Seed => self.seed = Some(once(self.seed, number_in(word, 0, MOST_SEED))?),
             Flag::Calls => self.calls = Some(once(self.calls, number_in(word, 1, MOST_CALLS))?),
             Flag::Threads => {
@@ -226,14 +195,15 @@ impl<'a> Options<'a> {
         Some(self)
     }
 
-    /// The options with the one that has no value.
-    fn with_rows(mut self) -> Option<Self>
-        ensures { option_map seen result ≡ with_rows (seen self.entry) }
+    /// The options with one more that has no value.
+    fn with_switch(mut self, flag: Flag) -> Option<Self>
+        ensures { option_map seen result ≡ with_switch (seen self.entry) flag }
     {
-        if self.rows {
-            return None;
+        match flag {
+            Flag::Workers if !self.workers => self.workers = true,
+            Flag::Rows if !self.rows => self.rows = true,
+            _ => return None,
         }
-        self.rows = true;
         Some(self)
     }
 
@@ -245,8 +215,8 @@ impl<'a> Options<'a> {
         let mut rest = words;
         while let Some((word, behind)) = rest.split_first() {
             let flag = kind.flag(word.as_str())?;
-            if flag.is_rows() {
-                options = options.with_rows()?;
+            if flag.is_switch() {
+                options = options.with_switch(flag)?;
                 rest = behind;
             } else {
                 let (value, behind) = behind.split_first()?;
@@ -257,54 +227,77 @@ impl<'a> Options<'a> {
         Some(options)
     }
 
-    /// A command with these options: all that it needs are there.
-    fn command(self, kind: Kind) -> Option<Command<'a>>
-        ensures { option_map seen_command result ≡ command_with kind (seen self.entry) }
+    /// The picks that come first on a machine that takes an order file or worker threads, and not both.
+    fn schedule(self) -> Option<Schedule<'a>>
+        ensures { option_map seen_schedule result ≡ schedule_by (seen self.entry) }
+    {
+        match self.order {
+            None if self.workers => Some(Schedule::ByThreads {
+                locks: Locks::Parts,
+            }),
+            None => Some(Schedule::InTurn),
+            Some(_) if self.workers => None,
+            Some(order) => Some(Schedule::ByFile { order }),
+        }
+    }
+
+    /// The replay that a command asks for with these options.
+    fn replay(self, front: Front, classes: &'a str, schedule: Schedule<'a>) -> Task<'a>
+        ensures { seen_task result ≡ ToReplay (record { front = front; classes = classes.now; schedule = seen_schedule schedule.entry; rows = self.entry.rows }) }
+    {
+        let rows = self.rows;
+        Task::Replay(Replay {
+            front,
+            classes,
+            schedule,
+            rows,
+        })
+    }
+
+    /// What a command with these options asks for: all that it needs are there.
+    fn task(self, kind: Kind) -> Option<Task<'a>>
+        ensures { option_map seen_task result ≡ task_with kind (seen self.entry) }
     {
         let classes = self.classes?;
-        let rows = self.rows;
         match kind {
-            Kind::Serial => Some(Command::Serial { classes, rows }),
+            Kind::Serial => Some(self.replay(Front::Cpus, classes, Schedule::InTurn)),
             Kind::Order => {
                 let order = self.order?;
-                Some(Command::Order {
-                    classes,
-                    order,
-                    rows,
-                })
+                Some(self.replay(Front::Cpus, classes, Schedule::ByFile { order }))
             }
             Kind::Workers => {
                 let locks = self.locks.unwrap_or(Locks::Parts);
-                Some(Command::Workers {
-                    classes,
-                    locks,
-                    rows,
-                })
+                Some(self.replay(Front::Cpus, classes, Schedule::ByThreads { locks }))
+            }
+            Kind::PerThread => {
+                let schedule = self.schedule()?;
+                Some(self.replay(Front::Threads, classes, schedule))
             }
             Kind::Gen => {
                 let seed = self.seed?;
                 let calls = self.calls?;
                 let threads = self.threads?;
-                Some(Command::Gen {
+                Some(Task::Generate(Workload {
                     classes,
                     seed,
                     calls,
                     threads,
-                })
+                }))
             }
             Kind::Audit => {
                 let journal = self.journal?;
-                Some(Command::Audit { classes, journal })
+                Some(Task::Audit(Audit { classes, journal }))
             }
         }
     }
 }
 
 /// What the words ask for. `None` exactly where they are not in the grammar.
-pub fn command_of(words: &[String]) -> Option<Command<'_>>
-    ensures { option_map seen_command result ≡ command_of (map string_bytes words.now) }
+pub fn task_by(words: &[String]) -> Option<Task<'_>>
+    ensures task { option_map seen_task result ≡ task_by (map string_bytes words.now) }
+    ensures ranges { IfSome result (λ task. IsTask (seen_task task)) }
 {
     let (word, rest) = words.split_first()?;
     let kind = Kind::of(word.as_str())?;
-    Options::of(kind, rest)?.command(kind)
+    Options::of(kind, rest)?.task(kind)
 }

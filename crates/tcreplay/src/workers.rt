@@ -11,11 +11,12 @@ ghost use Rattle.tc_machine.specs.Inputs.{asked_of};
 ghost use Rattle.tcreplay.specs.Reads.{seen_job, IsRunnable};
 ghost use Rattle.tcreplay.specs.Came.{IsLeft};
 ghost use Rattle.tcreplay.specs.Ran.{IsRanByThreads, IsRunByThreads};
-ghost use Rattle.tcreplay.specs.declared.words.Locks.TheVariants.{One, Parts};
+ghost use Rattle.tcreplay.specs.Machines.{per_cpu};
+ghost use Rattle.tcreplay.specs.declared.task.Locks.TheVariants.{One, Parts};
 
 use crate::input::Job;
 use crate::run::{Ran, Telling, come_to};
-use crate::words::Locks;
+use crate::task::Locks;
 use cpu_front::{CpuMachine, CpuState};
 use part_lock::Closed;
 use relay::Finish;
@@ -140,11 +141,17 @@ where
 /// Ends every call of what threads left, in trace order.
 fn complete<M: Allocator>(alloc: Global, came: Came<M>, telling: Telling) -> Result<Ran, AllocError>
     requires left { IsLeft M.rules_of came.state.input came.locks came.state came.locks came.lasts.items came.halt }
-    ensures { IfOk result (IsRunByThreads M.rules_of M.told M.lawful telling came.state.input) }
+    ensures { IfOk result (IsRunByThreads M.rules_of M.told M.lawful came.locks telling came.state.input) }
 {
-    let mut state = came.state;
+    let Came {
+        mut state,
+        locks,
+        ..
+    } = came;
     let completed = state.run_serial();
-    come_to(alloc, state, completed, telling)
+    let ran = come_to(alloc, state, completed, telling)?;
+    let under = Some(locks);
+    Ok(Ran { under, ..ran })
 }
 
 /// Runs a job on a machine by a thread for each of its threads, under a lock for each part, and then what they left.
@@ -160,7 +167,7 @@ where
     M::Local: Send,
     requires runs { IsRunnable job }
     requires taken { not_taken M.takes (asked_of job.trace).calls ≡ 0 }
-    ensures { IfOk result (IsRunByThreads M.rules_of M.told M.lawful telling (seen_job job).input) }
+    ensures { IfOk result (IsRunByThreads M.rules_of M.told M.lawful Parts telling (seen_job job).input) }
 {
     let Job {
         table,
@@ -174,7 +181,7 @@ where
 }
 
 /// Runs a job on the per-CPU caches by a thread for each of its threads, under one lock, and then what they left.
-fn run_by_one_lock<R: Threads + Wait + Sync, G: Gate + Sync>(
+pub fn run_by_one_lock<R: Threads + Wait + Sync, G: Gate + Sync>(
     rt: &R,
     alloc: Global,
     gate: &G,
@@ -182,7 +189,7 @@ fn run_by_one_lock<R: Threads + Wait + Sync, G: Gate + Sync>(
     telling: Telling,
 ) -> Result<Ran, AllocError>
     requires { IsRunnable job }
-    ensures { IfOk result (IsRanByThreads telling (seen_job job).input) }
+    ensures { IfOk result (IsRanByThreads per_cpu One telling (seen_job job).input) }
 {
     let Job {
         table,
@@ -192,22 +199,4 @@ fn run_by_one_lock<R: Threads + Wait + Sync, G: Gate + Sync>(
     let state = CpuState::open(alloc, table, trace)?;
     let came = run_under_one_lock(rt, alloc, gate, state)?;
     complete(alloc, came, telling)
-}
-
-/// Runs a job on the per-CPU caches by a thread for each of its threads, under these locks, and then what they left.
-pub fn run_by_threads<R: Threads + Wait + Sync, G: Gate + Sync>(
-    rt: &R,
-    alloc: Global,
-    gate: &G,
-    job: Job,
-    locks: Locks,
-    telling: Telling,
-) -> Result<Ran, AllocError>
-    requires { IsRunnable job }
-    ensures { IfOk result (IsRanByThreads telling (seen_job job).input) }
-{
-    match locks {
-        Locks::One => run_by_one_lock(rt, alloc, gate, job, telling),
-        Locks::Parts => run_by_part_locks::<R, CpuMachine, G>(rt, alloc, gate, job, telling),
-    }
 }

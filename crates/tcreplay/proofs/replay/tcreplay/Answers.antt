@@ -1,6 +1,6 @@
 use Rattle.std.proofs.Common.{sym}
 use Rattle.std.specs.Prelude.{map, string_bytes}
-use Rattle.tcreplay.specs.Tasks.{task_by}
+use Rattle.tcreplay.specs.Words.{task_by}
 use Rattle.tcreplay.specs.Writes.{Writing}
 use Rattle.tcreplay.proofs.CompleteFacts.{usage_by, complete_is}
 use Rattle.tcreplay.proofs.replay.tcreplay.Goals as goal

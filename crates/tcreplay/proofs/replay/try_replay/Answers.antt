@@ -2,16 +2,15 @@ use Rattle.std.proofs.Common.{ap, subst}
 use Rattle.tcreplay.specs.declared.outcome.Outcome.{Outcome}
 use Rattle.tcreplay.specs.Verdict.{order_of_job}
 use Rattle.tcreplay.specs.Reads.{seen_job}
+use Rattle.tcreplay.specs.Machines.{machine_of}
 use Rattle.tcreplay.specs.Ran.{IsRan}
 use Rattle.tcreplay.specs.Seen.{seen_replay}
 use Rattle.tcreplay.proofs.RanFacts.{run_end}
 use Rattle.tcreplay.proofs.TriedFacts.{tried_ran, tried_at}
-use Rattle.cpu_front.proofs.Taken.{all_taken}
-use Rattle.tc_machine.specs.Inputs.{asked_of}
 use Rattle.tcreplay.proofs.replay.try_replay.Goals as goal
 
 pub returns-in-Ok-run-clause-tried : goal.returns-in-Ok-run-clause-tried
-returns-in-Ok-run-clause-tried g c = tried_ran (seen_replay c.args.replay) _ _ _ _ _ _ c.in-Ok.job c.in-Ok-run.ran c.write.result.end c.write.result.order c.requires.alone c.in-Ok.ensures.read (subst (λ t. IsRan t (seen_job c.in-Ok.job).input (order_of_job (seen_job c.in-Ok.job)) c.in-Ok-run.ran) c.telling.ensures c.in-Ok-run.ensures) c.write.ensures.end c.write.ensures.order c.write.ensures.written
+returns-in-Ok-run-clause-tried g c = tried_ran (seen_replay c.args.replay) _ _ _ _ _ _ c.in-Ok.job c.in-Ok-run.ran c.write.result.end c.write.result.order c.requires.alone c.in-Ok.ensures.read (subst (λ t. IsRan (machine_of c.args.replay.front) t (seen_job c.in-Ok.job).input (order_of_job (machine_of c.args.replay.front) (seen_job c.in-Ok.job)) c.in-Ok-run.ran) c.telling.ensures c.in-Ok-run.ensures) c.write.ensures.end c.write.ensures.order c.write.ensures.written
 
 pub returns-in-Err-clause-tried : goal.returns-in-Err-clause-tried
 returns-in-Err-clause-tried g c =
@@ -19,7 +18,4 @@ returns-in-Err-clause-tried g c =
     tried_at (seen_replay c.args.replay) _ _ _ _ _ c.in-Err.end c.without_run.result.end c.without_run.result.order (ap (λ (o : Outcome). o.end) same) (ap (λ (o : Outcome). o.order) same) c.in-Err.ensures.read
 
 pub write-requires : goal.write-requires
-write-requires g c = run_end c.telling.result (seen_job c.in-Ok.job).input (order_of_job (seen_job c.in-Ok.job)) c.in-Ok-run.ran c.in-Ok-run.ensures
-
-pub run-requires-clause-taken : goal.run-requires-clause-taken
-run-requires-clause-taken g c = all_taken (asked_of c.in-Ok.job.trace).calls
+write-requires g c = run_end (machine_of c.args.replay.front) c.telling.result (seen_job c.in-Ok.job).input (order_of_job (machine_of c.args.replay.front) (seen_job c.in-Ok.job)) c.in-Ok-run.ran c.in-Ok-run.ensures

@@ -1,4 +1,7 @@
+use Rattle.std.proofs.Common.{subst}
 use Rattle.tc_units.specs.Classes.{length_of}
+use Rattle.tc_model.specs.declared.answers.Finished.{Finished}
+use Rattle.alloc_rules.specs.Told.{TellsScripts}
 use Rattle.tcreplay.proofs.Answerable.{answerable}
 use Rattle.tcreplay.proofs.RunFacts.{told_done}
 use Rattle.tcreplay.proofs.JournalFacts.{told_legal}
@@ -12,6 +15,7 @@ returns g c = record {
   is = told_done g.M.Allocator.rules_of g.M.Allocator.told c.args.telling c.args.state.input c.args.state.order _ _ c.in_ok-finished.finished c.requires.ended c.in_ok-finished.ensures.value c.into_order-order.ensures.order c.in_ok-text.ensures.text;
   law = c.into_order-order.ensures.lawful;
   filled = tt;
+  scripts = λ _. subst (λ (f : Finished). TellsScripts c.args.state.input.asked f.calls) c.in_ok-finished.ensures.value c.in_ok-finished.ensures.scripts;
   journal = λ _. told_legal g.M.Allocator.rules_of g.M.Allocator.told g.M.Allocator.lawful c.journal_law.ensures c.args.state.input c.args.state.order
       c.args.telling c.in_ok-finished.finished c.in_ok-finished.ensures.value c.in_ok-finished.ensures.blocks c.in_ok-finished.ensures.scripts c.in_ok-text.ensures.tellable;
 }

@@ -3,7 +3,7 @@ use Rattle.std.specs.Prelude.{IfErr}
 use Rattle.tc_model.specs.Input.{Input}
 use Rattle.tc_model.specs.Serial.{completed, IsCutShort}
 use Rattle.alloc_rules.specs.Machine.{turns}
-use Rattle.tcreplay.proofs.WorkerFacts.{by_threads_result}
+use Rattle.tcreplay.proofs.WorkerFacts.{by_threads_under}
 use Rattle.tcreplay.proofs.workers.complete.Goals as goal
 
 pub come_to-requires-clause-fault : goal.come_to-requires-clause-fault
@@ -15,9 +15,9 @@ come_to-requires-clause-fault g c =
 
 pub returns : goal.returns
 returns g c =
-    let rules = g.M.Allocator.rules_of in
+    let M = g.M.Allocator in
     let input = c.args.came.state.input in
-    let all = completed (rules input) (turns input.asked) input.asked.config.events c.args.came.state.order in
-    let fault = subst (λ (i : Input). IfErr c.run_serial-completed.result (IsCutShort (rules i) i.asked.config.events all c.run_serial-completed.new.self.order)) (sym c.run_serial-completed.ensures.input) c.run_serial-completed.ensures.fault in
-    by_threads_result rules g.M.Allocator.told g.M.Allocator.lawful g.met.M.Allocator.is_few c.args.telling c.run_serial-completed.new.self.input input c.args.came.state.order all c.come_to.result c.run_serial-completed.ensures.input refl c.requires.left.polite
-    (c.come_to.ensures.ran all c.run_serial-completed.ensures.ok fault)
+    let all = completed (M.rules_of input) (turns input.asked) input.asked.config.events c.args.came.state.order in
+    let fault = subst (λ (i : Input). IfErr c.run_serial-completed.result (IsCutShort (M.rules_of i) i.asked.config.events all c.run_serial-completed.new.self.order)) (sym c.run_serial-completed.ensures.input) c.run_serial-completed.ensures.fault in
+    by_threads_under M.rules_of M.told M.lawful g.met.M.Allocator.is_few c.args.came.locks c.args.telling c.run_serial-completed.new.self.input input c.args.came.state.order all c.in_ok-ran.ran _ refl refl c.run_serial-completed.ensures.input refl c.requires.left.polite
+    (c.in_ok-ran.ensures.ran all c.run_serial-completed.ensures.ok fault)

@@ -1,11 +1,12 @@
 use Rattle.std.proofs.Common.{sym, subst, ◌∙◌}
 use Rattle.std.specs.Prelude.{IfOk}
 use Rattle.tc_model.specs.Input.{Input}
-use Rattle.tcreplay.specs.declared.words.Locks.{Locks}
-use Rattle.tcreplay.specs.declared.words.Locks.TheVariants.{One}
+use Rattle.tcreplay.specs.declared.task.Locks.{Locks}
+use Rattle.tcreplay.specs.declared.task.Locks.TheVariants.{One}
 use Rattle.cpu_rows.specs.Machine.{rules}
 use Rattle.cpu_front.proofs.Taken.{all_taken}
 use Rattle.tc_machine.specs.Inputs.{asked_of}
+use Rattle.tcreplay.specs.Machines.{per_cpu}
 use Rattle.tcreplay.specs.Came.{IsLeft}
 use Rattle.tcreplay.specs.Ran.{IsRanByThreads}
 use Rattle.tcreplay.proofs.workers.run_by_one_lock.Goals as goal
@@ -23,4 +24,7 @@ complete-requires g c =
     }
 
 pub returns : goal.returns
-returns g c = subst (λ (i : Input). IfOk c.complete.result (IsRanByThreads c.args.telling i)) (c.in_ok-came.ensures.left.input_is ∙ c.in_ok-state.ensures.input) c.complete.ensures
+returns g c =
+    let left = c.in_ok-came.ensures.left in
+    subst (λ (i : Input). IfOk c.complete.result (IsRanByThreads per_cpu One c.args.telling i)) (left.input_is ∙ c.in_ok-state.ensures.input)
+    (subst (λ (k : Locks). IfOk c.complete.result (IsRanByThreads per_cpu k c.args.telling c.in_ok-came.came.state.input)) left.locks_are c.complete.ensures)

@@ -1,8 +1,8 @@
 use Rattle.std.proofs.Common.{sym, subst, ◌∙◌}
 use Rattle.std.specs.Prelude.{IfOk}
 use Rattle.tc_model.specs.Input.{Input}
-use Rattle.tcreplay.specs.declared.words.Locks.{Locks}
-use Rattle.tcreplay.specs.declared.words.Locks.TheVariants.{Parts}
+use Rattle.tcreplay.specs.declared.task.Locks.{Locks}
+use Rattle.tcreplay.specs.declared.task.Locks.TheVariants.{Parts}
 use Rattle.tcreplay.specs.Came.{IsLeft}
 use Rattle.tcreplay.specs.Ran.{IsRunByThreads}
 use Rattle.tcreplay.proofs.workers.run_by_part_locks.Goals as goal
@@ -17,4 +17,8 @@ complete-requires g c =
     }
 
 pub returns : goal.returns
-returns g c = subst (λ (i : Input). IfOk c.complete.result (IsRunByThreads g.M.Allocator.rules_of g.M.Allocator.told g.M.Allocator.lawful c.args.telling i)) (c.in_ok-came.ensures.left.input_is ∙ c.in_ok-state.ensures.input) c.complete.ensures
+returns g c =
+    let left = c.in_ok-came.ensures.left in
+    let M = g.M.Allocator in
+    subst (λ (i : Input). IfOk c.complete.result (IsRunByThreads M.rules_of M.told M.lawful Parts c.args.telling i)) (left.input_is ∙ c.in_ok-state.ensures.input)
+    (subst (λ (k : Locks). IfOk c.complete.result (IsRunByThreads M.rules_of M.told M.lawful k c.args.telling c.in_ok-came.came.state.input)) left.locks_are c.complete.ensures)

@@ -1,0 +1,84 @@
+//! The machines on which traces are run, each named here alone: what it takes, and its runs.
+ghost use Rattle.std.specs.Prelude.{◌≡◌, IfOk, None};
+ghost use Rattle.alloc_rules.specs.Inputs.{not_taken};
+ghost use Rattle.tc_machine.specs.Inputs.{asked_of};
+ghost use Rattle.tc_machine.specs.Taken.{refused_line};
+ghost use Rattle.tcreplay.specs.Machines.{machine_of, locks_for};
+ghost use Rattle.tcreplay.specs.Verdict.{order_of_job};
+ghost use Rattle.tcreplay.specs.Reads.{seen_job, IsRunnable};
+ghost use Rattle.tcreplay.specs.Ran.{IsRan, IsRanByThreads};
+
+use crate::input::Job;
+use crate::run::{Ran, Telling, run};
+use crate::task::Locks;
+use crate::workers::{run_by_one_lock, run_by_part_locks};
+use cpu_front::CpuMachine;
+use std::alloc::{AllocError, Global};
+use std::sync::Wait;
+use std::thread::Threads as HasThreads;
+use tc_machine::refused_line;
+use tc_ports::Gate;
+use thread_front::ThreadMachine;
+use trace_reader::Trace;
+
+/// What serves small objects first. It makes the machine.
+#[derive(Clone, Copy, Debug, PartialEq, Eq)]
+pub enum Front {
+    /// Slabs of CPUs.
+    Cpus,
+    /// A cache for each thread.
+    Threads,
+}
+
+impl Front {
+    /// The line of the first call of a trace that its machine doesn't take. The slabs of CPUs take each call.
+    pub fn refused_line(self, trace: &Trace) -> Option<u32>
+        ensures line { result ≡ refused_line (machine_of self).takes trace.now.scripts }
+        ensures taken { result ≡ None → not_taken (machine_of self).takes (asked_of trace.now).calls ≡ 0 }
+    {
+        match self {
+            Front::Cpus => None,
+            Front::Threads => refused_line::<ThreadMachine>(trace),
+        }
+    }
+
+    /// Runs a job on its machine.
+    pub fn run(self, alloc: Global, job: Job, telling: Telling) -> Result<Ran, AllocError>
+        requires runs { IsRunnable job }
+        requires taken { not_taken (machine_of self).takes (asked_of job.trace).calls ≡ 0 }
+        ensures { IfOk result (IsRan (machine_of self) telling (seen_job job).input (order_of_job (machine_of self) (seen_job job))) }
+    {
+        match self {
+            Front::Cpus => run::<CpuMachine>(alloc, job, telling),
+            Front::Threads => run::<ThreadMachine>(alloc, job, telling),
+        }
+    }
+
+    /// Runs a job on its machine by a thread for each of its threads, and then what they left. One lock
+    /// is known by the slabs of CPUs alone.
+    pub fn run_by_threads<R: HasThreads + Wait + Sync, G: Gate + Sync>(
+        self,
+        rt: &R,
+        alloc: Global,
+        gate: &G,
+        job: Job,
+        locks: Locks,
+        telling: Telling,
+    ) -> Result<Ran, AllocError>
+        requires runs { IsRunnable job }
+        requires taken { not_taken (machine_of self).takes (asked_of job.trace).calls ≡ 0 }
+        ensures { IfOk result (IsRanByThreads (machine_of self) (locks_for self locks) telling (seen_job job).input) }
+    {
+        match self {
+            Front::Cpus => match locks {
+                Locks::One => run_by_one_lock(rt, alloc, gate, job, telling),
+                Locks::Parts => run_by_part_locks::<R, CpuMachine, G>(
+                    rt, alloc, gate, job, telling,
+                ),
+            },
+            Front::Threads => {
+                run_by_part_locks::<R, ThreadMachine, G>(rt, alloc, gate, job, telling)
+            }
+        }
+    }
+}
