@@ -11,12 +11,14 @@ from checks.program import PAGE, PROGRAM
 TOY_TABLE = '16,1,4\n64,1,2\n8192,1,2\n'
 EVEN_TABLE = '16,1,4\n32,1,2\n64,1,1\n'       # each class grows by 64 bytes
 SECONDS = 60
+DRAINS = ('d ', 'z ')                           # the calls that caches of threads don't take
 
 
 class Case:
-    """Table, trace and order of a seed. Limits are small, so that all kinds of answers come."""
+    """Table, trace and order of a seed, and the command that runs them. Limits are small, so that all kinds of answers
+    come. A second generator draws the command, so that the first one's draws are as they were without it."""
 
-    def __init__(self, seed):
+    def __init__(self, seed, command=None):
         self.draw = random.Random(seed)
         self.table = self.draw.choice([TOY_TABLE, EVEN_TABLE, self.random_table()])
         self.classes = [[int(field) for field in row.split(',')] for row in self.table.split()]
@@ -27,6 +29,9 @@ class Case:
         self.label = 0
         self.trace = self.random_trace()
         self.order = self.random_order() if self.draw.random() < 0.7 else None
+        if command:
+            self.trace = ''.join(line for line in self.trace.splitlines(True) if not line.startswith(DRAINS))
+        self.words = self.random_words(random.Random('command %d' % seed), command)
         if self.draw.random() < 0.1:
             self.trace = 'events %d\n' % self.random_limit() + self.trace
 
@@ -120,6 +125,24 @@ class Case:
             lines.append('%d' % thread if count == 1 else '%d %d' % (thread, count))
         return ''.join(line + '\n' for line in lines)
 
+    def random_words(self, draw, command):
+        """Caches of threads in about 3 of 10 cases, few of them with a call that these don't take. Of one thread, worker
+        threads answer the same."""
+        words = ['--classes', 'table', '--rows'] + ([] if self.order is None else ['--order', 'order'])
+        often = 0.15 if self.first_drain() else 0.6
+        if draw.random() < often or command:
+            is_free = self.order is None and self.heads['threads'] == 1
+            return ['perthread'] + words + (['--workers'] if is_free and draw.random() < 0.5 else [])
+        return ['serial' if self.order is None else 'order'] + words
+
+    def has_caches(self):
+        return self.words[0] == 'perthread'
+
+    def first_drain(self):
+        """The number of the first line that caches of threads don't take, or None."""
+        lines = enumerate(self.trace.splitlines(), 1)
+        return next((number for number, line in lines if line.startswith(DRAINS)), None)
+
     def random_limit(self):
         """As many picks as there are, one less, or fewer."""
         picks = self.replay().moved
@@ -137,9 +160,7 @@ class Case:
 
     def program(self):
         """What the program answers on the trace, and on the journal."""
-        words = ['serial' if self.order is None else 'order', '--classes', 'table', '--rows']
-        words += [] if self.order is None else ['--order', 'order']
-        answer = self.run(words, {'table': self.table, 'order': self.order or ''})
+        answer = self.run(self.words, {'table': self.table, 'order': self.order or ''})
         self.journal = self.changed(answer[1])
         words = ['audit', '--classes', 'table', '--journal', 'journal']
         return answer, self.run(words, {'table': self.table, 'journal': self.journal})
@@ -166,7 +187,8 @@ class Case:
         return ''.join(line + '\n' for line in lines)
 
     def replay(self):
-        return model.Replay(self.table, self.trace, self.order or '').run()
+        front = 'caches' if self.has_caches() else 'slabs'
+        return model.Replay(self.table, self.trace, self.order or '', front=front).run()
 
     def model(self):
         """What the model answers on the trace, and on the journal."""
@@ -175,15 +197,17 @@ class Case:
             judged = 0, 'yes %d\n' % number, ''
         else:
             judged = 12, '', 'tcreplay: audit line %d: %s\n' % (number, why[0].lower())
+        if self.has_caches() and self.first_drain():
+            return (4, '', 'tcreplay: trace line %d: nothere\n' % self.first_drain()), judged
         return model.answer(self.replay(), rows=True), judged
 
 
-def differing(first, count):
+def differing(first, count, command=None):
     """Each case on which program and model differ, as (seed, case, the program's answer, the model's)."""
     with concurrent.futures.ThreadPoolExecutor(4) as pool:
         for start in range(first, first + count, 100):
             seeds = range(start, min(start + 100, first + count))
-            cases = [Case(seed) for seed in seeds]
+            cases = [Case(seed, command) for seed in seeds]
             for seed, case, answer in zip(seeds, cases, pool.map(Case.program, cases)):
                 expected = case.model()
                 if answer != expected:
