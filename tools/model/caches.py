@@ -63,7 +63,7 @@ class CachesOfThreads:
         if not thread.hand:
             return
         if len(self.caches) > 1:
-            yield "another's cache", 'GiveUp'
+            yield "another's cache", 'Ask'
             given = self.victim(thread).give_up(row.batch * row.size)
             if given:
                 yield 'own cache', 'Raise'
