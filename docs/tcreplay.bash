@@ -4,7 +4,7 @@ _tcreplay() {
     local word=${COMP_WORDS[COMP_CWORD]} before=${COMP_WORDS[COMP_CWORD-1]} options given
     COMPREPLY=()
     if ((COMP_CWORD == 1)); then
-        mapfile -t COMPREPLY < <(compgen -W 'serial order workers gen audit' -- "$word")
+        mapfile -t COMPREPLY < <(compgen -W 'serial order workers perthread gen audit' -- "$word")
         return
     fi
     case $before in
@@ -23,6 +23,7 @@ _tcreplay() {
     serial) options='--classes --rows' ;;
     order) options='--classes --order --rows' ;;
     workers) options='--classes --locks --rows' ;;
+    perthread) options='--classes --order --workers --rows' ;;
     gen) options='--classes --seed --calls --threads' ;;
     audit) options='--classes --journal' ;;
     *) return ;;
