@@ -22,6 +22,8 @@ def sixty_four_threads():
 # Worker threads, whose order is any.
 
 LOCKS = [b'one', b'parts']
+SLABS = [[b'workers', b'--locks', locks] for locks in LOCKS]
+CACHES = [[b'perthread', b'--workers']]
 MIX = (b'threads 4\nhuge 8\na 0 0 300000\na 1 1 2097152\na 2 2 16384\na 3 3 2500000\nf 1 0\nf 2 1\nr 3 100\n'
        b'a 0 4 100000\nf 3 2\nf 0 3\na 2 5 50000\n')
 
@@ -31,24 +33,31 @@ def head_of_summary(text):
     return [line for line in text.split(b'\n') if line.startswith((b'calls ', b'live '))]
 
 
-def workers_end_as_serial_does():
+def without_drains(trace):
+    return b''.join(line for line in trace.splitlines(keepends=True) if not line.startswith((b'd ', b'z ')))
+
+
+def workers_end_as_runs_in_turn():
     """Of two mixes, and of each example in which every order serves each allocation, a run by threads has the calls
-    and the live blocks of the serial one. Where there is one thread it has its text."""
-    alone = ['first', 'frees', 'filler', 'tail', 'region', 'release', 'window', 'abort', 'long']
-    several = ['workers', 'stale', 'fence', 'transfer', 'buffers']
+    and the live blocks of the one in trace order, at slabs and with caches of threads. Where there is one thread it has
+    its text."""
+    alone = ['first', 'frees', 'filler', 'tail', 'region', 'release', 'window', 'abort', 'long', 'trim']
+    several = ['workers', 'stale', 'fence', 'transfer', 'buffers', 'steal']
     tables = {'long': b'T1.csv', 'buffers': b'T2.csv'}
     runs = [(read(EXAMPLES, name + '.trace'), tables.get(name, b'T0.csv'), name in alone) for name in alone + several]
     runs += [(MIX, b'T0.csv', False), (made_trace(1, 5000, 8), b'T1.csv', False)]
     wrong = []
     for trace, table, has_one_thread in runs:
         files = {table: read(EXAMPLES, table.decode())}
-        serial = run([b'serial', b'--classes', table], trace, files)
-        for locks in LOCKS:
-            result = run([b'workers', b'--classes', table, b'--locks', locks], trace, files)
-            if has_one_thread:
-                wrong += differences(result, 0, serial[1])
-            elif result[0] != 0 or head_of_summary(result[1]) != head_of_summary(serial[1]):
-                wrong.append('%r in place of calls and live of %r' % (result[1], serial[1]))
+        for in_turn, by_threads in ((b'serial', SLABS), (b'perthread', CACHES)):
+            calls = trace if in_turn == b'serial' else without_drains(trace)
+            expected = run([in_turn, b'--classes', table], calls, files)
+            for words in by_threads:
+                result = run(words + [b'--classes', table], calls, files)
+                if has_one_thread:
+                    wrong += differences(result, 0, expected[1])
+                elif result[0] != 0 or head_of_summary(result[1]) != head_of_summary(expected[1]):
+                    wrong.append('%r in place of calls and live of %r' % (result[1], expected[1]))
     return wrong
 
 
@@ -69,13 +78,12 @@ def sixty_four_workers():
     trace = b'threads 64\n' + b''.join(b'a %d %d 8193\n' % (thread, thread) for thread in range(64))
     trace += b''.join(b'f %d %d\n' % ((thread + 1) % 64, thread) for thread in range(64))
     wrong = []
-    for locks in LOCKS:
-        status, text, notes = run([b'workers', b'--classes', b'T0.csv', b'--locks', locks], trace,
-                                  {b'T0.csv': SMALL_TABLE})
+    for words in SLABS + CACHES:
+        status, text, notes = run(words + [b'--classes', b'T0.csv'], trace, {b'T0.csv': SMALL_TABLE})
         lines = text.split(b'\n')
         if status != 0 or head_of_summary(text) != [b'calls 128', b'live 0 0'] or len(lines) != 134:
             wrong.append('status %d, notes %r and %r' % (status, notes, text[:300]))
     return wrong
 
 
-CASES = [sixty_four_threads, workers_end_as_serial_does, workers_print_what_came, sixty_four_workers]
+CASES = [sixty_four_threads, workers_end_as_runs_in_turn, workers_print_what_came, sixty_four_workers]
