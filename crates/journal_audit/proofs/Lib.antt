@@ -6,4 +6,5 @@ pub mod Law
 pub mod LiveFacts
 pub mod Entering
 pub mod Auditing
+pub mod LinesBehind
 pub mod Telling

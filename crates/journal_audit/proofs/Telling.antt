@@ -18,8 +18,9 @@ use Rattle.tc_model.specs.declared.answers.Answer.TheVariants as answer
 use Rattle.tc_model.specs.declared.answers.CallLine.{CallLine}
 use Rattle.tc_model.specs.Blocks.{IsAllowed, IsBlockRun}
 use Rattle.trace_text.specs.Joined.{IsField}
+use Rattle.trace_text.specs.Lines.{lines_of}
 use Rattle.trace_text.proofs.Decimals.{number_of_decimal, decimal_is_field}
-use Rattle.trace_text.proofs.Printed.{IsPrinted, word_is_field, printed_is_cut, printed_append, printed_line, printed_numbers, printed_each}
+use Rattle.trace_text.proofs.Printed.{IsPrinted, word_is_field, printed_append, printed_line, printed_numbers, printed_each}
 use Rattle.usage_report.specs.Report as report
 use Rattle.usage_report.specs.Report.{letter_of, named_words, answer_words, call_line, fragmentation, summary_of, kind_word, measures, row_line, text_of}
 use Rattle.usage_report.specs.Report.{IsSmall, NamesSmall, AnswersSmall, IsTellable}
@@ -31,6 +32,7 @@ use Rattle.journal_audit.specs.Forms.{number, told_by, is_none_word, names, answ
 use Rattle.journal_audit.specs.Rules.{Plan, ends, call_lines, journal_of}
 use Rattle.journal_audit.specs.Legal.{Tells}
 use Rattle.journal_audit.specs.Printed.{PrintedIsLegal}
+use Rattle.journal_audit.proofs.LinesBehind.{printed_stays}
 
 -- What is printed.
 printed : (first : List ℕ) (others : List (List ℕ)) → IsField first → All IsField others → IsPrinted (report.line_of first others) ((first ∷ others) ∷ [])
@@ -228,9 +230,10 @@ module _ (plan : Plan) (calls : List CallLine) (run : IsBlockRun plan.huge (leng
       )
 
 pub printed_is_legal : PrintedIsLegal
-printed_is_legal plan calls live live_bytes used resident rows run order tellable =
+printed_is_legal plan calls live live_bytes used resident rows more run order tellable =
     let text = text_of calls live live_bytes used resident rows in
-    let lines = printed_is_cut _ _ (text_printed calls live live_bytes used resident rows) in
-    let journal : journal_of text ≡ map told_by (map call_fields calls) = ap (map told_by) (ap call_lines lines ∙ lines_are_calls calls _ _) in
+    let lines = printed_stays text _ more (text_printed calls live live_bytes used resident rows) in
+    let cut = append_assoc (map call_fields calls) (lines_behind calls live live_bytes used resident rows) (lines_of more) in
+    let journal : journal_of (text ++ more) ≡ map told_by (map call_fields calls) = ap (map told_by) (ap call_lines (lines ∙ cut) ∙ lines_are_calls calls _ _) in
     let told = subst (λ forms. AllZip Tells forms calls) (sym journal) (all_tell plan calls run [] calls refl tellable) in
     record { calls = calls; told = told; order = order; run = run }
