@@ -17,7 +17,7 @@ use Rattle.heap_sample.specs.Samples.{bytes_asked, sample_under, weight_of, weig
 abbrev pub covered : ℕ → ℕ → ℕ
 covered step n = n / step * step
 
-add_mul : (a b c : ℕ) → (a + b) * c ≡ a * c + b * c
+pub add_mul : (a b c : ℕ) → (a + b) * c ≡ a * c + b * c
 add_mul a b c = omega arith
 
 -- they are at most the sum, and rise by the weight of a sample
@@ -88,7 +88,7 @@ filtered : {X : Type 0} (f : X → ℕ) (q : X → Bool) (xs : List X) → sum_b
 filtered f q xs = omega (arith, sum_by-filter_both q (λ x. not (q x)) (λ x. refl) f xs)
 
 -- a length as a sum
-counts : {X : Type 0} (xs : List X) → sum_by (λ x. 1) xs ≡ length xs
+pub counts : {X : Type 0} (xs : List X) → sum_by (λ x. 1) xs ≡ length xs
 counts [] = refl
 counts (x ∷ xs) = omega (arith, sum_by-cons (λ y. 1) x xs, counts xs)
 

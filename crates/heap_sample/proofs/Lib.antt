@@ -2,6 +2,8 @@ pub mod Bounds
 pub mod CallFacts
 pub mod FirstUses
 pub mod LiveFacts
+pub mod OnlyPeak
+pub mod OnlyRows
 pub mod RowFacts
 pub mod Sampling
 pub mod Threads

@@ -9,7 +9,7 @@ use Rattle.heap_sample.specs.declared.sample.ProfileRow.{ProfileRow}
 use Rattle.heap_sample.specs.Rows.{blocks_at, AreRows, IsPlaceOf, IsRowAt}
 
 -- a sum to which no item adds, and one to which a single item adds
-sum_none : {X : Type 0} (f : X → ℕ) (xs : List X) (d : X) → ((k : ℕ) → k < length xs → f (get_or xs k d) ≡ 0) → sum_by f xs ≡ 0
+pub sum_none : {X : Type 0} (f : X → ℕ) (xs : List X) (d : X) → ((k : ℕ) → k < length xs → f (get_or xs k d) ≡ 0) → sum_by f xs ≡ 0
 sum_none f [] d none = refl
 sum_none f (x ∷ xs) d none =
     let rest = sum_none f xs d (λ k l. none (suc k) (omega arith)) in

@@ -1,5 +1,6 @@
 -- The rows of a profile: how many live samples there are of each length, and what they stand for.
-use Rattle.std.specs.Prelude.{◌≡◌, ℕ, ◌<◌, ◌≤◌, ◌==◌, List, length, slice_index_or, All, AllPairs, sum_by, count_by, if◌then◌else◌}
+use Rattle.std.specs.Prelude.{◌≡◌, ℕ, ◌<◌, ◌≤◌, ◌==◌, List, [], ◌∷◌, length, map, slice_index_or, All, AllPairs, sum_by, count_by, if◌then◌else◌}
+use Rattle.tc_units.specs.Sorted.{with_item, without_key}
 use Rattle.heap_sample.specs.declared.sample.Sample.{Sample}
 use Rattle.heap_sample.specs.declared.sample.ProfileRow.{ProfileRow}
 
@@ -9,6 +10,18 @@ count_of len live = count_by (λ s. s.1.len == len) live
 
 abbrev pub bytes_of : ℕ → List (ℕ × Sample) → ℕ
 bytes_of len live = sum_by (λ s. if s.1.len == len then s.1.weight else 0) live
+
+-- the lengths that live samples have, each once, by rising length
+abbrev pub lengths_of : List (ℕ × Sample) → List ℕ
+lengths_of [] = []
+lengths_of (s ∷ live) = with_item (λ len. len) s.1.len (without_key (λ len. len) s.1.len (lengths_of live))
+
+-- a row for each of these lengths, with its live samples and what they stand for
+abbrev pub row_of : List (ℕ × Sample) → ℕ → ProfileRow
+row_of live len = record { len = len; blocks = count_of len live; bytes = bytes_of len live }
+
+abbrev pub rows_of : List (ℕ × Sample) → List ProfileRow
+rows_of live = map (row_of live) (lengths_of live)
 
 -- what rows have at a length
 abbrev pub blocks_at : ℕ → List ProfileRow → ℕ

@@ -1,5 +1,6 @@
 -- Which allocations of a run are sampled, with which weight, and which of these samples are live after its calls.
-use Rattle.std.specs.Prelude.{◌≡◌, ℕ, ◌+◌, ◌-◌, ◌*◌, ◌/◌, ◌^◌, ◌<◌, ◌≤◌, ◌==◌, nat_lt, not, List, [], ◌∷◌, ◌++◌, length, take, filter, sum_by, Any, None, false, if◌then◌else◌}
+use Rattle.std.specs.Prelude.{◌≡◌, ℕ, ◌+◌, ◌-◌, ◌*◌, ◌/◌, ◌^◌, ◌<◌, ◌≤◌, ◌==◌, nat_lt, not, List, [], ◌∷◌, ◌++◌, length, take, map, filter, fold, max, sum_by, Any, None, false, if◌then◌else◌}
+use Rattle.std.specs.List.{position_or_len, range_with_len}
 use Rattle.tc_units.specs.declared.units.Label.{Label}
 use Rattle.tc_model.specs.Blocks.{answer_to, freed_in}
 use Rattle.tc_model.specs.declared.calls.Call.{Call}
@@ -71,12 +72,25 @@ AreSame ones others = (f : ℕ × Sample → ℕ) → sum_by f ones ≡ sum_by f
 abbrev pub HasLabel : List (ℕ × Sample) → ℕ → Type 0
 HasLabel live label = Any (λ s. s.0 ≡ label) live
 
--- The peak is the greatest weight of live samples after any number of the calls, and the least such number.
+-- what the live samples stand for after so many of the calls, and after each number of them, from none to all
+abbrev pub weight_after : ℕ → List CallLine → ℕ → ℕ
+weight_after step calls k = weight_in (live_samples step (take k calls))
+
+abbrev pub weights_of : ℕ → List CallLine → List ℕ
+weights_of step calls = map (weight_after step calls) (range_with_len 0 (length calls + 1))
+
+-- The peak is the greatest of these weights, with the least number of calls that reaches it: by its value, and as what holds
+-- of it.
+abbrev pub peak_of : ℕ → List CallLine → Peak
+peak_of step calls =
+    let greatest = fold max 0 (weights_of step calls) in
+    record { bytes = greatest; call = position_or_len (λ weight. weight == greatest) (weights_of step calls) }
+
 pub record IsPeak (step : ℕ) (calls : List CallLine) (peak : Peak) : Type 0 where
   pub within : peak.call ≤ length calls
-  pub reached : weight_in (live_samples step (take peak.call calls)) ≡ peak.bytes
-  pub greatest : (k : ℕ) → k ≤ length calls → weight_in (live_samples step (take k calls)) ≤ peak.bytes
-  pub first : (k : ℕ) → k < peak.call → weight_in (live_samples step (take k calls)) < peak.bytes
+  pub reached : weight_after step calls peak.call ≡ peak.bytes
+  pub greatest : (k : ℕ) → k ≤ length calls → weight_after step calls k ≤ peak.bytes
+  pub first : (k : ℕ) → k < peak.call → weight_after step calls k < peak.bytes
 
 -- a label is new behind earlier calls: none allocates under it or frees it
 pub record IsNew (earlier : List CallLine) (label : ℕ) : Type 0 where

@@ -4,6 +4,7 @@
 
 mod laws;
 mod live;
+mod printed;
 mod profile;
 mod rows;
 mod sample;
@@ -13,6 +14,7 @@ mod text;
 mod whole;
 
 pub use laws::thread_law;
+pub use printed::push_profile_of;
 pub use profile::Profile;
 pub use sample::{Peak, ProfileRow, Sample};
 pub use whole::profile_of;

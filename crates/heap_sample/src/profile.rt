@@ -2,9 +2,8 @@
 ghost use Rattle.std.specs.Prelude.{◌≡◌, ℕ, ◌+◌, ◌^◌, ◌<◌, List, [], ◌∷◌, ◌++◌, IfOk, OnOk, OnErr, filter, length, not};
 ghost use Rattle.tc_model.specs.declared.answers.CallLine.{CallLine};
 ghost use Rattle.tc_model.specs.Blocks.{frees};
-ghost use Rattle.heap_sample.specs.declared.sample.ProfileRow.{ProfileRow};
 ghost use Rattle.heap_sample.specs.Samples.{bytes_asked, sampled, sample_under, weight_of, weight_in, AreSame, HasLabel, IsFirstUse, IsFresh, most_calls};
-ghost use Rattle.heap_sample.specs.Rows.{IsRowsOf};
+ghost use Rattle.heap_sample.specs.Rows.{rows_of, IsRowsOf};
 ghost use Rattle.heap_sample.specs.Profiles.{IsProfileOf, Follows};
 ghost use Rattle.heap_sample.specs.Lines.{profile_text};
 
@@ -152,8 +151,7 @@ impl Profile {
 
     /// The lines of the rows, and the line of the peak.
     pub fn text(&self) -> Result<Vec<u8>, AllocError>
-        ensures { IfOk result (λ text. (rows : List ProfileRow) × IsRowsOf self.now.live rows
-            × (text.items ≡ profile_text rows self.now.peak)) }
+        ensures { IfOk result (λ text. text.items ≡ profile_text (rows_of self.now.live) self.now.peak) }
     {
         let mut text = Vec::new(self.alloc);
         push_profile(&mut text, self.rows(), self.peak)?;

@@ -5,7 +5,7 @@ ghost use Rattle.tc_model.specs.declared.answers.Answer.{Answer};
 ghost use Rattle.heap_sample.specs.Samples.{most_calls};
 ghost use Rattle.heap_sample.specs.Profiles.{AreFirstUses};
 
-use crate::{Peak, ProfileRow, profile_of, thread_law};
+use crate::{Peak, ProfileRow, profile_of, push_profile_of, thread_law};
 use std::alloc::{AllocError, Global};
 use std::process::Abort;
 use std::test::Fail;
@@ -53,7 +53,7 @@ const FREED: Answer = Answer::Freed {
     addr: Addr(2097152),
 };
 
-/// Asserts the text of a profile.
+/// Asserts the text of a profile, as it is told by the profile and by the calls.
 fn assert_text(
     rt: &impl Abort,
     alloc: Global,
@@ -68,6 +68,9 @@ fn assert_text(
 {
     let profile = profile_of(alloc, lines, step, 64)?;
     assert_eq!(rt; profile.text()?.as_slice(), text.as_bytes());
+    let mut printed = Vec::new(alloc);
+    push_profile_of(alloc, &mut printed, lines, step, 64)?;
+    assert_eq!(rt; printed.as_slice(), text.as_bytes());
     Ok(())
 }
 
