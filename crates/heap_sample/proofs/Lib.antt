@@ -1,3 +1,4 @@
+pub mod BlockRuns
 pub mod Bounds
 pub mod CallFacts
 pub mod FirstUses
@@ -6,4 +7,5 @@ pub mod OnlyPeak
 pub mod OnlyRows
 pub mod RowFacts
 pub mod Sampling
+pub mod Scripts
 pub mod Threads
