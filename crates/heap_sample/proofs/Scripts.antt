@@ -1,14 +1,14 @@
 -- Calls that are the scripts of a trace's threads have of its threads, numbers, sizes and labels what the trace has.
 use Rattle.std.proofs.Common.{◌≡◌, ℕ, zero, suc, ◌+◌, ◌<◌, ◌≤◌, ◌==◌, Bool, true, false, nat_lt, List, [], ◌∷◌, ◌++◌, length, map, get_or}
 use Rattle.std.proofs.Common.{take, drop, cond, refl, subst, sym, ap, ◌∙◌, inl, inr, arith, append_assoc}
-use Rattle.std.specs.List.{sum_by, count_by, filter, All}
-use Rattle.std.proofs.lemmas.Bool.{cases_Bool, cases_eq, cases_lt, eq-eqb, ne_eqb, eqb-true, lt-ltb, le-ltb}
+use Rattle.std.specs.List.{sum_by, count_by, filter, list_any, All}
+use Rattle.std.proofs.lemmas.Bool.{cases_Bool, cases_eq, cases_lt, eq-eqb, ne_eqb, eqb-true, ltb-false, lt-ltb, le-ltb}
 use Rattle.std.proofs.lemmas.List.{append-nil, drop_more, take-append-drop}
 use Rattle.std.proofs.lemmas.List.Elements.{All-head, All-tail}
 use Rattle.std.proofs.lemmas.List.Folds.{fold-map}
 use Rattle.std.proofs.lemmas.List.Sums.{sum_by-cons, sum_by-append, length-filter}
 use Rattle.tc_units.specs.declared.units.Label.{Label}
-use Rattle.tc_units.proofs.Counts.{count_none, count_some, one-true, one-false}
+use Rattle.tc_units.proofs.Counts.{any_is_count, count_none, count_some, one-true, one-false}
 use Rattle.tc_model.specs.Blocks.{allocates, IsBlockRun}
 use Rattle.tc_model.specs.Input.{ThreadCall, Asked, script_of}
 use Rattle.tc_model.specs.declared.calls.Call.{Call}
@@ -84,7 +84,7 @@ planned_among label calls = count_by (λ c. allocates label c.planned.call) call
 -- each allocation of a trace is small, and the first one of its label
 abbrev pub KeepsLabels : List ThreadCall → Type 0
 KeepsLabels calls = (earlier : List ThreadCall) (c : ThreadCall) (later : List ThreadCall) → earlier ++ c ∷ later ≡ calls
-    → (label : Label) (size : ℕ) → c.planned.call ≡ Malloc label size → (size ≤ most_size) × (planned_among label.0 earlier ≡ 0)
+    → (label : Label) (size : ℕ) → c.planned.call ≡ Malloc label size → (size ≤ most_size) × (list_any (λ d. allocates label.0 d.planned.call) earlier ≡ false)
 
 is_malloc : (label : ℕ) (call : Call) → allocates label call ≡ true → (l : Label) × (size : ℕ) × (call ≡ Malloc l size) × (l.0 ≡ label)
 is_malloc label (Malloc l size) is = (l, size, refl, eqb-true l.0 label is)
@@ -100,7 +100,8 @@ once_in calls keeps label earlier (c ∷ later) is few =
     let more = sum_by-append (λ (d : ThreadCall). cond (allocates label d.planned.call) 1 0) earlier (c ∷ []) in
     let next : planned_among label (earlier ++ c ∷ []) ≤ 1 = elim (cases_Bool (allocates label c.planned.call)) [
       | inl own ↦ (let m = is_malloc label c.planned.call own in
-          let none = (keeps earlier c later is m.0 m.1 m.2).1 in
+          let new = sym (any_is_count (λ (d : ThreadCall). allocates m.0.0 d.planned.call) earlier) ∙ (keeps earlier c later is m.0 m.1 m.2).1 in
+          let none = ltb-false 0 (planned_among m.0.0 earlier) new in
           omega (arith, ap (λ l. planned_among l earlier) m.3, none, more, one-true (allocates label c.planned.call) own))
       | inr not_own ↦ omega (arith, few, more, one-false (allocates label c.planned.call) not_own)
     ] in
