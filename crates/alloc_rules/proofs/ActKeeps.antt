@@ -1,72 +1,35 @@
 -- Each act, at whatever part, leaves the local its shape and keeps the front-end's invariant.
-use Rattle.std.proofs.Common.{◌≡◌, ℕ, ◌+◌, ◌*◌, ◌/◌, ◌^◌, ◌<◌, ◌≤◌, List, [], ◌∷◌, ◌++◌, length, Option, Some, None, refl, sym, ap, ◌∙◌, subst, inl, inr, arith}
-use Rattle.std.specs.Prelude.{All, find, slice_get, slice_set}
-use Rattle.std.proofs.lemmas.List.{length-append}
-use Rattle.tc_units.specs.Units.{page_bytes, pages_holding}
-use Rattle.tc_units.specs.Bag.{Contents}
-use Rattle.tc_units.specs.declared.units.Addr.{Addr}
-use Rattle.tc_units.specs.declared.units.Class.{Class}
-use Rattle.tc_units.specs.declared.units.Label.{Label}
-use Rattle.tc_units.specs.declared.units.ThreadNo.{ThreadNo}
-use Rattle.tc_units.specs.declared.spans.ClassRow.{ClassRow}
-use Rattle.tc_units.specs.declared.spans.SpanRef.{SpanRef}
-use Rattle.tc_units.specs.declared.spans.SpanKind.{SpanKind}
-use Rattle.tc_units.specs.declared.spans.SpanKind.TheVariants.{Small, Large}
-use Rattle.tc_model.specs.declared.calls.Call.TheVariants.{Malloc, Free, Release}
-use Rattle.tc_model.specs.declared.calls.Planned.{Planned}
-use Rattle.tc_model.specs.declared.answers.Answer.{Answer}
-use Rattle.tc_model.specs.declared.answers.Answer.TheVariants.{Block, NoBlock, Freed, FreedNull, Released}
-use Rattle.page_map.specs.Spans.{SpanMap, holds}
-use Rattle.name_table.specs.declared.table.NameState.{NameState}
+use Rattle.std.proofs.Common.{◌≡◌, ℕ, ◌+◌, ◌*◌, ◌/◌, ◌^◌, ◌<◌, ◌≤◌, List, [], ◌∷◌, ◌++◌, length, Option, Some, None, refl, sym, ap, ◌∙◌, subst, inl, inr}
+use Rattle.std.proofs.Common.{arith, All, find, slice_get, slice_set}
+use Rattle.alloc_rules.proofs.Common.{length-append, page_bytes, pages_holding, Contents, Addr, Class, Label, ThreadNo, ClassRow, SpanRef, SpanKind, Small}
+use Rattle.alloc_rules.proofs.Common.{Large, Malloc, Free, Release, Planned, Answer, Block, NoBlock, Freed, FreedNull, Released, SpanMap, holds, NameState}
+use Rattle.alloc_rules.proofs.Common.{state_of, Placed, new, release, Regs, LOADED_ROOM, room, appended, opening, IsFetched, IsAdded, fetch_moves, add_moves}
+use Rattle.alloc_rules.proofs.Common.{give_moves, small, address_of, run_of, Asking, Freeing, Giving, Onward, Next, Step, ShardStep, HeapStep, MapStep}
+use Rattle.alloc_rules.proofs.Common.{NamesStep, Local, step_or, no_class, class_row, decided, goes, ends, with_regs, serves, with_freed, clears, with_more}
+use Rattle.alloc_rules.proofs.Common.{fetches, with_spans_behind, shard_row, after_new, after_new_span, without_first_span, frees_span, heap_row, found}
+use Rattle.alloc_rules.proofs.Common.{after_lookup, clears_span, map_row, after_take, names_row, MayDecide, MayGoOnDecided, says, goes_or_ends, follows}
+use Rattle.alloc_rules.proofs.Common.{About, call_about, HasNoLabel, IsClassRow, AreRows, BeginsWith, most_slots, At, Here, Away, Standing, stand, at_row}
+use Rattle.alloc_rules.proofs.Common.{at_onward, at_next, regs_next, at_shard, at_heap, at_map, at_step, IsAsked, HandAbout, HasNone, HasSpans, IsLater}
+use Rattle.alloc_rules.proofs.Common.{IsOnward, ShardShape, HeapShape, MapShape, StepShape, IsShaped, IsAct, IsLawful, FrontRules, Left, FitsShard, FitsMap}
+use Rattle.alloc_rules.proofs.Common.{IsKept, IsLowRun, ShardActsKeep, HeapActsKeep, IsKindThere, IsFoundClass, MapActsKeep, NamesActsKeep, FrontActsKeep}
+use Rattle.alloc_rules.specs.FrontLaw.{IsReady}
+use Rattle.central_free.specs.Central.{IsSound}
+use Rattle.class_shard.specs.Laws.{IsGiven}
 use Rattle.name_table.specs.declared.table.NameState.TheVariants as name
-use Rattle.name_table.specs.Names.{state_of}
 use Rattle.heap_rules.specs.Heap as heaps
-use Rattle.heap_rules.specs.New.{Placed, new}
-use Rattle.heap_rules.specs.Release.{release}
-use Rattle.rseq_core.specs.declared.regs.Regs.{Regs}
-use Rattle.rseq_core.specs.declared.regs.TheConstants.{LOADED_ROOM}
-use Rattle.rseq_core.specs.Bags.{room, appended}
-use Rattle.central_free.specs.Central.{IsSound, opening}
 use Rattle.class_shard.specs.Shard as shards
-use Rattle.class_shard.specs.Laws.{IsFetched, IsAdded, IsGiven}
-use Rattle.class_shard.proofs.FetchesMove.{fetch_moves}
-use Rattle.class_shard.proofs.AddsMove.{add_moves}
-use Rattle.class_shard.proofs.GivesMove.{give_moves}
-use Rattle.holdings.specs.Runs.{small, address_of, run_of}
-use Rattle.call_steps.specs.declared.step.Asking.{Asking}
-use Rattle.call_steps.specs.declared.step.Freeing.{Freeing}
-use Rattle.call_steps.specs.declared.step.Giving.{Giving}
 use Rattle.call_steps.specs.declared.step.Giving.TheVariants as giving
-use Rattle.call_steps.specs.declared.step.Onward.{Onward}
 use Rattle.call_steps.specs.declared.step.Onward.TheVariants as onward
-use Rattle.call_steps.specs.declared.step.Next.{Next}
 use Rattle.call_steps.specs.declared.step.Next.TheVariants as next
-use Rattle.call_steps.specs.declared.step.Step.{Step}
 use Rattle.call_steps.specs.declared.step.Step.TheVariants as does
-use Rattle.call_steps.specs.declared.step.ShardStep.{ShardStep}
 use Rattle.call_steps.specs.declared.step.ShardStep.TheVariants as shard
-use Rattle.call_steps.specs.declared.step.HeapStep.{HeapStep}
 use Rattle.call_steps.specs.declared.step.HeapStep.TheVariants as heap
-use Rattle.call_steps.specs.declared.step.MapStep.{MapStep}
 use Rattle.call_steps.specs.declared.step.MapStep.TheVariants as map
-use Rattle.call_steps.specs.declared.step.NamesStep.{NamesStep}
 use Rattle.call_steps.specs.declared.step.NamesStep.TheVariants as names
-use Rattle.call_steps.specs.Local.{Local, step_or, no_class, class_row, decided, goes, ends}
-use Rattle.call_steps.specs.Hands.{with_regs, serves, with_freed, clears}
-use Rattle.call_steps.specs.ShardActs.{with_more, fetches, with_spans_behind, shard_row}
-use Rattle.call_steps.specs.Acts.{after_new, after_new_span, without_first_span, frees_span, heap_row, found, after_lookup, clears_span, map_row, after_take, names_row}
-use Rattle.call_steps.specs.Follows.{MayDecide, MayGoOnDecided, says, goes_or_ends, follows}
 use Rattle.call_steps.specs.Calls as calls
-use Rattle.call_steps.specs.Calls.{About, call_about, HasNoLabel}
-use Rattle.call_steps.specs.Shapes.{IsClassRow, AreRows, BeginsWith, most_slots}
-use Rattle.alloc_rules.specs.Standings.{At, Here, Away, Standing, stand, at_row, at_onward, at_next, regs_next, at_shard, at_heap, at_map, at_step}
-use Rattle.alloc_rules.specs.Shapes.{IsAsked, HandAbout, HasNone, HasSpans, IsLater, IsOnward, ShardShape, HeapShape, MapShape, StepShape, IsShaped}
 use Rattle.alloc_rules.specs.FrontLaw as fronts
-use Rattle.alloc_rules.specs.FrontLaw.{IsReady, IsAct, IsLawful}
-use Rattle.call_steps.specs.Fronts.{FrontRules, Left}
-use Rattle.call_steps.specs.Fits.{FitsShard, FitsMap}
-use Rattle.alloc_rules.specs.Laws.{IsKept, IsLowRun, ShardActsKeep, HeapActsKeep, IsKindThere, IsFoundClass, MapActsKeep, NamesActsKeep, FrontActsKeep}
-use Rattle.alloc_rules.proofs.Keeping.{IsCommon, common_of, IsNext, behind, stays_away, goes_away, publishes_next, ends_next, serves_next, entry_shape, entry_at, later_shape, waits_at, NotHere, giving_not, onward_not, clears_next, gave_next, given_back_next}
+use Rattle.alloc_rules.proofs.Keeping.{IsCommon, IsNext, NotHere, behind, clears_next, common_of, ends_next, entry_at, entry_shape, gave_next}
+use Rattle.alloc_rules.proofs.Keeping.{given_back_next, giving_not, goes_away, later_shape, onward_not, publishes_next, serves_next, stays_away, waits_at}
 
 shard_not : {R : Type 0} (row : ShardStep R) → NotHere (at_shard row)
 shard_not (shard.Fetch a) = tt

@@ -1,61 +1,21 @@
 -- What holds after every order, from the books of its parts and locals.
-use Rattle.std.proofs.Common.{◌≡◌, ℕ, ◌+◌, ◌*◌, ◌<◌, ◌≤◌, ◌⊎◌, ◌↔◌, true, false, eqb, List, length, map, Option, Some, None, refl, sym, ap, ◌∙◌, subst, inl, inr, arith}
-use Rattle.std.specs.Prelude.{sum_by, slice_get, All, MatchOption}
-use Rattle.std.proofs.lemmas.List.Elements.{All-weaker}
-use Rattle.std.proofs.lemmas.Bool.{cases_Bool, cond-true, eq-eqb, false≢true}
-use Rattle.tc_units.specs.declared.units.Addr.{Addr}
-use Rattle.tc_units.specs.declared.spans.Run.{Run}
-use Rattle.tc_model.specs.declared.machine.TheConstants.{MOST_PICKS}
-use Rattle.tc_model.specs.Input.{script_of, Asked}
-use Rattle.tc_model.specs.Run.{World, run}
-use Rattle.tc_model.specs.Replays.{HaveEnded}
-use Rattle.tc_model.specs.Blocks.{Extent, blocks_after, live_bytes}
-use Rattle.tc_model.specs.declared.answers.CallLine.{CallLine}
-use Rattle.tc_model.specs.declared.calls.Planned.{Planned}
-use Rattle.name_table.specs.declared.table.NameState.{NameState}
-use Rattle.name_table.specs.declared.table.NameState.TheVariants as name
-use Rattle.name_table.specs.Names.{state_of}
-use Rattle.heap_rules.specs.declared.config.HeapConfig.{HeapConfig}
-use Rattle.heap_rules.specs.Heap as heaps
-use Rattle.heap_rules.specs.New.{Placed, new, none_fits}
-use Rattle.heap_rules.specs.Laws.{IsGiven}
-use Rattle.heap_rules.specs.Sound.{IsSound}
-use Rattle.heap_rules.proofs.Given.{new_gives}
-use Rattle.holdings.specs.Runs.{small, runs_at, spans_at, objects_at}
-use Rattle.holdings.specs.Accounts.{Account, loose, in_hand, named_at}
-use Rattle.holdings.specs.Books.{Setup, Stock, Books, class_number}
-use Rattle.holdings.specs.Facts.{IsStanding, Facts}
-use Rattle.holdings.proofs.Sums.{least, none_counts, of_all, sum_of_both, class_zero}
-use Rattle.holdings.proofs.Held.{objects_are_once, names_are_live}
+use Rattle.std.proofs.Common.{◌≡◌, ℕ, ◌+◌, ◌*◌, ◌<◌, ◌≤◌, ◌⊎◌, ◌↔◌, true, false, eqb, List, length, map, Option, Some, None, refl, sym, ap, ◌∙◌, subst, inl}
+use Rattle.std.proofs.Common.{inr, arith, sum_by, slice_get, All, MatchOption}
+use Rattle.alloc_rules.proofs.Common.{All-weaker, cases_Bool, cond-true, eq-eqb, false≢true, Addr, Run, MOST_PICKS, script_of, Asked, World, run, HaveEnded}
+use Rattle.alloc_rules.proofs.Common.{Extent, blocks_after, live_bytes, CallLine, Planned, NameState, state_of, HeapConfig, Placed, new, none_fits, IsGiven}
+use Rattle.alloc_rules.proofs.Common.{IsSound, new_gives, small, runs_at, spans_at, objects_at, Account, loose, in_hand, named_at, Setup, Stock, Books}
+use Rattle.alloc_rules.proofs.Common.{class_number, IsStanding, Facts, least, none_counts, of_all, sum_of_both, class_zero, objects_are_once, names_are_live}
+use Rattle.alloc_rules.proofs.Common.{page_bytes, pages_holding, class_row, Local, under, About, Parts, place_of, rules, lines_by, TellsFirst, TellsScript}
+use Rattle.alloc_rules.proofs.Common.{is_under_way, stock_of, AreBooksOf, IsValid, pages_asked, calls, setup_of, books_of, HoldsAfter, Regs, Step, Part}
+use Rattle.alloc_rules.proofs.Common.{account_of, Standing, StepShape, IsLawful, FrontRules}
 use Rattle.holdings.proofs.Blocks.{bytes_are_within}
-use Rattle.tc_units.specs.Units.{page_bytes, pages_holding}
+use Rattle.name_table.specs.declared.table.NameState.TheVariants as name
+use Rattle.heap_rules.specs.Heap as heaps
 use Rattle.call_steps.specs.declared.step.Step.TheVariants as does
 use Rattle.call_steps.specs.declared.step.HeapStep.TheVariants as heap
-use Rattle.call_steps.specs.Local.{class_row, Local}
-use Rattle.call_steps.specs.Calls.{under, About}
-use Rattle.alloc_rules.specs.Machine.{Parts, place_of, rules}
-use Rattle.alloc_rules.specs.Told.{lines_by, TellsFirst, TellsScript}
-use Rattle.alloc_rules.specs.Scripts.{is_under_way}
-use Rattle.alloc_rules.specs.Stocks.{stock_of, AreBooksOf}
-use Rattle.alloc_rules.specs.Valid.{IsValid}
-use Rattle.alloc_rules.specs.Answers.{pages_asked}
-use Rattle.alloc_rules.specs.Law.{calls, setup_of, books_of, HoldsAfter}
-use Rattle.alloc_rules.proofs.PartFits.{row_at_class, some_size}
-use Rattle.alloc_rules.proofs.Answering.{answers_none}
-use Rattle.alloc_rules.proofs.Reached.{there_is}
-use Rattle.alloc_rules.proofs.SerialGoes.{wants_by}
-use Rattle.alloc_rules.proofs.Serving.{IsServed}
-use Rattle.alloc_rules.proofs.Telling.{tells_first, takes_all}
-use Rattle.alloc_rules.proofs.Same.{same_starts, same_pages, same_spans}
-use Rattle.rseq_core.specs.declared.regs.Regs.{Regs}
-use Rattle.call_steps.specs.declared.step.Step.{Step}
-use Rattle.alloc_rules.specs.declared.part.Part.{Part}
-use Rattle.alloc_rules.specs.Accounts.{account_of}
-use Rattle.alloc_rules.specs.Standings.{Standing}
-use Rattle.alloc_rules.specs.Shapes.{StepShape}
-use Rattle.alloc_rules.specs.FrontLaw.{IsLawful}
-use Rattle.call_steps.specs.Fronts.{FrontRules}
-use Rattle.alloc_rules.proofs.Elsewhere.{refuses_there}
+use Rattle.alloc_rules.proofs.{Answering.answers_none, Elsewhere.refuses_there, PartFits.row_at_class, PartFits.some_size, Reached.there_is}
+use Rattle.alloc_rules.proofs.{SerialGoes.wants_by, Serving.IsServed, Telling.takes_all, Telling.tells_first}
+use Rattle.alloc_rules.proofs.Same.{same_pages, same_spans, same_starts}
 
 -- an allocation gets none exactly where none fits
 none_by : (heap : heaps.Heap) (n : ℕ) (o : Option Placed) → MatchOption o (none_fits heap n ≡ true) (λ x. IsGiven heap n x × (none_fits heap n ≡ false)) → (o ≡ None) ↔ (none_fits heap n ≡ true)

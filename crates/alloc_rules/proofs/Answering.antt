@@ -1,24 +1,11 @@
 -- An allocation is answered none exactly where the heap has no run for it.
 use Rattle.std.proofs.Common.{◌≡◌, ℕ, ◌+◌, ◌≤◌, ◌↔◌, Bool, true, [], ◌∷◌, ◌++◌, length, Option, Some, None, refl, sym, ap, ◌∙◌, subst, arith}
-use Rattle.std.proofs.lemmas.List.{append_cancel_left, length-append}
-use Rattle.tc_units.specs.Units.{pages_holding}
-use Rattle.tc_units.specs.declared.units.Label.{Label}
-use Rattle.tc_model.specs.declared.calls.Call.{Call}
-use Rattle.tc_model.specs.declared.calls.Call.TheVariants.{Malloc}
-use Rattle.tc_model.specs.declared.answers.Answer.{Answer}
-use Rattle.tc_model.specs.declared.answers.Answer.TheVariants.{Block, NoBlock}
+use Rattle.alloc_rules.proofs.Common.{append_cancel_left, length-append, pages_holding, Label, Call, Malloc, Answer, Block, NoBlock, Placed, new, none_fits}
+use Rattle.alloc_rules.proofs.Common.{address_of, Asking, FrontCalls, FrontRules, Decided, closes, ends, class_row, Local, after_new, after_new_span}
+use Rattle.alloc_rules.proofs.Common.{heap_after, Decides, pages_asked, AnswersNone, Step, About}
 use Rattle.heap_rules.specs.Heap as heaps
-use Rattle.heap_rules.specs.New.{Placed, new, none_fits}
-use Rattle.holdings.specs.Runs.{address_of}
-use Rattle.call_steps.specs.declared.step.Asking.{Asking}
 use Rattle.call_steps.specs.declared.step.Step.TheVariants as does
 use Rattle.call_steps.specs.declared.step.HeapStep.TheVariants as heap
-use Rattle.call_steps.specs.Fronts.{FrontCalls, FrontRules}
-use Rattle.call_steps.specs.Local.{Decided, closes, ends, class_row, Local}
-use Rattle.call_steps.specs.Acts.{after_new, after_new_span, heap_after}
-use Rattle.alloc_rules.specs.Answers.{Decides, pages_asked, AnswersNone}
-use Rattle.call_steps.specs.declared.step.Step.{Step}
-use Rattle.call_steps.specs.Calls.{About}
 
 pub decides_by : {V R : Type 0} (l next : Local V R) (call : Call) (x y : Answer) → next.answers ≡ l.answers ++ record { act = l.acts; call = call; answer = x } ∷ [] → Decides l next y ↔ (x ≡ y)
 decides_by l next call x y is = (

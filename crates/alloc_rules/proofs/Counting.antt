@@ -1,14 +1,9 @@
 -- Objects and spans, as the laws of shards count them and as the books do.
-use Rattle.std.proofs.Common.{◌≡◌, ℕ, ◌+◌, ◌-◌, Bool, true, false, cond, eqb, List, [], ◌∷◌, ◌++◌, length, take, drop, reverse, count_by, refl, sym, ap, ◌∙◌, arith}
-use Rattle.std.proofs.lemmas.List.{take-append-drop, reverse-append}
-use Rattle.std.proofs.lemmas.List.Sums.{sum_by-cons}
-use Rattle.tc_units.specs.declared.units.Addr.{Addr}
-use Rattle.tc_units.specs.declared.spans.Run.{Run}
-use Rattle.tc_units.specs.declared.spans.SpanRef.{SpanRef}
-use Rattle.transfer_cache.specs.Transfer.{last_first, without_last}
-use Rattle.class_shard.specs.Laws.{found_at, begun_at}
-use Rattle.holdings.specs.Runs.{bit, first_byte, run_of, same_run, same_span, runs_like, objects_at, spans_like, spans_at}
-use Rattle.holdings.proofs.Sums.{Counts, counts_append, like, like_span, starting_span}
+use Rattle.std.proofs.Common.{◌≡◌, ℕ, ◌+◌, ◌-◌, Bool, true, false, cond, eqb, List, [], ◌∷◌, ◌++◌, length, take, drop, reverse, count_by, refl, sym, ap, ◌∙◌}
+use Rattle.std.proofs.Common.{arith}
+use Rattle.alloc_rules.proofs.Common.{take-append-drop, reverse-append, sum_by-cons, Addr, Run, SpanRef, last_first, without_last, found_at, begun_at, bit}
+use Rattle.alloc_rules.proofs.Common.{first_byte, run_of, same_run, same_span, runs_like, objects_at, spans_like, spans_at, Counts, counts_append, like}
+use Rattle.alloc_rules.proofs.Common.{like_span, starting_span}
 
 pub at_object : (n : ℕ) → Counts (objects_at n) (λ (x : Addr). bit (eqb x.0 n))
 at_object n = record { none = refl; more = λ x xs. refl }

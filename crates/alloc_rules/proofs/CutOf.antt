@@ -1,29 +1,11 @@
 -- The stock of sound shards is cut into objects.
-use Rattle.std.proofs.Common.{◌≡◌, ℕ, ◌<◌, ◌≤◌, List, length, Some, sym, ap, ◌∙◌, arith, inl, inr}
-use Rattle.std.specs.Prelude.{All}
-use Rattle.std.specs.List.{slice_get}
-use Rattle.std.proofs.lemmas.Bool.{cases_lt}
-use Rattle.std.proofs.lemmas.List.{get_or_past}
-use Rattle.std.proofs.lemmas.List.Sums.{sum_by-le-sum_by}
-use Rattle.std.proofs.lemmas.List.Elements.{All-map, All-weaker}
-use Rattle.std.proofs.lemmas.Option.{slice_get_within, get_or_from_slice_get, slice_get-get_or}
-use Rattle.tc_units.specs.declared.spans.ClassRow.{ClassRow}
-use Rattle.tc_units.specs.declared.spans.SpanRef.{SpanRef}
-use Rattle.tc_units.specs.declared.spans.SpanKind.TheVariants.{Small}
-use Rattle.span_list.specs.Span.{SpanState}
-use Rattle.central_free.specs.Central.{IsOfRow}
-use Rattle.class_shard.specs.Shard.{Shard}
-use Rattle.class_shard.specs.Laws.{spans_in, objects_in_spans, found_at, IsCutInto, LiesInSpan}
-use Rattle.class_shard.proofs.SpansAreCut.{spans_cut}
-use Rattle.holdings.specs.Runs.{first_byte, run_of, same_span, objects_at, spans_like, spans_at}
-use Rattle.holdings.specs.Books.{class_number, no_row, size_of, IsOfClass, LiesIn, Begins, IsCut}
-use Rattle.holdings.proofs.Sums.{least, counted, like_span, starting_span, counts_most, same_span_refl, same_span_run, same_run_start}
-use Rattle.holdings.proofs.MapFacts.{span_all, span_at_found}
-use Rattle.alloc_rules.specs.Machine.{Parts}
-use Rattle.alloc_rules.specs.Stocks.{no_shard, shard_at, stock_of, IsShardOf}
-use Rattle.alloc_rules.proofs.Counting.{objects_count, spans_count, begun_count}
-use Rattle.call_steps.specs.Fronts.{FrontRules}
-use Rattle.call_steps.specs.Calls.{About}
+use Rattle.std.proofs.Common.{◌≡◌, ℕ, ◌<◌, ◌≤◌, List, length, Some, sym, ap, ◌∙◌, arith, inl, inr, All, slice_get}
+use Rattle.alloc_rules.proofs.Common.{cases_lt, get_or_past, sum_by-le-sum_by, All-map, All-weaker, slice_get_within, get_or_from_slice_get, slice_get-get_or}
+use Rattle.alloc_rules.proofs.Common.{ClassRow, SpanRef, Small, SpanState, IsOfRow, Shard, spans_in, objects_in_spans, found_at, IsCutInto, LiesInSpan}
+use Rattle.alloc_rules.proofs.Common.{spans_cut, first_byte, run_of, same_span, objects_at, spans_like, spans_at, class_number, no_row, size_of, IsOfClass}
+use Rattle.alloc_rules.proofs.Common.{LiesIn, Begins, IsCut, least, counted, like_span, starting_span, counts_most, same_span_refl, same_span_run}
+use Rattle.alloc_rules.proofs.Common.{same_run_start, span_all, span_at_found, Parts, no_shard, shard_at, stock_of, IsShardOf, FrontRules, About}
+use Rattle.alloc_rules.proofs.Counting.{begun_count, objects_count, spans_count}
 
 -- the spans of a shard are of its row
 pub row_pages : (x : Shard) → All (IsOfRow x.central.row) x.central.spans → All (λ (s : SpanRef). s.pages ≡ x.central.row.pages) (spans_in x)

@@ -1,38 +1,17 @@
 -- What no act does, over any front-end: it lowers no number of ended calls, and refuses a call only where its step may.
-use Rattle.std.proofs.Common.{◌≡◌, ℕ, ◌*◌, ◌/◌, ◌≤◌, Bool, true, false, List, [], ◌∷◌, ◌++◌, Option, Some, None, refl, sym, ap, ◌∙◌, arith}
-use Rattle.std.specs.Prelude.{find}
-use Rattle.std.proofs.lemmas.Bool.{false≢true}
-use Rattle.tc_units.specs.Units.{page_bytes, pages_holding}
-use Rattle.tc_units.specs.declared.units.Addr.{Addr}
-use Rattle.tc_units.specs.declared.units.Label.{Label}
-use Rattle.tc_units.specs.declared.spans.SpanRef.{SpanRef}
-use Rattle.tc_units.specs.declared.spans.SpanKind.{SpanKind}
-use Rattle.tc_units.specs.declared.spans.SpanKind.TheVariants.{Small, Large}
-use Rattle.tc_model.specs.declared.calls.Call.{Call}
-use Rattle.tc_model.specs.declared.calls.Call.TheVariants.{Malloc, Free, Release}
-use Rattle.tc_model.specs.declared.answers.Answer.{Answer}
-use Rattle.tc_model.specs.declared.answers.Answer.TheVariants.{Block, Freed, FreedNull, Released, NoBlock}
-use Rattle.page_map.specs.Spans.{SpanMap, holds}
-use Rattle.name_table.specs.declared.table.NameState.{NameState}
+use Rattle.std.proofs.Common.{◌≡◌, ℕ, ◌*◌, ◌/◌, ◌≤◌, Bool, true, false, List, [], ◌∷◌, ◌++◌, Option, Some, None, refl, sym, ap, ◌∙◌, arith, find}
+use Rattle.alloc_rules.proofs.Common.{false≢true, page_bytes, pages_holding, Addr, Label, SpanRef, SpanKind, Small, Large, Call, Malloc, Free, Release}
+use Rattle.alloc_rules.proofs.Common.{Answer, Block, Freed, FreedNull, Released, NoBlock, SpanMap, holds, NameState, state_of, Placed, new, release, Regs}
+use Rattle.alloc_rules.proofs.Common.{without_first, emptied, opening, small, address_of, Asking, Serving, Giving, Onward, Step, Next, ShardStep, HeapStep}
+use Rattle.alloc_rules.proofs.Common.{MapStep, NamesStep, FrontCalls, FrontRules, Local, decided, ends, class_row, Decided, About, call_about, with_hand}
+use Rattle.alloc_rules.proofs.Common.{stocks, serves_first, goes_onward, gave, clears, with_freed, says_in, goes_or_ends, follows, with_more, fetches}
+use Rattle.alloc_rules.proofs.Common.{with_spans_behind, shard_row, after_new, after_new_span, frees_span, without_first_span, heap_row, found, after_lookup}
+use Rattle.alloc_rules.proofs.Common.{clears_span, map_row, after_take, names_row, shard_after, heap_after, map_after, names_after, front_after, Decides}
+use Rattle.alloc_rules.proofs.Common.{RefusesThere, Part, RefusesAs, after}
+use Rattle.call_steps.specs.Refusals.{is_refusal, may_refuse}
 use Rattle.name_table.specs.declared.table.NameState.TheVariants as name
-use Rattle.name_table.specs.Names.{state_of}
 use Rattle.heap_rules.specs.Heap as heaps
-use Rattle.heap_rules.specs.New.{Placed, new}
-use Rattle.heap_rules.specs.Release.{release}
-use Rattle.rseq_core.specs.declared.regs.Regs.{Regs}
-use Rattle.rseq_core.specs.Bags.{without_first, emptied}
-use Rattle.central_free.specs.Central.{opening}
 use Rattle.class_shard.specs.Shard as shards
-use Rattle.holdings.specs.Runs.{small, address_of}
-use Rattle.call_steps.specs.declared.step.Asking.{Asking}
-use Rattle.call_steps.specs.declared.step.Serving.{Serving}
-use Rattle.call_steps.specs.declared.step.Giving.{Giving}
-use Rattle.call_steps.specs.declared.step.Onward.{Onward}
-use Rattle.call_steps.specs.declared.step.Step.{Step}
-use Rattle.call_steps.specs.declared.step.Next.{Next}
-use Rattle.call_steps.specs.declared.step.ShardStep.{ShardStep}
-use Rattle.call_steps.specs.declared.step.HeapStep.{HeapStep}
-use Rattle.call_steps.specs.declared.step.MapStep.{MapStep}
 use Rattle.call_steps.specs.declared.step.Giving.TheVariants as giving
 use Rattle.call_steps.specs.declared.step.Onward.TheVariants as onward
 use Rattle.call_steps.specs.declared.step.Step.TheVariants as does
@@ -40,22 +19,9 @@ use Rattle.call_steps.specs.declared.step.Next.TheVariants as next
 use Rattle.call_steps.specs.declared.step.ShardStep.TheVariants as shard
 use Rattle.call_steps.specs.declared.step.HeapStep.TheVariants as heap
 use Rattle.call_steps.specs.declared.step.MapStep.TheVariants as mapped
-use Rattle.call_steps.specs.declared.step.NamesStep.{NamesStep}
 use Rattle.call_steps.specs.declared.step.NamesStep.TheVariants as names
-use Rattle.call_steps.specs.Fronts.{FrontCalls, FrontRules}
-use Rattle.call_steps.specs.Local.{Local, decided, ends, class_row, Decided}
-use Rattle.call_steps.specs.Calls.{About, call_about}
-use Rattle.call_steps.specs.Hands.{with_hand, stocks, serves_first, goes_onward, gave, clears, with_freed}
-use Rattle.call_steps.specs.Follows.{says as says_in, goes_or_ends, follows}
-use Rattle.call_steps.specs.ShardActs.{with_more, fetches, with_spans_behind, shard_row}
-use Rattle.call_steps.specs.Acts.{after_new, after_new_span, frees_span, without_first_span, heap_row, found, after_lookup, clears_span, map_row, after_take, names_row, shard_after, heap_after, map_after, names_after, front_after}
-use Rattle.call_steps.specs.Refusals.{is_refusal, may_refuse}
-use Rattle.alloc_rules.specs.Answers.{Decides, RefusesThere}
-use Rattle.alloc_rules.specs.declared.part.Part.{Part}
 use Rattle.alloc_rules.specs.declared.part.Part.TheVariants as part
-use Rattle.alloc_rules.specs.FrontLaw.{RefusesAs}
-use Rattle.alloc_rules.specs.Machine.{after}
-use Rattle.alloc_rules.proofs.Answering.{GoesAs, ends_goes, decides_by, decides_none}
+use Rattle.alloc_rules.proofs.Answering.{GoesAs, decides_by, decides_none, ends_goes}
 
 -- An act leaves no fewer ended calls, and refused none.
 pub record Plain {V R : Type 0} (l y : Local V R) : Type 0 where

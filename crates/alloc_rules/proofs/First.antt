@@ -1,70 +1,30 @@
 -- What holds of the parts, the threads and the books before the first act.
-use Rattle.std.proofs.Common.{◌≡◌, ℕ, zero, suc, ◌+◌, ◌<◌, false, get_or, List, [], ◌∷◌, length, drop, map, replicate, Option, Some, None, refl, sym, ap, ◌∙◌, subst, inr, arith}
-use Rattle.std.specs.Prelude.{◌++◌, slice_set, is_some, option_map, sum_by, All, slice_get}
-use Rattle.std.specs.List.{range_with_len}
-use Rattle.std.proofs.lemmas.Bool.{false≢true}
-use Rattle.std.proofs.lemmas.Option.{slice_get-get_or, slice_get-map, slice_get_within}
-use Rattle.std.proofs.lemmas.List.{length-append, length-map}
-use Rattle.std.proofs.lemmas.List.FromFn.{length-range_with_len, get_or-range_with_len}
-use Rattle.std.proofs.lemmas.List.Sums.{sum_by-cons}
-use Rattle.std.proofs.lemmas.List.Elements.{All-nil, All-cons, All-map}
-use Rattle.tc_units.specs.Classes.{class_of}
-use Rattle.tc_units.specs.declared.units.Addr.{Addr}
-use Rattle.tc_units.specs.declared.units.Class.{Class}
-use Rattle.tc_units.specs.declared.units.Label.{Label}
-use Rattle.tc_units.specs.declared.spans.ClassRow.{ClassRow}
-use Rattle.tc_units.specs.declared.spans.SpanRef.{SpanRef}
-use Rattle.tc_units.specs.declared.spans.SpanKind.TheVariants.{Small}
-use Rattle.tc_model.specs.declared.calls.Call.{Call}
-use Rattle.tc_model.specs.declared.calls.Call.TheVariants.{Malloc, Free, Release, Drain, Resize}
-use Rattle.tc_model.specs.declared.calls.Planned.{Planned}
-use Rattle.tc_model.specs.Input.{Asked, script_of, labels_of}
-use Rattle.tc_model.specs.Run.{start}
-use Rattle.tc_model.specs.Calls.{answers_at, AreBelow}
-use Rattle.name_table.specs.declared.table.NameState.{NameState}
-use Rattle.name_table.specs.declared.table.NameState.TheVariants as name
-use Rattle.heap_rules.proofs.Opened.{opened_sound}
-use Rattle.class_shard.specs.Shard.{Shard, places}
-use Rattle.class_shard.specs.Laws.{spans_in, objects_in_spans}
+use Rattle.std.proofs.Common.{◌≡◌, ℕ, zero, suc, ◌+◌, ◌<◌, false, get_or, List, [], ◌∷◌, length, drop, map, replicate, Option, Some, None, refl, sym, ap, ◌∙◌}
+use Rattle.std.proofs.Common.{subst, inr, arith, ◌++◌, slice_set, is_some, option_map, sum_by, All, slice_get}
+use Rattle.alloc_rules.proofs.Common.{range_with_len, false≢true, slice_get-get_or, slice_get-map, slice_get_within, length-append, length-map}
+use Rattle.alloc_rules.proofs.Common.{length-range_with_len, get_or-range_with_len, sum_by-cons, All-nil, All-cons, All-map, class_of, Addr, Class, Label}
+use Rattle.alloc_rules.proofs.Common.{ClassRow, SpanRef, Small, Call, Malloc, Free, Release, Drain, Resize, Planned, Asked, script_of, labels_of, start}
+use Rattle.alloc_rules.proofs.Common.{answers_at, AreBelow, NameState, Shard, places, spans_in, objects_in_spans, IsOfRow, of_all, spans_like, spans_at}
+use Rattle.alloc_rules.proofs.Common.{objects_at, Account, got, put, gets, puts, asking, publishing, taking, pending, untaken, mentions, Books, class_number}
+use Rattle.alloc_rules.proofs.Common.{HasNothing, IsFirst, Facts, Regs, room, Asking, Step, Contents, append_snoc, FrontCalls, AreEntries, FrontRules}
+use Rattle.alloc_rules.proofs.Common.{IsEntry, Local, Decided, told, step_or, idle_local, first_of_malloc, first_of_call, first_act, regs_of_malloc}
+use Rattle.alloc_rules.proofs.Common.{regs_of_call, regs_by, thread_no, About, call_at, IsClassRow, AreRows, heap_config, first_shard, first_shards, first_of}
+use Rattle.alloc_rules.proofs.Common.{first_parts, rules, HasRoom, account_of, doing_of, doing_about, off_of, apart_of, mapped_of, clears_of, shard_at}
+use Rattle.alloc_rules.proofs.Common.{IsShardOf, stored_in, stock_of, Standing, standing_of, IsLawful, idle, IsIn, IsValid, calls, setup_of}
 use Rattle.class_shard.proofs.SpanSums.{sum_by-map}
-use Rattle.central_free.specs.Central.{IsOfRow}
-use Rattle.holdings.proofs.Sums.{of_all}
-use Rattle.holdings.specs.Runs.{spans_like, spans_at, objects_at}
-use Rattle.holdings.specs.Accounts.{Account, got, put, gets, puts, asking, publishing, taking, holds, pending, untaken, mentions}
-use Rattle.holdings.specs.Books.{Books, class_number}
-use Rattle.holdings.specs.Laws.{HasNothing, IsFirst}
-use Rattle.holdings.specs.Facts.{Facts}
-use Rattle.holdings.proofs.Start.{holds_at_first}
-use Rattle.rseq_core.specs.declared.regs.Regs.{Regs}
-use Rattle.rseq_core.specs.Bags.{room}
-use Rattle.call_steps.specs.declared.step.Asking.{Asking}
-use Rattle.call_steps.specs.declared.step.Step.{Step}
+use Rattle.heap_rules.proofs.Opened.{opened_sound}
+use Rattle.holdings.{proofs.Start.holds_at_first, specs.Accounts.holds}
+use Rattle.rseq_core.specs.Registers.{first_regs}
+use Rattle.name_table.specs.declared.table.NameState.TheVariants as name
 use Rattle.call_steps.specs.declared.step.Step.TheVariants as does
 use Rattle.call_steps.specs.declared.step.ShardStep.TheVariants as shard_step
 use Rattle.call_steps.specs.declared.step.HeapStep.TheVariants as heap_step
 use Rattle.call_steps.specs.declared.step.NamesStep.TheVariants as names_step
-use Rattle.tc_units.specs.Bag.{Contents}
-use Rattle.std.proofs.Math.Seq.{append_snoc}
-use Rattle.call_steps.specs.Fronts.{FrontCalls, AreEntries, FrontRules, IsEntry}
-use Rattle.call_steps.specs.Local.{Local, Decided, told, step_or, idle_local, first_of_malloc, first_of_call, first_act, regs_of_malloc, regs_of_call, regs_by, thread_no}
-use Rattle.rseq_core.specs.Registers.{first_regs}
 use Rattle.call_steps.specs.Calls as calls_are
-use Rattle.call_steps.specs.Calls.{About}
-use Rattle.call_steps.specs.Kept.{call_at}
-use Rattle.call_steps.specs.Shapes.{IsClassRow, AreRows}
-use Rattle.alloc_rules.specs.Machine.{heap_config, first_shard, first_shards, first_of, first_parts, rules}
-use Rattle.alloc_rules.specs.Heads.{HasRoom}
-use Rattle.alloc_rules.specs.Accounts.{account_of, doing_of, doing_about, off_of, apart_of, mapped_of, clears_of}
-use Rattle.alloc_rules.specs.Stocks.{shard_at, IsShardOf, stored_in, stock_of}
-use Rattle.alloc_rules.specs.Standings.{Standing, standing_of}
-use Rattle.alloc_rules.specs.FrontLaw.{IsLawful, idle}
-use Rattle.alloc_rules.specs.Scripts.{IsIn}
-use Rattle.alloc_rules.specs.Valid.{IsValid}
-use Rattle.alloc_rules.specs.Law.{calls, setup_of}
-use Rattle.alloc_rules.proofs.Inputs.{sum-same, in_scripts, both_in, valid_once, valid_planned}
-use Rattle.alloc_rules.proofs.ScriptFacts.{first_is_of, first_under, next_way, asks_first}
-use Rattle.alloc_rules.proofs.Keeping.{IsCommon, IsNext, come_next}
 use Rattle.alloc_rules.proofs.Steps.{row_there}
+use Rattle.alloc_rules.proofs.Inputs.{both_in, in_scripts, sum-same, valid_once, valid_planned}
+use Rattle.alloc_rules.proofs.Keeping.{IsCommon, IsNext, come_next}
+use Rattle.alloc_rules.proofs.ScriptFacts.{asks_first, first_is_of, first_under, next_way}
 use Rattle.alloc_rules.proofs.Serving.{ArePlaced, IsAtWork, IsServed}
 
 -- The first act of a script: with the calls behind it, it allocates and frees the script's labels; and it holds nothing.

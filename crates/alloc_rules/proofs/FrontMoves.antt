@@ -1,53 +1,21 @@
 -- An act of the front-end is one move of the books: objects move between its part and the hand, and its call goes on or is decided.
-use Rattle.std.proofs.Common.{◌≡◌, ℕ, ◌+◌, ◌<◌, ◌⊎◌, eqb, List, [], ◌∷◌, Option, Some, None, refl, sym, ap, ◌∙◌, subst, inl, inr, arith}
-use Rattle.std.specs.Prelude.{length}
-use Rattle.std.specs.List.{slice_get, slice_set}
-use Rattle.std.proofs.lemmas.Bool.{eq-eqb, cases_eq}
-use Rattle.tc_units.specs.declared.units.Addr.{Addr}
-use Rattle.tc_units.specs.declared.units.Class.{Class}
-use Rattle.tc_units.specs.declared.units.Label.{Label}
-use Rattle.tc_model.specs.declared.calls.Call.TheVariants.{Free}
-use Rattle.tc_model.specs.declared.answers.Answer.TheVariants.{Freed}
-use Rattle.tc_units.specs.declared.spans.SpanRef.{SpanRef}
-use Rattle.rseq_core.specs.declared.regs.Regs.{Regs}
-use Rattle.tc_units.specs.declared.spans.ClassRow.{ClassRow}
-use Rattle.call_steps.specs.declared.step.Serving.{Serving}
-use Rattle.call_steps.specs.declared.step.Freeing.{Freeing}
-use Rattle.tc_model.specs.declared.calls.Planned.{Planned}
-use Rattle.tc_model.specs.declared.answers.Answer.{Answer}
-use Rattle.tc_model.specs.declared.answers.CallLine.{CallLine}
-use Rattle.heap_rules.specs.declared.config.HeapConfig.{HeapConfig}
-use Rattle.holdings.specs.Runs.{bit, objects_at}
-use Rattle.holdings.specs.Accounts.{Doing, Publishes, Frees, Other, WeighSame}
-use Rattle.holdings.specs.Books.{Setup, Books, IsCut}
-use Rattle.holdings.specs.Moves.{One, MoveObjects}
-use Rattle.call_steps.specs.declared.step.Asking.{Asking}
-use Rattle.call_steps.specs.declared.step.Giving.{Giving}
+use Rattle.std.proofs.Common.{◌≡◌, ℕ, ◌+◌, ◌<◌, ◌⊎◌, eqb, List, [], ◌∷◌, Option, Some, None, refl, sym, ap, ◌∙◌, subst, inl, inr, arith, length, slice_get}
+use Rattle.std.proofs.Common.{slice_set}
+use Rattle.alloc_rules.proofs.Common.{eq-eqb, cases_eq, Addr, Class, Label, Free, Freed, SpanRef, Regs, ClassRow, Serving, Freeing, Planned, Answer, CallLine}
+use Rattle.alloc_rules.proofs.Common.{HeapConfig, bit, objects_at, Doing, Publishes, Frees, Other, WeighSame, Setup, Books, IsCut, One, MoveObjects, Asking}
+use Rattle.alloc_rules.proofs.Common.{Giving, Next, Step, Local, decided, goes, ends, publishes, comes_to, serves, decides_free, behind, clears, About}
+use Rattle.alloc_rules.proofs.Common.{HasNoLabel, call_about, about_giving, MayDecide, MayGoOnDecided, says, goes_or_ends, follows, BeginsWith, account_of}
+use Rattle.alloc_rules.proofs.Common.{doing_about, HandAbout, IsGiving, StepShape, IsNext, IsAct, AreEntries, FrontRules, Left, Parts, front_row, stock_of}
+use Rattle.alloc_rules.proofs.Common.{Does, setup, IsBefore, FrontActsMove}
 use Rattle.call_steps.specs.declared.step.Giving.TheVariants as giving
-use Rattle.call_steps.specs.declared.step.Next.{Next}
 use Rattle.call_steps.specs.declared.step.Next.TheVariants as next
-use Rattle.call_steps.specs.declared.step.Step.{Step}
 use Rattle.call_steps.specs.declared.step.Step.TheVariants as does
 use Rattle.call_steps.specs.declared.step.ShardStep.TheVariants as shard
-use Rattle.call_steps.specs.Local.{Local, decided, goes, ends}
-use Rattle.call_steps.specs.Hands.{publishes, comes_to, serves, decides_free, behind, clears}
 use Rattle.call_steps.specs.Calls as calls
-use Rattle.call_steps.specs.Calls.{About, HasNoLabel, call_about, about_giving}
-use Rattle.call_steps.specs.Follows.{MayDecide, MayGoOnDecided, says, goes_or_ends, follows}
-use Rattle.call_steps.specs.Shapes.{BeginsWith}
-use Rattle.alloc_rules.specs.Accounts.{account_of, doing_about}
-use Rattle.alloc_rules.proofs.Weighing.{bare, weighs_same, none_in_hand}
-use Rattle.alloc_rules.proofs.Goings.{other_doing, Closes, ends_as, comes_as, carries, gets_object, frees_object, says_other}
-use Rattle.alloc_rules.specs.Shapes.{HandAbout, IsGiving, StepShape}
-use Rattle.alloc_rules.specs.FrontLaw.{IsNext, IsAct}
-use Rattle.call_steps.specs.Fronts.{AreEntries, FrontRules, Left}
-use Rattle.alloc_rules.specs.Machine.{Parts}
-use Rattle.call_steps.specs.Acts.{front_row}
-use Rattle.alloc_rules.specs.Stocks.{stock_of, Does}
-use Rattle.alloc_rules.specs.Acts.{setup, IsBefore}
-use Rattle.alloc_rules.specs.Laws.{FrontActsMove}
-use Rattle.alloc_rules.proofs.Stored.{with_stores, front_stored, stores_move, stock_same}
 use Rattle.alloc_rules.proofs.CutOf.{cut_of}
+use Rattle.alloc_rules.proofs.Goings.{Closes, carries, comes_as, ends_as, frees_object, gets_object, other_doing, says_other}
+use Rattle.alloc_rules.proofs.Stored.{front_stored, stock_same, stores_move, with_stores}
+use Rattle.alloc_rules.proofs.Weighing.{bare, none_in_hand, weighs_same}
 
 -- an object at the head of a list is there
 begins_has : (a : Addr) (hand : List Addr) → BeginsWith a hand → 0 < objects_at a.0 hand

@@ -1,43 +1,20 @@
 -- Where a call goes on with its hand: the account that it has then, its acts and its answers; and an allocation that gets an object.
 use Rattle.std.proofs.Common.{◌≡◌, ℕ, ◌+◌, ◌<◌, List, [], ◌∷◌, ◌++◌, drop, Some, refl, sym, ap, ◌∙◌, subst}
-use Rattle.std.proofs.lemmas.List.{append-nil}
-use Rattle.tc_units.specs.Bag.{Contents}
-use Rattle.tc_units.specs.Classes.{class_of}
-use Rattle.tc_units.specs.declared.units.Addr.{Addr}
-use Rattle.tc_units.specs.declared.units.Class.{Class}
-use Rattle.tc_units.specs.declared.units.Label.{Label}
-use Rattle.tc_units.specs.declared.spans.Run.{Run}
-use Rattle.tc_units.specs.declared.spans.SpanRef.{SpanRef}
-use Rattle.tc_model.specs.declared.calls.Call.TheVariants.{Malloc, Free}
-use Rattle.tc_model.specs.declared.calls.Planned.{Planned}
-use Rattle.tc_model.specs.declared.answers.Answer.TheVariants.{Block, Freed}
-use Rattle.rseq_core.specs.declared.regs.Regs.{Regs}
-use Rattle.rseq_core.specs.Bags.{without_first, emptied}
-use Rattle.class_shard.specs.Shard.{Shard}
-use Rattle.holdings.specs.Runs.{objects_at, small}
-use Rattle.holdings.specs.Accounts.{Account, Doing, Asks, Publishes, Frees, Other, WeighSame}
-use Rattle.holdings.specs.Books.{Setup, Stock, Books, IsCut, size_of}
-use Rattle.holdings.specs.Moves.{Said, SaysOther, Move, MovesHand, FreesObject, GetsObject, GetsFirst, Rests, MoveObjects, AddSpan, with_hand}
-use Rattle.call_steps.specs.declared.step.Asking.{Asking}
-use Rattle.call_steps.specs.declared.step.Serving.{Serving}
-use Rattle.call_steps.specs.declared.step.Freeing.{Freeing}
-use Rattle.call_steps.specs.declared.step.Giving.{Giving}
+use Rattle.alloc_rules.proofs.Common.{append-nil, Contents, class_of, Addr, Class, Label, Run, SpanRef, Malloc, Free, Planned, Block, Freed, Regs}
+use Rattle.alloc_rules.proofs.Common.{without_first, emptied, Shard, objects_at, small, Account, Doing, Asks, Publishes, Frees, Other, WeighSame, Setup}
+use Rattle.alloc_rules.proofs.Common.{Stock, Books, IsCut, size_of, Said, SaysOther, Move, MovesHand, FreesObject, GetsObject, GetsFirst, Rests, MoveObjects}
+use Rattle.alloc_rules.proofs.Common.{AddSpan, Asking, Serving, Freeing, Giving, Decided, decided, goes, ends, class_row, Local, to_hand, with_freed}
+use Rattle.alloc_rules.proofs.Common.{decides_free, behind, goes_onward, publishes, comes_to, stocks, serves, serves_first, with_regs, Parts, About}
+use Rattle.alloc_rules.proofs.Common.{HasNoLabel, doing_about, account_of, giving_doing, stock_of, AreBooksOf, decided_at, Does, FrontCalls, AreEntries}
+use Rattle.alloc_rules.proofs.Common.{FrontRules, IsGiving, setup}
+use Rattle.holdings.specs.Moves.{with_hand}
 use Rattle.call_steps.specs.declared.step.Giving.TheVariants as giving
 use Rattle.call_steps.specs.declared.step.MapStep.TheVariants as map
 use Rattle.call_steps.specs.declared.step.Step.TheVariants as step
-use Rattle.call_steps.specs.Local.{Decided, decided, goes, ends, class_row, Local}
-use Rattle.call_steps.specs.Hands.{with_hand as to_hand, with_freed, decides_free, behind, goes_onward, publishes, comes_to, stocks, serves, serves_first, with_regs}
-use Rattle.alloc_rules.specs.Machine.{Parts}
-use Rattle.call_steps.specs.Calls.{About, HasNoLabel}
-use Rattle.alloc_rules.specs.Accounts.{doing_about, account_of, giving_doing}
-use Rattle.alloc_rules.specs.Stocks.{stock_of, AreBooksOf, decided_at, Does}
-use Rattle.alloc_rules.proofs.Weighing.{bare, quiet, weighs_is, weighs_quiet, weighs_next, ends_counts, entry_is}
-use Rattle.alloc_rules.proofs.Stored.{with_stores, settled, does_by}
 use Rattle.call_steps.specs.declared.step.ShardStep.TheVariants as shard
-use Rattle.call_steps.specs.Fronts.{FrontCalls, AreEntries, FrontRules}
 use Rattle.call_steps.specs.Calls as calls
-use Rattle.alloc_rules.specs.Shapes.{IsGiving}
-use Rattle.alloc_rules.specs.Acts.{setup}
+use Rattle.alloc_rules.proofs.Stored.{does_by, settled, with_stores}
+use Rattle.alloc_rules.proofs.Weighing.{bare, ends_counts, entry_is, quiet, weighs_is, weighs_next, weighs_quiet}
 
 -- so does one that comes to a row without a label
 pub other_doing : (a : About) → HasNoLabel a → doing_about a ≡ Other

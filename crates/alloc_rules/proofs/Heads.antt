@@ -1,17 +1,9 @@
 -- A transfer list stays within its room.
 use Rattle.std.proofs.Common.{◌≡◌, ℕ, ◌+◌, ◌-◌, true, leb, List, ◌++◌, length, arith}
-use Rattle.std.proofs.lemmas.Bool.{cond_both, leb-true}
-use Rattle.std.proofs.lemmas.List.{length-take, length-append}
-use Rattle.tc_units.specs.declared.units.Addr.{Addr}
-use Rattle.transfer_cache.specs.Transfer.{Transfer, without_last}
-use Rattle.central_free.specs.Central.{taken, put_all}
+use Rattle.alloc_rules.proofs.Common.{cond_both, leb-true, length-take, length-append, Addr, Transfer, without_last, taken, put_all, ShardStep, FrontCalls}
+use Rattle.alloc_rules.proofs.Common.{Local, class_row, shard_row, HasRoom}
 use Rattle.class_shard.specs.Shard as shards
-use Rattle.call_steps.specs.declared.step.ShardStep.{ShardStep}
 use Rattle.call_steps.specs.declared.step.ShardStep.TheVariants as shard
-use Rattle.call_steps.specs.Fronts.{FrontCalls}
-use Rattle.call_steps.specs.Local.{Local, class_row}
-use Rattle.call_steps.specs.ShardActs.{shard_row}
-use Rattle.alloc_rules.specs.Heads.{HasRoom}
 
 -- objects are taken from a list, or come to it where they fit
 taken_room : (room n : ℕ) (t : Transfer) → HasRoom room t → HasRoom room (record { objects = without_last n t.objects; room = t.room })

@@ -1,51 +1,19 @@
 -- What the acts at the page heap do to the books.
 use Rattle.std.proofs.Common.{◌≡◌, ℕ, ◌*◌, ◌<◌, ◌≤◌, List, [], ◌∷◌, drop, Contains, Option, Some, None, refl, sym, ap, ◌∙◌, subst, arith}
-use Rattle.std.proofs.lemmas.List.{append-nil}
-use Rattle.tc_units.specs.Units.{page_bytes, pages_holding}
-use Rattle.tc_units.specs.Classes.{length_of}
-use Rattle.tc_units.specs.declared.units.Label.{Label}
-use Rattle.tc_units.specs.declared.spans.Run.{Run}
-use Rattle.tc_units.specs.declared.spans.SpanRef.{SpanRef}
-use Rattle.tc_model.specs.declared.calls.Call.TheVariants.{Malloc, Free, Release}
-use Rattle.tc_model.specs.declared.answers.Answer.TheVariants.{Block, NoBlock, Freed, Released}
-use Rattle.tc_model.specs.declared.answers.CallLine.{CallLine}
-use Rattle.heap_rules.specs.declared.config.HeapConfig.{HeapConfig}
+use Rattle.alloc_rules.proofs.Common.{append-nil, page_bytes, pages_holding, length_of, Label, Run, SpanRef, Malloc, Free, Release, Block, NoBlock, Freed}
+use Rattle.alloc_rules.proofs.Common.{Released, CallLine, HeapConfig, Placed, new, release, free_leaves, release_keeps, address_of, run_of, runs_like, less}
+use Rattle.alloc_rules.proofs.Common.{Account, WeighSame, Setup, Books, GetsNone, GetsRun, GetsSpan, FreesRun, FreesSpan, Rests, One, like, less_counts}
+use Rattle.alloc_rules.proofs.Common.{Asking, New, NewSpan, GiveBack, FreeSpan, Unback, decided, class_row, Local, with_freed, clears, heap_row, after_new}
+use Rattle.alloc_rules.proofs.Common.{after_new_span, frees_span, without_first_span, FirstLives, FitsHeap, Planned, About, account_of, onward_doing}
+use Rattle.alloc_rules.proofs.Common.{first_run, AreEntries, FrontRules, Parts, AreBooksOf, Does, setup, IsBefore, Onward, HeapStep, IsOnward, HeapActsMove}
+use Rattle.heap_rules.specs.Free.{freed}
 use Rattle.heap_rules.specs.Heap as heaps
 use Rattle.heap_rules.specs.Sound as heaps_sound
-use Rattle.heap_rules.specs.New.{Placed, new}
-use Rattle.heap_rules.specs.Free.{freed}
-use Rattle.heap_rules.specs.Release.{release}
-use Rattle.heap_rules.proofs.Ended.{free_leaves}
-use Rattle.heap_rules.proofs.Released.{release_keeps}
-use Rattle.holdings.specs.Runs.{address_of, run_of, runs_like, less}
-use Rattle.holdings.specs.Accounts.{Account, WeighSame}
-use Rattle.holdings.specs.Books.{Setup, Books}
-use Rattle.holdings.specs.Moves.{GetsNone, GetsRun, GetsSpan, FreesRun, FreesSpan, Rests, One}
-use Rattle.holdings.proofs.Sums.{like, less_counts}
-use Rattle.call_steps.specs.declared.step.Asking.{Asking}
-use Rattle.call_steps.specs.declared.step.HeapStep.TheVariants.{New, NewSpan, GiveBack, FreeSpan, Unback}
 use Rattle.call_steps.specs.declared.step.Step.TheVariants as does
-use Rattle.call_steps.specs.Local.{decided, class_row, Local}
-use Rattle.call_steps.specs.Hands.{with_freed, clears}
-use Rattle.call_steps.specs.Acts.{heap_row, after_new, after_new_span, frees_span, without_first_span}
-use Rattle.call_steps.specs.Fits.{FirstLives, FitsHeap}
-use Rattle.alloc_rules.proofs.Weighing.{bare, weighs_same, ends_counts}
-use Rattle.alloc_rules.proofs.Onwards.{Counts, weighs_end, onward_weighs}
-use Rattle.alloc_rules.proofs.Moved.{no_row_length, moved_by}
+use Rattle.alloc_rules.proofs.{Lists.one_run, Moved.moved_by, Moved.no_row_length, Placing.placed}
 use Rattle.alloc_rules.proofs.Likes.{like-with_run, like-without_run, there_counted}
-use Rattle.alloc_rules.proofs.Lists.{one_run}
-use Rattle.alloc_rules.proofs.Placing.{placed}
-use Rattle.tc_model.specs.declared.calls.Planned.{Planned}
-use Rattle.call_steps.specs.Calls.{About}
-use Rattle.alloc_rules.specs.Accounts.{account_of, onward_doing, first_run}
-use Rattle.call_steps.specs.Fronts.{AreEntries, FrontRules}
-use Rattle.alloc_rules.specs.Machine.{Parts}
-use Rattle.alloc_rules.specs.Stocks.{AreBooksOf, Does}
-use Rattle.alloc_rules.specs.Acts.{setup, IsBefore}
-use Rattle.call_steps.specs.declared.step.Onward.{Onward}
-use Rattle.call_steps.specs.declared.step.HeapStep.{HeapStep}
-use Rattle.alloc_rules.specs.Shapes.{IsOnward}
-use Rattle.alloc_rules.specs.Laws.{HeapActsMove}
+use Rattle.alloc_rules.proofs.Onwards.{Counts, onward_weighs, weighs_end}
+use Rattle.alloc_rules.proofs.Weighing.{bare, ends_counts, weighs_same}
 
 module _ {P V R : Type 0} (r : FrontRules P V R) (about : R → About) (planned : Planned → Type 0) (entries : AreEntries r.calls about) where
   module _ (huge labels : ℕ) (limits : HeapConfig) (p : Parts P) (locals : List (Local V R)) (b : Books) (calls : List CallLine) (t : ℕ) (l : Local V R) where

@@ -1,29 +1,11 @@
 -- The heap stays sound, with its limits, and the map stays well formed, at each act there.
 use Rattle.std.proofs.Common.{◌≡◌, ℕ, ◌<◌, ◌≤◌, List, [], ◌∷◌, Option, Some, None, refl}
-use Rattle.tc_units.specs.Units.{pages_holding}
-use Rattle.tc_units.specs.declared.units.Label.{Label}
-use Rattle.tc_units.specs.declared.spans.SpanRef.{SpanRef}
-use Rattle.tc_units.specs.declared.spans.ClassRow.{ClassRow}
-use Rattle.page_map.specs.Spans.{SpanMap, IsWellFormed}
-use Rattle.page_map.proofs.SpanFacts.{with_span-well_formed, without_span-well_formed}
+use Rattle.alloc_rules.proofs.Common.{pages_holding, Label, SpanRef, ClassRow, SpanMap, IsWellFormed, with_span-well_formed, without_span-well_formed, Placed}
+use Rattle.alloc_rules.proofs.Common.{new, IsSound, new_gives, free_leaves, release_keeps, large, small, run_of, Asking, New, NewSpan, GiveBack, FreeSpan}
+use Rattle.alloc_rules.proofs.Common.{Unback, Set, SetSpan, Lookup, Clear, ClearSpan, class_row, Local, after_new, after_new_span, frees_span, heap_row}
+use Rattle.alloc_rules.proofs.Common.{clears_span, map_row, Onward, HeapStep, MapStep, FrontCalls, FirstLives, FitsHeap, FitsMap}
 use Rattle.heap_rules.specs.Heap as heaps
-use Rattle.heap_rules.specs.New.{Placed, new}
-use Rattle.heap_rules.specs.Sound.{IsSound}
-use Rattle.heap_rules.proofs.Given.{new_gives}
-use Rattle.heap_rules.proofs.Ended.{free_leaves}
-use Rattle.heap_rules.proofs.Released.{release_keeps}
-use Rattle.holdings.specs.Runs.{large, small, run_of}
-use Rattle.call_steps.specs.declared.step.Asking.{Asking}
-use Rattle.call_steps.specs.declared.step.HeapStep.TheVariants.{New, NewSpan, GiveBack, FreeSpan, Unback}
-use Rattle.call_steps.specs.declared.step.MapStep.TheVariants.{Set, SetSpan, Lookup, Clear, ClearSpan}
-use Rattle.call_steps.specs.Local.{class_row, Local}
-use Rattle.call_steps.specs.Acts.{after_new, after_new_span, frees_span, heap_row, clears_span, map_row}
 use Rattle.alloc_rules.proofs.Placing.{given_at}
-use Rattle.call_steps.specs.declared.step.Onward.{Onward}
-use Rattle.call_steps.specs.declared.step.HeapStep.{HeapStep}
-use Rattle.call_steps.specs.declared.step.MapStep.{MapStep}
-use Rattle.call_steps.specs.Fronts.{FrontCalls}
-use Rattle.call_steps.specs.Fits.{FirstLives, FitsHeap, FitsMap}
 
 -- a heap of the same limits, which is sound
 pub record HeapStays (old new : heaps.Heap) : Type 0 where

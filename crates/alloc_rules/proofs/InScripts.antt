@@ -1,21 +1,10 @@
 -- Each local stays in its script: its act goes on in its call, or the next call comes.
-use Rattle.std.proofs.Common.{◌≡◌, ℕ, zero, suc, ◌+◌, ◌⊎◌, true, false, List, [], ◌∷◌, ◌++◌, length, drop, Option, Some, None, refl, sym, ap, ◌∙◌, inl, inr, arith}
-use Rattle.std.specs.Prelude.{is_some, option_map, slice_get}
-use Rattle.std.proofs.lemmas.Bool.{cases_lt, false≢true}
-use Rattle.std.proofs.lemmas.List.{append-nil, length-append}
-use Rattle.tc_model.specs.declared.calls.Call.{Call}
-use Rattle.tc_model.specs.declared.calls.Planned.{Planned}
-use Rattle.name_table.specs.declared.table.NameState.{NameState}
-use Rattle.name_table.specs.Names.{state_of}
-use Rattle.holdings.specs.Accounts.{asking, publishing, unpublished, gets, is_out}
-use Rattle.call_steps.specs.Local.{Local, Decided, first_act}
-use Rattle.call_steps.specs.Calls.{undecided, under, About}
-use Rattle.call_steps.specs.Kept.{call_at}
-use Rattle.call_steps.specs.declared.step.Step.{Step}
-use Rattle.call_steps.specs.Fronts.{FrontCalls, AreEntries}
-use Rattle.alloc_rules.specs.Accounts.{account_of, doing_of}
-use Rattle.alloc_rules.specs.Scripts.{IsIn, GoesOn, Closes, Path, Stays, Comes, is_under_way}
-use Rattle.alloc_rules.proofs.ScriptFacts.{HasRow, undecided_under, first_is_of, first_under, next_way, next_weighs, asks_first}
+use Rattle.std.proofs.Common.{◌≡◌, ℕ, zero, suc, ◌+◌, ◌⊎◌, true, false, List, [], ◌∷◌, ◌++◌, length, drop, Option, Some, None, refl, sym, ap, ◌∙◌, inl, inr}
+use Rattle.std.proofs.Common.{arith, is_some, option_map, slice_get}
+use Rattle.alloc_rules.proofs.Common.{cases_lt, false≢true, append-nil, length-append, Call, Planned, NameState, state_of, asking, publishing, unpublished}
+use Rattle.alloc_rules.proofs.Common.{gets, is_out, Local, Decided, first_act, undecided, under, About, call_at, Step, FrontCalls, AreEntries, account_of}
+use Rattle.alloc_rules.proofs.Common.{doing_of, IsIn, GoesOn, Closes, Path, Stays, Comes, is_under_way}
+use Rattle.alloc_rules.proofs.ScriptFacts.{HasRow, asks_first, first_is_of, first_under, next_way, next_weighs, undecided_under}
 
 -- Labels that are out stay out; and what a local is still to publish stays so, or is out.
 abbrev pub StayOut : List NameState → List NameState → Type 0

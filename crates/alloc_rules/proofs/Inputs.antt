@@ -1,21 +1,9 @@
 -- What a valid input gives its threads: each label is allocated once and freed once, by one of them, and each planned call is there.
 use Rattle.std.proofs.Common.{◌≡◌, ℕ, zero, suc, ◌+◌, ◌<◌, ◌≤◌, false, cond, eqb, List, [], ◌∷◌, ◌++◌, fold, max, refl, sym, ap, ◌∙◌, subst, arith, inl, inr}
-use Rattle.std.specs.Prelude.{sum_by, All}
-use Rattle.std.specs.List.{range_with_len}
-use Rattle.std.proofs.lemmas.Bool.{cases_eq, eq-eqb, ne_eqb}
-use Rattle.std.proofs.lemmas.List.{append-nil}
-use Rattle.std.proofs.lemmas.List.Elements.{All-nil, All-cons}
-use Rattle.std.proofs.lemmas.List.Sums.{sum_by-cons, sum_by-append}
-use Rattle.std.proofs.Math.Seq.{append_snoc}
-use Rattle.tc_model.specs.declared.calls.Call.{Call}
-use Rattle.tc_model.specs.declared.calls.Call.TheVariants.{Malloc, Free, Release, Drain, Resize}
-use Rattle.tc_model.specs.declared.calls.Planned.{Planned}
-use Rattle.tc_model.specs.Input.{Asked, ThreadCall, script_of, label_end, labels_of}
-use Rattle.holdings.proofs.Sums.{bit_most, sum_of_both}
-use Rattle.holdings.specs.Runs.{bit}
-use Rattle.holdings.specs.Accounts.{got, put, gets, puts}
-use Rattle.tc_units.specs.declared.spans.ClassRow.{ClassRow}
-use Rattle.alloc_rules.specs.Valid.{got_in, put_in, IsInOrder, IsValid}
+use Rattle.std.proofs.Common.{sum_by, All}
+use Rattle.alloc_rules.proofs.Common.{range_with_len, cases_eq, eq-eqb, ne_eqb, append-nil, All-nil, All-cons, sum_by-cons, sum_by-append, append_snoc, Call}
+use Rattle.alloc_rules.proofs.Common.{Malloc, Free, Release, Drain, Resize, Planned, Asked, ThreadCall, script_of, label_end, labels_of, bit_most}
+use Rattle.alloc_rules.proofs.Common.{sum_of_both, bit, got, put, gets, puts, ClassRow, got_in, put_in, IsInOrder, IsValid}
 
 -- the one number that passes among numbers in order
 none_in : (k v a n : ℕ) → k < a → sum_by (λ t. cond (eqb k t) v 0) (range_with_len a n) ≡ 0

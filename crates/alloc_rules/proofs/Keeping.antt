@@ -1,46 +1,21 @@
 -- How a call goes on leaves the local its shape, and the front-end's invariant holds of the thread as it stands then.
-use Rattle.std.proofs.Common.{◌≡◌, ℕ, ◌+◌, ◌<◌, ◌≤◌, List, [], ◌∷◌, length, drop, Option, Some, None, refl, sym, ap, ◌∙◌, subst, arith, Bool, true, false, cond, ltb}
-use Rattle.std.specs.Prelude.{All, slice_set, option_map}
-use Rattle.std.proofs.lemmas.List.{length-drop}
-use Rattle.std.proofs.lemmas.List.Elements.{All-head, All-tail}
-use Rattle.tc_units.specs.Bag.{Contents}
-use Rattle.tc_units.specs.Classes.{class_of}
+use Rattle.std.proofs.Common.{◌≡◌, ℕ, ◌+◌, ◌<◌, ◌≤◌, List, [], ◌∷◌, length, drop, Option, Some, None, refl, sym, ap, ◌∙◌, subst, arith, Bool, true, false}
+use Rattle.std.proofs.Common.{cond, ltb, All, slice_set, option_map}
+use Rattle.alloc_rules.proofs.Common.{length-drop, All-head, All-tail, Contents, class_of, ClassRow, position_or_len, ltb-true, Addr, Class, Label, ThreadNo}
+use Rattle.alloc_rules.proofs.Common.{SpanRef, Call, Malloc, Free, Release, Drain, Resize, Planned, Block, Freed, Regs, HAND_ROOM, LOADED_ROOM, room}
+use Rattle.alloc_rules.proofs.Common.{without_first, emptied, Asking, Serving, Giving, Onward, Step, Local, step_or, class_row, first_of_malloc}
+use Rattle.alloc_rules.proofs.Common.{first_of_call, regs_of_malloc, fresh_regs, next_call, decided, goes, closes, ends, with_regs, publishes, stocks}
+use Rattle.alloc_rules.proofs.Common.{serves_first, goes_onward, gave, clears, with_freed, given_back, to_hand, About, HasNoLabel, AreRows, most_slots, At}
+use Rattle.alloc_rules.proofs.Common.{Here, Later, Away, Standing, stand, at_row, at_giving, at_onward, at_step, standing_of, IsAsked, HandAbout, HasNone}
+use Rattle.alloc_rules.proofs.Common.{IsGiving, IsOnward, StepShape, IsShaped, IsOwn, IsLawful, FrontRules, IsEntry}
 use Rattle.tc_units.specs.Classes as classes
-use Rattle.tc_units.specs.declared.spans.ClassRow.{ClassRow}
-use Rattle.std.specs.List.{position_or_len}
-use Rattle.std.proofs.lemmas.Bool.{ltb-true}
-use Rattle.tc_units.specs.declared.units.Addr.{Addr}
-use Rattle.tc_units.specs.declared.units.Class.{Class}
-use Rattle.tc_units.specs.declared.units.Label.{Label}
-use Rattle.tc_units.specs.declared.units.ThreadNo.{ThreadNo}
-use Rattle.tc_units.specs.declared.spans.SpanRef.{SpanRef}
-use Rattle.tc_model.specs.declared.calls.Call.{Call}
-use Rattle.tc_model.specs.declared.calls.Call.TheVariants.{Malloc, Free, Release, Drain, Resize}
-use Rattle.tc_model.specs.declared.calls.Planned.{Planned}
-use Rattle.tc_model.specs.declared.answers.Answer.TheVariants.{Block, Freed}
-use Rattle.rseq_core.specs.declared.regs.Regs.{Regs}
-use Rattle.rseq_core.specs.declared.regs.TheConstants.{HAND_ROOM, LOADED_ROOM}
-use Rattle.rseq_core.specs.Bags.{room, without_first, emptied}
-use Rattle.call_steps.specs.declared.step.Asking.{Asking}
-use Rattle.call_steps.specs.declared.step.Serving.{Serving}
-use Rattle.call_steps.specs.declared.step.Giving.{Giving}
 use Rattle.call_steps.specs.declared.step.Giving.TheVariants as giving
-use Rattle.call_steps.specs.declared.step.Onward.{Onward}
 use Rattle.call_steps.specs.declared.step.Onward.TheVariants as onward
-use Rattle.call_steps.specs.declared.step.Step.{Step}
 use Rattle.call_steps.specs.declared.step.Step.TheVariants as does
 use Rattle.call_steps.specs.declared.step.ShardStep.TheVariants as shard
 use Rattle.call_steps.specs.declared.step.HeapStep.TheVariants as heap
 use Rattle.call_steps.specs.declared.step.NamesStep.TheVariants as names
-use Rattle.call_steps.specs.Local.{Local, step_or, class_row, first_of_malloc, first_of_call, regs_of_malloc, fresh_regs, next_call, decided, goes, closes, ends}
-use Rattle.call_steps.specs.Hands.{with_regs, publishes, stocks, serves_first, goes_onward, gave, clears, with_freed, given_back, with_hand as to_hand}
 use Rattle.call_steps.specs.Calls as calls
-use Rattle.call_steps.specs.Calls.{About, HasNoLabel}
-use Rattle.call_steps.specs.Shapes.{AreRows, most_slots}
-use Rattle.alloc_rules.specs.Standings.{At, Here, Later, Away, Standing, stand, at_row, at_giving, at_onward, at_step, standing_of}
-use Rattle.alloc_rules.specs.Shapes.{IsAsked, HandAbout, HasNone, IsGiving, IsOnward, StepShape, IsShaped}
-use Rattle.alloc_rules.specs.FrontLaw.{IsOwn, IsLawful}
-use Rattle.call_steps.specs.Fronts.{FrontRules, IsEntry}
 
 -- the class of a request is in the table
 class_low_by : (n len : ℕ) (k : Class) (b : Bool) → ltb n len ≡ b → option_map (λ (j : ℕ). let c : Class = record { 0 = j } in c) (cond b (Some n) None) ≡ Some k → k.0 < len

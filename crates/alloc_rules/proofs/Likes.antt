@@ -1,12 +1,9 @@
 -- What is counted in the heap's sorted runs and in the map's sorted spans, as one comes or goes.
-use Rattle.std.proofs.Common.{◌≡◌, ℕ, zero, suc, ◌+◌, ◌<◌, ◌≤◌, Bool, true, eqb, cond, List, [], ◌∷◌, get_or, count_by, Contains, sym, ap, ◌∙◌, inl, inr, arith}
-use Rattle.std.proofs.lemmas.Bool.{cases_Bool, eq-eqb}
-use Rattle.tc_units.specs.declared.spans.Run.{Run}
-use Rattle.tc_units.specs.declared.spans.SpanRef.{SpanRef}
+use Rattle.std.proofs.Common.{◌≡◌, ℕ, zero, suc, ◌+◌, ◌<◌, ◌≤◌, Bool, true, eqb, cond, List, [], ◌∷◌, get_or, count_by, Contains, sym, ap, ◌∙◌, inl, inr}
+use Rattle.std.proofs.Common.{arith}
+use Rattle.alloc_rules.proofs.Common.{cases_Bool, eq-eqb, Run, SpanRef, count-with_item, count-without, bit, same_run, same_span, runs_like, spans_like}
+use Rattle.alloc_rules.proofs.Common.{Counts, like, like_span, same_run_is, same_run_refl, same_span_is, same_span_refl}
 use Rattle.tc_units.specs.Sorted.{with_item, without_key}
-use Rattle.heap_rules.proofs.Live.{count-with_item, count-without}
-use Rattle.holdings.specs.Runs.{bit, same_run, same_span, runs_like, spans_like}
-use Rattle.holdings.proofs.Sums.{Counts, like, like_span, same_run_is, same_run_refl, same_span_is, same_span_refl}
 use Rattle.alloc_rules.proofs.Counting.{bit_cond, runs_count, spans_count}
 
 -- what is counted is there, and what is there is counted

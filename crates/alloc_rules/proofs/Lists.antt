@@ -1,18 +1,12 @@
 -- Members of lists: which pass a test, that one alone begins at a page, and that the one holder of a page is found.
-use Rattle.std.proofs.Common.{◌≡◌, ℕ, zero, suc, ◌+◌, ◌<◌, ◌≤◌, Bool, true, false, eqb, ltb, nat_le, cond, List, [], ◌∷◌, length, get_or, count_by, AllPairs, Contains, Some, refl, sym, ap, subst, ◌∙◌, inl, inr, arith}
-use Rattle.std.specs.Prelude.{find}
-use Rattle.std.proofs.lemmas.Bool.{cases_Bool, cases_lt, ltb-true, leb-true, eqb-true, and_parts, false≢true}
-use Rattle.std.proofs.lemmas.List.{get_or_default}
-use Rattle.std.proofs.lemmas.List.Sums.{sum_by-cons}
-use Rattle.std.proofs.lemmas.Bool.{false_from_ne_true}
-use Rattle.tc_units.specs.declared.spans.Run.{Run}
-use Rattle.tc_units.specs.declared.spans.SpanRef.{SpanRef}
-use Rattle.tc_units.proofs.Counts.{one-true, one-false, count_none, count_le}
-use Rattle.page_map.specs.Spans.{IsBefore, IsWellFormed}
+use Rattle.std.proofs.Common.{◌≡◌, ℕ, zero, suc, ◌+◌, ◌<◌, ◌≤◌, Bool, true, false, eqb, ltb, nat_le, cond, List, [], ◌∷◌, length, get_or, count_by, AllPairs}
+use Rattle.std.proofs.Common.{Contains, Some, refl, sym, ap, subst, ◌∙◌, inl, inr, arith, find}
+use Rattle.alloc_rules.proofs.Common.{cases_Bool, cases_lt, ltb-true, leb-true, eqb-true, and_parts, false≢true, get_or_default, sum_by-cons}
+use Rattle.alloc_rules.proofs.Common.{false_from_ne_true, Run, SpanRef, one-true, one-false, count_none, count_le, IsWellFormed, IsSound, IsInside}
+use Rattle.alloc_rules.proofs.Common.{holds_from}
+use Rattle.page_map.specs.Spans.{IsBefore}
 use Rattle.page_map.specs.Spans as spans
 use Rattle.heap_rules.specs.Heap as heaps
-use Rattle.heap_rules.specs.Sound.{IsSound, IsInside}
-use Rattle.heap_rules.proofs.Fits.{holds_from}
 
 -- fewer pass a test that another follows from
 count_fewer : {X : Type 0} (q h : X → Bool) (xs : List X) → ((k : ℕ) (d : X) → k < length xs → q (get_or xs k d) ≡ true → h (get_or xs k d) ≡ true) → count_by h xs ≤ 1 → count_by q xs ≤ 1

@@ -1,57 +1,20 @@
 -- What the acts at the page map do to the books.
 use Rattle.std.proofs.Common.{◌≡◌, ℕ, ◌/◌, ◌<◌, true, List, [], ◌∷◌, ◌++◌, drop, Contains, Option, Some, None, refl, sym, ap, ◌∙◌, subst, inl, inr, arith}
-use Rattle.std.specs.Prelude.{find, option_map}
-use Rattle.std.specs.List.{slice_get}
-use Rattle.std.proofs.lemmas.List.{append-nil}
-use Rattle.std.proofs.lemmas.Option.{slice_get-map}
-use Rattle.tc_units.specs.Units.{page_bytes}
-use Rattle.tc_units.specs.declared.units.Addr.{Addr}
-use Rattle.tc_units.specs.declared.units.Label.{Label}
-use Rattle.tc_units.specs.declared.spans.Run.{Run}
-use Rattle.tc_units.specs.declared.spans.SpanRef.{SpanRef}
-use Rattle.tc_units.specs.declared.spans.SpanKind.{SpanKind}
-use Rattle.tc_units.specs.declared.spans.SpanKind.TheVariants.{Small, Large}
-use Rattle.tc_model.specs.declared.answers.CallLine.{CallLine}
-use Rattle.page_map.specs.Spans.{SpanMap, holds, without_span}
-use Rattle.heap_rules.specs.declared.config.HeapConfig.{HeapConfig}
-use Rattle.page_map.proofs.SpanFacts.{find_there}
-use Rattle.holdings.specs.Runs.{address_of, run_of, large, small, spans_like, without}
-use Rattle.holdings.specs.Accounts.{Account, Holds, Frees, WeighSame}
-use Rattle.holdings.specs.Books.{Setup, Books, class_number}
-use Rattle.holdings.specs.Laws.{Found}
-use Rattle.holdings.specs.Moves.{SetsRun, SetsSpan, FindsObject, FindsRun, ClearsRun, ClearsSpan}
-use Rattle.holdings.proofs.Sums.{like_span, without_counts}
-use Rattle.holdings.proofs.MapFacts.{is_large}
-use Rattle.holdings.proofs.Finding.{frees_find}
-use Rattle.call_steps.specs.declared.step.Asking.{Asking}
-use Rattle.call_steps.specs.declared.step.MapStep.TheVariants.{Set, SetSpan, Lookup, Clear, ClearSpan}
+use Rattle.std.proofs.Common.{find, option_map, slice_get}
+use Rattle.alloc_rules.proofs.Common.{append-nil, slice_get-map, page_bytes, Addr, Label, Run, SpanRef, SpanKind, Small, Large, CallLine, SpanMap, holds}
+use Rattle.alloc_rules.proofs.Common.{without_span, HeapConfig, find_there, address_of, run_of, large, small, spans_like, without, Account, Holds, Frees}
+use Rattle.alloc_rules.proofs.Common.{WeighSame, Setup, Books, class_number, Found, SetsRun, SetsSpan, FindsObject, FindsRun, ClearsRun, ClearsSpan}
+use Rattle.alloc_rules.proofs.Common.{like_span, without_counts, is_large, frees_find, Asking, Set, SetSpan, Lookup, Clear, ClearSpan, map_row, after_lookup}
+use Rattle.alloc_rules.proofs.Common.{found, clears_span, FirstIsThere, FitsMap, Planned, Local, About, account_of, onward_doing, first_run, AreEntries}
+use Rattle.alloc_rules.proofs.Common.{FrontRules, Parts, AreBooksOf, Does, setup, IsBefore, Contents, Class, Regs, appended, Freeing, Onward, MapStep}
+use Rattle.alloc_rules.proofs.Common.{with_regs, MapActsMove}
 use Rattle.call_steps.specs.declared.step.Step.TheVariants as does
-use Rattle.call_steps.specs.Acts.{map_row, after_lookup, found, clears_span}
-use Rattle.call_steps.specs.Fits.{FirstIsThere, FitsMap}
-use Rattle.alloc_rules.proofs.Weighing.{bare, weighs_same, weighs_is, entry_is}
-use Rattle.alloc_rules.proofs.Moved.{moved_by}
-use Rattle.alloc_rules.proofs.Likes.{like-with_span, like-without_span, span_counted, span_there}
-use Rattle.alloc_rules.proofs.Lists.{one_first, only_holder}
-use Rattle.tc_model.specs.declared.calls.Planned.{Planned}
-use Rattle.call_steps.specs.Local.{Local}
-use Rattle.call_steps.specs.Calls.{About}
-use Rattle.alloc_rules.specs.Accounts.{account_of, onward_doing, first_run}
-use Rattle.call_steps.specs.Fronts.{AreEntries, FrontRules}
-use Rattle.alloc_rules.specs.Machine.{Parts}
-use Rattle.alloc_rules.specs.Stocks.{AreBooksOf, Does}
-use Rattle.alloc_rules.specs.Acts.{setup, IsBefore}
-use Rattle.tc_units.specs.Bag.{Contents}
-use Rattle.tc_units.specs.declared.units.Class.{Class}
-use Rattle.rseq_core.specs.declared.regs.Regs.{Regs}
-use Rattle.rseq_core.specs.Bags.{appended}
-use Rattle.call_steps.specs.declared.step.Freeing.{Freeing}
-use Rattle.call_steps.specs.declared.step.Onward.{Onward}
-use Rattle.call_steps.specs.declared.step.MapStep.{MapStep}
 use Rattle.call_steps.specs.declared.step.Giving.TheVariants as giving
 use Rattle.call_steps.specs.declared.step.ShardStep.TheVariants as shard
-use Rattle.call_steps.specs.Hands.{with_regs}
 use Rattle.call_steps.specs.Calls as calls_are
-use Rattle.alloc_rules.specs.Laws.{MapActsMove}
+use Rattle.alloc_rules.proofs.{Lists.one_first, Lists.only_holder, Moved.moved_by}
+use Rattle.alloc_rules.proofs.Likes.{like-with_span, like-without_span, span_counted, span_there}
+use Rattle.alloc_rules.proofs.Weighing.{bare, entry_is, weighs_is, weighs_same}
 
 module _ {P V R : Type 0} (r : FrontRules P V R) (about : R → About) (planned : Planned → Type 0) (entries : AreEntries r.calls about) where
   -- the account of a thread among all

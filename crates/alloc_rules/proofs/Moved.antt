@@ -1,24 +1,10 @@
 -- A move over the books of the parts.
-use Rattle.std.proofs.Common.{◌≡◌, ℕ, ◌*◌, true, false, List, length, None, refl, sym, ap, ◌∙◌, subst, inl, inr}
-use Rattle.std.specs.Prelude.{find, is_some}
-use Rattle.std.specs.List.{position_or_len}
-use Rattle.std.proofs.lemmas.Bool.{cases_lt, lt-ltb}
+use Rattle.std.proofs.Common.{◌≡◌, ℕ, ◌*◌, true, false, List, length, None, refl, sym, ap, ◌∙◌, subst, inl, inr, find, is_some}
+use Rattle.alloc_rules.proofs.Common.{position_or_len, cases_lt, lt-ltb, slice_get_past, page_bytes, pages_holding, class_of, length_by, length_of, Run}
+use Rattle.alloc_rules.proofs.Common.{SpanRef, ClassRow, NameState, Account, Setup, Stock, Books, Said, Move, Parts, stock_of, AreBooksOf, Local, About}
+use Rattle.alloc_rules.proofs.Common.{FrontRules}
 use Rattle.std.proofs.lemmas.List.Folds.{find_at}
-use Rattle.std.proofs.lemmas.Option.{slice_get_past}
-use Rattle.tc_units.specs.Units.{page_bytes, pages_holding}
-use Rattle.tc_units.specs.Classes.{serves, class_of, length_by, length_of}
-use Rattle.tc_units.specs.declared.spans.Run.{Run}
-use Rattle.tc_units.specs.declared.spans.SpanRef.{SpanRef}
-use Rattle.tc_units.specs.declared.spans.ClassRow.{ClassRow}
-use Rattle.name_table.specs.declared.table.NameState.{NameState}
-use Rattle.holdings.specs.Accounts.{Account}
-use Rattle.holdings.specs.Books.{Setup, Stock, Books}
-use Rattle.holdings.specs.Moves.{Said, Move}
-use Rattle.alloc_rules.specs.Machine.{Parts}
-use Rattle.alloc_rules.specs.Stocks.{stock_of, AreBooksOf}
-use Rattle.call_steps.specs.Local.{Local}
-use Rattle.call_steps.specs.Calls.{About}
-use Rattle.call_steps.specs.Fronts.{FrontRules}
+use Rattle.tc_units.specs.Classes.{serves}
 
 -- where the stock stays, and names are changed so
 pub moved_names : {P V R : Type 0} (r : FrontRules P V R) (about : R → About) (m : Setup) (p : Parts P) (locals : List (Local V R)) (b : Books) → AreBooksOf r about p locals b → (f : List NameState → List NameState) (a after : Account) (heap : List Run) (spans : List SpanRef) (said : List Said) → Move m b a b.stock heap spans (f b.names) after said → Move m b a (stock_of r about p) heap spans (f p.names) after said

@@ -1,36 +1,13 @@
 -- What the acts at the names do to the books.
-use Rattle.std.proofs.Common.{◌≡◌, ℕ, false, List, [], ◌∷◌, Option, Some, None, refl, sym, ap, ◌∙◌, subst}
-use Rattle.std.specs.List.{slice_set}
-use Rattle.std.proofs.lemmas.Bool.{false≢true}
-use Rattle.std.proofs.lemmas.List.{append-nil}
-use Rattle.tc_units.specs.declared.units.Addr.{Addr}
-use Rattle.tc_units.specs.declared.units.Label.{Label}
-use Rattle.tc_model.specs.declared.calls.Call.TheVariants.{Free}
-use Rattle.tc_model.specs.declared.answers.Answer.TheVariants.{FreedNull}
-use Rattle.tc_model.specs.declared.answers.CallLine.{CallLine}
-use Rattle.name_table.specs.declared.table.NameState.{NameState}
-use Rattle.name_table.specs.declared.table.NameState.TheVariants as name
-use Rattle.name_table.specs.Names.{state_of}
-use Rattle.heap_rules.specs.declared.config.HeapConfig.{HeapConfig}
-use Rattle.holdings.specs.Accounts.{is_unpublished}
-use Rattle.holdings.specs.Books.{Setup, Books}
-use Rattle.holdings.specs.Moves.{Names, TakesNull, TakesAddr}
-use Rattle.call_steps.specs.declared.step.NamesStep.{NamesStep}
+use Rattle.std.proofs.Common.{◌≡◌, ℕ, false, List, [], ◌∷◌, Option, Some, None, refl, sym, ap, ◌∙◌, subst, slice_set}
+use Rattle.alloc_rules.proofs.Common.{false≢true, append-nil, Addr, Label, Free, FreedNull, CallLine, NameState, state_of, HeapConfig, is_unpublished, Setup}
+use Rattle.alloc_rules.proofs.Common.{Books, TakesNull, TakesAddr, NamesStep, decided, Local, names_row, after_take, waits_row, FitsNames, Planned, About}
+use Rattle.alloc_rules.proofs.Common.{AreEntries, FrontRules, Parts, Does, setup, IsBefore, NamesActsMove}
 use Rattle.call_steps.specs.declared.step.NamesStep.TheVariants.{Publish, Take}
+use Rattle.holdings.specs.Moves.{Names}
+use Rattle.name_table.specs.declared.table.NameState.TheVariants as name
 use Rattle.call_steps.specs.declared.step.Step.TheVariants as does
-use Rattle.call_steps.specs.Local.{decided, Local}
-use Rattle.call_steps.specs.Acts.{names_row, after_take, waits_row}
-use Rattle.call_steps.specs.Fits.{FitsNames}
-use Rattle.alloc_rules.proofs.Weighing.{weighs_same, ends_counts}
-use Rattle.alloc_rules.proofs.Onwards.{weighs_end}
-use Rattle.alloc_rules.proofs.Moved.{moved_names}
-use Rattle.tc_model.specs.declared.calls.Planned.{Planned}
-use Rattle.call_steps.specs.Calls.{About}
-use Rattle.call_steps.specs.Fronts.{AreEntries, FrontRules}
-use Rattle.alloc_rules.specs.Machine.{Parts}
-use Rattle.alloc_rules.specs.Stocks.{Does}
-use Rattle.alloc_rules.specs.Acts.{setup, IsBefore}
-use Rattle.alloc_rules.specs.Laws.{NamesActsMove}
+use Rattle.alloc_rules.proofs.{Moved.moved_names, Onwards.weighs_end, Weighing.ends_counts, Weighing.weighs_same}
 
 module _ {P V R : Type 0} (r : FrontRules P V R) (about : R → About) (planned : Planned → Type 0) (entries : AreEntries r.calls about) where
   module _ (huge labels : ℕ) (limits : HeapConfig) (p : Parts P) (locals : List (Local V R)) (b : Books) (calls : List CallLine) (t : ℕ) (l : Local V R) where

@@ -1,15 +1,10 @@
 -- Reads and writes of parts by their numbers.
-use Rattle.std.proofs.Common.{◌≡◌, ℕ, zero, suc, ◌+◌, ◌-◌, ◌<◌, ◌≤◌, Bool, cond, ltb, List, [], ◌∷◌, ◌++◌, length, map, take, drop, Some, refl, sym, ap, ◌∙◌, inl, inr, arith}
-use Rattle.std.specs.Prelude.{option_map}
-use Rattle.std.specs.List.{slice_get, slice_set}
-use Rattle.std.proofs.lemmas.Bool.{cases_lt, lt-ltb, le-ltb}
-use Rattle.page_map.specs.Spans.{SpanMap}
-use Rattle.name_table.specs.declared.table.NameState.{NameState}
+use Rattle.std.proofs.Common.{◌≡◌, ℕ, zero, suc, ◌+◌, ◌-◌, ◌<◌, ◌≤◌, Bool, cond, ltb, List, [], ◌∷◌, ◌++◌, length, map, take, drop, Some, refl, sym, ap, ◌∙◌}
+use Rattle.std.proofs.Common.{inl, inr, arith, option_map, slice_get, slice_set}
+use Rattle.alloc_rules.proofs.Common.{cases_lt, lt-ltb, le-ltb, SpanMap, NameState, Part, Front, Heap, Map, Names, Parts, parts_of, middle_of}
+use Rattle.alloc_rules.specs.declared.part.Part.TheVariants.{Shard}
 use Rattle.heap_rules.specs.Heap as heaps
 use Rattle.class_shard.specs.Shard as shards
-use Rattle.alloc_rules.specs.declared.part.Part.{Part}
-use Rattle.alloc_rules.specs.declared.part.Part.TheVariants.{Front, Shard, Heap, Map, Names}
-use Rattle.alloc_rules.specs.Machine.{Parts, parts_of, middle_of}
 
 -- of two lists joined, where the first is of images
 get_left : {X Y : Type 0} (f : X → Y) (xs : List X) (ys : List Y) (i : ℕ) → i < length xs → slice_get (map f xs ++ ys) i ≡ option_map f (slice_get xs i)

@@ -1,18 +1,10 @@
 -- How a call goes on behind its last span, and what that makes of its account.
 use Rattle.std.proofs.Common.{◌≡◌, ◌+◌, List, [], refl, sym, subst}
-use Rattle.tc_units.specs.declared.units.Addr.{Addr}
-use Rattle.tc_units.specs.declared.spans.ClassRow.{ClassRow}
-use Rattle.holdings.specs.Accounts.{Doing, Other, WeighSame}
-use Rattle.call_steps.specs.declared.step.Onward.{Onward}
+use Rattle.alloc_rules.proofs.Common.{Addr, ClassRow, Doing, Other, WeighSame, Onward, FrontCalls, AreEntries, Local, ends, goes_onward, comes_to, About}
+use Rattle.alloc_rules.proofs.Common.{account_of, onward_doing, IsOnward}
 use Rattle.call_steps.specs.declared.step.Onward.TheVariants as onward
-use Rattle.call_steps.specs.Fronts.{FrontCalls, AreEntries}
-use Rattle.call_steps.specs.Local.{Local, ends}
-use Rattle.call_steps.specs.Hands.{goes_onward, comes_to}
-use Rattle.call_steps.specs.Calls.{About}
-use Rattle.alloc_rules.specs.Accounts.{account_of, onward_doing}
 use Rattle.alloc_rules.proofs.Weighing.{bare, weighs_same}
-use Rattle.alloc_rules.proofs.Goings.{other_doing, Closes, ends_as, comes_as}
-use Rattle.alloc_rules.specs.Shapes.{IsOnward}
+use Rattle.alloc_rules.proofs.Goings.{Closes, comes_as, ends_as, other_doing}
 
 -- one act more, and no answer
 pub record Counts {V R : Type 0} (l after : Local V R) : Type 0 where

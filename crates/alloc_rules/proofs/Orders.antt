@@ -1,19 +1,8 @@
 -- An order whose picks move is lawful, and its picks are of threads that there are.
-use Rattle.std.proofs.Common.{◌≡◌, ℕ, ◌+◌, ◌≤◌, List, ◌++◌, length, ap, sym, ◌∙◌, subst, arith}
-use Rattle.std.specs.List.{range_with_len}
-use Rattle.std.proofs.lemmas.List.{length-append, length-map}
-use Rattle.std.proofs.lemmas.List.FromFn.{length-range_with_len}
-use Rattle.tc_model.specs.Input.{Asked}
-use Rattle.tc_model.specs.Run.{Rules, start}
-use Rattle.tc_model.specs.Sound.{IsOrder}
-use Rattle.tc_model.specs.Steps.{AllMove, moving}
-use Rattle.tc_model.proofs.MovingFacts.{front_moves, move_all}
-use Rattle.rseq_core.specs.declared.regs.Regs.{Regs}
-use Rattle.call_steps.specs.Calls.{About}
-use Rattle.call_steps.specs.Fronts.{FrontRules}
-use Rattle.alloc_rules.specs.Law.{AreLawful}
+use Rattle.std.proofs.Common.{◌≡◌, ℕ, ◌≤◌, List, length, ap, sym, ◌∙◌, subst, arith}
+use Rattle.alloc_rules.proofs.Common.{range_with_len, length-append, length-map, length-range_with_len, Asked, Rules, start, IsOrder, AllMove, moving}
+use Rattle.alloc_rules.proofs.Common.{front_moves, move_all, Regs, About, FrontRules, AreLawful, first_of, rules}
 use Rattle.alloc_rules.specs.Lawful.{IsLawfulOrder}
-use Rattle.alloc_rules.specs.Machine.{first_of, rules}
 
 -- there is a local for each thread
 pub locals_count : {P V R : Type 0} (r : FrontRules P V R) (about : R → About) (asked : Asked) → length (rules r about asked).locals ≡ asked.config.threads

@@ -1,56 +1,22 @@
 -- The acts at the heap, the map and the names fit.
-use Rattle.std.proofs.Common.{◌≡◌, ℕ, zero, suc, ◌/◌, ◌^◌, ◌<◌, ◌≤◌, eqb, List, [], ◌∷◌, length, get_or, All, Contains, Some, None, refl, sym, ap, ◌∙◌, inl, inr, arith}
-use Rattle.std.specs.Prelude.{find, is_some, slice_get}
-use Rattle.std.proofs.lemmas.Bool.{eq-eqb, le-leb}
-use Rattle.std.proofs.lemmas.List.{get_or_default}
-use Rattle.tc_units.specs.Units.{page_bytes}
-use Rattle.tc_units.specs.Classes.{serves, class_of}
-use Rattle.tc_units.specs.declared.units.Addr.{Addr}
-use Rattle.tc_units.specs.declared.units.Label.{Label}
-use Rattle.tc_units.specs.declared.spans.Run.{Run}
-use Rattle.tc_units.specs.declared.spans.SpanRef.{SpanRef}
-use Rattle.tc_units.specs.declared.spans.SpanKind.{SpanKind}
-use Rattle.tc_units.specs.declared.spans.SpanKind.TheVariants.{Small, Large}
-use Rattle.tc_units.specs.declared.spans.ClassRow.{ClassRow}
-use Rattle.tc_model.specs.declared.answers.CallLine.{CallLine}
+use Rattle.std.proofs.Common.{◌≡◌, ℕ, zero, suc, ◌/◌, ◌^◌, ◌<◌, ◌≤◌, eqb, List, [], ◌∷◌, length, get_or, All, Contains, Some, None, refl, sym, ap, ◌∙◌, inl}
+use Rattle.std.proofs.Common.{inr, arith, find, is_some, slice_get}
+use Rattle.alloc_rules.proofs.Common.{eq-eqb, le-leb, get_or_default, page_bytes, class_of, Addr, Label, Run, SpanRef, SpanKind, Small, Large, ClassRow}
+use Rattle.alloc_rules.proofs.Common.{CallLine, NameState, state_of, HeapConfig, run_of, large, bit, same_run, same_span, runs_like, spans_like, unpublished}
+use Rattle.alloc_rules.proofs.Common.{untaken, is_out, is_taken, Setup, Books, class_number, Found, IsOff, least, same_run_refl, same_span_refl, one_number}
+use Rattle.alloc_rules.proofs.Common.{offs_live, mapped_are_there, clears_are_there, frees_find, NamesStep, no_class, class_row, Local, FitsNames, FirstLives}
+use Rattle.alloc_rules.proofs.Common.{FirstIsThere, FitsHeap, FitsMap, IsClassRow, AreRows, Parts, first_run, account_of, IsBefore, setup, All-contains}
+use Rattle.alloc_rules.proofs.Common.{Planned, About, AreEntries, FrontRules, Step, Onward, HeapStep, MapStep, IsKindThere, IsFoundClass}
+use Rattle.tc_units.specs.Classes.{serves}
 use Rattle.page_map.specs.Spans as maps
-use Rattle.name_table.specs.declared.table.NameState.{NameState}
 use Rattle.name_table.specs.declared.table.NameState.TheVariants as name
-use Rattle.name_table.specs.Names.{state_of}
-use Rattle.heap_rules.specs.declared.config.HeapConfig.{HeapConfig}
-use Rattle.holdings.specs.Runs.{run_of, large, bit, same_run, same_span, runs_like, spans_like}
-use Rattle.holdings.specs.Accounts.{unpublished, untaken, is_out, is_taken}
-use Rattle.holdings.specs.Books.{Setup, Books, class_number}
-use Rattle.holdings.specs.Laws.{Found, IsOff}
-use Rattle.holdings.proofs.Sums.{least, same_run_refl, same_span_refl}
-use Rattle.holdings.proofs.MapFacts.{one_number}
-use Rattle.holdings.proofs.Held.{offs_live, mapped_are_there, clears_are_there}
-use Rattle.holdings.proofs.Finding.{frees_find}
 use Rattle.call_steps.specs.declared.step.HeapStep.TheVariants as heap
 use Rattle.call_steps.specs.declared.step.MapStep.TheVariants as map
-use Rattle.call_steps.specs.declared.step.NamesStep.{NamesStep}
 use Rattle.call_steps.specs.declared.step.NamesStep.TheVariants as names
 use Rattle.call_steps.specs.declared.step.Step.TheVariants as does
-use Rattle.call_steps.specs.Local.{no_class, class_row, Local}
-use Rattle.call_steps.specs.Fits.{FitsNames, FirstLives, FirstIsThere, FitsHeap, FitsMap}
-use Rattle.call_steps.specs.Shapes.{IsClassRow, AreRows}
-use Rattle.alloc_rules.specs.Machine.{Parts}
-use Rattle.alloc_rules.specs.Accounts.{first_run, account_of}
-use Rattle.alloc_rules.specs.Acts.{IsBefore, setup}
-use Rattle.alloc_rules.proofs.Likes.{counted_there, span_there, span_counted}
-use Rattle.std.proofs.lemmas.List.Elements.{All-contains}
+use Rattle.alloc_rules.proofs.{MapMoves.account_at, Moved.no_row, Published.within}
+use Rattle.alloc_rules.proofs.Likes.{counted_there, span_counted, span_there}
 use Rattle.alloc_rules.proofs.Lists.{find_only, holds_parts, only_holder}
-use Rattle.alloc_rules.proofs.MapMoves.{account_at}
-use Rattle.alloc_rules.proofs.Published.{within}
-use Rattle.alloc_rules.proofs.Moved.{no_row}
-use Rattle.tc_model.specs.declared.calls.Planned.{Planned}
-use Rattle.call_steps.specs.Calls.{About}
-use Rattle.call_steps.specs.Fronts.{AreEntries, FrontRules}
-use Rattle.call_steps.specs.declared.step.Step.{Step}
-use Rattle.call_steps.specs.declared.step.Onward.{Onward}
-use Rattle.call_steps.specs.declared.step.HeapStep.{HeapStep}
-use Rattle.call_steps.specs.declared.step.MapStep.{MapStep}
-use Rattle.alloc_rules.specs.Laws.{IsKindThere, IsFoundClass}
 
 -- a request without a class has a byte
 pub some_size : (rows : List ClassRow) (size : ℕ) → 0 < length rows → class_of rows size ≡ None → 0 < size

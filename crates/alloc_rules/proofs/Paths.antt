@@ -1,33 +1,19 @@
 -- Each act goes on within its call, or ends it.
-use Rattle.std.proofs.Common.{◌≡◌, ℕ, ◌+◌, ◌/◌, true, false, List, [], ◌∷◌, ◌++◌, length, drop, Option, Some, None, refl, sym, ap, ◌∙◌, subst, arith, ◌<◌, ◌*◌}
-use Rattle.std.specs.Prelude.{find, slice_get}
-use Rattle.std.proofs.lemmas.Bool.{false≢true}
-use Rattle.std.proofs.lemmas.List.{append-nil, length-append}
-use Rattle.tc_units.specs.Units.{page_bytes, pages_holding}
-use Rattle.tc_units.specs.declared.units.Addr.{Addr}
-use Rattle.tc_units.specs.declared.units.Label.{Label}
-use Rattle.tc_units.specs.declared.spans.SpanRef.{SpanRef}
-use Rattle.tc_units.specs.declared.spans.SpanKind.{SpanKind}
-use Rattle.tc_units.specs.declared.spans.SpanKind.TheVariants.{Small, Large}
-use Rattle.tc_model.specs.declared.calls.Call.{Call}
-use Rattle.tc_model.specs.declared.calls.Call.TheVariants.{Malloc, Free, Release}
-use Rattle.tc_model.specs.declared.answers.Answer.{Answer}
-use Rattle.tc_model.specs.declared.answers.Answer.TheVariants.{Block, NoBlock, Freed, FreedNull, Released}
-use Rattle.page_map.specs.Spans.{SpanMap, holds}
-use Rattle.name_table.specs.declared.table.NameState.{NameState}
+use Rattle.std.proofs.Common.{◌≡◌, ℕ, ◌+◌, ◌/◌, true, false, List, [], ◌∷◌, ◌++◌, length, drop, Option, Some, None, refl, sym, ap, ◌∙◌, subst, arith, ◌<◌}
+use Rattle.std.proofs.Common.{◌*◌, find, slice_get}
+use Rattle.alloc_rules.proofs.Common.{false≢true, append-nil, length-append, page_bytes, pages_holding, Addr, Label, SpanRef, SpanKind, Small, Large, Call}
+use Rattle.alloc_rules.proofs.Common.{Malloc, Free, Release, Answer, Block, NoBlock, Freed, FreedNull, Released, SpanMap, holds, NameState, state_of, Placed}
+use Rattle.alloc_rules.proofs.Common.{new, release, opening, without_first, emptied, appended, small, address_of, Regs, Freeing, Asking, Serving, NamesStep}
+use Rattle.alloc_rules.proofs.Common.{Local, step_or, Decided, first_act, decided, goes, closes, ends, class_row, with_hand, with_regs, stocks, serves_first}
+use Rattle.alloc_rules.proofs.Common.{goes_onward, gave, clears, with_freed, with_more, fetches, with_spans_behind, shard_row, after_new, after_new_span}
+use Rattle.alloc_rules.proofs.Common.{frees_span, without_first_span, heap_row, found, after_lookup, clears_span, map_row, after_take, names_row, waits_row}
+use Rattle.alloc_rules.proofs.Common.{front_row, is_unpublished, About, undecided, under, without_call, about_giving, about_onward, call_about, MayDecide}
+use Rattle.alloc_rules.proofs.Common.{MayGoOnDecided, says, goes_or_ends, follows, Onward, Giving, Next, Step, ShardStep, HeapStep, MapStep, FrontCalls}
+use Rattle.alloc_rules.proofs.Common.{AreEntries, FrontRules, IsEntry, FitsNames, FirstLives, FirstIsThere, FitsHeap, FitsMap, IsNext, IsAct, AddsSome}
+use Rattle.alloc_rules.proofs.Common.{GoesOn, Closes, Path, Stays, Comes, is_under_way}
 use Rattle.name_table.specs.declared.table.NameState.TheVariants as name
-use Rattle.name_table.specs.Names.{state_of}
 use Rattle.heap_rules.specs.Heap as heaps
-use Rattle.heap_rules.specs.New.{Placed, new}
-use Rattle.heap_rules.specs.Release.{release}
-use Rattle.central_free.specs.Central.{opening}
 use Rattle.class_shard.specs.Shard as shards
-use Rattle.rseq_core.specs.Bags.{without_first, emptied, appended}
-use Rattle.holdings.specs.Runs.{small, address_of}
-use Rattle.rseq_core.specs.declared.regs.Regs.{Regs}
-use Rattle.call_steps.specs.declared.step.Freeing.{Freeing}
-use Rattle.call_steps.specs.declared.step.Asking.{Asking}
-use Rattle.call_steps.specs.declared.step.Serving.{Serving}
 use Rattle.call_steps.specs.declared.step.Giving.TheVariants as giving
 use Rattle.call_steps.specs.declared.step.Onward.TheVariants as onward
 use Rattle.call_steps.specs.declared.step.Step.TheVariants as does
@@ -35,28 +21,8 @@ use Rattle.call_steps.specs.declared.step.Next.TheVariants as next
 use Rattle.call_steps.specs.declared.step.ShardStep.TheVariants as shard
 use Rattle.call_steps.specs.declared.step.HeapStep.TheVariants as heap
 use Rattle.call_steps.specs.declared.step.MapStep.TheVariants as map
-use Rattle.call_steps.specs.declared.step.NamesStep.{NamesStep}
 use Rattle.call_steps.specs.declared.step.NamesStep.TheVariants as names
-use Rattle.call_steps.specs.Local.{Local, step_or, Decided, first_act, decided, goes, closes, ends, class_row}
-use Rattle.call_steps.specs.Hands.{with_hand, with_regs, stocks, serves_first, goes_onward, gave, clears, with_freed}
-use Rattle.call_steps.specs.ShardActs.{with_more, fetches, with_spans_behind, shard_row}
-use Rattle.call_steps.specs.Acts.{after_new, after_new_span, frees_span, without_first_span, heap_row, found, after_lookup, clears_span, map_row, after_take, names_row, waits_row, front_row}
-use Rattle.holdings.specs.Accounts.{is_unpublished}
 use Rattle.call_steps.specs.Calls as calls
-use Rattle.call_steps.specs.Calls.{About, undecided, under, without_call, about_giving, about_onward, call_about}
-use Rattle.call_steps.specs.Follows.{MayDecide, MayGoOnDecided, says, goes_or_ends, follows}
-use Rattle.call_steps.specs.declared.step.Onward.{Onward}
-use Rattle.call_steps.specs.declared.step.Giving.{Giving}
-use Rattle.call_steps.specs.declared.step.Next.{Next}
-use Rattle.call_steps.specs.declared.step.Step.{Step}
-use Rattle.call_steps.specs.declared.step.ShardStep.{ShardStep}
-use Rattle.call_steps.specs.declared.step.HeapStep.{HeapStep}
-use Rattle.call_steps.specs.declared.step.MapStep.{MapStep}
-use Rattle.call_steps.specs.Fronts.{FrontCalls, AreEntries, FrontRules, IsEntry}
-use Rattle.call_steps.specs.Fits.{FitsNames, FirstLives, FirstIsThere, FitsHeap, FitsMap}
-use Rattle.alloc_rules.specs.FrontLaw.{IsNext, IsAct}
-use Rattle.alloc_rules.specs.Laws.{AddsSome}
-use Rattle.alloc_rules.specs.Scripts.{GoesOn, Closes, Path, Stays, Comes, is_under_way}
 
 first_some : (h : heaps.Heap) (xs : List SpanRef) → FirstLives h xs → 0 < length xs
 first_some h [] lives = absurd lives

@@ -1,21 +1,10 @@
 -- A new run may be placed where the heap places it: it lies in the arena and meets no live run.
 use Rattle.std.proofs.Common.{◌≡◌, ℕ, ◌+◌, ◌*◌, ◌<◌, ◌≤◌, true, false, ltb, List, get_or, Contains, Option, Some, sym, ap, ◌∙◌, subst, arith, inl, inr}
-use Rattle.std.specs.Prelude.{MatchOption}
-use Rattle.std.proofs.lemmas.Bool.{cases_lt, lt-ltb, le-ltb, and_from, and_left, and_right, false≢true}
-use Rattle.tc_units.specs.Units.{page_bytes}
-use Rattle.tc_units.specs.declared.spans.Run.{Run}
-use Rattle.tc_units.proofs.Counts.{count_some}
-use Rattle.tc_model.specs.Blocks.{meets}
+use Rattle.std.proofs.Common.{MatchOption}
+use Rattle.alloc_rules.proofs.Common.{cases_lt, lt-ltb, le-ltb, and_from, and_left, and_right, false≢true, page_bytes, Run, count_some, meets, Placed, new}
+use Rattle.alloc_rules.proofs.Common.{none_fits, IsSound, IsInside, IsGiven, new_gives, unused_counts, holds_from, runs_like, runs_at, block_of, IsPlaced}
+use Rattle.alloc_rules.proofs.Common.{run_found, All-contains}
 use Rattle.heap_rules.specs.Heap as heaps
-use Rattle.heap_rules.specs.New.{Placed, new, none_fits}
-use Rattle.heap_rules.specs.Sound.{IsSound, IsInside}
-use Rattle.heap_rules.specs.Laws.{IsGiven}
-use Rattle.heap_rules.proofs.Given.{new_gives}
-use Rattle.heap_rules.proofs.Live.{unused_counts}
-use Rattle.heap_rules.proofs.Fits.{holds_from}
-use Rattle.holdings.specs.Runs.{runs_like, runs_at, block_of, IsPlaced}
-use Rattle.holdings.proofs.MapFacts.{run_found}
-use Rattle.std.proofs.lemmas.List.Elements.{All-contains}
 use Rattle.alloc_rules.proofs.Likes.{counted_there}
 
 -- a page that both of two runs hold shows them to meet; so a run whose pages are unused meets no live one

@@ -1,20 +1,11 @@
 -- What a move of the books makes of labels that are to be published, or are out.
-use Rattle.std.proofs.Common.{◌≡◌, ℕ, ◌+◌, ◌<◌, ◌≤◌, ◌⊎◌, true, eqb, List, length, Some, refl, ap, ◌∙◌, inl, inr, arith}
-use Rattle.std.specs.Prelude.{slice_get, slice_set}
-use Rattle.std.proofs.lemmas.Bool.{cases_lt, eq-eqb}
-use Rattle.tc_units.specs.declared.units.Label.{Label}
-use Rattle.tc_units.specs.declared.spans.Run.{Run}
-use Rattle.tc_units.specs.declared.spans.SpanRef.{SpanRef}
-use Rattle.tc_model.specs.declared.answers.CallLine.{CallLine}
-use Rattle.name_table.specs.declared.table.NameState.{NameState}
+use Rattle.std.proofs.Common.{◌≡◌, ℕ, ◌+◌, ◌<◌, ◌≤◌, ◌⊎◌, true, eqb, List, length, Some, refl, ap, ◌∙◌, inl, inr, arith, slice_get, slice_set}
+use Rattle.alloc_rules.proofs.Common.{cases_lt, eq-eqb, Label, Run, SpanRef, CallLine, NameState, state_of, bit, Account, Doing, asking, publishing, taking}
+use Rattle.alloc_rules.proofs.Common.{unpublished, mentions, is_out, Setup, Stock, Books, Facts, Said, SaysOther, Nothing, One, Move, Rests, GetsNone}
+use Rattle.alloc_rules.proofs.Common.{GetsRun, GetsObject, GetsFirst, GetsSpan, SetsRun, SetsSpan, FindsObject, FindsRun, ClearsRun, ClearsSpan, FreesRun}
+use Rattle.alloc_rules.proofs.Common.{FreesSpan, MovesHand, FreesObject, TakesNull, TakesAddr, least, name_cases}
+use Rattle.holdings.specs.Moves.{Names}
 use Rattle.name_table.specs.declared.table.NameState.TheVariants as name
-use Rattle.name_table.specs.Names.{state_of}
-use Rattle.holdings.specs.Runs.{bit}
-use Rattle.holdings.specs.Accounts.{Account, Doing, asking, publishing, taking, unpublished, mentions, is_out}
-use Rattle.holdings.specs.Books.{Setup, Stock, Books}
-use Rattle.holdings.specs.Facts.{Facts}
-use Rattle.holdings.specs.Moves.{Said, SaysOther, Nothing, One, Move, Rests, GetsNone, GetsRun, GetsObject, GetsFirst, GetsSpan, SetsRun, SetsSpan, FindsObject, FindsRun, ClearsRun, ClearsSpan, FreesRun, FreesSpan, MovesHand, FreesObject, Names, TakesNull, TakesAddr}
-use Rattle.holdings.proofs.Sums.{least, name_cases}
 
 -- a label that an account has something to do with is one of the names
 pub within : (m : Setup) (b : Books) (calls : List CallLine) (t : ℕ) (a : Account) (label : ℕ) → Facts m b calls → slice_get b.accounts t ≡ Some a → 0 < mentions label a → label < length b.names

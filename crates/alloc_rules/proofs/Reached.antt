@@ -1,41 +1,18 @@
 -- The part that a thread wants is there, its act fits, and what it leaves keeps all that holds.
-use Rattle.std.proofs.Common.{◌≡◌, ℕ, zero, suc, ◌+◌, ◌<◌, ◌≤◌, false, List, [], ◌∷◌, length, map, Some, refl, sym, ap, ◌∙◌, subst, arith}
-use Rattle.std.specs.Prelude.{option_map, slice_get, slice_set}
-use Rattle.tc_model.specs.declared.calls.Planned.{Planned}
-use Rattle.tc_model.specs.declared.machine.PartNo.{PartNo}
-use Rattle.tc_model.specs.declared.machine.TheConstants.{MOST_PICKS}
-use Rattle.tc_model.specs.Input.{Asked}
-use Rattle.tc_model.specs.Run.{world_of, with_pair}
-use Rattle.tc_model.specs.Calls.{AreOfPicks}
+use Rattle.std.proofs.Common.{◌≡◌, ℕ, zero, suc, ◌+◌, ◌<◌, ◌≤◌, false, List, [], ◌∷◌, length, map, Some, refl, sym, ap, ◌∙◌, subst, arith, option_map}
+use Rattle.std.proofs.Common.{slice_get, slice_set}
+use Rattle.alloc_rules.proofs.Common.{Planned, PartNo, MOST_PICKS, Asked, world_of, with_pair, AreOfPicks, Regs, Books, Facts, Step, ShardStep, HeapStep}
+use Rattle.alloc_rules.proofs.Common.{MapStep, NamesStep, Local, Decided, About, target_at, shard_row, heap_row, map_row, names_row, shard_after, heap_after}
+use Rattle.alloc_rules.proofs.Common.{map_after, names_after, waits_for, front_row, front_after, Part, Front, Heap, Map, Names, number_of, Parts, parts_of}
+use Rattle.alloc_rules.proofs.Common.{after, waits, Standing, standing_of, FitsAt, IsLawful, FrontRules, AreBooksOf, Fits, fits_step, FitsShardStep}
+use Rattle.alloc_rules.proofs.Common.{FitsHeapStep, FitsMapStep, FitsNamesStep, FitsFrontStep, IsValid, calls, setup_of}
+use Rattle.alloc_rules.specs.declared.part.Part.TheVariants.{Shard}
 use Rattle.class_shard.specs.Shard as shards
-use Rattle.rseq_core.specs.declared.regs.Regs.{Regs}
-use Rattle.holdings.specs.Books.{Books}
-use Rattle.holdings.specs.Facts.{Facts}
-use Rattle.call_steps.specs.declared.step.Step.{Step}
 use Rattle.call_steps.specs.declared.step.Step.TheVariants as does
-use Rattle.call_steps.specs.declared.step.ShardStep.{ShardStep}
-use Rattle.call_steps.specs.declared.step.HeapStep.{HeapStep}
-use Rattle.call_steps.specs.declared.step.MapStep.{MapStep}
-use Rattle.call_steps.specs.declared.step.NamesStep.{NamesStep}
-use Rattle.call_steps.specs.Local.{Local, Decided}
-use Rattle.call_steps.specs.Calls.{About}
-use Rattle.call_steps.specs.Kept.{target_at}
-use Rattle.call_steps.specs.ShardActs.{shard_row}
-use Rattle.call_steps.specs.Acts.{heap_row, map_row, names_row, shard_after, heap_after, map_after, names_after, waits_for, front_row, front_after}
-use Rattle.alloc_rules.specs.declared.part.Part.{Part}
-use Rattle.alloc_rules.specs.declared.part.Part.TheVariants.{Front, Shard, Heap, Map, Names}
-use Rattle.alloc_rules.specs.Machine.{number_of, Parts, parts_of, after, waits}
-use Rattle.alloc_rules.specs.Standings.{Standing, standing_of}
-use Rattle.alloc_rules.specs.FrontLaw.{FitsAt, IsLawful}
-use Rattle.call_steps.specs.Fronts.{FrontRules}
-use Rattle.alloc_rules.specs.Stocks.{AreBooksOf}
-use Rattle.alloc_rules.specs.Fits.{Fits, fits_step}
-use Rattle.call_steps.specs.Fits.{FitsShardStep, FitsHeapStep, FitsMapStep, FitsNamesStep, FitsFrontStep}
-use Rattle.alloc_rules.specs.Valid.{IsValid}
-use Rattle.alloc_rules.specs.Law.{calls, setup_of}
-use Rattle.alloc_rules.proofs.Numbers.{front_number, get_front, set_front, get_shard, set_shard, get_heap, set_heap, get_map, set_map, get_names, set_names}
-use Rattle.alloc_rules.proofs.Serving.{ArePlaced, IsAtWork, IsActed}
-use Rattle.alloc_rules.proofs.Steps.{acts_few, acts_low, ready_row, stands_row, front_acted, shard_fit, shard_acted, heap_fit, heap_acted, map_fit, map_acted, names_fit, names_acted}
+use Rattle.alloc_rules.proofs.Numbers.{front_number, get_front, get_heap, get_map, get_names, get_shard, set_front, set_heap, set_map, set_names, set_shard}
+use Rattle.alloc_rules.proofs.Serving.{ArePlaced, IsActed, IsAtWork}
+use Rattle.alloc_rules.proofs.Steps.{acts_few, acts_low, front_acted, heap_acted, heap_fit, map_acted, map_fit, names_acted, names_fit, ready_row}
+use Rattle.alloc_rules.proofs.Steps.{shard_acted, shard_fit, stands_row}
 
 pub there_is : {X : Type 0} (xs : List X) (i : ℕ) → i < length xs → (x : X) × (slice_get xs i ≡ Some x)
 there_is [] i low = absurd (omega arith)

@@ -1,26 +1,9 @@
 -- Every run: what holds at the start holds after every order, and each part that is wanted is there and fits.
-use Rattle.std.proofs.Common.{◌≡◌, ℕ, ◌≤◌, false, List, [], ◌∷◌, ◌++◌, length, Some, refl, sym, ap, ◌∙◌, subst, arith}
-use Rattle.std.specs.Prelude.{slice_get}
-use Rattle.tc_model.specs.declared.machine.PartNo.{PartNo}
-use Rattle.tc_model.specs.declared.machine.TheConstants.{MOST_PICKS}
-use Rattle.tc_model.specs.Input.{Asked}
-use Rattle.tc_model.specs.Run.{World, world_of, with_pair, run}
-use Rattle.tc_model.specs.Sound.{FitsThere, IsOrder, IsSound}
-use Rattle.tc_model.proofs.MovingFacts.{IsKeptWith, run_keeps_with}
-use Rattle.tc_model.specs.declared.calls.Planned.{Planned}
-use Rattle.rseq_core.specs.declared.regs.Regs.{Regs}
-use Rattle.call_steps.specs.Local.{Local}
-use Rattle.call_steps.specs.Calls.{About}
-use Rattle.alloc_rules.specs.declared.part.Part.{Part}
-use Rattle.alloc_rules.specs.Standings.{Standing}
-use Rattle.alloc_rules.specs.FrontLaw.{IsLawful}
-use Rattle.call_steps.specs.Fronts.{FrontRules}
-use Rattle.alloc_rules.specs.Machine.{parts_of, place_of, after, waits, rules}
-use Rattle.alloc_rules.specs.Fits.{Fits}
-use Rattle.alloc_rules.specs.Valid.{IsValid}
-use Rattle.alloc_rules.proofs.Serving.{IsServed, served}
-use Rattle.alloc_rules.proofs.Reached.{Reached, reached}
-use Rattle.alloc_rules.proofs.First.{served_first}
+use Rattle.std.proofs.Common.{◌≡◌, ℕ, ◌≤◌, false, List, [], ◌∷◌, ◌++◌, length, Some, refl, sym, ap, ◌∙◌, subst, arith, slice_get}
+use Rattle.alloc_rules.proofs.Common.{PartNo, MOST_PICKS, Asked, World, world_of, with_pair, run, FitsThere, IsOrder, IsKeptWith, run_keeps_with, Planned}
+use Rattle.alloc_rules.proofs.Common.{Regs, Local, About, Part, Standing, IsLawful, FrontRules, parts_of, place_of, after, waits, rules, Fits, IsValid}
+use Rattle.tc_model.specs.Sound.{IsSound}
+use Rattle.alloc_rules.proofs.{First.served_first, Reached.Reached, Reached.reached, Serving.IsServed, Serving.served}
 
 module _ {P V R : Type 0} (r : FrontRules P V R) (about : R → About) (planned : Planned → Type 0) (Holds : ℕ → List P → List (Standing V R) → Type 0) (fits : P → V → Regs → R → Type 0) (law : IsLawful r about planned Holds fits) (asked : Asked) (valid : IsValid r.calls.rows planned asked) (w : World (Part P) (Local V R)) (order : List ℕ) (few : length order ≤ MOST_PICKS) (good : IsServed r about planned Holds asked w order) (t : ℕ) (l : Local V R) (local : slice_get w.locals t ≡ Some l) (place : PartNo) (want : place_of r about l ≡ Some place) where
   here : slice_get good.locals t ≡ Some l

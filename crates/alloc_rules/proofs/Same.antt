@@ -1,11 +1,7 @@
 -- Lists in which each item is as often have equal counts.
-use Rattle.std.proofs.Common.{◌≡◌, ℕ, ◌+◌, ◌<◌, Bool, true, List, [], ◌∷◌, refl, sym, ap, ◌∙◌, arith}
-use Rattle.std.specs.Prelude.{sum_by}
-use Rattle.std.proofs.lemmas.List.Sums.{sum_by-cons}
-use Rattle.tc_units.specs.declared.spans.Run.{Run}
-use Rattle.tc_units.specs.declared.spans.SpanRef.{SpanRef}
-use Rattle.holdings.specs.Runs.{bit, same_run, same_span, runs_like, spans_like, runs_at, spans_of_run, less, without}
-use Rattle.holdings.proofs.Sums.{Counts, like, like_span, starting, of_run, less_counts, without_counts, same_run_refl, same_span_refl}
+use Rattle.std.proofs.Common.{◌≡◌, ℕ, ◌+◌, ◌<◌, Bool, true, List, [], ◌∷◌, refl, sym, ap, ◌∙◌, arith, sum_by}
+use Rattle.alloc_rules.proofs.Common.{sum_by-cons, Run, SpanRef, bit, same_run, same_span, runs_like, spans_like, runs_at, spans_of_run, less, without}
+use Rattle.alloc_rules.proofs.Common.{Counts, like, like_span, starting, of_run, less_counts, without_counts, same_run_refl, same_span_refl}
 
 -- over a test of items, how often one is in a list, and the list without it
 module _ {X : Type 0} (same : X → X → Bool) (often : X → List X → ℕ) (rest : X → List X → List X) (one : (x : X) → same x x ≡ true) (counts : (x : X) → Counts (often x) (λ (y : X). bit (same y x)))

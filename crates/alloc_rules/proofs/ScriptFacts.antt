@@ -1,26 +1,12 @@
 -- The first act of a call, over any front-end: it is of that call, and decides nothing before it is done.
-use Rattle.std.proofs.Common.{◌≡◌, ℕ, ◌+◌, true, List, [], ◌∷◌, drop, Option, Some, None, refl, sym, ap, ◌∙◌, arith}
-use Rattle.std.specs.Prelude.{◌<◌, is_some, option_map, slice_get, IfSome}
-use Rattle.std.proofs.lemmas.Bool.{eq-eqb}
-use Rattle.tc_units.specs.Classes.{class_of}
-use Rattle.tc_units.specs.declared.units.Class.{Class}
-use Rattle.tc_units.specs.declared.units.Label.{Label}
-use Rattle.tc_model.specs.declared.calls.Call.{Call}
-use Rattle.tc_model.specs.declared.calls.Call.TheVariants.{Malloc, Free, Release, Drain, Resize}
-use Rattle.tc_model.specs.declared.calls.Planned.{Planned}
-use Rattle.holdings.specs.Runs.{bit}
-use Rattle.holdings.specs.Accounts.{asking, publishing, got, gets}
-use Rattle.call_steps.specs.declared.step.Asking.{Asking}
-use Rattle.call_steps.specs.declared.step.Step.{Step}
+use Rattle.std.proofs.Common.{◌≡◌, ℕ, ◌+◌, true, List, [], ◌∷◌, drop, Option, Some, None, refl, sym, ap, ◌∙◌, arith, ◌<◌, is_some, option_map, slice_get}
+use Rattle.std.proofs.Common.{IfSome}
+use Rattle.alloc_rules.proofs.Common.{eq-eqb, class_of, Class, Label, Call, Malloc, Free, Release, Drain, Resize, Planned, bit, asking, publishing, got, gets}
+use Rattle.alloc_rules.proofs.Common.{Asking, Step, FrontCalls, AreEntries, IsEntry, step_or, first_of_malloc, first_of_call, first_act, About, undecided}
+use Rattle.alloc_rules.proofs.Common.{under, without_call, call_about, IsOf, doing_of, doing_about, IsOwn, is_under_way}
 use Rattle.call_steps.specs.declared.step.Step.TheVariants as does
 use Rattle.call_steps.specs.declared.step.ShardStep.TheVariants as shard
-use Rattle.call_steps.specs.Fronts.{FrontCalls, AreEntries, IsEntry}
-use Rattle.call_steps.specs.Local.{step_or, first_of_malloc, first_of_call, first_act}
 use Rattle.call_steps.specs.Calls as calls
-use Rattle.call_steps.specs.Calls.{About, undecided, under, without_call, call_about, IsOf}
-use Rattle.alloc_rules.specs.Accounts.{doing_of, doing_about}
-use Rattle.alloc_rules.specs.FrontLaw.{IsOwn}
-use Rattle.alloc_rules.specs.Scripts.{is_under_way}
 
 without : (o : Option Call) → is_some o ≡ true → without_call o ≡ 0
 without None is = absurd (cc)

@@ -1,47 +1,18 @@
 -- The thread of the earliest call that hasn't ended never waits.
-use Rattle.std.proofs.Common.{◌≡◌, ℕ, suc, ◌+◌, ◌<◌, ◌≤◌, Bool, true, false, eqb, ltb, cond, List, [], ◌∷◌, ◌++◌, length, get_or, map, filter, Option, Some, None, refl, sym, ap, ◌∙◌, subst, arith, inl, inr}
-use Rattle.std.specs.Prelude.{option_map, slice_get}
-use Rattle.std.proofs.lemmas.Bool.{cases_lt, cases_eq, eq-eqb, ltb-true, ltb-false, eqb-true}
-use Rattle.std.proofs.lemmas.Option.{slice_get-get_or}
-use Rattle.std.proofs.Math.Seq.{append_snoc}
-use Rattle.tc_units.specs.declared.units.Label.{Label}
-use Rattle.tc_model.specs.declared.machine.PartNo.{PartNo}
-use Rattle.tc_model.specs.declared.calls.Call.{Call}
-use Rattle.tc_model.specs.declared.calls.Call.TheVariants.{Malloc, Free, Release, Drain, Resize}
-use Rattle.tc_model.specs.declared.calls.Planned.{Planned}
+use Rattle.std.proofs.Common.{◌≡◌, ℕ, suc, ◌+◌, ◌<◌, ◌≤◌, Bool, true, false, eqb, ltb, cond, List, [], ◌∷◌, ◌++◌, length, get_or, map, filter, Option, Some}
+use Rattle.std.proofs.Common.{None, refl, sym, ap, ◌∙◌, subst, arith, inl, inr, option_map, slice_get}
+use Rattle.alloc_rules.proofs.Common.{cases_lt, cases_eq, eq-eqb, ltb-true, ltb-false, eqb-true, slice_get-get_or, append_snoc, Label, PartNo, Call, Malloc}
+use Rattle.alloc_rules.proofs.Common.{Free, Release, Drain, Resize, Planned, Asked, ThreadCall, script_of, Rules, World, world_of, FitsThere, IsReady}
+use Rattle.alloc_rules.proofs.Common.{stepped, stepped_on, stepped_at, stepped_by, done_by, done_in, picks_of, next_turn, picks-cons, picks-push_same}
+use Rattle.alloc_rules.proofs.Common.{picks-push_other, NameState, state_of, got, is_out, is_unpublished, bit_is, undecided, About, call_at, target_at}
+use Rattle.alloc_rules.proofs.Common.{waits_for, Regs, Step, Local, Part, Front, Heap, Map, Names, number, number_of, Parts, parts_of, waits, first_of, rules}
+use Rattle.alloc_rules.proofs.Common.{turns, got_in, IsInOrder, IsValid, Standing, FrontRules, Fits, IsIn, is_under_way}
+use Rattle.alloc_rules.specs.declared.part.Part.TheVariants.{Shard}
 use Rattle.tc_model.specs.declared.steps.Stepped.TheVariants as step
-use Rattle.tc_model.specs.Input.{Asked, ThreadCall, script_of}
-use Rattle.tc_model.specs.Run.{Rules, World, world_of}
-use Rattle.tc_model.specs.Sound.{FitsThere, IsReady}
-use Rattle.tc_model.specs.Steps.{stepped, stepped_on, stepped_at, stepped_by}
-use Rattle.tc_model.specs.Replays.{done_by, done_in}
-use Rattle.tc_model.specs.Calls.{picks_of}
-use Rattle.tc_model.specs.Serial.{next_turn}
-use Rattle.tc_model.proofs.CallSteps.{picks-cons, picks-push_same, picks-push_other}
-use Rattle.name_table.specs.declared.table.NameState.{NameState}
 use Rattle.name_table.specs.declared.table.NameState.TheVariants as name
-use Rattle.name_table.specs.Names.{state_of}
-use Rattle.holdings.specs.Accounts.{got, is_out, is_unpublished}
-use Rattle.holdings.proofs.Sums.{bit_is}
 use Rattle.call_steps.specs.declared.step.Step.TheVariants as does
 use Rattle.call_steps.specs.declared.step.NamesStep.TheVariants as names
-use Rattle.call_steps.specs.Calls.{undecided, About}
-use Rattle.call_steps.specs.Kept.{call_at, target_at}
-use Rattle.call_steps.specs.Acts.{waits_for}
-use Rattle.rseq_core.specs.declared.regs.Regs.{Regs}
-use Rattle.call_steps.specs.declared.step.Step.{Step}
-use Rattle.call_steps.specs.Local.{Local}
-use Rattle.alloc_rules.specs.declared.part.Part.{Part}
-use Rattle.alloc_rules.specs.declared.part.Part.TheVariants.{Front, Shard, Heap, Map, Names}
-use Rattle.alloc_rules.specs.Machine.{number, number_of, Parts, parts_of, waits, first_of, rules, turns}
-use Rattle.alloc_rules.specs.Valid.{got_in, IsInOrder, IsValid}
-use Rattle.alloc_rules.specs.Standings.{Standing}
-use Rattle.call_steps.specs.Fronts.{FrontRules}
-use Rattle.alloc_rules.specs.Fits.{Fits}
-use Rattle.alloc_rules.specs.Scripts.{IsIn, is_under_way}
-use Rattle.alloc_rules.proofs.Inputs.{got_push}
-use Rattle.alloc_rules.proofs.Numbers.{get_names}
-use Rattle.alloc_rules.proofs.Serving.{ArePlaced, IsAtWork}
+use Rattle.alloc_rules.proofs.{Inputs.got_push, Numbers.get_names, Serving.ArePlaced, Serving.IsAtWork}
 
 -- a script, call by call
 pub script-cons : (t : ℕ) (c : ThreadCall) (cs : List ThreadCall) → script_of t (c ∷ cs) ≡ cond (eqb c.thread.0 t) (c.planned ∷ script_of t cs) (script_of t cs)

@@ -1,38 +1,14 @@
 -- The laws of the completion of an order: threads, rising counts of ended calls, no wait, and the end of each script.
-use Rattle.std.proofs.Common.{◌≡◌, ℕ, zero, suc, ◌<◌, Bool, true, false, List, [], ◌∷◌, ◌++◌, length, get_or, map, Option, Some, None, refl, sym, ap, ◌∙◌, subst, arith}
-use Rattle.std.specs.Prelude.{slice_index, option_map, slice_get, is_some}
-use Rattle.std.specs.List.{range_with_len}
-use Rattle.std.proofs.lemmas.Bool.{false≢true}
-use Rattle.std.proofs.lemmas.List.{length-map}
-use Rattle.std.proofs.lemmas.List.FromFn.{length-range_with_len}
-use Rattle.std.proofs.lemmas.Option.{slice_get-get_or, slice_get_past}
-use Rattle.tc_model.specs.declared.calls.Planned.{Planned}
-use Rattle.tc_model.specs.declared.steps.Stepped.TheVariants as step
-use Rattle.tc_model.specs.Input.{Asked, ThreadCall, script_of}
-use Rattle.tc_model.specs.Run.{World, world_of}
-use Rattle.tc_model.specs.Sound.{IsReady}
-use Rattle.tc_model.specs.Steps.{stepped}
-use Rattle.tc_model.specs.Replays.{done_by, done_in, HaveEnded}
-use Rattle.tc_model.specs.Serial.{next_turn, AreThreads, NeverWaits, Rises, Ends}
+use Rattle.std.proofs.Common.{◌≡◌, ℕ, zero, suc, ◌<◌, Bool, true, false, List, [], ◌∷◌, ◌++◌, length, get_or, map, Option, Some, None, refl, sym, ap, ◌∙◌}
+use Rattle.std.proofs.Common.{subst, arith, slice_index, option_map, slice_get, is_some}
+use Rattle.alloc_rules.proofs.Common.{range_with_len, false≢true, length-map, length-range_with_len, slice_get-get_or, slice_get_past, Planned, Asked}
+use Rattle.alloc_rules.proofs.Common.{ThreadCall, script_of, World, world_of, IsReady, stepped, done_by, done_in, HaveEnded, next_turn, AreThreads}
+use Rattle.alloc_rules.proofs.Common.{NeverWaits, Rises, Ends, call_at, Regs, Step, Local, About, Part, Standing, IsLawful, FrontRules, Parts, parts_of}
+use Rattle.alloc_rules.proofs.Common.{place_of, first_of, rules, turns, Fits, IsIn, is_under_way, IsValid}
 use Rattle.tc_model.proofs.RisesBy.{rises_by, turns_none}
+use Rattle.tc_model.specs.declared.steps.Stepped.TheVariants as step
 use Rattle.call_steps.specs.declared.step.Step.TheVariants as does
-use Rattle.call_steps.specs.Kept.{call_at}
-use Rattle.rseq_core.specs.declared.regs.Regs.{Regs}
-use Rattle.call_steps.specs.declared.step.Step.{Step}
-use Rattle.call_steps.specs.Local.{Local}
-use Rattle.call_steps.specs.Calls.{About}
-use Rattle.alloc_rules.specs.declared.part.Part.{Part}
-use Rattle.alloc_rules.specs.Standings.{Standing}
-use Rattle.alloc_rules.specs.FrontLaw.{IsLawful}
-use Rattle.call_steps.specs.Fronts.{FrontRules}
-use Rattle.alloc_rules.specs.Machine.{Parts, parts_of, place_of, first_of, rules, turns}
-use Rattle.alloc_rules.specs.Fits.{Fits}
-use Rattle.alloc_rules.specs.Scripts.{IsIn, is_under_way}
-use Rattle.alloc_rules.specs.Valid.{IsValid}
-use Rattle.alloc_rules.proofs.Serving.{IsAtWork}
-use Rattle.alloc_rules.proofs.Runs.{served_order, sound}
-use Rattle.alloc_rules.proofs.SerialGoes.{script_length, serial_goes}
-use Rattle.alloc_rules.proofs.Elsewhere.{after_rises}
+use Rattle.alloc_rules.proofs.{Elsewhere.after_rises, Runs.served_order, Runs.sound, SerialGoes.script_length, SerialGoes.serial_goes, Serving.IsAtWork}
 
 -- calls are made by threads that there are
 thread_below : (n : ℕ) (cs : List ThreadCall) → ((earlier : List ThreadCall) (c : ThreadCall) (later : List ThreadCall) → earlier ++ c ∷ later ≡ cs → c.thread.0 < n) → (i : ℕ) → i < length (map (λ (c : ThreadCall). c.thread.0) cs) → slice_index (map (λ (c : ThreadCall). c.thread.0) cs) i < n

@@ -1,42 +1,16 @@
 -- What holds of a world in every run, and what an act of a thread makes of it.
-use Rattle.std.proofs.Common.{◌≡◌, ℕ, zero, suc, ◌+◌, ◌≤◌, true, eqb, List, [], ◌∷◌, ◌++◌, length, map, Option, Some, refl, sym, ap, ◌∙◌, subst, inl, inr, arith}
-use Rattle.std.specs.Prelude.{All, slice_get, slice_set}
-use Rattle.std.proofs.lemmas.List.{append-nil, length-set, length-append, map-append}
-use Rattle.std.proofs.lemmas.List.Elements.{filter-append}
-use Rattle.tc_model.specs.declared.calls.Planned.{Planned}
-use Rattle.tc_model.specs.declared.answers.CallLine.{CallLine}
-use Rattle.tc_model.specs.Input.{Asked, script_of}
-use Rattle.tc_model.specs.Run.{World, world_of}
-use Rattle.tc_model.specs.Calls.{picks_of, answers_at, AreOfPicks, AreAt, AreBelow, AreRising}
-use Rattle.tc_model.proofs.Rising.{rising_push}
-use Rattle.tc_model.proofs.CallSteps.{calls-step, picks-step, picks-push_same, picks-push_other}
-use Rattle.name_table.specs.declared.table.NameState.{NameState}
-use Rattle.name_table.specs.Names.{state_of}
-use Rattle.class_shard.specs.Shard.{Shard}
-use Rattle.holdings.specs.Accounts.{Account, is_out}
-use Rattle.holdings.specs.Books.{Books}
-use Rattle.holdings.specs.Facts.{Facts}
-use Rattle.holdings.specs.Moves.{Said, books_with, lines}
+use Rattle.std.proofs.Common.{◌≡◌, ℕ, zero, suc, ◌+◌, ◌≤◌, true, eqb, List, [], ◌∷◌, ◌++◌, length, map, Option, Some, refl, sym, ap, ◌∙◌, subst, inl, inr}
+use Rattle.std.proofs.Common.{arith, All, slice_get, slice_set}
+use Rattle.alloc_rules.proofs.Common.{append-nil, length-set, length-append, map-append, filter-append, Planned, CallLine, Asked, script_of, World, world_of}
+use Rattle.alloc_rules.proofs.Common.{picks_of, answers_at, AreOfPicks, AreAt, AreBelow, AreRising, calls-step, picks-step, picks-push_same, picks-push_other}
+use Rattle.alloc_rules.proofs.Common.{NameState, state_of, Shard, Account, is_out, Books, Facts, Said, books_with, lines, Decided, told, Local, FrontCalls}
+use Rattle.alloc_rules.proofs.Common.{AreEntries, FrontRules, About, Part, heap_config, Parts, parts_of, HasRoom, lines_by, account_of, decided_at, stock_of}
+use Rattle.alloc_rules.proofs.Common.{ArePartsOk, AreBooksOf, Does, Standing, standing_of, IsShaped, IsIn, Path, is_under_way, calls, setup_of}
 use Rattle.holdings.proofs.Moves.{acts_keep}
-use Rattle.call_steps.specs.Local.{Decided, told, Local}
-use Rattle.alloc_rules.proofs.Sets.{each_set}
-use Rattle.alloc_rules.proofs.Published.{stays_out, keeps_unpublished, said_few}
-use Rattle.alloc_rules.proofs.Telling.{own_lines, others_lines}
-use Rattle.call_steps.specs.Fronts.{FrontCalls, AreEntries, FrontRules}
-use Rattle.call_steps.specs.Calls.{About}
-use Rattle.alloc_rules.specs.declared.part.Part.{Part}
-use Rattle.alloc_rules.specs.Machine.{heap_config, Parts, parts_of}
-use Rattle.alloc_rules.specs.Heads.{HasRoom}
-use Rattle.alloc_rules.specs.Told.{lines_by}
-use Rattle.alloc_rules.specs.Accounts.{account_of}
-use Rattle.alloc_rules.specs.Stocks.{decided_at, stock_of, ArePartsOk, AreBooksOf, Does}
-use Rattle.alloc_rules.specs.Standings.{Standing, standing_of}
-use Rattle.alloc_rules.specs.Shapes.{IsShaped}
-use Rattle.alloc_rules.specs.Scripts.{IsIn, Path, is_under_way}
-use Rattle.alloc_rules.specs.Law.{calls, setup_of}
-use Rattle.alloc_rules.proofs.MapMoves.{account_at}
-use Rattle.alloc_rules.proofs.ScriptFacts.{HasRow}
-use Rattle.alloc_rules.proofs.InScripts.{StayOut, path_in}
+use Rattle.tc_model.proofs.Rising.{rising_push}
+use Rattle.alloc_rules.proofs.{InScripts.StayOut, InScripts.path_in, MapMoves.account_at, ScriptFacts.HasRow, Sets.each_set, Telling.others_lines}
+use Rattle.alloc_rules.proofs.Telling.{own_lines}
+use Rattle.alloc_rules.proofs.Published.{keeps_unpublished, said_few, stays_out}
 
 -- The parts alone, as many as the input says, and each transfer list within the room that the heads name.
 pub record ArePlaced {P V R : Type 0} (r : FrontRules P V R) (asked : Asked) (p : Parts P) : Type 0 where

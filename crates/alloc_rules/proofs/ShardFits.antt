@@ -1,48 +1,15 @@
 -- The acts at a shard fit: a new span is apart from the others, and a hand that is given was taken there.
-use Rattle.std.proofs.Common.{◌≡◌, ℕ, ◌+◌, ◌<◌, ◌≤◌, ◌⊎◌, cond, eqb, List, [], length, map, get_or, Some, refl, sym, ap, ◌∙◌, subst, arith, inl, inr}
-use Rattle.std.specs.Prelude.{All}
-use Rattle.std.specs.List.{slice_get}
-use Rattle.std.proofs.lemmas.Bool.{cases_lt, cond-true, eq-eqb}
-use Rattle.std.proofs.lemmas.List.{get_or-map, length-map}
-use Rattle.std.proofs.lemmas.List.Sums.{get_or-le-sum_by}
-use Rattle.std.proofs.lemmas.Option.{get_or_from_slice_get}
-use Rattle.tc_units.specs.declared.units.Addr.{Addr}
-use Rattle.tc_units.specs.declared.spans.ClassRow.{ClassRow}
-use Rattle.tc_units.specs.declared.spans.Run.{Run}
-use Rattle.tc_units.specs.declared.spans.SpanRef.{SpanRef}
-use Rattle.tc_model.specs.declared.answers.CallLine.{CallLine}
-use Rattle.heap_rules.specs.declared.config.HeapConfig.{HeapConfig}
-use Rattle.span_list.specs.Span.{SpanState}
-use Rattle.central_free.specs.Central.{IsTakenIn, IsApartFrom}
-use Rattle.class_shard.specs.Shard.{Shard, places}
-use Rattle.class_shard.specs.Laws.{spans_in, objects_in_spans, found_at}
-use Rattle.class_shard.proofs.SpansAreCut.{spans_cut}
+use Rattle.std.proofs.Common.{◌≡◌, ℕ, ◌+◌, ◌<◌, ◌≤◌, ◌⊎◌, cond, eqb, List, [], length, map, get_or, Some, refl, sym, ap, ◌∙◌, subst, arith, inl, inr, All}
+use Rattle.std.proofs.Common.{slice_get}
+use Rattle.alloc_rules.proofs.Common.{cases_lt, cond-true, eq-eqb, get_or-map, length-map, get_or-le-sum_by, get_or_from_slice_get, Addr, ClassRow, Run}
+use Rattle.alloc_rules.proofs.Common.{SpanRef, CallLine, HeapConfig, SpanState, IsTakenIn, IsApartFrom, Shard, places, spans_in, objects_in_spans, found_at}
+use Rattle.alloc_rules.proofs.Common.{spans_cut, bit, small, same_span, objects_at, spans_like, Setup, Stock, Books, pages_of, IsTaken, IsMapped, least}
+use Rattle.alloc_rules.proofs.Common.{same_span_refl, all_spans, one_number, hands_are_taken, mapped_are_there, Asking, Fetch, AddFetch, Give, no_class}
+use Rattle.alloc_rules.proofs.Common.{class_row, Local, FitsBatch, FitsShard, Planned, About, account_of, mapped_of, AreEntries, FrontRules, Parts, stock_of}
+use Rattle.alloc_rules.proofs.Common.{no_shard, shard_at, IsShardOf, setup, IsBefore, Step, ShardStep, IsClassRow, StepShape, ShardShape, ShardActsFit}
 use Rattle.class_shard.proofs.CountedOnceDiffer.{once_differ}
-use Rattle.holdings.specs.Runs.{bit, small, same_span, objects_at, spans_like}
-use Rattle.holdings.specs.Books.{Setup, Stock, Books, pages_of}
-use Rattle.holdings.specs.Laws.{IsTaken, IsMapped}
-use Rattle.holdings.proofs.Sums.{least, same_span_refl}
-use Rattle.holdings.proofs.MapFacts.{all_spans, one_number}
-use Rattle.holdings.proofs.Held.{hands_are_taken, mapped_are_there}
-use Rattle.call_steps.specs.declared.step.Asking.{Asking}
 use Rattle.call_steps.specs.declared.step.Step.TheVariants as does
-use Rattle.call_steps.specs.declared.step.ShardStep.TheVariants.{Fetch, AddFetch, Give}
-use Rattle.call_steps.specs.Local.{no_class, class_row, Local}
-use Rattle.call_steps.specs.Fits.{FitsBatch, FitsShard}
-use Rattle.alloc_rules.proofs.Counting.{objects_count}
-use Rattle.alloc_rules.proofs.Freeing.{own_account}
-use Rattle.tc_model.specs.declared.calls.Planned.{Planned}
-use Rattle.call_steps.specs.Calls.{About}
-use Rattle.alloc_rules.specs.Accounts.{account_of, mapped_of}
-use Rattle.call_steps.specs.Fronts.{AreEntries, FrontRules}
-use Rattle.alloc_rules.specs.Machine.{Parts}
-use Rattle.alloc_rules.specs.Stocks.{stock_of, no_shard, shard_at, IsShardOf}
-use Rattle.alloc_rules.specs.Acts.{setup, IsBefore}
-use Rattle.call_steps.specs.declared.step.Step.{Step}
-use Rattle.call_steps.specs.declared.step.ShardStep.{ShardStep}
-use Rattle.call_steps.specs.Shapes.{IsClassRow}
-use Rattle.alloc_rules.specs.Shapes.{StepShape, ShardShape}
-use Rattle.alloc_rules.specs.Laws.{ShardActsFit}
+use Rattle.alloc_rules.proofs.{Counting.objects_count, Freeing.own_account}
 
 -- an object of a list is at its address there
 objects_have : (xs : List Addr) (i : ℕ) (d : Addr) → i < length xs → 0 < objects_at (get_or xs i d).0 xs

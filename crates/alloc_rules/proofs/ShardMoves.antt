@@ -1,61 +1,23 @@
 -- The acts at a shard move objects between it and the hand, and spans to it and from it.
-use Rattle.std.proofs.Common.{◌≡◌, ◌≢◌, ℕ, ◌+◌, ◌<◌, ◌≤◌, ◌^◌, eqb, List, [], ◌∷◌, ◌++◌, length, Some, refl, sym, ap, ◌∙◌, subst, arith, inl, inr}
-use Rattle.std.specs.List.{slice_get, slice_set, flat_map}
-use Rattle.std.proofs.lemmas.Bool.{cases_lt}
-use Rattle.std.proofs.lemmas.List.{get_or-set_same, get_or-set_other, length-set}
-use Rattle.std.proofs.lemmas.List.Elements.{All-cons, All-nil}
-use Rattle.std.proofs.lemmas.Option.{slice_get_within}
-use Rattle.tc_units.specs.Bag.{Contents}
-use Rattle.tc_units.specs.Classes.{class_of}
-use Rattle.tc_units.specs.declared.units.Addr.{Addr}
-use Rattle.tc_units.specs.declared.spans.ClassRow.{ClassRow}
-use Rattle.tc_units.specs.declared.spans.Run.{Run}
-use Rattle.tc_units.specs.declared.spans.SpanRef.{SpanRef}
-use Rattle.tc_units.specs.declared.spans.SpanKind.TheVariants.{Small}
-use Rattle.tc_model.specs.declared.answers.CallLine.{CallLine}
+use Rattle.std.proofs.Common.{◌≡◌, ◌≢◌, ℕ, ◌+◌, ◌<◌, ◌≤◌, ◌^◌, eqb, List, [], ◌∷◌, ◌++◌, length, Some, refl, sym, ap, ◌∙◌, subst, arith, inl, inr, slice_get}
+use Rattle.std.proofs.Common.{slice_set, flat_map}
+use Rattle.alloc_rules.proofs.Common.{cases_lt, get_or-set_same, get_or-set_other, length-set, All-cons, All-nil, slice_get_within, Contents, class_of, Addr}
+use Rattle.alloc_rules.proofs.Common.{ClassRow, Run, SpanRef, Small, CallLine, HeapConfig, appended, emptied, objects_of, opening, Shard, fetched}
+use Rattle.alloc_rules.proofs.Common.{after_fetch, after_give, freed_by, places, spans_in, objects_in_spans, IsSame, IsFetched, IsAdded, with_new}
+use Rattle.alloc_rules.proofs.Common.{fetch_moves, add_moves, give_moves, small, same_span, objects_at, spans_like, spans_at, Asks, Setup, Books, IsCut}
+use Rattle.alloc_rules.proofs.Common.{class_number, MoveObjects, AddSpan, shift, all_spans, span_all, Asking, Fetch, AddFetch, Give, goes, class_row, Local}
+use Rattle.alloc_rules.proofs.Common.{with_hand, with_freed, decides_free, behind, clears, serves, with_more, fetches, with_spans_behind, shard_row, Planned}
+use Rattle.alloc_rules.proofs.Common.{About, AreEntries, FrontRules, Parts, stock_of, Does, no_shard, shard_at, IsShardOf, setup, IsBefore, Step, ShardStep}
+use Rattle.alloc_rules.proofs.Common.{Giving, StepShape, ShardShape, IsGiving, FitsAdd, FitsGive, IsLowRun, AddsSome, ShardActsMove}
+use Rattle.class_shard.specs.Laws.{IsGiven}
 use Rattle.page_map.specs.Spans.{IsInside}
-use Rattle.heap_rules.specs.declared.config.HeapConfig.{HeapConfig}
-use Rattle.rseq_core.specs.Bags.{appended, emptied}
-use Rattle.span_list.specs.Span.{objects_of}
 use Rattle.span_list.specs.Span as spans
-use Rattle.central_free.specs.Central.{opening}
-use Rattle.class_shard.specs.Shard.{Shard, fetched, after_fetch, after_give, freed_by, places}
-use Rattle.class_shard.specs.Laws.{spans_in, objects_in_spans, IsSame, IsFetched, IsAdded, IsGiven, with_new}
-use Rattle.class_shard.proofs.FetchesMove.{fetch_moves}
-use Rattle.class_shard.proofs.AddsMove.{add_moves}
-use Rattle.class_shard.proofs.GivesMove.{give_moves}
-use Rattle.holdings.specs.Runs.{small, same_span, objects_at, spans_like, spans_at}
-use Rattle.holdings.specs.Accounts.{Asks}
-use Rattle.holdings.specs.Books.{Setup, Books, IsCut, class_number}
-use Rattle.holdings.specs.Moves.{MoveObjects, AddSpan}
-use Rattle.holdings.proofs.Sums.{shift}
-use Rattle.holdings.proofs.MapFacts.{all_spans, span_all}
-use Rattle.call_steps.specs.declared.step.Asking.{Asking}
 use Rattle.call_steps.specs.declared.step.Step.TheVariants as does
 use Rattle.call_steps.specs.declared.step.HeapStep.TheVariants as heap
-use Rattle.call_steps.specs.declared.step.ShardStep.TheVariants.{Fetch, AddFetch, Give}
-use Rattle.call_steps.specs.Local.{goes, class_row, Local}
-use Rattle.call_steps.specs.Hands.{with_hand, with_freed, decides_free, behind, clears, serves}
-use Rattle.call_steps.specs.ShardActs.{with_more, fetches, with_spans_behind, shard_row}
-use Rattle.alloc_rules.proofs.Sets.{each_set}
-use Rattle.alloc_rules.proofs.Weighing.{bare}
-use Rattle.alloc_rules.proofs.Counting.{objects_count, spans_count, begun_count}
-use Rattle.alloc_rules.proofs.Stored.{with_stores}
-use Rattle.alloc_rules.proofs.CutOf.{cut_of}
-use Rattle.alloc_rules.proofs.ShardFits.{of_class, shard_is, row_is, class_row_is, is_mapped, shard_acts_fit}
-use Rattle.alloc_rules.proofs.Goings.{adding, carries_as, gets_object, gets_first, gives_hand, gives_spans}
-use Rattle.tc_model.specs.declared.calls.Planned.{Planned}
-use Rattle.call_steps.specs.Calls.{About}
-use Rattle.call_steps.specs.Fronts.{AreEntries, FrontRules}
-use Rattle.alloc_rules.specs.Machine.{Parts}
-use Rattle.alloc_rules.specs.Stocks.{stock_of, Does, no_shard, shard_at, IsShardOf}
-use Rattle.alloc_rules.specs.Acts.{setup, IsBefore}
-use Rattle.call_steps.specs.declared.step.Step.{Step}
-use Rattle.call_steps.specs.declared.step.ShardStep.{ShardStep}
-use Rattle.call_steps.specs.declared.step.Giving.{Giving}
-use Rattle.alloc_rules.specs.Shapes.{StepShape, ShardShape, IsGiving}
-use Rattle.call_steps.specs.Fits.{FitsAdd, FitsGive}
-use Rattle.alloc_rules.specs.Laws.{IsLowRun, AddsSome, ShardActsMove}
+use Rattle.alloc_rules.proofs.{CutOf.cut_of, Sets.each_set, Stored.with_stores, Weighing.bare}
+use Rattle.alloc_rules.proofs.Counting.{begun_count, objects_count, spans_count}
+use Rattle.alloc_rules.proofs.Goings.{adding, carries_as, gets_first, gets_object, gives_hand, gives_spans}
+use Rattle.alloc_rules.proofs.ShardFits.{class_row_is, is_mapped, of_class, row_is, shard_acts_fit, shard_is}
 
 module _ {P V R : Type 0} (r : FrontRules P V R) (about : R → About) (planned : Planned → Type 0) (entries : AreEntries r.calls about) where
   module _ (huge labels : ℕ) (limits : HeapConfig) (p : Parts P) (locals : List (Local V R)) (b : Books) (calls : List CallLine) (t : ℕ) (l : Local V R) (x : Shard) (before : IsBefore r about planned huge labels limits p locals b calls t l) (at : slice_get p.shards l.regs.class.0 ≡ Some x) where

@@ -1,17 +1,8 @@
 -- How large the requests of a script are.
 use Rattle.std.proofs.Common.{◌≡◌, ℕ, ◌^◌, ◌≤◌, true, false, eqb, cond, List, [], ◌∷◌, ◌++◌, map, filter, All, Option, Some, None, refl, ◌∙◌, subst, arith}
-use Rattle.std.specs.Prelude.{option_map, slice_get}
-use Rattle.std.proofs.lemmas.List.Elements.{All-cons}
-use Rattle.std.proofs.lemmas.Option.{slice_get_within, get_or_from_slice_get}
-use Rattle.std.proofs.Math.Seq.{append_snoc}
-use Rattle.tc_units.specs.declared.units.Label.{Label}
-use Rattle.tc_model.specs.declared.calls.Call.{Call}
-use Rattle.tc_model.specs.declared.calls.Call.TheVariants.{Malloc, Free, Release, Drain, Resize}
-use Rattle.tc_model.specs.declared.calls.Planned.{Planned}
-use Rattle.tc_model.specs.Input.{Asked, ThreadCall, script_of}
-use Rattle.call_steps.specs.Kept.{call_at}
-use Rattle.tc_units.specs.declared.spans.ClassRow.{ClassRow}
-use Rattle.alloc_rules.specs.Valid.{IsInOrder, IsValid}
+use Rattle.std.proofs.Common.{option_map, slice_get}
+use Rattle.alloc_rules.proofs.Common.{All-cons, slice_get_within, get_or_from_slice_get, append_snoc, Label, Call, Malloc, Free, Release, Drain, Resize}
+use Rattle.alloc_rules.proofs.Common.{Planned, Asked, ThreadCall, script_of, call_at, ClassRow, IsInOrder, IsValid}
 
 abbrev IsLow : Call → Type 0
 IsLow (Malloc label size) = size ≤ 2 ^ 40

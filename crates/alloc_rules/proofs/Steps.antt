@@ -1,65 +1,25 @@
 -- Each act of a thread, at the part that it wants, keeps what holds of a world.
-use Rattle.std.proofs.Common.{◌≡◌, ℕ, zero, suc, ◌+◌, ◌≤◌, ◌^◌, false, eqb, List, [], ◌∷◌, length, map, Some, refl, sym, ap, ◌∙◌, subst, arith}
-use Rattle.std.specs.Prelude.{All, option_map, slice_get, slice_set}
-use Rattle.std.proofs.lemmas.List.{length-set}
-use Rattle.std.proofs.lemmas.List.Sums.{count_by-le-length}
-use Rattle.std.proofs.lemmas.List.Elements.{All-set, All-head}
-use Rattle.std.proofs.lemmas.Option.{slice_get-map}
-use Rattle.tc_units.specs.declared.units.Label.{Label}
-use Rattle.tc_model.specs.declared.calls.Call.TheVariants.{Malloc}
-use Rattle.tc_model.specs.declared.calls.Planned.{Planned}
-use Rattle.tc_model.specs.declared.machine.TheConstants.{MOST_PICKS}
-use Rattle.tc_model.specs.Input.{Asked, labels_of}
-use Rattle.tc_model.specs.Calls.{picks_of, AreOfPicks}
-use Rattle.class_shard.specs.Shard.{Shard}
-use Rattle.page_map.specs.Spans.{SpanMap, IsWellFormed}
-use Rattle.name_table.specs.declared.table.NameState.{NameState}
+use Rattle.std.proofs.Common.{◌≡◌, ℕ, zero, suc, ◌+◌, ◌≤◌, ◌^◌, false, eqb, List, [], ◌∷◌, length, map, Some, refl, sym, ap, ◌∙◌, subst, arith, All}
+use Rattle.std.proofs.Common.{option_map, slice_get, slice_set}
+use Rattle.alloc_rules.proofs.Common.{length-set, count_by-le-length, All-set, All-head, slice_get-map, Label, Malloc, Planned, MOST_PICKS, Asked, labels_of}
+use Rattle.alloc_rules.proofs.Common.{picks_of, AreOfPicks, Shard, SpanMap, IsWellFormed, NameState, HeapConfig, Regs, Books, Facts, of_all, Step, ShardStep}
+use Rattle.alloc_rules.proofs.Common.{HeapStep, MapStep, NamesStep, Local, Decided, About, undecided, shard_row, heap_row, map_row, names_row, waits_row}
+use Rattle.alloc_rules.proofs.Common.{front_row, FitsNames, FitsShard, FitsHeap, FitsMap, heap_config, Parts, HasRoom, IsShardOf, AreBooksOf, Here, Standing}
+use Rattle.alloc_rules.proofs.Common.{stand, at_step, standing_of, ShardShape, StepShape, IsAct, IsLawful, FrontRules, IsBefore, IsKept, FrontKept, AddsSome}
+use Rattle.alloc_rules.proofs.Common.{Path, is_under_way, IsValid, calls, setup_of}
+use Rattle.alloc_rules.specs.FrontLaw.{IsReady}
 use Rattle.heap_rules.specs.Heap as heaps
 use Rattle.heap_rules.specs.Sound as heaps_sound
-use Rattle.heap_rules.specs.declared.config.HeapConfig.{HeapConfig}
-use Rattle.rseq_core.specs.declared.regs.Regs.{Regs}
-use Rattle.holdings.specs.Books.{Books}
-use Rattle.holdings.specs.Facts.{Facts}
-use Rattle.holdings.proofs.Sums.{of_all}
-use Rattle.call_steps.specs.declared.step.Step.{Step}
 use Rattle.call_steps.specs.declared.step.Step.TheVariants as does
-use Rattle.call_steps.specs.declared.step.ShardStep.{ShardStep}
-use Rattle.call_steps.specs.declared.step.HeapStep.{HeapStep}
 use Rattle.call_steps.specs.declared.step.HeapStep.TheVariants as heap
-use Rattle.call_steps.specs.declared.step.MapStep.{MapStep}
-use Rattle.call_steps.specs.declared.step.NamesStep.{NamesStep}
-use Rattle.call_steps.specs.Local.{Local, Decided}
-use Rattle.call_steps.specs.Calls.{About, undecided}
-use Rattle.call_steps.specs.ShardActs.{shard_row}
-use Rattle.call_steps.specs.Acts.{heap_row, map_row, names_row, waits_row, front_row}
-use Rattle.call_steps.specs.Fits.{FitsNames, FitsShard, FitsHeap, FitsMap}
-use Rattle.alloc_rules.specs.Machine.{heap_config, Parts}
-use Rattle.alloc_rules.specs.Heads.{HasRoom}
-use Rattle.alloc_rules.specs.Stocks.{IsShardOf, AreBooksOf}
-use Rattle.alloc_rules.proofs.Sets.{each_set}
-use Rattle.alloc_rules.specs.Standings.{Here, Standing, stand, at_step, standing_of}
-use Rattle.alloc_rules.specs.Shapes.{ShardShape, StepShape}
-use Rattle.alloc_rules.specs.FrontLaw.{IsAct, IsLawful, IsReady}
-use Rattle.call_steps.specs.Fronts.{FrontRules}
-use Rattle.alloc_rules.specs.Acts.{IsBefore}
-use Rattle.alloc_rules.specs.Laws.{IsKept, FrontKept, AddsSome}
-use Rattle.alloc_rules.specs.Scripts.{Path, is_under_way}
-use Rattle.alloc_rules.specs.Valid.{IsValid}
-use Rattle.alloc_rules.specs.Law.{calls, setup_of}
-use Rattle.alloc_rules.proofs.Heads.{list_stays}
-use Rattle.alloc_rules.proofs.Sizes.{request_low}
-use Rattle.alloc_rules.proofs.Paths.{front_path, shard_path, heap_path, map_path, names_path}
-use Rattle.alloc_rules.proofs.PartFits.{heap_fits, map_fits, found_class, names_fits}
-use Rattle.alloc_rules.proofs.HeapStays.{HeapStays, heap_stays, MapStays, map_stays}
-use Rattle.alloc_rules.proofs.FrontMoves.{front_acts_move}
-use Rattle.alloc_rules.proofs.HeapMoves.{heap_acts_move}
-use Rattle.alloc_rules.proofs.MapMoves.{map_acts_move}
-use Rattle.alloc_rules.proofs.NameMoves.{names_acts_move}
-use Rattle.alloc_rules.proofs.ShardFits.{row_is, shard_acts_fit}
-use Rattle.alloc_rules.proofs.ShardMoves.{shard_stays, shard_acts_move}
-use Rattle.alloc_rules.proofs.ActKeeps.{shard_acts_keep, heap_acts_keep, map_acts_keep, names_acts_keep, front_acts_keep}
-use Rattle.alloc_rules.proofs.ScriptFacts.{HasRow}
-use Rattle.alloc_rules.proofs.Serving.{ArePlaced, IsAtWork, IsActed}
+use Rattle.alloc_rules.proofs.{FrontMoves.front_acts_move, Heads.list_stays, HeapMoves.heap_acts_move, MapMoves.map_acts_move, NameMoves.names_acts_move}
+use Rattle.alloc_rules.proofs.{ScriptFacts.HasRow, Sets.each_set, ShardFits.row_is, ShardFits.shard_acts_fit, ShardMoves.shard_acts_move}
+use Rattle.alloc_rules.proofs.{ShardMoves.shard_stays, Sizes.request_low}
+use Rattle.alloc_rules.proofs.ActKeeps.{front_acts_keep, heap_acts_keep, map_acts_keep, names_acts_keep, shard_acts_keep}
+use Rattle.alloc_rules.proofs.HeapStays.{HeapStays, MapStays, heap_stays, map_stays}
+use Rattle.alloc_rules.proofs.PartFits.{found_class, heap_fits, map_fits, names_fits}
+use Rattle.alloc_rules.proofs.Paths.{front_path, heap_path, map_path, names_path, shard_path}
+use Rattle.alloc_rules.proofs.Serving.{ArePlaced, IsActed, IsAtWork}
 
 -- a fact of all of a list, where one element is replaced
 all_set : {X : Type 0} (P : X → Type 0) (xs : List X) (i : ℕ) (x : X) → All P xs → P x → All P (slice_set xs i x)

@@ -1,21 +1,8 @@
 -- The stock after a part of the front-end or a shard was replaced, and an act by the books of the parts.
-use Rattle.std.proofs.Common.{◌≡◌, ◌≢◌, ℕ, ◌+◌, List, [], ◌++◌, Some, refl, sym, ap, ◌∙◌, subst, arith}
+use Rattle.std.proofs.Common.{◌≡◌, ◌≢◌, ℕ, ◌+◌, List, [], ◌++◌, Some, refl, sym, ap, ◌∙◌, subst, arith, slice_get, slice_set}
+use Rattle.alloc_rules.proofs.Common.{Addr, NameState, Shard, objects_at, Account, Setup, Stock, Books, Said, Move, MoveObjects, shift, Local, About}
+use Rattle.alloc_rules.proofs.Common.{account_of, decided_at, stored_in, stock_of, AreBooksOf, Does, FrontRules, Parts}
 use Rattle.std.proofs.Math.Path.{fun_ext}
-use Rattle.std.specs.List.{slice_get, slice_set}
-use Rattle.tc_units.specs.declared.units.Addr.{Addr}
-use Rattle.name_table.specs.declared.table.NameState.{NameState}
-use Rattle.class_shard.specs.Shard.{Shard}
-use Rattle.holdings.specs.Runs.{objects_at}
-use Rattle.holdings.specs.Accounts.{Account}
-use Rattle.holdings.specs.Books.{Setup, Stock, Books}
-use Rattle.holdings.specs.Moves.{Said, Move, MoveObjects}
-use Rattle.holdings.proofs.Sums.{shift}
-use Rattle.call_steps.specs.Local.{Local}
-use Rattle.call_steps.specs.Calls.{About}
-use Rattle.alloc_rules.specs.Accounts.{account_of}
-use Rattle.alloc_rules.specs.Stocks.{decided_at, stored_in, stock_of, AreBooksOf, Does}
-use Rattle.call_steps.specs.Fronts.{FrontRules}
-use Rattle.alloc_rules.specs.Machine.{Parts}
 
 -- the parts with others of the front-end, and other shards
 abbrev pub with_stores : {P : Type 0} → Parts P → List P → List Shard → Parts P

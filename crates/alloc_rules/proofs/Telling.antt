@@ -1,15 +1,6 @@
 -- The calls that are told of a thread are the first ones of its script.
-use Rattle.std.proofs.Common.{◌≡◌, ℕ, zero, suc, ◌≤◌, List, [], ◌∷◌, length, map, take, Some, None, refl, ap, ◌∙◌, arith}
-use Rattle.std.specs.Prelude.{slice_get}
-use Rattle.std.proofs.lemmas.Bool.{eq-eqb, ne_eqb}
-use Rattle.std.proofs.lemmas.List.{length-map, take_all}
-use Rattle.tc_model.specs.declared.answers.CallLine.{CallLine}
-use Rattle.tc_model.specs.declared.calls.Call.{Call}
-use Rattle.tc_model.specs.declared.calls.Planned.{Planned}
-use Rattle.holdings.specs.Moves.{Said, lines}
-use Rattle.call_steps.specs.Local.{Decided, told, Local}
-use Rattle.call_steps.specs.Kept.{call_at}
-use Rattle.alloc_rules.specs.Told.{lines_by}
+use Rattle.std.proofs.Common.{◌≡◌, ℕ, zero, suc, ◌≤◌, List, [], ◌∷◌, length, map, take, Some, None, refl, ap, ◌∙◌, arith, slice_get}
+use Rattle.alloc_rules.proofs.Common.{eq-eqb, ne_eqb, length-map, take_all, CallLine, Call, Planned, Said, lines, Decided, told, Local, call_at, lines_by}
 
 pub own_lines : (t : ℕ) (said : List Said) → lines_by t (lines t said) ≡ lines t said
 own_lines t [] = refl

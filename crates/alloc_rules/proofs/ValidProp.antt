@@ -1,16 +1,11 @@
 -- That an input is valid has one proof at most, so that a machine can keep it.
 use Rattle.std.proofs.Common.{List, Option, None, Some}
-use Rattle.std.proofs.Math.Nat.{ℕ_set}
+use Rattle.alloc_rules.proofs.Common.{ClassRow, Call, Malloc, Free, Release, Drain, Resize, Planned, Input, ThreadCall, IsClassRow, AreRows, IsInOrder}
+use Rattle.alloc_rules.proofs.Common.{IsCall}
+use Rattle.alloc_rules.specs.Inputs.{IsCallThere, IsMove, IsPlanned, IsValidInput, Limits, limits_of}
 use Rattle.std.specs.Coded.{le_prop}
-use Rattle.tc_units.specs.declared.spans.ClassRow.{ClassRow}
-use Rattle.tc_model.specs.declared.calls.Call.{Call}
-use Rattle.tc_model.specs.declared.calls.Call.TheVariants.{Malloc, Free, Release, Drain, Resize}
+use Rattle.std.proofs.Math.Nat.{ℕ_set}
 use Rattle.tc_model.specs.declared.calls.MoveTo.{MoveTo}
-use Rattle.tc_model.specs.declared.calls.Planned.{Planned}
-use Rattle.tc_model.specs.Input.{Input, ThreadCall}
-use Rattle.call_steps.specs.Shapes.{IsClassRow, AreRows}
-use Rattle.alloc_rules.specs.Valid.{IsInOrder, IsCall}
-use Rattle.alloc_rules.specs.Inputs.{Limits, limits_of, IsMove, IsCallThere, IsPlanned, IsValidInput}
 
 order_prop : (earlier : List ThreadCall) (call : Call) → IsProp (IsInOrder earlier call)
 order_prop earlier (Malloc label size) = hlevel (ℕ_set, le_prop)

@@ -1,24 +1,13 @@
 -- Accounts that weigh the same: one that nothing changes, and one that ends its call and begins the next.
 use Rattle.std.proofs.Common.{◌≡◌, ℕ, ◌+◌, Bool, true, false, cond, eqb, List, [], ◌∷◌, Option, Some, None, refl, ap, sym, ◌∙◌, subst, arith}
-use Rattle.tc_units.specs.declared.units.Addr.{Addr}
-use Rattle.tc_units.specs.declared.units.Class.{Class}
-use Rattle.tc_units.specs.declared.units.Label.{Label}
-use Rattle.tc_units.specs.Classes.{class_of}
-use Rattle.tc_model.specs.declared.calls.Call.{Call}
-use Rattle.tc_model.specs.declared.calls.Call.TheVariants.{Malloc, Free, Release, Drain, Resize}
-use Rattle.tc_model.specs.declared.calls.Planned.{Planned}
-use Rattle.holdings.specs.Runs.{objects_at}
-use Rattle.holdings.specs.Accounts.{Account, Doing, Takes, Other, WeighSame, asking, publishing, taking, holds, loose, got, put}
-use Rattle.call_steps.specs.Local.{first_of_malloc, first_of_call, regs_of_malloc, fresh_regs, next_call, closes, ends, Local, step_or}
-use Rattle.rseq_core.specs.declared.regs.Regs.{Regs}
-use Rattle.call_steps.specs.declared.step.Asking.{Asking}
-use Rattle.call_steps.specs.declared.step.Step.{Step}
+use Rattle.alloc_rules.proofs.Common.{Addr, Class, Label, class_of, Call, Malloc, Free, Release, Drain, Resize, Planned, objects_at, Account, Doing, Takes}
+use Rattle.alloc_rules.proofs.Common.{Other, WeighSame, asking, publishing, taking, loose, got, put, first_of_malloc, first_of_call, regs_of_malloc}
+use Rattle.alloc_rules.proofs.Common.{fresh_regs, next_call, closes, ends, Local, step_or, Regs, Asking, Step, FrontCalls, AreEntries, IsEntry, About}
+use Rattle.alloc_rules.proofs.Common.{account_of, doing_about}
+use Rattle.holdings.specs.Accounts.{holds}
 use Rattle.call_steps.specs.declared.step.Step.TheVariants as step
 use Rattle.call_steps.specs.declared.step.ShardStep.TheVariants as shard
-use Rattle.call_steps.specs.Fronts.{FrontCalls, AreEntries, IsEntry}
 use Rattle.call_steps.specs.Calls as about
-use Rattle.call_steps.specs.Calls.{About}
-use Rattle.alloc_rules.specs.Accounts.{account_of, doing_about}
 
 -- an account that holds no span and no run, and one that has nothing to do with a label either
 abbrev pub bare : Doing → ℕ → List Addr → List Planned → Account
