@@ -1,48 +1,20 @@
 -- What comes behind an act at a CPU, and what the act leaves.
-use Rattle.std.proofs.Common.{◌≡◌, ◌≢◌, ℕ, ◌+◌, ◌<◌, ◌≤◌, false, List, [], length, Option, Some, None, refl, sym, ap, ◌∙◌, subst, arith, inl, inr, ◌⊎◌, zero, suc, eqb}
-use Rattle.std.proofs.lemmas.Bool.{cond_both}
-use Rattle.tc_units.specs.declared.units.Class.{Class}
-use Rattle.tc_units.specs.declared.units.ThreadNo.{ThreadNo}
-use Rattle.tc_units.specs.declared.spans.ClassRow.{ClassRow}
-use Rattle.tc_model.specs.declared.calls.MoveTo.{MoveTo}
-use Rattle.tc_model.specs.declared.config.Config.{Config}
-use Rattle.tc_model.specs.declared.machine.TheConstants.{MOST_PICKS}
-use Rattle.cpu_slab.specs.Slots.{CpuSlab, row_at, held}
-use Rattle.rseq_core.specs.declared.cpu_part.CpuPart.{CpuPart}
-use Rattle.rseq_core.specs.declared.regs.Regs.{Regs}
-use Rattle.rseq_core.specs.Bags.{room}
-use Rattle.rseq_core.specs.Tables.{is_pop}
+use Rattle.std.proofs.Common.{◌≡◌, ◌≢◌, ℕ, ◌+◌, ◌<◌, ◌≤◌, false, List, [], length, Option, Some, None, refl, sym, ap, ◌∙◌, subst, arith, inl, inr, ◌⊎◌, zero}
+use Rattle.std.proofs.Common.{suc, eqb}
+use Rattle.cpu_rows.proofs.Common.{cond_both, Class, ThreadNo, ClassRow, MoveTo, Config, MOST_PICKS, CpuSlab, row_at, held, CpuPart, Regs, room, is_pop}
+use Rattle.cpu_rows.proofs.Common.{IsCurrent, runs, left, dropped, CpuOk, SeatOk, SeatKeeps, IsHome, AreOfSame, objects_at, CpuSeat, CpuRow, CpuStep, Next}
+use Rattle.cpu_rows.proofs.Common.{HasNoLabel, About, Asks, Publishes, Frees, Other, about_giving, cpu_acts, leaving, moves_to, leaves, looks_on, gives}
+use Rattle.cpu_rows.proofs.Common.{at_cpu_next, about_cpu, about_row, at_cpu, as_row, FitsCpu, thread_no, AreRows, most_slots, IsAtBegin, HasNone, IsGiving}
+use Rattle.cpu_rows.proofs.Common.{CpuShape, cpu_standing, giving_standing, IsMove, limits_of, Standing, Here, stand, at_next, regs_next, IsReady, IsAct}
+use Rattle.cpu_rows.proofs.Common.{IsNext, Cpu, left_with, cpu_front, seated, stopping_at, seat_at, IsSeated, RegsAt, Asking, Giving, IsAsked, HandAbout}
 use Rattle.rseq_core.specs.Agrees.{Agrees}
-use Rattle.rseq_core.specs.Acts.{IsCurrent, runs, left, dropped}
 use Rattle.cpu_drain.specs.Seats as seats
-use Rattle.cpu_drain.specs.Seats.{CpuOk, SeatOk, SeatKeeps}
-use Rattle.cpu_drain.specs.Laws.{IsHome, AreOfSame}
 use Rattle.cpu_drain.proofs.Lawful as lawful
-use Rattle.holdings.specs.Runs.{objects_at}
-use Rattle.cpu_rows.specs.declared.seat.CpuSeat.{CpuSeat}
-use Rattle.cpu_rows.specs.declared.row.CpuRow.{CpuRow}
 use Rattle.cpu_rows.specs.declared.row.CpuRow.TheVariants as front
-use Rattle.cpu_rows.specs.declared.row.CpuStep.{CpuStep}
-use Rattle.cpu_rows.specs.PerCpu.{Next}
-use Rattle.call_steps.specs.Calls.{HasNoLabel, About, Asks, Publishes, Frees, Other, about_giving}
 use Rattle.cpu_rows.specs.CpuActs as acts
-use Rattle.cpu_rows.specs.CpuActs.{cpu_acts, leaving, moves_to, leaves, looks_on, gives, at_cpu_next}
-use Rattle.cpu_rows.specs.CpuRows.{about_cpu, about_row, at_cpu, as_row}
-use Rattle.cpu_rows.specs.CpuFits.{FitsCpu}
-use Rattle.call_steps.specs.Local.{thread_no}
-use Rattle.call_steps.specs.Shapes.{AreRows, most_slots}
-use Rattle.cpu_rows.specs.Shapes.{IsAtBegin, HasNone, IsGiving, CpuShape, cpu_standing, giving_standing}
-use Rattle.alloc_rules.specs.Inputs.{IsMove, limits_of}
-use Rattle.alloc_rules.specs.Standings.{Standing, Here, stand, at_next, regs_next}
-use Rattle.alloc_rules.specs.FrontLaw.{IsReady, IsAct, IsNext}
-use Rattle.cpu_rows.specs.CpuFront.{Cpu, left_with, cpu_front, seated}
-use Rattle.cpu_rows.specs.CpuHolds.{stopping_at, seat_at, IsSeated, RegsAt}
-use Rattle.call_steps.specs.declared.step.Asking.{Asking}
-use Rattle.call_steps.specs.declared.step.Giving.{Giving}
 use Rattle.call_steps.specs.declared.step.Giving.TheVariants as giving
 use Rattle.call_steps.specs.declared.step.Next.TheVariants as next
 use Rattle.cpu_rows.specs.declared.row.DomainStep.TheVariants as domain
-use Rattle.alloc_rules.specs.Shapes.{IsAsked, HandAbout}
 
 -- a number of domains that isn't 0
 some_domain : (n : ℕ) → eqb n 0 ≡ false → 0 < n

@@ -1,32 +1,15 @@
 -- What holds of the caches after the picks of an order, from the allocator's law and their own invariant.
-use Rattle.std.proofs.Common.{◌≡◌, ◌≢◌, ℕ, List, Some, ap, ◌∙◌, subst}
-use Rattle.std.specs.Prelude.{option_map, slice_get}
-use Rattle.std.proofs.lemmas.Option.{slice_get-map}
-use Rattle.tc_units.specs.declared.units.ThreadNo.{ThreadNo}
-use Rattle.tc_model.specs.Input.{Input}
-use Rattle.tc_model.specs.Sound.{IsOrder}
-use Rattle.rseq_core.specs.declared.cpu_part.CpuPart.{CpuPart}
-use Rattle.cpu_drain.specs.Seats.{SeatOk, IsStopping}
-use Rattle.cpu_rows.specs.declared.row.Resizing.{Resizing}
-use Rattle.cpu_rows.specs.declared.row.Stopping.{Stopping}
+use Rattle.std.proofs.Common.{◌≡◌, ◌≢◌, ℕ, List, Some, ap, ◌∙◌, subst, option_map, slice_get}
+use Rattle.cpu_rows.proofs.Common.{slice_get-map, ThreadNo, Input, IsOrder, CpuPart, SeatOk, IsStopping, Resizing, Stopping, Local, Step, thread_no, at_step}
+use Rattle.cpu_rows.proofs.Common.{standing_of, Cpu, CpuHolds, IsSeated, RegsAt, cpu_planned, cpu_fits, seat_at, stopping_at, limits_of, front_of, rules}
+use Rattle.cpu_rows.proofs.Common.{IsValidInput, about_row}
+use Rattle.alloc_rules.proofs.Laws.{in_every_order}
+use Rattle.cpu_rows.specs.Law.{HoldsAfter, InEveryOrder}
 use Rattle.call_steps.specs.declared.step.Step.TheVariants as does
 use Rattle.cpu_rows.specs.declared.row.CpuRow.TheVariants as front
 use Rattle.cpu_rows.specs.declared.row.CpuStep.TheVariants as cpu
-use Rattle.cpu_rows.specs.PerCpu.{CpuLocal as Local, Step}
-use Rattle.call_steps.specs.Local.{thread_no}
-use Rattle.alloc_rules.specs.Standings.{at_step, standing_of}
 use Rattle.alloc_rules.specs.Law as allocator
-use Rattle.alloc_rules.proofs.Laws.{in_every_order}
-use Rattle.cpu_rows.specs.CpuFront.{Cpu}
-use Rattle.cpu_rows.specs.CpuHolds.{CpuHolds, IsSeated, RegsAt, cpu_planned, cpu_fits, seat_at, stopping_at}
-use Rattle.alloc_rules.specs.Inputs.{limits_of}
-use Rattle.cpu_rows.specs.Machine.{front_of, rules}
-use Rattle.alloc_rules.specs.Inputs.{IsValidInput}
-use Rattle.cpu_rows.specs.Law.{HoldsAfter, InEveryOrder}
-use Rattle.cpu_rows.specs.CpuRows.{about_row}
-use Rattle.cpu_rows.proofs.Answering.{answers_busy, answers_cap}
-use Rattle.cpu_rows.proofs.Switching.{switches_are_few}
-use Rattle.cpu_rows.proofs.CpuLaw.{lawful_in}
+use Rattle.cpu_rows.proofs.{Answering.answers_busy, Answering.answers_cap, CpuLaw.lawful_in, Switching.switches_are_few}
 
 module _ (input : Input) (valid : IsValidInput input) (order : List ℕ) (of : IsOrder (rules input) order) (all : allocator.HoldsAfter (front_of input) about_row (CpuHolds input.rows input.asked.config) input.asked order) where
   seated : (t : ℕ) (l : Local) → slice_get all.locals t ≡ Some l → IsSeated input.rows input.asked.config t (standing_of l)

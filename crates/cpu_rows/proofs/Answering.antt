@@ -1,37 +1,15 @@
 -- A drain or a resize is answered busy, and a capacity, exactly as the CPU stands.
 use Rattle.std.proofs.Common.{◌≡◌, ℕ, ◌<◌, ◌≤◌, ◌↔◌, Bool, true, false, ltb, cond, List, [], ◌∷◌, ◌++◌, Option, Some, None, refl, sym, ap, ◌∙◌, subst, arith}
-use Rattle.std.specs.Prelude.{◌≢◌}
-use Rattle.std.proofs.lemmas.Bool.{ltb-true, ltb-false}
-use Rattle.tc_units.specs.declared.units.Class.{Class}
-use Rattle.tc_units.specs.declared.units.ThreadNo.{ThreadNo}
-use Rattle.tc_units.specs.declared.spans.ClassRow.{ClassRow}
-use Rattle.tc_model.specs.declared.calls.Call.{Call}
-use Rattle.tc_model.specs.declared.calls.Call.TheVariants.{Resize}
-use Rattle.tc_model.specs.declared.answers.Answer.{Answer}
-use Rattle.tc_model.specs.declared.answers.Answer.TheVariants.{Busy, CapSet, OverLimit, OverStatic}
-use Rattle.cpu_slab.specs.Slots.{CpuSlab}
-use Rattle.cpu_slab.specs.Caps.{cap_fault}
-use Rattle.rseq_core.specs.declared.cpu_part.CpuPart.{CpuPart}
-use Rattle.cpu_rows.specs.PerCpu.{CpuLocal as Local, Step}
+use Rattle.std.proofs.Common.{◌≢◌}
+use Rattle.cpu_rows.proofs.Common.{ltb-true, ltb-false, Class, ThreadNo, ClassRow, Call, Resize, Answer, Busy, CapSet, OverLimit, OverStatic, CpuSlab}
+use Rattle.cpu_rows.proofs.Common.{cap_fault, CpuPart, Local, Step, Stopping, Resizing, ends, decided, cap_answer, stops, follows, cpu_calls, call_of, Input}
+use Rattle.cpu_rows.proofs.Common.{about_row, Decides, front_after, CpuFrontPart, front_of}
+use Rattle.alloc_rules.proofs.Answering.{decides_by, decides_none, ends_goes}
+use Rattle.cpu_rows.specs.Answers.{AnswersBusy, AnswersCap, DecidesCap, bytes_with}
 use Rattle.call_steps.specs.declared.step.Step.TheVariants as does
 use Rattle.cpu_rows.specs.declared.row.CpuRow.TheVariants as front
 use Rattle.cpu_rows.specs.declared.row.CpuStep.TheVariants as cpu
-use Rattle.cpu_rows.specs.declared.row.Stopping.{Stopping}
-use Rattle.cpu_rows.specs.declared.row.Resizing.{Resizing}
-use Rattle.call_steps.specs.Local.{ends, decided}
-use Rattle.cpu_rows.specs.CpuActs.{cap_answer, stops}
-use Rattle.call_steps.specs.Follows.{follows}
-use Rattle.cpu_rows.specs.CpuCalls.{cpu_calls}
-use Rattle.cpu_rows.specs.CpuRows.{call_of}
-use Rattle.tc_model.specs.Input.{Input}
-use Rattle.cpu_rows.specs.CpuRows.{about_row}
-use Rattle.alloc_rules.specs.Answers.{Decides}
-use Rattle.call_steps.specs.Acts.{front_after}
-use Rattle.alloc_rules.proofs.Answering.{decides_by, decides_none, ends_goes}
 use Rattle.cpu_rows.specs.CpuFront as caches
-use Rattle.cpu_rows.specs.CpuFront.{CpuFrontPart}
-use Rattle.cpu_rows.specs.Machine.{front_of}
-use Rattle.cpu_rows.specs.Answers.{AnswersBusy, bytes_with, DecidesCap, AnswersCap}
 
 -- busy, by who is the stopper
 busy_of : (rows : List ClassRow) (p : CpuPart) (l : Local) (s : Stopping) (owner : ThreadNo) (o : Option ThreadNo) → Decides l (follows (cpu_calls rows) l (Some (call_of s)) (stops p l.regs.thread s o).1) (Busy owner) ↔ (o ≡ Some owner)

@@ -1,58 +1,27 @@
 -- What each act keeps, wherever it finds its part: a slab is as the table and the heads say, and a row refuses a call as it may.
 use Rattle.std.proofs.Common.{◌≡◌, ℕ, zero, suc, ◌+◌, ◌*◌, ◌-◌, Bool, true, false, eqb, leb, List, [], ◌∷◌, map, min, Option, Some, None, refl, ap, ◌∙◌}
-use Rattle.std.specs.Prelude.{option_map, unwrap_or, slice_set}
-use Rattle.std.specs.Int.{div_ceil}
-use Rattle.std.specs.List.{slice_index_or}
-use Rattle.std.proofs.lemmas.Bool.{cond_both}
-use Rattle.tc_units.specs.declared.spans.ClassRow.{ClassRow}
-use Rattle.tc_units.specs.declared.units.ThreadNo.{ThreadNo}
-use Rattle.tc_model.specs.declared.calls.MoveTo.{MoveTo}
-use Rattle.tc_model.specs.declared.config.Config.{Config}
-use Rattle.cpu_slab.specs.declared.slab.CapFault.{CapFault}
-use Rattle.cpu_slab.specs.Slots.{SlabRow, CpuSlab, no_row, row_at, with_row}
-use Rattle.cpu_slab.specs.Caps.{cap_fault, set_unless}
-use Rattle.cpu_slab.specs.Growth.{used, unused, rise, wider, narrower, victim, taken_from, widened, roomy, growth, grown}
-use Rattle.rseq_core.specs.declared.cpu_part.CpuPart.{CpuPart}
-use Rattle.rseq_core.specs.declared.regs.Regs.{Regs}
-use Rattle.rseq_core.specs.declared.sequence.Pc.{Pc}
-use Rattle.rseq_core.specs.declared.sequence.Pc.TheVariants.{Begin, Header, Test, Copy, Commit}
-use Rattle.rseq_core.specs.declared.sequence.Reply.TheVariants.{Empty, Full}
-use Rattle.rseq_core.specs.Tables.{Cell, is_pop, wanted, closes, counted, cell}
+use Rattle.std.proofs.Common.{option_map, slice_set, slice_index_or}
+use Rattle.cpu_rows.proofs.Common.{cond_both, ClassRow, ThreadNo, MoveTo, Config, CapFault, SlabRow, CpuSlab, no_row, row_at, with_row, cap_fault, set_unless}
+use Rattle.cpu_rows.proofs.Common.{CpuPart, Regs, Pc, Begin, Header, Test, Copy, Commit, Empty, Full, Cell, is_pop, wanted, counted, cell, CpuSeat, CpuStep}
+use Rattle.cpu_rows.proofs.Common.{Stopping, due, sequence_by, stops, left_for, cpu_acts, looks_on, gives, after_pop, after_stock, after_push, replied}
+use Rattle.cpu_rows.proofs.Common.{instructed_to, grew_to, drains_on, drained, took, cap_answer, gives_taken, started, takes, fits_into, put_in, domain_acts}
+use Rattle.cpu_rows.proofs.Common.{slab_class, IsSlabOf, Addr, Class, Reply, Instructed, Grew, emptied, Transfer, last_first, Asking, Giving, CpuRow}
+use Rattle.cpu_rows.proofs.Common.{DomainStep, Next, row_of, cpu_refuses, as_row, is_refusal, RefusesAs, CpuFrontPart, Cpu, Domain, front_acts}
+use Rattle.cpu_slab.specs.Growth.{grown, growth, narrower, rise, roomy, taken_from, unused, used, victim, widened, wider}
+use Rattle.rseq_core.specs.Tables.{closes}
+use Rattle.std.{specs.Int.div_ceil, specs.Prelude.unwrap_or}
 use Rattle.rseq_core.specs.Acts as rseq
 use Rattle.cpu_drain.specs.Drains as drains
-use Rattle.cpu_rows.specs.declared.seat.CpuSeat.{CpuSeat}
-use Rattle.cpu_rows.specs.declared.row.CpuStep.{CpuStep}
 use Rattle.cpu_rows.specs.declared.row.CpuStep.TheVariants as cpu
-use Rattle.cpu_rows.specs.declared.row.Stopping.{Stopping}
-use Rattle.cpu_rows.specs.CpuActs.{due, sequence_by, stops, left_for, cpu_acts, looks_on, gives, after_pop, after_stock, after_push, replied, instructed_to, grew_to, drains_on, drained, took, cap_answer, gives_taken, started, takes, fits_into, put_in, domain_acts}
-use Rattle.cpu_rows.specs.Slabs.{slab_class, IsSlabOf}
-use Rattle.tc_units.specs.declared.units.Addr.{Addr}
-use Rattle.tc_units.specs.declared.units.Class.{Class}
 use Rattle.cpu_slab.specs.declared.slab.CapFault.TheVariants as fault
-use Rattle.rseq_core.specs.declared.sequence.Reply.{Reply}
 use Rattle.rseq_core.specs.declared.sequence.Reply.TheVariants as reply
-use Rattle.rseq_core.specs.declared.answers.Instructed.{Instructed}
 use Rattle.rseq_core.specs.declared.answers.Instructed.TheVariants as instructed
-use Rattle.rseq_core.specs.declared.answers.Grew.{Grew}
 use Rattle.rseq_core.specs.declared.answers.Grew.TheVariants as grew
-use Rattle.rseq_core.specs.Bags.{emptied}
-use Rattle.transfer_cache.specs.Transfer.{Transfer, last_first}
-use Rattle.call_steps.specs.declared.step.Asking.{Asking}
 use Rattle.cpu_rows.specs.declared.row.Stopping.TheVariants as stopping
-use Rattle.call_steps.specs.declared.step.Giving.{Giving}
 use Rattle.call_steps.specs.declared.step.Giving.TheVariants as giving
 use Rattle.call_steps.specs.declared.step.Next.TheVariants as next
-use Rattle.cpu_rows.specs.declared.row.CpuRow.{CpuRow}
 use Rattle.cpu_rows.specs.declared.row.CpuRow.TheVariants as front
-use Rattle.cpu_rows.specs.declared.row.DomainStep.{DomainStep}
 use Rattle.cpu_rows.specs.declared.row.DomainStep.TheVariants as domain
-use Rattle.cpu_rows.specs.PerCpu.{Next}
-use Rattle.call_steps.specs.Local.{row_of}
-use Rattle.cpu_rows.specs.CpuCalls.{cpu_refuses}
-use Rattle.cpu_rows.specs.CpuRows.{as_row}
-use Rattle.call_steps.specs.Refusals.{is_refusal}
-use Rattle.alloc_rules.specs.FrontLaw.{RefusesAs}
-use Rattle.cpu_rows.specs.CpuFront.{CpuFrontPart, Cpu, Domain, front_acts}
 
 -- Rows refuse as they may. All but two refuse none.
 module _ (rows : List ClassRow) (v : CpuSeat) (row : CpuRow) where

@@ -1,42 +1,20 @@
 -- The per-CPU caches meet the law of a front-end.
-use Rattle.std.proofs.Common.{◌≡◌, ℕ, ◌+◌, ◌*◌, ◌≤◌, List, length, Some, sym, ◌∙◌, subst, arith}
-use Rattle.std.specs.Prelude.{slice_get, slice_set}
-use Rattle.tc_units.specs.declared.spans.ClassRow.{ClassRow}
-use Rattle.tc_model.specs.declared.config.Config.{Config}
-use Rattle.tc_model.specs.declared.machine.TheConstants.{MOST_PICKS}
-use Rattle.tc_model.specs.Input.{Input}
-use Rattle.tc_model.proofs.Lists.{set_there}
-use Rattle.rseq_core.specs.declared.cpu_part.CpuPart.{CpuPart}
-use Rattle.rseq_core.specs.declared.regs.Regs.{Regs}
-use Rattle.transfer_cache.specs.Transfer.{Transfer}
-use Rattle.cpu_rows.specs.declared.seat.CpuSeat.{CpuSeat}
-use Rattle.cpu_rows.specs.declared.row.CpuRow.{CpuRow}
-use Rattle.cpu_rows.specs.declared.row.CpuRow.TheVariants as front
-use Rattle.cpu_rows.specs.declared.row.CpuStep.{CpuStep}
-use Rattle.cpu_rows.specs.declared.row.CpuStep.TheVariants as cpu
-use Rattle.cpu_rows.specs.declared.row.DomainStep.{DomainStep}
-use Rattle.cpu_rows.specs.CpuActs.{cpu_acts, domain_acts}
-use Rattle.cpu_rows.specs.CpuRows.{at_cpu, domain_of, about_row}
-use Rattle.cpu_rows.specs.CpuFits.{FitsDomain}
-use Rattle.call_steps.specs.Shapes.{AreRows}
-use Rattle.cpu_rows.specs.Shapes.{DomainShape}
-use Rattle.alloc_rules.specs.Standings.{Here, Standing, stand, regs_next, at_next}
-use Rattle.alloc_rules.specs.FrontLaw.{IsReady, IsAct, IsLawful}
-use Rattle.cpu_rows.specs.CpuFront.{CpuFrontPart, Cpu, Domain, seated, front_acts, cpu_front}
-use Rattle.cpu_rows.specs.CpuHolds.{cpu_planned, cpu_fits, CpuHolds}
+use Rattle.std.proofs.Common.{◌≡◌, ℕ, ◌+◌, ◌*◌, ◌≤◌, List, length, Some, sym, ◌∙◌, subst, arith, slice_get, slice_set}
+use Rattle.cpu_rows.proofs.Common.{ClassRow, Config, MOST_PICKS, Input, set_there, CpuPart, Regs, Transfer, CpuSeat, CpuRow, CpuStep, DomainStep, cpu_acts}
+use Rattle.cpu_rows.proofs.Common.{domain_acts, at_cpu, domain_of, about_row, FitsDomain, AreRows, DomainShape, Here, Standing, stand, regs_next, at_next}
+use Rattle.cpu_rows.proofs.Common.{IsReady, IsAct, IsLawful, CpuFrontPart, Cpu, Domain, seated, front_acts, cpu_front, cpu_planned, cpu_fits, CpuHolds}
+use Rattle.cpu_rows.proofs.Common.{IsValidInput, limits_of, AreCpuLimits, CpuIsLawful}
 use Rattle.alloc_rules.specs.Valid.{AreLimits}
-use Rattle.alloc_rules.specs.Inputs.{IsValidInput, limits_of}
-use Rattle.cpu_rows.specs.Laws.{AreCpuLimits, CpuIsLawful}
-use Rattle.cpu_rows.proofs.Threads.{comes}
+use Rattle.cpu_rows.specs.declared.row.CpuRow.TheVariants as front
+use Rattle.cpu_rows.specs.declared.row.CpuStep.TheVariants as cpu
 use Rattle.cpu_rows.proofs.Entries as entries
-use Rattle.cpu_rows.proofs.Entries.{cpu_entries}
-use Rattle.cpu_rows.proofs.Acts.{Turn, IsThere, Does}
-use Rattle.cpu_rows.proofs.Sequences.{pop_does, stock_does, push_does, batch_does, grow_does_all}
-use Rattle.cpu_rows.proofs.Stops.{stop_does, fence_does, take_does_all, set_cap_does, start_does, leave_does}
-use Rattle.cpu_rows.proofs.Domains.{Leaves, domain_leaves, domain_fits}
-use Rattle.cpu_rows.proofs.Anywhere.{cpu_keeps, refuses}
-use Rattle.cpu_rows.proofs.Parts.{cpu_low, domain_low, cache_changes, cpu_changes}
+use Rattle.cpu_rows.proofs.{Anywhere.cpu_keeps, Anywhere.refuses, Entries.cpu_entries, Threads.comes}
+use Rattle.cpu_rows.proofs.Acts.{Does, IsThere, Turn}
+use Rattle.cpu_rows.proofs.Domains.{Leaves, domain_fits, domain_leaves}
+use Rattle.cpu_rows.proofs.Parts.{cache_changes, cpu_changes, cpu_low, domain_low}
+use Rattle.cpu_rows.proofs.Sequences.{batch_does, grow_does_all, pop_does, push_does, stock_does}
 use Rattle.cpu_rows.proofs.Start.{holds_first, none_first, split_first}
+use Rattle.cpu_rows.proofs.Stops.{fence_does, leave_does, set_cap_does, start_does, stop_does, take_does_all}
 
 -- each act at a CPU
 cpu_does : (turn : Turn) (row : CpuStep) → IsThere turn row → Does turn row

@@ -1,41 +1,16 @@
 -- Acts at the cache of a class in a domain.
 use Rattle.std.proofs.Common.{subst, ◌≡◌, ◌≢◌, refl, ℕ, ◌+◌, ◌-◌, ◌<◌, ◌≤◌, Bool, cond, [], ◌∷◌, List, length, drop, ap, sym, ◌∙◌, inl, arith}
-use Rattle.std.proofs.lemmas.Bool.{cond_both, eq-eqb, ne_eqb, leb-true}
-use Rattle.std.proofs.lemmas.List.{length-append, length-take, length-drop, length-reverse}
-use Rattle.tc_units.specs.declared.units.Addr.{Addr}
-use Rattle.tc_units.specs.declared.units.Class.{Class}
-use Rattle.tc_units.specs.declared.spans.ClassRow.{ClassRow}
-use Rattle.tc_model.specs.declared.config.Config.{Config}
-use Rattle.rseq_core.specs.declared.regs.Regs.{Regs}
-use Rattle.rseq_core.specs.declared.regs.TheConstants.{HAND_ROOM, LOADED_ROOM}
-use Rattle.rseq_core.specs.Bags.{appended, emptied, room}
-use Rattle.transfer_cache.specs.Transfer.{Transfer, last_first, without_last}
-use Rattle.holdings.specs.Runs.{objects_at}
-use Rattle.cpu_rows.specs.declared.seat.CpuSeat.{CpuSeat}
-use Rattle.call_steps.specs.declared.step.Asking.{Asking}
-use Rattle.call_steps.specs.declared.step.Giving.{Giving}
+use Rattle.cpu_rows.proofs.Common.{cond_both, eq-eqb, ne_eqb, leb-true, length-append, length-take, length-drop, length-reverse, Addr, Class, ClassRow}
+use Rattle.cpu_rows.proofs.Common.{Config, Regs, HAND_ROOM, LOADED_ROOM, appended, emptied, room, Transfer, last_first, without_last, objects_at, CpuSeat}
+use Rattle.cpu_rows.proofs.Common.{Asking, Giving, CpuStep, DomainStep, Next, no_class, row_of, leaving, takes, puts, fits_into, put_in, domain_acts}
+use Rattle.cpu_rows.proofs.Common.{about_row, as_row, FitsDomain, AreRows, DomainShape, giving_standing, HasRoom, Here, at_next, regs_next, IsNext, IsAct}
+use Rattle.cpu_rows.proofs.Common.{Domain, seated, cpu_stored, left_with, cpu_front, limits_of}
 use Rattle.call_steps.specs.declared.step.Giving.TheVariants as giving
 use Rattle.call_steps.specs.declared.step.Next.TheVariants as next
 use Rattle.cpu_rows.specs.declared.row.CpuRow.TheVariants as front
-use Rattle.cpu_rows.specs.declared.row.CpuStep.{CpuStep}
-use Rattle.cpu_rows.specs.declared.row.DomainStep.{DomainStep}
 use Rattle.cpu_rows.specs.declared.row.DomainStep.TheVariants as domain
-use Rattle.cpu_rows.specs.PerCpu.{Next}
-use Rattle.call_steps.specs.Local.{no_class, row_of}
 use Rattle.cpu_rows.specs.CpuActs as acts
-use Rattle.cpu_rows.specs.CpuActs.{leaving, takes, puts, fits_into, put_in, domain_acts}
-use Rattle.cpu_rows.specs.CpuRows.{about_row, as_row}
-use Rattle.cpu_rows.specs.CpuFits.{FitsDomain}
-use Rattle.call_steps.specs.Shapes.{AreRows}
-use Rattle.cpu_rows.specs.Shapes.{DomainShape, giving_standing}
-use Rattle.alloc_rules.specs.Heads.{HasRoom}
-use Rattle.alloc_rules.specs.Standings.{Here, at_next, regs_next}
-use Rattle.alloc_rules.specs.FrontLaw.{IsNext, IsAct}
-use Rattle.cpu_rows.specs.CpuFront.{Domain, seated, cpu_stored, left_with, cpu_front}
-use Rattle.alloc_rules.specs.Inputs.{limits_of}
-use Rattle.cpu_rows.proofs.Threads.{KeepsRegs, Comes}
-use Rattle.cpu_rows.proofs.Acts.{IsBehind, gives_to_shard}
-use Rattle.cpu_rows.proofs.Moves.{objects_append, objects_last}
+use Rattle.cpu_rows.proofs.{Acts.IsBehind, Acts.gives_to_shard, Moves.objects_append, Moves.objects_last, Threads.Comes, Threads.KeepsRegs}
 
 -- a cache has the objects of its class alone
 stored_own : (k : Class) (q : Transfer) (n : ℕ) → cpu_stored (Domain k q) k.0 n ≡ objects_at n q.objects

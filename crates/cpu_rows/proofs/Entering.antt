@@ -1,43 +1,19 @@
 -- What an act of a local leaves of its CPU's open mark and of the thread's own sequence.
-use Rattle.std.proofs.Common.{◌≡◌, ℕ, ◌+◌, ◌-◌, ◌<◌, ◌≤◌, ◌⊎◌, Bool, true, false, cond, ltb, eqb, min, List, Option, Some, None, refl, sym, ap, ◌∙◌, subst, inl, inr, arith}
-use Rattle.std.specs.Prelude.{not, ◌||◌, is_some, length}
-use Rattle.std.proofs.lemmas.Bool.{cond_both, ltb-true, ltb-false}
-use Rattle.tc_units.specs.declared.units.ThreadNo.{ThreadNo}
-use Rattle.tc_units.specs.declared.spans.ClassRow.{ClassRow}
-use Rattle.tc_model.specs.declared.calls.MoveTo.{MoveTo}
-use Rattle.cpu_slab.specs.Slots.{SlabRow, row_at}
-use Rattle.rseq_core.specs.declared.cpu_part.CpuPart.{CpuPart}
-use Rattle.rseq_core.specs.declared.regs.Regs.{Regs}
-use Rattle.rseq_core.specs.declared.regs.TheConstants.{LOADED_ROOM}
-use Rattle.rseq_core.specs.declared.sequence.Pc.{Pc}
-use Rattle.rseq_core.specs.declared.sequence.Pc.TheVariants.{Begin, Header, Test, Copy, Commit}
-use Rattle.rseq_core.specs.declared.sequence.Seq.{Seq}
-use Rattle.rseq_core.specs.declared.sequence.Seq.TheVariants as seq
-use Rattle.rseq_core.specs.declared.sequence.Reply.{Reply}
-use Rattle.rseq_core.specs.declared.sequence.Reply.TheVariants as reply
-use Rattle.rseq_core.specs.Tables.{Cell, is_pop, wanted, closes as closed_by, counted, copy_or_commit, cell}
-use Rattle.rseq_core.specs.Acts.{runs, stands, open_after, instruction, with_cell, answered, entered, entering, arrival, instructed_by, grew_by}
-use Rattle.cpu_drain.specs.Drains as drains
+use Rattle.std.proofs.Common.{◌≡◌, ℕ, ◌+◌, ◌-◌, ◌<◌, ◌≤◌, ◌⊎◌, Bool, true, false, cond, ltb, eqb, min, List, Option, Some, None, refl, sym, ap, ◌∙◌, subst}
+use Rattle.std.proofs.Common.{inl, inr, arith, not, ◌||◌, is_some, length}
+use Rattle.cpu_rows.proofs.Common.{cond_both, ltb-true, ltb-false, ThreadNo, ClassRow, MoveTo, SlabRow, row_at, CpuPart, Regs, LOADED_ROOM, Pc, Begin, Header}
+use Rattle.cpu_rows.proofs.Common.{Test, Copy, Commit, Seq, Reply, Cell, is_pop, wanted, closed_by, counted, copy_or_commit, cell, runs, stands, open_after}
+use Rattle.cpu_rows.proofs.Common.{instruction, with_cell, answered, entered, entering, arrival, instructed_by, grew_by, Asking, Stopping, CpuStep, Pop, Grow}
+use Rattle.cpu_rows.proofs.Common.{Stock, Push, PopBatch, Stop, Fence, Take, SetCap, Start, Leave, Local, Step, goes, no_class, class_row, due, instructed_to}
+use Rattle.cpu_rows.proofs.Common.{instructs, sequence_by, grows, stops, runs_open, yields_to_enter, call_about, with_regs, follows, cpu_calls, with_next}
+use Rattle.cpu_rows.proofs.Common.{cpu_row, yields_for, AreRows, Limits, at_step, RegsAt, about_cpu, call_of, Kind, enters, closes, neither, instructed_kind}
+use Rattle.cpu_rows.proofs.Common.{sequence_kind, growth_kind, step_kind}
 use Rattle.cpu_drain.proofs.Steps.{runs_is}
-use Rattle.call_steps.specs.declared.step.Asking.{Asking}
-use Rattle.cpu_rows.specs.declared.row.Stopping.{Stopping}
-use Rattle.cpu_rows.specs.declared.row.CpuStep.{CpuStep}
-use Rattle.cpu_rows.specs.declared.row.CpuStep.TheVariants.{Pop, Grow, Stock, Push, PopBatch, Stop, Fence, Take, SetCap, Start, Leave}
-use Rattle.cpu_rows.specs.PerCpu.{CpuLocal as Local, Step}
+use Rattle.rseq_core.specs.declared.sequence.Seq.TheVariants as seq
+use Rattle.rseq_core.specs.declared.sequence.Reply.TheVariants as reply
+use Rattle.cpu_drain.specs.Drains as drains
 use Rattle.call_steps.specs.declared.step.Step.TheVariants as does
 use Rattle.cpu_rows.specs.declared.row.CpuRow.TheVariants as front
-use Rattle.call_steps.specs.Local.{goes, no_class, class_row}
-use Rattle.cpu_rows.specs.CpuActs.{due, instructed_to, instructs, sequence_by, grows, stops, runs_open, yields_to_enter}
-use Rattle.call_steps.specs.Calls.{call_about}
-use Rattle.call_steps.specs.Hands.{with_regs}
-use Rattle.call_steps.specs.Follows.{follows}
-use Rattle.cpu_rows.specs.CpuCalls.{cpu_calls, with_next, cpu_row, yields_for}
-use Rattle.call_steps.specs.Shapes.{AreRows}
-use Rattle.alloc_rules.specs.Inputs.{Limits}
-use Rattle.alloc_rules.specs.Standings.{at_step}
-use Rattle.cpu_rows.specs.CpuHolds.{RegsAt}
-use Rattle.cpu_rows.specs.CpuRows.{about_cpu, call_of}
-use Rattle.cpu_rows.specs.Switches.{Kind, enters, closes, neither, instructed_kind, sequence_kind, growth_kind, step_kind}
 
 -- how many instructions of a sequence were executed before its next one, where it copies so many objects
 abbrev pub executed : ℕ → Pc → ℕ

@@ -1,42 +1,15 @@
 -- Entries, and acts elsewhere: a thread comes to a row of the caches, or from one, or its registers change.
-use Rattle.std.proofs.Common.{◌≡◌, ℕ, ◌<◌, ◌≤◌, true, List, [], ◌∷◌, length, Option, Some, None, refl, ap, arith}
-use Rattle.std.specs.Prelude.{IfSome, is_some, slice_set}
-use Rattle.tc_units.specs.Bag.{Contents}
-use Rattle.tc_units.specs.declared.units.Addr.{Addr}
-use Rattle.tc_units.specs.declared.units.Class.{Class}
-use Rattle.tc_units.specs.declared.spans.ClassRow.{ClassRow}
-use Rattle.tc_model.specs.declared.calls.Call.{Call}
-use Rattle.tc_model.specs.declared.calls.Call.TheVariants.{Malloc, Free, Release, Drain, Resize}
-use Rattle.tc_model.specs.declared.calls.MoveTo.{MoveTo}
-use Rattle.tc_model.specs.declared.calls.Planned.{Planned}
-use Rattle.tc_model.specs.declared.config.Config.{Config}
-use Rattle.rseq_core.specs.declared.sequence.Seq.{Seq}
+use Rattle.std.proofs.Common.{◌≡◌, ℕ, ◌<◌, ◌≤◌, true, List, [], ◌∷◌, length, Option, Some, None, refl, ap, arith, IfSome, is_some, slice_set}
+use Rattle.cpu_rows.proofs.Common.{Contents, Addr, Class, ClassRow, Call, Malloc, Free, Release, Drain, Resize, MoveTo, Planned, Config, Seq, Begin, Regs}
+use Rattle.cpu_rows.proofs.Common.{LOADED_ROOM, CpuSeat, Asking, Serving, Freeing, CpuRow, CpuStep, Other, cpu_calls, to_sequence, move_of, with_move}
+use Rattle.cpu_rows.proofs.Common.{stop_row, to_stop, leave_row, about_row, AreRows, IsAtBegin, CpuShape, IsMove, IsCallThere, limits_of, At, Here, Later}
+use Rattle.cpu_rows.proofs.Common.{Away, Standing, stand, at_row, IsAsked, with_hand, IsOwn, AreEntries, IsEntry, CpuFrontPart, seated, cpu_planned, seat_at}
+use Rattle.cpu_rows.proofs.Common.{CpuHolds}
 use Rattle.rseq_core.specs.declared.sequence.Seq.TheVariants as seq
-use Rattle.rseq_core.specs.declared.sequence.Pc.TheVariants.{Begin}
-use Rattle.rseq_core.specs.declared.regs.Regs.{Regs}
-use Rattle.rseq_core.specs.declared.regs.TheConstants.{LOADED_ROOM}
-use Rattle.cpu_rows.specs.declared.seat.CpuSeat.{CpuSeat}
-use Rattle.call_steps.specs.declared.step.Asking.{Asking}
-use Rattle.call_steps.specs.declared.step.Serving.{Serving}
-use Rattle.call_steps.specs.declared.step.Freeing.{Freeing}
 use Rattle.cpu_rows.specs.declared.row.Stopping.TheVariants as stopping
-use Rattle.cpu_rows.specs.declared.row.CpuRow.{CpuRow}
 use Rattle.cpu_rows.specs.declared.row.CpuRow.TheVariants as front
-use Rattle.cpu_rows.specs.declared.row.CpuStep.{CpuStep}
 use Rattle.cpu_rows.specs.declared.row.CpuStep.TheVariants as cpu
-use Rattle.call_steps.specs.Calls.{Other}
-use Rattle.cpu_rows.specs.CpuCalls.{cpu_calls, to_sequence, move_of, with_move, stop_row, to_stop, leave_row}
-use Rattle.cpu_rows.specs.CpuRows.{about_row}
-use Rattle.call_steps.specs.Shapes.{AreRows}
-use Rattle.cpu_rows.specs.Shapes.{IsAtBegin, CpuShape}
-use Rattle.alloc_rules.specs.Inputs.{IsMove, IsCallThere, limits_of}
-use Rattle.alloc_rules.specs.Standings.{At, Here, Later, Away, Standing, stand, at_row}
-use Rattle.alloc_rules.specs.Shapes.{IsAsked}
-use Rattle.alloc_rules.specs.FrontLaw.{with_hand, IsOwn}
-use Rattle.call_steps.specs.Fronts.{AreEntries, IsEntry}
-use Rattle.cpu_rows.specs.CpuFront.{CpuFrontPart, seated}
-use Rattle.cpu_rows.specs.CpuHolds.{cpu_planned, seat_at, CpuHolds}
-use Rattle.cpu_rows.proofs.Threads.{changes, KeepsRegs, comes}
+use Rattle.cpu_rows.proofs.Threads.{KeepsRegs, changes, comes}
 
 module _ (rows : List ClassRow) (c : Config) where
   abbrev Is : ℕ → List CpuFrontPart → List (Standing CpuSeat CpuRow) → Type 0

@@ -1,3 +1,4 @@
+pub mod Common
 pub mod Nexts
 mod Acts
 mod Answering

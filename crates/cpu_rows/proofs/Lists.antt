@@ -1,7 +1,6 @@
 -- One item of a list in place of another.
-use Rattle.std.proofs.Common.{◌≡◌, ℕ, zero, suc, List, [], ◌∷◌, Some, refl, ap, subst}
-use Rattle.std.specs.Prelude.{slice_get, slice_set}
-use Rattle.tc_model.proofs.Lists.{set_there}
+use Rattle.std.proofs.Common.{◌≡◌, ℕ, zero, suc, List, [], ◌∷◌, Some, refl, ap, subst, slice_get, slice_set}
+use Rattle.cpu_rows.proofs.Common.{set_there}
 
 -- what stands at a place of a list where one item was set, which was another before
 pub data IsSet {X : Type 0} (xs : List X) (i : ℕ) (old new : X) (j : ℕ) (x : X) : Type 0 where

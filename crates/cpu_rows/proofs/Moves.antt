@@ -1,17 +1,8 @@
 -- Objects that a reply moves between a row and the hand.
 use Rattle.std.proofs.Common.{◌≡◌, ℕ, ◌+◌, ◌-◌, List, [], ◌∷◌, ◌++◌, length, take, drop, reverse, eqb, refl, sym, ap, ◌∙◌, arith}
-use Rattle.std.proofs.lemmas.List.{take-append-drop, reverse-append}
-use Rattle.tc_units.specs.declared.units.Addr.{Addr}
-use Rattle.cpu_slab.specs.Slots.{SlabRow, held}
-use Rattle.rseq_core.specs.declared.regs.Regs.{Regs}
-use Rattle.rseq_core.specs.declared.sequence.Reply.{Reply}
-use Rattle.rseq_core.specs.declared.sequence.Reply.TheVariants.{Popped, Pushed, Empty, Full, Stopped}
-use Rattle.rseq_core.specs.declared.answers.Instructed.{Instructed}
-use Rattle.rseq_core.specs.declared.answers.Instructed.TheVariants.{In, Back, Ran, Done}
-use Rattle.cpu_drain.specs.Laws.{ReplyMoves, AnswerMoves}
-use Rattle.transfer_cache.specs.Transfer.{last_first, without_last}
-use Rattle.holdings.specs.Runs.{bit, objects_at}
-use Rattle.holdings.proofs.Sums.{Counts, counts_append}
+use Rattle.cpu_rows.proofs.Common.{take-append-drop, reverse-append, Addr, SlabRow, held, Regs, Reply, Popped, Pushed, Empty, Full, Stopped, Instructed}
+use Rattle.cpu_rows.proofs.Common.{ReplyMoves, AnswerMoves, last_first, without_last, bit, objects_at, Counts, counts_append}
+use Rattle.rseq_core.specs.declared.answers.Instructed.TheVariants.{Back, Done, In, Ran}
 
 at_object : (n : ℕ) → Counts (objects_at n) (λ (x : Addr). bit (eqb x.0 n))
 at_object n = record { none = refl; more = λ x xs. refl }

@@ -1,60 +1,25 @@
 -- What an act of the per-CPU caches hands on may come next in its call.
-use Rattle.std.proofs.Common.{ltb, ◌≡◌, refl, ◌+◌, ◌<◌, true, eqb, List, [], ◌∷◌, length, Option, Some, None, ap, sym, subst, ◌∙◌, arith}
-use Rattle.std.specs.Prelude.{is_some}
-use Rattle.std.proofs.lemmas.Bool.{cond_both}
-use Rattle.std.proofs.lemmas.List.{length-append}
-use Rattle.tc_units.specs.declared.units.Addr.{Addr}
-use Rattle.tc_units.specs.declared.units.Class.{Class}
-use Rattle.tc_units.specs.declared.units.ThreadNo.{ThreadNo}
-use Rattle.tc_units.specs.declared.spans.ClassRow.{ClassRow}
-use Rattle.tc_model.specs.declared.calls.Call.{Call}
-use Rattle.tc_model.specs.declared.calls.Call.TheVariants.{Drain, Resize}
-use Rattle.tc_model.specs.declared.calls.MoveTo.{MoveTo}
-use Rattle.tc_model.specs.declared.answers.Answer.{Answer}
-use Rattle.tc_model.specs.declared.answers.Answer.TheVariants.{Busy}
-use Rattle.cpu_slab.specs.declared.slab.CapFault.{CapFault}
+use Rattle.std.proofs.Common.{ltb, ◌≡◌, refl, ◌+◌, ◌<◌, true, eqb, List, [], ◌∷◌, length, Option, Some, None, ap, sym, subst, ◌∙◌, arith, is_some}
+use Rattle.cpu_rows.proofs.Common.{cond_both, length-append, Addr, Class, ThreadNo, ClassRow, Call, Drain, Resize, MoveTo, Answer, Busy, CapFault, cap_fault}
+use Rattle.cpu_rows.proofs.Common.{CpuPart, Regs, Reply, Instructed, Grew, appended, emptied, Transfer, last_first, IsOther, cpu_refuses, cpu_calls, CpuSeat}
+use Rattle.cpu_rows.proofs.Common.{Asking, Serving, Freeing, Draining, Resizing, Stopping, Giving, Local, Next, Step, CpuRow, CpuStep, DomainStep, row_of}
+use Rattle.cpu_rows.proofs.Common.{decided, ends, Asks, Other, about_giving, Left, looks_on, gives, due, after_pop, after_stock, after_push, replied}
+use Rattle.cpu_rows.proofs.Common.{instructed_to, sequence_by, grew_to, stops, drains_on, drained, took, cap_answer, gives_taken, started, left_for, cpu_acts}
+use Rattle.cpu_rows.proofs.Common.{takes, fits_into, put_in, domain_acts, is_refusal, HasObject, ComesWith, MayFollow, follows, FitsCpu, FitsDomain}
+use Rattle.cpu_rows.proofs.Common.{about_cpu, about_row, call_of, as_row}
 use Rattle.cpu_slab.specs.declared.slab.CapFault.TheVariants as fault
-use Rattle.cpu_slab.specs.Caps.{cap_fault}
-use Rattle.rseq_core.specs.declared.cpu_part.CpuPart.{CpuPart}
-use Rattle.rseq_core.specs.declared.regs.Regs.{Regs}
-use Rattle.rseq_core.specs.declared.sequence.Reply.{Reply}
 use Rattle.rseq_core.specs.declared.sequence.Reply.TheVariants as reply
-use Rattle.rseq_core.specs.declared.answers.Instructed.{Instructed}
 use Rattle.rseq_core.specs.declared.answers.Instructed.TheVariants as instructed
-use Rattle.rseq_core.specs.declared.answers.Grew.{Grew}
 use Rattle.rseq_core.specs.declared.answers.Grew.TheVariants as grew
 use Rattle.rseq_core.specs.Acts as rseq
-use Rattle.rseq_core.specs.Bags.{appended, emptied}
 use Rattle.cpu_drain.specs.Drains as drains
-use Rattle.transfer_cache.specs.Transfer.{Transfer, last_first}
-use Rattle.holdings.specs.Moves.{IsOther}
-use Rattle.cpu_rows.specs.CpuCalls.{cpu_refuses, cpu_calls}
-use Rattle.cpu_rows.specs.declared.seat.CpuSeat.{CpuSeat}
-use Rattle.call_steps.specs.declared.step.Asking.{Asking}
-use Rattle.call_steps.specs.declared.step.Serving.{Serving}
-use Rattle.call_steps.specs.declared.step.Freeing.{Freeing}
-use Rattle.cpu_rows.specs.declared.row.Draining.{Draining}
-use Rattle.cpu_rows.specs.declared.row.Resizing.{Resizing}
-use Rattle.cpu_rows.specs.declared.row.Stopping.{Stopping}
 use Rattle.cpu_rows.specs.declared.row.Stopping.TheVariants as stopping
-use Rattle.call_steps.specs.declared.step.Giving.{Giving}
-use Rattle.cpu_rows.specs.PerCpu.{CpuLocal as Local, Next, Step}
 use Rattle.call_steps.specs.declared.step.Giving.TheVariants as giving
 use Rattle.call_steps.specs.declared.step.Next.TheVariants as next
 use Rattle.call_steps.specs.declared.step.Step.TheVariants as does
-use Rattle.cpu_rows.specs.declared.row.CpuRow.{CpuRow}
 use Rattle.cpu_rows.specs.declared.row.CpuRow.TheVariants as front
-use Rattle.cpu_rows.specs.declared.row.CpuStep.{CpuStep}
 use Rattle.cpu_rows.specs.declared.row.CpuStep.TheVariants as cpu
-use Rattle.cpu_rows.specs.declared.row.DomainStep.{DomainStep}
 use Rattle.cpu_rows.specs.declared.row.DomainStep.TheVariants as domain
-use Rattle.call_steps.specs.Local.{row_of, decided, ends}
-use Rattle.call_steps.specs.Calls.{Asks, Other, about_giving}
-use Rattle.cpu_rows.specs.CpuActs.{Left, looks_on, gives, due, after_pop, after_stock, after_push, replied, instructed_to, sequence_by, grew_to, stops, drains_on, drained, took, cap_answer, gives_taken, started, left_for, cpu_acts, takes, fits_into, put_in, domain_acts}
-use Rattle.call_steps.specs.Refusals.{is_refusal}
-use Rattle.call_steps.specs.Follows.{HasObject, ComesWith, MayFollow, follows}
-use Rattle.cpu_rows.specs.CpuFits.{FitsCpu, FitsDomain}
-use Rattle.cpu_rows.specs.CpuRows.{about_cpu, about_row, call_of, as_row}
 
 -- the row with which a drain goes on is about it
 drains_about : (rows : List ClassRow) (k : Class) (d : Draining) → about_cpu (drains_on rows k d).1 ≡ Other (Some (Drain d.cpu))

@@ -1,35 +1,13 @@
 -- The part of a row is there, and a part changes with the standing of a thread.
-use Rattle.std.proofs.Common.{◌≡◌, ℕ, ◌+◌, ◌*◌, ◌%◌, ◌<◌, ◌≤◌, eqb, List, length, Some, refl, sym, ap, ◌∙◌, subst, inl, inr, arith}
-use Rattle.std.specs.Prelude.{slice_get, slice_set}
-use Rattle.std.proofs.Math.Nat.{mod-lt}
-use Rattle.std.proofs.lemmas.Bool.{cond_both, cases_eq}
-use Rattle.std.proofs.lemmas.List.{length-set}
-use Rattle.tc_units.specs.declared.units.Class.{Class}
-use Rattle.tc_units.specs.declared.spans.ClassRow.{ClassRow}
-use Rattle.tc_model.specs.declared.config.Config.{Config}
-use Rattle.tc_model.proofs.Lists.{set_here, set_elsewhere}
-use Rattle.rseq_core.specs.declared.cpu_part.CpuPart.{CpuPart}
-use Rattle.rseq_core.specs.declared.regs.Regs.{Regs}
-use Rattle.cpu_drain.specs.Seats.{CpuOk, SeatOk, SeatKeeps}
-use Rattle.transfer_cache.specs.Transfer.{Transfer}
-use Rattle.cpu_rows.specs.declared.seat.CpuSeat.{CpuSeat}
-use Rattle.cpu_rows.specs.declared.row.Stopping.{Stopping}
+use Rattle.std.proofs.Common.{◌≡◌, ℕ, ◌+◌, ◌*◌, ◌%◌, ◌<◌, ◌≤◌, eqb, List, length, Some, refl, sym, ap, ◌∙◌, subst, inl, inr, arith, slice_get, slice_set}
+use Rattle.cpu_rows.proofs.Common.{mod-lt, cond_both, cases_eq, length-set, Class, ClassRow, Config, set_here, set_elsewhere, CpuPart, Regs, CpuOk, SeatOk}
+use Rattle.cpu_rows.proofs.Common.{SeatKeeps, Transfer, CpuSeat, Stopping, CpuRow, CpuStep, DomainStep, at_cpu, cpu_of, domain_of, thread_no, IsStop}
+use Rattle.cpu_rows.proofs.Common.{CpuShape, DomainShape, Limits, HasRoom, IsSlabOf, Standing, CpuFrontPart, Cpu, Domain, seated, seat_at, IsSeated}
+use Rattle.cpu_rows.proofs.Common.{ArePlaced, CpuHolds}
 use Rattle.cpu_rows.specs.declared.row.Stopping.TheVariants as stopping
-use Rattle.cpu_rows.specs.declared.row.CpuRow.{CpuRow}
-use Rattle.cpu_rows.specs.declared.row.CpuStep.{CpuStep}
 use Rattle.cpu_rows.specs.declared.row.CpuStep.TheVariants as cpu
-use Rattle.cpu_rows.specs.declared.row.DomainStep.{DomainStep}
 use Rattle.cpu_rows.specs.declared.row.DomainStep.TheVariants as domain
-use Rattle.cpu_rows.specs.CpuRows.{at_cpu, cpu_of, domain_of}
-use Rattle.call_steps.specs.Local.{thread_no}
-use Rattle.cpu_rows.specs.Shapes.{IsStop, CpuShape, DomainShape}
-use Rattle.alloc_rules.specs.Inputs.{Limits}
-use Rattle.alloc_rules.specs.Heads.{HasRoom}
-use Rattle.cpu_rows.specs.Slabs.{IsSlabOf}
-use Rattle.alloc_rules.specs.Standings.{Standing}
-use Rattle.cpu_rows.specs.CpuFront.{CpuFrontPart, Cpu, Domain, seated}
-use Rattle.cpu_rows.specs.CpuHolds.{seat_at, IsSeated, ArePlaced, CpuHolds}
-use Rattle.cpu_rows.proofs.Lists.{IsSet, Here, There, set_once}
+use Rattle.cpu_rows.proofs.Lists.{Here, IsSet, There, set_once}
 
 -- the CPU of a row is there
 stop_low : (m : Limits) (k : Class) (s : Stopping) → IsStop m k s → (cpu_of s).0 < m.cpus

@@ -1,53 +1,27 @@
 -- Acts of threads with a sequence or a growth, by what the sequence replied.
-use Rattle.std.proofs.Common.{◌≡◌, refl, ℕ, ◌+◌, ◌<◌, ◌≤◌, Bool, true, false, [], ◌∷◌, ◌++◌, List, length, get_or, Option, Some, None, ap, sym, ◌∙◌, subst, arith, inl}
-use Rattle.std.proofs.lemmas.Bool.{cond_both}
-use Rattle.std.proofs.lemmas.List.{length-append, length-drop}
-use Rattle.tc_units.specs.declared.units.Addr.{Addr}
-use Rattle.tc_units.specs.declared.units.Class.{Class}
-use Rattle.tc_model.specs.declared.calls.MoveTo.{MoveTo}
-use Rattle.cpu_slab.specs.Slots.{SlabRow, row_at, held}
-use Rattle.cpu_slab.proofs.SlabFacts.{row_sound}
-use Rattle.rseq_core.specs.declared.cpu_part.CpuPart.{CpuPart}
-use Rattle.rseq_core.specs.declared.regs.Regs.{Regs}
-use Rattle.rseq_core.specs.declared.regs.TheConstants.{LOADED_ROOM}
-use Rattle.rseq_core.specs.declared.sequence.Pc.TheVariants.{Begin}
-use Rattle.rseq_core.specs.declared.sequence.Seq.{Seq}
-use Rattle.rseq_core.specs.declared.sequence.Seq.TheVariants as seq
-use Rattle.rseq_core.specs.declared.sequence.Reply.{Reply}
-use Rattle.rseq_core.specs.declared.sequence.Reply.TheVariants as reply
-use Rattle.rseq_core.specs.declared.answers.Instructed.{Instructed}
-use Rattle.rseq_core.specs.declared.answers.Instructed.TheVariants as answer
-use Rattle.rseq_core.specs.declared.answers.Grew.{Grew}
-use Rattle.rseq_core.specs.declared.answers.Grew.TheVariants as grew
-use Rattle.rseq_core.specs.Tables.{is_pop, wanted}
-use Rattle.rseq_core.specs.Acts as rseq
+use Rattle.std.proofs.Common.{◌≡◌, refl, ℕ, ◌+◌, ◌<◌, ◌≤◌, Bool, true, false, [], ◌∷◌, ◌++◌, List, length, get_or, Option, Some, None, ap, sym, ◌∙◌, subst}
+use Rattle.std.proofs.Common.{arith, inl}
+use Rattle.cpu_rows.proofs.Common.{cond_both, length-append, length-drop, Addr, Class, MoveTo, SlabRow, row_at, held, row_sound, CpuPart, Regs, LOADED_ROOM}
+use Rattle.cpu_rows.proofs.Common.{Begin, Seq, Reply, Instructed, Grew, is_pop, wanted, SeatKeeps, MovesUp, AnswerMoves, ReplyMoves, AreOfSame, Instructs}
+use Rattle.cpu_rows.proofs.Common.{Grows, instruct_does, grow_does, objects_at, CpuSeat, Asking, Serving, Freeing, CpuStep, Next, no_class, row_of, thread_no}
+use Rattle.cpu_rows.proofs.Common.{leaving, moves_to, gives, at_cpu_next, is_due, due, after_stock, replied, instructed_to, sequence_by, sequence, grew_to}
+use Rattle.cpu_rows.proofs.Common.{about_cpu, at_cpu, FitsSequence, most_slots, BeginsWith, IsAtBegin, HasNone, CpuShape, cpu_standing, IsAsked, seated}
+use Rattle.cpu_rows.proofs.Common.{limits_of}
+use Rattle.cpu_drain.specs.Laws.{HasRoom}
 use Rattle.rseq_core.proofs.Able.{able_from_agrees}
+use Rattle.rseq_core.specs.declared.sequence.Seq.TheVariants as seq
+use Rattle.rseq_core.specs.declared.sequence.Reply.TheVariants as reply
+use Rattle.rseq_core.specs.declared.answers.Instructed.TheVariants as answer
+use Rattle.rseq_core.specs.declared.answers.Grew.TheVariants as grew
+use Rattle.rseq_core.specs.Acts as rseq
 use Rattle.cpu_drain.specs.Seats as seats
-use Rattle.cpu_drain.specs.Seats.{SeatKeeps}
-use Rattle.cpu_drain.specs.Laws.{MovesUp, AnswerMoves, ReplyMoves, HasRoom, AreOfSame, Instructs, Grows}
 use Rattle.cpu_drain.proofs.Lawful as lawful
-use Rattle.cpu_drain.proofs.Does.{instruct_does, grow_does}
-use Rattle.holdings.specs.Runs.{objects_at}
-use Rattle.cpu_rows.specs.declared.seat.CpuSeat.{CpuSeat}
-use Rattle.call_steps.specs.declared.step.Asking.{Asking}
-use Rattle.call_steps.specs.declared.step.Serving.{Serving}
-use Rattle.call_steps.specs.declared.step.Freeing.{Freeing}
 use Rattle.call_steps.specs.declared.step.Giving.TheVariants as giving
 use Rattle.cpu_rows.specs.declared.row.CpuRow.TheVariants as front
-use Rattle.cpu_rows.specs.declared.row.CpuStep.{CpuStep}
 use Rattle.cpu_rows.specs.declared.row.CpuStep.TheVariants as cpu
-use Rattle.cpu_rows.specs.PerCpu.{Next}
-use Rattle.call_steps.specs.Local.{no_class, row_of, thread_no}
-use Rattle.cpu_rows.specs.CpuActs.{leaving, moves_to, gives, at_cpu_next, is_due, due, after_stock, replied, instructed_to, sequence_by, sequence, grew_to}
-use Rattle.cpu_rows.specs.CpuRows.{about_cpu, at_cpu}
-use Rattle.cpu_rows.specs.CpuFits.{FitsSequence}
-use Rattle.call_steps.specs.Shapes.{most_slots, BeginsWith}
-use Rattle.cpu_rows.specs.Shapes.{IsAtBegin, HasNone, CpuShape, cpu_standing}
-use Rattle.alloc_rules.specs.Shapes.{IsAsked}
-use Rattle.cpu_rows.specs.CpuFront.{seated}
-use Rattle.alloc_rules.specs.Inputs.{limits_of}
-use Rattle.cpu_rows.proofs.Acts.{Turn, IsBehind, hand_same, looks, gives_away, goes_on, seat, Keeps, IsThere, Acts, Does, IsMoved, GoesOn, as_left, still, goes, home_of, agrees_of, leave_acts}
 use Rattle.cpu_rows.proofs.Moves.{answer_moves}
+use Rattle.cpu_rows.proofs.Acts.{Acts, Does, GoesOn, IsBehind, IsMoved, IsThere, Keeps, Turn, agrees_of, as_left, gives_away, goes, goes_on, hand_same}
+use Rattle.cpu_rows.proofs.Acts.{home_of, leave_acts, looks, seat, still}
 
 -- the thread's move
 due_is : (o : Option MoveTo) (ran : ℕ) (move : MoveTo) → due o ran ≡ Some move → o ≡ Some move

@@ -1,34 +1,14 @@
 -- What holds at the start: each part is as it was opened, and no thread has a call.
-use Rattle.std.proofs.Common.{◌≡◌, ℕ, zero, suc, ◌+◌, ◌*◌, ◌<◌, ◌≤◌, eqb, get_or, List, [], ◌∷◌, ◌++◌, length, map, replicate, Some, refl, sym, ap, ◌∙◌, subst, arith}
-use Rattle.std.specs.Prelude.{option_map, sum_by, All, slice_get}
-use Rattle.std.specs.List.{range_with_len, slice_index_or, flat_map}
-use Rattle.std.proofs.Math.Nat.{mod-lt}
-use Rattle.std.proofs.lemmas.Bool.{cond_both, false≢true}
-use Rattle.std.proofs.lemmas.Option.{slice_get-get_or, slice_get-map, slice_get_within}
-use Rattle.std.proofs.lemmas.List.{length-append, length-replicate, length-map}
-use Rattle.std.proofs.lemmas.List.FromFn.{length-range_with_len, get_or-range_with_len}
-use Rattle.std.proofs.lemmas.List.Sums.{sum_by-cons}
-use Rattle.std.proofs.lemmas.List.Elements.{All-nil, All-map, All-replicate, All-append, All-head, All-tail}
-use Rattle.tc_units.specs.declared.spans.ClassRow.{ClassRow}
-use Rattle.tc_model.specs.declared.config.Config.{Config}
-use Rattle.cpu_slab.specs.Slots as slots
+use Rattle.std.proofs.Common.{◌≡◌, ℕ, zero, suc, ◌+◌, ◌*◌, ◌<◌, ◌≤◌, eqb, get_or, List, [], ◌∷◌, ◌++◌, length, map, replicate, Some, refl, sym, ap, ◌∙◌}
+use Rattle.std.proofs.Common.{subst, arith, option_map, sum_by, All, slice_get, slice_index_or, flat_map}
+use Rattle.cpu_rows.proofs.Common.{range_with_len, mod-lt, cond_both, false≢true, slice_get-get_or, slice_get-map, slice_get_within, length-append}
+use Rattle.cpu_rows.proofs.Common.{length-replicate, length-map, length-range_with_len, get_or-range_with_len, sum_by-cons, All-nil, All-map, All-head}
+use Rattle.cpu_rows.proofs.Common.{All-tail, ClassRow, Config, CpuPart, CpuOk, SeatOk, Transfer, objects_at, of_all, CpuSeat, CpuRow, thread_no, AreRows}
+use Rattle.cpu_rows.proofs.Common.{HasRoom, slab_class, table_class, IsSlabOf, Standing, idle, CpuFrontPart, Cpu, Domain, cpu_stored, first_cpu, first_cache}
+use Rattle.cpu_rows.proofs.Common.{domain_caches, front_parts, cpu_front, seat_at, IsSeated, ArePlaced, CpuHolds, AreCpuLimits}
 use Rattle.cpu_slab.proofs.Opened.{sound_opened}
-use Rattle.rseq_core.specs.declared.cpu_part.CpuPart.{CpuPart}
-use Rattle.cpu_drain.specs.Seats.{CpuOk, SeatOk}
-use Rattle.transfer_cache.specs.Transfer.{Transfer}
-use Rattle.holdings.specs.Runs.{objects_at}
-use Rattle.holdings.proofs.Sums.{of_all}
-use Rattle.cpu_rows.specs.declared.seat.CpuSeat.{CpuSeat}
-use Rattle.cpu_rows.specs.declared.row.CpuRow.{CpuRow}
-use Rattle.call_steps.specs.Local.{thread_no}
-use Rattle.call_steps.specs.Shapes.{AreRows}
-use Rattle.alloc_rules.specs.Heads.{HasRoom}
-use Rattle.cpu_rows.specs.Slabs.{slab_class, table_class, IsSlabOf}
-use Rattle.alloc_rules.specs.Standings.{Standing}
-use Rattle.alloc_rules.specs.FrontLaw.{idle}
-use Rattle.cpu_rows.specs.CpuFront.{CpuFrontPart, Cpu, Domain, cpu_stored, first_cpu, first_cache, domain_caches, front_parts, cpu_front}
-use Rattle.cpu_rows.specs.CpuHolds.{seat_at, IsSeated, ArePlaced, CpuHolds}
-use Rattle.cpu_rows.specs.Laws.{AreCpuLimits}
+use Rattle.std.proofs.lemmas.List.Elements.{All-append, All-replicate}
+use Rattle.cpu_slab.specs.Slots as slots
 
 -- items of two lists joined, and of copies
 get_left : {X : Type 0} (xs ys : List X) (i : ℕ) → i < length xs → slice_get (xs ++ ys) i ≡ slice_get xs i

@@ -1,54 +1,27 @@
 -- Acts of a thread that stops a CPU, and of one that leaves it at the end of its call.
-use Rattle.std.proofs.Common.{◌≡◌, refl, ℕ, ◌+◌, ◌*◌, ◌<◌, ◌≤◌, Bool, true, false, [], ◌∷◌, List, length, get_or, reverse, Option, Some, None, ap, sym, ◌∙◌, subst, inl, inr, ltb, arith}
-use Rattle.std.specs.Prelude.{is_some, slice_set}
+use Rattle.std.proofs.Common.{◌≡◌, refl, ℕ, ◌+◌, ◌*◌, ◌<◌, ◌≤◌, Bool, true, false, [], ◌∷◌, List, length, get_or, reverse, Option, Some, None, ap, sym, ◌∙◌}
+use Rattle.std.proofs.Common.{subst, inl, inr, ltb, arith, is_some, slice_set}
+use Rattle.cpu_rows.proofs.Common.{cond_both, cases_eq, eqb-true, eq-eqb, lt-ltb, ltb-true, ltb-false, le-ltb, length-append, length-reverse, Contents, Addr}
+use Rattle.cpu_rows.proofs.Common.{Class, CpuNo, ThreadNo, Drain, Resize, MoveTo, Busy, CapFault, SlabRow, CpuSlab, no_row, row_at, held, cap_fault}
+use Rattle.cpu_rows.proofs.Common.{set_unless, row_same, row_other, CpuPart, Regs, SeatKeeps, IsHeld, Takes, take_does, objects_at, IsOther, Draining}
+use Rattle.cpu_rows.proofs.Common.{Resizing, Stopping, CpuStep, Next, Other, leaving, gives, at_cpu_next, stops, drains_on, drained, took, cap_answer}
+use Rattle.cpu_rows.proofs.Common.{gives_taken, started, left_for, about_cpu, at_cpu, call_of, cpu_of, taken_by, thread_no, AreRows, most_slots}
+use Rattle.cpu_rows.proofs.Common.{no_class_empty, below, alone, empty_to_take, empty_to_start, cpu_standing, IsStop, IsAtFirst, IsAtBegin, IsToCome, HasHand}
+use Rattle.cpu_rows.proofs.Common.{CpuShape, Limits, limits_of, seated}
+use Rattle.cpu_rows.specs.Shapes.{stands}
 use Rattle.std.proofs.Math.Path.{fun_ext}
-use Rattle.std.proofs.lemmas.Bool.{cond_both, cases_eq, eqb-true, eq-eqb, lt-ltb, ltb-true, ltb-false, le-ltb}
-use Rattle.std.proofs.lemmas.List.{length-append, length-reverse}
-use Rattle.tc_units.specs.Bag.{Contents}
-use Rattle.tc_units.specs.declared.units.Addr.{Addr}
-use Rattle.tc_units.specs.declared.units.Class.{Class}
-use Rattle.tc_units.specs.declared.units.CpuNo.{CpuNo}
-use Rattle.tc_units.specs.declared.units.ThreadNo.{ThreadNo}
-use Rattle.tc_model.specs.declared.calls.Call.TheVariants.{Drain, Resize}
-use Rattle.tc_model.specs.declared.calls.MoveTo.{MoveTo}
-use Rattle.tc_model.specs.declared.answers.Answer.TheVariants.{Busy}
-use Rattle.cpu_slab.specs.declared.slab.CapFault.{CapFault}
 use Rattle.cpu_slab.specs.declared.slab.CapFault.TheVariants as fault
-use Rattle.cpu_slab.specs.Slots.{SlabRow, CpuSlab, no_row, row_at, held}
-use Rattle.cpu_slab.specs.Caps.{cap_fault, set_unless}
-use Rattle.cpu_slab.proofs.SlabFacts.{row_same, row_other}
-use Rattle.rseq_core.specs.declared.cpu_part.CpuPart.{CpuPart}
-use Rattle.rseq_core.specs.declared.regs.Regs.{Regs}
 use Rattle.cpu_drain.specs.Drains as drains
 use Rattle.cpu_drain.specs.Seats as seats
-use Rattle.cpu_drain.specs.Seats.{SeatKeeps, IsHeld}
-use Rattle.cpu_drain.specs.Laws.{Takes}
 use Rattle.cpu_drain.proofs.Lawful as lawful
-use Rattle.cpu_drain.proofs.Does.{take_does}
-use Rattle.holdings.specs.Runs.{objects_at}
-use Rattle.holdings.specs.Moves.{IsOther}
-use Rattle.cpu_rows.specs.declared.row.Draining.{Draining}
-use Rattle.cpu_rows.specs.declared.row.Resizing.{Resizing}
-use Rattle.cpu_rows.specs.declared.row.Stopping.{Stopping}
 use Rattle.cpu_rows.specs.declared.row.Stopping.TheVariants as stopping
 use Rattle.call_steps.specs.declared.step.Giving.TheVariants as giving
 use Rattle.call_steps.specs.declared.step.Next.TheVariants as next
 use Rattle.cpu_rows.specs.declared.row.CpuRow.TheVariants as front
-use Rattle.cpu_rows.specs.declared.row.CpuStep.{CpuStep}
 use Rattle.cpu_rows.specs.declared.row.CpuStep.TheVariants as cpu
-use Rattle.cpu_rows.specs.PerCpu.{Next}
-use Rattle.call_steps.specs.Calls.{Other}
-use Rattle.cpu_rows.specs.CpuActs.{leaving, gives, at_cpu_next, stops, drains_on, drained, took, cap_answer, gives_taken, started, left_for}
-use Rattle.cpu_rows.specs.CpuRows.{about_cpu, at_cpu, call_of, cpu_of}
-use Rattle.cpu_rows.specs.CpuFits.{taken_by}
-use Rattle.call_steps.specs.Local.{thread_no}
-use Rattle.call_steps.specs.Shapes.{AreRows, most_slots}
-use Rattle.cpu_rows.specs.Shapes.{stands, no_class_empty, below, alone, empty_to_take, empty_to_start, cpu_standing, IsStop, IsAtFirst, IsAtBegin, IsToCome, HasHand, CpuShape}
-use Rattle.alloc_rules.specs.Inputs.{Limits, limits_of}
-use Rattle.cpu_rows.specs.CpuFront.{seated}
-use Rattle.cpu_rows.proofs.Threads.{same_keeps}
-use Rattle.cpu_rows.proofs.Acts.{Turn, IsBehind, gives_away, goes_on, seat, Keeps, IsThere, Acts, Does, IsMoved, GoesOn, as_left, goes, moves_none, slab_same, leave_acts}
-use Rattle.cpu_rows.proofs.Moves.{objects_append, objects_reverse}
+use Rattle.cpu_rows.proofs.{Moves.objects_append, Moves.objects_reverse, Threads.same_keeps}
+use Rattle.cpu_rows.proofs.Acts.{Acts, Does, GoesOn, IsBehind, IsMoved, IsThere, Keeps, Turn, as_left, gives_away, goes, goes_on, leave_acts, moves_none}
+use Rattle.cpu_rows.proofs.Acts.{seat, slab_same}
 
 -- refusals of a call that stops a CPU, and of a capacity
 busy_other : (s : Stopping) (owner : ThreadNo) → IsOther (call_of s) (Busy owner)

@@ -1,45 +1,22 @@
 -- In polite orders few threads switch in: a thread that did goes on until what is open at its CPU comes to an end.
 use Rattle.std.proofs.Common.{◌≡◌, ℕ, ◌+◌, ◌<◌, ◌≤◌, ◌⊎◌, true, eqb, ltb, List, [], ◌∷◌, ◌++◌, length, Some, refl, sym, ap, ◌∙◌, subst, inl, inr, arith}
-use Rattle.std.specs.Prelude.{slice_get}
-use Rattle.std.proofs.lemmas.Bool.{cases_eq, eq-eqb, false_from_ne_true, eqb-true, false≢true, lt-ltb}
-use Rattle.std.proofs.lemmas.List.{length-append}
-use Rattle.tc_units.specs.declared.units.ThreadNo.{ThreadNo}
-use Rattle.tc_units.specs.declared.units.CpuNo.{CpuNo}
-use Rattle.tc_model.specs.declared.machine.PartNo.{PartNo}
-use Rattle.tc_model.specs.declared.machine.TheConstants.{MOST_PICKS}
-use Rattle.tc_model.specs.Input.{Input}
-use Rattle.tc_model.specs.Run.{Rules, World, start, pick, with_pair}
-use Rattle.tc_model.specs.Chains.{IsPoliteMove, IsPolite}
-use Rattle.tc_model.proofs.MovingFacts.{pick_moves}
-use Rattle.tc_model.proofs.Lists.{set_here, set_elsewhere}
-use Rattle.rseq_core.specs.declared.cpu_part.CpuPart.{CpuPart}
-use Rattle.cpu_rows.specs.PerCpu.{CpuLocal as Local, Step}
+use Rattle.std.proofs.Common.{slice_get, Option, option_map}
+use Rattle.cpu_rows.proofs.Common.{cases_eq, eq-eqb, false_from_ne_true, eqb-true, false≢true, lt-ltb, length-append, ThreadNo, CpuNo, PartNo, MOST_PICKS}
+use Rattle.cpu_rows.proofs.Common.{Input, Rules, World, start, with_pair, set_here, set_elsewhere, CpuPart, Local, Step, Pop, Grow, Stock, Push, PopBatch}
+use Rattle.cpu_rows.proofs.Common.{Stop, Fence, Take, SetCap, Start, Leave, CpuStep, thread_no, Part, front_of, after, rules, number, front_after}
+use Rattle.cpu_rows.proofs.Common.{front_yields, runs_open, yields_for, about_row, Kind, enters, closes, neither, act_kind, kind_at, kind_of, step_kind}
+use Rattle.cpu_rows.proofs.Common.{entry, closing, count_at, SwitchesAreFew, CpuHolds, IsSeated, cpu_planned, cpu_fits, limits_of, IsValidInput, standing_of}
+use Rattle.cpu_rows.proofs.Common.{slice_get-map}
+use Rattle.alloc_rules.{proofs.First.served_first, proofs.Runs.served_kept, proofs.Serving.IsServed}
+use Rattle.alloc_rules.specs.declared.part.Part.TheVariants.{Front, Heap, Map, Names, Shard}
+use Rattle.cpu_rows.specs.Machine.{Cpu}
+use Rattle.tc_model.{proofs.MovingFacts.pick_moves, specs.Chains.IsPolite, specs.Chains.IsPoliteMove, specs.Run.pick}
 use Rattle.call_steps.specs.declared.step.Step.TheVariants as does
 use Rattle.cpu_rows.specs.declared.row.CpuRow.TheVariants as front
-use Rattle.cpu_rows.specs.declared.row.CpuStep.TheVariants.{Pop, Grow, Stock, Push, PopBatch, Stop, Fence, Take, SetCap, Start, Leave}
-use Rattle.cpu_rows.specs.declared.row.CpuStep.{CpuStep}
-use Rattle.call_steps.specs.Local.{thread_no}
-use Rattle.cpu_rows.specs.Machine.{Part, Cpu, front_of, after, rules}
-use Rattle.alloc_rules.specs.declared.part.Part.TheVariants.{Front, Shard, Heap, Map, Names}
 use Rattle.cpu_rows.specs.CpuFront as at
-use Rattle.alloc_rules.specs.Machine.{number}
-use Rattle.call_steps.specs.Acts.{front_after, front_yields}
 use Rattle.alloc_rules.specs.Machine as machine
-use Rattle.cpu_rows.specs.CpuActs.{runs_open}
-use Rattle.cpu_rows.specs.CpuCalls.{yields_for}
-use Rattle.cpu_rows.specs.CpuRows.{about_row}
-use Rattle.cpu_rows.specs.Switches.{Kind, enters, closes, neither, act_kind, kind_at, kind_of, step_kind, entry, closing, count_at, SwitchesAreFew}
-use Rattle.cpu_rows.specs.CpuHolds.{CpuHolds, IsSeated, cpu_planned, cpu_fits}
-use Rattle.alloc_rules.specs.Inputs.{limits_of}
-use Rattle.alloc_rules.specs.Inputs.{IsValidInput}
 use Rattle.cpu_rows.proofs.CpuLaw.{lawful_in}
-use Rattle.alloc_rules.specs.Standings.{standing_of}
-use Rattle.std.specs.Prelude.{Option, option_map}
-use Rattle.std.proofs.lemmas.Option.{slice_get-map}
-use Rattle.cpu_rows.proofs.Entering.{cpu_pair, executed, CopiesFew, executed_few, HasToEnter, Enters, Executes, Stays, DoesAs, act_as}
-use Rattle.alloc_rules.proofs.Serving.{IsServed}
-use Rattle.alloc_rules.proofs.First.{served_first}
-use Rattle.alloc_rules.proofs.Runs.{served_kept}
+use Rattle.cpu_rows.proofs.Entering.{CopiesFew, DoesAs, Enters, Executes, HasToEnter, Stays, act_as, cpu_pair, executed, executed_few}
 
 -- A thread that switched in at CPU c, where nothing has ended since: it is in its sequence, and all that was executed there is its own.
 pub record HasEntered (c ins ends : ℕ) (w : World Part Local) : Type 0 where

@@ -1,24 +1,9 @@
 -- The standing of a thread changes, and no part does.
-use Rattle.std.proofs.Common.{◌≡◌, ℕ, ◌≤◌, List, length, Option, refl, sym, ap, ◌∙◌, subst, arith}
-use Rattle.std.specs.Prelude.{slice_set}
-use Rattle.tc_units.specs.declared.spans.ClassRow.{ClassRow}
-use Rattle.tc_units.specs.declared.units.ThreadNo.{ThreadNo}
-use Rattle.tc_model.specs.declared.config.Config.{Config}
-use Rattle.rseq_core.specs.declared.sequence.Pc.TheVariants.{Begin}
-use Rattle.rseq_core.specs.declared.cpu_part.CpuPart.{CpuPart}
-use Rattle.rseq_core.specs.declared.regs.Regs.{Regs}
-use Rattle.rseq_core.specs.Bags.{room}
+use Rattle.std.proofs.Common.{◌≡◌, ℕ, ◌≤◌, List, length, Option, refl, sym, ap, ◌∙◌, subst, arith, slice_set}
+use Rattle.cpu_rows.proofs.Common.{ClassRow, ThreadNo, Config, Begin, CpuPart, Regs, room, CpuOk, SeatOk, SeatKeeps, AreSet, CpuSeat, CpuRow, IsAtBegin}
+use Rattle.cpu_rows.proofs.Common.{thread_no, At, Standing, stand, CpuFrontPart, stopping_at, seat_at, RegsAt, IsSeated, CpuHolds, limits_of}
 use Rattle.cpu_drain.specs.Seats as seats
-use Rattle.cpu_drain.specs.Seats.{CpuOk, SeatOk, SeatKeeps, AreSet}
 use Rattle.cpu_drain.proofs.Lawful as lawful
-use Rattle.cpu_rows.specs.declared.seat.CpuSeat.{CpuSeat}
-use Rattle.cpu_rows.specs.declared.row.CpuRow.{CpuRow}
-use Rattle.cpu_rows.specs.Shapes.{IsAtBegin}
-use Rattle.call_steps.specs.Local.{thread_no}
-use Rattle.alloc_rules.specs.Standings.{At, Standing, stand}
-use Rattle.cpu_rows.specs.CpuFront.{CpuFrontPart}
-use Rattle.cpu_rows.specs.CpuHolds.{stopping_at, seat_at, RegsAt, IsSeated, CpuHolds}
-use Rattle.alloc_rules.specs.Inputs.{limits_of}
 use Rattle.cpu_rows.proofs.Lists.{Here, There, set_twice}
 
 -- no act
