@@ -1,15 +1,15 @@
 -- Each act, at whatever part, leaves the local its shape and keeps the front-end's invariant.
 use Rattle.std.proofs.Common.{◌≡◌, ℕ, ◌+◌, ◌*◌, ◌/◌, ◌^◌, ◌<◌, ◌≤◌, List, [], ◌∷◌, ◌++◌, length, Option, Some, None, refl, sym, ap, ◌∙◌, subst, inl, inr}
-use Rattle.std.proofs.Common.{arith, All, find, slice_get, slice_set}
-use Rattle.alloc_rules.proofs.Common.{length-append, page_bytes, pages_holding, Contents, Addr, Class, Label, ThreadNo, ClassRow, SpanRef, SpanKind, Small}
+use Rattle.std.proofs.Common.{arith, find, slice_get, slice_set}
+use Rattle.alloc_rules.proofs.Common.{Call, length-append, page_bytes, pages_holding, Contents, Addr, Class, Label, ThreadNo, ClassRow, SpanRef, SpanKind, Small}
 use Rattle.alloc_rules.proofs.Common.{Large, Malloc, Free, Release, Planned, Answer, Block, NoBlock, Freed, FreedNull, Released, SpanMap, holds, NameState}
 use Rattle.alloc_rules.proofs.Common.{state_of, Placed, new, release, Regs, LOADED_ROOM, room, appended, opening, IsFetched, IsAdded, fetch_moves, add_moves}
 use Rattle.alloc_rules.proofs.Common.{give_moves, small, address_of, run_of, Asking, Freeing, Giving, Onward, Next, Step, ShardStep, HeapStep, MapStep}
-use Rattle.alloc_rules.proofs.Common.{NamesStep, Local, step_or, no_class, class_row, decided, goes, ends, with_regs, serves, with_freed, clears, with_more}
+use Rattle.alloc_rules.proofs.Common.{Local, step_or, no_class, class_row, decided, goes, ends, with_regs, serves, with_freed, clears, with_more}
 use Rattle.alloc_rules.proofs.Common.{fetches, with_spans_behind, shard_row, after_new, after_new_span, without_first_span, frees_span, heap_row, found}
-use Rattle.alloc_rules.proofs.Common.{after_lookup, clears_span, map_row, after_take, names_row, MayDecide, MayGoOnDecided, says, goes_or_ends, follows}
+use Rattle.alloc_rules.proofs.Common.{after_lookup, clears_span, map_row, after_take, MayDecide, MayGoOnDecided, says, goes_or_ends, follows}
 use Rattle.alloc_rules.proofs.Common.{About, call_about, HasNoLabel, IsClassRow, AreRows, BeginsWith, most_slots, At, Here, Away, Standing, stand, at_row}
-use Rattle.alloc_rules.proofs.Common.{at_onward, at_next, regs_next, at_shard, at_heap, at_map, at_step, IsAsked, HandAbout, HasNone, HasSpans, IsLater}
+use Rattle.alloc_rules.proofs.Common.{at_onward, at_next, regs_next, at_shard, at_heap, at_map, at_step, IsAsked, HandAbout, HasNone, HasSpans}
 use Rattle.alloc_rules.proofs.Common.{IsOnward, ShardShape, HeapShape, MapShape, StepShape, IsShaped, IsAct, IsLawful, FrontRules, Left, FitsShard, FitsMap}
 use Rattle.alloc_rules.proofs.Common.{IsKept, IsLowRun, ShardActsKeep, HeapActsKeep, IsKindThere, IsFoundClass, MapActsKeep, NamesActsKeep, FrontActsKeep}
 use Rattle.alloc_rules.specs.FrontLaw.{IsReady}
@@ -28,8 +28,9 @@ use Rattle.call_steps.specs.declared.step.MapStep.TheVariants as map
 use Rattle.call_steps.specs.declared.step.NamesStep.TheVariants as names
 use Rattle.call_steps.specs.Calls as calls
 use Rattle.alloc_rules.specs.FrontLaw as fronts
-use Rattle.alloc_rules.proofs.Keeping.{IsCommon, IsNext, NotHere, behind, clears_next, common_of, ends_next, entry_at, entry_shape, gave_next}
-use Rattle.alloc_rules.proofs.Keeping.{given_back_next, giving_not, goes_away, later_shape, onward_not, publishes_next, serves_next, stays_away, waits_at}
+use Rattle.alloc_rules.proofs.Keeping.{Common, IsNext, NotHere, behind, changed, clears_next, common_of, ends_next, entry_at, entry_shape, gave_next, given_back_next}
+use Rattle.alloc_rules.proofs.Keeping.{giving_not, goes_quiet, kept_by, later_shape, onward_not, publishes_next, same_next, serves_next, shape_of, stays_away}
+use Rattle.alloc_rules.proofs.Keeping.{waits_at}
 
 shard_not : {R : Type 0} (row : ShardStep R) → NotHere (at_shard row)
 shard_not (shard.Fetch a) = tt
@@ -50,38 +51,26 @@ map_not (map.Lookup label addr) = tt
 map_not (map.Clear label run) = tt
 map_not (map.ClearSpan next) = onward_not next
 
-module _ {P V R : Type 0} (r : FrontRules P V R) (about : R → About) (planned : Planned → Type 0) (Holds : ℕ → List P → List (Standing V R) → Type 0) (fits : P → V → Regs → R → Type 0) (law : IsLawful r about planned Holds fits) where
+module _ {P V R : Type 0} {r : FrontRules P V R} {about : R → About} {planned : Planned → Type 0} {Holds : ℕ → List P → List (Standing V R) → Type 0}
+    {fits : P → V → Regs → R → Type 0} (law : IsLawful r about planned Holds fits) where
   abbrev away : Local V R → Standing V R
   away l = stand l.seat l.regs (l.acts + 1) Away
 
   module _ (table : AreRows r.calls.rows) (t : ℕ) where
     abbrev Next' : Standing V R → Local V R → Type 0
-    Next' base new = IsNext r about planned Holds fits law table t base new
+    Next' base new = IsNext law table t base new
 
     abbrev Common' : Local V R → Type 0
-    Common' l = IsCommon r about planned Holds fits law table t l
+    Common' l = Common law table t l
 
     -- from a step at which the thread stands so
     kept : (l new : Local V R) (a : At R) → at_step l.step ≡ a → NotHere a → Common' l → Next' (stand l.seat l.regs (l.acts + 1) a) new → IsKept r about planned Holds t l new
     kept l new a is not_here c n =
-        let more = waits_at r about planned Holds fits law table t l a l.acts (l.acts + 1) l.regs.hand not_here (omega arith) c refl in
+        let more = waits_at law table t l a l.acts (l.acts + 1) l.regs.hand not_here (omega arith) c refl in
         record { shaped = n.shaped; stands = λ m ps us holds. n.stands m ps us (more m ps us (subst (λ (x : At R). Holds m ps (slice_set us t (stand l.seat l.regs l.acts x))) is holds)) }
-
-    shape_at : (l : Local V R) (s : Step R) → IsShaped r.calls.rows about planned t l → l.step ≡ s → StepShape r.calls.rows about l s
-    shape_at l s shaped is = subst (λ (x : Step R). StepShape r.calls.rows about l x) is shaped.step
 
     row_there : (l : Local V R) → Common' l → IsClassRow (class_row r.calls.rows l)
     row_there l c = table.each l.regs.class.0 no_class c.class
-
-    same_common : (l l' : Local V R) → Common' l → l'.regs ≡ l.regs → l'.freed ≡ l.freed → l'.rest ≡ l.rest → Common' l'
-    same_common l l' c regs freed rest =
-        record {
-          thread = ap (λ (g : Regs). g.thread.0) regs ∙ c.thread;
-          class = omega (arith, c.class, ap (λ (g : Regs). g.class.0) regs);
-          hand = ap (λ (g : Regs). room g.hand) regs ∙ c.hand;
-          freed = ap (λ (f : Contents SpanRef). length f.items + f.spare) freed ∙ c.freed;
-          rest = subst (All planned) (sym rest) c.rest;
-        }
 
     -- objects come to an empty hand, and serve the allocation
     more_next : (l : Local V R) (a : Asking) (xs : List Addr) → Common' l → HasNone l → 0 < length xs → length xs ≤ LOADED_ROOM → Next' (away l) (serves r.calls (with_more l xs) a)
@@ -90,23 +79,20 @@ module _ {P V R : Type 0} (r : FrontRules P V R) (about : R → About) (planned 
         let none : length l.regs.hand.items ≡ 0 = ap length n.hand in
         let size : length (l.regs.hand.items ++ xs) ≡ length xs = omega (arith, none, length-append l.regs.hand.items xs) in
         let same : room l'.regs.hand ≡ room l.regs.hand = omega (arith, c.hand, none, size, few) in
-        behind r about planned Holds fits law table t (away l) (away l') (serves r.calls l' a) (stays_away r about planned Holds fits law table t l.seat l.regs (l.acts + 1) (l.acts + 1) l.regs.class l'.regs.hand (omega arith) c.class same)
-        (serves_next r about planned Holds fits law table t l' a l'.regs.hand.items refl (omega (arith, size, some)) (omega (arith, size, few)) (record { thread = c.thread; class = c.class; hand = same ∙ c.hand; freed = c.freed; rest = c.rest }) n.freed)
+        behind law table t (away l) (away l') (serves r.calls l' a) (stays_away law table t l.seat l.regs (l.acts + 1) (l.acts + 1) l.regs.class l'.regs.hand (omega arith) c.class same)
+        (serves_next law table t l' a l'.regs.hand.items refl (omega (arith, size, some)) (omega (arith, size, few)) (changed law table t c c.class (same ∙ c.hand) c.freed) n.freed)
 
-    to : (l : Local V R) (next : Step R) → Common' l → at_step next ≡ Away → StepShape r.calls.rows about (goes l next) next → Next' (away l) (goes l next)
-    to l next c is shape = goes_away r about planned Holds fits law table t l next c is shape
+    -- the call goes on elsewhere, with nothing in hand; or it is decided, and ends
+    to : (l : Local V R) (next : Step R) → Common' l → HasNone l → at_step next ≡ Away
+        → (HasNone (goes l next) → StepShape r.calls.rows about (goes l next) next) → Next' (away l) (goes l next)
+    to l next c n is shape = goes_quiet law table t l next c n is shape
 
-    still : (l : Local V R) (next : Step R) → HasNone l → HasNone (goes l next)
-    still l next n = record { hand = n.hand; freed = n.freed }
-
-    ends_with : (l l' : Local V R) → Common' l → HasNone l → l' ≡ record l { answers = l'.answers } → Next' (away l) (ends r.calls l')
-    ends_with l l' c n is =
-        let l'' : Local V R = record l { answers = l'.answers } in
-        subst (λ (x : Local V R). Next' (away l) (ends r.calls x)) (sym is) (ends_next r about planned Holds fits law table t l'' (same_common l l'' c refl refl refl) (record { hand = n.hand; freed = n.freed }))
+    ends_decided : (l : Local V R) (call : Call) (answer : Answer) → Common' l → HasNone l → Next' (away l) (ends r.calls (decided l call answer))
+    ends_decided l call answer c n = ends_next law table t (decided l call answer) c (record { hand = n.hand; freed = n.freed })
 
     -- shards
     fetches_next : (l : Local V R) (a : Asking) (xs : List Addr) → Common' l → HasNone l → IsAsked r.calls.rows l.regs a → length xs ≤ LOADED_ROOM → Next' (away l) (fetches r.calls l a xs)
-    fetches_next l a [] c n asked few = to l (does.Heap (heap.NewSpan a)) c refl (still l (does.Heap (heap.NewSpan a)) n, asked)
+    fetches_next l a [] c n asked few = to l (does.Heap (heap.NewSpan a)) c n refl (λ none. (none, asked))
     fetches_next l a (x ∷ xs) c n asked few = more_next l a (x ∷ xs) c n (omega arith) few
 
     shard_next : (s : shards.Shard) (l : Local V R) (row : ShardStep R) → Common' l → ShardShape r.calls.rows about l row → IsSound s.central → s.central.row ≡ class_row r.calls.rows l → IsLowRun row → FitsShard r.calls.rows s l row → Next' (stand l.seat l.regs (l.acts + 1) (at_shard row)) (shard_row r.calls s l row).1
@@ -126,31 +112,31 @@ module _ {P V R : Type 0} (r : FrontRules P V R) (about : R → About) (planned 
     shard_next s l (shard.Give g) c shape sound same low fit =
         let spans : List SpanRef = shards.freed_by l.regs.hand.items s in
         let got : IsGiven l.regs.hand.items s = give_moves l.regs.hand.items s sound fit.taken fit.different in
-        given_back_next r about planned Holds fits law table t l g (with_spans_behind l.freed spans) c (omega (arith, length-append l.freed.items spans, got.few, fit.room, c.freed)) shape.1
+        given_back_next law table t l g (with_spans_behind l.freed spans) c (omega (arith, length-append l.freed.items spans, got.few, fit.room, c.freed)) shape.1
 
     -- the heap
     new_next : (h : heaps.Heap) (l : Local V R) (label : Label) (size : ℕ) (o : Option Placed) → Common' l → HasNone l → Next' (away l) (after_new h l label size o).1
-    new_next h l label size None c n = let l' : Local V R = decided l (Malloc label size) NoBlock in to l' (does.Names (names.Publish label None)) (same_common l l' c refl refl refl) refl (record { hand = n.hand; freed = n.freed })
+    new_next h l label size None c n = to (decided l (Malloc label size) NoBlock) (does.Names (names.Publish label None)) c (record { hand = n.hand; freed = n.freed }) refl (λ none. none)
     new_next h l label size (Some p) c n =
         let l' : Local V R = decided l (Malloc label size) (Block (address_of p.run) (p.run.pages * page_bytes)) in
-        to l' (does.Map (map.Set label p.run)) (same_common l l' c refl refl refl) refl (record { hand = n.hand; freed = n.freed })
+        to l' (does.Map (map.Set label p.run)) c (record { hand = n.hand; freed = n.freed }) refl (λ none. none)
 
     span_next : (h : heaps.Heap) (l : Local V R) (a : Asking) (o : Option Placed) → Common' l → HasNone l → IsAsked r.calls.rows l.regs a → Next' (away l) (after_new_span h l a o).1
-    span_next h l a None c n asked = let l' : Local V R = decided l (Malloc a.label a.size) NoBlock in to l' (does.Names (names.Publish a.label None)) (same_common l l' c refl refl refl) refl (record { hand = n.hand; freed = n.freed })
-    span_next h l a (Some p) c n asked = to l (does.Map (map.SetSpan a p.run)) c refl (still l (does.Map (map.SetSpan a p.run)) n, asked)
+    span_next h l a None c n asked = new_next h l a.label a.size None c n
+    span_next h l a (Some p) c n asked = to l (does.Map (map.SetSpan a p.run)) c n refl (λ none. (none, asked))
 
     frees_next : (h : heaps.Heap) (l : Local V R) (o : Onward R) (spans : List SpanRef) → l.freed.items ≡ spans → Common' l → HasSpans l → IsOnward r.calls.rows about o → Next' (stand l.seat l.regs (l.acts + 1) (at_onward o)) (frees_span r.calls h l o spans).1
     frees_next h l o [] freed c n is = absurd (let e = ap length freed in omega (arith, e, n.some))
     frees_next h l o (s ∷ others) freed c n is =
         let l' : Local V R = with_freed l (without_first_span l.freed others) in
-        clears_next r about planned Holds fits law table t l' o others refl (record { thread = c.thread; class = c.class; hand = c.hand; freed = (let e = ap length freed in omega (arith, e, c.freed)); rest = c.rest }) n.hand is
+        clears_next law table t l' o others refl (changed law table t c c.class c.hand (let e = ap length freed in omega (arith, e, c.freed))) n.hand is
 
     heap_next : (h : heaps.Heap) (l : Local V R) (row : HeapStep R) → Common' l → HeapShape r.calls.rows about l row → Next' (stand l.seat l.regs (l.acts + 1) (at_heap row)) (heap_row r.calls h l row).1
     heap_next h l (heap.New label size) c shape = new_next h l label size (new h (pages_holding size)) c shape.0
     heap_next h l (heap.NewSpan a) c shape = span_next h l a (new h (class_row r.calls.rows l).pages) c shape.0 shape.1
-    heap_next h l (heap.GiveBack label run) c shape = ends_with l (decided l (Free label) (Freed (address_of run))) c shape refl
+    heap_next h l (heap.GiveBack label run) c shape = ends_decided l (Free label) (Freed (address_of run)) c shape
     heap_next h l (heap.FreeSpan o) c shape = frees_next h l o l.freed.items refl c shape.0 shape.1
-    heap_next h l (heap.Unback pages) c shape = ends_with l (decided l (Release pages) (Released (release h pages).pages)) c shape refl
+    heap_next h l (heap.Unback pages) c shape = ends_decided l (Release pages) (Released (release h pages).pages) c shape
 
     -- the map
     found_kind : (l : Local V R) (label : Label) (addr : Addr) (span : SpanRef) (k : SpanKind) → IsKindThere r.calls.rows k → 0 < l.regs.hand.spare → Common' l → HasNone l → Next' (away l) (found r.calls l label addr span k)
@@ -166,19 +152,15 @@ module _ {P V R : Type 0} (r : FrontRules P V R) (about : R → About) (planned 
         let few : length g.hand.items ≤ most_slots = let e = ap length in_hand in omega (arith, e) in
         let begins : BeginsWith addr g.hand.items = subst (BeginsWith addr) (sym in_hand) refl in
         let other : Step R = does.Shard (shard.Give (giving.Freed f)) in
-        let more = stays_away r about planned Holds fits law table t l.seat l.regs (l.acts + 1) (l.acts + 1) k hand (omega arith) there same in
+        let more = stays_away law table t l.seat l.regs (l.acts + 1) (l.acts + 1) k hand (omega arith) there same in
+        let new : Local V R = goes (with_regs l g) (step_or other (r.calls.free l.seat f)) in
+        let step = entry_shape law table t (calls.Frees f) other new (r.calls.free l.seat f) (law.entries.free_about l.seat f) (begins, few) n.freed
+        (record { few = few; freed = n.freed }, begins) in
         record {
-          shaped = record {
-            thread = ap (λ (x : ThreadNo). x.0) kept.thread ∙ c.thread;
-            class = omega (arith, there, ap (λ (x : Class). x.0) kept.class);
-            hand = ap room kept.hand ∙ (same ∙ c.hand);
-            freed = c.freed;
-            rest = c.rest;
-            step = entry_shape r about planned Holds fits law table t (calls.Frees f) other (goes (with_regs l g) (step_or other (r.calls.free l.seat f))) (r.calls.free l.seat f) (law.entries.free_about l.seat f) (begins, few) n.freed (record { few = few; freed = n.freed }, begins);
-          };
-          stands = entry_at r about planned Holds fits law table t (away l) l.seat g (l.acts + 1) other (r.calls.free l.seat f) refl (λ m ps us holds. law.frees m ps us t l.seat g1 (l.acts + 1) f only (more m ps us holds));
+          shaped = shape_of law table t new (kept_by law table t kept (changed law table t c there (same ∙ c.hand) c.freed)) step;
+          stands = entry_at law table t (away l) l.seat g (l.acts + 1) other (r.calls.free l.seat f) refl (λ m ps us holds. law.frees m ps us t l.seat g1 (l.acts + 1) f only (more m ps us holds));
         }
-    found_kind l label addr span Large there space c n = to l (does.Map (map.Clear label (run_of span))) c refl (still l (does.Map (map.Clear label (run_of span))) n)
+    found_kind l label addr span Large there space c n = to l (does.Map (map.Clear label (run_of span))) c n refl (λ none. none)
 
     found_next : (l : Local V R) (label : Label) (addr : Addr) (o : Option SpanRef) (span : SpanRef) → o ≡ Some span → IsKindThere r.calls.rows span.kind → 0 < l.regs.hand.spare → Common' l → HasNone l → Next' (away l) (after_lookup r.calls l label addr o)
     found_next l label addr None span is there space c n = absurd (cc)
@@ -187,44 +169,46 @@ module _ {P V R : Type 0} (r : FrontRules P V R) (about : R → About) (planned 
     clear_next : (x : SpanMap) (l : Local V R) (o : Onward R) (spans : List SpanRef) → l.freed.items ≡ spans → Common' l → HasSpans l → IsOnward r.calls.rows about o → Next' (stand l.seat l.regs (l.acts + 1) (at_onward o)) (clears_span x l o spans).1
     clear_next x l o [] freed c n is = absurd (let e = ap length freed in omega (arith, e, n.some))
     clear_next x l o (s ∷ others) freed c n is =
-        record {
-          shaped = record { thread = c.thread; class = c.class; hand = c.hand; freed = c.freed; rest = c.rest; step = (record { hand = n.hand; some = n.some }, is) };
-          stands = λ m ps us holds. holds;
-        }
+        same_next law table t (goes l (does.Heap (heap.FreeSpan o))) c (record { hand = n.hand; some = n.some }, is)
 
     map_next : (x : SpanMap) (l : Local V R) (row : MapStep R) → Common' l → MapShape r.calls.rows about l row → FitsMap x l row → IsFoundClass r.calls.rows x row → Next' (stand l.seat l.regs (l.acts + 1) (at_map row)) (map_row r.calls x l row).1
-    map_next x l (map.Set label run) c shape fit there = to l (does.Names (names.Publish label (Some (address_of run)))) c refl (still l (does.Names (names.Publish label (Some (address_of run)))) shape)
-    map_next x l (map.SetSpan a run) c shape fit there = to l (does.Shard (shard.AddFetch a run)) c refl (still l (does.Shard (shard.AddFetch a run)) shape.0, shape.1)
+    map_next x l (map.Set label run) c shape fit there = to l (does.Names (names.Publish label (Some (address_of run)))) c shape refl (λ none. none)
+    map_next x l (map.SetSpan a run) c shape fit there = to l (does.Shard (shard.AddFetch a run)) c shape.0 refl (λ none. (none, shape.1))
     map_next x l (map.Lookup label addr) c shape fit there = found_next l label addr (find (holds (addr.0 / page_bytes)) x.spans) fit.0 fit.1 (there fit.0 fit.1) fit.3 c shape
-    map_next x l (map.Clear label run) c shape fit there = to l (does.Heap (heap.GiveBack label run)) c refl (still l (does.Heap (heap.GiveBack label run)) shape)
+    map_next x l (map.Clear label run) c shape fit there = to l (does.Heap (heap.GiveBack label run)) c shape refl (λ none. none)
     map_next x l (map.ClearSpan o) c shape fit there = clear_next x l o l.freed.items refl c shape.0 shape.1
 
-    -- the names
-    take_kept : (all : List NameState) (l : Local V R) (label : Label) (o : NameState) → IsShaped r.calls.rows about planned t l → at_step l.step ≡ Away → HasNone l → IsKept r about planned Holds t l (after_take r.calls all l label o).1
-    take_kept all l label name.Unpublished shaped is n = record { shaped = shaped; stands = λ m ps us holds. holds }
-    take_kept all l label name.Taken shaped is n = record { shaped = shaped; stands = λ m ps us holds. holds }
-    take_kept all l label (name.Published None) shaped is n = kept l (ends r.calls (decided l (Free label) FreedNull)) Away is tt (common_of r about planned Holds fits law table t l shaped) (ends_with l (decided l (Free label) FreedNull) (common_of r about planned Holds fits law table t l shaped) n refl)
-    take_kept all l label (name.Published (Some addr)) shaped is n =
-        kept l (goes l (does.Map (map.Lookup label addr))) Away is tt (common_of r about planned Holds fits law table t l shaped) (to l (does.Map (map.Lookup label addr)) (common_of r about planned Holds fits law table t l shaped) refl (still l (does.Map (map.Lookup label addr)) n))
+    -- from a step that is written out
+    kept_at : (l new : Local V R) (s : Step R) → IsShaped r.calls.rows about planned t l → l.step ≡ s → NotHere (at_step s)
+        → (Common' l → StepShape r.calls.rows about l s → Next' (stand l.seat l.regs (l.acts + 1) (at_step s)) new) → IsKept r about planned Holds t l new
+    kept_at l new s shaped is not_here next =
+        let c : Common' l = common_of law table t l shaped in
+        kept l new (at_step s) (ap at_step is) not_here c (next c (subst (λ (x : Step R). StepShape r.calls.rows about l x) is shaped.step))
 
-    names_kept : (all : List NameState) (l : Local V R) (row : NamesStep) → IsShaped r.calls.rows about planned t l → l.step ≡ does.Names row → HasNone l → IsKept r about planned Holds t l (names_row r.calls all l row).1
-    names_kept all l (names.Publish label value) shaped is n = kept l (ends r.calls l) Away (ap at_step is) tt (common_of r about planned Holds fits law table t l shaped) (ends_next r about planned Holds fits law table t l (common_of r about planned Holds fits law table t l shaped) n)
-    names_kept all l (names.Take label) shaped is n = take_kept all l label (state_of all label.0) shaped (ap at_step is) n
+    -- the names
+    take_kept : (all : List NameState) (l : Local V R) (label : Label) (o : NameState) → IsShaped r.calls.rows about planned t l → l.step ≡ does.Names (names.Take label)
+        → IsKept r about planned Holds t l (after_take r.calls all l label o).1
+    take_kept all l label name.Unpublished shaped is = record { shaped = shaped; stands = λ m ps us holds. holds }
+    take_kept all l label name.Taken shaped is = record { shaped = shaped; stands = λ m ps us holds. holds }
+    take_kept all l label (name.Published None) shaped is =
+        kept_at l (ends r.calls (decided l (Free label) FreedNull)) (does.Names (names.Take label)) shaped is tt (ends_decided l (Free label) FreedNull)
+    take_kept all l label (name.Published (Some addr)) shaped is =
+        kept_at l (goes l (does.Map (map.Lookup label addr))) (does.Names (names.Take label)) shaped is tt (λ c n. to l (does.Map (map.Lookup label addr)) c n refl (λ none. none))
 
   pub shard_acts_keep : ShardActsKeep r about planned Holds
   shard_acts_keep t s l row table shaped is sound same low fit =
-      kept table t l (shard_row r.calls s l row).1 (at_shard row) (ap at_step is) (shard_not row) (common_of r about planned Holds fits law table t l shaped) (shard_next table t s l row (common_of r about planned Holds fits law table t l shaped) (shape_at table t l (does.Shard row) shaped is) sound same low fit)
+      kept_at table t l (shard_row r.calls s l row).1 (does.Shard row) shaped is (shard_not row) (λ c shape. shard_next table t s l row c shape sound same low fit)
 
   pub heap_acts_keep : HeapActsKeep r about planned Holds
-  heap_acts_keep t h l row table shaped is fit =
-      kept table t l (heap_row r.calls h l row).1 (at_heap row) (ap at_step is) (heap_not row) (common_of r about planned Holds fits law table t l shaped) (heap_next table t h l row (common_of r about planned Holds fits law table t l shaped) (shape_at table t l (does.Heap row) shaped is))
+  heap_acts_keep t h l row table shaped is fit = kept_at table t l (heap_row r.calls h l row).1 (does.Heap row) shaped is (heap_not row) (heap_next table t h l row)
 
   pub map_acts_keep : MapActsKeep r about planned Holds
   map_acts_keep t x l row table shaped is fit there =
-      kept table t l (map_row r.calls x l row).1 (at_map row) (ap at_step is) (map_not row) (common_of r about planned Holds fits law table t l shaped) (map_next table t x l row (common_of r about planned Holds fits law table t l shaped) (shape_at table t l (does.Map row) shaped is) fit there)
+      kept_at table t l (map_row r.calls x l row).1 (does.Map row) shaped is (map_not row) (λ c shape. map_next table t x l row c shape fit there)
 
   pub names_acts_keep : NamesActsKeep r about planned Holds
-  names_acts_keep t all l row table shaped is fit = names_kept table t all l row shaped is (shape_at table t l (does.Names row) shaped is)
+  names_acts_keep t all l (names.Publish label value) table shaped is fit = kept_at table t l (ends r.calls l) (does.Names (names.Publish label value)) shaped is tt (ends_next law table t l)
+  names_acts_keep t all l (names.Take label) table shaped is fit = take_kept table t all l label (state_of all label.0) shaped is
 
   -- what comes behind an act of the front-end
   module _ (table : AreRows r.calls.rows) (t : ℕ) (l : Local V R) (p : P) (row : R) (shaped : IsShaped r.calls.rows about planned t l) (none_freed : l.freed.items ≡ []) (act : IsAct r about p l.regs row (r.acts p l.seat l.regs row)) where
@@ -235,47 +219,33 @@ module _ {P V R : Type 0} (r : FrontRules P V R) (about : R → About) (planned 
     then = record l { seat = x.seat; regs = x.regs }
 
     abbrev Behind : Next R → Type 0
-    Behind n = IsNext r about planned Holds fits law table t (stand x.seat (regs_next x.regs n) (l.acts + 1) (at_next n)) (follows r.calls then (call_about (about row)) n)
+    Behind n = IsNext law table t (stand x.seat (regs_next x.regs n) (l.acts + 1) (at_next n)) (follows r.calls then (call_about (about row)) n)
 
-    common : IsCommon r about planned Holds fits law table t then
+    common : Common law table t then
     common = record { thread = ap (λ (y : ThreadNo). y.0) act.thread ∙ shaped.thread; class = act.low; hand = act.room ∙ shaped.hand; freed = shaped.freed; rest = shaped.rest }
 
     -- at a row of its own
-    at_front : (l' : Local V R) (to_row : R) → IsCommon r about planned Holds fits law table t l' → l'.freed.items ≡ [] → HandAbout r.calls.rows l'.regs (about to_row)
-        → IsNext r about planned Holds fits law table t (stand l'.seat l'.regs (l'.acts + 1) (Here to_row)) (goes l' (does.Front to_row))
-    at_front l' to_row c none has =
-        record { shaped = record { thread = c.thread; class = c.class; hand = c.hand; freed = c.freed; rest = c.rest; step = (has, none) }; stands = λ m ps us holds. holds }
+    at_front : (l' : Local V R) (to_row : R) → Common law table t l' → l'.freed.items ≡ [] → HandAbout r.calls.rows l'.regs (about to_row)
+        → IsNext law table t (stand l'.seat l'.regs (l'.acts + 1) (Here to_row)) (goes l' (does.Front to_row))
+    at_front l' to_row c none has = same_next law table t (goes l' (does.Front to_row)) c (has, none)
 
     has_none : x.regs.hand.items ≡ [] → HasNone then
     has_none none = record { hand = none; freed = none_freed }
 
-    serves_behind : (a : Asking) → 0 < length x.regs.hand.items → length x.regs.hand.items ≤ LOADED_ROOM → Behind (next.Serve a)
-    serves_behind a some few = serves_next r about planned Holds fits law table t then a x.regs.hand.items refl some few common none_freed
-
-    quiet_few : (hand : List Addr) → hand ≡ [] → length hand ≤ most_slots
-    quiet_few hand none = let e = ap length none in omega (arith, e)
-
     -- a hand that the front-end took itself: a free is decided, and a row comes for its class
-    freed_behind : (f : Freeing) → x.regs.hand.items ≡ [] → Behind (next.Gave (giving.Freed f))
-    freed_behind f none = gave_next r about planned Holds fits law table t then (giving.Freed f) (f.addr ∷ []) common none refl
-
-    row_behind : (k : Class) (to_row : R) → x.regs.hand.items ≡ [] → IsLater r.calls.rows about k to_row → Behind (next.Gave (giving.Row k to_row))
-    row_behind k to_row none later =
-        subst (λ (ss : List SpanRef). IsNext r about planned Holds fits law table t (stand x.seat (record x.regs { class = k }) (l.acts + 1) (Here to_row)) (clears r.calls then (onward.Row k to_row) ss)) (sym none_freed)
-        (at_front (with_regs then (record x.regs { class = k })) to_row (record { thread = common.thread; class = later.0; hand = common.hand; freed = common.freed; rest = common.rest }) none_freed (later_shape r about planned Holds fits law table t then k (about to_row) later.1 (has_none none)))
-
     gave_behind : (g : Giving R) → fronts.IsNext r about row l.regs x.regs (next.Gave g) → Behind (next.Gave g)
-    gave_behind (giving.Rest s) may = gave_next r about planned Holds fits law table t then (giving.Rest s) [] common may.1 tt
-    gave_behind (giving.Freed f) may = freed_behind f may.1
-    gave_behind (giving.Row k to_row) may = row_behind k to_row may.1 may.2
-    gave_behind giving.End may = gave_next r about planned Holds fits law table t then giving.End [] common may.1 tt
+    gave_behind (giving.Rest s) may = gave_next law table t then (giving.Rest s) [] common may.1 tt
+    gave_behind (giving.Freed f) may = gave_next law table t then (giving.Freed f) (f.addr ∷ []) common may.1 refl
+    gave_behind (giving.Row k to_row) may =
+        subst (λ (ss : List SpanRef). IsNext law table t (stand x.seat (record x.regs { class = k }) (l.acts + 1) (Here to_row)) (clears r.calls then (onward.Row k to_row) ss)) (sym none_freed)
+        (at_front (with_regs then (record x.regs { class = k })) to_row (changed law table t common may.2.0 common.hand common.freed) none_freed (later_shape law table t then k (about to_row) may.2.1 (has_none may.1)))
+    gave_behind giving.End may = gave_next law table t then giving.End [] common may.1 tt
 
-    decides_behind : (a : About) (answer : Answer) (to_row : Option R) → MayDecide a answer → (to_row ≡ None → x.regs.hand.items ≡ []) → MayGoOnDecided about to_row → length x.regs.hand.items ≤ most_slots
-        → IsNext r about planned Holds fits law table t (stand x.seat x.regs (l.acts + 1) (at_row to_row)) (goes_or_ends r.calls (says then (call_about a) answer) to_row)
-    decides_behind (calls.Other (Some call)) answer None may none on few = ends_with table t then (decided then call answer) common (has_none (none refl)) refl
+    decides_behind : (a : About) (answer : Answer) (to_row : Option R) → MayDecide a answer → (to_row ≡ None → x.regs.hand.items ≡ []) → MayGoOnDecided about to_row
+        → length x.regs.hand.items ≤ most_slots → IsNext law table t (stand x.seat x.regs (l.acts + 1) (at_row to_row)) (goes_or_ends r.calls (says then (call_about a) answer) to_row)
+    decides_behind (calls.Other (Some call)) answer None may none on few = ends_decided table t then call answer common (has_none (none refl))
     decides_behind (calls.Other (Some call)) answer (Some to_row) may none on few =
-        let l' : Local V R = decided then call answer in
-        at_front l' to_row (same_common table t then l' common refl refl refl) none_freed (subst (HandAbout r.calls.rows x.regs) (sym on) few)
+        at_front (decided then call answer) to_row common none_freed (subst (HandAbout r.calls.rows x.regs) (sym on) few)
     decides_behind (calls.Other None) answer to_row may none on few = absurd may
     decides_behind (calls.Asks a) answer to_row may none on few = absurd may
     decides_behind (calls.Publishes s) answer to_row may none on few = absurd may
@@ -295,23 +265,20 @@ module _ {P V R : Type 0} (r : FrontRules P V R) (about : R → About) (planned 
 
     follows_behind : (n : Next R) → fronts.IsNext r about row l.regs x.regs n → HandAbout r.calls.rows l.regs (about row) → Behind n
     follows_behind (next.Row to_row) may has = at_front then to_row common none_freed (subst (HandAbout r.calls.rows x.regs) (sym may.0) may.1)
-    follows_behind (next.Serve a) may has = serves_behind a may.1 may.2
-    follows_behind (next.Fetch a) may has = to table t then (does.Shard (shard.Fetch a)) common refl (record { hand = may.1; freed = none_freed }, asked_by a may.0 has)
-    follows_behind (next.Give g) may has =
-        record {
-          shaped = record { thread = common.thread; class = common.class; hand = common.hand; freed = common.freed; rest = common.rest; step = (record { few = may.1; freed = none_freed }, may.2) };
-          stands = λ m ps us holds. holds;
-        }
+    follows_behind (next.Serve a) may has = serves_next law table t then a x.regs.hand.items refl may.1 may.2 common none_freed
+    follows_behind (next.Fetch a) may has = to table t then (does.Shard (shard.Fetch a)) common (has_none may.1) refl (λ none. (none, asked_by a may.0 has))
+    follows_behind (next.Give g) may has = same_next law table t (goes then (does.Shard (shard.Give g))) common (record { few = may.1; freed = none_freed }, may.2)
     follows_behind (next.Gave g) may has = gave_behind g may
-    follows_behind (next.Publish s) may has = publishes_next r about planned Holds fits law table t then s common (has_none may.1)
-    follows_behind (next.Freed f) may has = ends_with table t then (decided then (Free f.label) (Freed f.addr)) common (has_none may.1) refl
-    follows_behind (next.Decide answer None) may has = decides_behind (about row) answer None may.0 (λ e. may.2) tt (quiet_few x.regs.hand.items may.2)
-    follows_behind (next.Decide answer (Some to_row)) may has = decides_behind (about row) answer (Some to_row) may.0 (λ e. absurd (cc)) may.2 (few_still (about row) answer may.0 has may.1)
-    follows_behind next.End may has = ends_next r about planned Holds fits law table t then common (has_none may.1)
+    follows_behind (next.Publish s) may has = publishes_next law table t then s common (has_none may.1)
+    follows_behind (next.Freed f) may has = ends_decided table t then (Free f.label) (Freed f.addr) common (has_none may.1)
+    follows_behind (next.Decide answer None) may has = decides_behind (about row) answer None may.0 (λ e. may.2) tt (let e = ap length may.2 in omega (arith, e))
+    follows_behind (next.Decide answer (Some to_row)) may has =
+        decides_behind (about row) answer (Some to_row) may.0 (λ e. absurd (cc)) may.2 (few_still (about row) answer may.0 has may.1)
+    follows_behind next.End may has = ends_next law table t then common (has_none may.1)
 
   pub front_acts_keep : FrontActsKeep r about planned Holds
   front_acts_keep n t ps us l p row table shaped is low few holds at there =
-      let shape = shape_at table t l (does.Front row) shaped is in
+      let shape = subst (λ (s : Step R). StepShape r.calls.rows about l s) is shaped.step in
       let at_here : slice_get us t ≡ Some (stand l.seat l.regs l.acts (Here row)) = at ∙ ap (λ (s : Step R). Some (stand l.seat l.regs l.acts (at_step s))) is in
       let ready : IsReady r t l.regs (about row) = record { thread = shaped.thread; class = shaped.class; room = shaped.hand; hand = shape.0 } in
       let act = law.does n ps us t p l.seat l.regs l.acts row low few holds at_here there ready in

@@ -51,7 +51,8 @@ own_are r about p locals b are =
     ∙ (ap (λ (ns : List NameState). let x : Books = record { stock = stock_of r about p; heap = b.heap; spans = b.spans; names = ns; accounts = b.accounts } in x) are.names
     ∙ ap (λ (as' : List Account). let x : Books = record { stock = stock_of r about p; heap = b.heap; spans = b.spans; names = p.names; accounts = as' } in x) are.accounts)
 
-module _ {P V R : Type 0} (r : FrontRules P V R) (about : R → About) (planned : Planned → Type 0) (Holds : ℕ → List P → List (Standing V R) → Type 0) (fits : P → V → Regs → R → Type 0) (law : IsLawful r about planned Holds fits) (asked : Asked) (valid : IsValid r.calls.rows planned asked) (order : List ℕ) (few : length order ≤ MOST_PICKS) (served : IsServed r about planned Holds asked (run (rules r about asked) order) order) where
+module _ {P V R : Type 0} {r : FrontRules P V R} {about : R → About} {planned : Planned → Type 0} {Holds : ℕ → List P → List (Standing V R) → Type 0}
+    {fits : P → V → Regs → R → Type 0} (law : IsLawful r about planned Holds fits) {asked : Asked} (valid : IsValid r.calls.rows planned asked) (order : List ℕ) (few : length order ≤ MOST_PICKS) (served : IsServed r about planned Holds asked (run (rules r about asked) order) order) where
   abbrev p : Parts P
   p = served.parts
 

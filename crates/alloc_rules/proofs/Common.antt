@@ -27,7 +27,7 @@ pub use Rattle.call_steps.specs.Calls.{About, HasNoLabel, IsOf, about_giving, ab
 pub use Rattle.call_steps.specs.Fits.{FirstIsThere, FirstLives, FitsAdd, FitsBatch, FitsFrontStep, FitsGive, FitsHeap, FitsHeapStep, FitsMap, FitsMapStep}
 pub use Rattle.call_steps.specs.Fits.{FitsNames, FitsNamesStep, FitsShard, FitsShardStep}
 pub use Rattle.call_steps.specs.Follows.{MayDecide, MayGoOnDecided, follows, goes_or_ends, says, says as says_in}
-pub use Rattle.call_steps.specs.Fronts.{AreEntries, FrontCalls, FrontRules, IsEntry, Left}
+pub use Rattle.call_steps.specs.Fronts.{AreEntries, FrontCalls, FrontRules, IsEntry, KeepsHand, Left}
 pub use Rattle.call_steps.specs.Hands.{behind, clears, comes_to, decides_free, gave, given_back, goes_onward, publishes, serves, serves_first, stocks}
 pub use Rattle.call_steps.specs.Hands.{with_freed, with_hand as to_hand, with_hand, with_regs}
 pub use Rattle.call_steps.specs.Local.{Decided, Local, class_row, closes, decided, ends, first_act, first_of_call, first_of_malloc, fresh_regs, goes}
@@ -62,7 +62,7 @@ pub use Rattle.holdings.specs.Runs.{IsPlaced, address_of, bit, block_of, first_b
 pub use Rattle.holdings.specs.Runs.{small, spans_at, spans_like, spans_of_run, without}
 pub use Rattle.name_table.{specs.Names.state_of, specs.declared.table.NameState.NameState}
 pub use Rattle.page_map.proofs.SpanFacts.{find_there, with_span-well_formed, without_span-well_formed}
-pub use Rattle.page_map.specs.Spans.{IsWellFormed, SpanMap, holds, without_span}
+pub use Rattle.page_map.specs.Spans.{IsWellFormed, SpanMap, holds, with_span, without_span}
 pub use Rattle.rseq_core.{specs.declared.regs.Regs.Regs, specs.declared.regs.TheConstants.HAND_ROOM, specs.declared.regs.TheConstants.LOADED_ROOM}
 pub use Rattle.rseq_core.specs.Bags.{appended, emptied, room, without_first}
 pub use Rattle.span_list.specs.Span.{SpanState, objects_of}

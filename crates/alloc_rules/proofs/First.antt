@@ -23,7 +23,7 @@ use Rattle.call_steps.specs.declared.step.NamesStep.TheVariants as names_step
 use Rattle.call_steps.specs.Calls as calls_are
 use Rattle.alloc_rules.proofs.Steps.{row_there}
 use Rattle.alloc_rules.proofs.Inputs.{both_in, in_scripts, sum-same, valid_once, valid_planned}
-use Rattle.alloc_rules.proofs.Keeping.{IsCommon, IsNext, come_next}
+use Rattle.alloc_rules.proofs.Keeping.{CommonOf, IsNext, come_next}
 use Rattle.alloc_rules.proofs.ScriptFacts.{asks_first, first_is_of, first_under, next_way}
 use Rattle.alloc_rules.proofs.Serving.{ArePlaced, IsAtWork, IsServed}
 
@@ -173,7 +173,8 @@ set_middle : {X : Type 0} (xs : List X) (y z : X) (ys : List X) → slice_set (x
 set_middle [] y z ys = refl
 set_middle (x ∷ xs) y z ys = ap (λ zs. x ∷ zs) (set_middle xs y z ys)
 
-module _ {P V R : Type 0} (r : FrontRules P V R) (about : R → About) (planned : Planned → Type 0) (Holds : ℕ → List P → List (Standing V R) → Type 0) (fits : P → V → Regs → R → Type 0) (law : IsLawful r about planned Holds fits) (asked : Asked) (valid : IsValid r.calls.rows planned asked) where
+module _ {P V R : Type 0} {r : FrontRules P V R} {about : R → About} {planned : Planned → Type 0} {Holds : ℕ → List P → List (Standing V R) → Type 0}
+    {fits : P → V → Regs → R → Type 0} (law : IsLawful r about planned Holds fits) {asked : Asked} (valid : IsValid r.calls.rows planned asked) where
   -- the local of thread t
   abbrev pub first_locals : List (Local V R)
   first_locals = map (first_of r about asked) (range_with_len 0 asked.config.threads)
@@ -196,11 +197,17 @@ module _ {P V R : Type 0} (r : FrontRules P V R) (about : R → About) (planned 
   fresh t = fresh_first r.calls about law.entries (seat_of t) (script t)
 
   -- its shape, and how it stands
-  common : (t : ℕ) → IsCommon r about planned Holds fits law valid.rows t (idle_local (thread_no t) (r.seats t))
-  common t = record { thread = refl; class = valid.rows.some; hand = omega arith; freed = omega arith; rest = λ i d low. absurd (omega (arith, low)) }
-
-  next : (t : ℕ) → IsNext r about planned Holds fits law valid.rows t (idle r t) (first_of r about asked t)
-  next t = come_next r about planned Holds fits law valid.rows t (idle_local (thread_no t) (r.seats t)) (script t) (common t) (record { hand = refl; freed = refl }) (valid_planned r.calls.rows planned asked t valid)
+  next : (t : ℕ) → IsNext law valid.rows t (idle r t) (first_of r about asked t)
+  next t =
+      let l : Local V R = idle_local (thread_no t) (r.seats t) in
+      let common : CommonOf law valid.rows t l.regs l.freed (script t) = record {
+        thread = refl;
+        class = valid.rows.some;
+        hand = omega arith;
+        freed = omega arith;
+        rest = valid_planned r.calls.rows planned asked t valid;
+      } in
+      come_next law valid.rows t l (script t) common (record { hand = refl; freed = refl })
 
   each_stands : (done : List (Standing V R)) (k m : ℕ) → length done ≡ k → Holds 0 r.parts (done ++ map (idle r) (range_with_len k m)) → Holds 0 r.parts (done ++ map (λ t. standing_of (first_of r about asked t)) (range_with_len k m))
   each_stands done k zero is holds_now = holds_now
@@ -225,7 +232,7 @@ module _ {P V R : Type 0} (r : FrontRules P V R) (about : R → About) (planned 
   inside_first t names =
       let v : V = seat_of t in
       let first : Option Planned = slice_get (script t) 0 in
-      let way = next_way r.calls about law.entries v first (row_there r about planned Holds fits law v (script t) (valid_planned r.calls.rows planned asked t valid)) in
+      let way = next_way r.calls about law.entries v first (row_there law v (script t) (valid_planned r.calls.rows planned asked t valid)) in
       record {
         rest = rest_behind (script t);
         call = first_is_of r.calls about law.entries v first;

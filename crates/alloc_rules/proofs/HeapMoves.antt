@@ -1,16 +1,17 @@
 -- What the acts at the page heap do to the books.
 use Rattle.std.proofs.Common.{◌≡◌, ℕ, ◌*◌, ◌<◌, ◌≤◌, List, [], ◌∷◌, drop, Contains, Option, Some, None, refl, sym, ap, ◌∙◌, subst, arith}
-use Rattle.alloc_rules.proofs.Common.{append-nil, page_bytes, pages_holding, length_of, Label, Run, SpanRef, Malloc, Free, Release, Block, NoBlock, Freed}
+use Rattle.alloc_rules.proofs.Common.{append-nil, page_bytes, pages_holding, length_of, Label, Run, SpanRef, Free, Release, Freed}
 use Rattle.alloc_rules.proofs.Common.{Released, CallLine, HeapConfig, Placed, new, release, free_leaves, release_keeps, address_of, run_of, runs_like, less}
 use Rattle.alloc_rules.proofs.Common.{Account, WeighSame, Setup, Books, GetsNone, GetsRun, GetsSpan, FreesRun, FreesSpan, Rests, One, like, less_counts}
 use Rattle.alloc_rules.proofs.Common.{Asking, New, NewSpan, GiveBack, FreeSpan, Unback, decided, class_row, Local, with_freed, clears, heap_row, after_new}
 use Rattle.alloc_rules.proofs.Common.{after_new_span, frees_span, without_first_span, FirstLives, FitsHeap, Planned, About, account_of, onward_doing}
 use Rattle.alloc_rules.proofs.Common.{first_run, AreEntries, FrontRules, Parts, AreBooksOf, Does, setup, IsBefore, Onward, HeapStep, IsOnward, HeapActsMove}
+use Rattle.alloc_rules.proofs.Common.{IsPlaced}
 use Rattle.heap_rules.specs.Free.{freed}
 use Rattle.heap_rules.specs.Heap as heaps
 use Rattle.heap_rules.specs.Sound as heaps_sound
 use Rattle.call_steps.specs.declared.step.Step.TheVariants as does
-use Rattle.alloc_rules.proofs.{Lists.one_run, Moved.moved_by, Moved.no_row_length, Placing.placed}
+use Rattle.alloc_rules.proofs.{Lists.one_run, Moved.leaves, Moved.no_row_length, Placing.placed}
 use Rattle.alloc_rules.proofs.Likes.{like-with_run, like-without_run, there_counted}
 use Rattle.alloc_rules.proofs.Onwards.{Counts, onward_weighs, weighs_end}
 use Rattle.alloc_rules.proofs.Weighing.{bare, ends_counts, weighs_same}
@@ -29,66 +30,32 @@ module _ {P V R : Type 0} (r : FrontRules P V R) (about : R → About) (planned 
     abbrev Goal : HeapStep R → heaps.Heap × Local V R → Type 0
     Goal row x = Does r about m (record p { heap = x.0 }) b (at row) x.1
 
+    -- a run that the heap gives is placed, and comes to the live runs
+    gets_place : (row : HeapStep R) → Before row → (n : ℕ) → 0 < n → (x : Placed) → new p.heap n ≡ Some x
+        → ((q : Run) → runs_like q (x.run ∷ b.heap) ≡ runs_like q x.heap.runs) × IsPlaced m.huge b.heap n x.run
+    gets_place row before n some x is =
+        let region : 2 ≤ p.heap.config.region = omega (arith, before.region, ap (λ (c : HeapConfig). c.region) before.parts.config) in
+        let huge : p.heap.config.huge ≡ m.huge = ap (λ (c : HeapConfig). c.huge) before.parts.config ∙ before.same in
+        let at_place = placed p.heap b.heap m.huge n x before.parts.heap region huge before.books.heap some is in
+        (λ q. omega (arith, like-with_run x.run p.heap.runs q, ap (runs_like q) at_place.0.runs, before.books.heap q), at_place.1)
+
     -- New
     gets : (label : Label) (size : ℕ) → Before (New label size) → 0 < pages_holding size → (o : Option Placed) → new p.heap (pages_holding size) ≡ o → Goal (New label size) (after_new p.heap (at (New label size)) label size o)
     gets label size before some None is =
-        let books = before.books in
-        record {
-          heap = b.heap;
-          spans = b.spans;
-          said = record { call = Malloc label size; answer = NoBlock } ∷ [];
-          move = moved_by r about m p locals b books _ _ b.heap b.spans _ (GetsNone label size _ refl (weighs_same _));
-          like_heap = books.heap;
-          like_spans = books.spans;
-          acts = refl;
-          answers = refl;
-        }
+        leaves before.books p.heap p.map (λ ns. ns) (GetsNone label size _ refl (weighs_same _)) before.books.heap before.books.spans refl refl
     gets label size before some (Some x) is =
-        let books = before.books in
-        let region : 2 ≤ p.heap.config.region = omega (arith, before.region, ap (λ (c : HeapConfig). c.region) before.parts.config) in
-        let huge : p.heap.config.huge ≡ m.huge = ap (λ (c : HeapConfig). c.huge) before.parts.config ∙ before.same in
-        let at_place = placed p.heap b.heap m.huge (pages_holding size) x before.parts.heap region huge books.heap some is in
+        let at_place = gets_place _ before (pages_holding size) some x is in
         let length_is : length_of m.rows size ≡ x.run.pages * page_bytes = no_row_length m.rows size before.shaped.step.1 ∙ ap (λ n. n * page_bytes) (sym at_place.1.pages) in
-        record {
-          heap = x.run ∷ b.heap;
-          spans = b.spans;
-          said = record { call = Malloc label size; answer = Block (address_of x.run) (x.run.pages * page_bytes) } ∷ [];
-          move = moved_by r about m p locals b books _ _ (x.run ∷ b.heap) b.spans _ (GetsRun label size x.run _ refl refl at_place.1 length_is (weighs_same _));
-          like_heap = λ r. omega (arith, like-with_run x.run p.heap.runs r, ap (runs_like r) at_place.0.runs, books.heap r);
-          like_spans = books.spans;
-          acts = refl;
-          answers = refl;
-        }
+        leaves before.books x.heap p.map (λ ns. ns) (GetsRun label size x.run _ refl refl at_place.1 length_is (weighs_same _)) at_place.0 before.books.spans refl refl
 
     -- the run of a new span
     gets_span : (a : Asking) → Before (NewSpan a) → 0 < (class_row m.rows l).pages → (o : Option Placed) → new p.heap (class_row m.rows l).pages ≡ o → Goal (NewSpan a) (after_new_span p.heap (at (NewSpan a)) a o)
     gets_span a before some None is =
-        let books = before.books in
-        record {
-          heap = b.heap;
-          spans = b.spans;
-          said = record { call = Malloc a.label a.size; answer = NoBlock } ∷ [];
-          move = moved_by r about m p locals b books _ _ b.heap b.spans _ (GetsNone a.label a.size _ refl (weighs_same _));
-          like_heap = books.heap;
-          like_spans = books.spans;
-          acts = refl;
-          answers = refl;
-        }
+        leaves before.books p.heap p.map (λ ns. ns) (GetsNone a.label a.size _ refl (weighs_same _)) before.books.heap before.books.spans refl refl
     gets_span a before some (Some x) is =
-        let books = before.books in
-        let region : 2 ≤ p.heap.config.region = omega (arith, before.region, ap (λ (c : HeapConfig). c.region) before.parts.config) in
-        let huge : p.heap.config.huge ≡ m.huge = ap (λ (c : HeapConfig). c.huge) before.parts.config ∙ before.same in
-        let at_place = placed p.heap b.heap m.huge (class_row m.rows l).pages x before.parts.heap region huge books.heap some is in
-        record {
-          heap = x.run ∷ b.heap;
-          spans = b.spans;
-          said = [];
-          move = moved_by r about m p locals b books _ _ (x.run ∷ b.heap) b.spans _ (GetsSpan x.run _ before.shaped.class refl at_place.1 (weighs_same _));
-          like_heap = λ r. omega (arith, like-with_run x.run p.heap.runs r, ap (runs_like r) at_place.0.runs, books.heap r);
-          like_spans = books.spans;
-          acts = refl;
-          answers = sym (append-nil l.answers);
-        }
+        let at_place = gets_place _ before (class_row m.rows l).pages some x is in
+        leaves before.books x.heap p.map (λ ns. ns) (GetsSpan x.run _ before.shaped.class refl at_place.1 (weighs_same _)) at_place.0 before.books.spans
+        refl (sym (append-nil l.answers))
 
     -- a run that leaves
     less_like : (x : Run) → AreBooksOf r about p locals b → heaps_sound.IsSound p.heap → Contains p.heap.runs x → (q : Run) → runs_like q (less x b.heap) ≡ runs_like q (freed p.heap x).runs
@@ -99,18 +66,10 @@ module _ {P V R : Type 0} (r : FrontRules P V R) (about : R → About) (planned 
 
     gives_back : (label : Label) (run : Run) → Before (GiveBack label run) → Contains p.heap.runs run → Goal (GiveBack label run) (heap_row r.calls p.heap (at (GiveBack label run)) (GiveBack label run))
     gives_back label run before there =
-        let books = before.books in
         let l' : Local V R = decided (at (GiveBack label run)) (Free label) (Freed (address_of run)) in
-        record {
-          heap = less run b.heap;
-          spans = b.spans;
-          said = record { call = Free label; answer = Freed (address_of run) } ∷ [];
-          move = moved_by r about m p locals b books _ _ (less run b.heap) b.spans _ (FreesRun label run _ refl refl refl refl (weighs_end r.calls about entries l' before.shaped.step.hand));
-          like_heap = less_like run books before.parts.heap there;
-          like_spans = books.spans;
-          acts = (ends_counts r.calls l').0;
-          answers = (ends_counts r.calls l').1;
-        }
+        leaves before.books (freed p.heap run) p.map (λ ns. ns)
+        (FreesRun label run _ refl refl refl refl (weighs_end r.calls about entries l' before.shaped.step.hand))
+        (less_like run before.books before.parts.heap there) before.books.spans (ends_counts r.calls l').0 (ends_counts r.calls l').1
 
     -- what is left to give back
     clears_weighs : (l' : Local V R) (next : Onward R) (xs : List SpanRef) → IsOnward m.rows about next → l'.freed.items ≡ xs → l'.regs.hand.items ≡ [] → WeighSame (record (bare (onward_doing about next) l'.regs.class.0 l'.regs.hand.items l'.rest) { apart = xs; mapped = xs }) (account_of about (clears r.calls l' next xs)) × Counts l' (clears r.calls l' next xs)
@@ -123,35 +82,20 @@ module _ {P V R : Type 0} (r : FrontRules P V R) (about : R → About) (planned 
     frees : (next : Onward R) (before : Before (FreeSpan next)) (xs : List SpanRef) → l.freed.items ≡ xs → FirstLives p.heap xs → Goal (FreeSpan next) (frees_span r.calls p.heap (at (FreeSpan next)) next xs)
     frees next before [] is lives = absurd lives
     frees next before (s ∷ others) is lives =
-        let books = before.books in
         let l' : Local V R = with_freed (at (FreeSpan next)) (without_first_span l.freed others) in
         let after = clears_weighs l' next others before.shaped.step.1 refl before.shaped.step.0.hand in
-        record {
-          heap = less (run_of s) b.heap;
-          spans = b.spans;
-          said = [];
-          move = moved_by r about m p locals b books _ _ (less (run_of s) b.heap) b.spans _ (FreesSpan s others _ (ap first_run is) is (ap (drop 1) is) (subst (λ (xs : List SpanRef). WeighSame (record (bare (onward_doing about next) l.regs.class.0 l.regs.hand.items l.rest) { apart = others; mapped = xs }) (account_of about (clears r.calls l' next others))) (sym (ap (drop 1) is)) after.0));
-          like_heap = less_like (run_of s) books before.parts.heap lives;
-          like_spans = books.spans;
-          acts = after.1.acts;
-          answers = after.1.answers ∙ sym (append-nil l.answers);
-        }
+        let behind : List SpanRef → Account = λ xs. record (bare (onward_doing about next) l.regs.class.0 l.regs.hand.items l.rest) { apart = others; mapped = xs } in
+        leaves before.books (freed p.heap (run_of s)) p.map (λ ns. ns)
+        (FreesSpan s others _ (ap first_run is) is (ap (drop 1) is)
+        (subst (λ (xs : List SpanRef). WeighSame (behind xs) (account_of about (clears r.calls l' next others))) (sym (ap (drop 1) is)) after.0))
+        (less_like (run_of s) before.books before.parts.heap lives) before.books.spans after.1.acts (after.1.answers ∙ sym (append-nil l.answers))
 
     unbacks : (pages : ℕ) → Before (Unback pages) → Goal (Unback pages) (heap_row r.calls p.heap (at (Unback pages)) (Unback pages))
     unbacks pages before =
-        let books = before.books in
         let l' : Local V R = decided (at (Unback pages)) (Release pages) (Released (release p.heap pages).pages) in
         let kept = release_keeps p.heap pages before.parts.heap in
-        record {
-          heap = b.heap;
-          spans = b.spans;
-          said = record { call = Release pages; answer = Released (release p.heap pages).pages } ∷ [];
-          move = moved_by r about m p locals b books _ _ b.heap b.spans _ (Rests _ _ (weighs_end r.calls about entries l' before.shaped.step.hand) (One _ tt));
-          like_heap = λ r. omega (arith, books.heap r, ap (runs_like r) kept.runs);
-          like_spans = books.spans;
-          acts = (ends_counts r.calls l').0;
-          answers = (ends_counts r.calls l').1;
-        }
+        leaves before.books (release p.heap pages).heap p.map (λ ns. ns) (Rests _ _ (weighs_end r.calls about entries l' before.shaped.step.hand) (One _ tt))
+        (λ r. omega (arith, before.books.heap r, ap (runs_like r) kept.runs)) before.books.spans (ends_counts r.calls l').0 (ends_counts r.calls l').1
 
     by_row : (row : HeapStep R) → Before row → FitsHeap m.rows p.heap (at row) row → Goal row (heap_row r.calls p.heap (at row) row)
     by_row (New label size) before fits = gets label size before fits.0 (new p.heap (pages_holding size)) refl

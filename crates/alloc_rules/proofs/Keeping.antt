@@ -7,13 +7,14 @@ use Rattle.alloc_rules.proofs.Common.{without_first, emptied, Asking, Serving, G
 use Rattle.alloc_rules.proofs.Common.{first_of_call, regs_of_malloc, fresh_regs, next_call, decided, goes, closes, ends, with_regs, publishes, stocks}
 use Rattle.alloc_rules.proofs.Common.{serves_first, goes_onward, gave, clears, with_freed, given_back, to_hand, About, HasNoLabel, AreRows, most_slots, At}
 use Rattle.alloc_rules.proofs.Common.{Here, Later, Away, Standing, stand, at_row, at_giving, at_onward, at_step, standing_of, IsAsked, HandAbout, HasNone}
-use Rattle.alloc_rules.proofs.Common.{IsGiving, IsOnward, StepShape, IsShaped, IsOwn, IsLawful, FrontRules, IsEntry}
+use Rattle.alloc_rules.proofs.Common.{IsGiving, IsOnward, StepShape, IsShaped, IsOwn, IsLawful, FrontRules, IsEntry, KeepsHand, comes_to}
 use Rattle.tc_units.specs.Classes as classes
 use Rattle.call_steps.specs.declared.step.Giving.TheVariants as giving
 use Rattle.call_steps.specs.declared.step.Onward.TheVariants as onward
 use Rattle.call_steps.specs.declared.step.Step.TheVariants as does
 use Rattle.call_steps.specs.declared.step.ShardStep.TheVariants as shard
 use Rattle.call_steps.specs.declared.step.HeapStep.TheVariants as heap
+use Rattle.call_steps.specs.declared.step.MapStep.TheVariants as map
 use Rattle.call_steps.specs.declared.step.NamesStep.TheVariants as names
 use Rattle.call_steps.specs.Calls as calls
 
@@ -42,17 +43,42 @@ onward_not (onward.Publish s) = tt
 onward_not (onward.Row k row) = tt
 onward_not onward.End = tt
 
-module _ {P V R : Type 0} (r : FrontRules P V R) (about : R → About) (planned : Planned → Type 0) (Holds : ℕ → List P → List (Standing V R) → Type 0) (fits : P → V → Regs → R → Type 0) (law : IsLawful r about planned Holds fits) (table : AreRows r.calls.rows) (t : ℕ) where
+module _ {P V R : Type 0} {r : FrontRules P V R} {about : R → About} {planned : Planned → Type 0} {Holds : ℕ → List P → List (Standing V R) → Type 0}
+    {fits : P → V → Regs → R → Type 0} (law : IsLawful r about planned Holds fits) (table : AreRows r.calls.rows) (t : ℕ) where
   -- all of a shape but the step's
-  pub record IsCommon (l : Local V R) : Type 0 where
-    pub thread : l.regs.thread.0 ≡ t
-    pub class : l.regs.class.0 < length r.calls.rows
-    pub hand : room l.regs.hand ≡ HAND_ROOM
-    pub freed : length l.freed.items + l.freed.spare ≡ HAND_ROOM
-    pub rest : All planned l.rest
+  pub record IsCommon (n : ThreadNo) (k : Class) (held : Contents Addr) (bag : Contents SpanRef) (todo : List Planned) : Type 0 where
+    pub thread : n.0 ≡ t
+    pub class : k.0 < length r.calls.rows
+    pub hand : room held ≡ HAND_ROOM
+    pub freed : length bag.items + bag.spare ≡ HAND_ROOM
+    pub rest : All planned todo
 
-  pub common_of : (l : Local V R) → IsShaped r.calls.rows about planned t l → IsCommon l
+  abbrev pub CommonOf : Regs → Contents SpanRef → List Planned → Type 0
+  CommonOf g bag todo = IsCommon g.thread g.class g.hand bag todo
+
+  abbrev pub Common : Local V R → Type 0
+  Common l = CommonOf l.regs l.freed l.rest
+
+  pub common_of : (l : Local V R) → IsShaped r.calls.rows about planned t l → Common l
   common_of l s = record { thread = s.thread; class = s.class; hand = s.hand; freed = s.freed; rest = s.rest }
+
+  pub shape_of : (l : Local V R) → Common l → StepShape r.calls.rows about l l.step → IsShaped r.calls.rows about planned t l
+  shape_of l c step = record { thread = c.thread; class = c.class; hand = c.hand; freed = c.freed; rest = c.rest; step = step }
+
+  -- with another class, hand and spans
+  pub changed : {n : ThreadNo} {k k' : Class} {held held' : Contents Addr} {bag bag' : Contents SpanRef} {todo : List Planned} → IsCommon n k held bag todo
+      → k'.0 < length r.calls.rows → room held' ≡ HAND_ROOM → length bag'.items + bag'.spare ≡ HAND_ROOM → IsCommon n k' held' bag' todo
+  changed c low size freed = record { thread = c.thread; class = low; hand = size; freed = freed; rest = c.rest }
+
+  pub kept_by : {g new : Regs} {bag : Contents SpanRef} {todo : List Planned} → KeepsHand g new → CommonOf g bag todo → CommonOf new bag todo
+  kept_by k c =
+      record {
+        thread = ap (λ (x : ThreadNo). x.0) k.thread ∙ c.thread;
+        class = omega (arith, c.class, ap (λ (x : Class). x.0) k.class);
+        hand = ap room k.hand ∙ c.hand;
+        freed = c.freed;
+        rest = c.rest;
+      }
 
   -- from one standing of the thread to another the invariant holds on
   abbrev pub Reaches : Standing V R → Standing V R → Type 0
@@ -62,6 +88,10 @@ module _ {P V R : Type 0} (r : FrontRules P V R) (about : R → About) (planned 
   pub record IsNext (base : Standing V R) (new : Local V R) : Type 0 where
     pub shaped : IsShaped r.calls.rows about planned t new
     pub stands : Reaches base (standing_of new)
+
+  -- one whose standing is that which was found
+  pub same_next : (new : Local V R) → Common new → StepShape r.calls.rows about new new.step → IsNext (standing_of new) new
+  same_next new c step = record { shaped = shape_of new c step; stands = λ n ps us holds. holds }
 
   -- a thread that is at no row: between its acts, and behind the one that it does
   abbrev pub idle_at : Local V R → Standing V R
@@ -74,41 +104,32 @@ module _ {P V R : Type 0} (r : FrontRules P V R) (about : R → About) (planned 
   behind base base' new reaches n = record { shaped = n.shaped; stands = λ k ps us holds. n.stands k ps us (reaches k ps us holds) }
 
   -- the hand and the class may change, and acts are done
-  pub stays_away : (v : V) (g : Regs) (count more : ℕ) (k : Class) (hand : Contents Addr) → count ≤ more → k.0 < length r.calls.rows → room hand ≡ room g.hand → Reaches (stand v g count Away) (stand v (record g { class = k; hand = hand }) more Away)
+  pub stays_away : (v : V) (g : Regs) (count more : ℕ) (k : Class) (hand : Contents Addr) → count ≤ more → k.0 < length r.calls.rows → room hand ≡ room g.hand
+      → Reaches (stand v g count Away) (stand v (record g { class = k; hand = hand }) more Away)
   stays_away v g count more k hand few low size n ps us holds = law.away n ps us t v g count more k hand few low size holds
 
-  -- the call goes on elsewhere
-  pub goes_away : (l : Local V R) (next : Step R) → IsCommon l → at_step next ≡ Away → StepShape r.calls.rows about (goes l next) next → IsNext (away_at l) (goes l next)
+  -- the call goes on elsewhere, at a step at which the thread is at no row
+  pub goes_away : (l : Local V R) (next : Step R) → Common l → at_step next ≡ Away → StepShape r.calls.rows about (goes l next) next → IsNext (away_at l) (goes l next)
   goes_away l next c away shape =
       record {
-        shaped = record { thread = c.thread; class = c.class; hand = c.hand; freed = c.freed; rest = c.rest; step = shape };
+        shaped = shape_of (goes l next) c shape;
         stands = subst (λ (a : At R). Reaches (away_at l) (stand l.seat l.regs (l.acts + 1) a)) (sym away) (λ n ps us holds. holds);
       }
 
-  pub none_still : (l : Local V R) (next : Step R) → HasNone l → HasNone (goes l next)
-  none_still l next n = record { hand = n.hand; freed = n.freed }
+  -- with nothing in hand
+  pub goes_quiet : (l : Local V R) (next : Step R) → Common l → HasNone l → at_step next ≡ Away
+      → (HasNone (goes l next) → StepShape r.calls.rows about (goes l next) next) → IsNext (away_at l) (goes l next)
+  goes_quiet l next c n away shape = goes_away l next c away (shape (record { hand = n.hand; freed = n.freed }))
 
-  pub publishes_next : (l : Local V R) (s : Serving) → IsCommon l → HasNone l → IsNext (away_at l) (publishes l s)
-  publishes_next l s c n = goes_away l (does.Names (names.Publish s.label (Some s.addr))) c refl (none_still l (does.Names (names.Publish s.label (Some s.addr))) n)
+  pub publishes_next : (l : Local V R) (s : Serving) → Common l → HasNone l → IsNext (away_at l) (publishes l s)
+  publishes_next l s c n = goes_quiet l (does.Names (names.Publish s.label (Some s.addr))) c n refl (λ none. none)
 
-  -- registers with the thread's own number, a class of the table, and an empty hand
-  record IsIdle (g : Regs) : Type 0 where
-    thread : g.thread.0 ≡ t
-    class : g.class.0 < length r.calls.rows
-    size : room g.hand ≡ HAND_ROOM
-    hand : g.hand.items ≡ []
-
-  idle_of : (l : Local V R) → IsCommon l → HasNone l → IsIdle l.regs
-  idle_of l c n = record { thread = c.thread; class = c.class; size = c.hand; hand = n.hand }
-
-  -- the first act of a call, with its registers
-  fresh_next : (l : Local V R) (v : V) (g : Regs) (next : Step R) (rest : List Planned) → IsCommon l → HasNone l → IsIdle g → All planned rest → Reaches (idle_at l) (stand v g l.acts (at_step next))
+  -- the first act of a call, with its registers, whose hand is empty
+  fresh_next : (l : Local V R) (v : V) (g : Regs) (next : Step R) (rest : List Planned) → CommonOf g l.freed rest → g.hand.items ≡ [] → l.freed.items ≡ []
+      → Reaches (idle_at l) (stand v g l.acts (at_step next))
       → (let new : Local V R = record l { seat = v; step = next; regs = g; rest = rest } in (HasNone new → StepShape r.calls.rows about new next) → IsNext (idle_at l) new)
-  fresh_next l v g next rest c n i all reaches shape =
-      record {
-        shaped = record { thread = i.thread; class = i.class; hand = i.size; freed = c.freed; rest = all; step = shape (record { hand = i.hand; freed = n.freed }) };
-        stands = reaches;
-      }
+  fresh_next l v g next rest c hand freed reaches shape =
+      record { shaped = shape_of (record l { seat = v; step = next; regs = g; rest = rest }) c (shape (record { hand = hand; freed = freed })); stands = reaches }
 
   -- a step that has a row of the front-end about this, or is another one that is at none
   pub entry_shape : (a : About) (other : Step R) (l : Local V R) (o : Option R) → IsEntry about a o → HandAbout r.calls.rows l.regs a → l.freed.items ≡ [] → StepShape r.calls.rows about l other → StepShape r.calls.rows about l (step_or other o)
@@ -119,78 +140,90 @@ module _ {P V R : Type 0} (r : FrontRules P V R) (about : R → About) (planned 
   entry_at base v g count other None away reaches = subst (λ (a : At R). Reaches base (stand v g count a)) (sym away) reaches
   entry_at base v g count other (Some row) away reaches = reaches
 
-  module _ (l : Local V R) (c : IsCommon l) (n : HasNone l) (p : Planned) (plan : planned p) (rest : List Planned) (all : All planned rest) where
+  module _ (l : Local V R) (n : HasNone l) (p : Planned) (plan : planned p) (rest : List Planned) (c : CommonOf l.regs l.freed rest) where
     abbrev v : V
     v = r.calls.begins l.seat (Some p)
+
+    abbrev ran : Regs
+    ran = record l.regs { ran = 0 }
 
     begun : Reaches (idle_at l) (stand v l.regs l.acts Away)
     begun k ps us holds = law.begins k ps us t l.seat l.regs l.acts (Some p) plan n.hand holds
 
-    restarted : Reaches (idle_at l) (stand v (record l.regs { ran = 0 }) l.acts Away)
+    restarted : Reaches (idle_at l) (stand v ran l.acts Away)
     restarted k ps us holds = law.restarts k ps us t v l.regs l.acts (begun k ps us holds)
-
-    idle : IsIdle (record l.regs { ran = 0 })
-    idle = record { thread = c.thread; class = c.class; size = c.hand; hand = n.hand }
 
     malloc_next : (label : Label) (size : ℕ) (o : Option Class) → class_of r.calls.rows size ≡ o
         → IsNext (idle_at l) (record l { seat = v; step = first_of_malloc r.calls v o label size; regs = record (regs_of_malloc r.calls o l.regs) { ran = 0 }; rest = rest })
-    malloc_next label size None of = fresh_next l v (record l.regs { ran = 0 }) (first_of_malloc r.calls v None label size) rest c n idle all restarted (λ none. (none, of))
+    malloc_next label size None of = fresh_next l v ran (first_of_malloc r.calls v None label size) rest c n.hand n.freed restarted (λ none. (none, of))
     malloc_next label size (Some k) of =
         let a : Asking = record { label = label; size = size } in
+        let other : Step R = does.Shard (shard.Fetch a) in
         let g1 : Regs = record l.regs { class = k } in
         let kept = law.entries.to_first g1 in
         let g : Regs = record (r.calls.to_first g1) { ran = 0 } in
         let low : k.0 < length r.calls.rows = class_low r.calls.rows size k of in
-        let class : g.class ≡ k = kept.class in
         let hand : g.hand.items ≡ [] = ap (λ (h : Contents Addr). h.items) kept.hand ∙ n.hand in
-        let i : IsIdle g = record { thread = ap (λ (x : ThreadNo). x.0) kept.thread ∙ c.thread; class = omega (arith, low, ap (λ (x : Class). x.0) class); size = ap room kept.hand ∙ c.hand; hand = hand } in
-        let asked : IsAsked r.calls.rows g a = of ∙ ap (λ (x : Class). Some x) (sym class) in
+        let asked : IsAsked r.calls.rows g a = of ∙ ap (λ (x : Class). Some x) (sym kept.class) in
         let reaches : Reaches (idle_at l) (stand v g l.acts (at_row (r.calls.first v a))) = λ m ps us holds.
         law.firsts m ps us t v g1 l.acts a of n.hand (law.away m ps us t v l.regs l.acts l.acts k l.regs.hand (omega arith) low refl (begun m ps us holds)) in
-        fresh_next l v g (step_or (does.Shard (shard.Fetch a)) (r.calls.first v a)) rest c n i all (entry_at (idle_at l) v g l.acts (does.Shard (shard.Fetch a)) (r.calls.first v a) refl reaches)
-        (λ none. entry_shape (calls.Asks a) (does.Shard (shard.Fetch a)) (record l { seat = v; step = step_or (does.Shard (shard.Fetch a)) (r.calls.first v a); regs = g; rest = rest }) (r.calls.first v a) (law.entries.first_about v a) (asked, hand) n.freed (none, asked))
+        fresh_next l v g (step_or other (r.calls.first v a)) rest (kept_by kept (changed c low c.hand c.freed)) hand n.freed
+        (entry_at (idle_at l) v g l.acts other (r.calls.first v a) refl reaches)
+        (λ none. entry_shape (calls.Asks a) other (record l { seat = v; step = step_or other (r.calls.first v a); regs = g; rest = rest }) (r.calls.first v a)
+        (law.entries.first_about v a) (asked, hand) n.freed (none, asked))
 
-    own_next : (call : Call) → p.call ≡ call → IsOwn p.call → IsNext (idle_at l) (record l { seat = v; step = step_or does.Ended (r.calls.other v call); regs = record (r.calls.to_other call l.regs) { ran = 0 }; rest = rest })
+    own_next : (call : Call) → p.call ≡ call → IsOwn p.call
+        → IsNext (idle_at l) (record l { seat = v; step = step_or does.Ended (r.calls.other v call); regs = record (r.calls.to_other call l.regs) { ran = 0 }; rest = rest })
     own_next call is own =
         let g : Regs = record (r.calls.to_other call l.regs) { ran = 0 } in
         let kept = law.entries.to_other call l.regs in
         let low = law.other_class p l.regs plan own in
         let hand : g.hand.items ≡ [] = ap (λ (h : Contents Addr). h.items) kept ∙ n.hand in
-        let i : IsIdle g = record { thread = ap (λ (x : ThreadNo). x.0) (law.entries.other_thread call l.regs) ∙ c.thread; class = omega (arith, low, ap (λ (y : Call). (r.calls.to_other y l.regs).class.0) is); size = ap room kept ∙ c.hand; hand = hand } in
+        let common : CommonOf g l.freed rest = record {
+          thread = ap (λ (x : ThreadNo). x.0) (law.entries.other_thread call l.regs) ∙ c.thread;
+          class = omega (arith, low, ap (λ (y : Call). (r.calls.to_other y l.regs).class.0) is);
+          hand = ap room kept ∙ c.hand;
+          freed = c.freed;
+          rest = c.rest;
+        } in
         let reaches : Reaches (idle_at l) (stand v g l.acts (at_row (r.calls.other v call))) = λ m ps us holds.
         subst (λ (y : Call). Holds m ps (slice_set us t (stand v (record (r.calls.to_other y l.regs) { ran = 0 }) l.acts (at_row (r.calls.other v y))))) is
         (law.others_begin m ps us t v l.regs l.acts p plan own n.hand (begun m ps us holds)) in
-        fresh_next l v g (step_or does.Ended (r.calls.other v call)) rest c n i all (entry_at (idle_at l) v g l.acts does.Ended (r.calls.other v call) refl reaches)
-        (λ none. entry_shape (calls.Other (Some call)) does.Ended (record l { seat = v; step = step_or does.Ended (r.calls.other v call); regs = g; rest = rest }) (r.calls.other v call) (law.entries.other_about v call) (let e = ap length hand in omega (arith, e)) n.freed none)
+        fresh_next l v g (step_or does.Ended (r.calls.other v call)) rest common hand n.freed
+        (entry_at (idle_at l) v g l.acts does.Ended (r.calls.other v call) refl reaches)
+        (λ none. entry_shape (calls.Other (Some call)) does.Ended (record l { seat = v; step = step_or does.Ended (r.calls.other v call); regs = g; rest = rest })
+        (r.calls.other v call) (law.entries.other_about v call) (let e = ap length hand in omega (arith, e)) n.freed none)
 
-    call_next : (call : Call) → p.call ≡ call → IsNext (idle_at l) (record l { seat = v; step = first_of_call r.calls v call; regs = fresh_regs r.calls call l.regs; rest = rest })
+    call_next : (call : Call) → p.call ≡ call
+        → IsNext (idle_at l) (record l { seat = v; step = first_of_call r.calls v call; regs = fresh_regs r.calls call l.regs; rest = rest })
     call_next (Malloc label size) is = malloc_next label size (class_of r.calls.rows size) refl
-    call_next (Free label) is = fresh_next l v (record l.regs { ran = 0 }) (does.Names (names.Take label)) rest c n idle all restarted (λ none. none)
-    call_next (Release pages) is = fresh_next l v (record l.regs { ran = 0 }) (does.Heap (heap.Unback pages)) rest c n idle all restarted (λ none. none)
+    call_next (Free label) is = fresh_next l v ran (does.Names (names.Take label)) rest c n.hand n.freed restarted (λ none. none)
+    call_next (Release pages) is = fresh_next l v ran (does.Heap (heap.Unback pages)) rest c n.hand n.freed restarted (λ none. none)
     call_next (Drain cpu) is = own_next (Drain cpu) is (subst IsOwn (sym is) tt)
     call_next (Resize cpu class cap) is = own_next (Resize cpu class cap) is (subst IsOwn (sym is) tt)
 
   -- the thread comes to the first of these calls
-  pub come_next : (l : Local V R) (todo : List Planned) → IsCommon l → HasNone l → All planned todo → IsNext (idle_at l) (next_call r.calls l todo)
-  come_next l [] c n all = fresh_next l (r.calls.begins l.seat None) l.regs does.Ended [] c n (idle_of l c n) all (λ k ps us holds. law.begins k ps us t l.seat l.regs l.acts None tt n.hand holds) (λ none. none)
-  come_next l (p ∷ ps) c n all = call_next l c n p (All-head planned p ps all) ps (All-tail planned p ps all) p.call refl
+  pub come_next : (l : Local V R) (todo : List Planned) → CommonOf l.regs l.freed todo → HasNone l → IsNext (idle_at l) (next_call r.calls l todo)
+  come_next l [] c n =
+      fresh_next l (r.calls.begins l.seat None) l.regs does.Ended [] c n.hand n.freed (λ k ps us holds. law.begins k ps us t l.seat l.regs l.acts None tt n.hand holds) (λ none. none)
+  come_next l (p ∷ ps) c n = call_next l n p (All-head planned p ps c.rest) ps (record { thread = c.thread; class = c.class; hand = c.hand; freed = c.freed; rest = All-tail planned p ps c.rest }) p.call refl
 
   -- the call ends: a row of the front-end may come first
-  closes_next : (l : Local V R) (o : Option R) → IsEntry about (calls.Other None) o → IsCommon l → HasNone l → Reaches (idle_at l) (stand l.seat l.regs l.acts (at_row o)) → IsNext (idle_at l) (closes r.calls l o)
-  closes_next l None entry c n reaches = come_next (record l { ended = l.ended + 1 }) l.rest (record { thread = c.thread; class = c.class; hand = c.hand; freed = c.freed; rest = c.rest }) (record { hand = n.hand; freed = n.freed }) c.rest
+  closes_next : (l : Local V R) (o : Option R) → IsEntry about (calls.Other None) o → Common l → HasNone l → Reaches (idle_at l) (stand l.seat l.regs l.acts (at_row o)) → IsNext (idle_at l) (closes r.calls l o)
+  closes_next l None entry c n reaches = come_next (record l { ended = l.ended + 1 }) l.rest c (record { hand = n.hand; freed = n.freed })
   closes_next l (Some row) entry c n reaches =
       record {
-        shaped = record { thread = c.thread; class = c.class; hand = c.hand; freed = c.freed; rest = c.rest; step = (subst (HandAbout r.calls.rows l.regs) (sym entry) (let e = ap length n.hand in omega (arith, e)), n.freed) };
+        shaped = shape_of (record l { step = does.Front row }) c (subst (HandAbout r.calls.rows l.regs) (sym entry) (let e = ap length n.hand in omega (arith, e)), n.freed);
         stands = reaches;
       }
 
-  pub ends_next : (l : Local V R) → IsCommon l → HasNone l → IsNext (away_at l) (ends r.calls l)
+  pub ends_next : (l : Local V R) → Common l → HasNone l → IsNext (away_at l) (ends r.calls l)
   ends_next l c n =
-      closes_next (record l { acts = l.acts + 1 }) (r.calls.last l.seat) (law.entries.last_about l.seat) (record { thread = c.thread; class = c.class; hand = c.hand; freed = c.freed; rest = c.rest }) (record { hand = n.hand; freed = n.freed })
+      closes_next (record l { acts = l.acts + 1 }) (r.calls.last l.seat) (law.entries.last_about l.seat) c (record { hand = n.hand; freed = n.freed })
       (λ k ps us holds. law.lasts k ps us t l.seat l.regs (l.acts + 1) n.hand holds)
 
   -- an allocation goes on with what came to its hand
-  stocks_next : (l : Local V R) (s : Serving) (others : List Addr) → l.regs.hand.items ≡ others → length others ≤ LOADED_ROOM → IsCommon l → l.freed.items ≡ [] → IsNext (away_at l) (stocks r.calls l s others)
+  stocks_next : (l : Local V R) (s : Serving) (others : List Addr) → l.regs.hand.items ≡ others → length others ≤ LOADED_ROOM → Common l → l.freed.items ≡ [] → IsNext (away_at l) (stocks r.calls l s others)
   stocks_next l s [] is few c none = publishes_next l s c (record { hand = is; freed = none })
   stocks_next l s (a ∷ others) is few c none =
       let g : Regs = r.calls.to_rest l.regs in
@@ -201,18 +234,13 @@ module _ {P V R : Type 0} (r : FrontRules P V R) (about : R → About) (planned 
       let other : Step R = does.Shard (shard.Give (giving.Rest s)) in
       let few_in_hand : length g.hand.items ≤ most_slots = omega (arith, size, many, few) in
       record {
-        shaped = record {
-          thread = ap (λ (x : ThreadNo). x.0) kept.thread ∙ c.thread;
-          class = omega (arith, c.class, ap (λ (x : Class). x.0) kept.class);
-          hand = ap room kept.hand ∙ c.hand;
-          freed = c.freed;
-          rest = c.rest;
-          step = entry_shape (calls.Publishes s) other (goes (with_regs l g) (step_or other (r.calls.rest l.seat s))) (r.calls.rest l.seat s) (law.entries.rest_about l.seat s) few_in_hand none (record { few = few_in_hand; freed = none }, tt);
-        };
+        shaped = shape_of (goes (with_regs l g) (step_or other (r.calls.rest l.seat s))) (kept_by kept c)
+            (entry_shape (calls.Publishes s) other (goes (with_regs l g) (step_or other (r.calls.rest l.seat s))) (r.calls.rest l.seat s) (law.entries.rest_about l.seat s)
+            few_in_hand none (record { few = few_in_hand; freed = none }, tt));
         stands = entry_at (away_at l) l.seat g (l.acts + 1) other (r.calls.rest l.seat s) refl reaches;
       }
 
-  pub serves_next : (l : Local V R) (a : Asking) (xs : List Addr) → l.regs.hand.items ≡ xs → 0 < length xs → length xs ≤ LOADED_ROOM → IsCommon l → l.freed.items ≡ [] → IsNext (away_at l) (serves_first r.calls l a xs)
+  pub serves_next : (l : Local V R) (a : Asking) (xs : List Addr) → l.regs.hand.items ≡ xs → 0 < length xs → length xs ≤ LOADED_ROOM → Common l → l.freed.items ≡ [] → IsNext (away_at l) (serves_first r.calls l a xs)
   serves_next l a [] is some few c none = absurd (omega arith)
   serves_next l a (x ∷ others) is some few c none =
       let hand : Contents Addr = without_first 1 l.regs.hand in
@@ -220,7 +248,7 @@ module _ {P V R : Type 0} (r : FrontRules P V R) (about : R → About) (planned 
       let size : length l.regs.hand.items ≡ length (x ∷ others) = ap length is in
       let same : room hand ≡ room l.regs.hand = omega (arith, size, length-drop 1 l.regs.hand.items) in
       behind (away_at l) (away_at l') (serves_first r.calls l a (x ∷ others)) (stays_away l.seat l.regs (l.acts + 1) (l.acts + 1) l.regs.class hand (omega arith) c.class same)
-      (stocks_next l' (record { label = a.label; addr = x }) others (ap (drop 1) is) (omega (arith, few)) (record { thread = c.thread; class = c.class; hand = same ∙ c.hand; freed = c.freed; rest = c.rest }) none)
+      (stocks_next l' (record { label = a.label; addr = x }) others (ap (drop 1) is) (omega (arith, few)) (changed c c.class (same ∙ c.hand) c.freed) none)
 
   -- a row that comes behind a giving has nothing in hand
   pub later_shape : (l : Local V R) (k : Class) (a : About) → HasNoLabel a → HasNone l → HandAbout r.calls.rows (record l.regs { class = k }) a
@@ -230,7 +258,7 @@ module _ {P V R : Type 0} (r : FrontRules P V R) (about : R → About) (planned 
   later_shape l k (calls.Other call) other n = let e = ap length n.hand in omega (arith, e)
 
   -- acts elsewhere, while this is to come
-  pub waits_at : (l : Local V R) (a : At R) (count more : ℕ) (hand : Contents Addr) → NotHere a → count ≤ more → IsCommon l → room hand ≡ room l.regs.hand → Reaches (stand l.seat l.regs count a) (stand l.seat (record l.regs { hand = hand }) more a)
+  pub waits_at : (l : Local V R) (a : At R) (count more : ℕ) (hand : Contents Addr) → NotHere a → count ≤ more → Common l → room hand ≡ room l.regs.hand → Reaches (stand l.seat l.regs count a) (stand l.seat (record l.regs { hand = hand }) more a)
   waits_at l (Here row) count more hand none few c same = absurd none
   waits_at l (Later k row) count more hand none few c same = λ n ps us holds. law.waits n ps us t l.seat l.regs count more k row hand few same holds
   waits_at l Away count more hand none few c same = λ n ps us holds. law.away n ps us t l.seat l.regs count more l.regs.class hand few c.class same holds
@@ -240,36 +268,33 @@ module _ {P V R : Type 0} (r : FrontRules P V R) (about : R → About) (planned 
   onward_at l o = stand l.seat l.regs (l.acts + 1) (at_onward o)
 
   -- what comes once no span is left to give back
-  onward_next : (l : Local V R) (o : Onward R) → IsCommon l → HasNone l → IsOnward r.calls.rows about o → IsNext (onward_at l o) (goes_onward r.calls l o)
+  onward_next : (l : Local V R) (o : Onward R) → Common l → HasNone l → IsOnward r.calls.rows about o → IsNext (onward_at l o) (goes_onward r.calls l o)
   onward_next l (onward.Publish s) c n is = publishes_next l s c n
   onward_next l (onward.Row k row) c n is =
       record {
-        shaped = record { thread = c.thread; class = is.0; hand = c.hand; freed = c.freed; rest = c.rest; step = (later_shape l k (about row) is.1 n, n.freed) };
+        shaped = shape_of (comes_to l k row) (changed c is.0 c.hand c.freed) (later_shape l k (about row) is.1 n, n.freed);
         stands = λ m ps us holds. law.back m ps us t l.seat l.regs (l.acts + 1) (l.acts + 1) k row l.regs.hand (omega arith) refl n.hand holds;
       }
   onward_next l onward.End c n is = ends_next l c n
 
-  pub clears_next : (l : Local V R) (o : Onward R) (spans : List SpanRef) → l.freed.items ≡ spans → IsCommon l → l.regs.hand.items ≡ [] → IsOnward r.calls.rows about o → IsNext (onward_at l o) (clears r.calls l o spans)
+  pub clears_next : (l : Local V R) (o : Onward R) (spans : List SpanRef) → l.freed.items ≡ spans → Common l → l.regs.hand.items ≡ [] → IsOnward r.calls.rows about o → IsNext (onward_at l o) (clears r.calls l o spans)
   clears_next l o [] freed c hand is = onward_next l o c (record { hand = hand; freed = freed }) is
   clears_next l o (s ∷ others) freed c hand is =
-      record {
-        shaped = record { thread = c.thread; class = c.class; hand = c.hand; freed = c.freed; rest = c.rest; step = (record { hand = hand; some = (let e = ap length freed in omega (arith, e)) }, is) };
-        stands = λ m ps us holds. holds;
-      }
+      same_next (goes l (does.Map (map.ClearSpan o))) c (record { hand = hand; some = (let e = ap length freed in omega (arith, e)) }, is)
 
   -- the hand was given
   abbrev pub giving_at : Local V R → Giving R → Standing V R
   giving_at l g = stand l.seat l.regs (l.acts + 1) (at_giving g)
 
-  pub gave_next : (l : Local V R) (g : Giving R) (hand : List Addr) → IsCommon l → l.regs.hand.items ≡ [] → IsGiving r.calls.rows about hand g → IsNext (giving_at l g) (gave r.calls l g)
+  pub gave_next : (l : Local V R) (g : Giving R) (hand : List Addr) → Common l → l.regs.hand.items ≡ [] → IsGiving r.calls.rows about hand g → IsNext (giving_at l g) (gave r.calls l g)
   gave_next l (giving.Rest s) hand c none is = clears_next l (onward.Publish s) l.freed.items refl c none tt
   gave_next l (giving.Freed f) hand c none is =
-      clears_next (decided l (Free f.label) (Freed f.addr)) onward.End l.freed.items refl (record { thread = c.thread; class = c.class; hand = c.hand; freed = c.freed; rest = c.rest }) none tt
+      clears_next (decided l (Free f.label) (Freed f.addr)) onward.End l.freed.items refl c none tt
   gave_next l (giving.Row k row) hand c none is = clears_next l (onward.Row k row) l.freed.items refl c none is
   gave_next l giving.End hand c none is = clears_next l onward.End l.freed.items refl c none tt
 
-  pub given_back_next : (l : Local V R) (g : Giving R) (freed : Contents SpanRef) → IsCommon l → length freed.items + freed.spare ≡ HAND_ROOM → IsGiving r.calls.rows about l.regs.hand.items g → IsNext (giving_at l g) (given_back r.calls l g freed)
+  pub given_back_next : (l : Local V R) (g : Giving R) (freed : Contents SpanRef) → Common l → length freed.items + freed.spare ≡ HAND_ROOM → IsGiving r.calls.rows about l.regs.hand.items g → IsNext (giving_at l g) (given_back r.calls l g freed)
   given_back_next l g freed c size is =
       let l' : Local V R = with_freed (to_hand l (emptied l.regs.hand)) freed in
       behind (giving_at l g) (giving_at l' g) (given_back r.calls l g freed) (waits_at l (at_giving g) (l.acts + 1) (l.acts + 1) (emptied l.regs.hand) (giving_not g) (omega arith) c (omega arith))
-      (gave_next l' g l.regs.hand.items (record { thread = c.thread; class = c.class; hand = omega (arith, c.hand); freed = size; rest = c.rest }) refl is)
+      (gave_next l' g l.regs.hand.items (changed c c.class (omega (arith, c.hand)) size) refl is)

@@ -7,10 +7,10 @@ use Rattle.alloc_rules.proofs.SerialLaws.{are_threads, ends, never_waits, rises}
 pub in_every_order : {P V R : Type 0} (r : FrontRules P V R) (about : R → About) (planned : Planned → Type 0) (Holds : ℕ → List P → List (Standing V R) → Type 0) (fits : P → V → Regs → R → Type 0) (law : IsLawful r about planned Holds fits) (asked : Asked) (valid : IsValid r.calls.rows planned asked) → AreLawful r about asked fits (HoldsAfter r about Holds asked)
 in_every_order r about planned Holds fits law asked valid =
     record {
-      sound = sound r about planned Holds fits law asked valid;
-      threads = are_threads r about planned Holds fits law asked valid;
-      never_waits = never_waits r about planned Holds fits law asked valid;
-      rises = rises r about planned Holds fits law asked valid;
-      ends = ends r about planned Holds fits law asked valid;
-      holds = λ order of. holds_after r about planned Holds fits law asked valid order of.few (served_order r about planned Holds fits law asked valid order of);
+      sound = sound law valid;
+      threads = are_threads law valid;
+      never_waits = never_waits law valid;
+      rises = rises law valid;
+      ends = ends law valid;
+      holds = λ order of. holds_after law valid order of.few (served_order law valid order of);
     }

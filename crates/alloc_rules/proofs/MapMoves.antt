@@ -1,26 +1,22 @@
 -- What the acts at the page map do to the books.
 use Rattle.std.proofs.Common.{◌≡◌, ℕ, ◌/◌, ◌<◌, true, List, [], ◌∷◌, ◌++◌, drop, Contains, Option, Some, None, refl, sym, ap, ◌∙◌, subst, inl, inr, arith}
-use Rattle.std.proofs.Common.{find, option_map, slice_get}
-use Rattle.alloc_rules.proofs.Common.{append-nil, slice_get-map, page_bytes, Addr, Label, Run, SpanRef, SpanKind, Small, Large, CallLine, SpanMap, holds}
+use Rattle.std.proofs.Common.{find}
+use Rattle.alloc_rules.proofs.Common.{append-nil, page_bytes, Addr, Label, Run, SpanRef, SpanKind, Small, Large, CallLine, SpanMap, holds}
 use Rattle.alloc_rules.proofs.Common.{without_span, HeapConfig, find_there, address_of, run_of, large, small, spans_like, without, Account, Holds, Frees}
 use Rattle.alloc_rules.proofs.Common.{WeighSame, Setup, Books, class_number, Found, SetsRun, SetsSpan, FindsObject, FindsRun, ClearsRun, ClearsSpan}
 use Rattle.alloc_rules.proofs.Common.{like_span, without_counts, is_large, frees_find, Asking, Set, SetSpan, Lookup, Clear, ClearSpan, map_row, after_lookup}
 use Rattle.alloc_rules.proofs.Common.{found, clears_span, FirstIsThere, FitsMap, Planned, Local, About, account_of, onward_doing, first_run, AreEntries}
-use Rattle.alloc_rules.proofs.Common.{FrontRules, Parts, AreBooksOf, Does, setup, IsBefore, Contents, Class, Regs, appended, Freeing, Onward, MapStep}
-use Rattle.alloc_rules.proofs.Common.{with_regs, MapActsMove}
+use Rattle.alloc_rules.proofs.Common.{FrontRules, Parts, Does, setup, IsBefore, Contents, Class, Regs, appended, Freeing, Onward, MapStep}
+use Rattle.alloc_rules.proofs.Common.{with_regs, MapActsMove, with_span, without_span}
 use Rattle.call_steps.specs.declared.step.Step.TheVariants as does
 use Rattle.call_steps.specs.declared.step.Giving.TheVariants as giving
 use Rattle.call_steps.specs.declared.step.ShardStep.TheVariants as shard
 use Rattle.call_steps.specs.Calls as calls_are
-use Rattle.alloc_rules.proofs.{Lists.one_first, Lists.only_holder, Moved.moved_by}
+use Rattle.alloc_rules.proofs.{Freeing.account_at, Lists.one_first, Lists.only_holder, Moved.leaves}
 use Rattle.alloc_rules.proofs.Likes.{like-with_span, like-without_span, span_counted, span_there}
 use Rattle.alloc_rules.proofs.Weighing.{bare, entry_is, weighs_is, weighs_same}
 
 module _ {P V R : Type 0} (r : FrontRules P V R) (about : R → About) (planned : Planned → Type 0) (entries : AreEntries r.calls about) where
-  -- the account of a thread among all
-  pub account_at : (p : Parts P) (locals : List (Local V R)) (b : Books) (t : ℕ) (l : Local V R) → AreBooksOf r about p locals b → slice_get locals t ≡ Some l → slice_get b.accounts t ≡ Some (account_of about l)
-  account_at p locals b t l books local = ap (λ (xs : List Account). slice_get xs t) books.accounts ∙ (slice_get-map (account_of about) locals t ∙ ap (option_map (account_of about)) local)
-
   module _ (huge labels : ℕ) (limits : HeapConfig) (p : Parts P) (locals : List (Local V R)) (b : Books) (calls : List CallLine) (t : ℕ) (l : Local V R) where
     abbrev m : Setup
     m = setup r huge labels
@@ -34,33 +30,20 @@ module _ {P V R : Type 0} (r : FrontRules P V R) (about : R → About) (planned 
     abbrev Goal : MapStep R → SpanMap × Local V R → Type 0
     Goal row x = Does r about m (record p { map = x.0 }) b (at row) x.1
 
+    -- nothing is decided
+    silent : l.answers ≡ l.answers ++ []
+    silent = sym (append-nil l.answers)
+
     sets : (label : Label) (run : Run) → Before (Set label run) → Goal (Set label run) (map_row r.calls p.map (at (Set label run)) (Set label run))
     sets label run before =
-        let books = before.books in
-        record {
-          heap = b.heap;
-          spans = large run ∷ b.spans;
-          said = [];
-          move = moved_by r about m p locals b books _ _ b.heap (large run ∷ b.spans) _ (SetsRun run _ refl refl (weighs_same _));
-          like_heap = books.heap;
-          like_spans = λ s. omega (arith, like-with_span (large run) p.map.spans s, books.spans s);
-          acts = refl;
-          answers = sym (append-nil l.answers);
-        }
+        leaves before.books p.heap (record p.map { spans = with_span (large run) p.map.spans }) (λ ns. ns) (SetsRun run _ refl refl (weighs_same _)) before.books.heap
+        (λ s. omega (arith, like-with_span (large run) p.map.spans s, before.books.spans s)) refl silent
 
     sets_span : (a : Asking) (run : Run) → Before (SetSpan a run) → Goal (SetSpan a run) (map_row r.calls p.map (at (SetSpan a run)) (SetSpan a run))
     sets_span a run before =
-        let books = before.books in
-        record {
-          heap = b.heap;
-          spans = small l.regs.class run ∷ b.spans;
-          said = [];
-          move = moved_by r about m p locals b books _ _ b.heap (small l.regs.class run ∷ b.spans) _ (SetsSpan run [] _ refl refl refl (weighs_same _));
-          like_heap = books.heap;
-          like_spans = λ s. omega (arith, like-with_span (small l.regs.class run) p.map.spans s, books.spans s);
-          acts = refl;
-          answers = sym (append-nil l.answers);
-        }
+        let s : SpanRef = small l.regs.class run in
+        leaves before.books p.heap (record p.map { spans = with_span s p.map.spans }) (λ ns. ns) (SetsSpan run [] _ refl refl refl (weighs_same _)) before.books.heap
+        (λ x. omega (arith, like-with_span s p.map.spans x, before.books.spans x)) refl silent
 
     -- a span that leaves the map
     left_like : (s : SpanRef) (row : MapStep R) → Before row → Contains p.map.spans s → (x : SpanRef) → spans_like x (without s b.spans) ≡ spans_like x (without_span s p.map.spans)
@@ -70,17 +53,8 @@ module _ {P V R : Type 0} (r : FrontRules P V R) (about : R → About) (planned 
 
     clears_run : (label : Label) (run : Run) → Before (Clear label run) → Contains p.map.spans (large run) → Goal (Clear label run) (map_row r.calls p.map (at (Clear label run)) (Clear label run))
     clears_run label run before there =
-        let books = before.books in
-        record {
-          heap = b.heap;
-          spans = without (large run) b.spans;
-          said = [];
-          move = moved_by r about m p locals b books _ _ b.heap (without (large run) b.spans) _ (ClearsRun label run _ refl refl refl (weighs_same _));
-          like_heap = books.heap;
-          like_spans = left_like (large run) (Clear label run) before there;
-          acts = refl;
-          answers = sym (append-nil l.answers);
-        }
+        leaves before.books p.heap (record p.map { spans = without_span (large run) p.map.spans }) (λ ns. ns) (ClearsRun label run _ refl refl refl (weighs_same _))
+        before.books.heap (left_like (large run) (Clear label run) before there) refl silent
 
     -- the first of the spans that left a shard is cleared
     abbrev with_spans : Onward R → List SpanRef → Account
@@ -89,22 +63,16 @@ module _ {P V R : Type 0} (r : FrontRules P V R) (about : R → About) (planned 
     clears_first : (next : Onward R) → Before (ClearSpan next) → (xs : List SpanRef) → l.freed.items ≡ xs → FirstIsThere p.map xs → Goal (ClearSpan next) (clears_span p.map (at (ClearSpan next)) next xs)
     clears_first next before [] is there = absurd there
     clears_first next before (s ∷ others) is there =
-        let books = before.books in
-        record {
-          heap = b.heap;
-          spans = without s b.spans;
-          said = [];
-          move = moved_by r about m p locals b books _ _ b.heap (without s b.spans) _ (ClearsSpan s others _ is refl (subst (λ (xs : List SpanRef). WeighSame (record (account_of about (at (ClearSpan next))) { mapped = others; off = run_of s ∷ [] }) (with_spans next xs)) (sym is) (subst (λ (xs : List SpanRef). WeighSame (record (bare (onward_doing about next) l.regs.class.0 l.regs.hand.items l.rest) { off = run_of s ∷ []; apart = xs; mapped = others }) (with_spans next (s ∷ others))) (sym is) (weighs_same _))));
-          like_heap = books.heap;
-          like_spans = left_like s (ClearSpan next) before there;
-          acts = refl;
-          answers = sym (append-nil l.answers);
-        }
+        let own : List SpanRef → Account = λ xs. record (account_of about (at (ClearSpan next))) { off = run_of s ∷ []; apart = xs; mapped = others } in
+        leaves before.books p.heap (record p.map { spans = without_span s p.map.spans }) (λ ns. ns)
+        (ClearsSpan s others _ is refl (subst (λ (xs : List SpanRef). WeighSame (own l.freed.items) (with_spans next xs)) (sym is)
+        (subst (λ (xs : List SpanRef). WeighSame (own xs) (with_spans next (s ∷ others))) (sym is) (weighs_same _))))
+        before.books.heap (left_like s (ClearSpan next) before there) refl silent
 
     -- Lookup: an object's span, and a large block's, which begins at the address
     starts : (label : Label) (addr : Addr) (span : SpanRef) → Before (Lookup label addr) → Contains p.map.spans span → holds (addr.0 / page_bytes) span ≡ true → span.kind ≡ Large → addr ≡ address_of (run_of span)
     starts label addr span before there held kind =
-        let f : Found m b addr = frees_find m b calls t (account_of about (at (Lookup label addr))) label addr before.facts (account_at p locals b t (at (Lookup label addr)) before.books before.local) refl refl in
+        let f : Found m b addr = frees_find m b calls t (account_of about (at (Lookup label addr))) label addr before.facts (account_at t before.books before.local) refl refl in
         let at_map : Contains p.map.spans f.span = span_there f.span p.map.spans (omega (arith, f.there, before.books.spans f.span)) in
         let same : f.span ≡ span = only_holder (addr.0 / page_bytes) p.map.spans span f.span before.parts.map.apart there at_map held f.holds in
         elim f.is [
@@ -114,42 +82,25 @@ module _ {P V R : Type 0} (r : FrontRules P V R) (about : R → About) (planned 
 
     finds : (label : Label) (addr : Addr) (span : SpanRef) → Before (Lookup label addr) → Contains p.map.spans span → holds (addr.0 / page_bytes) span ≡ true → (kind : SpanKind) → span.kind ≡ kind → Goal (Lookup label addr) (p.map, found r.calls (at (Lookup label addr)) label addr span kind)
     finds label addr span before there held (Small k) is =
-        let books = before.books in
         let none : l.regs.hand.items ≡ [] = before.shaped.step.hand in
         let f : Freeing = record { label = label; addr = addr } in
-        let hand : Contents Addr = appended l.regs.hand (addr ∷ []) in
-        let found : Regs = record l.regs { class = k; hand = hand } in
+        let found : Regs = record l.regs { class = k; hand = appended l.regs.hand (addr ∷ []) } in
         let g : Regs = r.calls.to_free found in
         let kept = entries.to_free found in
         let now : ℕ → List Addr → Account = λ j h. bare (Frees label addr) j h l.rest in
         let account = entry_is about (with_regs (at (Lookup label addr)) g) (does.Shard (shard.Give (giving.Freed f))) (calls_are.Frees f) (r.calls.free l.seat f) (entries.free_about l.seat f) refl
         ∙ (ap (λ (c : Class). now c.0 g.hand.items) kept.class ∙ (ap (λ (h : Contents Addr). now k.0 h.items) kept.hand ∙ ap (λ (h : List Addr). now k.0 (h ++ addr ∷ [])) none)) in
-        record {
-          heap = b.heap;
-          spans = b.spans;
-          said = [];
-          move = moved_by r about m p locals b books _ _ b.heap b.spans _ (FindsObject label addr span k.0 _ refl none refl refl (omega (arith, span_counted span p.map.spans there, books.spans span)) held is (weighs_is (now k.0 (addr ∷ [])) _ account));
-          like_heap = books.heap;
-          like_spans = books.spans;
-          acts = refl;
-          answers = sym (append-nil l.answers);
-        }
+        leaves before.books p.heap p.map (λ ns. ns)
+        (FindsObject label addr span k.0 _ refl none refl refl (omega (arith, span_counted span p.map.spans there, before.books.spans span)) held is
+        (weighs_is (now k.0 (addr ∷ [])) _ account)) before.books.heap before.books.spans refl silent
     finds label addr span before there held Large is =
-        let books = before.books in
         let x : Run = run_of span in
         let begins : addr ≡ address_of x = starts label addr span before there held is in
-        let counted : 0 < spans_like (large x) b.spans = omega (arith, ap (λ (s : SpanRef). spans_like s b.spans) (is_large span is), span_counted span p.map.spans there, books.spans span) in
+        let counted : 0 < spans_like (large x) b.spans = omega (arith, ap (λ (s : SpanRef). spans_like s b.spans) (is_large span is), span_counted span p.map.spans there, before.books.spans span) in
         let after : Addr → Account = λ o. record (bare (Holds label o) l.regs.class.0 l.regs.hand.items l.rest) { clears = large x ∷ [] } in
-        record {
-          heap = b.heap;
-          spans = b.spans;
-          said = [];
-          move = moved_by r about m p locals b books _ _ b.heap b.spans _ (FindsRun label x _ (ap (Holds label) begins) counted refl (weighs_is (after addr) (after (address_of x)) (ap after (sym begins))));
-          like_heap = books.heap;
-          like_spans = books.spans;
-          acts = refl;
-          answers = sym (append-nil l.answers);
-        }
+        leaves before.books p.heap p.map (λ ns. ns)
+        (FindsRun label x _ (ap (Holds label) begins) counted refl (weighs_is (after addr) (after (address_of x)) (ap after (sym begins))))
+        before.books.heap before.books.spans refl silent
 
     looks_up : (label : Label) (addr : Addr) → Before (Lookup label addr) → (o : Option SpanRef) → find (holds (addr.0 / page_bytes)) p.map.spans ≡ o → FitsMap p.map (at (Lookup label addr)) (Lookup label addr) → Goal (Lookup label addr) (p.map, after_lookup r.calls (at (Lookup label addr)) label addr o)
     looks_up label addr before None is fits = let wrong : None ≡ Some fits.0 = sym is ∙ fits.1 in absurd (cc)

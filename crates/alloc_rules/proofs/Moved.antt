@@ -1,19 +1,31 @@
 -- A move over the books of the parts.
-use Rattle.std.proofs.Common.{◌≡◌, ℕ, ◌*◌, true, false, List, length, None, refl, sym, ap, ◌∙◌, subst, inl, inr, find, is_some}
+use Rattle.std.proofs.Common.{◌≡◌, ℕ, ◌+◌, ◌++◌, ◌*◌, true, false, List, length, None, refl, sym, ap, ◌∙◌, subst, inl, inr, find, is_some}
 use Rattle.alloc_rules.proofs.Common.{position_or_len, cases_lt, lt-ltb, slice_get_past, page_bytes, pages_holding, class_of, length_by, length_of, Run}
-use Rattle.alloc_rules.proofs.Common.{SpanRef, ClassRow, NameState, Account, Setup, Stock, Books, Said, Move, Parts, stock_of, AreBooksOf, Local, About}
-use Rattle.alloc_rules.proofs.Common.{FrontRules}
+use Rattle.alloc_rules.proofs.Common.{SpanRef, ClassRow, NameState, Setup, Stock, Books, Said, Move, Parts, AreBooksOf, About}
+use Rattle.alloc_rules.proofs.Common.{FrontRules, SpanMap, Local, Does, account_of, decided_at, runs_like, spans_like}
 use Rattle.std.proofs.lemmas.List.Folds.{find_at}
+use Rattle.heap_rules.specs.Heap as heaps
 use Rattle.tc_units.specs.Classes.{serves}
 
--- where the stock stays, and names are changed so
-pub moved_names : {P V R : Type 0} (r : FrontRules P V R) (about : R → About) (m : Setup) (p : Parts P) (locals : List (Local V R)) (b : Books) → AreBooksOf r about p locals b → (f : List NameState → List NameState) (a after : Account) (heap : List Run) (spans : List SpanRef) (said : List Said) → Move m b a b.stock heap spans (f b.names) after said → Move m b a (stock_of r about p) heap spans (f p.names) after said
-moved_names r about m p locals b books f a after heap spans said move =
-    subst (λ (g : Stock). Move m b a g heap spans (f p.names) after said) books.stock (subst (λ (ns : List NameState). Move m b a b.stock heap spans (f ns) after said) books.names move)
-
--- where the names stay too
-pub moved_by : {P V R : Type 0} (r : FrontRules P V R) (about : R → About) (m : Setup) (p : Parts P) (locals : List (Local V R)) (b : Books) → AreBooksOf r about p locals b → (a after : Account) (heap : List Run) (spans : List SpanRef) (said : List Said) → Move m b a b.stock heap spans b.names after said → Move m b a (stock_of r about p) heap spans p.names after said
-moved_by r about m p locals b books a after heap spans said move = moved_names r about m p locals b books (λ ns. ns) a after heap spans said move
+-- An act that leaves the stock, and changes the names so: a move to other runs and spans.
+pub leaves : {P V R : Type 0} {r : FrontRules P V R} {about : R → About} {m : Setup} {p : Parts P} {locals : List (Local V R)} {b : Books} {heap : List Run}
+    {spans : List SpanRef} {said : List Said} {l after : Local V R} → AreBooksOf r about p locals b → (h : heaps.Heap) (x : SpanMap) (f : List NameState → List NameState)
+    → Move m b (account_of about l) b.stock heap spans (f b.names) (account_of about after) said → ((q : Run) → runs_like q heap ≡ runs_like q h.runs)
+    → ((s : SpanRef) → spans_like s spans ≡ spans_like s x.spans) → after.acts ≡ l.acts + 1 → after.answers ≡ l.answers ++ decided_at l.acts said
+    → Does r about m (record p { heap = h; map = x; names = f p.names }) b l after
+leaves {about = about} {m = m} {p = p} {b = b} {heap = heap} {spans = spans} {said = said} {l = l} {after = after} books h x f move like_heap like_spans acts answers =
+    record {
+      heap = heap;
+      spans = spans;
+      said = said;
+      move =
+          subst (λ (g : Stock). Move m b (account_of about l) g heap spans (f p.names) (account_of about after) said) books.stock
+          (subst (λ (ns : List NameState). Move m b (account_of about l) b.stock heap spans (f ns) (account_of about after) said) books.names move);
+      like_heap = like_heap;
+      like_spans = like_spans;
+      acts = acts;
+      answers = answers;
+    }
 
 -- no row serves a request without a class, so its block has whole pages
 pub no_row : (rows : List ClassRow) (size : ℕ) → is_some (class_of rows size) ≡ false → find (serves size) rows ≡ None

@@ -1,5 +1,5 @@
 -- What the acts at the names do to the books.
-use Rattle.std.proofs.Common.{◌≡◌, ℕ, false, List, [], ◌∷◌, Option, Some, None, refl, sym, ap, ◌∙◌, subst, slice_set}
+use Rattle.std.proofs.Common.{◌≡◌, ℕ, false, List, Option, Some, None, refl, sym, ap, ◌∙◌, subst, slice_set}
 use Rattle.alloc_rules.proofs.Common.{false≢true, append-nil, Addr, Label, Free, FreedNull, CallLine, NameState, state_of, HeapConfig, is_unpublished, Setup}
 use Rattle.alloc_rules.proofs.Common.{Books, TakesNull, TakesAddr, NamesStep, decided, Local, names_row, after_take, waits_row, FitsNames, Planned, About}
 use Rattle.alloc_rules.proofs.Common.{AreEntries, FrontRules, Parts, Does, setup, IsBefore, NamesActsMove}
@@ -7,7 +7,7 @@ use Rattle.call_steps.specs.declared.step.NamesStep.TheVariants.{Publish, Take}
 use Rattle.holdings.specs.Moves.{Names}
 use Rattle.name_table.specs.declared.table.NameState.TheVariants as name
 use Rattle.call_steps.specs.declared.step.Step.TheVariants as does
-use Rattle.alloc_rules.proofs.{Moved.moved_names, Onwards.weighs_end, Weighing.ends_counts, Weighing.weighs_same}
+use Rattle.alloc_rules.proofs.{Moved.leaves, Onwards.weighs_end, Weighing.ends_counts, Weighing.weighs_same}
 
 module _ {P V R : Type 0} (r : FrontRules P V R) (about : R → About) (planned : Planned → Type 0) (entries : AreEntries r.calls about) where
   module _ (huge labels : ℕ) (limits : HeapConfig) (p : Parts P) (locals : List (Local V R)) (b : Books) (calls : List CallLine) (t : ℕ) (l : Local V R) where
@@ -28,46 +28,23 @@ module _ {P V R : Type 0} (r : FrontRules P V R) (about : R → About) (planned 
 
     publishes : (label : Label) (value : Option Addr) → Before (Publish label value) → state_of p.names label.0 ≡ name.Unpublished → Goal (Publish label value) (names_row r.calls p.names (at (Publish label value)) (Publish label value))
     publishes label value before state =
-        let books = before.books in
-        record {
-          heap = b.heap;
-          spans = b.spans;
-          said = [];
-          move = moved_names r about m p locals b books (λ ns. slice_set ns label.0 (name.Published value)) _ _ b.heap b.spans _ (Names label value _ refl refl refl (state_in label (Publish label value) before name.Unpublished state) (weighs_end r.calls about entries (at (Publish label value)) before.shaped.step.hand));
-          like_heap = books.heap;
-          like_spans = books.spans;
-          acts = (ends_counts r.calls (at (Publish label value))).0;
-          answers = (ends_counts r.calls (at (Publish label value))).1 ∙ sym (append-nil l.answers);
-        }
+        let x : Local V R = at (Publish label value) in
+        leaves before.books p.heap p.map (λ ns. slice_set ns label.0 (name.Published value))
+        (Names label value _ refl refl refl (state_in label (Publish label value) before name.Unpublished state) (weighs_end r.calls about entries x before.shaped.step.hand))
+        before.books.heap before.books.spans (ends_counts r.calls x).0 ((ends_counts r.calls x).1 ∙ sym (append-nil l.answers))
 
     takes : (label : Label) → Before (Take label) → FitsNames p.names (Take label) → is_unpublished (state_of p.names label.0) ≡ false → (s : NameState) → state_of p.names label.0 ≡ s → Goal (Take label) (after_take r.calls p.names (at (Take label)) label s)
     takes label before fits out name.Unpublished is = absurd (false≢true (sym out ∙ ap is_unpublished is))
     takes label before fits out name.Taken is = absurd (fits.1 is)
     takes label before fits out (name.Published None) is =
-        let books = before.books in
         let l' : Local V R = decided (at (Take label)) (Free label) FreedNull in
-        record {
-          heap = b.heap;
-          spans = b.spans;
-          said = record { call = Free label; answer = FreedNull } ∷ [];
-          move = moved_names r about m p locals b books (λ ns. slice_set ns label.0 name.Taken) _ _ b.heap b.spans _ (TakesNull label _ refl (state_in label (Take label) before (name.Published None) is) (weighs_end r.calls about entries l' before.shaped.step.hand));
-          like_heap = books.heap;
-          like_spans = books.spans;
-          acts = (ends_counts r.calls l').0;
-          answers = (ends_counts r.calls l').1;
-        }
+        leaves before.books p.heap p.map (λ ns. slice_set ns label.0 name.Taken)
+        (TakesNull label _ refl (state_in label (Take label) before (name.Published None) is) (weighs_end r.calls about entries l' before.shaped.step.hand))
+        before.books.heap before.books.spans (ends_counts r.calls l').0 (ends_counts r.calls l').1
     takes label before fits out (name.Published (Some addr)) is =
-        let books = before.books in
-        record {
-          heap = b.heap;
-          spans = b.spans;
-          said = [];
-          move = moved_names r about m p locals b books (λ ns. slice_set ns label.0 name.Taken) _ _ b.heap b.spans _ (TakesAddr label addr _ refl (state_in label (Take label) before (name.Published (Some addr)) is) (weighs_same _));
-          like_heap = books.heap;
-          like_spans = books.spans;
-          acts = refl;
-          answers = sym (append-nil l.answers);
-        }
+        leaves before.books p.heap p.map (λ ns. slice_set ns label.0 name.Taken)
+        (TakesAddr label addr _ refl (state_in label (Take label) before (name.Published (Some addr)) is) (weighs_same _))
+        before.books.heap before.books.spans refl (sym (append-nil l.answers))
 
     by_row : (row : NamesStep) → Before row → FitsNames p.names row → waits_row p.names row ≡ false → Goal row (names_row r.calls p.names (at row) row)
     by_row (Publish label value) before fits out = publishes label value before fits.1

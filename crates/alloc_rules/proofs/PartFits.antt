@@ -14,7 +14,7 @@ use Rattle.call_steps.specs.declared.step.HeapStep.TheVariants as heap
 use Rattle.call_steps.specs.declared.step.MapStep.TheVariants as map
 use Rattle.call_steps.specs.declared.step.NamesStep.TheVariants as names
 use Rattle.call_steps.specs.declared.step.Step.TheVariants as does
-use Rattle.alloc_rules.proofs.{MapMoves.account_at, Moved.no_row, Published.within}
+use Rattle.alloc_rules.proofs.{Freeing.account_at, Moved.no_row, Published.within}
 use Rattle.alloc_rules.proofs.Likes.{counted_there, span_counted, span_there}
 use Rattle.alloc_rules.proofs.Lists.{find_only, holds_parts, only_holder}
 
@@ -48,7 +48,7 @@ module _ {P V R : Type 0} (r : FrontRules P V R) (about : R → About) (planned 
     Before s = IsBefore r about planned huge labels limits p locals b calls t (at s)
 
     mine : (s : Step R) → Before s → slice_get b.accounts t ≡ Some (account_of about (at s))
-    mine s before = account_at r about planned entries p locals b t (at s) before.books before.local
+    mine s before = account_at t before.books before.local
 
     -- a run that is held off the map
     off : (s : Step R) (before : Before s) (x : Run) → 0 < runs_like x (account_of about (at s)).off → IsOff m b x

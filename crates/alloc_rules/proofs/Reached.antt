@@ -1,16 +1,16 @@
 -- The part that a thread wants is there, its act fits, and what it leaves keeps all that holds.
 use Rattle.std.proofs.Common.{◌≡◌, ℕ, zero, suc, ◌+◌, ◌<◌, ◌≤◌, false, List, [], ◌∷◌, length, map, Some, refl, sym, ap, ◌∙◌, subst, arith, option_map}
 use Rattle.std.proofs.Common.{slice_get, slice_set}
-use Rattle.alloc_rules.proofs.Common.{Planned, PartNo, MOST_PICKS, Asked, world_of, with_pair, AreOfPicks, Regs, Books, Facts, Step, ShardStep, HeapStep}
-use Rattle.alloc_rules.proofs.Common.{MapStep, NamesStep, Local, Decided, About, target_at, shard_row, heap_row, map_row, names_row, shard_after, heap_after}
+use Rattle.alloc_rules.proofs.Common.{Planned, PartNo, Asked, world_of, with_pair, Regs, Books, Step, ShardStep, HeapStep}
+use Rattle.alloc_rules.proofs.Common.{MapStep, NamesStep, Local, About, target_at, shard_row, heap_row, map_row, names_row, shard_after, heap_after}
 use Rattle.alloc_rules.proofs.Common.{map_after, names_after, waits_for, front_row, front_after, Part, Front, Heap, Map, Names, number_of, Parts, parts_of}
-use Rattle.alloc_rules.proofs.Common.{after, waits, Standing, standing_of, FitsAt, IsLawful, FrontRules, AreBooksOf, Fits, fits_step, FitsShardStep}
-use Rattle.alloc_rules.proofs.Common.{FitsHeapStep, FitsMapStep, FitsNamesStep, FitsFrontStep, IsValid, calls, setup_of}
+use Rattle.alloc_rules.proofs.Common.{after, waits, Standing, standing_of, FitsAt, IsLawful, FrontRules, Fits, fits_step, FitsShardStep}
+use Rattle.alloc_rules.proofs.Common.{FitsHeapStep, FitsMapStep, FitsNamesStep, FitsFrontStep, IsValid}
 use Rattle.alloc_rules.specs.declared.part.Part.TheVariants.{Shard}
 use Rattle.class_shard.specs.Shard as shards
 use Rattle.call_steps.specs.declared.step.Step.TheVariants as does
 use Rattle.alloc_rules.proofs.Numbers.{front_number, get_front, get_heap, get_map, get_names, get_shard, set_front, set_heap, set_map, set_names, set_shard}
-use Rattle.alloc_rules.proofs.Serving.{ArePlaced, IsActed, IsAtWork}
+use Rattle.alloc_rules.proofs.Serving.{IsActed, Moment}
 use Rattle.alloc_rules.proofs.Steps.{acts_few, acts_low, front_acted, heap_acted, heap_fit, map_acted, map_fit, names_acted, names_fit, ready_row}
 use Rattle.alloc_rules.proofs.Steps.{shard_acted, shard_fit, stands_row}
 
@@ -19,13 +19,14 @@ there_is [] i low = absurd (omega arith)
 there_is (x ∷ xs) zero low = (x, refl)
 there_is (x ∷ xs) (suc i) low = there_is xs i (omega arith)
 
-module _ {P V R : Type 0} (r : FrontRules P V R) (about : R → About) (planned : Planned → Type 0) (Holds : ℕ → List P → List (Standing V R) → Type 0) (fits : P → V → Regs → R → Type 0) (law : IsLawful r about planned Holds fits) (asked : Asked) (valid : IsValid r.calls.rows planned asked) (p : Parts P) (locals : List (Local V R)) (b : Books) (order : List ℕ) (t : ℕ) (l : Local V R)
-    (placed : ArePlaced r asked p) (books : AreBooksOf r about p locals b) (facts : Facts (setup_of r asked) b (calls locals order)) (front : Holds (length order) p.fronts (map standing_of locals)) (works : (u : ℕ) (k : Local V R) → slice_get locals u ≡ Some k → IsAtWork r about planned Holds asked p.names order u k) (of : AreOfPicks (λ (x : Local V R). x.answers) (λ (d : Decided). d.act) locals order) (local : slice_get locals t ≡ Some l) (few : length order ≤ MOST_PICKS) where
+module _ {P V R : Type 0} {r : FrontRules P V R} {about : R → About} {planned : Planned → Type 0} {Holds : ℕ → List P → List (Standing V R) → Type 0}
+    {fits : P → V → Regs → R → Type 0} (law : IsLawful r about planned Holds fits) {asked : Asked} (valid : IsValid r.calls.rows planned asked)
+    {p : Parts P} {locals : List (Local V R)} {b : Books} {order : List ℕ} {t : ℕ} {l : Local V R} (now : Moment r about planned Holds asked p locals b order t l) where
   -- the act at part i leaves other parts and another local, in which all holds
   pub record Goes (i : ℕ) (part : Part P) : Type 0 where
     pub parts : Parts P
     pub left : Local V R
-    pub acted : IsActed r about planned Holds asked law.entries p locals b order t l books facts works of local parts left
+    pub acted : IsActed now parts left
     pub is : with_pair (world_of (parts_of r.split p) locals) i t (after r about part l) ≡ world_of (parts_of r.split parts) (slice_set locals t left)
 
   pub record Reached (i : ℕ) : Type 0 where
@@ -35,14 +36,14 @@ module _ {P V R : Type 0} (r : FrontRules P V R) (about : R → About) (planned 
     pub goes : waits part l ≡ false → Goes i part
 
   fits_by : (part : Part P) → fits_step r.calls.rows fits part l → Fits r.calls.rows fits part l
-  fits_by part step = record { step = step; few = acts_low r about planned Holds fits law asked valid p locals b order t l placed books facts front works of local few }
+  fits_by part step = record { step = step; few = acts_low law valid now }
 
   split_few : r.split ≤ length p.fronts
-  split_few = omega (arith, law.split, placed.fronts)
+  split_few = omega (arith, law.split, now.placed.fronts)
 
   -- with so many classes as the parts have
   classes_are : length p.shards ≡ length r.calls.rows
-  classes_are = placed.ok.classes
+  classes_are = now.placed.ok.classes
 
   -- the parts alone with one of them replaced
   left_by : (ps : List (Part P)) (new : Parts P) (k : Local V R) → ps ≡ parts_of r.split new → record { parts = ps; locals = slice_set locals t k } ≡ world_of (parts_of r.split new) (slice_set locals t k)
@@ -53,8 +54,8 @@ module _ {P V R : Type 0} (r : FrontRules P V R) (about : R → About) (planned 
       let i : ℕ = r.place l.seat l.regs row in
       let n : ℕ = front_number r.split (length p.shards) i in
       let q0 : FitsAt r fits p.fronts l.seat l.regs row =
-      law.ready (length order) p.fronts (map standing_of locals) t l.seat l.regs l.acts row few (acts_few r about planned Holds fits law asked valid p locals b order t l placed books facts front works of local few) front
-      (stands_row r about planned Holds fits law asked valid p locals b order t l placed books facts front works of local few row step) (ready_row r about planned Holds fits law asked valid p locals b order t l placed books facts front works of local few row step) in
+      law.ready (length order) p.fronts (map standing_of locals) t l.seat l.regs l.acts row now.few (acts_few law valid now) now.front
+      (stands_row law valid now row step) (ready_row law valid now row step) in
       let q : P = q0.part in
       subst Reached (ap (λ (k : ℕ). front_number r.split k i) classes_are) (record {
         part = Front q;
@@ -63,7 +64,7 @@ module _ {P V R : Type 0} (r : FrontRules P V R) (about : R → About) (planned 
         goes = λ goes. record {
           parts = _;
           left = (front_row r about q l row).1;
-          acted = front_acted r about planned Holds fits law asked valid p locals b order t l placed books facts front works of local few row q step q0.there;
+          acted = front_acted law valid now row q step q0.there;
           is = ap (λ (s : Step R). with_pair (world_of (parts_of r.split p) locals) n t (Front (front_after r about q l s).0, (front_after r about q l s).1)) step
               ∙ left_by (slice_set (parts_of r.split p) n (Front (front_row r about q l row).0)) (record p { fronts = slice_set p.fronts i (front_row r about q l row).0 }) (front_row r about q l row).1 (set_front r.split p split_few i (front_row r about q l row).0);
         };
@@ -72,17 +73,17 @@ module _ {P V R : Type 0} (r : FrontRules P V R) (about : R → About) (planned 
   shard_reached : (row : ShardStep R) → l.step ≡ does.Shard row → Reached (r.split + l.regs.class.0)
   shard_reached row step =
       let k : ℕ = l.regs.class.0 in
-      let low : k < length p.shards = omega (arith, classes_are, (works t l local).shaped.class) in
+      let low : k < length p.shards = omega (arith, classes_are, (now.works t l now.local).shaped.class) in
       let found = there_is p.shards k low in
       let x : shards.Shard = found.0 in
       record {
         part = Shard x;
         there = get_shard r.split p split_few k low ∙ ap (option_map Shard) found.1;
-        fit = fits_by (Shard x) (subst (FitsShardStep r.calls.rows x l) (sym step) (shard_fit r about planned Holds fits law asked valid p locals b order t l placed books facts front works of local few row x step found.1));
+        fit = fits_by (Shard x) (subst (FitsShardStep r.calls.rows x l) (sym step) (shard_fit law valid now row x step found.1));
         goes = λ goes. record {
           parts = _;
           left = (shard_row r.calls x l row).1;
-          acted = shard_acted r about planned Holds fits law asked valid p locals b order t l placed books facts front works of local few row x step found.1;
+          acted = shard_acted law valid now row x step found.1;
           is = ap (λ (s : Step R). with_pair (world_of (parts_of r.split p) locals) (r.split + k) t (Shard (shard_after r.calls x l s).0, (shard_after r.calls x l s).1)) step
               ∙ left_by (slice_set (parts_of r.split p) (r.split + k) (Shard (shard_row r.calls x l row).0)) (record p { shards = slice_set p.shards k (shard_row r.calls x l row).0 }) (shard_row r.calls x l row).1 (set_shard r.split p split_few k (shard_row r.calls x l row).0 low);
         };
@@ -94,11 +95,11 @@ module _ {P V R : Type 0} (r : FrontRules P V R) (about : R → About) (planned 
       subst Reached (ap (λ (n : ℕ). r.split + n) classes_are) (record {
         part = Heap p.heap;
         there = get_heap r.split p split_few;
-        fit = fits_by (Heap p.heap) (subst (FitsHeapStep r.calls.rows p.heap l) (sym step) (heap_fit r about planned Holds fits law asked valid p locals b order t l placed books facts front works of local few row step));
+        fit = fits_by (Heap p.heap) (subst (FitsHeapStep r.calls.rows p.heap l) (sym step) (heap_fit law valid now row step));
         goes = λ goes. record {
           parts = _;
           left = (heap_row r.calls p.heap l row).1;
-          acted = heap_acted r about planned Holds fits law asked valid p locals b order t l placed books facts front works of local few row step;
+          acted = heap_acted law valid now row step;
           is = ap (λ (s : Step R). with_pair (world_of (parts_of r.split p) locals) i t (Heap (heap_after r.calls p.heap l s).0, (heap_after r.calls p.heap l s).1)) step
               ∙ left_by (slice_set (parts_of r.split p) i (Heap (heap_row r.calls p.heap l row).0)) (record p { heap = (heap_row r.calls p.heap l row).0 }) (heap_row r.calls p.heap l row).1 (set_heap r.split p split_few (heap_row r.calls p.heap l row).0);
         };
@@ -110,11 +111,11 @@ module _ {P V R : Type 0} (r : FrontRules P V R) (about : R → About) (planned 
       subst Reached (ap (λ (n : ℕ). r.split + n + 1) classes_are) (record {
         part = Map p.map;
         there = get_map r.split p split_few;
-        fit = fits_by (Map p.map) (subst (FitsMapStep p.map l) (sym step) (map_fit r about planned Holds fits law asked valid p locals b order t l placed books facts front works of local few row step));
+        fit = fits_by (Map p.map) (subst (FitsMapStep p.map l) (sym step) (map_fit law valid now row step));
         goes = λ goes. record {
           parts = _;
           left = (map_row r.calls p.map l row).1;
-          acted = map_acted r about planned Holds fits law asked valid p locals b order t l placed books facts front works of local few row step;
+          acted = map_acted law valid now row step;
           is = ap (λ (s : Step R). with_pair (world_of (parts_of r.split p) locals) i t (Map (map_after r.calls p.map l s).0, (map_after r.calls p.map l s).1)) step
               ∙ left_by (slice_set (parts_of r.split p) i (Map (map_row r.calls p.map l row).0)) (record p { map = (map_row r.calls p.map l row).0 }) (map_row r.calls p.map l row).1 (set_map r.split p split_few (map_row r.calls p.map l row).0);
         };
@@ -126,11 +127,11 @@ module _ {P V R : Type 0} (r : FrontRules P V R) (about : R → About) (planned 
       subst Reached (ap (λ (n : ℕ). r.split + n + 2) classes_are) (record {
         part = Names p.names;
         there = get_names r.split p split_few;
-        fit = fits_by (Names p.names) (subst (FitsNamesStep p.names) (sym step) (names_fit r about planned Holds fits law asked valid p locals b order t l placed books facts front works of local few row step));
+        fit = fits_by (Names p.names) (subst (FitsNamesStep p.names) (sym step) (names_fit law valid now row step));
         goes = λ goes. record {
           parts = _;
           left = (names_row r.calls p.names l row).1;
-          acted = names_acted r about planned Holds fits law asked valid p locals b order t l placed books facts front works of local few row step (ap (waits_for p.names) (sym step) ∙ goes);
+          acted = names_acted law valid now row step (ap (waits_for p.names) (sym step) ∙ goes);
           is = ap (λ (s : Step R). with_pair (world_of (parts_of r.split p) locals) i t (Names (names_after r.calls p.names l s).0, (names_after r.calls p.names l s).1)) step
               ∙ left_by (slice_set (parts_of r.split p) i (Names (names_row r.calls p.names l row).0)) (record p { names = (names_row r.calls p.names l row).0 }) (names_row r.calls p.names l row).1 (set_names r.split p split_few (names_row r.calls p.names l row).0);
         };

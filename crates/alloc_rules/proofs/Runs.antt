@@ -3,17 +3,28 @@ use Rattle.std.proofs.Common.{◌≡◌, ℕ, ◌≤◌, false, List, [], ◌∷
 use Rattle.alloc_rules.proofs.Common.{PartNo, MOST_PICKS, Asked, World, world_of, with_pair, run, FitsThere, IsOrder, IsKeptWith, run_keeps_with, Planned}
 use Rattle.alloc_rules.proofs.Common.{Regs, Local, About, Part, Standing, IsLawful, FrontRules, parts_of, place_of, after, waits, rules, Fits, IsValid}
 use Rattle.tc_model.specs.Sound.{IsSound}
-use Rattle.alloc_rules.proofs.{First.served_first, Reached.Reached, Reached.reached, Serving.IsServed, Serving.served}
+use Rattle.alloc_rules.proofs.{First.served_first, Reached.Reached, Reached.reached, Serving.IsServed, Serving.Moment, Serving.served}
 
-module _ {P V R : Type 0} (r : FrontRules P V R) (about : R → About) (planned : Planned → Type 0) (Holds : ℕ → List P → List (Standing V R) → Type 0) (fits : P → V → Regs → R → Type 0) (law : IsLawful r about planned Holds fits) (asked : Asked) (valid : IsValid r.calls.rows planned asked) (w : World (Part P) (Local V R)) (order : List ℕ) (few : length order ≤ MOST_PICKS) (good : IsServed r about planned Holds asked w order) (t : ℕ) (l : Local V R) (local : slice_get w.locals t ≡ Some l) (place : PartNo) (want : place_of r about l ≡ Some place) where
+module _ {P V R : Type 0} {r : FrontRules P V R} {about : R → About} {planned : Planned → Type 0} {Holds : ℕ → List P → List (Standing V R) → Type 0}
+    {fits : P → V → Regs → R → Type 0} (law : IsLawful r about planned Holds fits) {asked : Asked} (valid : IsValid r.calls.rows planned asked) (w : World (Part P) (Local V R)) (order : List ℕ) (few : length order ≤ MOST_PICKS) (good : IsServed r about planned Holds asked w order) (t : ℕ) (l : Local V R) (local : slice_get w.locals t ≡ Some l) (place : PartNo) (want : place_of r about l ≡ Some place) where
   here : slice_get good.locals t ≡ Some l
   here = ap (λ (v : World (Part P) (Local V R)). slice_get v.locals t) (sym good.is) ∙ local
 
-  abbrev Found : Type 0
-  Found = Reached r about planned Holds fits law asked valid good.parts good.locals good.books order t l good.placed good.books_of good.facts good.front good.works good.of here few place.0
+  now : Moment r about planned Holds asked good.parts good.locals good.books order t l
+  now =
+      record {
+        placed = good.placed;
+        books = good.books_of;
+        facts = good.facts;
+        front = good.front;
+        works = good.works;
+        of = good.of;
+        local = here;
+        few = few;
+      }
 
-  found : Found
-  found = reached r about planned Holds fits law asked valid good.parts good.locals good.books order t l good.placed good.books_of good.facts good.front good.works good.of here few l.step refl place want
+  found : Reached law valid now place.0
+  found = reached law valid now l.step refl place want
 
   there : slice_get w.parts place.0 ≡ Some found.part
   there = ap (λ (v : World (Part P) (Local V R)). slice_get v.parts place.0) good.is ∙ found.there
@@ -26,19 +37,20 @@ module _ {P V R : Type 0} (r : FrontRules P V R) (about : R → About) (planned 
       let same : found.part ≡ q = let e : Some found.part ≡ Some q = sym there ∙ is in cc in
       let g = found.goes (subst (λ (x : Part P). waits x l ≡ false) (sym same) goes) in
       let next : IsServed r about planned Holds asked (with_pair (world_of (parts_of r.split good.parts) good.locals) place.0 t (after r about found.part l)) (order ++ t ∷ []) =
-      served r about planned Holds asked law.entries good.parts good.locals good.books order t l good.books_of good.facts good.works good.of here g.parts g.left g.acted (with_pair (world_of (parts_of r.split good.parts) good.locals) place.0 t (after r about found.part l)) g.is good.count good.tells
+      served now law.entries g.acted (with_pair (world_of (parts_of r.split good.parts) good.locals) place.0 t (after r about found.part l)) g.is good.count good.tells
       in
       subst (λ (x : Part P). IsServed r about planned Holds asked (with_pair w place.0 t (after r about x l)) (order ++ t ∷ [])) same
       (subst (λ (v : World (Part P) (Local V R)). IsServed r about planned Holds asked (with_pair v place.0 t (after r about found.part l)) (order ++ t ∷ [])) (sym good.is) next)
 
-module _ {P V R : Type 0} (r : FrontRules P V R) (about : R → About) (planned : Planned → Type 0) (Holds : ℕ → List P → List (Standing V R) → Type 0) (fits : P → V → Regs → R → Type 0) (law : IsLawful r about planned Holds fits) (asked : Asked) (valid : IsValid r.calls.rows planned asked) where
+module _ {P V R : Type 0} {r : FrontRules P V R} {about : R → About} {planned : Planned → Type 0} {Holds : ℕ → List P → List (Standing V R) → Type 0}
+    {fits : P → V → Regs → R → Type 0} (law : IsLawful r about planned Holds fits) {asked : Asked} (valid : IsValid r.calls.rows planned asked) where
   pub served_kept : IsKeptWith MOST_PICKS (rules r about asked) (IsServed r about planned Holds asked)
-  served_kept w order t l place q few good local want there goes = goes_on r about planned Holds fits law asked valid w order (omega (arith, few)) good t l local place want q there goes
+  served_kept w order t l place q few good local want there goes = goes_on law valid w order (omega (arith, few)) good t l local place want q there goes
 
   -- after every order of picks that move
   pub served_order : (order : List ℕ) → IsOrder (rules r about asked) order → IsServed r about planned Holds asked (run (rules r about asked) order) order
-  served_order order of = run_keeps_with MOST_PICKS (rules r about asked) (IsServed r about planned Holds asked) served_kept (served_first r about planned Holds fits law asked valid) order of.few of.moves
+  served_order order of = run_keeps_with MOST_PICKS (rules r about asked) (IsServed r about planned Holds asked) served_kept (served_first law valid) order of.few of.moves
 
   -- each pair that a pick takes fits
   pub sound : IsSound (rules r about asked) (Fits r.calls.rows fits)
-  sound order t of l place local want = ready r about planned Holds fits law asked valid (run (rules r about asked) order) order of.few (served_order order of) t l local place want
+  sound order t of l place local want = ready law valid (run (rules r about asked) order) order of.few (served_order order of) t l local place want

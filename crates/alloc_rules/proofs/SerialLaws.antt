@@ -16,7 +16,8 @@ thread_below n [] below i within = absurd (omega arith)
 thread_below n (c ∷ cs) below zero within = below [] c cs refl
 thread_below n (c ∷ cs) below (suc i) within = thread_below n cs (λ earlier d later is. below (c ∷ earlier) d later (ap (λ xs. c ∷ xs) is)) i (omega arith)
 
-module _ {P V R : Type 0} (r : FrontRules P V R) (about : R → About) (planned : Planned → Type 0) (Holds : ℕ → List P → List (Standing V R) → Type 0) (fits : P → V → Regs → R → Type 0) (law : IsLawful r about planned Holds fits) (asked : Asked) (valid : IsValid r.calls.rows planned asked) where
+module _ {P V R : Type 0} {r : FrontRules P V R} {about : R → About} {planned : Planned → Type 0} {Holds : ℕ → List P → List (Standing V R) → Type 0}
+    {fits : P → V → Regs → R → Type 0} (law : IsLawful r about planned Holds fits) {asked : Asked} (valid : IsValid r.calls.rows planned asked) where
   pub are_threads : AreThreads (rules r about asked) (turns asked)
   are_threads i within =
       let n : ℕ = asked.config.threads in
@@ -30,9 +31,9 @@ module _ {P V R : Type 0} (r : FrontRules P V R) (about : R → About) (planned 
   -- the thread of the earliest call that hasn't ended moves
   pub never_waits : NeverWaits (rules r about asked) (turns asked)
   never_waits order t of =
-      let h = served_order r about planned Holds fits law asked valid order of in
+      let h = served_order law valid order of in
       let Q : World (Part P) (Local V R) → Type 0 = λ w. ((u : ℕ) → IsReady (rules r about asked) (Fits r.calls.rows fits) w u) → next_turn (done_in (rules r about asked) w) [] (turns asked) ≡ Some t → stepped (rules r about asked) w t ≡ step.Moved in
-      subst Q (sym h.is) (λ each. serial_goes r about planned Holds fits asked valid h.parts h.locals order h.placed (omega (arith, law.split, h.placed.fronts)) h.count h.works each t) (λ u. sound r about planned Holds fits law asked valid order u of)
+      subst Q (sym h.is) (λ each. serial_goes r about planned Holds fits asked valid h.parts h.locals order h.placed (omega (arith, law.split, h.placed.fronts)) h.count h.works each t) (λ u. sound law valid order u of)
 
   -- where each call has ended, each script has
   ended_by : (l : Local V R) (s : Step R) → l.step ≡ s → is_under_way s ≡ false → place_of r about l ≡ None
@@ -62,6 +63,6 @@ module _ {P V R : Type 0} (r : FrontRules P V R) (about : R → About) (planned 
 
   pub ends : Ends (rules r about asked) (turns asked)
   ends order of =
-      let h = served_order r about planned Holds fits law asked valid order of in
+      let h = served_order law valid order of in
       let Q : World (Part P) (Local V R) → Type 0 = λ w. next_turn (done_in (rules r about asked) w) [] (turns asked) ≡ None → HaveEnded (rules r about asked) w in
       subst Q (sym h.is) (all_ended h.parts h.locals order h.works)

@@ -1,14 +1,14 @@
 -- What holds of a world in every run, and what an act of a thread makes of it.
 use Rattle.std.proofs.Common.{◌≡◌, ℕ, zero, suc, ◌+◌, ◌≤◌, true, eqb, List, [], ◌∷◌, ◌++◌, length, map, Option, Some, refl, sym, ap, ◌∙◌, subst, inl, inr}
 use Rattle.std.proofs.Common.{arith, All, slice_get, slice_set}
-use Rattle.alloc_rules.proofs.Common.{append-nil, length-set, length-append, map-append, filter-append, Planned, CallLine, Asked, script_of, World, world_of}
+use Rattle.alloc_rules.proofs.Common.{MOST_PICKS, append-nil, length-set, length-append, map-append, filter-append, Planned, CallLine, Asked, script_of, World, world_of}
 use Rattle.alloc_rules.proofs.Common.{picks_of, answers_at, AreOfPicks, AreAt, AreBelow, AreRising, calls-step, picks-step, picks-push_same, picks-push_other}
 use Rattle.alloc_rules.proofs.Common.{NameState, state_of, Shard, Account, is_out, Books, Facts, Said, books_with, lines, Decided, told, Local, FrontCalls}
 use Rattle.alloc_rules.proofs.Common.{AreEntries, FrontRules, About, Part, heap_config, Parts, parts_of, HasRoom, lines_by, account_of, decided_at, stock_of}
 use Rattle.alloc_rules.proofs.Common.{ArePartsOk, AreBooksOf, Does, Standing, standing_of, IsShaped, IsIn, Path, is_under_way, calls, setup_of}
 use Rattle.holdings.proofs.Moves.{acts_keep}
 use Rattle.tc_model.proofs.Rising.{rising_push}
-use Rattle.alloc_rules.proofs.{InScripts.StayOut, InScripts.path_in, MapMoves.account_at, ScriptFacts.HasRow, Sets.each_set, Telling.others_lines}
+use Rattle.alloc_rules.proofs.{Freeing.account_at, InScripts.StayOut, InScripts.path_in, ScriptFacts.HasRow, Sets.each_set, Telling.others_lines}
 use Rattle.alloc_rules.proofs.Telling.{own_lines}
 use Rattle.alloc_rules.proofs.Published.{keeps_unpublished, said_few, stays_out}
 
@@ -82,109 +82,121 @@ stays_inside e about names names' script l stay inside =
       decided = inside.decided;
     }
 
-module _ {P V R : Type 0} (r : FrontRules P V R) (about : R → About) (planned : Planned → Type 0) (Holds : ℕ → List P → List (Standing V R) → Type 0) (asked : Asked) (entries : AreEntries r.calls about) where
-  -- An act of thread t, with the parts and the local that it leaves.
-  module _ (p : Parts P) (locals : List (Local V R)) (b : Books) (order : List ℕ) (t : ℕ) (l : Local V R) (books : AreBooksOf r about p locals b) (facts : Facts (setup_of r asked) b (calls locals order)) (works : (u : ℕ) (k : Local V R) → slice_get locals u ≡ Some k → IsAtWork r about planned Holds asked p.names order u k) (of : AreOfPicks (λ (k : Local V R). k.answers) (λ (d : Decided). d.act) locals order) (local : slice_get locals t ≡ Some l) where
-    pub record IsActed (new : Parts P) (after : Local V R) : Type 0 where
-      pub does : Does r about (setup_of r asked) new b l after
-      pub path : Path r.calls about l after
-      pub way : is_under_way l.step ≡ true
-      pub placed : ArePlaced r asked new
-      pub shaped : IsShaped r.calls.rows about planned t after
-      pub front : Holds (length order + 1) new.fronts (map standing_of (slice_set locals t after))
-      pub there : HasRow r.calls after.seat (slice_get l.rest 0)
+-- A moment at which thread t is picked: what holds of parts, threads and books behind an order.
+pub record Moment {P V R : Type 0} (r : FrontRules P V R) (about : R → About) (planned : Planned → Type 0) (Holds : ℕ → List P → List (Standing V R) → Type 0)
+    (asked : Asked) (p : Parts P) (locals : List (Local V R)) (b : Books) (order : List ℕ) (t : ℕ) (l : Local V R) : Type 0 where
+  pub placed : ArePlaced r asked p
+  pub books : AreBooksOf r about p locals b
+  pub facts : Facts (setup_of r asked) b (calls locals order)
+  pub front : Holds (length order) p.fronts (map standing_of locals)
+  pub works : (u : ℕ) (k : Local V R) → slice_get locals u ≡ Some k → IsAtWork r about planned Holds asked p.names order u k
+  pub of : AreOfPicks (λ (x : Local V R). x.answers) (λ (d : Decided). d.act) locals order
+  pub local : slice_get locals t ≡ Some l
+  pub few : length order ≤ MOST_PICKS
 
-    module _ (new : Parts P) (after : Local V R) (acted : IsActed new after) where
-      abbrev after_books : Books
-      after_books = books_with b (stock_of r about new) acted.does.heap acted.does.spans new.names t (account_of about after)
+-- An act of its thread, with the parts and the local that it leaves.
+module _ {P V R : Type 0} {r : FrontRules P V R} {about : R → About} {planned : Planned → Type 0} {Holds : ℕ → List P → List (Standing V R) → Type 0} {asked : Asked}
+    {p : Parts P} {locals : List (Local V R)} {b : Books} {order : List ℕ} {t : ℕ} {l : Local V R} (now : Moment r about planned Holds asked p locals b order t l) where
+  pub record IsActed (new : Parts P) (after : Local V R) : Type 0 where
+    pub does : Does r about (setup_of r asked) new b l after
+    pub path : Path r.calls about l after
+    pub way : is_under_way l.step ≡ true
+    pub placed : ArePlaced r asked new
+    pub shaped : IsShaped r.calls.rows about planned t after
+    pub front : Holds (length order + 1) new.fronts (map standing_of (slice_set locals t after))
+    pub there : HasRow r.calls after.seat (slice_get l.rest 0)
 
-      mine : slice_get b.accounts t ≡ Some (account_of about l)
-      mine = account_at r about planned entries p locals b t l books local
+  module _ (entries : AreEntries r.calls about) {new : Parts P} {after : Local V R} (acted : IsActed new after) where
+    abbrev after_books : Books
+    after_books = books_with b (stock_of r about new) acted.does.heap acted.does.spans new.names t (account_of about after)
 
-      -- names that are out stay so
-      out_stays : StayOut p.names new.names
-      out_stays x out = stays_out (setup_of r asked) b (calls locals order) t (account_of about l) facts mine acted.does.move x (ap (λ (ns : List NameState). is_out (state_of ns x)) books.names ∙ out)
+    mine : slice_get b.accounts t ≡ Some (account_of about l)
+    mine = account_at t now.books now.local
 
-      acts_now : after.acts ≡ picks_of t (order ++ t ∷ [])
-      acts_now = omega (arith, acted.does.acts, (works t l local).acts, picks-push_same t order)
+    -- names that are out stay so
+    out_stays : StayOut p.names new.names
+    out_stays x out = stays_out (setup_of r asked) b (calls locals order) t (account_of about l) now.facts mine acted.does.move x (ap (λ (ns : List NameState). is_out (state_of ns x)) now.books.names ∙ out)
 
-      decided_few : (n : ℕ) (said : List Said) → length (decided_at n said) ≡ length said
-      decided_few n [] = refl
-      decided_few n (s ∷ more) = ap (λ k. suc k) (decided_few n more)
+    acts_now : after.acts ≡ picks_of t (order ++ t ∷ [])
+    acts_now = omega (arith, acted.does.acts, (now.works t l now.local).acts, picks-push_same t order)
 
-      at_pick : AreAt (λ (x : Decided). x.act) (picks_of t order) (decided_at l.acts acted.does.said)
-      at_pick = subst (λ n. AreAt (λ (x : Decided). x.act) n (decided_at l.acts acted.does.said)) (works t l local).acts (all_at l.acts acted.does.said)
+    decided_few : (n : ℕ) (said : List Said) → length (decided_at n said) ≡ length said
+    decided_few n [] = refl
+    decided_few n (s ∷ more) = ap (λ k. suc k) (decided_few n more)
 
-      rises_now : AreRising (λ (x : Decided). x.act) 0 after.answers
-      rises_now =
-          let B : Option (Local V R) → Type 0 = λ o. AreBelow (λ (x : Decided). x.act) (picks_of t order) (answers_at (λ (x : Local V R). x.answers) o) in
-          let below : AreBelow (λ (x : Decided). x.act) (picks_of t order) l.answers = subst B local (of t) in
-          subst (AreRising (λ (x : Decided). x.act) 0) (sym acted.does.answers) (rising_with (λ (x : Decided). x.act) (picks_of t order) l.answers (decided_at l.acts acted.does.said) (works t l local).rising below at_pick (omega (arith, decided_few l.acts acted.does.said, said_few (setup_of r asked) b (account_of about l) acted.does.move)))
+    at_pick : AreAt (λ (x : Decided). x.act) (picks_of t order) (decided_at l.acts acted.does.said)
+    at_pick = subst (λ n. AreAt (λ (x : Decided). x.act) n (decided_at l.acts acted.does.said)) (now.works t l now.local).acts (all_at l.acts acted.does.said)
 
-      this_works : IsAtWork r about planned Holds asked new.names (order ++ t ∷ []) t after
-      this_works =
-          record {
-            shaped = acted.shaped;
-            inside = path_in r.calls about entries p.names new.names (script_of t asked.calls) l after acted.way (works t l local).inside out_stays (keeps_unpublished (setup_of r asked) b (calls locals order) t (account_of about l) facts mine acted.does.move) acted.there acted.path;
-            acts = acts_now;
-            rising = rises_now;
-          }
+    rises_now : AreRising (λ (x : Decided). x.act) 0 after.answers
+    rises_now =
+        let B : Option (Local V R) → Type 0 = λ o. AreBelow (λ (x : Decided). x.act) (picks_of t order) (answers_at (λ (x : Local V R). x.answers) o) in
+        let below : AreBelow (λ (x : Decided). x.act) (picks_of t order) l.answers = subst B now.local (now.of t) in
+        subst (AreRising (λ (x : Decided). x.act) 0) (sym acted.does.answers) (rising_with (λ (x : Decided). x.act) (picks_of t order) l.answers (decided_at l.acts acted.does.said) (now.works t l now.local).rising below at_pick (omega (arith, decided_few l.acts acted.does.said, said_few (setup_of r asked) b (account_of about l) acted.does.move)))
 
-      abbrev Works : ℕ → Local V R → Type 0
-      Works u k = IsAtWork r about planned Holds asked new.names (order ++ t ∷ []) u k
+    this_works : IsAtWork r about planned Holds asked new.names (order ++ t ∷ []) t after
+    this_works =
+        record {
+          shaped = acted.shaped;
+          inside = path_in r.calls about entries p.names new.names (script_of t asked.calls) l after acted.way (now.works t l now.local).inside out_stays (keeps_unpublished (setup_of r asked) b (calls locals order) t (account_of about l) now.facts mine acted.does.move) acted.there acted.path;
+          acts = acts_now;
+          rising = rises_now;
+        }
 
-      other_works : (u : ℕ) (k : Local V R) → (t ≡ u → ⊥) → slice_get locals u ≡ Some k → Works u k
-      other_works u k apart is =
-          let w = works u k is in
-          record {
-            shaped = w.shaped;
-            inside = stays_inside r.calls about p.names new.names (script_of u asked.calls) k out_stays w.inside;
-            acts = w.acts ∙ sym (picks-push_other u t order apart);
-            rising = w.rising;
-          }
+    abbrev Works : ℕ → Local V R → Type 0
+    Works u k = IsAtWork r about planned Holds asked new.names (order ++ t ∷ []) u k
 
-      all_work : (u : ℕ) (k : Local V R) → slice_get (slice_set locals t after) u ≡ Some k → Works u k
-      all_work = each_set Works locals t after l local this_works other_works
+    other_works : (u : ℕ) (k : Local V R) → (t ≡ u → ⊥) → slice_get locals u ≡ Some k → Works u k
+    other_works u k apart is =
+        let w = now.works u k is in
+        record {
+          shaped = w.shaped;
+          inside = stays_inside r.calls about p.names new.names (script_of u asked.calls) k out_stays w.inside;
+          acts = w.acts ∙ sym (picks-push_other u t order apart);
+          rising = w.rising;
+        }
 
-      calls_now : calls (slice_set locals t after) (order ++ t ∷ []) ≡ calls locals order ++ lines t acted.does.said
-      calls_now = calls-step (λ (k : Local V R). k.answers) (λ (x : Decided). x.act) told locals order t l after (decided_at l.acts acted.does.said) of local acted.does.answers at_pick ∙ ap (λ xs. calls locals order ++ xs) (told_lines t l.acts acted.does.said)
+    all_work : (u : ℕ) (k : Local V R) → slice_get (slice_set locals t after) u ≡ Some k → Works u k
+    all_work = each_set Works locals t after l now.local this_works other_works
 
-      -- what is told then of a thread
-      lines_now : (u : ℕ) → lines_by u (calls (slice_set locals t after) (order ++ t ∷ [])) ≡ lines_by u (calls locals order) ++ lines_by u (lines t acted.does.said)
-      lines_now u = ap (lines_by u) calls_now ∙ filter-append (λ (c : CallLine). eqb c.thread.0 u) (calls locals order) (lines t acted.does.said)
+    calls_now : calls (slice_set locals t after) (order ++ t ∷ []) ≡ calls locals order ++ lines t acted.does.said
+    calls_now = calls-step (λ (k : Local V R). k.answers) (λ (x : Decided). x.act) told locals order t l after (decided_at l.acts acted.does.said) now.of now.local acted.does.answers at_pick ∙ ap (λ xs. calls locals order ++ xs) (told_lines t l.acts acted.does.said)
 
-      this_tells : AllTell locals (calls locals order) → lines_by t (calls (slice_set locals t after) (order ++ t ∷ [])) ≡ map (told t) after.answers
-      this_tells tells =
-          let said : List Said = acted.does.said in
-          lines_now t
-          ∙ (ap (λ xs. xs ++ lines_by t (lines t said)) (tells t l local)
-          ∙ (ap (λ xs. map (told t) l.answers ++ xs) (own_lines t said ∙ sym (told_lines t l.acts said))
-          ∙ (sym (map-append (told t) l.answers (decided_at l.acts said)) ∙ ap (map (told t)) (sym acted.does.answers))))
+    -- what is told then of a thread
+    lines_now : (u : ℕ) → lines_by u (calls (slice_set locals t after) (order ++ t ∷ [])) ≡ lines_by u (calls locals order) ++ lines_by u (lines t acted.does.said)
+    lines_now u = ap (lines_by u) calls_now ∙ filter-append (λ (c : CallLine). eqb c.thread.0 u) (calls locals order) (lines t acted.does.said)
 
-      all_tell : AllTell locals (calls locals order) → AllTell (slice_set locals t after) (calls (slice_set locals t after) (order ++ t ∷ []))
-      all_tell tells =
-          each_set (λ u k. lines_by u (calls (slice_set locals t after) (order ++ t ∷ [])) ≡ map (told u) k.answers) locals t after l local (this_tells tells)
-          (λ u k apart old. lines_now u ∙ (ap (λ xs. lines_by u (calls locals order) ++ xs) (others_lines t u acted.does.said apart) ∙ (append-nil (lines_by u (calls locals order)) ∙ tells u k old)))
+    this_tells : AllTell locals (calls locals order) → lines_by t (calls (slice_set locals t after) (order ++ t ∷ [])) ≡ map (told t) after.answers
+    this_tells tells =
+        let said : List Said = acted.does.said in
+        lines_now t
+        ∙ (ap (λ xs. xs ++ lines_by t (lines t said)) (tells t l now.local)
+        ∙ (ap (λ xs. map (told t) l.answers ++ xs) (own_lines t said ∙ sym (told_lines t l.acts said))
+        ∙ (sym (map-append (told t) l.answers (decided_at l.acts said)) ∙ ap (map (told t)) (sym acted.does.answers))))
 
-      pub served : (w : World (Part P) (Local V R)) → w ≡ world_of (parts_of r.split new) (slice_set locals t after) → length locals ≡ asked.config.threads → AllTell locals (calls locals order) → IsServed r about planned Holds asked w (order ++ t ∷ [])
-      served w is count tells =
-          record {
-            parts = new;
-            locals = slice_set locals t after;
-            books = after_books;
-            is = is;
-            placed = acted.placed;
-            books_of = record {
-              stock = refl;
-              heap = acted.does.like_heap;
-              spans = acted.does.like_spans;
-              names = refl;
-              accounts = ap (λ (xs : List Account). slice_set xs t (account_of about after)) books.accounts ∙ map-set (account_of about) locals t after;
-            };
-            facts = subst (Facts (setup_of r asked) after_books) (sym calls_now) (acts_keep (setup_of r asked) b (calls locals order) t (account_of about l) (account_of about after) (stock_of r about new) acted.does.heap acted.does.spans new.names acted.does.said facts mine acted.does.move);
-            front = subst (λ (n : ℕ). Holds n new.fronts (map standing_of (slice_set locals t after))) (sym (length-append order (t ∷ []))) acted.front;
-            count = length-set locals t after ∙ count;
-            works = all_work;
-            of = picks-step (λ (k : Local V R). k.answers) (λ (x : Decided). x.act) told locals order t l after (decided_at l.acts acted.does.said) of local acted.does.answers at_pick;
-            tells = all_tell tells;
-          }
+    all_tell : AllTell locals (calls locals order) → AllTell (slice_set locals t after) (calls (slice_set locals t after) (order ++ t ∷ []))
+    all_tell tells =
+        each_set (λ u k. lines_by u (calls (slice_set locals t after) (order ++ t ∷ [])) ≡ map (told u) k.answers) locals t after l now.local (this_tells tells)
+        (λ u k apart old. lines_now u ∙ (ap (λ xs. lines_by u (calls locals order) ++ xs) (others_lines t u acted.does.said apart) ∙ (append-nil (lines_by u (calls locals order)) ∙ tells u k old)))
+
+    pub served : (w : World (Part P) (Local V R)) → w ≡ world_of (parts_of r.split new) (slice_set locals t after) → length locals ≡ asked.config.threads → AllTell locals (calls locals order) → IsServed r about planned Holds asked w (order ++ t ∷ [])
+    served w is count tells =
+        record {
+          parts = new;
+          locals = slice_set locals t after;
+          books = after_books;
+          is = is;
+          placed = acted.placed;
+          books_of = record {
+            stock = refl;
+            heap = acted.does.like_heap;
+            spans = acted.does.like_spans;
+            names = refl;
+            accounts = ap (λ (xs : List Account). slice_set xs t (account_of about after)) now.books.accounts ∙ map-set (account_of about) locals t after;
+          };
+          facts = subst (Facts (setup_of r asked) after_books) (sym calls_now) (acts_keep (setup_of r asked) b (calls locals order) t (account_of about l) (account_of about after) (stock_of r about new) acted.does.heap acted.does.spans new.names acted.does.said now.facts mine acted.does.move);
+          front = subst (λ (n : ℕ). Holds n new.fronts (map standing_of (slice_set locals t after))) (sym (length-append order (t ∷ []))) acted.front;
+          count = length-set locals t after ∙ count;
+          works = all_work;
+          of = picks-step (λ (k : Local V R). k.answers) (λ (x : Decided). x.act) told locals order t l after (decided_at l.acts acted.does.said) now.of now.local acted.does.answers at_pick;
+          tells = all_tell tells;
+        }

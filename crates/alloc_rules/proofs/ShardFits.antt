@@ -5,11 +5,11 @@ use Rattle.alloc_rules.proofs.Common.{cases_lt, cond-true, eq-eqb, get_or-map, l
 use Rattle.alloc_rules.proofs.Common.{SpanRef, CallLine, HeapConfig, SpanState, IsTakenIn, IsApartFrom, Shard, places, spans_in, objects_in_spans, found_at}
 use Rattle.alloc_rules.proofs.Common.{spans_cut, bit, small, same_span, objects_at, spans_like, Setup, Stock, Books, pages_of, IsTaken, IsMapped, least}
 use Rattle.alloc_rules.proofs.Common.{same_span_refl, all_spans, one_number, hands_are_taken, mapped_are_there, Asking, Fetch, AddFetch, Give, no_class}
-use Rattle.alloc_rules.proofs.Common.{class_row, Local, FitsBatch, FitsShard, Planned, About, account_of, mapped_of, AreEntries, FrontRules, Parts, stock_of}
+use Rattle.alloc_rules.proofs.Common.{class_row, Local, FitsBatch, FitsShard, Planned, About, account_of, mapped_of, FrontRules, Parts, stock_of}
 use Rattle.alloc_rules.proofs.Common.{no_shard, shard_at, IsShardOf, setup, IsBefore, Step, ShardStep, IsClassRow, StepShape, ShardShape, ShardActsFit}
 use Rattle.class_shard.proofs.CountedOnceDiffer.{once_differ}
 use Rattle.call_steps.specs.declared.step.Step.TheVariants as does
-use Rattle.alloc_rules.proofs.{Counting.objects_count, Freeing.own_account}
+use Rattle.alloc_rules.proofs.{Counting.objects_count, Freeing.account_at}
 
 -- an object of a list is at its address there
 objects_have : (xs : List Addr) (i : ℕ) (d : Addr) → i < length xs → 0 < objects_at (get_or xs i d).0 xs
@@ -23,8 +23,9 @@ objects_have xs i d less =
 states_have : (P : SpanRef → Type 0) (states : List SpanState) → All P (map (λ (x : SpanState). x.span) states) → All (λ (x : SpanState). P x.span) states
 states_have P states all = λ i d less. subst P (get_or-map (λ (x : SpanState). x.span) states i d d.span less) (all i d.span (omega (arith, length-map states (λ (x : SpanState). x.span), less)))
 
-module _ {P V R : Type 0} (r : FrontRules P V R) (about : R → About) (planned : Planned → Type 0) (entries : AreEntries r.calls about) where
-  module _ (huge labels : ℕ) (limits : HeapConfig) (p : Parts P) (locals : List (Local V R)) (b : Books) (calls : List CallLine) (t : ℕ) (l : Local V R) (x : Shard) (before : IsBefore r about planned huge labels limits p locals b calls t l) (at : slice_get p.shards l.regs.class.0 ≡ Some x) where
+module _ {P V R : Type 0} {r : FrontRules P V R} {about : R → About} {planned : Planned → Type 0} where
+  module _ {huge labels : ℕ} {limits : HeapConfig} {p : Parts P} {locals : List (Local V R)} {b : Books} {calls : List CallLine} {t : ℕ} {l : Local V R} {x : Shard}
+      (before : IsBefore r about planned huge labels limits p locals b calls t l) (at : slice_get p.shards l.regs.class.0 ≡ Some x) where
     abbrev m : Setup
     m = setup r huge labels
 
@@ -51,7 +52,7 @@ module _ {P V R : Type 0} (r : FrontRules P V R) (about : R → About) (planned 
         let s : SpanRef = small l.regs.class run in
         let held : spans_like s (account_of about l).mapped ≡ bit (same_span s s) + 0 = ap (λ (x : Step R). spans_like s (mapped_of l.regs.class l.freed.items x)) is in
         let same : bit (same_span s s) ≡ 1 = ap bit (same_span_refl s) in
-        mapped_are_there m b calls t (account_of about l) s before.facts (own_account r about planned huge labels limits p locals b calls t l before) (omega (arith, held, same))
+        mapped_are_there m b calls t (account_of about l) s before.facts (account_at t before.books before.local) (omega (arith, held, same))
 
     add_pages : (run : Run) → IsMapped m b (small l.regs.class run) → run.pages ≡ x.central.row.pages
     add_pages run mapped =
@@ -68,7 +69,7 @@ module _ {P V R : Type 0} (r : FrontRules P V R) (about : R → About) (planned 
 
     -- what is in hand was taken from the shard
     hand_taken : (n : ℕ) → 0 < objects_at n l.regs.hand.items → IsTaken b l.regs.class.0 n l.regs.hand.items
-    hand_taken n some = hands_are_taken m b calls t (account_of about l) n before.facts (own_account r about planned huge labels limits p locals b calls t l before) some
+    hand_taken n some = hands_are_taken m b calls t (account_of about l) n before.facts (account_at t before.books before.local) some
 
     hand_taken_in : (a : Addr) → 0 < objects_at a.0 l.regs.hand.items → IsTakenIn x.central.spans a
     hand_taken_in a some =
@@ -97,5 +98,6 @@ module _ {P V R : Type 0} (r : FrontRules P V R) (about : R → About) (planned 
           room = omega (arith, spans, shape.0.few, before.shaped.freed);
         }
 
+module _ {P V R : Type 0} (r : FrontRules P V R) (about : R → About) (planned : Planned → Type 0) where
   pub shard_acts_fit : ShardActsFit r about planned
-  shard_acts_fit huge labels limits p locals b calls t l x row before is at = fits_by huge labels limits p locals b calls t l x before at row is (subst (λ (s : Step R). StepShape r.calls.rows about l s) is before.shaped.step)
+  shard_acts_fit huge labels limits p locals b calls t l x row before is at = fits_by before at row is (subst (λ (s : Step R). StepShape r.calls.rows about l s) is before.shaped.step)

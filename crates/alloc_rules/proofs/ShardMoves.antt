@@ -19,8 +19,9 @@ use Rattle.alloc_rules.proofs.Counting.{begun_count, objects_count, spans_count}
 use Rattle.alloc_rules.proofs.Goings.{adding, carries_as, gets_first, gets_object, gives_hand, gives_spans}
 use Rattle.alloc_rules.proofs.ShardFits.{class_row_is, is_mapped, of_class, row_is, shard_acts_fit, shard_is}
 
-module _ {P V R : Type 0} (r : FrontRules P V R) (about : R → About) (planned : Planned → Type 0) (entries : AreEntries r.calls about) where
-  module _ (huge labels : ℕ) (limits : HeapConfig) (p : Parts P) (locals : List (Local V R)) (b : Books) (calls : List CallLine) (t : ℕ) (l : Local V R) (x : Shard) (before : IsBefore r about planned huge labels limits p locals b calls t l) (at : slice_get p.shards l.regs.class.0 ≡ Some x) where
+module _ {P V R : Type 0} {r : FrontRules P V R} {about : R → About} {planned : Planned → Type 0} (entries : AreEntries r.calls about) where
+  module _ {huge labels : ℕ} {limits : HeapConfig} {p : Parts P} {locals : List (Local V R)} {b : Books} {calls : List CallLine} {t : ℕ} {l : Local V R} {x : Shard}
+      (before : IsBefore r about planned huge labels limits p locals b calls t l) (at : slice_get p.shards l.regs.class.0 ≡ Some x) where
     abbrev m : Setup
     m = setup r huge labels
 
@@ -34,13 +35,13 @@ module _ {P V R : Type 0} (r : FrontRules P V R) (about : R → About) (planned 
     with_shard new = with_stores p p.fronts (shards_with new)
 
     of_x : IsShardOf m.rows l.regs.class.0 x
-    of_x = of_class r about planned entries huge labels limits p locals b calls t l x before at
+    of_x = of_class before at
 
     is_x : shard_at p.shards l.regs.class.0 ≡ x
-    is_x = shard_is r about planned entries huge labels limits p locals b calls t l x before at
+    is_x = shard_is before at
 
     row_x : class_row m.rows l ≡ x.central.row
-    row_x = row_is r about planned entries huge labels limits p locals b calls t l x before at
+    row_x = row_is before at
 
     -- a shard of the same class and row
     same_of : (new : Shard) → IsSame x new → ((s : SpanRef) → 0 < spans_like s (spans_in new) → s.kind ≡ Small (class_number l.regs.class.0)) → IsShardOf m.rows l.regs.class.0 new
@@ -105,7 +106,7 @@ module _ {P V R : Type 0} (r : FrontRules P V R) (about : R → About) (planned 
 
     -- Fetch
     some_batch : 0 < (class_row m.rows l).batch
-    some_batch = (class_row_is r about planned entries huge labels limits p locals b calls t l x before at).batch
+    some_batch = (class_row_is before at).batch
 
     abbrev list_of : List Addr
     list_of = fetched (class_row m.rows l).batch x
@@ -160,14 +161,14 @@ module _ {P V R : Type 0} (r : FrontRules P V R) (about : R → About) (planned 
 
       is_low : run.first.0 < 2 ^ 32
       is_low =
-          let there = (is_mapped r about planned entries huge labels limits p locals b calls t l x before at asking run is).there in
+          let there = (is_mapped before at asking run is).there in
           let inside = span_all (IsInside p.map.huge) span p.map.spans before.parts.map.inside (omega (arith, there, before.books.spans span)) in
           omega (arith, inside.to, inside.some, before.parts.map.few)
 
       is_added : IsAdded (class_row m.rows l).batch x span
       is_added =
-          let fit : FitsAdd m.rows x l run = (shard_acts_fit r about planned entries huge labels limits p locals b calls t l x (AddFetch asking run) before is at).0 in
-          let row = class_row_is r about planned entries huge labels limits p locals b calls t l x before at in
+          let fit : FitsAdd m.rows x l run = (shard_acts_fit r about planned huge labels limits p locals b calls t l x (AddFetch asking run) before is at).0 in
+          let row = class_row_is before at in
           let size : (class_row m.rows l).size ≡ x.central.row.size = ap (λ (r : ClassRow). r.size) row_x in
           let pages : (class_row m.rows l).pages ≡ x.central.row.pages = ap (λ (r : ClassRow). r.pages) row_x in
           add_moves (class_row m.rows l).batch x span some_batch of_x.sound fit.pages is_low (omega (arith, size, row.small)) (omega (arith, pages, row.most, fit.pages)) fit.apart
@@ -227,7 +228,7 @@ module _ {P V R : Type 0} (r : FrontRules P V R) (about : R → About) (planned 
 
       is_given : IsGiven l.regs.hand.items x
       is_given =
-          let fit : FitsGive x l = shard_acts_fit r about planned entries huge labels limits p locals b calls t l x (Give g) before is at in
+          let fit : FitsGive x l = shard_acts_fit r about planned huge labels limits p locals b calls t l x (Give g) before is at in
           give_moves l.regs.hand.items x of_x.sound fit.taken fit.different
 
       spans_less : (s : SpanRef) → spans_like s (spans_in given) + spans_like s freed ≡ spans_like s (spans_in x)
@@ -285,4 +286,4 @@ module _ {P V R : Type 0} (r : FrontRules P V R) (about : R → About) (planned 
   pub shard_acts_move : ShardActsMove r about planned
   shard_acts_move huge labels limits p locals b calls t l x row before is at =
       subst (λ (s : Step R). Does r about (setup r huge labels) (with_stores p p.fronts (slice_set p.shards l.regs.class.0 (shard_row r.calls x (record l { step = s }) row).0)) b (record l { step = s }) (shard_row r.calls x (record l { step = s }) row).1) (sym is)
-      (shard_does huge labels limits p locals b calls t l x before at row is (subst (λ (s : Step R). StepShape r.calls.rows about l s) is before.shaped.step))
+      (shard_does before at row is (subst (λ (s : Step R). StepShape r.calls.rows about l s) is before.shaped.step))

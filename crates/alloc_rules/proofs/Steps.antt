@@ -2,11 +2,11 @@
 use Rattle.std.proofs.Common.{◌≡◌, ℕ, zero, suc, ◌+◌, ◌≤◌, ◌^◌, false, eqb, List, [], ◌∷◌, length, map, Some, refl, sym, ap, ◌∙◌, subst, arith, All}
 use Rattle.std.proofs.Common.{option_map, slice_get, slice_set}
 use Rattle.alloc_rules.proofs.Common.{length-set, count_by-le-length, All-set, All-head, slice_get-map, Label, Malloc, Planned, MOST_PICKS, Asked, labels_of}
-use Rattle.alloc_rules.proofs.Common.{picks_of, AreOfPicks, Shard, SpanMap, IsWellFormed, NameState, HeapConfig, Regs, Books, Facts, of_all, Step, ShardStep}
-use Rattle.alloc_rules.proofs.Common.{HeapStep, MapStep, NamesStep, Local, Decided, About, undecided, shard_row, heap_row, map_row, names_row, waits_row}
-use Rattle.alloc_rules.proofs.Common.{front_row, FitsNames, FitsShard, FitsHeap, FitsMap, heap_config, Parts, HasRoom, IsShardOf, AreBooksOf, Here, Standing}
+use Rattle.alloc_rules.proofs.Common.{picks_of, Shard, SpanMap, IsWellFormed, NameState, HeapConfig, Regs, Books, of_all, Step, ShardStep}
+use Rattle.alloc_rules.proofs.Common.{HeapStep, MapStep, NamesStep, Local, About, undecided, shard_row, heap_row, map_row, names_row, waits_row}
+use Rattle.alloc_rules.proofs.Common.{front_row, FitsNames, FitsShard, FitsHeap, FitsMap, heap_config, Parts, HasRoom, IsShardOf, Here, Standing}
 use Rattle.alloc_rules.proofs.Common.{stand, at_step, standing_of, ShardShape, StepShape, IsAct, IsLawful, FrontRules, IsBefore, IsKept, FrontKept, AddsSome}
-use Rattle.alloc_rules.proofs.Common.{Path, is_under_way, IsValid, calls, setup_of}
+use Rattle.alloc_rules.proofs.Common.{Path, is_under_way, IsValid, calls}
 use Rattle.alloc_rules.specs.FrontLaw.{IsReady}
 use Rattle.heap_rules.specs.Heap as heaps
 use Rattle.heap_rules.specs.Sound as heaps_sound
@@ -19,7 +19,7 @@ use Rattle.alloc_rules.proofs.ActKeeps.{front_acts_keep, heap_acts_keep, map_act
 use Rattle.alloc_rules.proofs.HeapStays.{HeapStays, MapStays, heap_stays, map_stays}
 use Rattle.alloc_rules.proofs.PartFits.{found_class, heap_fits, map_fits, names_fits}
 use Rattle.alloc_rules.proofs.Paths.{front_path, heap_path, map_path, names_path, shard_path}
-use Rattle.alloc_rules.proofs.Serving.{ArePlaced, IsActed, IsAtWork}
+use Rattle.alloc_rules.proofs.Serving.{ArePlaced, IsActed, Moment}
 
 -- a fact of all of a list, where one element is replaced
 all_set : {X : Type 0} (P : X → Type 0) (xs : List X) (i : ℕ) (x : X) → All P xs → P x → All P (slice_set xs i x)
@@ -41,13 +41,15 @@ picks_few : (t : ℕ) (order : List ℕ) → picks_of t order ≤ length order
 picks_few t order = count_by-le-length (λ u. eqb u t) order
 
 -- the next of some calls has its row
-pub row_there : {P V R : Type 0} (r : FrontRules P V R) (about : R → About) (planned : Planned → Type 0) (Holds : ℕ → List P → List (Standing V R) → Type 0) (fits : P → V → Regs → R → Type 0) (law : IsLawful r about planned Holds fits) (v : V) (calls : List Planned) → All planned calls → HasRow r.calls v (slice_get calls 0)
-row_there r about planned Holds fits law v [] all = tt
-row_there r about planned Holds fits law v (p ∷ ps) all = λ own. law.other_there v p (All-head planned p ps all) own
+pub row_there : {P V R : Type 0} {r : FrontRules P V R} {about : R → About} {planned : Planned → Type 0} {Holds : ℕ → List P → List (Standing V R) → Type 0}
+    {fits : P → V → Regs → R → Type 0} (law : IsLawful r about planned Holds fits) (v : V) (calls : List Planned) → All planned calls → HasRow r.calls v (slice_get calls 0)
+row_there law v [] all = tt
+row_there {planned = planned} law v (p ∷ ps) all = λ own. law.other_there v p (All-head planned p ps all) own
 
 -- a world in which an act comes
-module _ {P V R : Type 0} (r : FrontRules P V R) (about : R → About) (planned : Planned → Type 0) (Holds : ℕ → List P → List (Standing V R) → Type 0) (fits : P → V → Regs → R → Type 0) (law : IsLawful r about planned Holds fits) (asked : Asked) (valid : IsValid r.calls.rows planned asked) (p : Parts P) (locals : List (Local V R)) (b : Books) (order : List ℕ) (t : ℕ) (l : Local V R)
-    (placed : ArePlaced r asked p) (books : AreBooksOf r about p locals b) (facts : Facts (setup_of r asked) b (calls locals order)) (front : Holds (length order) p.fronts (map standing_of locals)) (works : (u : ℕ) (k : Local V R) → slice_get locals u ≡ Some k → IsAtWork r about planned Holds asked p.names order u k) (of : AreOfPicks (λ (x : Local V R). x.answers) (λ (d : Decided). d.act) locals order) (local : slice_get locals t ≡ Some l) (few : length order ≤ MOST_PICKS) where
+module _ {P V R : Type 0} {r : FrontRules P V R} {about : R → About} {planned : Planned → Type 0} {Holds : ℕ → List P → List (Standing V R) → Type 0}
+    {fits : P → V → Regs → R → Type 0} (law : IsLawful r about planned Holds fits) {asked : Asked} (valid : IsValid r.calls.rows planned asked)
+    {p : Parts P} {locals : List (Local V R)} {b : Books} {order : List ℕ} {t : ℕ} {l : Local V R} (now : Moment r about planned Holds asked p locals b order t l) where
   abbrev huge : ℕ
   huge = asked.config.huge
 
@@ -58,39 +60,39 @@ module _ {P V R : Type 0} (r : FrontRules P V R) (about : R → About) (planned 
   limits = heap_config asked.config
 
   abbrev Acted : Parts P → Local V R → Type 0
-  Acted new after = IsActed r about planned Holds asked law.entries p locals b order t l books facts works of local new after
+  Acted new after = IsActed now new after
 
   before : IsBefore r about planned huge labels limits p locals b (calls locals order) t l
   before =
       record {
         rows = valid.rows;
-        parts = placed.ok;
+        parts = now.placed.ok;
         same = refl;
         few = valid.limits.few;
         region = valid.limits.region;
-        books = books;
-        facts = facts;
-        local = local;
-        shaped = (works t l local).shaped;
+        books = now.books;
+        facts = now.facts;
+        local = now.local;
+        shaped = (now.works t l now.local).shaped;
       }
 
   pub acts_few : l.acts ≤ length order
-  acts_few = omega (arith, (works t l local).acts, picks_few t order)
+  acts_few = omega (arith, (now.works t l now.local).acts, picks_few t order)
 
   pub acts_low : l.acts ≤ MOST_PICKS
-  acts_low = omega (arith, acts_few, few)
+  acts_low = omega (arith, acts_few, now.few)
 
   stands : slice_get (map standing_of locals) t ≡ Some (standing_of l)
-  stands = slice_get-map standing_of locals t ∙ ap (option_map standing_of) local
+  stands = slice_get-map standing_of locals t ∙ ap (option_map standing_of) now.local
 
   -- an act elsewhere keeps what holds of the front-end
   front_kept : (after : Local V R) → IsKept r about planned Holds t l after → Holds (length order + 1) p.fronts (map standing_of (slice_set locals t after))
   front_kept after kept =
-      let now = subst (Holds (length order) p.fronts) (sym (set_same (map standing_of locals) t (standing_of l) stands)) front in
-      law.passes (length order) p.fronts (map standing_of (slice_set locals t after)) (subst (Holds (length order) p.fronts) (map_set standing_of locals t after) (kept.stands (length order) p.fronts (map standing_of locals) now))
+      let front = subst (Holds (length order) p.fronts) (sym (set_same (map standing_of locals) t (standing_of l) stands)) now.front in
+      law.passes (length order) p.fronts (map standing_of (slice_set locals t after)) (subst (Holds (length order) p.fronts) (map_set standing_of locals t after) (kept.stands (length order) p.fronts (map standing_of locals) front))
 
   there_is : (after : Local V R) → HasRow r.calls after.seat (slice_get l.rest 0)
-  there_is after = row_there r about planned Holds fits law after.seat l.rest (works t l local).shaped.rest
+  there_is after = row_there law after.seat l.rest (now.works t l now.local).shaped.rest
 
   -- with its step written out
   with_step : (s : Step R) → l.step ≡ s → IsBefore r about planned huge labels limits p locals b (calls locals order) t (record l { step = s })
@@ -100,19 +102,19 @@ module _ {P V R : Type 0} (r : FrontRules P V R) (about : R → About) (planned 
   placed_elsewhere : (h : heaps.Heap) (m : SpanMap) (names : List NameState) → heaps_sound.IsSound h → h.config ≡ limits → IsWellFormed m → m.huge ≡ huge → ArePlaced r asked (record p { heap = h; map = m; names = names })
   placed_elsewhere h m names sound config well same =
       record {
-        ok = record { classes = placed.ok.classes; shards = placed.ok.shards; heap = sound; config = config; map = well; huge = same };
-        fronts = placed.fronts;
-        transfers = placed.transfers;
+        ok = record { classes = now.placed.ok.classes; shards = now.placed.ok.shards; heap = sound; config = config; map = well; huge = same };
+        fronts = now.placed.fronts;
+        transfers = now.placed.transfers;
       }
 
   -- what the acts fit
   pub shard_fit : (row : ShardStep R) (x : Shard) → l.step ≡ does.Shard row → slice_get p.shards l.regs.class.0 ≡ Some x → FitsShard r.calls.rows x l row
-  shard_fit row x step at = shard_acts_fit r about planned law.entries huge labels limits p locals b (calls locals order) t l x row before step at
+  shard_fit row x step at = shard_acts_fit r about planned huge labels limits p locals b (calls locals order) t l x row before step at
 
   pub heap_fit : (row : HeapStep R) → l.step ≡ does.Heap row → FitsHeap r.calls.rows p.heap l row
   heap_fit row step =
       let bound : (label : Label) (size : ℕ) → row ≡ heap.New label size → size ≤ 2 ^ 40 = λ label size is.
-      request_low r.calls.rows planned asked valid t l.ended label size ((works t l local).inside.call (Malloc label size) (ap (undecided about) (step ∙ ap (λ (y : HeapStep R). does.Heap y) is))) in
+      request_low r.calls.rows planned asked valid t l.ended label size ((now.works t l now.local).inside.call (Malloc label size) (ap (undecided about) (step ∙ ap (λ (y : HeapStep R). does.Heap y) is))) in
       subst (λ (y : Local V R). FitsHeap r.calls.rows p.heap y row) (ap (λ s. record l { step = s }) (sym step)) (heap_fits r about planned law.entries huge labels limits p locals b (calls locals order) t l row (with_step (does.Heap row) step) bound)
 
   pub map_fit : (row : MapStep R) → l.step ≡ does.Map row → FitsMap p.map l row
@@ -124,25 +126,25 @@ module _ {P V R : Type 0} (r : FrontRules P V R) (about : R → About) (planned 
   -- at a part of the front-end
   module _ (row : R) (step : l.step ≡ does.Front row) where
     shape : StepShape r.calls.rows about l (does.Front row)
-    shape = subst (λ (s : Step R). StepShape r.calls.rows about l s) step (works t l local).shaped.step
+    shape = subst (λ (s : Step R). StepShape r.calls.rows about l s) step (now.works t l now.local).shaped.step
 
     pub ready_row : IsReady r t l.regs (about row)
-    ready_row = let s = (works t l local).shaped in record { thread = s.thread; class = s.class; room = s.hand; hand = shape.0 }
+    ready_row = let s = (now.works t l now.local).shaped in record { thread = s.thread; class = s.class; room = s.hand; hand = shape.0 }
 
     pub stands_row : slice_get (map standing_of locals) t ≡ Some (stand l.seat l.regs l.acts (Here row))
     stands_row = stands ∙ ap (λ (s : Step R). Some (stand l.seat l.regs l.acts (at_step s))) step
 
   pub front_acted : (row : R) (q : P) → l.step ≡ does.Front row → slice_get p.fronts (r.place l.seat l.regs row) ≡ Some q → Acted (record p { fronts = slice_set p.fronts (r.place l.seat l.regs row) (front_row r about q l row).0 }) (front_row r about q l row).1
   front_acted row q step at =
-      let act : IsAct r about q l.regs row (r.acts q l.seat l.regs row) = law.does (length order) p.fronts (map standing_of locals) t q l.seat l.regs l.acts row few acts_few front (stands_row row step) at (ready_row row step) in
+      let act : IsAct r about q l.regs row (r.acts q l.seat l.regs row) = law.does (length order) p.fronts (map standing_of locals) t q l.seat l.regs l.acts row now.few acts_few now.front (stands_row row step) at (ready_row row step) in
       let kept : FrontKept r about planned Holds (length order) t p.fronts (map standing_of locals) l q row =
-      front_acts_keep r about planned Holds fits law (length order) t p.fronts (map standing_of locals) l q row valid.rows (works t l local).shaped step few acts_few front stands at in
+      front_acts_keep law (length order) t p.fronts (map standing_of locals) l q row valid.rows (now.works t l now.local).shaped step now.few acts_few now.front stands at in
       let after : Local V R = (front_row r about q l row).1 in
       record {
         does = front_acts_move r about planned law.entries huge labels limits p locals b (calls locals order) t l (r.place l.seat l.regs row) q row before step at act;
         path = front_path r about law.entries l q row step act;
         way = ap is_under_way step;
-        placed = record { ok = record { classes = placed.ok.classes; shards = placed.ok.shards; heap = placed.ok.heap; config = placed.ok.config; map = placed.ok.map; huge = placed.ok.huge }; fronts = length-set p.fronts (r.place l.seat l.regs row) (front_row r about q l row).0 ∙ placed.fronts; transfers = placed.transfers };
+        placed = record { ok = record { classes = now.placed.ok.classes; shards = now.placed.ok.shards; heap = now.placed.ok.heap; config = now.placed.ok.config; map = now.placed.ok.map; huge = now.placed.ok.huge }; fronts = length-set p.fronts (r.place l.seat l.regs row) (front_row r about q l row).0 ∙ now.placed.fronts; transfers = now.placed.transfers };
         shaped = kept.shaped;
         front = subst (Holds (length order + 1) (slice_set p.fronts (r.place l.seat l.regs row) (front_row r about q l row).0)) (map_set standing_of locals t after) kept.stands;
         there = there_is after;
@@ -152,31 +154,31 @@ module _ {P V R : Type 0} (r : FrontRules P V R) (about : R → About) (planned 
   pub shard_acted : (row : ShardStep R) (x : Shard) → l.step ≡ does.Shard row → slice_get p.shards l.regs.class.0 ≡ Some x → Acted (record p { shards = slice_set p.shards l.regs.class.0 (shard_row r.calls x l row).0 }) (shard_row r.calls x l row).1
   shard_acted row x step at =
       let here : record l { step = does.Shard row } ≡ l = ap (λ s. record l { step = s }) (sym step) in
-      let shaped = (works t l local).shaped in
+      let shaped = (now.works t l now.local).shaped in
       let shape' : ShardShape r.calls.rows about l row = subst (λ (s : Step R). StepShape r.calls.rows about l s) step shaped.step in
-      let stays = shard_stays r about planned law.entries huge labels limits p locals b (calls locals order) t l x before at row step shape' in
+      let stays = shard_stays law.entries before at row step shape' in
       let fit : FitsShard r.calls.rows x l row = shard_fit row x step at in
-      let same = sym (row_is r about planned law.entries huge labels limits p locals b (calls locals order) t l x before at) in
-      let kept = shard_acts_keep r about planned Holds fits law t x l row valid.rows shaped step (placed.ok.shards l.regs.class.0 x at).sound same stays.1 fit in
+      let same = sym (row_is before at) in
+      let kept = shard_acts_keep law t x l row valid.rows shaped step (now.placed.ok.shards l.regs.class.0 x at).sound same stays.1 fit in
       let adds : AddsSome r.calls.rows x (record l { step = does.Shard row }) row = subst (λ (y : Local V R). AddsSome r.calls.rows x y row) (sym here) stays.2 in
       let new : Shard = (shard_row r.calls x l row).0 in
       let of_class : IsShardOf r.calls.rows l.regs.class.0 new = subst (λ (y : Local V R). IsShardOf r.calls.rows l.regs.class.0 (shard_row r.calls x y row).0) here stays.0 in
       let HasList : Shard → Type 0 = λ y. HasRoom asked.config.transfer y.transfer in
       record {
-        does = shard_acts_move r about planned law.entries huge labels limits p locals b (calls locals order) t l x row before step at;
+        does = shard_acts_move law.entries huge labels limits p locals b (calls locals order) t l x row before step at;
         path = subst (λ (y : Local V R). Path r.calls about y (shard_row r.calls x y row).1) here (shard_path r.calls about law.entries l x row adds);
         way = ap is_under_way step;
         placed = record {
           ok = record {
-            classes = length-set p.shards l.regs.class.0 new ∙ placed.ok.classes;
-            shards = each_set (IsShardOf r.calls.rows) p.shards l.regs.class.0 new x at of_class (λ k y apart is. placed.ok.shards k y is);
-            heap = placed.ok.heap;
-            config = placed.ok.config;
-            map = placed.ok.map;
-            huge = placed.ok.huge;
+            classes = length-set p.shards l.regs.class.0 new ∙ now.placed.ok.classes;
+            shards = each_set (IsShardOf r.calls.rows) p.shards l.regs.class.0 new x at of_class (λ k y apart is. now.placed.ok.shards k y is);
+            heap = now.placed.ok.heap;
+            config = now.placed.ok.config;
+            map = now.placed.ok.map;
+            huge = now.placed.ok.huge;
           };
-          fronts = placed.fronts;
-          transfers = all_set HasList p.shards l.regs.class.0 new placed.transfers (list_stays r.calls asked.config.transfer x l row (of_all HasList p.shards l.regs.class.0 x placed.transfers at));
+          fronts = now.placed.fronts;
+          transfers = all_set HasList p.shards l.regs.class.0 new now.placed.transfers (list_stays r.calls asked.config.transfer x l row (of_all HasList p.shards l.regs.class.0 x now.placed.transfers at));
         };
         shaped = kept.shaped;
         front = front_kept (shard_row r.calls x l row).1 kept;
@@ -189,13 +191,13 @@ module _ {P V R : Type 0} (r : FrontRules P V R) (about : R → About) (planned 
       let here : record l { step = does.Heap row } ≡ l = ap (λ s. record l { step = s }) (sym step) in
       let fit : FitsHeap r.calls.rows p.heap l row = heap_fit row step in
       let after : heaps.Heap = (heap_row r.calls p.heap l row).0 in
-      let kept = heap_acts_keep r about planned Holds fits law t p.heap l row valid.rows (works t l local).shaped step fit in
-      let stays : HeapStays p.heap after = heap_stays r.calls p.heap l row placed.ok.heap (omega (arith, valid.limits.region, ap (λ (c : HeapConfig). c.region) placed.ok.config)) fit in
+      let kept = heap_acts_keep law t p.heap l row valid.rows (now.works t l now.local).shaped step fit in
+      let stays : HeapStays p.heap after = heap_stays r.calls p.heap l row now.placed.ok.heap (omega (arith, valid.limits.region, ap (λ (c : HeapConfig). c.region) now.placed.ok.config)) fit in
       record {
         does = heap_acts_move r about planned law.entries huge labels limits p locals b (calls locals order) t l row before step fit;
         path = subst (λ (y : Local V R). Path r.calls about y (heap_row r.calls p.heap y row).1) here (heap_path r.calls about law.entries l p.heap row (subst (λ (y : Local V R). FitsHeap r.calls.rows p.heap y row) (sym here) fit));
         way = ap is_under_way step;
-        placed = placed_elsewhere after p.map p.names stays.sound (stays.config ∙ placed.ok.config) placed.ok.map placed.ok.huge;
+        placed = placed_elsewhere after p.map p.names stays.sound (stays.config ∙ now.placed.ok.config) now.placed.ok.map now.placed.ok.huge;
         shaped = kept.shaped;
         front = front_kept (heap_row r.calls p.heap l row).1 kept;
         there = there_is (heap_row r.calls p.heap l row).1;
@@ -207,13 +209,13 @@ module _ {P V R : Type 0} (r : FrontRules P V R) (about : R → About) (planned 
       let here : record l { step = does.Map row } ≡ l = ap (λ s. record l { step = s }) (sym step) in
       let fit : FitsMap p.map l row = map_fit row step in
       let found = found_class r about planned law.entries huge labels limits p locals b (calls locals order) t l row (with_step (does.Map row) step) in
-      let kept = map_acts_keep r about planned Holds fits law t p.map l row valid.rows (works t l local).shaped step fit found in
-      let stays : MapStays p.map (map_row r.calls p.map l row).0 = map_stays r.calls p.map l row placed.ok.map fit in
+      let kept = map_acts_keep law t p.map l row valid.rows (now.works t l now.local).shaped step fit found in
+      let stays : MapStays p.map (map_row r.calls p.map l row).0 = map_stays r.calls p.map l row now.placed.ok.map fit in
       record {
         does = map_acts_move r about planned law.entries huge labels limits p locals b (calls locals order) t l row before step fit;
         path = subst (λ (y : Local V R). Path r.calls about y (map_row r.calls p.map y row).1) here (map_path r.calls about law.entries l p.map row (subst (λ (y : Local V R). FitsMap p.map y row) (sym here) fit));
         way = ap is_under_way step;
-        placed = placed_elsewhere p.heap (map_row r.calls p.map l row).0 p.names placed.ok.heap placed.ok.config stays.well (stays.huge ∙ placed.ok.huge);
+        placed = placed_elsewhere p.heap (map_row r.calls p.map l row).0 p.names now.placed.ok.heap now.placed.ok.config stays.well (stays.huge ∙ now.placed.ok.huge);
         shaped = kept.shaped;
         front = front_kept (map_row r.calls p.map l row).1 kept;
         there = there_is (map_row r.calls p.map l row).1;
@@ -224,12 +226,12 @@ module _ {P V R : Type 0} (r : FrontRules P V R) (about : R → About) (planned 
   names_acted row step goes =
       let here : record l { step = does.Names row } ≡ l = ap (λ s. record l { step = s }) (sym step) in
       let fit : FitsNames p.names row = names_fit row step in
-      let kept = names_acts_keep r about planned Holds fits law t p.names l row valid.rows (works t l local).shaped step fit in
+      let kept = names_acts_keep law t p.names l row valid.rows (now.works t l now.local).shaped step fit in
       record {
         does = names_acts_move r about planned law.entries huge labels limits p locals b (calls locals order) t l row before step fit goes;
         path = subst (λ (y : Local V R). Path r.calls about y (names_row r.calls p.names y row).1) here (names_path r.calls about law.entries l p.names row fit goes);
         way = ap is_under_way step;
-        placed = placed_elsewhere p.heap p.map (names_row r.calls p.names l row).0 placed.ok.heap placed.ok.config placed.ok.map placed.ok.huge;
+        placed = placed_elsewhere p.heap p.map (names_row r.calls p.names l row).0 now.placed.ok.heap now.placed.ok.config now.placed.ok.map now.placed.ok.huge;
         shaped = kept.shaped;
         front = front_kept (names_row r.calls p.names l row).1 kept;
         there = there_is (names_row r.calls p.names l row).1;

@@ -2,7 +2,7 @@
 use Rattle.std.proofs.Common.{subst, ◌≡◌, ◌≢◌, refl, ℕ, ◌+◌, ◌-◌, ◌<◌, ◌≤◌, Bool, cond, [], ◌∷◌, List, length, drop, ap, sym, ◌∙◌, inl, arith}
 use Rattle.cpu_rows.proofs.Common.{cond_both, eq-eqb, ne_eqb, leb-true, length-append, length-take, length-drop, length-reverse, Addr, Class, ClassRow}
 use Rattle.cpu_rows.proofs.Common.{Config, Regs, HAND_ROOM, LOADED_ROOM, appended, emptied, room, Transfer, last_first, without_last, objects_at, CpuSeat}
-use Rattle.cpu_rows.proofs.Common.{Asking, Giving, CpuStep, DomainStep, Next, no_class, row_of, leaving, takes, puts, fits_into, put_in, domain_acts}
+use Rattle.cpu_rows.proofs.Common.{Asking, Giving, CpuStep, DomainStep, Next, no_class, row_of, leaving, takes, fits_into, put_in, domain_acts}
 use Rattle.cpu_rows.proofs.Common.{about_row, as_row, FitsDomain, AreRows, DomainShape, giving_standing, HasRoom, Here, at_next, regs_next, IsNext, IsAct}
 use Rattle.cpu_rows.proofs.Common.{Domain, seated, cpu_stored, left_with, cpu_front, limits_of}
 use Rattle.call_steps.specs.declared.step.Giving.TheVariants as giving

@@ -1,11 +1,11 @@
 -- What an act of the per-CPU caches hands on may come next in its call.
-use Rattle.std.proofs.Common.{ltb, ◌≡◌, refl, ◌+◌, ◌<◌, true, eqb, List, [], ◌∷◌, length, Option, Some, None, ap, sym, subst, ◌∙◌, arith, is_some}
-use Rattle.cpu_rows.proofs.Common.{cond_both, length-append, Addr, Class, ThreadNo, ClassRow, Call, Drain, Resize, MoveTo, Answer, Busy, CapFault, cap_fault}
-use Rattle.cpu_rows.proofs.Common.{CpuPart, Regs, Reply, Instructed, Grew, appended, emptied, Transfer, last_first, IsOther, cpu_refuses, cpu_calls, CpuSeat}
-use Rattle.cpu_rows.proofs.Common.{Asking, Serving, Freeing, Draining, Resizing, Stopping, Giving, Local, Next, Step, CpuRow, CpuStep, DomainStep, row_of}
-use Rattle.cpu_rows.proofs.Common.{decided, ends, Asks, Other, about_giving, Left, looks_on, gives, due, after_pop, after_stock, after_push, replied}
+use Rattle.std.proofs.Common.{ltb, ◌≡◌, refl, ◌+◌, ◌<◌, true, eqb, List, [], ◌∷◌, length, Option, Some, None, ap, sym, subst, ◌∙◌, arith}
+use Rattle.cpu_rows.proofs.Common.{cond_both, length-append, Addr, Class, ThreadNo, ClassRow, Drain, Resize, MoveTo, Busy, CapFault, cap_fault}
+use Rattle.cpu_rows.proofs.Common.{CpuPart, Regs, Reply, Instructed, Grew, appended, emptied, Transfer, last_first, IsOther, cpu_refuses, CpuSeat}
+use Rattle.cpu_rows.proofs.Common.{Asking, Serving, Freeing, Draining, Resizing, Stopping, Giving, Next, CpuRow, CpuStep, DomainStep, row_of}
+use Rattle.cpu_rows.proofs.Common.{Asks, Other, about_giving, Left, looks_on, gives, due, after_pop, after_stock, after_push, replied}
 use Rattle.cpu_rows.proofs.Common.{instructed_to, sequence_by, grew_to, stops, drains_on, drained, took, cap_answer, gives_taken, started, left_for, cpu_acts}
-use Rattle.cpu_rows.proofs.Common.{takes, fits_into, put_in, domain_acts, is_refusal, HasObject, ComesWith, MayFollow, follows, FitsCpu, FitsDomain}
+use Rattle.cpu_rows.proofs.Common.{takes, fits_into, put_in, domain_acts, is_refusal, HasObject, ComesWith, FitsCpu, FitsDomain}
 use Rattle.cpu_rows.proofs.Common.{about_cpu, about_row, call_of, as_row}
 use Rattle.cpu_slab.specs.declared.slab.CapFault.TheVariants as fault
 use Rattle.rseq_core.specs.declared.sequence.Reply.TheVariants as reply
@@ -16,7 +16,6 @@ use Rattle.cpu_drain.specs.Drains as drains
 use Rattle.cpu_rows.specs.declared.row.Stopping.TheVariants as stopping
 use Rattle.call_steps.specs.declared.step.Giving.TheVariants as giving
 use Rattle.call_steps.specs.declared.step.Next.TheVariants as next
-use Rattle.call_steps.specs.declared.step.Step.TheVariants as does
 use Rattle.cpu_rows.specs.declared.row.CpuRow.TheVariants as front
 use Rattle.cpu_rows.specs.declared.row.CpuStep.TheVariants as cpu
 use Rattle.cpu_rows.specs.declared.row.DomainStep.TheVariants as domain

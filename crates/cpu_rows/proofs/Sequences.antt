@@ -2,7 +2,7 @@
 use Rattle.std.proofs.Common.{◌≡◌, refl, ℕ, ◌+◌, ◌<◌, ◌≤◌, Bool, true, false, [], ◌∷◌, ◌++◌, List, length, get_or, Option, Some, None, ap, sym, ◌∙◌, subst}
 use Rattle.std.proofs.Common.{arith, inl}
 use Rattle.cpu_rows.proofs.Common.{cond_both, length-append, length-drop, Addr, Class, MoveTo, SlabRow, row_at, held, row_sound, CpuPart, Regs, LOADED_ROOM}
-use Rattle.cpu_rows.proofs.Common.{Begin, Seq, Reply, Instructed, Grew, is_pop, wanted, SeatKeeps, MovesUp, AnswerMoves, ReplyMoves, AreOfSame, Instructs}
+use Rattle.cpu_rows.proofs.Common.{Begin, Seq, Reply, Instructed, Grew, is_pop, wanted, MovesUp, AnswerMoves, ReplyMoves, AreOfSame, Instructs}
 use Rattle.cpu_rows.proofs.Common.{Grows, instruct_does, grow_does, objects_at, CpuSeat, Asking, Serving, Freeing, CpuStep, Next, no_class, row_of, thread_no}
 use Rattle.cpu_rows.proofs.Common.{leaving, moves_to, gives, at_cpu_next, is_due, due, after_stock, replied, instructed_to, sequence_by, sequence, grew_to}
 use Rattle.cpu_rows.proofs.Common.{about_cpu, at_cpu, FitsSequence, most_slots, BeginsWith, IsAtBegin, HasNone, CpuShape, cpu_standing, IsAsked, seated}

@@ -3,7 +3,7 @@ use Rattle.std.proofs.Common.{◌≡◌, refl, ℕ, ◌+◌, ◌*◌, ◌<◌, �
 use Rattle.std.proofs.Common.{subst, inl, inr, ltb, arith, is_some, slice_set}
 use Rattle.cpu_rows.proofs.Common.{cond_both, cases_eq, eqb-true, eq-eqb, lt-ltb, ltb-true, ltb-false, le-ltb, length-append, length-reverse, Contents, Addr}
 use Rattle.cpu_rows.proofs.Common.{Class, CpuNo, ThreadNo, Drain, Resize, MoveTo, Busy, CapFault, SlabRow, CpuSlab, no_row, row_at, held, cap_fault}
-use Rattle.cpu_rows.proofs.Common.{set_unless, row_same, row_other, CpuPart, Regs, SeatKeeps, IsHeld, Takes, take_does, objects_at, IsOther, Draining}
+use Rattle.cpu_rows.proofs.Common.{set_unless, row_same, row_other, CpuPart, Regs, IsHeld, Takes, take_does, objects_at, IsOther, Draining}
 use Rattle.cpu_rows.proofs.Common.{Resizing, Stopping, CpuStep, Next, Other, leaving, gives, at_cpu_next, stops, drains_on, drained, took, cap_answer}
 use Rattle.cpu_rows.proofs.Common.{gives_taken, started, left_for, about_cpu, at_cpu, call_of, cpu_of, taken_by, thread_no, AreRows, most_slots}
 use Rattle.cpu_rows.proofs.Common.{no_class_empty, below, alone, empty_to_take, empty_to_start, cpu_standing, IsStop, IsAtFirst, IsAtBegin, IsToCome, HasHand}

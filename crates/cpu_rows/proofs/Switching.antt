@@ -3,9 +3,9 @@ use Rattle.std.proofs.Common.{◌≡◌, ℕ, ◌+◌, ◌<◌, ◌≤◌, ◌�
 use Rattle.std.proofs.Common.{slice_get, Option, option_map}
 use Rattle.cpu_rows.proofs.Common.{cases_eq, eq-eqb, false_from_ne_true, eqb-true, false≢true, lt-ltb, length-append, ThreadNo, CpuNo, PartNo, MOST_PICKS}
 use Rattle.cpu_rows.proofs.Common.{Input, Rules, World, start, with_pair, set_here, set_elsewhere, CpuPart, Local, Step, Pop, Grow, Stock, Push, PopBatch}
-use Rattle.cpu_rows.proofs.Common.{Stop, Fence, Take, SetCap, Start, Leave, CpuStep, thread_no, Part, front_of, after, rules, number, front_after}
+use Rattle.cpu_rows.proofs.Common.{thread_no, Part, front_of, after, rules, number, front_after}
 use Rattle.cpu_rows.proofs.Common.{front_yields, runs_open, yields_for, about_row, Kind, enters, closes, neither, act_kind, kind_at, kind_of, step_kind}
-use Rattle.cpu_rows.proofs.Common.{entry, closing, count_at, SwitchesAreFew, CpuHolds, IsSeated, cpu_planned, cpu_fits, limits_of, IsValidInput, standing_of}
+use Rattle.cpu_rows.proofs.Common.{entry, closing, count_at, SwitchesAreFew, CpuHolds, IsSeated, cpu_planned, limits_of, IsValidInput, standing_of}
 use Rattle.cpu_rows.proofs.Common.{slice_get-map}
 use Rattle.alloc_rules.{proofs.First.served_first, proofs.Runs.served_kept, proofs.Serving.IsServed}
 use Rattle.alloc_rules.specs.declared.part.Part.TheVariants.{Front, Heap, Map, Names, Shard}
@@ -281,10 +281,10 @@ switches_from : (input : Input) → IsValidInput input → (c : ℕ) (order past
 switches_from input valid c [] past w ins ends few served polite balance = omega (arith, few_of c ins ends w balance)
 switches_from input valid c (t ∷ ts) past w ins ends few served polite balance =
     let m = polite.0 in
-    let next : Served input (pick (rules input) w t) (past ++ t ∷ []) = subst (λ (u : World Part Local). Served input u (past ++ t ∷ [])) (sym (moves_to input valid c w past served t m)) (served_kept (front_of input) about_row (cpu_planned input.rows input.asked.config) (CpuHolds input.rows input.asked.config) (cpu_fits input.rows) (lawful_in input valid) input.asked valid w past t m.local m.place m.part (omega arith) served m.local_there m.wants m.part_there m.moves) in
+    let next : Served input (pick (rules input) w t) (past ++ t ∷ []) = subst (λ (u : World Part Local). Served input u (past ++ t ∷ [])) (sym (moves_to input valid c w past served t m)) (served_kept (lawful_in input valid) valid w past t m.local m.place m.part (omega arith) served m.local_there m.wants m.part_there m.moves) in
     let rest = switches_from input valid c ts (past ++ t ∷ []) (pick (rules input) w t) (ins + entry (kind_of (rules input) w c t)) (ends + closing (kind_of (rules input) w c t)) (omega (arith, length-append past (t ∷ []))) next polite.1 (keeps input valid c w past served t m ins ends balance) in
     omega (arith, rest)
 
 -- in every polite order
 pub switches_are_few : (input : Input) → IsValidInput input → (order : List ℕ) → length order ≤ MOST_PICKS → IsPolite (rules input) (start (rules input)) order → SwitchesAreFew (rules input) order
-switches_are_few input valid order few polite c = let all = switches_from input valid c order [] (start (rules input)) 0 0 (omega arith) (served_first (front_of input) about_row (cpu_planned input.rows input.asked.config) (CpuHolds input.rows input.asked.config) (cpu_fits input.rows) (lawful_in input valid) input.asked valid) polite (inl (omega arith)) in omega (arith, all)
+switches_are_few input valid order few polite c = let all = switches_from input valid c order [] (start (rules input)) 0 0 (omega arith) (served_first (lawful_in input valid) valid) polite (inl (omega arith)) in omega (arith, all)

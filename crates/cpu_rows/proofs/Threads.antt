@@ -1,6 +1,6 @@
 -- The standing of a thread changes, and no part does.
 use Rattle.std.proofs.Common.{◌≡◌, ℕ, ◌≤◌, List, length, Option, refl, sym, ap, ◌∙◌, subst, arith, slice_set}
-use Rattle.cpu_rows.proofs.Common.{ClassRow, ThreadNo, Config, Begin, CpuPart, Regs, room, CpuOk, SeatOk, SeatKeeps, AreSet, CpuSeat, CpuRow, IsAtBegin}
+use Rattle.cpu_rows.proofs.Common.{ClassRow, ThreadNo, Config, Begin, CpuPart, Regs, room, CpuOk, SeatOk, SeatKeeps, CpuSeat, CpuRow, IsAtBegin}
 use Rattle.cpu_rows.proofs.Common.{thread_no, At, Standing, stand, CpuFrontPart, stopping_at, seat_at, RegsAt, IsSeated, CpuHolds, limits_of}
 use Rattle.cpu_drain.specs.Seats as seats
 use Rattle.cpu_drain.proofs.Lawful as lawful
