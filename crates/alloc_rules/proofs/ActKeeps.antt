@@ -33,23 +33,13 @@ use Rattle.alloc_rules.proofs.Keeping.{giving_not, goes_quiet, kept_by, later_sh
 use Rattle.alloc_rules.proofs.Keeping.{waits_at}
 
 shard_not : {R : Type 0} (row : ShardStep R) → NotHere (at_shard row)
-shard_not (shard.Fetch a) = tt
-shard_not (shard.AddFetch a run) = tt
-shard_not (shard.Give g) = giving_not g
+shard_not row = grind (arith, giving_not)
 
 heap_not : {R : Type 0} (row : HeapStep R) → NotHere (at_heap row)
-heap_not (heap.New label size) = tt
-heap_not (heap.NewSpan a) = tt
-heap_not (heap.GiveBack label run) = tt
-heap_not (heap.FreeSpan next) = onward_not next
-heap_not (heap.Unback pages) = tt
+heap_not row = grind (arith, onward_not)
 
 map_not : {R : Type 0} (row : MapStep R) → NotHere (at_map row)
-map_not (map.Set label run) = tt
-map_not (map.SetSpan a run) = tt
-map_not (map.Lookup label addr) = tt
-map_not (map.Clear label run) = tt
-map_not (map.ClearSpan next) = onward_not next
+map_not row = grind (arith, onward_not)
 
 module _ {P V R : Type 0} {r : FrontRules P V R} {about : R → About} {planned : Planned → Type 0} {Holds : ℕ → List P → List (Standing V R) → Type 0}
     {fits : P → V → Regs → R → Type 0} (law : IsLawful r about planned Holds fits) where
@@ -258,10 +248,7 @@ module _ {P V R : Type 0} {r : FrontRules P V R} {about : R → About} {planned 
         (subst (HandAbout r.calls.rows l.regs) is has).0 ∙ ap (λ (c : Class). Some c) (sym class)
 
     few_still : (a : About) (answer : Answer) → MayDecide a answer → HandAbout r.calls.rows l.regs a → x.regs.hand.items ≡ l.regs.hand.items → length x.regs.hand.items ≤ most_slots
-    few_still (calls.Other call) answer may has same = let e = ap length same in omega (arith, e, has)
-    few_still (calls.Asks a) answer may has same = absurd may
-    few_still (calls.Publishes s) answer may has same = absurd may
-    few_still (calls.Frees f) answer may has same = absurd may
+    few_still a answer may has same = grind arith
 
     follows_behind : (n : Next R) → fronts.IsNext r about row l.regs x.regs n → HandAbout r.calls.rows l.regs (about row) → Behind n
     follows_behind (next.Row to_row) may has = at_front then to_row common none_freed (subst (HandAbout r.calls.rows x.regs) (sym may.0) may.1)

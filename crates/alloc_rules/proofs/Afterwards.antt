@@ -2,8 +2,8 @@
 use Rattle.std.proofs.Common.{◌≡◌, ℕ, ◌+◌, ◌*◌, ◌<◌, ◌≤◌, ◌⊎◌, ◌↔◌, true, false, eqb, List, length, map, Option, Some, None, refl, sym, ap, ◌∙◌, subst, inl}
 use Rattle.std.proofs.Common.{inr, arith, sum_by, slice_get, All, MatchOption}
 use Rattle.alloc_rules.proofs.Common.{All-weaker, cases_Bool, cond-true, eq-eqb, false≢true, Addr, Run, MOST_PICKS, script_of, Asked, World, run, HaveEnded}
-use Rattle.alloc_rules.proofs.Common.{Extent, blocks_after, live_bytes, CallLine, Planned, NameState, state_of, HeapConfig, Placed, new, none_fits, IsGiven}
-use Rattle.alloc_rules.proofs.Common.{IsSound, new_gives, small, runs_at, spans_at, objects_at, Account, loose, in_hand, named_at, Setup, Stock, Books}
+use Rattle.alloc_rules.proofs.Common.{Extent, blocks_after, live_bytes, CallLine, Planned, state_of, HeapConfig, Placed, new, none_fits, IsGiven}
+use Rattle.alloc_rules.proofs.Common.{IsSound, new_gives, small, runs_at, spans_at, objects_at, Account, loose, in_hand, named_at, Setup, Books}
 use Rattle.alloc_rules.proofs.Common.{class_number, IsStanding, Facts, least, none_counts, of_all, sum_of_both, class_zero, objects_are_once, names_are_live}
 use Rattle.alloc_rules.proofs.Common.{page_bytes, pages_holding, class_row, Local, under, About, Parts, place_of, rules, lines_by, TellsFirst, TellsScript}
 use Rattle.alloc_rules.proofs.Common.{is_under_way, stock_of, AreBooksOf, IsValid, pages_asked, calls, setup_of, books_of, HoldsAfter, Regs, Step, Part}
@@ -19,8 +19,7 @@ use Rattle.alloc_rules.proofs.Same.{same_pages, same_spans, same_starts}
 
 -- an allocation gets none exactly where none fits
 none_by : (heap : heaps.Heap) (n : ℕ) (o : Option Placed) → MatchOption o (none_fits heap n ≡ true) (λ x. IsGiven heap n x × (none_fits heap n ≡ false)) → (o ≡ None) ↔ (none_fits heap n ≡ true)
-none_by heap n None law = (λ is. law, λ fits. refl)
-none_by heap n (Some x) law = (λ is. absurd (cc), λ fits. absurd (false≢true (sym law.1 ∙ fits)))
+none_by heap n o law = grind (arith, false≢true)
 
 pub none_exactly : (heap : heaps.Heap) (n : ℕ) → IsSound heap → 2 ≤ heap.config.region → 0 < n → (new heap n ≡ None) ↔ (none_fits heap n ≡ true)
 none_exactly heap n is wide some = none_by heap n (new heap n) (new_gives heap n is wide some)
@@ -46,10 +45,7 @@ abbrev own_books : {P V R : Type 0} → FrontRules P V R → (R → About) → P
 own_books r about p locals b = record { stock = stock_of r about p; heap = b.heap; spans = b.spans; names = p.names; accounts = map (account_of about) locals }
 
 own_are : {P V R : Type 0} (r : FrontRules P V R) (about : R → About) (p : Parts P) (locals : List (Local V R)) (b : Books) → AreBooksOf r about p locals b → b ≡ own_books r about p locals b
-own_are r about p locals b are =
-    ap (λ (s : Stock). let x : Books = record { stock = s; heap = b.heap; spans = b.spans; names = b.names; accounts = b.accounts } in x) are.stock
-    ∙ (ap (λ (ns : List NameState). let x : Books = record { stock = stock_of r about p; heap = b.heap; spans = b.spans; names = ns; accounts = b.accounts } in x) are.names
-    ∙ ap (λ (as' : List Account). let x : Books = record { stock = stock_of r about p; heap = b.heap; spans = b.spans; names = p.names; accounts = as' } in x) are.accounts)
+own_are r about p locals b are = grind arith
 
 module _ {P V R : Type 0} {r : FrontRules P V R} {about : R → About} {planned : Planned → Type 0} {Holds : ℕ → List P → List (Standing V R) → Type 0}
     {fits : P → V → Regs → R → Type 0} (law : IsLawful r about planned Holds fits) {asked : Asked} (valid : IsValid r.calls.rows planned asked) (order : List ℕ) (few : length order ≤ MOST_PICKS) (served : IsServed r about planned Holds asked (run (rules r about asked) order) order) where

@@ -1,22 +1,14 @@
 -- An allocation is answered none exactly where the heap has no run for it.
 use Rattle.std.proofs.Common.{◌≡◌, ℕ, ◌+◌, ◌≤◌, ◌↔◌, Bool, true, [], ◌∷◌, ◌++◌, length, Option, Some, None, refl, sym, ap, ◌∙◌, subst, arith}
 use Rattle.alloc_rules.proofs.Common.{append_cancel_left, length-append, pages_holding, Label, Call, Malloc, Answer, Block, NoBlock, Placed, new, none_fits}
-use Rattle.alloc_rules.proofs.Common.{address_of, Asking, FrontCalls, FrontRules, Decided, closes, ends, class_row, Local, after_new, after_new_span}
+use Rattle.alloc_rules.proofs.Common.{address_of, Asking, FrontCalls, FrontRules, closes, ends, class_row, Local, after_new, after_new_span}
 use Rattle.alloc_rules.proofs.Common.{heap_after, Decides, pages_asked, AnswersNone, Step, About}
 use Rattle.heap_rules.specs.Heap as heaps
 use Rattle.call_steps.specs.declared.step.Step.TheVariants as does
 use Rattle.call_steps.specs.declared.step.HeapStep.TheVariants as heap
 
 pub decides_by : {V R : Type 0} (l next : Local V R) (call : Call) (x y : Answer) → next.answers ≡ l.answers ++ record { act = l.acts; call = call; answer = x } ∷ [] → Decides l next y ↔ (x ≡ y)
-decides_by l next call x y is = (
-  λ d.
-      let own : Decided = record { act = l.acts; call = call; answer = x } in
-      let told : Decided = record { act = l.acts; call = d.call; answer = y } in
-      let both : own ∷ [] ≡ told ∷ [] = append_cancel_left l.answers (own ∷ []) (told ∷ []) (sym is ∙ d.answers) in
-      let same : own ≡ told = cc in
-      ap (λ (e : Decided). e.answer) same,
-  λ same. record { call = call; answers = is ∙ ap (λ (a : Answer). l.answers ++ record { act = l.acts; call = call; answer = a } ∷ []) same },
-)
+decides_by l next call x y is = grind (arith, append_cancel_left)
 
 pub decides_none : {V R : Type 0} (l next : Local V R) (y : Answer) → next.answers ≡ l.answers → Decides l next y → ⊥
 decides_none l next y same d = absurd (omega (arith, ap length (sym same ∙ d.answers), length-append l.answers (record { act = l.acts; call = d.call; answer = y } ∷ [])))
@@ -27,8 +19,7 @@ pub record GoesAs {V R : Type 0} (x y : Local V R) : Type 0 where
   pub answers : y.answers ≡ x.answers
 
 closes_goes : {V R : Type 0} (e : FrontCalls V R) (x : Local V R) (row : Option R) → GoesAs x (closes e x row)
-closes_goes e x None = record { ended = omega arith; answers = refl }
-closes_goes e x (Some row) = record { ended = omega arith; answers = refl }
+closes_goes e x row = grind arith
 
 pub ends_goes : {V R : Type 0} (e : FrontCalls V R) (x : Local V R) → GoesAs x (ends e x)
 ends_goes e x = let g = closes_goes e (record x { acts = x.acts + 1 }) (e.last x.seat) in record { ended = g.ended; answers = g.answers }

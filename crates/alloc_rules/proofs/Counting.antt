@@ -1,5 +1,5 @@
 -- Objects and spans, as the laws of shards count them and as the books do.
-use Rattle.std.proofs.Common.{◌≡◌, ℕ, ◌+◌, ◌-◌, Bool, true, false, cond, eqb, List, [], ◌∷◌, ◌++◌, length, take, drop, reverse, count_by, refl, sym, ap, ◌∙◌}
+use Rattle.std.proofs.Common.{◌≡◌, ℕ, ◌+◌, ◌-◌, Bool, cond, eqb, List, [], ◌∷◌, ◌++◌, length, take, drop, reverse, count_by, refl, sym, ap, ◌∙◌}
 use Rattle.std.proofs.Common.{arith}
 use Rattle.alloc_rules.proofs.Common.{take-append-drop, reverse-append, sum_by-cons, Addr, Run, SpanRef, last_first, without_last, found_at, begun_at, bit}
 use Rattle.alloc_rules.proofs.Common.{first_byte, run_of, same_run, same_span, runs_like, objects_at, spans_like, spans_at, Counts, counts_append, like}
@@ -10,8 +10,7 @@ at_object n = record { none = refl; more = λ x xs. refl }
 
 -- a count of those that pass a test, as one of these numbers
 pub bit_cond : (b : Bool) → cond {A = ℕ} b 1 0 ≡ bit b
-bit_cond true = refl
-bit_cond false = refl
+bit_cond b = grind arith
 
 passing : {X : Type 0} {f : List X → ℕ} (test : X → Bool) → Counts f (λ (x : X). bit (test x)) → (xs : List X) → count_by test xs ≡ f xs
 passing test c [] = sym c.none

@@ -1,9 +1,9 @@
 -- What no act does, over any front-end: it lowers no number of ended calls, and refuses a call only where its step may.
 use Rattle.std.proofs.Common.{◌≡◌, ℕ, ◌*◌, ◌/◌, ◌≤◌, Bool, true, false, List, [], ◌∷◌, ◌++◌, Option, Some, None, refl, sym, ap, ◌∙◌, arith, find}
-use Rattle.alloc_rules.proofs.Common.{false≢true, page_bytes, pages_holding, Addr, Label, SpanRef, SpanKind, Small, Large, Call, Malloc, Free, Release}
-use Rattle.alloc_rules.proofs.Common.{Answer, Block, Freed, FreedNull, Released, NoBlock, SpanMap, holds, NameState, state_of, Placed, new, release, Regs}
+use Rattle.alloc_rules.proofs.Common.{false≢true, page_bytes, Addr, Label, SpanRef, SpanKind, Small, Large, Call, Malloc, Free}
+use Rattle.alloc_rules.proofs.Common.{Answer, Block, Freed, FreedNull, NoBlock, SpanMap, holds, NameState, Placed, Regs}
 use Rattle.alloc_rules.proofs.Common.{without_first, emptied, opening, small, address_of, Asking, Serving, Giving, Onward, Step, Next, ShardStep, HeapStep}
-use Rattle.alloc_rules.proofs.Common.{MapStep, NamesStep, FrontCalls, FrontRules, Local, decided, ends, class_row, Decided, About, call_about, with_hand}
+use Rattle.alloc_rules.proofs.Common.{MapStep, NamesStep, FrontCalls, FrontRules, Local, decided, ends, class_row, About, call_about, with_hand}
 use Rattle.alloc_rules.proofs.Common.{stocks, serves_first, goes_onward, gave, clears, with_freed, says_in, goes_or_ends, follows, with_more, fetches}
 use Rattle.alloc_rules.proofs.Common.{with_spans_behind, shard_row, after_new, after_new_span, frees_span, without_first_span, heap_row, found, after_lookup}
 use Rattle.alloc_rules.proofs.Common.{clears_span, map_row, after_take, names_row, shard_after, heap_after, map_after, names_after, front_after, Decides}
@@ -19,7 +19,6 @@ use Rattle.call_steps.specs.declared.step.Next.TheVariants as next
 use Rattle.call_steps.specs.declared.step.ShardStep.TheVariants as shard
 use Rattle.call_steps.specs.declared.step.HeapStep.TheVariants as heap
 use Rattle.call_steps.specs.declared.step.MapStep.TheVariants as mapped
-use Rattle.call_steps.specs.declared.step.NamesStep.TheVariants as names
 use Rattle.alloc_rules.specs.declared.part.Part.TheVariants as part
 use Rattle.alloc_rules.proofs.Answering.{GoesAs, decides_by, decides_none, ends_goes}
 
@@ -37,10 +36,7 @@ says l y call answer other ended is = record { ended = ended; plain = λ x refus
 
 -- so it is for a local with other registers
 from : {V R : Type 0} (l x y : Local V R) → x.answers ≡ l.answers → x.acts ≡ l.acts → x.ended ≡ l.ended → Plain x y → Plain l y
-from l x y answers acts ended leaves = record {
-  ended = omega (arith, ended, leaves.ended);
-  plain = λ a refusal d. leaves.plain a refusal (record { call = d.call; answers = d.answers ∙ (ap (λ (ds : List Decided). ds ++ record { act = l.acts; call = d.call; answer = a } ∷ []) (sym answers) ∙ ap (λ n. x.answers ++ record { act = n; call = d.call; answer = a } ∷ []) (sym acts)) });
-}
+from l x y answers acts ended leaves = grind arith
 
 -- An act of a step leaves no fewer ended calls, and refused a call only as its step may.
 pub record Leaves {V R : Type 0} (refuses : R → Answer → Bool) (s : Step R) (l y : Local V R) : Type 0 where
@@ -56,17 +52,13 @@ refused refuses s l y call answer may ended is = record { ended = ended; there =
 module _ {V R : Type 0} (e : FrontCalls V R) (about : R → About) (refuses : R → Answer → Bool) where
   -- the ways in which a call goes on
   stocks_goes : (x : Local V R) (s : Serving) (others : List Addr) → GoesAs x (stocks e x s others)
-  stocks_goes x s [] = record { ended = omega arith; answers = refl }
-  stocks_goes x s (a ∷ others) = record { ended = omega arith; answers = refl }
+  stocks_goes x s others = grind arith
 
   onward_goes : (x : Local V R) (next : Onward R) → GoesAs x (goes_onward e x next)
-  onward_goes x (onward.Publish s) = record { ended = omega arith; answers = refl }
-  onward_goes x (onward.Row k row) = record { ended = omega arith; answers = refl }
-  onward_goes x onward.End = ends_goes e x
+  onward_goes x next = grind (arith, ends_goes)
 
   clears_goes : (x : Local V R) (next : Onward R) (spans : List SpanRef) → GoesAs x (clears e x next spans)
-  clears_goes x next [] = onward_goes x next
-  clears_goes x next (s ∷ others) = record { ended = omega arith; answers = refl }
+  clears_goes x next spans = grind (arith, onward_goes)
 
   -- an act that decides a call and ends it
   ends_saying : (l : Local V R) (call : Call) (answer : Answer) → is_refusal answer ≡ false → Plain l (ends e (decided l call answer))
@@ -103,11 +95,7 @@ module _ {V R : Type 0} (e : FrontCalls V R) (about : R → About) (refuses : R 
   span_leaves h l a (Some x) = leaves_of refuses (does.Heap (heap.NewSpan a)) l _ (quiet l _ (omega arith) refl)
 
   heap_leaves : (h : heaps.Heap) (l : Local V R) (row : HeapStep R) → Leaves refuses (does.Heap row) l (heap_row e h l row).1
-  heap_leaves h l (heap.New label size) = new_leaves h l label size (new h (pages_holding size))
-  heap_leaves h l (heap.NewSpan a) = span_leaves h l a (new h (class_row e.rows l).pages)
-  heap_leaves h l (heap.GiveBack label run) = leaves_of refuses (does.Heap (heap.GiveBack label run)) l _ (ends_saying l (Free label) (Freed (address_of run)) refl)
-  heap_leaves h l (heap.FreeSpan next) = leaves_of refuses (does.Heap (heap.FreeSpan next)) l _ (frees_leaves h l next l.freed.items)
-  heap_leaves h l (heap.Unback pages) = leaves_of refuses (does.Heap (heap.Unback pages)) l _ (ends_saying l (Release pages) (Released (release h pages).pages) refl)
+  heap_leaves h l row = grind (arith, ends_saying, frees_leaves, leaves_of, new_leaves, span_leaves)
 
   -- the page map
   found_leaves : (l : Local V R) (label : Label) (addr : Addr) (span : SpanRef) (kind : SpanKind) → Plain l (found e l label addr span kind)
@@ -137,8 +125,7 @@ module _ {V R : Type 0} (e : FrontCalls V R) (about : R → About) (refuses : R 
   take_leaves ns l label (name.Published (Some addr)) = quiet l _ (omega arith) refl
 
   names_leaves : (ns : List NameState) (l : Local V R) (row : NamesStep) → Plain l (names_row e ns l row).1
-  names_leaves ns l (names.Publish label value) = ends_quietly l
-  names_leaves ns l (names.Take label) = take_leaves ns l label (state_of ns label.0)
+  names_leaves ns l row = grind (arith, ends_quietly, take_leaves)
 
   -- a shard
   fetch_leaves : (l : Local V R) (a : Asking) (objects : List Addr) → Plain l (fetches e l a objects)

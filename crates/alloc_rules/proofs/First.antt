@@ -6,7 +6,7 @@ use Rattle.alloc_rules.proofs.Common.{length-range_with_len, get_or-range_with_l
 use Rattle.alloc_rules.proofs.Common.{ClassRow, SpanRef, Small, Call, Malloc, Free, Release, Drain, Resize, Planned, Asked, script_of, labels_of, start}
 use Rattle.alloc_rules.proofs.Common.{answers_at, AreBelow, NameState, Shard, places, spans_in, objects_in_spans, IsOfRow, of_all, spans_like, spans_at}
 use Rattle.alloc_rules.proofs.Common.{objects_at, Account, got, put, gets, puts, asking, publishing, taking, pending, untaken, mentions, Books, class_number}
-use Rattle.alloc_rules.proofs.Common.{HasNothing, IsFirst, Facts, Regs, room, Asking, Step, Contents, append_snoc, FrontCalls, AreEntries, FrontRules}
+use Rattle.alloc_rules.proofs.Common.{HasNothing, IsFirst, Facts, Regs, room, Asking, Step, append_snoc, FrontCalls, AreEntries, FrontRules}
 use Rattle.alloc_rules.proofs.Common.{IsEntry, Local, Decided, told, step_or, idle_local, first_of_malloc, first_of_call, first_act, regs_of_malloc}
 use Rattle.alloc_rules.proofs.Common.{regs_of_call, regs_by, thread_no, About, call_at, IsClassRow, AreRows, heap_config, first_shard, first_shards, first_of}
 use Rattle.alloc_rules.proofs.Common.{first_parts, rules, HasRoom, account_of, doing_of, doing_about, off_of, apart_of, mapped_of, clears_of, shard_at}
@@ -40,19 +40,7 @@ record IsFresh {R : Type 0} (about : R → About) (s : Step R) (rest script : Li
 
 -- a row of the front-end about the same does for another step
 entry_fresh : {R : Type 0} (about : R → About) (a : About) (other : Step R) (o : Option R) (rest script : List Planned) → IsEntry about a o → doing_of about other ≡ doing_about a → IsFresh about other rest script → IsFresh about (step_or other o) rest script
-entry_fresh about a other None rest script entry same f = f
-entry_fresh about a other (Some row) rest script entry same f =
-    let d : doing_about (about row) ≡ doing_of about other = ap doing_about entry ∙ sym same in
-    record {
-      asks = λ x. ap (λ y. asking x y + gets x rest) d ∙ f.asks x;
-      publishes = λ x. ap (publishing x) d ∙ f.publishes x;
-      takes = λ x. ap (λ y. taking x y + puts x rest) d ∙ f.takes x;
-      value = λ x v. ap (holds x v) d ∙ f.value x v;
-      off = refl;
-      apart = λ k. refl;
-      mapped = λ k. refl;
-      clears = refl;
-    }
+entry_fresh about a other o rest script entry same f = grind arith
 
 module _ {V R : Type 0} (e : FrontCalls V R) (about : R → About) (entries : AreEntries e about) (v : V) where
   fresh_by : (s : Step R) (rest : List Planned) (line : Planned) (call : Call) → line.call ≡ call → ((x : ℕ) → asking x (doing_of about s) ≡ got x call) → ((x : ℕ) → publishing x (doing_of about s) ≡ 0) → ((x : ℕ) → taking x (doing_of about s) ≡ put x call) → ((x : ℕ) (w : Option Addr) → holds x w (doing_of about s) ≡ 0)
@@ -88,32 +76,23 @@ module _ {V R : Type 0} (e : FrontCalls V R) (about : R → About) (entries : Ar
   fresh_call (Resize cpu class cap) rest line is = fresh_own (Resize cpu class cap) rest line is (λ x. refl) (λ x. refl)
 
   fresh_first : (script : List Planned) → IsFresh about (first_act e v (slice_get script 0)) (drop 1 script) script
-  fresh_first [] = record { asks = λ x. refl; publishes = λ x. refl; takes = λ x. refl; value = λ x w. refl; off = refl; apart = λ k. refl; mapped = λ k. refl; clears = refl }
-  fresh_first (p ∷ ps) = fresh_call p.call ps p refl
+  fresh_first script = grind (arith, fresh_call)
 
   -- with nothing in hand
   hand_malloc : (o : Option Class) (g : Regs) → g.hand.items ≡ [] → (regs_of_malloc e o g).hand.items ≡ []
-  hand_malloc None g none = none
-  hand_malloc (Some k) g none = ap (λ (h : Contents Addr). h.items) (entries.to_first (record g { class = k })).hand ∙ none
+  hand_malloc o g none = grind arith
 
   hand_call : (c : Call) (g : Regs) → g.hand.items ≡ [] → (regs_of_call e c g).hand.items ≡ []
-  hand_call (Malloc label size) g none = hand_malloc (class_of e.rows size) g none
-  hand_call (Free label) g none = none
-  hand_call (Release pages) g none = none
-  hand_call (Drain cpu) g none = ap (λ (h : Contents Addr). h.items) (entries.to_other (Drain cpu) g) ∙ none
-  hand_call (Resize cpu class cap) g none = ap (λ (h : Contents Addr). h.items) (entries.to_other (Resize cpu class cap) g) ∙ none
+  hand_call c g none = grind (arith, hand_malloc)
 
   hand_first : (o : Option Planned) (g : Regs) → g.hand.items ≡ [] → (regs_by e o g).hand.items ≡ []
-  hand_first None g none = none
-  hand_first (Some p) g none = hand_call p.call g none
+  hand_first o g none = grind (arith, hand_call)
 
 rest_behind : (script : List Planned) (j : ℕ) → slice_get (drop 1 script) j ≡ slice_get script (0 + 1 + j)
-rest_behind [] j = refl
-rest_behind (p ∷ script) j = let e : 0 + 1 + j ≡ suc j = omega arith in ap (slice_get (p ∷ script)) (sym e)
+rest_behind script j = grind arith
 
 no_call : (o : Option Call) → is_some o ≡ false → o ≡ None
-no_call None is = refl
-no_call (Some c) is = absurd (false≢true (sym is))
+no_call o is = grind (arith, false≢true)
 
 number_at : (n t : ℕ) → t < n → slice_get (range_with_len 0 n) t ≡ Some t
 number_at n t below =

@@ -1,8 +1,8 @@
 -- An act of the front-end is one move of the books: objects move between its part and the hand, and its call goes on or is decided.
-use Rattle.std.proofs.Common.{◌≡◌, ℕ, ◌+◌, ◌<◌, ◌⊎◌, eqb, List, [], ◌∷◌, Option, Some, None, refl, sym, ap, ◌∙◌, subst, inl, inr, arith, length, slice_get}
+use Rattle.std.proofs.Common.{◌≡◌, ℕ, ◌+◌, ◌<◌, ◌⊎◌, List, [], ◌∷◌, Option, Some, None, refl, sym, ap, ◌∙◌, subst, inl, inr, arith, length, slice_get}
 use Rattle.std.proofs.Common.{slice_set}
 use Rattle.alloc_rules.proofs.Common.{eq-eqb, cases_eq, Addr, Class, Label, Free, Freed, SpanRef, Regs, ClassRow, Serving, Freeing, Planned, Answer, CallLine}
-use Rattle.alloc_rules.proofs.Common.{HeapConfig, bit, objects_at, Doing, Publishes, Frees, Other, WeighSame, Setup, Books, IsCut, One, MoveObjects, Asking}
+use Rattle.alloc_rules.proofs.Common.{HeapConfig, objects_at, Doing, Publishes, Frees, Other, WeighSame, Setup, Books, IsCut, One, MoveObjects, Asking}
 use Rattle.alloc_rules.proofs.Common.{Giving, Next, Step, Local, decided, goes, ends, publishes, comes_to, serves, decides_free, behind, clears, About}
 use Rattle.alloc_rules.proofs.Common.{HasNoLabel, call_about, about_giving, MayDecide, MayGoOnDecided, says, goes_or_ends, follows, BeginsWith, account_of}
 use Rattle.alloc_rules.proofs.Common.{doing_about, HandAbout, IsGiving, StepShape, IsNext, IsAct, AreEntries, FrontRules, Left, Parts, front_row, stock_of}
@@ -19,36 +19,15 @@ use Rattle.alloc_rules.proofs.Weighing.{bare, none_in_hand, weighs_same}
 
 -- an object at the head of a list is there
 begins_has : (a : Addr) (hand : List Addr) → BeginsWith a hand → 0 < objects_at a.0 hand
-begins_has a [] begins = absurd begins
-begins_has a (x ∷ others) begins =
-    let one : bit (eqb x.0 a.0) ≡ 1 = ap bit (eq-eqb x.0 a.0 (ap (λ (y : Addr). y.0) begins)) in
-    omega (arith, one)
+begins_has a hand begins = grind (arith, eq-eqb)
 
 -- what a row's call frees is in hand
 pub frees_has : (rows : List ClassRow) (g : Regs) (a : About) → HandAbout rows g a → (label : Label) (o : Addr) → doing_about a ≡ Frees label o → 0 < objects_at o.0 g.hand.items
-frees_has rows g (calls.Asks a) shape label o doing = absurd (cc)
-frees_has rows g (calls.Publishes s) shape label o doing = absurd (cc)
-frees_has rows g (calls.Frees f) shape label o doing = let same : f.addr ≡ o = cc in subst (λ (y : Addr). 0 < objects_at y.0 g.hand.items) same (begins_has f.addr g.hand.items shape.0)
-frees_has rows g (calls.Other call) shape label o doing = absurd (cc)
+frees_has rows g a shape label o doing = grind (arith, begins_has)
 
 -- in hand nothing has a class
 weighs_class : (d : Doing) (k j : ℕ) (hand : List Addr) (todo : List Planned) → (j ≡ k) ⊎ (hand ≡ []) → WeighSame (bare d k hand todo) (bare d j hand todo)
-weighs_class d k j hand todo (inl same) = subst (λ (i : ℕ). WeighSame (bare d k hand todo) (bare d i hand todo)) (sym same) (weighs_same (bare d k hand todo))
-weighs_class d k j hand todo (inr none) =
-    record {
-      asks = λ x. refl;
-      publishes = λ x. refl;
-      takes = λ x. refl;
-      mentioned = λ x. refl;
-      value = λ x v. refl;
-      loosely = λ n. refl;
-      objects = refl;
-      classes = λ i n. none_in_hand i n (eqb j i) hand none ∙ sym (none_in_hand i n (eqb k i) hand none);
-      off = refl;
-      apart = refl;
-      mapped = refl;
-      clears = refl;
-    }
+weighs_class d k j hand todo given = grind (arith, bare, none_in_hand, weighs_same)
 
 module _ {P V R : Type 0} (r : FrontRules P V R) (about : R → About) (planned : Planned → Type 0) (entries : AreEntries r.calls about) where
   module _ (huge labels : ℕ) (limits : HeapConfig) (p : Parts P) (locals : List (Local V R)) (b : Books) (lines : List CallLine) (t : ℕ) (l : Local V R) (i : ℕ) (q : P) (row : R) (before : IsBefore r about planned huge labels limits p locals b lines t l)

@@ -1,5 +1,5 @@
 -- Where a call goes on with its hand: the account that it has then, its acts and its answers; and an allocation that gets an object.
-use Rattle.std.proofs.Common.{◌≡◌, ℕ, ◌+◌, ◌<◌, List, [], ◌∷◌, ◌++◌, drop, Some, refl, sym, ap, ◌∙◌, subst}
+use Rattle.std.proofs.Common.{◌≡◌, ℕ, ◌+◌, ◌<◌, List, [], ◌∷◌, ◌++◌, drop, Some, refl, sym, ap, ◌∙◌, subst, arith}
 use Rattle.alloc_rules.proofs.Common.{append-nil, Contents, class_of, Addr, Class, Label, Run, SpanRef, Malloc, Free, Planned, Block, Freed, Regs}
 use Rattle.alloc_rules.proofs.Common.{without_first, emptied, Shard, objects_at, small, Account, Doing, Asks, Publishes, Frees, Other, WeighSame, Setup}
 use Rattle.alloc_rules.proofs.Common.{Stock, Books, IsCut, size_of, Said, SaysOther, Move, MovesHand, FreesObject, GetsObject, GetsFirst, Rests, MoveObjects}
@@ -18,10 +18,7 @@ use Rattle.alloc_rules.proofs.Weighing.{bare, ends_counts, entry_is, quiet, weig
 
 -- so does one that comes to a row without a label
 pub other_doing : (a : About) → HasNoLabel a → doing_about a ≡ Other
-other_doing (calls.Asks a) other = absurd other
-other_doing (calls.Publishes s) other = absurd other
-other_doing (calls.Frees f) other = absurd other
-other_doing (calls.Other call) other = refl
+other_doing a other = grind arith
 
 -- a local after its act: its account, with so many acts and these answers
 pub record Goes {V R : Type 0} (about : R → About) (after : Local V R) (a : Account) (count : ℕ) (told : List Decided) : Type 0 where
@@ -69,9 +66,7 @@ module _ {V R : Type 0} (e : FrontCalls V R) (about : R → About) (entries : Ar
   ends_as l k none = let counts = ends_counts e l in record { weighs = weighs_next e about entries l k none; acts = counts.0; answers = counts.1 }
 
 pub comes_as : {V R : Type 0} (about : R → About) (l : Local V R) (j : Class) (row : R) (k : ℕ) → HasNoLabel (about row) → l.regs.hand.items ≡ [] → Closes about (comes_to l j row) k l.rest (l.acts + 1) l.answers
-comes_as about l j row k other none =
-    let weighs = subst (λ (d : Doing). WeighSame (quiet k l.rest) (bare d j.0 l.regs.hand.items l.rest)) (sym (other_doing (about row) other)) (weighs_quiet k j.0 l.regs.hand.items l.rest none) in
-    record { weighs = weighs; acts = refl; answers = refl }
+comes_as about l j row k other none = grind (arith, bare, other_doing, quiet, weighs_quiet)
 
 -- an allocation with a new span that is to be added to its shard
 abbrev pub adding : {V R : Type 0} → Local V R → Asking → Run → List Addr → Account

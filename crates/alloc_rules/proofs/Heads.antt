@@ -1,9 +1,8 @@
 -- A transfer list stays within its room.
 use Rattle.std.proofs.Common.{◌≡◌, ℕ, ◌+◌, ◌-◌, true, leb, List, ◌++◌, length, arith}
-use Rattle.alloc_rules.proofs.Common.{cond_both, leb-true, length-take, length-append, Addr, Transfer, without_last, taken, put_all, ShardStep, FrontCalls}
-use Rattle.alloc_rules.proofs.Common.{Local, class_row, shard_row, HasRoom}
+use Rattle.alloc_rules.proofs.Common.{cond_both, leb-true, length-take, length-append, Addr, Transfer, without_last, ShardStep, FrontCalls}
+use Rattle.alloc_rules.proofs.Common.{Local, shard_row, HasRoom}
 use Rattle.class_shard.specs.Shard as shards
-use Rattle.call_steps.specs.declared.step.ShardStep.TheVariants as shard
 
 -- objects are taken from a list, or come to it where they fit
 taken_room : (room n : ℕ) (t : Transfer) → HasRoom room t → HasRoom room (record { objects = without_last n t.objects; room = t.room })
@@ -13,10 +12,4 @@ put_room : (room : ℕ) (t : Transfer) (list : List Addr) → leb (length t.obje
 put_room room t list fits has = record { room = has.room; within = omega (arith, has.room, leb-true (length t.objects + length list) t.room fits, length-append t.objects list) }
 
 pub list_stays : {V R : Type 0} (e : FrontCalls V R) (room : ℕ) (s : shards.Shard) (l : Local V R) (row : ShardStep R) → HasRoom room s.transfer → HasRoom room (shard_row e s l row).0.transfer
-list_stays e room s l (shard.Fetch a) has =
-    let n : ℕ = (class_row e.rows l).batch in
-    cond_both (shards.is_idle s) (shards.with_spans s (taken n s.central.spans).spans) (shards.with_objects s (without_last n s.transfer.objects)) (λ (x : shards.Shard). HasRoom room x.transfer) (λ f. has) (λ f. taken_room room n s.transfer has)
-list_stays e room s l (shard.AddFetch a run) has = has
-list_stays e room s l (shard.Give g) has =
-    let list : List Addr = l.regs.hand.items in
-    cond_both (shards.fits_in s list) (shards.with_objects s (s.transfer.objects ++ list)) (shards.with_spans s (put_all list s.central.spans).spans) (λ (x : shards.Shard). HasRoom room x.transfer) (λ f. put_room room s.transfer list f has) (λ f. has)
+list_stays e room s l row has = grind (arith, cond_both, put_room, taken_room)

@@ -3,7 +3,7 @@ use Rattle.std.proofs.Common.{◌≡◌, ℕ, zero, suc, ◌+◌, ◌⊎◌, tru
 use Rattle.std.proofs.Common.{arith, is_some, option_map, slice_get}
 use Rattle.alloc_rules.proofs.Common.{cases_lt, false≢true, append-nil, length-append, Call, Planned, NameState, state_of, asking, publishing, unpublished}
 use Rattle.alloc_rules.proofs.Common.{gets, is_out, Local, Decided, first_act, undecided, under, About, call_at, Step, FrontCalls, AreEntries, account_of}
-use Rattle.alloc_rules.proofs.Common.{doing_of, IsIn, GoesOn, Closes, Path, Stays, Comes, is_under_way}
+use Rattle.alloc_rules.proofs.Common.{doing_of, IsIn, GoesOn, Closes, Path, is_under_way}
 use Rattle.alloc_rules.proofs.ScriptFacts.{HasRow, asks_first, first_is_of, first_under, next_way, next_weighs, undecided_under}
 
 -- Labels that are out stay out; and what a local is still to publish stays so, or is out.
@@ -20,12 +20,10 @@ pushed (z ∷ zs) x y zero is = inl is
 pushed (z ∷ zs) x y (suc j) is = elim (pushed zs x y j is) [ inl old ↦ inl old | inr new ↦ inr (ap (λ n. suc n) new.0, new.1) ]
 
 rest_behind : (rest : List Planned) (j : ℕ) → slice_get (drop 1 rest) j ≡ slice_get rest (1 + j)
-rest_behind [] j = refl
-rest_behind (p ∷ rest) j = let e : 1 + j ≡ suc j = omega arith in ap (slice_get (p ∷ rest)) (sym e)
+rest_behind rest j = grind arith
 
 no_call : (o : Option Planned) → is_some (option_map (λ (p : Planned). p.call) o) ≡ false → option_map (λ (p : Planned). p.call) o ≡ None
-no_call None is = refl
-no_call (Some p) is = absurd (false≢true (sym is))
+no_call o is = grind (arith, false≢true)
 
 -- what the answers are, as one comes
 module _ {V R : Type 0} (e : FrontCalls V R) (about : R → About) (names : List NameState) (script : List Planned) (l : Local V R) (inside : IsIn e about names script l) where
@@ -49,31 +47,21 @@ module _ {V R : Type 0} (e : FrontCalls V R) (about : R → About) (names : List
   here d is = (undecided_under about l.step (ap is_some is), inside.call d.call is)
 
 goes_few : {V R : Type 0} (e : FrontCalls V R) (about : R → About) (s next : Step R) (new : List Decided) → GoesOn e about s next new → (new ≡ []) ⊎ ((d : Decided) × (new ≡ d ∷ []))
-goes_few e about s next [] goes = inl refl
-goes_few e about s next (d ∷ []) goes = inr (d, refl)
-goes_few e about s next (d ∷ y ∷ more) goes = absurd goes
+goes_few e about s next new goes = grind arith
 
 closes_few : {V R : Type 0} (e : FrontCalls V R) (about : R → About) (s : Step R) (new : List Decided) → Closes e about s new → (new ≡ []) ⊎ ((d : Decided) × (new ≡ d ∷ []))
-closes_few e about s [] closes = inl refl
-closes_few e about s (d ∷ []) closes = inr (d, refl)
-closes_few e about s (d ∷ y ∷ more) closes = absurd closes
+closes_few e about s new closes = grind arith
 
 module _ {V R : Type 0} (e : FrontCalls V R) (about : R → About) (entries : AreEntries e about) (names names' : List NameState) (script : List Planned) (l after : Local V R) (way : is_under_way l.step ≡ true) (inside : IsIn e about names script l) (stay : StayOut names names') (keeps : KeepsUnpublished about names' l after) (there : HasRow e after.seat (slice_get l.rest 0)) where
   -- within a call
   goes_call : (new : List Decided) → GoesOn e about l.step after.step new → (c : Call) → undecided about after.step ≡ Some c → undecided about l.step ≡ Some c
-  goes_call [] goes c is = sym goes.0 ∙ is
-  goes_call (d ∷ []) goes c is = let wrong : None ≡ Some c = sym goes.1 ∙ is in absurd (cc)
-  goes_call (d ∷ y ∷ more) goes c is = absurd goes
+  goes_call new goes c is = grind arith
 
   goes_one : (new : List Decided) → GoesOn e about l.step after.step new → (d : Decided) → new ≡ d ∷ [] → (under about l.step ≡ 0) × (call_at script l.ended ≡ Some d.call)
-  goes_one [] goes d is = absurd (cc)
-  goes_one (x ∷ []) goes d is = let same : x ≡ d = cc in here e about names script l inside d (goes.0 ∙ ap (λ (y : Decided). Some y.call) same)
-  goes_one (x ∷ y ∷ more) goes d is = absurd goes
+  goes_one new goes d is = grind (arith, here)
 
   goes_count : (new : List Decided) → GoesOn e about l.step after.step new → length (l.answers ++ new) ≡ l.ended + under about after.step
-  goes_count [] goes = omega (arith, length-append l.answers [], inside.count, goes.1)
-  goes_count (d ∷ []) goes = omega (arith, length-append l.answers (d ∷ []), inside.count, undecided_under about l.step (ap is_some goes.0), goes.2)
-  goes_count (d ∷ y ∷ more) goes = absurd goes
+  goes_count new goes = grind (arith, length-append, undecided_under)
 
   stays_in : (new : List Decided) → after.answers ≡ l.answers ++ new → after.ended ≡ l.ended → after.rest ≡ l.rest → is_under_way after.step ≡ true → GoesOn e about l.step after.step new → IsIn e about names' script after
   stays_in new answers ended rest on goes =
@@ -98,14 +86,10 @@ module _ {V R : Type 0} (e : FrontCalls V R) (about : R → About) (entries : Ar
 
   -- to the next call
   closes_one : (new : List Decided) → Closes e about l.step new → (d : Decided) → new ≡ d ∷ [] → (under about l.step ≡ 0) × (call_at script l.ended ≡ Some d.call)
-  closes_one [] closes d is = absurd (cc)
-  closes_one (x ∷ []) closes d is = let same : x ≡ d = cc in here e about names script l inside d (closes ∙ ap (λ (y : Decided). Some y.call) same)
-  closes_one (x ∷ y ∷ more) closes d is = absurd closes
+  closes_one new closes d is = grind (arith, here)
 
   closes_count : (new : List Decided) → Closes e about l.step new → length (l.answers ++ new) ≡ l.ended + 1
-  closes_count [] closes = omega (arith, length-append l.answers [], inside.count, closes.0)
-  closes_count (d ∷ []) closes = omega (arith, length-append l.answers (d ∷ []), inside.count, undecided_under about l.step (ap is_some closes))
-  closes_count (d ∷ y ∷ more) closes = absurd closes
+  closes_count new closes = grind (arith, length-append, undecided_under)
 
   comes_in : (new : List Decided) → after.answers ≡ l.answers ++ new → after.ended ≡ l.ended + 1 → after.rest ≡ drop 1 l.rest → after.step ≡ first_act e after.seat (slice_get l.rest 0) → Closes e about l.step new → IsIn e about names' script after
   comes_in new answers ended rest step closes =
@@ -136,5 +120,4 @@ module _ {V R : Type 0} (e : FrontCalls V R) (about : R → About) (entries : Ar
       }
 
   pub path_in : Path e about l after → IsIn e about names' script after
-  path_in (Stays new answers ended rest on goes) = stays_in new answers ended rest on goes
-  path_in (Comes new answers ended rest step closes) = comes_in new answers ended rest step closes
+  path_in given = grind (arith, comes_in, stays_in)

@@ -105,8 +105,7 @@ module _ (rows : List ClassRow) (planned : Planned → Type 0) where
   adds x earlier (Resize cpu class cap) order = record { got_once = λ most. omega arith; put_once = λ most. omega arith; got_first = λ some. absurd (omega arith) }
 
   first_of_either : (a b : ℕ) {Q : Type 0} → 0 < a + b → (0 < a → Q) → (0 < b → Q) → Q
-  first_of_either zero b some one two = two (omega arith)
-  first_of_either (suc a) b some one two = one (omega arith)
+  first_of_either a b some one two = grind arith
 
   -- and over all calls
   record Counts (x : ℕ) (calls : List ThreadCall) : Type 0 where
@@ -131,8 +130,7 @@ module _ (rows : List ClassRow) (planned : Planned → Type 0) where
   counted asked x valid = counts x [] asked.calls (in_order asked [] asked.calls refl valid) (record { got_once = omega arith; put_once = omega arith; got_first = λ some. absurd (omega arith) })
 
   zero_or : (n : ℕ) → (0 < n → ⊥) → n ≡ 0
-  zero_or zero no_more = refl
-  zero_or (suc n) no_more = absurd (no_more (omega arith))
+  zero_or n no_more = grind arith
 
   -- no label past the end is allocated
   fold_least : (most : ℕ) (cs : List ThreadCall) → most ≤ fold (λ n (c : ThreadCall). max n (label_end c.planned.call)) most cs
@@ -140,14 +138,7 @@ module _ (rows : List ClassRow) (planned : Planned → Type 0) where
   fold_least most (c ∷ cs) = omega (arith, fold_least (max most (label_end c.planned.call)) cs)
 
   got_end : (x : ℕ) (call : Call) → 0 < got x call → x < label_end call
-  got_end x (Malloc label size) some = elim (cases_eq label.0 x) [
-    | inl same ↦ omega (arith, same)
-    | inr other ↦ (let e : bit (eqb label.0 x) ≡ 0 = ap bit (ne_eqb label.0 x other) in absurd (omega (arith, some, e)))
-  ]
-  got_end x (Free label) some = absurd (omega arith)
-  got_end x (Release pages) some = absurd (omega arith)
-  got_end x (Drain cpu) some = absurd (omega arith)
-  got_end x (Resize cpu class cap) some = absurd (omega arith)
+  got_end x call some = grind (arith, cases_eq, ne_eqb)
 
   got_below : (x most : ℕ) (cs : List ThreadCall) → 0 < got_in x cs → x < fold (λ n (c : ThreadCall). max n (label_end c.planned.call)) most cs
   got_below x most [] some = absurd (omega arith)

@@ -1,5 +1,5 @@
 -- How a call goes on leaves the local its shape, and the front-end's invariant holds of the thread as it stands then.
-use Rattle.std.proofs.Common.{◌≡◌, ℕ, ◌+◌, ◌<◌, ◌≤◌, List, [], ◌∷◌, length, drop, Option, Some, None, refl, sym, ap, ◌∙◌, subst, arith, Bool, true, false}
+use Rattle.std.proofs.Common.{◌≡◌, ℕ, ◌+◌, ◌<◌, ◌≤◌, List, [], ◌∷◌, length, drop, Option, Some, None, refl, sym, ap, ◌∙◌, subst, arith, Bool}
 use Rattle.std.proofs.Common.{cond, ltb, All, slice_set, option_map}
 use Rattle.alloc_rules.proofs.Common.{length-drop, All-head, All-tail, Contents, class_of, ClassRow, position_or_len, ltb-true, Addr, Class, Label, ThreadNo}
 use Rattle.alloc_rules.proofs.Common.{SpanRef, Call, Malloc, Free, Release, Drain, Resize, Planned, Block, Freed, Regs, HAND_ROOM, LOADED_ROOM, room}
@@ -20,8 +20,7 @@ use Rattle.call_steps.specs.Calls as calls
 
 -- the class of a request is in the table
 class_low_by : (n len : ℕ) (k : Class) (b : Bool) → ltb n len ≡ b → option_map (λ (j : ℕ). let c : Class = record { 0 = j } in c) (cond b (Some n) None) ≡ Some k → k.0 < len
-class_low_by n len k true low is = let c : Class = record { 0 = n } in let same : c ≡ k = (cc) in let e : n ≡ k.0 = ap (λ (j : Class). j.0) same in omega (arith, ltb-true n len low)
-class_low_by n len k false low is = absurd (cc)
+class_low_by n len k b low is = grind (arith, ltb-true)
 
 class_low : (rows : List ClassRow) (size : ℕ) (k : Class) → class_of rows size ≡ Some k → k.0 < length rows
 class_low rows size k is = let n : ℕ = position_or_len (classes.serves size) rows in class_low_by n (length rows) k (ltb n (length rows)) refl is
@@ -33,15 +32,10 @@ NotHere (Later k row) = Unit {0}
 NotHere Away = Unit {0}
 
 pub giving_not : {R : Type 0} (g : Giving R) → NotHere (at_giving g)
-giving_not (giving.Rest s) = tt
-giving_not (giving.Freed f) = tt
-giving_not (giving.Row k row) = tt
-giving_not giving.End = tt
+giving_not g = grind arith
 
 pub onward_not : {R : Type 0} (o : Onward R) → NotHere (at_onward o)
-onward_not (onward.Publish s) = tt
-onward_not (onward.Row k row) = tt
-onward_not onward.End = tt
+onward_not o = grind arith
 
 module _ {P V R : Type 0} {r : FrontRules P V R} {about : R → About} {planned : Planned → Type 0} {Holds : ℕ → List P → List (Standing V R) → Type 0}
     {fits : P → V → Regs → R → Type 0} (law : IsLawful r about planned Holds fits) (table : AreRows r.calls.rows) (t : ℕ) where
@@ -133,8 +127,7 @@ module _ {P V R : Type 0} {r : FrontRules P V R} {about : R → About} {planned 
 
   -- a step that has a row of the front-end about this, or is another one that is at none
   pub entry_shape : (a : About) (other : Step R) (l : Local V R) (o : Option R) → IsEntry about a o → HandAbout r.calls.rows l.regs a → l.freed.items ≡ [] → StepShape r.calls.rows about l other → StepShape r.calls.rows about l (step_or other o)
-  entry_shape a other l None entry has none shape = shape
-  entry_shape a other l (Some row) entry has none shape = (subst (HandAbout r.calls.rows l.regs) (sym entry) has, none)
+  entry_shape a other l o entry has none shape = grind arith
 
   pub entry_at : (base : Standing V R) (v : V) (g : Regs) (count : ℕ) (other : Step R) (o : Option R) → at_step other ≡ Away → Reaches base (stand v g count (at_row o)) → Reaches base (stand v g count (at_step (step_or other o)))
   entry_at base v g count other None away reaches = subst (λ (a : At R). Reaches base (stand v g count a)) (sym away) reaches
@@ -252,10 +245,7 @@ module _ {P V R : Type 0} {r : FrontRules P V R} {about : R → About} {planned 
 
   -- a row that comes behind a giving has nothing in hand
   pub later_shape : (l : Local V R) (k : Class) (a : About) → HasNoLabel a → HasNone l → HandAbout r.calls.rows (record l.regs { class = k }) a
-  later_shape l k (calls.Asks a) other n = absurd other
-  later_shape l k (calls.Publishes s) other n = absurd other
-  later_shape l k (calls.Frees f) other n = absurd other
-  later_shape l k (calls.Other call) other n = let e = ap length n.hand in omega (arith, e)
+  later_shape l k a other n = grind arith
 
   -- acts elsewhere, while this is to come
   pub waits_at : (l : Local V R) (a : At R) (count more : ℕ) (hand : Contents Addr) → NotHere a → count ≤ more → Common l → room hand ≡ room l.regs.hand → Reaches (stand l.seat l.regs count a) (stand l.seat (record l.regs { hand = hand }) more a)

@@ -1,5 +1,5 @@
 -- Members of lists: which pass a test, that one alone begins at a page, and that the one holder of a page is found.
-use Rattle.std.proofs.Common.{◌≡◌, ℕ, zero, suc, ◌+◌, ◌<◌, ◌≤◌, Bool, true, false, eqb, ltb, nat_le, cond, List, [], ◌∷◌, length, get_or, count_by, AllPairs}
+use Rattle.std.proofs.Common.{◌≡◌, ℕ, suc, ◌+◌, ◌<◌, ◌≤◌, Bool, true, false, eqb, ltb, nat_le, cond, List, [], ◌∷◌, length, get_or, count_by, AllPairs}
 use Rattle.std.proofs.Common.{Contains, Some, refl, sym, ap, subst, ◌∙◌, inl, inr, arith, find}
 use Rattle.alloc_rules.proofs.Common.{cases_Bool, cases_lt, ltb-true, leb-true, eqb-true, and_parts, false≢true, get_or_default, sum_by-cons}
 use Rattle.alloc_rules.proofs.Common.{false_from_ne_true, Run, SpanRef, one-true, one-false, count_none, count_le, IsWellFormed, IsSound, IsInside}
@@ -30,13 +30,7 @@ most_one q (x ∷ xs) two =
 
 -- one span begins at a page, and one live run
 pub one_first : (huge : ℕ) (xs : List SpanRef) (page : ℕ) → IsWellFormed (record { huge = huge; spans = xs }) → count_by (λ y. eqb y.first.0 page) xs ≤ 1
-one_first huge xs page well =
-    most_one (λ y. eqb y.first.0 page) xs (λ i j d less within hi hj.
-    let b : IsBefore (get_or xs i d) (get_or xs j d) = well.apart i j d less within in
-    let ei = eqb-true (get_or xs i d).first.0 page hi in
-    let ej = eqb-true (get_or xs j d).first.0 page hj in
-    let inside : spans.IsInside huge (get_or xs i d) = well.inside i d (omega arith) in
-    omega (arith, b, ei, ej, inside.some))
+one_first huge xs page well = grind (arith, eqb-true, most_one)
 
 pub one_run : (heap : heaps.Heap) (r : Run) → IsSound heap → Contains heap.runs r → count_by (λ y. eqb y.first.0 r.first.0) heap.runs ≤ 1
 one_run heap r sound at = count_fewer (λ y. eqb y.first.0 r.first.0) (heaps.holds r.first.0) heap.runs (λ k d within same.
@@ -46,8 +40,7 @@ one_run heap r sound at = count_fewer (λ y. eqb y.first.0 r.first.0) (heaps.hol
 
 -- what is in a list and passes, where its head fails, is behind it
 later_one : {X : Type 0} (q : X → Bool) (z : X) (zs : List X) (x : X) → Contains (z ∷ zs) x → q x ≡ true → q z ≡ false → Contains zs x
-later_one q z zs x (zero, l, e) holds miss = absurd (false≢true (sym miss ∙ (ap q e ∙ holds)))
-later_one q z zs x (suc i, l, e) holds miss = (i, omega arith, e)
+later_one q z zs x given holds miss = grind (arith, false≢true)
 
 -- the one span that holds a page is found
 pub find_only : {X : Type 0} (q : X → Bool) (xs : List X) (x : X) → Contains xs x → q x ≡ true → ((y : X) → Contains xs y → q y ≡ true → y ≡ x) → find q xs ≡ Some x

@@ -1,6 +1,6 @@
 -- A move over the books of the parts.
-use Rattle.std.proofs.Common.{◌≡◌, ℕ, ◌+◌, ◌++◌, ◌*◌, true, false, List, length, None, refl, sym, ap, ◌∙◌, subst, inl, inr, find, is_some}
-use Rattle.alloc_rules.proofs.Common.{position_or_len, cases_lt, lt-ltb, slice_get_past, page_bytes, pages_holding, class_of, length_by, length_of, Run}
+use Rattle.std.proofs.Common.{◌≡◌, ℕ, ◌+◌, ◌++◌, ◌*◌, false, List, None, ap, subst, find, is_some, arith}
+use Rattle.alloc_rules.proofs.Common.{cases_lt, lt-ltb, slice_get_past, page_bytes, pages_holding, class_of, length_by, length_of, Run}
 use Rattle.alloc_rules.proofs.Common.{SpanRef, ClassRow, NameState, Setup, Stock, Books, Said, Move, Parts, AreBooksOf, About}
 use Rattle.alloc_rules.proofs.Common.{FrontRules, SpanMap, Local, Does, account_of, decided_at, runs_like, spans_like}
 use Rattle.std.proofs.lemmas.List.Folds.{find_at}
@@ -29,11 +29,7 @@ leaves {about = about} {m = m} {p = p} {b = b} {heap = heap} {spans = spans} {sa
 
 -- no row serves a request without a class, so its block has whole pages
 pub no_row : (rows : List ClassRow) (size : ℕ) → is_some (class_of rows size) ≡ false → find (serves size) rows ≡ None
-no_row rows size none =
-    elim (cases_lt (position_or_len (serves size) rows) (length rows)) [
-      | inl there ↦ absurd (let e : is_some (class_of rows size) ≡ true = rw (lt-ltb (position_or_len (serves size) rows) (length rows) there) refl in let wrong : true ≡ false = sym e ∙ none in cc)
-      | inr past ↦ find_at (serves size) rows ∙ slice_get_past rows (position_or_len (serves size) rows) past
-    ]
+no_row rows size none = grind (arith, cases_lt, find_at, lt-ltb, slice_get_past)
 
 pub no_row_length : (rows : List ClassRow) (size : ℕ) → class_of rows size ≡ None → length_of rows size ≡ pages_holding size * page_bytes
 no_row_length rows size none = ap (λ row. length_by row size) (no_row rows size (ap is_some none))

@@ -32,9 +32,7 @@ pub row_at_class : {V R : Type 0} (rows : List ClassRow) (l : Local V R) → Are
 row_at_class rows l are low = are.each l.regs.class.0 no_class low
 
 not_out : (n : NameState) → bit (is_out n) ≡ 0 → n ≡ name.Unpublished
-not_out name.Unpublished e = refl
-not_out (name.Published value) e = absurd (omega arith)
-not_out name.Taken e = absurd (omega arith)
+not_out n e = grind arith
 
 module _ {P V R : Type 0} (r : FrontRules P V R) (about : R → About) (planned : Planned → Type 0) (entries : AreEntries r.calls about) where
   module _ (huge labels : ℕ) (limits : HeapConfig) (p : Parts P) (locals : List (Local V R)) (b : Books) (calls : List CallLine) (t : ℕ) (l : Local V R) where

@@ -25,17 +25,11 @@ use Rattle.call_steps.specs.declared.step.NamesStep.TheVariants as names
 use Rattle.call_steps.specs.Calls as calls
 
 first_some : (h : heaps.Heap) (xs : List SpanRef) → FirstLives h xs → 0 < length xs
-first_some h [] lives = absurd lives
-first_some h (s ∷ others) lives = omega arith
+first_some h xs lives = grind arith
 
 -- a step of a call counts as its call says
 under_is : {R : Type 0} (about : R → About) (s : Step R) → is_under_way s ≡ true → under about s ≡ without_call (undecided about s)
-under_is about (does.Front row) way = refl
-under_is about (does.Shard row) way = refl
-under_is about (does.Heap row) way = refl
-under_is about (does.Map row) way = refl
-under_is about (does.Names row) way = refl
-under_is about does.Ended way = absurd (false≢true way)
+under_is about s way = grind (arith, false≢true)
 
 -- within a call of a local: another one that has decided no more than this
 record IsFrom {V R : Type 0} (l x : Local V R) (new : List Decided) : Type 0 where

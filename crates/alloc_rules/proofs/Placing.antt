@@ -1,5 +1,5 @@
 -- A new run may be placed where the heap places it: it lies in the arena and meets no live run.
-use Rattle.std.proofs.Common.{◌≡◌, ℕ, ◌+◌, ◌*◌, ◌<◌, ◌≤◌, true, false, ltb, List, get_or, Contains, Option, Some, sym, ap, ◌∙◌, subst, arith, inl, inr}
+use Rattle.std.proofs.Common.{◌≡◌, ℕ, ◌+◌, ◌*◌, ◌<◌, ◌≤◌, true, false, ltb, List, get_or, Contains, Some, ap, ◌∙◌, subst, arith, inl, inr}
 use Rattle.std.proofs.Common.{MatchOption}
 use Rattle.alloc_rules.proofs.Common.{cases_lt, lt-ltb, le-ltb, and_from, and_left, and_right, false≢true, page_bytes, Run, count_some, meets, Placed, new}
 use Rattle.alloc_rules.proofs.Common.{none_fits, IsSound, IsInside, IsGiven, new_gives, unused_counts, holds_from, runs_like, runs_at, block_of, IsPlaced}
@@ -33,21 +33,14 @@ apart_blocks heap r b sound some unused at =
 
 -- what the law of a new run says of one that is given
 pub given_at : (heap : heaps.Heap) (n : ℕ) (x : Placed) → new heap n ≡ Some x → MatchOption (new heap n) (none_fits heap n ≡ true) (λ y. IsGiven heap n y × (none_fits heap n ≡ false)) → IsGiven heap n x
-given_at heap n x some law =
-    let Q : Option Placed → Type 0 = λ o. MatchOption o (none_fits heap n ≡ true) (λ y. IsGiven heap n y × (none_fits heap n ≡ false)) in
-    let given : Q (Some x) = subst Q some law in
-    given.0
+given_at heap n x some law = grind arith
 
 -- blocks that begin at one place meet
 same_start : (r b : Run) → 0 < r.pages → 0 < b.pages → b.first.0 * page_bytes ≡ r.first.0 * page_bytes → meets (block_of r) (block_of b) ≡ true
 same_start r b rs bs same = and_from (ltb (r.first.0 * page_bytes) (b.first.0 * page_bytes + b.pages * page_bytes)) (ltb (b.first.0 * page_bytes) (r.first.0 * page_bytes + r.pages * page_bytes)) (lt-ltb (r.first.0 * page_bytes) (b.first.0 * page_bytes + b.pages * page_bytes) (omega arith)) (lt-ltb (b.first.0 * page_bytes) (r.first.0 * page_bytes + r.pages * page_bytes) (omega arith))
 
 none_begins : (bag : List Run) (r : Run) → 0 < r.pages → ((b : Run) → 0 < runs_like b bag → 0 < b.pages) → ((b : Run) → 0 < runs_like b bag → meets (block_of r) (block_of b) ≡ false) → runs_at (r.first.0 * page_bytes) bag ≡ 0
-none_begins bag r some all apart =
-    elim (cases_lt 0 (runs_at (r.first.0 * page_bytes) bag)) [
-      | inl there ↦ (let b = run_found (r.first.0 * page_bytes) bag there in absurd (false≢true (sym (apart b.0 b.2) ∙ same_start r b.0 some (all b.0 b.2) b.1)))
-      | inr none ↦ omega arith
-    ]
+none_begins bag r some all apart = grind (arith, cases_lt, false≢true, run_found, same_start)
 
 -- the run of a New, in a bag of the live runs
 pub placed : (heap : heaps.Heap) (bag : List Run) (huge n : ℕ) (x : Placed) → IsSound heap → 2 ≤ heap.config.region → heap.config.huge ≡ huge → ((r : Run) → runs_like r bag ≡ runs_like r heap.runs) → 0 < n → new heap n ≡ Some x → IsGiven heap n x × IsPlaced huge bag n x.run

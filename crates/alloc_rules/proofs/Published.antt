@@ -1,7 +1,7 @@
 -- What a move of the books makes of labels that are to be published, or are out.
-use Rattle.std.proofs.Common.{◌≡◌, ℕ, ◌+◌, ◌<◌, ◌≤◌, ◌⊎◌, true, eqb, List, length, Some, refl, ap, ◌∙◌, inl, inr, arith, slice_get, slice_set}
+use Rattle.std.proofs.Common.{◌≡◌, ℕ, ◌+◌, ◌<◌, ◌≤◌, ◌⊎◌, true, eqb, List, length, Some, refl, ap, inl, inr, arith, slice_get, slice_set}
 use Rattle.alloc_rules.proofs.Common.{cases_lt, eq-eqb, Label, Run, SpanRef, CallLine, NameState, state_of, bit, Account, Doing, asking, publishing, taking}
-use Rattle.alloc_rules.proofs.Common.{unpublished, mentions, is_out, Setup, Stock, Books, Facts, Said, SaysOther, Nothing, One, Move, Rests, GetsNone}
+use Rattle.alloc_rules.proofs.Common.{unpublished, mentions, is_out, Setup, Stock, Books, Facts, Said, SaysOther, Move, Rests, GetsNone}
 use Rattle.alloc_rules.proofs.Common.{GetsRun, GetsObject, GetsFirst, GetsSpan, SetsRun, SetsSpan, FindsObject, FindsRun, ClearsRun, ClearsSpan, FreesRun}
 use Rattle.alloc_rules.proofs.Common.{FreesSpan, MovesHand, FreesObject, TakesNull, TakesAddr, least, name_cases}
 use Rattle.holdings.specs.Moves.{Names}
@@ -24,10 +24,7 @@ module _ (m : Setup) (b : Books) (calls : List CallLine) (t : ℕ) (a : Account)
   own label d is some = within m b calls t a label.0 f at (omega (arith, some, ap (asking label.0) is, ap (publishing label.0) is, ap (taking label.0) is))
 
   written_out : (label : Label) (new : NameState) → is_out new ≡ true → label.0 < length b.names → (x : ℕ) → is_out (state_of b.names x) ≡ true → is_out (state_of (slice_set b.names label.0 new) x) ≡ true
-  written_out label new out low x was = elim (name_cases b.names label.0 new low x) [
-    | inl c ↦ ap is_out c.1 ∙ out
-    | inr c ↦ ap is_out c.1 ∙ was
-  ]
+  written_out label new out low x was = grind (arith, name_cases)
 
   one_here : (label : Label) → bit (eqb label.0 label.0) ≡ 1
   one_here label = ap bit (eq-eqb label.0 label.0 refl)
@@ -80,26 +77,7 @@ module _ (m : Setup) (b : Books) (calls : List CallLine) (t : ℕ) (a : Account)
 
 -- at most one call is decided
 others_few : (said : List Said) → SaysOther said → length said ≤ 1
-others_few said Nothing = omega arith
-others_few said (One x is) = omega arith
+others_few said given = grind arith
 
 pub said_few : (m : Setup) (b : Books) (a : Account) {stock : Stock} {heap : List Run} {spans : List SpanRef} {names : List NameState} {after : Account} {said : List Said} → Move m b a stock heap spans names after said → length said ≤ 1
-said_few m b a (Rests a' new w says) = others_few new says
-said_few m b a (GetsNone label size a' is w) = omega arith
-said_few m b a (GetsRun label size r a' is off placed len w) = omega arith
-said_few m b a (GetsObject label size g o rest a' is class hand moves cut w) = omega arith
-said_few m b a (GetsFirst label size g r o rest apart mapped a' is off class hand one two adds cut w) = omega arith
-said_few m b a (GetsSpan r a' class off placed w) = omega arith
-said_few m b a (SetsRun r a' off none w) = omega arith
-said_few m b a (SetsSpan r apart a' off one two w) = omega arith
-said_few m b a (FindsObject label o span k a' is hand off clears there holds kind w) = omega arith
-said_few m b a (FindsRun label r a' is there clears w) = omega arith
-said_few m b a (ClearsRun label r a' is clears off w) = omega arith
-said_few m b a (ClearsSpan s mapped a' is off w) = omega arith
-said_few m b a (FreesRun label r a' is off apart clears w) = omega arith
-said_few m b a (FreesSpan s apart a' off one two w) = omega arith
-said_few m b a (MovesHand g hand freed a' moves cut keeps same w) = omega arith
-said_few m b a (FreesObject label o g freed a' is moves cut same w) = omega arith
-said_few m b a (Names label value a' is off clears state w) = omega arith
-said_few m b a (TakesNull label a' is state w) = omega arith
-said_few m b a (TakesAddr label o a' is state w) = omega arith
+said_few m b a given = grind (arith, others_few)

@@ -1,5 +1,5 @@
 -- The first act of a call, over any front-end: it is of that call, and decides nothing before it is done.
-use Rattle.std.proofs.Common.{◌≡◌, ℕ, ◌+◌, true, List, [], ◌∷◌, drop, Option, Some, None, refl, sym, ap, ◌∙◌, arith, ◌<◌, is_some, option_map, slice_get}
+use Rattle.std.proofs.Common.{◌≡◌, ℕ, ◌+◌, true, List, drop, Option, Some, None, refl, sym, ap, ◌∙◌, arith, ◌<◌, is_some, option_map, slice_get}
 use Rattle.std.proofs.Common.{IfSome}
 use Rattle.alloc_rules.proofs.Common.{eq-eqb, class_of, Class, Label, Call, Malloc, Free, Release, Drain, Resize, Planned, bit, asking, publishing, got, gets}
 use Rattle.alloc_rules.proofs.Common.{Asking, Step, FrontCalls, AreEntries, IsEntry, step_or, first_of_malloc, first_of_call, first_act, About, undecided}
@@ -9,17 +9,11 @@ use Rattle.call_steps.specs.declared.step.ShardStep.TheVariants as shard
 use Rattle.call_steps.specs.Calls as calls
 
 without : (o : Option Call) → is_some o ≡ true → without_call o ≡ 0
-without None is = absurd (cc)
-without (Some call) is = refl
+without o is = grind arith
 
 -- a call that isn't decided isn't counted as one that is
 pub undecided_under : {R : Type 0} (about : R → About) (s : Step R) → is_some (undecided about s) ≡ true → under about s ≡ 0
-undecided_under about (does.Front row) is = without (undecided about (does.Front row)) is
-undecided_under about (does.Shard row) is = without (undecided about (does.Shard row)) is
-undecided_under about (does.Heap row) is = without (undecided about (does.Heap row)) is
-undecided_under about (does.Map row) is = without (undecided about (does.Map row)) is
-undecided_under about (does.Names row) is = without (undecided about (does.Names row)) is
-undecided_under about does.Ended is = absurd (cc)
+undecided_under about s is = grind arith
 
 -- a call of the front-end's own has a row, as its law has it for calls that are planned
 abbrev pub HasRow : {V R : Type 0} → FrontCalls V R → V → Option Planned → Type 0
@@ -34,15 +28,7 @@ pub record IsFirst {R : Type 0} (about : R → About) (call : Call) (s : Step R)
 
 -- a row of the front-end is about what another step is, so it does for it
 entry_first : {R : Type 0} (about : R → About) (call : Call) (a : About) (other : Step R) (o : Option R) → IsEntry about a o → call_about a ≡ Some call → ((x : ℕ) → asking x (doing_about a) ≡ got x call) → ((x : ℕ) → publishing x (doing_about a) ≡ 0) → IsFirst about call other → IsFirst about call (step_or other o)
-entry_first about call a other None entry of asks publishes first = first
-entry_first about call a other (Some row) entry of asks publishes first =
-    let decides : call_about (about row) ≡ Some call = ap call_about entry ∙ of in
-    record {
-      asks = λ x. ap (λ (b : About). asking x (doing_about b)) entry ∙ asks x;
-      publishes = λ x. ap (λ (b : About). publishing x (doing_about b)) entry ∙ publishes x;
-      of = λ c is. let same : Some call ≡ Some c = sym decides ∙ is in cc;
-      under = ap without_call decides;
-    }
+entry_first about call a other o entry of asks publishes first = grind arith
 
 module _ {V R : Type 0} (e : FrontCalls V R) (about : R → About) (entries : AreEntries e about) (v : V) where
   first_malloc : (c : Option Class) (label : Label) (size : ℕ) → IsFirst about (Malloc label size) (first_of_malloc e v c label size)
@@ -63,41 +49,30 @@ module _ {V R : Type 0} (e : FrontCalls V R) (about : R → About) (entries : Ar
   first_call (Resize cpu class cap) = first_own (Resize cpu class cap) (λ x. refl)
 
   pub first_is_of : (o : Option Planned) → IsOf about (first_act e v o) (option_map (λ (p : Planned). p.call) o)
-  first_is_of None c is = absurd (cc)
-  first_is_of (Some p) c is = ap (λ (x : Call). Some x) ((first_call p.call).of c is)
+  first_is_of o c is = grind (arith, first_call)
 
   pub first_under : (o : Option Planned) → under about (first_act e v o) ≡ 0
-  first_under None = refl
-  first_under (Some p) = (first_call p.call).under
+  first_under o = grind (arith, first_call)
 
   -- and a call is under way
   malloc_way : (c : Option Class) (label : Label) (size : ℕ) (o : Option R) → is_under_way (step_or (does.Shard (shard.Fetch (record { label = label; size = size }))) o) ≡ true
-  malloc_way c label size None = refl
-  malloc_way c label size (Some row) = refl
+  malloc_way c label size o = grind arith
 
   class_way : (c : Option Class) (label : Label) (size : ℕ) → is_under_way (first_of_malloc e v c label size) ≡ true
-  class_way None label size = refl
-  class_way (Some k) label size = malloc_way (Some k) label size (e.first v (record { label = label; size = size }))
+  class_way c label size = grind (arith, malloc_way)
 
   own_way : (o : Option R) → is_some o ≡ true → is_under_way (step_or does.Ended o) ≡ true
-  own_way None some = absurd (cc)
-  own_way (Some row) some = refl
+  own_way o some = grind arith
 
   call_way : (call : Call) → (IsOwn call → is_some (e.other v call) ≡ true) → is_under_way (first_of_call e v call) ≡ true
-  call_way (Malloc label size) there = class_way (class_of e.rows size) label size
-  call_way (Free label) there = refl
-  call_way (Release pages) there = refl
-  call_way (Drain cpu) there = own_way (e.other v (Drain cpu)) (there tt)
-  call_way (Resize cpu class cap) there = own_way (e.other v (Resize cpu class cap)) (there tt)
+  call_way call there = grind (arith, class_way, own_way)
 
   pub next_way : (o : Option Planned) → HasRow e v o → is_under_way (first_act e v o) ≡ is_some (option_map (λ (p : Planned). p.call) o)
-  next_way None there = refl
-  next_way (Some p) there = call_way p.call there
+  next_way o there = grind (arith, call_way)
 
   -- what is asked for and published then
   pub next_weighs : (x : ℕ) (rest : List Planned) → (asking x (doing_of about (first_act e v (slice_get rest 0))) + gets x (drop 1 rest) ≡ gets x rest) × (publishing x (doing_of about (first_act e v (slice_get rest 0))) ≡ 0)
-  next_weighs x [] = (refl, refl)
-  next_weighs x (p ∷ rest) = let f = first_call p.call in (omega (arith, f.asks x), f.publishes x)
+  next_weighs x rest = grind (arith, first_call)
 
   pub asks_first : (o : Option Planned) (label : Label) (size : ℕ) → option_map (λ (p : Planned). p.call) o ≡ Some (Malloc label size) → 0 < asking label.0 (doing_of about (first_act e v o))
   asks_first None label size is = absurd (cc)

@@ -1,35 +1,25 @@
 -- The thread of the earliest call that hasn't ended never waits.
-use Rattle.std.proofs.Common.{◌≡◌, ℕ, suc, ◌+◌, ◌<◌, ◌≤◌, Bool, true, false, eqb, ltb, cond, List, [], ◌∷◌, ◌++◌, length, get_or, map, filter, Option, Some}
+use Rattle.std.proofs.Common.{◌≡◌, ℕ, ◌+◌, ◌<◌, ◌≤◌, Bool, true, false, eqb, ltb, cond, List, [], ◌∷◌, ◌++◌, length, get_or, map, Option, Some}
 use Rattle.std.proofs.Common.{None, refl, sym, ap, ◌∙◌, subst, arith, inl, inr, option_map, slice_get}
 use Rattle.alloc_rules.proofs.Common.{cases_lt, cases_eq, eq-eqb, ltb-true, ltb-false, eqb-true, slice_get-get_or, append_snoc, Label, PartNo, Call, Malloc}
 use Rattle.alloc_rules.proofs.Common.{Free, Release, Drain, Resize, Planned, Asked, ThreadCall, script_of, Rules, World, world_of, FitsThere, IsReady}
 use Rattle.alloc_rules.proofs.Common.{stepped, stepped_on, stepped_at, stepped_by, done_by, done_in, picks_of, next_turn, picks-cons, picks-push_same}
 use Rattle.alloc_rules.proofs.Common.{picks-push_other, NameState, state_of, got, is_out, is_unpublished, bit_is, undecided, About, call_at, target_at}
-use Rattle.alloc_rules.proofs.Common.{waits_for, Regs, Step, Local, Part, Front, Heap, Map, Names, number, number_of, Parts, parts_of, waits, first_of, rules}
+use Rattle.alloc_rules.proofs.Common.{waits_for, Regs, Step, Local, Part, Names, number, number_of, Parts, parts_of, waits, first_of, rules}
 use Rattle.alloc_rules.proofs.Common.{turns, got_in, IsInOrder, IsValid, Standing, FrontRules, Fits, IsIn, is_under_way}
-use Rattle.alloc_rules.specs.declared.part.Part.TheVariants.{Shard}
 use Rattle.tc_model.specs.declared.steps.Stepped.TheVariants as step
-use Rattle.name_table.specs.declared.table.NameState.TheVariants as name
 use Rattle.call_steps.specs.declared.step.Step.TheVariants as does
-use Rattle.call_steps.specs.declared.step.NamesStep.TheVariants as names
 use Rattle.alloc_rules.proofs.{Inputs.got_push, Numbers.get_names, Serving.ArePlaced, Serving.IsAtWork}
 
 -- a script, call by call
 pub script-cons : (t : ℕ) (c : ThreadCall) (cs : List ThreadCall) → script_of t (c ∷ cs) ≡ cond (eqb c.thread.0 t) (c.planned ∷ script_of t cs) (script_of t cs)
-script-cons t c cs =
-    let f : ThreadCall → Planned = λ (d : ThreadCall). d.planned in
-    let ys : List ThreadCall = filter (λ (d : ThreadCall). eqb d.thread.0 t) cs in
-    elim (eqb c.thread.0 t) as (λ b. map f (cond b (c ∷ ys) ys) ≡ cond b (c.planned ∷ map f ys) (map f ys)) [
-      | true ↦ refl
-      | false ↦ refl
-    ]
+script-cons t c cs = grind arith
 
 abbrev pub turns_of : List ThreadCall → List ℕ
 turns_of calls = map (λ (c : ThreadCall). c.thread.0) calls
 
 script_step : (t : ℕ) (b : ThreadCall) (rest : List ThreadCall) (n : ℕ) (call : Planned) (k : Bool) → slice_get (script_of t rest) n ≡ Some call → slice_get (cond k (b.planned ∷ script_of t rest) (script_of t rest)) (cond k 1 0 + n) ≡ Some call
-script_step t b rest n call true at = let e : 1 + n ≡ suc n = omega arith in rw e at
-script_step t b rest n call false at = let e : 0 + n ≡ n = omega arith in rw e at
+script_step t b rest n call k at = grind arith
 
 script_at : (before : List ThreadCall) (c : ThreadCall) (after : List ThreadCall) → slice_get (script_of c.thread.0 (before ++ c ∷ after)) (picks_of c.thread.0 (turns_of before)) ≡ Some c.planned
 script_at [] c after =
@@ -72,49 +62,22 @@ wants_by place split classes l does.Ended way = absurd (cc)
 
 -- only names are waited for
 waits_at : {P V R : Type 0} (l : Local V R) (part : Part P) → ((ns : List NameState) → part ≡ Names ns → waits_for ns l.step ≡ false) → waits part l ≡ false
-waits_at l (Front q) goes = refl
-waits_at l (Shard x) goes = refl
-waits_at l (Heap heap) goes = refl
-waits_at l (Map m) goes = refl
-waits_at l (Names ns) goes = goes ns refl
+waits_at l part goes = grind arith
 
 not_waits : (n : NameState) → is_out n ≡ true → is_unpublished n ≡ false
-not_waits name.Unpublished out = absurd (cc)
-not_waits (name.Published value) out = refl
-not_waits name.Taken out = refl
+not_waits n out = grind arith
 
 -- the names that a step on names finds are those of the parts
 names_there : {P : Type 0} (split : ℕ) (p : Parts P) (few : split ≤ length p.fronts) (classes : ℕ) (n : PartNo) (ns : List NameState) → length p.shards ≡ classes → Some (number (split + classes + 2)) ≡ Some n → slice_get (parts_of split p) n.0 ≡ Some (Names ns) → p.names ≡ ns
-names_there split p few classes n ns k is there =
-    let m : number (split + classes + 2) ≡ n = cc in
-    let i : split + length p.shards + 2 ≡ n.0 = omega (arith, k, ap (λ (x : PartNo). x.0) m) in
-    let e : Some (Names p.names) ≡ Some (Names ns) = sym (get_names split p few) ∙ (ap (λ j. slice_get (parts_of split p) j) i ∙ there) in
-    cc
+names_there split p few classes n ns k is there = grind (arith, get_names)
 
 -- a step of a call whose label is out doesn't wait
 goes_by : {P V R : Type 0} (about : R → About) (place : V → Regs → R → ℕ) (split : ℕ) (p : Parts P) (few : split ≤ length p.fronts) (classes : ℕ) (l : Local V R) (n : PartNo) (ns : List NameState) (s : Step R) (c : Call) (o : Option Call) → length p.shards ≡ classes → option_map (number_of split classes) (target_at place l s) ≡ Some n → slice_get (parts_of split p) n.0 ≡ Some (Names ns) → ((d : Call) → undecided about s ≡ Some d → o ≡ Some d) → o ≡ Some c → ((label : Label) → c ≡ Free label → is_out (state_of p.names label.0) ≡ true) → waits_for ns s ≡ false
-goes_by about place split p few classes l n ns (does.Front row) c o many wants there call is out = refl
-goes_by about place split p few classes l n ns (does.Shard row) c o many wants there call is out = refl
-goes_by about place split p few classes l n ns (does.Heap row) c o many wants there call is out = refl
-goes_by about place split p few classes l n ns (does.Map row) c o many wants there call is out = refl
-goes_by about place split p few classes l n ns does.Ended c o many wants there call is out = refl
-goes_by about place split p few classes l n ns (does.Names (names.Publish label value)) c o many wants there call is out = refl
-goes_by about place split p few classes l n ns (does.Names (names.Take label)) c o many wants there call is out =
-    let e : Some c ≡ Some (Free label) = sym is ∙ call (Free label) refl in
-    let d : c ≡ Free label = cc in
-    let same : p.names ≡ ns = names_there split p few classes n ns many wants there in
-    not_waits (state_of ns label.0) (subst (λ xs. is_out (state_of xs label.0) ≡ true) same (out label d))
+goes_by about place split p few classes l n ns s c o many wants there call is out = grind (arith, names_there, not_waits)
 
 -- a step is of a call, or its script has ended
 way_by : {R : Type 0} (s : Step R) (o : Option Call) (c : Call) → o ≡ Some c → (is_under_way s ≡ false → o ≡ None) → is_under_way s ≡ true
-way_by s o c is ended =
-    let both : (b : Bool) → is_under_way s ≡ b → b ≡ true =
-    λ b. elim b as (λ k. is_under_way s ≡ k → k ≡ true) [
-      | true ↦ λ e. refl
-      | false ↦ λ e. let wrong : Some c ≡ None = sym is ∙ ended e in absurd (cc)
-    ]
-    in
-    both (is_under_way s) refl
+way_by s o c is ended = grind arith
 
 -- a free keeps the rules behind the calls before it: its label was allocated
 free_after : (earlier : List ThreadCall) (call : Call) (label : Label) → IsInOrder earlier call → call ≡ Free label → 0 < got_in label.0 earlier

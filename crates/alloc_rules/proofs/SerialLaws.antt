@@ -7,7 +7,6 @@ use Rattle.alloc_rules.proofs.Common.{NeverWaits, Rises, Ends, call_at, Regs, St
 use Rattle.alloc_rules.proofs.Common.{place_of, first_of, rules, turns, Fits, IsIn, is_under_way, IsValid}
 use Rattle.tc_model.proofs.RisesBy.{rises_by, turns_none}
 use Rattle.tc_model.specs.declared.steps.Stepped.TheVariants as step
-use Rattle.call_steps.specs.declared.step.Step.TheVariants as does
 use Rattle.alloc_rules.proofs.{Elsewhere.after_rises, Runs.served_order, Runs.sound, SerialGoes.script_length, SerialGoes.serial_goes, Serving.IsAtWork}
 
 -- calls are made by threads that there are
@@ -37,17 +36,11 @@ module _ {P V R : Type 0} {r : FrontRules P V R} {about : R → About} {planned 
 
   -- where each call has ended, each script has
   ended_by : (l : Local V R) (s : Step R) → l.step ≡ s → is_under_way s ≡ false → place_of r about l ≡ None
-  ended_by l (does.Front row) is way = absurd (cc)
-  ended_by l (does.Shard row) is way = absurd (cc)
-  ended_by l (does.Heap row) is way = absurd (cc)
-  ended_by l (does.Map row) is way = absurd (cc)
-  ended_by l (does.Names row) is way = absurd (cc)
-  ended_by l does.Ended is way = rw is refl
+  ended_by l s is way = grind arith
 
   -- a step of no call
   no_way : {X : Type 0} (b : Bool) (o : Option X) → o ≡ None → (b ≡ true → is_some o ≡ true) → b ≡ false
-  no_way true o none some = let e : is_some o ≡ false = ap is_some none in absurd (false≢true (sym e ∙ some refl))
-  no_way false o none some = refl
+  no_way b o none some = grind (arith, false≢true)
 
   all_ended : (p : Parts P) (locals : List (Local V R)) (order : List ℕ) → ((t : ℕ) (l : Local V R) → slice_get locals t ≡ Some l → IsAtWork r about planned Holds asked p.names order t l)
       → next_turn (done_in (rules r about asked) (world_of (parts_of r.split p) locals)) [] (turns asked) ≡ None → HaveEnded (rules r about asked) (world_of (parts_of r.split p) locals)

@@ -1,5 +1,5 @@
 -- What holds of a world in every run, and what an act of a thread makes of it.
-use Rattle.std.proofs.Common.{◌≡◌, ℕ, zero, suc, ◌+◌, ◌≤◌, true, eqb, List, [], ◌∷◌, ◌++◌, length, map, Option, Some, refl, sym, ap, ◌∙◌, subst, inl, inr}
+use Rattle.std.proofs.Common.{◌≡◌, ℕ, zero, suc, ◌+◌, ◌≤◌, true, eqb, List, [], ◌∷◌, ◌++◌, length, map, Option, Some, refl, sym, ap, ◌∙◌, subst}
 use Rattle.std.proofs.Common.{arith, All, slice_get, slice_set}
 use Rattle.alloc_rules.proofs.Common.{MOST_PICKS, append-nil, length-set, length-append, map-append, filter-append, Planned, CallLine, Asked, script_of, World, world_of}
 use Rattle.alloc_rules.proofs.Common.{picks_of, answers_at, AreOfPicks, AreAt, AreBelow, AreRising, calls-step, picks-step, picks-push_same, picks-push_other}
@@ -67,20 +67,7 @@ map-set f (y ∷ ys) (suc t) x = ap (λ zs. f y ∷ zs) (map-set f ys t x)
 
 -- in other names, in which the same are out
 stays_inside : {V R : Type 0} (e : FrontCalls V R) (about : R → About) (names names' : List NameState) (script : List Planned) (l : Local V R) → StayOut names names' → IsIn e about names script l → IsIn e about names' script l
-stays_inside e about names names' script l stay inside =
-    record {
-      rest = inside.rest;
-      call = inside.call;
-      some = inside.some;
-      none = inside.none;
-      out = λ j label size below is. stay label.0 (inside.out j label size below is);
-      now = λ label size is. elim (inside.now label size is) [
-        | inl out ↦ inl (stay label.0 out)
-        | inr due ↦ inr due
-      ];
-      count = inside.count;
-      decided = inside.decided;
-    }
+stays_inside e about names names' script l stay inside = grind arith
 
 -- A moment at which thread t is picked: what holds of parts, threads and books behind an order.
 pub record Moment {P V R : Type 0} (r : FrontRules P V R) (about : R → About) (planned : Planned → Type 0) (Holds : ℕ → List P → List (Standing V R) → Type 0)

@@ -1,14 +1,7 @@
 -- What holds of each item of a list in which one was set.
-use Rattle.std.proofs.Common.{◌≡◌, ℕ, List, Some, sym, ap, ◌∙◌, subst, inl, inr, slice_get, slice_set}
+use Rattle.std.proofs.Common.{◌≡◌, ℕ, List, Some, slice_get, slice_set, arith}
 use Rattle.alloc_rules.proofs.Common.{cases_eq}
 use Rattle.tc_model.proofs.Lists.{set_elsewhere, set_here}
 
 pub each_set : {X : Type 0} (P : ℕ → X → Type 0) (xs : List X) (t : ℕ) (new old : X) → slice_get xs t ≡ Some old → P t new → ((u : ℕ) (x : X) → (t ≡ u → ⊥) → slice_get xs u ≡ Some x → P u x) → (u : ℕ) (x : X) → slice_get (slice_set xs t new) u ≡ Some x → P u x
-each_set P xs t new old there here others u x is =
-    elim (cases_eq t u) [
-      | inl same ↦
-          let e : Some new ≡ Some x = sym (set_here xs t new old there) ∙ (ap (λ v. slice_get (slice_set xs t new) v) same ∙ is) in
-          let h : new ≡ x = cc in
-          subst (λ v. P v x) same (subst (P t) h here)
-      | inr apart ↦ others u x apart (sym (set_elsewhere xs t u new apart) ∙ is)
-    ]
+each_set given xs t new old there here others u x is = grind (arith, cases_eq, set_elsewhere, set_here)

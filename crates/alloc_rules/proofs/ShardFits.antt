@@ -1,5 +1,5 @@
 -- The acts at a shard fit: a new span is apart from the others, and a hand that is given was taken there.
-use Rattle.std.proofs.Common.{◌≡◌, ℕ, ◌+◌, ◌<◌, ◌≤◌, ◌⊎◌, cond, eqb, List, [], length, map, get_or, Some, refl, sym, ap, ◌∙◌, subst, arith, inl, inr, All}
+use Rattle.std.proofs.Common.{◌≡◌, ℕ, ◌+◌, ◌<◌, ◌≤◌, ◌⊎◌, List, [], length, map, get_or, Some, sym, ap, ◌∙◌, subst, arith, inl, inr, All}
 use Rattle.std.proofs.Common.{slice_get}
 use Rattle.alloc_rules.proofs.Common.{cases_lt, cond-true, eq-eqb, get_or-map, length-map, get_or-le-sum_by, get_or_from_slice_get, Addr, ClassRow, Run}
 use Rattle.alloc_rules.proofs.Common.{SpanRef, CallLine, HeapConfig, SpanState, IsTakenIn, IsApartFrom, Shard, places, spans_in, objects_in_spans, found_at}
@@ -13,11 +13,7 @@ use Rattle.alloc_rules.proofs.{Counting.objects_count, Freeing.account_at}
 
 -- an object of a list is at its address there
 objects_have : (xs : List Addr) (i : ℕ) (d : Addr) → i < length xs → 0 < objects_at (get_or xs i d).0 xs
-objects_have xs i d less =
-    let n = (get_or xs i d).0 in
-    let f : Addr → ℕ = λ x. cond {A = ℕ} (eqb x.0 n) 1 0 in
-    let one : f (get_or xs i d) ≡ 1 = cond-true (eqb n n) 1 0 (eq-eqb n n refl) in
-    omega (arith, one, get_or-le-sum_by f xs i d less, objects_count n xs)
+objects_have xs i d less = grind (arith, cond-true, eq-eqb, get_or-le-sum_by, objects_count)
 
 -- what holds of the spans of a list of states
 states_have : (P : SpanRef → Type 0) (states : List SpanState) → All P (map (λ (x : SpanState). x.span) states) → All (λ (x : SpanState). P x.span) states

@@ -279,9 +279,7 @@ module _ {P V R : Type 0} {r : FrontRules P V R} {about : R → About} {planned 
 
     -- the shard stays its class's, a new span's first page is a low number, and a new span brings an object at least
     pub shard_stays : (row : ShardStep R) → l.step ≡ does.Shard row → ShardShape m.rows about l row → IsShardOf m.rows l.regs.class.0 (shard_row r.calls x (at_step row) row).0 × IsLowRun row × AddsSome m.rows x l row
-    shard_stays (Fetch asking) is shape = (fetched_of, tt, tt)
-    shard_stays (AddFetch asking run) is shape = (added_of asking run is shape.0.hand shape.1, is_low asking run is shape.0.hand shape.1, (is_added asking run is shape.0.hand shape.1).some)
-    shard_stays (Give g) is shape = (given_of g is shape.0.freed shape.1, tt, tt)
+    shard_stays row is shape = grind (arith, added_of, fetched_of, given_of, is_added, is_low)
 
   pub shard_acts_move : ShardActsMove r about planned
   shard_acts_move huge labels limits p locals b calls t l x row before is at =

@@ -1,7 +1,7 @@
 -- How large the requests of a script are.
 use Rattle.std.proofs.Common.{◌≡◌, ℕ, ◌^◌, ◌≤◌, true, false, eqb, cond, List, [], ◌∷◌, ◌++◌, map, filter, All, Option, Some, None, refl, ◌∙◌, subst, arith}
 use Rattle.std.proofs.Common.{option_map, slice_get}
-use Rattle.alloc_rules.proofs.Common.{All-cons, slice_get_within, get_or_from_slice_get, append_snoc, Label, Call, Malloc, Free, Release, Drain, Resize}
+use Rattle.alloc_rules.proofs.Common.{All-cons, slice_get_within, get_or_from_slice_get, append_snoc, Label, Call, Malloc}
 use Rattle.alloc_rules.proofs.Common.{Planned, Asked, ThreadCall, script_of, call_at, ClassRow, IsInOrder, IsValid}
 
 abbrev IsLow : Call → Type 0
@@ -9,11 +9,7 @@ IsLow (Malloc label size) = size ≤ 2 ^ 40
 IsLow other = Unit {0}
 
 in_order : (earlier : List ThreadCall) (c : Call) → IsInOrder earlier c → IsLow c
-in_order earlier (Malloc label size) order = order.0
-in_order earlier (Free label) order = tt
-in_order earlier (Release pages) order = tt
-in_order earlier (Drain cpu) order = tt
-in_order earlier (Resize cpu class cap) order = tt
+in_order earlier c order = grind arith
 
 abbrev Lows : List Planned → Type 0
 Lows script = All (λ (q : Planned). IsLow q.call) script

@@ -17,9 +17,7 @@ at_end (p ∷ ps) zero none = absurd (cc)
 at_end (p ∷ ps) (suc n) none = omega (arith, at_end ps n none)
 
 pub takes_all : (script : List Planned) (n m : ℕ) → call_at script n ≡ None → n ≤ m → take m (map (λ (p : Planned). p.call) script) ≡ map (λ (p : Planned). p.call) script
-takes_all script n m none past =
-    let calls : List Call = map (λ (p : Planned). p.call) script in
-    take_all m calls (omega (arith, past, at_end script n none, length-map script (λ (p : Planned). p.call)))
+takes_all script n m none past = grind (arith, at_end, length-map, take_all)
 
 -- the calls that are told are those that were decided
 told_calls : (t : ℕ) (ds : List Decided) → map (λ (c : CallLine). c.call) (map (told t) ds) ≡ map (λ (d : Decided). d.call) ds
@@ -37,5 +35,4 @@ first_calls (p ∷ ps) (d ∷ ds) each =
 
 pub tells_first : {V R : Type 0} (script : List Planned) (t : ℕ) (l : Local V R) (told_lines : List CallLine) (n : ℕ) → told_lines ≡ map (told t) l.answers → ((j : ℕ) (d : Decided) → slice_get l.answers j ≡ Some d → call_at script j ≡ Some d.call) → length l.answers ≡ n
     → map (λ (c : CallLine). c.call) told_lines ≡ take n (map (λ (p : Planned). p.call) script)
-tells_first script t l told_lines n is each count =
-    ap (map (λ (c : CallLine). c.call)) is ∙ (told_calls t l.answers ∙ (first_calls script l.answers each ∙ ap (λ (k : ℕ). take k (map (λ (p : Planned). p.call) script)) count))
+tells_first script t l told_lines n is each count = grind (arith, first_calls, told_calls)

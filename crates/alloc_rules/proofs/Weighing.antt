@@ -1,5 +1,5 @@
 -- Accounts that weigh the same: one that nothing changes, and one that ends its call and begins the next.
-use Rattle.std.proofs.Common.{◌≡◌, ℕ, ◌+◌, Bool, true, false, cond, eqb, List, [], ◌∷◌, Option, Some, None, refl, ap, sym, ◌∙◌, subst, arith}
+use Rattle.std.proofs.Common.{◌≡◌, ℕ, ◌+◌, Bool, cond, List, [], ◌∷◌, Option, Some, None, refl, ap, sym, ◌∙◌, subst, arith}
 use Rattle.alloc_rules.proofs.Common.{Addr, Class, Label, class_of, Call, Malloc, Free, Release, Drain, Resize, Planned, objects_at, Account, Doing, Takes}
 use Rattle.alloc_rules.proofs.Common.{Other, WeighSame, asking, publishing, taking, loose, got, put, first_of_malloc, first_of_call, regs_of_malloc}
 use Rattle.alloc_rules.proofs.Common.{fresh_regs, next_call, closes, ends, Local, step_or, Regs, Asking, Step, FrontCalls, AreEntries, IsEntry, About}
@@ -24,38 +24,21 @@ weighs_is a b is = subst (WeighSame a) (sym is) (weighs_same a)
 
 -- an empty hand has no object of any class
 pub none_in_hand : (k n : ℕ) (b : Bool) (hand : List Addr) → hand ≡ [] → cond b (objects_at n hand) 0 ≡ 0
-none_in_hand k n true hand none = ap (objects_at n) none
-none_in_hand k n false hand none = refl
+none_in_hand k n b hand none = grind arith
 
 -- with an empty hand the class is nothing
 pub weighs_quiet : (k j : ℕ) (hand : List Addr) (todo : List Planned) → hand ≡ [] → WeighSame (quiet k todo) (bare Other j hand todo)
-weighs_quiet k j hand todo none =
-    record { asks = λ x. refl; publishes = λ x. refl; takes = λ x. refl; mentioned = λ x. refl; value = λ x v. refl; loosely = λ n. refl; objects = none; classes = λ i n. none_in_hand i n (eqb j i) hand none ∙ sym (none_in_hand i n (eqb k i) [] refl); off = refl; apart = refl; mapped = refl; clears = refl }
+weighs_quiet k j hand todo none = grind (arith, none_in_hand)
 
 -- a call is begun: what its script had to do with labels, its first act has
 begun : (k j : ℕ) (hand : List Addr) (d : Doing) (p : Planned) (rest : List Planned) → hand ≡ [] → ((x : ℕ) → asking x d ≡ got x p.call) → ((x : ℕ) → publishing x d ≡ 0) → ((x : ℕ) → taking x d ≡ put x p.call) → ((x : ℕ) (v : Option Addr) → holds x v d ≡ 0) → ((n : ℕ) → loose n d ≡ 0)
     → WeighSame (quiet k (p ∷ rest)) (bare d j hand rest)
-begun k j hand d p rest none asks publishes takes value loosely =
-    record {
-      asks = λ x. omega (arith, asks x);
-      publishes = λ x. omega (arith, asks x, publishes x);
-      takes = λ x. omega (arith, takes x);
-      mentioned = λ x. omega (arith, asks x, publishes x, takes x);
-      value = value;
-      loosely = loosely;
-      objects = none;
-      classes = λ i n. none_in_hand i n (eqb j i) hand none ∙ sym (none_in_hand i n (eqb k i) [] refl);
-      off = refl;
-      apart = refl;
-      mapped = refl;
-      clears = refl;
-    }
+begun k j hand d p rest none asks publishes takes value loosely = grind (arith, none_in_hand)
 
 -- a step that has a row of the front-end or another one, both about this
 pub entry_is : {V R : Type 0} (of : R → About) (l : Local V R) (other : Step R) (a : About) (o : Option R) → IsEntry of a o → account_of of (record l { step = other }) ≡ bare (doing_about a) l.regs.class.0 l.regs.hand.items l.rest
     → account_of of (record l { step = step_or other o }) ≡ bare (doing_about a) l.regs.class.0 l.regs.hand.items l.rest
-entry_is of l other a None is same = same
-entry_is of l other a (Some row) is same = ap (λ (x : About). bare (doing_about x) l.regs.class.0 l.regs.hand.items l.rest) is
+entry_is of l other a o is same = grind arith
 
 module _ {V R : Type 0} (e : FrontCalls V R) (of : R → About) (entries : AreEntries e of) where
   -- a call is begun with registers whose hand is empty
@@ -99,8 +82,7 @@ module _ {V R : Type 0} (e : FrontCalls V R) (of : R → About) (entries : AreEn
 
 -- that is one act more, with no further answer
 closes_counts : {V R : Type 0} (e : FrontCalls V R) (l : Local V R) (o : Option R) → ((closes e l o).acts ≡ l.acts) × ((closes e l o).answers ≡ l.answers)
-closes_counts e l None = (refl, refl)
-closes_counts e l (Some row) = (refl, refl)
+closes_counts e l o = grind arith
 
 pub ends_counts : {V R : Type 0} (e : FrontCalls V R) (l : Local V R) → ((ends e l).acts ≡ l.acts + 1) × ((ends e l).answers ≡ l.answers)
 ends_counts e l = closes_counts e (record l { acts = l.acts + 1 }) (e.last l.seat)
