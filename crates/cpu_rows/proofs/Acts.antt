@@ -1,9 +1,9 @@
 -- What comes behind an act at a CPU, and what the act leaves.
-use Rattle.std.proofs.Common.{◌≡◌, ◌≢◌, ℕ, ◌+◌, ◌<◌, ◌≤◌, false, List, [], length, Option, Some, None, refl, sym, ap, ◌∙◌, subst, arith, inl, inr, ◌⊎◌, zero}
-use Rattle.std.proofs.Common.{suc, eqb}
-use Rattle.cpu_rows.proofs.Common.{cond_both, Class, ThreadNo, ClassRow, MoveTo, Config, MOST_PICKS, CpuSlab, row_at, held, CpuPart, Regs, room, is_pop}
-use Rattle.cpu_rows.proofs.Common.{IsCurrent, runs, left, dropped, CpuOk, SeatOk, SeatKeeps, IsHome, AreOfSame, objects_at, CpuSeat, CpuRow, CpuStep, Next}
-use Rattle.cpu_rows.proofs.Common.{HasNoLabel, About, Asks, Publishes, Frees, Other, about_giving, cpu_acts, leaving, moves_to, leaves, looks_on, gives}
+use Rattle.std.proofs.Common.{◌≡◌, ◌≢◌, ℕ, ◌+◌, ◌<◌, ◌≤◌, false, List, [], length, Option, Some, None, refl, sym, ap, ◌∙◌, subst, arith, inl, ◌⊎◌}
+use Rattle.std.proofs.Common.{eqb}
+use Rattle.cpu_rows.proofs.Common.{cond_both, ThreadNo, ClassRow, MoveTo, Config, MOST_PICKS, CpuSlab, row_at, held, CpuPart, Regs, room, is_pop}
+use Rattle.cpu_rows.proofs.Common.{IsCurrent, left, dropped, CpuOk, SeatOk, SeatKeeps, IsHome, AreOfSame, objects_at, CpuSeat, CpuRow, CpuStep, Next}
+use Rattle.cpu_rows.proofs.Common.{HasNoLabel, About, Asks, about_giving, cpu_acts, leaving, moves_to, leaves, looks_on, gives}
 use Rattle.cpu_rows.proofs.Common.{at_cpu_next, about_cpu, about_row, at_cpu, as_row, FitsCpu, thread_no, AreRows, most_slots, IsAtBegin, HasNone, IsGiving}
 use Rattle.cpu_rows.proofs.Common.{CpuShape, cpu_standing, giving_standing, IsMove, limits_of, Standing, Here, stand, at_next, regs_next, IsReady, IsAct}
 use Rattle.cpu_rows.proofs.Common.{IsNext, Cpu, left_with, cpu_front, seated, stopping_at, seat_at, IsSeated, RegsAt, Asking, Giving, IsAsked, HandAbout}
@@ -18,8 +18,7 @@ use Rattle.cpu_rows.specs.declared.row.DomainStep.TheVariants as domain
 
 -- a number of domains that isn't 0
 some_domain : (n : ℕ) → eqb n 0 ≡ false → 0 < n
-some_domain zero is = absurd (cc)
-some_domain (suc n) is = omega arith
+some_domain n is = grind arith
 
 module _ (rows : List ClassRow) (c : Config) where
   -- It may come there, the registers are as there, and the thread stands so at the CPU that it has stopped.
@@ -31,23 +30,14 @@ module _ (rows : List ClassRow) (c : Config) where
 
   -- a row's hand, with registers of its class and the same objects
   pub hand_same : (g r : Regs) (a : About) → r.class ≡ g.class → r.hand.items ≡ g.hand.items → HandAbout rows g a → HandAbout rows r a
-  hand_same g r (Asks a) class hand x = (x.0 ∙ ap (λ (k : Class). Some k) (sym class), hand ∙ x.1)
-  hand_same g r (Publishes s) class hand x = omega (arith, ap length hand, x)
-  hand_same g r (Frees f) class hand x = (rw hand x.0, omega (arith, ap length hand, x.1))
-  hand_same g r (Other call) class hand x = omega (arith, ap length hand, x)
+  hand_same g r a class hand x = grind arith
 
   hand_other : (r : Regs) (a : About) → HasNoLabel a → length r.hand.items ≤ most_slots → HandAbout rows r a
-  hand_other r (Asks a) other few = absurd other
-  hand_other r (Publishes s) other few = absurd other
-  hand_other r (Frees f) other few = absurd other
-  hand_other r (Other call) other few = few
+  hand_other r a other few = grind arith
 
   hand_given : (r : Regs) (w : Giving CpuStep) → length r.hand.items ≤ most_slots → IsGiving (limits_of rows c) r.hand.items (as_row w)
       → HandAbout rows r (about_giving about_cpu w)
-  hand_given r (giving.Rest s) few is = few
-  hand_given r (giving.Freed f) few is = (is, few)
-  hand_given r (giving.Row k row) few is = hand_other r (about_cpu row) is.other few
-  hand_given r giving.End few is = few
+  hand_given r w few is = grind (arith, hand_other)
 
   -- an allocation looks on in its domain, or in the shard
   pub looks : (v : CpuSeat) (row : CpuRow) (g r : Regs) (a : Asking) → about_row row ≡ Asks a → HasNone (seated v r) → IsAsked rows r a
@@ -164,8 +154,7 @@ module _ (turn : Turn) where
 
   class_low : (row : CpuStep) (r new : Regs) → IsThere row → r.class ≡ g.class → HasClass row r new
       → (new.class.0 < length rows) × ((new.class ≡ g.class) ⊎ ((new.hand.items ≡ []) × HasNoLabel (about_cpu row)))
-  class_low row r new there is (inl same) = (omega (arith, ap (λ (k : Class). k.0) (same ∙ is), there.ready.class), inl (same ∙ is))
-  class_low row r new there is (inr other) = (other.0, inr (other.1, other.2))
+  class_low row r new there is given = grind arith
 
   builds : (row : CpuStep) (new : CpuPart) (to : CpuSeat) (r r' : Regs) (n : Next) (o o' : Option seats.Standing) → IsThere row → IsSeat to → IsMoved new r
       → GoesOn row to r r' o' n → o ≡ o' → Keeps row new (record { regs = r'; cpu = to.cpu.0; standing = o })
@@ -205,8 +194,7 @@ module _ (turn : Turn) where
   -- in the middle of a sequence
   pub still : (row : CpuStep) (new : CpuPart) (r : Regs) (o o' : Option seats.Standing) (n : Next) → IsThere row → IsMoved new r
       → IsBehind rows c v (front.Cpu row) g r o' n → o ≡ o' → Keeps row new (record { regs = r; cpu = v.cpu.0; standing = o }) → Acts row (leaving new v r n)
-  still row new r o o' n there m b same keeps = builds row new v r r n o o' there
-      (record { home = there.sits.home; domains = there.sits.domains; move = there.sits.move }) m (as_left row v r o' n b) same keeps
+  still row new r o o' n there m b same keeps = grind (arith, as_left, builds)
 
   -- and at its begin, where the registers may be set for another
   pub goes : (row : CpuStep) (new : CpuPart) (r r' : Regs) (o o' : Option seats.Standing) (n : Next) → IsThere row → IsMoved new r → GoesOn row v r r' o' n
@@ -234,8 +222,7 @@ module _ (turn : Turn) where
 
   -- the thread leaves for the CPU of its move
   left_part : (u : ThreadNo) → ((left p u).slab ≡ p.slab) × ((left p u).epoch ≤ p.epoch + 1)
-  left_part u = cond_both (runs p.running u) (record p { running = None; epoch = p.epoch + 1; is_open = false }) p
-      (λ (q : CpuPart). (q.slab ≡ p.slab) × (q.epoch ≤ p.epoch + 1)) (λ e. (refl, omega arith)) (λ e. (refl, omega arith))
+  left_part u = grind (arith, cond_both)
 
   pub leave_acts : (row : CpuStep) (move : MoveTo) (n : Next) (o : Option seats.Standing) → IsThere row → v.cpu.0 ≡ (at_cpu v.cpu row).0
       → v.moved ≡ Some move → (seat row).standing ≡ o → IsBehind rows c (moves_to v move) (front.Cpu row) g (dropped g) o n → Acts row (leaves p v g move n)

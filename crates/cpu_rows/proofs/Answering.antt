@@ -62,9 +62,7 @@ module _ (l next : Local) (slab : CpuSlab) (k : Class) (n : ℕ) (call : Call) w
       }
 
 answer_by : (a b : Bool) (slab : CpuSlab) (k n : ℕ) → ltb slab.most n ≡ a → ltb slab.limit (bytes_with slab (record { 0 = k }) n) ≡ b → cap_answer (cap_fault slab k n) ≡ cond a (OverStatic slab.most) (cond b (OverLimit (bytes_with slab (record { 0 = k }) n)) CapSet)
-answer_by true b slab k n over more = rw over refl
-answer_by false true slab k n over more = rw (over, more) refl
-answer_by false false slab k n over more = rw (over, more) refl
+answer_by a b slab k n over more = grind arith
 
 pub answers_cap : (input : Input) (p : CpuPart) (l : Local) → ((r : Resizing) → l.step ≡ does.Front (front.Cpu (cpu.SetCap r)) → l.regs.class ≡ r.class) → AnswersCap input p l
 answers_cap input p l class r step =

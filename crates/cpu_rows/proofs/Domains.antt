@@ -161,6 +161,4 @@ module _ (rows : List ClassRow) (c : Config) (t : ℕ) (q : Transfer) (v : CpuSe
 
   pub domain_fits : (row : DomainStep) → DomainShape (limits_of rows c) (seated v g) row → room g.hand ≡ HAND_ROOM → g.class.0 < length rows → AreRows rows
       → FitsDomain rows g row
-  domain_fits (domain.Take a) shape has low are = let row = are.each g.class.0 no_class low in
-      (record { class = low; some = row.batch; room = omega (arith, row.few, has, ap length shape.0.hand) }, shape.0.hand)
-  domain_fits (domain.Put w) shape has low are = tt
+  domain_fits row shape has low are = grind arith

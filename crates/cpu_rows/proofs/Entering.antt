@@ -1,17 +1,14 @@
 -- What an act of a local leaves of its CPU's open mark and of the thread's own sequence.
-use Rattle.std.proofs.Common.{◌≡◌, ℕ, ◌+◌, ◌-◌, ◌<◌, ◌≤◌, ◌⊎◌, Bool, true, false, cond, ltb, eqb, min, List, Option, Some, None, refl, sym, ap, ◌∙◌, subst}
+use Rattle.std.proofs.Common.{◌≡◌, ℕ, ◌+◌, ◌<◌, ◌≤◌, ◌⊎◌, Bool, true, false, cond, ltb, List, Option, Some, None, refl, sym, ap, ◌∙◌, subst}
 use Rattle.std.proofs.Common.{inl, inr, arith, not, ◌||◌, is_some, length}
 use Rattle.cpu_rows.proofs.Common.{cond_both, ltb-true, ltb-false, ThreadNo, ClassRow, MoveTo, SlabRow, row_at, CpuPart, Regs, LOADED_ROOM, Pc, Begin, Header}
 use Rattle.cpu_rows.proofs.Common.{Test, Copy, Commit, Seq, Reply, Cell, is_pop, wanted, closed_by, counted, copy_or_commit, cell, runs, stands, open_after}
-use Rattle.cpu_rows.proofs.Common.{instruction, with_cell, answered, entered, entering, arrival, instructed_by, grew_by, Asking, Stopping, CpuStep, Pop, Grow}
-use Rattle.cpu_rows.proofs.Common.{Stock, Push, PopBatch, Stop, Fence, Take, SetCap, Start, Leave, Local, Step, goes, no_class, class_row, due, instructed_to}
+use Rattle.cpu_rows.proofs.Common.{instruction, with_cell, answered, entered, arrival, instructed_by, grew_by, Asking, Stopping, CpuStep, Pop, Grow}
+use Rattle.cpu_rows.proofs.Common.{Stock, Push, PopBatch, Stop, Local, Step, goes, no_class, class_row, instructed_to}
 use Rattle.cpu_rows.proofs.Common.{instructs, sequence_by, grows, stops, runs_open, yields_to_enter, call_about, with_regs, follows, cpu_calls, with_next}
 use Rattle.cpu_rows.proofs.Common.{cpu_row, yields_for, AreRows, Limits, at_step, RegsAt, about_cpu, call_of, Kind, enters, closes, neither, instructed_kind}
 use Rattle.cpu_rows.proofs.Common.{sequence_kind, growth_kind, step_kind}
 use Rattle.cpu_drain.proofs.Steps.{runs_is}
-use Rattle.rseq_core.specs.declared.sequence.Seq.TheVariants as seq
-use Rattle.rseq_core.specs.declared.sequence.Reply.TheVariants as reply
-use Rattle.cpu_drain.specs.Drains as drains
 use Rattle.call_steps.specs.declared.step.Step.TheVariants as does
 use Rattle.cpu_rows.specs.declared.row.CpuRow.TheVariants as front
 
@@ -33,11 +30,7 @@ CopiesFew count Commit = count ≤ LOADED_ROOM
 
 -- so a sequence that goes on has executed few
 pub executed_few : (count : ℕ) (pc : Pc) → CopiesFew count pc → executed count pc < 256
-executed_few count Begin few = omega arith
-executed_few count Header few = omega arith
-executed_few count Test few = omega arith
-executed_few count (Copy done) few = omega (arith, few.0, few.1)
-executed_few count Commit few = omega arith
+executed_few count pc few = grind arith
 
 -- a step is a sequence or a growth, before which its thread switches in at its own CPU
 abbrev pub HasToEnter : Step → Type 0
@@ -89,34 +82,18 @@ abbrev GoesOn : Regs → Pc → Cell → Type 0
 GoesOn r pc c = c.reply ≡ None → CopiesFew r.count pc → CopiesFew c.regs.count c.regs.pc × (executed c.regs.count c.regs.pc ≡ executed r.count pc + 1)
 
 test_few : (row : SlabRow) (r : Regs) (end : Bool) (exit : Reply) (n : ℕ) → n ≤ LOADED_ROOM → GoesOn r Test (cond end (closed_by row r exit) (counted row r n))
-test_few row r true exit n few none was = absurd (cc)
-test_few row r false exit n few none was = copies_few 0 n (omega arith) few
+test_few row r end exit n few none was = grind (arith, copies_few)
 
 cell_few : (stopped pops : Bool) (row : SlabRow) (r : Regs) (pc : Pc) → wanted r.seq r.hand.items ≤ LOADED_ROOM → GoesOn r pc (cell stopped pops row r pc)
-cell_few stopped pops row r Begin few none was = (tt, refl)
-cell_few true pops row r Header few none was = absurd (cc)
-cell_few false pops row r Header few none was = (tt, refl)
-cell_few stopped true row r Test few none was = test_few row r (eqb r.top 0) reply.Empty (min (wanted r.seq r.hand.items) r.top) (omega arith) none was
-cell_few stopped false row r Test few none was = test_few row r (eqb r.top row.cap) reply.Full (min (wanted r.seq r.hand.items) (row.cap - r.top)) (omega arith) none was
-cell_few stopped true row r (Copy done) few none was = let next = copies_few (done + 1) r.count (omega (arith, was.0)) was.1 in (next.0, omega (arith, next.1))
-cell_few stopped false row r (Copy done) few none was = let next = copies_few (done + 1) r.count (omega (arith, was.0)) was.1 in (next.0, omega (arith, next.1))
-cell_few stopped true row r Commit few none was = absurd (cc)
-cell_few stopped false row r Commit few none was = absurd (cc)
+cell_few stopped pops row r pc few none was = grind (arith, copies_few, test_few)
 
 -- the mark stays behind an instruction without a reply
 open_stays : (pc : Pc) (o : Option Reply) (was : Bool) → o ≡ None → was ≡ true → open_after pc o was ≡ true
-open_stays Begin None was none is = refl
-open_stays Header None was none is = is
-open_stays Test None was none is = is
-open_stays (Copy done) None was none is = is
-open_stays Commit None was none is = is
-open_stays pc (Some r) was none is = absurd (cc)
+open_stays pc o was none is = grind arith
 
 -- where it is polite to enter and another runs, what was begun there doesn't go on
 polite_closed : (running marked : Bool) → (running || not marked) ≡ true → running ≡ false → marked ≡ false
-polite_closed true marked polite other = absurd (cc)
-polite_closed false true polite other = absurd (cc)
-polite_closed false false polite other = refl
+polite_closed running marked polite other = grind arith
 
 module _ (rows : List ClassRow) (p : CpuPart) (l : Local) (has : HasToEnter l.step) (polite : yields_to_enter p l.regs.thread ≡ true) where
   enters_as : (row : CpuStep) (regs : Regs) (next : Local) → l.step ≡ does.Front (front.Cpu row) → regs.pc ≡ Begin → next ≡ goes (with_regs l regs) (does.Front (front.Cpu row)) → runs p.running l.regs.thread ≡ false → Enters p l (entered p l.regs.thread, next)
@@ -149,19 +126,14 @@ module _ (rows : List ClassRow) (p : CpuPart) (l : Local) (has : HasToEnter l.st
     executes_as here (Some r) is = tt
 
     instructs_as : (a b : Bool) → runs p.running l.regs.thread ≡ a → let x = instructed_by (arrival a b) p l.regs in DoesAs (instructed_kind x.answer) p l (with_next rows l (about_cpu row) (instructs rows l.seat row x))
-    instructs_as false b is = enters_as row (entering p l.regs) (goes (with_regs l (entering p l.regs)) (does.Front (front.Cpu row))) own refl refl is
-    instructs_as true false is = tt
-    instructs_as true true is = executes_as is c.reply refl
+    instructs_as a b is = grind (arith, enters_as, executes_as)
 
   grows_as : (asking : Asking) (a b : Bool) → l.step ≡ does.Front (front.Cpu (Grow asking)) → runs p.running l.regs.thread ≡ a → let x = grew_by (arrival a b) p l.regs in DoesAs (growth_kind x.answer) p l (with_next rows l (about_cpu (Grow asking)) (grows l.seat asking x))
-  grows_as asking false b own is = enters_as (Grow asking) (entering p l.regs) (goes (with_regs l (entering p l.regs)) (does.Front (front.Cpu (Grow asking)))) own refl refl is
-  grows_as asking true false own is = tt
-  grows_as asking true true own is = tt
+  grows_as asking a b own is = grind (arith, enters_as)
 
 -- with a move that is due the thread leaves
 sequence_as : (rows : List ClassRow) (p : CpuPart) (l : Local) (row : CpuStep) → l.step ≡ does.Front (front.Cpu row) → HasToEnter l.step → wanted l.regs.seq l.regs.hand.items ≤ LOADED_ROOM → (o : Option MoveTo) → (is_some o || yields_to_enter p l.regs.thread) ≡ true → DoesAs (sequence_kind p l o) p l (with_next rows l (about_cpu row) (sequence_by rows p l.seat l.regs row o))
-sequence_as rows p l row own has few None polite = instructs_as rows p l has polite row own few (runs p.running l.regs.thread) (eqb l.regs.epoch p.epoch) refl
-sequence_as rows p l row own has few (Some move) polite = tt
+sequence_as rows p l row own has few o polite = grind (arith, instructs_as)
 
 -- what a sequence of a shaped local is for
 wants : (l : Local) (s : Seq) → l.regs.seq ≡ s → wanted l.regs.seq l.regs.hand.items ≡ wanted s l.regs.hand.items
@@ -193,30 +165,13 @@ module _ (m : Limits) (p : CpuPart) (l : Local) (table : AreRows m.rows) (class 
   few_batch = (table.each l.regs.class.0 no_class class).few
 
   stops_as : (s : Stopping) → l.step ≡ does.Front (front.Cpu (Stop s)) → (o : Option ThreadNo) → p.stopper ≡ o → (let n = stops p l.regs.thread s o in DoesAs neither p l (n.0, follows (cpu_calls m.rows) l (Some (call_of s)) n.1))
-  stops_as s is None none = still ((stops p l.regs.thread s None).0, follows (cpu_calls m.rows) l (Some (call_of s)) (stops p l.regs.thread s None).1) (away_by (does.Front (front.Cpu (Stop s))) is (λ has. has)) (ap (λ (o : Option ThreadNo). (drains.stopped_by o p l.regs.thread).running) none) (ap (λ (o : Option ThreadNo). (drains.stopped_by o p l.regs.thread).is_open) none) (ap (λ (o : Option ThreadNo). (drains.stopped_by o p l.regs.thread).ran) none)
-  stops_as s is (Some u) some = still (p, follows (cpu_calls m.rows) l (Some (call_of s)) (stops p l.regs.thread s (Some u)).1) (away_by (does.Front (front.Cpu (Stop s))) is (λ has. has)) refl refl refl
+  stops_as s is o none = grind (arith, away_by, still)
 
   row_as : (row : CpuStep) → l.step ≡ does.Front (front.Cpu row) → At (does.Front (front.Cpu row)) → As (does.Front (front.Cpu row))
-  row_as (Pop a) is shape polite = sequence_as m.rows p l (Pop a) is (has_by (does.Front (front.Cpu (Pop a))) is tt) (omega (arith, wants l seq.Pop shape.0.seq)) (due l.seat.moved l.regs.ran) polite
-  row_as (Grow a) is shape polite = grows_as m.rows p l (has_by (does.Front (front.Cpu (Grow a))) is tt) polite a (runs p.running l.regs.thread) (eqb l.regs.epoch p.epoch) is refl
-  row_as (Stock s) is shape polite = sequence_as m.rows p l (Stock s) is (has_by (does.Front (front.Cpu (Stock s))) is tt) (omega (arith, wants l seq.PushBatch shape.0.seq, shape.2)) (due l.seat.moved l.regs.ran) polite
-  row_as (Push f) is shape polite = sequence_as m.rows p l (Push f) is (has_by (does.Front (front.Cpu (Push f))) is tt) (omega (arith, wants l seq.Push shape.0.seq)) (due l.seat.moved l.regs.ran) polite
-  row_as (PopBatch f) is shape polite = sequence_as m.rows p l (PopBatch f) is (has_by (does.Front (front.Cpu (PopBatch f))) is tt) (omega (arith, wants l (seq.PopBatch (class_row m.rows l).batch) shape.0.seq, few_batch)) (due l.seat.moved l.regs.ran) polite
-  row_as (Stop s) is shape polite = stops_as s is p.stopper refl
-  row_as (Fence s) is shape polite = still (cpu_row m.rows p l (Fence s)) (away_by (does.Front (front.Cpu (Fence s))) is (λ has. has)) refl refl refl
-  row_as (Take s) is shape polite = still (cpu_row m.rows p l (Take s)) (away_by (does.Front (front.Cpu (Take s))) is (λ has. has)) refl refl refl
-  row_as (SetCap r) is shape polite = still (cpu_row m.rows p l (SetCap r)) (away_by (does.Front (front.Cpu (SetCap r))) is (λ has. has)) refl refl refl
-  row_as (Start s) is shape polite = still (cpu_row m.rows p l (Start s)) (away_by (does.Front (front.Cpu (Start s))) is (λ has. has)) refl refl refl
-  row_as Leave is shape polite = tt
+  row_as row is shape polite = grind (arith, away_by, few_batch, grows_as, has_by, sequence_as, still, stops_as, wants)
 
   step_as : (s : Step) → l.step ≡ s → At s → As s
-  step_as (does.Front (front.Cpu row)) is shape polite = row_as row is shape polite
-  step_as (does.Front (front.Domain row)) is shape polite = still (p, goes l (does.Front (front.Domain row))) (away_by (does.Front (front.Domain row)) is (λ has. has)) refl refl refl
-  step_as (does.Shard row) is shape polite = still (p, l) (away_by (does.Shard row) is (λ has. has)) refl refl refl
-  step_as (does.Heap row) is shape polite = still (p, l) (away_by (does.Heap row) is (λ has. has)) refl refl refl
-  step_as (does.Map row) is shape polite = still (p, l) (away_by (does.Map row) is (λ has. has)) refl refl refl
-  step_as (does.Names row) is shape polite = still (p, l) (away_by (does.Names row) is (λ has. has)) refl refl refl
-  step_as does.Ended is shape polite = still (p, l) (away_by does.Ended is (λ has. has)) refl refl refl
+  step_as s is shape polite = grind (arith, away_by, row_as, still)
 
   -- a polite act of a shaped local at a CPU
   pub act_as : yields_for p l l.step ≡ true → DoesAs (step_kind p l l.step) p l (cpu_pair m.rows p l l.step)

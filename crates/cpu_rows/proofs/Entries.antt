@@ -101,8 +101,7 @@ module _ (rows : List ClassRow) (c : Config) where
 
   -- entries are about their calls; a call of the caches' own keeps the thread and the hand, has a row, and a class of the table
   last_about : (o : Option MoveTo) → IsEntry about_row (Other None) (leave_row o)
-  last_about None = tt
-  last_about (Some move) = refl
+  last_about o = grind arith
 
   pub record IsOther (call : Call) : Type 0 where
     pub about : IsEntry about_row (Other (Some call)) (stop_row call)
@@ -112,11 +111,7 @@ module _ (rows : List ClassRow) (c : Config) where
     pub there : IsOwn call → is_some (stop_row call) ≡ true
 
   pub other : (call : Call) → IsOther call
-  other (Malloc label size) = record { about = tt; hand = λ g. refl; thread = λ g. refl; class = λ g are there own. absurd own; there = λ own. absurd own }
-  other (Free label) = record { about = tt; hand = λ g. refl; thread = λ g. refl; class = λ g are there own. absurd own; there = λ own. absurd own }
-  other (Release pages) = record { about = tt; hand = λ g. refl; thread = λ g. refl; class = λ g are there own. absurd own; there = λ own. absurd own }
-  other (Drain i) = record { about = refl; hand = λ g. refl; thread = λ g. refl; class = λ g are there own. are.some; there = λ own. refl }
-  other (Resize i class cap) = record { about = refl; hand = λ g. refl; thread = λ g. refl; class = λ g are there own. there.1; there = λ own. refl }
+  other call = grind arith
 
   pub cpu_entries : AreEntries (cpu_calls rows) about_row
   cpu_entries =

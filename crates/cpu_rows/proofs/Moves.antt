@@ -1,8 +1,7 @@
 -- Objects that a reply moves between a row and the hand.
 use Rattle.std.proofs.Common.{◌≡◌, ℕ, ◌+◌, ◌-◌, List, [], ◌∷◌, ◌++◌, length, take, drop, reverse, eqb, refl, sym, ap, ◌∙◌, arith}
-use Rattle.cpu_rows.proofs.Common.{take-append-drop, reverse-append, Addr, SlabRow, held, Regs, Reply, Popped, Pushed, Empty, Full, Stopped, Instructed}
+use Rattle.cpu_rows.proofs.Common.{take-append-drop, reverse-append, Addr, SlabRow, held, Regs, Reply, Instructed}
 use Rattle.cpu_rows.proofs.Common.{ReplyMoves, AnswerMoves, last_first, without_last, bit, objects_at, Counts, counts_append}
-use Rattle.rseq_core.specs.declared.answers.Instructed.TheVariants.{Back, Done, In, Ran}
 
 at_object : (n : ℕ) → Counts (objects_at n) (λ (x : Addr). bit (eqb x.0 n))
 at_object n = record { none = refl; more = λ x xs. refl }
@@ -22,31 +21,9 @@ objects_last n k xs = omega (arith, objects_reverse n (drop (length xs - k) xs),
 
 reply_moves : (reply : Reply) (old new : SlabRow) (r after : Regs) → ReplyMoves reply old new r after → (n : ℕ)
     → objects_at n (held new) + objects_at n after.hand.items ≡ objects_at n (held old) + objects_at n r.hand.items
-reply_moves Stopped old new r after x n = omega (arith, ap (objects_at n) x.row, ap (objects_at n) x.hand)
-reply_moves Empty old new r after x n = omega (arith, ap (objects_at n) x.row, ap (objects_at n) x.hand)
-reply_moves Full old new r after x n = omega (arith, ap (objects_at n) x.row, ap (objects_at n) x.hand)
-reply_moves Popped old new r after x n = omega (
-  arith,
-  ap (objects_at n) x.row,
-  objects_append n (held new) (reverse x.got),
-  objects_reverse n x.got,
-  ap
-      (objects_at n) x.hand,
-  objects_append n r.hand.items x.got,
-)
-reply_moves (Pushed k) old new r after x n = omega (
-  arith,
-  ap (objects_at n) x.row,
-  objects_append n (held old) (take k r.hand.items),
-  ap (objects_at n)
-      x.hand,
-  objects_cut n k r.hand.items,
-)
+reply_moves reply old new r after x n = grind (arith, objects_append, objects_cut, objects_reverse)
 
 -- so an answer
 pub answer_moves : (answer : Instructed) (old new : SlabRow) (r after : Regs) → AnswerMoves answer old new r after → (n : ℕ)
     → objects_at n (held new) + objects_at n after.hand.items ≡ objects_at n (held old) + objects_at n r.hand.items
-answer_moves In old new r after x n = omega (arith, ap (objects_at n) x.row, ap (objects_at n) x.hand)
-answer_moves Back old new r after x n = omega (arith, ap (objects_at n) x.row, ap (objects_at n) x.hand)
-answer_moves Ran old new r after x n = omega (arith, ap (objects_at n) x.row, ap (objects_at n) x.hand)
-answer_moves (Done reply) old new r after x n = reply_moves reply old new r after x n
+answer_moves answer old new r after x n = grind (arith, reply_moves)

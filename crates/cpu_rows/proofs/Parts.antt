@@ -1,45 +1,28 @@
 -- The part of a row is there, and a part changes with the standing of a thread.
-use Rattle.std.proofs.Common.{◌≡◌, ℕ, ◌+◌, ◌*◌, ◌%◌, ◌<◌, ◌≤◌, eqb, List, length, Some, refl, sym, ap, ◌∙◌, subst, inl, inr, arith, slice_get, slice_set}
+use Rattle.std.proofs.Common.{◌≡◌, ℕ, ◌+◌, ◌*◌, ◌<◌, ◌≤◌, List, length, Some, refl, sym, ap, ◌∙◌, subst, inl, inr, arith, slice_get, slice_set}
 use Rattle.cpu_rows.proofs.Common.{mod-lt, cond_both, cases_eq, length-set, Class, ClassRow, Config, set_here, set_elsewhere, CpuPart, Regs, CpuOk, SeatOk}
 use Rattle.cpu_rows.proofs.Common.{SeatKeeps, Transfer, CpuSeat, Stopping, CpuRow, CpuStep, DomainStep, at_cpu, cpu_of, domain_of, thread_no, IsStop}
 use Rattle.cpu_rows.proofs.Common.{CpuShape, DomainShape, Limits, HasRoom, IsSlabOf, Standing, CpuFrontPart, Cpu, Domain, seated, seat_at, IsSeated}
 use Rattle.cpu_rows.proofs.Common.{ArePlaced, CpuHolds}
-use Rattle.cpu_rows.specs.declared.row.Stopping.TheVariants as stopping
 use Rattle.cpu_rows.specs.declared.row.CpuStep.TheVariants as cpu
-use Rattle.cpu_rows.specs.declared.row.DomainStep.TheVariants as domain
 use Rattle.cpu_rows.proofs.Lists.{Here, IsSet, There, set_once}
 
 -- the CPU of a row is there
 stop_low : (m : Limits) (k : Class) (s : Stopping) → IsStop m k s → (cpu_of s).0 < m.cpus
-stop_low m k (stopping.Drain d) is = is.0
-stop_low m k (stopping.Resize r) is = is.0
+stop_low m k s is = grind arith
 
 start_low : (m : Limits) (v : CpuSeat) (g : Regs) (s : Stopping) → CpuShape m (seated v g) (cpu.Start s) → (cpu_of s).0 < m.cpus
-start_low m v g (stopping.Drain d) shape = shape.1
-start_low m v g (stopping.Resize r) shape = shape.1
+start_low m v g s shape = grind arith
 
 pub cpu_low : (m : Limits) (v : CpuSeat) (g : Regs) (row : CpuStep) → v.cpu.0 < m.cpus → CpuShape m (seated v g) row → (at_cpu v.cpu row).0 < m.cpus
-cpu_low m v g (cpu.Pop a) home shape = home
-cpu_low m v g (cpu.Grow a) home shape = home
-cpu_low m v g (cpu.Stock s) home shape = home
-cpu_low m v g (cpu.Push f) home shape = home
-cpu_low m v g (cpu.PopBatch f) home shape = home
-cpu_low m v g (cpu.Stop s) home shape = stop_low m g.class s shape.1
-cpu_low m v g (cpu.Fence s) home shape = stop_low m g.class s shape.1
-cpu_low m v g (cpu.Take s) home shape = stop_low m g.class s shape.1
-cpu_low m v g (cpu.SetCap r) home shape = shape.1
-cpu_low m v g (cpu.Start s) home shape = start_low m v g s shape
-cpu_low m v g cpu.Leave home shape = home
+cpu_low m v g row home shape = grind (arith, start_low, stop_low)
 
 -- and so is the domain
 has_domain : (m : Limits) (v : CpuSeat) (g : Regs) (row : DomainStep) → DomainShape m (seated v g) row → 0 < v.domains
-has_domain m v g (domain.Take a) shape = shape.2
-has_domain m v g (domain.Put w) shape = shape.2
+has_domain m v g row shape = grind arith
 
 pub domain_low : (m : Limits) (v : CpuSeat) (g : Regs) (row : DomainStep) → DomainShape m (seated v g) row → domain_of v < v.domains
-domain_low m v g row shape =
-    let some = has_domain m v g row shape in
-    cond_both (eqb v.domains 0) 0 (v.cpu.0 % v.domains) (λ (n : ℕ). n < v.domains) (λ e. some) (λ e. mod-lt v.cpu.0 {m = v.domains} some)
+domain_low m v g row shape = grind (arith, cond_both, has_domain, mod-lt)
 
 -- a part takes the place of one of its kind
 abbrev IsSameKind : CpuFrontPart → CpuFrontPart → Type 0
@@ -48,12 +31,10 @@ IsSameKind (Domain k q) (Domain j r) = k ≡ j
 IsSameKind p q = ⊥
 
 cpu_kind : (p : CpuPart) (new : CpuFrontPart) → IsSameKind (Cpu p) new → (q : CpuPart) × (new ≡ Cpu q)
-cpu_kind p (Cpu q) is = (q, refl)
-cpu_kind p (Domain k q) is = absurd is
+cpu_kind p new is = grind arith
 
 domain_kind : (k : Class) (p : Transfer) (new : CpuFrontPart) → IsSameKind (Domain k p) new → (q : Transfer) × (new ≡ Domain k q)
-domain_kind k p (Domain j q) is = (q, ap (λ (x : Class). Domain x q) (sym is))
-domain_kind k p (Cpu q) is = absurd is
+domain_kind k p new is = grind arith
 
 module _ (rows : List ClassRow) (c : Config) where
   -- what stands at a place where one part was set

@@ -1,10 +1,10 @@
 -- Acts of threads with a sequence or a growth, by what the sequence replied.
-use Rattle.std.proofs.Common.{◌≡◌, refl, ℕ, ◌+◌, ◌<◌, ◌≤◌, Bool, true, false, [], ◌∷◌, ◌++◌, List, length, get_or, Option, Some, None, ap, sym, ◌∙◌, subst}
+use Rattle.std.proofs.Common.{◌≡◌, refl, ℕ, ◌+◌, ◌<◌, ◌≤◌, Bool, true, false, [], ◌∷◌, List, length, get_or, Option, Some, None, ap, sym, ◌∙◌, subst}
 use Rattle.std.proofs.Common.{arith, inl}
 use Rattle.cpu_rows.proofs.Common.{cond_both, length-append, length-drop, Addr, Class, MoveTo, SlabRow, row_at, held, row_sound, CpuPart, Regs, LOADED_ROOM}
 use Rattle.cpu_rows.proofs.Common.{Begin, Seq, Reply, Instructed, Grew, is_pop, wanted, MovesUp, AnswerMoves, ReplyMoves, AreOfSame, Instructs}
 use Rattle.cpu_rows.proofs.Common.{Grows, instruct_does, grow_does, objects_at, CpuSeat, Asking, Serving, Freeing, CpuStep, Next, no_class, row_of, thread_no}
-use Rattle.cpu_rows.proofs.Common.{leaving, moves_to, gives, at_cpu_next, is_due, due, after_stock, replied, instructed_to, sequence_by, sequence, grew_to}
+use Rattle.cpu_rows.proofs.Common.{leaving, moves_to, gives, at_cpu_next, due, after_stock, replied, instructed_to, sequence_by, sequence, grew_to}
 use Rattle.cpu_rows.proofs.Common.{about_cpu, at_cpu, FitsSequence, most_slots, BeginsWith, IsAtBegin, HasNone, CpuShape, cpu_standing, IsAsked, seated}
 use Rattle.cpu_rows.proofs.Common.{limits_of}
 use Rattle.cpu_drain.specs.Laws.{HasRoom}
@@ -25,9 +25,7 @@ use Rattle.cpu_rows.proofs.Acts.{home_of, leave_acts, looks, seat, still}
 
 -- the thread's move
 due_is : (o : Option MoveTo) (ran : ℕ) (move : MoveTo) → due o ran ≡ Some move → o ≡ Some move
-due_is None ran move is = is
-due_is (Some x) ran move is = cond_both (is_due x ran) (Some x) None (λ (o : Option MoveTo). o ≡ Some move → Some x ≡ Some move) (λ e same. same)
-    (λ e none. absurd (cc)) is
+due_is o ran move is = grind (arith, cond_both)
 
 -- which way a sequence goes
 way_apart : (s x : Seq) (b : Bool) → s ≡ x → is_pop x ≡ b → (c : Bool) → is_pop s ≡ c → b ≡ c
@@ -52,11 +50,7 @@ begins_by a xs others is = subst (λ (ys : List Addr). BeginsWith a ys) (sym is)
 -- how many are in hand behind a reply at most
 reply_few : (old new : SlabRow) (r after : Regs) (o : Reply) → ReplyMoves o old new r after
     → length after.hand.items ≤ length r.hand.items + wanted r.seq r.hand.items
-reply_few old new r after reply.Stopped moves = omega (arith, ap length moves.hand)
-reply_few old new r after reply.Empty moves = omega (arith, ap length moves.hand)
-reply_few old new r after reply.Full moves = omega (arith, ap length moves.hand)
-reply_few old new r after reply.Popped moves = omega (arith, ap length moves.hand, length-append r.hand.items moves.got, moves.few)
-reply_few old new r after (reply.Pushed n) moves = omega (arith, ap length moves.hand, length-drop n r.hand.items)
+reply_few old new r after o moves = grind (arith, length-append, length-drop)
 
 module _ (turn : Turn) where
   open turn use {rows, config as c, thread as t, part as p, seat as v, regs as g, acts as count}
@@ -233,8 +227,7 @@ module _ (turn : Turn) where
   -- Push, and PopBatch: the object of a free is given away with what is behind it
   freed_behind : (row : CpuStep) (f : Freeing) (r : Regs) (others : List Addr) → about_cpu row ≡ about_cpu (cpu.Push f) → r.hand.items ≡ f.addr ∷ others
       → length others < most_slots → IsAtBegin r → Replied row r r (gives v (giving.Freed f))
-  freed_behind row f r others is hand few begin = left_so row r _ begin
-      (gives_away rows c v (front.Cpu row) g r (giving.Freed f) is begin (omega (arith, ap length hand, few)) (begins_by f.addr r.hand.items others hand))
+  freed_behind row f r others is hand few begin = grind (arith, begins_by, gives_away, left_so)
 
   push_replies : (f : Freeing) → Shape v g (cpu.Push f) → Replies (cpu.Push f)
   push_replies f shape old new r (reply.Pushed n) moves begin same =
@@ -263,13 +256,7 @@ module _ (turn : Turn) where
       record { fits = fits (cpu.Push f) there row; acts = acts (cpu.Push f) there row }
 
   batch_replies : (f : Freeing) → wanted g.seq g.hand.items ≤ LOADED_ROOM → Shape v g (cpu.PopBatch f) → Replies (cpu.PopBatch f)
-  batch_replies f few shape old new r reply.Popped moves begin same = freed_behind (cpu.PopBatch f) f r moves.got refl
-      (moves.hand ∙ ap (λ xs. xs ++ moves.got) shape.1) (omega (arith, moves.few, few)) begin
-  batch_replies f few shape old new r reply.Stopped moves begin same = freed_behind (cpu.PopBatch f) f r [] refl (moves.hand ∙ shape.1) (omega arith) begin
-  batch_replies f few shape old new r reply.Empty moves begin same = freed_behind (cpu.PopBatch f) f r [] refl (moves.hand ∙ shape.1) (omega arith) begin
-  batch_replies f few shape old new r reply.Full moves begin same = freed_behind (cpu.PopBatch f) f r [] refl (moves.hand ∙ shape.1) (omega arith) begin
-  batch_replies f few shape old new r (reply.Pushed n) moves begin same = absurd
-      (no_push g.seq (seq.PopBatch (row_of rows g.class).batch) shape.0.seq refl moves.pushes)
+  batch_replies f few shape old new r given moves begin same = grind (arith, freed_behind, no_push)
 
   pub batch_does : (f : Freeing) → There (cpu.PopBatch f) → Does turn (cpu.PopBatch f)
   batch_does f there =

@@ -57,10 +57,7 @@ mapped_at : {X : Type 0} (f : ℕ → X) (n t : ℕ) → t < n → slice_get (ma
 mapped_at f n t below = slice_get-map f (range_with_len 0 n) t ∙ ap (option_map f) (number_at n t below)
 
 mapped_is : {X : Type 0} (f : ℕ → X) (n t : ℕ) (x : X) → slice_get (map f (range_with_len 0 n)) t ≡ Some x → f t ≡ x
-mapped_is f n t x is =
-    let within = slice_get_within (map f (range_with_len 0 n)) t x is in
-    let e : Some (f t) ≡ Some x = sym (mapped_at f n t (omega (arith, within, length-map (range_with_len 0 n) f, length-range_with_len 0 n))) ∙ is in
-    cc
+mapped_is f n t x is = grind (arith, length-map, length-range_with_len, mapped_at, slice_get_within)
 
 no_slots : (most k n : ℕ) (rows : List ClassRow) → objects_at n (slots.held (slice_index_or (map (slots.empty_row most) rows) k slots.no_row)) ≡ 0
 no_slots most k n [] = refl
@@ -122,8 +119,7 @@ module _ (rows : List ClassRow) (c : Config) where
       cond_both (eqb j.0 k) (objects_at n q.objects) 0 (λ (m : ℕ). m ≡ 0) (λ e. none) (λ e. refl)
 
   pub none_first : (k n : ℕ) → sum_by (λ (q : CpuFrontPart). cpu_stored q k n) (front_parts rows c) ≡ 0
-  none_first k n = sum_none (λ (q : CpuFrontPart). cpu_stored q k n) (front_parts rows c)
-      (λ i d low. stored_first k n (get_or (front_parts rows c) i d) (parts_first i d low))
+  none_first k n = grind (arith, parts_first, stored_first, sum_none)
 
   pub split_first : c.cpus ≤ length (front_parts rows c)
   split_first = omega (arith, parts_many)

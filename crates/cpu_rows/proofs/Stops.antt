@@ -1,8 +1,8 @@
 -- Acts of a thread that stops a CPU, and of one that leaves it at the end of its call.
-use Rattle.std.proofs.Common.{◌≡◌, refl, ℕ, ◌+◌, ◌*◌, ◌<◌, ◌≤◌, Bool, true, false, [], ◌∷◌, List, length, get_or, reverse, Option, Some, None, ap, sym, ◌∙◌}
-use Rattle.std.proofs.Common.{subst, inl, inr, ltb, arith, is_some, slice_set}
+use Rattle.std.proofs.Common.{◌≡◌, refl, ℕ, ◌+◌, ◌*◌, ◌<◌, ◌≤◌, Bool, true, false, [], ◌∷◌, List, length, reverse, Option, Some, None, ap, sym, ◌∙◌}
+use Rattle.std.proofs.Common.{subst, inr, arith, is_some}
 use Rattle.cpu_rows.proofs.Common.{cond_both, cases_eq, eqb-true, eq-eqb, lt-ltb, ltb-true, ltb-false, le-ltb, length-append, length-reverse, Contents, Addr}
-use Rattle.cpu_rows.proofs.Common.{Class, CpuNo, ThreadNo, Drain, Resize, MoveTo, Busy, CapFault, SlabRow, CpuSlab, no_row, row_at, held, cap_fault}
+use Rattle.cpu_rows.proofs.Common.{Class, CpuNo, ThreadNo, Drain, Resize, MoveTo, Busy, CapFault, SlabRow, CpuSlab, row_at, held, cap_fault}
 use Rattle.cpu_rows.proofs.Common.{set_unless, row_same, row_other, CpuPart, Regs, IsHeld, Takes, take_does, objects_at, IsOther, Draining}
 use Rattle.cpu_rows.proofs.Common.{Resizing, Stopping, CpuStep, Next, Other, leaving, gives, at_cpu_next, stops, drains_on, drained, took, cap_answer}
 use Rattle.cpu_rows.proofs.Common.{gives_taken, started, left_for, about_cpu, at_cpu, call_of, cpu_of, taken_by, thread_no, AreRows, most_slots}
@@ -10,7 +10,6 @@ use Rattle.cpu_rows.proofs.Common.{no_class_empty, below, alone, empty_to_take, 
 use Rattle.cpu_rows.proofs.Common.{CpuShape, Limits, limits_of, seated}
 use Rattle.cpu_rows.specs.Shapes.{stands}
 use Rattle.std.proofs.Math.Path.{fun_ext}
-use Rattle.cpu_slab.specs.declared.slab.CapFault.TheVariants as fault
 use Rattle.cpu_drain.specs.Drains as drains
 use Rattle.cpu_drain.specs.Seats as seats
 use Rattle.cpu_drain.proofs.Lawful as lawful
@@ -25,22 +24,17 @@ use Rattle.cpu_rows.proofs.Acts.{seat, slab_same}
 
 -- refusals of a call that stops a CPU, and of a capacity
 busy_other : (s : Stopping) (owner : ThreadNo) → IsOther (call_of s) (Busy owner)
-busy_other (stopping.Drain d) owner = tt
-busy_other (stopping.Resize r) owner = tt
+busy_other s owner = grind arith
 
 cap_other : (r : Resizing) (o : Option CapFault) → IsOther (Resize r.cpu r.class r.cap) (cap_answer o)
-cap_other r None = tt
-cap_other r (Some (fault.OverStatic most)) = tt
-cap_other r (Some (fault.OverLimit sum)) = tt
+cap_other r o = grind arith
 
 stopped_part : (o : Option ThreadNo) (p : CpuPart) (t : ThreadNo) → ((drains.stopped_by o p t).epoch ≤ p.epoch + 1) × ((drains.stopped_by o p t).slab ≡ p.slab)
-stopped_part None p t = (omega arith, refl)
-stopped_part (Some u) p t = (omega arith, refl)
+stopped_part o p t = grind arith
 
 -- a drain is to take class 0 behind its fence, below which there is none
 nothing_taken : (k : Class) (s : Stopping) → IsAtFirst k s → empty_to_take k.0 s ≡ no_class_empty
-nothing_taken k (stopping.Drain d) is = ap below is ∙ fun_ext (λ j. le-ltb j 0 (omega arith))
-nothing_taken k (stopping.Resize r) is = refl
+nothing_taken k s is = grind (arith, fun_ext, le-ltb)
 
 -- which classes the thread knows to be empty behind a take
 abbrev empty_of : ℕ → Stopping → ℕ → Bool
@@ -48,21 +42,14 @@ empty_of k (stopping.Drain d) = below (k + 1)
 empty_of k (stopping.Resize r) = alone r.class.0
 
 known_before : (m : Limits) (k : Class) (s : Stopping) → IsStop m k s → (j : ℕ) → empty_of k.0 s j ≡ true → (k.0 ≡ j → ⊥) → empty_to_take k.0 s j ≡ true
-known_before m k (stopping.Drain d) is j known apart = lt-ltb j k.0 (omega (arith, ltb-true j (k.0 + 1) known, apart))
-known_before m k (stopping.Resize r) is j known apart = absurd (apart (ap (λ (c : Class). c.0) is.1 ∙ sym (eqb-true j r.class.0 known)))
+known_before m k s is j known apart = grind (arith, eqb-true, lt-ltb, ltb-true)
 
 is_empty : (m : Limits) (k : Class) (hand : Contents Addr) (p : CpuPart) (s : Stopping) → Takes p k.0 hand → k.0 < length p.slab.rows → IsStop m k s
     → ((j : ℕ) → empty_to_take k.0 s j ≡ true → (row_at p.slab j).top ≡ 0) → (j : ℕ) → empty_of k.0 s j ≡ true → (row_at (drains.taken p k.0).slab j).top ≡ 0
-is_empty m k hand p s x low is before j known =
-    let new : SlabRow = record (row_at p.slab k.0) { top = 0 } in
-    elim (cases_eq k.0 j) [
-      | inl here ↦ subst (λ (n : ℕ). (row_at (drains.taken p k.0).slab n).top ≡ 0) here (ap (λ (row : SlabRow). row.top) (row_same p.slab.rows k.0 new low))
-      | inr apart ↦ ap (λ (row : SlabRow). row.top) (x.others j (λ same. apart (sym same))) ∙ before j (known_before m k s is j known apart)
-    ]
+is_empty m k hand p s x low is before j known = grind (arith, cases_eq, known_before, row_same)
 
 taken_few : (m : Limits) (k : Class) (s : Stopping) → AreRows m.rows → k.0 < length m.rows → IsStop m k s → taken_by s ≤ 120 * most_slots
-taken_few m k (stopping.Drain d) rows low is = omega (arith, is.1, rows.few, low)
-taken_few m k (stopping.Resize r) rows low is = omega arith
+taken_few m k s rows low is = grind arith
 
 -- the row with which a drain goes on is about it, and was to come, where it has emptied the classes up to k
 record IsDrainNext (m : Limits) (k : Class) (d : Draining) (next : Class × CpuStep) : Type 0 where
@@ -72,26 +59,11 @@ record IsDrainNext (m : Limits) (k : Class) (d : Draining) (next : Class × CpuS
 
 drains_come : (m : Limits) (k : Class) (d : Draining) → k.0 < length m.rows → d.cpu.0 < m.cpus → d.taken ≤ (k.0 + 1) * most_slots
     → IsDrainNext m k d (drains_on m.rows k d)
-drains_come m k d low there few =
-    let after : Class = record { 0 = k.0 + 1 } in
-    cond_both (ltb after.0 (length m.rows)) (after, cpu.Take (stopping.Drain d)) (k, cpu.Start (stopping.Drain d))
-    (λ (next : Class × CpuStep). IsDrainNext m k d next)
-    (λ e. record
-    { about = refl; come = record { class = ltb-true after.0 (length m.rows) e; other = tt; shape = λ l n same. (n, subst (λ (j : Class). IsStop m j (stopping.Drain d)) (sym same) (there, few)) }; stand = refl })
-    (λ e.
-    (let last : length m.rows ≡ after.0 = omega (arith, ltb-false after.0 (length m.rows) e, low) in
-    record { about = refl; come = record { class = low; other = tt; shape = λ l n same. (n, there) }; stand = ap (λ (j : ℕ). stands d.cpu true (below j)) last }))
+drains_come m k d low there few = grind (arith, cond_both, ltb-false, ltb-true)
 
 -- a capacity that is set, or refused, moves no object
 capped_rows : (slab : CpuSlab) (k n : ℕ) → k < length slab.rows → (o : Option CapFault) (j : ℕ) → held (row_at (set_unless o slab k n) j) ≡ held (row_at slab j)
-capped_rows slab k n within (Some f) j = refl
-capped_rows slab k n within None j =
-    let row : SlabRow = record (row_at slab k) { cap = n } in
-    elim (cases_eq j k) [
-      | inl same ↦ ap (λ (i : ℕ). held (get_or (slice_set slab.rows k row) i no_row)) same ∙
-          (ap held (row_same slab.rows k row within) ∙ ap (λ (i : ℕ). held (row_at slab i)) (sym same))
-      | inr other ↦ ap held (row_other slab.rows k j row other)
-    ]
+capped_rows slab k n within o j = grind (arith, cases_eq, row_other, row_same)
 
 module _ (turn : Turn) where
   open turn use {rows, config as c, thread as t, part as p, seat as v, regs as g, acts as count}
@@ -113,8 +85,7 @@ module _ (turn : Turn) where
       → new.epoch ≤ p.epoch + 1 → ((j : ℕ) → held (row_at new.slab j) ≡ held (row_at p.slab j)) → Keeps turn row new
       (record { regs = g; cpu = v.cpu.0; standing = o })
       → Acts turn row (leaving new v g n)
-  quiet row new n o o' there begin same b epoch slab keeps = goes turn row new g g o o' n there (moves_none turn new epoch slab)
-      (as_left turn row v g o' n b) begin same keeps
+  quiet row new n o o' there begin same b epoch slab keeps = grind (arith, as_left, moves_none)
 
   -- what a thread that has stopped the CPU has done there still stands
   held_of : (row : CpuStep) (s : Stopping) (fenced : Bool) (empty : ℕ → Bool) → There row → cpu_standing rows g.class.0 row ≡ stands (cpu_of s) fenced empty
@@ -277,9 +248,7 @@ module _ (turn : Turn) where
   taken_behind x (y ∷ ys) is n = gives_away rows c v (front.Cpu (cpu.Start (stopping.Resize x))) g g giving.End refl n.begin n.few tt
 
   start_by : (s : Stopping) → There (cpu.Start s) → Shape (cpu.Start s) → Acts turn (cpu.Start s) (leaving (drains.started p) v g (started v g.hand.items s))
-  start_by (stopping.Drain d) there shape = starts (stopping.Drain d) _ there shape.0.begin
-      (record { next = (tt, refl, shape.0.hand); regs = shape.0.begin; stands = refl; same = refl })
-  start_by (stopping.Resize x) there shape = starts (stopping.Resize x) _ there shape.0.begin (taken_behind x g.hand.items refl shape.0)
+  start_by s there shape = grind (arith, starts, taken_behind)
 
   pub start_does : (s : Stopping) → There (cpu.Start s) → Does turn (cpu.Start s)
   start_does s there =

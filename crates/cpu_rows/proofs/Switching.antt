@@ -2,7 +2,7 @@
 use Rattle.std.proofs.Common.{◌≡◌, ℕ, ◌+◌, ◌<◌, ◌≤◌, ◌⊎◌, true, eqb, ltb, List, [], ◌∷◌, ◌++◌, length, Some, refl, sym, ap, ◌∙◌, subst, inl, inr, arith}
 use Rattle.std.proofs.Common.{slice_get, Option, option_map}
 use Rattle.cpu_rows.proofs.Common.{cases_eq, eq-eqb, false_from_ne_true, eqb-true, false≢true, lt-ltb, length-append, ThreadNo, CpuNo, PartNo, MOST_PICKS}
-use Rattle.cpu_rows.proofs.Common.{Input, Rules, World, start, with_pair, set_here, set_elsewhere, CpuPart, Local, Step, Pop, Grow, Stock, Push, PopBatch}
+use Rattle.cpu_rows.proofs.Common.{Input, Rules, World, start, with_pair, set_here, set_elsewhere, CpuPart, Local, Step}
 use Rattle.cpu_rows.proofs.Common.{thread_no, Part, front_of, after, rules, number, front_after}
 use Rattle.cpu_rows.proofs.Common.{front_yields, runs_open, yields_for, about_row, Kind, enters, closes, neither, act_kind, kind_at, kind_of, step_kind}
 use Rattle.cpu_rows.proofs.Common.{entry, closing, count_at, SwitchesAreFew, CpuHolds, IsSeated, cpu_planned, limits_of, IsValidInput, standing_of}
@@ -11,8 +11,6 @@ use Rattle.alloc_rules.{proofs.First.served_first, proofs.Runs.served_kept, proo
 use Rattle.alloc_rules.specs.declared.part.Part.TheVariants.{Front, Heap, Map, Names, Shard}
 use Rattle.cpu_rows.specs.Machine.{Cpu}
 use Rattle.tc_model.{proofs.MovingFacts.pick_moves, specs.Chains.IsPolite, specs.Chains.IsPoliteMove, specs.Run.pick}
-use Rattle.call_steps.specs.declared.step.Step.TheVariants as does
-use Rattle.cpu_rows.specs.declared.row.CpuRow.TheVariants as front
 use Rattle.cpu_rows.specs.CpuFront as at
 use Rattle.alloc_rules.specs.Machine as machine
 use Rattle.cpu_rows.proofs.CpuLaw.{lawful_in}
@@ -43,12 +41,7 @@ place_of input l = machine.place_of (front_of input) about_row l
 
 -- the part that a thread wants before it enters is its own CPU
 home_by : (input : Input) (l : Local) (s : Step) → l.step ≡ s → HasToEnter s → l.seat.cpu.0 < input.asked.config.cpus → place_of input l ≡ Some (number l.seat.cpu.0)
-home_by input l (does.Front (front.Cpu (Pop a))) is has low = rw (is, lt-ltb l.seat.cpu.0 input.asked.config.cpus low)
-home_by input l (does.Front (front.Cpu (Grow a))) is has low = rw (is, lt-ltb l.seat.cpu.0 input.asked.config.cpus low)
-home_by input l (does.Front (front.Cpu (Stock s))) is has low = rw (is, lt-ltb l.seat.cpu.0 input.asked.config.cpus low)
-home_by input l (does.Front (front.Cpu (Push f))) is has low = rw (is, lt-ltb l.seat.cpu.0 input.asked.config.cpus low)
-home_by input l (does.Front (front.Cpu (PopBatch f))) is has low = rw (is, lt-ltb l.seat.cpu.0 input.asked.config.cpus low)
-home_by input l other is has low = absurd has
+home_by input l s is has low = grind (arith, lt-ltb)
 
 -- An act of thread t, of this local.
 module _ (input : Input) (c ins ends : ℕ) (w : World Part Local) (t : ℕ) (l : Local) (mine : slice_get w.locals t ≡ Some l) (low : l.seat.cpu.0 < input.asked.config.cpus) where
@@ -200,23 +193,11 @@ Served input w past = IsServed (front_of input) about_row (cpu_planned input.row
 
 -- an act at a CPU, as the rules have it
 pair_is : (input : Input) (p : CpuPart) (l : Local) (s : Step) → (let y = front_after (front_of input) about_row (at.Cpu p) l s in let pair : Part × Local = (Front y.0, y.1) in pair) ≡ (let x = cpu_pair input.rows p l s in (Cpu x.0, x.1))
-pair_is input p l (does.Front (front.Cpu row)) = refl
-pair_is input p l (does.Front (front.Domain row)) = refl
-pair_is input p l (does.Shard row) = refl
-pair_is input p l (does.Heap row) = refl
-pair_is input p l (does.Map row) = refl
-pair_is input p l (does.Names row) = refl
-pair_is input p l does.Ended = refl
+pair_is input p l s = grind arith
 
 -- and whether it is polite
 yields_is : (input : Input) (p : CpuPart) (l : Local) (s : Step) → front_yields (front_of input) (at.Cpu p) l s ≡ yields_for p l s
-yields_is input p l (does.Front (front.Cpu row)) = refl
-yields_is input p l (does.Front (front.Domain row)) = refl
-yields_is input p l (does.Shard row) = refl
-yields_is input p l (does.Heap row) = refl
-yields_is input p l (does.Map row) = refl
-yields_is input p l (does.Names row) = refl
-yields_is input p l does.Ended = refl
+yields_is input p l s = grind arith
 
 -- a polite pick keeps the balance
 module _ (input : Input) (valid : IsValidInput input) (c : ℕ) (w : World Part Local) (past : List ℕ) (served : Served input w past) (t : ℕ) (m : IsPoliteMove (rules input) w t) where
@@ -274,8 +255,7 @@ module _ (input : Input) (valid : IsValidInput input) (c : ℕ) (w : World Part 
         ]))
 
 few_of : (c ins ends : ℕ) (w : World Part Local) → Balance c ins ends w → ins ≤ ends + 1
-few_of c ins ends w (inl few) = omega arith
-few_of c ins ends w (inr e) = e.one
+few_of c ins ends w given = grind arith
 
 switches_from : (input : Input) → IsValidInput input → (c : ℕ) (order past : List ℕ) (w : World Part Local) (ins ends : ℕ) → length past + length order ≤ MOST_PICKS → Served input w past → IsPolite (rules input) w order → Balance c ins ends w → ins + count_at entry (rules input) w c order ≤ ends + count_at closing (rules input) w c order + 1
 switches_from input valid c [] past w ins ends few served polite balance = omega (arith, few_of c ins ends w balance)
