@@ -1,14 +1,14 @@
 -- Each act, at whatever part, leaves the local its shape and keeps the front-end's invariant.
-use Rattle.std.proofs.Common.{◌≡◌, ℕ, ◌+◌, ◌*◌, ◌/◌, ◌^◌, ◌<◌, ◌≤◌, List, [], ◌∷◌, ◌++◌, length, Option, Some, None, refl, sym, ap, ◌∙◌, subst, inl, inr}
+use Rattle.std.proofs.Common.{◌≡◌, ℕ, ◌+◌, ◌/◌, ◌^◌, ◌<◌, ◌≤◌, List, [], ◌∷◌, ◌++◌, length, Option, Some, None, refl, sym, ap, ◌∙◌, subst}
 use Rattle.std.proofs.Common.{arith, find, slice_get, slice_set}
-use Rattle.alloc_rules.proofs.Common.{Call, length-append, page_bytes, pages_holding, Contents, Addr, Class, Label, ThreadNo, ClassRow, SpanRef, SpanKind, Small}
-use Rattle.alloc_rules.proofs.Common.{Large, Malloc, Free, Release, Planned, Answer, Block, NoBlock, Freed, FreedNull, Released, SpanMap, holds, NameState}
+use Rattle.alloc_rules.proofs.Common.{Call, length-append, page_bytes, pages_holding, Contents, Addr, Label, ThreadNo, ClassRow, SpanRef, SpanKind, Small}
+use Rattle.alloc_rules.proofs.Common.{Large, Malloc, Free, Release, Planned, Answer, NoBlock, Freed, Released, SpanMap, holds, NameState}
 use Rattle.alloc_rules.proofs.Common.{state_of, Placed, new, release, Regs, LOADED_ROOM, room, appended, opening, IsFetched, IsAdded, fetch_moves, add_moves}
 use Rattle.alloc_rules.proofs.Common.{give_moves, small, address_of, run_of, Asking, Freeing, Giving, Onward, Next, Step, ShardStep, HeapStep, MapStep}
-use Rattle.alloc_rules.proofs.Common.{Local, step_or, no_class, class_row, decided, goes, ends, with_regs, serves, with_freed, clears, with_more}
+use Rattle.alloc_rules.proofs.Common.{Local, step_or, no_class, class_row, decided, goes, ends, with_regs, serves, with_freed, with_more}
 use Rattle.alloc_rules.proofs.Common.{fetches, with_spans_behind, shard_row, after_new, after_new_span, without_first_span, frees_span, heap_row, found}
 use Rattle.alloc_rules.proofs.Common.{after_lookup, clears_span, map_row, after_take, MayDecide, MayGoOnDecided, says, goes_or_ends, follows}
-use Rattle.alloc_rules.proofs.Common.{About, call_about, HasNoLabel, IsClassRow, AreRows, BeginsWith, most_slots, At, Here, Away, Standing, stand, at_row}
+use Rattle.alloc_rules.proofs.Common.{About, call_about, IsClassRow, AreRows, BeginsWith, most_slots, At, Here, Away, Standing, stand, at_row}
 use Rattle.alloc_rules.proofs.Common.{at_onward, at_next, regs_next, at_shard, at_heap, at_map, at_step, IsAsked, HandAbout, HasNone, HasSpans}
 use Rattle.alloc_rules.proofs.Common.{IsOnward, ShardShape, HeapShape, MapShape, StepShape, IsShaped, IsAct, IsLawful, FrontRules, Left, FitsShard, FitsMap}
 use Rattle.alloc_rules.proofs.Common.{IsKept, IsLowRun, ShardActsKeep, HeapActsKeep, IsKindThere, IsFoundClass, MapActsKeep, NamesActsKeep, FrontActsKeep}
@@ -19,7 +19,6 @@ use Rattle.name_table.specs.declared.table.NameState.TheVariants as name
 use Rattle.heap_rules.specs.Heap as heaps
 use Rattle.class_shard.specs.Shard as shards
 use Rattle.call_steps.specs.declared.step.Giving.TheVariants as giving
-use Rattle.call_steps.specs.declared.step.Onward.TheVariants as onward
 use Rattle.call_steps.specs.declared.step.Next.TheVariants as next
 use Rattle.call_steps.specs.declared.step.Step.TheVariants as does
 use Rattle.call_steps.specs.declared.step.ShardStep.TheVariants as shard
@@ -55,9 +54,7 @@ module _ {P V R : Type 0} {r : FrontRules P V R} {about : R → About} {planned 
 
     -- from a step at which the thread stands so
     kept : (l new : Local V R) (a : At R) → at_step l.step ≡ a → NotHere a → Common' l → Next' (stand l.seat l.regs (l.acts + 1) a) new → IsKept r about planned Holds t l new
-    kept l new a is not_here c n =
-        let more = waits_at law table t l a l.acts (l.acts + 1) l.regs.hand not_here (omega arith) c refl in
-        record { shaped = n.shaped; stands = λ m ps us holds. n.stands m ps us (more m ps us (subst (λ (x : At R). Holds m ps (slice_set us t (stand l.seat l.regs l.acts x))) is holds)) }
+    kept l new a is not_here c n = grind (arith, waits_at)
 
     row_there : (l : Local V R) → Common' l → IsClassRow (class_row r.calls.rows l)
     row_there l c = table.each l.regs.class.0 no_class c.class
@@ -107,9 +104,7 @@ module _ {P V R : Type 0} {r : FrontRules P V R} {about : R → About} {planned 
     -- the heap
     new_next : (h : heaps.Heap) (l : Local V R) (label : Label) (size : ℕ) (o : Option Placed) → Common' l → HasNone l → Next' (away l) (after_new h l label size o).1
     new_next h l label size None c n = to (decided l (Malloc label size) NoBlock) (does.Names (names.Publish label None)) c (record { hand = n.hand; freed = n.freed }) refl (λ none. none)
-    new_next h l label size (Some p) c n =
-        let l' : Local V R = decided l (Malloc label size) (Block (address_of p.run) (p.run.pages * page_bytes)) in
-        to l' (does.Map (map.Set label p.run)) c (record { hand = n.hand; freed = n.freed }) refl (λ none. none)
+    new_next h l label size (Some p) c n = grind (arith, to)
 
     span_next : (h : heaps.Heap) (l : Local V R) (a : Asking) (o : Option Placed) → Common' l → HasNone l → IsAsked r.calls.rows l.regs a → Next' (away l) (after_new_span h l a o).1
     span_next h l a None c n asked = new_next h l a.label a.size None c n
@@ -158,8 +153,7 @@ module _ {P V R : Type 0} {r : FrontRules P V R} {about : R → About} {planned 
 
     clear_next : (x : SpanMap) (l : Local V R) (o : Onward R) (spans : List SpanRef) → l.freed.items ≡ spans → Common' l → HasSpans l → IsOnward r.calls.rows about o → Next' (stand l.seat l.regs (l.acts + 1) (at_onward o)) (clears_span x l o spans).1
     clear_next x l o [] freed c n is = absurd (let e = ap length freed in omega (arith, e, n.some))
-    clear_next x l o (s ∷ others) freed c n is =
-        same_next law table t (goes l (does.Heap (heap.FreeSpan o))) c (record { hand = n.hand; some = n.some }, is)
+    clear_next x l o (s ∷ others) freed c n is = grind (arith, same_next)
 
     map_next : (x : SpanMap) (l : Local V R) (row : MapStep R) → Common' l → MapShape r.calls.rows about l row → FitsMap x l row → IsFoundClass r.calls.rows x row → Next' (stand l.seat l.regs (l.acts + 1) (at_map row)) (map_row r.calls x l row).1
     map_next x l (map.Set label run) c shape fit there = to l (does.Names (names.Publish label (Some (address_of run)))) c shape refl (λ none. none)
@@ -171,19 +165,15 @@ module _ {P V R : Type 0} {r : FrontRules P V R} {about : R → About} {planned 
     -- from a step that is written out
     kept_at : (l new : Local V R) (s : Step R) → IsShaped r.calls.rows about planned t l → l.step ≡ s → NotHere (at_step s)
         → (Common' l → StepShape r.calls.rows about l s → Next' (stand l.seat l.regs (l.acts + 1) (at_step s)) new) → IsKept r about planned Holds t l new
-    kept_at l new s shaped is not_here next =
-        let c : Common' l = common_of law table t l shaped in
-        kept l new (at_step s) (ap at_step is) not_here c (next c (subst (λ (x : Step R). StepShape r.calls.rows about l x) is shaped.step))
+    kept_at l new s shaped is not_here next = grind (arith, common_of, kept)
 
     -- the names
     take_kept : (all : List NameState) (l : Local V R) (label : Label) (o : NameState) → IsShaped r.calls.rows about planned t l → l.step ≡ does.Names (names.Take label)
         → IsKept r about planned Holds t l (after_take r.calls all l label o).1
     take_kept all l label name.Unpublished shaped is = record { shaped = shaped; stands = λ m ps us holds. holds }
     take_kept all l label name.Taken shaped is = record { shaped = shaped; stands = λ m ps us holds. holds }
-    take_kept all l label (name.Published None) shaped is =
-        kept_at l (ends r.calls (decided l (Free label) FreedNull)) (does.Names (names.Take label)) shaped is tt (ends_decided l (Free label) FreedNull)
-    take_kept all l label (name.Published (Some addr)) shaped is =
-        kept_at l (goes l (does.Map (map.Lookup label addr))) (does.Names (names.Take label)) shaped is tt (λ c n. to l (does.Map (map.Lookup label addr)) c n refl (λ none. none))
+    take_kept all l label (name.Published None) shaped is = grind (arith, ends_decided, kept_at)
+    take_kept all l label (name.Published (Some addr)) shaped is = grind (arith, kept_at, to)
 
   pub shard_acts_keep : ShardActsKeep r about planned Holds
   shard_acts_keep t s l row table shaped is sound same low fit =
@@ -226,16 +216,13 @@ module _ {P V R : Type 0} {r : FrontRules P V R} {about : R → About} {planned 
     gave_behind : (g : Giving R) → fronts.IsNext r about row l.regs x.regs (next.Gave g) → Behind (next.Gave g)
     gave_behind (giving.Rest s) may = gave_next law table t then (giving.Rest s) [] common may.1 tt
     gave_behind (giving.Freed f) may = gave_next law table t then (giving.Freed f) (f.addr ∷ []) common may.1 refl
-    gave_behind (giving.Row k to_row) may =
-        subst (λ (ss : List SpanRef). IsNext law table t (stand x.seat (record x.regs { class = k }) (l.acts + 1) (Here to_row)) (clears r.calls then (onward.Row k to_row) ss)) (sym none_freed)
-        (at_front (with_regs then (record x.regs { class = k })) to_row (changed law table t common may.2.0 common.hand common.freed) none_freed (later_shape law table t then k (about to_row) may.2.1 (has_none may.1)))
+    gave_behind (giving.Row k to_row) may = grind (arith, at_front, changed, common, has_none, later_shape)
     gave_behind giving.End may = gave_next law table t then giving.End [] common may.1 tt
 
     decides_behind : (a : About) (answer : Answer) (to_row : Option R) → MayDecide a answer → (to_row ≡ None → x.regs.hand.items ≡ []) → MayGoOnDecided about to_row
         → length x.regs.hand.items ≤ most_slots → IsNext law table t (stand x.seat x.regs (l.acts + 1) (at_row to_row)) (goes_or_ends r.calls (says then (call_about a) answer) to_row)
     decides_behind (calls.Other (Some call)) answer None may none on few = ends_decided table t then call answer common (has_none (none refl))
-    decides_behind (calls.Other (Some call)) answer (Some to_row) may none on few =
-        at_front (decided then call answer) to_row common none_freed (subst (HandAbout r.calls.rows x.regs) (sym on) few)
+    decides_behind (calls.Other (Some call)) answer (Some to_row) may none on few = grind (arith, at_front, common)
     decides_behind (calls.Other None) answer to_row may none on few = absurd may
     decides_behind (calls.Asks a) answer to_row may none on few = absurd may
     decides_behind (calls.Publishes s) answer to_row may none on few = absurd may
@@ -243,9 +230,7 @@ module _ {P V R : Type 0} {r : FrontRules P V R} {about : R → About} {planned 
 
     -- what an allocation asks for is still of its class
     asked_by : (a : Asking) → about row ≡ calls.Asks a → HandAbout r.calls.rows l.regs (about row) → IsAsked r.calls.rows x.regs a
-    asked_by a is has =
-        let class : x.regs.class ≡ l.regs.class = elim act.class [ inl same ↦ same | inr none ↦ absurd (subst HasNoLabel is none.1) ] in
-        (subst (HandAbout r.calls.rows l.regs) is has).0 ∙ ap (λ (c : Class). Some c) (sym class)
+    asked_by a is has = grind arith
 
     few_still : (a : About) (answer : Answer) → MayDecide a answer → HandAbout r.calls.rows l.regs a → x.regs.hand.items ≡ l.regs.hand.items → length x.regs.hand.items ≤ most_slots
     few_still a answer may has same = grind arith
@@ -259,8 +244,7 @@ module _ {P V R : Type 0} {r : FrontRules P V R} {about : R → About} {planned 
     follows_behind (next.Publish s) may has = publishes_next law table t then s common (has_none may.1)
     follows_behind (next.Freed f) may has = ends_decided table t then (Free f.label) (Freed f.addr) common (has_none may.1)
     follows_behind (next.Decide answer None) may has = decides_behind (about row) answer None may.0 (λ e. may.2) tt (let e = ap length may.2 in omega (arith, e))
-    follows_behind (next.Decide answer (Some to_row)) may has =
-        decides_behind (about row) answer (Some to_row) may.0 (λ e. absurd (cc)) may.2 (few_still (about row) answer may.0 has may.1)
+    follows_behind (next.Decide answer (Some to_row)) may has = grind (arith, decides_behind, few_still)
     follows_behind next.End may has = ends_next law table t then common (has_none may.1)
 
   pub front_acts_keep : FrontActsKeep r about planned Holds

@@ -5,7 +5,7 @@ use Rattle.alloc_rules.proofs.Common.{All-weaker, cases_Bool, cond-true, eq-eqb,
 use Rattle.alloc_rules.proofs.Common.{Extent, blocks_after, live_bytes, CallLine, Planned, state_of, HeapConfig, Placed, new, none_fits, IsGiven}
 use Rattle.alloc_rules.proofs.Common.{IsSound, new_gives, small, runs_at, spans_at, objects_at, Account, loose, in_hand, named_at, Setup, Books}
 use Rattle.alloc_rules.proofs.Common.{class_number, IsStanding, Facts, least, none_counts, of_all, sum_of_both, class_zero, objects_are_once, names_are_live}
-use Rattle.alloc_rules.proofs.Common.{page_bytes, pages_holding, class_row, Local, under, About, Parts, place_of, rules, lines_by, TellsFirst, TellsScript}
+use Rattle.alloc_rules.proofs.Common.{page_bytes, Local, under, About, Parts, place_of, rules, lines_by, TellsFirst, TellsScript}
 use Rattle.alloc_rules.proofs.Common.{is_under_way, stock_of, AreBooksOf, IsValid, pages_asked, calls, setup_of, books_of, HoldsAfter, Regs, Step, Part}
 use Rattle.alloc_rules.proofs.Common.{account_of, Standing, StepShape, IsLawful, FrontRules}
 use Rattle.holdings.proofs.Blocks.{bytes_are_within}
@@ -79,13 +79,8 @@ module _ {P V R : Type 0} {r : FrontRules P V R} {about : R → About} {planned 
 
   -- what a thread asks the heap for has a page
   asked_some : (l : Local V R) (s : Step R) (n : ℕ) → l.regs.class.0 < length r.calls.rows → StepShape r.calls.rows about l s → pages_asked r.calls.rows l s ≡ Some n → 0 < n
-  asked_some l (does.Heap (heap.New label size)) n low shape is =
-      let e : pages_holding size ≡ n = cc in
-      let some = some_size r.calls.rows size valid.rows.some shape.1 in
-      omega (arith, e, some)
-  asked_some l (does.Heap (heap.NewSpan a)) n low shape is =
-      let e : (class_row r.calls.rows l).pages ≡ n = cc in
-      omega (arith, e, (row_at_class r.calls.rows l valid.rows low).pages)
+  asked_some l (does.Heap (heap.New label size)) n low shape is = grind (arith, some_size)
+  asked_some l (does.Heap (heap.NewSpan a)) n low shape is = grind (arith, row_at_class)
   asked_some l (does.Heap (heap.GiveBack label run)) n low shape is = absurd (cc)
   asked_some l (does.Heap (heap.FreeSpan next)) n low shape is = absurd (cc)
   asked_some l (does.Heap (heap.Unback pages)) n low shape is = absurd (cc)
@@ -122,11 +117,7 @@ module _ {P V R : Type 0} {r : FrontRules P V R} {about : R → About} {planned 
 
   -- a thread that wants no part has no call under way
   wants_none : (l : Local V R) → place_of r about l ≡ None → is_under_way l.step ≡ false
-  wants_none l none =
-      elim (cases_Bool (is_under_way l.step)) [
-        | inl way ↦ let wants = (wants_by r.place r.split (length r.calls.rows) l l.step way).1 in absurd (cc)
-        | inr way ↦ way
-      ]
+  wants_none l none = grind (arith, cases_Bool, wants_by)
 
   all_told : HaveEnded (rules r about asked) (run (rules r about asked) order) → (t : ℕ) → t < asked.config.threads → TellsScript asked t (calls locals order)
   all_told ended t low =

@@ -24,9 +24,7 @@ module _ {P V R : Type 0} (r : FrontRules P V R) (about : R → About) (rows : L
   found_class k n some = elim (cases_lt k (length rows)) [ inl below ↦ below | inr past ↦ absurd (omega (arith, some, none_past k n past)) ]
 
   size_is : (k : ℕ) → k < length rows → size_of rows k ≡ (shard_at p.shards k).central.row.size
-  size_is k below =
-      let x : Shard = shard_at p.shards k in
-      ap (λ (r : ClassRow). r.size) (get_or_from_slice_get rows k x.central.row no_row (there k below).row)
+  size_is k below = grind (arith, get_or_from_slice_get, there)
 
   cut_at : (k : ℕ) → k < length rows → IsCutInto (shard_at p.shards k)
   cut_at k below = spans_cut (shard_at p.shards k) (there k below).sound

@@ -2,10 +2,10 @@
 use Rattle.std.proofs.Common.{◌≡◌, ℕ, ◌*◌, ◌/◌, ◌≤◌, Bool, true, false, List, [], ◌∷◌, ◌++◌, Option, Some, None, refl, sym, ap, ◌∙◌, arith, find}
 use Rattle.alloc_rules.proofs.Common.{false≢true, page_bytes, Addr, Label, SpanRef, SpanKind, Small, Large, Call, Malloc, Free}
 use Rattle.alloc_rules.proofs.Common.{Answer, Block, Freed, FreedNull, NoBlock, SpanMap, holds, NameState, Placed, Regs}
-use Rattle.alloc_rules.proofs.Common.{without_first, emptied, opening, small, address_of, Asking, Serving, Giving, Onward, Step, Next, ShardStep, HeapStep}
+use Rattle.alloc_rules.proofs.Common.{without_first, address_of, Asking, Serving, Giving, Onward, Step, Next, ShardStep, HeapStep}
 use Rattle.alloc_rules.proofs.Common.{MapStep, NamesStep, FrontCalls, FrontRules, Local, decided, ends, class_row, About, call_about, with_hand}
 use Rattle.alloc_rules.proofs.Common.{stocks, serves_first, goes_onward, gave, clears, with_freed, says_in, goes_or_ends, follows, with_more, fetches}
-use Rattle.alloc_rules.proofs.Common.{with_spans_behind, shard_row, after_new, after_new_span, frees_span, without_first_span, heap_row, found, after_lookup}
+use Rattle.alloc_rules.proofs.Common.{shard_row, after_new, after_new_span, frees_span, without_first_span, heap_row, found, after_lookup}
 use Rattle.alloc_rules.proofs.Common.{clears_span, map_row, after_take, names_row, shard_after, heap_after, map_after, names_after, front_after, Decides}
 use Rattle.alloc_rules.proofs.Common.{RefusesThere, Part, RefusesAs, after}
 use Rattle.call_steps.specs.Refusals.{is_refusal, may_refuse}
@@ -134,12 +134,8 @@ module _ {V R : Type 0} (e : FrontCalls V R) (about : R → About) (refuses : R 
 
   shard_leaves : (s : shards.Shard) (l : Local V R) (row : ShardStep R) → Plain l (shard_row e s l row).1
   shard_leaves s l (shard.Fetch a) = fetch_leaves l a (shards.fetched (class_row e.rows l).batch s)
-  shard_leaves s l (shard.AddFetch a run) =
-      let x : Local V R = with_more l (opening (small l.regs.class run) s.central.row.size (class_row e.rows l).batch) in
-      from l x _ refl refl refl (serves_leaves x a x.regs.hand.items)
-  shard_leaves s l (shard.Give g) =
-      let x : Local V R = with_freed (with_hand l (emptied l.regs.hand)) (with_spans_behind l.freed (shards.freed_by l.regs.hand.items s)) in
-      from l x _ refl refl refl (gave_leaves x g)
+  shard_leaves s l (shard.AddFetch a run) = grind (arith, from, serves_leaves)
+  shard_leaves s l (shard.Give g) = grind (arith, from, gave_leaves)
 
   -- an act of the per-CPU caches, by what comes behind it
   tells : (s : Step R) (l y : Local V R) (call : Call) (answer : Answer) → (is_refusal answer ≡ true → may_refuse refuses s answer ≡ true) → l.ended ≤ y.ended → y.answers ≡ l.answers ++ record { act = l.acts; call = call; answer = answer } ∷ [] → Leaves refuses s l y
@@ -201,10 +197,7 @@ module _ {V R : Type 0} (e : FrontCalls V R) (about : R → About) (refuses : R 
 -- an act at whatever part
 module _ {P V R : Type 0} (r : FrontRules P V R) (about : R → About) (refuses_as : (p : P) (v : V) (g : Regs) (row : R) → RefusesAs r.refuses row (r.acts p v g row).next) where
   front_leaves : (p : P) (l : Local V R) (s : Step R) → Leaves r.refuses s l (front_after r about p l s).1
-  front_leaves p l (does.Front row) =
-      let x = r.acts p l.seat l.regs row in
-      let leaves = follows_leaves r.calls about r.refuses row (record l { seat = x.seat; regs = x.regs }) x.next (refuses_as p l.seat l.regs row) in
-      record { ended = leaves.ended; there = λ a refusal none d. leaves.there a refusal none (record { call = d.call; answers = d.answers }) }
+  front_leaves p l (does.Front row) = grind (arith, follows_leaves)
   front_leaves p l (does.Shard row) = leaves_of r.refuses (does.Shard row) l l (quiet l l (omega arith) refl)
   front_leaves p l (does.Heap row) = leaves_of r.refuses (does.Heap row) l l (quiet l l (omega arith) refl)
   front_leaves p l (does.Map row) = leaves_of r.refuses (does.Map row) l l (quiet l l (omega arith) refl)

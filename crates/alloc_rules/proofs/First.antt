@@ -6,9 +6,9 @@ use Rattle.alloc_rules.proofs.Common.{length-range_with_len, get_or-range_with_l
 use Rattle.alloc_rules.proofs.Common.{ClassRow, SpanRef, Small, Call, Malloc, Free, Release, Drain, Resize, Planned, Asked, script_of, labels_of, start}
 use Rattle.alloc_rules.proofs.Common.{answers_at, AreBelow, NameState, Shard, places, spans_in, objects_in_spans, IsOfRow, of_all, spans_like, spans_at}
 use Rattle.alloc_rules.proofs.Common.{objects_at, Account, got, put, gets, puts, asking, publishing, taking, pending, untaken, mentions, Books, class_number}
-use Rattle.alloc_rules.proofs.Common.{HasNothing, IsFirst, Facts, Regs, room, Asking, Step, append_snoc, FrontCalls, AreEntries, FrontRules}
+use Rattle.alloc_rules.proofs.Common.{HasNothing, IsFirst, Facts, Regs, room, Step, append_snoc, FrontCalls, AreEntries, FrontRules}
 use Rattle.alloc_rules.proofs.Common.{IsEntry, Local, Decided, told, step_or, idle_local, first_of_malloc, first_of_call, first_act, regs_of_malloc}
-use Rattle.alloc_rules.proofs.Common.{regs_of_call, regs_by, thread_no, About, call_at, IsClassRow, AreRows, heap_config, first_shard, first_shards, first_of}
+use Rattle.alloc_rules.proofs.Common.{regs_of_call, regs_by, thread_no, About, call_at, IsClassRow, AreRows, first_shard, first_shards, first_of}
 use Rattle.alloc_rules.proofs.Common.{first_parts, rules, HasRoom, account_of, doing_of, doing_about, off_of, apart_of, mapped_of, clears_of, shard_at}
 use Rattle.alloc_rules.proofs.Common.{IsShardOf, stored_in, stock_of, Standing, standing_of, IsLawful, idle, IsIn, IsValid, calls, setup_of}
 use Rattle.class_shard.proofs.SpanSums.{sum_by-map}
@@ -17,10 +17,8 @@ use Rattle.holdings.{proofs.Start.holds_at_first, specs.Accounts.holds}
 use Rattle.rseq_core.specs.Registers.{first_regs}
 use Rattle.name_table.specs.declared.table.NameState.TheVariants as name
 use Rattle.call_steps.specs.declared.step.Step.TheVariants as does
-use Rattle.call_steps.specs.declared.step.ShardStep.TheVariants as shard_step
 use Rattle.call_steps.specs.declared.step.HeapStep.TheVariants as heap_step
 use Rattle.call_steps.specs.declared.step.NamesStep.TheVariants as names_step
-use Rattle.call_steps.specs.Calls as calls_are
 use Rattle.alloc_rules.proofs.Steps.{row_there}
 use Rattle.alloc_rules.proofs.Inputs.{both_in, in_scripts, sum-same, valid_once, valid_planned}
 use Rattle.alloc_rules.proofs.Keeping.{CommonOf, IsNext, come_next}
@@ -45,28 +43,14 @@ entry_fresh about a other o rest script entry same f = grind arith
 module _ {V R : Type 0} (e : FrontCalls V R) (about : R → About) (entries : AreEntries e about) (v : V) where
   fresh_by : (s : Step R) (rest : List Planned) (line : Planned) (call : Call) → line.call ≡ call → ((x : ℕ) → asking x (doing_of about s) ≡ got x call) → ((x : ℕ) → publishing x (doing_of about s) ≡ 0) → ((x : ℕ) → taking x (doing_of about s) ≡ put x call) → ((x : ℕ) (w : Option Addr) → holds x w (doing_of about s) ≡ 0)
       → off_of [] s ≡ [] → ((k : Class) → apart_of k [] s ≡ []) → ((k : Class) → mapped_of k [] s ≡ []) → clears_of s ≡ [] → IsFresh about s rest (line ∷ rest)
-  fresh_by s rest line call is asks publishes takes value off apart mapped clears =
-      record {
-        asks = λ x. omega (arith, asks x, ap (got x) is);
-        publishes = publishes;
-        takes = λ x. omega (arith, takes x, ap (put x) is);
-        value = value;
-        off = off;
-        apart = apart;
-        mapped = mapped;
-        clears = clears;
-      }
+  fresh_by s rest line call is asks publishes takes value off apart mapped clears = grind arith
 
   fresh_malloc : (c : Option Class) (label : Label) (size : ℕ) (rest : List Planned) (line : Planned) → line.call ≡ Malloc label size → IsFresh about (first_of_malloc e v c label size) rest (line ∷ rest)
   fresh_malloc None label size rest line is = fresh_by (first_of_malloc e v None label size) rest line (Malloc label size) is (λ x. refl) (λ x. refl) (λ x. refl) (λ x w. refl) refl (λ k. refl) (λ k. refl) refl
-  fresh_malloc (Some c) label size rest line is =
-      let a : Asking = record { label = label; size = size } in
-      let other : Step R = does.Shard (shard_step.Fetch a) in
-      entry_fresh about (calls_are.Asks a) other (e.first v a) rest (line ∷ rest) (entries.first_about v a) refl (fresh_by other rest line (Malloc label size) is (λ x. refl) (λ x. refl) (λ x. refl) (λ x w. refl) refl (λ k. refl) (λ k. refl) refl)
+  fresh_malloc (Some c) label size rest line is = grind (arith, entry_fresh, fresh_by)
 
   fresh_own : (call : Call) (rest : List Planned) (line : Planned) → line.call ≡ call → ((x : ℕ) → got x call ≡ 0) → ((x : ℕ) → put x call ≡ 0) → IsFresh about (step_or does.Ended (e.other v call)) rest (line ∷ rest)
-  fresh_own call rest line is no_got no_put =
-      entry_fresh about (calls_are.Other (Some call)) does.Ended (e.other v call) rest (line ∷ rest) (entries.other_about v call) refl (fresh_by does.Ended rest line call is (λ x. sym (no_got x)) (λ x. refl) (λ x. sym (no_put x)) (λ x w. refl) refl (λ k. refl) (λ k. refl) refl)
+  fresh_own call rest line is no_got no_put = grind (arith, entry_fresh, fresh_by)
 
   fresh_call : (c : Call) (rest : List Planned) (line : Planned) → line.call ≡ c → IsFresh about (first_of_call e v c) rest (line ∷ rest)
   fresh_call (Malloc label size) rest line is = fresh_malloc (class_of e.rows size) label size rest line is
@@ -127,9 +111,7 @@ shard_is room j k [] x is = absurd (cc)
 shard_is room j zero (row ∷ rows) x is =
     let e : first_shard room j row ≡ x = cc in
     record { row = row; there = refl; is = ap (λ n. first_shard room n row) (let z : j + 0 ≡ j = omega arith in z) ∙ e }
-shard_is room j (suc k) (row ∷ rows) x is =
-    let r = shard_is room (j + 1) k rows x is in
-    record { row = r.row; there = r.there; is = ap (λ n. first_shard room n r.row) (let z : j + suc k ≡ (j + 1) + k = omega arith in z) ∙ r.is }
+shard_is room j (suc k) (row ∷ rows) x is = grind (arith, shard_is room (j + 1) k rows x is)
 
 shard_of : (room k : ℕ) (rows : List ClassRow) (x : Shard) → AreRows rows → slice_get (first_shards room 0 rows) k ≡ Some x → IsShardOf rows k x
 shard_of room k rows x are is =
@@ -224,10 +206,7 @@ module _ {P V R : Type 0} {r : FrontRules P V R} {about : R → About} {planned 
       }
 
   nothing_first : (t : ℕ) → HasNothing (account_of about (first_of r about asked t))
-  nothing_first t =
-      let f = fresh t in
-      let k : Class = (first_of r about asked t).regs.class in
-      record { value = f.value; hand = hand_first r.calls about law.entries (seat_of t) (slice_get (script t) 0) (first_regs (thread_no t)) refl; off = f.off; apart = f.apart k; mapped = f.mapped k; clears = f.clears }
+  nothing_first t = grind (arith, first_regs, fresh, hand_first)
 
   all_nothing : All HasNothing (map (account_of about) first_locals)
   all_nothing =
@@ -235,9 +214,7 @@ module _ {P V R : Type 0} {r : FrontRules P V R} {about : R → About} {planned 
       All-map HasNothing (account_of about) first_locals (All-map (λ (l : Local V R). HasNothing (account_of about l)) (first_of r about asked) numbers (λ k d low. nothing_first (get_or numbers k d)))
 
   first_sum : (f : Account → ℕ) (g : List Planned → ℕ) → ((t : ℕ) → f (account_of about (first_of r about asked t)) ≡ g (script t)) → sum_by f (map (account_of about) first_locals) ≡ in_scripts r.calls.rows planned g asked
-  first_sum f g same =
-      let numbers : List ℕ = range_with_len 0 asked.config.threads in
-      sum_by-map f (account_of about) first_locals ∙ (sum_by-map (λ (l : Local V R). f (account_of about l)) (first_of r about asked) numbers ∙ sum-same (λ t. f (account_of about (first_of r about asked t))) (λ t. g (script t)) numbers same)
+  first_sum f g same = grind (arith, sum-same, sum_by-map)
 
   no_stored : (k n : ℕ) → stored_in r about (first_parts r about asked) k n ≡ 0
   no_stored k n = omega (arith, law.none k n, no_places asked.config.transfer 0 k n r.calls.rows)
@@ -271,20 +248,7 @@ module _ {P V R : Type 0} {r : FrontRules P V R} {about : R → About} {planned 
   facts_first = holds_at_first (setup_of r asked) first_books is_first
 
   placed_first : ArePlaced r asked (first_parts r about asked)
-  placed_first =
-      let c = asked.config in
-      record {
-        ok = record {
-          classes = shards_count c.transfer 0 r.calls.rows;
-          shards = λ k x is. shard_of c.transfer k r.calls.rows x valid.rows is;
-          heap = opened_sound (heap_config c);
-          config = refl;
-          map = record { some = valid.limits.some; few = valid.limits.few; inside = λ k d within. absurd (omega (arith, within)); apart = λ i j d less within. absurd (omega (arith, within)) };
-          huge = refl;
-        };
-        fronts = refl;
-        transfers = first_room c.transfer 0 r.calls.rows;
-      }
+  placed_first = search (arith, first_room, opened_sound, shard_of, shards_count)
 
   -- Each thread is at its first call.
   work_first : (t : ℕ) → IsAtWork r about planned Holds asked (first_parts r about asked).names [] t (first_of r about asked t)

@@ -2,7 +2,7 @@
 use Rattle.std.proofs.Common.{◌≡◌, ℕ, ◌+◌, ◌<◌, ◌⊎◌, List, [], ◌∷◌, Option, Some, None, refl, sym, ap, ◌∙◌, subst, inl, inr, arith, length, slice_get}
 use Rattle.std.proofs.Common.{slice_set}
 use Rattle.alloc_rules.proofs.Common.{eq-eqb, cases_eq, Addr, Class, Label, Free, Freed, SpanRef, Regs, ClassRow, Serving, Freeing, Planned, Answer, CallLine}
-use Rattle.alloc_rules.proofs.Common.{HeapConfig, objects_at, Doing, Publishes, Frees, Other, WeighSame, Setup, Books, IsCut, One, MoveObjects, Asking}
+use Rattle.alloc_rules.proofs.Common.{HeapConfig, objects_at, Doing, Frees, Other, WeighSame, Setup, Books, IsCut, One, MoveObjects, Asking}
 use Rattle.alloc_rules.proofs.Common.{Giving, Next, Step, Local, decided, goes, ends, publishes, comes_to, serves, decides_free, behind, clears, About}
 use Rattle.alloc_rules.proofs.Common.{HasNoLabel, call_about, about_giving, MayDecide, MayGoOnDecided, says, goes_or_ends, follows, BeginsWith, account_of}
 use Rattle.alloc_rules.proofs.Common.{doing_about, HandAbout, IsGiving, StepShape, IsNext, IsAct, AreEntries, FrontRules, Left, Parts, front_row, stock_of}
@@ -10,7 +10,6 @@ use Rattle.alloc_rules.proofs.Common.{Does, setup, IsBefore, FrontActsMove}
 use Rattle.call_steps.specs.declared.step.Giving.TheVariants as giving
 use Rattle.call_steps.specs.declared.step.Next.TheVariants as next
 use Rattle.call_steps.specs.declared.step.Step.TheVariants as does
-use Rattle.call_steps.specs.declared.step.ShardStep.TheVariants as shard
 use Rattle.call_steps.specs.Calls as calls
 use Rattle.alloc_rules.proofs.CutOf.{cut_of}
 use Rattle.alloc_rules.proofs.Goings.{Closes, carries, comes_as, ends_as, frees_object, gets_object, other_doing, says_other}
@@ -90,8 +89,7 @@ module _ {P V R : Type 0} (r : FrontRules P V R) (about : R → About) (planned 
         carries r about entries huge labels p locals b before.books fronts p.shards cut at_row after Other k hand [] l.rest (with_about a is ∙ ap (λ (y : Doing). bare y k hand l.rest) quiet) (given none) (λ label o wrong. absurd (cc)) closes.weighs closes.acts closes.answers
 
     publishing : (s : Serving) → about row ≡ calls.Publishes s → came ≡ [] → Goal (publishes then s)
-    publishing s is none =
-        on (publishes then s) (λ label o doing. absurd (let e : Publishes s.label (Some s.addr) ≡ Frees label o = sym (ap doing_about is) ∙ doing in cc)) (ap (λ (y : About). bare (doing_about y) x.regs.class.0 came l.rest) (sym is)) refl refl
+    publishing s is none = grind (arith, bare, on)
 
     freeing : (f : Freeing) → about row ≡ calls.Frees f → came ≡ [] → Goal (ends r.calls (decided then (Free f.label) (Freed f.addr)))
     freeing f is none = frees_object r about entries huge labels p locals b before.books fronts p.shards cut at_row x.seat x.regs l.freed f k hand (with_about (calls.Frees f) is) none (given none)
@@ -133,10 +131,7 @@ module _ {P V R : Type 0} (r : FrontRules P V R) (about : R → About) (planned 
 
     gives_has : (g : Giving R) → about row ≡ about_giving about g → IsGiving r.calls.rows about came g → (label : Label) (o : Addr) → d ≡ Frees label o → 0 < objects_at o.0 came
     gives_has (giving.Rest s) is may label o doing = absurd (let e : doing_about (calls.Publishes s) ≡ Frees label o = sym (ap doing_about is) ∙ doing in cc)
-    gives_has (giving.Freed f) is may label o doing =
-        let e : Frees f.label f.addr ≡ Frees label o = sym (ap doing_about is) ∙ doing in
-        let same : f.addr ≡ o = cc in
-        subst (λ (y : Addr). 0 < objects_at y.0 came) same (begins_has f.addr came may)
+    gives_has (giving.Freed f) is may label o doing = grind (arith, begins_has)
     gives_has (giving.Row j to) is may label o doing = absurd (let e : Other ≡ Frees label o = sym (other_doing (about to) may.1) ∙ (sym (ap doing_about is) ∙ doing) in cc)
     gives_has giving.End is may label o doing = absurd (let e : Other ≡ Frees label o = sym (ap doing_about is) ∙ doing in cc)
 
@@ -150,10 +145,8 @@ module _ {P V R : Type 0} (r : FrontRules P V R) (about : R → About) (planned 
     follows_on : (n : Next R) → IsNext r about row l.regs x.regs n → Goal (follows r.calls then (call_about (about row)) n)
     follows_on (next.Row to) may = on (goes then (does.Front to)) (frees_has r.calls.rows x.regs (about row) may.1) (ap (λ (y : About). bare (doing_about y) x.regs.class.0 came l.rest) may.0) refl refl
     follows_on (next.Serve a) may = serving a may.0 (subst (HandAbout r.calls.rows l.regs) may.0 shape) came refl may.1
-    follows_on (next.Fetch a) may =
-        on (goes then (does.Shard (shard.Fetch a))) (λ label o doing. absurd (let e : doing_about (calls.Asks a) ≡ Frees label o = sym (ap doing_about may.0) ∙ doing in cc)) (ap (λ (y : About). bare (doing_about y) x.regs.class.0 came l.rest) (sym may.0)) refl refl
-    follows_on (next.Give g) may =
-        on (goes then (does.Shard (shard.Give g))) (gives_has g may.0 may.2) (ap (λ (y : About). bare (doing_about y) x.regs.class.0 came l.rest) (sym may.0)) refl refl
+    follows_on (next.Fetch a) may = grind (arith, bare, on)
+    follows_on (next.Give g) may = grind (arith, bare, gives_has, on)
     follows_on (next.Gave g) may = subst (λ (ss : List SpanRef). Goal (clears r.calls (decides_free then g) (behind g) ss)) (sym none_freed) (gives g may)
     follows_on (next.Publish s) may = publishing s may.0 may.1
     follows_on (next.Freed f) may = freeing f may.0 may.1

@@ -1,18 +1,16 @@
 -- Where a call goes on with its hand: the account that it has then, its acts and its answers; and an allocation that gets an object.
-use Rattle.std.proofs.Common.{◌≡◌, ℕ, ◌+◌, ◌<◌, List, [], ◌∷◌, ◌++◌, drop, Some, refl, sym, ap, ◌∙◌, subst, arith}
+use Rattle.std.proofs.Common.{◌≡◌, ℕ, ◌+◌, ◌<◌, List, [], ◌∷◌, ◌++◌, Some, refl, sym, ap, ◌∙◌, subst, arith}
 use Rattle.alloc_rules.proofs.Common.{append-nil, Contents, class_of, Addr, Class, Label, Run, SpanRef, Malloc, Free, Planned, Block, Freed, Regs}
-use Rattle.alloc_rules.proofs.Common.{without_first, emptied, Shard, objects_at, small, Account, Doing, Asks, Publishes, Frees, Other, WeighSame, Setup}
+use Rattle.alloc_rules.proofs.Common.{emptied, Shard, objects_at, small, Account, Doing, Asks, Publishes, Frees, Other, WeighSame, Setup}
 use Rattle.alloc_rules.proofs.Common.{Stock, Books, IsCut, size_of, Said, SaysOther, Move, MovesHand, FreesObject, GetsObject, GetsFirst, Rests, MoveObjects}
 use Rattle.alloc_rules.proofs.Common.{AddSpan, Asking, Serving, Freeing, Giving, Decided, decided, goes, ends, class_row, Local, to_hand, with_freed}
-use Rattle.alloc_rules.proofs.Common.{decides_free, behind, goes_onward, publishes, comes_to, stocks, serves, serves_first, with_regs, Parts, About}
+use Rattle.alloc_rules.proofs.Common.{decides_free, behind, goes_onward, publishes, comes_to, stocks, serves, Parts, About}
 use Rattle.alloc_rules.proofs.Common.{HasNoLabel, doing_about, account_of, giving_doing, stock_of, AreBooksOf, decided_at, Does, FrontCalls, AreEntries}
 use Rattle.alloc_rules.proofs.Common.{FrontRules, IsGiving, setup}
 use Rattle.holdings.specs.Moves.{with_hand}
 use Rattle.call_steps.specs.declared.step.Giving.TheVariants as giving
 use Rattle.call_steps.specs.declared.step.MapStep.TheVariants as map
 use Rattle.call_steps.specs.declared.step.Step.TheVariants as step
-use Rattle.call_steps.specs.declared.step.ShardStep.TheVariants as shard
-use Rattle.call_steps.specs.Calls as calls
 use Rattle.alloc_rules.proofs.Stored.{does_by, settled, with_stores}
 use Rattle.alloc_rules.proofs.Weighing.{bare, ends_counts, entry_is, quiet, weighs_is, weighs_next, weighs_quiet}
 
@@ -35,32 +33,12 @@ pub record Closes {V R : Type 0} (of : R → About) (after : Local V R) (k : ℕ
 module _ {V R : Type 0} (e : FrontCalls V R) (about : R → About) (entries : AreEntries e about) where
   stocks_as : (l : Local V R) (s : Serving) (others : List Addr) → Goes about (stocks e l s others) (bare (Publishes s.label (Some s.addr)) l.regs.class.0 l.regs.hand.items l.rest) (l.acts + 1) l.answers
   stocks_as l s [] = record { account = refl; acts = refl; answers = refl }
-  stocks_as l s (a ∷ others) =
-      let d : Doing = Publishes s.label (Some s.addr) in
-      let g : Regs = e.to_rest l.regs in
-      let kept = entries.to_rest l.regs in
-      record {
-        account = entry_is about (with_regs l g) (step.Shard (shard.Give (giving.Rest s))) (calls.Publishes s) (e.rest l.seat s) (entries.rest_about l.seat s) refl
-            ∙ (ap (λ (k : Class). bare d k.0 g.hand.items l.rest) kept.class ∙ ap (λ (h : Contents Addr). bare d l.regs.class.0 h.items l.rest) kept.hand);
-        acts = refl;
-        answers = refl;
-      }
+  stocks_as l s (a ∷ others) = grind (arith, bare, entry_is)
 
   -- the first object in hand is an allocation's answer, and the others stay in hand
   pub serves_as : (l : Local V R) (asking : Asking) (o : Addr) (others : List Addr) → l.regs.hand.items ≡ o ∷ others
       → Goes about (serves e l asking) (bare (Publishes asking.label (Some o)) l.regs.class.0 others l.rest) (l.acts + 1) (l.answers ++ record { act = l.acts; call = Malloc asking.label asking.size; answer = Block o (class_row e.rows l).size } ∷ [])
-  serves_as l asking o others is =
-      let hand : Contents Addr = without_first 1 l.regs.hand in
-      let then : Local V R = decided (with_regs l (record l.regs { hand = hand })) (Malloc asking.label asking.size) (Block o (class_row e.rows l).size) in
-      let s : Serving = record { label = asking.label; addr = o } in
-      let at = stocks_as then s others in
-      let first : serves e l asking ≡ stocks e then s others = ap (serves_first e l asking) is in
-      let rest : drop 1 l.regs.hand.items ≡ others = ap (drop 1) is in
-      record {
-        account = ap (account_of about) first ∙ (at.account ∙ ap (λ (xs : List Addr). bare (Publishes asking.label (Some o)) l.regs.class.0 xs l.rest) rest);
-        acts = ap (λ (x : Local V R). x.acts) first ∙ at.acts;
-        answers = ap (λ (x : Local V R). x.answers) first ∙ at.answers;
-      }
+  serves_as l asking o others is = grind (arith, bare, stocks_as)
 
   pub ends_as : (l : Local V R) (k : ℕ) → l.regs.hand.items ≡ [] → Closes about (ends e l) k l.rest (l.acts + 1) l.answers
   ends_as l k none = let counts = ends_counts e l in record { weighs = weighs_next e about entries l k none; acts = counts.0; answers = counts.1 }
@@ -101,14 +79,7 @@ module _ {P V R : Type 0} (r : FrontRules P V R) (about : R → About) (entries 
   gets_by : (l : Local V R) (v : V) (regs : Regs) (asking : Asking) (o : Addr) (others : List Addr) (a : Account) → account_of about l ≡ a → regs.class ≡ l.regs.class → regs.hand.items ≡ o ∷ others
       → (WeighSame (bare (Publishes asking.label (Some o)) l.regs.class.0 others l.rest) (account_of about (serves r.calls (record l { seat = v; regs = regs }) asking)) → Move m (settled r about b p) a (stock_of r about new) b.heap b.spans p.names (account_of about (serves r.calls (record l { seat = v; regs = regs }) asking)) (got_it l asking o ∷ []))
       → Does r about m new b l (serves r.calls (record l { seat = v; regs = regs }) asking)
-  gets_by l v regs asking o others a is class hand move =
-      let at = serves_as r.calls about entries (record l { seat = v; regs = regs }) asking o others hand in
-      let after : Local V R = serves r.calls (record l { seat = v; regs = regs }) asking in
-      let wanted : Account = bare (Publishes asking.label (Some o)) l.regs.class.0 others l.rest in
-      let account : account_of about after ≡ wanted = at.account ∙ ap (λ (c : Class). bare (Publishes asking.label (Some o)) c.0 others l.rest) class in
-      let answers : after.answers ≡ l.answers ++ record { act = l.acts; call = Malloc asking.label asking.size; answer = Block o (size_of m.rows l.regs.class.0) } ∷ [] =
-      at.answers ∙ ap (λ (c : Class). l.answers ++ record { act = l.acts; call = Malloc asking.label asking.size; answer = Block o (size_of m.rows c.0) } ∷ []) class in
-      does_by r about m p locals b books fronts shards l after a (got_it l asking o ∷ []) is (move (weighs_is wanted (account_of about after) account)) at.acts answers
+  gets_by l v regs asking o others a is class hand move = grind (arith, bare, does_by, serves_as, weighs_is)
 
   pub gets_object : (l : Local V R) (v : V) (regs : Regs) (asking : Asking) (o : Addr) (others : List Addr) → account_of about l ≡ bare (Asks asking.label asking.size) l.regs.class.0 [] l.rest → regs.class ≡ l.regs.class → regs.hand.items ≡ o ∷ others → class_of m.rows asking.size ≡ Some l.regs.class
       → MoveObjects (stock_of r about p) (stock_of r about new) l.regs.class.0 [] (o ∷ others) [] → Does r about m new b l (serves r.calls (record l { seat = v; regs = regs }) asking)
@@ -157,17 +128,12 @@ module _ {P V R : Type 0} (r : FrontRules P V R) (about : R → About) (entries 
   clearing_it l g bag = goes (decides_free (with_freed (to_hand l (emptied l.regs.hand)) bag) g) (step.Map (map.ClearSpan (behind g)))
 
   pub spans_weigh : (d : Doing) (k j : ℕ) (hand : List Addr) (freed items : List SpanRef) (todo : List Planned) → j ≡ k → items ≡ freed → WeighSame (with_hand (bare d k hand todo) [] freed) (record { doing = d; class = j; hand = []; off = []; apart = items; mapped = items; clears = []; todo = todo })
-  spans_weigh d k j hand freed items todo class are =
-      let more : items ≡ freed ++ [] = are ∙ sym (append-nil freed) in
-      weighs_is (with_hand (bare d k hand todo) [] freed) (record { doing = d; class = j; hand = []; off = []; apart = items; mapped = items; clears = []; todo = todo })
-      (ap (λ (i : ℕ). let x : Account = record { doing = d; class = i; hand = []; off = []; apart = items; mapped = items; clears = []; todo = todo } in x) class
-      ∙ ap (λ (xs : List SpanRef). let x : Account = record { doing = d; class = k; hand = []; off = []; apart = xs; mapped = xs; clears = []; todo = todo } in x) more)
+  spans_weigh d k j hand freed items todo class are = grind (arith, append-nil, bare, weighs_is)
 
   pub gives_spans : (l : Local V R) (g : Giving R) (bag : Contents SpanRef) (k : ℕ) (hand : List Addr) (freed : List SpanRef) → IsGiving r.calls.rows about hand g → l.regs.class.0 ≡ k → bag.items ≡ freed → account_of about l ≡ bare (giving_doing about g) k hand l.rest → MoveObjects (stock_of r about p) (stock_of r about new) k hand [] freed → Does r about m new b l (clearing_it l g bag)
   gives_spans l (giving.Rest s) bag k hand freed gives class are is move =
       carries_spans l (clearing_it l (giving.Rest s) bag) (Publishes s.label (Some s.addr)) k hand [] freed l.rest is move (λ label o doing. cc) (spans_weigh (Publishes s.label (Some s.addr)) k l.regs.class.0 hand freed bag.items l.rest class are) refl refl
-  gives_spans l (giving.Freed f) bag k hand freed gives class are is move =
-      frees_spans l (clearing_it l (giving.Freed f) bag) f k hand freed l.rest is move (spans_weigh Other k l.regs.class.0 hand freed bag.items l.rest class are) refl refl
+  gives_spans l (giving.Freed f) bag k hand freed gives class are is move = search (arith, frees_spans, spans_weigh)
   gives_spans l (giving.Row j row) bag k hand freed gives class are is move =
       let d : Doing = doing_about (about row) in
       carries_spans l (clearing_it l (giving.Row j row) bag) d k hand [] freed l.rest is move (λ label o doing. (let e = other_doing (about row) (gives.1) in cc)) (spans_weigh d k l.regs.class.0 hand freed bag.items l.rest class are) refl refl

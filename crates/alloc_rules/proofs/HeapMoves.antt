@@ -74,9 +74,7 @@ module _ {P V R : Type 0} (r : FrontRules P V R) (about : R → About) (planned 
     -- what is left to give back
     clears_weighs : (l' : Local V R) (next : Onward R) (xs : List SpanRef) → IsOnward m.rows about next → l'.freed.items ≡ xs → l'.regs.hand.items ≡ [] → WeighSame (record (bare (onward_doing about next) l'.regs.class.0 l'.regs.hand.items l'.rest) { apart = xs; mapped = xs }) (account_of about (clears r.calls l' next xs)) × Counts l' (clears r.calls l' next xs)
     clears_weighs l' next [] on is none = onward_weighs r.calls about entries m.rows l' next on none
-    clears_weighs l' next (s ∷ others) on is none =
-        let wanted : List SpanRef → Account = λ xs. record (bare (onward_doing about next) l'.regs.class.0 l'.regs.hand.items l'.rest) { apart = xs; mapped = xs } in
-        (subst (λ (xs : List SpanRef). WeighSame (wanted xs) (account_of about (clears r.calls l' next (s ∷ others)))) is (weighs_same _), record { acts = refl; answers = refl })
+    clears_weighs l' next (s ∷ others) on is none = grind (arith, bare, weighs_same)
 
     -- the first of the spans that left a shard is given back
     frees : (next : Onward R) (before : Before (FreeSpan next)) (xs : List SpanRef) → l.freed.items ≡ xs → FirstLives p.heap xs → Goal (FreeSpan next) (frees_span r.calls p.heap (at (FreeSpan next)) next xs)

@@ -28,19 +28,7 @@ no_call o is = grind (arith, false≢true)
 -- what the answers are, as one comes
 module _ {V R : Type 0} (e : FrontCalls V R) (about : R → About) (names : List NameState) (script : List Planned) (l : Local V R) (inside : IsIn e about names script l) where
   answered : (new answers : List Decided) → answers ≡ l.answers ++ new → ((d : Decided) → new ≡ d ∷ [] → (under about l.step ≡ 0) × (call_at script l.ended ≡ Some d.call)) → (new ≡ []) ⊎ ((d : Decided) × (new ≡ d ∷ [])) → (j : ℕ) (d : Decided) → slice_get answers j ≡ Some d → call_at script j ≡ Some d.call
-  answered new answers is one few j d at =
-      elim few [
-        | inl none ↦ inside.decided j d (ap (λ xs. slice_get xs j) (sym (is ∙ ap (λ n. l.answers ++ n) none ∙ append-nil l.answers)) ∙ at)
-        | inr some ↦
-            let e : slice_get (l.answers ++ some.0 ∷ []) j ≡ Some d = ap (λ xs. slice_get xs j) (sym (is ∙ ap (λ n. l.answers ++ n) some.1)) ∙ at in
-            elim (pushed l.answers some.0 d j e) [
-              | inl old ↦ inside.decided j d old
-              | inr here ↦
-                  let o = one some.0 some.1 in
-                  let n : l.ended ≡ j = omega (arith, here.0, inside.count, o.0) in
-                  ap (λ k. call_at script k) (sym n) ∙ (o.1 ∙ ap (λ (x : Decided). Some x.call) here.1)
-            ]
-      ]
+  answered new answers is one few j d at = grind (arith, append-nil, pushed)
 
   -- what a deciding act decides is the call here
   here : (d : Decided) → undecided about l.step ≡ Some d.call → (under about l.step ≡ 0) × (call_at script l.ended ≡ Some d.call)

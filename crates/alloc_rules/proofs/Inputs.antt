@@ -1,18 +1,14 @@
 -- What a valid input gives its threads: each label is allocated once and freed once, by one of them, and each planned call is there.
-use Rattle.std.proofs.Common.{◌≡◌, ℕ, zero, suc, ◌+◌, ◌<◌, ◌≤◌, false, cond, eqb, List, [], ◌∷◌, ◌++◌, fold, max, refl, sym, ap, ◌∙◌, subst, arith, inl, inr}
+use Rattle.std.proofs.Common.{◌≡◌, ℕ, zero, suc, ◌+◌, ◌<◌, ◌≤◌, cond, eqb, List, [], ◌∷◌, ◌++◌, fold, max, refl, sym, ap, ◌∙◌, subst, arith, inl, inr}
 use Rattle.std.proofs.Common.{sum_by, All}
 use Rattle.alloc_rules.proofs.Common.{range_with_len, cases_eq, eq-eqb, ne_eqb, append-nil, All-nil, All-cons, sum_by-cons, sum_by-append, append_snoc, Call}
 use Rattle.alloc_rules.proofs.Common.{Malloc, Free, Release, Drain, Resize, Planned, Asked, ThreadCall, script_of, label_end, labels_of, bit_most}
-use Rattle.alloc_rules.proofs.Common.{sum_of_both, bit, got, put, gets, puts, ClassRow, got_in, put_in, IsInOrder, IsValid}
+use Rattle.alloc_rules.proofs.Common.{sum_of_both, got, put, gets, puts, ClassRow, got_in, put_in, IsInOrder, IsValid}
 
 -- the one number that passes among numbers in order
 none_in : (k v a n : ℕ) → k < a → sum_by (λ t. cond (eqb k t) v 0) (range_with_len a n) ≡ 0
 none_in k v a zero low = refl
-none_in k v a (suc n) low =
-    let c : sum_by (λ t. cond (eqb k t) v 0) (a ∷ range_with_len (a + 1) n) ≡ cond (eqb k a) v 0 + sum_by (λ t. cond (eqb k t) v 0) (range_with_len (a + 1) n) = sum_by-cons (λ t. cond (eqb k t) v 0) a (range_with_len (a + 1) n) in
-    let e : eqb k a ≡ false = ne_eqb k a (λ same. absurd (omega arith)) in
-    let z : cond (eqb k a) v 0 ≡ 0 = rw e refl in
-    omega (arith, c, z, none_in k v (a + 1) n (omega arith))
+none_in k v a (suc n) low = grind (arith, none_in k v (a + 1) n (omega arith), ne_eqb, sum_by-cons)
 
 one_in : (k v a n : ℕ) → a ≤ k → k < a + n → sum_by (λ t. cond (eqb k t) v 0) (range_with_len a n) ≡ v
 one_in k v a zero low high = absurd (omega arith)
@@ -34,11 +30,7 @@ sum-same f g (x ∷ xs) same = omega (arith, same x, sum-same f g xs same, sum_b
 -- a number of scripts that adds up over their calls
 module _ (f : List Planned → ℕ) (w : Planned → ℕ) (nothing : f [] ≡ 0) (adds : (p : Planned) (ps : List Planned) → f (p ∷ ps) ≡ w p + f ps) where
   one_call : (t : ℕ) (c : ThreadCall) (cs : List ThreadCall) → f (script_of t (c ∷ cs)) ≡ f (script_of t cs) + cond (eqb c.thread.0 t) (w c.planned) 0
-  one_call t c cs =
-      elim (cases_eq c.thread.0 t) [
-        | inl same ↦ (let e = eq-eqb c.thread.0 t same in rw e (omega (arith, adds c.planned (script_of t cs))))
-        | inr other ↦ (let e = ne_eqb c.thread.0 t other in rw e (omega arith))
-      ]
+  one_call t c cs = grind (arith, cases_eq, eq-eqb, ne_eqb)
 
   over_threads : (n : ℕ) (cs : List ThreadCall) → ((earlier : List ThreadCall) (c : ThreadCall) (later : List ThreadCall) → earlier ++ c ∷ later ≡ cs → c.thread.0 < n) → sum_by (λ t. f (script_of t cs)) (range_with_len 0 n) ≡ sum_by (λ (c : ThreadCall). w c.planned) cs
   over_threads n [] below = sum-zero (λ t. f []) (range_with_len 0 n) (λ t. nothing)
@@ -79,27 +71,8 @@ module _ (rows : List ClassRow) (planned : Planned → Type 0) where
     pub got_first : 0 < put x call → 0 < got_in x earlier
 
   adds : (x : ℕ) (earlier : List ThreadCall) (call : Call) → IsInOrder earlier call → Adds x earlier call
-  adds x earlier (Malloc label size) order =
-      record {
-        got_once = λ most. elim (cases_eq label.0 x) [
-          | inl same ↦ (let e : got_in x earlier ≡ 0 = subst (λ y. got_in y earlier ≡ 0) same order.1 in omega (arith, e, bit_most (eqb label.0 x)))
-          | inr other ↦ (let e : bit (eqb label.0 x) ≡ 0 = ap bit (ne_eqb label.0 x other) in omega (arith, most, e))
-        ];
-        put_once = λ most. omega arith;
-        got_first = λ some. absurd (omega arith);
-      }
-  adds x earlier (Free label) order =
-      record {
-        got_once = λ most. omega arith;
-        put_once = λ most. elim (cases_eq label.0 x) [
-          | inl same ↦ (let e : put_in x earlier ≡ 0 = subst (λ y. put_in y earlier ≡ 0) same order.1 in omega (arith, e, bit_most (eqb label.0 x)))
-          | inr other ↦ (let e : bit (eqb label.0 x) ≡ 0 = ap bit (ne_eqb label.0 x other) in omega (arith, most, e))
-        ];
-        got_first = λ some. elim (cases_eq label.0 x) [
-          | inl same ↦ subst (λ y. 0 < got_in y earlier) same order.0
-          | inr other ↦ (let e : bit (eqb label.0 x) ≡ 0 = ap bit (ne_eqb label.0 x other) in absurd (omega (arith, some, e)))
-        ];
-      }
+  adds x earlier (Malloc label size) order = grind (arith, bit_most, cases_eq, ne_eqb)
+  adds x earlier (Free label) order = grind (arith, bit_most, cases_eq, ne_eqb)
   adds x earlier (Release pages) order = record { got_once = λ most. omega arith; put_once = λ most. omega arith; got_first = λ some. absurd (omega arith) }
   adds x earlier (Drain cpu) order = record { got_once = λ most. omega arith; put_once = λ most. omega arith; got_first = λ some. absurd (omega arith) }
   adds x earlier (Resize cpu class cap) order = record { got_once = λ most. omega arith; put_once = λ most. omega arith; got_first = λ some. absurd (omega arith) }

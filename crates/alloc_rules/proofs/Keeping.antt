@@ -2,19 +2,17 @@
 use Rattle.std.proofs.Common.{◌≡◌, ℕ, ◌+◌, ◌<◌, ◌≤◌, List, [], ◌∷◌, length, drop, Option, Some, None, refl, sym, ap, ◌∙◌, subst, arith, Bool}
 use Rattle.std.proofs.Common.{cond, ltb, All, slice_set, option_map}
 use Rattle.alloc_rules.proofs.Common.{length-drop, All-head, All-tail, Contents, class_of, ClassRow, position_or_len, ltb-true, Addr, Class, Label, ThreadNo}
-use Rattle.alloc_rules.proofs.Common.{SpanRef, Call, Malloc, Free, Release, Drain, Resize, Planned, Block, Freed, Regs, HAND_ROOM, LOADED_ROOM, room}
-use Rattle.alloc_rules.proofs.Common.{without_first, emptied, Asking, Serving, Giving, Onward, Step, Local, step_or, class_row, first_of_malloc}
-use Rattle.alloc_rules.proofs.Common.{first_of_call, regs_of_malloc, fresh_regs, next_call, decided, goes, closes, ends, with_regs, publishes, stocks}
-use Rattle.alloc_rules.proofs.Common.{serves_first, goes_onward, gave, clears, with_freed, given_back, to_hand, About, HasNoLabel, AreRows, most_slots, At}
-use Rattle.alloc_rules.proofs.Common.{Here, Later, Away, Standing, stand, at_row, at_giving, at_onward, at_step, standing_of, IsAsked, HandAbout, HasNone}
-use Rattle.alloc_rules.proofs.Common.{IsGiving, IsOnward, StepShape, IsShaped, IsOwn, IsLawful, FrontRules, IsEntry, KeepsHand, comes_to}
+use Rattle.alloc_rules.proofs.Common.{SpanRef, Call, Malloc, Free, Release, Drain, Resize, Planned, Block, Regs, HAND_ROOM, LOADED_ROOM, room}
+use Rattle.alloc_rules.proofs.Common.{without_first, Asking, Serving, Giving, Onward, Step, Local, step_or, class_row, first_of_malloc}
+use Rattle.alloc_rules.proofs.Common.{first_of_call, regs_of_malloc, fresh_regs, next_call, decided, goes, closes, ends, publishes, stocks}
+use Rattle.alloc_rules.proofs.Common.{serves_first, goes_onward, gave, clears, given_back, to_hand, About, HasNoLabel, AreRows, At}
+use Rattle.alloc_rules.proofs.Common.{Here, Later, Away, Standing, stand, at_row, at_giving, at_onward, at_step, standing_of, HandAbout, HasNone}
+use Rattle.alloc_rules.proofs.Common.{IsGiving, IsOnward, StepShape, IsShaped, IsOwn, IsLawful, FrontRules, IsEntry, KeepsHand}
 use Rattle.tc_units.specs.Classes as classes
 use Rattle.call_steps.specs.declared.step.Giving.TheVariants as giving
 use Rattle.call_steps.specs.declared.step.Onward.TheVariants as onward
 use Rattle.call_steps.specs.declared.step.Step.TheVariants as does
-use Rattle.call_steps.specs.declared.step.ShardStep.TheVariants as shard
 use Rattle.call_steps.specs.declared.step.HeapStep.TheVariants as heap
-use Rattle.call_steps.specs.declared.step.MapStep.TheVariants as map
 use Rattle.call_steps.specs.declared.step.NamesStep.TheVariants as names
 use Rattle.call_steps.specs.Calls as calls
 
@@ -65,14 +63,7 @@ module _ {P V R : Type 0} {r : FrontRules P V R} {about : R → About} {planned 
   changed c low size freed = record { thread = c.thread; class = low; hand = size; freed = freed; rest = c.rest }
 
   pub kept_by : {g new : Regs} {bag : Contents SpanRef} {todo : List Planned} → KeepsHand g new → CommonOf g bag todo → CommonOf new bag todo
-  kept_by k c =
-      record {
-        thread = ap (λ (x : ThreadNo). x.0) k.thread ∙ c.thread;
-        class = omega (arith, c.class, ap (λ (x : Class). x.0) k.class);
-        hand = ap room k.hand ∙ c.hand;
-        freed = c.freed;
-        rest = c.rest;
-      }
+  kept_by k c = grind arith
 
   -- from one standing of the thread to another the invariant holds on
   abbrev pub Reaches : Standing V R → Standing V R → Type 0
@@ -104,11 +95,7 @@ module _ {P V R : Type 0} {r : FrontRules P V R} {about : R → About} {planned 
 
   -- the call goes on elsewhere, at a step at which the thread is at no row
   pub goes_away : (l : Local V R) (next : Step R) → Common l → at_step next ≡ Away → StepShape r.calls.rows about (goes l next) next → IsNext (away_at l) (goes l next)
-  goes_away l next c away shape =
-      record {
-        shaped = shape_of (goes l next) c shape;
-        stands = subst (λ (a : At R). Reaches (away_at l) (stand l.seat l.regs (l.acts + 1) a)) (sym away) (λ n ps us holds. holds);
-      }
+  goes_away l next c away shape = grind (arith, shape_of)
 
   -- with nothing in hand
   pub goes_quiet : (l : Local V R) (next : Step R) → Common l → HasNone l → at_step next ≡ Away
@@ -122,8 +109,7 @@ module _ {P V R : Type 0} {r : FrontRules P V R} {about : R → About} {planned 
   fresh_next : (l : Local V R) (v : V) (g : Regs) (next : Step R) (rest : List Planned) → CommonOf g l.freed rest → g.hand.items ≡ [] → l.freed.items ≡ []
       → Reaches (idle_at l) (stand v g l.acts (at_step next))
       → (let new : Local V R = record l { seat = v; step = next; regs = g; rest = rest } in (HasNone new → StepShape r.calls.rows about new next) → IsNext (idle_at l) new)
-  fresh_next l v g next rest c hand freed reaches shape =
-      record { shaped = shape_of (record l { seat = v; step = next; regs = g; rest = rest }) c (shape (record { hand = hand; freed = freed })); stands = reaches }
+  fresh_next l v g next rest c hand freed reaches shape = grind (arith, shape_of)
 
   -- a step that has a row of the front-end about this, or is another one that is at none
   pub entry_shape : (a : About) (other : Step R) (l : Local V R) (o : Option R) → IsEntry about a o → HandAbout r.calls.rows l.regs a → l.freed.items ≡ [] → StepShape r.calls.rows about l other → StepShape r.calls.rows about l (step_or other o)
@@ -149,43 +135,11 @@ module _ {P V R : Type 0} {r : FrontRules P V R} {about : R → About} {planned 
     malloc_next : (label : Label) (size : ℕ) (o : Option Class) → class_of r.calls.rows size ≡ o
         → IsNext (idle_at l) (record l { seat = v; step = first_of_malloc r.calls v o label size; regs = record (regs_of_malloc r.calls o l.regs) { ran = 0 }; rest = rest })
     malloc_next label size None of = fresh_next l v ran (first_of_malloc r.calls v None label size) rest c n.hand n.freed restarted (λ none. (none, of))
-    malloc_next label size (Some k) of =
-        let a : Asking = record { label = label; size = size } in
-        let other : Step R = does.Shard (shard.Fetch a) in
-        let g1 : Regs = record l.regs { class = k } in
-        let kept = law.entries.to_first g1 in
-        let g : Regs = record (r.calls.to_first g1) { ran = 0 } in
-        let low : k.0 < length r.calls.rows = class_low r.calls.rows size k of in
-        let hand : g.hand.items ≡ [] = ap (λ (h : Contents Addr). h.items) kept.hand ∙ n.hand in
-        let asked : IsAsked r.calls.rows g a = of ∙ ap (λ (x : Class). Some x) (sym kept.class) in
-        let reaches : Reaches (idle_at l) (stand v g l.acts (at_row (r.calls.first v a))) = λ m ps us holds.
-        law.firsts m ps us t v g1 l.acts a of n.hand (law.away m ps us t v l.regs l.acts l.acts k l.regs.hand (omega arith) low refl (begun m ps us holds)) in
-        fresh_next l v g (step_or other (r.calls.first v a)) rest (kept_by kept (changed c low c.hand c.freed)) hand n.freed
-        (entry_at (idle_at l) v g l.acts other (r.calls.first v a) refl reaches)
-        (λ none. entry_shape (calls.Asks a) other (record l { seat = v; step = step_or other (r.calls.first v a); regs = g; rest = rest }) (r.calls.first v a)
-        (law.entries.first_about v a) (asked, hand) n.freed (none, asked))
+    malloc_next label size (Some k) of = grind (arith, begun, changed, class_low, entry_at, entry_shape, fresh_next, kept_by)
 
     own_next : (call : Call) → p.call ≡ call → IsOwn p.call
         → IsNext (idle_at l) (record l { seat = v; step = step_or does.Ended (r.calls.other v call); regs = record (r.calls.to_other call l.regs) { ran = 0 }; rest = rest })
-    own_next call is own =
-        let g : Regs = record (r.calls.to_other call l.regs) { ran = 0 } in
-        let kept = law.entries.to_other call l.regs in
-        let low = law.other_class p l.regs plan own in
-        let hand : g.hand.items ≡ [] = ap (λ (h : Contents Addr). h.items) kept ∙ n.hand in
-        let common : CommonOf g l.freed rest = record {
-          thread = ap (λ (x : ThreadNo). x.0) (law.entries.other_thread call l.regs) ∙ c.thread;
-          class = omega (arith, low, ap (λ (y : Call). (r.calls.to_other y l.regs).class.0) is);
-          hand = ap room kept ∙ c.hand;
-          freed = c.freed;
-          rest = c.rest;
-        } in
-        let reaches : Reaches (idle_at l) (stand v g l.acts (at_row (r.calls.other v call))) = λ m ps us holds.
-        subst (λ (y : Call). Holds m ps (slice_set us t (stand v (record (r.calls.to_other y l.regs) { ran = 0 }) l.acts (at_row (r.calls.other v y))))) is
-        (law.others_begin m ps us t v l.regs l.acts p plan own n.hand (begun m ps us holds)) in
-        fresh_next l v g (step_or does.Ended (r.calls.other v call)) rest common hand n.freed
-        (entry_at (idle_at l) v g l.acts does.Ended (r.calls.other v call) refl reaches)
-        (λ none. entry_shape (calls.Other (Some call)) does.Ended (record l { seat = v; step = step_or does.Ended (r.calls.other v call); regs = g; rest = rest })
-        (r.calls.other v call) (law.entries.other_about v call) (let e = ap length hand in omega (arith, e)) n.freed none)
+    own_next call is own = grind (arith, begun, entry_at, entry_shape, fresh_next)
 
     call_next : (call : Call) → p.call ≡ call
         → IsNext (idle_at l) (record l { seat = v; step = first_of_call r.calls v call; regs = fresh_regs r.calls call l.regs; rest = rest })
@@ -197,41 +151,21 @@ module _ {P V R : Type 0} {r : FrontRules P V R} {about : R → About} {planned 
 
   -- the thread comes to the first of these calls
   pub come_next : (l : Local V R) (todo : List Planned) → CommonOf l.regs l.freed todo → HasNone l → IsNext (idle_at l) (next_call r.calls l todo)
-  come_next l [] c n =
-      fresh_next l (r.calls.begins l.seat None) l.regs does.Ended [] c n.hand n.freed (λ k ps us holds. law.begins k ps us t l.seat l.regs l.acts None tt n.hand holds) (λ none. none)
+  come_next l [] c n = grind (arith, fresh_next)
   come_next l (p ∷ ps) c n = call_next l n p (All-head planned p ps c.rest) ps (record { thread = c.thread; class = c.class; hand = c.hand; freed = c.freed; rest = All-tail planned p ps c.rest }) p.call refl
 
   -- the call ends: a row of the front-end may come first
   closes_next : (l : Local V R) (o : Option R) → IsEntry about (calls.Other None) o → Common l → HasNone l → Reaches (idle_at l) (stand l.seat l.regs l.acts (at_row o)) → IsNext (idle_at l) (closes r.calls l o)
   closes_next l None entry c n reaches = come_next (record l { ended = l.ended + 1 }) l.rest c (record { hand = n.hand; freed = n.freed })
-  closes_next l (Some row) entry c n reaches =
-      record {
-        shaped = shape_of (record l { step = does.Front row }) c (subst (HandAbout r.calls.rows l.regs) (sym entry) (let e = ap length n.hand in omega (arith, e)), n.freed);
-        stands = reaches;
-      }
+  closes_next l (Some row) entry c n reaches = grind (arith, shape_of)
 
   pub ends_next : (l : Local V R) → Common l → HasNone l → IsNext (away_at l) (ends r.calls l)
-  ends_next l c n =
-      closes_next (record l { acts = l.acts + 1 }) (r.calls.last l.seat) (law.entries.last_about l.seat) c (record { hand = n.hand; freed = n.freed })
-      (λ k ps us holds. law.lasts k ps us t l.seat l.regs (l.acts + 1) n.hand holds)
+  ends_next l c n = grind (arith, closes_next)
 
   -- an allocation goes on with what came to its hand
   stocks_next : (l : Local V R) (s : Serving) (others : List Addr) → l.regs.hand.items ≡ others → length others ≤ LOADED_ROOM → Common l → l.freed.items ≡ [] → IsNext (away_at l) (stocks r.calls l s others)
   stocks_next l s [] is few c none = publishes_next l s c (record { hand = is; freed = none })
-  stocks_next l s (a ∷ others) is few c none =
-      let g : Regs = r.calls.to_rest l.regs in
-      let kept = law.entries.to_rest l.regs in
-      let many : length l.regs.hand.items ≡ length (a ∷ others) = ap length is in
-      let size : length g.hand.items ≡ length l.regs.hand.items = ap (λ (h : Contents Addr). length h.items) kept.hand in
-      let reaches : Reaches (away_at l) (stand l.seat g (l.acts + 1) (at_row (r.calls.rest l.seat s))) = λ k ps us holds. law.rests k ps us t l.seat l.regs (l.acts + 1) s (omega (arith, many)) (omega (arith, many, few)) holds in
-      let other : Step R = does.Shard (shard.Give (giving.Rest s)) in
-      let few_in_hand : length g.hand.items ≤ most_slots = omega (arith, size, many, few) in
-      record {
-        shaped = shape_of (goes (with_regs l g) (step_or other (r.calls.rest l.seat s))) (kept_by kept c)
-            (entry_shape (calls.Publishes s) other (goes (with_regs l g) (step_or other (r.calls.rest l.seat s))) (r.calls.rest l.seat s) (law.entries.rest_about l.seat s)
-            few_in_hand none (record { few = few_in_hand; freed = none }, tt));
-        stands = entry_at (away_at l) l.seat g (l.acts + 1) other (r.calls.rest l.seat s) refl reaches;
-      }
+  stocks_next l s (a ∷ others) is few c none = grind (arith, entry_at, entry_shape, kept_by, shape_of)
 
   pub serves_next : (l : Local V R) (a : Asking) (xs : List Addr) → l.regs.hand.items ≡ xs → 0 < length xs → length xs ≤ LOADED_ROOM → Common l → l.freed.items ≡ [] → IsNext (away_at l) (serves_first r.calls l a xs)
   serves_next l a [] is some few c none = absurd (omega arith)
@@ -260,17 +194,12 @@ module _ {P V R : Type 0} {r : FrontRules P V R} {about : R → About} {planned 
   -- what comes once no span is left to give back
   onward_next : (l : Local V R) (o : Onward R) → Common l → HasNone l → IsOnward r.calls.rows about o → IsNext (onward_at l o) (goes_onward r.calls l o)
   onward_next l (onward.Publish s) c n is = publishes_next l s c n
-  onward_next l (onward.Row k row) c n is =
-      record {
-        shaped = shape_of (comes_to l k row) (changed c is.0 c.hand c.freed) (later_shape l k (about row) is.1 n, n.freed);
-        stands = λ m ps us holds. law.back m ps us t l.seat l.regs (l.acts + 1) (l.acts + 1) k row l.regs.hand (omega arith) refl n.hand holds;
-      }
+  onward_next l (onward.Row k row) c n is = grind (arith, changed, later_shape, shape_of)
   onward_next l onward.End c n is = ends_next l c n
 
   pub clears_next : (l : Local V R) (o : Onward R) (spans : List SpanRef) → l.freed.items ≡ spans → Common l → l.regs.hand.items ≡ [] → IsOnward r.calls.rows about o → IsNext (onward_at l o) (clears r.calls l o spans)
   clears_next l o [] freed c hand is = onward_next l o c (record { hand = hand; freed = freed }) is
-  clears_next l o (s ∷ others) freed c hand is =
-      same_next (goes l (does.Map (map.ClearSpan o))) c (record { hand = hand; some = (let e = ap length freed in omega (arith, e)) }, is)
+  clears_next l o (s ∷ others) freed c hand is = grind (arith, same_next)
 
   -- the hand was given
   abbrev pub giving_at : Local V R → Giving R → Standing V R
@@ -278,13 +207,9 @@ module _ {P V R : Type 0} {r : FrontRules P V R} {about : R → About} {planned 
 
   pub gave_next : (l : Local V R) (g : Giving R) (hand : List Addr) → Common l → l.regs.hand.items ≡ [] → IsGiving r.calls.rows about hand g → IsNext (giving_at l g) (gave r.calls l g)
   gave_next l (giving.Rest s) hand c none is = clears_next l (onward.Publish s) l.freed.items refl c none tt
-  gave_next l (giving.Freed f) hand c none is =
-      clears_next (decided l (Free f.label) (Freed f.addr)) onward.End l.freed.items refl c none tt
+  gave_next l (giving.Freed f) hand c none is = grind (arith, clears_next)
   gave_next l (giving.Row k row) hand c none is = clears_next l (onward.Row k row) l.freed.items refl c none is
   gave_next l giving.End hand c none is = clears_next l onward.End l.freed.items refl c none tt
 
   pub given_back_next : (l : Local V R) (g : Giving R) (freed : Contents SpanRef) → Common l → length freed.items + freed.spare ≡ HAND_ROOM → IsGiving r.calls.rows about l.regs.hand.items g → IsNext (giving_at l g) (given_back r.calls l g freed)
-  given_back_next l g freed c size is =
-      let l' : Local V R = with_freed (to_hand l (emptied l.regs.hand)) freed in
-      behind (giving_at l g) (giving_at l' g) (given_back r.calls l g freed) (waits_at l (at_giving g) (l.acts + 1) (l.acts + 1) (emptied l.regs.hand) (giving_not g) (omega arith) c (omega arith))
-      (gave_next l' g l.regs.hand.items (changed c c.class (omega (arith, c.hand)) size) refl is)
+  given_back_next l g freed c size is = grind (arith, changed, gave_next, giving_not, waits_at)

@@ -14,9 +14,7 @@ get_left f (x ∷ xs) ys (suc i) below = get_left f xs ys i (omega arith)
 
 get_right : {X Y : Type 0} (f : X → Y) (xs : List X) (ys : List Y) (i : ℕ) → slice_get (map f xs ++ ys) (length xs + i) ≡ slice_get ys i
 get_right f [] ys i = let e : 0 + i ≡ i = omega arith in ap (λ (k : ℕ). slice_get ys k) e
-get_right f (x ∷ xs) ys i =
-    let e : length (x ∷ xs) + i ≡ suc (length xs + i) = omega arith in
-    ap (λ (k : ℕ). slice_get (f x ∷ (map f xs ++ ys)) k) e ∙ get_right f xs ys i
+get_right f (x ∷ xs) ys i = grind (arith, get_right f xs ys i)
 
 set_left : {X Y : Type 0} (f : X → Y) (xs : List X) (ys : List Y) (i : ℕ) (x : X) → i < length xs → slice_set (map f xs ++ ys) i (f x) ≡ map f (slice_set xs i x) ++ ys
 set_left f [] ys i x below = absurd (omega arith)
@@ -25,9 +23,7 @@ set_left f (y ∷ xs) ys (suc i) x below = ap (λ zs. f y ∷ zs) (set_left f xs
 
 set_right : {X Y : Type 0} (f : X → Y) (xs : List X) (ys : List Y) (i : ℕ) (y : Y) → slice_set (map f xs ++ ys) (length xs + i) y ≡ map f xs ++ slice_set ys i y
 set_right f [] ys i y = let e : 0 + i ≡ i = omega arith in ap (λ (k : ℕ). slice_set ys k y) e
-set_right f (x ∷ xs) ys i y =
-    let e : length (x ∷ xs) + i ≡ suc (length xs + i) = omega arith in
-    ap (λ (k : ℕ). slice_set (f x ∷ (map f xs ++ ys)) k y) e ∙ ap (λ zs. f x ∷ zs) (set_right f xs ys i y)
+set_right f (x ∷ xs) ys i y = grind (arith, set_right f xs ys i y)
 
 get_map_all : {X Y : Type 0} (f : X → Y) (xs : List X) (i : ℕ) → slice_get (map f xs) i ≡ option_map f (slice_get xs i)
 get_map_all f [] i = refl
@@ -122,14 +118,10 @@ module _ {P : Type 0} (split : ℕ) (p : Parts P) (few : split ≤ length p.fron
 
   -- the part of number i behind all shards
   get_behind : (i n : ℕ) → n ≡ split + (length p.shards + i) → slice_get (parts_of split p) n ≡ slice_get behind i
-  get_behind i n is =
-      let e : n ≡ length first + (length p.shards + i) = omega (arith, many, is) in
-      ap (slice_get (parts_of split p)) e ∙ (get_right Front first rest (length p.shards + i) ∙ get_right Shard p.shards behind i)
+  get_behind i n is = grind (arith, get_right, many)
 
   set_behind : (i n : ℕ) (q : Part P) → n ≡ split + (length p.shards + i) → slice_set (parts_of split p) n q ≡ map Front first ++ (map Shard p.shards ++ slice_set behind i q)
-  set_behind i n q is =
-      let e : n ≡ length first + (length p.shards + i) = omega (arith, many, is) in
-      ap (λ (j : ℕ). slice_set (parts_of split p) j q) e ∙ (set_right Front first rest (length p.shards + i) q ∙ ap (λ zs. map Front first ++ zs) (set_right Shard p.shards behind i q))
+  set_behind i n q is = grind (arith, many, set_right)
 
   pub get_heap : slice_get (parts_of split p) (split + length p.shards) ≡ Some (Heap p.heap)
   get_heap = get_behind 0 (split + length p.shards) (omega arith)

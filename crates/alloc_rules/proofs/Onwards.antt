@@ -1,6 +1,6 @@
 -- How a call goes on behind its last span, and what that makes of its account.
-use Rattle.std.proofs.Common.{◌≡◌, ◌+◌, List, [], refl, sym, subst}
-use Rattle.alloc_rules.proofs.Common.{Addr, ClassRow, Doing, Other, WeighSame, Onward, FrontCalls, AreEntries, Local, ends, goes_onward, comes_to, About}
+use Rattle.std.proofs.Common.{◌≡◌, ◌+◌, List, [], refl, sym, subst, arith}
+use Rattle.alloc_rules.proofs.Common.{Addr, ClassRow, Other, WeighSame, Onward, FrontCalls, AreEntries, Local, ends, goes_onward, About}
 use Rattle.alloc_rules.proofs.Common.{account_of, onward_doing, IsOnward}
 use Rattle.call_steps.specs.declared.step.Onward.TheVariants as onward
 use Rattle.alloc_rules.proofs.Weighing.{bare, weighs_same}
@@ -21,8 +21,5 @@ module _ {V R : Type 0} (e : FrontCalls V R) (about : R → About) (entries : Ar
 
   pub onward_weighs : (rows : List ClassRow) (l : Local V R) (next : Onward R) → IsOnward rows about next → l.regs.hand.items ≡ [] → WeighSame (bare (onward_doing about next) l.regs.class.0 l.regs.hand.items l.rest) (account_of about (goes_onward e l next)) × Counts l (goes_onward e l next)
   onward_weighs rows l (onward.Publish s) is none = (weighs_same _, record { acts = refl; answers = refl })
-  onward_weighs rows l (onward.Row k row) is none =
-      let other = is.1 in
-      let closes = closed l (comes_to l k row) none (comes_as about l k row l.regs.class.0 other none) in
-      (subst (λ (d : Doing). WeighSame (bare d l.regs.class.0 l.regs.hand.items l.rest) (account_of about (comes_to l k row))) (sym (other_doing (about row) other)) closes.0, closes.1)
+  onward_weighs rows l (onward.Row k row) is none = grind (arith, bare, closed, comes_as, other_doing)
   onward_weighs rows l onward.End is none = closed l (ends e l) none (ends_as e about entries l l.regs.class.0 none)

@@ -1,6 +1,6 @@
 -- An order whose picks move is lawful, and its picks are of threads that there are.
-use Rattle.std.proofs.Common.{◌≡◌, ℕ, ◌≤◌, List, length, ap, sym, ◌∙◌, subst, arith}
-use Rattle.alloc_rules.proofs.Common.{range_with_len, length-append, length-map, length-range_with_len, Asked, Rules, start, IsOrder, AllMove, moving}
+use Rattle.std.proofs.Common.{◌≡◌, ℕ, ◌≤◌, List, length, ◌∙◌, arith}
+use Rattle.alloc_rules.proofs.Common.{range_with_len, length-append, length-map, length-range_with_len, Asked, Rules, start, IsOrder, moving}
 use Rattle.alloc_rules.proofs.Common.{front_moves, move_all, Regs, About, FrontRules, AreLawful, first_of, rules}
 use Rattle.alloc_rules.specs.Lawful.{IsLawfulOrder}
 
@@ -14,16 +14,7 @@ module _ {P L : Type 0} (r : Rules P L) (order : List ℕ) (moves : moving r (st
   order_is few = record { moves = move_all r order moves; few = few }
 
   pub lawful_order : (Laws : Type 0) (After : List ℕ → Type 0) (laws : Laws) → ((o : List ℕ) → IsOrder r o → After o) → (most : ℕ) → most ≤ 40000000 → length order ≤ most → IsLawfulOrder r Laws After most order
-  lawful_order Laws After laws holds most bound few =
-      record {
-        moves = moves;
-        few = few;
-        rules = laws;
-        holds = λ earlier later whole. holds earlier (record {
-          moves = front_moves r (start r) earlier later (subst (AllMove r (start r)) (sym whole) (move_all r order moves));
-          few = omega (arith, few, bound, ap length whole, length-append earlier later);
-        });
-      }
+  lawful_order Laws After laws holds most bound few = grind (arith, front_moves, length-append, move_all)
 
 -- over a front-end whose rules are lawful
 pub lawful_run : {P V R : Type 0} (r : FrontRules P V R) (about : R → About) (asked : Asked) (fits : P → V → Regs → R → Type 0) (After : List ℕ → Type 0) (laws : AreLawful r about asked fits After) → asked.config.events ≤ 40000000 → (order : List ℕ)

@@ -1,30 +1,26 @@
 -- The acts at the heap, the map and the names fit.
-use Rattle.std.proofs.Common.{◌≡◌, ℕ, zero, suc, ◌/◌, ◌^◌, ◌<◌, ◌≤◌, eqb, List, [], ◌∷◌, length, get_or, All, Contains, Some, None, refl, sym, ap, ◌∙◌, inl}
-use Rattle.std.proofs.Common.{inr, arith, find, is_some, slice_get}
+use Rattle.std.proofs.Common.{◌≡◌, ℕ, zero, suc, ◌/◌, ◌^◌, ◌<◌, ◌≤◌, eqb, List, [], ◌∷◌, length, get_or, All, Contains, Some, None, refl, sym, ap, ◌∙◌}
+use Rattle.std.proofs.Common.{arith, find, slice_get}
 use Rattle.alloc_rules.proofs.Common.{eq-eqb, le-leb, get_or_default, page_bytes, class_of, Addr, Label, Run, SpanRef, SpanKind, Small, Large, ClassRow}
 use Rattle.alloc_rules.proofs.Common.{CallLine, NameState, state_of, HeapConfig, run_of, large, bit, same_run, same_span, runs_like, spans_like, unpublished}
-use Rattle.alloc_rules.proofs.Common.{untaken, is_out, is_taken, Setup, Books, class_number, Found, IsOff, least, same_run_refl, same_span_refl, one_number}
+use Rattle.alloc_rules.proofs.Common.{untaken, is_out, is_taken, Setup, Books, Found, IsOff, least, same_run_refl, same_span_refl, one_number}
 use Rattle.alloc_rules.proofs.Common.{offs_live, mapped_are_there, clears_are_there, frees_find, NamesStep, no_class, class_row, Local, FitsNames, FirstLives}
 use Rattle.alloc_rules.proofs.Common.{FirstIsThere, FitsHeap, FitsMap, IsClassRow, AreRows, Parts, first_run, account_of, IsBefore, setup, All-contains}
 use Rattle.alloc_rules.proofs.Common.{Planned, About, AreEntries, FrontRules, Step, Onward, HeapStep, MapStep, IsKindThere, IsFoundClass}
-use Rattle.tc_units.specs.Classes.{serves}
 use Rattle.page_map.specs.Spans as maps
 use Rattle.name_table.specs.declared.table.NameState.TheVariants as name
 use Rattle.call_steps.specs.declared.step.HeapStep.TheVariants as heap
 use Rattle.call_steps.specs.declared.step.MapStep.TheVariants as map
 use Rattle.call_steps.specs.declared.step.NamesStep.TheVariants as names
 use Rattle.call_steps.specs.declared.step.Step.TheVariants as does
-use Rattle.alloc_rules.proofs.{Freeing.account_at, Moved.no_row, Published.within}
+use Rattle.alloc_rules.proofs.{Freeing.account_at, Published.within}
 use Rattle.alloc_rules.proofs.Likes.{counted_there, span_counted, span_there}
 use Rattle.alloc_rules.proofs.Lists.{find_only, holds_parts, only_holder}
 
 -- a request without a class has a byte
 pub some_size : (rows : List ClassRow) (size : ℕ) → 0 < length rows → class_of rows size ≡ None → 0 < size
 some_size [] size some none = absurd (omega arith)
-some_size (r ∷ rs) zero some none =
-    let e : find (serves 0) (r ∷ rs) ≡ Some r = rw (le-leb 0 r.size (omega arith)) refl in
-    let wrong : None ≡ Some r = sym (no_row (r ∷ rs) 0 (ap is_some none)) ∙ e in
-    absurd (cc)
+some_size (r ∷ rs) zero some none = grind (arith, le-leb)
 some_size (r ∷ rs) (suc size) some none = omega arith
 
 -- the row of a class that is there
@@ -72,9 +68,7 @@ module _ {P V R : Type 0} (r : FrontRules P V R) (about : R → About) (planned 
 
     -- a span that is to be set
     set_inside : (s : Step R) (before : Before s) (x : Run) (kind : SpanKind) → 0 < runs_like x (account_of about (at s)).off → maps.IsInside p.map.huge (record { first = x.first; pages = x.pages; kind = kind })
-    set_inside s before x kind some =
-        let o = off s before x some in
-        record { some = o.run.some; from = omega (arith, o.run.inside.from); to = omega (arith, o.run.inside.to, before.parts.huge, before.same) }
+    set_inside s before x kind some = grind (arith, off)
 
     set_apart : (s : Step R) (before : Before s) (x : Run) (kind : SpanKind) → 0 < runs_like x (account_of about (at s)).off → All (maps.AreApart (record { first = x.first; pages = x.pages; kind = kind })) p.map.spans
     set_apart s before x kind some =
@@ -93,11 +87,7 @@ module _ {P V R : Type 0} (r : FrontRules P V R) (about : R → About) (planned 
 
     kind_there : {label : Label} {addr : Addr} (f : Found m b addr) (before : Before (does.Map (map.Lookup label addr))) (kind : SpanKind) → f.span.kind ≡ kind → IsKindThere m.rows kind
     kind_there f before Large is = tt
-    kind_there f before (Small k) is =
-        elim f.is [
-          | inl object ↦ (let e : Small (class_number object.0) ≡ Small k = sym object.1 ∙ is in let n : object.0 ≡ k.0 = one_number object.0 k.0 e in omega (arith, before.facts.cut.class object.0 _ object.2, n))
-          | inr run ↦ (let wrong : Large ≡ Small k = ap (λ (s : SpanRef). s.kind) (sym run.1) ∙ is in absurd (cc))
-        ]
+    kind_there f before (Small k) is = grind (arith, one_number)
 
     pub found_class : (row : MapStep R) → Before (does.Map row) → IsFoundClass m.rows p.map row
     found_class (map.Set label run) before = tt

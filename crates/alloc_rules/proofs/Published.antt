@@ -68,10 +68,7 @@ module _ (m : Setup) (b : Books) (calls : List CallLine) (t : ℕ) (a : Account)
   keeps_unpublished (FreesSpan s apart a' off one two w) x = inl (w.publishes x)
   keeps_unpublished (MovesHand g hand freed a' moves cut keeps same w) x = inl (w.publishes x)
   keeps_unpublished (FreesObject label o g freed a' is moves cut same w) x = inl (omega (arith, w.publishes x, ap (asking x) is, ap (publishing x) is))
-  keeps_unpublished (Names label value a' is off clears state w) x = elim (name_cases b.names label.0 (name.Published value) (own label _ is (omega (arith, one_here label))) x) [
-    | inl c ↦ inr (ap is_out c.1)
-    | inr c ↦ inl (omega (arith, w.publishes x, ap (asking x) is, ap (publishing x) is, ap bit c.0))
-  ]
+  keeps_unpublished (Names label value a' is off clears state w) x = grind (arith, name_cases, one_here, own)
   keeps_unpublished (TakesNull label a' is state w) x = inl (omega (arith, w.publishes x, ap (asking x) is, ap (publishing x) is))
   keeps_unpublished (TakesAddr label o a' is state w) x = inl (omega (arith, w.publishes x, ap (asking x) is, ap (publishing x) is))
 

@@ -11,17 +11,7 @@ module _ {P V R : Type 0} {r : FrontRules P V R} {about : R → About} {planned 
   here = ap (λ (v : World (Part P) (Local V R)). slice_get v.locals t) (sym good.is) ∙ local
 
   now : Moment r about planned Holds asked good.parts good.locals good.books order t l
-  now =
-      record {
-        placed = good.placed;
-        books = good.books_of;
-        facts = good.facts;
-        front = good.front;
-        works = good.works;
-        of = good.of;
-        local = here;
-        few = few;
-      }
+  now = grind (arith, here)
 
   found : Reached law valid now place.0
   found = reached law valid now l.step refl place want

@@ -1,12 +1,11 @@
 -- The first act of a call, over any front-end: it is of that call, and decides nothing before it is done.
-use Rattle.std.proofs.Common.{◌≡◌, ℕ, ◌+◌, true, List, drop, Option, Some, None, refl, sym, ap, ◌∙◌, arith, ◌<◌, is_some, option_map, slice_get}
+use Rattle.std.proofs.Common.{◌≡◌, ℕ, ◌+◌, true, List, drop, Option, Some, None, refl, arith, ◌<◌, is_some, option_map, slice_get}
 use Rattle.std.proofs.Common.{IfSome}
-use Rattle.alloc_rules.proofs.Common.{eq-eqb, class_of, Class, Label, Call, Malloc, Free, Release, Drain, Resize, Planned, bit, asking, publishing, got, gets}
-use Rattle.alloc_rules.proofs.Common.{Asking, Step, FrontCalls, AreEntries, IsEntry, step_or, first_of_malloc, first_of_call, first_act, About, undecided}
+use Rattle.alloc_rules.proofs.Common.{eq-eqb, class_of, Class, Label, Call, Malloc, Free, Release, Drain, Resize, Planned, asking, publishing, got, gets}
+use Rattle.alloc_rules.proofs.Common.{Step, FrontCalls, AreEntries, IsEntry, step_or, first_of_malloc, first_of_call, first_act, About, undecided}
 use Rattle.alloc_rules.proofs.Common.{under, without_call, call_about, IsOf, doing_of, doing_about, IsOwn, is_under_way}
 use Rattle.call_steps.specs.declared.step.Step.TheVariants as does
 use Rattle.call_steps.specs.declared.step.ShardStep.TheVariants as shard
-use Rattle.call_steps.specs.Calls as calls
 
 without : (o : Option Call) → is_some o ≡ true → without_call o ≡ 0
 without o is = grind arith
@@ -33,13 +32,10 @@ entry_first about call a other o entry of asks publishes first = grind arith
 module _ {V R : Type 0} (e : FrontCalls V R) (about : R → About) (entries : AreEntries e about) (v : V) where
   first_malloc : (c : Option Class) (label : Label) (size : ℕ) → IsFirst about (Malloc label size) (first_of_malloc e v c label size)
   first_malloc None label size = record { asks = λ x. refl; publishes = λ x. refl; of = λ c is. cc; under = refl }
-  first_malloc (Some k) label size =
-      let a : Asking = record { label = label; size = size } in
-      entry_first about (Malloc label size) (calls.Asks a) (does.Shard (shard.Fetch a)) (e.first v a) (entries.first_about v a) refl (λ x. refl) (λ x. refl) (record { asks = λ x. refl; publishes = λ x. refl; of = λ c is. cc; under = refl })
+  first_malloc (Some k) label size = grind (arith, entry_first)
 
   first_own : (call : Call) → ((x : ℕ) → got x call ≡ 0) → IsFirst about call (step_or does.Ended (e.other v call))
-  first_own call none =
-      entry_first about call (calls.Other (Some call)) does.Ended (e.other v call) (entries.other_about v call) refl (λ x. sym (none x)) (λ x. refl) (record { asks = λ x. sym (none x); publishes = λ x. refl; of = λ c is. absurd (cc); under = refl })
+  first_own call none = grind (arith, entry_first)
 
   pub first_call : (call : Call) → IsFirst about call (first_of_call e v call)
   first_call (Malloc label size) = first_malloc (class_of e.rows size) label size
@@ -76,7 +72,4 @@ module _ {V R : Type 0} (e : FrontCalls V R) (about : R → About) (entries : Ar
 
   pub asks_first : (o : Option Planned) (label : Label) (size : ℕ) → option_map (λ (p : Planned). p.call) o ≡ Some (Malloc label size) → 0 < asking label.0 (doing_of about (first_act e v o))
   asks_first None label size is = absurd (cc)
-  asks_first (Some p) label size is =
-      let call : p.call ≡ Malloc label size = cc in
-      let own : got label.0 p.call ≡ 1 = ap (got label.0) call ∙ ap bit (eq-eqb label.0 label.0 refl) in
-      omega (arith, own, (first_call p.call).asks label.0)
+  asks_first (Some p) label size is = grind (arith, eq-eqb, first_call)

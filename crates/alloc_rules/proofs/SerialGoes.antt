@@ -22,14 +22,8 @@ script_step : (t : ℕ) (b : ThreadCall) (rest : List ThreadCall) (n : ℕ) (cal
 script_step t b rest n call k at = grind arith
 
 script_at : (before : List ThreadCall) (c : ThreadCall) (after : List ThreadCall) → slice_get (script_of c.thread.0 (before ++ c ∷ after)) (picks_of c.thread.0 (turns_of before)) ≡ Some c.planned
-script_at [] c after =
-    let e : eqb c.thread.0 c.thread.0 ≡ true = eq-eqb c.thread.0 c.thread.0 refl in
-    let d : script_of c.thread.0 (c ∷ after) ≡ c.planned ∷ script_of c.thread.0 after = script-cons c.thread.0 c after ∙ ap (λ k. cond k (c.planned ∷ script_of c.thread.0 after) (script_of c.thread.0 after)) e in
-    ap (λ xs. slice_get xs 0) d
-script_at (b ∷ bs) c after =
-    let h = script_step c.thread.0 b (bs ++ c ∷ after) (picks_of c.thread.0 (turns_of bs)) c.planned (eqb b.thread.0 c.thread.0) (script_at bs c after) in
-    ap (λ n. slice_get (script_of c.thread.0 (b ∷ (bs ++ c ∷ after))) n) (picks-cons c.thread.0 b.thread.0 (turns_of bs))
-    ∙ (ap (λ xs. slice_get xs (cond (eqb b.thread.0 c.thread.0) 1 0 + picks_of c.thread.0 (turns_of bs))) (script-cons c.thread.0 b (bs ++ c ∷ after)) ∙ h)
+script_at [] c after = grind (arith, eq-eqb, script-cons)
+script_at (b ∷ bs) c after = search (arith, script_at bs c after, picks-cons, script-cons, script_step)
 
 pub script_length : (t : ℕ) (calls : List ThreadCall) → length (script_of t calls) ≡ picks_of t (turns_of calls)
 script_length t [] = refl
@@ -135,10 +129,7 @@ module _ {P V R : Type 0} (r : FrontRules P V R) (about : R → About) (planned 
 
     -- the labels that an ended call allocated are out
     out_more : (before : List ThreadCall) (c : ThreadCall) (after : List ThreadCall) → asked.calls ≡ before ++ c ∷ after → picks_of c.thread.0 (turns_of before) < done c.thread.0 → (x : ℕ) → (call : Call) → c.planned.call ≡ call → 0 < got x call → is_out (state_of p.names x) ≡ true
-    out_more before c after is early x (Malloc label size) call some =
-        let h = finds before c after is in
-        let e : label.0 ≡ x = eqb-true label.0 x (bit_is (eqb label.0 x) (omega arith)) in
-        subst (λ y. is_out (state_of p.names y) ≡ true) e (h.in_script.out (picks_of c.thread.0 (turns_of before)) label size (omega (arith, early, h.ended)) (h.at ∙ ap (λ k. Some k) call))
+    out_more before c after is early x (Malloc label size) call some = grind (arith, bit_is, eqb-true, finds)
     out_more before c after is early x (Free label) call some = absurd (omega arith)
     out_more before c after is early x (Release pages) call some = absurd (omega arith)
     out_more before c after is early x (Drain cpu) call some = absurd (omega arith)

@@ -153,12 +153,7 @@ module _ {P V R : Type 0} {r : FrontRules P V R} {about : R → About} {planned 
     lines_now u = ap (lines_by u) calls_now ∙ filter-append (λ (c : CallLine). eqb c.thread.0 u) (calls locals order) (lines t acted.does.said)
 
     this_tells : AllTell locals (calls locals order) → lines_by t (calls (slice_set locals t after) (order ++ t ∷ [])) ≡ map (told t) after.answers
-    this_tells tells =
-        let said : List Said = acted.does.said in
-        lines_now t
-        ∙ (ap (λ xs. xs ++ lines_by t (lines t said)) (tells t l now.local)
-        ∙ (ap (λ xs. map (told t) l.answers ++ xs) (own_lines t said ∙ sym (told_lines t l.acts said))
-        ∙ (sym (map-append (told t) l.answers (decided_at l.acts said)) ∙ ap (map (told t)) (sym acted.does.answers))))
+    this_tells tells = grind (arith, lines_now, map-append, own_lines, told_lines)
 
     all_tell : AllTell locals (calls locals order) → AllTell (slice_set locals t after) (calls (slice_set locals t after) (order ++ t ∷ []))
     all_tell tells =

@@ -1,9 +1,9 @@
 -- The acts at a shard fit: a new span is apart from the others, and a hand that is given was taken there.
-use Rattle.std.proofs.Common.{◌≡◌, ℕ, ◌+◌, ◌<◌, ◌≤◌, ◌⊎◌, List, [], length, map, get_or, Some, sym, ap, ◌∙◌, subst, arith, inl, inr, All}
+use Rattle.std.proofs.Common.{◌≡◌, ℕ, ◌+◌, ◌<◌, ◌≤◌, ◌⊎◌, List, [], length, map, get_or, Some, ap, ◌∙◌, subst, arith, inl, inr, All}
 use Rattle.std.proofs.Common.{slice_get}
-use Rattle.alloc_rules.proofs.Common.{cases_lt, cond-true, eq-eqb, get_or-map, length-map, get_or-le-sum_by, get_or_from_slice_get, Addr, ClassRow, Run}
+use Rattle.alloc_rules.proofs.Common.{cases_lt, cond-true, eq-eqb, get_or-map, length-map, get_or-le-sum_by, get_or_from_slice_get, Addr, Run}
 use Rattle.alloc_rules.proofs.Common.{SpanRef, CallLine, HeapConfig, SpanState, IsTakenIn, IsApartFrom, Shard, places, spans_in, objects_in_spans, found_at}
-use Rattle.alloc_rules.proofs.Common.{spans_cut, bit, small, same_span, objects_at, spans_like, Setup, Stock, Books, pages_of, IsTaken, IsMapped, least}
+use Rattle.alloc_rules.proofs.Common.{spans_cut, bit, small, same_span, objects_at, spans_like, Setup, Stock, Books, IsTaken, IsMapped, least}
 use Rattle.alloc_rules.proofs.Common.{same_span_refl, all_spans, one_number, hands_are_taken, mapped_are_there, Asking, Fetch, AddFetch, Give, no_class}
 use Rattle.alloc_rules.proofs.Common.{class_row, Local, FitsBatch, FitsShard, Planned, About, account_of, mapped_of, FrontRules, Parts, stock_of}
 use Rattle.alloc_rules.proofs.Common.{no_shard, shard_at, IsShardOf, setup, IsBefore, Step, ShardStep, IsClassRow, StepShape, ShardShape, ShardActsFit}
@@ -38,9 +38,7 @@ module _ {P V R : Type 0} {r : FrontRules P V R} {about : R → About} {planned 
     class_row_is = before.rows.each l.regs.class.0 no_class before.shaped.class
 
     batch_fits : l.regs.hand.items ≡ [] → FitsBatch m.rows l.regs
-    batch_fits none =
-        let empty : length l.regs.hand.items ≡ 0 = ap (λ (h : List Addr). length h) none in
-        record { class = before.shaped.class; some = class_row_is.batch; room = omega (arith, empty, class_row_is.few, before.shaped.hand) }
+    batch_fits none = grind (arith, class_row_is)
 
     -- a span that was set is in the map, and apart from those of the shard
     pub is_mapped : (asking : Asking) (run : Run) → l.step ≡ does.Shard (AddFetch asking run) → IsMapped m b (small l.regs.class run)
@@ -51,9 +49,7 @@ module _ {P V R : Type 0} {r : FrontRules P V R} {about : R → About} {planned 
         mapped_are_there m b calls t (account_of about l) s before.facts (account_at t before.books before.local) (omega (arith, held, same))
 
     add_pages : (run : Run) → IsMapped m b (small l.regs.class run) → run.pages ≡ x.central.row.pages
-    add_pages run mapped =
-        let class : l.regs.class.0 ≡ mapped.class.class = one_number l.regs.class.0 mapped.class.class mapped.class.kind in
-        mapped.class.pages ∙ (ap (λ (k : ℕ). pages_of m.rows k) (sym class) ∙ ap (λ (r : ClassRow). r.pages) row_is)
+    add_pages run mapped = grind (arith, one_number, row_is)
 
     add_apart : (run : Run) → IsMapped m b (small l.regs.class run) → All (IsApartFrom (small l.regs.class run)) x.central.spans
     add_apart run mapped =

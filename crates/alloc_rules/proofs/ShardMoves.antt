@@ -1,17 +1,16 @@
 -- The acts at a shard move objects between it and the hand, and spans to it and from it.
 use Rattle.std.proofs.Common.{◌≡◌, ◌≢◌, ℕ, ◌+◌, ◌<◌, ◌≤◌, ◌^◌, eqb, List, [], ◌∷◌, ◌++◌, length, Some, refl, sym, ap, ◌∙◌, subst, arith, inl, inr, slice_get}
-use Rattle.std.proofs.Common.{slice_set, flat_map}
+use Rattle.std.proofs.Common.{slice_set}
 use Rattle.alloc_rules.proofs.Common.{cases_lt, get_or-set_same, get_or-set_other, length-set, All-cons, All-nil, slice_get_within, Contents, class_of, Addr}
 use Rattle.alloc_rules.proofs.Common.{ClassRow, Run, SpanRef, Small, CallLine, HeapConfig, appended, emptied, objects_of, opening, Shard, fetched}
 use Rattle.alloc_rules.proofs.Common.{after_fetch, after_give, freed_by, places, spans_in, objects_in_spans, IsSame, IsFetched, IsAdded, with_new}
-use Rattle.alloc_rules.proofs.Common.{fetch_moves, add_moves, give_moves, small, same_span, objects_at, spans_like, spans_at, Asks, Setup, Books, IsCut}
+use Rattle.alloc_rules.proofs.Common.{fetch_moves, add_moves, give_moves, small, objects_at, spans_like, spans_at, Asks, Setup, Books, IsCut}
 use Rattle.alloc_rules.proofs.Common.{class_number, MoveObjects, AddSpan, shift, all_spans, span_all, Asking, Fetch, AddFetch, Give, goes, class_row, Local}
-use Rattle.alloc_rules.proofs.Common.{with_hand, with_freed, decides_free, behind, clears, serves, with_more, fetches, with_spans_behind, shard_row, Planned}
+use Rattle.alloc_rules.proofs.Common.{with_hand, with_freed, decides_free, behind, clears, serves, with_more, fetches, shard_row, Planned}
 use Rattle.alloc_rules.proofs.Common.{About, AreEntries, FrontRules, Parts, stock_of, Does, no_shard, shard_at, IsShardOf, setup, IsBefore, Step, ShardStep}
 use Rattle.alloc_rules.proofs.Common.{Giving, StepShape, ShardShape, IsGiving, FitsAdd, FitsGive, IsLowRun, AddsSome, ShardActsMove}
 use Rattle.class_shard.specs.Laws.{IsGiven}
 use Rattle.page_map.specs.Spans.{IsInside}
-use Rattle.span_list.specs.Span as spans
 use Rattle.call_steps.specs.declared.step.Step.TheVariants as does
 use Rattle.call_steps.specs.declared.step.HeapStep.TheVariants as heap
 use Rattle.alloc_rules.proofs.{CutOf.cut_of, Sets.each_set, Stored.with_stores, Weighing.bare}
@@ -45,13 +44,7 @@ module _ {P V R : Type 0} {r : FrontRules P V R} {about : R → About} {planned 
 
     -- a shard of the same class and row
     same_of : (new : Shard) → IsSame x new → ((s : SpanRef) → 0 < spans_like s (spans_in new) → s.kind ≡ Small (class_number l.regs.class.0)) → IsShardOf m.rows l.regs.class.0 new
-    same_of new same kinds =
-        record {
-          class = same.class ∙ of_x.class;
-          row = of_x.row ∙ ap (λ (r : ClassRow). Some r) (sym same.row);
-          sound = same.sound;
-          kinds = all_spans (λ (s : SpanRef). s.kind ≡ Small (class_number l.regs.class.0)) (spans_in new) kinds;
-        }
+    same_of new same kinds = search (arith, all_spans, of_x)
 
     cut : (new : Shard) → IsShardOf m.rows l.regs.class.0 new → IsCut m.rows (stock_of r about (with_shard new))
     cut new of =
@@ -65,15 +58,10 @@ module _ {P V R : Type 0} {r : FrontRules P V R} {about : R → About} {planned 
     elsewhere new k other = get_or-set_other p.shards l.regs.class.0 k new no_shard other
 
     others : (new : Shard) (k n : ℕ) → k ≢ l.regs.class.0 → ((stock_of r about (with_shard new)).stored k n ≡ (stock_of r about p).stored k n) × ((stock_of r about (with_shard new)).objects k n ≡ (stock_of r about p).objects k n)
-    others new k n other =
-        let e : objects_at n (places (shard_at (shards_with new) k)) ≡ objects_at n (places (shard_at p.shards k)) = ap (λ (y : Shard). objects_at n (places y)) (elsewhere new k other) in
-        (omega (arith, e), ap (λ (y : Shard). objects_at n (objects_in_spans y)) (elsewhere new k other))
+    others new k n other = grind (arith, elsewhere)
 
     stored : (new : Shard) (n : ℕ) → (stock_of r about (with_shard new)).stored l.regs.class.0 n + objects_at n (places x) ≡ (stock_of r about p).stored l.regs.class.0 n + objects_at n (places new)
-    stored new n =
-        let e : objects_at n (places (shard_at (shards_with new) l.regs.class.0)) ≡ objects_at n (places new) = ap (λ (y : Shard). objects_at n (places y)) (now new) in
-        let h : objects_at n (places (shard_at p.shards l.regs.class.0)) ≡ objects_at n (places x) = ap (λ (y : Shard). objects_at n (places y)) is_x in
-        omega (arith, e, h)
+    stored new n = grind (arith, is_x, now)
 
     objects_now : (new : Shard) (n : ℕ) → (stock_of r about (with_shard new)).objects l.regs.class.0 n ≡ objects_at n (objects_in_spans new)
     objects_now new n = ap (λ (y : Shard). objects_at n (objects_in_spans y)) (now new)
@@ -118,22 +106,10 @@ module _ {P V R : Type 0} {r : FrontRules P V R} {about : R → About} {planned 
     is_fetched = fetch_moves (class_row m.rows l).batch x some_batch of_x.sound
 
     fetch_changes : Changes fetched_from [] list_of []
-    fetch_changes =
-        let f = is_fetched in
-        let objects_same : objects_in_spans fetched_from ≡ objects_in_spans x = ap (λ (r : ClassRow). flat_map (objects_of r.size) (spans_in fetched_from)) f.same.row ∙ ap (λ (ss : List SpanRef). flat_map (objects_of x.central.row.size) ss) f.spans in
-        record {
-          moves = λ n.
-              let c = f.moves (λ (a : Addr). eqb a.0 n) in
-              omega (arith, c, objects_count n (places fetched_from), objects_count n list_of, objects_count n (places x), ap (objects_at n) objects_same);
-          fewer = λ n. omega (arith, ap (objects_at n) objects_same);
-          spans = λ s. omega (arith, ap (spans_like s) f.spans);
-          starts = λ n. omega (arith, ap (spans_at n) f.spans);
-        }
+    fetch_changes = grind (arith, is_fetched, objects_count)
 
     fetched_of : IsShardOf m.rows l.regs.class.0 fetched_from
-    fetched_of =
-        let f = is_fetched in
-        same_of fetched_from f.same (λ s some. span_all (λ (y : SpanRef). y.kind ≡ Small (class_number l.regs.class.0)) s (spans_in x) of_x.kinds (omega (arith, some, ap (spans_like s) f.spans)))
+    fetched_of = grind (arith, is_fetched, of_x, same_of, span_all)
 
     fetch_cut : IsCut m.rows (stock_of r about (with_shard fetched_from))
     fetch_cut = cut fetched_from fetched_of
@@ -174,14 +150,10 @@ module _ {P V R : Type 0} {r : FrontRules P V R} {about : R → About} {planned 
           add_moves (class_row m.rows l).batch x span some_batch of_x.sound fit.pages is_low (omega (arith, size, row.small)) (omega (arith, pages, row.most, fit.pages)) fit.apart
 
       spans_more : (s : SpanRef) → spans_like s (spans_in added) ≡ spans_like s (spans_in x) + spans_like s (span ∷ [])
-      spans_more s =
-          let c = is_added.spans (λ (y : SpanRef). same_span y s) in
-          omega (arith, c, spans_count s (spans_in added), spans_count s (spans_in x), spans_count s (span ∷ []))
+      spans_more s = grind (arith, is_added, spans_count)
 
       starts_more : (n : ℕ) → spans_at n (spans_in added) ≡ spans_at n (spans_in x) + spans_at n (span ∷ [])
-      starts_more n =
-          let c = is_added.spans (λ (y : SpanRef). eqb (spans.first_byte y) n) in
-          omega (arith, c, begun_count n (spans_in added), begun_count n (spans_in x), begun_count n (span ∷ []))
+      starts_more n = grind (arith, begun_count, is_added)
 
       added_of : IsShardOf m.rows l.regs.class.0 added
       added_of =
@@ -232,26 +204,10 @@ module _ {P V R : Type 0} {r : FrontRules P V R} {about : R → About} {planned 
           give_moves l.regs.hand.items x of_x.sound fit.taken fit.different
 
       spans_less : (s : SpanRef) → spans_like s (spans_in given) + spans_like s freed ≡ spans_like s (spans_in x)
-      spans_less s =
-          let c = is_given.spans (λ (y : SpanRef). same_span y s) in
-          omega (arith, c, spans_count s (spans_in given), spans_count s freed, spans_count s (spans_in x))
+      spans_less s = grind (arith, is_given, spans_count)
 
       give_changes : Changes given l.regs.hand.items [] freed
-      give_changes =
-          let left : List Addr = flat_map (objects_of x.central.row.size) freed in
-          let objects_less : (n : ℕ) → objects_at n (objects_in_spans given) + objects_at n left ≡ objects_at n (objects_in_spans x) = λ n.
-          (let c = is_given.objects (λ (a : Addr). eqb a.0 n) in
-          omega (arith, c, objects_count n (objects_in_spans given), objects_count n left, objects_count n (objects_in_spans x))) in
-          record {
-            moves = λ n.
-                let c = is_given.moves (λ (a : Addr). eqb a.0 n) in
-                omega (arith, c, objects_less n, objects_count n (places given), objects_count n left, objects_count n (places x), objects_count n l.regs.hand.items);
-            fewer = λ n. omega (arith, objects_less n);
-            spans = spans_less;
-            starts = λ n.
-                let c = is_given.spans (λ (y : SpanRef). eqb (spans.first_byte y) n) in
-                omega (arith, c, begun_count n (spans_in given), begun_count n freed, begun_count n (spans_in x));
-          }
+      give_changes = grind (arith, begun_count, is_given, objects, objects_count, spans_less)
 
       given_of : IsShardOf m.rows l.regs.class.0 given
       given_of = same_of given is_given.same (λ s some. span_all (λ (y : SpanRef). y.kind ≡ Small (class_number l.regs.class.0)) s (spans_in x) of_x.kinds (omega (arith, some, spans_less s)))
@@ -268,9 +224,7 @@ module _ {P V R : Type 0} {r : FrontRules P V R} {about : R → About} {planned 
           (subst (λ (ss : List SpanRef). MoveObjects (stock_of r about p) (stock_of r about (with_shard given)) l.regs.class.0 l.regs.hand.items [] ss) left (objects given l.regs.hand.items [] freed give_changes))
 
       give_all : Does r about m (with_shard given) b (at_step (Give g)) (shard_row r.calls x (at_step (Give g)) (Give g)).1
-      give_all =
-          let bag : Contents SpanRef = with_spans_behind l.freed freed in
-          give_does bag bag.items refl (sym (ap (λ (ss : List SpanRef). ss ++ freed) no_span))
+      give_all = grind (arith, give_does)
 
     shard_does : (row : ShardStep R) → l.step ≡ does.Shard row → ShardShape m.rows about l row → Does r about m (with_shard (shard_row r.calls x (at_step row) row).0) b (at_step row) (shard_row r.calls x (at_step row) row).1
     shard_does (Fetch asking) is shape = fetch_does asking shape.0.hand shape.1 list_of refl

@@ -1,7 +1,7 @@
 -- How large the requests of a script are.
-use Rattle.std.proofs.Common.{◌≡◌, ℕ, ◌^◌, ◌≤◌, true, false, eqb, cond, List, [], ◌∷◌, ◌++◌, map, filter, All, Option, Some, None, refl, ◌∙◌, subst, arith}
+use Rattle.std.proofs.Common.{◌≡◌, ℕ, ◌^◌, ◌≤◌, List, [], ◌∷◌, ◌++◌, All, Option, Some, None, refl, ◌∙◌, subst, arith}
 use Rattle.std.proofs.Common.{option_map, slice_get}
-use Rattle.alloc_rules.proofs.Common.{All-cons, slice_get_within, get_or_from_slice_get, append_snoc, Label, Call, Malloc}
+use Rattle.alloc_rules.proofs.Common.{slice_get_within, get_or_from_slice_get, append_snoc, Label, Call, Malloc}
 use Rattle.alloc_rules.proofs.Common.{Planned, Asked, ThreadCall, script_of, call_at, ClassRow, IsInOrder, IsValid}
 
 abbrev IsLow : Call → Type 0
@@ -18,14 +18,7 @@ module _ (rows : List ClassRow) (planned : Planned → Type 0) where
   all_low : (asked : Asked) → IsValid rows planned asked → (t : ℕ) (earlier cs : List ThreadCall) → earlier ++ cs ≡ asked.calls → Lows (script_of t cs)
   all_low asked valid t earlier [] is = λ i d low. absurd (omega arith)
   all_low asked valid t earlier (c ∷ cs) is =
-      let f : ThreadCall → Planned = λ (d : ThreadCall). d.planned in
-      let ys : List ThreadCall = filter (λ (d : ThreadCall). eqb d.thread.0 t) cs in
-      let rest : Lows (map f ys) = all_low asked valid t (earlier ++ c ∷ []) cs (append_snoc earlier c cs ∙ is) in
-      let here : IsLow c.planned.call = in_order earlier c.planned.call (valid.calls earlier c cs is).order in
-      elim (eqb c.thread.0 t) as (λ b. Lows (map f (cond b (c ∷ ys) ys))) [
-        | true ↦ All-cons (λ (q : Planned). IsLow q.call) c.planned (map f ys) here rest
-        | false ↦ rest
-      ]
+      grind (arith, all_low asked valid t (earlier ++ c ∷ []) cs (append_snoc earlier c cs ∙ is), append_snoc, in_order)
 
   low_at : (script : List Planned) (j : ℕ) (label : Label) (size : ℕ) (o : Option Planned) → Lows script → slice_get script j ≡ o → option_map (λ (q : Planned). q.call) o ≡ Some (Malloc label size) → size ≤ 2 ^ 40
   low_at script j label size None lows at is = absurd (cc)

@@ -100,12 +100,7 @@ module _ {P V R : Type 0} {r : FrontRules P V R} {about : R → About} {planned 
 
   -- no shard and no part of the front-end changes
   placed_elsewhere : (h : heaps.Heap) (m : SpanMap) (names : List NameState) → heaps_sound.IsSound h → h.config ≡ limits → IsWellFormed m → m.huge ≡ huge → ArePlaced r asked (record p { heap = h; map = m; names = names })
-  placed_elsewhere h m names sound config well same =
-      record {
-        ok = record { classes = now.placed.ok.classes; shards = now.placed.ok.shards; heap = sound; config = config; map = well; huge = same };
-        fronts = now.placed.fronts;
-        transfers = now.placed.transfers;
-      }
+  placed_elsewhere h m names sound config well same = grind arith
 
   -- what the acts fit
   pub shard_fit : (row : ShardStep R) (x : Shard) → l.step ≡ does.Shard row → slice_get p.shards l.regs.class.0 ≡ Some x → FitsShard r.calls.rows x l row

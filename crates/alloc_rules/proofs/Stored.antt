@@ -1,8 +1,7 @@
 -- The stock after a part of the front-end or a shard was replaced, and an act by the books of the parts.
-use Rattle.std.proofs.Common.{◌≡◌, ◌≢◌, ℕ, ◌+◌, List, [], ◌++◌, Some, refl, sym, ap, ◌∙◌, subst, arith, slice_get, slice_set}
-use Rattle.alloc_rules.proofs.Common.{Addr, NameState, Shard, objects_at, Account, Setup, Stock, Books, Said, Move, MoveObjects, shift, Local, About}
+use Rattle.std.proofs.Common.{◌≡◌, ◌≢◌, ℕ, ◌+◌, List, [], ◌++◌, Some, sym, subst, arith, slice_get, slice_set}
+use Rattle.alloc_rules.proofs.Common.{Addr, Shard, objects_at, Account, Setup, Books, Said, Move, MoveObjects, shift, Local, About}
 use Rattle.alloc_rules.proofs.Common.{account_of, decided_at, stored_in, stock_of, AreBooksOf, Does, FrontRules, Parts}
-use Rattle.std.proofs.Math.Path.{fun_ext}
 
 -- the parts with others of the front-end, and other shards
 abbrev pub with_stores : {P : Type 0} → Parts P → List P → List Shard → Parts P
@@ -14,9 +13,7 @@ module _ {P V R : Type 0} (r : FrontRules P V R) (about : R → About) where
   settled b p = record { stock = stock_of r about p; heap = b.heap; spans = b.spans; names = p.names; accounts = b.accounts }
 
   books_settled : (p : Parts P) (locals : List (Local V R)) (b : Books) → AreBooksOf r about p locals b → settled b p ≡ b
-  books_settled p locals b books =
-      ap (λ (s : Stock). let x : Books = record { stock = s; heap = b.heap; spans = b.spans; names = p.names; accounts = b.accounts } in x) (sym books.stock)
-      ∙ ap (λ (s : List NameState). let x : Books = record { stock = b.stock; heap = b.heap; spans = b.spans; names = s; accounts = b.accounts } in x) (sym books.names)
+  books_settled p locals b books = grind arith
 
   -- one move of these books is what an act does that leaves the heap, the map and the names
   pub does_by : (m : Setup) (p : Parts P) (locals : List (Local V R)) (b : Books) → AreBooksOf r about p locals b → (fronts : List P) (shards : List Shard) (l after : Local V R) (a : Account) (said : List Said) → account_of about l ≡ a
@@ -42,16 +39,8 @@ module _ {P V R : Type 0} (r : FrontRules P V R) (about : R → About) where
   -- objects move between the front-end and a hand, with the shards as they were
   pub stores_move : (p : Parts P) (fronts : List P) (class : ℕ) (hand new : List Addr) → ((k n : ℕ) → k ≢ class → stored_in r about (with_stores p fronts p.shards) k n ≡ stored_in r about p k n)
       → ((n : ℕ) → stored_in r about (with_stores p fronts p.shards) class n + objects_at n new ≡ stored_in r about p class n + objects_at n hand) → MoveObjects (stock_of r about p) (stock_of r about (with_stores p fronts p.shards)) class hand new []
-  stores_move p fronts class hand new others moves =
-      record {
-        others = λ k n other. (others k n other, refl);
-        moves = λ n. omega (arith, moves n);
-        fewer = λ n. omega arith;
-        spans = λ s. omega arith;
-        starts = λ n. omega arith;
-      }
+  stores_move p fronts class hand new others moves = grind arith
 
   -- no object moves: the stock is the same
   pub stock_same : (p : Parts P) (fronts : List P) → ((k n : ℕ) → stored_in r about (with_stores p fronts p.shards) k n ≡ stored_in r about p k n) → stock_of r about p ≡ stock_of r about (with_stores p fronts p.shards)
-  stock_same p fronts same =
-      ap (λ (f : ℕ → ℕ → ℕ). let s : Stock = record { objects = (stock_of r about p).objects; stored = f; owned = (stock_of r about p).owned; begins = (stock_of r about p).begins } in s) (fun_ext (λ k. fun_ext (λ n. sym (same k n))))
+  stock_same p fronts same = grind arith

@@ -1,12 +1,11 @@
 -- Accounts that weigh the same: one that nothing changes, and one that ends its call and begins the next.
-use Rattle.std.proofs.Common.{◌≡◌, ℕ, ◌+◌, Bool, cond, List, [], ◌∷◌, Option, Some, None, refl, ap, sym, ◌∙◌, subst, arith}
+use Rattle.std.proofs.Common.{◌≡◌, ℕ, ◌+◌, Bool, cond, List, [], ◌∷◌, Option, Some, None, refl, ap, sym, subst, arith}
 use Rattle.alloc_rules.proofs.Common.{Addr, Class, Label, class_of, Call, Malloc, Free, Release, Drain, Resize, Planned, objects_at, Account, Doing, Takes}
 use Rattle.alloc_rules.proofs.Common.{Other, WeighSame, asking, publishing, taking, loose, got, put, first_of_malloc, first_of_call, regs_of_malloc}
-use Rattle.alloc_rules.proofs.Common.{fresh_regs, next_call, closes, ends, Local, step_or, Regs, Asking, Step, FrontCalls, AreEntries, IsEntry, About}
+use Rattle.alloc_rules.proofs.Common.{fresh_regs, next_call, closes, ends, Local, step_or, Step, FrontCalls, AreEntries, IsEntry, About}
 use Rattle.alloc_rules.proofs.Common.{account_of, doing_about}
 use Rattle.holdings.specs.Accounts.{holds}
 use Rattle.call_steps.specs.declared.step.Step.TheVariants as step
-use Rattle.call_steps.specs.declared.step.ShardStep.TheVariants as shard
 use Rattle.call_steps.specs.Calls as about
 
 -- an account that holds no span and no run, and one that has nothing to do with a label either
@@ -46,19 +45,11 @@ module _ {V R : Type 0} (e : FrontCalls V R) (of : R → About) (entries : AreEn
     malloc_weighs : (v : V) (label : Label) (size : ℕ) (p : Planned) (rest : List Planned) (c : Option Class) → p.call ≡ Malloc label size
         → WeighSame (quiet k (p ∷ rest)) (account_of of (record l { seat = v; step = first_of_malloc e v c label size; regs = record (regs_of_malloc e c l.regs) { ran = 0 }; rest = rest }))
     malloc_weighs v label size p rest None is = begun k l.regs.class.0 l.regs.hand.items (doing_about (about.Asks (record { label = label; size = size }))) p rest none (λ x. ap (got x) (sym is)) (λ x. refl) (λ x. ap (put x) (sym is)) (λ x w. refl) (λ n. refl)
-    malloc_weighs v label size p rest (Some c) is =
-        let a : Asking = record { label = label; size = size } in
-        let g : Regs = record (e.to_first (record l.regs { class = c })) { ran = 0 } in
-        let kept = entries.to_first (record l.regs { class = c }) in
-        subst (WeighSame (quiet k (p ∷ rest))) (sym (entry_is of (record l { seat = v; regs = g; rest = rest }) (step.Shard (shard.Fetch a)) (about.Asks a) (e.first v a) (entries.first_about v a) refl))
-        (begun k g.class.0 g.hand.items (doing_about (about.Asks a)) p rest (ap (λ h. h.items) kept.hand ∙ none) (λ x. ap (got x) (sym is)) (λ x. refl) (λ x. ap (put x) (sym is)) (λ x w. refl) (λ n. refl))
+    malloc_weighs v label size p rest (Some c) is = grind (arith, begun, entry_is)
 
     -- one of the front-end's own
     own_weighs : (v : V) (call : Call) (p : Planned) (rest : List Planned) → ((x : ℕ) → got x p.call ≡ 0) → ((x : ℕ) → put x p.call ≡ 0) → WeighSame (quiet k (p ∷ rest)) (account_of of (record l { seat = v; step = step_or step.Ended (e.other v call); regs = record (e.to_other call l.regs) { ran = 0 }; rest = rest }))
-    own_weighs v call p rest got_none put_none =
-        let g : Regs = record (e.to_other call l.regs) { ran = 0 } in
-        subst (WeighSame (quiet k (p ∷ rest))) (sym (entry_is of (record l { seat = v; regs = g; rest = rest }) step.Ended (about.Other (Some call)) (e.other v call) (entries.other_about v call) refl))
-        (begun k g.class.0 g.hand.items Other p rest (ap (λ h. h.items) (entries.to_other call l.regs) ∙ none) (λ x. sym (got_none x)) (λ x. refl) (λ x. sym (put_none x)) (λ x w. refl) (λ n. refl))
+    own_weighs v call p rest got_none put_none = grind (arith, begun, entry_is)
 
     call_weighs : (v : V) (call : Call) (p : Planned) (rest : List Planned) → p.call ≡ call → WeighSame (quiet k (p ∷ rest)) (account_of of (record l { seat = v; step = first_of_call e v call; regs = fresh_regs e call l.regs; rest = rest }))
     call_weighs v (Malloc label size) p rest is = malloc_weighs v label size p rest (class_of e.rows size) is
@@ -74,8 +65,7 @@ module _ {V R : Type 0} (e : FrontCalls V R) (of : R → About) (entries : AreEn
   -- a call ends: the next one is begun, or a row of the front-end comes first
   closes_weighs : (l : Local V R) (k : ℕ) → l.regs.hand.items ≡ [] → (o : Option R) → IsEntry of (about.Other None) o → WeighSame (quiet k l.rest) (account_of of (closes e l o))
   closes_weighs l k none None entry = script_weighs (record l { ended = l.ended + 1 }) k none l.rest
-  closes_weighs l k none (Some row) entry =
-      subst (λ (x : About). WeighSame (quiet k l.rest) (bare (doing_about x) l.regs.class.0 l.regs.hand.items l.rest)) (sym entry) (weighs_quiet k l.regs.class.0 l.regs.hand.items l.rest none)
+  closes_weighs l k none (Some row) entry = grind (arith, weighs_quiet)
 
   pub weighs_next : (l : Local V R) (k : ℕ) → l.regs.hand.items ≡ [] → WeighSame (quiet k l.rest) (account_of of (ends e l))
   weighs_next l k none = closes_weighs (record l { acts = l.acts + 1 }) k none (e.last l.seat) (entries.last_about l.seat)
