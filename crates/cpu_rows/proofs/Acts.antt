@@ -1,7 +1,7 @@
 -- What comes behind an act at a CPU, and what the act leaves.
-use Rattle.std.proofs.Common.{◌≡◌, ◌≢◌, ℕ, ◌+◌, ◌<◌, ◌≤◌, false, List, [], length, Option, Some, None, refl, sym, ap, ◌∙◌, subst, arith, inl, ◌⊎◌}
+use Rattle.std.proofs.Common.{◌≡◌, ◌≢◌, ℕ, ◌+◌, ◌<◌, ◌≤◌, false, List, [], length, Option, Some, None, refl, sym, ap, subst, arith, inl, ◌⊎◌}
 use Rattle.std.proofs.Common.{eqb}
-use Rattle.cpu_rows.proofs.Common.{cond_both, ThreadNo, ClassRow, MoveTo, Config, MOST_PICKS, CpuSlab, row_at, held, CpuPart, Regs, room, is_pop}
+use Rattle.cpu_rows.proofs.Common.{cond_both, ThreadNo, ClassRow, MoveTo, Config, MOST_PICKS, CpuSlab, row_at, held, CpuPart, Regs, is_pop}
 use Rattle.cpu_rows.proofs.Common.{IsCurrent, left, dropped, CpuOk, SeatOk, SeatKeeps, IsHome, AreOfSame, objects_at, CpuSeat, CpuRow, CpuStep, Next}
 use Rattle.cpu_rows.proofs.Common.{HasNoLabel, About, Asks, about_giving, cpu_acts, leaving, moves_to, leaves, looks_on, gives}
 use Rattle.cpu_rows.proofs.Common.{at_cpu_next, about_cpu, about_row, at_cpu, as_row, FitsCpu, thread_no, AreRows, most_slots, IsAtBegin, HasNone, IsGiving}
@@ -14,7 +14,6 @@ use Rattle.cpu_rows.specs.declared.row.CpuRow.TheVariants as front
 use Rattle.cpu_rows.specs.CpuActs as acts
 use Rattle.call_steps.specs.declared.step.Giving.TheVariants as giving
 use Rattle.call_steps.specs.declared.step.Next.TheVariants as next
-use Rattle.cpu_rows.specs.declared.row.DomainStep.TheVariants as domain
 
 -- a number of domains that isn't 0
 some_domain : (n : ℕ) → eqb n 0 ≡ false → 0 < n
@@ -42,11 +41,7 @@ module _ (rows : List ClassRow) (c : Config) where
   -- an allocation looks on in its domain, or in the shard
   pub looks : (v : CpuSeat) (row : CpuRow) (g r : Regs) (a : Asking) → about_row row ≡ Asks a → HasNone (seated v r) → IsAsked rows r a
       → IsBehind v row g r None (looks_on v a)
-  looks v row g r a is none asked =
-      cond_both (eqb v.domains 0) (next.Fetch a) (next.Row (front.Domain (domain.Take a))) (IsBehind v row g r None)
-      (λ e. record { next = (is, none.hand); regs = none.begin; stands = refl; same = refl })
-      (λ e. record
-      { next = (sym is, subst (HandAbout rows r) (sym is) (asked, none.hand)); regs = (none, asked, some_domain v.domains e); stands = refl; same = refl })
+  looks v row g r a is none asked = grind (arith, cond_both, some_domain)
 
   -- the hand is given away, to the cache of the domain or to the shard
   pub gives_to_shard : (v : CpuSeat) (row : CpuRow) (g r : Regs) (w : Giving CpuStep) → about_row row ≡ about_giving about_cpu w → IsAtBegin r
@@ -54,18 +49,13 @@ module _ (rows : List ClassRow) (c : Config) where
       (next.Give (as_row w))
   gives_to_shard v row g r (giving.Rest s) is begin few has = record { next = (is, few, tt); regs = begin; stands = refl; same = refl }
   gives_to_shard v row g r (giving.Freed f) is begin few has = record { next = (is, few, has); regs = begin; stands = refl; same = refl }
-  gives_to_shard v row g r (giving.Row k to) is begin few has =
-      record { next = (is, few, (has.class, has.other)); regs = (begin, has); stands = refl; same = refl }
+  gives_to_shard v row g r (giving.Row k to) is begin few has = grind arith
   gives_to_shard v row g r giving.End is begin few has = record { next = (is, few, tt); regs = begin; stands = refl; same = refl }
 
   pub gives_away : (v : CpuSeat) (row : CpuRow) (g r : Regs) (w : Giving CpuStep) → about_row row ≡ about_giving about_cpu w → IsAtBegin r
       → length r.hand.items ≤ most_slots → IsGiving (limits_of rows c) r.hand.items (as_row w) → IsBehind v row g r (giving_standing rows (as_row w))
       (gives v w)
-  gives_away v row g r w is begin few has =
-      cond_both (eqb v.domains 0) (next.Give (as_row w)) (next.Row (front.Domain (domain.Put w))) (IsBehind v row g r (giving_standing rows (as_row w)))
-      (λ e. gives_to_shard v row g r w is begin few has)
-      (λ e. record
-      { next = (sym is, subst (HandAbout rows r) (sym is) (hand_given r w few has)); regs = (record { begin = begin; few = few; freed = refl }, has, some_domain v.domains e); stands = refl; same = refl })
+  gives_away v row g r w is begin few has = grind (arith, cond_both, gives_to_shard, hand_given, some_domain)
 
   -- the call goes on with a row at a CPU
   pub goes_on : (v : CpuSeat) (row to : CpuStep) (g r : Regs) → about_cpu to ≡ about_cpu row → HandAbout rows r (about_cpu row)
@@ -159,33 +149,7 @@ module _ (turn : Turn) where
   builds : (row : CpuStep) (new : CpuPart) (to : CpuSeat) (r r' : Regs) (n : Next) (o o' : Option seats.Standing) → IsThere row → IsSeat to → IsMoved new r
       → GoesOn row to r r' o' n → o ≡ o' → Keeps row new (record { regs = r'; cpu = to.cpu.0; standing = o })
       → Acts row (leaving new to r' n)
-  builds row new to r r' n o o' there is m x same keeps =
-      let b = x.behind in
-      let class = class_low row r r' there m.same.class x.class in
-      record {
-        keeps =
-            subst (λ (y : Regs). Keeps row new (record { regs = y; cpu = to.cpu.0; standing = stopping_at rows (regs_next r' n) (at_next n) })) (sym b.same)
-            (subst (λ (y : Option seats.Standing). Keeps row new (record { regs = r'; cpu = to.cpu.0; standing = y })) (same ∙ sym b.stands) keeps);
-        sits = record {
-          thread = ap (λ (y : Regs). y.thread) b.same ∙ (x.like.thread ∙ (m.same.thread ∙ there.sits.thread));
-          home = is.home;
-          domains = is.domains;
-          move = is.move;
-          loaded = ap (λ (y : Regs). room y.loaded) b.same ∙ (ap (λ h. room h) x.like.loaded ∙ (m.same.loaded_room ∙ there.sits.loaded));
-          ran = omega (arith, ap (λ (y : Regs). y.ran) b.same, x.like.ran, m.ran, there.sits.ran);
-          regs = b.regs;
-        };
-        epoch = m.epoch;
-        act = record {
-          thread = x.like.thread ∙ m.same.thread;
-          room = ap (λ h. room h) x.like.hand ∙ m.same.hand_room;
-          low = class.0;
-          class = class.1;
-          others = m.others;
-          moves = λ n. let e = m.moves n in omega (arith, e, ap (λ h. objects_at n h.items) x.like.hand);
-          next = b.next;
-        };
-      }
+  builds row new to r r' n o o' there is m x same keeps = grind (arith, class_low)
 
   pub as_left : (row : CpuStep) (to : CpuSeat) (r : Regs) (o : Option seats.Standing) (n : Next) → IsBehind rows c to (front.Cpu row) g r o n
       → GoesOn row to r r o n
@@ -199,16 +163,11 @@ module _ (turn : Turn) where
   -- and at its begin, where the registers may be set for another
   pub goes : (row : CpuStep) (new : CpuPart) (r r' : Regs) (o o' : Option seats.Standing) (n : Next) → IsThere row → IsMoved new r → GoesOn row v r r' o' n
       → IsAtBegin r' → o ≡ o' → Keeps row new (record { regs = r; cpu = v.cpu.0; standing = o }) → Acts row (leaving new v r' n)
-  goes row new r r' o o' n there m x begin same keeps =
-      builds row new v r r' n o o' there (record { home = there.sits.home; domains = there.sits.domains; move = there.sits.move }) m x same
-      (lawful.sets (length rows) (at_cpu v.cpu row).0 (thread_no t) p new (seat row) (record { regs = r; cpu = v.cpu.0; standing = o }) r'
-      (record { pc = begin.pc; nothing = begin.nothing; epoch = x.like.epoch }) keeps)
+  goes row new r r' o o' n there m x begin same keeps = grind (arith, builds)
 
   -- an act of a stopper that moves no object
   pub moves_none : (new : CpuPart) → new.epoch ≤ p.epoch + 1 → ((j : ℕ) → held (row_at new.slab j) ≡ held (row_at p.slab j)) → IsMoved new g
-  moves_none new epoch slab =
-      let same : AreOfSame g g = record { thread = refl; class = refl; seq = refl; hand_room = refl; loaded_room = refl } in
-      record { same = same; ran = omega arith; epoch = epoch; others = λ k n apart. ap (objects_at n) (slab k); moves = λ n. ap (λ xs. objects_at n xs + objects_at n g.hand.items) (slab g.class.0) }
+  moves_none new epoch slab = grind arith
 
   pub slab_same : (new : CpuPart) → new.slab ≡ p.slab → (j : ℕ) → held (row_at new.slab j) ≡ held (row_at p.slab j)
   slab_same new same j = ap (λ (s : CpuSlab). held (row_at s j)) same

@@ -1,7 +1,7 @@
 -- What each act keeps, wherever it finds its part: a slab is as the table and the heads say, and a row refuses a call as it may.
 use Rattle.std.proofs.Common.{◌≡◌, ℕ, zero, suc, Bool, true, false, eqb, List, [], ◌∷◌, map, Option, Some, None, refl, ap, ◌∙◌}
 use Rattle.std.proofs.Common.{option_map, slice_set, slice_index_or, arith}
-use Rattle.cpu_rows.proofs.Common.{cond_both, ClassRow, ThreadNo, MoveTo, Config, CapFault, SlabRow, CpuSlab, no_row, row_at, with_row, cap_fault, set_unless}
+use Rattle.cpu_rows.proofs.Common.{cond_both, ClassRow, ThreadNo, MoveTo, Config, CapFault, SlabRow, CpuSlab, no_row, row_at, with_row, set_unless}
 use Rattle.cpu_rows.proofs.Common.{CpuPart, Regs, Pc, cell, CpuSeat, CpuStep}
 use Rattle.cpu_rows.proofs.Common.{Stopping, due, sequence_by, stops, left_for, cpu_acts, looks_on, gives, after_pop, after_stock, after_push, replied}
 use Rattle.cpu_rows.proofs.Common.{instructed_to, grew_to, drained, took, cap_answer, gives_taken, started, takes, domain_acts}
@@ -12,7 +12,6 @@ use Rattle.std.{specs.Int.div_ceil, specs.Prelude.unwrap_or}
 use Rattle.rseq_core.specs.Acts as rseq
 use Rattle.cpu_drain.specs.Drains as drains
 use Rattle.cpu_rows.specs.declared.row.CpuStep.TheVariants as cpu
-use Rattle.call_steps.specs.declared.step.Giving.TheVariants as giving
 use Rattle.call_steps.specs.declared.step.Next.TheVariants as next
 use Rattle.cpu_rows.specs.declared.row.CpuRow.TheVariants as front
 use Rattle.cpu_rows.specs.declared.row.DomainStep.TheVariants as domain
@@ -105,10 +104,7 @@ module _ (rows : List ClassRow) (c : Config) where
   grew_is : (a b : Bool) (p : CpuPart) (r : Regs) → Is p.slab → Is (rseq.grew_by (rseq.arrival a b) p r).cpu.slab
   grew_is false b p r is = is
   grew_is true false p r is = is
-  grew_is true true p r is =
-      let k : ℕ = r.class.0 in
-      cond_both (rseq.stands p.stopper) p.slab (grown p.slab k) Is (λ e. is)
-      (λ e. record { most = is.most; limit = is.limit; classes = grown_like p.slab.rows (growth p.slab k) (grows_like p.slab k) ∙ is.classes })
+  grew_is true true p r is = grind (arith, cond_both, grown, grown_like, grows_like, growth)
 
   left_is : (p : CpuPart) (t : ThreadNo) → Is p.slab → Is (rseq.left p t).slab
   left_is p t is = grind (arith, cond_both)
@@ -126,9 +122,7 @@ module _ (rows : List ClassRow) (c : Config) where
   sequence_keeps : (p : CpuPart) (v : CpuSeat) (g : Regs) (row : CpuStep)
       → ((r : Regs) (o : Reply) → RefusesAs cpu_refuses (front.Cpu row) (replied rows v r row o).1) → (o : Option MoveTo) →
       (let x = sequence_by rows p v g row o in Keeps row p x.part x.next)
-  sequence_keeps p v g row replies None =
-      let x = rseq.instructed p g in
-      record { slab = instructed_is (rseq.runs p.running g.thread) (eqb g.epoch p.epoch) p g; may = instructed_may rows v (front.Cpu row) row replies x.regs x.answer }
+  sequence_keeps p v g row replies None = grind (arith, instructed_is, instructed_may)
   sequence_keeps p v g row replies (Some move) = record { slab = left_is p g.thread; may = tt }
 
   stops_keep : (p : CpuPart) (t : ThreadNo) (s : Stopping) (o : Option ThreadNo) → (let x = stops p t s o in Keeps (cpu.Stop s) p x.0 x.1)
@@ -139,18 +133,14 @@ module _ (rows : List ClassRow) (c : Config) where
 
   pub cpu_keeps : (p : CpuPart) (v : CpuSeat) (g : Regs) (row : CpuStep) → (let x = cpu_acts rows p v g row in Keeps row p x.part x.next)
   cpu_keeps p v g (cpu.Pop a) = sequence_keeps p v g (cpu.Pop a) (λ r o. pop_may rows v (front.Cpu (cpu.Pop a)) a o) (due v.moved g.ran)
-  cpu_keeps p v g (cpu.Grow a) =
-      record { slab = grew_is (rseq.runs p.running g.thread) (eqb g.epoch p.epoch) p g; may = grew_may rows v (front.Cpu (cpu.Grow a)) a (rseq.grew_here p g).answer }
+  cpu_keeps p v g (cpu.Grow a) = grind (arith, grew_is, grew_may)
   cpu_keeps p v g (cpu.Stock s) = sequence_keeps p v g (cpu.Stock s) (λ r o. stock_may rows v (front.Cpu (cpu.Stock s)) s r.hand.items) (due v.moved g.ran)
   cpu_keeps p v g (cpu.Push f) = sequence_keeps p v g (cpu.Push f) (λ r o. push_may rows v (front.Cpu (cpu.Push f)) r f o) (due v.moved g.ran)
-  cpu_keeps p v g (cpu.PopBatch f) = sequence_keeps p v g (cpu.PopBatch f) (λ r o. gives_may rows v (front.Cpu (cpu.PopBatch f)) (giving.Freed f))
-      (due v.moved g.ran)
+  cpu_keeps p v g (cpu.PopBatch f) = grind (arith, gives_may, sequence_keeps)
   cpu_keeps p v g (cpu.Stop s) = stops_keep p g.thread s p.stopper
   cpu_keeps p v g (cpu.Fence s) = record { slab = λ is. is; may = tt }
-  cpu_keeps p v g (cpu.Take s) =
-      record { slab = row_set p.slab g.class.0 (record (row_at p.slab g.class.0) { top = 0 }) refl; may = took_may rows v (front.Cpu (cpu.Take s)) (record g { hand = drains.taken_to p g.class.0 g.hand }) s }
-  cpu_keeps p v g (cpu.SetCap x) = let fault = cap_fault p.slab g.class.0 x.cap in
-      record { slab = capped_is p.slab g.class.0 x.cap fault; may = cap_may x fault }
+  cpu_keeps p v g (cpu.Take s) = grind (arith, row_set, took_may)
+  cpu_keeps p v g (cpu.SetCap x) = grind (arith, cap_may, capped_is)
   cpu_keeps p v g (cpu.Start s) = record { slab = λ is. is; may = started_may rows v (front.Cpu (cpu.Start s)) g.hand.items s }
   cpu_keeps p v g cpu.Leave = leaves_keep p v g v.moved
 

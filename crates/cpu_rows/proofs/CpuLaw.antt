@@ -32,16 +32,7 @@ cpu_does turn cpu.Leave there = leave_does turn there
 
 module _ (rows : List ClassRow) (c : Config) where
   passes : (n : ℕ) (ps : List CpuFrontPart) (us : List (Standing CpuSeat CpuRow)) → CpuHolds rows c n ps us → CpuHolds rows c (n + 1) ps us
-  passes n ps us h =
-      record {
-        placed = h.placed;
-        cpu_is_sound = h.cpu_is_sound;
-        slab_is_of_heads = h.slab_is_of_heads;
-        cache_has_room = h.cache_has_room;
-        epoch_is_within_picks = λ i p at. let e = h.epoch_is_within_picks i p at in omega (arith, e);
-        threads = h.threads;
-        seats_agree = h.seats_agree;
-      }
+  passes n ps us h = grind arith
 
   module _ (are : AreRows rows) (n : ℕ) (ps : List CpuFrontPart) (us : List (Standing CpuSeat CpuRow)) (t : ℕ) (v : CpuSeat) (g : Regs) (count : ℕ)
       (few : n ≤ MOST_PICKS) (le : count ≤ n) (h : CpuHolds rows c n ps us) where

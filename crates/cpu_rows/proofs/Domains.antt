@@ -1,16 +1,16 @@
 -- Acts at the cache of a class in a domain.
-use Rattle.std.proofs.Common.{subst, ◌≡◌, ◌≢◌, refl, ℕ, ◌+◌, ◌-◌, ◌<◌, ◌≤◌, Bool, cond, [], ◌∷◌, List, length, drop, ap, sym, ◌∙◌, inl, arith}
+use Rattle.std.proofs.Common.{◌≡◌, ◌≢◌, refl, ℕ, ◌+◌, ◌-◌, ◌<◌, ◌≤◌, Bool, cond, [], ◌∷◌, List, length, drop, ap, sym, arith}
 use Rattle.cpu_rows.proofs.Common.{cond_both, eq-eqb, ne_eqb, leb-true, length-append, length-take, length-drop, length-reverse, Addr, Class, ClassRow}
-use Rattle.cpu_rows.proofs.Common.{Config, Regs, HAND_ROOM, LOADED_ROOM, appended, emptied, room, Transfer, last_first, without_last, objects_at, CpuSeat}
-use Rattle.cpu_rows.proofs.Common.{Asking, Giving, CpuStep, DomainStep, Next, no_class, row_of, leaving, takes, fits_into, put_in, domain_acts}
-use Rattle.cpu_rows.proofs.Common.{about_row, as_row, FitsDomain, AreRows, DomainShape, giving_standing, HasRoom, Here, at_next, regs_next, IsNext, IsAct}
+use Rattle.cpu_rows.proofs.Common.{Config, Regs, HAND_ROOM, LOADED_ROOM, emptied, room, Transfer, last_first, without_last, objects_at, CpuSeat}
+use Rattle.cpu_rows.proofs.Common.{Asking, Giving, CpuStep, DomainStep, Next, no_class, row_of, leaving, takes, put_in, domain_acts}
+use Rattle.cpu_rows.proofs.Common.{about_row, as_row, FitsDomain, AreRows, DomainShape, HasRoom, Here, at_next, regs_next, IsNext, IsAct}
 use Rattle.cpu_rows.proofs.Common.{Domain, seated, cpu_stored, left_with, cpu_front, limits_of}
 use Rattle.call_steps.specs.declared.step.Giving.TheVariants as giving
 use Rattle.call_steps.specs.declared.step.Next.TheVariants as next
 use Rattle.cpu_rows.specs.declared.row.CpuRow.TheVariants as front
 use Rattle.cpu_rows.specs.declared.row.DomainStep.TheVariants as domain
 use Rattle.cpu_rows.specs.CpuActs as acts
-use Rattle.cpu_rows.proofs.{Acts.IsBehind, Acts.gives_to_shard, Moves.objects_append, Moves.objects_last, Threads.Comes, Threads.KeepsRegs}
+use Rattle.cpu_rows.proofs.{Acts.gives_to_shard, Moves.objects_append, Moves.objects_last, Threads.Comes, Threads.KeepsRegs}
 
 -- a cache has the objects of its class alone
 stored_own : (k : Class) (q : Transfer) (n : ℕ) → cpu_stored (Domain k q) k.0 n ≡ objects_at n q.objects
@@ -40,22 +40,7 @@ module _ (rows : List ClassRow) (c : Config) (t : ℕ) (q : Transfer) (v : CpuSe
     pub comes : Comes rows c v g (regs_next r n) (Here (front.Domain row)) (at_next n)
 
   leaves : (row : DomainStep) (new : Transfer) (r : Regs) (n : Next) → g.class.0 < length rows → Goes row new r n → Leaves row (leaving new v r n)
-  leaves row new r n low x =
-      record {
-        seat = refl;
-        act = record {
-          thread = x.thread;
-          room = x.hand;
-          low = omega (arith, ap (λ (k : Class). k.0) x.class, low);
-          class = inl x.class;
-          others = λ k n apart. stored_other g.class new k n apart ∙ sym (stored_other g.class q k n apart);
-          moves = λ n. let e = x.moves n in omega (arith, e, stored_own g.class new n, stored_own g.class q n);
-          next = x.next;
-        };
-        room = x.has;
-        keeps = x.keeps;
-        comes = x.comes;
-      }
+  leaves row new r n low x = grind (arith, stored_other, stored_own)
 
   abbrev same : KeepsRegs rows c g g
   same = record { thread = refl; loaded = refl; ran = omega arith; epoch = refl; pc = λ pc. pc }
@@ -65,30 +50,8 @@ module _ (rows : List ClassRow) (c : Config) (t : ℕ) (q : Transfer) (v : CpuSe
       → length list ≤ LOADED_ROOM → length list ≤ g.hand.spare → length kept ≤ length q.objects →
       ((n : ℕ) → objects_at n kept + objects_at n list ≡ objects_at n q.objects)
       → (let n = takes g a list in Leaves (domain.Take a) (leaving (record { objects = kept; room = q.room }) v n.0 n.1))
-  takes_by a kept [] shape low few fit fewer moves =
-      leaves (domain.Take a) (record { objects = kept; room = q.room }) g (next.Fetch a) low (record {
-        thread = refl;
-        class = refl;
-        hand = refl;
-        moves = λ n. let e = moves n in omega (arith, e);
-        next = (refl, shape.0.hand);
-        has = λ h. record { room = h.room; within = omega (arith, h.within, fewer) };
-        keeps = same;
-        comes = record { begin = shape.0.begin; regs = λ b. b; stands = refl };
-      })
-  takes_by a kept (x ∷ xs) shape low few fit fewer moves =
-      let r : Regs = record g { hand = appended g.hand (x ∷ xs) } in
-      let size = length-append g.hand.items (x ∷ xs) in
-      leaves (domain.Take a) (record { objects = kept; room = q.room }) r (next.Serve a) low (record {
-        thread = refl;
-        class = refl;
-        hand = omega (arith, size, fit);
-        moves = λ n. let e = moves n in omega (arith, e, objects_append n g.hand.items (x ∷ xs));
-        next = (refl, omega (arith, size), omega (arith, size, few, ap length shape.0.hand));
-        has = λ h. record { room = h.room; within = omega (arith, h.within, fewer) };
-        keeps = record { thread = refl; loaded = refl; ran = omega arith; epoch = refl; pc = λ pc. pc };
-        comes = record { begin = shape.0.begin; regs = λ b. b; stands = refl };
-      })
+  takes_by a kept [] shape low few fit fewer moves = grind arith
+  takes_by a kept (x ∷ xs) shape low few fit fewer moves = grind (arith, length-append, objects_append)
 
   abbrev put : Regs
   put = record g { hand = emptied g.hand }
@@ -98,17 +61,7 @@ module _ (rows : List ClassRow) (c : Config) (t : ℕ) (q : Transfer) (v : CpuSe
       (regs_next put (next.Gave (as_row w))) → Comes rows c v g (regs_next put (next.Gave (as_row w))) (Here (front.Domain (domain.Put w)))
       (at_next (next.Gave (as_row w)))
       → Goes (domain.Put w) (put_in q g.hand.items) put (next.Gave (as_row w))
-  put_as w fits may keeps come =
-      record {
-        thread = refl;
-        class = refl;
-        hand = omega arith;
-        moves = λ n. omega (arith, objects_append n q.objects g.hand.items);
-        next = may;
-        has = λ h. record { room = h.room; within = omega (arith, h.room, fits, length-append q.objects g.hand.items) };
-        keeps = keeps;
-        comes = come;
-      }
+  put_as w fits may keeps come = grind (arith, length-append, objects_append)
 
   abbrev still : KeepsRegs rows c g put
   still = record { thread = refl; loaded = refl; ran = omega arith; epoch = refl; pc = λ pc. pc }
@@ -126,19 +79,7 @@ module _ (rows : List ClassRow) (c : Config) (t : ℕ) (q : Transfer) (v : CpuSe
 
   -- or the shard is to get it
   give_by : (w : Giving CpuStep) → DomainShape (limits_of rows c) (seated v g) (domain.Put w) → Goes (domain.Put w) q g (next.Give (as_row w))
-  give_by w shape =
-      let b : IsBehind rows c v (front.Domain (domain.Put w)) g g (giving_standing rows (as_row w)) (next.Give (as_row w)) = gives_to_shard rows c v
-      (front.Domain (domain.Put w)) g g w refl shape.0.begin shape.0.few shape.1 in
-      record {
-        thread = refl;
-        class = refl;
-        hand = refl;
-        moves = λ n. refl;
-        next = b.next;
-        has = λ h. h;
-        keeps = subst (KeepsRegs rows c g) (sym b.same) same;
-        comes = record { begin = shape.0.begin; regs = λ x. b.regs; stands = b.stands };
-      }
+  give_by w shape = grind (arith, gives_to_shard)
 
   pub domain_leaves : (row : DomainStep) → DomainShape (limits_of rows c) (seated v g) row → FitsDomain rows g row → g.class.0 < length rows → AreRows rows
       → Leaves row (domain_acts rows q v g row)
@@ -152,12 +93,7 @@ module _ (rows : List ClassRow) (c : Config) (t : ℕ) (q : Transfer) (v : CpuSe
       ) in
       takes_by a (without_last n q.objects) (last_first n q.objects) shape low (omega (arith, size, (are.each g.class.0 no_class low).few))
       (omega (arith, size, fits.0.room)) (omega (arith, length-take (length q.objects - n) q.objects)) (λ m. objects_last m n q.objects)
-  domain_leaves (domain.Put w) shape fits low are =
-      cond_both (fits_into q g.hand.items) (put_in q g.hand.items, put, next.Gave (as_row w)) (q, g, next.Give (as_row w))
-      (λ (z : Transfer × Regs × Next). Leaves (domain.Put w) (leaving z.0 v z.1 z.2))
-      (λ e. leaves (domain.Put w) (put_in q g.hand.items) put (next.Gave (as_row w)) low
-      (put_by w shape (leb-true (length q.objects + length g.hand.items) q.room e)))
-      (λ e. leaves (domain.Put w) q g (next.Give (as_row w)) low (give_by w shape))
+  domain_leaves (domain.Put w) shape fits low are = grind (arith, cond_both, give_by, leb-true, put_by)
 
   pub domain_fits : (row : DomainStep) → DomainShape (limits_of rows c) (seated v g) row → room g.hand ≡ HAND_ROOM → g.class.0 < length rows → AreRows rows
       → FitsDomain rows g row

@@ -1,8 +1,8 @@
 -- What an act of a local leaves of its CPU's open mark and of the thread's own sequence.
-use Rattle.std.proofs.Common.{◌≡◌, ℕ, ◌+◌, ◌<◌, ◌≤◌, ◌⊎◌, Bool, true, false, cond, ltb, List, Option, Some, None, refl, sym, ap, ◌∙◌, subst}
-use Rattle.std.proofs.Common.{inl, inr, arith, not, ◌||◌, is_some, length}
-use Rattle.cpu_rows.proofs.Common.{cond_both, ltb-true, ltb-false, ThreadNo, ClassRow, MoveTo, SlabRow, row_at, CpuPart, Regs, LOADED_ROOM, Pc, Begin, Header}
-use Rattle.cpu_rows.proofs.Common.{Test, Copy, Commit, Seq, Reply, Cell, is_pop, wanted, closed_by, counted, copy_or_commit, cell, runs, stands, open_after}
+use Rattle.std.proofs.Common.{◌≡◌, ℕ, ◌+◌, ◌<◌, ◌≤◌, ◌⊎◌, Bool, true, false, cond, ltb, List, Option, Some, None, refl, sym, ap, subst}
+use Rattle.std.proofs.Common.{inr, arith, not, ◌||◌, is_some, length}
+use Rattle.cpu_rows.proofs.Common.{cond_both, ltb-true, ltb-false, ThreadNo, ClassRow, MoveTo, SlabRow, CpuPart, Regs, LOADED_ROOM, Pc, Begin, Header}
+use Rattle.cpu_rows.proofs.Common.{Test, Copy, Commit, Seq, Reply, Cell, wanted, closed_by, counted, copy_or_commit, cell, runs, open_after}
 use Rattle.cpu_rows.proofs.Common.{instruction, with_cell, answered, entered, arrival, instructed_by, grew_by, Asking, Stopping, CpuStep, Pop, Grow}
 use Rattle.cpu_rows.proofs.Common.{Stock, Push, PopBatch, Stop, Local, Step, goes, no_class, class_row, instructed_to}
 use Rattle.cpu_rows.proofs.Common.{instructs, sequence_by, grows, stops, runs_open, yields_to_enter, call_about, with_regs, follows, cpu_calls, with_next}
@@ -97,32 +97,14 @@ polite_closed running marked polite other = grind arith
 
 module _ (rows : List ClassRow) (p : CpuPart) (l : Local) (has : HasToEnter l.step) (polite : yields_to_enter p l.regs.thread ≡ true) where
   enters_as : (row : CpuStep) (regs : Regs) (next : Local) → l.step ≡ does.Front (front.Cpu row) → regs.pc ≡ Begin → next ≡ goes (with_regs l regs) (does.Front (front.Cpu row)) → runs p.running l.regs.thread ≡ false → Enters p l (entered p l.regs.thread, next)
-  enters_as row regs next own begin is other =
-      record {
-        has = has;
-        closed = polite_closed (runs p.running l.regs.thread) (runs_open p) polite other;
-        cpu = refl;
-        home = ap (λ (k : Local). k.seat.cpu) is;
-        step = ap (λ (k : Local). k.step) is ∙ sym own;
-        begin = ap (λ (k : Local). k.regs.pc) is ∙ begin;
-      }
+  enters_as row regs next own begin is other = grind (arith, polite_closed)
 
   module _ (row : CpuStep) (own : l.step ≡ does.Front (front.Cpu row)) (few : wanted l.regs.seq l.regs.hand.items ≤ LOADED_ROOM) where
     abbrev c : Cell
     c = instruction p l.regs
 
     executes_as : runs p.running l.regs.thread ≡ true → (o : Option Reply) → c.reply ≡ o → DoesAs (instructed_kind (answered o)) p l (with_cell p l.regs c, (let n = instructed_to rows l.seat c.regs row (answered o) in follows (cpu_calls rows) (with_regs l n.0) (call_about (about_cpu row)) n.1))
-    executes_as here None is =
-        inl (record {
-          has = has;
-          runs = runs_is p.running l.regs.thread here;
-          same = refl;
-          marked = open_stays l.regs.pc c.reply p.is_open is;
-          ran = omega arith;
-          home = refl;
-          step = sym own;
-          few = cell_few (stands p.stopper) (is_pop l.regs.seq) (row_at p.slab l.regs.class.0) l.regs l.regs.pc few is;
-        })
+    executes_as here None is = grind (arith, cell_few, open_stays, runs_is)
     executes_as here (Some r) is = tt
 
     instructs_as : (a b : Bool) → runs p.running l.regs.thread ≡ a → let x = instructed_by (arrival a b) p l.regs in DoesAs (instructed_kind x.answer) p l (with_next rows l (about_cpu row) (instructs rows l.seat row x))

@@ -114,16 +114,4 @@ module _ (rows : List ClassRow) (c : Config) where
   other call = grind arith
 
   pub cpu_entries : AreEntries (cpu_calls rows) about_row
-  cpu_entries =
-      record {
-        first_about = λ v a. refl;
-        rest_about = λ v s. refl;
-        free_about = λ v f. refl;
-        other_about = λ v call. (other call).about;
-        last_about = λ v. last_about v.moved;
-        to_first = λ g. record { thread = refl; class = refl; hand = refl };
-        to_rest = λ g. record { thread = refl; class = refl; hand = refl };
-        to_free = λ g. record { thread = refl; class = refl; hand = refl };
-        to_other = λ call g. (other call).hand g;
-        other_thread = λ call g. (other call).thread g;
-      }
+  cpu_entries = grind (arith, last_about, other)

@@ -108,6 +108,4 @@ module _ (rows : List ClassRow) (v : CpuSeat) where
       let x = own.1 done in (x.0, omega (arith, ap (λ (k : Class). k.0) x.1, own.0.class))))
 
   pub domain_may : (t : Transfer) (r : Regs) (row : DomainStep) → FitsDomain rows r row → MayCome (HasObject rows) rows v (front.Domain row) (domain_acts rows t v r row)
-  domain_may t r row fits =
-      domain_comes (HasObject rows) rows v t r row (λ a objects is some.
-      (let own : FitsDomain rows r (domain.Take a) = subst (FitsDomain rows r) is fits in (omega (arith, length-append r.hand.items objects, some), own.0.class)))
+  domain_may t r row fits = grind (arith, domain_comes, length-append)

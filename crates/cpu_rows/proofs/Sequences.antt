@@ -1,10 +1,10 @@
 -- Acts of threads with a sequence or a growth, by what the sequence replied.
 use Rattle.std.proofs.Common.{◌≡◌, refl, ℕ, ◌+◌, ◌<◌, ◌≤◌, Bool, true, false, [], ◌∷◌, List, length, get_or, Option, Some, None, ap, sym, ◌∙◌, subst}
-use Rattle.std.proofs.Common.{arith, inl}
-use Rattle.cpu_rows.proofs.Common.{cond_both, length-append, length-drop, Addr, Class, MoveTo, SlabRow, row_at, held, row_sound, CpuPart, Regs, LOADED_ROOM}
-use Rattle.cpu_rows.proofs.Common.{Begin, Seq, Reply, Instructed, Grew, is_pop, wanted, MovesUp, AnswerMoves, ReplyMoves, AreOfSame, Instructs}
+use Rattle.std.proofs.Common.{arith}
+use Rattle.cpu_rows.proofs.Common.{cond_both, length-append, length-drop, Addr, Class, MoveTo, SlabRow, row_at, row_sound, CpuPart, Regs, LOADED_ROOM}
+use Rattle.cpu_rows.proofs.Common.{Seq, Reply, Instructed, Grew, is_pop, wanted, AnswerMoves, ReplyMoves, AreOfSame, Instructs}
 use Rattle.cpu_rows.proofs.Common.{Grows, instruct_does, grow_does, objects_at, CpuSeat, Asking, Serving, Freeing, CpuStep, Next, no_class, row_of, thread_no}
-use Rattle.cpu_rows.proofs.Common.{leaving, moves_to, gives, at_cpu_next, due, after_stock, replied, instructed_to, sequence_by, sequence, grew_to}
+use Rattle.cpu_rows.proofs.Common.{leaving, gives, at_cpu_next, due, after_stock, replied, instructed_to, sequence_by, sequence, grew_to}
 use Rattle.cpu_rows.proofs.Common.{about_cpu, at_cpu, FitsSequence, most_slots, BeginsWith, IsAtBegin, HasNone, CpuShape, cpu_standing, IsAsked, seated}
 use Rattle.cpu_rows.proofs.Common.{limits_of}
 use Rattle.cpu_drain.specs.Laws.{HasRoom}
@@ -81,14 +81,7 @@ module _ (turn : Turn) where
   left_so row r n begin b = (as_left turn row v r None n b, begin)
 
   moved_of : (new : CpuPart) (r : Regs) (a : Instructed) → Instructs p g (record { cpu = new; regs = r; answer = a }) → AreOfSame g r → IsMoved turn new r
-  moved_of new r a x same =
-      record {
-        same = same;
-        ran = x.ran;
-        epoch = x.epoch;
-        others = λ k n apart. ap (λ (y : SlabRow). objects_at n (held y)) (x.others k apart);
-        moves = answer_moves a (row_at p.slab g.class.0) (row_at new.slab g.class.0) g r x.moves;
-      }
+  moved_of new r a x same = grind (arith, answer_moves)
 
   -- what holds at a sequence's row
   record IsRow (row : CpuStep) : Type 0 where
@@ -102,10 +95,7 @@ module _ (turn : Turn) where
   stays_on : (row : CpuStep) (new : CpuPart) (r : Regs) → There row → IsRow row → AreOfSame g r → r.hand.items ≡ g.hand.items → IsMoved turn new r
       → Keeps turn row new (seats.with_regs (seat turn row) r)
       → Acts turn row (leaving new v r (at_cpu_next row))
-  stays_on row new r there x same hand m keeps =
-      still turn row new r (cpu_standing rows g.class.0 row) (cpu_standing rows r.class.0 row) (at_cpu_next row) there m
-      (goes_on rows c v row row g r refl (hand_same rows c g r (about_cpu row) same.class hand there.ready.hand) (x.stays v r same.seq same.class hand))
-      (x.none g.class.0 ∙ sym (x.none r.class.0)) keeps
+  stays_on row new r there x same hand m keeps = grind (arith, goes_on, hand_same, still)
 
   answers : (row : CpuStep) (new : CpuPart) (r : Regs) (a : Instructed) → There row → IsRow row → AreOfSame g r
       → Instructs p g (record { cpu = new; regs = r; answer = a }) → Keeps turn row new (seats.with_regs (seat turn row) r)
@@ -120,10 +110,7 @@ module _ (turn : Turn) where
       goes turn row new r n.0 (cpu_standing rows g.class.0 row) None n.1 there (moved_of new r (answer.Done o) y same) z.0 z.1 (x.none g.class.0) keeps
 
   acts_by : (row : CpuStep) → There row → IsRow row → (o : Option MoveTo) → due v.moved g.ran ≡ o → Acts turn row (sequence_by rows p v g row o)
-  acts_by row there x (Some move) is =
-      leave_acts turn row move (at_cpu_next row) (cpu_standing rows g.class.0 row) there x.here (due_is v.moved g.ran move is) refl
-      (goes_on rows c (moves_to v move) row row g (rseq.dropped g) refl (hand_same rows c g (rseq.dropped g) (about_cpu row) refl refl there.ready.hand)
-      (x.stays (moves_to v move) (rseq.dropped g) refl refl refl))
+  acts_by row there x (Some move) is = grind (arith, due_is, goes_on, hand_same, leave_acts)
   acts_by row there x None is =
       let z = rseq.instructed p g in
       let y = instruct_does (length rows) p g there.part there.ready.class (agrees_of turn row there) in
@@ -134,16 +121,7 @@ module _ (turn : Turn) where
   acts row there x = acts_by row there x (due v.moved g.ran) refl
 
   fits : (row : CpuStep) → There row → IsRow row → FitsSequence rows p g
-  fits row there x =
-      let within : g.class.0 < length p.slab.rows = omega (arith, there.part.classes, there.ready.class) in
-      record {
-        class = there.ready.class;
-        there = within;
-        epoch = omega (arith, there.epoch);
-        ran = omega (arith, there.sits.ran, there.acts);
-        able = λ e. able_from_agrees (is_pop g.seq) (row_at p.slab g.class.0) g g.pc (row_sound p.slab g.class.0 there.part.sound within)
-            (λ pops. record { loaded = (x.rooms pops).loaded; hand = (x.rooms pops).hand }) (agrees_of turn row there e);
-      }
+  fits row there x = grind (arith, able_from_agrees, acts, agrees_of, row_sound)
 
   -- Pop
   asked_still : (r : Regs) (a : Asking) → IsAsked rows g a → r.class ≡ g.class → IsAsked rows r a
@@ -153,28 +131,15 @@ module _ (turn : Turn) where
   pop_none r none begin hand = record { begin = begin; hand = hand ∙ none; freed = refl }
 
   pop_replies : (a : Asking) → Shape v g (cpu.Pop a) → Replies (cpu.Pop a)
-  pop_replies a shape old new r reply.Popped moves begin same =
-      let size = length-append g.hand.items moves.got in
-      let one : wanted g.seq g.hand.items ≡ 1 = wants g seq.Pop shape.0.seq in
-      let got : 0 < length moves.got = moves.some (omega (arith, one)) in
-      left_so (cpu.Pop a) r _ begin
-      (record { next = (refl, omega (arith, ap length moves.hand, size, got), omega (arith, ap length moves.hand, size, moves.few, one, ap length shape.1)); regs = begin; stands = refl; same = refl })
-  pop_replies a shape old new r reply.Empty moves begin same =
-      let n : HasNone (seated v r) = pop_none r shape.1 begin moves.hand in
-      let asked : IsAsked rows r a = asked_still r a shape.2 same.class in
-      left_so (cpu.Pop a) r _ begin (goes_on rows c v (cpu.Pop a) (cpu.Grow a) g r refl (asked, n.hand) (n, asked))
-  pop_replies a shape old new r reply.Stopped moves begin same = left_so (cpu.Pop a) r _ begin
-      (looks rows c v (front.Cpu (cpu.Pop a)) g r a refl (pop_none r shape.1 begin moves.hand) (asked_still r a shape.2 same.class))
-  pop_replies a shape old new r reply.Full moves begin same = left_so (cpu.Pop a) r _ begin
-      (looks rows c v (front.Cpu (cpu.Pop a)) g r a refl (pop_none r shape.1 begin moves.hand) (asked_still r a shape.2 same.class))
+  pop_replies a shape old new r reply.Popped moves begin same = grind (arith, left_so, length-append, wants)
+  pop_replies a shape old new r reply.Empty moves begin same = grind (arith, asked_still, goes_on, left_so, pop_none)
+  pop_replies a shape old new r reply.Stopped moves begin same = grind (arith, asked_still, left_so, looks, pop_none)
+  pop_replies a shape old new r reply.Full moves begin same = grind (arith, asked_still, left_so, looks, pop_none)
   pop_replies a shape old new r (reply.Pushed n) moves begin same = absurd (no_push g.seq seq.Pop shape.0.seq refl moves.pushes)
 
   pops_some : (old new : SlabRow) (x : rseq.Acted Instructed) → g.seq ≡ seq.Pop → AnswerMoves x.answer old new g x.regs → x.answer ≡ answer.Done reply.Popped
       → 0 < length x.regs.hand.items
-  pops_some old new x is moves done =
-      let up : MovesUp old new g x.regs = subst (λ (o : Instructed). AnswerMoves o old new g x.regs) done moves in
-      let got : 0 < length up.got = up.some (omega (arith, wants g seq.Pop is)) in
-      omega (arith, ap length up.hand, length-append g.hand.items up.got, got)
+  pops_some old new x is moves done = grind (arith, length-append, wants)
 
   pub pop_does : (a : Asking) → There (cpu.Pop a) → Does turn (cpu.Pop a)
   pop_does a there =
@@ -230,15 +195,8 @@ module _ (turn : Turn) where
   freed_behind row f r others is hand few begin = grind (arith, begins_by, gives_away, left_so)
 
   push_replies : (f : Freeing) → Shape v g (cpu.Push f) → Replies (cpu.Push f)
-  push_replies f shape old new r (reply.Pushed n) moves begin same =
-      let one : length g.hand.items ≡ 1 = ap length shape.1 in
-      let some : 0 < n = moves.some (omega (arith, wants g seq.Push shape.0.seq, one)) in
-      let none : r.hand.items ≡ [] = empty_by r.hand.items (omega (arith, ap length moves.hand, length-drop n g.hand.items, one, some)) in
-      left_so (cpu.Push f) r _ begin (record { next = (refl, none); regs = begin; stands = refl; same = refl })
-  push_replies f shape old new r reply.Full moves begin same =
-      let new : Regs = record r { seq = seq.PopBatch (row_of rows r.class).batch; pc = Begin } in
-      let hand : r.hand.items ≡ f.addr ∷ [] = moves.hand ∙ shape.1 in
-      (record { like = record { thread = refl; hand = refl; loaded = refl; ran = refl; epoch = refl }; class = inl refl; behind = goes_on rows c v (cpu.Push f) (cpu.PopBatch f) g new refl (begins_by f.addr r.hand.items [] hand, omega (arith, ap length hand)) (record { seq = refl; freed = refl }, hand) }, record { pc = refl; nothing = begin.nothing })
+  push_replies f shape old new r (reply.Pushed n) moves begin same = grind (arith, empty_by, left_so, length-drop, wants)
+  push_replies f shape old new r reply.Full moves begin same = grind (arith, begins_by, goes_on)
   push_replies f shape old new r reply.Stopped moves begin same = freed_behind (cpu.Push f) f r [] refl (moves.hand ∙ shape.1) (omega arith) begin
   push_replies f shape old new r reply.Empty moves begin same = freed_behind (cpu.Push f) f r [] refl (moves.hand ∙ shape.1) (omega arith) begin
   push_replies f shape old new r reply.Popped moves begin same = absurd (no_pop g.seq seq.Push shape.0.seq refl moves.pops)

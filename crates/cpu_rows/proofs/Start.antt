@@ -1,5 +1,5 @@
 -- What holds at the start: each part is as it was opened, and no thread has a call.
-use Rattle.std.proofs.Common.{◌≡◌, ℕ, zero, suc, ◌+◌, ◌*◌, ◌<◌, ◌≤◌, eqb, get_or, List, [], ◌∷◌, ◌++◌, length, map, replicate, Some, refl, sym, ap, ◌∙◌}
+use Rattle.std.proofs.Common.{◌≡◌, ℕ, zero, suc, ◌+◌, ◌*◌, ◌<◌, ◌≤◌, get_or, List, [], ◌∷◌, ◌++◌, length, map, replicate, Some, refl, sym, ap, ◌∙◌}
 use Rattle.std.proofs.Common.{subst, arith, option_map, sum_by, All, slice_get, slice_index_or, flat_map}
 use Rattle.cpu_rows.proofs.Common.{range_with_len, mod-lt, cond_both, false≢true, slice_get-get_or, slice_get-map, slice_get_within, length-append}
 use Rattle.cpu_rows.proofs.Common.{length-replicate, length-map, length-range_with_len, get_or-range_with_len, sum_by-cons, All-nil, All-map, All-head}
@@ -35,10 +35,8 @@ copies_length (suc n) xs = omega (arith, length-append xs (copies n xs), copies_
 
 copies_get : {X : Type 0} (n d k : ℕ) (xs : List X) → d < n → k < length xs → slice_get (copies n xs) (d * length xs + k) ≡ slice_get xs k
 copies_get zero d k xs low within = absurd (omega arith)
-copies_get (suc n) zero k xs low within = let e : zero * length xs + k ≡ k = omega arith in ap (slice_get (xs ++ copies n xs)) e ∙ get_left xs (copies n xs)
-    k within
-copies_get (suc n) (suc d) k xs low within = get_right xs (copies n xs) (suc d * length xs + k) (d * length xs + k) (omega arith) ∙ copies_get n d k xs
-    (omega arith) within
+copies_get (suc n) zero k xs low within = grind (arith, get_left)
+copies_get (suc n) (suc d) k xs low within = grind (arith, copies_get n d k xs (omega arith) within, get_right)
 
 all_copies : {X : Type 0} (P : X → Type 0) (n : ℕ) (xs : List X) → All P xs → All P (copies n xs)
 all_copies P zero xs all = All-nil P
@@ -84,10 +82,7 @@ module _ (rows : List ClassRow) (c : Config) where
   caches_length = length-map (range_with_len 0 (length rows)) (first_cache c) ∙ length-range_with_len 0 (length rows)
 
   parts_many : length (front_parts rows c) ≡ c.cpus + c.domains * length rows
-  parts_many =
-      length-append (replicate c.cpus (Cpu (first_cpu rows c))) (copies c.domains (domain_caches rows c))
-      ∙ (ap (λ n. n + length (copies c.domains (domain_caches rows c))) (length-replicate c.cpus (Cpu (first_cpu rows c))) ∙ ap (λ n. c.cpus + n)
-      (copies_length c.domains (domain_caches rows c) ∙ ap (λ n. c.domains * n) caches_length))
+  parts_many = search (arith, caches_length, copies_length, length-append, length-replicate)
 
   cache_first : (d k : ℕ) → d < c.domains → k < length rows → slice_get (front_parts rows c) (c.cpus + d * length rows + k) ≡ Some (first_cache c k)
   cache_first d k low within =
@@ -114,9 +109,7 @@ module _ (rows : List ClassRow) (c : Config) where
   -- no part has an object
   stored_first : (k n : ℕ) (q : CpuFrontPart) → IsFirst q → cpu_stored q k n ≡ 0
   stored_first k n (Cpu p) is = subst (λ (x : CpuPart). cpu_stored (Cpu x) k n ≡ 0) is (no_slots c.slab k n rows)
-  stored_first k n (Domain j q) is =
-      let none : objects_at n q.objects ≡ 0 = ap (λ (x : Transfer). objects_at n x.objects) (sym is) in
-      cond_both (eqb j.0 k) (objects_at n q.objects) 0 (λ (m : ℕ). m ≡ 0) (λ e. none) (λ e. refl)
+  stored_first k n (Domain j q) is = grind (arith, cond_both)
 
   pub none_first : (k n : ℕ) → sum_by (λ (q : CpuFrontPart). cpu_stored q k n) (front_parts rows c) ≡ 0
   none_first k n = grind (arith, parts_first, stored_first, sum_none)
@@ -138,12 +131,10 @@ module _ (rows : List ClassRow) (c : Config) where
     cpu_is i p at = of_all IsFirst (front_parts rows c) i (Cpu p) parts_first at
 
     seated_first : (t : ℕ) → IsSeated rows c t (idle (cpu_front rows c) t)
-    seated_first t =
-        record { thread = refl; home = mod-lt t limits.cpus; domains = refl; move = tt; loaded = omega arith; ran = omega arith; regs = record { pc = refl; nothing = refl } }
+    seated_first t = grind (arith, mod-lt)
 
     seat_first : (i t : ℕ) → SeatOk i (thread_no t) (first_cpu rows c) (seat_at rows (idle (cpu_front rows c) t))
-    seat_first i t =
-        record { home = λ on. absurd (cc); behind = λ on. absurd (cc); agrees = λ on. let e = on.runs in absurd (cc); rests = λ fenced. absurd (false≢true fenced); stops = λ on. absurd (cc); stage = tt }
+    seat_first i t = grind (arith, false≢true)
 
     pub holds_first : (threads : ℕ) → CpuHolds rows c 0 (front_parts rows c) (map (idle (cpu_front rows c)) (range_with_len 0 threads))
     holds_first threads =

@@ -1,12 +1,12 @@
 -- Acts of a thread that stops a CPU, and of one that leaves it at the end of its call.
-use Rattle.std.proofs.Common.{◌≡◌, refl, ℕ, ◌+◌, ◌*◌, ◌<◌, ◌≤◌, Bool, true, false, [], ◌∷◌, List, length, reverse, Option, Some, None, ap, sym, ◌∙◌}
+use Rattle.std.proofs.Common.{◌≡◌, refl, ℕ, ◌+◌, ◌*◌, ◌<◌, ◌≤◌, Bool, true, [], ◌∷◌, List, length, reverse, Option, Some, None, ap, sym, ◌∙◌}
 use Rattle.std.proofs.Common.{subst, inr, arith, is_some}
 use Rattle.cpu_rows.proofs.Common.{cond_both, cases_eq, eqb-true, eq-eqb, lt-ltb, ltb-true, ltb-false, le-ltb, length-append, length-reverse, Contents, Addr}
 use Rattle.cpu_rows.proofs.Common.{Class, CpuNo, ThreadNo, Drain, Resize, MoveTo, Busy, CapFault, SlabRow, CpuSlab, row_at, held, cap_fault}
 use Rattle.cpu_rows.proofs.Common.{set_unless, row_same, row_other, CpuPart, Regs, IsHeld, Takes, take_does, objects_at, IsOther, Draining}
-use Rattle.cpu_rows.proofs.Common.{Resizing, Stopping, CpuStep, Next, Other, leaving, gives, at_cpu_next, stops, drains_on, drained, took, cap_answer}
+use Rattle.cpu_rows.proofs.Common.{Resizing, Stopping, CpuStep, Next, Other, leaving, at_cpu_next, stops, drains_on, drained, took, cap_answer}
 use Rattle.cpu_rows.proofs.Common.{gives_taken, started, left_for, about_cpu, at_cpu, call_of, cpu_of, taken_by, thread_no, AreRows, most_slots}
-use Rattle.cpu_rows.proofs.Common.{no_class_empty, below, alone, empty_to_take, empty_to_start, cpu_standing, IsStop, IsAtFirst, IsAtBegin, IsToCome, HasHand}
+use Rattle.cpu_rows.proofs.Common.{no_class_empty, below, alone, empty_to_take, cpu_standing, IsStop, IsAtFirst, IsAtBegin, IsToCome, HasHand}
 use Rattle.cpu_rows.proofs.Common.{CpuShape, Limits, limits_of, seated}
 use Rattle.cpu_rows.specs.Shapes.{stands}
 use Rattle.std.proofs.Math.Path.{fun_ext}
@@ -90,10 +90,7 @@ module _ (turn : Turn) where
   -- what a thread that has stopped the CPU has done there still stands
   held_of : (row : CpuStep) (s : Stopping) (fenced : Bool) (empty : ℕ → Bool) → There row → cpu_standing rows g.class.0 row ≡ stands (cpu_of s) fenced empty
       → at_cpu v.cpu row ≡ cpu_of s → IsHeld (thread_no t) p (record { cpu = (cpu_of s).0; fenced = fenced; empty = empty })
-  held_of row s fenced empty there is here =
-      let holds : seats.Holds (at_cpu v.cpu row).0 (thread_no t) p (stands (cpu_of s) fenced empty) = subst
-      (λ (o : Option seats.Standing). seats.Holds (at_cpu v.cpu row).0 (thread_no t) p o) is there.pair.stage in
-      holds (ap (λ (n : CpuNo). n.0) (sym here))
+  held_of row s fenced empty there is here = grind arith
 
   stopper_is : (row : CpuStep) → There row → p.stopper ≡ Some (thread_no t) → p.stopper ≡ Some g.thread
   stopper_is row there is = is ∙ ap (λ (u : ThreadNo). Some u) (sym there.sits.thread)
@@ -101,37 +98,15 @@ module _ (turn : Turn) where
   -- Stop
   stop_by : (s : Stopping) (o : Option ThreadNo) → There (cpu.Stop s) → p.stopper ≡ o
       → (let n = stops p g.thread s o in Acts turn (cpu.Stop s) (leaving n.0 v g n.1))
-  stop_by s None there none =
-      let shape : Shape (cpu.Stop s) = there.sits.regs in
-      let part = stopped_part p.stopper p g.thread in
-      let keeps = lawful.stops (length rows) (cpu_of s).0 (thread_no t) p (at (cpu.Stop s)) there.part there.pair shape.0.begin.pc refl none in
-      quiet (cpu.Stop s) (drains.stopped p g.thread) (at_cpu_next (cpu.Fence s)) _ (stands (cpu_of s) false no_class_empty) there shape.0.begin refl
-      (goes_on rows c v (cpu.Stop s) (cpu.Fence s) g g refl there.ready.hand (shape.0, shape.1, shape.2)) part.0
-      (slab_same turn (drains.stopped p g.thread) part.1)
-      (subst (λ (u : ThreadNo). Keeps turn (cpu.Stop s) (drains.stopped p u) (seats.standing_at (at (cpu.Stop s)) (cpu_of s).0 false (λ j. false)))
-      (sym there.sits.thread) keeps)
-  stop_by s (Some owner) there is =
-      let shape : Shape (cpu.Stop s) = there.sits.regs in
-      quiet (cpu.Stop s) p (next.Decide (Busy owner) None) None None there shape.0.begin refl
-      (record { next = (busy_other s owner, refl, shape.0.hand); regs = shape.0.begin; stands = refl; same = refl }) (omega arith) (λ j. refl)
-      (same_keeps (length rows) (cpu_of s).0 (thread_no t) p (at (cpu.Stop s)) there.part there.pair)
+  stop_by s None there none = grind (arith, goes_on, quiet, slab_same, stopped_part)
+  stop_by s (Some owner) there is = grind (arith, busy_other, quiet, same_keeps)
 
   pub stop_does : (s : Stopping) → There (cpu.Stop s) → Does turn (cpu.Stop s)
   stop_does s there = record { fits = λ e. there.pair.stops (e ∙ ap (λ (u : ThreadNo). Some u) there.sits.thread); acts = stop_by s p.stopper there refl }
 
   -- Fence
   pub fence_does : (s : Stopping) → There (cpu.Fence s) → Does turn (cpu.Fence s)
-  fence_does s there =
-      let shape : Shape (cpu.Fence s) = there.sits.regs in
-      let has = held_of (cpu.Fence s) s false no_class_empty there refl refl in
-      record {
-        fits = (stopper_is (cpu.Fence s) there has.stopper, omega (arith, there.epoch));
-        acts = quiet (cpu.Fence s) (drains.fenced p) (at_cpu_next (cpu.Take s)) (stands (cpu_of s) true no_class_empty)
-            (stands (cpu_of s) true (empty_to_take g.class.0 s)) there shape.0.begin (sym (ap (stands (cpu_of s) true) (nothing_taken g.class s shape.2)))
-            (goes_on rows c v (cpu.Fence s) (cpu.Take s) g g refl there.ready.hand (shape.0, shape.1)) (omega arith) (λ j. refl)
-            (lawful.fences (length rows) (cpu_of s).0 (thread_no t) p (at (cpu.Fence s))
-            (record { cpu = (cpu_of s).0; fenced = false; empty = no_class_empty }) there.part there.pair shape.0.begin.pc refl refl);
-      }
+  fence_does s there = grind (arith, goes_on, held_of, nothing_taken, quiet, stopper_is)
 
   -- Take: the call goes on behind what it took
   abbrev TookSo : Stopping → Regs → Regs → Next → Type 0
@@ -146,28 +121,12 @@ module _ (turn : Turn) where
       let behind = goes_on rows c v (cpu.Take (stopping.Drain d)) to.1 g new about (omega (arith, ap length is))
       (x.come.shape (seated v new) (record { begin = b; hand = is; freed = refl }) refl) in
       (record { like = record { thread = refl; hand = refl; loaded = refl; ran = refl; epoch = refl }; class = inr (x.come.class, is, tt); behind = subst (λ (o : Option seats.Standing). Behind (cpu.Take (stopping.Drain d)) new o (at_cpu_next to.1)) (x.stand ∙ ap (λ (k : CpuNo). stands k true (below (g.class.0 + 1))) same) behind }, b)
-  drained_so d d' r to (y ∷ ys) is few begin same x =
-      let about : about_cpu (cpu.Take (stopping.Drain d)) ≡ about_cpu to.1 = sym (x.about ∙ ap (λ (k : CpuNo). Other (Some (Drain k))) same) in
-      let behind = gives_away rows c v (front.Cpu (cpu.Take (stopping.Drain d))) g r (giving.Row to.0 to.1) about begin (omega (arith, ap length is, few))
-      x.come in (
-        as_left turn (cpu.Take (stopping.Drain d)) v r _ _ (subst
-            (λ (o : Option seats.Standing). Behind (cpu.Take (stopping.Drain d)) r o (gives v (giving.Row to.0 to.1)))
-            (x.stand ∙ ap (λ (k : CpuNo). stands k true (below (g.class.0 + 1))) same) behind),
-        begin,
-      )
+  drained_so d d' r to (y ∷ ys) is few begin same x = grind (arith, as_left, gives_away)
 
   took_so : (s : Stopping) (r : Regs) → length r.hand.items ≤ most_slots → r.class ≡ g.class → g.class.0 < length rows → IsAtBegin r
       → IsStop (limits_of rows c) g.class s → (let n = took rows v r s in TookSo s r n.0 n.1)
-  took_so (stopping.Drain d) r few class low begin is =
-      let d' : Draining = record d { taken = d.taken + length r.hand.items } in
-      drained_so d d' r (drains_on rows r.class d') r.hand.items refl few begin refl
-      (subst (λ (k : Class). IsDrainNext (limits_of rows c) g.class d' (drains_on rows k d')) (sym class)
-      (drains_come (limits_of rows c) g.class d' low is.0 (omega (arith, is.1, few))))
-  took_so (stopping.Resize x) r few class low begin is = (
-    as_left turn (cpu.Take (stopping.Resize x)) v r _ _ (goes_on rows c v (cpu.Take (stopping.Resize x)) (cpu.SetCap x) g r refl few
-        (record { begin = begin; few = few; freed = refl }, is.0, class ∙ is.1)),
-    begin,
-  )
+  took_so (stopping.Drain d) r few class low begin is = grind (arith, drained_so, drains_come)
+  took_so (stopping.Resize x) r few class low begin is = grind (arith, as_left, goes_on)
 
   pub take_does_all : (s : Stopping) → There (cpu.Take s) → Does turn (cpu.Take s)
   take_does_all s there =
@@ -237,10 +196,7 @@ module _ (turn : Turn) where
   -- Start
   starts : (s : Stopping) (n : Next) → There (cpu.Start s) → IsAtBegin g → Behind (cpu.Start s) g None n
       → Acts turn (cpu.Start s) (leaving (drains.started p) v g n)
-  starts s n there begin b =
-      quiet (cpu.Start s) (drains.started p) n None None there begin refl b (omega arith) (λ j. refl)
-      (lawful.starts (length rows) (cpu_of s).0 (thread_no t) p (at (cpu.Start s))
-      (record { cpu = (cpu_of s).0; fenced = true; empty = empty_to_start rows s }) there.part there.pair begin.pc refl refl)
+  starts s n there begin b = grind (arith, quiet)
 
   taken_behind : (x : Resizing) (xs : List Addr) → g.hand.items ≡ xs → HasHand most_slots (seated v g)
       → Behind (cpu.Start (stopping.Resize x)) g None (gives_taken v xs)
@@ -251,19 +207,12 @@ module _ (turn : Turn) where
   start_by s there shape = grind (arith, starts, taken_behind)
 
   pub start_does : (s : Stopping) → There (cpu.Start s) → Does turn (cpu.Start s)
-  start_does s there =
-      let has = held_of (cpu.Start s) s true (empty_to_start rows s) there refl refl in
-      record { fits = record { stopper = stopper_is (cpu.Start s) there has.stopper; fenced = has.fenced refl }; acts = start_by s there there.sits.regs }
+  start_does s there = grind (arith, held_of, start_by, stopper_is)
 
   -- Leave
   leave_by : (o : Option MoveTo) → There cpu.Leave → v.moved ≡ o → is_some o ≡ true → Acts turn cpu.Leave (left_for p v g o)
   leave_by None there is some = absurd (cc)
-  leave_by (Some move) there is some =
-      let shape : Shape cpu.Leave = there.sits.regs in
-      leave_acts turn cpu.Leave move next.End None there refl is refl
-      (record { next = (refl, shape.0.hand); regs = record { pc = refl; nothing = refl }; stands = refl; same = refl })
+  leave_by (Some move) there is some = grind (arith, leave_acts)
 
   pub leave_does : There cpu.Leave → Does turn cpu.Leave
-  leave_does there =
-      let shape : Shape cpu.Leave = there.sits.regs in
-      record { fits = (shape.1, omega (arith, there.epoch)); acts = leave_by v.moved there refl shape.1 }
+  leave_does there = grind (arith, leave_by)

@@ -1,5 +1,5 @@
 -- In polite orders few threads switch in: a thread that did goes on until what is open at its CPU comes to an end.
-use Rattle.std.proofs.Common.{◌≡◌, ℕ, ◌+◌, ◌<◌, ◌≤◌, ◌⊎◌, true, eqb, ltb, List, [], ◌∷◌, ◌++◌, length, Some, refl, sym, ap, ◌∙◌, subst, inl, inr, arith}
+use Rattle.std.proofs.Common.{◌≡◌, ℕ, ◌+◌, ◌<◌, ◌≤◌, ◌⊎◌, true, eqb, List, [], ◌∷◌, ◌++◌, length, Some, refl, sym, ap, ◌∙◌, subst, inl, inr, arith}
 use Rattle.std.proofs.Common.{slice_get, Option, option_map}
 use Rattle.cpu_rows.proofs.Common.{cases_eq, eq-eqb, false_from_ne_true, eqb-true, false≢true, lt-ltb, length-append, ThreadNo, CpuNo, PartNo, MOST_PICKS}
 use Rattle.cpu_rows.proofs.Common.{Input, Rules, World, start, with_pair, set_here, set_elsewhere, CpuPart, Local, Step}
@@ -47,36 +47,15 @@ home_by input l s is has low = grind (arith, lt-ltb)
 module _ (input : Input) (c ins ends : ℕ) (w : World Part Local) (t : ℕ) (l : Local) (mine : slice_get w.locals t ≡ Some l) (low : l.seat.cpu.0 < input.asked.config.cpus) where
   -- the thread that has entered is t, or another, which the act leaves as it is
   is_own : (e : HasEntered c ins ends w) → e.thread ≡ t → e.local ≡ l
-  is_own e same =
-      let h : Some e.local ≡ Some l = sym e.mine ∙ (ap (λ n. slice_get w.locals n) same ∙ mine) in
-      cc
+  is_own e same = grind arith
 
   -- Elsewhere: another thread has entered at c, since this one would be there.
   other_place : (place : PartNo) → place_of input l ≡ Some place → (place.0 ≡ c → ⊥) → (e : HasEntered c ins ends w) → e.thread ≡ t → ⊥
-  other_place place want apart e same =
-      let own : e.local ≡ l = is_own e same in
-      let home : place_of input l ≡ Some (number l.seat.cpu.0) = home_by input l l.step refl (subst (λ (k : Local). HasToEnter k.step) own e.has) low in
-      let at : Some place ≡ Some (number l.seat.cpu.0) = sym want ∙ home in
-      let is : place ≡ number l.seat.cpu.0 = (cc) in
-      apart (ap (λ (n : PartNo). n.0) is ∙ (ap (λ (k : Local). k.seat.cpu.0) (sym own) ∙ e.home))
+  other_place place want apart e same = grind (arith, home_by, is_own)
 
   stays_elsewhere : (place : PartNo) (pair : Part × Local) → place_of input l ≡ Some place → (place.0 ≡ c → ⊥) → Balance c ins ends w → Balance c (ins + 0) (ends + 0) (with_pair w place.0 t pair)
   stays_elsewhere place pair want apart (inl few) = inl (omega arith)
-  stays_elsewhere place pair want apart (inr e) =
-      inr (record {
-        cpu = e.cpu;
-        thread = e.thread;
-        local = e.local;
-        there = set_elsewhere w.parts place.0 c pair.0 apart ∙ e.there;
-        mine = set_elsewhere w.locals t e.thread pair.1 (λ same. other_place place want apart e (sym same)) ∙ e.mine;
-        runs = e.runs;
-        marked = e.marked;
-        home = e.home;
-        has = e.has;
-        few = e.few;
-        ran = e.ran;
-        one = omega (arith, e.one);
-      })
+  stays_elsewhere place pair want apart (inr e) = grind (arith, other_place, set_elsewhere)
 
   -- at CPU c
   module _ (place : PartNo) (want : place_of input l ≡ Some place) (here : place.0 ≡ c) (p : CpuPart) (there : slice_get w.parts c ≡ Some (Cpu p)) (thread : l.regs.thread.0 ≡ t) (x : CpuPart × Local) where
@@ -90,11 +69,7 @@ module _ (input : Input) (c ins ends : ℕ) (w : World Part Local) (t : ℕ) (l 
     runs_own = ap (λ n. Some (thread_no n)) thread
 
     home_of : HasToEnter l.step → l.seat.cpu.0 ≡ c
-    home_of has =
-        let home : place_of input l ≡ Some (number l.seat.cpu.0) = home_by input l l.step refl has low in
-        let at : Some place ≡ Some (number l.seat.cpu.0) = sym want ∙ home in
-        let is : place ≡ number l.seat.cpu.0 = (cc) in
-        ap (λ (n : PartNo). n.0) (sym is) ∙ here
+    home_of has = grind (arith, home_by)
 
     runs_by : (e : HasEntered c ins ends w) → p.running ≡ Some (thread_no e.thread)
     runs_by e = ap (λ (q : CpuPart). q.running) (sym (same_cpu e)) ∙ e.runs
@@ -107,9 +82,7 @@ module _ (input : Input) (c ins ends : ℕ) (w : World Part Local) (t : ℕ) (l 
 
     -- what was begun there goes on
     still_open : (e : HasEntered c ins ends w) → runs_open p ≡ true
-    still_open e =
-        let low : ltb p.ran 256 ≡ true = lt-ltb p.ran 256 (omega (arith, ran_by e, executed_few e.local.regs.count e.local.regs.pc e.few)) in
-        rw (runs_by e, open_by e, low) refl
+    still_open e = grind (arith, executed_few, lt-ltb, open_by, ran_by, runs_by)
 
     entered_there : Enters p l x → Balance c ins ends w → Balance c (ins + 1) (ends + 0) v
     entered_there a (inl few) =

@@ -15,10 +15,7 @@ module _ (rows : List ClassRow) (c : Config) where
   pub seat_as : (i t : ℕ) (p : CpuPart) (g : Regs) (cpu : ℕ) (o : Option seats.Standing) (new : Standing CpuSeat CpuRow) → new.regs ≡ g
       → new.seat.cpu.0 ≡ cpu → stopping_at rows new.regs new.at ≡ o → SeatOk i (thread_no t) p (record { regs = g; cpu = cpu; standing = o }) → SeatOk i
       (thread_no t) p (seat_at rows new)
-  seat_as i t p g cpu o new regs home stands ok =
-      subst (λ (x : Option seats.Standing). SeatOk i (thread_no t) p (record { regs = new.regs; cpu = new.seat.cpu.0; standing = x })) (sym stands)
-      (subst (λ (n : ℕ). SeatOk i (thread_no t) p (record { regs = new.regs; cpu = n; standing = o })) (sym home)
-      (subst (λ (r : Regs). SeatOk i (thread_no t) p (record { regs = r; cpu = cpu; standing = o })) (sym regs) ok))
+  seat_as i t p g cpu o new regs home stands ok = grind arith
 
   -- what holds stays, where it does of the thread and of each CPU with it
   pub changes : (n more t : ℕ) (ps : List CpuFrontPart) (us : List (Standing CpuSeat CpuRow)) (s new : Standing CpuSeat CpuRow) → n ≤ more
