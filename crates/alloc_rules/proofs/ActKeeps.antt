@@ -79,8 +79,7 @@ module _ {P V R : Type 0} {r : FrontRules P V R} {about : R → About} {planned 
 
     -- shards
     fetches_next : (l : Local V R) (a : Asking) (xs : List Addr) → Common' l → HasNone l → IsAsked r.calls.rows l.regs a → length xs ≤ LOADED_ROOM → Next' (away l) (fetches r.calls l a xs)
-    fetches_next l a [] c n asked few = to l (does.Heap (heap.NewSpan a)) c n refl (λ none. (none, asked))
-    fetches_next l a (x ∷ xs) c n asked few = more_next l a (x ∷ xs) c n (omega arith) few
+    fetches_next l a xs c n asked few = grind (arith, more_next, to)
 
     shard_next : (s : shards.Shard) (l : Local V R) (row : ShardStep R) → Common' l → ShardShape r.calls.rows about l row → IsSound s.central → s.central.row ≡ class_row r.calls.rows l → IsLowRun row → FitsShard r.calls.rows s l row → Next' (stand l.seat l.regs (l.acts + 1) (at_shard row)) (shard_row r.calls s l row).1
     shard_next s l (shard.Fetch a) c shape sound same low fit =
@@ -103,12 +102,10 @@ module _ {P V R : Type 0} {r : FrontRules P V R} {about : R → About} {planned 
 
     -- the heap
     new_next : (h : heaps.Heap) (l : Local V R) (label : Label) (size : ℕ) (o : Option Placed) → Common' l → HasNone l → Next' (away l) (after_new h l label size o).1
-    new_next h l label size None c n = to (decided l (Malloc label size) NoBlock) (does.Names (names.Publish label None)) c (record { hand = n.hand; freed = n.freed }) refl (λ none. none)
-    new_next h l label size (Some p) c n = grind (arith, to)
+    new_next h l label size o c n = grind (arith, to)
 
     span_next : (h : heaps.Heap) (l : Local V R) (a : Asking) (o : Option Placed) → Common' l → HasNone l → IsAsked r.calls.rows l.regs a → Next' (away l) (after_new_span h l a o).1
-    span_next h l a None c n asked = new_next h l a.label a.size None c n
-    span_next h l a (Some p) c n asked = to l (does.Map (map.SetSpan a p.run)) c n refl (λ none. (none, asked))
+    span_next h l a o c n asked = grind (arith, new_next, to)
 
     frees_next : (h : heaps.Heap) (l : Local V R) (o : Onward R) (spans : List SpanRef) → l.freed.items ≡ spans → Common' l → HasSpans l → IsOnward r.calls.rows about o → Next' (stand l.seat l.regs (l.acts + 1) (at_onward o)) (frees_span r.calls h l o spans).1
     frees_next h l o [] freed c n is = absurd (let e = ap length freed in omega (arith, e, n.some))
@@ -117,11 +114,7 @@ module _ {P V R : Type 0} {r : FrontRules P V R} {about : R → About} {planned 
         clears_next law table t l' o others refl (changed law table t c c.class c.hand (let e = ap length freed in omega (arith, e, c.freed))) n.hand is
 
     heap_next : (h : heaps.Heap) (l : Local V R) (row : HeapStep R) → Common' l → HeapShape r.calls.rows about l row → Next' (stand l.seat l.regs (l.acts + 1) (at_heap row)) (heap_row r.calls h l row).1
-    heap_next h l (heap.New label size) c shape = new_next h l label size (new h (pages_holding size)) c shape.0
-    heap_next h l (heap.NewSpan a) c shape = span_next h l a (new h (class_row r.calls.rows l).pages) c shape.0 shape.1
-    heap_next h l (heap.GiveBack label run) c shape = ends_decided l (Free label) (Freed (address_of run)) c shape
-    heap_next h l (heap.FreeSpan o) c shape = frees_next h l o l.freed.items refl c shape.0 shape.1
-    heap_next h l (heap.Unback pages) c shape = ends_decided l (Release pages) (Released (release h pages).pages) c shape
+    heap_next h l row c shape = grind (arith, ends_decided, frees_next, new_next, span_next)
 
     -- the map
     found_kind : (l : Local V R) (label : Label) (addr : Addr) (span : SpanRef) (k : SpanKind) → IsKindThere r.calls.rows k → 0 < l.regs.hand.spare → Common' l → HasNone l → Next' (away l) (found r.calls l label addr span k)
@@ -148,19 +141,13 @@ module _ {P V R : Type 0} {r : FrontRules P V R} {about : R → About} {planned 
     found_kind l label addr span Large there space c n = to l (does.Map (map.Clear label (run_of span))) c n refl (λ none. none)
 
     found_next : (l : Local V R) (label : Label) (addr : Addr) (o : Option SpanRef) (span : SpanRef) → o ≡ Some span → IsKindThere r.calls.rows span.kind → 0 < l.regs.hand.spare → Common' l → HasNone l → Next' (away l) (after_lookup r.calls l label addr o)
-    found_next l label addr None span is there space c n = absurd (cc)
-    found_next l label addr (Some x) span is there space c n = let same : x ≡ span = (cc) in found_kind l label addr x x.kind (subst (λ (y : SpanRef). IsKindThere r.calls.rows y.kind) (sym same) there) space c n
+    found_next l label addr o span is there space c n = grind (arith, found_kind)
 
     clear_next : (x : SpanMap) (l : Local V R) (o : Onward R) (spans : List SpanRef) → l.freed.items ≡ spans → Common' l → HasSpans l → IsOnward r.calls.rows about o → Next' (stand l.seat l.regs (l.acts + 1) (at_onward o)) (clears_span x l o spans).1
-    clear_next x l o [] freed c n is = absurd (let e = ap length freed in omega (arith, e, n.some))
-    clear_next x l o (s ∷ others) freed c n is = grind (arith, same_next)
+    clear_next x l o spans freed c n is = grind (arith, same_next)
 
     map_next : (x : SpanMap) (l : Local V R) (row : MapStep R) → Common' l → MapShape r.calls.rows about l row → FitsMap x l row → IsFoundClass r.calls.rows x row → Next' (stand l.seat l.regs (l.acts + 1) (at_map row)) (map_row r.calls x l row).1
-    map_next x l (map.Set label run) c shape fit there = to l (does.Names (names.Publish label (Some (address_of run)))) c shape refl (λ none. none)
-    map_next x l (map.SetSpan a run) c shape fit there = to l (does.Shard (shard.AddFetch a run)) c shape.0 refl (λ none. (none, shape.1))
-    map_next x l (map.Lookup label addr) c shape fit there = found_next l label addr (find (holds (addr.0 / page_bytes)) x.spans) fit.0 fit.1 (there fit.0 fit.1) fit.3 c shape
-    map_next x l (map.Clear label run) c shape fit there = to l (does.Heap (heap.GiveBack label run)) c shape refl (λ none. none)
-    map_next x l (map.ClearSpan o) c shape fit there = clear_next x l o l.freed.items refl c shape.0 shape.1
+    map_next x l row c shape fit there = grind (arith, clear_next, found_next, to)
 
     -- from a step that is written out
     kept_at : (l new : Local V R) (s : Step R) → IsShaped r.calls.rows about planned t l → l.step ≡ s → NotHere (at_step s)
@@ -170,10 +157,7 @@ module _ {P V R : Type 0} {r : FrontRules P V R} {about : R → About} {planned 
     -- the names
     take_kept : (all : List NameState) (l : Local V R) (label : Label) (o : NameState) → IsShaped r.calls.rows about planned t l → l.step ≡ does.Names (names.Take label)
         → IsKept r about planned Holds t l (after_take r.calls all l label o).1
-    take_kept all l label name.Unpublished shaped is = record { shaped = shaped; stands = λ m ps us holds. holds }
-    take_kept all l label name.Taken shaped is = record { shaped = shaped; stands = λ m ps us holds. holds }
-    take_kept all l label (name.Published None) shaped is = grind (arith, ends_decided, kept_at)
-    take_kept all l label (name.Published (Some addr)) shaped is = grind (arith, kept_at, to)
+    take_kept all l label o shaped is = grind (arith, ends_decided, kept_at, to)
 
   pub shard_acts_keep : ShardActsKeep r about planned Holds
   shard_acts_keep t s l row table shaped is sound same low fit =

@@ -133,9 +133,7 @@ module _ {V R : Type 0} (e : FrontCalls V R) (about : R → About) (refuses : R 
   fetch_leaves l a (o ∷ others) = from l (with_more l (o ∷ others)) _ refl refl refl (serves_leaves (with_more l (o ∷ others)) a (with_more l (o ∷ others)).regs.hand.items)
 
   shard_leaves : (s : shards.Shard) (l : Local V R) (row : ShardStep R) → Plain l (shard_row e s l row).1
-  shard_leaves s l (shard.Fetch a) = fetch_leaves l a (shards.fetched (class_row e.rows l).batch s)
-  shard_leaves s l (shard.AddFetch a run) = grind (arith, from, serves_leaves)
-  shard_leaves s l (shard.Give g) = grind (arith, from, gave_leaves)
+  shard_leaves s l row = grind (arith, fetch_leaves, from, gave_leaves, serves_leaves)
 
   -- an act of the per-CPU caches, by what comes behind it
   tells : (s : Step R) (l y : Local V R) (call : Call) (answer : Answer) → (is_refusal answer ≡ true → may_refuse refuses s answer ≡ true) → l.ended ≤ y.ended → y.answers ≡ l.answers ++ record { act = l.acts; call = call; answer = answer } ∷ [] → Leaves refuses s l y

@@ -46,8 +46,7 @@ module _ {V R : Type 0} (e : FrontCalls V R) (about : R → About) (entries : Ar
   fresh_by s rest line call is asks publishes takes value off apart mapped clears = grind arith
 
   fresh_malloc : (c : Option Class) (label : Label) (size : ℕ) (rest : List Planned) (line : Planned) → line.call ≡ Malloc label size → IsFresh about (first_of_malloc e v c label size) rest (line ∷ rest)
-  fresh_malloc None label size rest line is = fresh_by (first_of_malloc e v None label size) rest line (Malloc label size) is (λ x. refl) (λ x. refl) (λ x. refl) (λ x w. refl) refl (λ k. refl) (λ k. refl) refl
-  fresh_malloc (Some c) label size rest line is = grind (arith, entry_fresh, fresh_by)
+  fresh_malloc c label size rest line is = grind (arith, entry_fresh, fresh_by)
 
   fresh_own : (call : Call) (rest : List Planned) (line : Planned) → line.call ≡ call → ((x : ℕ) → got x call ≡ 0) → ((x : ℕ) → put x call ≡ 0) → IsFresh about (step_or does.Ended (e.other v call)) rest (line ∷ rest)
   fresh_own call rest line is no_got no_put = grind (arith, entry_fresh, fresh_by)

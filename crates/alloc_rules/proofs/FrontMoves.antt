@@ -130,10 +130,7 @@ module _ {P V R : Type 0} (r : FrontRules P V R) (about : R → About) (planned 
     decides (calls.Frees f) answer to is may same on_decided none = absurd may
 
     gives_has : (g : Giving R) → about row ≡ about_giving about g → IsGiving r.calls.rows about came g → (label : Label) (o : Addr) → d ≡ Frees label o → 0 < objects_at o.0 came
-    gives_has (giving.Rest s) is may label o doing = absurd (let e : doing_about (calls.Publishes s) ≡ Frees label o = sym (ap doing_about is) ∙ doing in cc)
-    gives_has (giving.Freed f) is may label o doing = grind (arith, begins_has)
-    gives_has (giving.Row j to) is may label o doing = absurd (let e : Other ≡ Frees label o = sym (other_doing (about to) may.1) ∙ (sym (ap doing_about is) ∙ doing) in cc)
-    gives_has giving.End is may label o doing = absurd (let e : Other ≡ Frees label o = sym (ap doing_about is) ∙ doing in cc)
+    gives_has g is may label o doing = grind (arith, begins_has, other_doing)
 
     -- a hand that the front-end took itself
     gives : (g : Giving R) → IsNext r about row l.regs x.regs (next.Gave g) → Goal (clears r.calls (decides_free then g) (behind g) [])

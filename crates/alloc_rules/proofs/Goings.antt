@@ -32,8 +32,7 @@ pub record Closes {V R : Type 0} (of : R → About) (after : Local V R) (k : ℕ
 
 module _ {V R : Type 0} (e : FrontCalls V R) (about : R → About) (entries : AreEntries e about) where
   stocks_as : (l : Local V R) (s : Serving) (others : List Addr) → Goes about (stocks e l s others) (bare (Publishes s.label (Some s.addr)) l.regs.class.0 l.regs.hand.items l.rest) (l.acts + 1) l.answers
-  stocks_as l s [] = record { account = refl; acts = refl; answers = refl }
-  stocks_as l s (a ∷ others) = grind (arith, bare, entry_is)
+  stocks_as l s others = grind (arith, bare, entry_is)
 
   -- the first object in hand is an allocation's answer, and the others stay in hand
   pub serves_as : (l : Local V R) (asking : Asking) (o : Addr) (others : List Addr) → l.regs.hand.items ≡ o ∷ others

@@ -73,8 +73,7 @@ module _ {P V R : Type 0} (r : FrontRules P V R) (about : R → About) (planned 
 
     -- what is left to give back
     clears_weighs : (l' : Local V R) (next : Onward R) (xs : List SpanRef) → IsOnward m.rows about next → l'.freed.items ≡ xs → l'.regs.hand.items ≡ [] → WeighSame (record (bare (onward_doing about next) l'.regs.class.0 l'.regs.hand.items l'.rest) { apart = xs; mapped = xs }) (account_of about (clears r.calls l' next xs)) × Counts l' (clears r.calls l' next xs)
-    clears_weighs l' next [] on is none = onward_weighs r.calls about entries m.rows l' next on none
-    clears_weighs l' next (s ∷ others) on is none = grind (arith, bare, weighs_same)
+    clears_weighs l' next xs on is none = grind (arith, bare, onward_weighs, weighs_same)
 
     -- the first of the spans that left a shard is given back
     frees : (next : Onward R) (before : Before (FreeSpan next)) (xs : List SpanRef) → l.freed.items ≡ xs → FirstLives p.heap xs → Goal (FreeSpan next) (frees_span r.calls p.heap (at (FreeSpan next)) next xs)
@@ -96,11 +95,7 @@ module _ {P V R : Type 0} (r : FrontRules P V R) (about : R → About) (planned 
         (λ r. omega (arith, before.books.heap r, ap (runs_like r) kept.runs)) before.books.spans (ends_counts r.calls l').0 (ends_counts r.calls l').1
 
     by_row : (row : HeapStep R) → Before row → FitsHeap m.rows p.heap (at row) row → Goal row (heap_row r.calls p.heap (at row) row)
-    by_row (New label size) before fits = gets label size before fits.0 (new p.heap (pages_holding size)) refl
-    by_row (NewSpan a) before fits = gets_span a before fits.1 (new p.heap (class_row m.rows l).pages) refl
-    by_row (GiveBack label run) before fits = gives_back label run before fits
-    by_row (FreeSpan next) before fits = frees next before l.freed.items refl fits
-    by_row (Unback pages) before fits = unbacks pages before
+    by_row row before fits = grind (arith, class_row, freed, frees, gets, gets_span, gives_back, new, pages_holding, unbacks)
 
   pub heap_acts_move : HeapActsMove r about planned
   heap_acts_move huge labels limits p locals b calls t l row before step fits =

@@ -71,11 +71,7 @@ module _ (rows : List ClassRow) (planned : Planned → Type 0) where
     pub got_first : 0 < put x call → 0 < got_in x earlier
 
   adds : (x : ℕ) (earlier : List ThreadCall) (call : Call) → IsInOrder earlier call → Adds x earlier call
-  adds x earlier (Malloc label size) order = grind (arith, bit_most, cases_eq, ne_eqb)
-  adds x earlier (Free label) order = grind (arith, bit_most, cases_eq, ne_eqb)
-  adds x earlier (Release pages) order = record { got_once = λ most. omega arith; put_once = λ most. omega arith; got_first = λ some. absurd (omega arith) }
-  adds x earlier (Drain cpu) order = record { got_once = λ most. omega arith; put_once = λ most. omega arith; got_first = λ some. absurd (omega arith) }
-  adds x earlier (Resize cpu class cap) order = record { got_once = λ most. omega arith; put_once = λ most. omega arith; got_first = λ some. absurd (omega arith) }
+  adds x earlier call order = grind (arith, bit_most, cases_eq, ne_eqb)
 
   first_of_either : (a b : ℕ) {Q : Type 0} → 0 < a + b → (0 < a → Q) → (0 < b → Q) → Q
   first_of_either a b some one two = grind arith

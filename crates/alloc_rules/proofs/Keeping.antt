@@ -116,8 +116,7 @@ module _ {P V R : Type 0} {r : FrontRules P V R} {about : R → About} {planned 
   entry_shape a other l o entry has none shape = grind arith
 
   pub entry_at : (base : Standing V R) (v : V) (g : Regs) (count : ℕ) (other : Step R) (o : Option R) → at_step other ≡ Away → Reaches base (stand v g count (at_row o)) → Reaches base (stand v g count (at_step (step_or other o)))
-  entry_at base v g count other None away reaches = subst (λ (a : At R). Reaches base (stand v g count a)) (sym away) reaches
-  entry_at base v g count other (Some row) away reaches = reaches
+  entry_at base v g count other o away reaches = grind arith
 
   module _ (l : Local V R) (n : HasNone l) (p : Planned) (plan : planned p) (rest : List Planned) (c : CommonOf l.regs l.freed rest) where
     abbrev v : V
@@ -143,11 +142,7 @@ module _ {P V R : Type 0} {r : FrontRules P V R} {about : R → About} {planned 
 
     call_next : (call : Call) → p.call ≡ call
         → IsNext (idle_at l) (record l { seat = v; step = first_of_call r.calls v call; regs = fresh_regs r.calls call l.regs; rest = rest })
-    call_next (Malloc label size) is = malloc_next label size (class_of r.calls.rows size) refl
-    call_next (Free label) is = fresh_next l v ran (does.Names (names.Take label)) rest c n.hand n.freed restarted (λ none. none)
-    call_next (Release pages) is = fresh_next l v ran (does.Heap (heap.Unback pages)) rest c n.hand n.freed restarted (λ none. none)
-    call_next (Drain cpu) is = own_next (Drain cpu) is (subst IsOwn (sym is) tt)
-    call_next (Resize cpu class cap) is = own_next (Resize cpu class cap) is (subst IsOwn (sym is) tt)
+    call_next call is = grind (arith, fresh_next, malloc_next, own_next, restarted)
 
   -- the thread comes to the first of these calls
   pub come_next : (l : Local V R) (todo : List Planned) → CommonOf l.regs l.freed todo → HasNone l → IsNext (idle_at l) (next_call r.calls l todo)
@@ -156,16 +151,14 @@ module _ {P V R : Type 0} {r : FrontRules P V R} {about : R → About} {planned 
 
   -- the call ends: a row of the front-end may come first
   closes_next : (l : Local V R) (o : Option R) → IsEntry about (calls.Other None) o → Common l → HasNone l → Reaches (idle_at l) (stand l.seat l.regs l.acts (at_row o)) → IsNext (idle_at l) (closes r.calls l o)
-  closes_next l None entry c n reaches = come_next (record l { ended = l.ended + 1 }) l.rest c (record { hand = n.hand; freed = n.freed })
-  closes_next l (Some row) entry c n reaches = grind (arith, shape_of)
+  closes_next l o entry c n reaches = grind (arith, come_next, shape_of)
 
   pub ends_next : (l : Local V R) → Common l → HasNone l → IsNext (away_at l) (ends r.calls l)
   ends_next l c n = grind (arith, closes_next)
 
   -- an allocation goes on with what came to its hand
   stocks_next : (l : Local V R) (s : Serving) (others : List Addr) → l.regs.hand.items ≡ others → length others ≤ LOADED_ROOM → Common l → l.freed.items ≡ [] → IsNext (away_at l) (stocks r.calls l s others)
-  stocks_next l s [] is few c none = publishes_next l s c (record { hand = is; freed = none })
-  stocks_next l s (a ∷ others) is few c none = grind (arith, entry_at, entry_shape, kept_by, shape_of)
+  stocks_next l s others is few c none = grind (arith, entry_at, entry_shape, kept_by, publishes_next, shape_of)
 
   pub serves_next : (l : Local V R) (a : Asking) (xs : List Addr) → l.regs.hand.items ≡ xs → 0 < length xs → length xs ≤ LOADED_ROOM → Common l → l.freed.items ≡ [] → IsNext (away_at l) (serves_first r.calls l a xs)
   serves_next l a [] is some few c none = absurd (omega arith)
@@ -183,9 +176,7 @@ module _ {P V R : Type 0} {r : FrontRules P V R} {about : R → About} {planned 
 
   -- acts elsewhere, while this is to come
   pub waits_at : (l : Local V R) (a : At R) (count more : ℕ) (hand : Contents Addr) → NotHere a → count ≤ more → Common l → room hand ≡ room l.regs.hand → Reaches (stand l.seat l.regs count a) (stand l.seat (record l.regs { hand = hand }) more a)
-  waits_at l (Here row) count more hand none few c same = absurd none
-  waits_at l (Later k row) count more hand none few c same = λ n ps us holds. law.waits n ps us t l.seat l.regs count more k row hand few same holds
-  waits_at l Away count more hand none few c same = λ n ps us holds. law.away n ps us t l.seat l.regs count more l.regs.class hand few c.class same holds
+  waits_at l a count more hand none few c same = grind arith
 
   -- a thread behind which this is to come
   abbrev pub onward_at : Local V R → Onward R → Standing V R
@@ -193,23 +184,17 @@ module _ {P V R : Type 0} {r : FrontRules P V R} {about : R → About} {planned 
 
   -- what comes once no span is left to give back
   onward_next : (l : Local V R) (o : Onward R) → Common l → HasNone l → IsOnward r.calls.rows about o → IsNext (onward_at l o) (goes_onward r.calls l o)
-  onward_next l (onward.Publish s) c n is = publishes_next l s c n
-  onward_next l (onward.Row k row) c n is = grind (arith, changed, later_shape, shape_of)
-  onward_next l onward.End c n is = ends_next l c n
+  onward_next l o c n is = grind (arith, changed, ends_next, later_shape, publishes_next, shape_of)
 
   pub clears_next : (l : Local V R) (o : Onward R) (spans : List SpanRef) → l.freed.items ≡ spans → Common l → l.regs.hand.items ≡ [] → IsOnward r.calls.rows about o → IsNext (onward_at l o) (clears r.calls l o spans)
-  clears_next l o [] freed c hand is = onward_next l o c (record { hand = hand; freed = freed }) is
-  clears_next l o (s ∷ others) freed c hand is = grind (arith, same_next)
+  clears_next l o spans freed c hand is = grind (arith, onward_next, same_next)
 
   -- the hand was given
   abbrev pub giving_at : Local V R → Giving R → Standing V R
   giving_at l g = stand l.seat l.regs (l.acts + 1) (at_giving g)
 
   pub gave_next : (l : Local V R) (g : Giving R) (hand : List Addr) → Common l → l.regs.hand.items ≡ [] → IsGiving r.calls.rows about hand g → IsNext (giving_at l g) (gave r.calls l g)
-  gave_next l (giving.Rest s) hand c none is = clears_next l (onward.Publish s) l.freed.items refl c none tt
-  gave_next l (giving.Freed f) hand c none is = grind (arith, clears_next)
-  gave_next l (giving.Row k row) hand c none is = clears_next l (onward.Row k row) l.freed.items refl c none is
-  gave_next l giving.End hand c none is = clears_next l onward.End l.freed.items refl c none tt
+  gave_next l g hand c none is = grind (arith, clears_next)
 
   pub given_back_next : (l : Local V R) (g : Giving R) (freed : Contents SpanRef) → Common l → length freed.items + freed.spare ≡ HAND_ROOM → IsGiving r.calls.rows about l.regs.hand.items g → IsNext (giving_at l g) (given_back r.calls l g freed)
   given_back_next l g freed c size is = grind (arith, changed, gave_next, giving_not, waits_at)

@@ -103,15 +103,10 @@ module _ {P V R : Type 0} (r : FrontRules P V R) (about : R → About) (planned 
         before.books.heap before.books.spans refl silent
 
     looks_up : (label : Label) (addr : Addr) → Before (Lookup label addr) → (o : Option SpanRef) → find (holds (addr.0 / page_bytes)) p.map.spans ≡ o → FitsMap p.map (at (Lookup label addr)) (Lookup label addr) → Goal (Lookup label addr) (p.map, after_lookup r.calls (at (Lookup label addr)) label addr o)
-    looks_up label addr before None is fits = let wrong : None ≡ Some fits.0 = sym is ∙ fits.1 in absurd (cc)
-    looks_up label addr before (Some span) is fits = let there = find_there (holds (addr.0 / page_bytes)) p.map.spans span (sym is) in finds label addr span before there.0 there.1 span.kind refl
+    looks_up label addr before o is fits = grind (arith, find_there, finds)
 
     by_row : (row : MapStep R) → Before row → FitsMap p.map (at row) row → Goal row (map_row r.calls p.map (at row) row)
-    by_row (Set label run) before fits = sets label run before
-    by_row (SetSpan a run) before fits = sets_span a run before
-    by_row (Lookup label addr) before fits = looks_up label addr before (find (holds (addr.0 / page_bytes)) p.map.spans) refl fits
-    by_row (Clear label run) before fits = clears_run label run before fits
-    by_row (ClearSpan next) before fits = clears_first next before l.freed.items refl fits
+    by_row row before fits = grind (arith, clears_first, clears_run, looks_up, sets, sets_span)
 
   pub map_acts_move : MapActsMove r about planned
   map_acts_move huge labels limits p locals b calls t l row before step fits =

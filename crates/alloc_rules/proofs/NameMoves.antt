@@ -1,5 +1,5 @@
 -- What the acts at the names do to the books.
-use Rattle.std.proofs.Common.{◌≡◌, ℕ, false, List, Option, Some, None, refl, sym, ap, ◌∙◌, subst, slice_set}
+use Rattle.std.proofs.Common.{◌≡◌, ℕ, false, List, Option, Some, None, refl, sym, ap, ◌∙◌, subst, slice_set, arith}
 use Rattle.alloc_rules.proofs.Common.{false≢true, append-nil, Addr, Label, Free, FreedNull, CallLine, NameState, state_of, HeapConfig, is_unpublished, Setup}
 use Rattle.alloc_rules.proofs.Common.{Books, TakesNull, TakesAddr, NamesStep, decided, Local, names_row, after_take, waits_row, FitsNames, Planned, About}
 use Rattle.alloc_rules.proofs.Common.{AreEntries, FrontRules, Parts, Does, setup, IsBefore, NamesActsMove}
@@ -47,8 +47,7 @@ module _ {P V R : Type 0} (r : FrontRules P V R) (about : R → About) (planned 
         before.books.heap before.books.spans refl (sym (append-nil l.answers))
 
     by_row : (row : NamesStep) → Before row → FitsNames p.names row → waits_row p.names row ≡ false → Goal row (names_row r.calls p.names (at row) row)
-    by_row (Publish label value) before fits out = publishes label value before fits.1
-    by_row (Take label) before fits out = takes label before fits out (state_of p.names label.0) refl
+    by_row row before fits out = grind (arith, publishes, state_of, takes)
 
   pub names_acts_move : NamesActsMove r about planned
   names_acts_move huge labels limits p locals b calls t l row before step fits out =

@@ -86,8 +86,7 @@ module _ {P V R : Type 0} (r : FrontRules P V R) (about : R → About) (planned 
         (f, find_only (maps.holds (addr.0 / page_bytes)) p.map.spans f.span there f.holds (λ y yt held. only_holder (addr.0 / page_bytes) p.map.spans f.span y before.parts.map.apart there yt f.holds held), there)
 
     kind_there : {label : Label} {addr : Addr} (f : Found m b addr) (before : Before (does.Map (map.Lookup label addr))) (kind : SpanKind) → f.span.kind ≡ kind → IsKindThere m.rows kind
-    kind_there f before Large is = tt
-    kind_there f before (Small k) is = grind (arith, one_number)
+    kind_there f before kind is = grind (arith, one_number)
 
     pub found_class : (row : MapStep R) → Before (does.Map row) → IsFoundClass m.rows p.map row
     found_class (map.Set label run) before = tt

@@ -141,9 +141,4 @@ module _ {P V R : Type 0} {r : FrontRules P V R} {about : R → About} {planned 
   at_place i place is reached = let e : (let n : PartNo = record { 0 = i } in n) ≡ place = cc in subst (λ (n : PartNo). Reached n.0) e reached
 
   pub reached : (s : Step R) → l.step ≡ s → (place : PartNo) → option_map (number_of r.split (length r.calls.rows)) (target_at r.place l s) ≡ Some place → Reached place.0
-  reached (does.Front row) step place want = at_place (front_number r.split (length r.calls.rows) (r.place l.seat l.regs row)) place want (front_reached row step)
-  reached (does.Shard row) step place want = at_place (r.split + l.regs.class.0) place want (shard_reached row step)
-  reached (does.Heap row) step place want = at_place (r.split + length r.calls.rows) place want (heap_reached row step)
-  reached (does.Map row) step place want = at_place (r.split + length r.calls.rows + 1) place want (map_reached row step)
-  reached (does.Names row) step place want = at_place (r.split + length r.calls.rows + 2) place want (names_reached row step)
-  reached does.Ended step place want = absurd (cc)
+  reached s step place want = grind (arith, at_place, front_number, front_reached, heap_reached, map_reached, names_reached, shard_reached)

@@ -7,9 +7,6 @@ use Rattle.alloc_rules.proofs.Common.{under, without_call, call_about, IsOf, doi
 use Rattle.call_steps.specs.declared.step.Step.TheVariants as does
 use Rattle.call_steps.specs.declared.step.ShardStep.TheVariants as shard
 
-without : (o : Option Call) → is_some o ≡ true → without_call o ≡ 0
-without o is = grind arith
-
 -- a call that isn't decided isn't counted as one that is
 pub undecided_under : {R : Type 0} (about : R → About) (s : Step R) → is_some (undecided about s) ≡ true → under about s ≡ 0
 undecided_under about s is = grind arith
@@ -31,8 +28,7 @@ entry_first about call a other o entry of asks publishes first = grind arith
 
 module _ {V R : Type 0} (e : FrontCalls V R) (about : R → About) (entries : AreEntries e about) (v : V) where
   first_malloc : (c : Option Class) (label : Label) (size : ℕ) → IsFirst about (Malloc label size) (first_of_malloc e v c label size)
-  first_malloc None label size = record { asks = λ x. refl; publishes = λ x. refl; of = λ c is. cc; under = refl }
-  first_malloc (Some k) label size = grind (arith, entry_first)
+  first_malloc c label size = grind (arith, entry_first)
 
   first_own : (call : Call) → ((x : ℕ) → got x call ≡ 0) → IsFirst about call (step_or does.Ended (e.other v call))
   first_own call none = grind (arith, entry_first)
@@ -71,5 +67,4 @@ module _ {V R : Type 0} (e : FrontCalls V R) (about : R → About) (entries : Ar
   next_weighs x rest = grind (arith, first_call)
 
   pub asks_first : (o : Option Planned) (label : Label) (size : ℕ) → option_map (λ (p : Planned). p.call) o ≡ Some (Malloc label size) → 0 < asking label.0 (doing_of about (first_act e v o))
-  asks_first None label size is = absurd (cc)
-  asks_first (Some p) label size is = grind (arith, eq-eqb, first_call)
+  asks_first o label size is = grind (arith, eq-eqb, first_call)

@@ -129,11 +129,7 @@ module _ {P V R : Type 0} (r : FrontRules P V R) (about : R → About) (planned 
 
     -- the labels that an ended call allocated are out
     out_more : (before : List ThreadCall) (c : ThreadCall) (after : List ThreadCall) → asked.calls ≡ before ++ c ∷ after → picks_of c.thread.0 (turns_of before) < done c.thread.0 → (x : ℕ) → (call : Call) → c.planned.call ≡ call → 0 < got x call → is_out (state_of p.names x) ≡ true
-    out_more before c after is early x (Malloc label size) call some = grind (arith, bit_is, eqb-true, finds)
-    out_more before c after is early x (Free label) call some = absurd (omega arith)
-    out_more before c after is early x (Release pages) call some = absurd (omega arith)
-    out_more before c after is early x (Drain cpu) call some = absurd (omega arith)
-    out_more before c after is early x (Resize cpu class cap) call some = absurd (omega arith)
+    out_more before c after is early x call call' some = grind (arith, bit_is, eqb-true, finds)
 
     walk : (before cs : List ThreadCall) → asked.calls ≡ before ++ cs → ((u : ℕ) → picks_of u (turns_of before) ≤ done u) → ((x : ℕ) → 0 < got_in x before → is_out (state_of p.names x) ≡ true) → (t : ℕ) → next_turn done (turns_of before) (turns_of cs) ≡ Some t → stepped (rules r about asked) w t ≡ step.Moved
     walk before [] is ended out t next = absurd (cc)

@@ -227,9 +227,7 @@ module _ {P V R : Type 0} {r : FrontRules P V R} {about : R → About} {planned 
       give_all = grind (arith, give_does)
 
     shard_does : (row : ShardStep R) → l.step ≡ does.Shard row → ShardShape m.rows about l row → Does r about m (with_shard (shard_row r.calls x (at_step row) row).0) b (at_step row) (shard_row r.calls x (at_step row) row).1
-    shard_does (Fetch asking) is shape = fetch_does asking shape.0.hand shape.1 list_of refl
-    shard_does (AddFetch asking run) is shape = add_does asking run is shape.0.hand shape.1 (came asking run is shape.0.hand shape.1) refl (is_added asking run is shape.0.hand shape.1).some
-    shard_does (Give g) is shape = give_all g is shape.0.freed shape.1
+    shard_does row is shape = grind (arith, add_does, fetch_does, give_all, is_added)
 
     -- the shard stays its class's, a new span's first page is a low number, and a new span brings an object at least
     pub shard_stays : (row : ShardStep R) → l.step ≡ does.Shard row → ShardShape m.rows about l row → IsShardOf m.rows l.regs.class.0 (shard_row r.calls x (at_step row) row).0 × IsLowRun row × AddsSome m.rows x l row

@@ -44,8 +44,7 @@ module _ {V R : Type 0} (e : FrontCalls V R) (of : R → About) (entries : AreEn
   module _ (l : Local V R) (k : ℕ) (none : l.regs.hand.items ≡ []) where
     malloc_weighs : (v : V) (label : Label) (size : ℕ) (p : Planned) (rest : List Planned) (c : Option Class) → p.call ≡ Malloc label size
         → WeighSame (quiet k (p ∷ rest)) (account_of of (record l { seat = v; step = first_of_malloc e v c label size; regs = record (regs_of_malloc e c l.regs) { ran = 0 }; rest = rest }))
-    malloc_weighs v label size p rest None is = begun k l.regs.class.0 l.regs.hand.items (doing_about (about.Asks (record { label = label; size = size }))) p rest none (λ x. ap (got x) (sym is)) (λ x. refl) (λ x. ap (put x) (sym is)) (λ x w. refl) (λ n. refl)
-    malloc_weighs v label size p rest (Some c) is = grind (arith, begun, entry_is)
+    malloc_weighs v label size p rest c is = grind (arith, begun, entry_is)
 
     -- one of the front-end's own
     own_weighs : (v : V) (call : Call) (p : Planned) (rest : List Planned) → ((x : ℕ) → got x p.call ≡ 0) → ((x : ℕ) → put x p.call ≡ 0) → WeighSame (quiet k (p ∷ rest)) (account_of of (record l { seat = v; step = step_or step.Ended (e.other v call); regs = record (e.to_other call l.regs) { ran = 0 }; rest = rest }))

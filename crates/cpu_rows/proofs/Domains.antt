@@ -42,9 +42,6 @@ module _ (rows : List ClassRow) (c : Config) (t : ℕ) (q : Transfer) (v : CpuSe
   leaves : (row : DomainStep) (new : Transfer) (r : Regs) (n : Next) → g.class.0 < length rows → Goes row new r n → Leaves row (leaving new v r n)
   leaves row new r n low x = grind (arith, stored_other, stored_own)
 
-  abbrev same : KeepsRegs rows c g g
-  same = record { thread = refl; loaded = refl; ran = omega arith; epoch = refl; pc = λ pc. pc }
-
   -- Take: the last objects of the cache, so many at most
   takes_by : (a : Asking) (kept list : List Addr) → DomainShape (limits_of rows c) (seated v g) (domain.Take a) → g.class.0 < length rows
       → length list ≤ LOADED_ROOM → length list ≤ g.hand.spare → length kept ≤ length q.objects →

@@ -92,13 +92,6 @@ module _ (Serves : Regs → Type 0) (rows : List ClassRow) (v : CpuSeat) where
   pub cpu_comes : (p : CpuPart) (r : Regs) (row : CpuStep) → (let x = rseq.instructed p r in (a : Asking) → row ≡ cpu.Pop a → x.answer ≡ instructed.Done reply.Popped → Serves x.regs) → MayCome (front.Cpu row) (cpu_acts rows p v r row)
   cpu_comes p r row some = grind (arith, cap_may, cap_other, grew_may, leave_comes, sequence_comes, started_may, stop_may, took_may)
 
-  -- the cache of a domain
-  takes_may : (r : Regs) (a : Asking) (objects : List Addr) → (0 < length objects → Serves (record r { hand = appended r.hand objects })) → May (front.Domain (domain.Take a)) (takes r a objects)
-  takes_may r a objects some = grind arith
-
-  pub domain_comes : (t : Transfer) (r : Regs) (row : DomainStep) → ((a : Asking) (objects : List Addr) → row ≡ domain.Take a → 0 < length objects → Serves (record r { hand = appended r.hand objects })) → MayCome (front.Domain row) (domain_acts rows t v r row)
-  domain_comes t r row some = grind (arith, cond_both, row_about, takes_may)
-
 -- Where the act fits, an allocation is served with an object in hand.
 module _ (rows : List ClassRow) (v : CpuSeat) where
   pub cpu_may : (p : CpuPart) (r : Regs) (row : CpuStep) → FitsCpu rows p v r row → MayCome (HasObject rows) rows v (front.Cpu row) (cpu_acts rows p v r row)
@@ -106,6 +99,3 @@ module _ (rows : List ClassRow) (v : CpuSeat) where
       cpu_comes (HasObject rows) rows v p r row (λ a is done.
       (let own : FitsCpu rows p v r (cpu.Pop a) = subst (FitsCpu rows p v r) is fits in
       let x = own.1 done in (x.0, omega (arith, ap (λ (k : Class). k.0) x.1, own.0.class))))
-
-  pub domain_may : (t : Transfer) (r : Regs) (row : DomainStep) → FitsDomain rows r row → MayCome (HasObject rows) rows v (front.Domain row) (domain_acts rows t v r row)
-  domain_may t r row fits = grind (arith, domain_comes, length-append)
