@@ -47,10 +47,7 @@ module _ (rows : List ClassRow) (c : Config) where
   pub gives_to_shard : (v : CpuSeat) (row : CpuRow) (g r : Regs) (w : Giving CpuStep) → about_row row ≡ about_giving about_cpu w → IsAtBegin r
       → length r.hand.items ≤ most_slots → IsGiving (limits_of rows c) r.hand.items (as_row w) → IsBehind v row g r (giving_standing rows (as_row w))
       (next.Give (as_row w))
-  gives_to_shard v row g r (giving.Rest s) is begin few has = record { next = (is, few, tt); regs = begin; stands = refl; same = refl }
-  gives_to_shard v row g r (giving.Freed f) is begin few has = record { next = (is, few, has); regs = begin; stands = refl; same = refl }
-  gives_to_shard v row g r (giving.Row k to) is begin few has = grind arith
-  gives_to_shard v row g r giving.End is begin few has = record { next = (is, few, tt); regs = begin; stands = refl; same = refl }
+  gives_to_shard v row g r w is begin few has = grind arith
 
   pub gives_away : (v : CpuSeat) (row : CpuRow) (g r : Regs) (w : Giving CpuStep) → about_row row ≡ about_giving about_cpu w → IsAtBegin r
       → length r.hand.items ≤ most_slots → IsGiving (limits_of rows c) r.hand.items (as_row w) → IsBehind v row g r (giving_standing rows (as_row w))

@@ -102,9 +102,7 @@ module _ (rows : List ClassRow) (c : Config) where
   instructed_is a b p r is = grind (arith, cell_class, row_set)
 
   grew_is : (a b : Bool) (p : CpuPart) (r : Regs) → Is p.slab → Is (rseq.grew_by (rseq.arrival a b) p r).cpu.slab
-  grew_is false b p r is = is
-  grew_is true false p r is = is
-  grew_is true true p r is = grind (arith, cond_both, grown, grown_like, grows_like, growth)
+  grew_is a b p r is = grind (arith, cond_both, grown, grown_like, grows_like, growth)
 
   left_is : (p : CpuPart) (t : ThreadNo) → Is p.slab → Is (rseq.left p t).slab
   left_is p t is = grind (arith, cond_both)
@@ -122,8 +120,7 @@ module _ (rows : List ClassRow) (c : Config) where
   sequence_keeps : (p : CpuPart) (v : CpuSeat) (g : Regs) (row : CpuStep)
       → ((r : Regs) (o : Reply) → RefusesAs cpu_refuses (front.Cpu row) (replied rows v r row o).1) → (o : Option MoveTo) →
       (let x = sequence_by rows p v g row o in Keeps row p x.part x.next)
-  sequence_keeps p v g row replies None = grind (arith, instructed_is, instructed_may)
-  sequence_keeps p v g row replies (Some move) = record { slab = left_is p g.thread; may = tt }
+  sequence_keeps p v g row replies o = grind (arith, instructed_is, instructed_may, left_is)
 
   stops_keep : (p : CpuPart) (t : ThreadNo) (s : Stopping) (o : Option ThreadNo) → (let x = stops p t s o in Keeps (cpu.Stop s) p x.0 x.1)
   stops_keep p t s o = grind (arith, stopped_is)

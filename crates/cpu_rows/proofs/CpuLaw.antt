@@ -98,8 +98,7 @@ module _ (rows : List ClassRow) (c : Config) where
 
     acted : (row : CpuRow) → slice_get us t ≡ Some (stand v g count (Here row)) → IsReady (cpu_front rows c) t g (about_row row)
         → Acted ((cpu_front rows c).place v g row) row
-    acted (front.Cpu row) own ready = cpu_acted row own ready
-    acted (front.Domain row) own ready = domain_acted row own ready
+    acted row own ready = grind (arith, cpu_acted, domain_acted)
 
     -- the part is the one that is there
     same_part : (i : ℕ) (row : CpuRow) (p : CpuFrontPart) (x : Acted i row) → slice_get ps i ≡ Some p → x.part ≡ p

@@ -47,8 +47,7 @@ module _ (rows : List ClassRow) (c : Config) (t : ℕ) (q : Transfer) (v : CpuSe
       → length list ≤ LOADED_ROOM → length list ≤ g.hand.spare → length kept ≤ length q.objects →
       ((n : ℕ) → objects_at n kept + objects_at n list ≡ objects_at n q.objects)
       → (let n = takes g a list in Leaves (domain.Take a) (leaving (record { objects = kept; room = q.room }) v n.0 n.1))
-  takes_by a kept [] shape low few fit fewer moves = grind arith
-  takes_by a kept (x ∷ xs) shape low few fit fewer moves = grind (arith, length-append, objects_append)
+  takes_by a kept list shape low few fit fewer moves = grind (arith, length-append, objects_append)
 
   abbrev put : Regs
   put = record g { hand = emptied g.hand }

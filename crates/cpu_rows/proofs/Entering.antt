@@ -104,8 +104,7 @@ module _ (rows : List ClassRow) (p : CpuPart) (l : Local) (has : HasToEnter l.st
     c = instruction p l.regs
 
     executes_as : runs p.running l.regs.thread ≡ true → (o : Option Reply) → c.reply ≡ o → DoesAs (instructed_kind (answered o)) p l (with_cell p l.regs c, (let n = instructed_to rows l.seat c.regs row (answered o) in follows (cpu_calls rows) (with_regs l n.0) (call_about (about_cpu row)) n.1))
-    executes_as here None is = grind (arith, cell_few, open_stays, runs_is)
-    executes_as here (Some r) is = tt
+    executes_as here o is = grind (arith, cell_few, open_stays, runs_is)
 
     instructs_as : (a b : Bool) → runs p.running l.regs.thread ≡ a → let x = instructed_by (arrival a b) p l.regs in DoesAs (instructed_kind x.answer) p l (with_next rows l (about_cpu row) (instructs rows l.seat row x))
     instructs_as a b is = grind (arith, enters_as, executes_as)

@@ -131,11 +131,7 @@ module _ (turn : Turn) where
   pop_none r none begin hand = record { begin = begin; hand = hand ∙ none; freed = refl }
 
   pop_replies : (a : Asking) → Shape v g (cpu.Pop a) → Replies (cpu.Pop a)
-  pop_replies a shape old new r reply.Popped moves begin same = grind (arith, left_so, length-append, wants)
-  pop_replies a shape old new r reply.Empty moves begin same = grind (arith, asked_still, goes_on, left_so, pop_none)
-  pop_replies a shape old new r reply.Stopped moves begin same = grind (arith, asked_still, left_so, looks, pop_none)
-  pop_replies a shape old new r reply.Full moves begin same = grind (arith, asked_still, left_so, looks, pop_none)
-  pop_replies a shape old new r (reply.Pushed n) moves begin same = absurd (no_push g.seq seq.Pop shape.0.seq refl moves.pushes)
+  pop_replies a shape old new r given moves begin same = grind (arith, asked_still, goes_on, left_so, length-append, looks, no_push, pop_none, wants)
 
   pops_some : (old new : SlabRow) (x : rseq.Acted Instructed) → g.seq ≡ seq.Pop → AnswerMoves x.answer old new g x.regs → x.answer ≡ answer.Done reply.Popped
       → 0 < length x.regs.hand.items
@@ -168,8 +164,7 @@ module _ (turn : Turn) where
   -- Stock
   rest_behind : (s : Serving) (r : Regs) (xs : List Addr) → r.hand.items ≡ xs → length r.hand.items ≤ most_slots → IsAtBegin r
       → Behind (cpu.Stock s) r (after_stock v s xs)
-  rest_behind s r [] is few begin = record { next = (refl, is); regs = begin; stands = refl; same = refl }
-  rest_behind s r (x ∷ xs) is few begin = gives_away rows c v (front.Cpu (cpu.Stock s)) g r (giving.Rest s) refl begin few tt
+  rest_behind s r xs is few begin = grind (arith, gives_away)
 
   pub stock_does : (s : Serving) → There (cpu.Stock s) → Does turn (cpu.Stock s)
   stock_does s there =
@@ -195,11 +190,7 @@ module _ (turn : Turn) where
   freed_behind row f r others is hand few begin = grind (arith, begins_by, gives_away, left_so)
 
   push_replies : (f : Freeing) → Shape v g (cpu.Push f) → Replies (cpu.Push f)
-  push_replies f shape old new r (reply.Pushed n) moves begin same = grind (arith, empty_by, left_so, length-drop, wants)
-  push_replies f shape old new r reply.Full moves begin same = grind (arith, begins_by, goes_on)
-  push_replies f shape old new r reply.Stopped moves begin same = freed_behind (cpu.Push f) f r [] refl (moves.hand ∙ shape.1) (omega arith) begin
-  push_replies f shape old new r reply.Empty moves begin same = freed_behind (cpu.Push f) f r [] refl (moves.hand ∙ shape.1) (omega arith) begin
-  push_replies f shape old new r reply.Popped moves begin same = absurd (no_pop g.seq seq.Push shape.0.seq refl moves.pops)
+  push_replies f shape old new r given moves begin same = grind (arith, begins_by, empty_by, freed_behind, goes_on, left_so, length-drop, no_pop, wants)
 
   pub push_does : (f : Freeing) → There (cpu.Push f) → Does turn (cpu.Push f)
   push_does f there =
@@ -233,9 +224,7 @@ module _ (turn : Turn) where
 
   -- Grow
   grow_behind : (a : Asking) (r : Regs) (o : Grew) → HasNone (seated v r) → IsAsked rows r a → Behind (cpu.Grow a) r (grew_to v a o)
-  grow_behind a r grew.In none asked = goes_on rows c v (cpu.Grow a) (cpu.Grow a) g r refl (asked, none.hand) (none, asked)
-  grow_behind a r grew.Back none asked = goes_on rows c v (cpu.Grow a) (cpu.Grow a) g r refl (asked, none.hand) (none, asked)
-  grow_behind a r grew.Done none asked = looks rows c v (front.Cpu (cpu.Grow a)) g r a refl none asked
+  grow_behind a r o none asked = grind (arith, goes_on, looks)
 
   pub grow_does_all : (a : Asking) → There (cpu.Grow a) → Does turn (cpu.Grow a)
   grow_does_all a there =

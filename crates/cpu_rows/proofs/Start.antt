@@ -108,8 +108,7 @@ module _ (rows : List ClassRow) (c : Config) where
 
   -- no part has an object
   stored_first : (k n : ℕ) (q : CpuFrontPart) → IsFirst q → cpu_stored q k n ≡ 0
-  stored_first k n (Cpu p) is = subst (λ (x : CpuPart). cpu_stored (Cpu x) k n ≡ 0) is (no_slots c.slab k n rows)
-  stored_first k n (Domain j q) is = grind (arith, cond_both)
+  stored_first k n q is = grind (arith, cond_both, no_slots)
 
   pub none_first : (k n : ℕ) → sum_by (λ (q : CpuFrontPart). cpu_stored q k n) (front_parts rows c) ≡ 0
   none_first k n = grind (arith, parts_first, stored_first, sum_none)

@@ -98,8 +98,7 @@ module _ (turn : Turn) where
   -- Stop
   stop_by : (s : Stopping) (o : Option ThreadNo) → There (cpu.Stop s) → p.stopper ≡ o
       → (let n = stops p g.thread s o in Acts turn (cpu.Stop s) (leaving n.0 v g n.1))
-  stop_by s None there none = grind (arith, goes_on, quiet, slab_same, stopped_part)
-  stop_by s (Some owner) there is = grind (arith, busy_other, quiet, same_keeps)
+  stop_by s o there none = grind (arith, busy_other, goes_on, quiet, same_keeps, slab_same, stopped_part)
 
   pub stop_does : (s : Stopping) → There (cpu.Stop s) → Does turn (cpu.Stop s)
   stop_does s there = record { fits = λ e. there.pair.stops (e ∙ ap (λ (u : ThreadNo). Some u) there.sits.thread); acts = stop_by s p.stopper there refl }
@@ -125,8 +124,7 @@ module _ (turn : Turn) where
 
   took_so : (s : Stopping) (r : Regs) → length r.hand.items ≤ most_slots → r.class ≡ g.class → g.class.0 < length rows → IsAtBegin r
       → IsStop (limits_of rows c) g.class s → (let n = took rows v r s in TookSo s r n.0 n.1)
-  took_so (stopping.Drain d) r few class low begin is = grind (arith, drained_so, drains_come)
-  took_so (stopping.Resize x) r few class low begin is = grind (arith, as_left, goes_on)
+  took_so s r few class low begin is = grind (arith, as_left, drained_so, drains_come, goes_on)
 
   pub take_does_all : (s : Stopping) → There (cpu.Take s) → Does turn (cpu.Take s)
   take_does_all s there =
@@ -200,8 +198,7 @@ module _ (turn : Turn) where
 
   taken_behind : (x : Resizing) (xs : List Addr) → g.hand.items ≡ xs → HasHand most_slots (seated v g)
       → Behind (cpu.Start (stopping.Resize x)) g None (gives_taken v xs)
-  taken_behind x [] is n = record { next = (refl, is); regs = n.begin; stands = refl; same = refl }
-  taken_behind x (y ∷ ys) is n = gives_away rows c v (front.Cpu (cpu.Start (stopping.Resize x))) g g giving.End refl n.begin n.few tt
+  taken_behind x xs is n = grind (arith, gives_away)
 
   start_by : (s : Stopping) → There (cpu.Start s) → Shape (cpu.Start s) → Acts turn (cpu.Start s) (leaving (drains.started p) v g (started v g.hand.items s))
   start_by s there shape = grind (arith, starts, taken_behind)
@@ -211,8 +208,7 @@ module _ (turn : Turn) where
 
   -- Leave
   leave_by : (o : Option MoveTo) → There cpu.Leave → v.moved ≡ o → is_some o ≡ true → Acts turn cpu.Leave (left_for p v g o)
-  leave_by None there is some = absurd (cc)
-  leave_by (Some move) there is some = grind (arith, leave_acts)
+  leave_by o there is some = grind (arith, leave_acts)
 
   pub leave_does : There cpu.Leave → Does turn cpu.Leave
   leave_does there = grind (arith, leave_by)

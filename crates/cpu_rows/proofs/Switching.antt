@@ -54,8 +54,7 @@ module _ (input : Input) (c ins ends : ℕ) (w : World Part Local) (t : ℕ) (l 
   other_place place want apart e same = grind (arith, home_by, is_own)
 
   stays_elsewhere : (place : PartNo) (pair : Part × Local) → place_of input l ≡ Some place → (place.0 ≡ c → ⊥) → Balance c ins ends w → Balance c (ins + 0) (ends + 0) (with_pair w place.0 t pair)
-  stays_elsewhere place pair want apart (inl few) = inl (omega arith)
-  stays_elsewhere place pair want apart (inr e) = grind (arith, other_place, set_elsewhere)
+  stays_elsewhere place pair want apart given = grind (arith, other_place, set_elsewhere)
 
   -- at CPU c
   module _ (place : PartNo) (want : place_of input l ≡ Some place) (here : place.0 ≡ c) (p : CpuPart) (there : slice_get w.parts c ≡ Some (Cpu p)) (thread : l.regs.thread.0 ≡ t) (x : CpuPart × Local) where
@@ -198,8 +197,7 @@ module _ (input : Input) (valid : IsValidInput input) (c : ℕ) (w : World Part 
     Behind k u = Balance c (ins + entry k) (ends + closing k) u
 
     not_there : (part : Part) → slice_get w.parts c ≡ Some part → (u : World Part Local) → ((e : CpuPart) → part ≡ Cpu e → ⊥) → Balance c ins ends w → Behind neither u
-    not_there part there u other (inl few) = inl (omega arith)
-    not_there part there u other (inr e) = let h : Some part ≡ Some (Cpu e.cpu) = sym there ∙ e.there in absurd (other e.cpu (cc))
+    not_there part there u other given = grind arith
 
     at_part : (part : Part) → m.place.0 ≡ c → slice_get w.parts c ≡ Some part → machine.yields (front_of input) about_row part m.local ≡ true → Balance c ins ends w → Behind (act_kind m.local (Some part)) (with_pair w c t (after input part m.local))
     at_part (Front (at.Cpu p)) here there polite b =
