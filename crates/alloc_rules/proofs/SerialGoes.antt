@@ -120,12 +120,7 @@ module _ {P V R : Type 0} (r : FrontRules P V R) (about : R → About) (planned 
 
     -- the call that comes next goes
     here : (before : List ThreadCall) (c : ThreadCall) (after : List ThreadCall) → asked.calls ≡ before ++ c ∷ after → ((u : ℕ) → picks_of u (turns_of before) ≤ done u) → ((x : ℕ) → 0 < got_in x before → is_out (state_of p.names x) ≡ true) → done c.thread.0 ≤ picks_of c.thread.0 (turns_of before) → stepped (rules r about asked) w c.thread.0 ≡ step.Moved
-    here before c after is ended out late =
-        let h = finds before c after is in
-        let script : List Planned = script_of c.thread.0 asked.calls in
-        let now : picks_of c.thread.0 (turns_of before) ≡ h.local.ended = omega (arith, ended c.thread.0, late, h.ended) in
-        let at : call_at script h.local.ended ≡ Some c.planned.call = ap (λ n. call_at script n) (sym now) ∙ h.at in
-        goes c.thread.0 h.local c.planned.call h.there h.in_script at (λ label e. out label.0 (free_after before c.planned.call label (valid.calls before c after (sym is)).order e))
+    here before c after is ended out late = grind (arith, call_at, finds, free_after, goes, picks_of, script_of)
 
     -- the labels that an ended call allocated are out
     out_more : (before : List ThreadCall) (c : ThreadCall) (after : List ThreadCall) → asked.calls ≡ before ++ c ∷ after → picks_of c.thread.0 (turns_of before) < done c.thread.0 → (x : ℕ) → (call : Call) → c.planned.call ≡ call → 0 < got x call → is_out (state_of p.names x) ≡ true
