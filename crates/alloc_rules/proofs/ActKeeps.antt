@@ -140,14 +140,11 @@ module _ {P V R : Type 0} {r : FrontRules P V R} {about : R → About} {planned 
         }
     found_kind l label addr span Large there space c n = to l (does.Map (map.Clear label (run_of span))) c n refl (λ none. none)
 
-    found_next : (l : Local V R) (label : Label) (addr : Addr) (o : Option SpanRef) (span : SpanRef) → o ≡ Some span → IsKindThere r.calls.rows span.kind → 0 < l.regs.hand.spare → Common' l → HasNone l → Next' (away l) (after_lookup r.calls l label addr o)
-    found_next l label addr o span is there space c n = grind (arith, found_kind)
-
     clear_next : (x : SpanMap) (l : Local V R) (o : Onward R) (spans : List SpanRef) → l.freed.items ≡ spans → Common' l → HasSpans l → IsOnward r.calls.rows about o → Next' (stand l.seat l.regs (l.acts + 1) (at_onward o)) (clears_span x l o spans).1
     clear_next x l o spans freed c n is = grind (arith, same_next)
 
     map_next : (x : SpanMap) (l : Local V R) (row : MapStep R) → Common' l → MapShape r.calls.rows about l row → FitsMap x l row → IsFoundClass r.calls.rows x row → Next' (stand l.seat l.regs (l.acts + 1) (at_map row)) (map_row r.calls x l row).1
-    map_next x l row c shape fit there = grind (arith, clear_next, found_next, to)
+    map_next x l row c shape fit there = grind (arith, clear_next, found_kind, to)
 
     -- from a step that is written out
     kept_at : (l new : Local V R) (s : Step R) → IsShaped r.calls.rows about planned t l → l.step ≡ s → NotHere (at_step s)
@@ -216,9 +213,6 @@ module _ {P V R : Type 0} {r : FrontRules P V R} {about : R → About} {planned 
     asked_by : (a : Asking) → about row ≡ calls.Asks a → HandAbout r.calls.rows l.regs (about row) → IsAsked r.calls.rows x.regs a
     asked_by a is has = grind arith
 
-    few_still : (a : About) (answer : Answer) → MayDecide a answer → HandAbout r.calls.rows l.regs a → x.regs.hand.items ≡ l.regs.hand.items → length x.regs.hand.items ≤ most_slots
-    few_still a answer may has same = grind arith
-
     follows_behind : (n : Next R) → fronts.IsNext r about row l.regs x.regs n → HandAbout r.calls.rows l.regs (about row) → Behind n
     follows_behind (next.Row to_row) may has = at_front then to_row common none_freed (subst (HandAbout r.calls.rows x.regs) (sym may.0) may.1)
     follows_behind (next.Serve a) may has = serves_next law table t then a x.regs.hand.items refl may.1 may.2 common none_freed
@@ -228,7 +222,7 @@ module _ {P V R : Type 0} {r : FrontRules P V R} {about : R → About} {planned 
     follows_behind (next.Publish s) may has = publishes_next law table t then s common (has_none may.1)
     follows_behind (next.Freed f) may has = ends_decided table t then (Free f.label) (Freed f.addr) common (has_none may.1)
     follows_behind (next.Decide answer None) may has = decides_behind (about row) answer None may.0 (λ e. may.2) tt (let e = ap length may.2 in omega (arith, e))
-    follows_behind (next.Decide answer (Some to_row)) may has = grind (arith, decides_behind, few_still)
+    follows_behind (next.Decide answer (Some to_row)) may has = grind (arith, decides_behind)
     follows_behind next.End may has = ends_next law table t then common (has_none may.1)
 
   pub front_acts_keep : FrontActsKeep r about planned Holds

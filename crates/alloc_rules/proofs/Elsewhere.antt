@@ -54,11 +54,8 @@ module _ {V R : Type 0} (e : FrontCalls V R) (about : R → About) (refuses : R 
   stocks_goes : (x : Local V R) (s : Serving) (others : List Addr) → GoesAs x (stocks e x s others)
   stocks_goes x s others = grind arith
 
-  onward_goes : (x : Local V R) (next : Onward R) → GoesAs x (goes_onward e x next)
-  onward_goes x next = grind (arith, ends_goes)
-
   clears_goes : (x : Local V R) (next : Onward R) (spans : List SpanRef) → GoesAs x (clears e x next spans)
-  clears_goes x next spans = grind (arith, onward_goes)
+  clears_goes x next spans = grind (arith, ends_goes)
 
   -- an act that decides a call and ends it
   ends_saying : (l : Local V R) (call : Call) (answer : Answer) → is_refusal answer ≡ false → Plain l (ends e (decided l call answer))

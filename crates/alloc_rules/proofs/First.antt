@@ -65,11 +65,8 @@ module _ {V R : Type 0} (e : FrontCalls V R) (about : R → About) (entries : Ar
   hand_malloc : (o : Option Class) (g : Regs) → g.hand.items ≡ [] → (regs_of_malloc e o g).hand.items ≡ []
   hand_malloc o g none = grind arith
 
-  hand_call : (c : Call) (g : Regs) → g.hand.items ≡ [] → (regs_of_call e c g).hand.items ≡ []
-  hand_call c g none = grind (arith, hand_malloc)
-
   hand_first : (o : Option Planned) (g : Regs) → g.hand.items ≡ [] → (regs_by e o g).hand.items ≡ []
-  hand_first o g none = grind (arith, hand_call)
+  hand_first o g none = grind (arith, hand_malloc)
 
 rest_behind : (script : List Planned) (j : ℕ) → slice_get (drop 1 script) j ≡ slice_get script (0 + 1 + j)
 rest_behind script j = grind arith

@@ -129,9 +129,6 @@ module _ {P V R : Type 0} (r : FrontRules P V R) (about : R → About) (planned 
     decides (calls.Publishes s) answer to is may same on_decided none = absurd may
     decides (calls.Frees f) answer to is may same on_decided none = absurd may
 
-    gives_has : (g : Giving R) → about row ≡ about_giving about g → IsGiving r.calls.rows about came g → (label : Label) (o : Addr) → d ≡ Frees label o → 0 < objects_at o.0 came
-    gives_has g is may label o doing = grind (arith, begins_has, other_doing)
-
     -- a hand that the front-end took itself
     gives : (g : Giving R) → IsNext r about row l.regs x.regs (next.Gave g) → Goal (clears r.calls (decides_free then g) (behind g) [])
     gives (giving.Rest s) may = publishing s may.0 may.1
@@ -143,7 +140,7 @@ module _ {P V R : Type 0} (r : FrontRules P V R) (about : R → About) (planned 
     follows_on (next.Row to) may = on (goes then (does.Front to)) (frees_has r.calls.rows x.regs (about row) may.1) (ap (λ (y : About). bare (doing_about y) x.regs.class.0 came l.rest) may.0) refl refl
     follows_on (next.Serve a) may = serving a may.0 (subst (HandAbout r.calls.rows l.regs) may.0 shape) came refl may.1
     follows_on (next.Fetch a) may = grind (arith, bare, on)
-    follows_on (next.Give g) may = grind (arith, bare, gives_has, on)
+    follows_on (next.Give g) may = grind (arith, bare, begins_has, other_doing, on)
     follows_on (next.Gave g) may = subst (λ (ss : List SpanRef). Goal (clears r.calls (decides_free then g) (behind g) ss)) (sym none_freed) (gives g may)
     follows_on (next.Publish s) may = publishing s may.0 may.1
     follows_on (next.Freed f) may = freeing f may.0 may.1

@@ -31,13 +31,10 @@ pub record Closes {V R : Type 0} (of : R → About) (after : Local V R) (k : ℕ
   pub answers : after.answers ≡ told
 
 module _ {V R : Type 0} (e : FrontCalls V R) (about : R → About) (entries : AreEntries e about) where
-  stocks_as : (l : Local V R) (s : Serving) (others : List Addr) → Goes about (stocks e l s others) (bare (Publishes s.label (Some s.addr)) l.regs.class.0 l.regs.hand.items l.rest) (l.acts + 1) l.answers
-  stocks_as l s others = grind (arith, bare, entry_is)
-
   -- the first object in hand is an allocation's answer, and the others stay in hand
   pub serves_as : (l : Local V R) (asking : Asking) (o : Addr) (others : List Addr) → l.regs.hand.items ≡ o ∷ others
       → Goes about (serves e l asking) (bare (Publishes asking.label (Some o)) l.regs.class.0 others l.rest) (l.acts + 1) (l.answers ++ record { act = l.acts; call = Malloc asking.label asking.size; answer = Block o (class_row e.rows l).size } ∷ [])
-  serves_as l asking o others is = grind (arith, bare, stocks_as)
+  serves_as l asking o others is = grind (arith, bare, entry_is)
 
   pub ends_as : (l : Local V R) (k : ℕ) → l.regs.hand.items ≡ [] → Closes about (ends e l) k l.rest (l.acts + 1) l.answers
   ends_as l k none = let counts = ends_counts e l in record { weighs = weighs_next e about entries l k none; acts = counts.0; answers = counts.1 }

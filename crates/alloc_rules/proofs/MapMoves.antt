@@ -102,11 +102,8 @@ module _ {P V R : Type 0} (r : FrontRules P V R) (about : R → About) (planned 
         (FindsRun label x _ (ap (Holds label) begins) counted refl (weighs_is (after addr) (after (address_of x)) (ap after (sym begins))))
         before.books.heap before.books.spans refl silent
 
-    looks_up : (label : Label) (addr : Addr) → Before (Lookup label addr) → (o : Option SpanRef) → find (holds (addr.0 / page_bytes)) p.map.spans ≡ o → FitsMap p.map (at (Lookup label addr)) (Lookup label addr) → Goal (Lookup label addr) (p.map, after_lookup r.calls (at (Lookup label addr)) label addr o)
-    looks_up label addr before o is fits = grind (arith, find_there, finds)
-
     by_row : (row : MapStep R) → Before row → FitsMap p.map (at row) row → Goal row (map_row r.calls p.map (at row) row)
-    by_row row before fits = grind (arith, clears_first, clears_run, looks_up, sets, sets_span)
+    by_row row before fits = grind (arith, clears_first, clears_run, find_there, finds, sets, sets_span)
 
   pub map_acts_move : MapActsMove r about planned
   map_acts_move huge labels limits p locals b calls t l row before step fits =

@@ -58,16 +58,13 @@ wants_by place split classes l does.Ended way = absurd (cc)
 waits_at : {P V R : Type 0} (l : Local V R) (part : Part P) → ((ns : List NameState) → part ≡ Names ns → waits_for ns l.step ≡ false) → waits part l ≡ false
 waits_at l part goes = grind arith
 
-not_waits : (n : NameState) → is_out n ≡ true → is_unpublished n ≡ false
-not_waits n out = grind arith
-
 -- the names that a step on names finds are those of the parts
 names_there : {P : Type 0} (split : ℕ) (p : Parts P) (few : split ≤ length p.fronts) (classes : ℕ) (n : PartNo) (ns : List NameState) → length p.shards ≡ classes → Some (number (split + classes + 2)) ≡ Some n → slice_get (parts_of split p) n.0 ≡ Some (Names ns) → p.names ≡ ns
 names_there split p few classes n ns k is there = grind (arith, get_names)
 
 -- a step of a call whose label is out doesn't wait
 goes_by : {P V R : Type 0} (about : R → About) (place : V → Regs → R → ℕ) (split : ℕ) (p : Parts P) (few : split ≤ length p.fronts) (classes : ℕ) (l : Local V R) (n : PartNo) (ns : List NameState) (s : Step R) (c : Call) (o : Option Call) → length p.shards ≡ classes → option_map (number_of split classes) (target_at place l s) ≡ Some n → slice_get (parts_of split p) n.0 ≡ Some (Names ns) → ((d : Call) → undecided about s ≡ Some d → o ≡ Some d) → o ≡ Some c → ((label : Label) → c ≡ Free label → is_out (state_of p.names label.0) ≡ true) → waits_for ns s ≡ false
-goes_by about place split p few classes l n ns s c o many wants there call is out = grind (arith, names_there, not_waits)
+goes_by about place split p few classes l n ns s c o many wants there call is out = grind (arith, names_there)
 
 -- a step is of a call, or its script has ended
 way_by : {R : Type 0} (s : Step R) (o : Option Call) (c : Call) → o ≡ Some c → (is_under_way s ≡ false → o ≡ None) → is_under_way s ≡ true

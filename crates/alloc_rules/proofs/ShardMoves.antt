@@ -223,11 +223,8 @@ module _ {P V R : Type 0} {r : FrontRules P V R} {about : R → About} {planned 
           gives_spans r about entries huge labels p locals b before.books p.fronts (shards_with given) give_cut (at_step (Give g)) g bag l.regs.class.0 l.regs.hand.items (s ∷ more) gives refl are refl
           (subst (λ (ss : List SpanRef). MoveObjects (stock_of r about p) (stock_of r about (with_shard given)) l.regs.class.0 l.regs.hand.items [] ss) left (objects given l.regs.hand.items [] freed give_changes))
 
-      give_all : Does r about m (with_shard given) b (at_step (Give g)) (shard_row r.calls x (at_step (Give g)) (Give g)).1
-      give_all = grind (arith, give_does)
-
     shard_does : (row : ShardStep R) → l.step ≡ does.Shard row → ShardShape m.rows about l row → Does r about m (with_shard (shard_row r.calls x (at_step row) row).0) b (at_step row) (shard_row r.calls x (at_step row) row).1
-    shard_does row is shape = grind (arith, add_does, fetch_does, give_all, is_added)
+    shard_does row is shape = grind (arith, add_does, fetch_does, give_does, is_added)
 
     -- the shard stays its class's, a new span's first page is a low number, and a new span brings an object at least
     pub shard_stays : (row : ShardStep R) → l.step ≡ does.Shard row → ShardShape m.rows about l row → IsShardOf m.rows l.regs.class.0 (shard_row r.calls x (at_step row) row).0 × IsLowRun row × AddsSome m.rows x l row

@@ -8,9 +8,6 @@ abbrev IsLow : Call → Type 0
 IsLow (Malloc label size) = size ≤ 2 ^ 40
 IsLow other = Unit {0}
 
-in_order : (earlier : List ThreadCall) (c : Call) → IsInOrder earlier c → IsLow c
-in_order earlier c order = grind arith
-
 abbrev Lows : List Planned → Type 0
 Lows script = All (λ (q : Planned). IsLow q.call) script
 
@@ -18,7 +15,7 @@ module _ (rows : List ClassRow) (planned : Planned → Type 0) where
   all_low : (asked : Asked) → IsValid rows planned asked → (t : ℕ) (earlier cs : List ThreadCall) → earlier ++ cs ≡ asked.calls → Lows (script_of t cs)
   all_low asked valid t earlier [] is = λ i d low. absurd (omega arith)
   all_low asked valid t earlier (c ∷ cs) is =
-      grind (arith, all_low asked valid t (earlier ++ c ∷ []) cs (append_snoc earlier c cs ∙ is), append_snoc, in_order)
+      grind (arith, all_low asked valid t (earlier ++ c ∷ []) cs (append_snoc earlier c cs ∙ is), append_snoc)
 
   low_at : (script : List Planned) (j : ℕ) (label : Label) (size : ℕ) (o : Option Planned) → Lows script → slice_get script j ≡ o → option_map (λ (q : Planned). q.call) o ≡ Some (Malloc label size) → size ≤ 2 ^ 40
   low_at script j label size None lows at is = absurd (cc)

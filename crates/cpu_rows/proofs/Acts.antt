@@ -31,12 +31,9 @@ module _ (rows : List ClassRow) (c : Config) where
   pub hand_same : (g r : Regs) (a : About) → r.class ≡ g.class → r.hand.items ≡ g.hand.items → HandAbout rows g a → HandAbout rows r a
   hand_same g r a class hand x = grind arith
 
-  hand_other : (r : Regs) (a : About) → HasNoLabel a → length r.hand.items ≤ most_slots → HandAbout rows r a
-  hand_other r a other few = grind arith
-
   hand_given : (r : Regs) (w : Giving CpuStep) → length r.hand.items ≤ most_slots → IsGiving (limits_of rows c) r.hand.items (as_row w)
       → HandAbout rows r (about_giving about_cpu w)
-  hand_given r w few is = grind (arith, hand_other)
+  hand_given r w few is = grind arith
 
   -- an allocation looks on in its domain, or in the shard
   pub looks : (v : CpuSeat) (row : CpuRow) (g r : Regs) (a : Asking) → about_row row ≡ Asks a → HasNone (seated v r) → IsAsked rows r a
@@ -139,14 +136,10 @@ module _ (turn : Turn) where
     pub domains : to.domains ≡ c.domains
     pub move : IsMove (limits_of rows c) to.moved
 
-  class_low : (row : CpuStep) (r new : Regs) → IsThere row → r.class ≡ g.class → HasClass row r new
-      → (new.class.0 < length rows) × ((new.class ≡ g.class) ⊎ ((new.hand.items ≡ []) × HasNoLabel (about_cpu row)))
-  class_low row r new there is given = grind arith
-
   builds : (row : CpuStep) (new : CpuPart) (to : CpuSeat) (r r' : Regs) (n : Next) (o o' : Option seats.Standing) → IsThere row → IsSeat to → IsMoved new r
       → GoesOn row to r r' o' n → o ≡ o' → Keeps row new (record { regs = r'; cpu = to.cpu.0; standing = o })
       → Acts row (leaving new to r' n)
-  builds row new to r r' n o o' there is m x same keeps = grind (arith, class_low)
+  builds row new to r r' n o o' there is m x same keeps = grind arith
 
   pub as_left : (row : CpuStep) (to : CpuSeat) (r : Regs) (o : Option seats.Standing) (n : Next) → IsBehind rows c to (front.Cpu row) g r o n
       → GoesOn row to r r o n

@@ -36,29 +36,14 @@ module _ (rows : List ClassRow) (v : CpuSeat) (row : CpuRow) where
   push_may : (r : Regs) (f : _) (o : Reply) → May (after_push rows v r f o).1
   push_may r f o = grind (arith, gives_may)
 
-  instructed_may : (s : CpuStep) → ((r : Regs) (o : Reply) → May (replied rows v r s o).1) → (r : Regs) (x : Instructed) → May (instructed_to rows v r s x).1
-  instructed_may s replies r x = grind arith
-
-  grew_may : (a : Asking) (x : Grew) → May (grew_to v a x)
-  grew_may a x = grind (arith, looks_may)
-
-  drained_may : (r : Regs) (hand : List Addr) (to : Class × CpuStep) → May (drained v r hand to).1
-  drained_may r hand to = grind (arith, gives_may)
-
   took_may : (r : Regs) (s : Stopping) → May (took rows v r s).1
-  took_may r s = grind (arith, drained_may)
-
-  taken_may : (hand : List Addr) → May (gives_taken v hand)
-  taken_may hand = grind (arith, gives_may)
+  took_may r s = grind (arith, gives_may)
 
   started_may : (hand : List Addr) (s : Stopping) → May (started v hand s)
-  started_may hand s = grind (arith, taken_may)
-
-  takes_may : (g : Regs) (a : Asking) (objects : List Addr) → May (takes g a objects).1
-  takes_may g a objects = grind arith
+  started_may hand s = grind (arith, gives_may)
 
   domain_may : (q : Transfer) (g : Regs) (s : DomainStep) → May (domain_acts rows q v g s).next
-  domain_may q g s = grind (arith, cond_both, takes_may)
+  domain_may q g s = grind (arith, cond_both)
 
 cap_may : (x : _) (o : Option CapFault) → is_refusal (cap_answer o) ≡ true → cpu_refuses (front.Cpu (cpu.SetCap x)) (cap_answer o) ≡ true
 cap_may x o refusal = grind arith
@@ -70,25 +55,17 @@ class_set [] k row same = refl
 class_set (x ∷ rows) zero row same = ap (λ c. c ∷ map slab_class rows) same
 class_set (x ∷ rows) (suc k) row same = ap (λ cs. slab_class x ∷ cs) (class_set rows k row same)
 
-cell_class : (stopped pops : Bool) (row : SlabRow) (r : Regs) (pc : Pc) → slab_class (cell stopped pops row r pc).row ≡ slab_class row
-cell_class stopped pops row r pc = grind (arith, cond_both)
-
 -- rows of the same classes, where there are any
 abbrev AreLike : List SlabRow → Option (List SlabRow) → Type 0
 AreLike rows None = Unit {0}
 AreLike rows (Some new) = map slab_class new ≡ map slab_class rows
 
-gives_like : (rows : List SlabRow) (k short : ℕ) → AreLike rows (taken_from rows short (victim k 0 (map unused rows)))
-gives_like rows k short = grind (arith, class_set, cond_both, div_ceil, narrower, slice_index_or, taken_from, unused, victim)
-
 widens_like : (rows : List SlabRow) (k : ℕ) (o : Option (List SlabRow)) → AreLike rows o → AreLike rows (option_map (widened k) o)
 widens_like rows k o like = grind (arith, class_set, slice_index_or, wider)
 
 grows_like : (slab : CpuSlab) (k : ℕ) → AreLike slab.rows (growth slab k)
-grows_like slab k = grind (arith, cond_both, gives_like, rise, roomy, taken_from, unused, used, victim, widened, widens_like)
-
-grown_like : (rows : List SlabRow) (o : Option (List SlabRow)) → AreLike rows o → map slab_class (unwrap_or o rows) ≡ map slab_class rows
-grown_like rows o like = grind arith
+grows_like slab k =
+    grind (arith, cond_both, class_set, div_ceil, narrower, slice_index_or, taken_from, unused, victim, rise, roomy, used, widened, widens_like)
 
 -- the acts at a CPU
 module _ (rows : List ClassRow) (c : Config) where
@@ -99,16 +76,13 @@ module _ (rows : List ClassRow) (c : Config) where
   row_set slab k row same is = record { most = is.most; limit = is.limit; classes = class_set slab.rows k row same ∙ is.classes }
 
   instructed_is : (a b : Bool) (p : CpuPart) (r : Regs) → Is p.slab → Is (rseq.instructed_by (rseq.arrival a b) p r).cpu.slab
-  instructed_is a b p r is = grind (arith, cell_class, row_set)
+  instructed_is a b p r is = grind (arith, cond_both, row_set)
 
   grew_is : (a b : Bool) (p : CpuPart) (r : Regs) → Is p.slab → Is (rseq.grew_by (rseq.arrival a b) p r).cpu.slab
-  grew_is a b p r is = grind (arith, cond_both, grown, grown_like, grows_like, growth)
+  grew_is a b p r is = grind (arith, cond_both, grown, grows_like, growth)
 
   left_is : (p : CpuPart) (t : ThreadNo) → Is p.slab → Is (rseq.left p t).slab
   left_is p t is = grind (arith, cond_both)
-
-  stopped_is : (p : CpuPart) (t : ThreadNo) (o : Option ThreadNo) → Is p.slab → Is (drains.stopped_by o p t).slab
-  stopped_is p t o is = grind arith
 
   capped_is : (slab : CpuSlab) (k n : ℕ) (o : Option CapFault) → Is slab → Is (set_unless o slab k n)
   capped_is slab k n o is = grind (arith, row_set)
@@ -120,17 +94,17 @@ module _ (rows : List ClassRow) (c : Config) where
   sequence_keeps : (p : CpuPart) (v : CpuSeat) (g : Regs) (row : CpuStep)
       → ((r : Regs) (o : Reply) → RefusesAs cpu_refuses (front.Cpu row) (replied rows v r row o).1) → (o : Option MoveTo) →
       (let x = sequence_by rows p v g row o in Keeps row p x.part x.next)
-  sequence_keeps p v g row replies o = grind (arith, instructed_is, instructed_may, left_is)
+  sequence_keeps p v g row replies o = grind (arith, instructed_is, left_is)
 
   stops_keep : (p : CpuPart) (t : ThreadNo) (s : Stopping) (o : Option ThreadNo) → (let x = stops p t s o in Keeps (cpu.Stop s) p x.0 x.1)
-  stops_keep p t s o = grind (arith, stopped_is)
+  stops_keep p t s o = grind arith
 
   leaves_keep : (p : CpuPart) (v : CpuSeat) (g : Regs) (o : Option MoveTo) → (let x = left_for p v g o in Keeps cpu.Leave p x.part x.next)
   leaves_keep p v g o = grind (arith, left_is)
 
   pub cpu_keeps : (p : CpuPart) (v : CpuSeat) (g : Regs) (row : CpuStep) → (let x = cpu_acts rows p v g row in Keeps row p x.part x.next)
   cpu_keeps p v g (cpu.Pop a) = sequence_keeps p v g (cpu.Pop a) (λ r o. pop_may rows v (front.Cpu (cpu.Pop a)) a o) (due v.moved g.ran)
-  cpu_keeps p v g (cpu.Grow a) = grind (arith, grew_is, grew_may)
+  cpu_keeps p v g (cpu.Grow a) = grind (arith, grew_is, looks_may)
   cpu_keeps p v g (cpu.Stock s) = sequence_keeps p v g (cpu.Stock s) (λ r o. stock_may rows v (front.Cpu (cpu.Stock s)) s r.hand.items) (due v.moved g.ran)
   cpu_keeps p v g (cpu.Push f) = sequence_keeps p v g (cpu.Push f) (λ r o. push_may rows v (front.Cpu (cpu.Push f)) r f o) (due v.moved g.ran)
   cpu_keeps p v g (cpu.PopBatch f) = grind (arith, gives_may, sequence_keeps)

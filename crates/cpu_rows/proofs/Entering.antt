@@ -81,11 +81,8 @@ copies_few done count low few = cond_both (ltb done count) (Copy done) Commit (�
 abbrev GoesOn : Regs → Pc → Cell → Type 0
 GoesOn r pc c = c.reply ≡ None → CopiesFew r.count pc → CopiesFew c.regs.count c.regs.pc × (executed c.regs.count c.regs.pc ≡ executed r.count pc + 1)
 
-test_few : (row : SlabRow) (r : Regs) (end : Bool) (exit : Reply) (n : ℕ) → n ≤ LOADED_ROOM → GoesOn r Test (cond end (closed_by row r exit) (counted row r n))
-test_few row r end exit n few none was = grind (arith, copies_few)
-
 cell_few : (stopped pops : Bool) (row : SlabRow) (r : Regs) (pc : Pc) → wanted r.seq r.hand.items ≤ LOADED_ROOM → GoesOn r pc (cell stopped pops row r pc)
-cell_few stopped pops row r pc few none was = grind (arith, copies_few, test_few)
+cell_few stopped pops row r pc few none was = grind (arith, copies_few)
 
 -- the mark stays behind an instruction without a reply
 open_stays : (pc : Pc) (o : Option Reply) (was : Bool) → o ≡ None → was ≡ true → open_after pc o was ≡ true
@@ -96,9 +93,6 @@ polite_closed : (running marked : Bool) → (running || not marked) ≡ true →
 polite_closed running marked polite other = grind arith
 
 module _ (rows : List ClassRow) (p : CpuPart) (l : Local) (has : HasToEnter l.step) (polite : yields_to_enter p l.regs.thread ≡ true) where
-  enters_as : (row : CpuStep) (regs : Regs) (next : Local) → l.step ≡ does.Front (front.Cpu row) → regs.pc ≡ Begin → next ≡ goes (with_regs l regs) (does.Front (front.Cpu row)) → runs p.running l.regs.thread ≡ false → Enters p l (entered p l.regs.thread, next)
-  enters_as row regs next own begin is other = grind (arith, polite_closed)
-
   module _ (row : CpuStep) (own : l.step ≡ does.Front (front.Cpu row)) (few : wanted l.regs.seq l.regs.hand.items ≤ LOADED_ROOM) where
     abbrev c : Cell
     c = instruction p l.regs
@@ -107,10 +101,10 @@ module _ (rows : List ClassRow) (p : CpuPart) (l : Local) (has : HasToEnter l.st
     executes_as here o is = grind (arith, cell_few, open_stays, runs_is)
 
     instructs_as : (a b : Bool) → runs p.running l.regs.thread ≡ a → let x = instructed_by (arrival a b) p l.regs in DoesAs (instructed_kind x.answer) p l (with_next rows l (about_cpu row) (instructs rows l.seat row x))
-    instructs_as a b is = grind (arith, enters_as, executes_as)
+    instructs_as a b is = grind (arith, polite_closed, executes_as)
 
   grows_as : (asking : Asking) (a b : Bool) → l.step ≡ does.Front (front.Cpu (Grow asking)) → runs p.running l.regs.thread ≡ a → let x = grew_by (arrival a b) p l.regs in DoesAs (growth_kind x.answer) p l (with_next rows l (about_cpu (Grow asking)) (grows l.seat asking x))
-  grows_as asking a b own is = grind (arith, enters_as)
+  grows_as asking a b own is = grind (arith, polite_closed)
 
 -- with a move that is due the thread leaves
 sequence_as : (rows : List ClassRow) (p : CpuPart) (l : Local) (row : CpuStep) → l.step ≡ does.Front (front.Cpu row) → HasToEnter l.step → wanted l.regs.seq l.regs.hand.items ≤ LOADED_ROOM → (o : Option MoveTo) → (is_some o || yields_to_enter p l.regs.thread) ≡ true → DoesAs (sequence_kind p l o) p l (with_next rows l (about_cpu row) (sequence_by rows p l.seat l.regs row o))
@@ -145,11 +139,8 @@ module _ (m : Limits) (p : CpuPart) (l : Local) (table : AreRows m.rows) (class 
   few_batch : (class_row m.rows l).batch ≤ LOADED_ROOM
   few_batch = (table.each l.regs.class.0 no_class class).few
 
-  stops_as : (s : Stopping) → l.step ≡ does.Front (front.Cpu (Stop s)) → (o : Option ThreadNo) → p.stopper ≡ o → (let n = stops p l.regs.thread s o in DoesAs neither p l (n.0, follows (cpu_calls m.rows) l (Some (call_of s)) n.1))
-  stops_as s is o none = grind (arith, away_by, still)
-
   row_as : (row : CpuStep) → l.step ≡ does.Front (front.Cpu row) → At (does.Front (front.Cpu row)) → As (does.Front (front.Cpu row))
-  row_as row is shape polite = grind (arith, away_by, few_batch, grows_as, has_by, sequence_as, still, stops_as, wants)
+  row_as row is shape polite = grind (arith, away_by, few_batch, grows_as, has_by, sequence_as, still, wants)
 
   step_as : (s : Step) → l.step ≡ s → At s → As s
   step_as s is shape polite = grind (arith, away_by, row_as, still)

@@ -19,11 +19,7 @@ objects_reverse n (x ∷ xs) = omega (arith, ap (objects_at n) (reverse-append (
 pub objects_last : (n k : ℕ) (xs : List Addr) → objects_at n (without_last k xs) + objects_at n (last_first k xs) ≡ objects_at n xs
 objects_last n k xs = omega (arith, objects_reverse n (drop (length xs - k) xs), objects_cut n (length xs - k) xs)
 
-reply_moves : (reply : Reply) (old new : SlabRow) (r after : Regs) → ReplyMoves reply old new r after → (n : ℕ)
-    → objects_at n (held new) + objects_at n after.hand.items ≡ objects_at n (held old) + objects_at n r.hand.items
-reply_moves reply old new r after x n = grind (arith, objects_append, objects_cut, objects_reverse)
-
 -- so an answer
 pub answer_moves : (answer : Instructed) (old new : SlabRow) (r after : Regs) → AnswerMoves answer old new r after → (n : ℕ)
     → objects_at n (held new) + objects_at n after.hand.items ≡ objects_at n (held old) + objects_at n r.hand.items
-answer_moves answer old new r after x n = grind (arith, reply_moves)
+answer_moves answer old new r after x n = grind (arith, objects_append, objects_cut, objects_reverse)

@@ -28,9 +28,6 @@ row_about g = grind arith
 pub busy_other : (s : Stopping) (owner : ThreadNo) → IsOther (call_of s) (Busy owner)
 busy_other s owner = grind arith
 
-pub cap_other : (r : Resizing) (o : Option CapFault) → IsOther (Resize r.cpu r.class r.cap) (cap_answer o)
-cap_other r o = grind arith
-
 module _ (Serves : Regs → Type 0) (rows : List ClassRow) (v : CpuSeat) where
   abbrev May : CpuRow → Regs × Next → Type 0
   May row n = ComesWith about_row cpu_refuses Serves row n.0 n.1
@@ -45,14 +42,11 @@ module _ (Serves : Regs → Type 0) (rows : List ClassRow) (v : CpuSeat) where
   pop_may : (r : Regs) (a : Asking) (o : Reply) → (o ≡ reply.Popped → Serves r) → May (front.Cpu (cpu.Pop a)) (r, after_pop v a o)
   pop_may r a o some = grind (arith, looks_may)
 
-  stock_may : (r : Regs) (s : Serving) (hand : List Addr) → May (front.Cpu (cpu.Stock s)) (r, after_stock v s hand)
-  stock_may r s hand = grind (arith, gives_may)
-
   push_may : (r : Regs) (f : Freeing) (o : Reply) → May (front.Cpu (cpu.Push f)) (after_push rows v r f o)
   push_may r f o = grind (arith, gives_may)
 
   replied_may : (r : Regs) (row : CpuStep) (o : Reply) → ((a : Asking) → row ≡ cpu.Pop a → o ≡ reply.Popped → Serves r) → May (front.Cpu row) (replied rows v r row o)
-  replied_may r row o some = grind (arith, gives_may, pop_may, push_may, stock_may)
+  replied_may r row o some = grind (arith, gives_may, pop_may, push_may)
 
   instructed_may : (r : Regs) (row : CpuStep) (x : Instructed) → ((a : Asking) → row ≡ cpu.Pop a → x ≡ instructed.Done reply.Popped → Serves r) → May (front.Cpu row) (instructed_to rows v r row x)
   instructed_may r row x some = grind (arith, replied_may)
@@ -64,20 +58,14 @@ module _ (Serves : Regs → Type 0) (rows : List ClassRow) (v : CpuSeat) where
   stop_may : (p : CpuPart) (r : Regs) (s : Stopping) (o : Option ThreadNo) → May (front.Cpu (cpu.Stop s)) (r, (stops p r.thread s o).1)
   stop_may p r s o = grind (arith, busy_other)
 
-  drained_may : (r : Regs) (d : Draining) (hand : List Addr) (to : Class × CpuStep) → about_cpu to.1 ≡ Other (Some (Drain d.cpu)) → May (front.Cpu (cpu.Take (stopping.Drain d))) (drained v r hand to)
-  drained_may r d hand to is = grind (arith, gives_may)
-
   took_may : (r : Regs) (s : Stopping) → May (front.Cpu (cpu.Take s)) (took rows v r s)
-  took_may r s = grind (arith, drained_may, drains_about)
+  took_may r s = grind (arith, gives_may, drains_about)
 
   cap_may : (x : Resizing) (o : Option CapFault) → is_refusal (cap_answer o) ≡ true → cpu_refuses (front.Cpu (cpu.SetCap x)) (cap_answer o) ≡ true
   cap_may x o refusal = grind arith
 
-  taken_may : (r : Regs) (x : Resizing) (hand : List Addr) → May (front.Cpu (cpu.Start (stopping.Resize x))) (r, gives_taken v hand)
-  taken_may r x hand = grind (arith, gives_may)
-
   started_may : (r : Regs) (s : Stopping) → May (front.Cpu (cpu.Start s)) (r, started v r.hand.items s)
-  started_may r s = grind (arith, taken_may)
+  started_may r s = grind (arith, gives_may)
 
   -- by the move, with which the number of domains stays
   abbrev pub MayCome : {P : Type 0} → CpuRow → Left P → Type 0
@@ -90,7 +78,7 @@ module _ (Serves : Regs → Type 0) (rows : List ClassRow) (v : CpuSeat) where
   leave_comes p r o = grind arith
 
   pub cpu_comes : (p : CpuPart) (r : Regs) (row : CpuStep) → (let x = rseq.instructed p r in (a : Asking) → row ≡ cpu.Pop a → x.answer ≡ instructed.Done reply.Popped → Serves x.regs) → MayCome (front.Cpu row) (cpu_acts rows p v r row)
-  cpu_comes p r row some = grind (arith, cap_may, cap_other, grew_may, leave_comes, sequence_comes, started_may, stop_may, took_may)
+  cpu_comes p r row some = grind (arith, cap_may, grew_may, leave_comes, sequence_comes, started_may, stop_may, took_may)
 
 -- Where the act fits, an allocation is served with an object in hand.
 module _ (rows : List ClassRow) (v : CpuSeat) where

@@ -11,11 +11,8 @@ use Rattle.cpu_rows.proofs.Lists.{Here, IsSet, There, set_once}
 stop_low : (m : Limits) (k : Class) (s : Stopping) → IsStop m k s → (cpu_of s).0 < m.cpus
 stop_low m k s is = grind arith
 
-start_low : (m : Limits) (v : CpuSeat) (g : Regs) (s : Stopping) → CpuShape m (seated v g) (cpu.Start s) → (cpu_of s).0 < m.cpus
-start_low m v g s shape = grind arith
-
 pub cpu_low : (m : Limits) (v : CpuSeat) (g : Regs) (row : CpuStep) → v.cpu.0 < m.cpus → CpuShape m (seated v g) row → (at_cpu v.cpu row).0 < m.cpus
-cpu_low m v g row home shape = grind (arith, start_low, stop_low)
+cpu_low m v g row home shape = grind (arith, stop_low)
 
 -- and so is the domain
 has_domain : (m : Limits) (v : CpuSeat) (g : Regs) (row : DomainStep) → DomainShape m (seated v g) row → 0 < v.domains

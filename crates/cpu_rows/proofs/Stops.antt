@@ -29,9 +29,6 @@ busy_other s owner = grind arith
 cap_other : (r : Resizing) (o : Option CapFault) → IsOther (Resize r.cpu r.class r.cap) (cap_answer o)
 cap_other r o = grind arith
 
-stopped_part : (o : Option ThreadNo) (p : CpuPart) (t : ThreadNo) → ((drains.stopped_by o p t).epoch ≤ p.epoch + 1) × ((drains.stopped_by o p t).slab ≡ p.slab)
-stopped_part o p t = grind arith
-
 -- a drain is to take class 0 behind its fence, below which there is none
 nothing_taken : (k : Class) (s : Stopping) → IsAtFirst k s → empty_to_take k.0 s ≡ no_class_empty
 nothing_taken k s is = grind (arith, fun_ext, le-ltb)
@@ -41,12 +38,9 @@ abbrev empty_of : ℕ → Stopping → ℕ → Bool
 empty_of k (stopping.Drain d) = below (k + 1)
 empty_of k (stopping.Resize r) = alone r.class.0
 
-known_before : (m : Limits) (k : Class) (s : Stopping) → IsStop m k s → (j : ℕ) → empty_of k.0 s j ≡ true → (k.0 ≡ j → ⊥) → empty_to_take k.0 s j ≡ true
-known_before m k s is j known apart = grind (arith, eqb-true, lt-ltb, ltb-true)
-
 is_empty : (m : Limits) (k : Class) (hand : Contents Addr) (p : CpuPart) (s : Stopping) → Takes p k.0 hand → k.0 < length p.slab.rows → IsStop m k s
     → ((j : ℕ) → empty_to_take k.0 s j ≡ true → (row_at p.slab j).top ≡ 0) → (j : ℕ) → empty_of k.0 s j ≡ true → (row_at (drains.taken p k.0).slab j).top ≡ 0
-is_empty m k hand p s x low is before j known = grind (arith, cases_eq, known_before, row_same)
+is_empty m k hand p s x low is before j known = grind (arith, cases_eq, eqb-true, lt-ltb, ltb-true, row_same)
 
 taken_few : (m : Limits) (k : Class) (s : Stopping) → AreRows m.rows → k.0 < length m.rows → IsStop m k s → taken_by s ≤ 120 * most_slots
 taken_few m k s rows low is = grind arith
@@ -56,10 +50,6 @@ record IsDrainNext (m : Limits) (k : Class) (d : Draining) (next : Class × CpuS
   pub about : about_cpu next.1 ≡ Other (Some (Drain d.cpu))
   pub come : IsToCome m next.0 next.1
   pub stand : cpu_standing m.rows next.0.0 next.1 ≡ stands d.cpu true (below (k.0 + 1))
-
-drains_come : (m : Limits) (k : Class) (d : Draining) → k.0 < length m.rows → d.cpu.0 < m.cpus → d.taken ≤ (k.0 + 1) * most_slots
-    → IsDrainNext m k d (drains_on m.rows k d)
-drains_come m k d low there few = grind (arith, cond_both, ltb-false, ltb-true)
 
 -- a capacity that is set, or refused, moves no object
 capped_rows : (slab : CpuSlab) (k n : ℕ) → k < length slab.rows → (o : Option CapFault) (j : ℕ) → held (row_at (set_unless o slab k n) j) ≡ held (row_at slab j)
@@ -98,7 +88,7 @@ module _ (turn : Turn) where
   -- Stop
   stop_by : (s : Stopping) (o : Option ThreadNo) → There (cpu.Stop s) → p.stopper ≡ o
       → (let n = stops p g.thread s o in Acts turn (cpu.Stop s) (leaving n.0 v g n.1))
-  stop_by s o there none = grind (arith, busy_other, goes_on, quiet, same_keeps, slab_same, stopped_part)
+  stop_by s o there none = grind (arith, busy_other, goes_on, quiet, same_keeps, slab_same)
 
   pub stop_does : (s : Stopping) → There (cpu.Stop s) → Does turn (cpu.Stop s)
   stop_does s there = record { fits = λ e. there.pair.stops (e ∙ ap (λ (u : ThreadNo). Some u) there.sits.thread); acts = stop_by s p.stopper there refl }
@@ -124,7 +114,7 @@ module _ (turn : Turn) where
 
   took_so : (s : Stopping) (r : Regs) → length r.hand.items ≤ most_slots → r.class ≡ g.class → g.class.0 < length rows → IsAtBegin r
       → IsStop (limits_of rows c) g.class s → (let n = took rows v r s in TookSo s r n.0 n.1)
-  took_so s r few class low begin is = grind (arith, as_left, drained_so, drains_come, goes_on)
+  took_so s r few class low begin is = grind (arith, as_left, drained_so, cond_both, ltb-false, ltb-true, goes_on)
 
   pub take_does_all : (s : Stopping) → There (cpu.Take s) → Does turn (cpu.Take s)
   take_does_all s there =
@@ -196,12 +186,8 @@ module _ (turn : Turn) where
       → Acts turn (cpu.Start s) (leaving (drains.started p) v g n)
   starts s n there begin b = grind (arith, quiet)
 
-  taken_behind : (x : Resizing) (xs : List Addr) → g.hand.items ≡ xs → HasHand most_slots (seated v g)
-      → Behind (cpu.Start (stopping.Resize x)) g None (gives_taken v xs)
-  taken_behind x xs is n = grind (arith, gives_away)
-
   start_by : (s : Stopping) → There (cpu.Start s) → Shape (cpu.Start s) → Acts turn (cpu.Start s) (leaving (drains.started p) v g (started v g.hand.items s))
-  start_by s there shape = grind (arith, starts, taken_behind)
+  start_by s there shape = grind (arith, starts, gives_away)
 
   pub start_does : (s : Stopping) → There (cpu.Start s) → Does turn (cpu.Start s)
   start_does s there = grind (arith, held_of, start_by, stopper_is)
