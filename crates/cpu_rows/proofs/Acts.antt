@@ -31,10 +31,6 @@ module _ (rows : List ClassRow) (c : Config) where
   pub hand_same : (g r : Regs) (a : About) → r.class ≡ g.class → r.hand.items ≡ g.hand.items → HandAbout rows g a → HandAbout rows r a
   hand_same g r a class hand x = grind arith
 
-  hand_given : (r : Regs) (w : Giving CpuStep) → length r.hand.items ≤ most_slots → IsGiving (limits_of rows c) r.hand.items (as_row w)
-      → HandAbout rows r (about_giving about_cpu w)
-  hand_given r w few is = grind arith
-
   -- an allocation looks on in its domain, or in the shard
   pub looks : (v : CpuSeat) (row : CpuRow) (g r : Regs) (a : Asking) → about_row row ≡ Asks a → HasNone (seated v r) → IsAsked rows r a
       → IsBehind v row g r None (looks_on v a)
@@ -49,7 +45,7 @@ module _ (rows : List ClassRow) (c : Config) where
   pub gives_away : (v : CpuSeat) (row : CpuRow) (g r : Regs) (w : Giving CpuStep) → about_row row ≡ about_giving about_cpu w → IsAtBegin r
       → length r.hand.items ≤ most_slots → IsGiving (limits_of rows c) r.hand.items (as_row w) → IsBehind v row g r (giving_standing rows (as_row w))
       (gives v w)
-  gives_away v row g r w is begin few has = grind (arith, cond_both, gives_to_shard, hand_given, some_domain)
+  gives_away v row g r w is begin few has = grind (arith, cond_both, gives_to_shard, some_domain)
 
   -- the call goes on with a row at a CPU
   pub goes_on : (v : CpuSeat) (row to : CpuStep) (g r : Regs) → about_cpu to ≡ about_cpu row → HandAbout rows r (about_cpu row)

@@ -36,14 +36,8 @@ module _ (rows : List ClassRow) (v : CpuSeat) (row : CpuRow) where
   push_may : (r : Regs) (f : _) (o : Reply) → May (after_push rows v r f o).1
   push_may r f o = grind (arith, gives_may)
 
-  took_may : (r : Regs) (s : Stopping) → May (took rows v r s).1
-  took_may r s = grind (arith, gives_may)
-
   started_may : (hand : List Addr) (s : Stopping) → May (started v hand s)
   started_may hand s = grind (arith, gives_may)
-
-  domain_may : (q : Transfer) (g : Regs) (s : DomainStep) → May (domain_acts rows q v g s).next
-  domain_may q g s = grind (arith, cond_both)
 
 cap_may : (x : _) (o : Option CapFault) → is_refusal (cap_answer o) ≡ true → cpu_refuses (front.Cpu (cpu.SetCap x)) (cap_answer o) ≡ true
 cap_may x o refusal = grind arith
@@ -60,12 +54,9 @@ abbrev AreLike : List SlabRow → Option (List SlabRow) → Type 0
 AreLike rows None = Unit {0}
 AreLike rows (Some new) = map slab_class new ≡ map slab_class rows
 
-widens_like : (rows : List SlabRow) (k : ℕ) (o : Option (List SlabRow)) → AreLike rows o → AreLike rows (option_map (widened k) o)
-widens_like rows k o like = grind (arith, class_set, slice_index_or, wider)
-
 grows_like : (slab : CpuSlab) (k : ℕ) → AreLike slab.rows (growth slab k)
 grows_like slab k =
-    grind (arith, cond_both, class_set, div_ceil, narrower, slice_index_or, taken_from, unused, victim, rise, roomy, used, widened, widens_like)
+    grind (arith, cond_both, class_set, div_ceil, narrower, slice_index_or, taken_from, unused, victim, rise, roomy, used, widened, wider)
 
 -- the acts at a CPU
 module _ (rows : List ClassRow) (c : Config) where
@@ -74,9 +65,6 @@ module _ (rows : List ClassRow) (c : Config) where
 
   row_set : (slab : CpuSlab) (k : ℕ) (row : SlabRow) → slab_class row ≡ slab_class (row_at slab k) → Is slab → Is (with_row slab k row)
   row_set slab k row same is = record { most = is.most; limit = is.limit; classes = class_set slab.rows k row same ∙ is.classes }
-
-  instructed_is : (a b : Bool) (p : CpuPart) (r : Regs) → Is p.slab → Is (rseq.instructed_by (rseq.arrival a b) p r).cpu.slab
-  instructed_is a b p r is = grind (arith, cond_both, row_set)
 
   grew_is : (a b : Bool) (p : CpuPart) (r : Regs) → Is p.slab → Is (rseq.grew_by (rseq.arrival a b) p r).cpu.slab
   grew_is a b p r is = grind (arith, cond_both, grown, grows_like, growth)
@@ -94,7 +82,7 @@ module _ (rows : List ClassRow) (c : Config) where
   sequence_keeps : (p : CpuPart) (v : CpuSeat) (g : Regs) (row : CpuStep)
       → ((r : Regs) (o : Reply) → RefusesAs cpu_refuses (front.Cpu row) (replied rows v r row o).1) → (o : Option MoveTo) →
       (let x = sequence_by rows p v g row o in Keeps row p x.part x.next)
-  sequence_keeps p v g row replies o = grind (arith, instructed_is, left_is)
+  sequence_keeps p v g row replies o = grind (arith, cond_both, row_set, left_is)
 
   stops_keep : (p : CpuPart) (t : ThreadNo) (s : Stopping) (o : Option ThreadNo) → (let x = stops p t s o in Keeps (cpu.Stop s) p x.0 x.1)
   stops_keep p t s o = grind arith
@@ -110,10 +98,10 @@ module _ (rows : List ClassRow) (c : Config) where
   cpu_keeps p v g (cpu.PopBatch f) = grind (arith, gives_may, sequence_keeps)
   cpu_keeps p v g (cpu.Stop s) = stops_keep p g.thread s p.stopper
   cpu_keeps p v g (cpu.Fence s) = record { slab = λ is. is; may = tt }
-  cpu_keeps p v g (cpu.Take s) = grind (arith, row_set, took_may)
+  cpu_keeps p v g (cpu.Take s) = grind (arith, row_set, gives_may)
   cpu_keeps p v g (cpu.SetCap x) = grind (arith, cap_may, capped_is)
   cpu_keeps p v g (cpu.Start s) = record { slab = λ is. is; may = started_may rows v (front.Cpu (cpu.Start s)) g.hand.items s }
   cpu_keeps p v g cpu.Leave = leaves_keep p v g v.moved
 
   pub refuses : (p : CpuFrontPart) (v : CpuSeat) (g : Regs) (row : CpuRow) → RefusesAs cpu_refuses row (front_acts rows p v g row).next
-  refuses p v g row = grind (arith, cpu_keeps, domain_may)
+  refuses p v g row = grind (arith, cpu_keeps, cond_both)

@@ -81,9 +81,6 @@ copies_few done count low few = cond_both (ltb done count) (Copy done) Commit (�
 abbrev GoesOn : Regs → Pc → Cell → Type 0
 GoesOn r pc c = c.reply ≡ None → CopiesFew r.count pc → CopiesFew c.regs.count c.regs.pc × (executed c.regs.count c.regs.pc ≡ executed r.count pc + 1)
 
-cell_few : (stopped pops : Bool) (row : SlabRow) (r : Regs) (pc : Pc) → wanted r.seq r.hand.items ≤ LOADED_ROOM → GoesOn r pc (cell stopped pops row r pc)
-cell_few stopped pops row r pc few none was = grind (arith, copies_few)
-
 -- the mark stays behind an instruction without a reply
 open_stays : (pc : Pc) (o : Option Reply) (was : Bool) → o ≡ None → was ≡ true → open_after pc o was ≡ true
 open_stays pc o was none is = grind arith
@@ -98,13 +95,10 @@ module _ (rows : List ClassRow) (p : CpuPart) (l : Local) (has : HasToEnter l.st
     c = instruction p l.regs
 
     executes_as : runs p.running l.regs.thread ≡ true → (o : Option Reply) → c.reply ≡ o → DoesAs (instructed_kind (answered o)) p l (with_cell p l.regs c, (let n = instructed_to rows l.seat c.regs row (answered o) in follows (cpu_calls rows) (with_regs l n.0) (call_about (about_cpu row)) n.1))
-    executes_as here o is = grind (arith, cell_few, open_stays, runs_is)
+    executes_as here o is = grind (arith, copies_few, open_stays, runs_is)
 
     instructs_as : (a b : Bool) → runs p.running l.regs.thread ≡ a → let x = instructed_by (arrival a b) p l.regs in DoesAs (instructed_kind x.answer) p l (with_next rows l (about_cpu row) (instructs rows l.seat row x))
     instructs_as a b is = grind (arith, polite_closed, executes_as)
-
-  grows_as : (asking : Asking) (a b : Bool) → l.step ≡ does.Front (front.Cpu (Grow asking)) → runs p.running l.regs.thread ≡ a → let x = grew_by (arrival a b) p l.regs in DoesAs (growth_kind x.answer) p l (with_next rows l (about_cpu (Grow asking)) (grows l.seat asking x))
-  grows_as asking a b own is = grind (arith, polite_closed)
 
 -- with a move that is due the thread leaves
 sequence_as : (rows : List ClassRow) (p : CpuPart) (l : Local) (row : CpuStep) → l.step ≡ does.Front (front.Cpu row) → HasToEnter l.step → wanted l.regs.seq l.regs.hand.items ≤ LOADED_ROOM → (o : Option MoveTo) → (is_some o || yields_to_enter p l.regs.thread) ≡ true → DoesAs (sequence_kind p l o) p l (with_next rows l (about_cpu row) (sequence_by rows p l.seat l.regs row o))
@@ -140,7 +134,7 @@ module _ (m : Limits) (p : CpuPart) (l : Local) (table : AreRows m.rows) (class 
   few_batch = (table.each l.regs.class.0 no_class class).few
 
   row_as : (row : CpuStep) → l.step ≡ does.Front (front.Cpu row) → At (does.Front (front.Cpu row)) → As (does.Front (front.Cpu row))
-  row_as row is shape polite = grind (arith, away_by, few_batch, grows_as, has_by, sequence_as, still, wants)
+  row_as row is shape polite = grind (arith, away_by, few_batch, polite_closed, has_by, sequence_as, still, wants)
 
   step_as : (s : Step) → l.step ≡ s → At s → As s
   step_as s is shape polite = grind (arith, away_by, row_as, still)

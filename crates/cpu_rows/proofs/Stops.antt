@@ -186,11 +186,8 @@ module _ (turn : Turn) where
       → Acts turn (cpu.Start s) (leaving (drains.started p) v g n)
   starts s n there begin b = grind (arith, quiet)
 
-  start_by : (s : Stopping) → There (cpu.Start s) → Shape (cpu.Start s) → Acts turn (cpu.Start s) (leaving (drains.started p) v g (started v g.hand.items s))
-  start_by s there shape = grind (arith, starts, gives_away)
-
   pub start_does : (s : Stopping) → There (cpu.Start s) → Does turn (cpu.Start s)
-  start_does s there = grind (arith, held_of, start_by, stopper_is)
+  start_does s there = grind (arith, held_of, starts, gives_away, stopper_is)
 
   -- Leave
   leave_by : (o : Option MoveTo) → There cpu.Leave → v.moved ≡ o → is_some o ≡ true → Acts turn cpu.Leave (left_for p v g o)
