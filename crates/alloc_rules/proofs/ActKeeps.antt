@@ -140,11 +140,8 @@ module _ {P V R : Type 0} {r : FrontRules P V R} {about : R → About} {planned 
         }
     found_kind l label addr span Large there space c n = to l (does.Map (map.Clear label (run_of span))) c n refl (λ none. none)
 
-    clear_next : (x : SpanMap) (l : Local V R) (o : Onward R) (spans : List SpanRef) → l.freed.items ≡ spans → Common' l → HasSpans l → IsOnward r.calls.rows about o → Next' (stand l.seat l.regs (l.acts + 1) (at_onward o)) (clears_span x l o spans).1
-    clear_next x l o spans freed c n is = grind (arith, same_next)
-
     map_next : (x : SpanMap) (l : Local V R) (row : MapStep R) → Common' l → MapShape r.calls.rows about l row → FitsMap x l row → IsFoundClass r.calls.rows x row → Next' (stand l.seat l.regs (l.acts + 1) (at_map row)) (map_row r.calls x l row).1
-    map_next x l row c shape fit there = grind (arith, clear_next, found_kind, to)
+    map_next x l row c shape fit there = grind (arith, same_next, found_kind, to)
 
     -- from a step that is written out
     kept_at : (l new : Local V R) (s : Step R) → IsShaped r.calls.rows about planned t l → l.step ≡ s → NotHere (at_step s)

@@ -65,9 +65,6 @@ module _ {V R : Type 0} (e : FrontCalls V R) (about : R → About) (entries : Ar
   hand_malloc : (o : Option Class) (g : Regs) → g.hand.items ≡ [] → (regs_of_malloc e o g).hand.items ≡ []
   hand_malloc o g none = grind arith
 
-  hand_first : (o : Option Planned) (g : Regs) → g.hand.items ≡ [] → (regs_by e o g).hand.items ≡ []
-  hand_first o g none = grind (arith, hand_malloc)
-
 rest_behind : (script : List Planned) (j : ℕ) → slice_get (drop 1 script) j ≡ slice_get script (0 + 1 + j)
 rest_behind script j = grind arith
 
@@ -202,7 +199,7 @@ module _ {P V R : Type 0} {r : FrontRules P V R} {about : R → About} {planned 
       }
 
   nothing_first : (t : ℕ) → HasNothing (account_of about (first_of r about asked t))
-  nothing_first t = grind (arith, first_regs, fresh, hand_first)
+  nothing_first t = grind (arith, first_regs, fresh, hand_malloc)
 
   all_nothing : All HasNothing (map (account_of about) first_locals)
   all_nothing =

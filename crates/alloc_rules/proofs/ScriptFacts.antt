@@ -50,11 +50,8 @@ module _ {V R : Type 0} (e : FrontCalls V R) (about : R → About) (entries : Ar
   malloc_way : (c : Option Class) (label : Label) (size : ℕ) (o : Option R) → is_under_way (step_or (does.Shard (shard.Fetch (record { label = label; size = size }))) o) ≡ true
   malloc_way c label size o = grind arith
 
-  own_way : (o : Option R) → is_some o ≡ true → is_under_way (step_or does.Ended o) ≡ true
-  own_way o some = grind arith
-
   call_way : (call : Call) → (IsOwn call → is_some (e.other v call) ≡ true) → is_under_way (first_of_call e v call) ≡ true
-  call_way call there = grind (arith, malloc_way, own_way)
+  call_way call there = grind (arith, malloc_way)
 
   pub next_way : (o : Option Planned) → HasRow e v o → is_under_way (first_act e v o) ≡ is_some (option_map (λ (p : Planned). p.call) o)
   next_way o there = grind (arith, call_way)

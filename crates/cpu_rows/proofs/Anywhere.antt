@@ -39,9 +39,6 @@ module _ (rows : List ClassRow) (v : CpuSeat) (row : CpuRow) where
   started_may : (hand : List Addr) (s : Stopping) → May (started v hand s)
   started_may hand s = grind (arith, gives_may)
 
-cap_may : (x : _) (o : Option CapFault) → is_refusal (cap_answer o) ≡ true → cpu_refuses (front.Cpu (cpu.SetCap x)) (cap_answer o) ≡ true
-cap_may x o refusal = grind arith
-
 -- Slabs: a row of the same class takes the place of another
 class_set : (rows : List SlabRow) (k : ℕ) (row : SlabRow) → slab_class row ≡ slab_class (slice_index_or rows k no_row)
     → map slab_class (slice_set rows k row) ≡ map slab_class rows
@@ -54,10 +51,6 @@ abbrev AreLike : List SlabRow → Option (List SlabRow) → Type 0
 AreLike rows None = Unit {0}
 AreLike rows (Some new) = map slab_class new ≡ map slab_class rows
 
-grows_like : (slab : CpuSlab) (k : ℕ) → AreLike slab.rows (growth slab k)
-grows_like slab k =
-    grind (arith, cond_both, class_set, div_ceil, narrower, slice_index_or, taken_from, unused, victim, rise, roomy, used, widened, wider)
-
 -- the acts at a CPU
 module _ (rows : List ClassRow) (c : Config) where
   abbrev Is : CpuSlab → Type 0
@@ -67,10 +60,8 @@ module _ (rows : List ClassRow) (c : Config) where
   row_set slab k row same is = record { most = is.most; limit = is.limit; classes = class_set slab.rows k row same ∙ is.classes }
 
   grew_is : (a b : Bool) (p : CpuPart) (r : Regs) → Is p.slab → Is (rseq.grew_by (rseq.arrival a b) p r).cpu.slab
-  grew_is a b p r is = grind (arith, cond_both, grown, grows_like, growth)
-
-  left_is : (p : CpuPart) (t : ThreadNo) → Is p.slab → Is (rseq.left p t).slab
-  left_is p t is = grind (arith, cond_both)
+  grew_is a b p r is =
+      grind (arith, cond_both, grown, class_set, div_ceil, narrower, slice_index_or, taken_from, unused, victim, rise, roomy, used, widened, wider, growth)
 
   capped_is : (slab : CpuSlab) (k n : ℕ) (o : Option CapFault) → Is slab → Is (set_unless o slab k n)
   capped_is slab k n o is = grind (arith, row_set)
@@ -82,13 +73,13 @@ module _ (rows : List ClassRow) (c : Config) where
   sequence_keeps : (p : CpuPart) (v : CpuSeat) (g : Regs) (row : CpuStep)
       → ((r : Regs) (o : Reply) → RefusesAs cpu_refuses (front.Cpu row) (replied rows v r row o).1) → (o : Option MoveTo) →
       (let x = sequence_by rows p v g row o in Keeps row p x.part x.next)
-  sequence_keeps p v g row replies o = grind (arith, cond_both, row_set, left_is)
+  sequence_keeps p v g row replies o = grind (arith, cond_both, row_set)
 
   stops_keep : (p : CpuPart) (t : ThreadNo) (s : Stopping) (o : Option ThreadNo) → (let x = stops p t s o in Keeps (cpu.Stop s) p x.0 x.1)
   stops_keep p t s o = grind arith
 
   leaves_keep : (p : CpuPart) (v : CpuSeat) (g : Regs) (o : Option MoveTo) → (let x = left_for p v g o in Keeps cpu.Leave p x.part x.next)
-  leaves_keep p v g o = grind (arith, left_is)
+  leaves_keep p v g o = grind (arith, cond_both)
 
   pub cpu_keeps : (p : CpuPart) (v : CpuSeat) (g : Regs) (row : CpuStep) → (let x = cpu_acts rows p v g row in Keeps row p x.part x.next)
   cpu_keeps p v g (cpu.Pop a) = sequence_keeps p v g (cpu.Pop a) (λ r o. pop_may rows v (front.Cpu (cpu.Pop a)) a o) (due v.moved g.ran)
@@ -99,7 +90,7 @@ module _ (rows : List ClassRow) (c : Config) where
   cpu_keeps p v g (cpu.Stop s) = stops_keep p g.thread s p.stopper
   cpu_keeps p v g (cpu.Fence s) = record { slab = λ is. is; may = tt }
   cpu_keeps p v g (cpu.Take s) = grind (arith, row_set, gives_may)
-  cpu_keeps p v g (cpu.SetCap x) = grind (arith, cap_may, capped_is)
+  cpu_keeps p v g (cpu.SetCap x) = grind (arith, capped_is)
   cpu_keeps p v g (cpu.Start s) = record { slab = λ is. is; may = started_may rows v (front.Cpu (cpu.Start s)) g.hand.items s }
   cpu_keeps p v g cpu.Leave = leaves_keep p v g v.moved
 

@@ -94,11 +94,8 @@ module _ (rows : List ClassRow) (p : CpuPart) (l : Local) (has : HasToEnter l.st
     abbrev c : Cell
     c = instruction p l.regs
 
-    executes_as : runs p.running l.regs.thread ≡ true → (o : Option Reply) → c.reply ≡ o → DoesAs (instructed_kind (answered o)) p l (with_cell p l.regs c, (let n = instructed_to rows l.seat c.regs row (answered o) in follows (cpu_calls rows) (with_regs l n.0) (call_about (about_cpu row)) n.1))
-    executes_as here o is = grind (arith, copies_few, open_stays, runs_is)
-
     instructs_as : (a b : Bool) → runs p.running l.regs.thread ≡ a → let x = instructed_by (arrival a b) p l.regs in DoesAs (instructed_kind x.answer) p l (with_next rows l (about_cpu row) (instructs rows l.seat row x))
-    instructs_as a b is = grind (arith, polite_closed, executes_as)
+    instructs_as a b is = grind (arith, polite_closed, copies_few, open_stays, runs_is)
 
 -- with a move that is due the thread leaves
 sequence_as : (rows : List ClassRow) (p : CpuPart) (l : Local) (row : CpuStep) → l.step ≡ does.Front (front.Cpu row) → HasToEnter l.step → wanted l.regs.seq l.regs.hand.items ≤ LOADED_ROOM → (o : Option MoveTo) → (is_some o || yields_to_enter p l.regs.thread) ≡ true → DoesAs (sequence_kind p l o) p l (with_next rows l (about_cpu row) (sequence_by rows p l.seat l.regs row o))
@@ -133,11 +130,8 @@ module _ (m : Limits) (p : CpuPart) (l : Local) (table : AreRows m.rows) (class 
   few_batch : (class_row m.rows l).batch ≤ LOADED_ROOM
   few_batch = (table.each l.regs.class.0 no_class class).few
 
-  row_as : (row : CpuStep) → l.step ≡ does.Front (front.Cpu row) → At (does.Front (front.Cpu row)) → As (does.Front (front.Cpu row))
-  row_as row is shape polite = grind (arith, away_by, few_batch, polite_closed, has_by, sequence_as, still, wants)
-
   step_as : (s : Step) → l.step ≡ s → At s → As s
-  step_as s is shape polite = grind (arith, away_by, row_as, still)
+  step_as s is shape polite = grind (arith, away_by, few_batch, polite_closed, has_by, sequence_as, still, wants)
 
   -- a polite act of a shaped local at a CPU
   pub act_as : yields_for p l l.step ≡ true → DoesAs (step_kind p l l.step) p l (cpu_pair m.rows p l l.step)

@@ -42,18 +42,12 @@ module _ (Serves : Regs → Type 0) (rows : List ClassRow) (v : CpuSeat) where
   pop_may : (r : Regs) (a : Asking) (o : Reply) → (o ≡ reply.Popped → Serves r) → May (front.Cpu (cpu.Pop a)) (r, after_pop v a o)
   pop_may r a o some = grind (arith, looks_may)
 
-  replied_may : (r : Regs) (row : CpuStep) (o : Reply) → ((a : Asking) → row ≡ cpu.Pop a → o ≡ reply.Popped → Serves r) → May (front.Cpu row) (replied rows v r row o)
-  replied_may r row o some = grind (arith, gives_may, pop_may)
-
   instructed_may : (r : Regs) (row : CpuStep) (x : Instructed) → ((a : Asking) → row ≡ cpu.Pop a → x ≡ instructed.Done reply.Popped → Serves r) → May (front.Cpu row) (instructed_to rows v r row x)
-  instructed_may r row x some = grind (arith, replied_may)
+  instructed_may r row x some = grind (arith, gives_may, pop_may)
 
   -- a thread that stops a CPU
   stop_may : (p : CpuPart) (r : Regs) (s : Stopping) (o : Option ThreadNo) → May (front.Cpu (cpu.Stop s)) (r, (stops p r.thread s o).1)
   stop_may p r s o = grind (arith, busy_other)
-
-  took_may : (r : Regs) (s : Stopping) → May (front.Cpu (cpu.Take s)) (took rows v r s)
-  took_may r s = grind (arith, gives_may, drains_about)
 
   cap_may : (x : Resizing) (o : Option CapFault) → is_refusal (cap_answer o) ≡ true → cpu_refuses (front.Cpu (cpu.SetCap x)) (cap_answer o) ≡ true
   cap_may x o refusal = grind arith
@@ -72,7 +66,7 @@ module _ (Serves : Regs → Type 0) (rows : List ClassRow) (v : CpuSeat) where
   leave_comes p r o = grind arith
 
   pub cpu_comes : (p : CpuPart) (r : Regs) (row : CpuStep) → (let x = rseq.instructed p r in (a : Asking) → row ≡ cpu.Pop a → x.answer ≡ instructed.Done reply.Popped → Serves x.regs) → MayCome (front.Cpu row) (cpu_acts rows p v r row)
-  cpu_comes p r row some = grind (arith, cap_may, looks_may, leave_comes, sequence_comes, started_may, stop_may, took_may)
+  cpu_comes p r row some = grind (arith, cap_may, looks_may, leave_comes, sequence_comes, started_may, stop_may, gives_may, drains_about)
 
 -- Where the act fits, an allocation is served with an object in hand.
 module _ (rows : List ClassRow) (v : CpuSeat) where
