@@ -133,6 +133,10 @@ free_within row range start n some free last =
           (absurd (let c : true ≡ false = sym (grind (arith, nat_tests, cases_lt)) ∙ free_at row start n (e - start) true free (omega arith) in cc))
     ]
 
+-- a list that is complete with a range more was so before
+pub was_complete : (old ok new : Bool) → new ≡ (old && ok) → new ≡ true → old ≡ true
+was_complete old ok new e all = (and_parts old ok (sym e ∙ all)).0
+
 -- the index of a row in three changes: its range went, and what is left of it came
 pub marked_listed : (row row' : List Bool) (range : FreeRange) (start n : ℕ) → IsRange row range → range.start ≤ start → 1 ≤ n → start + n ≤ range.start + range.len
     → row' ≡ with_places row start n true

@@ -25,9 +25,10 @@ starts row = filter (begins_range row) (places row)
 abbrev pub range_at : List Bool → ℕ → FreeRange
 range_at row place = record { len = free_from row place; start = place }
 
--- ranges of which some are listed: all of them, or not
+-- ranges of which some are listed: all of them, or not; and how many more there is room for
 pub record Listing : Type 0 where
   pub complete : Bool
+  pub spare : ℕ
   pub ranges : List FreeRange
 
 -- the ranges of a row, where all are listed

@@ -1,12 +1,13 @@
 //! The free ranges of a row by their lengths and by their places, as far as there is room for them.
-ghost use Rattle.std.specs.Prelude.{◌≡◌, ◌+◌, ◌<◌, ◌≤◌, ◌&&◌, Bool, true, nat_lt, None, [], All, Contains, IfOk, IfSome, count_by, if◌then◌else◌};
+ghost use Rattle.std.specs.Prelude.{◌≡◌, ◌+◌, ◌<◌, ◌≤◌, ◌==◌, ◌&&◌, ◌||◌, Bool, true, nat_lt, None, [], All, Contains, IfOk, IfSome, count_by, if◌then◌else◌};
 
 use crate::range::{FreeRange, Placed};
 use sorted_list::SortedList;
 use std::alloc::{AllocError, Global};
 use std::marker::Model;
 
-/// Free ranges in the order of their lengths. Contracts see them, and whether none was left out.
+/// Free ranges in the order of their lengths. Contracts see them, whether none was left out, and how many more there is
+/// room for.
 #[derive(Drop)]
 pub struct RangeList {
     by_length: SortedList<FreeRange>,
@@ -23,7 +24,7 @@ impl Model for RangeList {
 
     ghost Value = { Listing };
 
-    ghost view = { λ l. record { complete = l.complete; ranges = l.by_length.keys } };
+    ghost view = { λ l. record { complete = l.complete; spare = l.by_length.spare; ranges = l.by_length.keys } };
 
     ghost invariant = { λ l. IsIndexOf (λ p. p.range) l.by_place.keys l.by_length.keys × (l.by_place.spare ≡ l.by_length.spare) };
 }
@@ -35,7 +36,7 @@ impl RangeList {
 
     /// No range, with room for `room` of them.
     pub fn open(alloc: Global, room: usize) -> Result<Self, AllocError>
-        ensures { IfOk result (λ list. list ≡ record { complete = true; ranges = [] }) }
+        ensures { IfOk result (λ list. list ≡ record { complete = true; spare = room; ranges = [] }) }
     {
         Ok(RangeList {
             by_length: SortedList::open(alloc, room)?,
@@ -51,9 +52,10 @@ impl RangeList {
         self.complete
     }
 
-    /// Adds a range that isn't empty. Without room for it the list isn't complete any more.
+    /// Adds a range that isn't empty. Without room for it, and only then, the list isn't complete any more.
     pub fn add(&mut self, start: u32, len: u32)
-        ensures complete { self.new.complete ≡ true → self.old.complete ≡ true }
+        ensures complete { self.new.complete ≡ (self.old.complete && (len == 0 || nat_lt 0 self.old.spare)) }
+        ensures spare { self.new.spare + (if nat_lt 0 len && self.new.complete then 1 else 0) ≡ self.old.spare }
         ensures ranges { self.new.complete ≡ true → (test : FreeRange → Bool) → count_by test self.new.ranges
             ≡ count_by test self.old.ranges
             + (if nat_lt 0 len && test (record { len = len; start = start }) then 1 else 0) }
@@ -74,6 +76,7 @@ impl RangeList {
     pub fn remove(&mut self, start: u32, len: u32)
         requires { self.old.complete ≡ true → 0 < len → Contains self.old.ranges (record { len = len; start = start }) }
         ensures complete { self.new.complete ≡ self.old.complete }
+        ensures spare { self.new.spare ≡ self.old.spare + (if nat_lt 0 len && self.new.complete then 1 else 0) }
         ensures ranges { self.new.complete ≡ true → (test : FreeRange → Bool) → count_by test self.new.ranges
             + (if nat_lt 0 len && test (record { len = len; start = start }) then 1 else 0)
             ≡ count_by test self.old.ranges }

@@ -1,6 +1,6 @@
 use Rattle.std.proofs.Common.{◌≡◌, true}
 use Rattle.free_ranges.proofs.Common.{with_places, IsListed}
-use Rattle.free_ranges.proofs.Listed.{range_listed, marked_listed}
+use Rattle.free_ranges.proofs.Listed.{range_listed, was_complete, marked_listed}
 use Rattle.free_ranges.proofs.ranged.RangedBits.part.Goals as goal
 
 pub remove-requires : goal.remove-requires
@@ -13,5 +13,5 @@ invariant_of-self c =
     let is : IsListed c.args.self.now c.self.inside.ranges = rw c.self.view_is at c.self.invariant in
     let put : c.put.new.self ≡ with_places c.args.self.now c.args.start c.args.n true = rw c.self.view_is at c.put.ensures in
     marked_listed c.args.self.now c.put.new.self c.args.range c.args.start c.args.n c.requires.maximal c.requires.order c.requires.some c.requires.within put
-    c.self.inside.ranges c.remove.new.self c.add.new.self c.add-2.new.self is c.remove.ensures.complete c.remove.ensures.ranges c.add.ensures.complete
-    c.add.ensures.ranges c.add-2.ensures.complete c.add-2.ensures.ranges
+    c.self.inside.ranges c.remove.new.self c.add.new.self c.add-2.new.self is c.remove.ensures.complete c.remove.ensures.ranges
+    (was_complete _ _ _ c.add.ensures.complete) c.add.ensures.ranges (was_complete _ _ _ c.add-2.ensures.complete) c.add-2.ensures.ranges

@@ -1,6 +1,6 @@
 use Rattle.std.proofs.Common.{◌≡◌, ◌-◌, true, false, List, Bool, length, sym, ap, subst, ◌∙◌, arith}
 use Rattle.free_ranges.proofs.Common.{with_places, used_inside, IsListed, IsRange}
-use Rattle.free_ranges.proofs.Listed.{room_freed, freed_back, left_range, right_range, range_listed, still_listed, freed_listed}
+use Rattle.free_ranges.proofs.Listed.{room_freed, freed_back, left_range, right_range, range_listed, still_listed, was_complete, freed_listed}
 use Rattle.free_ranges.proofs.ranged.RangedBits.unmark.Goals as goal
 
 pub overflow_add-start : goal.overflow_add-start
@@ -36,4 +36,4 @@ invariant_of-self c =
     ∙ ap (λ (r : List Bool). with_places r c.args.start c.args.n true) (sym put) in
     freed_listed row c.put.new.self begin c.args.start c.args.n end range c.used_end-begin.ensures.within c.requires.some c.next_used-end.ensures.behind back
     c.self.inside.ranges c.remove.new.self c.remove-2.new.self c.add.new.self is c.remove.ensures.complete c.remove.ensures.ranges c.remove-2.ensures.complete
-    c.remove-2.ensures.ranges c.add.ensures.complete c.add.ensures.ranges
+    c.remove-2.ensures.ranges (was_complete _ _ _ c.add.ensures.complete) c.add.ensures.ranges
