@@ -103,6 +103,22 @@ fn the_fewest_used_pages_give_first(rt: HostRuntime) -> Result<(), Fail> {
 }
 
 #[test]
+fn the_first_and_the_last_of_4096(rt: HostRuntime) -> Result<(), Fail> {
+    let mut filler = HugeFiller::open(rt.alloc(), 4096)?;
+    filler.set(Huge(4096), backed(56, 1, 200));
+    assert_eq!(rt; filler.preferred(56), Some(Huge(4096)));
+    filler.set(Huge(1), backed(56, 1, 200));
+    assert_eq!(rt; filler.preferred(56), Some(Huge(1)));
+    assert_eq!(rt; filler.candidate(), Some(Huge(4096)));
+    let mut one = HugeFiller::open(rt.alloc(), 1)?;
+    one.set(Huge(1), tail(255));
+    assert_eq!(rt; one.preferred(1), Some(Huge(1)));
+    assert_eq!(rt; one.candidate(), Some(Huge(1)));
+    assert_eq!(rt; one.donated_free(), 1);
+    Ok(())
+}
+
+#[test]
 fn no_hugepages(rt: HostRuntime) -> Result<(), Fail> {
     let filler = HugeFiller::open(rt.alloc(), 0)?;
     assert_eq!(rt; filler.preferred(0), None);

@@ -5,7 +5,7 @@ use crate::HugeRegions;
 use std::test::Fail;
 use tc_units::{Huge, Run};
 
-/// What is done to regions of 2 hugepages, or asked of them.
+/// What is done to regions, or asked of them.
 #[derive(Clone, Copy, Debug)]
 enum Step {
     Take(u32),
@@ -74,6 +74,25 @@ fn two_regions_of_two_hugepages(rt: HostRuntime) -> Result<(), Fail> {
         (Step::Take(212), 1068),
         (Step::Take(1), 1749),
         (Step::Last(u16::MAX), 7),
+    ];
+    assert!(rt; all_answer(&mut regions, &steps));
+    Ok(())
+}
+
+#[test]
+fn the_last_64_hugepages(rt: HostRuntime) -> Result<(), Fail> {
+    let mut regions = HugeRegions::open(rt.alloc(), 4096, 64)?;
+    regions.open_region(Huge(4033));
+    let steps = [
+        (Step::Last(4032), 0),
+        (Step::Last(4033), 4033),
+        (Step::Last(4096), 4096),
+        // 16,384 pages, from page 4033 * 256 on.
+        (Step::Take(16_385), 0),
+        (Step::Take(16_383), 1_032_448),
+        (Step::Take(2), 0),
+        (Step::Take(1), 1_048_831),
+        (Step::Take(1), 0),
     ];
     assert!(rt; all_answer(&mut regions, &steps));
     Ok(())
