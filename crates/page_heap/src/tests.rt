@@ -169,6 +169,38 @@ fn regions_of_two_and_of_four_hugepages(rt: HostRuntime) -> Result<(), Fail> {
 }
 
 #[test]
+fn regions_fill_the_arena_to_its_last_page(rt: HostRuntime) -> Result<(), Fail> {
+    // Two regions of 64 hugepages, 16,384 pages each: the second begins at page 65 * 256.
+    let heap = PageHeap::open(rt.alloc(), &limits(128, 64, 0))?;
+    let steps = [
+        Step::New(16_383, 256),
+        Step::Hold(16_383, 16_640),
+        Step::New(257, 0),
+        Step::Pages(32_766, 32_768),
+        Step::Free,
+        Step::New(511, 16_640),
+        // Places 511 to 16,383 of that region are free: 15,873 pages, up to the last one of the arena.
+        Step::New(15_873, 17_151),
+        Step::Pages(32_767, 32_768),
+    ];
+    all_done(&rt, started(heap), steps.as_slice());
+    // The last two of 4,096 hugepages, from page 4,095 * 256 on.
+    let heap = PageHeap::open(rt.alloc(), &limits(4096, 2, 0))?;
+    let steps = [
+        Step::New(1_048_064, 256),
+        Step::Hold(511, 1_048_320),
+        Step::New(1, 0),
+        Step::Pages(1_048_575, 1_048_576),
+        Step::Free,
+        Step::Release(1, 256),
+        Step::New(512, 1_048_320),
+        Step::Pages(1_048_576, 1_048_576),
+    ];
+    all_done(&rt, started(heap), steps.as_slice());
+    Ok(())
+}
+
+#[test]
 fn a_region_is_shown_by_its_hugepages(rt: HostRuntime) -> Result<(), Fail> {
     let mut heap = PageHeap::open(rt.alloc(), &limits(4, 2, 0))?;
     assert_eq!(rt; page_of(heap.new_run(300)), 256);
@@ -352,5 +384,26 @@ fn a_release_takes_an_idle_hugepage_of_a_region(rt: HostRuntime) -> Result<(), F
             Step::Release(1, 0),
         ],
     );
+    Ok(())
+}
+
+/// Made to be tried with each of its allocations refused in turn: a heap begins with all its room, or there
+/// is none.
+#[test]
+fn memory_that_runs_out(rt: HostRuntime) -> Result<(), Fail> {
+    let config = HeapConfig {
+        window: 2,
+        ..limits(8, 2, 0)
+    };
+    if let Ok(heap) = PageHeap::open(rt.alloc(), &config) {
+        let steps = [
+            Step::Hold(300, 256),
+            Step::New(212, 768),
+            Step::Free,
+            Step::Pages(212, 256 * 3),
+            Step::Release(1, 256),
+        ];
+        all_done(&rt, started(heap), steps.as_slice());
+    }
     Ok(())
 }
