@@ -158,3 +158,25 @@ fn spans_at_the_ends_of_the_largest_arena(rt: HostRuntime) -> Result<(), Fail> {
     assert_eq!(rt; map.get(Page(1_048_831)), Some(last));
     Ok(())
 }
+
+/// Made to be tried with each of its allocations refused in turn: a map begins with all its room, or there is
+/// none; and a span is set, or the map is as it was.
+#[test]
+fn memory_that_runs_out(rt: HostRuntime) -> Result<(), Fail> {
+    let Ok(mut map) = PageMap::open(rt.alloc(), 4) else {
+        return Ok(());
+    };
+    let across = large(500, 24);
+    let last = small(1279, 1, 0);
+    if map.set(across).is_err() {
+        assert!(rt; agrees(&map, &[], 4));
+        return Ok(());
+    }
+    assert!(rt; agrees(&map, &[across], 4));
+    if map.set(last).is_err() {
+        assert!(rt; agrees(&map, &[across], 4));
+        return Ok(());
+    }
+    assert!(rt; agrees(&map, &[across, last], 4));
+    Ok(())
+}
