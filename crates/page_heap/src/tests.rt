@@ -393,7 +393,7 @@ fn a_release_takes_an_idle_hugepage_of_a_region(rt: HostRuntime) -> Result<(), F
 fn memory_that_runs_out(rt: HostRuntime) -> Result<(), Fail> {
     let config = HeapConfig {
         window: 2,
-        ..limits(8, 2, 0)
+        ..limits(3, 2, 0)
     };
     if let Ok(heap) = PageHeap::open(rt.alloc(), &config) {
         let steps = [
