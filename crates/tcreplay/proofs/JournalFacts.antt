@@ -5,7 +5,7 @@ use Rattle.std.specs.Prelude.{All, slice_get}
 use Rattle.std.specs.List.{range_with_len}
 use Rattle.std.specs.Option.{option_map_or}
 use Rattle.std.proofs.lemmas.Bool.{cases_lt}
-use Rattle.std.proofs.lemmas.List.{length-map}
+use Rattle.std.proofs.lemmas.List.{length-map, append-nil}
 use Rattle.std.proofs.lemmas.List.FromFn.{get_or-map-range_with_len, length-range_with_len}
 use Rattle.std.proofs.lemmas.Option.{slice_get_past, slice_get-get_or}
 use Rattle.tc_units.specs.Classes.{length_of}
@@ -57,7 +57,8 @@ module _ {P L : Type 0} (rules : Input → Rules P L) (told : Input → List ℕ
         | inl low ↦ tells.each t low ∙ sym (planned input t low)
         | inr high ↦ ap (map (λ (c : CallLine). c.call)) (tells.others t high) ∙ sym (unplanned input t high)
       ] in
-      law (plan_in input) f.calls f.live f.live_bytes f.used f.resident (rows_if rows f.rows) blocks scripts tellable
+      subst (λ (t : List ℕ). IsLegal (plan_in input) (journal_of t)) (append-nil (text_with rows f))
+      (law (plan_in input) f.calls f.live f.live_bytes f.used f.resident (rows_if rows f.rows) [] blocks scripts tellable)
 
   legal_told : (telling : Telling) → AreTellable telling (told input order).calls → IsJournal rules told lawful telling input order
   legal_told (Whole rows) tellable = legal rows tellable
