@@ -1,13 +1,13 @@
 -- Each act, at whatever part, leaves the local its shape and keeps the front-end's invariant.
-use Rattle.std.proofs.Common.{◌≡◌, ℕ, ◌+◌, ◌/◌, ◌^◌, ◌<◌, ◌≤◌, List, [], ◌∷◌, ◌++◌, length, Option, Some, None, refl, sym, ap, ◌∙◌, subst}
-use Rattle.std.proofs.Common.{arith, find, slice_get, slice_set}
-use Rattle.alloc_rules.proofs.Common.{Call, length-append, page_bytes, pages_holding, Contents, Addr, Label, ThreadNo, ClassRow, SpanRef, SpanKind, Small}
-use Rattle.alloc_rules.proofs.Common.{Large, Malloc, Free, Release, Planned, Answer, NoBlock, Freed, Released, SpanMap, holds, NameState}
-use Rattle.alloc_rules.proofs.Common.{state_of, Placed, new, release, Regs, LOADED_ROOM, room, appended, opening, IsFetched, IsAdded, fetch_moves, add_moves}
-use Rattle.alloc_rules.proofs.Common.{give_moves, small, address_of, run_of, Asking, Freeing, Giving, Onward, Next, Step, ShardStep, HeapStep, MapStep}
+use Rattle.std.proofs.Common.{◌≡◌, ℕ, ◌+◌, ◌^◌, ◌<◌, ◌≤◌, List, [], ◌∷◌, ◌++◌, length, Option, Some, None, refl, sym, ap, ◌∙◌, subst}
+use Rattle.std.proofs.Common.{arith, slice_get, slice_set}
+use Rattle.alloc_rules.proofs.Common.{Call, length-append, Contents, Addr, Label, ThreadNo, ClassRow, SpanRef, SpanKind, Small}
+use Rattle.alloc_rules.proofs.Common.{Large, Free, Planned, Answer, Freed, SpanMap, holds, NameState}
+use Rattle.alloc_rules.proofs.Common.{state_of, Placed, new, Regs, LOADED_ROOM, room, appended, opening, IsFetched, IsAdded, fetch_moves, add_moves}
+use Rattle.alloc_rules.proofs.Common.{give_moves, small, run_of, Asking, Freeing, Giving, Onward, Next, Step, ShardStep, HeapStep, MapStep}
 use Rattle.alloc_rules.proofs.Common.{Local, step_or, no_class, class_row, decided, goes, ends, with_regs, serves, with_freed, with_more}
 use Rattle.alloc_rules.proofs.Common.{fetches, with_spans_behind, shard_row, after_new, after_new_span, without_first_span, frees_span, heap_row, found}
-use Rattle.alloc_rules.proofs.Common.{after_lookup, clears_span, map_row, after_take, MayDecide, MayGoOnDecided, says, goes_or_ends, follows}
+use Rattle.alloc_rules.proofs.Common.{map_row, after_take, MayDecide, MayGoOnDecided, says, goes_or_ends, follows}
 use Rattle.alloc_rules.proofs.Common.{About, call_about, IsClassRow, AreRows, BeginsWith, most_slots, At, Here, Away, Standing, stand, at_row}
 use Rattle.alloc_rules.proofs.Common.{at_onward, at_next, regs_next, at_shard, at_heap, at_map, at_step, IsAsked, HandAbout, HasNone, HasSpans}
 use Rattle.alloc_rules.proofs.Common.{IsOnward, ShardShape, HeapShape, MapShape, StepShape, IsShaped, IsAct, IsLawful, FrontRules, Left, FitsShard, FitsMap}
@@ -15,19 +15,18 @@ use Rattle.alloc_rules.proofs.Common.{IsKept, IsLowRun, ShardActsKeep, HeapActsK
 use Rattle.alloc_rules.specs.FrontLaw.{IsReady}
 use Rattle.central_free.specs.Central.{IsSound}
 use Rattle.class_shard.specs.Laws.{IsGiven}
-use Rattle.name_table.specs.declared.table.NameState.TheVariants as name
 use Rattle.heap_rules.specs.Heap as heaps
 use Rattle.class_shard.specs.Shard as shards
 use Rattle.call_steps.specs.declared.step.Giving.TheVariants as giving
 use Rattle.call_steps.specs.declared.step.Next.TheVariants as next
 use Rattle.call_steps.specs.declared.step.Step.TheVariants as does
 use Rattle.call_steps.specs.declared.step.ShardStep.TheVariants as shard
-use Rattle.call_steps.specs.declared.step.HeapStep.TheVariants as heap
 use Rattle.call_steps.specs.declared.step.MapStep.TheVariants as map
 use Rattle.call_steps.specs.declared.step.NamesStep.TheVariants as names
 use Rattle.call_steps.specs.Calls as calls
 use Rattle.alloc_rules.specs.FrontLaw as fronts
-use Rattle.alloc_rules.proofs.Keeping.{Common, IsNext, NotHere, behind, changed, clears_next, common_of, ends_next, entry_at, entry_shape, gave_next, given_back_next}
+use Rattle.alloc_rules.proofs.Keeping.{Common, IsNext, NotHere, behind, changed, clears_next, common_of, ends_next, entry_at, entry_shape, gave_next}
+use Rattle.alloc_rules.proofs.Keeping.{given_back_next}
 use Rattle.alloc_rules.proofs.Keeping.{giving_not, goes_quiet, kept_by, later_shape, onward_not, publishes_next, same_next, serves_next, shape_of, stays_away}
 use Rattle.alloc_rules.proofs.Keeping.{waits_at}
 
@@ -149,7 +148,8 @@ module _ {P V R : Type 0} {r : FrontRules P V R} {about : R → About} {planned 
     kept_at l new s shaped is not_here next = grind (arith, common_of, kept)
 
     -- the names
-    take_kept : (all : List NameState) (l : Local V R) (label : Label) (o : NameState) → IsShaped r.calls.rows about planned t l → l.step ≡ does.Names (names.Take label)
+    take_kept : (all : List NameState) (l : Local V R) (label : Label) (o : NameState) → IsShaped r.calls.rows about planned t l
+        → l.step ≡ does.Names (names.Take label)
         → IsKept r about planned Holds t l (after_take r.calls all l label o).1
     take_kept all l label o shaped is = grind (arith, ends_decided, kept_at, to)
 
@@ -158,14 +158,16 @@ module _ {P V R : Type 0} {r : FrontRules P V R} {about : R → About} {planned 
       kept_at table t l (shard_row r.calls s l row).1 (does.Shard row) shaped is (shard_not row) (λ c shape. shard_next table t s l row c shape sound same low fit)
 
   pub heap_acts_keep : HeapActsKeep r about planned Holds
-  heap_acts_keep t h l row table shaped is fit = kept_at table t l (heap_row r.calls h l row).1 (does.Heap row) shaped is (heap_not row) (heap_next table t h l row)
+  heap_acts_keep t h l row table shaped is fit =
+      kept_at table t l (heap_row r.calls h l row).1 (does.Heap row) shaped is (heap_not row) (heap_next table t h l row)
 
   pub map_acts_keep : MapActsKeep r about planned Holds
   map_acts_keep t x l row table shaped is fit there =
       kept_at table t l (map_row r.calls x l row).1 (does.Map row) shaped is (map_not row) (λ c shape. map_next table t x l row c shape fit there)
 
   pub names_acts_keep : NamesActsKeep r about planned Holds
-  names_acts_keep t all l (names.Publish label value) table shaped is fit = kept_at table t l (ends r.calls l) (does.Names (names.Publish label value)) shaped is tt (ends_next law table t l)
+  names_acts_keep t all l (names.Publish label value) table shaped is fit =
+      kept_at table t l (ends r.calls l) (does.Names (names.Publish label value)) shaped is tt (ends_next law table t l)
   names_acts_keep t all l (names.Take label) table shaped is fit = take_kept table t all l label (state_of all label.0) shaped is
 
   -- what comes behind an act of the front-end
@@ -197,8 +199,10 @@ module _ {P V R : Type 0} {r : FrontRules P V R} {about : R → About} {planned 
     gave_behind (giving.Row k to_row) may = grind (arith, at_front, changed, common, has_none, later_shape)
     gave_behind giving.End may = gave_next law table t then giving.End [] common may.1 tt
 
-    decides_behind : (a : About) (answer : Answer) (to_row : Option R) → MayDecide a answer → (to_row ≡ None → x.regs.hand.items ≡ []) → MayGoOnDecided about to_row
-        → length x.regs.hand.items ≤ most_slots → IsNext law table t (stand x.seat x.regs (l.acts + 1) (at_row to_row)) (goes_or_ends r.calls (says then (call_about a) answer) to_row)
+    decides_behind : (a : About) (answer : Answer) (to_row : Option R) → MayDecide a answer → (to_row ≡ None → x.regs.hand.items ≡ [])
+        → MayGoOnDecided about to_row
+        → length x.regs.hand.items ≤ most_slots
+        → IsNext law table t (stand x.seat x.regs (l.acts + 1) (at_row to_row)) (goes_or_ends r.calls (says then (call_about a) answer) to_row)
     decides_behind (calls.Other (Some call)) answer None may none on few = ends_decided table t then call answer common (has_none (none refl))
     decides_behind (calls.Other (Some call)) answer (Some to_row) may none on few = grind (arith, at_front, common)
     decides_behind (calls.Other None) answer to_row may none on few = absurd may
@@ -214,11 +218,13 @@ module _ {P V R : Type 0} {r : FrontRules P V R} {about : R → About} {planned 
     follows_behind (next.Row to_row) may has = at_front then to_row common none_freed (subst (HandAbout r.calls.rows x.regs) (sym may.0) may.1)
     follows_behind (next.Serve a) may has = serves_next law table t then a x.regs.hand.items refl may.1 may.2 common none_freed
     follows_behind (next.Fetch a) may has = to table t then (does.Shard (shard.Fetch a)) common (has_none may.1) refl (λ none. (none, asked_by a may.0 has))
-    follows_behind (next.Give g) may has = same_next law table t (goes then (does.Shard (shard.Give g))) common (record { few = may.1; freed = none_freed }, may.2)
+    follows_behind (next.Give g) may has =
+        same_next law table t (goes then (does.Shard (shard.Give g))) common (record { few = may.1; freed = none_freed }, may.2)
     follows_behind (next.Gave g) may has = gave_behind g may
     follows_behind (next.Publish s) may has = publishes_next law table t then s common (has_none may.1)
     follows_behind (next.Freed f) may has = ends_decided table t then (Free f.label) (Freed f.addr) common (has_none may.1)
-    follows_behind (next.Decide answer None) may has = decides_behind (about row) answer None may.0 (λ e. may.2) tt (let e = ap length may.2 in omega (arith, e))
+    follows_behind (next.Decide answer None) may has =
+        decides_behind (about row) answer None may.0 (λ e. may.2) tt (let e = ap length may.2 in omega (arith, e))
     follows_behind (next.Decide answer (Some to_row)) may has = grind (arith, decides_behind)
     follows_behind next.End may has = ends_next law table t then common (has_none may.1)
 

@@ -48,7 +48,8 @@ own_are : {P V R : Type 0} (r : FrontRules P V R) (about : R → About) (p : Par
 own_are r about p locals b are = grind arith
 
 module _ {P V R : Type 0} {r : FrontRules P V R} {about : R → About} {planned : Planned → Type 0} {Holds : ℕ → List P → List (Standing V R) → Type 0}
-    {fits : P → V → Regs → R → Type 0} (law : IsLawful r about planned Holds fits) {asked : Asked} (valid : IsValid r.calls.rows planned asked) (order : List ℕ) (few : length order ≤ MOST_PICKS) (served : IsServed r about planned Holds asked (run (rules r about asked) order) order) where
+    {fits : P → V → Regs → R → Type 0} (law : IsLawful r about planned Holds fits) {asked : Asked} (valid : IsValid r.calls.rows planned asked)
+    (order : List ℕ) (few : length order ≤ MOST_PICKS) (served : IsServed r about planned Holds asked (run (rules r about asked) order) order) where
   abbrev p : Parts P
   p = served.parts
 

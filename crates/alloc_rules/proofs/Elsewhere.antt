@@ -4,7 +4,7 @@ use Rattle.alloc_rules.proofs.Common.{false≢true, page_bytes, Addr, Label, Spa
 use Rattle.alloc_rules.proofs.Common.{Answer, Block, Freed, FreedNull, NoBlock, SpanMap, holds, NameState, Placed, Regs}
 use Rattle.alloc_rules.proofs.Common.{without_first, address_of, Asking, Serving, Giving, Onward, Step, Next, ShardStep, HeapStep}
 use Rattle.alloc_rules.proofs.Common.{MapStep, NamesStep, FrontCalls, FrontRules, Local, decided, ends, class_row, About, call_about, with_hand}
-use Rattle.alloc_rules.proofs.Common.{stocks, serves_first, goes_onward, gave, clears, with_freed, says_in, goes_or_ends, follows, with_more, fetches}
+use Rattle.alloc_rules.proofs.Common.{stocks, serves_first, gave, clears, with_freed, says_in, goes_or_ends, follows, with_more, fetches}
 use Rattle.alloc_rules.proofs.Common.{shard_row, after_new, after_new_span, frees_span, without_first_span, heap_row, found, after_lookup}
 use Rattle.alloc_rules.proofs.Common.{clears_span, map_row, after_take, names_row, shard_after, heap_after, map_after, names_after, front_after, Decides}
 use Rattle.alloc_rules.proofs.Common.{RefusesThere, Part, RefusesAs, after}
@@ -16,7 +16,6 @@ use Rattle.call_steps.specs.declared.step.Giving.TheVariants as giving
 use Rattle.call_steps.specs.declared.step.Onward.TheVariants as onward
 use Rattle.call_steps.specs.declared.step.Step.TheVariants as does
 use Rattle.call_steps.specs.declared.step.Next.TheVariants as next
-use Rattle.call_steps.specs.declared.step.ShardStep.TheVariants as shard
 use Rattle.call_steps.specs.declared.step.HeapStep.TheVariants as heap
 use Rattle.call_steps.specs.declared.step.MapStep.TheVariants as mapped
 use Rattle.alloc_rules.specs.declared.part.Part.TheVariants as part

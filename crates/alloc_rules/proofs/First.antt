@@ -8,7 +8,7 @@ use Rattle.alloc_rules.proofs.Common.{answers_at, AreBelow, NameState, Shard, pl
 use Rattle.alloc_rules.proofs.Common.{objects_at, Account, got, put, gets, puts, asking, publishing, taking, pending, untaken, mentions, Books, class_number}
 use Rattle.alloc_rules.proofs.Common.{HasNothing, IsFirst, Facts, Regs, room, Step, append_snoc, FrontCalls, AreEntries, FrontRules}
 use Rattle.alloc_rules.proofs.Common.{IsEntry, Local, Decided, told, step_or, idle_local, first_of_malloc, first_of_call, first_act, regs_of_malloc}
-use Rattle.alloc_rules.proofs.Common.{regs_of_call, regs_by, thread_no, About, call_at, IsClassRow, AreRows, first_shard, first_shards, first_of}
+use Rattle.alloc_rules.proofs.Common.{thread_no, About, call_at, IsClassRow, AreRows, first_shard, first_shards, first_of}
 use Rattle.alloc_rules.proofs.Common.{first_parts, rules, HasRoom, account_of, doing_of, doing_about, off_of, apart_of, mapped_of, clears_of, shard_at}
 use Rattle.alloc_rules.proofs.Common.{IsShardOf, stored_in, stock_of, Standing, standing_of, IsLawful, idle, IsIn, IsValid, calls, setup_of}
 use Rattle.class_shard.proofs.SpanSums.{sum_by-map}
@@ -71,7 +71,7 @@ rest_behind script j = grind arith
 no_call : (o : Option Call) → is_some o ≡ false → o ≡ None
 no_call o is = grind (arith, false≢true)
 
-number_at : (n t : ℕ) → t < n → slice_get (range_with_len 0 n) t ≡ Some t
+pub number_at : (n t : ℕ) → t < n → slice_get (range_with_len 0 n) t ≡ Some t
 number_at n t below =
     let e : get_or (range_with_len 0 n) t 0 ≡ t = get_or-range_with_len 0 n t 0 below ∙ (let z : 0 + t ≡ t = omega arith in z) in
     slice_get-get_or (range_with_len 0 n) t 0 (omega (arith, length-range_with_len 0 n, below)) ∙ ap (λ k. Some k) e

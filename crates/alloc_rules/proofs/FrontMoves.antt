@@ -2,10 +2,10 @@
 use Rattle.std.proofs.Common.{◌≡◌, ℕ, ◌+◌, ◌<◌, ◌⊎◌, List, [], ◌∷◌, Option, Some, None, refl, sym, ap, ◌∙◌, subst, inl, inr, arith, length, slice_get}
 use Rattle.std.proofs.Common.{slice_set}
 use Rattle.alloc_rules.proofs.Common.{eq-eqb, cases_eq, Addr, Class, Label, Free, Freed, SpanRef, Regs, ClassRow, Serving, Freeing, Planned, Answer, CallLine}
-use Rattle.alloc_rules.proofs.Common.{HeapConfig, objects_at, Doing, Frees, Other, WeighSame, Setup, Books, IsCut, One, MoveObjects, Asking}
+use Rattle.alloc_rules.proofs.Common.{HeapConfig, objects_at, Doing, Frees, Other, WeighSame, Books, IsCut, One, MoveObjects, Asking}
 use Rattle.alloc_rules.proofs.Common.{Giving, Next, Step, Local, decided, goes, ends, publishes, comes_to, serves, decides_free, behind, clears, About}
-use Rattle.alloc_rules.proofs.Common.{HasNoLabel, call_about, about_giving, MayDecide, MayGoOnDecided, says, goes_or_ends, follows, BeginsWith, account_of}
-use Rattle.alloc_rules.proofs.Common.{doing_about, HandAbout, IsGiving, StepShape, IsNext, IsAct, AreEntries, FrontRules, Left, Parts, front_row, stock_of}
+use Rattle.alloc_rules.proofs.Common.{HasNoLabel, call_about, MayDecide, MayGoOnDecided, says, goes_or_ends, follows, BeginsWith, account_of}
+use Rattle.alloc_rules.proofs.Common.{doing_about, HandAbout, StepShape, IsNext, IsAct, AreEntries, FrontRules, Left, Parts, front_row, stock_of}
 use Rattle.alloc_rules.proofs.Common.{Does, setup, IsBefore, FrontActsMove}
 use Rattle.call_steps.specs.declared.step.Giving.TheVariants as giving
 use Rattle.call_steps.specs.declared.step.Next.TheVariants as next
@@ -31,9 +31,6 @@ weighs_class d k j hand todo given = grind (arith, bare, none_in_hand, weighs_sa
 module _ {P V R : Type 0} (r : FrontRules P V R) (about : R → About) (planned : Planned → Type 0) (entries : AreEntries r.calls about) where
   module _ (huge labels : ℕ) (limits : HeapConfig) (p : Parts P) (locals : List (Local V R)) (b : Books) (lines : List CallLine) (t : ℕ) (l : Local V R) (i : ℕ) (q : P) (row : R) (before : IsBefore r about planned huge labels limits p locals b lines t l)
       (at : slice_get p.fronts i ≡ Some q) (shape : HandAbout r.calls.rows l.regs (about row)) (none_freed : l.freed.items ≡ []) (act : IsAct r about q l.regs row (r.acts q l.seat l.regs row)) where
-    abbrev m : Setup
-    m = setup r huge labels
-
     abbrev x : Left P V R
     x = r.acts q l.seat l.regs row
 
@@ -59,7 +56,7 @@ module _ {P V R : Type 0} (r : FrontRules P V R) (about : R → About) (planned 
     came = x.regs.hand.items
 
     abbrev Goal : Local V R → Type 0
-    Goal after = Does r about m (with_stores p fronts p.shards) b at_row after
+    Goal after = Does r about (setup r huge labels) (with_stores p fronts p.shards) b at_row after
 
     cut : IsCut r.calls.rows (stock_of r about (with_stores p fronts p.shards))
     cut = cut_of r about r.calls.rows (with_stores p fronts p.shards) before.parts.classes before.parts.shards

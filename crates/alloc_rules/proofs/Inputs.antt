@@ -2,7 +2,7 @@
 use Rattle.std.proofs.Common.{◌≡◌, ℕ, zero, suc, ◌+◌, ◌<◌, ◌≤◌, cond, eqb, List, [], ◌∷◌, ◌++◌, fold, max, refl, sym, ap, ◌∙◌, subst, arith, inl, inr}
 use Rattle.std.proofs.Common.{sum_by, All}
 use Rattle.alloc_rules.proofs.Common.{range_with_len, cases_eq, eq-eqb, ne_eqb, append-nil, All-nil, All-cons, sum_by-cons, sum_by-append, append_snoc, Call}
-use Rattle.alloc_rules.proofs.Common.{Malloc, Free, Release, Drain, Resize, Planned, Asked, ThreadCall, script_of, label_end, labels_of, bit_most}
+use Rattle.alloc_rules.proofs.Common.{Planned, Asked, ThreadCall, script_of, label_end, labels_of, bit_most}
 use Rattle.alloc_rules.proofs.Common.{sum_of_both, got, put, gets, puts, ClassRow, got_in, put_in, IsInOrder, IsValid}
 
 -- the one number that passes among numbers in order

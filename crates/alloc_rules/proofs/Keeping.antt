@@ -1,18 +1,15 @@
 -- How a call goes on leaves the local its shape, and the front-end's invariant holds of the thread as it stands then.
-use Rattle.std.proofs.Common.{◌≡◌, ℕ, ◌+◌, ◌<◌, ◌≤◌, List, [], ◌∷◌, length, drop, Option, Some, None, refl, sym, ap, ◌∙◌, subst, arith, Bool}
+use Rattle.std.proofs.Common.{◌≡◌, ℕ, ◌+◌, ◌<◌, ◌≤◌, List, [], ◌∷◌, length, drop, Option, Some, None, refl, ap, ◌∙◌, arith, Bool}
 use Rattle.std.proofs.Common.{cond, ltb, All, slice_set, option_map}
 use Rattle.alloc_rules.proofs.Common.{length-drop, All-head, All-tail, Contents, class_of, ClassRow, position_or_len, ltb-true, Addr, Class, Label, ThreadNo}
-use Rattle.alloc_rules.proofs.Common.{SpanRef, Call, Malloc, Free, Release, Drain, Resize, Planned, Block, Regs, HAND_ROOM, LOADED_ROOM, room}
+use Rattle.alloc_rules.proofs.Common.{SpanRef, Call, Malloc, Planned, Block, Regs, HAND_ROOM, LOADED_ROOM, room}
 use Rattle.alloc_rules.proofs.Common.{without_first, Asking, Serving, Giving, Onward, Step, Local, step_or, class_row, first_of_malloc}
 use Rattle.alloc_rules.proofs.Common.{first_of_call, regs_of_malloc, fresh_regs, next_call, decided, goes, closes, ends, publishes, stocks}
 use Rattle.alloc_rules.proofs.Common.{serves_first, goes_onward, gave, clears, given_back, to_hand, About, HasNoLabel, AreRows, At}
 use Rattle.alloc_rules.proofs.Common.{Here, Later, Away, Standing, stand, at_row, at_giving, at_onward, at_step, standing_of, HandAbout, HasNone}
 use Rattle.alloc_rules.proofs.Common.{IsGiving, IsOnward, StepShape, IsShaped, IsOwn, IsLawful, FrontRules, IsEntry, KeepsHand}
 use Rattle.tc_units.specs.Classes as classes
-use Rattle.call_steps.specs.declared.step.Giving.TheVariants as giving
-use Rattle.call_steps.specs.declared.step.Onward.TheVariants as onward
 use Rattle.call_steps.specs.declared.step.Step.TheVariants as does
-use Rattle.call_steps.specs.declared.step.HeapStep.TheVariants as heap
 use Rattle.call_steps.specs.declared.step.NamesStep.TheVariants as names
 use Rattle.call_steps.specs.Calls as calls
 
@@ -94,7 +91,8 @@ module _ {P V R : Type 0} {r : FrontRules P V R} {about : R → About} {planned 
   stays_away v g count more k hand few low size n ps us holds = law.away n ps us t v g count more k hand few low size holds
 
   -- the call goes on elsewhere, at a step at which the thread is at no row
-  pub goes_away : (l : Local V R) (next : Step R) → Common l → at_step next ≡ Away → StepShape r.calls.rows about (goes l next) next → IsNext (away_at l) (goes l next)
+  pub goes_away : (l : Local V R) (next : Step R) → Common l → at_step next ≡ Away → StepShape r.calls.rows about (goes l next) next
+      → IsNext (away_at l) (goes l next)
   goes_away l next c away shape = grind (arith, shape_of)
 
   -- with nothing in hand
@@ -150,17 +148,20 @@ module _ {P V R : Type 0} {r : FrontRules P V R} {about : R → About} {planned 
   come_next l (p ∷ ps) c n = call_next l n p (All-head planned p ps c.rest) ps (record { thread = c.thread; class = c.class; hand = c.hand; freed = c.freed; rest = All-tail planned p ps c.rest }) p.call refl
 
   -- the call ends: a row of the front-end may come first
-  closes_next : (l : Local V R) (o : Option R) → IsEntry about (calls.Other None) o → Common l → HasNone l → Reaches (idle_at l) (stand l.seat l.regs l.acts (at_row o)) → IsNext (idle_at l) (closes r.calls l o)
+  closes_next : (l : Local V R) (o : Option R) → IsEntry about (calls.Other None) o → Common l → HasNone l
+      → Reaches (idle_at l) (stand l.seat l.regs l.acts (at_row o)) → IsNext (idle_at l) (closes r.calls l o)
   closes_next l o entry c n reaches = grind (arith, come_next, shape_of)
 
   pub ends_next : (l : Local V R) → Common l → HasNone l → IsNext (away_at l) (ends r.calls l)
   ends_next l c n = grind (arith, closes_next)
 
   -- an allocation goes on with what came to its hand
-  stocks_next : (l : Local V R) (s : Serving) (others : List Addr) → l.regs.hand.items ≡ others → length others ≤ LOADED_ROOM → Common l → l.freed.items ≡ [] → IsNext (away_at l) (stocks r.calls l s others)
+  stocks_next : (l : Local V R) (s : Serving) (others : List Addr) → l.regs.hand.items ≡ others → length others ≤ LOADED_ROOM → Common l → l.freed.items ≡ []
+      → IsNext (away_at l) (stocks r.calls l s others)
   stocks_next l s others is few c none = grind (arith, entry_at, entry_shape, kept_by, publishes_next, shape_of)
 
-  pub serves_next : (l : Local V R) (a : Asking) (xs : List Addr) → l.regs.hand.items ≡ xs → 0 < length xs → length xs ≤ LOADED_ROOM → Common l → l.freed.items ≡ [] → IsNext (away_at l) (serves_first r.calls l a xs)
+  pub serves_next : (l : Local V R) (a : Asking) (xs : List Addr) → l.regs.hand.items ≡ xs → 0 < length xs → length xs ≤ LOADED_ROOM → Common l
+      → l.freed.items ≡ [] → IsNext (away_at l) (serves_first r.calls l a xs)
   serves_next l a [] is some few c none = absurd (omega arith)
   serves_next l a (x ∷ others) is some few c none =
       let hand : Contents Addr = without_first 1 l.regs.hand in
@@ -175,7 +176,8 @@ module _ {P V R : Type 0} {r : FrontRules P V R} {about : R → About} {planned 
   later_shape l k a other n = grind arith
 
   -- acts elsewhere, while this is to come
-  pub waits_at : (l : Local V R) (a : At R) (count more : ℕ) (hand : Contents Addr) → NotHere a → count ≤ more → Common l → room hand ≡ room l.regs.hand → Reaches (stand l.seat l.regs count a) (stand l.seat (record l.regs { hand = hand }) more a)
+  pub waits_at : (l : Local V R) (a : At R) (count more : ℕ) (hand : Contents Addr) → NotHere a → count ≤ more → Common l → room hand ≡ room l.regs.hand
+      → Reaches (stand l.seat l.regs count a) (stand l.seat (record l.regs { hand = hand }) more a)
   waits_at l a count more hand none few c same = grind arith
 
   -- a thread behind which this is to come
@@ -186,15 +188,18 @@ module _ {P V R : Type 0} {r : FrontRules P V R} {about : R → About} {planned 
   onward_next : (l : Local V R) (o : Onward R) → Common l → HasNone l → IsOnward r.calls.rows about o → IsNext (onward_at l o) (goes_onward r.calls l o)
   onward_next l o c n is = grind (arith, changed, ends_next, later_shape, publishes_next, shape_of)
 
-  pub clears_next : (l : Local V R) (o : Onward R) (spans : List SpanRef) → l.freed.items ≡ spans → Common l → l.regs.hand.items ≡ [] → IsOnward r.calls.rows about o → IsNext (onward_at l o) (clears r.calls l o spans)
+  pub clears_next : (l : Local V R) (o : Onward R) (spans : List SpanRef) → l.freed.items ≡ spans → Common l → l.regs.hand.items ≡ []
+      → IsOnward r.calls.rows about o → IsNext (onward_at l o) (clears r.calls l o spans)
   clears_next l o spans freed c hand is = grind (arith, onward_next, same_next)
 
   -- the hand was given
   abbrev pub giving_at : Local V R → Giving R → Standing V R
   giving_at l g = stand l.seat l.regs (l.acts + 1) (at_giving g)
 
-  pub gave_next : (l : Local V R) (g : Giving R) (hand : List Addr) → Common l → l.regs.hand.items ≡ [] → IsGiving r.calls.rows about hand g → IsNext (giving_at l g) (gave r.calls l g)
+  pub gave_next : (l : Local V R) (g : Giving R) (hand : List Addr) → Common l → l.regs.hand.items ≡ [] → IsGiving r.calls.rows about hand g
+      → IsNext (giving_at l g) (gave r.calls l g)
   gave_next l g hand c none is = grind (arith, clears_next)
 
-  pub given_back_next : (l : Local V R) (g : Giving R) (freed : Contents SpanRef) → Common l → length freed.items + freed.spare ≡ HAND_ROOM → IsGiving r.calls.rows about l.regs.hand.items g → IsNext (giving_at l g) (given_back r.calls l g freed)
+  pub given_back_next : (l : Local V R) (g : Giving R) (freed : Contents SpanRef) → Common l → length freed.items + freed.spare ≡ HAND_ROOM
+      → IsGiving r.calls.rows about l.regs.hand.items g → IsNext (giving_at l g) (given_back r.calls l g freed)
   given_back_next l g freed c size is = grind (arith, changed, gave_next, giving_not, waits_at)

@@ -9,7 +9,8 @@ use Rattle.tc_units.specs.Classes.{serves}
 
 -- An act that leaves the stock, and changes the names so: a move to other runs and spans.
 pub leaves : {P V R : Type 0} {r : FrontRules P V R} {about : R → About} {m : Setup} {p : Parts P} {locals : List (Local V R)} {b : Books} {heap : List Run}
-    {spans : List SpanRef} {said : List Said} {l after : Local V R} → AreBooksOf r about p locals b → (h : heaps.Heap) (x : SpanMap) (f : List NameState → List NameState)
+    {spans : List SpanRef} {said : List Said} {l after : Local V R} → AreBooksOf r about p locals b
+    → (h : heaps.Heap) (x : SpanMap) (f : List NameState → List NameState)
     → Move m b (account_of about l) b.stock heap spans (f b.names) (account_of about after) said → ((q : Run) → runs_like q heap ≡ runs_like q h.runs)
     → ((s : SpanRef) → spans_like s spans ≡ spans_like s x.spans) → after.acts ≡ l.acts + 1 → after.answers ≡ l.answers ++ decided_at l.acts said
     → Does r about m (record p { heap = h; map = x; names = f p.names }) b l after

@@ -1,6 +1,6 @@
 -- What the acts at the names do to the books.
 use Rattle.std.proofs.Common.{◌≡◌, ℕ, false, List, Option, Some, None, refl, sym, ap, ◌∙◌, subst, slice_set, arith}
-use Rattle.alloc_rules.proofs.Common.{false≢true, append-nil, Addr, Label, Free, FreedNull, CallLine, NameState, state_of, HeapConfig, is_unpublished, Setup}
+use Rattle.alloc_rules.proofs.Common.{false≢true, append-nil, Addr, Label, Free, FreedNull, CallLine, NameState, state_of, HeapConfig, is_unpublished}
 use Rattle.alloc_rules.proofs.Common.{Books, TakesNull, TakesAddr, NamesStep, decided, Local, names_row, after_take, waits_row, FitsNames, Planned, About}
 use Rattle.alloc_rules.proofs.Common.{AreEntries, FrontRules, Parts, Does, setup, IsBefore, NamesActsMove}
 use Rattle.call_steps.specs.declared.step.NamesStep.TheVariants.{Publish, Take}
@@ -11,9 +11,6 @@ use Rattle.alloc_rules.proofs.{Moved.leaves, Onwards.weighs_end, Weighing.ends_c
 
 module _ {P V R : Type 0} (r : FrontRules P V R) (about : R → About) (planned : Planned → Type 0) (entries : AreEntries r.calls about) where
   module _ (huge labels : ℕ) (limits : HeapConfig) (p : Parts P) (locals : List (Local V R)) (b : Books) (calls : List CallLine) (t : ℕ) (l : Local V R) where
-    abbrev m : Setup
-    m = setup r huge labels
-
     abbrev at : NamesStep → Local V R
     at row = record l { step = does.Names row }
 
@@ -21,7 +18,7 @@ module _ {P V R : Type 0} (r : FrontRules P V R) (about : R → About) (planned 
     Before row = IsBefore r about planned huge labels limits p locals b calls t (at row)
 
     abbrev Goal : NamesStep → List NameState × Local V R → Type 0
-    Goal row x = Does r about m (record p { names = x.0 }) b (at row) x.1
+    Goal row x = Does r about (setup r huge labels) (record p { names = x.0 }) b (at row) x.1
 
     state_in : (label : Label) (row : NamesStep) → Before row → (s : NameState) → state_of p.names label.0 ≡ s → state_of b.names label.0 ≡ s
     state_in label row before s is = ap (λ (ns : List NameState). state_of ns label.0) before.books.names ∙ is

@@ -5,6 +5,7 @@ use Rattle.alloc_rules.proofs.Common.{cases_lt, lt-ltb, le-ltb, SpanMap, NameSta
 use Rattle.alloc_rules.specs.declared.part.Part.TheVariants.{Shard}
 use Rattle.heap_rules.specs.Heap as heaps
 use Rattle.class_shard.specs.Shard as shards
+use Rattle.alloc_rules.proofs.Sets.{map_set}
 
 -- of two lists joined, where the first is of images
 get_left : {X Y : Type 0} (f : X → Y) (xs : List X) (ys : List Y) (i : ℕ) → i < length xs → slice_get (map f xs ++ ys) i ≡ option_map f (slice_get xs i)
@@ -29,11 +30,6 @@ get_map_all : {X Y : Type 0} (f : X → Y) (xs : List X) (i : ℕ) → slice_get
 get_map_all f [] i = refl
 get_map_all f (x ∷ xs) zero = refl
 get_map_all f (x ∷ xs) (suc i) = get_map_all f xs i
-
-set_map_all : {X Y : Type 0} (f : X → Y) (xs : List X) (i : ℕ) (x : X) → slice_set (map f xs) i (f x) ≡ map f (slice_set xs i x)
-set_map_all f [] i x = refl
-set_map_all f (y ∷ xs) zero x = refl
-set_map_all f (y ∷ xs) (suc i) x = ap (λ zs. f y ∷ zs) (set_map_all f xs i x)
 
 -- a list that is cut in two
 module _ {X : Type 0} where
@@ -151,7 +147,7 @@ module _ {P : Type 0} (split : ℕ) (p : Parts P) (few : split ≤ length p.fron
       let new : List P = slice_set p.fronts (split + j) q in
       let cut : List P → List P → List (Part P) = λ a b. map Front a ++ (map Shard p.shards ++ (Heap p.heap ∷ Map p.map ∷ Names p.names ∷ map Front b)) in
       set_behind (3 + j) (i + length p.shards + 3) (Front q) (omega (arith, is))
-      ∙ (ap (λ (xs : List (Part P)). map Front first ++ (map Shard p.shards ++ xs)) (set_past_three (Heap p.heap) (Map p.map) (Names p.names) (Front q) (map Front last) j ∙ ap (λ (xs : List (Part P)). Heap p.heap ∷ Map p.map ∷ Names p.names ∷ xs) (set_map_all Front last j q))
+      ∙ (ap (λ (xs : List (Part P)). map Front first ++ (map Shard p.shards ++ xs)) (set_past_three (Heap p.heap) (Map p.map) (Names p.names) (Front q) (map Front last) j ∙ ap (λ (xs : List (Part P)). Heap p.heap ∷ Map p.map ∷ Names p.names ∷ xs) (map_set Front last j q))
       ∙ (ap (λ (xs : List P). cut first xs) (sym (drop_above split p.fronts j q))
       ∙ (ap (λ (xs : List P). cut xs (drop split new)) (sym (take_above split p.fronts j q)) ∙ ap (λ (k : ℕ). parts_of split (record p { fronts = slice_set p.fronts k q })) (sym is))))
 

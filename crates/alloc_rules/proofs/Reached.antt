@@ -21,7 +21,8 @@ there_is (x ∷ xs) (suc i) low = there_is xs i (omega arith)
 
 module _ {P V R : Type 0} {r : FrontRules P V R} {about : R → About} {planned : Planned → Type 0} {Holds : ℕ → List P → List (Standing V R) → Type 0}
     {fits : P → V → Regs → R → Type 0} (law : IsLawful r about planned Holds fits) {asked : Asked} (valid : IsValid r.calls.rows planned asked)
-    {p : Parts P} {locals : List (Local V R)} {b : Books} {order : List ℕ} {t : ℕ} {l : Local V R} (now : Moment r about planned Holds asked p locals b order t l) where
+    {p : Parts P} {locals : List (Local V R)} {b : Books} {order : List ℕ} {t : ℕ} {l : Local V R}
+    (now : Moment r about planned Holds asked p locals b order t l) where
   -- the act at part i leaves other parts and another local, in which all holds
   pub record Goes (i : ℕ) (part : Part P) : Type 0 where
     pub parts : Parts P
@@ -35,9 +36,6 @@ module _ {P V R : Type 0} {r : FrontRules P V R} {about : R → About} {planned 
     pub fit : Fits r.calls.rows fits part l
     pub goes : waits part l ≡ false → Goes i part
 
-  fits_by : (part : Part P) → fits_step r.calls.rows fits part l → Fits r.calls.rows fits part l
-  fits_by part step = record { step = step; few = acts_low law valid now }
-
   split_few : r.split ≤ length p.fronts
   split_few = omega (arith, law.split, now.placed.fronts)
 
@@ -45,30 +43,35 @@ module _ {P V R : Type 0} {r : FrontRules P V R} {about : R → About} {planned 
   classes_are : length p.shards ≡ length r.calls.rows
   classes_are = now.placed.ok.classes
 
-  -- the parts alone with one of them replaced
-  left_by : (ps : List (Part P)) (new : Parts P) (k : Local V R) → ps ≡ parts_of r.split new → record { parts = ps; locals = slice_set locals t k } ≡ world_of (parts_of r.split new) (slice_set locals t k)
-  left_by ps new k is = ap (λ xs. world_of xs (slice_set locals t k)) is
+  -- a part that is there, which the act fits and leaves with these parts and this local
+  at_part : (i : ℕ) (part x : Part P) (left : Local V R) (new : Parts P) → slice_get (parts_of r.split p) i ≡ Some part → fits_step r.calls.rows fits part l
+      → (waits part l ≡ false → IsActed now new left) → (let pair : Part P × Local V R = (x, left) in after r about part l ≡ pair)
+      → slice_set (parts_of r.split p) i x ≡ parts_of r.split new → Reached i
+  at_part i part x left new there step acted leaves set =
+      record {
+        part = part;
+        there = there;
+        fit = record { step = step; few = acts_low law valid now };
+        goes = λ goes. record {
+          parts = new;
+          left = left;
+          acted = acted goes;
+          is = ap (with_pair (world_of (parts_of r.split p) locals) i t) leaves ∙ ap (λ xs. world_of xs (slice_set locals t left)) set;
+        };
+      }
 
   front_reached : (row : R) → l.step ≡ does.Front row → Reached (front_number r.split (length r.calls.rows) (r.place l.seat l.regs row))
   front_reached row step =
       let i : ℕ = r.place l.seat l.regs row in
-      let n : ℕ = front_number r.split (length p.shards) i in
       let q0 : FitsAt r fits p.fronts l.seat l.regs row =
       law.ready (length order) p.fronts (map standing_of locals) t l.seat l.regs l.acts row now.few (acts_few law valid now) now.front
       (stands_row law valid now row step) (ready_row law valid now row step) in
       let q : P = q0.part in
-      subst Reached (ap (λ (k : ℕ). front_number r.split k i) classes_are) (record {
-        part = Front q;
-        there = get_front r.split p split_few i ∙ ap (option_map Front) q0.there;
-        fit = fits_by (Front q) (subst (FitsFrontStep fits q l) (sym step) q0.fit);
-        goes = λ goes. record {
-          parts = _;
-          left = (front_row r about q l row).1;
-          acted = front_acted law valid now row q step q0.there;
-          is = ap (λ (s : Step R). with_pair (world_of (parts_of r.split p) locals) n t (Front (front_after r about q l s).0, (front_after r about q l s).1)) step
-              ∙ left_by (slice_set (parts_of r.split p) n (Front (front_row r about q l row).0)) (record p { fronts = slice_set p.fronts i (front_row r about q l row).0 }) (front_row r about q l row).1 (set_front r.split p split_few i (front_row r about q l row).0);
-        };
-      })
+      subst Reached (ap (λ (k : ℕ). front_number r.split k i) classes_are)
+      (at_part (front_number r.split (length p.shards) i) (Front q) _ (front_row r about q l row).1 _ (get_front r.split p split_few i ∙ ap (option_map Front) q0.there)
+      (subst (FitsFrontStep fits q l) (sym step) q0.fit) (λ goes. front_acted law valid now row q step q0.there)
+      (ap (λ (s : Step R). let z : Part P × Local V R = (Front (front_after r about q l s).0, (front_after r about q l s).1) in z) step)
+      (set_front r.split p split_few i (front_row r about q l row).0))
 
   shard_reached : (row : ShardStep R) → l.step ≡ does.Shard row → Reached (r.split + l.regs.class.0)
   shard_reached row step =
@@ -76,66 +79,35 @@ module _ {P V R : Type 0} {r : FrontRules P V R} {about : R → About} {planned 
       let low : k < length p.shards = omega (arith, classes_are, (now.works t l now.local).shaped.class) in
       let found = there_is p.shards k low in
       let x : shards.Shard = found.0 in
-      record {
-        part = Shard x;
-        there = get_shard r.split p split_few k low ∙ ap (option_map Shard) found.1;
-        fit = fits_by (Shard x) (subst (FitsShardStep r.calls.rows x l) (sym step) (shard_fit law valid now row x step found.1));
-        goes = λ goes. record {
-          parts = _;
-          left = (shard_row r.calls x l row).1;
-          acted = shard_acted law valid now row x step found.1;
-          is = ap (λ (s : Step R). with_pair (world_of (parts_of r.split p) locals) (r.split + k) t (Shard (shard_after r.calls x l s).0, (shard_after r.calls x l s).1)) step
-              ∙ left_by (slice_set (parts_of r.split p) (r.split + k) (Shard (shard_row r.calls x l row).0)) (record p { shards = slice_set p.shards k (shard_row r.calls x l row).0 }) (shard_row r.calls x l row).1 (set_shard r.split p split_few k (shard_row r.calls x l row).0 low);
-        };
-      }
+      at_part (r.split + k) (Shard x) _ (shard_row r.calls x l row).1 _ (get_shard r.split p split_few k low ∙ ap (option_map Shard) found.1)
+      (subst (FitsShardStep r.calls.rows x l) (sym step) (shard_fit law valid now row x step found.1)) (λ goes. shard_acted law valid now row x step found.1)
+      (ap (λ (s : Step R). let z : Part P × Local V R = (Shard (shard_after r.calls x l s).0, (shard_after r.calls x l s).1) in z) step)
+      (set_shard r.split p split_few k (shard_row r.calls x l row).0 low)
 
   heap_reached : (row : HeapStep R) → l.step ≡ does.Heap row → Reached (r.split + length r.calls.rows)
   heap_reached row step =
-      let i : ℕ = r.split + length p.shards in
-      subst Reached (ap (λ (n : ℕ). r.split + n) classes_are) (record {
-        part = Heap p.heap;
-        there = get_heap r.split p split_few;
-        fit = fits_by (Heap p.heap) (subst (FitsHeapStep r.calls.rows p.heap l) (sym step) (heap_fit law valid now row step));
-        goes = λ goes. record {
-          parts = _;
-          left = (heap_row r.calls p.heap l row).1;
-          acted = heap_acted law valid now row step;
-          is = ap (λ (s : Step R). with_pair (world_of (parts_of r.split p) locals) i t (Heap (heap_after r.calls p.heap l s).0, (heap_after r.calls p.heap l s).1)) step
-              ∙ left_by (slice_set (parts_of r.split p) i (Heap (heap_row r.calls p.heap l row).0)) (record p { heap = (heap_row r.calls p.heap l row).0 }) (heap_row r.calls p.heap l row).1 (set_heap r.split p split_few (heap_row r.calls p.heap l row).0);
-        };
-      })
+      subst Reached (ap (λ (n : ℕ). r.split + n) classes_are)
+      (at_part (r.split + length p.shards) (Heap p.heap) _ (heap_row r.calls p.heap l row).1 _ (get_heap r.split p split_few)
+      (subst (FitsHeapStep r.calls.rows p.heap l) (sym step) (heap_fit law valid now row step)) (λ goes. heap_acted law valid now row step)
+      (ap (λ (s : Step R). let z : Part P × Local V R = (Heap (heap_after r.calls p.heap l s).0, (heap_after r.calls p.heap l s).1) in z) step)
+      (set_heap r.split p split_few (heap_row r.calls p.heap l row).0))
 
   map_reached : (row : MapStep R) → l.step ≡ does.Map row → Reached (r.split + length r.calls.rows + 1)
   map_reached row step =
-      let i : ℕ = r.split + length p.shards + 1 in
-      subst Reached (ap (λ (n : ℕ). r.split + n + 1) classes_are) (record {
-        part = Map p.map;
-        there = get_map r.split p split_few;
-        fit = fits_by (Map p.map) (subst (FitsMapStep p.map l) (sym step) (map_fit law valid now row step));
-        goes = λ goes. record {
-          parts = _;
-          left = (map_row r.calls p.map l row).1;
-          acted = map_acted law valid now row step;
-          is = ap (λ (s : Step R). with_pair (world_of (parts_of r.split p) locals) i t (Map (map_after r.calls p.map l s).0, (map_after r.calls p.map l s).1)) step
-              ∙ left_by (slice_set (parts_of r.split p) i (Map (map_row r.calls p.map l row).0)) (record p { map = (map_row r.calls p.map l row).0 }) (map_row r.calls p.map l row).1 (set_map r.split p split_few (map_row r.calls p.map l row).0);
-        };
-      })
+      subst Reached (ap (λ (n : ℕ). r.split + n + 1) classes_are)
+      (at_part (r.split + length p.shards + 1) (Map p.map) _ (map_row r.calls p.map l row).1 _ (get_map r.split p split_few)
+      (subst (FitsMapStep p.map l) (sym step) (map_fit law valid now row step)) (λ goes. map_acted law valid now row step)
+      (ap (λ (s : Step R). let z : Part P × Local V R = (Map (map_after r.calls p.map l s).0, (map_after r.calls p.map l s).1) in z) step)
+      (set_map r.split p split_few (map_row r.calls p.map l row).0))
 
   names_reached : (row : NamesStep) → l.step ≡ does.Names row → Reached (r.split + length r.calls.rows + 2)
   names_reached row step =
-      let i : ℕ = r.split + length p.shards + 2 in
-      subst Reached (ap (λ (n : ℕ). r.split + n + 2) classes_are) (record {
-        part = Names p.names;
-        there = get_names r.split p split_few;
-        fit = fits_by (Names p.names) (subst (FitsNamesStep p.names) (sym step) (names_fit law valid now row step));
-        goes = λ goes. record {
-          parts = _;
-          left = (names_row r.calls p.names l row).1;
-          acted = names_acted law valid now row step (ap (waits_for p.names) (sym step) ∙ goes);
-          is = ap (λ (s : Step R). with_pair (world_of (parts_of r.split p) locals) i t (Names (names_after r.calls p.names l s).0, (names_after r.calls p.names l s).1)) step
-              ∙ left_by (slice_set (parts_of r.split p) i (Names (names_row r.calls p.names l row).0)) (record p { names = (names_row r.calls p.names l row).0 }) (names_row r.calls p.names l row).1 (set_names r.split p split_few (names_row r.calls p.names l row).0);
-        };
-      })
+      subst Reached (ap (λ (n : ℕ). r.split + n + 2) classes_are)
+      (at_part (r.split + length p.shards + 2) (Names p.names) _ (names_row r.calls p.names l row).1 _ (get_names r.split p split_few)
+      (subst (FitsNamesStep p.names) (sym step) (names_fit law valid now row step))
+      (λ goes. names_acted law valid now row step (ap (waits_for p.names) (sym step) ∙ goes))
+      (ap (λ (s : Step R). let z : Part P × Local V R = (Names (names_after r.calls p.names l s).0, (names_after r.calls p.names l s).1) in z) step)
+      (set_names r.split p split_few (names_row r.calls p.names l row).0))
 
   at_place : (i : ℕ) (place : PartNo) → (let n : PartNo = record { 0 = i } in Some n) ≡ Some place → Reached i → Reached place.0
   at_place i place is reached = let e : (let n : PartNo = record { 0 = i } in n) ≡ place = cc in subst (λ (n : PartNo). Reached n.0) e reached

@@ -6,7 +6,9 @@ use Rattle.tc_model.specs.Sound.{IsSound}
 use Rattle.alloc_rules.proofs.{First.served_first, Reached.Reached, Reached.reached, Serving.IsServed, Serving.Moment, Serving.served}
 
 module _ {P V R : Type 0} {r : FrontRules P V R} {about : R → About} {planned : Planned → Type 0} {Holds : ℕ → List P → List (Standing V R) → Type 0}
-    {fits : P → V → Regs → R → Type 0} (law : IsLawful r about planned Holds fits) {asked : Asked} (valid : IsValid r.calls.rows planned asked) (w : World (Part P) (Local V R)) (order : List ℕ) (few : length order ≤ MOST_PICKS) (good : IsServed r about planned Holds asked w order) (t : ℕ) (l : Local V R) (local : slice_get w.locals t ≡ Some l) (place : PartNo) (want : place_of r about l ≡ Some place) where
+    {fits : P → V → Regs → R → Type 0} (law : IsLawful r about planned Holds fits) {asked : Asked} (valid : IsValid r.calls.rows planned asked)
+    (w : World (Part P) (Local V R)) (order : List ℕ) (few : length order ≤ MOST_PICKS) (good : IsServed r about planned Holds asked w order) (t : ℕ)
+    (l : Local V R) (local : slice_get w.locals t ≡ Some l) (place : PartNo) (want : place_of r about l ≡ Some place) where
   here : slice_get good.locals t ≡ Some l
   here = ap (λ (v : World (Part P) (Local V R)). slice_get v.locals t) (sym good.is) ∙ local
 
@@ -39,7 +41,8 @@ module _ {P V R : Type 0} {r : FrontRules P V R} {about : R → About} {planned 
 
   -- after every order of picks that move
   pub served_order : (order : List ℕ) → IsOrder (rules r about asked) order → IsServed r about planned Holds asked (run (rules r about asked) order) order
-  served_order order of = run_keeps_with MOST_PICKS (rules r about asked) (IsServed r about planned Holds asked) served_kept (served_first law valid) order of.few of.moves
+  served_order order of =
+      run_keeps_with MOST_PICKS (rules r about asked) (IsServed r about planned Holds asked) served_kept (served_first law valid) order of.few of.moves
 
   -- each pair that a pick takes fits
   pub sound : IsSound (rules r about asked) (Fits r.calls.rows fits)

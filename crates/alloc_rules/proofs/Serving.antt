@@ -1,14 +1,15 @@
 -- What holds of a world in every run, and what an act of a thread makes of it.
-use Rattle.std.proofs.Common.{◌≡◌, ℕ, zero, suc, ◌+◌, ◌≤◌, true, eqb, List, [], ◌∷◌, ◌++◌, length, map, Option, Some, refl, sym, ap, ◌∙◌, subst}
+use Rattle.std.proofs.Common.{◌≡◌, ℕ, suc, ◌+◌, ◌≤◌, true, eqb, List, [], ◌∷◌, ◌++◌, length, map, Option, Some, refl, sym, ap, ◌∙◌, subst}
 use Rattle.std.proofs.Common.{arith, All, slice_get, slice_set}
-use Rattle.alloc_rules.proofs.Common.{MOST_PICKS, append-nil, length-set, length-append, map-append, filter-append, Planned, CallLine, Asked, script_of, World, world_of}
+use Rattle.alloc_rules.proofs.Common.{MOST_PICKS, append-nil, length-set, length-append, map-append, filter-append, Planned, CallLine, Asked, script_of}
+use Rattle.alloc_rules.proofs.Common.{World, world_of}
 use Rattle.alloc_rules.proofs.Common.{picks_of, answers_at, AreOfPicks, AreAt, AreBelow, AreRising, calls-step, picks-step, picks-push_same, picks-push_other}
 use Rattle.alloc_rules.proofs.Common.{NameState, state_of, Shard, Account, is_out, Books, Facts, Said, books_with, lines, Decided, told, Local, FrontCalls}
 use Rattle.alloc_rules.proofs.Common.{AreEntries, FrontRules, About, Part, heap_config, Parts, parts_of, HasRoom, lines_by, account_of, decided_at, stock_of}
 use Rattle.alloc_rules.proofs.Common.{ArePartsOk, AreBooksOf, Does, Standing, standing_of, IsShaped, IsIn, Path, is_under_way, calls, setup_of}
 use Rattle.holdings.proofs.Moves.{acts_keep}
 use Rattle.tc_model.proofs.Rising.{rising_push}
-use Rattle.alloc_rules.proofs.{Freeing.account_at, InScripts.StayOut, InScripts.path_in, ScriptFacts.HasRow, Sets.each_set, Telling.others_lines}
+use Rattle.alloc_rules.proofs.{Freeing.account_at, InScripts.StayOut, InScripts.path_in, ScriptFacts.HasRow, Sets.each_set, Sets.map_set, Telling.others_lines}
 use Rattle.alloc_rules.proofs.Telling.{own_lines}
 use Rattle.alloc_rules.proofs.Published.{keeps_unpublished, said_few, stays_out}
 
@@ -60,11 +61,6 @@ told_lines : (t n : ℕ) (said : List Said) → map (told t) (decided_at n said)
 told_lines t n [] = refl
 told_lines t n (s ∷ more) = ap (λ xs. record { thread = record { 0 = t }; call = s.call; answer = s.answer } ∷ xs) (told_lines t n more)
 
-map-set : {X Y : Type 0} (f : X → Y) (xs : List X) (t : ℕ) (x : X) → slice_set (map f xs) t (f x) ≡ map f (slice_set xs t x)
-map-set f [] t x = refl
-map-set f (y ∷ ys) zero x = refl
-map-set f (y ∷ ys) (suc t) x = ap (λ zs. f y ∷ zs) (map-set f ys t x)
-
 -- in other names, in which the same are out
 stays_inside : {V R : Type 0} (e : FrontCalls V R) (about : R → About) (names names' : List NameState) (script : List Planned) (l : Local V R) → StayOut names names' → IsIn e about names script l → IsIn e about names' script l
 stays_inside e about names names' script l stay inside = grind arith
@@ -82,8 +78,10 @@ pub record Moment {P V R : Type 0} (r : FrontRules P V R) (about : R → About) 
   pub few : length order ≤ MOST_PICKS
 
 -- An act of its thread, with the parts and the local that it leaves.
-module _ {P V R : Type 0} {r : FrontRules P V R} {about : R → About} {planned : Planned → Type 0} {Holds : ℕ → List P → List (Standing V R) → Type 0} {asked : Asked}
-    {p : Parts P} {locals : List (Local V R)} {b : Books} {order : List ℕ} {t : ℕ} {l : Local V R} (now : Moment r about planned Holds asked p locals b order t l) where
+module _ {P V R : Type 0} {r : FrontRules P V R} {about : R → About} {planned : Planned → Type 0} {Holds : ℕ → List P → List (Standing V R) → Type 0}
+    {asked : Asked}
+    {p : Parts P} {locals : List (Local V R)} {b : Books} {order : List ℕ} {t : ℕ} {l : Local V R}
+    (now : Moment r about planned Holds asked p locals b order t l) where
   pub record IsActed (new : Parts P) (after : Local V R) : Type 0 where
     pub does : Does r about (setup_of r asked) new b l after
     pub path : Path r.calls about l after
@@ -149,7 +147,8 @@ module _ {P V R : Type 0} {r : FrontRules P V R} {about : R → About} {planned 
     calls_now = calls-step (λ (k : Local V R). k.answers) (λ (x : Decided). x.act) told locals order t l after (decided_at l.acts acted.does.said) now.of now.local acted.does.answers at_pick ∙ ap (λ xs. calls locals order ++ xs) (told_lines t l.acts acted.does.said)
 
     -- what is told then of a thread
-    lines_now : (u : ℕ) → lines_by u (calls (slice_set locals t after) (order ++ t ∷ [])) ≡ lines_by u (calls locals order) ++ lines_by u (lines t acted.does.said)
+    lines_now : (u : ℕ)
+        → lines_by u (calls (slice_set locals t after) (order ++ t ∷ [])) ≡ lines_by u (calls locals order) ++ lines_by u (lines t acted.does.said)
     lines_now u = ap (lines_by u) calls_now ∙ filter-append (λ (c : CallLine). eqb c.thread.0 u) (calls locals order) (lines t acted.does.said)
 
     this_tells : AllTell locals (calls locals order) → lines_by t (calls (slice_set locals t after) (order ++ t ∷ [])) ≡ map (told t) after.answers
@@ -160,7 +159,8 @@ module _ {P V R : Type 0} {r : FrontRules P V R} {about : R → About} {planned 
         each_set (λ u k. lines_by u (calls (slice_set locals t after) (order ++ t ∷ [])) ≡ map (told u) k.answers) locals t after l now.local (this_tells tells)
         (λ u k apart old. lines_now u ∙ (ap (λ xs. lines_by u (calls locals order) ++ xs) (others_lines t u acted.does.said apart) ∙ (append-nil (lines_by u (calls locals order)) ∙ tells u k old)))
 
-    pub served : (w : World (Part P) (Local V R)) → w ≡ world_of (parts_of r.split new) (slice_set locals t after) → length locals ≡ asked.config.threads → AllTell locals (calls locals order) → IsServed r about planned Holds asked w (order ++ t ∷ [])
+    pub served : (w : World (Part P) (Local V R)) → w ≡ world_of (parts_of r.split new) (slice_set locals t after) → length locals ≡ asked.config.threads
+        → AllTell locals (calls locals order) → IsServed r about planned Holds asked w (order ++ t ∷ [])
     served w is count tells =
         record {
           parts = new;
@@ -173,7 +173,7 @@ module _ {P V R : Type 0} {r : FrontRules P V R} {about : R → About} {planned 
             heap = acted.does.like_heap;
             spans = acted.does.like_spans;
             names = refl;
-            accounts = ap (λ (xs : List Account). slice_set xs t (account_of about after)) now.books.accounts ∙ map-set (account_of about) locals t after;
+            accounts = ap (λ (xs : List Account). slice_set xs t (account_of about after)) now.books.accounts ∙ map_set (account_of about) locals t after;
           };
           facts = subst (Facts (setup_of r asked) after_books) (sym calls_now) (acts_keep (setup_of r asked) b (calls locals order) t (account_of about l) (account_of about after) (stock_of r about new) acted.does.heap acted.does.spans new.names acted.does.said now.facts mine acted.does.move);
           front = subst (λ (n : ℕ). Holds n new.fronts (map standing_of (slice_set locals t after))) (sym (length-append order (t ∷ []))) acted.front;

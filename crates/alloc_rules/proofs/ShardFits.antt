@@ -20,8 +20,8 @@ states_have : (P : SpanRef → Type 0) (states : List SpanState) → All P (map 
 states_have P states all = λ i d less. subst P (get_or-map (λ (x : SpanState). x.span) states i d d.span less) (all i d.span (omega (arith, length-map states (λ (x : SpanState). x.span), less)))
 
 module _ {P V R : Type 0} {r : FrontRules P V R} {about : R → About} {planned : Planned → Type 0} where
-  module _ {huge labels : ℕ} {limits : HeapConfig} {p : Parts P} {locals : List (Local V R)} {b : Books} {calls : List CallLine} {t : ℕ} {l : Local V R} {x : Shard}
-      (before : IsBefore r about planned huge labels limits p locals b calls t l) (at : slice_get p.shards l.regs.class.0 ≡ Some x) where
+  module _ {huge labels : ℕ} {limits : HeapConfig} {p : Parts P} {locals : List (Local V R)} {b : Books} {calls : List CallLine} {t : ℕ} {l : Local V R}
+      {x : Shard} (before : IsBefore r about planned huge labels limits p locals b calls t l) (at : slice_get p.shards l.regs.class.0 ≡ Some x) where
     abbrev m : Setup
     m = setup r huge labels
 
@@ -92,4 +92,5 @@ module _ {P V R : Type 0} {r : FrontRules P V R} {about : R → About} {planned 
 
 module _ {P V R : Type 0} (r : FrontRules P V R) (about : R → About) (planned : Planned → Type 0) where
   pub shard_acts_fit : ShardActsFit r about planned
-  shard_acts_fit huge labels limits p locals b calls t l x row before is at = fits_by before at row is (subst (λ (s : Step R). StepShape r.calls.rows about l s) is before.shaped.step)
+  shard_acts_fit huge labels limits p locals b calls t l x row before is at =
+      fits_by before at row is (subst (λ (s : Step R). StepShape r.calls.rows about l s) is before.shaped.step)

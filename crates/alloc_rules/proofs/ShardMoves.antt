@@ -19,8 +19,8 @@ use Rattle.alloc_rules.proofs.Goings.{adding, carries_as, gets_first, gets_objec
 use Rattle.alloc_rules.proofs.ShardFits.{class_row_is, is_mapped, of_class, row_is, shard_acts_fit, shard_is}
 
 module _ {P V R : Type 0} {r : FrontRules P V R} {about : R → About} {planned : Planned → Type 0} (entries : AreEntries r.calls about) where
-  module _ {huge labels : ℕ} {limits : HeapConfig} {p : Parts P} {locals : List (Local V R)} {b : Books} {calls : List CallLine} {t : ℕ} {l : Local V R} {x : Shard}
-      (before : IsBefore r about planned huge labels limits p locals b calls t l) (at : slice_get p.shards l.regs.class.0 ≡ Some x) where
+  module _ {huge labels : ℕ} {limits : HeapConfig} {p : Parts P} {locals : List (Local V R)} {b : Books} {calls : List CallLine} {t : ℕ} {l : Local V R}
+      {x : Shard} (before : IsBefore r about planned huge labels limits p locals b calls t l) (at : slice_get p.shards l.regs.class.0 ≡ Some x) where
     abbrev m : Setup
     m = setup r huge labels
 

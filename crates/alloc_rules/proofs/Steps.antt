@@ -1,8 +1,8 @@
 -- Each act of a thread, at the part that it wants, keeps what holds of a world.
-use Rattle.std.proofs.Common.{◌≡◌, ℕ, zero, suc, ◌+◌, ◌≤◌, ◌^◌, false, eqb, List, [], ◌∷◌, length, map, Some, refl, sym, ap, ◌∙◌, subst, arith, All}
+use Rattle.std.proofs.Common.{true, ◌≡◌, ℕ, zero, suc, ◌+◌, ◌≤◌, ◌^◌, false, eqb, List, [], ◌∷◌, length, map, Some, refl, sym, ap, ◌∙◌, subst, arith, All}
 use Rattle.std.proofs.Common.{option_map, slice_get, slice_set}
 use Rattle.alloc_rules.proofs.Common.{length-set, count_by-le-length, All-set, All-head, slice_get-map, Label, Malloc, Planned, MOST_PICKS, Asked, labels_of}
-use Rattle.alloc_rules.proofs.Common.{picks_of, Shard, SpanMap, IsWellFormed, NameState, HeapConfig, Regs, Books, of_all, Step, ShardStep}
+use Rattle.alloc_rules.proofs.Common.{picks_of, Shard, SpanMap, IsWellFormed, NameState, HeapConfig, Regs, Books, of_all, Step, ShardStep, Does, setup_of}
 use Rattle.alloc_rules.proofs.Common.{HeapStep, MapStep, NamesStep, Local, About, undecided, shard_row, heap_row, map_row, names_row, waits_row}
 use Rattle.alloc_rules.proofs.Common.{front_row, FitsNames, FitsShard, FitsHeap, FitsMap, heap_config, Parts, HasRoom, IsShardOf, Here, Standing}
 use Rattle.alloc_rules.proofs.Common.{stand, at_step, standing_of, ShardShape, StepShape, IsAct, IsLawful, FrontRules, IsBefore, IsKept, FrontKept, AddsSome}
@@ -14,7 +14,7 @@ use Rattle.call_steps.specs.declared.step.Step.TheVariants as does
 use Rattle.call_steps.specs.declared.step.HeapStep.TheVariants as heap
 use Rattle.alloc_rules.proofs.{FrontMoves.front_acts_move, Heads.list_stays, HeapMoves.heap_acts_move, MapMoves.map_acts_move, NameMoves.names_acts_move}
 use Rattle.alloc_rules.proofs.{ScriptFacts.HasRow, Sets.each_set, ShardFits.row_is, ShardFits.shard_acts_fit, ShardMoves.shard_acts_move}
-use Rattle.alloc_rules.proofs.{ShardMoves.shard_stays, Sizes.request_low}
+use Rattle.alloc_rules.proofs.{Sets.map_set, ShardMoves.shard_stays, Sizes.request_low}
 use Rattle.alloc_rules.proofs.ActKeeps.{front_acts_keep, heap_acts_keep, map_acts_keep, names_acts_keep, shard_acts_keep}
 use Rattle.alloc_rules.proofs.HeapStays.{HeapStays, MapStays, heap_stays, map_stays}
 use Rattle.alloc_rules.proofs.PartFits.{found_class, heap_fits, map_fits, names_fits}
@@ -31,25 +31,22 @@ set_same [] i x is = refl
 set_same (y ∷ xs) zero x is = let e : y ≡ x = cc in ap (λ z. z ∷ xs) (sym e)
 set_same (y ∷ xs) (suc i) x is = ap (λ zs. y ∷ zs) (set_same xs i x is)
 
-map_set : {X Y : Type 0} (f : X → Y) (xs : List X) (i : ℕ) (x : X) → slice_set (map f xs) i (f x) ≡ map f (slice_set xs i x)
-map_set f [] i x = refl
-map_set f (y ∷ xs) zero x = refl
-map_set f (y ∷ xs) (suc i) x = ap (λ zs. f y ∷ zs) (map_set f xs i x)
-
 -- a thread's picks are among all
 picks_few : (t : ℕ) (order : List ℕ) → picks_of t order ≤ length order
 picks_few t order = count_by-le-length (λ u. eqb u t) order
 
 -- the next of some calls has its row
 pub row_there : {P V R : Type 0} {r : FrontRules P V R} {about : R → About} {planned : Planned → Type 0} {Holds : ℕ → List P → List (Standing V R) → Type 0}
-    {fits : P → V → Regs → R → Type 0} (law : IsLawful r about planned Holds fits) (v : V) (calls : List Planned) → All planned calls → HasRow r.calls v (slice_get calls 0)
+    {fits : P → V → Regs → R → Type 0} (law : IsLawful r about planned Holds fits) (v : V) (calls : List Planned) → All planned calls
+    → HasRow r.calls v (slice_get calls 0)
 row_there law v [] all = tt
 row_there {planned = planned} law v (p ∷ ps) all = λ own. law.other_there v p (All-head planned p ps all) own
 
 -- a world in which an act comes
 module _ {P V R : Type 0} {r : FrontRules P V R} {about : R → About} {planned : Planned → Type 0} {Holds : ℕ → List P → List (Standing V R) → Type 0}
     {fits : P → V → Regs → R → Type 0} (law : IsLawful r about planned Holds fits) {asked : Asked} (valid : IsValid r.calls.rows planned asked)
-    {p : Parts P} {locals : List (Local V R)} {b : Books} {order : List ℕ} {t : ℕ} {l : Local V R} (now : Moment r about planned Holds asked p locals b order t l) where
+    {p : Parts P} {locals : List (Local V R)} {b : Books} {order : List ℕ} {t : ℕ} {l : Local V R}
+    (now : Moment r about planned Holds asked p locals b order t l) where
   abbrev huge : ℕ
   huge = asked.config.huge
 
@@ -101,6 +98,20 @@ module _ {P V R : Type 0} {r : FrontRules P V R} {about : R → About} {planned 
   -- no shard and no part of the front-end changes
   placed_elsewhere : (h : heaps.Heap) (m : SpanMap) (names : List NameState) → heaps_sound.IsSound h → h.config ≡ limits → IsWellFormed m → m.huge ≡ huge → ArePlaced r asked (record p { heap = h; map = m; names = names })
   placed_elsewhere h m names sound config well same = grind arith
+
+  -- an act elsewhere than at the front-end
+  elsewhere : {new : Parts P} {after : Local V R} → new.fronts ≡ p.fronts → Does r about (setup_of r asked) new b l after → Path r.calls about l after
+      → is_under_way l.step ≡ true → ArePlaced r asked new → IsKept r about planned Holds t l after → Acted new after
+  elsewhere {new = new} {after = after} same does path way placed kept =
+      record {
+        does = does;
+        path = path;
+        way = way;
+        placed = placed;
+        shaped = kept.shaped;
+        front = subst (λ (ps : List P). Holds (length order + 1) ps (map standing_of (slice_set locals t after))) (sym same) (front_kept after kept);
+        there = there_is after;
+      }
 
   -- what the acts fit
   pub shard_fit : (row : ShardStep R) (x : Shard) → l.step ≡ does.Shard row → slice_get p.shards l.regs.class.0 ≡ Some x → FitsShard r.calls.rows x l row
@@ -188,15 +199,10 @@ module _ {P V R : Type 0} {r : FrontRules P V R} {about : R → About} {planned 
       let after : heaps.Heap = (heap_row r.calls p.heap l row).0 in
       let kept = heap_acts_keep law t p.heap l row valid.rows (now.works t l now.local).shaped step fit in
       let stays : HeapStays p.heap after = heap_stays r.calls p.heap l row now.placed.ok.heap (omega (arith, valid.limits.region, ap (λ (c : HeapConfig). c.region) now.placed.ok.config)) fit in
-      record {
-        does = heap_acts_move r about planned law.entries huge labels limits p locals b (calls locals order) t l row before step fit;
-        path = subst (λ (y : Local V R). Path r.calls about y (heap_row r.calls p.heap y row).1) here (heap_path r.calls about law.entries l p.heap row (subst (λ (y : Local V R). FitsHeap r.calls.rows p.heap y row) (sym here) fit));
-        way = ap is_under_way step;
-        placed = placed_elsewhere after p.map p.names stays.sound (stays.config ∙ now.placed.ok.config) now.placed.ok.map now.placed.ok.huge;
-        shaped = kept.shaped;
-        front = front_kept (heap_row r.calls p.heap l row).1 kept;
-        there = there_is (heap_row r.calls p.heap l row).1;
-      }
+      elsewhere refl
+      (heap_acts_move r about planned law.entries huge labels limits p locals b (calls locals order) t l row before step fit)
+      (subst (λ (y : Local V R). Path r.calls about y (heap_row r.calls p.heap y row).1) here (heap_path r.calls about law.entries l p.heap row (subst (λ (y : Local V R). FitsHeap r.calls.rows p.heap y row) (sym here) fit)))
+      (ap is_under_way step) (placed_elsewhere after p.map p.names stays.sound (stays.config ∙ now.placed.ok.config) now.placed.ok.map now.placed.ok.huge) kept
 
   -- at the page map
   pub map_acted : (row : MapStep R) → l.step ≡ does.Map row → Acted (record p { map = (map_row r.calls p.map l row).0 }) (map_row r.calls p.map l row).1
@@ -206,15 +212,10 @@ module _ {P V R : Type 0} {r : FrontRules P V R} {about : R → About} {planned 
       let found = found_class r about planned law.entries huge labels limits p locals b (calls locals order) t l row (with_step (does.Map row) step) in
       let kept = map_acts_keep law t p.map l row valid.rows (now.works t l now.local).shaped step fit found in
       let stays : MapStays p.map (map_row r.calls p.map l row).0 = map_stays r.calls p.map l row now.placed.ok.map fit in
-      record {
-        does = map_acts_move r about planned law.entries huge labels limits p locals b (calls locals order) t l row before step fit;
-        path = subst (λ (y : Local V R). Path r.calls about y (map_row r.calls p.map y row).1) here (map_path r.calls about law.entries l p.map row (subst (λ (y : Local V R). FitsMap p.map y row) (sym here) fit));
-        way = ap is_under_way step;
-        placed = placed_elsewhere p.heap (map_row r.calls p.map l row).0 p.names now.placed.ok.heap now.placed.ok.config stays.well (stays.huge ∙ now.placed.ok.huge);
-        shaped = kept.shaped;
-        front = front_kept (map_row r.calls p.map l row).1 kept;
-        there = there_is (map_row r.calls p.map l row).1;
-      }
+      elsewhere refl
+      (map_acts_move r about planned law.entries huge labels limits p locals b (calls locals order) t l row before step fit)
+      (subst (λ (y : Local V R). Path r.calls about y (map_row r.calls p.map y row).1) here (map_path r.calls about law.entries l p.map row (subst (λ (y : Local V R). FitsMap p.map y row) (sym here) fit)))
+      (ap is_under_way step) (placed_elsewhere p.heap (map_row r.calls p.map l row).0 p.names now.placed.ok.heap now.placed.ok.config stays.well (stays.huge ∙ now.placed.ok.huge)) kept
 
   -- at the names, where it doesn't wait
   pub names_acted : (row : NamesStep) → l.step ≡ does.Names row → waits_row p.names row ≡ false → Acted (record p { names = (names_row r.calls p.names l row).0 }) (names_row r.calls p.names l row).1
@@ -222,12 +223,7 @@ module _ {P V R : Type 0} {r : FrontRules P V R} {about : R → About} {planned 
       let here : record l { step = does.Names row } ≡ l = ap (λ s. record l { step = s }) (sym step) in
       let fit : FitsNames p.names row = names_fit row step in
       let kept = names_acts_keep law t p.names l row valid.rows (now.works t l now.local).shaped step fit in
-      record {
-        does = names_acts_move r about planned law.entries huge labels limits p locals b (calls locals order) t l row before step fit goes;
-        path = subst (λ (y : Local V R). Path r.calls about y (names_row r.calls p.names y row).1) here (names_path r.calls about law.entries l p.names row fit goes);
-        way = ap is_under_way step;
-        placed = placed_elsewhere p.heap p.map (names_row r.calls p.names l row).0 now.placed.ok.heap now.placed.ok.config now.placed.ok.map now.placed.ok.huge;
-        shaped = kept.shaped;
-        front = front_kept (names_row r.calls p.names l row).1 kept;
-        there = there_is (names_row r.calls p.names l row).1;
-      }
+      elsewhere refl
+      (names_acts_move r about planned law.entries huge labels limits p locals b (calls locals order) t l row before step fit goes)
+      (subst (λ (y : Local V R). Path r.calls about y (names_row r.calls p.names y row).1) here (names_path r.calls about law.entries l p.names row fit goes))
+      (ap is_under_way step) (placed_elsewhere p.heap p.map (names_row r.calls p.names l row).0 now.placed.ok.heap now.placed.ok.config now.placed.ok.map now.placed.ok.huge) kept

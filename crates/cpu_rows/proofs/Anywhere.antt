@@ -1,16 +1,15 @@
 -- What each act keeps, wherever it finds its part: a slab is as the table and the heads say, and a row refuses a call as it may.
-use Rattle.std.proofs.Common.{◌≡◌, ℕ, zero, suc, Bool, true, false, eqb, List, [], ◌∷◌, map, Option, Some, None, refl, ap, ◌∙◌}
-use Rattle.std.proofs.Common.{option_map, slice_set, slice_index_or, arith}
+use Rattle.std.proofs.Common.{◌≡◌, ℕ, zero, suc, Bool, eqb, List, [], ◌∷◌, map, Option, Some, None, refl, ap, ◌∙◌}
+use Rattle.std.proofs.Common.{slice_set, slice_index_or, arith}
 use Rattle.cpu_rows.proofs.Common.{cond_both, ClassRow, ThreadNo, MoveTo, Config, CapFault, SlabRow, CpuSlab, no_row, row_at, with_row, set_unless}
-use Rattle.cpu_rows.proofs.Common.{CpuPart, Regs, Pc, cell, CpuSeat, CpuStep}
+use Rattle.cpu_rows.proofs.Common.{CpuPart, Regs, CpuSeat, CpuStep}
 use Rattle.cpu_rows.proofs.Common.{Stopping, due, sequence_by, stops, left_for, cpu_acts, looks_on, gives, after_pop, after_stock, after_push, replied}
-use Rattle.cpu_rows.proofs.Common.{instructed_to, grew_to, drained, took, cap_answer, gives_taken, started, takes, domain_acts}
-use Rattle.cpu_rows.proofs.Common.{slab_class, IsSlabOf, Addr, Class, Reply, Instructed, Grew, Transfer, Asking, Giving, CpuRow}
-use Rattle.cpu_rows.proofs.Common.{DomainStep, Next, cpu_refuses, as_row, is_refusal, RefusesAs, CpuFrontPart, front_acts}
+use Rattle.cpu_rows.proofs.Common.{started}
+use Rattle.cpu_rows.proofs.Common.{slab_class, IsSlabOf, Addr, Reply, Asking, Giving, CpuRow}
+use Rattle.cpu_rows.proofs.Common.{Next, cpu_refuses, as_row, RefusesAs, CpuFrontPart, front_acts}
 use Rattle.cpu_slab.specs.Growth.{grown, growth, narrower, rise, roomy, taken_from, unused, used, victim, widened, wider}
-use Rattle.std.{specs.Int.div_ceil, specs.Prelude.unwrap_or}
+use Rattle.std.{specs.Int.div_ceil}
 use Rattle.rseq_core.specs.Acts as rseq
-use Rattle.cpu_drain.specs.Drains as drains
 use Rattle.cpu_rows.specs.declared.row.CpuStep.TheVariants as cpu
 use Rattle.call_steps.specs.declared.step.Next.TheVariants as next
 use Rattle.cpu_rows.specs.declared.row.CpuRow.TheVariants as front

@@ -11,6 +11,7 @@ pub use Rattle.alloc_rules.proofs.Common.{length-range_with_len, length-set, len
 pub use Rattle.alloc_rules.proofs.Common.{objects_at, of_all, range_with_len, regs_next, reverse-append, room, slice_get-get_or, slice_get-map}
 pub use Rattle.alloc_rules.proofs.Common.{slice_get_within, stand, standing_of, start, sum_by-cons, take-append-drop, thread_no, with_pair, with_regs}
 pub use Rattle.alloc_rules.proofs.Common.{without_last}
+pub use Rattle.alloc_rules.proofs.Counting.{objects_append, objects_cut, objects_last, objects_reverse}
 pub use Rattle.alloc_rules.specs.Inputs.{IsCallThere, IsMove, IsValidInput, Limits, limits_of}
 pub use Rattle.call_steps.{specs.Acts.front_yields, specs.Local.row_of, specs.Refusals.is_refusal}
 pub use Rattle.call_steps.specs.Calls.{Asks, Frees, Other, Publishes}

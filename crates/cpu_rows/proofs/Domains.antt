@@ -1,16 +1,16 @@
 -- Acts at the cache of a class in a domain.
-use Rattle.std.proofs.Common.{◌≡◌, ◌≢◌, refl, ℕ, ◌+◌, ◌-◌, ◌<◌, ◌≤◌, Bool, cond, [], ◌∷◌, List, length, drop, ap, sym, arith}
+use Rattle.std.proofs.Common.{◌≡◌, ◌≢◌, refl, ℕ, ◌+◌, ◌-◌, ◌<◌, ◌≤◌, Bool, cond, List, length, drop, ap, sym, arith}
 use Rattle.cpu_rows.proofs.Common.{cond_both, eq-eqb, ne_eqb, leb-true, length-append, length-take, length-drop, length-reverse, Addr, Class, ClassRow}
 use Rattle.cpu_rows.proofs.Common.{Config, Regs, HAND_ROOM, LOADED_ROOM, emptied, room, Transfer, last_first, without_last, objects_at, CpuSeat}
 use Rattle.cpu_rows.proofs.Common.{Asking, Giving, CpuStep, DomainStep, Next, no_class, row_of, leaving, takes, put_in, domain_acts}
 use Rattle.cpu_rows.proofs.Common.{about_row, as_row, FitsDomain, AreRows, DomainShape, HasRoom, Here, at_next, regs_next, IsNext, IsAct}
-use Rattle.cpu_rows.proofs.Common.{Domain, seated, cpu_stored, left_with, cpu_front, limits_of}
+use Rattle.cpu_rows.proofs.Common.{Domain, seated, cpu_stored, left_with, cpu_front, limits_of, objects_append, objects_last}
 use Rattle.call_steps.specs.declared.step.Giving.TheVariants as giving
 use Rattle.call_steps.specs.declared.step.Next.TheVariants as next
 use Rattle.cpu_rows.specs.declared.row.CpuRow.TheVariants as front
 use Rattle.cpu_rows.specs.declared.row.DomainStep.TheVariants as domain
 use Rattle.cpu_rows.specs.CpuActs as acts
-use Rattle.cpu_rows.proofs.{Acts.gives_to_shard, Moves.objects_append, Moves.objects_last, Threads.Comes, Threads.KeepsRegs}
+use Rattle.cpu_rows.proofs.{Acts.gives_to_shard, Threads.Comes, Threads.KeepsRegs}
 
 -- a cache has the objects of its class alone
 stored_own : (k : Class) (q : Transfer) (n : ℕ) → cpu_stored (Domain k q) k.0 n ≡ objects_at n q.objects

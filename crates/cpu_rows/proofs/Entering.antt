@@ -1,13 +1,13 @@
 -- What an act of a local leaves of its CPU's open mark and of the thread's own sequence.
-use Rattle.std.proofs.Common.{◌≡◌, ℕ, ◌+◌, ◌<◌, ◌≤◌, ◌⊎◌, Bool, true, false, cond, ltb, List, Option, Some, None, refl, sym, ap, subst}
+use Rattle.std.proofs.Common.{◌≡◌, ℕ, ◌+◌, ◌<◌, ◌≤◌, ◌⊎◌, Bool, true, false, ltb, List, Option, Some, None, refl, sym, ap, subst}
 use Rattle.std.proofs.Common.{inr, arith, not, ◌||◌, is_some, length}
-use Rattle.cpu_rows.proofs.Common.{cond_both, ltb-true, ltb-false, ThreadNo, ClassRow, MoveTo, SlabRow, CpuPart, Regs, LOADED_ROOM, Pc, Begin, Header}
-use Rattle.cpu_rows.proofs.Common.{Test, Copy, Commit, Seq, Reply, Cell, wanted, closed_by, counted, copy_or_commit, cell, runs, open_after}
-use Rattle.cpu_rows.proofs.Common.{instruction, with_cell, answered, entered, arrival, instructed_by, grew_by, Asking, Stopping, CpuStep, Pop, Grow}
-use Rattle.cpu_rows.proofs.Common.{Stock, Push, PopBatch, Stop, Local, Step, goes, no_class, class_row, instructed_to}
-use Rattle.cpu_rows.proofs.Common.{instructs, sequence_by, grows, stops, runs_open, yields_to_enter, call_about, with_regs, follows, cpu_calls, with_next}
-use Rattle.cpu_rows.proofs.Common.{cpu_row, yields_for, AreRows, Limits, at_step, RegsAt, about_cpu, call_of, Kind, enters, closes, neither, instructed_kind}
-use Rattle.cpu_rows.proofs.Common.{sequence_kind, growth_kind, step_kind}
+use Rattle.cpu_rows.proofs.Common.{cond_both, ltb-true, ltb-false, ClassRow, MoveTo, CpuPart, LOADED_ROOM, Pc, Begin, Header}
+use Rattle.cpu_rows.proofs.Common.{Test, Copy, Commit, Seq, Reply, Cell, wanted, copy_or_commit, runs, open_after}
+use Rattle.cpu_rows.proofs.Common.{instruction, entered, arrival, instructed_by, CpuStep, Pop, Grow}
+use Rattle.cpu_rows.proofs.Common.{Stock, Push, PopBatch, Local, Step, goes, no_class, class_row}
+use Rattle.cpu_rows.proofs.Common.{instructs, sequence_by, runs_open, yields_to_enter, with_next}
+use Rattle.cpu_rows.proofs.Common.{cpu_row, yields_for, AreRows, Limits, at_step, RegsAt, about_cpu, Kind, enters, closes, neither, instructed_kind}
+use Rattle.cpu_rows.proofs.Common.{sequence_kind, step_kind}
 use Rattle.cpu_drain.proofs.Steps.{runs_is}
 use Rattle.call_steps.specs.declared.step.Step.TheVariants as does
 use Rattle.cpu_rows.specs.declared.row.CpuRow.TheVariants as front
@@ -77,10 +77,6 @@ DoesAs neither p l x = Executes p l x ⊎ Stays p l x
 copies_few : (done count : ℕ) → done ≤ count → count ≤ LOADED_ROOM → CopiesFew count (copy_or_commit done count) × (executed count (copy_or_commit done count) ≡ 3 + done)
 copies_few done count low few = cond_both (ltb done count) (Copy done) Commit (λ (pc : Pc). CopiesFew count pc × (executed count pc ≡ 3 + done)) (λ e. ((ltb-true done count e, few), refl)) (λ e. (few, omega (arith, ltb-false done count e)))
 
--- an instruction behind which the sequence goes on
-abbrev GoesOn : Regs → Pc → Cell → Type 0
-GoesOn r pc c = c.reply ≡ None → CopiesFew r.count pc → CopiesFew c.regs.count c.regs.pc × (executed c.regs.count c.regs.pc ≡ executed r.count pc + 1)
-
 -- the mark stays behind an instruction without a reply
 open_stays : (pc : Pc) (o : Option Reply) (was : Bool) → o ≡ None → was ≡ true → open_after pc o was ≡ true
 open_stays pc o was none is = grind arith
@@ -112,12 +108,6 @@ cpu_pair rows p l (does.Front (front.Domain row)) = (p, goes l (does.Front (fron
 cpu_pair rows p l other = (p, l)
 
 module _ (m : Limits) (p : CpuPart) (l : Local) (table : AreRows m.rows) (class : l.regs.class.0 < length m.rows) (shape : RegsAt m l.seat l.regs (at_step l.step)) where
-  abbrev At : Step → Type 0
-  At s = RegsAt m l.seat l.regs (at_step s)
-
-  abbrev As : Step → Type 0
-  As s = yields_for p l s ≡ true → DoesAs (step_kind p l s) p l (cpu_pair m.rows p l s)
-
   still : (x : CpuPart × Local) → (HasToEnter l.step → ⊥) → x.0.running ≡ p.running → x.0.is_open ≡ p.is_open → x.0.ran ≡ p.ran → DoesAs neither p l x
   still x away same marked ran = inr (record { away = away; same = same; marked = marked; ran = ran })
 
@@ -130,7 +120,7 @@ module _ (m : Limits) (p : CpuPart) (l : Local) (table : AreRows m.rows) (class 
   few_batch : (class_row m.rows l).batch ≤ LOADED_ROOM
   few_batch = (table.each l.regs.class.0 no_class class).few
 
-  step_as : (s : Step) → l.step ≡ s → At s → As s
+  step_as : (s : Step) → l.step ≡ s → RegsAt m l.seat l.regs (at_step s) → yields_for p l s ≡ true → DoesAs (step_kind p l s) p l (cpu_pair m.rows p l s)
   step_as s is shape polite = grind (arith, away_by, few_batch, polite_closed, has_by, sequence_as, still, wants)
 
   -- a polite act of a shaped local at a CPU

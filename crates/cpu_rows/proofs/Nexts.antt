@@ -1,16 +1,15 @@
 -- What an act of the per-CPU caches hands on may come next in its call.
-use Rattle.std.proofs.Common.{◌≡◌, ◌<◌, true, eqb, List, length, Option, Some, ap, sym, subst, ◌∙◌, arith}
-use Rattle.cpu_rows.proofs.Common.{cond_both, length-append, Addr, Class, ThreadNo, ClassRow, Drain, Resize, MoveTo, Busy, CapFault}
-use Rattle.cpu_rows.proofs.Common.{CpuPart, Regs, Reply, Instructed, Grew, appended, Transfer, IsOther, cpu_refuses, CpuSeat}
-use Rattle.cpu_rows.proofs.Common.{Asking, Serving, Freeing, Draining, Resizing, Stopping, Giving, Next, CpuRow, CpuStep, DomainStep}
-use Rattle.cpu_rows.proofs.Common.{Asks, Other, about_giving, Left, looks_on, gives, after_pop, after_stock, after_push, replied}
-use Rattle.cpu_rows.proofs.Common.{instructed_to, sequence_by, grew_to, stops, drains_on, drained, took, cap_answer, gives_taken, started, left_for, cpu_acts}
-use Rattle.cpu_rows.proofs.Common.{takes, domain_acts, is_refusal, HasObject, ComesWith, FitsCpu, FitsDomain}
+use Rattle.std.proofs.Common.{◌≡◌, true, eqb, List, Option, Some, ap, sym, subst, ◌∙◌, arith}
+use Rattle.cpu_rows.proofs.Common.{cond_both, Class, ThreadNo, ClassRow, Drain, MoveTo, Busy, CapFault}
+use Rattle.cpu_rows.proofs.Common.{CpuPart, Regs, Reply, Instructed, IsOther, cpu_refuses, CpuSeat}
+use Rattle.cpu_rows.proofs.Common.{Asking, Draining, Resizing, Stopping, Giving, Next, CpuRow, CpuStep}
+use Rattle.cpu_rows.proofs.Common.{Asks, Other, about_giving, Left, looks_on, gives, after_pop}
+use Rattle.cpu_rows.proofs.Common.{instructed_to, sequence_by, stops, drains_on, cap_answer, started, left_for, cpu_acts}
+use Rattle.cpu_rows.proofs.Common.{is_refusal, HasObject, ComesWith, FitsCpu}
 use Rattle.cpu_rows.proofs.Common.{about_cpu, about_row, call_of, as_row}
 use Rattle.rseq_core.specs.declared.sequence.Reply.TheVariants as reply
 use Rattle.rseq_core.specs.declared.answers.Instructed.TheVariants as instructed
 use Rattle.rseq_core.specs.Acts as rseq
-use Rattle.cpu_rows.specs.declared.row.Stopping.TheVariants as stopping
 use Rattle.call_steps.specs.declared.step.Next.TheVariants as next
 use Rattle.cpu_rows.specs.declared.row.CpuRow.TheVariants as front
 use Rattle.cpu_rows.specs.declared.row.CpuStep.TheVariants as cpu

@@ -4,7 +4,6 @@ use Rattle.cpu_rows.proofs.Common.{mod-lt, cond_both, cases_eq, length-set, Clas
 use Rattle.cpu_rows.proofs.Common.{SeatKeeps, Transfer, CpuSeat, Stopping, CpuRow, CpuStep, DomainStep, at_cpu, cpu_of, domain_of, thread_no, IsStop}
 use Rattle.cpu_rows.proofs.Common.{CpuShape, DomainShape, Limits, HasRoom, IsSlabOf, Standing, CpuFrontPart, Cpu, Domain, seated, seat_at, IsSeated}
 use Rattle.cpu_rows.proofs.Common.{ArePlaced, CpuHolds}
-use Rattle.cpu_rows.specs.declared.row.CpuStep.TheVariants as cpu
 use Rattle.cpu_rows.proofs.Lists.{Here, IsSet, There, set_once}
 
 -- the CPU of a row is there
@@ -44,12 +43,6 @@ module _ (rows : List ClassRow) (c : Config) where
         | inr apart ↦ (x, set_elsewhere ps i j new apart ∙ is, there)
       ]
 
-  abbrev IsCpu : CpuFrontPart → Type 0
-  IsCpu x = (p : CpuPart) × (x ≡ Cpu p)
-
-  abbrev IsCache : ℕ → CpuFrontPart → Type 0
-  IsCache k x = (q : Transfer) × (x ≡ Domain (record { 0 = k }) q)
-
   pub placed_set : (ps : List CpuFrontPart) (i : ℕ) (old new : CpuFrontPart) → slice_get ps i ≡ Some old → IsSameKind old new → ArePlaced rows c ps
       → ArePlaced rows c (slice_set ps i new)
   placed_set ps i old new at same h =
@@ -57,11 +50,11 @@ module _ (rows : List ClassRow) (c : Config) where
         many = length-set ps i new ∙ h.many;
         cpu = λ j low.
             (let was = h.cpu j low in
-            let x = at_place ps i j old new (Cpu was.0) IsCpu at was.1 (λ e. cpu_kind was.0 new (subst (λ y. IsSameKind y new) e same)) (was.0, refl) in
+            let x = at_place ps i j old new (Cpu was.0) (λ y. (q : CpuPart) × (y ≡ Cpu q)) at was.1 (λ e. cpu_kind was.0 new (subst (λ y. IsSameKind y new) e same)) (was.0, refl) in
             (x.2.0, x.1 ∙ ap (λ z. Some z) x.2.1));
         cache = λ d k low within.
             (let was = h.cache d k low within in
-            let x = at_place ps i (c.cpus + d * length rows + k) old new (Domain (record { 0 = k }) was.0) (IsCache k) at was.1
+            let x = at_place ps i (c.cpus + d * length rows + k) old new (Domain (record { 0 = k }) was.0) (λ y. (q : Transfer) × (y ≡ Domain (record { 0 = k }) q)) at was.1
             (λ e. domain_kind (record { 0 = k }) was.0 new (subst (λ y. IsSameKind y new) e same)) (was.0, refl) in
             (x.2.0, x.1 ∙ ap (λ z. Some z) x.2.1));
       }

@@ -12,7 +12,6 @@ use Rattle.rseq_core.proofs.Able.{able_from_agrees}
 use Rattle.rseq_core.specs.declared.sequence.Seq.TheVariants as seq
 use Rattle.rseq_core.specs.declared.sequence.Reply.TheVariants as reply
 use Rattle.rseq_core.specs.declared.answers.Instructed.TheVariants as answer
-use Rattle.rseq_core.specs.declared.answers.Grew.TheVariants as grew
 use Rattle.rseq_core.specs.Acts as rseq
 use Rattle.cpu_drain.specs.Seats as seats
 use Rattle.cpu_drain.proofs.Lawful as lawful
@@ -64,10 +63,6 @@ module _ (turn : Turn) where
   abbrev Behind : CpuStep → Regs → Next → Type 0
   Behind row r n = IsBehind rows c v (front.Cpu row) g r None n
 
-  -- a row keeps its shape where sequence, class and hand stay
-  abbrev Stays : CpuStep → Type 0
-  Stays row = (w : CpuSeat) (r : Regs) → r.seq ≡ g.seq → r.class ≡ g.class → r.hand.items ≡ g.hand.items → Shape w r row
-
   -- what a call does with a reply, which left these registers
   abbrev Replied : CpuStep → Regs → Regs → Next → Type 0
   Replied row r new n = GoesOn turn row v r new None n × IsAtBegin new
@@ -87,7 +82,8 @@ module _ (turn : Turn) where
   record IsRow (row : CpuStep) : Type 0 where
     pub here : v.cpu.0 ≡ (at_cpu v.cpu row).0
     pub none : (k : ℕ) → cpu_standing rows k row ≡ None
-    pub stays : Stays row
+    -- the row keeps its shape where sequence, class and hand stay
+    pub stays : (w : CpuSeat) (r : Regs) → r.seq ≡ g.seq → r.class ≡ g.class → r.hand.items ≡ g.hand.items → Shape w r row
     pub replies : Replies row
     pub rooms : is_pop g.seq ≡ true → HasRoom g
 

@@ -1,14 +1,15 @@
 -- What holds at the start: each part is as it was opened, and no thread has a call.
-use Rattle.std.proofs.Common.{◌≡◌, ℕ, zero, suc, ◌+◌, ◌*◌, ◌<◌, ◌≤◌, get_or, List, [], ◌∷◌, ◌++◌, length, map, replicate, Some, refl, sym, ap, ◌∙◌}
+use Rattle.std.proofs.Common.{◌≡◌, ℕ, zero, suc, ◌+◌, ◌*◌, ◌<◌, ◌≤◌, List, [], ◌∷◌, ◌++◌, length, map, replicate, Some, refl, sym, ap, ◌∙◌}
 use Rattle.std.proofs.Common.{subst, arith, option_map, sum_by, All, slice_get, slice_index_or, flat_map}
-use Rattle.cpu_rows.proofs.Common.{range_with_len, mod-lt, cond_both, false≢true, slice_get-get_or, slice_get-map, slice_get_within, length-append}
-use Rattle.cpu_rows.proofs.Common.{length-replicate, length-map, length-range_with_len, get_or-range_with_len, sum_by-cons, All-nil, All-map, All-head}
+use Rattle.cpu_rows.proofs.Common.{range_with_len, mod-lt, cond_both, false≢true, slice_get-map, slice_get_within, length-append}
+use Rattle.cpu_rows.proofs.Common.{length-replicate, length-map, length-range_with_len, sum_by-cons, All-nil, All-map, All-head}
 use Rattle.cpu_rows.proofs.Common.{All-tail, ClassRow, Config, CpuPart, CpuOk, SeatOk, Transfer, objects_at, of_all, CpuSeat, CpuRow, thread_no, AreRows}
 use Rattle.cpu_rows.proofs.Common.{HasRoom, slab_class, table_class, IsSlabOf, Standing, idle, CpuFrontPart, Cpu, Domain, cpu_stored, first_cpu, first_cache}
 use Rattle.cpu_rows.proofs.Common.{domain_caches, front_parts, cpu_front, seat_at, IsSeated, ArePlaced, CpuHolds, AreCpuLimits}
 use Rattle.cpu_slab.proofs.Opened.{sound_opened}
 use Rattle.std.proofs.lemmas.List.Elements.{All-append, All-replicate}
 use Rattle.cpu_slab.specs.Slots as slots
+use Rattle.alloc_rules.proofs.First.{number_at}
 
 -- items of two lists joined, and of copies
 get_left : {X : Type 0} (xs ys : List X) (i : ℕ) → i < length xs → slice_get (xs ++ ys) i ≡ slice_get xs i
@@ -45,11 +46,6 @@ all_copies P (suc n) xs all = All-append P xs (copies n xs) all (all_copies P n 
 sum_none : {X : Type 0} (f : X → ℕ) (xs : List X) → All (λ x. f x ≡ 0) xs → sum_by f xs ≡ 0
 sum_none f [] all = refl
 sum_none f (x ∷ xs) all = omega (arith, sum_by-cons f x xs, All-head (λ x. f x ≡ 0) x xs all, sum_none f xs (All-tail (λ x. f x ≡ 0) x xs all))
-
-number_at : (n t : ℕ) → t < n → slice_get (range_with_len 0 n) t ≡ Some t
-number_at n t below =
-    let e : get_or (range_with_len 0 n) t 0 ≡ t = get_or-range_with_len 0 n t 0 below ∙ (let z : 0 + t ≡ t = omega arith in z) in
-    slice_get-get_or (range_with_len 0 n) t 0 (omega (arith, length-range_with_len 0 n, below)) ∙ ap (λ k. Some k) e
 
 mapped_at : {X : Type 0} (f : ℕ → X) (n t : ℕ) → t < n → slice_get (map f (range_with_len 0 n)) t ≡ Some (f t)
 mapped_at f n t below = slice_get-map f (range_with_len 0 n) t ∙ ap (option_map f) (number_at n t below)

@@ -2,30 +2,26 @@
 use Rattle.std.proofs.Common.{◌≡◌, refl, ℕ, ◌+◌, ◌*◌, ◌<◌, ◌≤◌, Bool, true, [], ◌∷◌, List, length, reverse, Option, Some, None, ap, sym, ◌∙◌}
 use Rattle.std.proofs.Common.{subst, inr, arith, is_some}
 use Rattle.cpu_rows.proofs.Common.{cond_both, cases_eq, eqb-true, eq-eqb, lt-ltb, ltb-true, ltb-false, le-ltb, length-append, length-reverse, Contents, Addr}
-use Rattle.cpu_rows.proofs.Common.{Class, CpuNo, ThreadNo, Drain, Resize, MoveTo, Busy, CapFault, SlabRow, CpuSlab, row_at, held, cap_fault}
+use Rattle.cpu_rows.proofs.Common.{Class, CpuNo, ThreadNo, Drain, Resize, MoveTo, CapFault, SlabRow, CpuSlab, row_at, held, cap_fault}
 use Rattle.cpu_rows.proofs.Common.{set_unless, row_same, row_other, CpuPart, Regs, IsHeld, Takes, take_does, objects_at, IsOther, Draining}
-use Rattle.cpu_rows.proofs.Common.{Resizing, Stopping, CpuStep, Next, Other, leaving, at_cpu_next, stops, drains_on, drained, took, cap_answer}
-use Rattle.cpu_rows.proofs.Common.{gives_taken, started, left_for, about_cpu, at_cpu, call_of, cpu_of, taken_by, thread_no, AreRows, most_slots}
-use Rattle.cpu_rows.proofs.Common.{no_class_empty, below, alone, empty_to_take, cpu_standing, IsStop, IsAtFirst, IsAtBegin, IsToCome, HasHand}
-use Rattle.cpu_rows.proofs.Common.{CpuShape, Limits, limits_of, seated}
+use Rattle.cpu_rows.proofs.Common.{Resizing, Stopping, CpuStep, Next, Other, leaving, at_cpu_next, stops, drained, took, cap_answer}
+use Rattle.cpu_rows.proofs.Common.{left_for, about_cpu, at_cpu, cpu_of, taken_by, thread_no, AreRows, most_slots}
+use Rattle.cpu_rows.proofs.Common.{no_class_empty, below, alone, empty_to_take, cpu_standing, IsStop, IsAtFirst, IsAtBegin, IsToCome}
+use Rattle.cpu_rows.proofs.Common.{CpuShape, Limits, limits_of, seated, objects_append, objects_reverse}
 use Rattle.cpu_rows.specs.Shapes.{stands}
 use Rattle.std.proofs.Math.Path.{fun_ext}
 use Rattle.cpu_drain.specs.Drains as drains
 use Rattle.cpu_drain.specs.Seats as seats
 use Rattle.cpu_drain.proofs.Lawful as lawful
 use Rattle.cpu_rows.specs.declared.row.Stopping.TheVariants as stopping
-use Rattle.call_steps.specs.declared.step.Giving.TheVariants as giving
 use Rattle.call_steps.specs.declared.step.Next.TheVariants as next
 use Rattle.cpu_rows.specs.declared.row.CpuRow.TheVariants as front
 use Rattle.cpu_rows.specs.declared.row.CpuStep.TheVariants as cpu
-use Rattle.cpu_rows.proofs.{Moves.objects_append, Moves.objects_reverse, Threads.same_keeps}
+use Rattle.cpu_rows.proofs.{Nexts.busy_other, Threads.same_keeps}
 use Rattle.cpu_rows.proofs.Acts.{Acts, Does, GoesOn, IsBehind, IsMoved, IsThere, Keeps, Turn, as_left, gives_away, goes, goes_on, leave_acts, moves_none}
 use Rattle.cpu_rows.proofs.Acts.{seat, slab_same}
 
 -- refusals of a call that stops a CPU, and of a capacity
-busy_other : (s : Stopping) (owner : ThreadNo) → IsOther (call_of s) (Busy owner)
-busy_other s owner = grind arith
-
 cap_other : (r : Resizing) (o : Option CapFault) → IsOther (Resize r.cpu r.class r.cap) (cap_answer o)
 cap_other r o = grind arith
 
