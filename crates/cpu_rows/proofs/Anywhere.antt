@@ -45,11 +45,6 @@ class_set [] k row same = refl
 class_set (x ∷ rows) zero row same = ap (λ c. c ∷ map slab_class rows) same
 class_set (x ∷ rows) (suc k) row same = ap (λ cs. slab_class x ∷ cs) (class_set rows k row same)
 
--- rows of the same classes, where there are any
-abbrev AreLike : List SlabRow → Option (List SlabRow) → Type 0
-AreLike rows None = Unit {0}
-AreLike rows (Some new) = map slab_class new ≡ map slab_class rows
-
 -- the acts at a CPU
 module _ (rows : List ClassRow) (c : Config) where
   abbrev Is : CpuSlab → Type 0
