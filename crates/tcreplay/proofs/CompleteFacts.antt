@@ -56,7 +56,7 @@ complete_tried : (replay : Replay) (before after : Ends) (end : End) (order : Li
 complete_tried replay before after end order tried all text files left =
     let told = told_in replay tried.given before all text files left tried.told in
     let job = job_same replay tried.given all text told in
-    let same : verdict_on replay tried.given ≡ verdict_on replay (given_by replay all text tried.given.came) = ap (run_verdict (runs replay) (Whole replay.rows)) job in
+    let same : verdict_on replay tried.given ≡ verdict_on replay (given_by replay all text tried.given.came) = ap (run_verdict (runs replay) (Whole replay.rows replay.sample)) job in
     elim tried.answer [
       | inl is ↦ inl (record {
         came = tried.given.came;
@@ -94,7 +94,7 @@ cut_usage runner given t u f g end cut = refl
 
 tried_usage : (replay : Replay) (t u : Reading) (f g : Shelving) (before after : Writing) (end : End) (order : List ℕ) → HasTried replay t u f g before after end order → is_usage end ≡ false
 tried_usage replay t u f g before after end order tried = elim tried.answer [
-  | inl is ↦ ap is_usage is.0 ∙ run_usage (runs replay) (Whole replay.rows) replay tried.given (job_of replay tried.given) refl
+  | inl is ↦ ap is_usage is.0 ∙ run_usage (runs replay) (Whole replay.rows replay.sample) replay tried.given (job_of replay tried.given) refl
   | inr (inl cut) ↦ cut_usage (Some replay.front) tried.given t u f g end cut.1
   | inr (inr failed) ↦ ap is_usage failed.0
 ]

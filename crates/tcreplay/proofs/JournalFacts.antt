@@ -5,7 +5,7 @@ use Rattle.std.specs.Prelude.{All, slice_get}
 use Rattle.std.specs.List.{range_with_len}
 use Rattle.std.specs.Option.{option_map_or}
 use Rattle.std.proofs.lemmas.Bool.{cases_lt}
-use Rattle.std.proofs.lemmas.List.{length-map, append-nil}
+use Rattle.std.proofs.lemmas.List.{length-map}
 use Rattle.std.proofs.lemmas.List.FromFn.{get_or-map-range_with_len, length-range_with_len}
 use Rattle.std.proofs.lemmas.Option.{slice_get_past, slice_get-get_or}
 use Rattle.tc_units.specs.Classes.{length_of}
@@ -23,7 +23,7 @@ use Rattle.journal_audit.specs.Legal.{calls_of, calls_planned, IsLegal}
 use Rattle.journal_audit.specs.Printed.{PrintedIsLegal}
 use Rattle.tcreplay.specs.declared.run.Telling.{Telling}
 use Rattle.tcreplay.specs.declared.run.Telling.TheVariants.{Whole, Summary}
-use Rattle.tcreplay.specs.Verdict.{text_with, rows_if}
+use Rattle.tcreplay.specs.Verdict.{text_with, rows_if, profile_if}
 use Rattle.tcreplay.specs.Auditing.{plan_in}
 use Rattle.tcreplay.specs.Ran.{AreTellable, IsJournal}
 
@@ -50,18 +50,17 @@ unplanned input t high =
 -- of calls that are a run on disjoint blocks and each thread's whole script, as a run tells them
 module _ {P L : Type 0} (rules : Input → Rules P L) (told : Input → List ℕ → Finished) (lawful : Input → List ℕ → Type 0) (law : PrintedIsLegal) (input : Input) (order : List ℕ)
     (blocks : IsBlockRun input.asked.config.huge (length_of input.rows) (told input order).calls) (tells : TellsScripts input.asked (told input order).calls) where
-  legal : (rows : Bool) → All IsTellable (told input order).calls → IsLegal (plan_in input) (journal_of (text_with rows (told input order)))
-  legal rows tellable =
+  legal : (rows : Bool) (sample : Option ℕ) → All IsTellable (told input order).calls → IsLegal (plan_in input) (journal_of (text_with rows sample (told input order)))
+  legal rows sample tellable =
       let f = told input order in
       let scripts : (t : ℕ) → calls_of t f.calls ≡ calls_planned (plan_in input) t = λ t. elim (cases_lt t input.asked.config.threads) [
         | inl low ↦ tells.each t low ∙ sym (planned input t low)
         | inr high ↦ ap (map (λ (c : CallLine). c.call)) (tells.others t high) ∙ sym (unplanned input t high)
       ] in
-      subst (λ (t : List ℕ). IsLegal (plan_in input) (journal_of t)) (append-nil (text_with rows f))
-      (law (plan_in input) f.calls f.live f.live_bytes f.used f.resident (rows_if rows f.rows) [] blocks scripts tellable)
+      law (plan_in input) f.calls f.live f.live_bytes f.used f.resident (rows_if rows f.rows) (profile_if sample f.calls) blocks scripts tellable
 
   legal_told : (telling : Telling) → AreTellable telling (told input order).calls → IsJournal rules told lawful telling input order
-  legal_told (Whole rows) tellable = legal rows tellable
+  legal_told (Whole rows sample) tellable = legal rows sample tellable
   legal_told Summary tellable = tt
 
 pub told_legal : {P L : Type 0} (rules : Input → Rules P L) (told : Input → List ℕ → Finished) (lawful : Input → List ℕ → Type 0) (law : PrintedIsLegal) (input : Input) (order : List ℕ) (telling : Telling) (f : Finished) → f ≡ told input order

@@ -11,6 +11,7 @@ pub mod NoteFacts
 pub mod EndFacts
 pub mod RanFacts
 pub mod JournalFacts
+pub mod SampleFacts
 pub mod TriedFacts
 pub mod AuditFacts
 pub mod TakenFacts

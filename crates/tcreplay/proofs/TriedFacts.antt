@@ -73,7 +73,7 @@ tried_stopped replay t u f g out end order none read =
       | inr cut ↦ cut_early (Some replay.front) read.given t u f g end cut
     ] in
     let answer : IsAnswer replay read.given t u f g end order = elim read.answer [
-      | inl e ↦ inl (sym (ap (λ r. (run_verdict (runs replay) (Whole replay.rows) r).end) e), none ∙ sym (ap (λ r. (run_verdict (runs replay) (Whole replay.rows) r).order) e))
+      | inl e ↦ inl (sym (ap (λ r. (run_verdict (runs replay) (Whole replay.rows replay.sample) r).end) e), none ∙ sym (ap (λ r. (run_verdict (runs replay) (Whole replay.rows replay.sample) r).order) e))
       | inr cut ↦ inr (inl (none, cut))
     ] in
     record {
@@ -109,17 +109,17 @@ took : (end : End) (text : List ℕ) (before after : Writing) → end ≡ Done �
 took end text before after done written = (subst (λ e. IsWritten e text before after) done written).taken
 
 module _ (replay : Replay) (given : Given) (t u : Reading) (f g : Shelving) (before after : Writing) (job : verdict.Job) (ran : Ran) (end : End) (order : List ℕ)
-    (told : AreGiven replay f.files t.left given) (asked : job_of replay given ≡ Ok job) (read : HasRead (Some replay.front) (file_of replay.schedule) given t u f g Done) (is : IsRan (runs replay) (Whole replay.rows) job.input (order_of_job (runs replay) job) ran) (made : IsCompleted (runs replay) replay.schedule job (order_of_job (runs replay) job))
+    (told : AreGiven replay f.files t.left given) (asked : job_of replay given ≡ Ok job) (read : HasRead (Some replay.front) (file_of replay.schedule) given t u f g Done) (is : IsRan (runs replay) (Whole replay.rows replay.sample) job.input (order_of_job (runs replay) job) ran) (made : IsCompleted (runs replay) replay.schedule job (order_of_job (runs replay) job))
     (last : IsLastEnd ran.end end) (same : order ≡ ran.order.items) (written : IsWritten end ran.text.items before after) where
   verdict_is : verdict_on replay given ≡ seen_ran ran
-  verdict_is = ap (run_verdict (runs replay) (Whole replay.rows)) asked ∙ sym is.is
+  verdict_is = ap (run_verdict (runs replay) (Whole replay.rows replay.sample)) asked ∙ sym is.is
 
   answered : IsLastEnd ran.end end → IsAnswer replay given t u f g end order
   answered (inl e) = inl (e ∙ sym (ap (λ (v : Verdict). v.end) verdict_is), same ∙ sym (ap (λ (v : Verdict). v.order) verdict_is))
   answered (inr failed) = inr (inr (failed.0, same ∙ sym (ap (λ (v : Verdict). v.order) verdict_is), ap (λ (v : Verdict). v.end) verdict_is ∙ failed.1))
 
   abbrev telling : Telling
-  telling = Whole replay.rows
+  telling = Whole replay.rows replay.sample
 
   headline : end ≡ Done → IsHeadline replay given before after order
   headline done = record {
@@ -158,7 +158,7 @@ alone_is m InTurn job order alone = tt
 alone_is m (ByFile file) job order alone = tt
 alone_is m (ByThreads locks) job order alone = absurd (cc)
 
-pub tried_ran : (replay : Replay) (t u : Reading) (f g : Shelving) (before after : Writing) (job : Job) (ran : Ran) (end : End) (order : List ℕ) → locks_in replay.schedule ≡ None → IsJobRead replay t u f g (Ok job) → IsRan (runs replay) (Whole replay.rows) (seen_job job).input (order_of_job (runs replay) (seen_job job)) ran → IsLastEnd ran.end end → order ≡ ran.order.items → IsWritten end ran.text.items before after → HasTried replay t u f g before after end order
+pub tried_ran : (replay : Replay) (t u : Reading) (f g : Shelving) (before after : Writing) (job : Job) (ran : Ran) (end : End) (order : List ℕ) → locks_in replay.schedule ≡ None → IsJobRead replay t u f g (Ok job) → IsRan (runs replay) (Whole replay.rows replay.sample) (seen_job job).input (order_of_job (runs replay) (seen_job job)) ran → IsLastEnd ran.end end → order ≡ ran.order.items → IsWritten end ran.text.items before after → HasTried replay t u f g before after end order
 tried_ran replay t u f g before after job ran end order alone read is last same written = tried_by replay read.given t u f g before after (seen_job job) ran end order (given_to replay t u f g (Ok job) read) read.answer read.read is (alone_is (runs replay) replay.schedule (seen_job job) (order_of_job (runs replay) (seen_job job)) alone) last same written
 
 -- what was given, with the picks that came
@@ -203,10 +203,10 @@ completed_by m (ByFile file) locks job came threads made = tt
 completed_by m (ByThreads other) locks job came threads made = sym (completed_is m.rules job.input came made.polite made.few)
 
 -- with worker threads
-pub tried_threads : (replay : Replay) (locks : Locks) (t u : Reading) (f g : Shelving) (before after : Writing) (job : Job) (ran : Ran) (end : End) (order : List ℕ) → locks_in replay.schedule ≡ Some locks → IsJobRead replay t u f g (Ok job) → IsRanByThreads (runs replay) (locks_for replay.front locks) (Whole replay.rows) (seen_job job).input ran → IsLastEnd ran.end end → order ≡ ran.order.items → IsWritten end ran.text.items before after → HasTried replay t u f g before after end order
+pub tried_threads : (replay : Replay) (locks : Locks) (t u : Reading) (f g : Shelving) (before after : Writing) (job : Job) (ran : Ran) (end : End) (order : List ℕ) → locks_in replay.schedule ≡ Some locks → IsJobRead replay t u f g (Ok job) → IsRanByThreads (runs replay) (locks_for replay.front locks) (Whole replay.rows replay.sample) (seen_job job).input ran → IsLastEnd ran.end end → order ≡ ran.order.items → IsWritten end ran.text.items before after → HasTried replay t u f g before after end order
 tried_threads replay locks t u f g before after job ran end order threads read by_threads last same written =
     let came : List ℕ = by_threads.came in
-    let made = made_by replay.front (locks_for replay.front locks) (Whole replay.rows) (seen_job job).input ran by_threads in
+    let made = made_by replay.front (locks_for replay.front locks) (Whole replay.rows replay.sample) (seen_job job).input ran by_threads in
     let given : Given = given_with read.given came in
     let none : file_of replay.schedule ≡ None = no_file replay.schedule locks threads in
     let asked : job_of replay given ≡ Ok (job_behind (seen_job job) came) = behind_rows replay read.given came (seen_job job) none (rows_in read.given.table) read.answer in

@@ -11,7 +11,7 @@ use Rattle.tcreplay.specs.declared.words.Flag.TheVariants as flag
 use Rattle.tcreplay.specs.Words.{Options, no_options, name_of, locks_of, number_in, once, is_switch, taken_flag, with_switch, with_value, options_of, kind_of, schedule_by, replay_with, task_under, task_with, task_by}
 use Rattle.tcreplay.specs.declared.task.Task.{Task as Asked}
 use Rattle.tcreplay.specs.declared.machines.Front.TheVariants.{Cpus, Threads}
-use Rattle.tcreplay.specs.Tasks.{IsTask, Task, ByFile, ToAudit, ToGenerate}
+use Rattle.tcreplay.specs.Tasks.{IsStep, IsTask, Task, ByFile, ToAudit, ToGenerate}
 use Rattle.tcreplay.specs.Seen.{seen_task}
 
 -- what holds of a value that comes holds of it under a map, and behind a step
@@ -54,6 +54,7 @@ in_range least most word = behind (λ n. cond (nat_le least n) (Some n) None) (�
 
 -- the numbers of options are in their ranges
 record AreRanged (so : Options) : Type 0 where
+  pub sample : IfSome so.sample IsStep
   pub seed : IfSome so.seed (λ n. (0 ≤ n) × (n ≤ 2147483647))
   pub calls : IfSome so.calls (λ n. (1 ≤ n) × (n ≤ 500000))
   pub threads : IfSome so.threads (λ n. (1 ≤ n) × (n ≤ 64))
@@ -63,23 +64,24 @@ once_is P None value is = is
 once_is P (Some a) value is = tt
 
 value_ranged : (so : Options) (f : Flag) (word : List ℕ) → AreRanged so → IfSome (with_value so f word) AreRanged
-value_ranged so flag.Classes word are = mapped (λ name. record so { classes = Some name }) (λ _. Unit {0}) AreRanged (once so.classes (name_of word)) (any_one (once so.classes (name_of word))) (λ name _. record { seed = are.seed; calls = are.calls; threads = are.threads })
-value_ranged so flag.Order word are = mapped (λ name. record so { order = Some name }) (λ _. Unit {0}) AreRanged (once so.order (name_of word)) (any_one (once so.order (name_of word))) (λ name _. record { seed = are.seed; calls = are.calls; threads = are.threads })
-value_ranged so flag.Locks word are = mapped (λ locks. record so { locks = Some locks }) (λ _. Unit {0}) AreRanged (once so.locks (locks_of word)) (any_one (once so.locks (locks_of word))) (λ locks _. record { seed = are.seed; calls = are.calls; threads = are.threads })
+value_ranged so flag.Classes word are = mapped (λ name. record so { classes = Some name }) (λ _. Unit {0}) AreRanged (once so.classes (name_of word)) (any_one (once so.classes (name_of word))) (λ name _. record { sample = are.sample; seed = are.seed; calls = are.calls; threads = are.threads })
+value_ranged so flag.Order word are = mapped (λ name. record so { order = Some name }) (λ _. Unit {0}) AreRanged (once so.order (name_of word)) (any_one (once so.order (name_of word))) (λ name _. record { sample = are.sample; seed = are.seed; calls = are.calls; threads = are.threads })
+value_ranged so flag.Locks word are = mapped (λ locks. record so { locks = Some locks }) (λ _. Unit {0}) AreRanged (once so.locks (locks_of word)) (any_one (once so.locks (locks_of word))) (λ locks _. record { sample = are.sample; seed = are.seed; calls = are.calls; threads = are.threads })
 value_ranged so flag.Workers word are = tt
 value_ranged so flag.Rows word are = tt
-value_ranged so flag.Seed word are = mapped (λ n. record so { seed = Some n }) (λ n. (0 ≤ n) × (n ≤ 2147483647)) AreRanged (once so.seed (number_in 0 2147483647 word)) (once_is (λ n. (0 ≤ n) × (n ≤ 2147483647)) so.seed (number_in 0 2147483647 word) (in_range 0 2147483647 word)) (λ n is. record { seed = is; calls = are.calls; threads = are.threads })
-value_ranged so flag.Calls word are = mapped (λ n. record so { calls = Some n }) (λ n. (1 ≤ n) × (n ≤ 500000)) AreRanged (once so.calls (number_in 1 500000 word)) (once_is (λ n. (1 ≤ n) × (n ≤ 500000)) so.calls (number_in 1 500000 word) (in_range 1 500000 word)) (λ n is. record { seed = are.seed; calls = is; threads = are.threads })
-value_ranged so flag.Threads word are = mapped (λ n. record so { threads = Some n }) (λ n. (1 ≤ n) × (n ≤ 64)) AreRanged (once so.threads (number_in 1 64 word)) (once_is (λ n. (1 ≤ n) × (n ≤ 64)) so.threads (number_in 1 64 word) (in_range 1 64 word)) (λ n is. record { seed = are.seed; calls = are.calls; threads = is })
-value_ranged so flag.Journal word are = mapped (λ name. record so { journal = Some name }) (λ _. Unit {0}) AreRanged (once so.journal (name_of word)) (any_one (once so.journal (name_of word))) (λ name _. record { seed = are.seed; calls = are.calls; threads = are.threads })
+value_ranged so flag.Sample word are = mapped (λ n. record so { sample = Some n }) IsStep AreRanged (once so.sample (number_in 1 1073741824 word)) (once_is IsStep so.sample (number_in 1 1073741824 word) (in_range 1 1073741824 word)) (λ n is. record { sample = is; seed = are.seed; calls = are.calls; threads = are.threads })
+value_ranged so flag.Seed word are = mapped (λ n. record so { seed = Some n }) (λ n. (0 ≤ n) × (n ≤ 2147483647)) AreRanged (once so.seed (number_in 0 2147483647 word)) (once_is (λ n. (0 ≤ n) × (n ≤ 2147483647)) so.seed (number_in 0 2147483647 word) (in_range 0 2147483647 word)) (λ n is. record { sample = are.sample; seed = is; calls = are.calls; threads = are.threads })
+value_ranged so flag.Calls word are = mapped (λ n. record so { calls = Some n }) (λ n. (1 ≤ n) × (n ≤ 500000)) AreRanged (once so.calls (number_in 1 500000 word)) (once_is (λ n. (1 ≤ n) × (n ≤ 500000)) so.calls (number_in 1 500000 word) (in_range 1 500000 word)) (λ n is. record { sample = are.sample; seed = are.seed; calls = is; threads = are.threads })
+value_ranged so flag.Threads word are = mapped (λ n. record so { threads = Some n }) (λ n. (1 ≤ n) × (n ≤ 64)) AreRanged (once so.threads (number_in 1 64 word)) (once_is (λ n. (1 ≤ n) × (n ≤ 64)) so.threads (number_in 1 64 word) (in_range 1 64 word)) (λ n is. record { sample = are.sample; seed = are.seed; calls = are.calls; threads = is })
+value_ranged so flag.Journal word are = mapped (λ name. record so { journal = Some name }) (λ _. Unit {0}) AreRanged (once so.journal (name_of word)) (any_one (once so.journal (name_of word))) (λ name _. record { sample = are.sample; seed = are.seed; calls = are.calls; threads = are.threads })
 
 unless_there : (b : Bool) (more : Options) → AreRanged more → IfSome (cond b None (Some more)) AreRanged
 unless_there true more are = tt
 unless_there false more are = are
 
 switch_ranged : (so : Options) (f : Flag) → AreRanged so → IfSome (with_switch so f) AreRanged
-switch_ranged so flag.Workers are = unless_there so.workers (record so { workers = true }) (record { seed = are.seed; calls = are.calls; threads = are.threads })
-switch_ranged so flag.Rows are = unless_there so.rows (record so { rows = true }) (record { seed = are.seed; calls = are.calls; threads = are.threads })
+switch_ranged so flag.Workers are = unless_there so.workers (record so { workers = true }) (record { sample = are.sample; seed = are.seed; calls = are.calls; threads = are.threads })
+switch_ranged so flag.Rows are = unless_there so.rows (record so { rows = true }) (record { sample = are.sample; seed = are.seed; calls = are.calls; threads = are.threads })
 switch_ranged so f are = tt
 
 either : {A : Type 0} (P : A → Type 0) (b : Bool) (one other : Option A) → IfSome one P → IfSome other P → IfSome (cond b one other) P
@@ -98,10 +100,10 @@ options_ranged k so (word ∷ value ∷ words) are =
 
 -- the numbers of a task are those of the options
 under_ranged : (k : Kind) (so : Options) (classes : List ℕ) → AreRanged so → IfSome (task_under k so classes) IsTask
-under_ranged kind.Serial so classes are = tt
-under_ranged kind.Order so classes are = mapped (λ order. replay_with so Cpus classes (ByFile order)) (λ _. Unit {0}) IsTask so.order (any_one so.order) (λ order _. tt)
-under_ranged kind.Workers so classes are = tt
-under_ranged kind.PerThread so classes are = mapped (replay_with so Threads classes) (λ _. Unit {0}) IsTask (schedule_by so) (any_one (schedule_by so)) (λ schedule _. tt)
+under_ranged kind.Serial so classes are = are.sample
+under_ranged kind.Order so classes are = mapped (λ order. replay_with so Cpus classes (ByFile order)) (λ _. Unit {0}) IsTask so.order (any_one so.order) (λ order _. are.sample)
+under_ranged kind.Workers so classes are = are.sample
+under_ranged kind.PerThread so classes are = mapped (replay_with so Threads classes) (λ _. Unit {0}) IsTask (schedule_by so) (any_one (schedule_by so)) (λ schedule _. are.sample)
 under_ranged kind.Gen so classes are =
     let made : ℕ → ℕ → ℕ → Task = λ seed calls threads. ToGenerate (record { classes = classes; seed = seed; calls = calls; threads = threads }) in
     behind (λ seed. option_and_then (λ calls. option_map (made seed calls) so.threads) so.calls) (λ n. (0 ≤ n) × (n ≤ 2147483647)) IsTask so.seed are.seed
@@ -117,7 +119,7 @@ pub task_ranged : (words : List (List ℕ)) → IfSome (task_by words) IsTask
 task_ranged [] = tt
 task_ranged (word ∷ words) =
     behind (λ k. option_and_then (task_with k) (options_of k no_options words)) (λ _. Unit {0}) IsTask (kind_of word) (any_one (kind_of word))
-    (λ k _. behind (task_with k) AreRanged IsTask (options_of k no_options words) (options_ranged k no_options words (record { seed = tt; calls = tt; threads = tt })) (task_with_ranged k))
+    (λ k _. behind (task_with k) AreRanged IsTask (options_of k no_options words) (options_ranged k no_options words (record { sample = tt; seed = tt; calls = tt; threads = tt })) (task_with_ranged k))
 
 -- of tasks as the code has them
 pub seen_ranged : (words : List (List ℕ)) (found : Option Asked) → option_map seen_task found ≡ task_by words → IfSome found (λ task. IsTask (seen_task task))

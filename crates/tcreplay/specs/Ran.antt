@@ -1,5 +1,5 @@
 -- What a run came to.
-use Rattle.std.specs.Prelude.{◌≡◌, ℕ, ◌≤◌, List, length, All, Some}
+use Rattle.std.specs.Prelude.{◌≡◌, ℕ, ◌≤◌, List, length, All, Some, IfSome}
 use Rattle.tc_model.specs.declared.answers.CallLine.{CallLine}
 use Rattle.tc_model.specs.declared.answers.Finished.{Finished}
 use Rattle.tc_model.specs.Input.{Input}
@@ -25,14 +25,19 @@ seen_ran ran = record { end = ran.end; order = ran.order.items; text = ran.text.
 
 -- the calls of a whole text have numbers that can be read again
 abbrev pub AreTellable : Telling → List CallLine → Type 0
-AreTellable (Whole rows) calls = All IsTellable calls
+AreTellable (Whole rows sample) calls = All IsTellable calls
 AreTellable Summary calls = Unit {0}
+
+-- a sampled profile has a step
+abbrev pub HasStep : Telling → Type 0
+HasStep (Whole rows sample) = IfSome sample (λ step. 1 ≤ step)
+HasStep Summary = Unit {0}
 
 -- over the rules of a machine, what a run of it tells, and its law for an order:
 module _ {P L : Type 0} (rules : Input → Rules P L) (told : Input → List ℕ → Finished) (lawful : Input → List ℕ → Type 0) where
   -- the lines of calls of a whole text are a legal journal of what was run
   abbrev pub IsJournal : Telling → Input → List ℕ → Type 0
-  IsJournal (Whole rows) input order = IsLegal (plan_in input) (journal_of (text_with rows (told input order)))
+  IsJournal (Whole rows sample) input order = IsLegal (plan_in input) (journal_of (text_with rows sample (told input order)))
   IsJournal Summary input order = Unit {0}
 
   -- What the run of an order came to: the verdict on it, its law, and where it has ended, that the calls which are told of each

@@ -22,7 +22,7 @@ abbrev pub runs : Replay → Machine
 runs replay = machine_of replay.front
 
 abbrev pub verdict_on : Replay → Given → Verdict
-verdict_on replay given = run_verdict (runs replay) (Whole replay.rows) (job_of replay given)
+verdict_on replay given = run_verdict (runs replay) (Whole replay.rows replay.sample) (job_of replay given)
 
 -- The answer is the verdict; or what it reads was cut off; or a text that was to be written wasn't taken.
 abbrev pub IsAnswer : Replay → Given → Reading → Reading → Shelving → Shelving → End → List ℕ → Type 0
@@ -40,8 +40,8 @@ pub record IsHeadline (replay : Replay) (given : Given) (before after : Writing)
   pub order_is : order ≡ order_of_job (runs replay) job
   pub ended : HaveEnded ((runs replay).rules job.input) (run ((runs replay).rules job.input) order)
   pub told : TellsScripts job.input.asked ((runs replay).told job.input order).calls
-  pub text : Took before.taken after.taken (text_with replay.rows ((runs replay).told job.input order))
-  pub journal : IsLegal (plan_in job.input) (journal_of (text_with replay.rows ((runs replay).told job.input order)))
+  pub text : Took before.taken after.taken (text_with replay.rows replay.sample ((runs replay).told job.input order))
+  pub journal : IsLegal (plan_in job.input) (journal_of (text_with replay.rows replay.sample ((runs replay).told job.input order)))
   pub law : (runs replay).lawful job.input order
 
 -- A replay was tried, with its trace, its files and its output before and after.

@@ -18,6 +18,7 @@ seen o = record {
   locks = o.locks;
   workers = o.workers;
   rows = o.rows;
+  sample = o.sample;
   seed = o.seed;
   calls = o.calls;
   threads = o.threads;
@@ -30,7 +31,7 @@ seen_schedule (ByFile order) = tasks.ByFile order.now
 seen_schedule (ByThreads locks) = tasks.ByThreads locks
 
 abbrev pub seen_replay : Replay → tasks.Replay
-seen_replay r = record { front = r.front; classes = r.classes.now; schedule = seen_schedule r.schedule; rows = r.rows }
+seen_replay r = record { front = r.front; classes = r.classes.now; schedule = seen_schedule r.schedule; rows = r.rows; sample = r.sample }
 
 abbrev pub seen_workload : Workload → tasks.Workload
 seen_workload r = record { classes = r.classes.now; seed = r.seed; calls = r.calls; threads = r.threads }

@@ -1,5 +1,5 @@
 -- What a command comes to: a trace is replayed, or one is generated and replayed, or a journal of its calls is judged.
-use Rattle.std.specs.Prelude.{ℕ, ◌≤◌, Bool, List, Option, Some, None, option_and_then}
+use Rattle.std.specs.Prelude.{ℕ, ◌≤◌, Bool, IfSome, List, Option, Some, None, option_and_then}
 use Rattle.tcreplay.specs.declared.machines.Front.{Front}
 use Rattle.tcreplay.specs.declared.task.Locks.{Locks}
 
@@ -20,13 +20,14 @@ locks_in InTurn = None
 locks_in (ByFile order) = None
 locks_in (ByThreads locks) = Some locks
 
--- the replay of a trace: what serves small objects first, the file of the class table, which picks come first, and whether
--- the rows are printed
+-- the replay of a trace: what serves small objects first, the file of the class table, which picks come first, whether the
+-- rows are printed, and at each how many bytes of requests an allocation is sampled, if any is
 pub record Replay : Type 0 where
   pub front : Front
   pub classes : List ℕ
   pub schedule : Schedule
   pub rows : Bool
+  pub sample : Option ℕ
 
 -- the generation of a trace: the file of the class table under which it is replayed, its seed, how many calls it has, and
 -- of how many threads
@@ -64,7 +65,11 @@ pub record IsWorkload (workload : Workload) : Type 0 where
   pub some_threads : 1 ≤ workload.threads
   pub threads : workload.threads ≤ 64
 
+-- and so is the step of a sampled profile
+abbrev pub IsStep : ℕ → Type 0
+IsStep step = (1 ≤ step) × (step ≤ 1073741824)
+
 abbrev pub IsTask : Task → Type 0
-IsTask (ToReplay replay) = Unit {0}
+IsTask (ToReplay replay) = IfSome replay.sample IsStep
 IsTask (ToGenerate workload) = IsWorkload workload
 IsTask (ToAudit audit) = Unit {0}

@@ -1,6 +1,6 @@
 -- What words and inputs come to, step by step: the words, the class table, the trace, the order file, the run. Each step
 -- either ends the work or gives what the next one needs.
-use Rattle.std.specs.Prelude.{ℕ, Bool, nat_lt, List, [], length, is_none, Option, Some, None, Result, Ok, Err, if◌then◌else◌}
+use Rattle.std.specs.Prelude.{ℕ, Bool, nat_lt, List, [], ◌++◌, length, is_none, Option, Some, None, Result, Ok, Err, if◌then◌else◌}
 use Rattle.std.specs.List.{list_all}
 use Rattle.tc_units.specs.declared.spans.ClassRow.{ClassRow}
 use Rattle.tc_units.specs.declared.rows.RowView.{RowView}
@@ -18,6 +18,8 @@ use Rattle.trace_reader.specs.Reading.{BadLine, asked_by}
 use Rattle.trace_reader.specs.Orders.{picks_by}
 use Rattle.alloc_rules.specs.Machine.{turns}
 use Rattle.tc_machine.specs.Taken.{refused_line}
+use Rattle.tc_model.specs.declared.answers.CallLine.{CallLine}
+use Rattle.heap_sample.specs.Lines.{profile_of_calls}
 use Rattle.usage_report.specs.Report.{text_of, summary_of}
 use Rattle.tcreplay.specs.declared.run.Telling.{Telling}
 use Rattle.tcreplay.specs.declared.run.Telling.TheVariants.{Whole, Summary}
@@ -128,12 +130,17 @@ pub record Verdict : Type 0 where
 abbrev pub refused : End → Verdict
 refused end = record { end = end; order = []; text = [] }
 
--- the text of a run that has ended, with or without a line for each hugepage
+-- the text of a run that has ended, with or without a line for each hugepage, and with or without the profile of the
+-- allocations that are sampled
 abbrev pub rows_if : Bool → List RowView → List RowView
 rows_if told rows = if told then rows else []
 
-abbrev pub text_with : Bool → Finished → List ℕ
-text_with told f = text_of f.calls f.live f.live_bytes f.used f.resident (rows_if told f.rows)
+abbrev pub profile_if : Option ℕ → List CallLine → List ℕ
+profile_if None calls = []
+profile_if (Some step) calls = profile_of_calls step calls
+
+abbrev pub text_with : Bool → Option ℕ → Finished → List ℕ
+text_with rows sample f = text_of f.calls f.live f.live_bytes f.used f.resident (rows_if rows f.rows) ++ profile_if sample f.calls
 
 -- the last five lines of a text without hugepages
 abbrev pub summary_in : Finished → List ℕ
@@ -141,7 +148,7 @@ summary_in f = summary_of (length f.calls) f.live f.live_bytes f.used f.resident
 
 -- what is told of a run that has ended: its text, or its summary alone
 abbrev pub told_by : Telling → Finished → List ℕ
-told_by (Whole rows) f = text_with rows f
+told_by (Whole rows sample) f = text_with rows sample f
 told_by Summary f = summary_in f
 
 -- whether all scripts have ended

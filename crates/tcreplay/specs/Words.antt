@@ -47,6 +47,7 @@ flag_of word =
     else if bytes_eq word (codes "--locks") then Some flag.Locks
     else if bytes_eq word (codes "--workers") then Some flag.Workers
     else if bytes_eq word (codes "--rows") then Some flag.Rows
+    else if bytes_eq word (codes "--sample") then Some flag.Sample
     else if bytes_eq word (codes "--seed") then Some flag.Seed
     else if bytes_eq word (codes "--calls") then Some flag.Calls
     else if bytes_eq word (codes "--threads") then Some flag.Threads
@@ -64,6 +65,9 @@ takes kind.Serial flag.Rows = true
 takes kind.Order flag.Rows = true
 takes kind.Workers flag.Rows = true
 takes kind.PerThread flag.Rows = true
+takes kind.Serial flag.Sample = true
+takes kind.Order flag.Sample = true
+takes kind.Workers flag.Sample = true
 takes kind.Gen flag.Seed = true
 takes kind.Gen flag.Calls = true
 takes kind.Gen flag.Threads = true
@@ -77,13 +81,14 @@ pub record Options : Type 0 where
   pub locks : Option Locks
   pub workers : Bool
   pub rows : Bool
+  pub sample : Option ℕ
   pub seed : Option ℕ
   pub calls : Option ℕ
   pub threads : Option ℕ
   pub journal : Option (List ℕ)
 
 abbrev pub no_options : Options
-no_options = record { classes = None; order = None; locks = None; workers = false; rows = false; seed = None; calls = None; threads = None; journal = None }
+no_options = record { classes = None; order = None; locks = None; workers = false; rows = false; sample = None; seed = None; calls = None; threads = None; journal = None }
 
 -- an option comes once, with a value that is its own
 abbrev pub once : {A : Type 0} → Option A → Option A → Option A
@@ -97,6 +102,7 @@ with_value so flag.Order word = option_map (λ name. record so { order = Some na
 with_value so flag.Locks word = option_map (λ locks. record so { locks = Some locks }) (once so.locks (locks_of word))
 with_value so flag.Workers word = None
 with_value so flag.Rows word = None
+with_value so flag.Sample word = option_map (λ n. record so { sample = Some n }) (once so.sample (number_in 1 1073741824 word))
 with_value so flag.Seed word = option_map (λ n. record so { seed = Some n }) (once so.seed (number_in 0 2147483647 word))
 with_value so flag.Calls word = option_map (λ n. record so { calls = Some n }) (once so.calls (number_in 1 500000 word))
 with_value so flag.Threads word = option_map (λ n. record so { threads = Some n }) (once so.threads (number_in 1 64 word))
@@ -144,7 +150,7 @@ schedule_by so = schedule_with so.workers so.order
 
 -- the replay of a command with its options
 abbrev pub replay_with : Options → Front → List ℕ → Schedule → Task
-replay_with so front classes schedule = ToReplay (record { front = front; classes = classes; schedule = schedule; rows = so.rows })
+replay_with so front classes schedule = ToReplay (record { front = front; classes = classes; schedule = schedule; rows = so.rows; sample = so.sample })
 
 -- what a command with its options asks for, under a class table: all that it needs are there
 abbrev pub task_under : Kind → Options → List ℕ → Option Task

@@ -155,7 +155,14 @@ fn ran_on<M: Allocator>(
     picks: &[u16],
 ) -> Result<Ran, Fail> {
     let job = job_of::<M>(rt, alloc, text, picks)?;
-    Ok(run::<M>(alloc, job, Telling::Whole { rows: false })?)
+    Ok(run::<M>(
+        alloc,
+        job,
+        Telling::Whole {
+            rows: false,
+            sample: None,
+        },
+    )?)
 }
 
 /// Asserts a run's text and how many picks moved.
@@ -183,7 +190,14 @@ fn rows_without_caches_have_their_texts(rt: HostRuntime) -> Result<(), Fail> {
 fn a_row_for_each_hugepage_is_told_without_caches(rt: HostRuntime) -> Result<(), Fail> {
     let alloc = rt.alloc();
     let job = job_of::<PlainMachine>(&rt, alloc, REGIONS, &[])?;
-    let ran = run::<PlainMachine>(alloc, job, Telling::Whole { rows: true })?;
+    let ran = run::<PlainMachine>(
+        alloc,
+        job,
+        Telling::Whole {
+            rows: true,
+            sample: None,
+        },
+    )?;
     assert_eq!(rt; ran.text.as_slice(), REGIONS_TEXT);
     Ok(())
 }
@@ -254,7 +268,10 @@ where
     M::Local: Send,
 {
     let job = job_of::<M>(rt, alloc, text, &[])?;
-    let telling = Telling::Whole { rows: false };
+    let telling = Telling::Whole {
+        rows: false,
+        sample: None,
+    };
     let ran = run_by_part_locks::<R, M, G>(rt, alloc, gate, job, telling)?;
     Ok(ran)
 }

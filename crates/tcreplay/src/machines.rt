@@ -6,7 +6,7 @@ ghost use Rattle.tc_machine.specs.Taken.{refused_line};
 ghost use Rattle.tcreplay.specs.Machines.{machine_of, locks_for};
 ghost use Rattle.tcreplay.specs.Verdict.{order_of_job};
 ghost use Rattle.tcreplay.specs.Reads.{seen_job, IsRunnable};
-ghost use Rattle.tcreplay.specs.Ran.{IsRan, IsRanByThreads};
+ghost use Rattle.tcreplay.specs.Ran.{HasStep, IsRan, IsRanByThreads};
 
 use crate::input::Job;
 use crate::run::{Ran, Telling, run};
@@ -45,6 +45,7 @@ impl Front {
     /// Runs a job on its machine.
     pub fn run(self, alloc: Global, job: Job, telling: Telling) -> Result<Ran, AllocError>
         requires runs { IsRunnable job }
+        requires step { HasStep telling }
         requires taken { not_taken (machine_of self).takes (asked_of job.trace).calls ≡ 0 }
         ensures { IfOk result (IsRan (machine_of self) telling (seen_job job).input (order_of_job (machine_of self) (seen_job job))) }
     {
@@ -66,6 +67,7 @@ impl Front {
         telling: Telling,
     ) -> Result<Ran, AllocError>
         requires runs { IsRunnable job }
+        requires step { HasStep telling }
         requires taken { not_taken (machine_of self).takes (asked_of job.trace).calls ≡ 0 }
         ensures { IfOk result (IsRanByThreads (machine_of self) (locks_for self locks) telling (seen_job job).input) }
     {

@@ -1,7 +1,7 @@
 //! The top calls: from words, files and a trace to bytes, a status and an order.
 ghost use Rattle.std.specs.Prelude.{◌≡◌, ◌↔◌, None, Some, map, IfSome, IfNone, IsSome, string_bytes};
 ghost use Rattle.tcreplay.specs.Status.{status_of};
-ghost use Rattle.tcreplay.specs.Tasks.{locks_in, threads_in};
+ghost use Rattle.tcreplay.specs.Tasks.{locks_in, threads_in, IsStep};
 ghost use Rattle.tcreplay.specs.Words.{task_by};
 ghost use Rattle.tcreplay.specs.Seen.{seen_schedule, seen_replay};
 ghost use Rattle.tcreplay.specs.Writes.{Writing, IsWritten, IsRunEnd, IsLastEnd};
@@ -57,6 +57,7 @@ fn try_replay<S: Source, F: Shelf, K: Sink>(
     out: &mut K,
 ) -> Outcome
     requires alone { locks_in (seen_schedule replay.schedule) ≡ None }
+    requires sample { IfSome replay.sample IsStep }
     ensures status { result.status ≡ status_of result.end }
     ensures tried { HasTried (seen_replay replay.entry)
         (record { left = S.left trace.old; faults = S.faults trace.old; reads = S.reads trace.old })
@@ -89,6 +90,7 @@ fn try_threads<R: Threads + Wait + Sync, S: Source, F: Shelf, K: Sink, G: Gate +
     gate: &G,
 ) -> Outcome
     requires threads { locks_in (seen_schedule replay.schedule) ≡ Some locks }
+    requires sample { IfSome replay.sample IsStep }
     ensures status { result.status ≡ status_of result.end }
     ensures tried { HasTried (seen_replay replay.entry)
         (record { left = S.left trace.old; faults = S.faults trace.old; reads = S.reads trace.old })

@@ -38,23 +38,25 @@ impl<'a> Schedule<'a> {
     }
 }
 
-/// A replay: what serves small objects first, the file of the class table, which picks come first, and whether a
-/// line for each hugepage is printed.
+/// A replay: what serves small objects first, the file of the class table, which picks come first, whether a line
+/// for each hugepage is printed, and at each how many bytes of requests an allocation is sampled, if any is.
 #[derive(Clone, Copy, Debug)]
 pub struct Replay<'a> {
     pub front: Front,
     pub classes: &'a str,
     pub schedule: Schedule<'a>,
     pub rows: bool,
+    pub sample: Option<u64>,
 }
 
 impl<'a> Replay<'a> {
     /// What is told of its run.
     pub fn telling(self) -> Telling
-        ensures { result ≡ telling.Whole self.entry.rows }
+        ensures { result ≡ telling.Whole self.entry.rows self.entry.sample }
     {
         let rows = self.rows;
-        Telling::Whole { rows }
+        let sample = self.sample;
+        Telling::Whole { rows, sample }
     }
 }
 

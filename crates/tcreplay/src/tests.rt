@@ -35,6 +35,12 @@ const SMALL: &[u8] = b"a 0 0 10\n";
 /// What comes of it: 16 bytes of the first page.
 const SMALL_TEXT: &[u8] = b"a 0 0 2097152 16\ncalls 1\nlive 1 16\nused 1\nresident 256\nfrag 999\n";
 
+/// Its 10 bytes are past one step of 8.
+const SAMPLED: &str = "tcreplay serial --sample 8 --classes T0";
+
+const SAMPLED_TEXT: &[u8] =
+    b"a 0 0 2097152 16\ncalls 1\nlive 1 16\nused 1\nresident 256\nfrag 999\ns 16 1 8\npeak 8 1\n";
+
 /// The first 32 of its 64 bytes.
 const SMALL_HALF: &[u8] = b"a 0 0 2097152 16\ncalls 1\nlive 1 ";
 
@@ -257,6 +263,49 @@ fn picks_of_a_small_object(rt: HostRuntime) -> Result<(), Fail> {
     Ok(())
 }
 
+/// A text with a profile of samples behind it: the sums of what the thread asks for pass steps.
+#[test]
+fn profiles_of_samples(rt: HostRuntime) -> Result<(), Fail> {
+    let alloc = rt.alloc();
+
+    // The sums 16, 32 and 96 pass 0, 1 and 3 steps of 32: label 1 stands for 32 bytes until it is freed, label 2 for 64.
+    let mut ends = open(alloc, b"a 0 0 16\na 0 1 16\na 0 2 64\nf 0 1\n", b"")?;
+    let outcome = replay(
+        &rt,
+        alloc,
+        "tcreplay serial --sample 32 --classes T0",
+        &mut ends,
+    )?;
+    let text =
+        b"a 0 0 2097152 16\na 0 1 2097200 16\na 0 2 2105344 64\nf 0 1 2097200\ncalls 4\nlive 2 80\nused 2\nresident 256\nfrag 999\ns 64 1 64\npeak 96 3\n";
+    assert_eq!(rt; outcome.end, End::Done);
+    assert_eq!(rt; ends.out.taken(), text.as_slice());
+
+    // No call reaches no peak.
+    let nothing = Case {
+        command: "tcreplay serial --classes T0 --sample 1073741824",
+        trace: b"",
+        order: b"",
+        status: 0,
+        end: End::Done,
+        text: b"calls 0\nlive 0 0\nused 0\nresident 0\nfrag 0\npeak 0 0\n",
+        note: b"",
+        picks: &[],
+    };
+    check(&rt, alloc, &nothing)?;
+
+    // The profile comes behind the rows. A length is what the request is rounded to, and a weight is of requests.
+    let rows = Case {
+        command: "tcreplay order --sample 300000 --rows --order O --classes T0",
+        trace: b"huge 1\na 0 0 300000\n",
+        text: b"a 0 0 2097152 303104\ncalls 1\nlive 1 303104\nused 37\nresident 256\nfrag 855\nh 1 filler 37 1 256 219 0\ns 303104 1 300000\npeak 300000 1\n",
+        picks: &[0, 0, 0],
+        ..nothing
+    };
+    check(&rt, alloc, &rows)?;
+    Ok(())
+}
+
 #[test]
 fn words_that_are_refused(rt: HostRuntime) -> Result<(), Fail> {
     let alloc = rt.alloc();
@@ -275,6 +324,11 @@ fn words_that_are_refused(rt: HostRuntime) -> Result<(), Fail> {
         "tcreplay workers --classes T0 --locks",
         "tcreplay workers --classes T0 --order O",
         "tcreplay serial --classes T0 --locks one",
+        "tcreplay serial --classes T0 --sample",
+        "tcreplay serial --classes T0 --sample 0",
+        "tcreplay serial --classes T0 --sample 1073741825",
+        "tcreplay serial --classes T0 --sample 1 --sample 1",
+        "tcreplay perthread --classes T0 --sample 1",
     ] {
         check(
             &rt,
@@ -437,6 +491,7 @@ fn memory_that_runs_out(rt: HostRuntime) -> Result<(), Fail> {
         (SERIAL, SMALL, b"".as_slice(), SMALL_TEXT),
         (ORDER, OBJECTS, OBJECTS_ORDER, OBJECTS_TEXT),
         (AUDIT, OBJECTS, OBJECTS_TEXT, b"yes 6\n".as_slice()),
+        (SAMPLED, SMALL, b"".as_slice(), SAMPLED_TEXT),
     ] {
         let Ok(mut ends) = open(alloc, trace, file) else {
             return Ok(());

@@ -27,6 +27,7 @@ pub enum Flag {
     Locks,
     Workers,
     Rows,
+    Sample,
     Seed,
     Calls,
     Threads,
@@ -35,6 +36,9 @@ pub enum Flag {
 
 /// The greatest seed of a generated trace.
 const MOST_SEED: u64 = 2_147_483_647;
+
+/// The greatest step of a sampled profile, in bytes.
+const MOST_STEP: u64 = 1_073_741_824;
 
 /// The most calls of a generated trace.
 const MOST_CALLS: u64 = 500_000;
@@ -50,6 +54,7 @@ struct Options<'a> {
     locks: Option<Locks>,
     workers: bool,
     rows: bool,
+    sample: Option<u64>,
     seed: Option<u64>,
     calls: Option<u64>,
     threads: Option<u64>,
@@ -123,6 +128,7 @@ impl Kind {
             Flag::Locks => self == Kind::Workers,
             Flag::Workers => self == Kind::PerThread,
             Flag::Rows => self != Kind::Gen && self != Kind::Audit,
+            Flag::Sample => { self == Kind::Serial || self == Kind::Order || self == Kind::Workers }
             Flag::Seed | Flag::Calls | Flag::Threads => self == Kind::Gen,
             Flag::Journal => self == Kind::Audit,
         }
@@ -147,6 +153,7 @@ impl Flag {
             "--locks" => Some(Flag::Locks),
             "--workers" => Some(Flag::Workers),
             "--rows" => Some(Flag::Rows),
+            "--sample" => Some(Flag::Sample),
             "--seed" => Some(Flag::Seed),
             "--calls" => Some(Flag::Calls),
             "--threads" => Some(Flag::Threads),
@@ -170,6 +177,7 @@ impl<'a> Options<'a> {
         locks: None,
         workers: false,
         rows: false,
+        sample: None,
         seed: None,
         calls: None,
         threads: None,
@@ -185,6 +193,7 @@ impl<'a> Options<'a> {
             Flag::Order => self.order = Some(once(self.order, name_of(word))?),
             Flag::Locks => self.locks = Some(once(self.locks, Locks::of(word))?),
             Flag::Workers | Flag::Rows => return None,
+            Flag::Sample => self.sample = Some(once(self.sample, number_in(word, 1, MOST_STEP))?),
             Flag::Seed => self.seed = Some(once(self.seed, number_in(word, 0, MOST_SEED))?),
             Flag::Calls => self.calls = Some(once(self.calls, number_in(word, 1, MOST_CALLS))?),
             Flag::Threads => {
@@ -243,14 +252,16 @@ impl<'a> Options<'a> {
 
     /// The replay that a command asks for with these options.
     fn replay(self, front: Front, classes: &'a str, schedule: Schedule<'a>) -> Task<'a>
-        ensures { seen_task result ≡ ToReplay (record { front = front; classes = classes.now; schedule = seen_schedule schedule.entry; rows = self.entry.rows }) }
+        ensures { seen_task result ≡ ToReplay (record { front = front; classes = classes.now; schedule = seen_schedule schedule.entry; rows = self.entry.rows; sample = self.entry.sample }) }
     {
         let rows = self.rows;
+        let sample = self.sample;
         Task::Replay(Replay {
             front,
             classes,
             schedule,
             rows,
+            sample,
         })
     }
 

@@ -1,16 +1,17 @@
 //! Running a job by threads, under one lock or under a lock for each part, and then what they left in
 //! trace order.
-ghost use Rattle.std.specs.Prelude.{◌≡◌, ◌≤◌, ◌↔◌, [], length, Some, IfOk, IsErr};
+ghost use Rattle.std.specs.Prelude.{ℕ, ◌≡◌, ◌≤◌, ◌↔◌, [], length, Some, IfOk, IsErr};
 ghost use Rattle.tc_model.specs.declared.board.Halt.TheVariants as halts;
 ghost use Rattle.tc_model.specs.Run.{start};
 ghost use Rattle.tc_model.specs.Chains.{IsPolite};
 ghost use Rattle.cpu_rows.specs.Machine as allocator;
 ghost use Rattle.relay.specs.Ends.{IsRun, threads_in};
+ghost use Rattle.trace_reader.specs.Valid.{IsAsked};
 ghost use Rattle.alloc_rules.specs.Inputs.{not_taken};
 ghost use Rattle.tc_machine.specs.Inputs.{asked_of};
 ghost use Rattle.tcreplay.specs.Reads.{seen_job, IsRunnable};
 ghost use Rattle.tcreplay.specs.Came.{IsLeft};
-ghost use Rattle.tcreplay.specs.Ran.{IsRanByThreads, IsRunByThreads};
+ghost use Rattle.tcreplay.specs.Ran.{HasStep, IsRanByThreads, IsRunByThreads};
 ghost use Rattle.tcreplay.specs.Machines.{per_cpu};
 ghost use Rattle.tcreplay.specs.declared.task.Locks.TheVariants.{One, Parts};
 
@@ -141,6 +142,8 @@ where
 /// Ends every call of what threads left, in trace order.
 fn complete<M: Allocator>(alloc: Global, came: Came<M>, telling: Telling) -> Result<Ran, AllocError>
     requires left { IsLeft M.rules_of came.state.input came.locks came.state came.locks came.lasts.items came.halt }
+    requires valid { (classes : ℕ) × IsAsked classes came.state.input.asked }
+    requires step { HasStep telling }
     ensures { IfOk result (IsRunByThreads M.rules_of M.told M.lawful came.locks telling came.state.input) }
 {
     let Came {
@@ -166,6 +169,7 @@ where
     M::Part: Send,
     M::Local: Send,
     requires runs { IsRunnable job }
+    requires step { HasStep telling }
     requires taken { not_taken M.takes (asked_of job.trace).calls ≡ 0 }
     ensures { IfOk result (IsRunByThreads M.rules_of M.told M.lawful Parts telling (seen_job job).input) }
 {
@@ -188,7 +192,8 @@ pub fn run_by_one_lock<R: Threads + Wait + Sync, G: Gate + Sync>(
     job: Job,
     telling: Telling,
 ) -> Result<Ran, AllocError>
-    requires { IsRunnable job }
+    requires runs { IsRunnable job }
+    requires step { HasStep telling }
     ensures { IfOk result (IsRanByThreads per_cpu One telling (seen_job job).input) }
 {
     let Job {

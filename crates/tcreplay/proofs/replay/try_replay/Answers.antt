@@ -6,6 +6,7 @@ use Rattle.tcreplay.specs.Machines.{machine_of}
 use Rattle.tcreplay.specs.Ran.{IsRan}
 use Rattle.tcreplay.specs.Seen.{seen_replay}
 use Rattle.tcreplay.proofs.RanFacts.{run_end}
+use Rattle.tcreplay.proofs.SampleFacts.{has_step}
 use Rattle.tcreplay.proofs.TriedFacts.{tried_ran, tried_at}
 use Rattle.tcreplay.proofs.replay.try_replay.Goals as goal
 
@@ -19,3 +20,6 @@ returns-in-Err-clause-tried g c =
 
 pub write-requires : goal.write-requires
 write-requires g c = run_end (machine_of c.args.replay.front) c.telling.result (seen_job c.in-Ok.job).input (order_of_job (machine_of c.args.replay.front) (seen_job c.in-Ok.job)) c.in-Ok-run.ran c.in-Ok-run.ensures
+
+pub run-requires-clause-step : goal.run-requires-clause-step
+run-requires-clause-step g c = has_step c.telling.result c.args.replay.rows c.args.replay.sample c.telling.ensures c.requires.sample

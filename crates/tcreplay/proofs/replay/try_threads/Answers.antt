@@ -6,6 +6,7 @@ use Rattle.tcreplay.specs.Seen.{seen_replay}
 use Rattle.tcreplay.specs.Reads.{seen_job}
 use Rattle.tcreplay.specs.Verdict.{order_of_job}
 use Rattle.tcreplay.proofs.RanFacts.{run_end}
+use Rattle.tcreplay.proofs.SampleFacts.{has_step}
 use Rattle.tcreplay.proofs.TriedFacts.{tried_threads, tried_at}
 use Rattle.tcreplay.proofs.replay.try_threads.Goals as goal
 
@@ -19,3 +20,6 @@ pub returns-in-Err-clause-tried : goal.returns-in-Err-clause-tried
 returns-in-Err-clause-tried g c =
     let same = c.without_run.ensures in
     tried_at (seen_replay c.args.replay) _ _ _ _ _ c.in-Err.end c.without_run.result.end c.without_run.result.order (ap (λ (o : Outcome). o.end) same) (ap (λ (o : Outcome). o.order) same) c.in-Err.ensures.read
+
+pub run_by_threads-requires-clause-step : goal.run_by_threads-requires-clause-step
+run_by_threads-requires-clause-step g c κs within = has_step c.telling-telling.result c.args.replay.rows c.args.replay.sample c.telling-telling.ensures c.requires.sample

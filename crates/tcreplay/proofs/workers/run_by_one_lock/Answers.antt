@@ -1,6 +1,7 @@
-use Rattle.std.proofs.Common.{sym, subst, ◌∙◌}
+use Rattle.std.proofs.Common.{length, sym, subst, ◌∙◌}
 use Rattle.std.specs.Prelude.{IfOk}
 use Rattle.tc_model.specs.Input.{Input}
+use Rattle.trace_reader.specs.Valid.{IsAsked}
 use Rattle.tcreplay.specs.declared.task.Locks.{Locks}
 use Rattle.tcreplay.specs.declared.task.Locks.TheVariants.{One}
 use Rattle.cpu_rows.specs.Machine.{rules}
@@ -14,14 +15,17 @@ use Rattle.tcreplay.proofs.workers.run_by_one_lock.Goals as goal
 pub open-requires-clause-taken : goal.open-requires-clause-taken
 open-requires-clause-taken g c = all_taken (asked_of c.args.job.trace).calls
 
-pub complete-requires : goal.complete-requires
-complete-requires g c =
+pub complete-requires-clause-left : goal.complete-requires-clause-left
+complete-requires-clause-left g c =
     let came = c.in_ok-came.came in
     let left = c.in_ok-came.ensures.left in
-    record {
-      left = subst (λ (k : Locks). IsLeft rules came.state.input k came.state came.locks came.lasts.items came.halt) (sym left.locks_are)
-          (subst (λ (i : Input). IsLeft rules i One came.state came.locks came.lasts.items came.halt) (sym left.input_is) left);
-    }
+    subst (λ (k : Locks). IsLeft rules came.state.input k came.state came.locks came.lasts.items came.halt) (sym left.locks_are)
+    (subst (λ (i : Input). IsLeft rules i One came.state came.locks came.lasts.items came.halt) (sym left.input_is) left)
+
+pub complete-requires-clause-valid : goal.complete-requires-clause-valid
+complete-requires-clause-valid g c =
+    let n = length c.args.job.table in
+    (n, subst (λ (i : Input). IsAsked n i.asked) (sym (c.in_ok-came.ensures.left.input_is ∙ c.in_ok-state.ensures.input)) c.requires.runs.read.valid)
 
 pub returns : goal.returns
 returns g c =
