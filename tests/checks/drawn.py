@@ -16,7 +16,8 @@ DRAINS = ('d ', 'z ')                           # the calls that caches of threa
 
 class Case:
     """Table, trace and order of a seed, and the command that runs them. Limits are small, so that all kinds of answers
-    come. A second generator draws the command, so that the first one's draws are as they were without it."""
+    come. A second generator draws the command and a third one the step of a profile, so that each draws as it did without
+    those behind it."""
 
     def __init__(self, seed, command=None):
         self.draw = random.Random(seed)
@@ -32,6 +33,8 @@ class Case:
         if command:
             self.trace = ''.join(line for line in self.trace.splitlines(True) if not line.startswith(DRAINS))
         self.words = self.random_words(random.Random('command %d' % seed), command)
+        self.sample = self.random_sample(random.Random('sample %d' % seed))
+        self.words += ['--sample', '%d' % self.sample] if self.sample else []
         if self.draw.random() < 0.1:
             self.trace = 'events %d\n' % self.random_limit() + self.trace
 
@@ -135,6 +138,14 @@ class Case:
             return ['perthread'] + words + (['--workers'] if is_free and draw.random() < 0.5 else [])
         return ['serial' if self.order is None else 'order'] + words
 
+    def random_sample(self, draw):
+        """The step of a profile in about 2 of 10 cases: of a byte, of a request or of a few, or any that there is."""
+        if self.has_caches() or draw.random() < 0.8:
+            return None
+        size = draw.choice(self.sizes)
+        step = draw.choice([1, draw.randint(1, 64), size, size + 1, size * draw.randint(1, 6), 1 << draw.randint(0, 30)])
+        return max(1, min(step, 1 << 30))
+
     def has_caches(self):
         return self.words[0] == 'perthread'
 
@@ -199,7 +210,7 @@ class Case:
             judged = 12, '', 'tcreplay: audit line %d: %s\n' % (number, why[0].lower())
         if self.has_caches() and self.first_drain():
             return (4, '', 'tcreplay: trace line %d: nothere\n' % self.first_drain()), judged
-        return model.answer(self.replay(), rows=True), judged
+        return model.answer(self.replay(), rows=True, sample=self.sample), judged
 
 
 def differing(first, count, command=None):
