@@ -17,12 +17,12 @@ _tcreplay() {
         mapfile -t COMPREPLY < <(compgen -W 'one parts' -- "$word")
         return
         ;;
-    --seed | --calls | --threads) return ;;
+    --sample | --seed | --calls | --threads) return ;;
     esac
     case ${COMP_WORDS[1]} in
-    serial) options='--classes --rows' ;;
-    order) options='--classes --order --rows' ;;
-    workers) options='--classes --locks --rows' ;;
+    serial) options='--classes --rows --sample' ;;
+    order) options='--classes --order --rows --sample' ;;
+    workers) options='--classes --locks --rows --sample' ;;
     perthread) options='--classes --order --workers --rows' ;;
     gen) options='--classes --seed --calls --threads' ;;
     audit) options='--classes --journal' ;;
