@@ -268,6 +268,36 @@ fn one_thread_has_one_order(rt: HostRuntime) -> Result<(), Fail> {
     Ok(())
 }
 
+/// The thread that comes first gets the one hugepage, and the other one nothing: so the lines of samples differ, and the
+/// peak. A request that got nothing is no sample.
+#[test]
+fn samples_are_of_the_order_that_came(rt: HostRuntime) -> Result<(), Fail> {
+    let alloc = rt.alloc();
+    for command in [
+        "tcreplay workers --sample 1 --classes T0 --locks one",
+        "tcreplay workers --classes T0 --sample 1",
+    ] {
+        for (late, text) in [
+            (
+                0,
+                b"a 1 1 2097152 2080768\na 0 0 none\ncalls 2\nlive 1 2080768\nused 254\nresident 256\nfrag 7\ns 2080768 1 2080768\npeak 2080768 1\n".as_slice(),
+            ),
+            (
+                1,
+                b"a 0 0 2097152 2097152\na 1 1 none\ncalls 2\nlive 1 2097152\nused 256\nresident 256\nfrag 0\ns 2097152 1 2097152\npeak 2097152 1\n".as_slice(),
+            ),
+        ] {
+            let gate = Hold::new(late);
+            let trace = b"threads 2\nhuge 1\na 0 0 2097152\na 1 1 2080768\n";
+            let mut ends = open(alloc, trace, b"")?;
+            let outcome = replay(&rt, alloc, command, &mut ends, &gate)?;
+            assert_eq!(rt; outcome.end, End::Done);
+            assert_eq!(rt; ends.out.taken(), text);
+        }
+    }
+    Ok(())
+}
+
 #[test]
 fn inputs_and_ends_fail_as_without_threads(rt: HostRuntime) -> Result<(), Fail> {
     let alloc = rt.alloc();
