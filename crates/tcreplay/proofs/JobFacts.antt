@@ -15,7 +15,7 @@ use Rattle.tcreplay.specs.declared.input.Job.{Job}
 use Rattle.tcreplay.specs.declared.machines.Front.{Front}
 use Rattle.tcreplay.specs.Tasks.{Replay, file_of}
 use Rattle.tcreplay.specs.Verdict as verdict
-use Rattle.tcreplay.specs.Verdict.{Given, and_then, or_end, within, file_within, table_limit, trace_limit, table_end, rows_in, asked_in, picks_in, picks_or, job_with, read_of}
+use Rattle.tcreplay.specs.Verdict.{Given, and_then, trace_limit, rows_in, asked_in, picks_in, picks_or, job_with, read_of}
 use Rattle.tcreplay.specs.Reads.{Reading, Shelving, IsFile, IsStep, IsLoad, ArePicks, IsTraceRead, CutOff, HasRead, IsAllRead, IsReadAs, AreRead, IsJobRead, IsCounted, seen_job, loads_behind, most_gone, is_of_file, is_behind_trace, is_behind_run}
 use Rattle.tcreplay.proofs.EndFacts.{FailsTable, FailsJob, table_fails, job_fails}
 use Rattle.tcreplay.proofs.LoadFacts.{some_file, some_file_is}

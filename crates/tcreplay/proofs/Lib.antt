@@ -14,7 +14,6 @@ pub mod JournalFacts
 pub mod SampleFacts
 pub mod TriedFacts
 pub mod AuditFacts
-pub mod TakenFacts
 pub mod GenerateFacts
 pub mod CompleteFacts
 pub mod WorkerFacts

@@ -1,6 +1,5 @@
 -- What holds of a run from what it came to, and of its end and its order.
-use Rattle.std.proofs.Common.{◌≡◌, ℕ, ◌<◌, ◌-◌, length, Bool, true, false, List, [], sym, ap, subst, ◌∙◌, inl, inr}
-use Rattle.std.proofs.lemmas.List.{append-nil}
+use Rattle.std.proofs.Common.{◌≡◌, ℕ, ◌<◌, ◌-◌, length, Bool, true, false, List, sym, ap, subst, ◌∙◌, inl, inr}
 use Rattle.tc_model.specs.Input.{Input}
 use Rattle.tc_model.specs.Run.{run}
 use Rattle.tc_model.specs.Replays.{HaveEnded}

@@ -15,7 +15,7 @@ use Rattle.tcreplay.specs.declared.machines.Front.TheVariants.{Cpus, Threads}
 use Rattle.tcreplay.specs.Machines.{Machine, machine_of, locks_for}
 use Rattle.tcreplay.specs.Tasks.{Replay, Schedule, InTurn, ByFile, ByThreads, file_of, locks_in}
 use Rattle.tcreplay.specs.Verdict as verdict
-use Rattle.tcreplay.specs.Verdict.{Given, Verdict, and_then, rows_in, asked_in, picks_or, job_with, have_ended, run_verdict, order_of_job, job_of, text_with}
+use Rattle.tcreplay.specs.Verdict.{Given, Verdict, and_then, rows_in, asked_in, picks_or, job_with, run_verdict, order_of_job, job_of}
 use Rattle.tcreplay.specs.Reads.{Reading, Shelving, IsMadeOf, HaveCome, AreGiven, HasRead, IsJobRead, is_behind_run, seen_job}
 use Rattle.tcreplay.specs.Ran.{seen_ran, IsRan, IsRanByThreads}
 use Rattle.tcreplay.specs.Writes.{Writing, IsWritten, IsLastEnd}

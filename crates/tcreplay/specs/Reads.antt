@@ -21,7 +21,7 @@ use Rattle.tcreplay.specs.declared.input.Job.{Job}
 use Rattle.tcreplay.specs.declared.machines.Front.{Front}
 use Rattle.tcreplay.specs.Machines.{Machine, machine_of}
 use Rattle.tcreplay.specs.Tasks.{Replay, Schedule, InTurn, ByFile, ByThreads, file_of}
-use Rattle.tcreplay.specs.Verdict.{Given, trace_limit, rows_in, asked_in, picks_in, job_of, read_of, and_then}
+use Rattle.tcreplay.specs.Verdict.{Given, trace_limit, rows_in, asked_in, picks_in, job_of, and_then}
 use Rattle.tcreplay.specs.Verdict as verdict
 
 -- what a source and a shelf show at a moment: what they tell, the faults so far, and the calls so far

@@ -2,7 +2,6 @@ use Rattle.std.proofs.Common.{◌≡◌, Some, None, length, sym, ap, ◌∙◌,
 use Rattle.std.specs.Prelude.{All}
 use Rattle.tc_model.specs.declared.board.Halt.TheVariants.{Full}
 use Rattle.tc_model.specs.Input.{Input}
-use Rattle.tc_model.specs.Replays.{HaveEnded}
 use Rattle.tc_model.specs.Run.{World, run}
 use Rattle.relay.specs.Ends.{IsRun, threads_in}
 use Rattle.tcreplay.proofs.WorkerFacts.{many_locals, parts_left}
