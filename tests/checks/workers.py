@@ -62,12 +62,13 @@ def workers_end_as_runs_in_turn():
 
 
 def workers_print_what_came():
-    """The two workers of the example print one of the two texts that their orders have."""
-    trace = read(EXAMPLES, 'workers.trace')
-    texts = [run(ORDER, trace, {b'T0.csv': SMALL_TABLE, b'O': order})[1] for order in (b'0 3\n', b'1 3\n')]
+    """The two workers of the example print one of the two texts that their orders have, with a profile whose peak comes at
+    the one call or at the other."""
+    trace, sample = read(EXAMPLES, 'workers.trace'), [b'--sample', b'65536']
+    texts = [run(ORDER + sample, trace, {b'T0.csv': SMALL_TABLE, b'O': order})[1] for order in (b'0 3\n', b'1 3\n')]
     wrong = []
     for locks in LOCKS * 10:
-        result = run([b'workers', b'--classes', b'T0.csv', b'--locks', locks], trace, {b'T0.csv': SMALL_TABLE})
+        result = run([b'workers', b'--classes', b'T0.csv', b'--locks', locks] + sample, trace, {b'T0.csv': SMALL_TABLE})
         if result[0] != 0 or result[1] not in texts:
             wrong.append('%r is none of %r' % (result, texts))
     return wrong
