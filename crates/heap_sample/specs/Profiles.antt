@@ -31,6 +31,6 @@ pub record IsProfileOf (calls : List CallLine) (noted : Noted) : Type 0 where
   pub count : noted.calls ≡ length calls
   pub peak : IsPeak noted.step calls noted.peak
 
--- Calls whose labels are each allocated once and freed at most once, behind that, with sizes that a trace may have.
+-- Calls whose allocations each have a label that no earlier call has, and a size that a trace may have.
 abbrev pub AreFirstUses : List CallLine → Type 0
 AreFirstUses calls = (earlier : List CallLine) (c : CallLine) (later : List CallLine) → earlier ++ c ∷ later ≡ calls → IsFirstUse earlier c.call
