@@ -1,9 +1,9 @@
 -- The tightest, the longest and the last range of a row, found among its listed ranges.
-use Rattle.std.proofs.Common.{◌≡◌, ℕ, zero, suc, ◌+◌, ◌-◌, ◌<◌, ◌≤◌, ◌==◌, ◌||◌, ◌⊎◌, Bool, true, false, not, nat_lt, List, [], length, get_or, drop, Option, Some, None, IfSome, All, Contains, refl, sym, ap, subst, ◌∙◌, inl, inr, arith, eqb-true}
-use Rattle.free_ranges.proofs.Common.{cases_lt, cases_Bool, and_parts, not-true, not-false, nat_tests, length-drop, get_or-drop, prefix_len_stops, All-filter}
+use Rattle.std.proofs.Common.{◌≡◌, ℕ, zero, suc, ◌+◌, ◌-◌, ◌<◌, ◌≤◌, ◌==◌, ◌||◌, ◌⊎◌, Bool, true, false, not, nat_lt, List, [], length, get_or, drop, Option, Some, None, IfSome, All, Contains, sym, ap, ◌∙◌, inl, inr, arith, eqb-true}
+use Rattle.free_ranges.proofs.Common.{cases_lt, and_parts, not-true, not-false, nat_tests, length-drop, get_or-drop, prefix_len_stops, All-filter}
 use Rattle.free_ranges.proofs.Common.{All-contains, filter_passes, free_from, begins_range, places, best, longest, free_at, range-within, begins, best_is}
 use Rattle.free_ranges.proofs.Common.{best_none, longest_is, first_by, IsFirstFrom, IsLast, IsIndexOf, key_held, row_held, FreeRange, comes_before, range_at}
-use Rattle.free_ranges.proofs.Common.{starts, IsRange, IsLastUpto, IsLastRange, total}
+use Rattle.free_ranges.proofs.Common.{starts, IsRange, IsLastRange, total}
 use Rattle.std.proofs.lemmas.List.FromFn.{length-range_with_len, get_or-range_with_len}
 use Rattle.range_bits.proofs.RangeFacts.{free_is_inside}
 use Rattle.free_ranges.proofs.Lists.{kept_by}
@@ -34,10 +34,10 @@ range_of row s inside starts =
     }
 
 -- no place is free where no range begins
-used_here : (row : List Bool) (p : ℕ) → (0 < p → get_or row (p - 1) true ≡ true) → begins_range row p ≡ false → get_or row p true ≡ true
+pub used_here : (row : List Bool) (p : ℕ) → (0 < p → get_or row (p - 1) true ≡ true) → begins_range row p ≡ false → get_or row p true ≡ true
 used_here row p before none = grind (arith, nat_tests, begins)
 
-none_free : (row : List Bool) (a k p : ℕ) → p ≡ a + k → get_or row a true ≡ true → ((q : ℕ) → a < q → q ≤ p → begins_range row q ≡ false) → get_or row p true ≡ true
+pub none_free : (row : List Bool) (a k p : ℕ) → p ≡ a + k → get_or row a true ≡ true → ((q : ℕ) → a < q → q ≤ p → begins_range row q ≡ false) → get_or row p true ≡ true
 none_free row a zero p at base none = let e : p ≡ a = omega arith in ap (λ (i : ℕ). get_or row i true) e ∙ base
 none_free row a (suc k) p at base none = grind (arith, nat_tests, used_here, none_free row a k (p - 1) (omega arith) base)
 
@@ -92,27 +92,6 @@ module _ (row : List Bool) (keys : List FreeRange) (index : IsIndexOf (range_at 
   pub longest_nowhere : keys ≡ [] → longest row ≡ 0
   longest_nowhere none =
       longest_is row (length row) 0 (omega arith) (grind (arith, nat_tests, listed))
-
-  -- the last listed range up to a place is the row's, and where there is none no place up to it is free
-  not_begun : (p : ℕ) → p < length row → ((range : FreeRange) → Contains keys range → range.start ≡ p → ⊥) → begins_range row p ≡ false
-  not_begun p there none = elim (cases_Bool (begins_range row p)) [ inl t ↦ absurd (none (range_at row p) (listed p there t) refl) | inr f ↦ f ]
-
-  pub last_found : (place : ℕ) → place < length row → (o : Option FreeRange) → IfSome o (IsLastUpto keys place) → IfSome o (IsLastRange row place)
-  last_found place inside None h = tt
-  last_found place inside (Some key) is =
-      let at = ranged key is.held in
-      let range : IsRange row key = subst (λ (m : ℕ). IsRange row (record { len = m; start = key.start })) at.2 (range_of row key.start at.0 at.1) in
-      record {
-        maximal = range;
-        upto = is.upto;
-        behind = λ p low high. none_free row (key.start + key.len) (p - (key.start + key.len)) p (omega arith) (range.end (omega arith)) (λ q low' high'.
-            not_begun q (omega arith) (λ r held e. omega (arith, is.last r held (omega arith), range.some)));
-      }
-
-  pub none_found : (place : ℕ) → place < length row → ((range : FreeRange) → Contains keys range → place < range.start) → (p : ℕ) → p ≤ place → get_or row p true ≡ true
-  none_found place inside none p upto =
-      let no : (q : ℕ) → q ≤ place → begins_range row q ≡ false = λ q l. not_begun q (omega arith) (λ r held e. omega (arith, none r held)) in
-      none_free row 0 p p (omega arith) (used_here row 0 (λ pos. absurd (omega arith)) (no 0 (omega arith))) (λ q low high. no q (omega arith))
 
 pub range_small : (row : List Bool) (place most : ℕ) (o : Option FreeRange) → length row < most → IfSome o (IsLastRange row place) → IfSome o (λ r. r.start + r.len < most)
 range_small row place most o l h = grind (arith, nat_tests)

@@ -1,3 +1,4 @@
+mod Bounded
 mod Common
 mod Found
 mod Listed

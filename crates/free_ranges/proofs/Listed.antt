@@ -1,55 +1,16 @@
 -- What a mark or an unmark makes of the listed ranges.
-use Rattle.std.proofs.Common.{◌≡◌, ℕ, ◌+◌, ◌-◌, ◌<◌, ◌≤◌, ◌==◌, ◌&&◌, Bool, true, false, cond, List, [], ◌∷◌, drop, length, get_or, count_by, All, min, max, Contains, IsPermutation, replicate, refl, sym, ap, subst, ◌∙◌, inl, inr, arith, eq-eqb, eqb-true}
+use Rattle.std.proofs.Common.{◌≡◌, ℕ, ◌+◌, ◌-◌, ◌<◌, ◌≤◌, ◌==◌, ◌&&◌, Bool, true, false, cond, List, [], ◌∷◌, drop, length, get_or, count_by, min, max, Contains, IsPermutation, replicate, refl, sym, ap, subst, ◌∙◌, inl, inr, arith, eq-eqb, eqb-true}
 use Rattle.free_ranges.proofs.Common.{nat_tests, cases_lt, and_from, and_parts, get_or-drop, get_or-replicate, length-replicate, sum_by-cons, prefix_len_passes}
-use Rattle.free_ranges.proofs.Common.{All-contains, free_from, used_from, with_places, free_inside, used_inside, length-with_places, place_before, place_in}
-use Rattle.free_ranges.proofs.Common.{place_behind, placed_again, placed_already, free_at, free_run, begins, IsFirstFrom, IsIndexOf, found_some, count_held}
-use Rattle.free_ranges.proofs.Common.{key_held, row_held, index_more, index_fewer, FreeRange, Listing, IsListed, comes_before, comes_later, range_at, starts}
-use Rattle.free_ranges.proofs.Common.{IsRange, IsLastUpto, IsLastRange, total}
+use Rattle.free_ranges.proofs.Common.{free_from, used_from, with_places, free_inside, used_inside, length-with_places, place_before, place_in}
+use Rattle.free_ranges.proofs.Common.{place_behind, placed_again, placed_already, free_at, free_run, begins, found_some, count_held}
+use Rattle.free_ranges.proofs.Common.{FreeRange, Listing, IsListed, range_at, starts}
+use Rattle.free_ranges.proofs.Common.{IsRange, IsLastRange}
 use Rattle.std.proofs.lemmas.List.Sorted.{sum_by-IsPermutation}
 use Rattle.range_bits.specs.Fills.{IsEnd}
 use Rattle.range_bits.specs.Words.{IsNext}
-use Rattle.free_ranges.specs.declared.range.Placed.{Placed}
-use Rattle.free_ranges.proofs.Found.{listed, not_first, not_below, below}
+use Rattle.free_ranges.proofs.Found.{listed}
 use Rattle.free_ranges.proofs.Marked.{parted}
 use Rattle.free_ranges.proofs.Pieces.{count_in, counts, counts_some, all_parts, free_part}
-
--- a key that comes into two indexes, and one that goes
-pub index_added : {R K : Type 0} (key : R → K) (rows rows' : List R) (keys keys' : List K) (r : R) → IsIndexOf key rows keys → IsPermutation (r ∷ rows) rows'
-    → IsPermutation (key r ∷ keys) keys' → IsIndexOf key rows' keys'
-index_added key rows rows' keys keys' r index came moved =
-    index_more key rows rows' keys keys' (key r) index moved
-    (λ test. omega (arith, sum_by-IsPermutation (λ x. cond (test (key x)) 1 0) (r ∷ rows) rows' came, sum_by-cons (λ x. cond (test (key x)) 1 0) r rows))
-
-pub index_taken : {R K : Type 0} (key : R → K) (rows rows' : List R) (keys keys' : List K) (r : R) → IsIndexOf key rows keys → IsPermutation rows (r ∷ rows')
-    → IsPermutation keys (key r ∷ keys') → IsIndexOf key rows' keys'
-index_taken key rows rows' keys keys' r index gone moved =
-    index_fewer key rows rows' keys keys' (key r) index moved
-    (λ test. omega (arith, sum_by-IsPermutation (λ x. cond (test (key x)) 1 0) rows (r ∷ rows') gone, sum_by-cons (λ x. cond (test (key x)) 1 0) r rows'))
-
--- the range of a key that is found by its place, and the key of a range
-pub placed_held : (placed : List Placed) (ranges : List FreeRange) (range : FreeRange) → IsIndexOf (λ p. p.range) placed ranges → Contains ranges range → Contains placed (record { range = range })
-placed_held placed ranges range index held =
-    let at = row_held comes_before total (λ p. p.range) placed ranges range index held in
-    subst (λ (r : FreeRange). Contains placed (record { range = r })) at.2 at.1
-
-pub last_placed : (placed : List Placed) (ranges : List FreeRange) (place : ℕ) (key : Placed) → IsIndexOf (λ p. p.range) placed ranges
-    → IsFirstFrom comes_later placed (record { range = record { len = 0; start = place } }) key → IsLastUpto ranges place key.range
-last_placed placed ranges place key index is =
-    let from : Placed = record { range = record { len = 0; start = place } } in
-    record {
-      held = key_held comes_before total (λ p. p.range) placed ranges key index is.held;
-      upto = not_first place key.range.start _ is.behind;
-      last = λ other held upto.
-          not_first key.range.start other.start _
-          (All-contains (λ p. comes_later p from ≡ false → comes_later p key ≡ false) placed (record { range = other }) is.first
-          (placed_held placed ranges other index held) (not_below place other.start other.len upto));
-    }
-
-pub none_placed : (placed : List Placed) (ranges : List FreeRange) (place : ℕ) → IsIndexOf (λ p. p.range) placed ranges
-    → All (λ p. comes_later p (record { range = record { len = 0; start = place } }) ≡ true) placed → (range : FreeRange) → Contains ranges range → place < range.start
-none_placed placed ranges place index all range held =
-    below place range.start range.len (All-contains (λ p. comes_later p (record { range = record { len = 0; start = place } }) ≡ true) placed
-    (record { range = range }) all (placed_held placed ranges range index held))
 
 -- a range that comes, and one that goes
 pub added : (test : FreeRange → Bool) (keys keys' : List FreeRange) (start len : ℕ) → 0 < len → IsPermutation (record { len = len; start = start } ∷ keys) keys'

@@ -1,11 +1,10 @@
 -- The maximal free ranges of a row, as keys of a sorted list.
-use Rattle.std.specs.Prelude.{◌≡◌, ℕ, ◌+◌, ◌-◌, ◌<◌, ◌≤◌, Bool, true, false, List, nat_lt, filter, length, Contains}
+use Rattle.std.specs.Prelude.{◌≡◌, ℕ, ◌+◌, ◌-◌, ◌<◌, ◌≤◌, Bool, true, false, List, nat_lt, filter, length}
 use Rattle.std.specs.List.{slice_index_or}
 use Rattle.range_bits.specs.Ranges.{free_from, begins_range, places}
 use Rattle.sorted_list.specs.Order.{first_by}
 use Rattle.sorted_list.specs.Rows.{IsIndexOf}
 use Rattle.free_ranges.specs.declared.range.FreeRange.{FreeRange}
-use Rattle.free_ranges.specs.declared.range.Placed.{Placed}
 
 -- the shorter first, and of equal ones the earlier
 abbrev pub comes_before : FreeRange → FreeRange → Bool
@@ -13,10 +12,6 @@ comes_before a b = first_by a.len b.len (nat_lt a.start b.start)
 
 abbrev pub sample : FreeRange
 sample = record { len = 0; start = 0 }
-
--- the later one first, and of two with one begin the shorter
-abbrev pub comes_later : Placed → Placed → Bool
-comes_later a b = first_by b.range.start a.range.start (nat_lt a.range.len b.range.len)
 
 -- where the maximal free ranges of a row begin, and the range from a place on
 abbrev pub starts : List Bool → List ℕ
@@ -34,12 +29,6 @@ pub record Listing : Type 0 where
 -- the ranges of a row, where all are listed
 abbrev pub IsListed : List Bool → Listing → Type 0
 IsListed row listing = listing.complete ≡ true → IsIndexOf (range_at row) (starts row) listing.ranges
-
--- of listed ranges the last that begins at a place or before it
-pub record IsLastUpto (ranges : List FreeRange) (place : ℕ) (range : FreeRange) : Type 0 where
-  pub held : Contains ranges range
-  pub upto : range.start ≤ place
-  pub last : (other : FreeRange) → Contains ranges other → other.start ≤ place → other.start ≤ range.start
 
 -- a maximal free range of a row
 pub record IsRange (row : List Bool) (range : FreeRange) : Type 0 where

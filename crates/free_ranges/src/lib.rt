@@ -1,6 +1,7 @@
 //! Rows of places whose tightest and longest free ranges are kept at hand.
 #![tactic(auto)]
 
+mod bounds;
 mod listing;
 mod range;
 mod ranged;

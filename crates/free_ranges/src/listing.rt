@@ -1,7 +1,7 @@
-//! The free ranges of a row by their lengths and by their places, as far as there is room for them.
+//! The free ranges of a row by their lengths, as far as there is room for them.
 ghost use Rattle.std.specs.Prelude.{◌≡◌, ◌+◌, ◌<◌, ◌≤◌, ◌==◌, ◌&&◌, ◌||◌, Bool, true, nat_lt, None, [], All, Contains, IfOk, IfSome, count_by, if◌then◌else◌};
 
-use crate::range::{FreeRange, Placed};
+use crate::range::FreeRange;
 use sorted_list::SortedList;
 use std::alloc::{AllocError, Global};
 use std::marker::Model;
@@ -11,27 +11,21 @@ use std::marker::Model;
 #[derive(Drop)]
 pub struct RangeList {
     by_length: SortedList<FreeRange>,
-    /// The same ones, the last first.
-    by_place: SortedList<Placed>,
     /// Whether there was room for all.
     complete: bool,
 }
 
 impl Model for RangeList {
-    ghost use Rattle.std.specs.Prelude.{◌≡◌};
-    ghost use Rattle.sorted_list.specs.Rows.{IsIndexOf};
     ghost use Rattle.free_ranges.specs.Ranges.{Listing};
 
     ghost Value = { Listing };
 
     ghost view = { λ l. record { complete = l.complete; spare = l.by_length.spare; ranges = l.by_length.keys } };
-
-    ghost invariant = { λ l. IsIndexOf (λ p. p.range) l.by_place.keys l.by_length.keys × (l.by_place.spare ≡ l.by_length.spare) };
 }
 
 impl RangeList {
     ghost use Rattle.sorted_list.specs.Order.{IsFirstFrom, IsLast};
-    ghost use Rattle.free_ranges.specs.Ranges.{comes_before, IsLastUpto};
+    ghost use Rattle.free_ranges.specs.Ranges.{comes_before};
     ghost use Rattle.free_ranges.specs.declared.range.FreeRange.{FreeRange};
 
     /// No range, with room for `room` of them.
@@ -40,7 +34,6 @@ impl RangeList {
     {
         Ok(RangeList {
             by_length: SortedList::open(alloc, room)?,
-            by_place: SortedList::open(alloc, room)?,
             complete: true,
         })
     }
@@ -67,9 +60,7 @@ impl RangeList {
             self.complete = false;
             return;
         }
-        let range = FreeRange { len, start };
-        self.by_length.insert(range);
-        self.by_place.insert(Placed { range });
+        self.by_length.insert(FreeRange { len, start });
     }
 
     /// Takes a range out, unless it is empty.
@@ -84,9 +75,7 @@ impl RangeList {
         if len == 0 || !self.complete {
             return;
         }
-        let range = FreeRange { len, start };
-        self.by_place.remove(Placed { range });
-        self.by_length.remove(range);
+        self.by_length.remove(FreeRange { len, start });
     }
 
     /// The first range that isn't shorter than `n`: of the shortest ones the earliest.
@@ -104,22 +93,5 @@ impl RangeList {
         ensures none { result ≡ None → self.now.ranges ≡ [] }
     {
         self.by_length.last()
-    }
-
-    /// The last range that begins at a place or before it.
-    pub fn last_upto(&self, place: u32) -> Option<FreeRange>
-        ensures found { IfSome result (IsLastUpto self.now.ranges place) }
-        ensures none { result ≡ None → (range : FreeRange) → Contains self.now.ranges range → place < range.start }
-    {
-        let from = Placed {
-            range: FreeRange {
-                len: 0,
-                start: place,
-            },
-        };
-        match self.by_place.first_at_or_after(from) {
-            Some(found) => Some(found.range),
-            None => None,
-        }
     }
 }

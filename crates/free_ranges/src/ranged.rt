@@ -6,31 +6,34 @@ ghost use Rattle.range_bits.specs.Ranges.{free_from, used_from, used_count, long
 ghost use Rattle.range_bits.specs.Words.{IsNext};
 ghost use Rattle.free_ranges.specs.Ranges.{IsRange, IsLastRange};
 
+use crate::bounds::RangeBounds;
 use crate::listing::RangeList;
 use crate::range::FreeRange;
 use range_bits::WideBits;
 use std::alloc::{AllocError, Global};
 use std::marker::Model;
 
-/// Which of 64 places a word are used. Contracts see a truth value for each place, in order. The tightest
-/// and the longest free range, and those beside a place, are found by a search among the free ranges, and
-/// without a look at the places, as long as there never were more ranges than there was room for; else by a
-/// look at all places.
+/// Which of 64 places a word are used. Contracts see a truth value for each place, in order. The free range
+/// beside a place is found by where ranges begin and stop. The tightest and the longest one are found by a
+/// search among the free ranges, and without a look at the places, as long as there never were more ranges
+/// than there was room for; else by a look at all places.
 #[derive(Drop)]
 pub struct RangedBits {
     bits: WideBits,
+    bounds: RangeBounds,
     ranges: RangeList,
 }
 
 impl Model for RangedBits {
     ghost use Rattle.std.specs.Prelude.{List, Bool};
+    ghost use Rattle.free_ranges.specs.Bounds.{Tells};
     ghost use Rattle.free_ranges.specs.Ranges.{IsListed};
 
     ghost Value = { List Bool };
 
     ghost view = { λ r. r.bits };
 
-    ghost invariant = { λ r. IsListed r.bits r.ranges };
+    ghost invariant = { λ r. IsListed r.bits r.ranges × Tells r.bits r.bounds };
 }
 
 impl RangedBits {
@@ -40,9 +43,16 @@ impl RangedBits {
         ensures { IfOk result (λ bits. bits ≡ replicate (64 * words) false) }
     {
         let bits = WideBits::open(alloc, words)?;
+        let places = bits.places();
+        let mut bounds = RangeBounds::open(alloc, places)?;
+        bounds.note(&bits, 0, places);
         let mut ranges = RangeList::open(alloc, ranges)?;
-        ranges.add(0, bits.places());
-        Ok(RangedBits { bits, ranges })
+        ranges.add(0, places);
+        Ok(RangedBits {
+            bits,
+            bounds,
+            ranges,
+        })
     }
 
     /// Where the shortest maximal free range of at least `n` places begins, the first one where several
@@ -81,8 +91,8 @@ impl RangedBits {
         self.longest() == self.bits.places()
     }
 
-    /// The last free range that begins at a place or before it.
-    fn last_range(&self, place: u32) -> Option<FreeRange>
+    /// The last maximal free range that begins at a place or before it.
+    pub fn last_range(&self, place: u32) -> Option<FreeRange>
         requires { place < length self.now }
         ensures found { IfSome result (IsLastRange self.now place) }
         ensures none { result ≡ None → (p : ℕ) → p ≤ place → slice_index_or self.now p true ≡ true }
@@ -90,16 +100,7 @@ impl RangedBits {
     {
         // The places are numbered by a `u32`.
         let _ = self.bits.places();
-        if self.ranges.is_complete() {
-            return self.ranges.last_upto(place);
-        }
-        let end = self.bits.free_end(place + 1);
-        if end == 0 {
-            return None;
-        }
-        let start = self.bits.used_end(end);
-        let len = self.bits.next_used(end) - start;
-        Some(FreeRange { len, start })
+        self.bounds.last_upto(place)
     }
 
     /// Where the last used place before a place ends; 0 where there is none.
@@ -130,20 +131,6 @@ impl RangedBits {
         }
     }
 
-    /// Where the last free place before a place ends; 0 where there is none.
-    pub fn free_end(&self, before: u32) -> u32
-        requires { before ≤ length self.now }
-        ensures { IsEnd self.now before false result }
-    {
-        if before == 0 {
-            return 0;
-        }
-        match self.last_range(before - 1) {
-            Some(range) => before.min(range.start + range.len),
-            None => 0,
-        }
-    }
-
     /// Makes `n` places of a free range used, from `start` on.
     fn part(&mut self, range: FreeRange, start: u32, n: u32)
         requires some { 1 ≤ n }
@@ -155,6 +142,7 @@ impl RangedBits {
         // The places are numbered by a `u32`.
         let _ = self.bits.places();
         self.bits.put(start, n, true);
+        self.bounds.note(&self.bits, start, n);
         self.ranges.remove(range.start, range.len);
         self.ranges.add(range.start, start - range.start);
         self.ranges
@@ -184,6 +172,7 @@ impl RangedBits {
         let begin = self.used_end(start);
         let end = self.next_used(start + n);
         self.bits.put(start, n, false);
+        self.bounds.note(&self.bits, start, n);
         self.ranges.remove(begin, start - begin);
         self.ranges.remove(start + n, end - (start + n));
         self.ranges.add(begin, end - begin);

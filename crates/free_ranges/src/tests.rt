@@ -75,6 +75,17 @@ fn put_three(bits: &mut RangedBits, plain: &mut WideBits, place: u32)
     plain.put(place, 3, true);
 }
 
+/// Where the last free place ends; 0 where there is none.
+fn last_end(bits: &RangedBits) -> u32 {
+    if bits.places() == 0 {
+        return 0;
+    }
+    match bits.last_range(bits.places() - 1) {
+        Some(range) => range.start + range.len,
+        None => 0,
+    }
+}
+
 /// Whether both rows have the same tightest ranges for some lengths, and the same longest and last one.
 fn agree(bits: &RangedBits, plain: &WideBits) -> bool {
     for n in [1, 2, 3, 5, 8, 13, 21, 64, 65, 128] {
@@ -82,8 +93,7 @@ fn agree(bits: &RangedBits, plain: &WideBits) -> bool {
             return false;
         }
     }
-    bits.longest() == plain.longest()
-        && bits.free_end(bits.places()) == plain.free_end(plain.places())
+    bits.longest() == plain.longest() && last_end(bits) == plain.free_end(plain.places())
 }
 
 /// Changes places that look random, and compares the rows each time.

@@ -1,7 +1,9 @@
 -- The names of the crates below that most proofs here cite, passed on from one place. Declares nothing.
+pub use Rattle.free_ranges.specs.Ranges.{IsLastRange, IsRange}
+pub use Rattle.free_ranges.specs.declared.range.FreeRange.{FreeRange}
 pub use Rattle.heap_rules.proofs.Numbered.{at_number-place}
 pub use Rattle.heap_rules.specs.CacheFlags.{limit, or_else}
-pub use Rattle.huge_cache.specs.Cache.{Cache, is_backed, IsLastBacked}
+pub use Rattle.huge_cache.specs.Cache.{Cache, is_backed}
 pub use Rattle.huge_cache.specs.Rows.{IsPadded, IsSound}
 pub use Rattle.huge_cache.specs.Uses.{greatest_of, IsFalling, with_newest}
 pub use Rattle.range_bits.proofs.Counts.{free_inside, used_inside}
@@ -10,9 +12,9 @@ pub use Rattle.range_bits.proofs.RangeFacts.{best_is_fit, fold_max}
 pub use Rattle.range_bits.proofs.RangeLemmas.{filter-agree, filter-none, first_least-agree, free_fits, range-within}
 pub use Rattle.range_bits.proofs.Scan.{greatest-ge, none_exactly, range-append}
 pub use Rattle.range_bits.proofs.Stretches.{put_count, state_count, used_and_free, used_then}
-pub use Rattle.range_bits.specs.Fills.{free_count, IsEnd}
+pub use Rattle.range_bits.specs.Fills.{free_count}
 pub use Rattle.range_bits.specs.Ranges.{begins_range, best, first_least, free_from, longest, places, used_count, used_from, with_places}
-pub use Rattle.std.proofs.lemmas.Bool.{and_left, cases_Bool, cases_lt, cond_both, eqb-false, eqb-true, le-leb, leb-true, lt-leb, lt-ltb, not_from_true}
+pub use Rattle.std.proofs.lemmas.Bool.{and_left, cases_Bool, cases_lt, cond_both, eqb-false, eqb-true, false≢true, le-leb, leb-true, lt-leb, lt-ltb, not_from_true}
 pub use Rattle.std.proofs.lemmas.Bool.Decides.{nat_tests}
 pub use Rattle.std.proofs.lemmas.Grind.{common_steps, get_or_head}
 pub use Rattle.std.proofs.lemmas.List.{append-nil, append_assoc, drop-append-le, drop-take, drop_all, get_or-append_right, get_or-drop, get_or-replicate}

@@ -1,9 +1,8 @@
 -- What isn't free stays not free and backed, through each change of both rows.
-use Rattle.std.proofs.Common.{◌≡◌, ℕ, ◌+◌, ◌-◌, ◌<◌, ◌≤◌, Bool, true, false, not, cond, map, count_by, List, [], ◌∷◌, length, get_or, refl, ap, inl, inr, arith}
-use Rattle.huge_cache.proofs.Common.{nat_tests, cases_lt, get_or_head, get_or_past, sum_by-cons, with_places, free_count, IsEnd, length-with_places}
-use Rattle.huge_cache.proofs.Common.{get_or-with_places, at_number-place, Cache, is_backed, IsLastBacked, IsSound}
+use Rattle.std.proofs.Common.{◌≡◌, ℕ, ◌+◌, ◌-◌, ◌<◌, ◌≤◌, Bool, true, false, not, cond, map, count_by, List, [], ◌∷◌, length, get_or, refl, ap, arith}
+use Rattle.huge_cache.proofs.Common.{nat_tests, get_or_head, get_or_past, sum_by-cons, with_places, free_count, length-with_places}
+use Rattle.huge_cache.proofs.Common.{get_or-with_places, at_number-place, Cache, is_backed, IsSound}
 use Rattle.range_bits.proofs.BitFacts.{is_between}
-use Rattle.tc_units.specs.declared.units.Huge.{Huge}
 
 abbrev pub cache_of : Cache → List Bool → List Bool → Cache
 cache_of c taken unready = record { most = c.most; window = c.window; taken = taken; unready = unready; counts = c.counts }
@@ -35,12 +34,8 @@ none_at c h none = ap not (get_or_head true c.unready h true none)
 pub backed_inside : (c : Cache) (h : ℕ) → is_backed c h ≡ true → (0 < h) × (h ≤ length c.unready)
 backed_inside c h e = grind (arith, nat_tests, none_at, backed_at, get_or_past)
 
--- behind the last free place none is backed
-pub none_behind : (c : Cache) (end h : ℕ) → IsEnd c.unready (length c.unready) false end → end < h → is_backed c h ≡ false
-none_behind c end h is behind = grind (arith, nat_tests, backed_at, get_or_past)
-
-pub none_backed : (c : Cache) → IsEnd c.unready (length c.unready) false 0 → (h : ℕ) → is_backed c h ≡ false
-none_backed c is h = elim (cases_lt 0 h) [ inl some ↦ none_behind c 0 h is some | inr none ↦ none_at c h (omega arith) ]
-
-pub last_is : (c : Cache) (end : ℕ) (huge : Huge) → IsEnd c.unready (length c.unready) false end → 0 < end → huge.0 ≡ end → IsLastBacked c huge
-last_is c end huge is some same = grind (arith, nat_tests, none_behind, backed_at)
+pub backed_span : (c : Cache) (first many : ℕ) → 0 < many → ((h : ℕ) → first ≤ h → h < first + many → is_backed c h ≡ true) → (0 < first) × (first - 1 + many ≤ length c.unready)
+backed_span c first many some all =
+    let low = backed_inside c first (all first (omega arith) (omega arith)) in
+    let last = first + many - 1 in
+    (low.0, omega (arith, backed_inside c last (all last (omega arith) (omega arith))))

@@ -1,12 +1,12 @@
 -- Rows with used places behind the arena's: what each question and change makes of the arena's part.
-use Rattle.std.proofs.Common.{◌≡◌, ℕ, ◌+◌, ◌-◌, ◌<◌, ◌≤◌, ◌&&◌, Bool, true, false, not, cond, nat_le, nat_lt, List, [], ◌∷◌, ◌++◌, length, get_or, set, take}
-use Rattle.std.proofs.Common.{drop, replicate, filter, All, refl, sym, ap, ◌∙◌, arith, add-one}
+use Rattle.std.proofs.Common.{◌≡◌, ℕ, ◌+◌, ◌-◌, ◌<◌, ◌≤◌, ◌&&◌, Bool, true, false, not, cond, nat_le, nat_lt, List, [], ◌∷◌, ◌++◌, length, get_or, set, take, Option, Some, None, IfSome}
+use Rattle.std.proofs.Common.{drop, replicate, filter, All, refl, sym, ap, ◌∙◌, inl, inr, arith, add-one}
 use Rattle.huge_cache.proofs.Common.{nat_tests, prefix_len, range_with_len, cases_lt, and_left, not_from_true, append_assoc, append-nil, length-append}
 use Rattle.huge_cache.proofs.Common.{length-replicate, length-take-le, take-append-le, take_at, take-take, drop-take, drop-append-le, drop_all, take-replicate}
 use Rattle.huge_cache.proofs.Common.{replicate-append-replicate, get_or_append_left, get_or-append_right, get_or-replicate, get_or-take, set_split}
-use Rattle.huge_cache.proofs.Common.{count_by-le-length, filter-append, All-weaker, All-filter, IsEnd, free_from, used_from, used_count, places, begins_range}
+use Rattle.huge_cache.proofs.Common.{count_by-le-length, filter-append, All-weaker, All-filter, IsLastRange, IsRange, free_from, used_from, used_count, places, begins_range}
 use Rattle.huge_cache.proofs.Common.{first_least, best, with_places, range-within, filter-agree, filter-none, first_least-agree, range-append}
-use Rattle.huge_cache.proofs.Common.{length-with_places, put_count, IsPadded}
+use Rattle.huge_cache.proofs.Common.{length-with_places, put_count, IsPadded, FreeRange, get_or_past, false≢true}
 
 -- used places behind a row
 abbrev pub pad : ℕ → List Bool
@@ -107,9 +107,40 @@ best-front huge row n h = ap (λ (r : List Bool). best r n) h.padded ∙ best-pa
 pub place-front : (huge : ℕ) (row : List Bool) (p : ℕ) (d : Bool) → IsPadded huge row → p < huge → get_or row p d ≡ get_or (take huge row) p d
 place-front huge row p d h inside = sym (get_or-take huge row p d inside)
 
--- the last free place of a padded row is that of its front
-pub end-front : (len : ℕ) (row : List Bool) (end : ℕ) → IsPadded len row → IsEnd row len false end → IsEnd (take len row) (length (take len row)) false end
-end-front len row end h is = grind (arith, nat_tests, front_length, place-front)
+-- the last free range of a padded row is that of its front
+padding : (huge : ℕ) (row : List Bool) (p : ℕ) → IsPadded huge row → huge ≤ p → p < length row → get_or row p true ≡ true
+padding huge row p h past inside =
+    ap (λ (r : List Bool). get_or r p true) h.padded
+    ∙ get_or-append_right (take huge row) (pad (length row - huge)) huge p true (front_length huge row h) past
+    ∙ get_or-replicate (length row - huge) (p - huge) true true (omega arith)
+
+front_end : (len : ℕ) (row : List Bool) (range : FreeRange) → IsPadded len row → IsRange row range → range.start + range.len ≤ len
+front_end len row range h is = elim (cases_lt len (range.start + range.len)) [
+  | inl past ↦ (let last = range.start + range.len - 1 in absurd (false≢true (sym (is.free last (omega (arith, is.some)) (omega arith)) ∙ padding len row last h (omega arith) (omega (arith, is.within)))))
+  | inr near ↦ near
+]
+
+pub last-front : (len : ℕ) (row : List Bool) (o : Option FreeRange) → IsPadded len row → (len ≡ 0 → ⊥) → IfSome o (IsLastRange row (len - 1)) →
+    IfSome o (IsLastRange (take len row) (length (take len row) - 1))
+last-front len row None h some is = tt
+last-front len row (Some range) h some is =
+    let size = front_length len row h in
+    let near = front_end len row range h is.maximal in
+    let same : (p : ℕ) → p < len → get_or (take len row) p true ≡ get_or row p true = λ p inside. sym (place-front len row p true h inside) in
+    record {
+      maximal = record {
+        some = is.maximal.some;
+        within = omega arith;
+        free = λ p from to. same p (omega arith) ∙ is.maximal.free p from to;
+        before = λ pos. same (range.start - 1) (omega (arith, is.maximal.some)) ∙ is.maximal.before pos;
+        end = λ l. same (range.start + range.len) (omega arith) ∙ is.maximal.end (omega (arith, h.within));
+      };
+      upto = omega (arith, is.upto);
+      behind = λ p from to. same p (omega (arith, some)) ∙ is.behind p from (omega arith);
+    }
+
+pub none-front : (len : ℕ) (row : List Bool) → IsPadded len row → ((p : ℕ) → p < len → get_or row p true ≡ true) → (p : ℕ) → get_or (take len row) p true ≡ true
+none-front len row h none p = grind (arith, nat_tests, front_length, place-front, cases_lt, get_or_past)
 
 -- a row at its opening: the places behind its own become used, or all
 pub opened : (len n first : ℕ) (used : Bool) → len ≤ n → first ≡ len - cond used len 0 → with_places (replicate n false) first (n - first) true ≡ replicate len used ++ pad (n - len)

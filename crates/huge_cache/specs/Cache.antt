@@ -1,6 +1,6 @@
 -- The free hugepages: which are there, which of them are backed, and how many stay so.
-use Rattle.std.specs.Prelude.{◌≡◌, ℕ, ◌-◌, ◌<◌, ◌≤◌, Bool, true, false, not, List, [], map, replicate, count_by, slice_set, length}
-use Rattle.tc_units.specs.declared.units.Huge.{Huge}
+use Rattle.std.specs.Prelude.{◌≡◌, ℕ, ◌+◌, ◌-◌, ◌<◌, ◌≤◌, Bool, true, false, not, List, [], map, replicate, count_by, slice_set, length}
+use Rattle.huge_cache.specs.declared.stretch.Stretch.{Stretch}
 use Rattle.range_bits.specs.Ranges.{with_places}
 use Rattle.heap_rules.specs.Numbered.{at_number}
 use Rattle.heap_rules.specs.CacheFlags.{with_count, limit}
@@ -43,20 +43,23 @@ with_huge cache h backed = record cache { taken = slice_set cache.taken (h - 1) 
 abbrev pub ready : Cache → List Bool
 ready cache = map not cache.unready
 
--- the hugepage of greatest number that is free and backed
-pub record IsLastBacked (cache : Cache) (huge : Huge) : Type 0 where
-  pub from : 0 < huge.0
-  pub to : huge.0 ≤ length cache.unready
-  pub backed : is_backed cache huge.0 ≡ true
-  pub behind : (h : ℕ) → huge.0 < h → is_backed cache h ≡ false
+-- the last hugepages that are free, backed and adjacent: as many as there are, and at most so many
+pub record IsLastStretch (cache : Cache) (most : ℕ) (stretch : Stretch) : Type 0 where
+  pub from : 0 < stretch.first.0
+  pub some : 0 < stretch.many
+  pub few : stretch.many ≤ most
+  pub to : stretch.first.0 + stretch.many ≤ length cache.unready + 1
+  pub backed : (h : ℕ) → stretch.first.0 ≤ h → h < stretch.first.0 + stretch.many → is_backed cache h ≡ true
+  pub behind : (h : ℕ) → stretch.first.0 + stretch.many ≤ h → is_backed cache h ≡ false
+  pub whole : stretch.many < most → is_backed cache (stretch.first.0 - 1) ≡ false
 
 -- how many of them are above the limit
 abbrev pub over_count : Cache → ℕ
 over_count cache = count_by (λ b. b) (ready cache) - limit cache.most cache.counts
 
--- the cache where a hugepage has lost its backing
-abbrev pub without_backing : Cache → ℕ → Cache
-without_backing cache h = record cache { unready = slice_set cache.unready (h - 1) true }
+-- the cache where `many` hugepages from h on have lost their backing
+abbrev pub without_backing : Cache → ℕ → ℕ → Cache
+without_backing cache h many = record cache { unready = with_places cache.unready (h - 1) many true }
 
 -- the cache with one more use count
 abbrev pub noted : Cache → ℕ → Cache

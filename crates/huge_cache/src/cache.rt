@@ -4,6 +4,7 @@ ghost use Rattle.range_bits.specs.Ranges.{best, longest, free_from, used_from, u
 ghost use Rattle.heap_rules.specs.CacheFlags.{or_else, run_choice};
 
 use crate::row::Row;
+use crate::stretch::Stretch;
 use crate::uses::UseCounts;
 use std::alloc::{AllocError, Global};
 use std::marker::Model;
@@ -39,7 +40,7 @@ fn place_of(huge: Huge) -> u32
 }
 
 impl HugeCache {
-    ghost use Rattle.huge_cache.specs.Cache.{Cache, opened, holds, is_backed, with_run, without_run, with_backed_run, with_huge, ready, noted, over_count, without_backing, IsLastBacked};
+    ghost use Rattle.huge_cache.specs.Cache.{Cache, opened, holds, is_backed, IsLastStretch, with_run, without_run, with_backed_run, with_huge, ready, noted, over_count, without_backing};
     ghost use Rattle.huge_cache.specs.Rows.{IsSound};
 
     /// All `huge` hugepages free and unbacked, with a limit of backed ones and room for `window` use
@@ -155,24 +156,27 @@ impl HugeCache {
         self.backed().saturating_sub(self.uses.limit(self.limit))
     }
 
-    /// The hugepage of greatest number that is free and backed.
-    pub fn last_backed(&self) -> Option<Huge>
-        ensures last { IfSome result (IsLastBacked self.now) }
+    /// The last hugepages that are free, backed and adjacent: as many as there are, and at most so many.
+    pub fn last_stretch(&self, most: u64) -> Option<Stretch>
+        requires { 0 < most }
+        ensures last { IfSome result (IsLastStretch self.now most) }
         ensures none { IfNone result ((h : ℕ) → is_backed self.now h ≡ false) }
     {
-        let end = self.unready.free_end();
-        if end == 0 {
-            return None;
-        }
-        Some(Huge(end as u16))
+        let range = self.unready.last_free()?;
+        let many = u64::from(range.len).min(most) as u32;
+        Some(Stretch {
+            first: Huge((range.start + (range.len - many)) as u16 + 1),
+            many,
+        })
     }
 
-    /// Takes the backing of a hugepage that is free and backed.
-    pub fn unback(&mut self, huge: Huge)
-        requires { is_backed self.old huge.0 ≡ true }
-        ensures { self.new ≡ without_backing self.old huge.0 }
+    /// Takes the backing of adjacent hugepages that are free and backed.
+    pub fn unback(&mut self, first: Huge, many: u32)
+        requires some { 0 < many }
+        requires backed { (h : ℕ) → first.0 ≤ h → h < first.0 + many → is_backed self.old h ≡ true }
+        ensures { self.new ≡ without_backing self.old first.0 many }
     {
-        self.unready.put(place_of(huge), 1, true);
+        self.unready.put(place_of(first), many, true);
     }
 
     /// Adds a use count: how many hugepages are in use after a heap call.

@@ -3,8 +3,10 @@
 
 mod cache;
 mod row;
+mod stretch;
 #[cfg(test)]
 mod tests;
 mod uses;
 
 pub use cache::HugeCache;
+pub use stretch::Stretch;

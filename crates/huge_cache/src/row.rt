@@ -1,10 +1,12 @@
 //! A row of any number of places, in words of 64: places behind its own are used. Its free ranges are kept
 //! in order, so that none of the questions looks at the places.
-ghost use Rattle.std.specs.Prelude.{◌≡◌, ◌+◌, ◌<◌, ◌≤◌, true, false, length, replicate, IfOk, if◌then◌else◌};
-ghost use Rattle.range_bits.specs.Fills.{free_count, IsEnd};
+ghost use Rattle.std.specs.Prelude.{◌≡◌, ℕ, ◌+◌, ◌-◌, ◌<◌, ◌≤◌, true, false, None, length, replicate, IfOk, IfSome, if◌then◌else◌};
+ghost use Rattle.std.specs.List.{slice_index_or};
+ghost use Rattle.free_ranges.specs.Ranges.{IsLastRange};
+ghost use Rattle.range_bits.specs.Fills.{free_count};
 ghost use Rattle.range_bits.specs.Ranges.{best, used_count, used_from, with_places};
 
-use free_ranges::RangedBits;
+use free_ranges::{FreeRange, RangedBits};
 use std::alloc::{AllocError, Global};
 use std::marker::Model;
 
@@ -103,10 +105,14 @@ impl Row {
         self.len - self.used
     }
 
-    /// Where the last free place ends; 0 where there is none.
-    pub fn free_end(&self) -> u32
-        ensures { IsEnd self.now (length self.now) false result }
+    /// The last maximal free range.
+    pub fn last_free(&self) -> Option<FreeRange>
+        ensures found { IfSome result (IsLastRange self.now (length self.now - 1)) }
+        ensures none { result ≡ None → (p : ℕ) → slice_index_or self.now p true ≡ true }
     {
-        self.bits.free_end(self.len)
+        if self.len == 0 {
+            return None;
+        }
+        self.bits.last_range(self.len - 1)
     }
 }

@@ -50,9 +50,17 @@ fn keep_first(cache: &mut HugeCache, many: u32, backed: bool) -> Option<Huge>
 
 /// Takes the backing of the last hugepage that has one.
 fn unback(cache: &mut HugeCache) -> Option<Huge> {
-    let huge = cache.last_backed()?;
-    cache.unback(huge);
-    Some(huge)
+    let last = cache.last_stretch(1)?;
+    cache.unback(last.first, last.many);
+    Some(last.first)
+}
+
+/// The last backed hugepages, at most so many: the first of them, and how many they are.
+fn stretch(cache: &HugeCache, most: u64) -> Option<(Huge, u32)>
+    requires { 0 < most }
+{
+    let last = cache.last_stretch(most)?;
+    Some((last.first, last.many))
 }
 
 /// Takes the backing of those above the limit, and answers how many they were.
@@ -108,7 +116,7 @@ fn arenas_of_whole_words_and_more(rt: HostRuntime) -> Result<(), Fail> {
         assert_eq!(rt; cache.find_run(huge + 1), None, "of {huge}");
         assert_eq!(rt; cache.backed(), huge);
         assert_eq!(rt; unback(&mut cache), Some(Huge(huge as u16)), "of {huge}");
-        assert_eq!(rt; trim(&mut cache), huge - 1, "of {huge}");
+        assert_eq!(rt; trim(&mut cache), huge.saturating_sub(1), "of {huge}");
         assert_eq!(rt; unback(&mut cache), None, "of {huge}");
         assert_eq!(rt; take(&mut cache, huge.max(1)), Some(Huge(1)), "of {huge}");
         assert_eq!(rt; take(&mut cache, 1), None, "of {huge}");
@@ -121,7 +129,29 @@ fn no_hugepages(rt: HostRuntime) -> Result<(), Fail> {
     let mut cache = HugeCache::open(rt.alloc(), 0, 0, 0)?;
     assert_eq!(rt; take(&mut cache, 1), None);
     assert_eq!(rt; cache.over(), 0);
-    assert_eq!(rt; cache.last_backed(), None);
+    assert_eq!(rt; cache.last_stretch(1), None);
+    Ok(())
+}
+
+#[test]
+fn the_last_stretch_ends_at_what_is_not_backed(rt: HostRuntime) -> Result<(), Fail> {
+    let mut cache = all_backed(rt.alloc(), 8, 0, 0)?;
+    // 1 to 4 are out, and 8 is unbacked: 5 to 7 are the last ones.
+    let four = take(&mut cache, 4);
+    assert_eq!(rt; unback(&mut cache), Some(Huge(8)));
+    assert_eq!(rt; stretch(&cache, 100), Some((Huge(5), 3)));
+    assert_eq!(rt; stretch(&cache, 3), Some((Huge(5), 3)));
+    // Fewer are wanted: the last of them.
+    assert_eq!(rt; stretch(&cache, 2), Some((Huge(6), 2)));
+    if let Some(last) = cache.last_stretch(2) {
+        cache.unback(last.first, last.many);
+    }
+    assert_eq!(rt; stretch(&cache, 2), Some((Huge(5), 1)));
+    assert_eq!(rt; four, Some(Huge(1)));
+    assert_eq!(rt; cache.backed(), 1);
+    assert_eq!(rt; cache.in_use(), 4);
+    assert_eq!(rt; unback(&mut cache), Some(Huge(5)));
+    assert_eq!(rt; stretch(&cache, 1), None);
     Ok(())
 }
 
@@ -131,7 +161,7 @@ fn the_limit_follows_the_counts(rt: HostRuntime) -> Result<(), Fail> {
     let mut cache = all_backed(rt.alloc(), 8, 3, 2)?;
     // No count yet: 3 stay, those of the least numbers.
     assert_eq!(rt; trim(&mut cache), 5);
-    assert_eq!(rt; cache.last_backed(), Some(Huge(3)));
+    assert_eq!(rt; stretch(&cache, 8), Some((Huge(1), 3)));
     // Counts 5 and 0.
     use_run(&mut cache, 5);
     assert_eq!(rt; trim(&mut cache), 2);

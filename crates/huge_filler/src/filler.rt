@@ -71,6 +71,9 @@ impl HugeFiller {
     {
         let place = usize::from(huge.0) - 1;
         let before = self.rows[place];
+        if before.is_none() && measures.is_none() {
+            return;
+        }
         self.index
             .rekey(key_of(huge, before), key_of(huge, measures));
         self.givers

@@ -29,7 +29,7 @@ some_serves keys tier n key is none = none is.held.0 key is.held.1 (subst (λ (k
 pub counted_more : (key : Key) (keys keys' : List Key) → key.allocs ≤ 4294967295 → AreCounted keys → IsPermutation (key ∷ keys) keys' → AreCounted keys'
 counted_more key keys keys' few counted moved = All-permutation (λ k. k.allocs ≤ 4294967295) (key ∷ keys) keys' moved (All-cons (λ k. k.allocs ≤ 4294967295) key keys few counted)
 
-pub counted_fewer : (key : Key) (keys keys' : List Key) → AreCounted keys → IsPermutation keys (key ∷ keys') → AreCounted keys'
+counted_fewer : (key : Key) (keys keys' : List Key) → AreCounted keys → IsPermutation keys (key ∷ keys') → AreCounted keys'
 counted_fewer key keys keys' counted moved = All-tail (λ k. k.allocs ≤ 4294967295) key keys' (All-permutation (λ k. k.allocs ≤ 4294967295) keys (key ∷ keys') moved counted)
 
 pub counted_changed : (from to : Key) (keys keys' : List Key) → to.allocs ≤ 4294967295 → AreCounted keys → IsPermutation (to ∷ keys) (from ∷ keys') → AreCounted keys'

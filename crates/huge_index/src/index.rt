@@ -74,22 +74,6 @@ impl HugeIndex {
         });
     }
 
-    /// Takes a hugepage out, by the measures that it has here.
-    pub fn remove(&mut self, tier: u8, longest: u32, allocs: u32, huge: Huge)
-        requires { Contains self.old.keys
-            (record { tier = tier; longest = longest; allocs = allocs; huge = huge }) }
-        ensures keys { IsPermutation self.old.keys
-            (record { tier = tier; longest = longest; allocs = allocs; huge = huge } ∷ self.new.keys) }
-        ensures spare { self.new.spare ≡ self.old.spare + 1 }
-    {
-        self.list.remove(Key {
-            tier,
-            longest,
-            allocs,
-            huge,
-        });
-    }
-
     /// Puts a hugepage's new measures in place of those that it has here.
     pub fn rekey(&mut self, from: Key, to: Key)
         requires { Contains self.old.keys from }

@@ -35,7 +35,14 @@ fn the_first_of_a_tier(rt: HostRuntime) -> Result<(), Fail> {
     );
     assert_eq!(rt; first::<Brand>(&index, 1, 201, Blank::new(1)), None);
     assert_eq!(rt; first::<Brand>(&index, 2, 1, Blank::new(1)), None);
-    index.remove(0, 10, 7, Huge(1));
+    // Behind all tiers that serve.
+    let first_key = |tier, longest, allocs| Key {
+        tier,
+        longest,
+        allocs,
+        huge: Huge(1),
+    };
+    index.rekey(first_key(0, 10, 7), first_key(3, 0, 0));
     assert_eq!(rt; first::<Brand>(&index, 0, 5, Blank::new(1)), Some(Huge(2)));
     Ok(())
 }

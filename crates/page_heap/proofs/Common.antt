@@ -27,14 +27,15 @@ pub use Rattle.heap_rules.specs.Release.{spare_given, spare_pages, spare_row, sp
 pub use Rattle.heap_rules.specs.Settle.{counted, settled, unbacked}
 pub use Rattle.heap_rules.specs.Sound.{AreLimits, AreRunsSound, HasNoUsed, IsHugepageOf, IsInside, IsRegion, IsSound}
 pub use Rattle.heap_rules.specs.declared.config.HeapConfig.{HeapConfig}
-pub use Rattle.huge_cache.specs.Cache.{Cache, IsLastBacked, is_backed, over_count, with_backed_run, with_huge, without_backing}
+pub use Rattle.huge_cache.specs.Cache.{Cache, IsLastStretch, is_backed, over_count, with_backed_run, with_huge, without_backing}
+pub use Rattle.huge_cache.specs.declared.stretch.Stretch.{Stretch}
 pub use Rattle.huge_filler.specs.Measures.{IsCandidate, IsPreferred, donated_free, free_of_donated, measures_at, prefers, with_measures}
 pub use Rattle.huge_filler.specs.declared.measures.Measures.{Measures}
 pub use Rattle.huge_region.specs.Regions.{AreFreeIn, AreUsedIn, Regions, is_unused, joined, region_with, start_in, with_changed, without_region}
 pub use Rattle.huge_table.specs.Means.{AllUsed, IsEnding, Means, begins_on, has_used, is_run, shares, taken, unbacked_span, used_alone}
 pub use Rattle.huge_table.specs.Table.{IsSpan, Table, is_even, reached_by}
 pub use Rattle.page_heap.specs.Freed.{AreFreed}
-pub use Rattle.page_heap.specs.Gives.{IsFirstGiver, IsLast, IsNext, IsPast, behind, given_by, over_limit}
+pub use Rattle.page_heap.specs.Gives.{AreLast, IsFirstGiver, IsLast, IsNext, IsPast, behind, given_by, over_limit}
 pub use Rattle.page_heap.specs.Inside.{IsKept, IsWell, Shows, cache_of, heap_of, measured, measures, measures_of, regions_of, spare_of}
 pub use Rattle.page_heap.specs.Routes.{IsInHugepages, IsInOneHugepage, IsInRegion, IsRouted}
 pub use Rattle.page_heap.specs.Told.{IsTold, measures_by, remeasured, with_freed, with_shown}

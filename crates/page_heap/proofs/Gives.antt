@@ -7,7 +7,7 @@ use Rattle.page_heap.proofs.Common.{length-map-range_with_len, count_by-le-lengt
 use Rattle.page_heap.proofs.Common.{hugepage, numbers, spans, run_at, used_count, is_free, is_region, is_free_backed, unbacked, counted}
 use Rattle.page_heap.proofs.Common.{settled, Released, whole_given, free_given, is_idle, idle_given, spare_given, after_regions, after_free, release}
 use Rattle.page_heap.proofs.Common.{IsHugepageOf, IsSound, at_number-place, at_number-next, at, length-each, each_is, each_where, each_each, map-at}
-use Rattle.page_heap.proofs.Common.{idle_at, free_sound, idle_sound, here, sum-adds, unbacked_span, over_limit, behind, IsLast, nat_tests}
+use Rattle.page_heap.proofs.Common.{idle_at, free_sound, idle_sound, here, sum-adds, unbacked_span, over_limit, behind, AreLast, IsLast, nat_tests}
 use Rattle.heap_rules.specs.Numbered.{at_number}
 use Rattle.heap_rules.specs.CacheFlags.{is_over, limit}
 use Rattle.heap_rules.specs.GiveUp.{gives_whole}
@@ -103,6 +103,23 @@ free_next heap n huge sound some is =
     ∙ ap (λ all. behind 256 (whole_given all (unbacked_span heap h 1) (n - 256)))
     (grind (arith, nat_tests, flags_set, unbacked_there, is.own.from))
 
+still_backed : (heap : Heap) (k h : ℕ) → IsSound heap → 0 < k → k ≤ heap.config.huge → 0 < h →
+    is_free_backed (hugepage (unbacked_span heap k 1) h) ≡ cond (spans 1 h k) false (is_free_backed (hugepage heap h))
+still_backed heap k h sound from to some =
+    let arena = sound.runs.arena in
+    let flags = map is_free_backed heap.hugepages in
+    let len = length-map heap.hugepages is_free_backed in
+    let then : set flags (k - 1) false ≡ map is_free_backed (unbacked_span heap k 1).hugepages = grind (arith, nat_tests, flags_set, unbacked_there) in
+    sym (flag_at (unbacked_span heap k 1) h) ∙ ap (λ row. at_number false row h) (sym then)
+    ∙ numbered-set flags k false h false from (omega arith) some ∙ ap (cond (spans 1 h k) false) (flag_at heap h)
+
+two_spans : (heap : Heap) (first m : ℕ) → unbacked_span (unbacked_span heap (first + suc m) 1) first (suc m) ≡ unbacked_span heap first (suc (suc m))
+two_spans heap first m =
+    let last : ℕ → Hugepage → Hugepage = λ k x. cond (spans 1 k (first + suc m)) (unbacked x) x in
+    let rest : ℕ → Hugepage → Hugepage = λ k x. cond (spans (suc m) k first) (unbacked x) x in
+    ap (λ xs. record heap { hugepages = xs })
+    (each_each rest last heap.hugepages ∙ each_where (λ k x. rest k (last k x)) (λ k x. cond (spans (suc (suc m)) k first) (unbacked x) x) heap.hugepages (λ k from to. grind (arith, nat_tests)))
+
 pub free_none : (heap : Heap) (n : ℕ) → ((h : ℕ) → is_free_backed (hugepage heap h) ≡ false) → free_given heap n ≡ record { heap = heap; pages = 0 }
 free_none heap n none = whole_none (map is_free_backed heap.hugepages) heap n (λ k from to. and_left _ _ (flag_at heap k ∙ none k))
 
@@ -176,6 +193,56 @@ one_idle heap huge sound is =
     let after : Heap = unbacked_span heap huge.0 1 in
     subst IsSound (ap (λ (r : Released). r.heap) (idle_next heap huge sound is 1 (omega arith))
     ∙ ap (λ (r : Released). r.heap) (whole_zero (map (is_idle after) (numbers after)) after (1 - 256) refl)) (idle_sound heap 1 sound)
+
+-- Adjacent free ones give together, as one after another from the last one down.
+together : (give : ℕ → Released) (a b c n : ℕ) → a + b ≡ c → behind a (behind b (give (n - a - b))) ≡ behind c (give (n - c))
+together give a b c n e =
+    let left : n - a - b ≡ n - c = omega arith in
+    let r = give (n - c) in
+    let sum : a + (b + r.pages) ≡ c + r.pages = omega arith in
+    ap (λ k. behind a (behind b (give k))) left ∙ ap (λ k. record { heap = r.heap; pages = k }) sum
+
+pub free_stretch : (heap : Heap) (n first many : ℕ) → IsSound heap → AreLast heap (λ h. is_free_backed (hugepage heap h)) (record { first = record { 0 = first }; many = many }) →
+    256 * (many - 1) < n → free_given heap n ≡ behind (256 * many) (free_given (unbacked_span heap first many) (n - 256 * many))
+free_stretch heap n first zero sound are wanted = absurd (omega (arith, are.some))
+free_stretch heap n first (suc zero) sound are wanted =
+    free_next heap n (record { 0 = first }) sound (omega arith) (record {
+      own = record { from = are.from; to = omega (arith, are.to) };
+      passes = are.pass first (omega arith) (omega arith);
+      behind = λ h past. are.behind h (omega arith);
+    })
+free_stretch heap n first (suc (suc m)) sound are wanted =
+    let last : ℕ = first + suc m in
+    let huge : Huge = record { 0 = last } in
+    let to : last ≤ heap.config.huge = omega (arith, are.to) in
+    let is : IsLast heap (λ h. is_free_backed (hugepage heap h)) huge = record {
+      own = record { from = omega arith; to = to };
+      passes = are.pass last (omega arith) (omega arith);
+      behind = λ h past. are.behind h (omega arith);
+    } in
+    let after : Heap = unbacked_span heap last 1 in
+    let rest = free_stretch after (n - 256) first (suc m) (one_free heap huge sound is) (record {
+      from = are.from;
+      some = omega arith;
+      to = omega arith;
+      pass = λ h low high. (still_backed heap last h sound (omega arith) to (omega (arith, are.from))
+          ∙ ap (λ b. cond b false (is_free_backed (hugepage heap h))) (one_not h last (omega arith)) ∙ are.pass h low (omega arith));
+      behind = λ h low. (still_backed heap last h sound (omega arith) to (omega (arith, are.from)) ∙ elim (cases_eq h last) [
+        | inl e ↦ ap (λ b. cond b false (is_free_backed (hugepage heap h))) (one_is h last e)
+        | inr ne ↦ ap (λ b. cond b false (is_free_backed (hugepage heap h))) (one_not h last ne) ∙ are.behind h (omega (arith, ne))
+      ]);
+    }) (omega arith) in
+    free_next heap n huge sound (omega arith) is ∙ ap (behind 256) rest
+    ∙ ap (λ x. behind 256 (behind (256 * suc m) (free_given x (n - 256 - 256 * suc m)))) (two_spans heap first m)
+    ∙ together (free_given (unbacked_span heap first (suc (suc m)))) 256 (256 * suc m) (256 * suc (suc m)) n (omega arith)
+
+pub stretch_sound : (heap : Heap) (first many : ℕ) → IsSound heap → AreLast heap (λ h. is_free_backed (hugepage heap h)) (record { first = record { 0 = first }; many = many }) →
+    IsSound (unbacked_span heap first many)
+stretch_sound heap first many sound are =
+    let after : Heap = unbacked_span heap first many in
+    let n : ℕ = 256 * (many - 1) + 1 in
+    subst IsSound (ap (λ (r : Released). r.heap) (free_stretch heap n first many sound are (omega arith))
+    ∙ ap (λ (r : Released). r.heap) (whole_zero (map is_free_backed after.hugepages) after (n - 256 * many) (omega (arith, are.some)))) (free_sound heap n sound)
 
 -- A heap settles as it would release what is above its limit.
 take_drop : (xs : List Bool) (k : ℕ) → k < length xs → get_or xs k false ≡ true → count_by (λ b. b) (take k xs) + 1 + count_by (λ b. b) (drop (suc k) xs) ≡ count_by (λ b. b) xs

@@ -1,11 +1,11 @@
--- A hugepage that is free or of a region loses its backing: what that keeps.
-use Rattle.std.proofs.Common.{◌≡◌, ℕ, true, false, cond, Option, None, IfSome, IfNone, sym, ap, subst, ◌∙◌, inl, inr, arith}
+-- Adjacent hugepages that are free or of a region lose their backing: what that keeps.
+use Rattle.std.proofs.Common.{◌≡◌, ℕ, ◌+◌, ◌-◌, ◌*◌, ◌<◌, ◌≤◌, true, false, length, cond, Option, Some, None, IfSome, IfNone, sym, ap, subst, ◌∙◌, inl, inr, arith}
+use Rattle.std.specs.Int.{div_ceil}
 use Rattle.std.proofs.lemmas.Bool.{or_left, or_right}
-use Rattle.page_heap.proofs.Common.{cases_lt, cases_eq, and_parts, length-map, get_or_past, Huge, Heap, Hugepage, hugepage}
-use Rattle.page_heap.proofs.Common.{spans, is_free, is_free_backed, is_filler, is_region, unready_row, unbacked, IsHugepageOf, IsSound, unbacked_span}
-use Rattle.page_heap.proofs.Common.{IsSpan, is_even, Cache, is_backed, without_backing, IsLastBacked, Inside, measured, measures, cache_of, IsLast, nat_tests}
-use Rattle.page_heap.proofs.Numbered.{one_not}
-use Rattle.page_heap.proofs.Frames.{is_taken, is_unready, measures_same, measured_none, flags_set, flags_same, same_cache, cache_same, backed_there}
+use Rattle.page_heap.proofs.Common.{cases_Bool, cases_lt, and_parts, length-map, get_or_past, Heap, Hugepage, hugepage}
+use Rattle.page_heap.proofs.Common.{spans, spans_parts, is_free, is_free_backed, is_filler, is_region, unready_row, unbacked, IsSound, unbacked_span}
+use Rattle.page_heap.proofs.Common.{IsSpan, is_even, Cache, is_backed, without_backing, IsLastStretch, Inside, measured, measures, cache_of, AreLast, Stretch, at, nat_tests}
+use Rattle.page_heap.proofs.Frames.{is_taken, is_unready, measures_same, measured_none, flags_run, flags_same, same_cache, cache_same, backed_there}
 use Rattle.page_heap.proofs.Filled.{free_not_filler}
 use Rattle.page_heap.proofs.InRegion.{region_no_filler, region_busy}
 use Rattle.page_heap.proofs.Results.{IsHeap, IsMade, same_made}
@@ -20,15 +20,24 @@ if_none o P Q f h = grind (arith, nat_tests)
 backed_all : (heap : Heap) (h : ℕ) → is_backed (cache_of heap) h ≡ is_free_backed (hugepage heap h)
 backed_all heap h = grind (arith, nat_tests, cases_lt, backed_there, length-map, is_unready, get_or_past, unready_row, is_free_backed)
 
-pub last_is : (t : Inside) (heap : Heap) → IsHeap t heap → (huge : Huge) → IsLastBacked t.cache huge → IsLast heap (λ h. is_free_backed (hugepage heap h)) huge
-last_is t heap whole huge given =
-    let is = subst (λ c. IsLastBacked c huge) whole.shows.cache given in
+last_is : (t : Inside) (heap : Heap) → IsHeap t heap → (most : ℕ) (stretch : Stretch) → IsLastStretch t.cache most stretch →
+    AreLast heap (λ h. is_free_backed (hugepage heap h)) stretch
+last_is t heap whole most stretch given =
+    let is = subst (λ c. IsLastStretch c most stretch) whole.shows.cache given in
     let len = length-map heap.hugepages is_unready in
+    let arena = whole.well.sound.runs.arena in
     record {
-      own = record { from = is.from; to = omega (arith, is.to) };
-      passes = sym (backed_all heap huge.0) ∙ is.backed;
+      from = is.from;
+      some = is.some;
+      to = omega (arith, is.to);
+      pass = λ h low high. sym (backed_all heap h) ∙ is.backed h low high;
       behind = λ h past. sym (backed_all heap h) ∙ is.behind h past;
     }
+
+pub found_last : (t : Inside) (heap : Heap) → IsHeap t heap → (n most : ℕ) → most ≡ div_ceil n 256 → (o : Option Stretch) → IfSome o (IsLastStretch t.cache most) →
+    IfSome o (AreLast heap (λ h. is_free_backed (hugepage heap h))) × IfSome o (λ stretch. 256 * (stretch.many - 1) < n)
+found_last t heap whole n most e None is = (tt, tt)
+found_last t heap whole n most e (Some stretch) is = (last_is t heap whole most stretch is, omega (arith, is.few, is.some))
 
 pub none_is : (t : Inside) (heap : Heap) → IsHeap t heap → ((h : ℕ) → is_backed t.cache h ≡ false) → (h : ℕ) → is_free_backed (hugepage heap h) ≡ false
 none_is t heap is none h = sym (backed_all heap h) ∙ ap (λ c. is_backed c h) (sym is.shows.cache) ∙ none h
@@ -39,47 +48,59 @@ free_even x e = or_left (is_free x) (is_region x) (and_parts _ _ e).0
 pub region_even : (x : Hugepage) → is_region x ≡ true → is_even x ≡ true
 region_even x e = or_right (is_free x) (is_region x) e
 
-module _ (old : Inside) (heap : Heap) (is : IsHeap old heap) (huge : Huge) (own : IsHugepageOf heap.config.huge huge.0) where
+-- what holds of one holds of it alone
+pub alone : (P : ℕ → Type 0) (k : ℕ) → P k → (h : ℕ) → k ≤ h → h < k + 1 → P h
+alone P k p h low high = let same : k ≡ h = omega arith in subst P same p
+
+module _ (old : Inside) (heap : Heap) (is : IsHeap old heap) (first many : ℕ) (from : 0 < first) (to : first + many ≤ heap.config.huge + 1) where
   sound : IsSound heap
   sound = is.well.sound
 
+  abbrev Each : (ℕ → Type 0) → Type 0
+  Each P = (h : ℕ) → first ≤ h → h < first + many → P h
+
   abbrev after : Heap
-  after = unbacked_span heap huge.0 1
+  after = unbacked_span heap first many
 
   abbrev f : ℕ → Hugepage → Hugepage
-  f k x = cond (spans 1 k huge.0) (unbacked x) x
+  f k x = cond (spans many k first) (unbacked x) x
 
-  pub unback_span : is_even (hugepage heap huge.0) ≡ true → IsSpan old.table huge.0 1 is_even
-  unback_span e = grind (arith, nat_tests)
+  pub unback_span : Each (λ h. is_even (hugepage heap h) ≡ true) → IsSpan old.table first many is_even
+  unback_span even =
+      let size = ap length is.shows.means.pages ∙ sound.runs.arena in
+      record { from = from; to = omega arith; all = λ k a b. ap (λ xs. is_even (at xs k)) is.shows.means.pages ∙ even k a b }
 
-  -- the filler, where it isn't the filler's
-  still_measured : is_filler (hugepage heap huge.0) ≡ false → measures heap ≡ measures after
+  -- the filler, where they aren't the filler's
+  still_measured : Each (λ h. is_filler (hugepage heap h) ≡ false) → measures heap ≡ measures after
   still_measured other = measures_same heap heap.runs f sound.runs (λ k _. (let x = hugepage heap k in
-      elim (cases_eq k huge.0) [
-        | inl e ↦
-            (let none : is_filler x ≡ false = ap (λ i. is_filler (hugepage heap i)) e ∙ other in
-            measured_none heap.runs k x none
-            ∙ sym (elim (spans 1 k huge.0) as (λ b. measured heap.runs k (cond b (unbacked x) x) ≡ None)
-            [ true ↦ measured_none heap.runs k (unbacked x) none | false ↦ measured_none heap.runs k x none ]))
-        | inr ne ↦ sym (ap (λ b. measured heap.runs k (cond b (unbacked x) x)) (one_not k huge.0 ne))
+      elim (cases_Bool (spans many k first)) [
+        | inl t ↦
+            (let parts = spans_parts many k first t in
+            let none : is_filler x ≡ false = other k parts.0 parts.1 in
+            measured_none heap.runs k x none ∙ sym (ap (λ b. measured heap.runs k (cond b (unbacked x) x)) t ∙ measured_none heap.runs k (unbacked x) none))
+        | inr n ↦ sym (ap (λ b. measured heap.runs k (cond b (unbacked x) x)) n)
       ]))
 
-  made : IsSound after → (cache : Cache) → is_filler (hugepage heap huge.0) ≡ false → cache ≡ cache_of after → IsMade after old.config old.filler cache old.regions old.used
+  made : IsSound after → (cache : Cache) → Each (λ h. is_filler (hugepage heap h) ≡ false) → cache ≡ cache_of after → IsMade after old.config old.filler cache old.regions old.used
   made sound' cache other free = grind (arith, nat_tests, same_made, still_measured)
 
-  -- a free one
-  pub free_made : is_free_backed (hugepage heap huge.0) ≡ true → IsSound after → IsMade after old.config old.filler (without_backing old.cache huge.0) old.regions old.used
-  free_made passes sound' =
-      made sound' (without_backing old.cache huge.0) (free_not_filler (hugepage heap huge.0) (and_parts _ _ passes).0)
-      (ap (λ c. without_backing c huge.0) is.shows.cache
-      ∙ same_cache (without_backing (cache_of heap) huge.0) _ _
+  -- free ones
+  pub free_made : Each (λ h. is_free_backed (hugepage heap h) ≡ true) → IsSound after → IsMade after old.config old.filler (without_backing old.cache first many) old.regions old.used
+  free_made pass sound' =
+      let arena = sound.runs.arena in
+      made sound' (without_backing old.cache first many) (λ h low high. free_not_filler (hugepage heap h) (and_parts _ _ (pass h low high)).0)
+      (ap (λ c. without_backing c first many) is.shows.cache
+      ∙ same_cache (without_backing (cache_of heap) first many) _ _
       (grind (arith, nat_tests, flags_same, is_taken))
-      (grind (arith, nat_tests, flags_set, is_unready, own.from, own.to)))
+      (flags_run heap f sound.runs is_unready first many true from (omega arith) (λ h _. grind (arith, nat_tests, is_unready))))
 
-  -- one of a region
-  pub idle_made : is_region (hugepage heap huge.0) ≡ true → IsSound after → IsMade after old.config old.filler old.cache old.regions old.used
-  idle_made region sound' = made sound' old.cache (region_no_filler (hugepage heap huge.0) region)
-      (grind (arith, nat_tests, cache_same, region_busy, one_not))
+  -- those of regions
+  pub idle_made : Each (λ h. is_region (hugepage heap h) ≡ true) → IsSound after → IsMade after old.config old.filler old.cache old.regions old.used
+  idle_made region sound' = made sound' old.cache (λ h low high. region_no_filler (hugepage heap h) (region h low high))
+      (is.shows.cache ∙ cache_same heap f sound.runs (λ h _. (let x = hugepage heap h in elim (cases_Bool (spans many h first)) [
+        | inl t ↦ (let parts = spans_parts many h first t in let e = region h parts.0 parts.1 in grind (arith, nat_tests, region_busy))
+        | inr n ↦ grind (arith, nat_tests)
+      ])))
 
 -- what the cache asks
 pub free_backed : (old : Inside) (heap : Heap) → IsHeap old heap → (h : ℕ) → is_free_backed (hugepage heap h) ≡ true → is_backed old.cache h ≡ true

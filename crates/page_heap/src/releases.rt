@@ -6,12 +6,13 @@ ghost use Rattle.heap_rules.specs.Settle.{settled};
 ghost use Rattle.heap_rules.specs.Release.{is_idle, release, free_given, idle_given, spare_given, givable_pages};
 ghost use Rattle.heap_rules.specs.Laws.{IsReleased, BacksNone};
 ghost use Rattle.heap_rules.specs.Sound.{IsHugepageOf, IsSound};
-ghost use Rattle.page_heap.specs.Gives.{noted, over_limit, behind, given_by, IsNext, IsPast};
+ghost use Rattle.page_heap.specs.Gives.{noted, over_limit, behind, given_by, IsLast, IsFirstGiver, IsNext, IsPast};
 ghost use Rattle.page_heap.specs.declared.source.Source.TheVariants as source;
 
 use crate::heap::PageHeap;
 use crate::source::Source;
 use crate::told::{measure, tells_runs};
+use huge_cache::Stretch;
 use tc_units::{HUGE_PAGES, Huge, RowKind, RowView};
 
 /// Whether a row shows a region's hugepage that is backed and has no used page.
@@ -21,6 +22,16 @@ fn shows_idle(row: RowView) -> bool
     match row.kind {
         RowKind::Region => row.used == 0 && row.backed == HUGE_PAGES,
         RowKind::Free | RowKind::Filler | RowKind::Run => false,
+    }
+}
+
+/// One hugepage that gives pages up alone.
+fn alone(huge: Huge) -> Stretch
+    ensures { result ≡ record { first = huge; many = 1 } }
+{
+    Stretch {
+        first: huge,
+        many: 1,
     }
 }
 
@@ -44,22 +55,26 @@ impl PageHeap {
         let _pages = self.release_from(Source::Free, over);
     }
 
-    /// A free hugepage loses its backing.
-    fn unback_free(&mut self, huge: Huge)
-        requires { IsNext source.Free self.old huge }
-        ensures { (n : ℕ) → 0 < n → free_given self.old n ≡ behind huge_pages (free_given self.new (n - huge_pages)) }
+    /// Adjacent free hugepages lose their backing.
+    fn unback_free(&mut self, stretch: Stretch)
+        requires { IsNext source.Free self.old stretch }
+        ensures given { (n : ℕ) → huge_pages * (stretch.many - 1) < n → free_given self.old n
+            ≡ behind (huge_pages * stretch.many) (free_given self.new (n - huge_pages * stretch.many)) }
+        ensures few { stretch.many ≤ 4096 }
     {
-        self.table.unback(huge, 1);
+        self.table.unback(stretch.first, stretch.many);
         tells_runs(&self.table);
-        self.cache.unback(huge);
+        self.cache.unback(stretch.first, stretch.many);
     }
 
-    /// The free and backed hugepage of greatest number.
-    fn last_backed(&self) -> Option<Huge>
+    /// The last free and backed hugepages that follow each other: as many as there are, or as `n` pages need.
+    fn last_backed(&self, n: u64) -> Option<Stretch>
+        requires { 0 < n }
         ensures last { IfSome result (IsNext source.Free self.now) }
+        ensures few { IfSome result (λ stretch. huge_pages * (stretch.many - 1) < n) }
         ensures none { IfNone result ((n : ℕ) → free_given self.now n ≡ record { heap = self.now; pages = 0 }) }
     {
-        self.cache.last_backed()
+        self.cache.last_stretch(n.div_ceil(u64::from(HUGE_PAGES)))
     }
 
     /// Whether a hugepage of the arena is a region's, is backed, and has no used page.
@@ -75,7 +90,7 @@ impl PageHeap {
     fn last_idle(&self, most: u32) -> Option<Huge>
         requires behind { IsPast source.Regions self.now most }
         requires small { most < 65536 }
-        ensures last { IfSome result (IsNext source.Regions self.now) }
+        ensures last { IfSome result (IsLast self.now (is_idle self.now)) }
         ensures none { IfNone result ((n : ℕ) → idle_given self.now n ≡ record { heap = self.now; pages = 0 }) }
     {
         let mut above = most;
@@ -91,7 +106,7 @@ impl PageHeap {
 
     /// An unused hugepage of a region loses its backing.
     fn unback_idle(&mut self, huge: Huge)
-        requires { IsNext source.Regions self.old huge }
+        requires { IsLast self.old (is_idle self.old) huge }
         ensures given { (n : ℕ) → 0 < n → idle_given self.old n ≡ behind huge_pages (idle_given self.new (n - huge_pages)) }
         ensures past { IsPast source.Regions self.new (huge.0 - 1) }
     {
@@ -101,7 +116,7 @@ impl PageHeap {
 
     /// The hugepage of the filler that gives pages up first.
     fn candidate(&self) -> Option<Huge>
-        ensures found { IfSome result (IsNext source.Filler self.now) }
+        ensures found { IfSome result (IsFirstGiver self.now) }
         ensures none { IfNone result ((n : ℕ) → spare_given self.now n ≡ record { heap = self.now; pages = 0 }) }
     {
         self.filler.candidate()
@@ -109,7 +124,7 @@ impl PageHeap {
 
     /// A hugepage of the filler backs its used pages alone. Answers how many pages lose their backing.
     fn give_spare(&mut self, huge: Huge) -> u32
-        requires { IsNext source.Filler self.old huge }
+        requires { IsFirstGiver self.old huge }
         ensures given { (n : ℕ) → 0 < n → spare_given self.old n ≡ behind result (spare_given self.new (n - result)) }
         ensures some { 0 < result }
     {
@@ -118,37 +133,41 @@ impl PageHeap {
         pages
     }
 
-    /// The hugepage of a source that gives pages up next. None of its hugepages behind number `most` does.
-    fn next_giver(&self, source: Source, most: u32) -> Option<Huge>
+    /// The hugepages of a source that give pages up next, together while `n` pages are wanted. None of its hugepages
+    /// behind number `most` does.
+    fn next_givers(&self, source: Source, most: u32, n: u64) -> Option<Stretch>
         requires behind { IsPast source self.now most }
         requires small { most < 65536 }
+        requires some { 0 < n }
         ensures next { IfSome result (IsNext source self.now) }
+        ensures few { IfSome result (λ givers. huge_pages * (givers.many - 1) < n) }
         ensures none { IfNone result ((n : ℕ) → given_by source self.now n ≡ record { heap = self.now; pages = 0 }) }
     {
         match source {
-            Source::Free => self.last_backed(),
-            Source::Regions => self.last_idle(most),
-            Source::Filler => self.candidate(),
+            Source::Free => self.last_backed(n),
+            Source::Regions => Some(alone(self.last_idle(most)?)),
+            Source::Filler => Some(alone(self.candidate()?)),
         }
     }
 
-    /// The next one gives its pages up. Answers how many lose their backing.
-    fn give_up(&mut self, source: Source, huge: Huge) -> u32
-        requires { IsNext source self.old huge }
-        ensures given { (n : ℕ) → 0 < n → given_by source self.old n ≡ behind result (given_by source self.new (n - result)) }
+    /// The next ones give their pages up. Answers how many lose their backing.
+    fn give_up(&mut self, source: Source, givers: Stretch) -> u32
+        requires { IsNext source self.old givers }
+        ensures given { (n : ℕ) → huge_pages * (givers.many - 1) < n
+            → given_by source self.old n ≡ behind result (given_by source self.new (n - result)) }
         ensures some { 0 < result }
-        ensures past { IsPast source self.new (huge.0 - 1) }
+        ensures past { IsPast source self.new (givers.first.0 - 1) }
     {
         match source {
             Source::Free => {
-                self.unback_free(huge);
-                HUGE_PAGES
+                self.unback_free(givers);
+                HUGE_PAGES * givers.many
             }
             Source::Regions => {
-                self.unback_idle(huge);
+                self.unback_idle(givers.first);
                 HUGE_PAGES
             }
-            Source::Filler => self.give_spare(huge),
+            Source::Filler => self.give_spare(givers.first),
         }
     }
 
@@ -161,11 +180,11 @@ impl PageHeap {
         let mut most = self.config.huge;
         let mut given = 0;
         while given < n {
-            let Some(huge) = self.next_giver(source, most) else {
+            let Some(givers) = self.next_givers(source, most, n - given) else {
                 return given;
             };
-            given += u64::from(self.give_up(source, huge));
-            most = u32::from(huge.0) - 1;
+            given += u64::from(self.give_up(source, givers));
+            most = u32::from(givers.first.0) - 1;
         }
         given
     }

@@ -322,8 +322,32 @@ fn a_freed_hugepage_is_kept_to_the_limit(rt: HostRuntime) -> Result<(), Fail> {
     all_done(
         &rt,
         started(heap),
-        &[Step::Hold(256, 256), Step::Free, Step::Pages(0, 0)],
+        &[Step::Hold(768, 256), Step::Free, Step::Pages(0, 0)],
     );
+    Ok(())
+}
+
+#[test]
+fn a_release_takes_the_last_stretches(rt: HostRuntime) -> Result<(), Fail> {
+    let heap = PageHeap::open(rt.alloc(), &limits(8, 2, 1_048_576))?;
+    let steps = [
+        // Hugepage 4 is a run's. 1 to 3 and 5 to 8 are free and backed then.
+        Step::Hold(768, 256),
+        Step::New(256, 1024),
+        Step::Free,
+        Step::Hold(1024, 1280),
+        Step::Free,
+        Step::Pages(256, 2048),
+        // 8 to 6 of a stretch of four, and then 5 and 3, which are of two.
+        Step::Release(513, 768),
+        Step::Pages(256, 1280),
+        Step::Release(257, 512),
+        Step::Pages(256, 768),
+        Step::New(512, 256),
+        Step::Pages(768, 768),
+        Step::Release(10_000, 0),
+    ];
+    all_done(&rt, started(heap), steps.as_slice());
     Ok(())
 }
 

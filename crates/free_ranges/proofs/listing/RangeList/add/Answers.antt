@@ -1,6 +1,6 @@
 use Rattle.std.proofs.Common.{ap, count_by, arith}
 use Rattle.free_ranges.proofs.Common.{Listing}
-use Rattle.free_ranges.proofs.Listed.{added, index_added}
+use Rattle.free_ranges.proofs.Listed.{added}
 use Rattle.free_ranges.proofs.listing.RangeList.add.Goals as goal
 
 pub returns-clause-ranges : goal.returns-clause-ranges
@@ -11,10 +11,3 @@ returns-clause-ranges c _ test =
       ap
           (λ (l : Listing). count_by test l.ranges) c.self.view_is,
     )
-
-pub invariant_of-self-2 : goal.invariant_of-self-2
-invariant_of-self-2 c = (
-  index_added (λ p. p.range) c.self.inside.by_place.keys c.insert-2.new.self.keys c.self.inside.by_length.keys c.insert.new.self.keys _ c.self.invariant.0
-      c.insert-2.ensures.keys c.insert.ensures.keys,
-  omega arith,
-)

@@ -1,5 +1,5 @@
-use Rattle.free_ranges.proofs.Common.{nat_tests, cases_lt, with_places, length-with_places, placed_again}
-use Rattle.std.proofs.Common.{◌+◌, ◌-◌, ◌≤◌, List, Bool, true, length, get_or, ap, ◌∙◌, arith}
+use Rattle.free_ranges.proofs.Common.{cases_lt, with_places, length-with_places, placed_again}
+use Rattle.std.proofs.Common.{◌+◌, ◌-◌, ◌≤◌, List, Bool, true, length, get_or, ap, ◌∙◌, inl, inr, arith}
 use Rattle.free_ranges.proofs.Listed.{filled_down, filled}
 use Rattle.free_ranges.proofs.ranged.RangedBits.fill.Goals as goal
 
@@ -27,10 +27,18 @@ loop-end-preserved c =
     }
 
 pub returns-in_default : goal.returns-in_default
-returns-in_default c = grind (arith, nat_tests, filled, cases_lt)
+returns-in_default c =
+    filled c.loop-end.self c.args.self.now c.args.start c.args.n (omega (arith, c.loop-end.invariant.len, c.requires)) c.loop-end.invariant.rest (λ k low high. elim (cases_lt k c.loop-end.end) [
+      | inl before ↦ c.in-Some.ensures.found.behind k (omega (arith, c.if-start-range.false)) (omega arith)
+      | inr behind ↦ c.loop-end.invariant.used k behind high
+    ])
 
 pub returns-in_default-2 : goal.returns-in_default-2
-returns-in_default-2 c = grind (arith, nat_tests, filled, cases_lt)
+returns-in_default-2 c =
+    filled c.loop-end.self c.args.self.now c.args.start c.args.n (omega (arith, c.loop-end.invariant.len, c.requires)) c.loop-end.invariant.rest (λ k low high. elim (cases_lt k c.loop-end.end) [
+      | inl before ↦ c.last_range.ensures.none c.in_default.is k (omega arith)
+      | inr behind ↦ c.loop-end.invariant.used k behind high
+    ])
 
 pub returns : goal.returns
 returns c =

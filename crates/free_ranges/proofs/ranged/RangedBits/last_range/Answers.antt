@@ -1,20 +1,24 @@
-use Rattle.free_ranges.proofs.Common.{nat_tests, IsListed, IsLastRange}
-use Rattle.std.proofs.Common.{◌^◌, List, Bool, length, IfSome, sym, ap, ◌∙◌, arith}
-use Rattle.free_ranges.proofs.Found.{last_found, none_found, range_small}
+use Rattle.std.proofs.Common.{◌≡◌, ◌^◌, List, Bool, length, ap, subst, arith}
+use Rattle.free_ranges.specs.Bounds.{Bounds, Tells}
+use Rattle.free_ranges.proofs.Found.{range_small}
 use Rattle.free_ranges.proofs.ranged.RangedBits.last_range.Goals as goal
-use Rattle.free_ranges.proofs.ranged.RangedBits.last_range.Goals.{After-last_upto}
+use Rattle.free_ranges.proofs.ranged.RangedBits.last_range.Goals.{After-places}
 
-found : (c : After-last_upto) → IfSome c.last_upto.result (IsLastRange c.args.self.now c.args.place)
-found c = grind (arith, nat_tests, last_found)
+tells : {bits row : List Bool} (bounds : Bounds) → bits ≡ row → Tells bits bounds → Tells row bounds
+tells bounds is told = subst (λ (r : List Bool). Tells r bounds) is told
 
-pub returns-then-is_complete-clause-found : goal.returns-then-is_complete-clause-found
-returns-then-is_complete-clause-found c = found c
+pub last_upto-requires-clause-begins : goal.last_upto-requires-clause-begins
+last_upto-requires-clause-begins c = omega (arith, (tells c.self.inside.bounds c.self.view_is c.self.invariant.1).begin_room, c.requires)
 
-pub returns-then-is_complete-clause-none : goal.returns-then-is_complete-clause-none
-returns-then-is_complete-clause-none c none =
-    let is : IsListed c.args.self.now c.self.inside.ranges = rw c.self.view_is at c.self.invariant in
-    none_found c.args.self.now c.self.inside.ranges.ranges (is (sym c.is_complete.ensures ∙ c.if-is_complete.true)) c.args.place c.requires (c.last_upto.ensures.none none)
+pub last_upto-requires-clause-stops : goal.last_upto-requires-clause-stops
+last_upto-requires-clause-stops c = omega (arith, (tells c.self.inside.bounds c.self.view_is c.self.invariant.1).stop_room, c.requires)
 
-pub returns-then-is_complete-clause-places : goal.returns-then-is_complete-clause-places
-returns-then-is_complete-clause-places c = range_small c.args.self.now c.args.place (2 ^ 32) c.last_upto.result
-    (omega (arith, c.places.ensures, ap (λ (row : List Bool). length row) c.self.view_is)) (found c)
+pub returns-clause-found : goal.returns-clause-found
+returns-clause-found c = c.last_upto.ensures.found c.args.self.now (tells c.self.inside.bounds c.self.view_is c.self.invariant.1)
+
+pub returns-clause-none : goal.returns-clause-none
+returns-clause-none c = c.last_upto.ensures.none c.args.self.now (tells c.self.inside.bounds c.self.view_is c.self.invariant.1)
+
+pub returns-clause-places : goal.returns-clause-places
+returns-clause-places c = range_small c.args.self.now c.args.place (2 ^ 32) c.last_upto.result
+    (omega (arith, c.places.ensures, ap (λ (row : List Bool). length row) c.self.view_is)) (c.last_upto.ensures.found c.args.self.now (tells c.self.inside.bounds c.self.view_is c.self.invariant.1))

@@ -1,5 +1,5 @@
 use Rattle.std.proofs.Common.{◌≡◌, ℕ, ◌+◌, ◌-◌, ◌<◌, ◌≤◌, arith}
-use Rattle.page_heap.proofs.Common.{Huge, Heap, Inside, behind, given_by, IsNext, IsPast, nat_tests}
+use Rattle.page_heap.proofs.Common.{Stretch, Heap, Inside, behind, given_by, IsNext, IsPast, nat_tests}
 use Rattle.page_heap.specs.declared.source.Source.{Source}
 use Rattle.page_heap.specs.declared.source.Source.TheVariants as source
 use Rattle.page_heap.proofs.Gives.{loop_begins, loop_ends, loop_few}
@@ -27,11 +27,13 @@ next c = grind (arith, c.loop-given.given, c.give_up.ensures.given, c.loop-given
 pub overflow_add-given : goal.overflow_add-given
 overflow_add-given c = grind (arith, is_heap, loop_few, next, given_few)
 
-next_low : (from : Source) (heap : Heap) (huge : Huge) → IsNext from heap huge → 0 < huge.0
-next_low from heap huge is = grind (arith, nat_tests)
+next_low : (from : Source) (heap : Heap) (givers : Stretch) → IsNext from heap givers → 0 < givers.first.0
+next_low source.Free heap givers are = are.from
+next_low source.Regions heap givers is = is.own.from
+next_low source.Filler heap givers is = is.own.from
 
 pub overflow_sub-most : goal.overflow_sub-most
-overflow_sub-most c = let low = next_low c.args.source c.loop-given.self c.in-Some.huge c.in-Some.ensures.next in omega (arith, low, c.from-most.ensures)
+overflow_sub-most c = let low = next_low c.args.source c.loop-given.self c.in-Some.givers c.in-Some.ensures.next in omega (arith, low, c.from-most.ensures)
 
 pub loop-given-preserved : goal.loop-given-preserved
 loop-given-preserved c = grind (arith, c.from-most.ensures, c.give_up.ensures.past)

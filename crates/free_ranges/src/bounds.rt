@@ -1,0 +1,114 @@
+//! Where the maximal free ranges of a row begin and stop, as sets of places.
+ghost use Rattle.std.specs.Prelude.{◌≡◌, ℕ, ◌+◌, ◌^◌, ◌<◌, ◌≤◌, true, None, List, Bool, length, replicate, slice_set, IfOk, IfSome};
+ghost use Rattle.std.specs.List.{slice_index_or};
+ghost use Rattle.range_bits.specs.Ranges.{begins_range};
+ghost use Rattle.free_ranges.specs.Ranges.{IsLastRange};
+ghost use Rattle.free_ranges.specs.Bounds.{stops_range, Tells, IsPut};
+
+use crate::range::FreeRange;
+use place_set::PlaceSet;
+use range_bits::WideBits;
+use std::alloc::{AllocError, Global};
+use std::marker::Model;
+
+/// The places with which free ranges begin, and those behind their last ones.
+#[derive(Drop)]
+pub struct RangeBounds {
+    begins: PlaceSet,
+    stops: PlaceSet,
+}
+
+impl Model for RangeBounds {
+    ghost use Rattle.std.specs.Prelude.{◌≤◌, ◌^◌, length};
+    ghost use Rattle.free_ranges.specs.Bounds.{Bounds};
+
+    ghost Value = { Bounds };
+
+    ghost view = { λ b. record { begins = b.begins; stops = b.stops } };
+
+    ghost invariant = { λ b. length b.stops ≤ 2 ^ 32 };
+}
+
+/// Whether a place is used, as all behind the row are.
+fn used_at(bits: &WideBits, place: u32) -> bool
+    ensures { result ≡ slice_index_or bits.now place true }
+{
+    place >= bits.places() || bits.is_used(place)
+}
+
+/// Whether a maximal free range begins at a place.
+fn begins_at(bits: &WideBits, place: u32) -> bool
+    ensures { result ≡ begins_range bits.now place }
+{
+    !used_at(bits, place) && (place == 0 || used_at(bits, place - 1))
+}
+
+/// Whether one stops before a place.
+fn stops_at(bits: &WideBits, place: u32) -> bool
+    ensures { result ≡ stops_range bits.now place }
+{
+    place > 0 && !used_at(bits, place - 1) && used_at(bits, place)
+}
+
+/// Puts a place into a set, or takes it out.
+fn put(set: &mut PlaceSet, place: u32, is_in: bool)
+    requires { place < length set.old }
+    ensures { set.new ≡ slice_set set.old place is_in }
+{
+    if is_in {
+        set.insert(place as usize);
+    } else {
+        set.remove(place as usize);
+    }
+}
+
+impl RangeBounds {
+    /// The bounds of a row whose places are all used: none.
+    pub fn open(alloc: Global, places: u32) -> Result<Self, AllocError>
+        ensures { IfOk result (Tells (replicate places true)) }
+    {
+        let words = places as usize / 64 + 1;
+        Ok(RangeBounds {
+            begins: PlaceSet::open(alloc, words)?,
+            stops: PlaceSet::open(alloc, words)?,
+        })
+    }
+
+    /// Looks whether a range begins at a place, and whether one stops before it.
+    fn tell(&mut self, bits: &WideBits, place: u32)
+        requires begins { place < length self.old.begins }
+        requires stops { place < length self.old.stops }
+        ensures begins { self.new.begins ≡ slice_set self.old.begins place (begins_range bits.now place) }
+        ensures stops { self.new.stops ≡ slice_set self.old.stops place (stops_range bits.now place) }
+    {
+        put(&mut self.begins, place, begins_at(bits, place));
+        put(&mut self.stops, place, stops_at(bits, place));
+    }
+
+    /// Tells of a row of which `n` places, from `start` on, were all used or all free, and are so now.
+    pub fn note(&mut self, bits: &WideBits, start: u32, n: u32)
+        requires begins { start + n < length self.old.begins }
+        requires stops { start + n < length self.old.stops }
+        requires fits { start + n < 2 ^ 32 }
+        ensures { (row : List Bool) → Tells row self.old → IsPut row bits.now start n → Tells bits.now self.new }
+    {
+        self.tell(bits, start);
+        self.tell(bits, start + n);
+    }
+
+    /// The last maximal free range that begins at a place or before it.
+    pub fn last_upto(&self, place: u32) -> Option<FreeRange>
+        requires begins { place < length self.now.begins }
+        requires stops { place + 1 < length self.now.stops }
+        ensures found { (row : List Bool) → Tells row self.now → IfSome result (IsLastRange row place) }
+        ensures none { (row : List Bool) → Tells row self.now → result ≡ None → (p : ℕ) → p ≤ place
+            → slice_index_or row p true ≡ true }
+    {
+        let start = self.begins.last_at_or_before(place as usize)?;
+        let stop = self.stops.first_at_or_after(start + 1)?;
+        Some(FreeRange {
+            len: (stop - start) as u32,
+            start: start as u32,
+        })
+    }
+}
