@@ -9,8 +9,8 @@ from .spans import Shard, Span, put_whole, take_last
 
 Block = collections.namedtuple('Block', 'address length asked row')    # row is its class, or None of a large one
 
-# What serves small objects first: slabs of CPUs, caches of threads, or nothing.
-FRONTS = {'slabs': SlabsOfCpus, 'caches': CachesOfThreads, 'none': NoCaches}
+# What serves small objects first, by command; in the others slabs of CPUs do.
+FRONTS = {'perthread': CachesOfThreads, 'numa': NoCaches}
 
 
 class Node:
@@ -25,10 +25,10 @@ class Node:
 
 
 class World:
-    def __init__(self, table, heads, front='slabs', nodes=1):
+    def __init__(self, table, heads, command, nodes):
         self.table, self.transfer = table, heads['transfer']
         self.cpus = [Cpu(heads, table) for _ in range(heads['cpus'])]
-        self.front = FRONTS[front](heads, table)
+        self.front = FRONTS.get(command, SlabsOfCpus)(heads, table)
         self.domains = heads['domains'] if self.front.is_of_cpus else 0
         self.huge = heads['huge']
         self.nodes = [Node(number, table, heads) for number in range(nodes)]
@@ -273,10 +273,10 @@ class Listener:
 class Replay:
     """A run over the texts of table, trace and order."""
 
-    def __init__(self, table, trace, order='', listener=None, front='slabs', nodes=1):
+    def __init__(self, table, trace, order='', listener=None, command='serial', nodes=1):
         self.heads, self.calls = read_trace(trace)
         self.order = order
-        self.world = World(read_table(table), self.heads, front, nodes)
+        self.world = World(read_table(table), self.heads, command, nodes)
         scripts = [[] for _ in range(self.heads['threads'])]
         for call in self.calls:
             scripts[call.thread].append(call)

@@ -39,7 +39,7 @@ def add_to(parser):
            help='from which those calls, their instructions and CPUs are drawn (1)')
     option('--threads', metavar='N', type=number(1, traces.MOST_THREADS), default=usual.threads,
            help='the trace stops where a further thread comes, 1 to 64 (64)')
-    option('--lines', metavar='N', type=number(traces.OWN_HEADS, traces.MOST_LINES), default=usual.lines,
+    option('--lines', metavar='N', type=number(len(traces.OWN_HEADS), traces.MOST_LINES), default=usual.lines,
            help='the trace stops where a call would pass so many lines, 3 to 1000000 (1000000)')
     option('--labels', metavar='N', type=number(1, traces.MOST_LABELS), default=usual.labels,
            help='the trace stops where so many labels are used, 1 to 1000000 (1000000)')

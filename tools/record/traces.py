@@ -1,23 +1,24 @@
 """Makes traces of recordings. `trace_of` makes one, with what there is to report of it."""
 import collections
 
+from shared import heads
+
 import logs
 
 MOST_BYTES = 1 << 40            # the greatest request of a trace
 MOST_LINES = 1000000
 MOST_LABELS = 1000000
-MOST_THREADS = 64
-MOST_CPUS = 64
-MOST_HUGEPAGES = 4096
+MOST_THREADS = heads.HEADS['threads'].most
+MOST_CPUS = heads.HEADS['cpus'].most
+MOST_HUGEPAGES = heads.HEADS['huge'].most
 LEAST_HUGEPAGES = 64            # a trace asks for no fewer, unless it is told to
 HUGEPAGE_BYTES = 2097152
 MOST_SEED = 2147483647
-OWN_HEADS = 3                   # cpus, threads and huge
+OWN_HEADS = ['cpus', 'threads', 'huge']
 INSTRUCTIONS = 8                # a preempted call is left before one of its first so many instructions
 
 # Heads that may be asked for by name, with their least and greatest values.
-HEADS = {'cache': (0, 4096), 'region': (2, 512), 'slack': (0, 1048576), 'transfer': (0, 4096), 'slab': (1, 2048),
-         'percpu': (0, 268435456), 'events': (1, 40000000), 'window': (0, 65536), 'domains': (0, 64)}
+HEADS = {name: head[:2] for name, head in heads.HEADS.items() if name not in OWN_HEADS}
 
 Options = collections.namedtuple('Options', 'cpus threads lines labels moves seed huge head skip every')
 USUAL = Options(cpus=1, threads=MOST_THREADS, lines=MOST_LINES, labels=MOST_LABELS, moves=0, seed=1, huge=None, head=(),
@@ -145,7 +146,7 @@ class Maker:
         if thread not in self.numbers and len(self.numbers) == self.options.threads:
             raise Stopped('the most threads are %d' % self.options.threads)
         move = self.drawn_move()
-        if OWN_HEADS + len(self.options.head) + len(self.lines) + len(move) + 1 > self.options.lines:
+        if len(OWN_HEADS) + len(self.options.head) + len(self.lines) + len(move) + 1 > self.options.lines:
             raise Stopped('the most lines are %s' % grouped(self.options.lines))
         number = self.numbers.setdefault(thread, len(self.numbers))
         self.lines += [text % number for text in move + [line]]

@@ -10,7 +10,7 @@ use Rattle.tc_model.specs.declared.steps.Stepped.TheVariants as step
 use Rattle.alloc_rules.proofs.{Elsewhere.after_rises, Runs.served_order, Runs.sound, SerialGoes.script_length, SerialGoes.serial_goes, Serving.IsAtWork}
 
 -- calls are made by threads that there are
-thread_below : (n : ℕ) (cs : List ThreadCall) → ((earlier : List ThreadCall) (c : ThreadCall) (later : List ThreadCall) → earlier ++ c ∷ later ≡ cs → c.thread.0 < n) → (i : ℕ) → i < length (map (λ (c : ThreadCall). c.thread.0) cs) → slice_index (map (λ (c : ThreadCall). c.thread.0) cs) i < n
+pub thread_below : (n : ℕ) (cs : List ThreadCall) → ((earlier : List ThreadCall) (c : ThreadCall) (later : List ThreadCall) → earlier ++ c ∷ later ≡ cs → c.thread.0 < n) → (i : ℕ) → i < length (map (λ (c : ThreadCall). c.thread.0) cs) → slice_index (map (λ (c : ThreadCall). c.thread.0) cs) i < n
 thread_below n [] below i within = absurd (omega arith)
 thread_below n (c ∷ cs) below zero within = below [] c cs refl
 thread_below n (c ∷ cs) below (suc i) within = thread_below n cs (λ earlier d later is. below (c ∷ earlier) d later (ap (λ xs. c ∷ xs) is)) i (omega arith)

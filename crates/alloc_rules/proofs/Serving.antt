@@ -1,16 +1,17 @@
 -- What holds of a world in every run, and what an act of a thread makes of it.
 use Rattle.std.proofs.Common.{◌≡◌, ℕ, suc, ◌+◌, ◌≤◌, true, eqb, List, [], ◌∷◌, ◌++◌, length, map, Option, Some, refl, sym, ap, ◌∙◌, subst}
-use Rattle.std.proofs.Common.{arith, All, slice_get, slice_set}
+use Rattle.std.proofs.Common.{arith, All, slice_get, slice_set, inl, inr, ◌⊎◌}
 use Rattle.alloc_rules.proofs.Common.{MOST_PICKS, append-nil, length-set, length-append, map-append, filter-append, Planned, CallLine, Asked, script_of}
 use Rattle.alloc_rules.proofs.Common.{World, world_of}
 use Rattle.alloc_rules.proofs.Common.{picks_of, answers_at, AreOfPicks, AreAt, AreBelow, AreRising, calls-step, picks-step, picks-push_same, picks-push_other}
 use Rattle.alloc_rules.proofs.Common.{NameState, state_of, Shard, Account, is_out, Books, Facts, Said, books_with, lines, Decided, told, Local, FrontCalls}
 use Rattle.alloc_rules.proofs.Common.{AreEntries, FrontRules, About, Part, heap_config, Parts, parts_of, HasRoom, lines_by, account_of, decided_at, stock_of}
-use Rattle.alloc_rules.proofs.Common.{ArePartsOk, AreBooksOf, Does, Standing, standing_of, IsShaped, IsIn, Path, is_under_way, calls, setup_of}
+use Rattle.alloc_rules.proofs.Common.{ArePartsOk, AreBooksOf, Does, Standing, standing_of, IsShaped, IsIn, Path, Stays, Comes, under, is_under_way, calls, setup_of}
 use Rattle.holdings.proofs.Moves.{acts_keep}
 use Rattle.tc_model.proofs.Rising.{rising_push}
-use Rattle.alloc_rules.proofs.{Freeing.account_at, InScripts.StayOut, InScripts.path_in, ScriptFacts.HasRow, Sets.each_set, Sets.map_set, Telling.others_lines}
+use Rattle.alloc_rules.proofs.{Freeing.account_at, InScripts.StayOut, InScripts.path_in, ScriptFacts.HasRow, ScriptFacts.first_under, Sets.each_set, Sets.map_set, Telling.others_lines}
 use Rattle.alloc_rules.proofs.Telling.{own_lines}
+use Rattle.alloc_rules.specs.Law.{IsPick}
 use Rattle.alloc_rules.proofs.Published.{keeps_unpublished, said_few, stays_out}
 
 -- The parts alone, as many as the input says, and each transfer list within the room that the heads name.
@@ -47,7 +48,7 @@ module _ {P V R : Type 0} (r : FrontRules P V R) (about : R → About) (planned 
     pub tells : AllTell locals (calls locals order)
 
 -- answers that rise still do with those that the pick behind them decided
-rising_with : {A : Type 0} (act : A → ℕ) (n : ℕ) (xs new : List A) → AreRising act 0 xs → AreBelow act n xs → AreAt act n new → length new ≤ 1 → AreRising act 0 (xs ++ new)
+pub rising_with : {A : Type 0} (act : A → ℕ) (n : ℕ) (xs new : List A) → AreRising act 0 xs → AreBelow act n xs → AreAt act n new → length new ≤ 1 → AreRising act 0 (xs ++ new)
 rising_with act n xs [] rising below at one = subst (AreRising act 0) (sym (append-nil xs)) rising
 rising_with act n xs (a ∷ []) rising below at one = rising_push act 0 n xs a (omega arith) rising below at.0
 rising_with act n xs (a ∷ b ∷ rest) rising below at one = absurd (omega (arith, one))
@@ -146,6 +147,29 @@ module _ {P V R : Type 0} {r : FrontRules P V R} {about : R → About} {planned 
     calls_now : calls (slice_set locals t after) (order ++ t ∷ []) ≡ calls locals order ++ lines t acted.does.said
     calls_now = calls-step (λ (k : Local V R). k.answers) (λ (x : Decided). x.act) told locals order t l after (decided_at l.acts acted.does.said) now.of now.local acted.does.answers at_pick ∙ ap (λ xs. calls locals order ++ xs) (told_lines t l.acts acted.does.said)
 
+    -- the books' facts hold on
+    next_facts : Facts (setup_of r asked) after_books (calls (slice_set locals t after) (order ++ t ∷ []))
+    next_facts =
+        subst (Facts (setup_of r asked) after_books) (sym calls_now)
+        (acts_keep (setup_of r asked) b (calls locals order) t (account_of about l) (account_of about after) (stock_of r about new) acted.does.heap
+        acted.does.spans new.names acted.does.said now.facts mine acted.does.move)
+
+    -- what the pick decided, and where the thread is then
+    ended_by : Path r.calls about l after → (after.ended ≡ l.ended) ⊎ ((after.ended ≡ l.ended + 1) × (under about after.step ≡ 0))
+    ended_by (Stays new answers ended rest way goes) = inl ended
+    ended_by (Comes new answers ended rest step closes) = inr (ended, ap (under about) step ∙ first_under r.calls about entries after.seat (slice_get l.rest 0))
+
+    pub is_pick : IsPick r about asked locals order t l after
+    is_pick =
+        record {
+          new = decided_at l.acts acted.does.said;
+          answers = acted.does.answers;
+          few = omega (arith, decided_few l.acts acted.does.said, said_few (setup_of r asked) b (account_of about l) acted.does.move);
+          ended = ended_by acted.path;
+          told = calls_now ∙ ap (λ (xs : List CallLine). calls locals order ++ xs) (sym (told_lines t l.acts acted.does.said));
+          blocks = next_facts.kept.run;
+        }
+
     -- what is told then of a thread
     lines_now : (u : ℕ)
         → lines_by u (calls (slice_set locals t after) (order ++ t ∷ [])) ≡ lines_by u (calls locals order) ++ lines_by u (lines t acted.does.said)
@@ -175,7 +199,7 @@ module _ {P V R : Type 0} {r : FrontRules P V R} {about : R → About} {planned 
             names = refl;
             accounts = ap (λ (xs : List Account). slice_set xs t (account_of about after)) now.books.accounts ∙ map_set (account_of about) locals t after;
           };
-          facts = subst (Facts (setup_of r asked) after_books) (sym calls_now) (acts_keep (setup_of r asked) b (calls locals order) t (account_of about l) (account_of about after) (stock_of r about new) acted.does.heap acted.does.spans new.names acted.does.said now.facts mine acted.does.move);
+          facts = next_facts;
           front = subst (λ (n : ℕ). Holds n new.fronts (map standing_of (slice_set locals t after))) (sym (length-append order (t ∷ []))) acted.front;
           count = length-set locals t after ∙ count;
           works = all_work;

@@ -1,5 +1,5 @@
 -- What holds of the allocator over any front-end that meets its law, between any two picks, in every order of its threads' picks.
-use Rattle.std.specs.Prelude.{◌≡◌, ℕ, ◌+◌, ◌*◌, ◌<◌, ◌≤◌, ◌⊎◌, ◌↔◌, true, List, length, map, sum_by, All, None, Some, slice_get}
+use Rattle.std.specs.Prelude.{◌≡◌, ℕ, ◌+◌, ◌*◌, ◌<◌, ◌≤◌, ◌⊎◌, ◌↔◌, true, false, List, [], ◌∷◌, ◌++◌, length, map, sum_by, All, None, Some, slice_get, slice_set}
 use Rattle.tc_units.specs.Units.{page_bytes}
 use Rattle.tc_units.specs.Classes.{length_of}
 use Rattle.tc_units.specs.declared.units.Addr.{Addr}
@@ -28,7 +28,9 @@ use Rattle.call_steps.specs.declared.step.Step.TheVariants as does
 use Rattle.call_steps.specs.Local.{Local, Decided, told}
 use Rattle.call_steps.specs.Calls.{About, under}
 use Rattle.call_steps.specs.Kept.{call_at}
-use Rattle.alloc_rules.specs.Machine.{heap_config, Parts, parts_of, rules, turns}
+use Rattle.alloc_rules.specs.Machine.{heap_config, Parts, parts_of, place_of, waits, after, rules, turns}
+use Rattle.alloc_rules.specs.declared.part.Part.{Part}
+use Rattle.tc_model.specs.declared.machine.PartNo.{PartNo}
 use Rattle.alloc_rules.specs.Heads.{HasRoom, AreAsMany}
 use Rattle.alloc_rules.specs.Told.{lines_by, TellsFirst, TellsScript}
 use Rattle.alloc_rules.specs.Accounts.{account_of}
@@ -53,6 +55,17 @@ pub record IsAmong {V R : Type 0} (about : R → About) (script : List Planned) 
   pub count : length l.answers ≡ l.ended + under about l.step
   pub each : (j : ℕ) (d : Decided) → slice_get l.answers j ≡ Some d → call_at script j ≡ Some d.call
   pub over : l.step ≡ does.Ended → call_at script l.ended ≡ None
+
+-- The act of thread t's next pick goes on within its call, or ends it, and then no call of it is under way that was decided; it
+-- decides at most one call, which is told behind all that was told before, and all that is told is still a run on disjoint blocks.
+pub record IsPick {P V R : Type 0} (r : FrontRules P V R) (about : R → About) (asked : Asked) (locals : List (Local V R)) (order : List ℕ) (t : ℕ)
+    (l after : Local V R) : Type 0 where
+  pub new : List Decided
+  pub answers : after.answers ≡ l.answers ++ new
+  pub few : length new ≤ 1
+  pub ended : (after.ended ≡ l.ended) ⊎ ((after.ended ≡ l.ended + 1) × (under about after.step ≡ 0))
+  pub told : calls (slice_set locals t after) (order ++ t ∷ []) ≡ calls locals order ++ map (told t) new
+  pub blocks : IsBlockRun asked.config.huge (length_of r.calls.rows) (calls (slice_set locals t after) (order ++ t ∷ []))
 
 -- over all accounts of locals
 abbrev pub over_locals : {V R : Type 0} → (R → About) → List (Local V R) → (Account → ℕ) → ℕ
@@ -136,12 +149,16 @@ module _ {P V R : Type 0} (r : FrontRules P V R) (about : R → About) (Holds : 
     pub front : Holds (length order) parts.fronts (map standing_of locals)
 
 -- The laws of the rules: every pair that a pick takes fits; in every run the thread of the earliest call that hasn't ended
--- moves, and where each call has ended each script has; no pick lowers a number of ended calls; and what holds between any
--- two picks.
+-- moves, and where each call has ended each script has; no pick lowers a number of ended calls; what one pick makes of its
+-- thread; and what holds between any two picks.
 pub record AreLawful {P V R : Type 0} (r : FrontRules P V R) (about : R → About) (asked : Asked) (fits : P → V → Regs → R → Type 0) (After : List ℕ → Type 0) : Type 0 where
   pub sound : IsSound (rules r about asked) (Fits r.calls.rows fits)
   pub threads : AreThreads (rules r about asked) (turns asked)
   pub never_waits : NeverWaits (rules r about asked) (turns asked)
   pub rises : Rises (rules r about asked)
   pub ends : Ends (rules r about asked) (turns asked)
+  pub picks : (order : List ℕ) (t : ℕ) (l : Local V R) (place : PartNo) (part : Part P) → IsOrder (rules r about asked) order
+      → slice_get (run (rules r about asked) order).locals t ≡ Some l → place_of r about l ≡ Some place
+      → slice_get (run (rules r about asked) order).parts place.0 ≡ Some part → waits part l ≡ false
+      → IsPick r about asked (run (rules r about asked) order).locals order t l (after r about part l).1
   pub holds : (order : List ℕ) → IsOrder (rules r about asked) order → After order

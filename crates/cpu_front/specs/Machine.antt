@@ -13,8 +13,8 @@ use Rattle.tc_machine.specs.Played as machine_state
 use Rattle.tc_machine.specs.Played.{Played}
 
 -- the parts and locals of a state
-abbrev pub world : Played → World Part CpuLocal
-world = machine_state.world rules
+abbrev pub world : Played (Unit {0}) → World Part CpuLocal
+world = machine_state.world (λ options. rules)
 
 -- The law for an order: its picks move, and they are few; the rules are lawful; and what holds in every order holds behind
 -- each beginning of it.

@@ -19,7 +19,7 @@ fn opened(rt: &impl Abort, alloc: Global, text: &[u8], threads: u8) -> Result<Cp
 {
     let table = ClassTable::read(alloc, b"16,1,4\n64,1,2\n8192,1,2\n").expect(rt, "a table");
     let trace = read_trace(alloc, text, table.len()).expect(rt, "a trace");
-    let state = CpuState::open(alloc, table, trace)?;
+    let state = CpuState::open(alloc, (), table, trace)?;
     assert_eq!(rt; state.threads(), threads);
     Ok(state)
 }

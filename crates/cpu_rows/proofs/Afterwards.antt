@@ -51,5 +51,6 @@ cpu_in_every_order input valid =
       never_waits = law.never_waits;
       rises = law.rises;
       ends = law.ends;
+      picks = law.picks;
       holds = λ order of. holds_after input valid order of (law.holds order of);
     }

@@ -99,7 +99,7 @@ taken_here [] c later none = elim (cases_Bool (is_shared c.planned.call)) [
 taken_here (d ∷ earlier) c later none =
     taken_here earlier c later (omega (arith, none, sum_by-cons (λ (x : ThreadCall). cond (is_shared x.planned.call) 0 1) d (earlier ++ c ∷ later)))
 
-valid_without : (input : Input) → IsValidInput input → not_taken is_shared input.asked.calls ≡ 0 → IsValid input.rows planned input.asked
+pub valid_without : (input : Input) → IsValidInput input → not_taken is_shared input.asked.calls ≡ 0 → IsValid input.rows planned input.asked
 valid_without input valid taken =
     record {
       rows = valid.rows;

@@ -37,7 +37,7 @@ use Rattle.tc_machine.specs.Standing.{AreStanding}
 use Rattle.tc_machine.specs.Finish.{finished, finished_in, heap_by, heap_in, heap_place}
 
 -- The picks of an order are of threads that there are.
-record HasThreads {P L : Type 0} (n : ℕ) (w : World P L) (order : List ℕ) : Type 0 where
+pub record HasThreads {P L : Type 0} (n : ℕ) (w : World P L) (order : List ℕ) : Type 0 where
   pub count : length w.locals ≡ n
   pub below : All (λ t. t < n) order
 
@@ -46,7 +46,7 @@ threads_kept r n w order t l place q few good local want there goes =
     let within : t < n = omega (arith, slice_get_within w.locals t l local, good.count) in
     record { count = length-set w.locals t (r.after q l).1 ∙ good.count; below = All-append (λ u. u < n) order (t ∷ []) good.below (All-cons (λ u. u < n) t [] within (All-nil (λ u. u < n))) }
 
-threads_below : {P L : Type 0} (r : Rules P L) (order : List ℕ) → length order ≤ 40000000 → moving r (start r) order ≡ order → HasThreads (length r.locals) (run r order) order
+pub threads_below : {P L : Type 0} (r : Rules P L) (order : List ℕ) → length order ≤ 40000000 → moving r (start r) order ≡ order → HasThreads (length r.locals) (run r order) order
 threads_below r order few moves = run_keeps_with 40000000 r (HasThreads (length r.locals)) (threads_kept r (length r.locals)) (record { count = refl; below = All-nil (λ u. u < length r.locals) }) order few (move_all r order moves)
 
 -- nothing is told of a thread that isn't there

@@ -16,6 +16,7 @@ use Rattle.tc_model.specs.Blocks.{Extent, blocks_after, blocks_with, with_block,
 use Rattle.holdings.specs.Apart.{AreApart}
 use Rattle.holdings.proofs.CallFacts.{blocks_after-push, find-with_block_same, find-with_block_other, find-without_block}
 use Rattle.holdings.proofs.Blocks.{none_begins, place_of}
+use Rattle.tc_machine.specs.Arena.{most_huge}
 use Rattle.tc_machine.specs.declared.standing.Standing.{Standing}
 use Rattle.tc_machine.specs.Standing.{AreStanding}
 
@@ -70,11 +71,11 @@ found_by huge round earlier (Release pages) addr allowed = absurd allowed
 found_by huge round earlier (Drain cpu) addr allowed = absurd allowed
 found_by huge round earlier (Resize cpu class n) addr allowed = absurd allowed
 
--- an allocation's block lies in an arena of at most 2^34 bytes
-pub len_small : (huge : ℕ) (round : ℕ → ℕ) (earlier : List CallLine) (call : Call) (addr : Addr) (len : ℕ) → huge ≤ 4096 → IsAllowed huge round earlier call (Block addr len) → len ≤ 2 ^ 34
+-- an allocation's block lies in an arena of at most 2^37 bytes
+pub len_small : (huge : ℕ) (round : ℕ → ℕ) (earlier : List CallLine) (call : Call) (addr : Addr) (len : ℕ) → huge ≤ most_huge → IsAllowed huge round earlier call (Block addr len) → len ≤ 2 ^ 37
 len_small huge round earlier call addr len arena allowed = let p = place_of huge round earlier call addr len allowed in omega (arith, arena, p.inside.to)
 
-module _ (s : Standing) (line : CallLine) (huge : ℕ) (round : ℕ → ℕ) (earlier : List CallLine) (stand : AreStanding earlier s) (apart : AreApart (blocks_after earlier)) (arena : huge ≤ 4096) (allowed : IsAllowed huge round earlier line.call line.answer) where
+module _ (s : Standing) (line : CallLine) (huge : ℕ) (round : ℕ → ℕ) (earlier : List CallLine) (stand : AreStanding earlier s) (apart : AreApart (blocks_after earlier)) (arena : huge ≤ most_huge) (allowed : IsAllowed huge round earlier line.call line.answer) where
   after : blocks_after (earlier ++ line ∷ []) ≡ blocks_with (blocks_after earlier) line.answer
   after = blocks_after-push earlier line
 
@@ -87,7 +88,7 @@ module _ (s : Standing) (line : CallLine) (huge : ℕ) (round : ℕ → ℕ) (ea
       let e : blocks_after (earlier ++ line ∷ []) ≡ with_block b bs = after ∙ ap (blocks_with bs) is in
       let none : find (λ (x : Extent). eqb x.addr addr.0) bs ≡ None = none_found addr.0 bs (none_begins b bs p.inside.some apart.some p.apart) in
       let n : length (earlier ++ line ∷ []) ≡ length earlier + 1 = length-append earlier (line ∷ []) in
-      let small : len ≤ 2 ^ 34 = len_small huge round earlier line.call addr len arena allows in
+      let small : len ≤ 2 ^ 37 = len_small huge round earlier line.call addr len arena allows in
       record {
         lens = λ a. elim (cases_eq addr.0 a) [
           | inl same ↦

@@ -8,9 +8,9 @@ use Rattle.tc_model.proofs.Lists.{set_here, set_elsewhere}
 use Rattle.tc_model.proofs.CallSteps.{picks-push_same, picks-push_other, calls_from-push}
 use Rattle.std.proofs.lemmas.Bool.{cases_eq, false≢true, eqb-true, ne_eqb, cond-true, cond-false}
 use Rattle.tc_model.specs.declared.answers.CallLine.{CallLine}
-use Rattle.tc_model.specs.Calls.{AreRising, first_at, picks_of, answers_at, calls_from, decided_by}
+use Rattle.tc_model.specs.Calls.{AreRising, first_at, picks_of, answers_at, calls_from, calls_of, decided_by}
 use Rattle.tc_model.proofs.Rising.{rising_first}
-use Rattle.call_steps.specs.Local.{Decided, Local, told}
+use Rattle.call_steps.specs.Local.{Decided, told}
 use Rattle.tc_machine.specs.declared.telling.Mark.{Mark}
 use Rattle.tc_machine.specs.Telling.{decided_at, is_of, IsMark}
 
@@ -67,6 +67,7 @@ module _ (answers : List Decided) (m : Mark) (mark : IsMark answers m) where
       let rising : AreRising act_of m.picks (d.0 ∷ drop (m.told + 1) answers) = subst (AreRising act_of m.picks) rest mark.behind in
       record {
         within = within_at answers m.told d.0 d.1;
+        few = omega (arith, mark.few);
         behind = subst (λ n. AreRising act_of (n + 1) (drop (m.told + 1) answers)) d.2 rising.1;
         later = λ n from.
             let other : eqb d.0.act n ≡ false = ne_eqb d.0.act n (λ same. absurd (omega (arith, from, same, d.2))) in
@@ -91,7 +92,7 @@ module _ (answers : List Decided) (m : Mark) (mark : IsMark answers m) where
   nothing_told thread undecided = sym (ap (map (told thread)) (here ∙ (first_behind (slice_get answers m.told) refl undecided).0))
 
   pub mark_passed : is_of m.picks (slice_get answers m.told) ≡ false → IsMark answers (record { picks = m.picks + 1; told = m.told })
-  mark_passed undecided = record { within = mark.within; behind = (first_behind (slice_get answers m.told) refl undecided).1; later = λ n from. mark.later n (omega (arith, from)) }
+  mark_passed undecided = record { within = mark.within; few = omega (arith, mark.few); behind = (first_behind (slice_get answers m.told) refl undecided).1; later = λ n from. mark.later n (omega (arith, from)) }
 
 slice_get-replicate : {X : Type 0} (n : ℕ) (x : X) (i : ℕ) → i < n → slice_get (replicate n x) i ≡ Some x
 slice_get-replicate zero x i below = absurd (omega (arith, below))
@@ -101,13 +102,13 @@ slice_get-replicate (suc n) x (suc i) below = slice_get-replicate n x i (omega (
 pub here_is : {X : Type 0} (xs : List X) (t : ℕ) (x : X) → t < length xs → x ≡ get_or xs t x → slice_get xs t ≡ Some x
 here_is xs t x below is = slice_get-get_or xs t x below ∙ ap (λ y. Some y) (sym is)
 
-module _ {V R : Type 0} where
+module _ {L : Type 0} (answers : L → List Decided) where
   -- The marks of all threads, after some picks.
-  pub record AreMarks (locals : List (Local V R)) (marks : List Mark) (past : List ℕ) : Type 0 where
+  pub record AreMarks (locals : List L) (marks : List Mark) (past : List ℕ) : Type 0 where
     pub count : length marks ≡ length locals
-    pub each : (u : ℕ) (k : Local V R) (m : Mark) → slice_get locals u ≡ Some k → slice_get marks u ≡ Some m → (m.picks ≡ picks_of u past) × IsMark k.answers m
+    pub each : (u : ℕ) (k : L) (m : Mark) → slice_get locals u ≡ Some k → slice_get marks u ≡ Some m → (m.picks ≡ picks_of u past) × IsMark (answers k) m
 
-  pub first_marks : (locals : List (Local V R)) (marks : List Mark) → marks ≡ replicate (length locals) (record { picks = 0; told = 0 }) → ((t : ℕ) (l : Local V R) → slice_get locals t ≡ Some l → AreRising act_of 0 l.answers) → AreMarks locals marks []
+  pub first_marks : (locals : List L) (marks : List Mark) → marks ≡ replicate (length locals) (record { picks = 0; told = 0 }) → ((t : ℕ) (l : L) → slice_get locals t ≡ Some l → AreRising act_of 0 (answers l)) → AreMarks locals marks []
   first_marks locals marks is rising =
       let none : Mark = record { picks = 0; told = 0 } in
       record {
@@ -117,11 +118,11 @@ module _ {V R : Type 0} where
             let there : slice_get (replicate (length locals) none) u ≡ Some none = slice_get-replicate (length locals) none u within in
             let same : Some none ≡ Some m = sym there ∙ (ap (λ xs. slice_get xs u) (sym is) ∙ mark) in
             let e : none ≡ m = cc in
-            subst (λ (x : Mark). (x.picks ≡ 0) × IsMark k.answers x) e (refl, record { within = omega arith; behind = rising u k local; later = λ n from. refl });
+            subst (λ (x : Mark). (x.picks ≡ 0) × IsMark (answers k) x) e (refl, record { within = omega arith; few = omega arith; behind = rising u k local; later = λ n from. refl });
       }
 
   -- one pick more
-  pub next_marks : (locals : List (Local V R)) (marks : List Mark) (past : List ℕ) (t : ℕ) (k : Local V R) (m m' : Mark) → AreMarks locals marks past → slice_get locals t ≡ Some k → slice_get marks t ≡ Some m → m'.picks ≡ m.picks + 1 → IsMark k.answers m' → AreMarks locals (slice_set marks t m') (past ++ t ∷ [])
+  pub next_marks : (locals : List L) (marks : List Mark) (past : List ℕ) (t : ℕ) (k : L) (m m' : Mark) → AreMarks locals marks past → slice_get locals t ≡ Some k → slice_get marks t ≡ Some m → m'.picks ≡ m.picks + 1 → IsMark (answers k) m' → AreMarks locals (slice_set marks t m') (past ++ t ∷ [])
   next_marks locals marks past t k m m' are local mark picks next =
       record {
         count = length-set marks t m' ∙ are.count;
@@ -132,7 +133,7 @@ module _ {V R : Type 0} where
               let f : Some k ≡ Some l = sym local ∙ (ap (slice_get locals) same ∙ there) in
               let g : k ≡ l = cc in
               let n : picks_of u (past ++ t ∷ []) ≡ picks_of t past + 1 = ap (λ v. picks_of v (past ++ t ∷ [])) (sym same) ∙ picks-push_same t past in
-              (omega (arith, ap (λ (y : Mark). y.picks) d, picks, (are.each t k m local mark).0, n), subst (λ (y : Mark). IsMark l.answers y) d (subst (λ (y : Local V R). IsMark y.answers m') g next))
+              (omega (arith, ap (λ (y : Mark). y.picks) d, picks, (are.each t k m local mark).0, n), subst (λ (y : Mark). IsMark (answers l) y) d (subst (λ (y : L). IsMark (answers y) m') g next))
           | inr apart ↦
               let old = are.each u l x there (sym (set_elsewhere marks t u m' apart) ∙ at) in
               (old.0 ∙ sym (picks-push_other u t past apart), old.1)
@@ -140,10 +141,10 @@ module _ {V R : Type 0} where
       }
 
   -- what the next pick of thread t adds to the calls
-  pub told_next : (locals : List (Local V R)) (past : List ℕ) (t n : ℕ) (k : Local V R) (added : List CallLine) → slice_get locals t ≡ Some k → k.regs.thread.0 ≡ t → n ≡ picks_of t past → added ≡ map (told k.regs.thread.0) (decided_at n k.answers) →
-      calls_from (decided_by (λ (l : Local V R). l.answers) act_of told locals) [] (past ++ t ∷ []) ≡ calls_from (decided_by (λ (l : Local V R). l.answers) act_of told locals) [] past ++ added
-  told_next locals past t n k added local own picks is =
-      let decided = decided_by (λ (l : Local V R). l.answers) act_of told locals in
+  pub told_next : (locals : List L) (past : List ℕ) (t n : ℕ) (k : L) (added : List CallLine) → slice_get locals t ≡ Some k → n ≡ picks_of t past → added ≡ map (told t) (decided_at n (answers k)) →
+      calls_of answers act_of told locals (past ++ t ∷ []) ≡ calls_of answers act_of told locals past ++ added
+  told_next locals past t n k added local picks is =
+      let decided = decided_by answers act_of told locals in
       let number : picks_of t [] + picks_of t past ≡ n = omega (arith, picks) in
-      let same : decided t n ≡ added = ap (λ o. map (told t) (decided_at n (answers_at (λ (l : Local V R). l.answers) o))) local ∙ (ap (λ u. map (told u) (decided_at n k.answers)) (sym own) ∙ sym is) in
+      let same : decided t n ≡ added = ap (λ o. map (told t) (decided_at n (answers_at answers o))) local ∙ sym is in
       calls_from-push decided [] past t ∙ ap (λ xs. calls_from decided [] past ++ xs) (ap (decided t) number ∙ same)

@@ -1,3 +1,4 @@
+pub mod Arena
 pub mod Inputs
 pub mod Played
 pub mod Finish

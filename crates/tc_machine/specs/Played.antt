@@ -3,10 +3,12 @@ use Rattle.std.specs.Prelude.{ℕ, List}
 use Rattle.tc_model.specs.Input.{Input}
 use Rattle.tc_model.specs.Run.{Rules, World, run}
 
-pub record Played : Type 0 where
+-- the options of its machine, the input, and the order
+pub record Played (O : Type 0) : Type 0 where
+  pub options : O
   pub input : Input
   pub order : List ℕ
 
--- its parts and locals: they are those of the run of its order, by the rules of its input
-abbrev pub world : {P L : Type 0} → (Input → Rules P L) → Played → World P L
-world rules played = run (rules played.input) played.order
+-- its parts and locals: they are those of the run of its order, by the rules of its options and its input
+abbrev pub world : {O P L : Type 0} → (O → Input → Rules P L) → Played O → World P L
+world rules played = run (rules played.options played.input) played.order

@@ -4,6 +4,7 @@ use Rattle.std.specs.HashMap.{get}
 use Rattle.tc_model.specs.declared.answers.CallLine.{CallLine}
 use Rattle.tc_model.specs.Blocks.{Extent, blocks_after, live_count, live_bytes, IsAllowed}
 use Rattle.holdings.specs.Apart.{AreApart}
+use Rattle.tc_machine.specs.Arena.{most_huge}
 use Rattle.tc_machine.specs.declared.standing.Standing.{Standing}
 
 pub record AreStanding (earlier : List CallLine) (s : Standing) : Type 0 where
@@ -11,15 +12,15 @@ pub record AreStanding (earlier : List CallLine) (s : Standing) : Type 0 where
   pub count : s.count ≡ live_count earlier
   pub bytes : s.bytes ≡ live_bytes earlier
   pub few : s.count ≤ length earlier
-  pub small : s.bytes ≤ length earlier * 2 ^ 34
+  pub small : s.bytes ≤ length earlier * 2 ^ 37
 
 -- a call that comes behind some calls whose blocks stand: its answer is one that they allow
 pub record IsNext (s : Standing) (line : CallLine) : Type 0 where
   pub huge : ℕ
   pub round : ℕ → ℕ
   pub earlier : List CallLine
-  pub arena : huge ≤ 4096
-  pub few : length earlier < 2 ^ 29
+  pub arena : huge ≤ most_huge
+  pub few : length earlier < 2 ^ 26
   pub standing : AreStanding earlier s
   pub apart : AreApart (blocks_after earlier)
   pub allowed : IsAllowed huge round earlier line.call line.answer

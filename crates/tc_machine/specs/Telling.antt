@@ -13,8 +13,9 @@ abbrev pub is_of : ℕ → Option Decided → Bool
 is_of n None = false
 is_of n (Some d) = d.act == n
 
--- all answers that later picks decided stand behind the place, in their order
+-- all answers that later picks decided stand behind the place, in their order, and no pick decided more than one
 pub record IsMark (answers : List Decided) (m : Mark) : Type 0 where
   pub within : m.told ≤ length answers
+  pub few : m.told ≤ m.picks
   pub behind : AreRising (λ (d : Decided). d.act) m.picks (drop m.told answers)
   pub later : (n : ℕ) → m.picks ≤ n → decided_at n answers ≡ decided_at n (drop m.told answers)

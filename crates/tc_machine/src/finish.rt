@@ -4,6 +4,7 @@ ghost use Rattle.heap_rules.specs.Heap.{Heap, row_of};
 ghost use Rattle.alloc_rules.specs.declared.part.Part.TheVariants as part;
 ghost use Rattle.std.specs.List.{range_with_len};
 ghost use Rattle.tc_model.specs.Blocks.{IsBlockRun};
+ghost use Rattle.tc_machine.specs.Arena.{most_huge};
 ghost use Rattle.tc_machine.specs.Standing.{AreStanding};
 
 use crate::standing::Standing;
@@ -14,7 +15,7 @@ use tc_model::CallLine;
 use tc_units::{Huge, RowView};
 
 /// The page heap, which is the part with this number.
-pub(crate) fn heap_of<P: Drop>(parts: &[Part<P>], place: usize) -> &PageHeap
+pub fn heap_of<P: Drop>(parts: &[Part<P>], place: usize) -> &PageHeap
     requires { (heap : Heap) × (slice_get parts.now place ≡ Some (part.Heap heap)) }
     ensures { slice_get parts.now place ≡ Some (part.Heap result.now) }
 {
@@ -25,7 +26,7 @@ pub(crate) fn heap_of<P: Drop>(parts: &[Part<P>], place: usize) -> &PageHeap
 }
 
 /// The measures of each hugepage, in order.
-pub(crate) fn rows_of(alloc: Global, heap: &PageHeap, huge: u32) -> Result<Vec<RowView>, AllocError>
+pub fn rows_of(alloc: Global, heap: &PageHeap, huge: u32) -> Result<Vec<RowView>, AllocError>
     requires all { huge ≡ heap.now.config.huge }
     requires few { huge ≤ 4096 }
     ensures { IfOk result (λ rows. rows.items ≡ map (row_of heap.now) (range_with_len 1 huge)) }
@@ -38,9 +39,9 @@ pub(crate) fn rows_of(alloc: Global, heap: &PageHeap, huge: u32) -> Result<Vec<R
 }
 
 /// The blocks that stand after calls that are a run on disjoint blocks.
-pub(crate) fn standing_after(alloc: Global, calls: &[CallLine]) -> Result<Standing, AllocError>
-    requires run { (huge : ℕ) × (round : ℕ → ℕ) × IsBlockRun huge round calls.now × (huge ≤ 4096) }
-    requires few { length calls.now < 2 ^ 29 }
+pub fn standing_after(alloc: Global, calls: &[CallLine]) -> Result<Standing, AllocError>
+    requires run { (huge : ℕ) × (round : ℕ → ℕ) × IsBlockRun huge round calls.now × (huge ≤ most_huge) }
+    requires few { length calls.now < 2 ^ 26 }
     ensures { IfOk result (AreStanding calls.now) }
 {
     let mut standing = Standing::new(alloc);

@@ -1,14 +1,19 @@
 //! The allocator over a front-end, as a machine of parts and locals.
-ghost use Rattle.std.specs.Prelude.{◌≡◌, ◌+◌, ◌≤◌, length, map};
+ghost use Rattle.std.specs.Prelude.{◌≡◌, ◌+◌, ◌≤◌, length, map, IfOk, OnErr};
+ghost use Rattle.tc_model.specs.Input.{Asked};
+ghost use Rattle.tc_model.specs.Run.{tried};
+ghost use Rattle.tc_model.specs.Steps.{acted};
+ghost use Rattle.call_steps.specs.declared.setting.Setting.{Setting as Under};
+ghost use Rattle.alloc_rules.specs.Fits.{Fits};
 ghost use Rattle.tc_units.specs.declared.units.ThreadNo.{ThreadNo};
 ghost use Rattle.alloc_rules.specs.Inputs.{IsValidInput, not_taken};
-ghost use Rattle.alloc_rules.specs.Machine.{turns as turns_of};
+ghost use Rattle.alloc_rules.specs.Machine.{rules, turns as turns_of, waits};
 ghost use Rattle.alloc_rules.proofs.ValidProp.{valid_prop};
 ghost use Rattle.tc_machine.specs.Inputs.{input_under};
 
 use alloc_rules::{LawfulFront, Part, number_of};
 use call_steps::{
-    Local, Setting, act_front, act_heap, act_map, act_names, act_shard, waits, yields,
+    FrontEnd, Local, Setting, act_front, act_heap, act_map, act_names, act_shard, waits, yields,
 };
 use std::alloc::{AllocError, Global};
 use std::marker::PhantomData;
@@ -16,6 +21,39 @@ use std::snapshot::Snapshot;
 use tc_model::{Acted, Machine, PartNo, Serial};
 use tc_units::{Listed, ThreadNo};
 use trace_reader::Trace;
+
+/// The act of a thread at a part, whichever it is. Want of memory changes nothing.
+pub fn act_at<F: FrontEnd>(
+    setting: &Setting,
+    part: &mut Part<F::Part>,
+    local: &mut Local<F>,
+) -> Result<Acted, AllocError>
+    requires { Fits (F.rules setting.now).calls.rows (F.fits setting.now) part.old local.old }
+    ensures part { (asked : Asked) → IfOk result (λ _. part.new ≡ (tried (rules (F.rules setting.now) F.about asked) part.old local.old).0) }
+    ensures local { (asked : Asked) → IfOk result (λ _. local.new ≡ (tried (rules (F.rules setting.now) F.about asked) part.old local.old).1) }
+    ensures answer { IfOk result (λ a. a ≡ acted (waits part.old local.old)) }
+    ensures err { OnErr result ((part.new ≡ part.old) × (local.new ≡ local.old)) }
+{
+    match part {
+        Part::Front(part) => act_front(setting, part, local)?,
+        Part::Shard(shard) => act_shard(setting, shard, local)?,
+        Part::Heap(heap) => act_heap(setting, heap, local),
+        Part::Map(map) => act_map(setting, map, local)?,
+        Part::Names(names) => return Ok(act_names(setting, names, local)),
+    }
+    Ok(Acted::Moved)
+}
+
+/// Whether the act of a thread waits at a part.
+pub fn waits_at<F: FrontEnd>(part: &Part<F::Part>, local: &Local<F>) -> bool
+    requires { (setting : Under) × Fits (F.rules setting).calls.rows (F.fits setting) part.now local.now }
+    ensures { result ≡ waits part.now local.now }
+{
+    match part {
+        Part::Names(names) => waits(names, local),
+        _ => false,
+    }
+}
 
 /// The allocator under a class table, for the calls of a trace, over the front-end F.
 #[derive(Drop)]
@@ -70,10 +108,7 @@ impl<F: LawfulFront> Machine for AllocMachine<F> {
     }
 
     fn waits(&self, part: &Part<F::Part>, local: &Local<F>) -> bool {
-        match part {
-            Part::Names(names) => waits(names, local),
-            _ => false,
-        }
+        waits_at(part, local)
     }
 
     fn yields(&self, part: &Part<F::Part>, local: &Local<F>) -> bool {
@@ -89,14 +124,7 @@ impl<F: LawfulFront> Machine for AllocMachine<F> {
         part: &mut Part<F::Part>,
         local: &mut Local<F>,
     ) -> Result<Acted, AllocError> {
-        match part {
-            Part::Front(part) => act_front(&self.setting, part, local)?,
-            Part::Shard(shard) => act_shard(&self.setting, shard, local)?,
-            Part::Heap(heap) => act_heap(&self.setting, heap, local),
-            Part::Map(map) => act_map(&self.setting, map, local)?,
-            Part::Names(names) => return Ok(act_names(&self.setting, names, local)),
-        }
-        Ok(Acted::Moved)
+        act_at(&self.setting, part, local)
     }
 
     ghost sound = { λ m. (F.lawful (input_under m.setting m.trace.value) m.valid m.taken).sound };

@@ -27,9 +27,15 @@ impl<F: LawfulFront> Allocator for AllocMachine<F> {
     ghost use Rattle.tc_machine.specs.Finish.{finished_in};
     ghost use Rattle.alloc_rules.proofs.Orders.{locals_count, lawful_run};
 
+    type Options = ();
+
     ghost input = { λ m. input_under m.setting m.trace.value };
 
-    ghost rules_of = { rules_in F.rules F.about };
+    ghost options = { λ m. tt };
+
+    ghost rules_of = { λ options. rules_in F.rules F.about };
+
+    ghost arena = { λ options input. input.asked.config.huge };
 
     ghost same_rules = { λ m. refl };
 
@@ -39,13 +45,13 @@ impl<F: LawfulFront> Allocator for AllocMachine<F> {
 
     ghost takes = { F.takes };
 
-    ghost lawful = { λ input. IsLawfulOrder (rules_in F.rules F.about input) (AreLawful (F.rules (setting_of input)) F.about input.asked (F.fits (setting_of input)) (F.after input)) (F.after input) input.asked.config.events };
+    ghost lawful = { λ options input. IsLawfulOrder (rules_in F.rules F.about input) (AreLawful (F.rules (setting_of input)) F.about input.asked (F.fits (setting_of input)) (F.after input)) (F.after input) input.asked.config.events };
 
     ghost is_lawful = { λ m order moves few. lawful_run (F.rules m.setting) F.about (input_under m.setting m.trace.value).asked (F.fits m.setting) (F.after (input_under m.setting m.trace.value)) (F.lawful (input_under m.setting m.trace.value) m.valid m.taken) m.few order moves few };
 
-    ghost is_few = { λ input order law. law.few };
+    ghost is_few = { λ options input order law. law.few };
 
-    ghost told = { λ input. finished_in (F.rules (setting_of input)) F.about input.asked };
+    ghost told = { λ options input. finished_in (F.rules (setting_of input)) F.about input.asked };
 
     fn can_take(call: Call) -> bool {
         F::can_take(call)
@@ -53,6 +59,7 @@ impl<F: LawfulFront> Allocator for AllocMachine<F> {
 
     fn open(
         alloc: Global,
+        _chosen: (),
         table: ClassTable,
         trace: Trace,
     ) -> Result<Opened<AllocMachine<F>>, AllocError> {

@@ -76,7 +76,7 @@ fn add_middle<F: FrontEnd>(
 }
 
 /// All parts at their start, by their numbers.
-pub(crate) fn parts_of<F: FrontEnd>(
+pub fn parts_of<F: FrontEnd>(
     setting: &Setting,
     alloc: Global,
     labels: u32,

@@ -3,6 +3,7 @@ ghost use Rattle.std.specs.Prelude.{ℕ, ◌≤◌, ◌∷◌, [], ◌++◌, Lis
 ghost use Rattle.tc_model.specs.Blocks.{IsAllowed, blocks_after};
 ghost use Rattle.tc_model.specs.declared.answers.CallLine.{CallLine as Line};
 ghost use Rattle.holdings.specs.Apart.{AreApart};
+ghost use Rattle.tc_machine.specs.Arena.{most_huge};
 ghost use Rattle.tc_machine.specs.Standing.{AreStanding, IsNext};
 
 use std::alloc::{AllocError, Global};
@@ -11,7 +12,7 @@ use tc_model::{Answer, CallLine};
 
 /// The blocks that stand: the bytes of each by its address, their number, and the bytes of all.
 #[derive(Drop)]
-pub(crate) struct Standing {
+pub struct Standing {
     pub lens: HashMap<u64, u64>,
     pub count: u64,
     pub bytes: u64,
@@ -19,7 +20,7 @@ pub(crate) struct Standing {
 
 impl Standing {
     /// No block.
-    pub fn new(alloc: Global) -> Self
+    pub(crate) fn new(alloc: Global) -> Self
         ensures { AreStanding [] result }
     {
         Standing {
@@ -30,9 +31,9 @@ impl Standing {
     }
 
     /// What a call's answer makes of the blocks: an allocation adds its own, and a free takes one away.
-    pub fn tell(&mut self, line: &CallLine) -> Result<(), AllocError>
+    pub(crate) fn tell(&mut self, line: &CallLine) -> Result<(), AllocError>
         requires { IsNext self.old line.now }
-        ensures { OnOk result ((huge : ℕ) (round : ℕ → ℕ) (earlier : List Line) → AreStanding earlier self.old → AreApart (blocks_after earlier) → huge ≤ 4096 → IsAllowed huge round earlier line.now.call line.now.answer → AreStanding (earlier ++ line.now ∷ []) self.new) }
+        ensures { OnOk result ((huge : ℕ) (round : ℕ → ℕ) (earlier : List Line) → AreStanding earlier self.old → AreApart (blocks_after earlier) → huge ≤ most_huge → IsAllowed huge round earlier line.now.call line.now.answer → AreStanding (earlier ++ line.now ∷ []) self.new) }
     {
         match line.answer {
             Answer::Block { addr, len } => {

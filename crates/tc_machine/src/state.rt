@@ -12,6 +12,7 @@ ghost use Rattle.tc_model.specs.declared.steps.Stepped.TheVariants as step;
 ghost use Rattle.alloc_rules.specs.Inputs.{not_taken};
 ghost use Rattle.alloc_rules.specs.Machine.{turns};
 ghost use Rattle.alloc_rules.specs.Told.{TellsScripts};
+ghost use Rattle.tc_machine.specs.Arena.{most_huge};
 ghost use Rattle.tc_machine.specs.Inputs.{IsRead, asked_of, input_of};
 ghost use Rattle.tc_machine.specs.Played.{world};
 
@@ -35,19 +36,25 @@ impl<M: Allocator> Model for State<M> {
     ghost use Rattle.std.specs.Prelude.{◌≡◌};
     ghost use Rattle.tc_machine.specs.Played.{Played};
 
-    ghost Value = { Played };
+    ghost Value = { Played M.Options };
 
-    ghost view = { λ s. record { input = M.input s.replay.machine; order = s.replay.order.items } };
+    ghost view = { λ s. record { options = M.options s.replay.machine; input = M.input s.replay.machine; order = s.replay.order.items } };
 
     ghost invariant = { λ s. s.replay.limit ≡ (M.input s.replay.machine).asked.config.events };
 }
 
 impl<M: Allocator> State<M> {
-    /// The start of a run. Its condition is that the reader answers this trace for some text, and that the machine takes its
+    /// The start of a run under these options. Its condition is that the reader answers this trace for some text, and that the machine takes its
     /// calls.
-    pub fn open(alloc: Global, table: ClassTable, trace: Trace) -> Result<State<M>, AllocError>
+    pub fn open(
+        alloc: Global,
+        options: M::Options,
+        table: ClassTable,
+        trace: Trace,
+    ) -> Result<State<M>, AllocError>
         requires read { (asked : Asked) × IsRead (length table) trace asked }
         requires taken { not_taken M.takes (asked_of trace).calls ≡ 0 }
+        ensures options { IfOk result (λ s. s.options ≡ options) }
         ensures input { IfOk result (λ s. s.input ≡ input_of table trace) }
         ensures asked { IfOk result (λ s. (asked : Asked) → IsRead (length table) trace asked → s.input ≡ record { rows = table; asked = asked }) }
         ensures order { IfOk result (λ s. s.order ≡ []) }
@@ -56,7 +63,7 @@ impl<M: Allocator> State<M> {
             machine,
             parts,
             locals,
-        } = M::open(alloc, table, trace)?;
+        } = M::open(alloc, options, table, trace)?;
         let limit = machine.most_picks();
         let order = Vec::new(alloc);
         let replay = Replay::gather(alloc, machine, parts, locals, order, limit);
@@ -77,13 +84,14 @@ impl<M: Allocator> State<M> {
     /// changes anything, nor does want of memory.
     pub fn step(&mut self, thread: ThreadNo) -> Result<Stepped, StepFault>
         requires { thread.0 < self.old.input.asked.config.threads }
+        ensures options { self.new.options ≡ self.old.options }
         ensures input { self.new.input ≡ self.old.input }
-        ensures answer { IfOk result (λ s. s ≡ stepped (M.rules_of self.old.input) (world M.rules_of self.old) thread.0) }
+        ensures answer { IfOk result (λ s. s ≡ stepped (M.rules_of self.old.options self.old.input) (world M.rules_of self.old) thread.0) }
         ensures order { IfOk result (λ s. self.new.order ≡ order_with self.old.order thread.0 s) }
         ensures room { IfOk result (λ s. s ≡ step.Moved → length self.old.order < self.old.input.asked.config.events) }
-        ensures fault { IfErr result (IsFaultAt (M.rules_of self.old.input) self.old.input.asked.config.events self.old.order thread.0) }
+        ensures fault { IfErr result (IsFaultAt (M.rules_of self.old.options self.old.input) self.old.input.asked.config.events self.old.order thread.0) }
         ensures same { OnErr result (self.new ≡ self.old) }
-        ensures lawful { M.lawful self.new.input self.new.order }
+        ensures lawful { M.lawful self.new.options self.new.input self.new.order }
     {
         self.replay.step(u16::from(thread.0))
     }
@@ -92,11 +100,12 @@ impl<M: Allocator> State<M> {
     /// and again. It waits for nobody, since the allocation that a free needs is earlier and has ended.
     /// After a fault the state is that of the picks before it.
     pub fn run_serial(&mut self) -> Result<(), StepFault>
+        ensures options { self.new.options ≡ self.old.options }
         ensures input { self.new.input ≡ self.old.input }
-        ensures ok { OnOk result (self.new.order ≡ completed (M.rules_of self.old.input) (turns self.old.input.asked) self.old.input.asked.config.events self.old.order) }
-        ensures ended { OnOk result (HaveEnded (M.rules_of self.new.input) (world M.rules_of self.new)) }
-        ensures fault { IfErr result (IsCutShort (M.rules_of self.old.input) self.old.input.asked.config.events (completed (M.rules_of self.old.input) (turns self.old.input.asked) self.old.input.asked.config.events self.old.order) self.new.order) }
-        ensures lawful { M.lawful self.new.input self.new.order }
+        ensures ok { OnOk result (self.new.order ≡ completed (M.rules_of self.old.options self.old.input) (turns self.old.input.asked) self.old.input.asked.config.events self.old.order) }
+        ensures ended { OnOk result (HaveEnded (M.rules_of self.new.options self.new.input) (world M.rules_of self.new)) }
+        ensures fault { IfErr result (IsCutShort (M.rules_of self.old.options self.old.input) self.old.input.asked.config.events (completed (M.rules_of self.old.options self.old.input) (turns self.old.input.asked) self.old.input.asked.config.events self.old.order) self.new.order) }
+        ensures lawful { M.lawful self.new.options self.new.input self.new.order }
     {
         self.replay.run_serial()
     }
@@ -106,11 +115,12 @@ impl<M: Allocator> State<M> {
     /// that of the picks before it.
     pub fn run_order(&mut self, picks: &[u16]) -> Result<(), StepFault>
         requires { All (λ t. t < self.old.input.asked.config.threads) picks.now }
+        ensures options { self.new.options ≡ self.old.options }
         ensures input { self.new.input ≡ self.old.input }
-        ensures ok { OnOk result (self.new.order ≡ completed (M.rules_of self.old.input) (turns self.old.input.asked) self.old.input.asked.config.events (followed (M.rules_of self.old.input) self.old.input.asked.config.events self.old.order picks.now)) }
-        ensures ended { OnOk result (HaveEnded (M.rules_of self.new.input) (world M.rules_of self.new)) }
-        ensures fault { IfErr result (IsCutShort (M.rules_of self.old.input) self.old.input.asked.config.events (completed (M.rules_of self.old.input) (turns self.old.input.asked) self.old.input.asked.config.events (followed (M.rules_of self.old.input) self.old.input.asked.config.events self.old.order picks.now)) self.new.order) }
-        ensures lawful { M.lawful self.new.input self.new.order }
+        ensures ok { OnOk result (self.new.order ≡ completed (M.rules_of self.old.options self.old.input) (turns self.old.input.asked) self.old.input.asked.config.events (followed (M.rules_of self.old.options self.old.input) self.old.input.asked.config.events self.old.order picks.now)) }
+        ensures ended { OnOk result (HaveEnded (M.rules_of self.new.options self.new.input) (world M.rules_of self.new)) }
+        ensures fault { IfErr result (IsCutShort (M.rules_of self.old.options self.old.input) self.old.input.asked.config.events (completed (M.rules_of self.old.options self.old.input) (turns self.old.input.asked) self.old.input.asked.config.events (followed (M.rules_of self.old.options self.old.input) self.old.input.asked.config.events self.old.order picks.now)) self.new.order) }
+        ensures lawful { M.lawful self.new.options self.new.input self.new.order }
     {
         self.replay.run_order(picks)
     }
@@ -118,7 +128,7 @@ impl<M: Allocator> State<M> {
     /// The threads of the picks that moved.
     pub fn order(&self) -> &[u16]
         ensures order { result.now ≡ self.now.order }
-        ensures lawful { M.lawful self.now.input self.now.order }
+        ensures lawful { M.lawful self.now.options self.now.input self.now.order }
     {
         self.replay.order()
     }
@@ -126,7 +136,7 @@ impl<M: Allocator> State<M> {
     /// The order, without the rest.
     pub fn into_order(self) -> Vec<u16>
         ensures order { result.items ≡ self.order }
-        ensures lawful { M.lawful self.input self.order }
+        ensures lawful { M.lawful self.options self.input self.order }
     {
         let State { replay, alloc: _ } = self;
         replay.into_order()
@@ -141,7 +151,7 @@ impl<M: Allocator> State<M> {
 
     /// Whether all scripts have ended.
     pub fn ended(&self) -> bool
-        ensures { IsTrue result ↔ HaveEnded (M.rules_of self.now.input) (world M.rules_of self.now) }
+        ensures { IsTrue result ↔ HaveEnded (M.rules_of self.now.options self.now.input) (world M.rules_of self.now) }
     {
         self.replay.ended()
     }
@@ -149,7 +159,7 @@ impl<M: Allocator> State<M> {
     /// How many calls of a thread have ended.
     pub fn done(&self, thread: ThreadNo) -> u64
         requires { thread.0 < self.now.input.asked.config.threads }
-        ensures { result ≡ done_in (M.rules_of self.now.input) (world M.rules_of self.now) thread.0 }
+        ensures { result ≡ done_in (M.rules_of self.now.options self.now.input) (world M.rules_of self.now) thread.0 }
     {
         self.replay.done(u16::from(thread.0))
     }
@@ -157,7 +167,7 @@ impl<M: Allocator> State<M> {
     /// Whether it is polite to pick a thread now. It is where the thread's script has ended.
     pub fn yields(&self, thread: ThreadNo) -> bool
         requires { thread.0 < self.now.input.asked.config.threads }
-        ensures { result ≡ is_polite (M.rules_of self.now.input) (world M.rules_of self.now) thread.0 }
+        ensures { result ≡ is_polite (M.rules_of self.now.options self.now.input) (world M.rules_of self.now) thread.0 }
     {
         self.replay.yields(u16::from(thread.0))
     }
@@ -165,9 +175,10 @@ impl<M: Allocator> State<M> {
     /// The machine with its parts and locals, at its start.
     pub fn split(self) -> (M, Vec<M::Part>, Vec<M::Local>)
         requires { self.order ≡ [] }
+        ensures options { M.options result.0 ≡ self.options }
         ensures input { M.input result.0 ≡ self.input }
-        ensures start { world_of result.1.items result.2.items ≡ start (M.rules_of self.input) }
-        ensures rules { M.rules result.0 ≡ M.rules_of self.input }
+        ensures start { world_of result.1.items result.2.items ≡ start (M.rules_of self.options self.input) }
+        ensures rules { M.rules result.0 ≡ M.rules_of self.options self.input }
         ensures all { length result.2.items ≡ self.input.asked.config.threads }
     {
         let State { replay, alloc: _ } = self;
@@ -182,9 +193,10 @@ impl<M: Allocator> State<M> {
         locals: Vec<M::Local>,
         order: Vec<u16>,
     ) -> State<M>
-        requires run { world_of parts.items locals.items ≡ run (M.rules_of (M.input machine)) order.items }
-        requires moves { moving (M.rules_of (M.input machine)) (start (M.rules_of (M.input machine))) order.items ≡ order.items }
+        requires run { world_of parts.items locals.items ≡ run (M.rules_of (M.options machine) (M.input machine)) order.items }
+        requires moves { moving (M.rules_of (M.options machine) (M.input machine)) (start (M.rules_of (M.options machine) (M.input machine))) order.items ≡ order.items }
         requires few { length order.items ≤ (M.input machine).asked.config.events }
+        ensures options { result.options ≡ M.options machine }
         ensures input { result.input ≡ M.input machine }
         ensures order { result.order ≡ order.items }
     {
@@ -196,15 +208,15 @@ impl<M: Allocator> State<M> {
     /// What a run has to tell once all scripts have ended: its calls in the order in which they were
     /// decided, the blocks that they leave, and the heap's pages.
     pub fn finish(&self) -> Result<Finished, AllocError>
-        requires { HaveEnded (M.rules_of self.now.input) (world M.rules_of self.now) }
-        ensures value { IfOk result (λ f. f ≡ M.told self.now.input self.now.order) }
-        ensures blocks { IfOk result (λ f. IsBlockRun self.now.input.asked.config.huge (length_of self.now.input.rows) f.calls) }
+        requires { HaveEnded (M.rules_of self.now.options self.now.input) (world M.rules_of self.now) }
+        ensures value { IfOk result (λ f. f ≡ M.told self.now.options self.now.input self.now.order) }
+        ensures blocks { IfOk result (λ f. IsBlockRun (M.arena self.now.options self.now.input) (length_of self.now.input.rows) f.calls) }
         ensures scripts { IfOk result (λ f. TellsScripts self.now.input.asked f.calls) }
 
         // A live block's bytes are backed, and no more is backed than the arena has.
         ensures covered { IfOk result (λ f. f.live_bytes ≤ f.resident * page_bytes) }
-        ensures most { IfOk result (λ f. f.resident ≤ huge_pages * self.now.input.asked.config.huge) }
-        ensures arena { IfOk result (λ f. f.resident ≤ huge_pages * 4096) }
+        ensures most { IfOk result (λ f. f.resident ≤ huge_pages * M.arena self.now.options self.now.input) }
+        ensures arena { IfOk result (λ f. f.resident ≤ huge_pages * most_huge) }
     {
         let replay = &self.replay;
         replay

@@ -1,14 +1,44 @@
 //! The calls of a run, in the order in which they were decided.
-ghost use Rattle.std.specs.Prelude.{◌≡◌, ℕ, ◌+◌, ◌-◌, ◌^◌, ◌<◌, ◌≤◌, List, length, map, All, IfOk, Some, IsTrue, slice_get};
+ghost use Rattle.std.specs.Prelude.{◌≡◌, ℕ, ◌+◌, ◌-◌, ◌^◌, ◌<◌, ◌≤◌, List, length, map, option_map, All, IfOk, Some, slice_get};
 ghost use Rattle.std.specs.Option.{option_to_list};
-ghost use Rattle.tc_model.specs.Calls.{AreRising};
-ghost use Rattle.call_steps.specs.Local.{Decided, Local as Thread, told};
-ghost use Rattle.alloc_rules.specs.Law.{calls};
+ghost use Rattle.tc_model.specs.Calls.{AreRising, calls_of};
+ghost use Rattle.call_steps.specs.Local.{Decided, told};
 ghost use Rattle.tc_machine.specs.Telling.{decided_at, is_of, IsMark};
 
 use call_steps::{FrontEnd, Local};
 use std::alloc::{AllocError, Global};
 use tc_model::CallLine;
+use tc_units::ThreadNo;
+
+/// A thread that tells the calls which its acts decided.
+pub trait Teller {
+    // Its decided calls, in their order.
+    ghost answers: { Self → List Decided };
+
+    /// The act that decided the call behind `i` others. `None` exactly where no more are decided.
+    fn act_of(&self, i: usize) -> Option<u64>
+        ensures { result ≡ option_map (λ (d : Decided). d.act) (slice_get (answers self.now) i) };
+
+    /// The call that was decided behind `i` others, as that of the thread of this number.
+    fn line_of(&self, thread: ThreadNo, i: usize) -> CallLine
+        requires { i < length (answers self.now) }
+        ensures { Some result ≡ option_map (told thread.0) (slice_get (answers self.now) i) };
+}
+
+impl<F: FrontEnd> Teller for Local<F> {
+    ghost answers = { λ l. l.answers };
+
+    fn act_of(&self, i: usize) -> Option<u64> {
+        Some(self.answers().get(i)?.act)
+    }
+
+    fn line_of(&self, thread: ThreadNo, i: usize) -> CallLine {
+        CallLine {
+            thread,
+            ..self.call_line(i)
+        }
+    }
+}
 
 /// How far a thread has come: its picks so far, and how many of its calls they decided.
 #[derive(Clone, Copy)]
@@ -18,28 +48,27 @@ pub(crate) struct Mark {
 }
 
 /// Whether the thread's next pick decided a call.
-fn is_decided<F: FrontEnd>(local: &Local<F>, mark: &Mark) -> bool
-    ensures answer { result ≡ is_of mark.now.picks (slice_get local.now.answers mark.now.told) }
-    ensures fits { IsTrue result → mark.now.told < 2 ^ 64 - 1 }
+fn is_decided<T: Teller>(teller: &T, mark: &Mark) -> bool
+    ensures { result ≡ is_of mark.now.picks (slice_get (T.answers teller.now) mark.now.told) }
 {
-    match local.answers().get(mark.told) {
-        Some(answered) => answered.act == mark.picks,
+    match teller.act_of(mark.told) {
+        Some(act) => act == mark.picks,
         None => false,
     }
 }
 
 /// The call that the thread's next pick decided, if it decided one.
-fn next_line<F: FrontEnd>(local: &Local<F>, mark: &mut Mark) -> Option<CallLine>
-    requires mark { IsMark local.now.answers mark.old }
+fn next_line<T: Teller>(teller: &T, thread: ThreadNo, mark: &mut Mark) -> Option<CallLine>
+    requires mark { IsMark (T.answers teller.now) mark.old }
     requires few { mark.old.picks < 2 ^ 64 - 1 }
-    ensures line { option_to_list result ≡ map (told local.now.regs.thread.0) (decided_at mark.old.picks local.now.answers) }
-    ensures mark { IsMark local.now.answers mark.new }
+    ensures line { option_to_list result ≡ map (told thread.0) (decided_at mark.old.picks (T.answers teller.now)) }
+    ensures mark { IsMark (T.answers teller.now) mark.new }
     ensures picks { mark.new.picks ≡ mark.old.picks + 1 }
 {
-    let decided = is_decided(local, mark);
+    let decided = is_decided(teller, mark);
     mark.picks += 1;
     if decided {
-        let line = local.call_line(mark.told);
+        let line = teller.line_of(thread, mark.told);
         mark.told += 1;
         Some(line)
     } else {
@@ -47,24 +76,24 @@ fn next_line<F: FrontEnd>(local: &Local<F>, mark: &mut Mark) -> Option<CallLine>
     }
 }
 
-/// The calls that the picks of an order decided, in their order.
-pub(crate) fn told_calls<F: FrontEnd>(
+/// The calls that the picks of an order decided, in their order. A thread's number is its place.
+pub fn told_calls<T: Teller>(
     alloc: Global,
-    locals: &[Local<F>],
+    tellers: &[T],
     order: &[u16],
 ) -> Result<Vec<CallLine>, AllocError>
-    requires threads { All (λ t. t < length locals.now) order.now }
+    requires numbers { length tellers.now ≤ 2 ^ 8 }
+    requires threads { All (λ t. t < length tellers.now) order.now }
     requires few { length order.now ≤ 40000000 }
-    requires own { (t : ℕ) (l : Thread F.Seat F.Row) → slice_get locals.now t ≡ Some l → l.regs.thread.0 ≡ t }
-    requires rising { (t : ℕ) (l : Thread F.Seat F.Row) → slice_get locals.now t ≡ Some l → AreRising (λ (d : Decided). d.act) 0 l.answers }
-    ensures calls { IfOk result (λ lines. lines.items ≡ calls locals.now order.now) }
+    requires rising { (t : ℕ) (l : T) → slice_get tellers.now t ≡ Some l → AreRising (λ (d : Decided). d.act) 0 (T.answers l) }
+    ensures calls { IfOk result (λ lines. lines.items ≡ calls_of T.answers (λ (d : Decided). d.act) told tellers.now order.now) }
     ensures few { IfOk result (λ lines. length lines.items ≤ length order.now) }
 {
-    let mut marks = vec![in alloc; Mark { picks: 0, told: 0 }; locals.len()]?;
+    let mut marks = vec![in alloc; Mark { picks: 0, told: 0 }; tellers.len()]?;
     let mut lines = Vec::new(alloc);
     for thread in order {
         let t = *thread as usize;
-        if let Some(line) = next_line(&locals[t], &mut marks[t]) {
+        if let Some(line) = next_line(&tellers[t], ThreadNo(t as u8), &mut marks[t]) {
             lines.push(line)?;
         }
     }

@@ -9,8 +9,7 @@ use Rattle.tcreplay.specs.declared.outcome.End.{End}
 use Rattle.tcreplay.specs.declared.outcome.End.TheVariants.{Done, Usage, ReadFault, WriteFault, Memory, FileFault}
 use Rattle.journal_audit.specs.declared.verdict.Verdict as journal
 use Rattle.journal_audit.specs.declared.verdict.Verdict.TheVariants.{Yes, No}
-use Rattle.tcreplay.specs.Tasks.{Replay, Workload, Audit, Task, ToReplay, ToGenerate, ToAudit, file_of}
-use Rattle.tcreplay.specs.declared.machines.Front.{Front}
+use Rattle.tcreplay.specs.Tasks.{Front, Replay, Workload, Audit, Task, ToReplay, ToGenerate, ToAudit, file_of}
 use Rattle.tcreplay.specs.Machines.{Machine}
 use Rattle.tc_model.specs.Run.{run}
 use Rattle.tcreplay.specs.Verdict.{Given, Job, and_then, rows_in, asked_in, picks_or, job_with, job_of, run_verdict, have_ended, order_of_job, Verdict}

@@ -14,9 +14,8 @@ use Rattle.tcreplay.specs.declared.outcome.End.{End}
 use Rattle.tcreplay.specs.declared.outcome.End.TheVariants.{BadTable, BadTrace, Memory, TooLong, BadOrder, FileFault}
 use Rattle.tc_model.specs.Input.{Asked, scripts_of}
 use Rattle.tc_machine.specs.Taken.{refused_line}
-use Rattle.tcreplay.specs.declared.machines.Front.{Front}
 use Rattle.tcreplay.specs.Machines.{machine_of}
-use Rattle.tcreplay.specs.Tasks.{Replay, file_of}
+use Rattle.tcreplay.specs.Tasks.{Front, Replay, file_of}
 use Rattle.tcreplay.specs.Auditing.{case_of, case_with, case_in}
 use Rattle.tcreplay.specs.Verdict.{Given, and_then, or_end, within, file_within, table_limit, trace_limit, table_end, trace_end, order_end, rows_in, asked_of_text, unless_refused, taken_by, asked_for, asked_in, picks_or, job_with, job_of, read_of}
 

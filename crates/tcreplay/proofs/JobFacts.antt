@@ -12,8 +12,7 @@ use Rattle.tc_machine.specs.Inputs.{asked_of}
 use Rattle.tcreplay.specs.declared.outcome.End.{End}
 use Rattle.tcreplay.specs.declared.outcome.End.TheVariants.{Done, WriteFault, Full, Memory, TooLong, ReadFault, FileFault, AuditNo}
 use Rattle.tcreplay.specs.declared.input.Job.{Job}
-use Rattle.tcreplay.specs.declared.machines.Front.{Front}
-use Rattle.tcreplay.specs.Tasks.{Replay, file_of}
+use Rattle.tcreplay.specs.Tasks.{Front, Replay, file_of}
 use Rattle.tcreplay.specs.Verdict as verdict
 use Rattle.tcreplay.specs.Verdict.{Given, and_then, trace_limit, rows_in, asked_in, picks_in, picks_or, job_with, read_of}
 use Rattle.tcreplay.specs.Reads.{Reading, Shelving, IsFile, IsStep, IsLoad, ArePicks, IsTraceRead, CutOff, HasRead, IsAllRead, IsReadAs, AreRead, IsJobRead, IsCounted, seen_job, loads_behind, most_gone, is_of_file, is_behind_trace, is_behind_run}

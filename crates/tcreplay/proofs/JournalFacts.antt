@@ -1,5 +1,5 @@
 -- What is printed of a run that has ended is a legal journal.
-use Rattle.std.proofs.Common.{◌≡◌, ℕ, ◌<◌, ◌≤◌, ◌==◌, List, [], ◌∷◌, ◌++◌, length, map, Bool}
+use Rattle.std.proofs.Common.{◌≡◌, ℕ, ◌<◌, ◌≤◌, List, [], length, map, Bool}
 use Rattle.std.proofs.Common.{Option, Some, sym, ap, ◌∙◌, subst, inl, inr, arith}
 use Rattle.std.specs.Prelude.{All}
 use Rattle.std.specs.List.{range_with_len}
@@ -15,7 +15,6 @@ use Rattle.tc_model.specs.declared.calls.Planned.{Planned}
 use Rattle.tc_model.specs.declared.calls.Script.{Script}
 use Rattle.tc_model.specs.Blocks.{IsBlockRun}
 use Rattle.tc_model.specs.Input.{Input, script_of, scripts_of}
-use Rattle.tc_model.specs.Run.{Rules}
 use Rattle.alloc_rules.specs.Told.{calls_in, TellsScripts}
 use Rattle.usage_report.specs.Report.{IsTellable}
 use Rattle.journal_audit.specs.Rules.{journal_of}
@@ -48,7 +47,7 @@ unplanned input t high =
     ap (λ (o : Option Script). map (λ (p : Planned). p.call) (option_map_or (λ (s : Script). s.calls) o [])) none
 
 -- of calls that are a run on disjoint blocks and each thread's whole script, as a run tells them
-module _ {P L : Type 0} (rules : Input → Rules P L) (told : Input → List ℕ → Finished) (lawful : Input → List ℕ → Type 0) (law : PrintedIsLegal) (input : Input) (order : List ℕ)
+module _ (told : Input → List ℕ → Finished) (law : PrintedIsLegal) (input : Input) (order : List ℕ)
     (blocks : IsBlockRun input.asked.config.huge (length_of input.rows) (told input order).calls) (tells : TellsScripts input.asked (told input order).calls) where
   legal : (rows : Bool) (sample : Option ℕ) → All IsTellable (told input order).calls → IsLegal (plan_in input) (journal_of (text_with rows sample (told input order)))
   legal rows sample tellable =
@@ -59,12 +58,13 @@ module _ {P L : Type 0} (rules : Input → Rules P L) (told : Input → List ℕ
       ] in
       law (plan_in input) f.calls f.live f.live_bytes f.used f.resident (rows_if rows f.rows) (profile_if sample f.calls) blocks scripts tellable
 
-  legal_told : (telling : Telling) → AreTellable telling (told input order).calls → IsJournal rules told lawful telling input order
+  legal_told : (telling : Telling) → AreTellable telling (told input order).calls → IsJournal told telling input order
   legal_told (Whole rows sample) tellable = legal rows sample tellable
   legal_told Summary tellable = tt
 
-pub told_legal : {P L : Type 0} (rules : Input → Rules P L) (told : Input → List ℕ → Finished) (lawful : Input → List ℕ → Type 0) (law : PrintedIsLegal) (input : Input) (order : List ℕ) (telling : Telling) (f : Finished) → f ≡ told input order
-    → IsBlockRun input.asked.config.huge (length_of input.rows) f.calls → TellsScripts input.asked f.calls → AreTellable telling f.calls → IsJournal rules told lawful telling input order
-told_legal rules told lawful law input order telling f is blocks tells tellable =
-    legal_told rules told lawful law input order (subst (λ (g : Finished). IsBlockRun input.asked.config.huge (length_of input.rows) g.calls) is blocks) (subst (λ (g : Finished). TellsScripts input.asked g.calls) is tells)
-    telling (subst (λ (g : Finished). AreTellable telling g.calls) is tellable)
+pub told_legal : (told : Input → List ℕ → Finished) (law : PrintedIsLegal) (input : Input) (order : List ℕ) (telling : Telling) (f : Finished)
+    → f ≡ told input order → IsBlockRun input.asked.config.huge (length_of input.rows) f.calls → TellsScripts input.asked f.calls → AreTellable telling f.calls
+    → IsJournal told telling input order
+told_legal told law input order telling f is blocks tells tellable =
+    legal_told told law input order (subst (λ (g : Finished). IsBlockRun input.asked.config.huge (length_of input.rows) g.calls) is blocks)
+    (subst (λ (g : Finished). TellsScripts input.asked g.calls) is tells) telling (subst (λ (g : Finished). AreTellable telling g.calls) is tellable)

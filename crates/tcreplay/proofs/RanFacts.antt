@@ -1,20 +1,20 @@
 -- What holds of a run from what it came to, and of its end and its order.
-use Rattle.std.proofs.Common.{◌≡◌, ℕ, ◌<◌, ◌-◌, length, Bool, true, false, List, sym, ap, subst, ◌∙◌, inl, inr}
+use Rattle.std.proofs.Common.{◌≡◌, ℕ, ◌-◌, length, Bool, true, false, List, sym, ap, subst, ◌∙◌, inl, inr}
+use Rattle.tc_units.specs.Classes.{length_of}
+use Rattle.tc_model.specs.Blocks.{IsBlockRun}
 use Rattle.tc_model.specs.Input.{Input}
 use Rattle.tc_model.specs.Run.{run}
 use Rattle.tc_model.specs.Replays.{HaveEnded}
 use Rattle.tc_model.specs.Serial.{completion}
 use Rattle.cpu_rows.specs.Machine.{rules, turns}
 use Rattle.alloc_rules.specs.Told.{TellsScripts}
-use Rattle.tcreplay.specs.declared.machines.Front.{Front}
-use Rattle.tcreplay.specs.declared.machines.Front.TheVariants.{Cpus, Threads}
 use Rattle.tcreplay.specs.Machines.{Machine, machine_of}
 use Rattle.tcreplay.specs.declared.outcome.End.{End}
 use Rattle.tcreplay.specs.declared.outcome.End.TheVariants.{Done, WriteFault}
 use Rattle.tcreplay.specs.declared.run.Ran.{Ran}
 use Rattle.tcreplay.specs.declared.run.Telling.{Telling}
 use Rattle.tcreplay.specs.declared.task.Locks.{Locks}
-use Rattle.tcreplay.specs.Tasks.{Schedule}
+use Rattle.tcreplay.specs.Tasks.{Front, Cpus, Threads, Nodes, Schedule}
 use Rattle.tcreplay.specs.Verdict.{Job, Verdict, told_by, have_ended, order_of_job}
 use Rattle.tcreplay.specs.Ran.{IsRan, IsRanByThreads, IsJournal}
 use Rattle.tcreplay.specs.Reads.{IsMadeOf}
@@ -67,9 +67,15 @@ module _ (m : Machine) (telling : Telling) (job : Job) (ran : Ran) (end : End) (
   pub told_scripts : end ≡ Done → TellsScripts job.input.asked (m.told job.input order).calls
   told_scripts done = subst (λ o. TellsScripts job.input.asked (m.told job.input o).calls) (sym order_is) (is.scripts (done_before ran.end end last done))
 
-  -- the lines of calls of what is told are a legal journal
-  pub legal_journal : end ≡ Done → IsJournal m.rules m.told m.lawful telling job.input order
-  legal_journal done = subst (IsJournal m.rules m.told m.lawful telling job.input) (sym order_is) (is.journal (done_before ran.end end last done))
+  -- on disjoint blocks of the machine's arena
+  pub told_blocks : end ≡ Done → IsBlockRun (m.arena job.input) (length_of job.input.rows) (m.told job.input order).calls
+  told_blocks done =
+      let blocks = is.blocks (done_before ran.end end last done) in
+      subst (λ o. IsBlockRun (m.arena job.input) (length_of job.input.rows) (m.told job.input o).calls) (sym order_is) blocks
+
+  -- the lines of calls of what is told are a legal journal, where the arena has the hugepages that the trace says
+  pub legal_journal : end ≡ Done → m.arena job.input ≡ job.input.asked.config.huge → IsJournal m.told telling job.input order
+  legal_journal done same_arena = subst (IsJournal m.told telling job.input) (sym order_is) (is.journal (done_before ran.end end last done) same_arena)
 
   pub its_run : (schedule : Schedule) → IsCompleted m schedule job whole → IsOrderOf m schedule job end order
   its_run schedule made = record { whole = order_is; completed = subst (IsCompleted m schedule job) (sym order_is) made; filled = filled last }
@@ -80,3 +86,4 @@ made_by Cpus locks telling input ran by =
     let rest = completion (rules input) (turns input) (input.asked.config.events - length by.came) (run (rules input) by.came) in
     record { polite = by.polite; few = by.few; made = (by.whole.law.holds by.came rest (completed_is rules input by.came by.polite by.few)).switches by.polite }
 made_by Threads locks telling input ran by = record { polite = by.polite; few = by.few; made = tt }
+made_by (Nodes nodes) locks telling input ran by = record { polite = by.polite; few = by.few; made = tt }

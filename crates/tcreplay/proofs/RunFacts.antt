@@ -1,7 +1,6 @@
 -- What a run comes to, from what the machine says of it.
-use Rattle.std.proofs.Common.{◌≡◌, ℕ, ◌+◌, ◌≤◌, Bool, true, false, cond, List, [], ◌∷◌, ◌++◌, length, Result, Ok, Err, refl, sym, ap, subst, ◌∙◌, arith, nat_lt}
-use Rattle.std.specs.Prelude.{IfErr, IfOk}
-use Rattle.std.specs.declared.alloc.AllocError.{AllocError}
+use Rattle.std.proofs.Common.{◌≡◌, ℕ, ◌+◌, ◌≤◌, Bool, true, false, cond, List, [], ◌∷◌, ◌++◌, length, Result, Err, refl, sym, ap, subst, ◌∙◌, arith, nat_lt}
+use Rattle.std.specs.Prelude.{IfErr}
 use Rattle.std.proofs.lemmas.Bool.Decides.{nat_tests}
 use Rattle.std.proofs.lemmas.List.{append-nil, append_assoc, length-append}
 use Rattle.std.proofs.lemmas.List.Sums.{fold-append}
@@ -16,11 +15,9 @@ use Rattle.tc_model.specs.Serial.{completed, order_to, followed, IsAtLimit}
 use Rattle.tc_model.proofs.Longer.{polite_moves}
 use Rattle.alloc_rules.specs.Machine.{turns}
 use Rattle.tcreplay.specs.declared.outcome.End.TheVariants.{Done, Full}
-use Rattle.tcreplay.specs.declared.run.Ran.{Ran}
 use Rattle.tcreplay.specs.declared.run.Telling.{Telling}
-use Rattle.tcreplay.specs.Verdict.{Job, Verdict, have_ended, judged_by, order_by, told_by}
+use Rattle.tcreplay.specs.Verdict.{Verdict, have_ended, judged_by, order_by, told_by}
 use Rattle.tcreplay.specs.Order.{IsFilled}
-use Rattle.tcreplay.specs.Ran.{IsRunOf}
 use Rattle.tcreplay.proofs.Ended.{ended_true, not_ended}
 
 -- what holds of a fault holds of the one that came
@@ -38,13 +35,6 @@ followed_each r limit past (t ∷ ts) polite few =
 
 -- over the rules of a machine
 module _ {P L : Type 0} (rules : Input → Rules P L) where
-  -- the order of an input's run: picks behind an order, completed
-  abbrev pub whole : Input → List ℕ → List ℕ → List ℕ
-  whole input order picks = completed (rules input) (turns input.asked) input.asked.config.events (followed (rules input) input.asked.config.events order picks)
-
-  pub whole_is : (job : Job) (input : Input) (order picks : List ℕ) → input ≡ job.input → order ≡ [] → picks ≡ job.picks → whole input order picks ≡ order_by rules job
-  whole_is job input order picks same none given = ap (λ i. whole i order picks) same ∙ (ap (λ o. whole job.input o picks) none ∙ ap (whole job.input []) given)
-
   abbrev pub at_limit : Input → List ℕ → Verdict
   at_limit input order = record { end = Full input.asked.config.events; order = order; text = [] }
 
@@ -89,13 +79,3 @@ module _ {P L : Type 0} (rules : Input → Rules P L) where
         let seen : Verdict = record { end = Full ticket; order = items; text = text } in
         let here : seen ≡ at_limit input order = ap (λ n. let v : Verdict = record { end = Full n; order = items; text = text } in v) limit.ticket_is ∙ (ap (λ o. let v : Verdict = record { end = Full input.asked.config.events; order = o; text = text } in v) given ∙ ap (λ t. let v : Verdict = record { end = Full input.asked.config.events; order = order; text = t } in v) empty) in
         here ∙ sym (ap (λ b. verdict_if b telling input order) going)
-
-    -- and its law for an order
-    module _ (lawful : Input → List ℕ → Type 0) where
-      -- what an input's run came to, for what is the same input and order
-      pub same_run : (telling : Telling) (input other : Input) (order whole : List ℕ) (ran : Ran) → input ≡ other → order ≡ whole → IsRunOf rules told lawful telling input order ran → IsRunOf rules told lawful telling other whole ran
-      same_run telling input other order whole ran same is ran_so = subst (λ (o : List ℕ). IsRunOf rules told lawful telling other o ran) is (subst (λ (i : Input). IsRunOf rules told lawful telling i order ran) same ran_so)
-
-      pub same_result : (telling : Telling) (input other : Input) (order whole : List ℕ) (result : Result Ran AllocError) → input ≡ other → order ≡ whole → IfOk result (IsRunOf rules told lawful telling input order) → IfOk result (IsRunOf rules told lawful telling other whole)
-      same_result telling input other order whole (Ok ran) same is ran_so = same_run telling input other order whole ran same is ran_so
-      same_result telling input other order whole (Err e) same is ran_so = tt

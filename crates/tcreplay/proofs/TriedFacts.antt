@@ -10,10 +10,8 @@ use Rattle.tcreplay.specs.declared.run.Ran.{Ran}
 use Rattle.tcreplay.specs.declared.run.Telling.{Telling}
 use Rattle.tcreplay.specs.declared.run.Telling.TheVariants.{Whole}
 use Rattle.tcreplay.specs.declared.task.Locks.{Locks}
-use Rattle.tcreplay.specs.declared.machines.Front.{Front}
-use Rattle.tcreplay.specs.declared.machines.Front.TheVariants.{Cpus, Threads}
 use Rattle.tcreplay.specs.Machines.{Machine, machine_of, locks_for}
-use Rattle.tcreplay.specs.Tasks.{Replay, Schedule, InTurn, ByFile, ByThreads, file_of, locks_in}
+use Rattle.tcreplay.specs.Tasks.{Front, Cpus, Threads, Nodes, Replay, Schedule, InTurn, ByFile, ByThreads, file_of, locks_in}
 use Rattle.tcreplay.specs.Verdict as verdict
 use Rattle.tcreplay.specs.Verdict.{Given, Verdict, and_then, rows_in, asked_in, picks_or, job_with, run_verdict, order_of_job, job_of}
 use Rattle.tcreplay.specs.Reads.{Reading, Shelving, IsMadeOf, HaveCome, AreGiven, HasRead, IsJobRead, is_behind_run, seen_job}
@@ -24,7 +22,7 @@ use Rattle.tcreplay.specs.Replayed.{IsAnswer, IsHeadline, HasTried, runs, verdic
 use Rattle.tcreplay.proofs.EndFacts.{job_fails}
 use Rattle.tcreplay.proofs.JobFacts.{not_run, cut_early, gone_for}
 use Rattle.tcreplay.proofs.RunFacts.{completed_is}
-use Rattle.tcreplay.proofs.RanFacts.{made_by, order_is, lawful, text_is, have_all_ended, told_scripts, legal_journal, its_run}
+use Rattle.tcreplay.proofs.RanFacts.{made_by, order_is, lawful, text_is, have_all_ended, told_scripts, told_blocks, legal_journal, its_run}
 
 -- what was read without a refusal was read for any end
 pub read_for : (runner : Option Front) (file : Option (List ℕ)) (given : Given) (t u : Reading) (f g : Shelving) (end : End) → HasRead runner file given t u f g Done → HasRead runner file given t u f g end
@@ -54,6 +52,7 @@ not_later end early later = let e : false ≡ true = sym early ∙ later in cc
 none_made : (front : Front) (job : verdict.Job) → IsMadeOf (machine_of front) job.input []
 none_made Cpus job = record { polite = tt; few = omega arith; made = λ c. omega arith }
 none_made Threads job = record { polite = tt; few = omega arith; made = tt }
+none_made (Nodes nodes) job = record { polite = tt; few = omega arith; made = tt }
 
 none_came : (front : Front) (schedule : Schedule) (job : Result verdict.Job End) (came : List ℕ) → came ≡ [] → HaveCome (machine_of front) schedule job came
 none_came front InTurn job came none = none
@@ -129,6 +128,7 @@ module _ (replay : Replay) (given : Given) (t u : Reading) (f g : Shelving) (bef
     ended = have_all_ended (runs replay) telling job ran end order is last same done;
     told = told_scripts (runs replay) telling job ran end order is last same done;
     text = subst (Took before.taken after.taken) (text_is (runs replay) telling job ran end order is last same done) (took end ran.text.items before after done written);
+    blocks = told_blocks (runs replay) telling job ran end order is last same done;
     journal = legal_journal (runs replay) telling job ran end order is last same done;
     law = lawful (runs replay) telling job ran end order is last same;
   }

@@ -30,7 +30,7 @@ use Rattle.tcreplay.specs.Came.{IsLeft}
 use Rattle.tcreplay.specs.Order.{IsFilled}
 use Rattle.tcreplay.specs.Verdict.{Verdict}
 use Rattle.tcreplay.specs.Ran.{seen_ran, IsRunOf, IsRunByThreads}
-use Rattle.tcreplay.proofs.RunFacts.{same_run, completed_is}
+use Rattle.tcreplay.proofs.RunFacts.{completed_is}
 
 -- what was left is the run of the order that came
 pub left_run : {P L : Type 0} (r : Rules P L) (parts : List P) (locals : List L) (es : List Entry) (order : List ℕ) → IsRun r parts locals es → order ≡ threads_in es → world_of parts locals ≡ run r order
@@ -48,32 +48,31 @@ module _ {P L : Type 0} (rules : Input → Rules P L) where
   pub many_locals : (input : Input) (order : List ℕ) → length (rules input).locals ≡ input.asked.config.threads → length (run (rules input) order).locals ≡ input.asked.config.threads
   many_locals input order many = length_run (rules input) order ∙ many
 
-  -- a run that threads began and that was completed
-  module _ (told : Input → List ℕ → Finished) (lawful : Input → List ℕ → Type 0) (is_few : (input : Input) (order : List ℕ) → lawful input order → length order ≤ input.asked.config.events) where
-    by_threads : (locks : Locks) (telling : Telling) (other input : Input) (came order : List ℕ) (ran : Ran) → ran.under ≡ Some locks → other ≡ input → order ≡ completed (rules input) (turns input.asked) input.asked.config.events came → IsPolite (rules input) (start (rules input)) came
-        → IsRunOf rules told lawful telling other order ran → IsRunByThreads rules told lawful locks telling input ran
-    by_threads locks telling other input came order ran under same is polite ran_so =
-        let whole : List ℕ = completed (rules input) (turns input.asked) input.asked.config.events came in
-        let here : IsRunOf rules told lawful telling input whole ran = same_run rules told lawful telling other input order whole ran same is ran_so in
-        let long = length-append came (completion (rules input) (turns input.asked) (input.asked.config.events - length came) (run (rules input) came)) in
-        let few : length came ≤ input.asked.config.events = (let most = is_few input whole here.law in omega (arith, long, most)) in
-        record { under = under; came = came; polite = polite; few = few; whole = subst (λ o. IsRunOf rules told lawful telling input o ran) (completed_is rules input came polite few) here }
-
-    -- the same run, with the locks under which it began
-    pub by_threads_under : (locks : Locks) (telling : Telling) (other input : Input) (came order : List ℕ) (ran under : Ran) → seen_ran under ≡ seen_ran ran → under.under ≡ Some locks → other ≡ input → order ≡ completed (rules input) (turns input.asked) input.asked.config.events came
-        → IsPolite (rules input) (start (rules input)) came → IsRunOf rules told lawful telling other order ran → IsRunByThreads rules told lawful locks telling input under
-    by_threads_under locks telling other input came order ran under seen locked same is polite ran_so =
+  -- a run that threads began and that was completed, with the locks under which it began
+  module _ (arena : Input → ℕ) (told : Input → List ℕ → Finished) (lawful : Input → List ℕ → Type 0)
+      (is_few : (input : Input) (order : List ℕ) → lawful input order → length order ≤ input.asked.config.events) where
+    pub by_threads_under : (locks : Locks) (telling : Telling) (input : Input) (came : List ℕ) (ran under : Ran)
+        → seen_ran under ≡ seen_ran ran → under.under ≡ Some locks → IsPolite (rules input) (start (rules input)) came
+        → IsRunOf rules arena told lawful telling input (completed (rules input) (turns input.asked) input.asked.config.events came) ran
+        → IsRunByThreads rules arena told lawful locks telling input under
+    by_threads_under locks telling input came ran under seen locked polite ran_so =
+        let all : List ℕ = completed (rules input) (turns input.asked) input.asked.config.events came in
         let ends : under.end ≡ ran.end = ap (λ (v : Verdict). v.end) seen in
-        by_threads locks telling other input came order under locked same is polite (record {
+        let long = length-append came (completion (rules input) (turns input.asked) (input.asked.config.events - length came) (run (rules input) came)) in
+        let few : length came ≤ input.asked.config.events = (let most = is_few input all ran_so.law in omega (arith, long, most)) in
+        let here : IsRunOf rules arena told lawful telling input all under = record {
           is = seen ∙ ran_so.is;
           law = ran_so.law;
-          filled = subst (λ e. IsFilled rules other e order) (sym ends) ran_so.filled;
+          filled = subst (λ e. IsFilled rules input e all) (sym ends) ran_so.filled;
           scripts = λ done. ran_so.scripts (sym ends ∙ done);
+          blocks = λ done. ran_so.blocks (sym ends ∙ done);
           journal = λ done. ran_so.journal (sym ends ∙ done);
-        })
+        } in
+        let whole = subst (λ o. IsRunOf rules arena told lawful telling input o under) (completed_is rules input came polite few) here in
+        record { under = locked; came = came; polite = polite; few = few; whole = whole }
 
   -- what was left under part locks
-  pub parts_left : {C : Type 0} (result : Result C AllocError) (state : C → Played) (under : C → Locks) (last : C → List Turn) (stopped : C → Option Halt) (input other : Input) (es : List Entry) (lasts : List Turn) (halt : Option Halt)
+  pub parts_left : {C O : Type 0} (result : Result C AllocError) (state : C → Played O) (under : C → Locks) (last : C → List Turn) (stopped : C → Option Halt) (input other : Input) (es : List Entry) (lasts : List Turn) (halt : Option Halt)
       → other ≡ input → IsPolite (rules input) (start (rules input)) (threads_in es) → halt ≡ halt_among lasts → (halt_among lasts ≡ None → All (λ last. last ≡ Ended) lasts)
       → (halt ≡ Some Full → length es ≡ input.asked.config.events) → length lasts ≡ input.asked.config.threads
       → (halt ≡ None → HaveEnded (rules input) (run (rules input) (threads_in es)))

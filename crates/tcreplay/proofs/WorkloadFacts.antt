@@ -1,4 +1,4 @@
--- The numbers of a workload are in their ranges.
+-- The numbers of words are in their ranges.
 use Rattle.std.proofs.Common.{◌≡◌, ℕ, ◌≤◌, Bool, true, false, ◌&&◌, ◌==◌, not, cond, List, [], ◌∷◌, length, Option, Some, None, refl, sym, subst, arith, nat_le, option_and_then}
 use Rattle.std.specs.Prelude.{IfSome, option_map}
 use Rattle.std.proofs.lemmas.Bool.Decides.{nat_tests}
@@ -10,8 +10,7 @@ use Rattle.tcreplay.specs.declared.words.Flag.{Flag}
 use Rattle.tcreplay.specs.declared.words.Flag.TheVariants as flag
 use Rattle.tcreplay.specs.Words.{Options, no_options, name_of, locks_of, number_in, once, is_switch, taken_flag, with_switch, with_value, options_of, kind_of, schedule_by, replay_with, task_under, task_with, task_by}
 use Rattle.tcreplay.specs.declared.task.Task.{Task as Asked}
-use Rattle.tcreplay.specs.declared.machines.Front.TheVariants.{Cpus, Threads}
-use Rattle.tcreplay.specs.Tasks.{IsStep, IsTask, Task, ByFile, ToAudit, ToGenerate}
+use Rattle.tcreplay.specs.Tasks.{Cpus, Threads, Nodes, IsStep, IsTask, Task, ByFile, ToAudit, ToGenerate}
 use Rattle.tcreplay.specs.Seen.{seen_task}
 
 -- what holds of a value that comes holds of it under a map, and behind a step
@@ -65,6 +64,7 @@ once_is P (Some a) value is = tt
 
 value_ranged : (so : Options) (f : Flag) (word : List ℕ) → AreRanged so → IfSome (with_value so f word) AreRanged
 value_ranged so flag.Classes word are = mapped (λ name. record so { classes = Some name }) (λ _. Unit {0}) AreRanged (once so.classes (name_of word)) (any_one (once so.classes (name_of word))) (λ name _. record { sample = are.sample; seed = are.seed; calls = are.calls; threads = are.threads })
+value_ranged so flag.Nodes word are = mapped (λ n. record so { nodes = Some n }) (λ _. Unit {0}) AreRanged (once so.nodes (number_in 1 8 word)) (any_one (once so.nodes (number_in 1 8 word))) (λ n _. record { sample = are.sample; seed = are.seed; calls = are.calls; threads = are.threads })
 value_ranged so flag.Order word are = mapped (λ name. record so { order = Some name }) (λ _. Unit {0}) AreRanged (once so.order (name_of word)) (any_one (once so.order (name_of word))) (λ name _. record { sample = are.sample; seed = are.seed; calls = are.calls; threads = are.threads })
 value_ranged so flag.Locks word are = mapped (λ locks. record so { locks = Some locks }) (λ _. Unit {0}) AreRanged (once so.locks (locks_of word)) (any_one (once so.locks (locks_of word))) (λ locks _. record { sample = are.sample; seed = are.seed; calls = are.calls; threads = are.threads })
 value_ranged so flag.Workers word are = tt
@@ -104,6 +104,9 @@ under_ranged kind.Serial so classes are = are.sample
 under_ranged kind.Order so classes are = mapped (λ order. replay_with so Cpus classes (ByFile order)) (λ _. Unit {0}) IsTask so.order (any_one so.order) (λ order _. are.sample)
 under_ranged kind.Workers so classes are = are.sample
 under_ranged kind.PerThread so classes are = mapped (replay_with so Threads classes) (λ _. Unit {0}) IsTask (schedule_by so) (any_one (schedule_by so)) (λ schedule _. are.sample)
+under_ranged kind.Numa so classes are =
+    behind (λ nodes. option_map (replay_with so (Nodes nodes) classes) (schedule_by so)) (λ _. Unit {0}) IsTask so.nodes (any_one so.nodes)
+    (λ nodes _. mapped (replay_with so (Nodes nodes) classes) (λ _. Unit {0}) IsTask (schedule_by so) (any_one (schedule_by so)) (λ schedule _. are.sample))
 under_ranged kind.Gen so classes are =
     let made : ℕ → ℕ → ℕ → Task = λ seed calls threads. ToGenerate (record { classes = classes; seed = seed; calls = calls; threads = threads }) in
     behind (λ seed. option_and_then (λ calls. option_map (made seed calls) so.threads) so.calls) (λ n. (0 ≤ n) × (n ≤ 2147483647)) IsTask so.seed are.seed

@@ -16,7 +16,8 @@ use Rattle.tcreplay.specs.declared.task.Locks.TheVariants.{Parts}
 -- They ran on this input from its start, under these locks; each of their picks moved and was polite; each thread has a last
 -- answer; the halt is that of these, and none lacked memory; where none was halted, each answered last that its script has
 -- ended. Under part locks each script has ended then, and where one was halted at the limit, as many picks moved as may.
-pub record IsLeft {P L : Type 0} (rules : Input → Rules P L) (input : Input) (locks : Locks) (state : Played) (under : Locks) (lasts : List Turn) (halt : Option Halt) : Type 0 where
+pub record IsLeft {O P L : Type 0} (rules : Input → Rules P L) (input : Input) (locks : Locks) (state : Played O)
+    (under : Locks) (lasts : List Turn) (halt : Option Halt) : Type 0 where
   pub input_is : state.input ≡ input
   pub locks_are : under ≡ locks
   pub polite : IsPolite (rules input) (start (rules input)) state.order

@@ -18,9 +18,8 @@ use Rattle.tc_machine.specs.Inputs.{IsRead, asked_of, input_of}
 use Rattle.tcreplay.specs.declared.outcome.End.{End}
 use Rattle.tcreplay.specs.declared.outcome.End.TheVariants.{Done, BadTrace, ReadFault, WriteFault, Memory, TooLong, Full, BadOrder, FileFault, AuditNo}
 use Rattle.tcreplay.specs.declared.input.Job.{Job}
-use Rattle.tcreplay.specs.declared.machines.Front.{Front}
 use Rattle.tcreplay.specs.Machines.{Machine, machine_of}
-use Rattle.tcreplay.specs.Tasks.{Replay, Schedule, InTurn, ByFile, ByThreads, file_of}
+use Rattle.tcreplay.specs.Tasks.{Front, Replay, Schedule, InTurn, ByFile, ByThreads, file_of}
 use Rattle.tcreplay.specs.Verdict.{Given, trace_limit, rows_in, asked_in, picks_in, job_of, and_then}
 use Rattle.tcreplay.specs.Verdict as verdict
 

@@ -1,5 +1,7 @@
 -- What a replay makes of its ends, and what it answers: that is its verdict, or something came between.
 use Rattle.std.specs.Prelude.{◌≡◌, ℕ, ◌⊎◌, true, List, [], Some, Ok}
+use Rattle.tc_units.specs.Classes.{length_of}
+use Rattle.tc_model.specs.Blocks.{IsBlockRun}
 use Rattle.tc_model.specs.Run.{run}
 use Rattle.tc_model.specs.Replays.{HaveEnded}
 use Rattle.tc_ports.specs.Told.{Took}
@@ -33,15 +35,17 @@ IsAnswer replay given t u f g end order =
 
 -- The headline. What is printed is the text of the order that is answered with it; that order is the order file's, or the
 -- worker threads', completed; in it every call has returned, and the calls that are told of each thread are its whole
--- script, in its order; the lines of calls of that text are a legal journal of the trace; and the machine's law holds for it.
+-- script, in its order, on disjoint blocks of the machine's arena; where the arena has the hugepages that the trace says, the
+-- lines of calls of that text are a legal journal of the trace; and the machine's law holds for it.
 pub record IsHeadline (replay : Replay) (given : Given) (before after : Writing) (order : List ℕ) : Type 0 where
   pub job : Job
   pub asked : job_of replay given ≡ Ok job
   pub order_is : order ≡ order_of_job (runs replay) job
   pub ended : HaveEnded ((runs replay).rules job.input) (run ((runs replay).rules job.input) order)
   pub told : TellsScripts job.input.asked ((runs replay).told job.input order).calls
+  pub blocks : IsBlockRun ((runs replay).arena job.input) (length_of job.input.rows) ((runs replay).told job.input order).calls
   pub text : Took before.taken after.taken (text_with replay.rows replay.sample ((runs replay).told job.input order))
-  pub journal : IsLegal (plan_in job.input) (journal_of (text_with replay.rows replay.sample ((runs replay).told job.input order)))
+  pub journal : (runs replay).arena job.input ≡ job.input.asked.config.huge → IsLegal (plan_in job.input) (journal_of (text_with replay.rows replay.sample ((runs replay).told job.input order)))
   pub law : (runs replay).lawful job.input order
 
 -- A replay was tried, with its trace, its files and its output before and after.

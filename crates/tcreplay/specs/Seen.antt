@@ -2,6 +2,9 @@
 use Rattle.std.specs.Prelude.{option_map}
 use Rattle.tcreplay.specs.Words as words
 use Rattle.tcreplay.specs.Tasks as tasks
+use Rattle.numa_heaps.specs.declared.nodes.Nodes.{Nodes as Count}
+use Rattle.tcreplay.specs.declared.machines.Front.{Front}
+use Rattle.tcreplay.specs.declared.machines.Front.TheVariants.{Cpus, Threads, Nodes}
 use Rattle.tcreplay.specs.declared.words.Options.{Options}
 use Rattle.tcreplay.specs.declared.task.Replay.{Replay}
 use Rattle.tcreplay.specs.declared.task.Workload.{Workload}
@@ -14,6 +17,7 @@ use Rattle.tcreplay.specs.declared.task.Schedule.TheVariants.{InTurn, ByFile, By
 abbrev pub seen : Options → words.Options
 seen o = record {
   classes = option_map (λ name. name.now) o.classes;
+  nodes = option_map (λ (n : Count). n.count) o.nodes;
   order = option_map (λ name. name.now) o.order;
   locks = o.locks;
   workers = o.workers;
@@ -25,13 +29,18 @@ seen o = record {
   journal = option_map (λ name. name.now) o.journal;
 }
 
+abbrev pub seen_front : Front → tasks.Front
+seen_front Cpus = tasks.Cpus
+seen_front Threads = tasks.Threads
+seen_front (Nodes nodes) = tasks.Nodes nodes.count
+
 abbrev pub seen_schedule : Schedule → tasks.Schedule
 seen_schedule InTurn = tasks.InTurn
 seen_schedule (ByFile order) = tasks.ByFile order.now
 seen_schedule (ByThreads locks) = tasks.ByThreads locks
 
 abbrev pub seen_replay : Replay → tasks.Replay
-seen_replay r = record { front = r.front; classes = r.classes.now; schedule = seen_schedule r.schedule; rows = r.rows; sample = r.sample }
+seen_replay r = record { front = seen_front r.front; classes = r.classes.now; schedule = seen_schedule r.schedule; rows = r.rows; sample = r.sample }
 
 abbrev pub seen_workload : Workload → tasks.Workload
 seen_workload r = record { classes = r.classes.now; seed = r.seed; calls = r.calls; threads = r.threads }

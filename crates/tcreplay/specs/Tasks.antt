@@ -1,7 +1,13 @@
 -- What a command comes to: a trace is replayed, or one is generated and replayed, or a journal of its calls is judged.
 use Rattle.std.specs.Prelude.{ℕ, ◌≤◌, Bool, IfSome, List, Option, Some, None, option_and_then}
-use Rattle.tcreplay.specs.declared.machines.Front.{Front}
 use Rattle.tcreplay.specs.declared.task.Locks.{Locks}
+
+-- What serves small objects: slabs of CPUs or caches of threads before the shards, or the shards of a thread's memory node
+-- alone, of so many nodes.
+pub data Front : Type 0 where
+  Cpus : Front
+  Threads : Front
+  Nodes : ℕ → Front
 
 -- Which picks a replay makes before it goes on in trace order: none, those of an order file, or those of a running thread
 -- for each thread of the trace, under such locks.
@@ -20,7 +26,7 @@ locks_in InTurn = None
 locks_in (ByFile order) = None
 locks_in (ByThreads locks) = Some locks
 
--- the replay of a trace: what serves small objects first, the file of the class table, which picks come first, whether the
+-- the replay of a trace: what serves small objects, the file of the class table, which picks come first, whether the
 -- rows are printed, and at each how many bytes of requests an allocation is sampled, if any is
 pub record Replay : Type 0 where
   pub front : Front

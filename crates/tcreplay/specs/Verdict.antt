@@ -25,8 +25,7 @@ use Rattle.tcreplay.specs.declared.run.Telling.{Telling}
 use Rattle.tcreplay.specs.declared.run.Telling.TheVariants.{Whole, Summary}
 use Rattle.tcreplay.specs.declared.outcome.End.{End}
 use Rattle.tcreplay.specs.declared.outcome.End.TheVariants.{Done, BadTable, BadTrace, Memory, TooLong, Full, BadOrder, FileFault}
-use Rattle.tcreplay.specs.declared.machines.Front.{Front}
-use Rattle.tcreplay.specs.Tasks.{Replay, file_of}
+use Rattle.tcreplay.specs.Tasks.{Front, Replay, file_of}
 use Rattle.tcreplay.specs.Machines.{Machine, machine_of}
 
 -- a step behind one that gave what it needs

@@ -2,11 +2,9 @@
 use Rattle.std.specs.Prelude.{ℕ, Bool, true, false, ◌==◌, not, nat_le, List, [], ◌∷◌, Option, Some, None, if◌then◌else◌, option_map, option_and_then, codes}
 use Rattle.std.specs.Str.{bytes_eq}
 use Rattle.tc_units.specs.Decimal.{number_of}
-use Rattle.tcreplay.specs.declared.machines.Front.{Front}
-use Rattle.tcreplay.specs.declared.machines.Front.TheVariants.{Cpus, Threads}
 use Rattle.tcreplay.specs.declared.task.Locks.{Locks}
 use Rattle.tcreplay.specs.declared.task.Locks.TheVariants.{One, Parts}
-use Rattle.tcreplay.specs.Tasks.{Schedule, InTurn, ByFile, ByThreads, Task, ToReplay, ToGenerate, ToAudit}
+use Rattle.tcreplay.specs.Tasks.{Front, Cpus, Threads, Nodes, Schedule, InTurn, ByFile, ByThreads, Task, ToReplay, ToGenerate, ToAudit}
 use Rattle.tcreplay.specs.declared.words.Kind.{Kind}
 use Rattle.tcreplay.specs.declared.words.Kind.TheVariants as kind
 use Rattle.tcreplay.specs.declared.words.Flag.{Flag}
@@ -35,6 +33,7 @@ kind_of word =
     else if bytes_eq word (codes "order") then Some kind.Order
     else if bytes_eq word (codes "workers") then Some kind.Workers
     else if bytes_eq word (codes "perthread") then Some kind.PerThread
+    else if bytes_eq word (codes "numa") then Some kind.Numa
     else if bytes_eq word (codes "gen") then Some kind.Gen
     else if bytes_eq word (codes "audit") then Some kind.Audit
     else None
@@ -43,6 +42,7 @@ kind_of word =
 abbrev pub flag_of : List ℕ → Option Flag
 flag_of word =
     if bytes_eq word (codes "--classes") then Some flag.Classes
+    else if bytes_eq word (codes "--nodes") then Some flag.Nodes
     else if bytes_eq word (codes "--order") then Some flag.Order
     else if bytes_eq word (codes "--locks") then Some flag.Locks
     else if bytes_eq word (codes "--workers") then Some flag.Workers
@@ -57,14 +57,18 @@ flag_of word =
 -- which options a command takes
 abbrev pub takes : Kind → Flag → Bool
 takes kind flag.Classes = true
+takes kind.Numa flag.Nodes = true
 takes kind.Order flag.Order = true
 takes kind.PerThread flag.Order = true
+takes kind.Numa flag.Order = true
 takes kind.Workers flag.Locks = true
 takes kind.PerThread flag.Workers = true
+takes kind.Numa flag.Workers = true
 takes kind.Serial flag.Rows = true
 takes kind.Order flag.Rows = true
 takes kind.Workers flag.Rows = true
 takes kind.PerThread flag.Rows = true
+takes kind.Numa flag.Rows = true
 takes kind.Serial flag.Sample = true
 takes kind.Order flag.Sample = true
 takes kind.Workers flag.Sample = true
@@ -77,6 +81,7 @@ takes kind flag = false
 -- the options that came so far
 pub record Options : Type 0 where
   pub classes : Option (List ℕ)
+  pub nodes : Option ℕ
   pub order : Option (List ℕ)
   pub locks : Option Locks
   pub workers : Bool
@@ -88,7 +93,7 @@ pub record Options : Type 0 where
   pub journal : Option (List ℕ)
 
 abbrev pub no_options : Options
-no_options = record { classes = None; order = None; locks = None; workers = false; rows = false; sample = None; seed = None; calls = None; threads = None; journal = None }
+no_options = record { classes = None; nodes = None; order = None; locks = None; workers = false; rows = false; sample = None; seed = None; calls = None; threads = None; journal = None }
 
 -- an option comes once, with a value that is its own
 abbrev pub once : {A : Type 0} → Option A → Option A → Option A
@@ -98,6 +103,7 @@ once (Some earlier) value = None
 -- the options with one more, and its value
 abbrev pub with_value : Options → Flag → List ℕ → Option Options
 with_value so flag.Classes word = option_map (λ name. record so { classes = Some name }) (once so.classes (name_of word))
+with_value so flag.Nodes word = option_map (λ n. record so { nodes = Some n }) (once so.nodes (number_in 1 8 word))
 with_value so flag.Order word = option_map (λ name. record so { order = Some name }) (once so.order (name_of word))
 with_value so flag.Locks word = option_map (λ locks. record so { locks = Some locks }) (once so.locks (locks_of word))
 with_value so flag.Workers word = None
@@ -158,6 +164,7 @@ task_under kind.Serial so classes = Some (replay_with so Cpus classes InTurn)
 task_under kind.Order so classes = option_map (λ order. replay_with so Cpus classes (ByFile order)) so.order
 task_under kind.Workers so classes = Some (replay_with so Cpus classes (ByThreads (locks_or so.locks)))
 task_under kind.PerThread so classes = option_map (replay_with so Threads classes) (schedule_by so)
+task_under kind.Numa so classes = option_and_then (λ nodes. option_map (replay_with so (Nodes nodes) classes) (schedule_by so)) so.nodes
 task_under kind.Gen so classes = option_and_then (λ seed. option_and_then (λ calls. option_map (λ threads. ToGenerate (record { classes = classes; seed = seed; calls = calls; threads = threads })) so.threads) so.calls) so.seed
 task_under kind.Audit so classes = option_map (λ journal. ToAudit (record { classes = classes; journal = journal })) so.journal
 

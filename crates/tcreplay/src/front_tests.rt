@@ -148,7 +148,7 @@ fn job_of<M: Allocator>(
 }
 
 /// What comes of a trace on a machine, behind first picks.
-fn ran_on<M: Allocator>(
+fn ran_on<M: Allocator<Options = ()>>(
     rt: &impl Abort,
     alloc: Global,
     text: &[u8],
@@ -157,6 +157,7 @@ fn ran_on<M: Allocator>(
     let job = job_of::<M>(rt, alloc, text, picks)?;
     Ok(run::<M>(
         alloc,
+        (),
         job,
         Telling::Whole {
             rows: false,
@@ -192,6 +193,7 @@ fn a_row_for_each_hugepage_is_told_without_caches(rt: HostRuntime) -> Result<(),
     let job = job_of::<PlainMachine>(&rt, alloc, REGIONS, &[])?;
     let ran = run::<PlainMachine>(
         alloc,
+        (),
         job,
         Telling::Whole {
             rows: true,
@@ -257,7 +259,7 @@ fn threads_with_caches_in_three_orders(rt: HostRuntime) -> Result<(), Fail> {
 }
 
 /// What comes of a trace whose threads run on a machine under part locks, at a gate.
-fn by_threads<R: Threads + Wait + Sync + Abort, M: Allocator + Sync, G: Gate + Sync>(
+fn by_threads<R: Threads + Wait + Sync + Abort, M: Allocator<Options = ()> + Sync, G: Gate + Sync>(
     rt: &R,
     alloc: Global,
     gate: &G,
@@ -272,7 +274,7 @@ where
         rows: false,
         sample: None,
     };
-    let ran = run_by_part_locks::<R, M, G>(rt, alloc, gate, job, telling)?;
+    let ran = run_by_part_locks::<R, M, G>(rt, alloc, gate, (), job, telling)?;
     Ok(ran)
 }
 

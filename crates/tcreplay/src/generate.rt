@@ -125,7 +125,7 @@ pub fn generate<F: Shelf, K: Sink, N: Sink>(
         Ok(made) => made,
         Err(end) => return Outcome::without_run(alloc, end),
     };
-    match run::<CpuMachine>(alloc, job, Telling::Summary) {
+    match run::<CpuMachine>(alloc, (), job, Telling::Summary) {
         Ok(ran) => write(out, notes, &text, ran),
         Err(_) => Outcome::without_run(alloc, End::Memory),
     }

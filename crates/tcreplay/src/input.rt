@@ -4,7 +4,7 @@ ghost use Rattle.std.specs.Prelude.{◌≡◌, ◌<◌, All, IfOk, List, ℕ, So
 ghost use Rattle.std.specs.Global.{Global as Memory};
 ghost use Rattle.tc_units.specs.declared.spans.ClassRow.{ClassRow};
 ghost use Rattle.tc_machine.specs.Inputs.{IsRead, asked_of};
-ghost use Rattle.tcreplay.specs.Seen.{seen_replay};
+ghost use Rattle.tcreplay.specs.Seen.{seen_front, seen_replay};
 ghost use Rattle.tcreplay.specs.Verdict.{file_within, rows_in, asked_of_text, asked_for, picks_in};
 ghost use Rattle.tcreplay.specs.Reads.{load_end, IsLoad, ArePicks, IsPure, IsTraceRead, IsTakenBy, IsRunnable, IsJobRead, AreRead};
 ghost use Rattle.tcreplay.specs.Auditing.{seen_case, case_in};
@@ -96,9 +96,9 @@ fn trace_for(
     table: &ClassTable,
     text: &[u8],
 ) -> Result<Trace, End>
-    ensures asked { IsPure asked_of (asked_for runner table.now text.now) result }
+    ensures asked { IsPure asked_of (asked_for (option_map seen_front runner) table.now text.now) result }
     ensures read { IfOk result (λ trace. IsRead (length table.now) trace (asked_of trace)) }
-    ensures taken { IfOk result (IsTakenBy runner) }
+    ensures taken { IfOk result (IsTakenBy (option_map seen_front runner)) }
 {
     let trace = trace_of(alloc, table, text)?;
     let Some(front) = runner else {
@@ -118,11 +118,11 @@ fn load_trace<S: Source>(
     table: &ClassTable,
     source: &mut S,
 ) -> Result<Trace, End>
-    ensures asked { IsTraceRead runner table.now
+    ensures asked { IsTraceRead (option_map seen_front runner) table.now
         (record { left = S.left source.old; faults = S.faults source.old; reads = S.reads source.old })
         (record { left = S.left source.new; faults = S.faults source.new; reads = S.reads source.new }) result }
     ensures read { IfOk result (λ trace. IsRead (length table.now) trace (asked_of trace)) }
-    ensures taken { IfOk result (IsTakenBy runner) }
+    ensures taken { IfOk result (IsTakenBy (option_map seen_front runner)) }
 {
     match read_all(alloc, source, MOST_TRACE_BYTES) {
         Ok(text) => trace_for(alloc, runner, table, &text),
@@ -186,7 +186,7 @@ pub fn read_job<S: Source, F: Shelf>(
         (record { files = F.files files.old; faults = F.faults files.old; loads = F.loads files.old })
         (record { files = F.files files.new; faults = F.faults files.new; loads = F.loads files.new }) result }
     ensures runnable { IfOk result IsRunnable }
-    ensures taken { IfOk result (λ job. IsTakenBy (Some replay.entry.front) job.trace) }
+    ensures taken { IfOk result (λ job. IsTakenBy (Some (seen_front replay.entry.front)) job.trace) }
 {
     let table = load_table(alloc, replay.classes, files)?;
     let trace = load_trace(alloc, Some(replay.front), &table, source)?;

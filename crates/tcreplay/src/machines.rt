@@ -4,6 +4,7 @@ ghost use Rattle.alloc_rules.specs.Inputs.{not_taken};
 ghost use Rattle.tc_machine.specs.Inputs.{asked_of};
 ghost use Rattle.tc_machine.specs.Taken.{refused_line};
 ghost use Rattle.tcreplay.specs.Machines.{machine_of, locks_for};
+ghost use Rattle.tcreplay.specs.Seen.{seen_front};
 ghost use Rattle.tcreplay.specs.Verdict.{order_of_job};
 ghost use Rattle.tcreplay.specs.Reads.{seen_job, IsRunnable};
 ghost use Rattle.tcreplay.specs.Ran.{HasStep, IsRan, IsRanByThreads};
@@ -13,6 +14,7 @@ use crate::run::{Ran, Telling, run};
 use crate::task::Locks;
 use crate::workers::{run_by_one_lock, run_by_part_locks};
 use cpu_front::CpuMachine;
+use numa_heaps::{Nodes, NumaMachine};
 use std::alloc::{AllocError, Global};
 use std::sync::Wait;
 use std::thread::Threads as HasThreads;
@@ -21,24 +23,27 @@ use tc_ports::Gate;
 use thread_front::ThreadMachine;
 use trace_reader::Trace;
 
-/// What serves small objects first. It makes the machine.
+/// What serves small objects. It makes the machine.
 #[derive(Clone, Copy, Debug, PartialEq, Eq)]
 pub enum Front {
-    /// Slabs of CPUs.
+    /// Slabs of CPUs, before the shards.
     Cpus,
-    /// A cache for each thread.
+    /// A cache for each thread, before the shards.
     Threads,
+    /// The shards of a thread's memory node alone, of so many nodes.
+    Nodes(Nodes),
 }
 
 impl Front {
     /// The line of the first call of a trace that its machine doesn't take. The slabs of CPUs take each call.
     pub fn refused_line(self, trace: &Trace) -> Option<u32>
-        ensures line { result ≡ refused_line (machine_of self).takes trace.now.scripts }
-        ensures taken { result ≡ None → not_taken (machine_of self).takes (asked_of trace.now).calls ≡ 0 }
+        ensures line { result ≡ refused_line (machine_of (seen_front self)).takes trace.now.scripts }
+        ensures taken { result ≡ None → not_taken (machine_of (seen_front self)).takes (asked_of trace.now).calls ≡ 0 }
     {
         match self {
             Front::Cpus => None,
             Front::Threads => refused_line::<ThreadMachine>(trace),
+            Front::Nodes(_) => refused_line::<NumaMachine>(trace),
         }
     }
 
@@ -46,12 +51,13 @@ impl Front {
     pub fn run(self, alloc: Global, job: Job, telling: Telling) -> Result<Ran, AllocError>
         requires runs { IsRunnable job }
         requires step { HasStep telling }
-        requires taken { not_taken (machine_of self).takes (asked_of job.trace).calls ≡ 0 }
-        ensures { IfOk result (IsRan (machine_of self) telling (seen_job job).input (order_of_job (machine_of self) (seen_job job))) }
+        requires taken { not_taken (machine_of (seen_front self)).takes (asked_of job.trace).calls ≡ 0 }
+        ensures { IfOk result (IsRan (machine_of (seen_front self)) telling (seen_job job).input (order_of_job (machine_of (seen_front self)) (seen_job job))) }
     {
         match self {
-            Front::Cpus => run::<CpuMachine>(alloc, job, telling),
-            Front::Threads => run::<ThreadMachine>(alloc, job, telling),
+            Front::Cpus => run::<CpuMachine>(alloc, (), job, telling),
+            Front::Threads => run::<ThreadMachine>(alloc, (), job, telling),
+            Front::Nodes(nodes) => run::<NumaMachine>(alloc, nodes, job, telling),
         }
     }
 
@@ -68,18 +74,26 @@ impl Front {
     ) -> Result<Ran, AllocError>
         requires runs { IsRunnable job }
         requires step { HasStep telling }
-        requires taken { not_taken (machine_of self).takes (asked_of job.trace).calls ≡ 0 }
-        ensures { IfOk result (IsRanByThreads (machine_of self) (locks_for self locks) telling (seen_job job).input) }
+        requires taken { not_taken (machine_of (seen_front self)).takes (asked_of job.trace).calls ≡ 0 }
+        ensures { IfOk result (IsRanByThreads (machine_of (seen_front self)) (locks_for (seen_front self) locks) telling (seen_job job).input) }
     {
         match self {
             Front::Cpus => match locks {
                 Locks::One => run_by_one_lock(rt, alloc, gate, job, telling),
                 Locks::Parts => run_by_part_locks::<R, CpuMachine, G>(
-                    rt, alloc, gate, job, telling,
+                    rt,
+                    alloc,
+                    gate,
+                    (),
+                    job,
+                    telling,
                 ),
             },
             Front::Threads => {
-                run_by_part_locks::<R, ThreadMachine, G>(rt, alloc, gate, job, telling)
+                run_by_part_locks::<R, ThreadMachine, G>(rt, alloc, gate, (), job, telling)
+            }
+            Front::Nodes(nodes) => {
+                run_by_part_locks::<R, NumaMachine, G>(rt, alloc, gate, nodes, job, telling)
             }
         }
     }

@@ -15,6 +15,8 @@ mod generate_tests;
 mod input;
 mod machines;
 mod notes;
+#[cfg(test)]
+mod numa_tests;
 mod outcome;
 #[cfg(test)]
 mod perthread_tests;

@@ -2,16 +2,12 @@
 //! small object of a class takes seven acts (Pop, Fetch, NewSpan, SetSpan, AddFetch, Stock, Publish), and one that its cache
 //! serves takes two. A free takes three (Take, Lookup, Add); where its cache is full, it asks another one first, raises its
 //! own limit by what that gave up, and adds again, or trims a batch and gives it to the shard.
-use crate::outcome::{End, Outcome};
-use crate::replay::{replay_alone, tcreplay};
-use crate::tests::{Case, Ends, assert_case, open, refused, replay, words_of};
-use crate::worker_tests::Hold;
-use std::alloc::{AllocError, Global};
-use std::process::Abort;
-use std::sync::Wait;
+use crate::outcome::End;
+use crate::replay::replay_alone;
+use crate::tests::{Case, assert_case, check, open, refused, replay, words_of};
+use crate::worker_tests::{Hold, replay_at};
 use std::test::Fail;
-use std::thread::Threads;
-use tc_ports::{Gate, OpenGate};
+use tc_ports::OpenGate;
 use trace_reader::LineWhy;
 
 const SERIAL: &str = "tcreplay perthread --classes T0";
@@ -50,37 +46,9 @@ const TRIMMED: Case = Case {
 };
 
 /// Each of two threads frees the small block of the other.
-const CROSSED: &[u8] = b"cpus 2\nthreads 2\na 0 0 10\na 1 1 10\nf 1 0\nf 0 1\n";
+pub(crate) const CROSSED: &[u8] = b"cpus 2\nthreads 2\na 0 0 10\na 1 1 10\nf 1 0\nf 0 1\n";
 
-const CROSSED_END: &[u8] = b"calls 4\nlive 0 0\nused 1\nresident 256\nfrag 1000\n";
-
-/// Runs a case over ends that don't fail.
-fn check(rt: &impl Abort, alloc: Global, case: &Case) -> Result<(), AllocError> {
-    let mut ends = open(alloc, case.trace, case.order)?;
-    let outcome = replay(rt, alloc, case.command, &mut ends)?;
-    assert_case(rt, case, &outcome, &ends);
-    Ok(())
-}
-
-fn replay_at<R: Threads + Wait + Sync, G: Gate + Sync>(
-    rt: &R,
-    alloc: Global,
-    command: &str,
-    ends: &mut Ends,
-    gate: &G,
-) -> Result<Outcome, AllocError> {
-    let words = words_of(alloc, command)?;
-    Ok(tcreplay(
-        rt,
-        alloc,
-        &words,
-        &mut ends.trace,
-        &mut ends.files,
-        &mut ends.out,
-        &mut ends.notes,
-        gate,
-    ))
-}
+pub(crate) const CROSSED_END: &[u8] = b"calls 4\nlive 0 0\nused 1\nresident 256\nfrag 1000\n";
 
 #[test]
 fn a_cache_serves_steals_and_trims(rt: HostRuntime) -> Result<(), Fail> {

@@ -81,10 +81,10 @@ fn told(
 
 /// What a run came to whose scripts have all ended.
 fn tell<M: Allocator>(alloc: Global, state: State<M>, telling: Telling) -> Result<Ran, AllocError>
-    requires ended { HaveEnded (M.rules_of state.input) (world M.rules_of state) }
+    requires ended { HaveEnded (M.rules_of state.options state.input) (world M.rules_of state) }
     requires valid { (classes : ℕ) × IsAsked classes state.input.asked }
     requires step { HasStep telling }
-    ensures { IfOk result (IsRunOf M.rules_of M.told M.lawful telling state.input state.order) }
+    ensures { IfOk result (IsRunOf (M.rules_of state.options) (M.arena state.options) (M.told state.options) (M.lawful state.options) telling state.input state.order) }
 {
     let finished = state.finish()?;
     let threads = state.threads();
@@ -101,8 +101,8 @@ fn tell<M: Allocator>(alloc: Global, state: State<M>, telling: Telling) -> Resul
 
 /// What a run came to that stands at its limit, where one pick more would move.
 fn stop<M: Allocator>(alloc: Global, state: State<M>, ticket: u64) -> Ran
-    requires limit { (whole : List ℕ) × IsAtLimit (M.rules_of state.input) state.input.asked.config.events whole state.order ticket }
-    ensures { (telling : Telling) → IsRunOf M.rules_of M.told M.lawful telling state.input state.order result }
+    requires limit { (whole : List ℕ) × IsAtLimit (M.rules_of state.options state.input) state.input.asked.config.events whole state.order ticket }
+    ensures { (telling : Telling) → IsRunOf (M.rules_of state.options) (M.arena state.options) (M.told state.options) (M.lawful state.options) telling state.input state.order result }
 {
     let order = state.into_order();
     Ran {
@@ -122,9 +122,9 @@ pub fn come_to<M: Allocator>(
 ) -> Result<Ran, AllocError>
     requires valid { (classes : ℕ) × IsAsked classes state.input.asked }
     requires step { HasStep telling }
-    requires ended { OnOk completed (HaveEnded (M.rules_of state.input) (world M.rules_of state)) }
-    requires fault { (whole : List ℕ) × IfErr completed (IsCutShort (M.rules_of state.input) state.input.asked.config.events whole state.order) }
-    ensures ran { (whole : List ℕ) → OnOk completed (state.order ≡ whole) → IfErr completed (IsCutShort (M.rules_of state.input) state.input.asked.config.events whole state.order) → IfOk result (IsRunOf M.rules_of M.told M.lawful telling state.input whole) }
+    requires ended { OnOk completed (HaveEnded (M.rules_of state.options state.input) (world M.rules_of state)) }
+    requires fault { (whole : List ℕ) × IfErr completed (IsCutShort (M.rules_of state.options state.input) state.input.asked.config.events whole state.order) }
+    ensures ran { (whole : List ℕ) → OnOk completed (state.order ≡ whole) → IfErr completed (IsCutShort (M.rules_of state.options state.input) state.input.asked.config.events whole state.order) → IfOk result (IsRunOf (M.rules_of state.options) (M.arena state.options) (M.told state.options) (M.lawful state.options) telling state.input whole) }
     ensures full { IfErr completed (λ fault. (fault ≡ faults.Memory → ⊥) → IsOk result) }
 {
     match completed {
@@ -134,19 +134,24 @@ pub fn come_to<M: Allocator>(
     }
 }
 
-/// Runs a job on a machine.
-pub fn run<M: Allocator>(alloc: Global, job: Job, telling: Telling) -> Result<Ran, AllocError>
+/// Runs a job on a machine with these options.
+pub fn run<M: Allocator>(
+    alloc: Global,
+    options: M::Options,
+    job: Job,
+    telling: Telling,
+) -> Result<Ran, AllocError>
     requires runs { IsRunnable job }
     requires step { HasStep telling }
     requires taken { not_taken M.takes (asked_of job.trace).calls ≡ 0 }
-    ensures { IfOk result (IsRunOf M.rules_of M.told M.lawful telling (seen_job job).input (order_by M.rules_of (seen_job job))) }
+    ensures { IfOk result (IsRunOf (M.rules_of options) (M.arena options) (M.told options) (M.lawful options) telling (seen_job job).input (order_by (M.rules_of options) (seen_job job))) }
 {
     let Job {
         table,
         trace,
         picks,
     } = job;
-    let mut state = State::<M>::open(alloc, table, trace)?;
+    let mut state = State::<M>::open(alloc, options, table, trace)?;
     let completed = state.run_order(&picks);
     come_to(alloc, state, completed, telling)
 }

@@ -38,7 +38,7 @@ impl<'a> Schedule<'a> {
     }
 }
 
-/// A replay: what serves small objects first, the file of the class table, which picks come first, whether a line
+/// A replay: what serves small objects, the file of the class table, which picks come first, whether a line
 /// for each hugepage is printed, and at each how many bytes of requests an allocation is sampled, if any is.
 #[derive(Clone, Copy, Debug)]
 pub struct Replay<'a> {

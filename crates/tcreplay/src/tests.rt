@@ -143,7 +143,7 @@ pub(crate) fn assert_case(rt: &impl Abort, case: &Case, outcome: &Outcome, ends:
 }
 
 /// Runs a case over ends that don't fail.
-fn check(rt: &impl Abort, alloc: Global, case: &Case) -> Result<(), AllocError> {
+pub(crate) fn check(rt: &impl Abort, alloc: Global, case: &Case) -> Result<(), AllocError> {
     let mut ends = open(alloc, case.trace, case.order)?;
     let outcome = replay(rt, alloc, case.command, &mut ends)?;
     assert_case(rt, case, &outcome, &ends);

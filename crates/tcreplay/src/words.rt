@@ -2,10 +2,12 @@
 ghost use Rattle.std.specs.Prelude.{◌≡◌, IfSome, Some, None, map, option_map, option_and_then, string_bytes};
 ghost use Rattle.tcreplay.specs.Tasks.{ToReplay, IsTask};
 ghost use Rattle.tcreplay.specs.Words.{name_of, locks_of, number_in, kind_of, flag_of, takes, taken_flag, is_switch, no_options, once, with_value, with_switch, options_of, schedule_by, task_with, task_by};
-ghost use Rattle.tcreplay.specs.Seen.{seen, seen_schedule, seen_task};
+ghost use Rattle.numa_heaps.specs.declared.nodes.Nodes.{Nodes as Count};
+ghost use Rattle.tcreplay.specs.Seen.{seen, seen_front, seen_schedule, seen_task};
 
 use crate::machines::Front;
 use crate::task::{Audit, Locks, Replay, Schedule, Task, Workload};
+use numa_heaps::Nodes;
 use tc_units::number;
 
 /// What the first word names.
@@ -15,6 +17,7 @@ pub enum Kind {
     Order,
     Workers,
     PerThread,
+    Numa,
     Gen,
     Audit,
 }
@@ -23,6 +26,7 @@ pub enum Kind {
 #[derive(Clone, Copy, Debug, PartialEq, Eq)]
 pub enum Flag {
     Classes,
+    Nodes,
     Order,
     Locks,
     Workers,
@@ -33,6 +37,9 @@ pub enum Flag {
     Threads,
     Journal,
 }
+
+/// The most memory nodes.
+const MOST_NODES: u64 = 8;
 
 /// The greatest seed of a generated trace.
 const MOST_SEED: u64 = 2_147_483_647;
@@ -50,6 +57,7 @@ const MOST_THREADS: u64 = 64;
 #[derive(Clone, Copy, Debug)]
 struct Options<'a> {
     classes: Option<&'a str>,
+    nodes: Option<Nodes>,
     order: Option<&'a str>,
     locks: Option<Locks>,
     workers: bool,
@@ -77,6 +85,14 @@ fn number_in(word: &str, least: u64, most: u64) -> Option<u64>
     ensures { result ≡ number_in least most word.now }
 {
     number(word.as_bytes(), most).filter(|n| least <= *n)
+}
+
+/// How many memory nodes a word says.
+fn nodes_in(word: &str) -> Option<Nodes>
+    ensures { option_map (λ (nodes : Count). nodes.count) result ≡ number_in 1 8 word.now }
+{
+    let count = number_in(word, 1, MOST_NODES)?;
+    Nodes::new(count as u8)
 }
 
 /// An option comes once, with a value that is its own.
@@ -112,6 +128,7 @@ impl Kind {
             "order" => Some(Kind::Order),
             "workers" => Some(Kind::Workers),
             "perthread" => Some(Kind::PerThread),
+            "numa" => Some(Kind::Numa),
             "gen" => Some(Kind::Gen),
             "audit" => Some(Kind::Audit),
             _ => None,
@@ -124,9 +141,10 @@ impl Kind {
     {
         match flag {
             Flag::Classes => true,
-            Flag::Order => self == Kind::Order || self == Kind::PerThread,
+            Flag::Nodes => self == Kind::Numa,
+            Flag::Order => { self == Kind::Order || self == Kind::PerThread || self == Kind::Numa }
             Flag::Locks => self == Kind::Workers,
-            Flag::Workers => self == Kind::PerThread,
+            Flag::Workers => self == Kind::PerThread || self == Kind::Numa,
             Flag::Rows => self != Kind::Gen && self != Kind::Audit,
             Flag::Sample => { self == Kind::Serial || self == Kind::Order || self == Kind::Workers }
             Flag::Seed | Flag::Calls | Flag::Threads => self == Kind::Gen,
@@ -149,6 +167,7 @@ impl Flag {
     {
         match word {
             "--classes" => Some(Flag::Classes),
+            "--nodes" => Some(Flag::Nodes),
             "--order" => Some(Flag::Order),
             "--locks" => Some(Flag::Locks),
             "--workers" => Some(Flag::Workers),
@@ -173,6 +192,7 @@ impl Flag {
 impl<'a> Options<'a> {
     const NONE: Options<'static> = Options {
         classes: None,
+        nodes: None,
         order: None,
         locks: None,
         workers: false,
@@ -190,6 +210,7 @@ impl<'a> Options<'a> {
     {
         match flag {
             Flag::Classes => self.classes = Some(once(self.classes, name_of(word))?),
+            Flag::Nodes => self.nodes = Some(once(self.nodes, nodes_in(word))?),
             Flag::Order => self.order = Some(once(self.order, name_of(word))?),
             Flag::Locks => self.locks = Some(once(self.locks, Locks::of(word))?),
             Flag::Workers | Flag::Rows => return None,
@@ -252,7 +273,7 @@ impl<'a> Options<'a> {
 
     /// The replay that a command asks for with these options.
     fn replay(self, front: Front, classes: &'a str, schedule: Schedule<'a>) -> Task<'a>
-        ensures { seen_task result ≡ ToReplay (record { front = front; classes = classes.now; schedule = seen_schedule schedule.entry; rows = self.entry.rows; sample = self.entry.sample }) }
+        ensures { seen_task result ≡ ToReplay (record { front = seen_front front; classes = classes.now; schedule = seen_schedule schedule.entry; rows = self.entry.rows; sample = self.entry.sample }) }
     {
         let rows = self.rows;
         let sample = self.sample;
@@ -283,6 +304,11 @@ impl<'a> Options<'a> {
             Kind::PerThread => {
                 let schedule = self.schedule()?;
                 Some(self.replay(Front::Threads, classes, schedule))
+            }
+            Kind::Numa => {
+                let nodes = self.nodes?;
+                let schedule = self.schedule()?;
+                Some(self.replay(Front::Nodes(nodes), classes, schedule))
             }
             Kind::Gen => {
                 let seed = self.seed?;

@@ -90,7 +90,8 @@ impl Gate for Hold {
     }
 }
 
-fn replay<R: Threads + Wait + Sync, G: Gate + Sync>(
+/// Runs a command line whose worker threads pass a gate.
+pub(crate) fn replay_at<R: Threads + Wait + Sync, G: Gate + Sync>(
     rt: &R,
     alloc: Global,
     command: &str,
@@ -117,7 +118,7 @@ fn check<R: Threads + Wait + Sync + Abort>(
     case: &Case,
 ) -> Result<(), AllocError> {
     let mut ends = open(alloc, case.trace, case.order)?;
-    let outcome = replay(rt, alloc, case.command, &mut ends, &OpenGate)?;
+    let outcome = replay_at(rt, alloc, case.command, &mut ends, &OpenGate)?;
     assert_case(rt, case, &outcome, &ends);
     Ok(())
 }
@@ -133,7 +134,7 @@ fn order_file(alloc: Global, order: &[u16]) -> Result<Vec<u8>, AllocError> {
 }
 
 /// Whether a text has these bytes somewhere.
-fn has(text: &[u8], part: &[u8]) -> bool {
+pub(crate) fn has(text: &[u8], part: &[u8]) -> bool {
     (0..text.len()).any(|from| text[from..].starts_with(part))
 }
 
@@ -146,12 +147,12 @@ fn again<R: Threads + Wait + Sync + Abort>(
     tail: &[u8],
 ) -> Result<(), AllocError> {
     let mut ends = open(alloc, trace, b"")?;
-    let outcome = replay(rt, alloc, command, &mut ends, &OpenGate)?;
+    let outcome = replay_at(rt, alloc, command, &mut ends, &OpenGate)?;
     assert_eq!(rt; outcome.end, End::Done);
     assert!(rt; has(ends.out.taken(), tail));
     let order = order_file(alloc, outcome.order.as_slice())?;
     let mut later = open(alloc, trace, &order)?;
-    let replayed = replay(
+    let replayed = replay_at(
         rt,
         alloc,
         "tcreplay order --classes T0 --order O",
@@ -197,7 +198,7 @@ fn held<R: Threads + Wait + Sync + Abort>(
 ) -> Result<(Ends, usize), AllocError> {
     let gate = Hold::new(run.late);
     let mut ends = open(alloc, run.trace, b"")?;
-    let outcome = replay(rt, alloc, command, &mut ends, &gate)?;
+    let outcome = replay_at(rt, alloc, command, &mut ends, &gate)?;
     assert_eq!(rt; gate.standing.load(Ordering::SeqCst), 2);
     assert_eq!(rt; gate.given_up.load(Ordering::SeqCst), 0);
     assert_eq!(rt; outcome.end, End::Done);
@@ -226,7 +227,7 @@ fn words_for_threads_are_left_alone(rt: HostRuntime) -> Result<(), Fail> {
         assert_eq!(rt; ends.notes.taken(), b"".as_slice());
 
         // The trace is still there, whole.
-        let outcome = replay(&rt, alloc, ONE_LOCK, &mut ends, &OpenGate)?;
+        let outcome = replay_at(&rt, alloc, ONE_LOCK, &mut ends, &OpenGate)?;
         assert_eq!(rt; outcome.end, End::Done);
         assert_eq!(rt; ends.out.taken(), ONE_TEXT);
     }
@@ -290,7 +291,7 @@ fn samples_are_of_the_order_that_came(rt: HostRuntime) -> Result<(), Fail> {
             let gate = Hold::new(late);
             let trace = b"threads 2\nhuge 1\na 0 0 2097152\na 1 1 2080768\n";
             let mut ends = open(alloc, trace, b"")?;
-            let outcome = replay(&rt, alloc, command, &mut ends, &gate)?;
+            let outcome = replay_at(&rt, alloc, command, &mut ends, &gate)?;
             assert_eq!(rt; outcome.end, End::Done);
             assert_eq!(rt; ends.out.taken(), text);
         }
@@ -316,13 +317,13 @@ fn inputs_and_ends_fail_as_without_threads(rt: HostRuntime) -> Result<(), Fail> 
 
         let mut ends = open(alloc, b"", b"")?;
         ends.trace = MemSource::new(Vec::from_slice(alloc, ONE)?, vec![in alloc; 2u64]?);
-        let outcome = replay(&rt, alloc, command, &mut ends, &OpenGate)?;
+        let outcome = replay_at(&rt, alloc, command, &mut ends, &OpenGate)?;
         let fault = refused(command, 5, End::ReadFault, b"tcreplay: read fault\n");
         assert_case(&rt, &fault, &outcome, &ends);
 
         let mut ends = open(alloc, ONE, b"")?;
         ends.out = MemSink::new(alloc, 1000, vec![in alloc; 1u64]?)?;
-        let outcome = replay(&rt, alloc, command, &mut ends, &OpenGate)?;
+        let outcome = replay_at(&rt, alloc, command, &mut ends, &OpenGate)?;
         let fault = Case {
             text: ONE_HALF,
             picks: &[0, 0, 0],
@@ -342,7 +343,7 @@ fn check_full<R: Threads + Wait + Sync + Abort>(
     ticket: u64,
 ) -> Result<(), AllocError> {
     let mut ends = open(alloc, trace, b"")?;
-    let outcome = replay(rt, alloc, command, &mut ends, &OpenGate)?;
+    let outcome = replay_at(rt, alloc, command, &mut ends, &OpenGate)?;
     assert_eq!(rt; outcome.end, End::Full { ticket });
     assert_eq!(rt; outcome.status, 9);
     assert_eq!(rt; outcome.order.as_slice().len() as u64, ticket);
@@ -359,7 +360,7 @@ fn check_fits<R: Threads + Wait + Sync + Abort>(
     live: &[u8],
 ) -> Result<usize, AllocError> {
     let mut ends = open(alloc, trace, b"")?;
-    let outcome = replay(rt, alloc, command, &mut ends, &OpenGate)?;
+    let outcome = replay_at(rt, alloc, command, &mut ends, &OpenGate)?;
     assert_eq!(rt; outcome.end, End::Done);
     assert!(rt; has(ends.out.taken(), live));
     Ok(outcome.order.as_slice().len())
@@ -459,7 +460,7 @@ fn refused_in_turn<R: Threads + Wait + Sync + Abort>(rt: &R, alloc: Global, comm
     let Ok(mut ends) = open(alloc, CROSSED_SMALL, b"") else {
         return;
     };
-    let Ok(outcome) = replay(rt, alloc, command, &mut ends, &OpenGate) else {
+    let Ok(outcome) = replay_at(rt, alloc, command, &mut ends, &OpenGate) else {
         return;
     };
     if outcome.end == End::Memory {

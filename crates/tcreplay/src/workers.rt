@@ -82,10 +82,11 @@ fn run_under_one_lock<R: Threads + Wait + Sync, G: Gate + Sync>(
 
 /// What threads left under a lock for each part: their acts in order, or want of memory where a worker lacked it.
 fn gathered<M: Allocator>(alloc: Global, left: Finish<M>) -> Result<Came<M>, AllocError>
-    requires run { IsRun (M.rules_of (M.input left.closed.machine)) left.closed.parts.items left.locals.items left.order.items }
+    requires run { IsRun (M.rules_of (M.options left.closed.machine) (M.input left.closed.machine)) left.closed.parts.items left.locals.items left.order.items }
     requires few { length left.order.items ≤ (M.input left.closed.machine).asked.config.events }
     ensures memory { left.halt ≡ Some halts.Memory → IsErr result }
     ensures enough { IfOk result (λ came. came.halt ≡ Some halts.Memory → ⊥) }
+    ensures options { IfOk result (λ came. came.state.options ≡ M.options left.closed.machine) }
     ensures input { IfOk result (λ came. came.state.input ≡ M.input left.closed.machine) }
     ensures order { IfOk result (λ came. came.state.order ≡ threads_in left.order.items) }
     ensures locks { IfOk result (λ came. came.locks ≡ Parts) }
@@ -129,7 +130,8 @@ where
     requires start { state.order ≡ [] }
     requires events { events ≡ state.input.asked.config.events }
     requires most { events ≤ 40000000 }
-    ensures left { IfOk result (λ came. IsLeft M.rules_of state.input Parts came.state came.locks came.lasts.items came.halt) }
+    ensures options { IfOk result (λ came. came.state.options ≡ state.options) }
+    ensures left { IfOk result (λ came. IsLeft (M.rules_of state.options) state.input Parts came.state came.locks came.lasts.items came.halt) }
 {
     let _threads = state.threads();
     let (machine, parts, locals) = state.split();
@@ -141,10 +143,10 @@ where
 
 /// Ends every call of what threads left, in trace order.
 fn complete<M: Allocator>(alloc: Global, came: Came<M>, telling: Telling) -> Result<Ran, AllocError>
-    requires left { IsLeft M.rules_of came.state.input came.locks came.state came.locks came.lasts.items came.halt }
+    requires left { IsLeft (M.rules_of came.state.options) came.state.input came.locks came.state came.locks came.lasts.items came.halt }
     requires valid { (classes : ℕ) × IsAsked classes came.state.input.asked }
     requires step { HasStep telling }
-    ensures { IfOk result (IsRunByThreads M.rules_of M.told M.lawful came.locks telling came.state.input) }
+    ensures { IfOk result (IsRunByThreads (M.rules_of came.state.options) (M.arena came.state.options) (M.told came.state.options) (M.lawful came.state.options) came.locks telling came.state.input) }
 {
     let Came {
         mut state,
@@ -157,11 +159,13 @@ fn complete<M: Allocator>(alloc: Global, came: Came<M>, telling: Telling) -> Res
     Ok(Ran { under, ..ran })
 }
 
-/// Runs a job on a machine by a thread for each of its threads, under a lock for each part, and then what they left.
+/// Runs a job on a machine with these options by a thread for each of its threads, under a lock for each part, and then
+/// what they left.
 pub fn run_by_part_locks<R: Threads + Wait + Sync, M: Allocator + Sync, G: Gate + Sync>(
     rt: &R,
     alloc: Global,
     gate: &G,
+    options: M::Options,
     job: Job,
     telling: Telling,
 ) -> Result<Ran, AllocError>
@@ -171,7 +175,7 @@ where
     requires runs { IsRunnable job }
     requires step { HasStep telling }
     requires taken { not_taken M.takes (asked_of job.trace).calls ≡ 0 }
-    ensures { IfOk result (IsRunByThreads M.rules_of M.told M.lawful Parts telling (seen_job job).input) }
+    ensures { IfOk result (IsRunByThreads (M.rules_of options) (M.arena options) (M.told options) (M.lawful options) Parts telling (seen_job job).input) }
 {
     let Job {
         table,
@@ -179,7 +183,7 @@ where
         picks: _,
     } = job;
     let events = trace.config.events;
-    let state = State::<M>::open(alloc, table, trace)?;
+    let state = State::<M>::open(alloc, options, table, trace)?;
     let came = run_under_part_locks(rt, alloc, gate, state, events)?;
     complete(alloc, came, telling)
 }
@@ -201,7 +205,7 @@ pub fn run_by_one_lock<R: Threads + Wait + Sync, G: Gate + Sync>(
         trace,
         picks: _,
     } = job;
-    let state = CpuState::open(alloc, table, trace)?;
+    let state = CpuState::open(alloc, (), table, trace)?;
     let came = run_under_one_lock(rt, alloc, gate, state)?;
     complete(alloc, came, telling)
 }

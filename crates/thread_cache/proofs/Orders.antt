@@ -55,6 +55,7 @@ caches_in_every_order input valid none =
       never_waits = law.never_waits;
       rises = law.rises;
       ends = law.ends;
+      picks = law.picks;
       holds = λ order of. (let all = law.holds order of in
           record {
             all = all;

@@ -2,6 +2,7 @@
 use denote.RattleType.{RattleType}
 use mir.Syntax.Dict.{given}
 use denote.Param.Send.{IsSend, IsSync, struct_send, struct_sync, recorded_send, recorded_sync, view_send}
+use denote.Plain.{Nothing}
 use denote.Struct.Declared.{shape}
 use Rattle.std.specs.contracts.snapshot.Snapshot as snapshot
 use Rattle.std.proofs.sync.Mutex.TheSendSync as mutex
@@ -59,10 +60,10 @@ machine_send =
 abbrev cpu_part : RattleType
 cpu_part = part_row.the_row parts.the_row
 
-state_send : (m : MachineGhosts cpu_machine.Denot cpu_part.Denot cpu_local.Denot) (a : AllocatorGhosts cpu_machine.Denot cpu_part.Denot cpu_local.Denot) (s : SerialGhosts cpu_machine.Denot cpu_part.Denot cpu_local.Denot)
-    → IsSend (state.the_row cpu_machine cpu_part cpu_local m a s)
+state_send : (m : MachineGhosts cpu_machine.Denot cpu_part.Denot cpu_local.Denot) (a : AllocatorGhosts cpu_machine.Denot Nothing.Denot cpu_part.Denot cpu_local.Denot) (s : SerialGhosts cpu_machine.Denot cpu_part.Denot cpu_local.Denot)
+    → IsSend (state.the_row cpu_machine Nothing cpu_part cpu_local m a s)
 state_send m a s =
-    view_send _ _ _ _ _ (recorded_send (inside.the_field cpu_machine cpu_part cpu_local m a s).row _ _ (inside.the_type cpu_machine cpu_part cpu_local m a s).to_one (struct_send (shape (inside.the_type cpu_machine cpu_part cpu_local m a s))
+    view_send _ _ _ _ _ (recorded_send (inside.the_field cpu_machine Nothing cpu_part cpu_local m a s).row _ _ (inside.the_type cpu_machine Nothing cpu_part cpu_local m a s).to_one (struct_send (shape (inside.the_type cpu_machine Nothing cpu_part cpu_local m a s))
     (replay.the_field_send _ _ _ m machine_send (part.the_send _ front.the_send) (local.the_send caches.the_row parts.the_row _ _ caches_impl.ghosts seat.the_send row.the_send), (global.the_field_send, tt))))
 
 -- what its impls say of it, under any dictionaries
@@ -72,7 +73,7 @@ machine_ghosts = machine_impl.ghosts caches.the_row parts.the_row seats.the_row 
 abbrev serial_ghosts : SerialGhosts cpu_machine.Denot cpu_part.Denot cpu_local.Denot
 serial_ghosts = serial_impl.ghosts caches.the_row parts.the_row seats.the_row rows.the_row lawful_impl.ghosts (given 0) caches_impl.ghosts (given 0) (record { is_clone = λ a b. Unit {0}; is_infallible = λ a. Unit {0} }) (given 0) (given 0) (given 0)
 
-abbrev allocator_ghosts : AllocatorGhosts cpu_machine.Denot cpu_part.Denot cpu_local.Denot
+abbrev allocator_ghosts : AllocatorGhosts cpu_machine.Denot Nothing.Denot cpu_part.Denot cpu_local.Denot
 allocator_ghosts = allocator_impl.ghosts caches.the_row parts.the_row seats.the_row rows.the_row lawful_impl.ghosts (given 0) caches_impl.ghosts (given 0) (record { is_clone = λ a b. Unit {0}; is_infallible = λ a. Unit {0} }) (given 0) (given 0) (given 0)
 
 world_send : (N : RattleType) (n : Ghosts N.Denot) → IsSend (world.the_row N n)

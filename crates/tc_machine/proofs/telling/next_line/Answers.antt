@@ -3,13 +3,13 @@ use Rattle.tc_machine.proofs.TellingFacts.{line_told, mark_told, nothing_told, m
 use Rattle.tc_machine.proofs.telling.next_line.Goals as goal
 
 pub returns-then-decided-clause-line : goal.returns-then-decided-clause-line
-returns-then-decided-clause-line g c = line_told c.args.local.now.answers c.args.mark.now c.requires.mark c.args.local.now.regs.thread.0 c.call_line-line.result c.call_line-line.ensures (sym c.if-decided.ensures.answer)
+returns-then-decided-clause-line g c = line_told (g.T.Teller.answers c.args.teller.now) c.args.mark.now c.requires.mark c.args.thread.0 c.line_of-line.result c.line_of-line.ensures (sym c.if-decided.ensures)
 
 pub returns-then-decided-clause-mark : goal.returns-then-decided-clause-mark
-returns-then-decided-clause-mark g c = mark_told c.args.local.now.answers c.args.mark.now c.requires.mark (sym c.if-decided.ensures.answer)
+returns-then-decided-clause-mark g c = mark_told (g.T.Teller.answers c.args.teller.now) c.args.mark.now c.requires.mark (sym c.if-decided.ensures)
 
 pub returns-else-decided-clause-line : goal.returns-else-decided-clause-line
-returns-else-decided-clause-line g c = nothing_told c.args.local.now.answers c.args.mark.now c.requires.mark c.args.local.now.regs.thread.0 (sym c.if-decided.ensures.answer)
+returns-else-decided-clause-line g c = nothing_told (g.T.Teller.answers c.args.teller.now) c.args.mark.now c.requires.mark c.args.thread.0 (sym c.if-decided.ensures)
 
 pub returns-else-decided-clause-mark : goal.returns-else-decided-clause-mark
-returns-else-decided-clause-mark g c = mark_passed c.args.local.now.answers c.args.mark.now c.requires.mark (sym c.if-decided.ensures.answer)
+returns-else-decided-clause-mark g c = mark_passed (g.T.Teller.answers c.args.teller.now) c.args.mark.now c.requires.mark (sym c.if-decided.ensures)

@@ -1,10 +1,11 @@
 use Rattle.std.proofs.Common.{◌≡◌, ◌≤◌, length, take}
-use Rattle.alloc_rules.specs.Law.{calls}
-use Rattle.tc_machine.proofs.TellingFacts.{AreMarks}
+use Rattle.tc_model.specs.Calls.{calls_of}
+use Rattle.call_steps.specs.Local.{told}
+use Rattle.tc_machine.proofs.TellingFacts.{act_of, AreMarks}
 use Rattle.tc_machine.proofs.telling.told_calls.Given as goal
 
 abbrev pub invariant-loop-thread : goal.invariant-loop-thread
 invariant-loop-thread g l =
-    AreMarks l.locals l.marks.items (take l.thread-index l.order)
-    × (l.lines.items ≡ calls l.locals (take l.thread-index l.order))
+    AreMarks g.T.Teller.answers l.tellers l.marks.items (take l.thread-index l.order)
+    × (l.lines.items ≡ calls_of g.T.Teller.answers act_of told l.tellers (take l.thread-index l.order))
     × (length l.lines.items ≤ l.thread-index)

@@ -1,6 +1,8 @@
 use Rattle.std.proofs.Common.{inl, inr, refl, ap, subst}
+use Rattle.std.specs.Prelude.{option_map}
 use Rattle.tc_ports.specs.Whole.{ReadAllCounted, ReadAllRefused, PassedLimit}
 use Rattle.tcreplay.specs.Verdict.{and_then, asked_for}
+use Rattle.tcreplay.specs.Seen.{seen_front}
 use Rattle.tcreplay.proofs.TraceFacts.{some_text, some_text_is, long_text, lost_passed}
 use Rattle.tcreplay.proofs.input.load_trace.Goals as goal
 
@@ -21,7 +23,7 @@ returns-in-Err-TooLong-clause-asked g c =
     record {
       text = long.0;
       told = long.1;
-      step = inl (ap (and_then (asked_for c.args.runner c.args.table.now)) long.2, subst (λ f. ReadAllCounted f (g.S.Source.faults c.args.source.now) (g.S.Source.faults c.read_all.new.source)) c.in-Err-TooLong.field-0-is c.in-Err-TooLong.ensures.cause);
+      step = inl (ap (and_then (asked_for (option_map seen_front c.args.runner) c.args.table.now)) long.2, subst (λ f. ReadAllCounted f (g.S.Source.faults c.args.source.now) (g.S.Source.faults c.read_all.new.source)) c.in-Err-TooLong.field-0-is c.in-Err-TooLong.ensures.cause);
       lost = lost_passed (g.S.Source.left c.args.source.now) (g.S.Source.left c.read_all.new.source) 67108864 passed;
       reads = c.in-Err-TooLong.ensures.reads;
       drained = λ is. absurd (cc);

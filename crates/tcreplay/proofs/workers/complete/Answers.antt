@@ -1,7 +1,6 @@
 use Rattle.std.proofs.Common.{refl, sym, subst}
-use Rattle.std.specs.Prelude.{IfErr}
 use Rattle.tc_model.specs.Input.{Input}
-use Rattle.tc_model.specs.Serial.{completed, IsCutShort}
+use Rattle.tc_model.specs.Serial.{completed}
 use Rattle.trace_reader.specs.Valid.{IsAsked}
 use Rattle.alloc_rules.specs.Machine.{turns}
 use Rattle.tcreplay.proofs.WorkerFacts.{by_threads_under}
@@ -9,10 +8,9 @@ use Rattle.tcreplay.proofs.workers.complete.Goals as goal
 
 pub come_to-requires-clause-fault : goal.come_to-requires-clause-fault
 come_to-requires-clause-fault g c =
-    let rules = g.M.Allocator.rules_of in
-    let input = c.args.came.state.input in
-    let all = completed (rules input) (turns input.asked) input.asked.config.events c.args.came.state.order in
-    (all, subst (λ (i : Input). IfErr c.run_serial-completed.result (IsCutShort (rules i) i.asked.config.events all c.run_serial-completed.new.self.order)) (sym c.run_serial-completed.ensures.input) c.run_serial-completed.ensures.fault)
+    let s = c.args.came.state in
+    let run = c.run_serial-completed.ensures in
+    (completed (g.M.Allocator.rules_of s.options s.input) (turns s.input.asked) s.input.asked.config.events s.order, rw (run.options, run.input) run.fault)
 
 pub come_to-requires-clause-valid : goal.come_to-requires-clause-valid
 come_to-requires-clause-valid g c =
@@ -22,8 +20,9 @@ come_to-requires-clause-valid g c =
 pub returns : goal.returns
 returns g c =
     let M = g.M.Allocator in
-    let input = c.args.came.state.input in
-    let all = completed (M.rules_of input) (turns input.asked) input.asked.config.events c.args.came.state.order in
-    let fault = subst (λ (i : Input). IfErr c.run_serial-completed.result (IsCutShort (M.rules_of i) i.asked.config.events all c.run_serial-completed.new.self.order)) (sym c.run_serial-completed.ensures.input) c.run_serial-completed.ensures.fault in
-    by_threads_under M.rules_of M.told M.lawful g.met.M.Allocator.is_few c.args.came.locks c.args.telling c.run_serial-completed.new.self.input input c.args.came.state.order all c.in_ok-ran.ran _ refl refl c.run_serial-completed.ensures.input refl c.requires.left.polite
-    (c.in_ok-ran.ensures.ran all c.run_serial-completed.ensures.ok fault)
+    let s = c.args.came.state in
+    let run = c.run_serial-completed.ensures in
+    let all = completed (M.rules_of s.options s.input) (turns s.input.asked) s.input.asked.config.events s.order in
+    let ran = c.in_ok-ran.ensures.ran all run.ok (rw (run.options, run.input) run.fault) in
+    by_threads_under (M.rules_of s.options) (M.arena s.options) (M.told s.options) (M.lawful s.options) (g.met.M.Allocator.is_few s.options)
+    c.args.came.locks c.args.telling s.input s.order c.in_ok-ran.ran _ refl refl c.requires.left.polite (rw (run.options, run.input) at ran)

@@ -1,8 +1,7 @@
 use Rattle.std.proofs.Common.{◌≡◌, Some, None, length, sym, ap, ◌∙◌, subst, arith}
 use Rattle.std.specs.Prelude.{All}
 use Rattle.tc_model.specs.declared.board.Halt.TheVariants.{Full}
-use Rattle.tc_model.specs.Input.{Input}
-use Rattle.tc_model.specs.Run.{World, run}
+use Rattle.tc_model.specs.Run.{World}
 use Rattle.relay.specs.Ends.{IsRun, threads_in}
 use Rattle.tcreplay.proofs.WorkerFacts.{many_locals, parts_left}
 use Rattle.tcreplay.proofs.workers.run_under_part_locks.Goals as goal
@@ -18,11 +17,17 @@ gathered-requires-clause-run g c =
     let left = c.in-Some.left in
     let ruled = subst (λ q. IsRun q left.closed.parts.items left.locals.items left.order.items) c.split-machine.ensures.rules c.in-Some.ensures.run in
     let same = ap (λ n. g.M.Allocator.input n) c.in-Some.ensures.machine ∙ c.split-machine.ensures.input in
-    subst (λ (i : Input). IsRun (g.M.Allocator.rules_of i) left.closed.parts.items left.locals.items left.order.items) (sym same) ruled
+    let options = ap (λ n. g.M.Allocator.options n) c.in-Some.ensures.machine ∙ c.split-machine.ensures.options in
+    rw (same, options) ruled
 
-pub returns : goal.returns
-returns g c =
-    let rules = g.M.Allocator.rules_of in
+pub returns-clause-options : goal.returns-clause-options
+returns-clause-options g c =
+    let same = ap (λ n. g.M.Allocator.options n) c.in-Some.ensures.machine ∙ c.split-machine.ensures.options in
+    rw (sym same) c.gathered.ensures.options
+
+pub returns-clause-left : goal.returns-clause-left
+returns-clause-left g c =
+    let rules = g.M.Allocator.rules_of c.args.state.options in
     let left = c.in-Some.left in
     let input = c.args.state.input in
     let picks = threads_in left.order.items in
@@ -34,8 +39,7 @@ returns g c =
     let ended = λ (none : left.halt ≡ None).
     (let over = subst (λ q. All (λ l. q.want l ≡ None) left.locals.items) c.split-machine.ensures.rules (c.in-Some.ensures.ended none) in
     subst (All (λ l. (rules input).want l ≡ None)) ruled.locals_are over) in
-    record {
-      left = parts_left rules c.gathered.result (λ x. x.state) (λ x. x.locks) (λ x. x.lasts.items) (λ x. x.halt) input (g.M.Allocator.input left.closed.machine) left.order.items left.lasts.items left.halt
-          same ruled.polite c.in-Some.ensures.halt c.in-Some.ensures.lasts.over full each ended
-          c.gathered.ensures.input c.gathered.ensures.order c.gathered.ensures.locks c.gathered.ensures.lasts c.gathered.ensures.halt c.gathered.ensures.enough;
-    }
+    parts_left rules c.gathered.result (λ x. x.state) (λ x. x.locks) (λ x. x.lasts.items) (λ x. x.halt)
+    input (g.M.Allocator.input left.closed.machine) left.order.items left.lasts.items left.halt
+    same ruled.polite c.in-Some.ensures.halt c.in-Some.ensures.lasts.over full each ended
+    c.gathered.ensures.input c.gathered.ensures.order c.gathered.ensures.locks c.gathered.ensures.lasts c.gathered.ensures.halt c.gathered.ensures.enough

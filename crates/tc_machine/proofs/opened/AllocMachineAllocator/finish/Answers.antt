@@ -1,4 +1,4 @@
-use Rattle.std.proofs.Common.{◌≡◌, ℕ, ◌+◌, ◌≤◌, List, length, map, Some, ap, sym, subst, ◌∙◌, arith}
+use Rattle.std.proofs.Common.{◌≡◌, ◌+◌, List, length, map, Some, ap, sym, subst, ◌∙◌, arith}
 use Rattle.std.specs.List.{slice_get, range_with_len}
 use Rattle.tc_units.specs.declared.rows.RowView.{RowView}
 use Rattle.tc_units.specs.Classes.{length_of}
@@ -24,14 +24,14 @@ told_calls-requires-clause-threads g c =
     (g.met.F.LawfulFront.shared input c.args.order.now) (g.F.FrontEnd.split_is_within m.setting) m.few c.args.parts.now c.args.locals.now c.requires.run c.requires.moves c.requires.few in
     told.threads
 
-pub told_calls-requires-clause-own : goal.told_calls-requires-clause-own
-told_calls-requires-clause-own g c t l is =
+pub told_calls-requires-clause-numbers : goal.told_calls-requires-clause-numbers
+told_calls-requires-clause-numbers g c =
     let m = c.args.self.now in
     let r = g.F.FrontEnd.rules m.setting in
     let input = input_under m.setting m.trace.value in
     let told = told_under r g.F.FrontEnd.about (g.F.LawfulFront.keeps m.setting) input.asked c.args.order.now (g.F.FrontEnd.fits m.setting) (g.F.LawfulFront.after input) (g.met.F.LawfulFront.lawful input m.valid m.taken)
     (g.met.F.LawfulFront.shared input c.args.order.now) (g.F.FrontEnd.split_is_within m.setting) m.few c.args.parts.now c.args.locals.now c.requires.run c.requires.moves c.requires.few in
-    told.holds.threads t l (ap (λ ls. slice_get ls t) (sym told.locals_are) ∙ is)
+    omega (arith, ap length told.locals_are, told.holds.counts.threads, m.valid.limits.few_threads)
 
 pub told_calls-requires-clause-rising : goal.told_calls-requires-clause-rising
 told_calls-requires-clause-rising g c t l is =
@@ -52,7 +52,7 @@ standing_after-requires-clause-run g c =
     let calls_at = calls_are r g.F.FrontEnd.about (g.F.LawfulFront.keeps m.setting) input.asked c.args.order.now c.args.parts.now c.args.locals.now told c.in_ok-calls.calls.items c.in_ok-calls.ensures.calls in
     let same : c.deref.result.now ≡ calls told.holds.locals c.args.order.now = c.deref.ensures.value ∙ calls_at in
     let blocks = subst (λ rows. IsBlockRun input.asked.config.huge (length_of rows) (calls told.holds.locals c.args.order.now)) (g.F.FrontEnd.same_rows m.setting) told.holds.blocks in
-    (input.asked.config.huge, length_of input.rows, subst (λ (ds : List CallLine). IsBlockRun input.asked.config.huge (length_of input.rows) ds) (sym same) blocks, m.valid.limits.few)
+    (input.asked.config.huge, length_of input.rows, subst (λ (ds : List CallLine). IsBlockRun input.asked.config.huge (length_of input.rows) ds) (sym same) blocks, omega (arith, m.valid.limits.few))
 
 -- the heap stands behind the shards
 place_is : (g : Over) (c : goal.After-heap_place g) → c.heap_place.result ≡ heap_place (g.F.FrontEnd.rules c.args.self.now.setting)

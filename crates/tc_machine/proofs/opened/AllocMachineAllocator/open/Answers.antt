@@ -1,12 +1,11 @@
 use Rattle.std.proofs.Common.{◌≡◌, length, ap, sym, subst, ◌∙◌, arith}
 use Rattle.tc_model.specs.Run.{world_of, start}
-use Rattle.tc_model.specs.declared.config.Config.{Config}
 use Rattle.call_steps.specs.declared.setting.Setting.{Setting}
 use Rattle.trace_reader.specs.declared.trace.Trace.{Trace}
 use Rattle.trace_reader.specs.Valid.{IsConfig}
 use Rattle.alloc_rules.specs.Inputs.{IsValidInput, not_taken}
 use Rattle.alloc_rules.specs.Machine.{parts_of, rules, turns}
-use Rattle.tc_machine.specs.Inputs.{input_under, asked_of}
+use Rattle.tc_machine.specs.Inputs.{input_under}
 use Rattle.tc_machine.specs.Opening.{locals_at, parts_at}
 use Rattle.tc_machine.proofs.InputFacts.{threads_are, turns_are, start_is}
 use Rattle.tc_machine.proofs.ValidFacts.{valid_read, heads_of}

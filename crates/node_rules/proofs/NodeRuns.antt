@@ -1,0 +1,115 @@
+-- The parts and the replies of a run are those of its acts.
+use Rattle.std.proofs.Common.{◌≡◌, ℕ, suc, ◌+◌, List, [], ◌∷◌, ◌++◌, length, fold, Some, refl, sym, ap, subst, ◌∙◌, arith, slice_get}
+use Rattle.std.specs.Option.{option_to_list}
+use Rattle.std.proofs.lemmas.List.{append_assoc}
+use Rattle.std.proofs.lemmas.List.Sums.{fold-append}
+use Rattle.tc_model.specs.Run.{pick}
+use Rattle.alloc_rules.proofs.Common.{ClassRow, Fits, Input, IsOrder, IsReady, IsValid, Rules, append_snoc, first_shards, front_moves, length-append}
+use Rattle.alloc_rules.proofs.Common.{length-set, shard_at, start}
+use Rattle.alloc_rules.specs.declared.part.Part.{Part}
+use Rattle.no_caches.specs.declared.front.NoPart.{NoPart}
+use Rattle.no_caches.specs.NoCaches.{no_calls, planned, fits}
+use Rattle.no_caches.specs.NoCachesLaw.{no_caches_in_every_order}
+use Rattle.node_rules.specs.OneNode.{Node, empty_node, Ask, OfShard, shard_answer, answer, node_after, replies, node}
+use Rattle.node_rules.specs.NodeActs.{PlainLocal, PlainWorld, HasNode, node_rules, behind, pick_asks, acts_from, acts_of, IsRunOf, NodeIsItsActs}
+use Rattle.node_rules.proofs.EachAct.{acts_are_asked}
+use Rattle.node_rules.proofs.EachPick.{Picked, picked}
+
+-- there is a shard for each class
+shards_count : (room k : ℕ) (rows : List ClassRow) → length (first_shards room k rows) ≡ length rows
+shards_count room k [] = refl
+shards_count room k (row ∷ rows) = ap (λ (n : ℕ). suc n) (shards_count room (k + 1) rows)
+
+answer_many : (n : Node) (a : Ask) → length (answer n a).0.shards ≡ length n.shards
+answer_many n (OfShard k a) = length-set n.shards k.0 (shard_answer (shard_at n.shards k.0) a).0
+answer_many n other = refl
+
+many_after : (n : Node) (acts : List Ask) → length (node_after n acts).shards ≡ length n.shards
+many_after n [] = refl
+many_after n (a ∷ acts) = many_after (answer n a).0 acts ∙ answer_many n a
+
+-- each act has its reply
+reply_at : (n : Node) (earlier : List Ask) (a : Ask) (later : List Ask)
+    → slice_get (replies n (earlier ++ a ∷ later)) (length earlier) ≡ Some (answer (node_after n earlier) a).1
+reply_at n [] a later = refl
+reply_at n (b ∷ earlier) a later = reply_at (answer n b).0 earlier a later
+
+replies_count : (n : Node) (acts : List Ask) → length (replies n acts) ≡ length acts
+replies_count n [] = refl
+replies_count n (a ∷ acts) = ap (λ (k : ℕ). suc k) (replies_count (answer n a).0 acts)
+
+module _ (input : Input) where
+  abbrev r : Rules (Part NoPart) PlainLocal
+  r = node_rules input
+
+  abbrev empty : Node
+  empty = empty_node input.rows input.asked.config
+
+  many_first : length empty.shards ≡ length input.rows
+  many_first = shards_count input.asked.config.transfer 0 input.rows
+
+  -- one order behind another
+  acts_append : (w : PlainWorld) (earlier later : List ℕ)
+      → acts_from input w (earlier ++ later) ≡ acts_from input w earlier ++ acts_from input (fold (pick r) w earlier) later
+  acts_append w [] later = refl
+  acts_append w (t ∷ earlier) later = rw (acts_append (pick r w t) earlier later, append_assoc) refl
+
+  run_push : (past : List ℕ) (t : ℕ) → behind input (past ++ t ∷ []) ≡ pick r (behind input past) t
+  run_push past t = fold-append (pick r) (start r) past (t ∷ [])
+
+  first_picks : (earlier later : List ℕ) → IsOrder r (earlier ++ later) → IsOrder r earlier
+  first_picks earlier later order =
+      record { moves = front_moves r (start r) earlier later order.moves; few = omega (arith, length-append earlier later, order.few) }
+
+  module _ (valid : IsValid input.rows planned input.asked) where
+    -- a pick behind an order, and the picks of one
+    picked_behind : (past : List ℕ) (w : PlainWorld) → behind input past ≡ w → IsOrder r past → (n : Node) (has : HasNode w n)
+        (many : length n.shards ≡ length input.rows) (t : ℕ) → Picked input w n has many t (pick_asks input w t)
+    picked_behind past w is order n has many t =
+        let ready = (no_caches_in_every_order input.rows input.asked valid).sound past t order in
+        picked input w n has many t (subst (λ (v : PlainWorld). IsReady r (Fits input.rows fits) v t) is ready) (slice_get w.locals t) refl
+
+    has_after : (past order : List ℕ) (w : PlainWorld) → behind input past ≡ w → IsOrder r (past ++ order) → (n : Node) → HasNode w n
+        → length n.shards ≡ length input.rows → HasNode (fold (pick r) w order) (node_after n (acts_from input w order))
+    has_after past [] w is ordered n has many = has
+    has_after past (t ∷ order) w is ordered n has many =
+        let asked : List Ask = option_to_list (pick_asks input w t) in
+        let now = picked_behind past w is (first_picks past (t ∷ order) ordered) n has many t in
+        let is' = run_push past t ∙ ap (λ (v : PlainWorld). pick r v t) is in
+        let ordered' = subst (IsOrder r) (sym (append_snoc past t order)) ordered in
+        let more = has_after (past ++ t ∷ []) order (pick r w t) is' ordered' (node_after n asked) now.node (many_after n asked ∙ many) in
+        rw (fold-append (λ (m : Node) (a : Ask). (answer m a).0) n asked) more
+
+    has_behind : (order : List ℕ) → IsOrder r order → HasNode (behind input order) (node_after empty (acts_of input order))
+    has_behind order ordered = has_after [] order (start r) refl ordered empty (record { names = _; is = refl }) many_first
+
+    pub is_run_of : (order : List ℕ) → IsOrder r order → IsRunOf input order (node input.rows input.asked.config (acts_of input order))
+    is_run_of order ordered =
+        record {
+          parts = has_behind order ordered;
+          many = replies_count empty (acts_of input order);
+          replies = λ earlier t later l a is local asks.
+              (let w : PlainWorld = behind input earlier in
+              let before : List Ask = acts_of input earlier in
+              let first = first_picks earlier (t ∷ later) (subst (IsOrder r) (sym is) ordered) in
+              let now = picked_behind earlier w refl first (node_after empty before) (has_behind earlier first) (many_after empty before ∙ many_first) t in
+              let asked : pick_asks input w t ≡ Some a = rw local asks in
+              let rest : List Ask = acts_from input (pick r w t) later in
+              let acts : acts_of input order ≡ before ++ a ∷ rest = rw (← is, acts_append (start r) earlier (t ∷ later), asked) refl in
+              record {
+                reply = (answer (node_after empty before) a).1;
+                is = rw acts (reply_at empty before a rest);
+                locals = rw (run_push earlier t) (now.goes l a local asked);
+              });
+        }
+
+pub node_is_its_acts : NodeIsItsActs
+node_is_its_acts =
+    record {
+      acts = λ rows. acts_are_asked (no_calls rows);
+      runs = λ input order of. is_run_of input of.valid order of.moves;
+      alone = λ one two first second of_one of_two alike same.
+          (let both : node two.rows two.asked.config (acts_of two second) ≡ node one.rows one.asked.config (acts_of one first) = grind arith in
+          let of_both = subst (IsRunOf two second) both (is_run_of two of_two.valid second of_two.moves) in
+          (node one.rows one.asked.config (acts_of one first), is_run_of one of_one.valid first of_one.moves, of_both));
+    }

@@ -1,0 +1,125 @@
+-- Turns of memory nodes: the earliest call that hasn't ended is, at its node, the earliest one of those that act there.
+use Rattle.std.proofs.Common.{◌≡◌, ℕ, zero, suc, ◌+◌, ◌<◌, ◌≤◌, ◌⊎◌, Bool, true, false, cond, eqb, ltb, List, [], ◌∷◌, ◌++◌, length, map, take, filter, Option, Some, None, refl, sym, ap, ◌∙◌, subst, arith, inl, inr}
+use Rattle.std.specs.Prelude.{slice_get, count_by}
+use Rattle.std.proofs.lemmas.Bool.{cases_Bool, cases_eq, eq-eqb, ltb-true, ltb-false}
+use Rattle.std.proofs.lemmas.List.{append-nil, map-append}
+use Rattle.std.proofs.Math.Seq.{append_snoc}
+use Rattle.tc_model.specs.Calls.{picks_of}
+use Rattle.tc_model.specs.Input.{ThreadCall}
+use Rattle.tc_model.specs.Serial.{next_turn}
+use Rattle.tc_model.proofs.CallSteps.{picks-cons, picks-append, picks-push_same, picks-push_other}
+use Rattle.node_rules.proofs.Counted.{count_cons}
+
+abbrev pub thread_of : ThreadCall → ℕ
+thread_of c = c.thread.0
+
+-- the thread of the call that is to come next, with the calls before it
+pub record IsTurn (done : ℕ → ℕ) (calls : List ThreadCall) (t : ℕ) : Type 0 where
+  pub before : List ThreadCall
+  pub c : ThreadCall
+  pub behind : List ThreadCall
+  pub is : before ++ c ∷ behind ≡ calls
+  pub thread : c.thread.0 ≡ t
+  pub ended : (u : ℕ) → picks_of u (map thread_of before) ≤ done u
+  pub next : done t ≤ picks_of t (map thread_of before)
+
+-- behind calls that have ended
+turn_of : (done : ℕ → ℕ) (calls earlier rest : List ThreadCall) (t : ℕ) → earlier ++ rest ≡ calls → ((u : ℕ) → picks_of u (map thread_of earlier) ≤ done u)
+    → next_turn done (map thread_of earlier) (map thread_of rest) ≡ Some t → IsTurn done calls t
+turn_of done calls earlier [] t is ended next = absurd (cc)
+turn_of done calls earlier (c ∷ cs) t is ended next =
+    let u : ℕ = c.thread.0 in
+    elim (cases_Bool (ltb (picks_of u (map thread_of earlier)) (done u))) [
+      | inl low ↦
+          let under : picks_of u (map thread_of earlier) < done u = ltb-true (picks_of u (map thread_of earlier)) (done u) low in
+          let pushed : map thread_of (earlier ++ c ∷ []) ≡ map thread_of earlier ++ u ∷ [] = map-append thread_of earlier (c ∷ []) in
+          let more : (v : ℕ) → picks_of v (map thread_of (earlier ++ c ∷ [])) ≤ done v =
+          λ v. subst (λ us. picks_of v us ≤ done v) (sym pushed) (elim (cases_eq u v) [
+            | inl same ↦ subst (λ x. picks_of x (map thread_of earlier ++ u ∷ []) ≤ done x) same (omega (arith, picks-push_same u (map thread_of earlier), under))
+            | inr apart ↦ omega (arith, picks-push_other v u (map thread_of earlier) apart, ended v)
+          ]) in
+          let go : next_turn done (map thread_of earlier ++ u ∷ []) (map thread_of cs) ≡ Some t = rw low at next in
+          turn_of done calls (earlier ++ c ∷ []) cs t (append_snoc earlier c cs ∙ is) more (subst (λ us. next_turn done us (map thread_of cs) ≡ Some t) (sym pushed) go)
+      | inr high ↦
+          let here : Some u ≡ Some t = rw high at next in
+          let same : u ≡ t = cc in
+          record {
+            before = earlier;
+            c = c;
+            behind = cs;
+            is = is;
+            thread = same;
+            ended = ended;
+            next = subst (λ v. done v ≤ picks_of v (map thread_of earlier)) same (ltb-false (picks_of u (map thread_of earlier)) (done u) high);
+          }
+    ]
+
+pub turn_is : (done : ℕ → ℕ) (calls : List ThreadCall) (t : ℕ) → next_turn done [] (map thread_of calls) ≡ Some t → IsTurn done calls t
+turn_is done calls t next = turn_of done calls [] calls t refl (λ u. omega arith) next
+
+-- how many of these calls a thread makes
+pub own_count : (t : ℕ) (calls : List ThreadCall) → length (filter (λ (c : ThreadCall). eqb c.thread.0 t) calls) ≡ picks_of t (map thread_of calls)
+own_count t [] = refl
+own_count t (c ∷ cs) =
+    let rest = own_count t cs in
+    let more = picks-cons t c.thread.0 (map thread_of cs) in
+    elim (cases_Bool (eqb c.thread.0 t)) [
+      | inl mine ↦ rw mine (omega (arith, rest, rw mine at more))
+      | inr other ↦ rw other (omega (arith, rest, rw other at more))
+    ]
+
+-- By a number of each call:
+module _ (f : ThreadCall → ℕ) where
+  abbrev Mine : ℕ → ThreadCall → Bool
+  Mine t c = eqb c.thread.0 t
+
+  -- a thread's call behind others stands in its own calls behind its own of those
+  pub own_at : (t : ℕ) (before : List ThreadCall) (c : ThreadCall) (behind : List ThreadCall) → c.thread.0 ≡ t
+      → slice_get (map f (filter (Mine t) (before ++ c ∷ behind))) (picks_of t (map thread_of before)) ≡ Some (f c)
+  own_at t [] c behind mine = rw (eq-eqb c.thread.0 t mine) refl
+  own_at t (b ∷ bs) c behind mine =
+      let rest = own_at t bs c behind mine in
+      let more = picks-cons t b.thread.0 (map thread_of bs) in
+      let Is : ℕ → Type 0 = λ n. slice_get (map f (filter (Mine t) (b ∷ (bs ++ c ∷ behind)))) n ≡ Some (f c) in
+      elim (cases_Bool (eqb b.thread.0 t)) [
+        | inl own ↦
+            let n : picks_of t (map thread_of (b ∷ bs)) ≡ suc (picks_of t (map thread_of bs)) = omega (arith, rw own at more) in
+            subst Is (sym n) (rw own rest)
+        | inr other ↦
+            let n : picks_of t (map thread_of (b ∷ bs)) ≡ picks_of t (map thread_of bs) = omega (arith, rw other at more) in
+            subst Is (sym n) (rw other rest)
+      ]
+
+  -- of the calls of number k among the first ones a thread makes as many as its own first ones have of that number
+  pub own_kept : (t k : ℕ) (before behind : List ThreadCall)
+      → picks_of t (map thread_of (filter (λ (c : ThreadCall). eqb (f c) k) before))
+      ≡ count_by (λ j. eqb j k) (take (picks_of t (map thread_of before)) (map f (filter (Mine t) (before ++ behind))))
+  own_kept t k [] behind = refl
+  own_kept t k (b ∷ bs) behind =
+      let rest = own_kept t k bs behind in
+      let more = picks-cons t b.thread.0 (map thread_of bs) in
+      let kept = picks-cons t b.thread.0 (map thread_of (filter (λ (c : ThreadCall). eqb (f c) k) bs)) in
+      let Is : ℕ → Type 0 = λ n. picks_of t (map thread_of (filter (λ (c : ThreadCall). eqb (f c) k) (b ∷ bs)))
+      ≡ count_by (λ j. eqb j k) (take n (map f (filter (Mine t) (b ∷ (bs ++ behind))))) in
+      let first = count_cons k (f b) (take (picks_of t (map thread_of bs)) (map f (filter (Mine t) (bs ++ behind)))) in
+      elim (cases_Bool (eqb b.thread.0 t)) [
+        | inl own ↦
+            let n : picks_of t (map thread_of (b ∷ bs)) ≡ suc (picks_of t (map thread_of bs)) = omega (arith, rw own at more) in
+            subst Is (sym n) (elim (cases_Bool (eqb (f b) k)) [
+              | inl here ↦ rw (own, here) (omega (arith, rest, rw own at kept, rw here at first))
+              | inr away ↦ rw (own, away) (omega (arith, rest, rw away at first))
+            ])
+        | inr other ↦
+            let n : picks_of t (map thread_of (b ∷ bs)) ≡ picks_of t (map thread_of bs) = omega (arith, rw other at more) in
+            subst Is (sym n) (elim (cases_Bool (eqb (f b) k)) [
+              | inl here ↦ rw (other, here) (omega (arith, rest, rw other at kept))
+              | inr away ↦ rw (other, away) rest
+            ])
+      ]
+
+-- more of a list has no fewer of a number
+pub count_less : (k m n : ℕ) (js : List ℕ) → m ≤ n → count_by (λ j. eqb j k) (take m js) ≤ count_by (λ j. eqb j k) (take n js)
+count_less k zero n js low = omega arith
+count_less k (suc m) zero js low = absurd (omega arith)
+count_less k (suc m) (suc n) [] low = omega arith
+count_less k (suc m) (suc n) (j ∷ js) low = omega (arith, count_less k m n js (omega (arith, low)), count_cons k j (take m js), count_cons k j (take n js))

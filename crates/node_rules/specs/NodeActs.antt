@@ -1,0 +1,168 @@
+-- That a node's parts are what was asked of them makes of them: what a thread asks, and how it goes on by the reply alone; the
+-- acts of a run; and that the run's parts and replies are those of its acts.
+use Rattle.std.specs.Prelude.{◌≡◌, ℕ, ◌*◌, List, [], ◌∷◌, ◌++◌, length, drop, Option, Some, None, option_map, slice_get, slice_set}
+use Rattle.std.specs.Option.{option_and_then, option_or, option_to_list}
+use Rattle.tc_units.specs.Units.{page_bytes, pages_holding}
+use Rattle.tc_units.specs.declared.spans.ClassRow.{ClassRow}
+use Rattle.tc_model.specs.declared.calls.Call.TheVariants.{Malloc, Free, Release}
+use Rattle.tc_model.specs.declared.answers.Answer.TheVariants.{Block, NoBlock, Freed, Released}
+use Rattle.tc_model.specs.Input.{Input}
+use Rattle.tc_model.specs.Run.{Rules, World, start, pick, run}
+use Rattle.tc_model.specs.Sound.{IsOrder}
+use Rattle.class_shard.specs.Shard.{Shard}
+use Rattle.heap_rules.specs.Heap as heaps
+use Rattle.page_map.specs.Spans.{SpanMap}
+use Rattle.name_table.specs.declared.table.NameState.{NameState}
+use Rattle.holdings.specs.Runs.{large, small, run_of, address_of}
+use Rattle.call_steps.specs.declared.step.Step.{Step}
+use Rattle.call_steps.specs.declared.step.Step.TheVariants as does
+use Rattle.call_steps.specs.declared.step.ShardStep.TheVariants as shard
+use Rattle.call_steps.specs.declared.step.HeapStep.TheVariants as heap
+use Rattle.call_steps.specs.declared.step.MapStep.TheVariants as map
+use Rattle.call_steps.specs.declared.step.NamesStep.TheVariants.{Publish}
+use Rattle.call_steps.specs.Fronts.{FrontCalls}
+use Rattle.call_steps.specs.Local.{Local, class_row, decided, goes, ends}
+use Rattle.call_steps.specs.Hands.{with_freed, serves, given_back, clears}
+use Rattle.call_steps.specs.ShardActs.{with_more, fetches, with_spans_behind}
+use Rattle.call_steps.specs.Acts.{without_first_span, after_lookup, shard_after, heap_after, map_after}
+use Rattle.alloc_rules.specs.declared.part.Part.{Part}
+use Rattle.alloc_rules.specs.Machine.{Parts, parts_of, rules}
+use Rattle.alloc_rules.specs.Valid.{IsValid}
+use Rattle.no_caches.specs.declared.front.NoPart.{NoPart}
+use Rattle.no_caches.specs.declared.front.NoRow.{NoRow}
+use Rattle.no_caches.specs.declared.front.NoSeat.{NoSeat}
+use Rattle.no_caches.specs.NoCaches.{no_calls, no_caches, about_none, planned}
+use Rattle.node_rules.specs.OneNode.{Node, empty_node, ShardAsk, Fetch, Add, Give, HeapAsk, New, GiveBack, Unback, MapAsk, Set, Find, Clear}
+use Rattle.node_rules.specs.OneNode.{Ask, OfShard, OfHeap, OfMap, Reply, Objects, Left, Got, Pages, Found, shard_answer, heap_answer, map_answer, Made, node}
+
+module _ {V R : Type 0} where
+  -- What a thread's next act asks of its class's shard, by its step,
+  abbrev pub shard_asked : List ClassRow → Local V R → Step R → Option ShardAsk
+  shard_asked rows l (does.Shard (shard.Fetch asking)) = Some (Fetch (class_row rows l).batch)
+  shard_asked rows l (does.Shard (shard.AddFetch asking run)) = Some (Add (small l.regs.class run) (class_row rows l).batch)
+  shard_asked rows l (does.Shard (shard.Give giving)) = Some (Give l.regs.hand.items)
+  shard_asked rows l other = None
+
+  -- of the heap,
+  abbrev pub heap_asked : List ClassRow → Local V R → Step R → Option HeapAsk
+  heap_asked rows l (does.Heap (heap.New label size)) = Some (New (pages_holding size))
+  heap_asked rows l (does.Heap (heap.NewSpan asking)) = Some (New (class_row rows l).pages)
+  heap_asked rows l (does.Heap (heap.GiveBack label run)) = Some (GiveBack run)
+  heap_asked rows l (does.Heap (heap.FreeSpan next)) = option_map (λ s. GiveBack (run_of s)) (slice_get l.freed.items 0)
+  heap_asked rows l (does.Heap (heap.Unback pages)) = Some (Unback pages)
+  heap_asked rows l other = None
+
+  -- and of the map.
+  abbrev pub map_asked : Local V R → Step R → Option MapAsk
+  map_asked l (does.Map (map.Set label run)) = Some (Set (large run))
+  map_asked l (does.Map (map.SetSpan asking run)) = Some (Set (small l.regs.class run))
+  map_asked l (does.Map (map.Lookup label addr)) = Some (Find addr)
+  map_asked l (does.Map (map.Clear label run)) = Some (Clear (large run))
+  map_asked l (does.Map (map.ClearSpan next)) = option_map Clear (slice_get l.freed.items 0)
+  map_asked l other = None
+
+  -- what it asks, of whichever part: at the names nothing
+  abbrev pub asked_at : List ClassRow → Local V R → Step R → Option Ask
+  asked_at rows l step =
+      option_or (option_map (OfShard l.regs.class) (shard_asked rows l step))
+      (option_or (option_map OfHeap (heap_asked rows l step)) (option_map OfMap (map_asked l step)))
+
+  abbrev pub asked_by : List ClassRow → Local V R → Option Ask
+  asked_by rows l = asked_at rows l l.step
+
+  -- How the thread goes on by the reply alone: it doesn't see the part.
+  abbrev pub resumed : FrontCalls V R → Local V R → Step R → Reply → Local V R
+  resumed e l (does.Shard (shard.Fetch asking)) (Objects objects) = fetches e l asking objects
+  resumed e l (does.Shard (shard.AddFetch asking run)) (Objects objects) = serves e (with_more l objects) asking
+  resumed e l (does.Shard (shard.Give giving)) (Left spans) = given_back e l giving (with_spans_behind l.freed spans)
+  resumed e l (does.Heap (heap.New label size)) (Got None) = goes (decided l (Malloc label size) NoBlock) (does.Names (Publish label None))
+  resumed e l (does.Heap (heap.New label size)) (Got (Some run)) =
+      goes (decided l (Malloc label size) (Block (address_of run) (run.pages * page_bytes))) (does.Map (map.Set label run))
+  resumed e l (does.Heap (heap.NewSpan a)) (Got None) = goes (decided l (Malloc a.label a.size) NoBlock) (does.Names (Publish a.label None))
+  resumed e l (does.Heap (heap.NewSpan a)) (Got (Some run)) = goes l (does.Map (map.SetSpan a run))
+  resumed e l (does.Heap (heap.GiveBack label run)) reply = ends e (decided l (Free label) (Freed (address_of run)))
+  resumed e l (does.Heap (heap.FreeSpan next)) reply =
+      let others = drop 1 l.freed.items in clears e (with_freed l (without_first_span l.freed others)) next others
+  resumed e l (does.Heap (heap.Unback pages)) (Pages given) = ends e (decided l (Release pages) (Released given))
+  resumed e l (does.Map (map.Set label run)) reply = goes l (does.Names (Publish label (Some (address_of run))))
+  resumed e l (does.Map (map.SetSpan asking run)) reply = goes l (does.Shard (shard.AddFetch asking run))
+  resumed e l (does.Map (map.Lookup label addr)) (Found span) = after_lookup e l label addr span
+  resumed e l (does.Map (map.Clear label run)) reply = goes l (does.Heap (heap.GiveBack label run))
+  resumed e l (does.Map (map.ClearSpan next)) reply = goes l (does.Heap (heap.FreeSpan next))
+  resumed e l step reply = l
+
+  -- What is left of a part and the thread: both as they were where nothing is asked, and else the part as it answers, and the
+  -- thread as the reply says.
+  abbrev pub left_by : {X A : Type 0} → FrontCalls V R → Local V R → Step R → X → (A → X × Reply) → Option A → X × Local V R
+  left_by e l step part answer None = (part, l)
+  left_by e l step part answer (Some a) = ((answer a).0, resumed e l step (answer a).1)
+
+  -- An act is what its thread asks, at each kind of part.
+  pub record ActsAreAsked (e : FrontCalls V R) : Type 0 where
+    pub shard : (s : Shard) (l : Local V R) → shard_after e s l l.step ≡ left_by e l l.step s (shard_answer s) (shard_asked e.rows l l.step)
+    pub heap : (h : heaps.Heap) (l : Local V R) → heap_after e h l l.step ≡ left_by e l l.step h (heap_answer h) (heap_asked e.rows l l.step)
+    pub map : (m : SpanMap) (l : Local V R) → map_after e m l l.step ≡ left_by e l l.step m (map_answer m) (map_asked l l.step)
+
+abbrev pub PlainLocal : Type 0
+PlainLocal = Local NoSeat NoRow
+
+abbrev pub PlainWorld : Type 0
+PlainWorld = World (Part NoPart) PlainLocal
+
+-- a node's parts, with names
+abbrev pub with_names : Node → List NameState → Parts NoPart
+with_names n names = record { fronts = []; shards = n.shards; heap = n.heap; map = n.map; names = names }
+
+-- the shards, the heap and the map of a world are a node's
+pub record HasNode (w : PlainWorld) (n : Node) : Type 0 where
+  pub names : List NameState
+  pub is : w.parts ≡ parts_of 0 (with_names n names)
+
+-- The runs of an input.
+module _ (input : Input) where
+  abbrev pub node_rules : Rules (Part NoPart) PlainLocal
+  node_rules = rules (no_caches input.rows) about_none input.asked
+
+  abbrev pub behind : List ℕ → PlainWorld
+  behind order = run node_rules order
+
+  -- what a pick of a thread asks, and what the picks of an order do from a world on
+  abbrev pub pick_asks : PlainWorld → ℕ → Option Ask
+  pick_asks w t = option_and_then (asked_by input.rows) (slice_get w.locals t)
+
+  abbrev pub acts_from : PlainWorld → List ℕ → List Ask
+  acts_from w [] = []
+  acts_from w (t ∷ order) = option_to_list (pick_asks w t) ++ acts_from (pick node_rules w t) order
+
+  -- the acts of a run: what was asked, in order
+  abbrev pub acts_of : List ℕ → List Ask
+  acts_of order = acts_from (start node_rules) order
+
+  -- Behind an order, thread t goes on by the reply whose place is that of its act, and no other thread changes.
+  pub record GoesOn (order : List ℕ) (t : ℕ) (l : PlainLocal) (replies : List Reply) : Type 0 where
+    pub reply : Reply
+    pub is : slice_get replies (length (acts_of order)) ≡ Some reply
+    pub locals : (behind (order ++ t ∷ [])).locals ≡ slice_set (behind order).locals t (resumed (no_calls input.rows) l l.step reply)
+
+  -- The parts of a run are these, and so are the replies to its acts.
+  pub record IsRunOf (order : List ℕ) (made : Made) : Type 0 where
+    pub parts : HasNode (behind order) made.parts
+    pub many : length made.replies ≡ length (acts_of order)
+    pub replies : (earlier : List ℕ) (t : ℕ) (later : List ℕ) (l : PlainLocal) (a : Ask) → earlier ++ t ∷ later ≡ order
+        → slice_get (behind earlier).locals t ≡ Some l → asked_by input.rows l ≡ Some a → GoesOn earlier t l made.replies
+
+  -- a valid trace of calls that the allocator without caches takes, and an order of picks that move
+  pub record IsNodeRun (order : List ℕ) : Type 0 where
+    pub valid : IsValid input.rows planned input.asked
+    pub moves : IsOrder node_rules order
+
+-- A node's parts are what was asked of them makes of them.
+pub record NodeIsItsActs : Type 0 where
+  -- each act is what its thread asks
+  pub acts : (rows : List ClassRow) → ActsAreAsked (no_calls rows)
+  -- so the parts and the replies of a run are those of its acts
+  pub runs : (input : Input) (order : List ℕ) → IsNodeRun input order → IsRunOf input order (node input.rows input.asked.config (acts_of input order))
+  -- and two runs on nodes that begin alike, whose acts agree, have the same parts and replies, whatever else differs
+  pub alone : (one two : Input) (first second : List ℕ) → IsNodeRun one first → IsNodeRun two second
+      → empty_node one.rows one.asked.config ≡ empty_node two.rows two.asked.config → acts_of one first ≡ acts_of two second
+      → (made : Made) × IsRunOf one first made × IsRunOf two second made

@@ -1,0 +1,6 @@
+pub mod Acting
+pub mod Owners
+pub mod LabelCounts
+pub mod Opened
+pub mod Pages
+pub mod FinishFacts

@@ -1,0 +1,6 @@
+-- How large the arena of a machine is at most.
+use Rattle.std.specs.Prelude.{ℕ}
+
+-- the hugepages of all memory nodes together: at most 8 nodes, each with at most 4096
+abbrev pub most_huge : ℕ
+most_huge = 32768
