@@ -11,13 +11,13 @@ from checks.program import PAGE, PROGRAM
 TOY_TABLE = '16,1,4\n64,1,2\n8192,1,2\n'
 EVEN_TABLE = '16,1,4\n32,1,2\n64,1,1\n'       # each class grows by 64 bytes
 SECONDS = 60
-DRAINS = ('d ', 'z ')                           # the calls that caches of threads don't take
+DRAINS = ('d ', 'z ')                           # the calls that no machine without slabs takes
 
 
 class Case:
     """Table, trace and order of a seed, and the command that runs them. Limits are small, so that all kinds of answers
-    come. A second generator draws the command and a third one the step of a profile, so that each draws as it did without
-    those behind it."""
+    come. A second generator draws the command, a third one the step of a profile, and further ones the nodes and whether
+    drains stay, so that each draws as it did without those behind it."""
 
     def __init__(self, seed, command=None):
         self.draw = random.Random(seed)
@@ -25,12 +25,13 @@ class Case:
         self.classes = [[int(field) for field in row.split(',')] for row in self.table.split()]
         self.mood = self.draw.choice(['objects', 'objects', 'drains', 'pages', 'both', 'regions'])
         self.heads = self.random_heads()
+        self.nodes = self.random_nodes(random.Random('nodes %d' % seed)) if command == 'numa' else 1
         self.sizes = [self.random_size() for _ in range(self.draw.randint(1, 5))]
         self.live = []
         self.label = 0
         self.trace = self.random_trace()
         self.order = self.random_order() if self.draw.random() < 0.7 else None
-        if command:
+        if command and random.Random('drains %d' % seed).random() < 0.9:
             self.trace = ''.join(line for line in self.trace.splitlines(True) if not line.startswith(DRAINS))
         self.words = self.random_words(random.Random('command %d' % seed), command)
         self.sample = self.random_sample(random.Random('sample %d' % seed))
@@ -64,6 +65,14 @@ class Case:
             if draw.random() < 0.1:
                 del heads[name]
         return heads
+
+    def random_nodes(self, draw):
+        """How many nodes there are, with CPUs and threads such that several of them serve."""
+        nodes = draw.choice([1, 2, 2, 3, draw.randint(1, 8)])
+        self.heads.update(cpus=draw.choice([nodes, draw.randint(1, 9)]), threads=draw.randint(1, 8))
+        if self.mood == 'regions':
+            self.heads.update(slack=draw.choice([0, 300, 500]))     # so a region opens at once, or behind a tail or two
+        return nodes
 
     def random_percpu(self):
         """Bytes of a few objects, so that one class's capacity is short for another's."""
@@ -129,28 +138,29 @@ class Case:
         return ''.join(line + '\n' for line in lines)
 
     def random_words(self, draw, command):
-        """Caches of threads in about 3 of 10 cases, few of them with a call that these don't take. Of one thread, worker
-        threads answer the same."""
+        """Caches of threads in about 3 of 10 cases where no command is asked for, few of them with a call that these don't
+        take. Of one thread, worker threads answer the same."""
         words = ['--classes', 'table', '--rows'] + ([] if self.order is None else ['--order', 'order'])
         often = 0.15 if self.first_drain() else 0.6
         if draw.random() < often or command:
             is_free = self.order is None and self.heads['threads'] == 1
-            return ['perthread'] + words + (['--workers'] if is_free and draw.random() < 0.5 else [])
+            words += ['--nodes', '%d' % self.nodes] if command == 'numa' else []
+            return [command or 'perthread'] + words + (['--workers'] if is_free and draw.random() < 0.5 else [])
         return ['serial' if self.order is None else 'order'] + words
 
     def random_sample(self, draw):
         """The step of a profile in about 2 of 10 cases: of a byte, of a request or of a few, or any that there is."""
-        if self.has_caches() or draw.random() < 0.8:
+        if not self.has_slabs() or draw.random() < 0.8:
             return None
         size = draw.choice(self.sizes)
         step = draw.choice([1, draw.randint(1, 64), size, size + 1, size * draw.randint(1, 6), 1 << draw.randint(0, 30)])
         return max(1, min(step, 1 << 30))
 
-    def has_caches(self):
-        return self.words[0] == 'perthread'
+    def has_slabs(self):
+        return self.words[0] in ('serial', 'order')
 
     def first_drain(self):
-        """The number of the first line that caches of threads don't take, or None."""
+        """The number of the first line that no machine without slabs takes, or None."""
         lines = enumerate(self.trace.splitlines(), 1)
         return next((number for number, line in lines if line.startswith(DRAINS)), None)
 
@@ -198,8 +208,7 @@ class Case:
         return ''.join(line + '\n' for line in lines)
 
     def replay(self):
-        front = 'caches' if self.has_caches() else 'slabs'
-        return model.Replay(self.table, self.trace, self.order or '', front=front).run()
+        return model.Replay(self.table, self.trace, self.order or '', command=self.words[0], nodes=self.nodes).run()
 
     def model(self):
         """What the model answers on the trace, and on the journal."""
@@ -208,7 +217,7 @@ class Case:
             judged = 0, 'yes %d\n' % number, ''
         else:
             judged = 12, '', 'tcreplay: audit line %d: %s\n' % (number, why[0].lower())
-        if self.has_caches() and self.first_drain():
+        if not self.has_slabs() and self.first_drain():
             return (4, '', 'tcreplay: trace line %d: nothere\n' % self.first_drain()), judged
         return model.answer(self.replay(), rows=True, sample=self.sample), judged
 

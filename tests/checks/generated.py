@@ -7,7 +7,7 @@ import time
 import model
 from checks.drawn import differing
 from checks.mixes import OBJECT_TABLE
-from checks.program import TOP, WRITE_FAULT, differences, full_device, read, run, run_with
+from checks.program import TOP, WRITE_FAULT, differences, full_device, if_built, read, run, run_with
 
 
 def made_trace(seed, calls, threads):
@@ -21,6 +21,11 @@ def random_traces_as_by_the_model():
     wrong = ['tests/compare %d 1 shows a difference' % seed for seed, _, _, _ in differing(1, 1500)]
     print('random_traces_as_by_the_model: %.1f s' % (time.monotonic() - begun), file=sys.stderr)
     return wrong
+
+
+def random_traces_of_nodes_as_by_the_model():
+    """The same to 500 random traces for one to eight memory nodes."""
+    return ['tests/compare %d 1 numa shows a difference' % seed for seed, _, _, _ in differing(1, 500, 'numa')]
 
 
 GEN = [b'gen', b'--classes', b'T1.csv']
@@ -88,4 +93,4 @@ def generation_that_does_not_fit():
 
 CASES = [random_traces_as_by_the_model, generated_traces, most_generated_calls,
          generation_under_a_table_too_long, full_output_of_a_generation, full_notes_of_a_generation,
-         generation_that_does_not_fit]
+         generation_that_does_not_fit] + if_built(b'numa', [random_traces_of_nodes_as_by_the_model])

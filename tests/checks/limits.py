@@ -1,5 +1,7 @@
 """Inputs at their limits, and just above: lines, bytes, heads, picks, rows."""
 from checks.program import NOTHING, ORDER, SERIAL, SMALL_TABLE, differences, run
+from model import reading
+from shared.heads import HEADS
 
 
 def check_small(stdin, status, stdout=b'', stderr=b'', table=SMALL_TABLE):
@@ -31,21 +33,17 @@ def table_one_byte_too_long():
                        table=b'16,1,4\n'.ljust(65537, b'\n'))
 
 
-HEADS = [(b'cpus', 1, 64), (b'threads', 1, 64), (b'huge', 1, 4096), (b'cache', 0, 4096),
-         (b'region', 2, 512), (b'slack', 0, 1048576), (b'transfer', 0, 4096), (b'slab', 1, 2048),
-         (b'percpu', 0, 268435456), (b'events', 1, 40000000), (b'window', 0, 65536),
-         (b'domains', 0, 64)]
-
-
 def heads_at_the_ends_of_their_ranges():
-    """The least and the greatest value of each head are read, and what is beyond them is refused."""
+    """The least and the greatest value of each head, as docs/FORMATS.md tells them, are read, and what is beyond them is
+    refused. The model has its defaults."""
     wrong = []
-    for head, least, most in HEADS:
+    if reading.HEADS != {name: head.default for name, head in HEADS.items()}:
+        wrong.append('the model has the defaults %r' % reading.HEADS)
+    for head, (least, most, _) in HEADS.items():
         for value in (least, most):
-            wrong += check_small(b'%s %d\n' % (head, value), 0, NOTHING)
+            wrong += check_small(b'%s %d\n' % (head.encode(), value), 0, NOTHING)
         for value in (least - 1, most + 1):
-            wrong += check_small(b'%s %d\n' % (head, value), 4,
-                                 stderr=b'tcreplay: trace line 1: number\n')
+            wrong += check_small(b'%s %d\n' % (head.encode(), value), 4, stderr=b'tcreplay: trace line 1: number\n')
     return wrong
 
 

@@ -11,6 +11,7 @@ MODEL = os.path.join(TOP, 'tests', 'model')
 ROWS = os.path.join(TOP, 'tests', 'rows')
 EXAMPLES = os.path.join(TOP, 'examples')
 SECONDS = 600
+UNBUILT = []            # commands of tests/model that the program doesn't have yet
 
 SERIAL = [b'serial', b'--classes', b'T0.csv']
 ORDER = [b'order', b'--classes', b'T0.csv', b'--order', b'O']
@@ -32,6 +33,11 @@ def read_if(folder, name):
 
 
 SMALL_TABLE = read(EXAMPLES, 'T0.csv')
+
+
+def if_built(command, checks):
+    """These checks, or none where the program doesn't have the command yet."""
+    return [] if command in UNBUILT else checks
 
 
 def write_files(folder, files):

@@ -3,7 +3,7 @@ import os
 import re
 import sys
 
-from checks.program import (EXAMPLES, MODEL, ORDER, PROGRAM, ROWS, SERIAL, SMALL_TABLE, differences, read,
+from checks.program import (EXAMPLES, MODEL, ORDER, PROGRAM, ROWS, SERIAL, SMALL_TABLE, UNBUILT, differences, read,
                             read_if, run)
 
 
@@ -122,9 +122,6 @@ class Reader:
         if word == b'status':
             case.status = int(rest)
             return None
-        if word == b'by' and rest == b'model':
-            case.program = MODEL
-            return None
         if word == b'order' and case.words is SERIAL:
             case.words = ORDER
         if word in (b'file', b'order'):
@@ -178,6 +175,11 @@ def case_of_example(name):
 
 
 def stored_cases():
-    """The cases of tests/rows, and the examples."""
+    """The cases of tests/rows, and the examples. Those of a command that isn't built are the model's, which has no worker
+    threads and refuses nothing."""
     stored = [case for name in sorted(os.listdir(ROWS)) for case in cases_of(name)]
-    return stored + [case_of_example(name[:-4]) for name in sorted(os.listdir(EXAMPLES)) if name.endswith('.out')]
+    stored += [case_of_example(name[:-4]) for name in sorted(os.listdir(EXAMPLES)) if name.endswith('.out')]
+    for case in stored:
+        if set(case.words[:1]) & set(UNBUILT):
+            case.program, case.words = MODEL, [word for word in case.words if word != b'--workers']
+    return [case for case in stored if case.program == PROGRAM or case.status in (0, 9)]

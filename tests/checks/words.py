@@ -1,6 +1,7 @@
 """What is told of the words: the formats, the manual page, the completion, and the program itself."""
 import os
 import re
+import shutil
 import subprocess
 
 from checks.program import TOP, read, run
@@ -40,14 +41,30 @@ def proposed(words):
     return subprocess.run(['bash', '-c', script], stdout=subprocess.PIPE).stdout.decode().split()
 
 
+def faults_of_the_page():
+    """What the tools that are there find wrong with the form of the manual page."""
+    page = os.path.join(TOP, 'docs', 'tcreplay.1')
+    tools = [['mandoc', '-Tlint', '-Wstyle', page], ['groff', '-man', '-ww', '-Tutf8', '-z', page]]
+    return [line for tool in tools if shutil.which(tool[0])
+            for line in subprocess.run(tool, stdout=subprocess.PIPE, stderr=subprocess.STDOUT).stdout.decode().splitlines()]
+
+
+def begun_with():
+    """The words with which the script `tcreplay` builds and runs the program."""
+    return re.search(r"(?m)^commands='(.*)'$", read(TOP, 'tcreplay').decode())[1].split()
+
+
 def words_as_they_are_told():
-    """Formats, manual page and completion have the same commands, options and statuses, and the program takes these."""
+    """Formats, manual page, completion and script have the same commands, the first three the same options and statuses, and
+    the program takes these."""
     lines = synopsis('FORMATS.md', '## The command line', '## Class table')
     wrong = [] if synopsis('tcreplay.1', '.SH SYNOPSIS', '.SH DESCRIPTION') == lines else ['the page has another synopsis']
     told = dict([line.split(' ', 1) for line in lines])
     every = {option: values for line in lines for option, *values in options_of(line)[1]}
     if sorted(proposed([])) != sorted(told):
         wrong.append('the completion proposes %s' % proposed([]))
+    if begun_with() != list(told):
+        wrong.append('the script has the commands %s' % begun_with())
     for command, line in told.items():
         required, options = options_of(line)
         names = [option for option, *_ in options]
@@ -66,7 +83,7 @@ def words_as_they_are_told():
     statuses = re.findall(r'(?m)^\| (\d+) \| `', formats)
     if re.findall(r'(?m)^\.B (\d+)$', page) != sorted(statuses + ['1'], key=int):
         wrong.append('the page has other statuses')
-    return wrong
+    return wrong + faults_of_the_page()
 
 
 CASES = [words_as_they_are_told]

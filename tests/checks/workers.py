@@ -1,6 +1,6 @@
 """Worker threads, whose order is any."""
 from checks.generated import made_trace
-from checks.program import EXAMPLES, HUGE, ORDER, PAGE, SMALL_TABLE, differences, read, run
+from checks.program import EXAMPLES, HUGE, ORDER, PAGE, SMALL_TABLE, differences, if_built, read, run
 
 # The greatest number of threads.
 
@@ -24,6 +24,7 @@ def sixty_four_threads():
 LOCKS = [b'one', b'parts']
 SLABS = [[b'workers', b'--locks', locks] for locks in LOCKS]
 CACHES = [[b'perthread', b'--workers']]
+NODES = if_built(b'numa', [[b'numa', b'--nodes', b'2', b'--workers']])
 MIX = (b'threads 4\nhuge 8\na 0 0 300000\na 1 1 2097152\na 2 2 16384\na 3 3 2500000\nf 1 0\nf 2 1\nr 3 100\n'
        b'a 0 4 100000\nf 3 2\nf 0 3\na 2 5 50000\n')
 
@@ -39,8 +40,8 @@ def without_drains(trace):
 
 def workers_end_as_runs_in_turn():
     """Of two mixes, and of each example in which every order serves each allocation, a run by threads has the calls
-    and the live blocks of the one in trace order, at slabs and with caches of threads. Where there is one thread it has
-    its text."""
+    and the live blocks of the one in trace order, at slabs, with caches of threads and at two nodes. Where there is one
+    thread it has its text."""
     alone = ['first', 'frees', 'filler', 'tail', 'region', 'release', 'window', 'abort', 'long', 'trim']
     several = ['workers', 'stale', 'fence', 'transfer', 'buffers', 'steal']
     tables = {'long': b'T1.csv', 'buffers': b'T2.csv'}
@@ -49,9 +50,9 @@ def workers_end_as_runs_in_turn():
     wrong = []
     for trace, table, has_one_thread in runs:
         files = {table: read(EXAMPLES, table.decode())}
-        for in_turn, by_threads in ((b'serial', SLABS), (b'perthread', CACHES)):
-            calls = trace if in_turn == b'serial' else without_drains(trace)
-            expected = run([in_turn, b'--classes', table], calls, files)
+        for in_turn, by_threads in (([b'serial'], SLABS), ([b'perthread'], CACHES), ([b'numa', b'--nodes', b'2'], NODES)):
+            calls = trace if by_threads is SLABS else without_drains(trace)
+            expected = run(in_turn + [b'--classes', table], calls, files)
             for words in by_threads:
                 result = run(words + [b'--classes', table], calls, files)
                 if has_one_thread:
@@ -79,7 +80,7 @@ def sixty_four_workers():
     trace = b'threads 64\n' + b''.join(b'a %d %d 8193\n' % (thread, thread) for thread in range(64))
     trace += b''.join(b'f %d %d\n' % ((thread + 1) % 64, thread) for thread in range(64))
     wrong = []
-    for words in SLABS + CACHES:
+    for words in SLABS + CACHES + NODES:
         status, text, notes = run(words + [b'--classes', b'T0.csv'], trace, {b'T0.csv': SMALL_TABLE})
         lines = text.split(b'\n')
         if status != 0 or head_of_summary(text) != [b'calls 128', b'live 0 0'] or len(lines) != 134:

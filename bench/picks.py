@@ -1,16 +1,12 @@
-#!/usr/bin/env python3
-"""bench/picks [NAME..]
+"""What a pick costs where the allocator has 40,000 live spans of one class, against where it has 400, when one thread
+makes one call after another.
 
-How much a pick costs where the allocator has 40,000 live spans of one class, against where it has 400, when one
-thread makes one call after another. It runs the built program, crates/tcreplay/out/tcreplay, on traces that it
-writes into a temporary folder: a beginning, after which so many spans are live, and behind it a tail of 200,000
-allocations and as many frees, which leaves them live. The cost of the tail is the processor time of a trace less
-that of its beginning alone, each the least of five runs, by the picks of the tail. They are counted: the program
-ends with status 0 exactly where the head `events` gives it as many picks as it makes.
-
-With valgrind's callgrind on the machine, it also prints the instructions of a tail of a tenth of that, which other
-work on the machine doesn't change. With names, only these workloads. It is a report and no test: nothing passes or
-fails by it.
+It runs the built program, crates/tcreplay/out/tcreplay, on traces that it writes into a temporary folder: a beginning,
+after which so many spans are live, and behind it a tail of 200,000 allocations and as many frees, which leaves them
+live. The cost of the tail is the processor time of a trace less that of its beginning alone, each the least of five
+runs, by the picks of the tail. They are counted: the program ends with status 0 exactly where the head `events` gives
+it as many picks as it makes. With valgrind's callgrind on the machine, the instructions of a tail of a tenth of that
+are told too, which other work on the machine doesn't change.
 """
 import os
 import re
@@ -161,17 +157,14 @@ def report(bench, workload):
         print('    %.0f and %.0f instructions: %.2f times' % (few, many, many / few), flush=True)
 
 
-def main():
-    names = sys.argv[1:]
+def measure(names):
+    """Reports on the workloads of these names, or on all."""
     unknown = sorted(set(names) - {workload.__name__ for workload in WORKLOADS})
     if unknown:
-        sys.exit('bench/picks: there is no workload %s' % ', '.join(unknown))
+        sys.exit('bench/crate: there is no workload %s of picks' % ', '.join(unknown))
     if not os.access(PROGRAM, os.X_OK):
-        sys.exit('bench/picks: %s is missing; ./tcreplay builds it' % os.path.relpath(PROGRAM, TOP))
+        sys.exit('bench/crate: %s is missing; ./tcreplay builds it' % os.path.relpath(PROGRAM, TOP))
     with tempfile.TemporaryDirectory() as folder:
         for workload in WORKLOADS:
             if not names or workload.__name__ in names:
                 report(Bench(folder), workload)
-
-
-main()
