@@ -5,3 +5,4 @@ pub mod Whole
 pub mod Mem
 pub mod Shelved
 pub mod Loads
+pub mod Ends

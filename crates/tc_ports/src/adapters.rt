@@ -42,11 +42,7 @@ impl<R: Read> ReaderSource<R> {
 }
 
 impl<R: Read> Source for ReaderSource<R> {
-    ghost reads = { λ s. s.reads };
-
-    ghost faults = { λ s. s.faults };
-
-    ghost left = { λ _. None };
+    ghost seen = { λ s. record { left = None; faults = s.faults; reads = s.reads } };
 
     /// Gives what one read of the reader gives.
     fn read(&mut self, buf: &mut [u8]) -> Result<usize, Failed>
@@ -102,11 +98,7 @@ impl<W: Write> WriterSink<W> {
 }
 
 impl<W: Write> Sink for WriterSink<W> {
-    ghost puts = { λ s. s.puts };
-
-    ghost faults = { λ s. s.faults };
-
-    ghost taken = { λ _. None };
+    ghost seen = { λ s. record { taken = None; faults = s.faults; puts = s.puts } };
 
     /// Writes the piece, and flushes.
     fn put(&mut self, piece: &[u8]) -> Result<(), Failed>
@@ -176,11 +168,7 @@ impl<'a, R: Files> FileShelf<'a, R> {
 }
 
 impl<'a, R: Files> Shelf for FileShelf<'a, R> {
-    ghost loads = { λ s. s.loads };
-
-    ghost faults = { λ s. s.faults };
-
-    ghost files = { λ _. None };
+    ghost seen = { λ s. record { files = None; faults = s.faults; loads = s.loads } };
 
     fn load(&mut self, alloc: Global, name: &str, limit: u64) -> Result<Vec<u8>, LoadFault>
         // What is known of a file that was opened.

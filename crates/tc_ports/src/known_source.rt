@@ -30,11 +30,11 @@ impl<R: Read> KnownSource<R> {
 }
 
 impl<R: Read> Source for KnownSource<R> {
-    ghost reads = { λ s. s.source.reads };
-
-    ghost faults = { λ s. s.source.faults };
-
-    ghost left = { λ s. known_since (R.remaining s.first.value) (R.remaining s.source.reader) };
+    ghost seen = { λ s. record {
+      left = known_since (R.remaining s.first.value) (R.remaining s.source.reader);
+      faults = s.source.faults;
+      reads = s.source.reads;
+    } };
 
     fn read(&mut self, buf: &mut [u8]) -> Result<usize, Failed> {
         self.source.read(buf)

@@ -73,11 +73,7 @@ impl MemShelf {
 }
 
 impl Shelf for MemShelf {
-    ghost loads = { λ s. s.calls };
-
-    ghost faults = { λ s. s.faults };
-
-    ghost files = { λ s. Some s.files };
+    ghost seen = { λ s. record { files = Some s.files; faults = s.faults; loads = s.calls } };
 
     /// Gives the file, unless the number of the load is one that fails.
     #[tactic(auto, using(crate::proofs::Finds::files_found))]

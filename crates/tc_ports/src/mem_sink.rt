@@ -59,11 +59,7 @@ impl MemSink {
 }
 
 impl Sink for MemSink {
-    ghost puts = { λ s. s.calls };
-
-    ghost faults = { λ s. s.faults };
-
-    ghost taken = { λ s. Some s.taken };
+    ghost seen = { λ s. record { taken = Some s.taken; faults = s.faults; puts = s.calls } };
 
     /// Takes the piece, unless there is no room for it or its number is one that fails. Without
     /// room it takes nothing; a put that fails by its number takes the first half.

@@ -65,11 +65,7 @@ impl MemSource {
 }
 
 impl Source for MemSource {
-    ghost reads = { λ s. s.calls };
-
-    ghost faults = { λ s. s.faults };
-
-    ghost left = { λ s. Some s.left };
+    ghost seen = { λ s. record { left = Some s.left; faults = s.faults; reads = s.calls } };
 
     /// Gives as many bytes as the buffer holds and are left, and at most `most`, unless its
     /// number is one that fails.

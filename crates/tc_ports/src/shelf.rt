@@ -1,8 +1,9 @@
 //! Where a program loads its files from.
-ghost use Rattle.std.specs.Prelude.{◌≡◌, ◌<◌, ◌≤◌, ◌^◌, ℕ, Option, length, None, Some, IfOk, OnOk, IfErr, IfSome, IsNone};
+ghost use Rattle.std.specs.Prelude.{◌≡◌, ◌<◌, ◌≤◌, ◌^◌, length, None, Some, IfOk, OnOk, IfErr, IfSome, IsNone};
 ghost use Rattle.std.specs.FinMap as map;
 ghost use Rattle.tc_ports.specs.Faults.{one_more};
-ghost use Rattle.tc_ports.specs.Shelves.{Files, Refused, LoadCounted};
+ghost use Rattle.tc_ports.specs.Ends.{Shelving};
+ghost use Rattle.tc_ports.specs.Shelves.{Refused, LoadCounted};
 
 use std::alloc::Global;
 
@@ -21,28 +22,22 @@ pub enum LoadFault {
 
 /// A shelf of files by name.
 pub trait Shelf {
-    // How many loads there were, as far as a u64 counts.
-    ghost loads: { Self → ℕ };
-
-    // How many loads have failed, as far as a u64 counts.
-    ghost faults: { Self → ℕ };
-
-    // The files, where the shelf tells them.
-    ghost files: { Self → Option Files };
+    // The files, where it tells them, and the counts of loads and of faults.
+    ghost seen: { Self → Shelving };
 
     /// The whole bytes of a file of at most `limit` bytes.
     fn load(&mut self, alloc: Global, name: &str, limit: u64) -> Result<Vec<u8>, LoadFault>
         ensures within { IfOk result (λ bytes. length bytes.items ≤ limit) }
-        ensures whole { IfOk result (λ bytes. IfSome (files self.old)
+        ensures whole { IfOk result (λ bytes. IfSome (seen self.old).files
             (λ all. map.get all name.now ≡ Some bytes.items)) }
-        ensures refused { IfErr result (λ fault. IfSome (files self.old)
+        ensures refused { IfErr result (λ fault. IfSome (seen self.old).files
             (λ all. Refused (map.get all name.now) limit fault)) }
-        ensures untold { IsNone (files self.old) → result ≡ Err LoadFault.Missing → ⊥ }
-        ensures same_files { files self.new ≡ files self.old }
-        ensures counted { loads self.new ≡ one_more (loads self.old) }
+        ensures untold { IsNone (seen self.old).files → result ≡ Err LoadFault.Missing → ⊥ }
+        ensures same_files { (seen self.new).files ≡ (seen self.old).files }
+        ensures counted { (seen self.new).loads ≡ one_more (seen self.old).loads }
 
         // A failed load raised the count of faults, and no other load changes it.
-        ensures cause { IfErr result (λ fault. LoadCounted fault (faults self.old) (faults self.new)) }
-        ensures count { OnOk result (faults self.new ≡ faults self.old) }
-        ensures small { faults self.new < 2 ^ 64 };
+        ensures cause { IfErr result (λ fault. LoadCounted fault (seen self.old).faults (seen self.new).faults) }
+        ensures count { OnOk result ((seen self.new).faults ≡ (seen self.old).faults) }
+        ensures small { (seen self.new).faults < 2 ^ 64 };
 }

@@ -29,19 +29,19 @@ pub fn read_all<S: Source>(
     limit: u64,
 ) -> Result<Vec<u8>, ReadAllFault>
     ensures within { IfOk result (λ all. length all.items ≤ limit) }
-    ensures whole { IfOk result (λ all. IfSome (S.left source.old) (λ bytes. all.items ≡ bytes)) }
-    ensures end { OnOk result (IfSome (S.left source.new) (λ rest. rest ≡ [])) }
+    ensures whole { IfOk result (λ all. IfSome (S.seen source.old).left (λ bytes. all.items ≡ bytes)) }
+    ensures end { OnOk result (IfSome (S.seen source.new).left (λ rest. rest ≡ [])) }
     ensures refused { IfErr result
-        (λ fault. ReadAllRefused fault (S.left source.old) (S.left source.new) limit) }
-    ensures reads { S.reads source.new ≤ S.reads source.old + limit + 1 }
+        (λ fault. ReadAllRefused fault (S.seen source.old).left (S.seen source.new).left limit) }
+    ensures reads { (S.seen source.new).reads ≤ (S.seen source.old).reads + limit + 1 }
     ensures each_gives { IfOk result
-        (λ all. S.reads source.new ≤ S.reads source.old + length all.items + 1) }
-    ensures tells { IsNone (S.left source.new) ↔ IsNone (S.left source.old) }
+        (λ all. (S.seen source.new).reads ≤ (S.seen source.old).reads + length all.items + 1) }
+    ensures tells { IsNone (S.seen source.new).left ↔ IsNone (S.seen source.old).left }
 
     // Only a read that failed raises the count of faults.
     ensures cause { IfErr result
-        (λ fault. ReadAllCounted fault (S.faults source.old) (S.faults source.new)) }
-    ensures count { OnOk result (S.faults source.new ≡ S.faults source.old) }
+        (λ fault. ReadAllCounted fault (S.seen source.old).faults (S.seen source.new).faults) }
+    ensures count { OnOk result ((S.seen source.new).faults ≡ (S.seen source.old).faults) }
 {
     let mut all = Vec::new(alloc);
     let mut chunk = [0u8; CHUNK];

@@ -7,6 +7,7 @@ use Rattle.tc_units.specs.declared.spans.ClassRow.{ClassRow}
 use Rattle.tc_model.specs.Input.{Asked, scripts_of}
 use Rattle.tc_model.specs.declared.calls.Script.{Script}
 use Rattle.tc_ports.specs.Told.{Took}
+use Rattle.tc_ports.specs.Ends.{Reading, Shelving, Writing}
 use Rattle.trace_reader.specs.declared.trace.Trace.{Trace}
 use Rattle.tc_machine.specs.Inputs.{IsRead, asked_of, input_of}
 use Rattle.journal_audit.specs.declared.verdict.AuditWhy.{AuditWhy}
@@ -19,8 +20,8 @@ use Rattle.tcreplay.specs.declared.outcome.End.TheVariants.{Done, WriteFault, Me
 use Rattle.tcreplay.specs.declared.input.AuditJob.{AuditJob}
 use Rattle.tcreplay.specs.Tasks.{Audit}
 use Rattle.tcreplay.specs.Verdict.{Verdict, rows_in, file_within, trace_limit}
-use Rattle.tcreplay.specs.Reads.{Reading, Shelving, IsLoad, IsTraceRead, AreRead, is_behind_run}
-use Rattle.tcreplay.specs.Writes.{Writing, IsWritten, IsLastEnd}
+use Rattle.tcreplay.specs.Reads.{IsLoad, IsTraceRead, AreRead, is_behind_run}
+use Rattle.tcreplay.specs.Writes.{IsWritten, IsLastEnd}
 use Rattle.tcreplay.specs.Auditing.{Case, case_of, seen_case, case_with, case_in, plan_in, verdict_in, yes_line, ended_by, case_verdict, audit_verdict, IsAuditAnswer, IsJudgedRight, IsAuditHeadline, IsAuditRefusal, HasAudited}
 use Rattle.tcreplay.proofs.EndFacts.{case_fails}
 use Rattle.tcreplay.proofs.JobFacts.{IsEarly, not_run, cut_early, table_err, trace_err, read_with, file_err}

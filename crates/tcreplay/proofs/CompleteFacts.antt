@@ -3,6 +3,7 @@ use Rattle.std.proofs.Common.{◌≡◌, ◌⊎◌, ℕ, Bool, true, false, List
 use Rattle.std.specs.Prelude.{IfSome, ◌↔◌}
 use Rattle.std.specs.FinMap.{get}
 use Rattle.tc_ports.specs.Shelves.{Files}
+use Rattle.tc_ports.specs.Ends.{Reading, Shelving, Writing}
 use Rattle.tcreplay.specs.declared.run.Telling.{Telling}
 use Rattle.tcreplay.specs.declared.run.Telling.TheVariants.{Whole}
 use Rattle.tcreplay.specs.declared.outcome.End.{End}
@@ -14,8 +15,8 @@ use Rattle.tcreplay.specs.Machines.{Machine}
 use Rattle.tc_model.specs.Run.{run}
 use Rattle.tcreplay.specs.Verdict.{Given, Job, and_then, rows_in, asked_in, picks_or, job_with, job_of, run_verdict, have_ended, order_of_job, Verdict}
 use Rattle.tc_ports.specs.Faults.{Rose}
-use Rattle.tcreplay.specs.Reads.{Reading, Shelving, IsFile, HaveCome, AreTold, AreGiven, CutOff}
-use Rattle.tcreplay.specs.Writes.{Writing, Ends, IsWritten, IsNoted}
+use Rattle.tcreplay.specs.Reads.{IsFile, HaveCome, AreTold, AreGiven, CutOff}
+use Rattle.tcreplay.specs.Writes.{Ends, IsWritten, IsNoted}
 use Rattle.tcreplay.specs.Generating.{trace_of, generation_verdict, AreWritten, IsGenerationEnd, HasGenerated}
 use Rattle.tcreplay.specs.Auditing.{Case, case_with, case_in, ended_by, verdict_in, case_verdict, audit_verdict, HasAudited}
 use Rattle.tcreplay.specs.Replayed.{HasTried, runs, verdict_on}

@@ -5,6 +5,7 @@ use Rattle.tc_units.specs.declared.spans.ClassRow.{ClassRow}
 use Rattle.tc_model.specs.Input.{Asked}
 use Rattle.tc_ports.specs.Faults.{Rose}
 use Rattle.tc_ports.specs.Told.{Took}
+use Rattle.tc_ports.specs.Ends.{Reading, Shelving, Writing}
 use Rattle.trace_reader.specs.Reading.{asked_by}
 use Rattle.tc_machine.specs.Inputs.{asked_of}
 use Rattle.tcreplay.specs.declared.outcome.End.{End}
@@ -14,9 +15,9 @@ use Rattle.tcreplay.specs.declared.run.Ran.{Ran}
 use Rattle.tcreplay.specs.declared.run.Telling.TheVariants.{Summary}
 use Rattle.tcreplay.specs.Tasks.{Workload, InTurn}
 use Rattle.tcreplay.specs.Verdict.{Job, Verdict, and_then, or_end, trace_end, rows_in, asked_of_text, run_verdict, order_of_job}
-use Rattle.tcreplay.specs.Reads.{IsCounted, Reading, Shelving, IsLoad, is_behind_run, seen_job}
+use Rattle.tcreplay.specs.Reads.{IsCounted, IsLoad, is_behind_run, seen_job}
 use Rattle.tcreplay.specs.Ran.{seen_ran, IsRan}
-use Rattle.tcreplay.specs.Writes.{Writing, Ends, TookText, IsRunEnd, IsLastEnd}
+use Rattle.tcreplay.specs.Writes.{Ends, TookText, IsRunEnd, IsLastEnd}
 use Rattle.tcreplay.specs.Machines.{per_cpu}
 use Rattle.tcreplay.specs.Order.{IsOrderOf}
 use Rattle.tcreplay.specs.Generating.{trace_of, generation_job_with, generation_job, generation_verdict, IsMade, IsGenerationAnswer, IsGenerationEnd, AreWritten, IsGenerationHeadline, HasGenerated}

@@ -7,6 +7,7 @@ use Rattle.tc_model.specs.Input.{Asked}
 use Rattle.tc_ports.specs.Faults.{one_more, Rose}
 use Rattle.tc_ports.specs.Shelves.{Files}
 use Rattle.tc_ports.specs.Told.{LostAtMost}
+use Rattle.tc_ports.specs.Ends.{Reading, Shelving}
 use Rattle.trace_reader.specs.declared.trace.Trace.{Trace}
 use Rattle.tc_machine.specs.Inputs.{asked_of}
 use Rattle.tcreplay.specs.declared.outcome.End.{End}
@@ -15,7 +16,7 @@ use Rattle.tcreplay.specs.declared.input.Job.{Job}
 use Rattle.tcreplay.specs.Tasks.{Front, Replay, file_of}
 use Rattle.tcreplay.specs.Verdict as verdict
 use Rattle.tcreplay.specs.Verdict.{Given, and_then, trace_limit, rows_in, asked_in, picks_in, picks_or, job_with, read_of}
-use Rattle.tcreplay.specs.Reads.{Reading, Shelving, IsFile, IsStep, IsLoad, ArePicks, IsTraceRead, CutOff, HasRead, IsAllRead, IsReadAs, AreRead, IsJobRead, IsCounted, seen_job, loads_behind, most_gone, is_of_file, is_behind_trace, is_behind_run}
+use Rattle.tcreplay.specs.Reads.{IsFile, IsStep, IsLoad, ArePicks, IsTraceRead, CutOff, HasRead, IsAllRead, IsReadAs, AreRead, IsJobRead, IsCounted, seen_job, loads_behind, most_gone, is_of_file, is_behind_trace, is_behind_run}
 use Rattle.tcreplay.proofs.EndFacts.{FailsTable, FailsJob, table_fails, job_fails}
 use Rattle.tcreplay.proofs.LoadFacts.{some_file, some_file_is}
 use Rattle.tcreplay.proofs.TraceFacts.{some_text, some_text_is, lost_none, lost_more}

@@ -10,10 +10,11 @@ use Rattle.std.specs.Global.{Global}
 use Rattle.tc_ports.specs.declared.shelf.LoadFault.{LoadFault}
 use Rattle.tc_ports.specs.declared.shelf.LoadFault.TheVariants as load
 use Rattle.tc_ports.specs.Shelves.{Files, Refused, LoadCounted}
+use Rattle.tc_ports.specs.Ends.{Shelving}
 use Rattle.tcreplay.specs.declared.outcome.End.{End}
 use Rattle.tcreplay.specs.declared.outcome.End.TheVariants.{TooLong, FileFault}
 use Rattle.tcreplay.specs.Verdict.{and_then, within, file_within}
-use Rattle.tcreplay.specs.Reads.{Shelving, load_end, IsFile, IsStep, IsPure, IsLoad}
+use Rattle.tcreplay.specs.Reads.{load_end, IsFile, IsStep, IsPure, IsLoad}
 
 -- bytes that aren't more than a limit, and bytes that are
 pub within_ok : (limit : ℕ) (bytes : List ℕ) → length bytes ≤ limit → within limit bytes ≡ Ok bytes

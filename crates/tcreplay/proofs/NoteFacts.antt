@@ -4,10 +4,11 @@ use Rattle.std.specs.Prelude.{OnOk, OnErr}
 use Rattle.tc_ports.specs.declared.fault.Failed.{Failed}
 use Rattle.tc_ports.specs.Faults.{one_more, Rose}
 use Rattle.tc_ports.specs.Told.{Took, TookPart}
+use Rattle.tc_ports.specs.Ends.{Writing}
 use Rattle.tcreplay.specs.declared.outcome.End.{End}
 use Rattle.tcreplay.specs.declared.outcome.End.TheVariants.{Done}
 use Rattle.tcreplay.specs.Notes.{note_of}
-use Rattle.tcreplay.specs.Writes.{Writing, TookText, TookPartOf, IsNoted}
+use Rattle.tcreplay.specs.Writes.{TookText, TookPartOf, IsNoted}
 
 -- one put of a piece
 pub put_is : (piece : List ℕ) (before after : Writing) (result : Result (Unit {0}) Failed) → OnOk result (Took before.taken after.taken piece) → OnErr result (TookPart before.taken after.taken piece) → after.puts ≡ one_more before.puts → OnErr result (Rose before.faults after.faults) → OnOk result (after.faults ≡ before.faults) → TookText piece before after ⊎ TookPartOf piece before after

@@ -3,6 +3,7 @@ use Rattle.std.proofs.Common.{◌≡◌, ℕ, true, false, List, [], Option, Som
 use Rattle.tc_units.specs.declared.spans.ClassRow.{ClassRow}
 use Rattle.tc_model.specs.Input.{Asked}
 use Rattle.tc_ports.specs.Told.{Took}
+use Rattle.tc_ports.specs.Ends.{Reading, Shelving, Writing}
 use Rattle.tcreplay.specs.declared.outcome.End.{End}
 use Rattle.tcreplay.specs.declared.outcome.End.TheVariants.{Done, WriteFault, Memory}
 use Rattle.tcreplay.specs.declared.input.Job.{Job}
@@ -14,9 +15,9 @@ use Rattle.tcreplay.specs.Machines.{Machine, machine_of, locks_for}
 use Rattle.tcreplay.specs.Tasks.{Front, Cpus, Threads, Nodes, Replay, Schedule, InTurn, ByFile, ByThreads, file_of, locks_in}
 use Rattle.tcreplay.specs.Verdict as verdict
 use Rattle.tcreplay.specs.Verdict.{Given, Verdict, and_then, rows_in, asked_in, picks_or, job_with, run_verdict, order_of_job, job_of}
-use Rattle.tcreplay.specs.Reads.{Reading, Shelving, IsMadeOf, HaveCome, AreGiven, HasRead, IsJobRead, is_behind_run, seen_job}
+use Rattle.tcreplay.specs.Reads.{IsMadeOf, HaveCome, AreGiven, HasRead, IsJobRead, is_behind_run, seen_job}
 use Rattle.tcreplay.specs.Ran.{seen_ran, IsRan, IsRanByThreads}
-use Rattle.tcreplay.specs.Writes.{Writing, IsWritten, IsLastEnd}
+use Rattle.tcreplay.specs.Writes.{IsWritten, IsLastEnd}
 use Rattle.tcreplay.specs.Order.{IsCompleted, IsOrderOf}
 use Rattle.tcreplay.specs.Replayed.{IsAnswer, IsHeadline, HasTried, runs, verdict_on}
 use Rattle.tcreplay.proofs.EndFacts.{job_fails}

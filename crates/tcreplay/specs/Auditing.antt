@@ -4,6 +4,7 @@ use Rattle.std.specs.Prelude.{◌≡◌, ℕ, ◌≤◌, ◌⊎◌, ◌++◌, tr
 use Rattle.tc_units.specs.declared.spans.ClassRow.{ClassRow}
 use Rattle.tc_model.specs.Input.{Input, Asked, scripts_of}
 use Rattle.tc_ports.specs.Told.{Took}
+use Rattle.tc_ports.specs.Ends.{Reading, Shelving, Writing}
 use Rattle.tc_machine.specs.Inputs.{input_of}
 use Rattle.journal_audit.specs.declared.verdict.AuditWhy.{AuditWhy}
 use Rattle.journal_audit.specs.declared.verdict.Verdict as journal
@@ -15,8 +16,8 @@ use Rattle.tcreplay.specs.declared.outcome.End.TheVariants.{Done, WriteFault, Au
 use Rattle.tcreplay.specs.declared.input.AuditJob.{AuditJob}
 use Rattle.tcreplay.specs.Tasks.{Audit}
 use Rattle.tcreplay.specs.Verdict.{Given, Verdict, and_then, read_of, refused, file_within, trace_limit}
-use Rattle.tcreplay.specs.Reads.{Reading, Shelving, AreTold, CutOff, HasRead, is_behind_run}
-use Rattle.tcreplay.specs.Writes.{Writing, IsWritten}
+use Rattle.tcreplay.specs.Reads.{AreTold, CutOff, HasRead, is_behind_run}
+use Rattle.tcreplay.specs.Writes.{IsWritten}
 
 -- what is judged, and by what: the bytes of a journal, by the class table and what the trace asks for
 pub record Case : Type 0 where

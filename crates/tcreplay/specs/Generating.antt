@@ -9,6 +9,7 @@ use Rattle.tc_ports.specs.Faults.{one_more, Rose}
 use Rattle.tc_ports.specs.Told.{Took}
 use Rattle.tc_ports.specs.Shelves.{Files}
 use Rattle.trace_gen.specs.TraceText.{trace_text}
+use Rattle.tc_ports.specs.Ends.{Shelving, Writing}
 use Rattle.tcreplay.specs.Machines.{per_cpu}
 use Rattle.tcreplay.specs.declared.run.Telling.TheVariants.{Summary}
 use Rattle.tcreplay.specs.declared.generate.Made.{Made}
@@ -16,8 +17,8 @@ use Rattle.tcreplay.specs.declared.outcome.End.{End}
 use Rattle.tcreplay.specs.declared.outcome.End.TheVariants.{Done, BadTable, WriteFault, Memory, TooLong, Full, FileFault}
 use Rattle.tcreplay.specs.Tasks.{Workload, InTurn}
 use Rattle.tcreplay.specs.Verdict.{Job, Verdict, and_then, rows_in, asked_of_text, order_of_job, run_verdict, summary_in}
-use Rattle.tcreplay.specs.Reads.{Shelving, IsFile, IsLoad, IsCounted, is_behind_run, seen_job}
-use Rattle.tcreplay.specs.Writes.{Writing, Ends, TookText, TookPartOf}
+use Rattle.tcreplay.specs.Reads.{IsFile, IsLoad, IsCounted, is_behind_run, seen_job}
+use Rattle.tcreplay.specs.Writes.{Ends, TookText, TookPartOf}
 use Rattle.tcreplay.specs.Order.{IsOrderOf}
 
 -- the trace of a workload

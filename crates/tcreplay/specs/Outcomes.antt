@@ -3,12 +3,13 @@ use Rattle.std.specs.Prelude.{◌≡◌, ℕ, ◌⊎◌, List, [], Option, Some,
 use Rattle.std.specs.FinMap.{get}
 use Rattle.tc_ports.specs.Faults.{Rose}
 use Rattle.tc_ports.specs.Shelves.{Files}
+use Rattle.tc_ports.specs.Ends.{Writing}
 use Rattle.tcreplay.specs.declared.outcome.End.{End}
 use Rattle.tcreplay.specs.declared.outcome.End.TheVariants.{Usage, Memory}
 use Rattle.tcreplay.specs.Tasks.{Replay, Audit, Task, ToReplay, ToGenerate, ToAudit, file_of}
 use Rattle.tcreplay.specs.Verdict.{Given, job_of}
 use Rattle.tcreplay.specs.Reads.{HaveCome}
-use Rattle.tcreplay.specs.Writes.{Writing, Ends, IsNoted}
+use Rattle.tcreplay.specs.Writes.{Ends, IsNoted}
 use Rattle.tcreplay.specs.Replayed.{HasTried, runs, verdict_on}
 use Rattle.tcreplay.specs.Generating.{HasGenerated, IsGenerationToldBy}
 use Rattle.tcreplay.specs.Auditing.{HasAudited, audit_verdict}

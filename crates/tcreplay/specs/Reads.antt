@@ -12,6 +12,7 @@ use Rattle.tc_ports.specs.Told.{LostAtMost}
 use Rattle.tc_ports.specs.declared.shelf.LoadFault.{LoadFault}
 use Rattle.tc_ports.specs.declared.shelf.LoadFault.TheVariants as load
 use Rattle.tc_ports.specs.Shelves.{Files}
+use Rattle.tc_ports.specs.Ends.{Reading, Shelving}
 use Rattle.trace_reader.specs.declared.trace.Trace.{Trace}
 use Rattle.alloc_rules.specs.Inputs.{not_taken}
 use Rattle.tc_machine.specs.Inputs.{IsRead, asked_of, input_of}
@@ -22,17 +23,6 @@ use Rattle.tcreplay.specs.Machines.{Machine, machine_of}
 use Rattle.tcreplay.specs.Tasks.{Front, Replay, Schedule, InTurn, ByFile, ByThreads, file_of}
 use Rattle.tcreplay.specs.Verdict.{Given, trace_limit, rows_in, asked_in, picks_in, job_of, and_then}
 use Rattle.tcreplay.specs.Verdict as verdict
-
--- what a source and a shelf show at a moment: what they tell, the faults so far, and the calls so far
-pub record Reading : Type 0 where
-  pub left : Option (List ℕ)
-  pub faults : ℕ
-  pub reads : ℕ
-
-pub record Shelving : Type 0 where
-  pub files : Option Files
-  pub faults : ℕ
-  pub loads : ℕ
 
 -- the bytes of a file that a shelf tells; where it tells none, there is some file
 abbrev pub IsFile : Option Files → List ℕ → Option (List ℕ) → Type 0

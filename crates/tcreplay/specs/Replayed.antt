@@ -5,6 +5,7 @@ use Rattle.tc_model.specs.Blocks.{IsBlockRun}
 use Rattle.tc_model.specs.Run.{run}
 use Rattle.tc_model.specs.Replays.{HaveEnded}
 use Rattle.tc_ports.specs.Told.{Took}
+use Rattle.tc_ports.specs.Ends.{Reading, Shelving, Writing}
 use Rattle.alloc_rules.specs.Told.{TellsScripts}
 use Rattle.journal_audit.specs.Rules.{journal_of}
 use Rattle.journal_audit.specs.Legal.{IsLegal}
@@ -14,8 +15,8 @@ use Rattle.tcreplay.specs.declared.outcome.End.TheVariants.{Done, WriteFault}
 use Rattle.tcreplay.specs.Tasks.{Replay, file_of}
 use Rattle.tcreplay.specs.Machines.{Machine, machine_of}
 use Rattle.tcreplay.specs.Verdict.{Given, Job, Verdict, job_of, order_of_job, run_verdict, text_with}
-use Rattle.tcreplay.specs.Reads.{Reading, Shelving, AreGiven, CutOff, HasRead, is_behind_run}
-use Rattle.tcreplay.specs.Writes.{Writing, IsWritten}
+use Rattle.tcreplay.specs.Reads.{AreGiven, CutOff, HasRead, is_behind_run}
+use Rattle.tcreplay.specs.Writes.{IsWritten}
 use Rattle.tcreplay.specs.Order.{IsOrderOf}
 use Rattle.tcreplay.specs.Auditing.{plan_in}
 

@@ -2,16 +2,10 @@
 use Rattle.std.specs.Prelude.{◌≡◌, ℕ, ◌⊎◌, List, Option}
 use Rattle.tc_ports.specs.Faults.{one_more, Rose}
 use Rattle.tc_ports.specs.Told.{Took, TookPart}
+use Rattle.tc_ports.specs.Ends.{Reading, Shelving, Writing}
 use Rattle.tcreplay.specs.declared.outcome.End.{End}
 use Rattle.tcreplay.specs.declared.outcome.End.TheVariants.{Done, WriteFault, Full}
 use Rattle.tcreplay.specs.Notes.{note_of}
-use Rattle.tcreplay.specs.Reads.{Reading, Shelving}
-
--- what a sink shows at a moment: what it took, where it tells it, the faults so far, and the puts so far
-pub record Writing : Type 0 where
-  pub taken : Option (List ℕ)
-  pub faults : ℕ
-  pub puts : ℕ
 
 -- all ends of a program, at a moment
 pub record Ends : Type 0 where

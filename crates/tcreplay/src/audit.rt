@@ -44,9 +44,7 @@ fn judge(alloc: Global, job: &AuditJob) -> Result<Verdict, AllocError>
 /// Writes what a legal journal is answered; of another one nothing is written.
 fn write<K: Sink>(out: &mut K, verdict: Verdict) -> End
     ensures end { IsLastEnd (ended_by verdict).end result }
-    ensures written { IsWritten result (ended_by verdict).text
-        (record { taken = K.taken out.old; faults = K.faults out.old; puts = K.puts out.old })
-        (record { taken = K.taken out.new; faults = K.faults out.new; puts = K.puts out.new }) }
+    ensures written { IsWritten result (ended_by verdict).text (K.seen out.old) (K.seen out.new) }
 {
     match verdict {
         Verdict::Yes { calls } => match out.put(yes_line(calls).as_bytes()) {
@@ -66,13 +64,7 @@ pub fn try_audit<S: Source, F: Shelf, K: Sink>(
     out: &mut K,
 ) -> Outcome
     ensures status { result.status ≡ status_of result.end }
-    ensures audited { HasAudited (seen_audit audit.entry)
-        (record { left = S.left trace.old; faults = S.faults trace.old; reads = S.reads trace.old })
-        (record { left = S.left trace.new; faults = S.faults trace.new; reads = S.reads trace.new })
-        (record { files = F.files files.old; faults = F.faults files.old; loads = F.loads files.old })
-        (record { files = F.files files.new; faults = F.faults files.new; loads = F.loads files.new })
-        (record { taken = K.taken out.old; faults = K.faults out.old; puts = K.puts out.old })
-        (record { taken = K.taken out.new; faults = K.faults out.new; puts = K.puts out.new })
+    ensures audited { HasAudited (seen_audit audit.entry) (S.seen trace.old) (S.seen trace.new) (F.seen files.old) (F.seen files.new) (K.seen out.old) (K.seen out.new)
         result.end result.order }
 {
     let job = match read_audit(alloc, audit, trace, files) {

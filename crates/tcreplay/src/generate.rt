@@ -1,11 +1,12 @@
 //! The generation of a trace: it is replayed in serial, and only then it is written, and the summary of that
 //! replay behind it.
 ghost use Rattle.std.specs.Prelude.{◌≡◌, IfOk, OnOk, OnErr};
+ghost use Rattle.tc_ports.specs.Ends.{Reading};
 ghost use Rattle.tcreplay.specs.declared.outcome.End.TheVariants as end;
 ghost use Rattle.tcreplay.specs.Status.{status_of};
 ghost use Rattle.tcreplay.specs.Tasks.{IsWorkload};
 ghost use Rattle.tcreplay.specs.Seen.{seen_workload};
-ghost use Rattle.tcreplay.specs.Reads.{Reading, IsRunnable};
+ghost use Rattle.tcreplay.specs.Reads.{IsRunnable};
 ghost use Rattle.tcreplay.specs.Writes.{IsRunEnd, IsLastEnd};
 ghost use Rattle.tcreplay.specs.Generating.{IsMade, AreWritten, HasGenerated};
 
@@ -27,9 +28,7 @@ pub struct Made {
 /// Makes the trace of a workload, and reads what it asks for under the class table of its file.
 fn make<F: Shelf>(alloc: Global, workload: Workload, files: &mut F) -> Result<Made, End>
     requires ranges { IsWorkload (seen_workload workload) }
-    ensures made { IsMade (seen_workload workload.entry)
-        (record { files = F.files files.old; faults = F.faults files.old; loads = F.loads files.old })
-        (record { files = F.files files.new; faults = F.faults files.new; loads = F.loads files.new }) result }
+    ensures made { IsMade (seen_workload workload.entry) (F.seen files.old) (F.seen files.new) result }
     ensures runnable { IfOk result (λ made. IsRunnable made.job) }
 {
     let table = load_table(alloc, workload.classes, files)?;
@@ -54,16 +53,8 @@ fn put_both<K: Sink, N: Sink>(
     trace: &[u8],
     summary: &[u8],
 ) -> Result<(), Failed>
-    ensures written { OnOk result (AreWritten end.Done trace.now summary.now
-        (record { taken = K.taken out.old; faults = K.faults out.old; puts = K.puts out.old })
-        (record { taken = K.taken out.new; faults = K.faults out.new; puts = K.puts out.new })
-        (record { taken = N.taken notes.old; faults = N.faults notes.old; puts = N.puts notes.old })
-        (record { taken = N.taken notes.new; faults = N.faults notes.new; puts = N.puts notes.new })) }
-    ensures failed { OnErr result (AreWritten end.WriteFault trace.now summary.now
-        (record { taken = K.taken out.old; faults = K.faults out.old; puts = K.puts out.old })
-        (record { taken = K.taken out.new; faults = K.faults out.new; puts = K.puts out.new })
-        (record { taken = N.taken notes.old; faults = N.faults notes.old; puts = N.puts notes.old })
-        (record { taken = N.taken notes.new; faults = N.faults notes.new; puts = N.puts notes.new })) }
+    ensures written { OnOk result (AreWritten end.Done trace.now summary.now (K.seen out.old) (K.seen out.new) (N.seen notes.old) (N.seen notes.new)) }
+    ensures failed { OnErr result (AreWritten end.WriteFault trace.now summary.now (K.seen out.old) (K.seen out.new) (N.seen notes.old) (N.seen notes.new)) }
 {
     out.put(trace)?;
     notes.put(summary)
@@ -75,11 +66,7 @@ fn write<K: Sink, N: Sink>(out: &mut K, notes: &mut N, trace: &[u8], ran: Ran) -
     ensures status { result.status ≡ status_of result.end }
     ensures order { result.order ≡ ran.order.items }
     ensures end { IsLastEnd ran.end result.end }
-    ensures written { AreWritten result.end trace.now ran.text.items
-        (record { taken = K.taken out.old; faults = K.faults out.old; puts = K.puts out.old })
-        (record { taken = K.taken out.new; faults = K.faults out.new; puts = K.puts out.new })
-        (record { taken = N.taken notes.old; faults = N.faults notes.old; puts = N.puts notes.old })
-        (record { taken = N.taken notes.new; faults = N.faults notes.new; puts = N.puts notes.new }) }
+    ensures written { AreWritten result.end trace.now ran.text.items (K.seen out.old) (K.seen out.new) (N.seen notes.old) (N.seen notes.new) }
 {
     let Ran {
         end,
@@ -107,18 +94,8 @@ pub fn generate<F: Shelf, K: Sink, N: Sink>(
     requires ranges { IsWorkload (seen_workload workload) }
     ensures status { result.status ≡ status_of result.end }
     ensures generated { (source : Reading) → HasGenerated (seen_workload workload.entry)
-        (record {
-          trace = source;
-          files = record { files = F.files files.old; faults = F.faults files.old; loads = F.loads files.old };
-          out = record { taken = K.taken out.old; faults = K.faults out.old; puts = K.puts out.old };
-          notes = record { taken = N.taken notes.old; faults = N.faults notes.old; puts = N.puts notes.old };
-        })
-        (record {
-          trace = source;
-          files = record { files = F.files files.new; faults = F.faults files.new; loads = F.loads files.new };
-          out = record { taken = K.taken out.new; faults = K.faults out.new; puts = K.puts out.new };
-          notes = record { taken = N.taken notes.new; faults = N.faults notes.new; puts = N.puts notes.new };
-        })
+        (record { trace = source; files = F.seen files.old; out = K.seen out.old; notes = N.seen notes.old })
+        (record { trace = source; files = F.seen files.new; out = K.seen out.new; notes = N.seen notes.new })
         result.end result.order }
 {
     let Made { text, job } = match make(alloc, workload, files) {

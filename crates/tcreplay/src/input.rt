@@ -53,9 +53,7 @@ fn load_end(fault: LoadFault, limit: u64) -> End
 
 /// The bytes of a file of at most so many.
 fn load_file<F: Shelf>(alloc: Global, name: &str, limit: u64, files: &mut F) -> Result<Vec<u8>, End>
-    ensures { IsLoad (λ (v : Vec ℕ Memory). v.items) (file_within limit) name.now
-        (record { files = F.files files.old; faults = F.faults files.old; loads = F.loads files.old })
-        (record { files = F.files files.new; faults = F.faults files.new; loads = F.loads files.new }) result }
+    ensures { IsLoad (λ (v : Vec ℕ Memory). v.items) (file_within limit) name.now (F.seen files.old) (F.seen files.new) result }
 {
     match files.load(alloc, name, limit) {
         Ok(bytes) => Ok(bytes),
@@ -65,9 +63,7 @@ fn load_file<F: Shelf>(alloc: Global, name: &str, limit: u64, files: &mut F) -> 
 
 /// The class table of a file.
 pub fn load_table<F: Shelf>(alloc: Global, name: &str, files: &mut F) -> Result<ClassTable, End>
-    ensures { IsLoad (λ (rows : List ClassRow). rows) rows_in name.now
-        (record { files = F.files files.old; faults = F.faults files.old; loads = F.loads files.old })
-        (record { files = F.files files.new; faults = F.faults files.new; loads = F.loads files.new }) result }
+    ensures { IsLoad (λ (rows : List ClassRow). rows) rows_in name.now (F.seen files.old) (F.seen files.new) result }
 {
     let bytes = load_file(alloc, name, MOST_TABLE_BYTES, files)?;
     match ClassTable::read(alloc, &bytes) {
@@ -118,9 +114,7 @@ fn load_trace<S: Source>(
     table: &ClassTable,
     source: &mut S,
 ) -> Result<Trace, End>
-    ensures asked { IsTraceRead (option_map seen_front runner) table.now
-        (record { left = S.left source.old; faults = S.faults source.old; reads = S.reads source.old })
-        (record { left = S.left source.new; faults = S.faults source.new; reads = S.reads source.new }) result }
+    ensures asked { IsTraceRead (option_map seen_front runner) table.now (S.seen source.old) (S.seen source.new) result }
     ensures read { IfOk result (λ trace. IsRead (length table.now) trace (asked_of trace)) }
     ensures taken { IfOk result (IsTakenBy (option_map seen_front runner)) }
 {
@@ -142,9 +136,7 @@ fn load_order<F: Shelf>(
     threads: u8,
     files: &mut F,
 ) -> Result<Vec<u16>, End>
-    ensures picks { IsLoad (λ (v : Vec ℕ Memory). v.items) (picks_in threads) name.now
-        (record { files = F.files files.old; faults = F.faults files.old; loads = F.loads files.old })
-        (record { files = F.files files.new; faults = F.faults files.new; loads = F.loads files.new }) result }
+    ensures picks { IsLoad (λ (v : Vec ℕ Memory). v.items) (picks_in threads) name.now (F.seen files.old) (F.seen files.new) result }
     ensures threads { IfOk result (λ picks. All (λ thread. thread < threads) picks.items) }
 {
     let bytes = load_file(alloc, name, MOST_TRACE_BYTES, files)?;
@@ -162,9 +154,7 @@ fn load_picks<F: Shelf>(
     threads: u8,
     files: &mut F,
 ) -> Result<Vec<u16>, End>
-    ensures picks { ArePicks (option_map (λ name. name.now) order.entry) threads
-        (record { files = F.files files.old; faults = F.faults files.old; loads = F.loads files.old })
-        (record { files = F.files files.new; faults = F.faults files.new; loads = F.loads files.new }) result }
+    ensures picks { ArePicks (option_map (λ name. name.now) order.entry) threads (F.seen files.old) (F.seen files.new) result }
     ensures threads { IfOk result (λ picks. All (λ thread. thread < threads) picks.items) }
 {
     match order {
@@ -180,11 +170,7 @@ pub fn read_job<S: Source, F: Shelf>(
     source: &mut S,
     files: &mut F,
 ) -> Result<Job, End>
-    ensures read { IsJobRead (seen_replay replay.entry)
-        (record { left = S.left source.old; faults = S.faults source.old; reads = S.reads source.old })
-        (record { left = S.left source.new; faults = S.faults source.new; reads = S.reads source.new })
-        (record { files = F.files files.old; faults = F.faults files.old; loads = F.loads files.old })
-        (record { files = F.files files.new; faults = F.faults files.new; loads = F.loads files.new }) result }
+    ensures read { IsJobRead (seen_replay replay.entry) (S.seen source.old) (S.seen source.new) (F.seen files.old) (F.seen files.new) result }
     ensures runnable { IfOk result IsRunnable }
     ensures taken { IfOk result (λ job. IsTakenBy (Some (seen_front replay.entry.front)) job.trace) }
 {
@@ -205,11 +191,7 @@ pub fn read_audit<S: Source, F: Shelf>(
     source: &mut S,
     files: &mut F,
 ) -> Result<AuditJob, End>
-    ensures read { AreRead None seen_case case_in audit.entry.classes.now (Some audit.entry.journal.now)
-        (record { left = S.left source.old; faults = S.faults source.old; reads = S.reads source.old })
-        (record { left = S.left source.new; faults = S.faults source.new; reads = S.reads source.new })
-        (record { files = F.files files.old; faults = F.faults files.old; loads = F.loads files.old })
-        (record { files = F.files files.new; faults = F.faults files.new; loads = F.loads files.new }) result }
+    ensures read { AreRead None seen_case case_in audit.entry.classes.now (Some audit.entry.journal.now) (S.seen source.old) (S.seen source.new) (F.seen files.old) (F.seen files.new) result }
     ensures valid { IfOk result (λ job. IsRead (length job.table) job.trace (asked_of job.trace)) }
 {
     let table = load_table(alloc, audit.classes, files)?;

@@ -56,9 +56,7 @@ fn exit_of(end: End) -> ExitCode
 
 /// Tells why there are no words.
 fn refuse<N: Sink>(notes: &mut N, end: End) -> ExitCode
-    ensures noted { IsNoted end
-        (record { taken = N.taken notes.old; faults = N.faults notes.old; puts = N.puts notes.old })
-        (record { taken = N.taken notes.new; faults = N.faults notes.new; puts = N.puts notes.new }) }
+    ensures noted { IsNoted end (N.seen notes.old) (N.seen notes.new) }
     ensures exit { exit_status result ≡ status_of end }
 {
     note(notes, end);

@@ -164,9 +164,7 @@ fn note_of(end: End) -> Line
 
 /// Tells an end, unless it is `Done`, by one put. That this put may fail is passed over.
 pub fn note<N: Sink>(notes: &mut N, end: End)
-    ensures { IsNoted end
-        (record { taken = N.taken notes.old; faults = N.faults notes.old; puts = N.puts notes.old })
-        (record { taken = N.taken notes.new; faults = N.faults notes.new; puts = N.puts notes.new }) }
+    ensures { IsNoted end (N.seen notes.old) (N.seen notes.new) }
 {
     match end {
         End::Done => {}

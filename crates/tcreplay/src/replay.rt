@@ -1,10 +1,10 @@
 //! The top calls: from words, files and a trace to bytes, a status and an order.
-ghost use Rattle.std.specs.Prelude.{◌≡◌, ◌↔◌, None, Some, map, IfSome, IfNone, IsSome, string_bytes};
+ghost use Rattle.std.specs.Prelude.{◌≡◌, ◌↔◌, None, Some, map, option_map, IfSome, IfNone, IsSome, string_bytes};
 ghost use Rattle.tcreplay.specs.Status.{status_of};
-ghost use Rattle.tcreplay.specs.Tasks.{locks_in, threads_in, IsStep};
+ghost use Rattle.tcreplay.specs.Tasks.{locks_in, threads_in, IsStep, IsTask};
 ghost use Rattle.tcreplay.specs.Words.{task_by};
-ghost use Rattle.tcreplay.specs.Seen.{seen_schedule, seen_replay};
-ghost use Rattle.tcreplay.specs.Writes.{Writing, IsWritten, IsRunEnd, IsLastEnd};
+ghost use Rattle.tcreplay.specs.Seen.{seen_schedule, seen_replay, seen_task};
+ghost use Rattle.tcreplay.specs.Writes.{IsWritten, IsRunEnd, IsLastEnd};
 ghost use Rattle.tcreplay.specs.Replayed.{HasTried};
 ghost use Rattle.tcreplay.specs.Outcomes.{IsAnswered, IsOutcome, IsComplete};
 ghost use Rattle.tcreplay.specs.declared.outcome.End.TheVariants as end;
@@ -15,7 +15,7 @@ use crate::input::read_job;
 use crate::notes::note;
 use crate::outcome::{End, Outcome};
 use crate::run::Ran;
-use crate::task::{Locks, Replay, Schedule, Task};
+use crate::task::{Locks, Replay, Task, by_threads};
 use crate::words::task_by;
 use std::alloc::Global;
 use std::sync::Wait;
@@ -28,9 +28,7 @@ fn write<K: Sink>(out: &mut K, ran: Ran) -> Outcome
     ensures status { result.status ≡ status_of result.end }
     ensures order { result.order ≡ ran.order.items }
     ensures end { IsLastEnd ran.end result.end }
-    ensures written { IsWritten result.end ran.text.items
-        (record { taken = K.taken out.old; faults = K.faults out.old; puts = K.puts out.old })
-        (record { taken = K.taken out.new; faults = K.faults out.new; puts = K.puts out.new }) }
+    ensures written { IsWritten result.end ran.text.items (K.seen out.old) (K.seen out.new) }
 {
     let Ran {
         end,
@@ -59,14 +57,8 @@ fn try_replay<S: Source, F: Shelf, K: Sink>(
     requires alone { locks_in (seen_schedule replay.schedule) ≡ None }
     requires sample { IfSome replay.sample IsStep }
     ensures status { result.status ≡ status_of result.end }
-    ensures tried { HasTried (seen_replay replay.entry)
-        (record { left = S.left trace.old; faults = S.faults trace.old; reads = S.reads trace.old })
-        (record { left = S.left trace.new; faults = S.faults trace.new; reads = S.reads trace.new })
-        (record { files = F.files files.old; faults = F.faults files.old; loads = F.loads files.old })
-        (record { files = F.files files.new; faults = F.faults files.new; loads = F.loads files.new })
-        (record { taken = K.taken out.old; faults = K.faults out.old; puts = K.puts out.old })
-        (record { taken = K.taken out.new; faults = K.faults out.new; puts = K.puts out.new })
-        result.end result.order }
+    ensures tried { HasTried (seen_replay replay.entry) (S.seen trace.old) (S.seen trace.new)
+        (F.seen files.old) (F.seen files.new) (K.seen out.old) (K.seen out.new) result.end result.order }
 {
     let job = match read_job(alloc, replay, trace, files) {
         Ok(job) => job,
@@ -92,14 +84,8 @@ fn try_threads<R: Threads + Wait + Sync, S: Source, F: Shelf, K: Sink, G: Gate +
     requires threads { locks_in (seen_schedule replay.schedule) ≡ Some locks }
     requires sample { IfSome replay.sample IsStep }
     ensures status { result.status ≡ status_of result.end }
-    ensures tried { HasTried (seen_replay replay.entry)
-        (record { left = S.left trace.old; faults = S.faults trace.old; reads = S.reads trace.old })
-        (record { left = S.left trace.new; faults = S.faults trace.new; reads = S.reads trace.new })
-        (record { files = F.files files.old; faults = F.faults files.old; loads = F.loads files.old })
-        (record { files = F.files files.new; faults = F.faults files.new; loads = F.loads files.new })
-        (record { taken = K.taken out.old; faults = K.faults out.old; puts = K.puts out.old })
-        (record { taken = K.taken out.new; faults = K.faults out.new; puts = K.puts out.new })
-        result.end result.order }
+    ensures tried { HasTried (seen_replay replay.entry) (S.seen trace.old) (S.seen trace.new)
+        (F.seen files.old) (F.seen files.new) (K.seen out.old) (K.seen out.new) result.end result.order }
 {
     let job = match read_job(alloc, replay, trace, files) {
         Ok(job) => job,
@@ -115,80 +101,29 @@ fn try_threads<R: Threads + Wait + Sync, S: Source, F: Shelf, K: Sink, G: Gate +
     write(out, ran)
 }
 
-/// Answers words that ask for no worker threads: a replay or an audit is tried, or a trace is generated.
+/// Answers what asks for no worker threads: a replay or an audit is tried, or a trace is generated.
 fn answer<S: Source, F: Shelf, K: Sink, N: Sink>(
     alloc: Global,
-    words: &[String],
+    asked: Option<Task>,
     trace: &mut S,
     files: &mut F,
     out: &mut K,
     notes: &mut N,
-) -> Option<Outcome>
-    ensures alone { (result ≡ None) ↔ IsSome (threads_in (task_by (map string_bytes words.now))) }
-    ensures untouched { IfNone result ((trace.new ≡ trace.old) × (files.new ≡ files.old) × (out.new ≡ out.old) × (notes.new ≡ notes.old)) }
-    ensures status { IfSome result (λ outcome. outcome.status ≡ status_of outcome.end) }
-    ensures answered { IfSome result (λ outcome. IsAnswered (task_by (map string_bytes words.now))
-        (record {
-          trace = record { left = S.left trace.old; faults = S.faults trace.old; reads = S.reads trace.old };
-          files = record { files = F.files files.old; faults = F.faults files.old; loads = F.loads files.old };
-          out = record { taken = K.taken out.old; faults = K.faults out.old; puts = K.puts out.old };
-          notes = record { taken = N.taken notes.old; faults = N.faults notes.old; puts = N.puts notes.old };
-        })
-        (record {
-          trace = record { left = S.left trace.new; faults = S.faults trace.new; reads = S.reads trace.new };
-          files = record { files = F.files files.new; faults = F.faults files.new; loads = F.loads files.new };
-          out = record { taken = K.taken out.new; faults = K.faults out.new; puts = K.puts out.new };
-          notes = record { taken = N.taken notes.new; faults = N.faults notes.new; puts = N.puts notes.new };
-        })
-        outcome.end outcome.order) }
-{
-    match task_by(words) {
-        None => Some(Outcome::without_run(alloc, End::Usage)),
-        Some(Task::Generate(workload)) => Some(generate(alloc, workload, files, out, notes)),
-        Some(Task::Audit(audit)) => Some(try_audit(alloc, audit, trace, files, out)),
-        Some(Task::Replay(replay)) => match replay.schedule {
-            Schedule::ByThreads { .. } => None,
-            Schedule::InTurn | Schedule::ByFile { .. } => {
-                Some(try_replay(alloc, replay, trace, files, out))
-            }
-        },
-    }
-}
-
-/// Answers words that ask for worker threads.
-fn answer_by_threads<R: Threads + Wait + Sync, S: Source, F: Shelf, K: Sink, G: Gate + Sync>(
-    rt: &R,
-    alloc: Global,
-    words: &[String],
-    trace: &mut S,
-    files: &mut F,
-    out: &mut K,
-    gate: &G,
 ) -> Outcome
-    requires threads { IsSome (threads_in (task_by (map string_bytes words.now))) }
+    requires alone { threads_in (option_map seen_task asked) ≡ None }
+    requires ranges { IfSome asked (λ task. IsTask (seen_task task)) }
     ensures status { result.status ≡ status_of result.end }
-    ensures answered { (notes : Writing) → IsAnswered (task_by (map string_bytes words.now))
-        (record {
-          trace = record { left = S.left trace.old; faults = S.faults trace.old; reads = S.reads trace.old };
-          files = record { files = F.files files.old; faults = F.faults files.old; loads = F.loads files.old };
-          out = record { taken = K.taken out.old; faults = K.faults out.old; puts = K.puts out.old };
-          notes = notes;
-        })
-        (record {
-          trace = record { left = S.left trace.new; faults = S.faults trace.new; reads = S.reads trace.new };
-          files = record { files = F.files files.new; faults = F.faults files.new; loads = F.loads files.new };
-          out = record { taken = K.taken out.new; faults = K.faults out.new; puts = K.puts out.new };
-          notes = notes;
-        })
+    ensures answered { IsAnswered (option_map seen_task asked.entry)
+        (record { trace = S.seen trace.old; files = F.seen files.old; out = K.seen out.old; notes = N.seen notes.old })
+        (record { trace = S.seen trace.new; files = F.seen files.new; out = K.seen out.new; notes = N.seen notes.new })
         result.end result.order }
 {
-    let Some(Task::Replay(replay)) = task_by(words) else {
-        unreachable!()
-    };
-    let Schedule::ByThreads { locks } = replay.schedule else {
-        unreachable!()
-    };
-    try_threads(rt, alloc, replay, locks, trace, files, out, gate)
+    match asked {
+        None => Outcome::without_run(alloc, End::Usage),
+        Some(Task::Replay(replay)) => try_replay(alloc, replay, trace, files, out),
+        Some(Task::Generate(workload)) => generate(alloc, workload, files, out, notes),
+        Some(Task::Audit(audit)) => try_audit(alloc, audit, trace, files, out),
+    }
 }
 
 /// Replays a trace, or generates one, without worker threads. `None` exactly where the words ask for such
@@ -211,35 +146,19 @@ pub fn replay_alone<S: Source, F: Shelf, K: Sink, N: Sink>(
     ensures status { IfSome result (λ outcome. outcome.status ≡ status_of outcome.end) }
     ensures usage { IfSome result (λ outcome. (outcome.end ≡ end.Usage) ↔ (task_by (map string_bytes words.now) ≡ None)) }
     ensures outcome { IfSome result (λ outcome. IsOutcome (task_by (map string_bytes words.now))
-        (record {
-          trace = record { left = S.left trace.old; faults = S.faults trace.old; reads = S.reads trace.old };
-          files = record { files = F.files files.old; faults = F.faults files.old; loads = F.loads files.old };
-          out = record { taken = K.taken out.old; faults = K.faults out.old; puts = K.puts out.old };
-          notes = record { taken = N.taken notes.old; faults = N.faults notes.old; puts = N.puts notes.old };
-        })
-        (record {
-          trace = record { left = S.left trace.new; faults = S.faults trace.new; reads = S.reads trace.new };
-          files = record { files = F.files files.new; faults = F.faults files.new; loads = F.loads files.new };
-          out = record { taken = K.taken out.new; faults = K.faults out.new; puts = K.puts out.new };
-          notes = record { taken = N.taken notes.new; faults = N.faults notes.new; puts = N.puts notes.new };
-        })
+        (record { trace = S.seen trace.old; files = F.seen files.old; out = K.seen out.old; notes = N.seen notes.old })
+        (record { trace = S.seen trace.new; files = F.seen files.new; out = K.seen out.new; notes = N.seen notes.new })
         outcome.end outcome.order) }
     ensures complete { IfSome result (λ outcome. IsComplete (task_by (map string_bytes words.now))
-        (record {
-          trace = record { left = S.left trace.old; faults = S.faults trace.old; reads = S.reads trace.old };
-          files = record { files = F.files files.old; faults = F.faults files.old; loads = F.loads files.old };
-          out = record { taken = K.taken out.old; faults = K.faults out.old; puts = K.puts out.old };
-          notes = record { taken = N.taken notes.old; faults = N.faults notes.old; puts = N.puts notes.old };
-        })
-        (record {
-          trace = record { left = S.left trace.new; faults = S.faults trace.new; reads = S.reads trace.new };
-          files = record { files = F.files files.new; faults = F.faults files.new; loads = F.loads files.new };
-          out = record { taken = K.taken out.new; faults = K.faults out.new; puts = K.puts out.new };
-          notes = record { taken = N.taken notes.new; faults = N.faults notes.new; puts = N.puts notes.new };
-        })
+        (record { trace = S.seen trace.old; files = F.seen files.old; out = K.seen out.old; notes = N.seen notes.old })
+        (record { trace = S.seen trace.new; files = F.seen files.new; out = K.seen out.new; notes = N.seen notes.new })
         outcome.end outcome.order) }
 {
-    let outcome = answer(alloc, words, trace, files, out, notes)?;
+    let asked = task_by(words);
+    if by_threads(asked).is_some() {
+        return None;
+    }
+    let outcome = answer(alloc, asked, trace, files, out, notes);
     note(notes, outcome.end);
     Some(outcome)
 }
@@ -259,38 +178,19 @@ pub fn tcreplay<R: Threads + Wait + Sync, S: Source, F: Shelf, K: Sink, N: Sink,
     ensures status { result.status ≡ status_of result.end }
     ensures usage { (result.end ≡ end.Usage) ↔ (task_by (map string_bytes words.now) ≡ None) }
     ensures outcome { IsOutcome (task_by (map string_bytes words.now))
-        (record {
-          trace = record { left = S.left trace.old; faults = S.faults trace.old; reads = S.reads trace.old };
-          files = record { files = F.files files.old; faults = F.faults files.old; loads = F.loads files.old };
-          out = record { taken = K.taken out.old; faults = K.faults out.old; puts = K.puts out.old };
-          notes = record { taken = N.taken notes.old; faults = N.faults notes.old; puts = N.puts notes.old };
-        })
-        (record {
-          trace = record { left = S.left trace.new; faults = S.faults trace.new; reads = S.reads trace.new };
-          files = record { files = F.files files.new; faults = F.faults files.new; loads = F.loads files.new };
-          out = record { taken = K.taken out.new; faults = K.faults out.new; puts = K.puts out.new };
-          notes = record { taken = N.taken notes.new; faults = N.faults notes.new; puts = N.puts notes.new };
-        })
+        (record { trace = S.seen trace.old; files = F.seen files.old; out = K.seen out.old; notes = N.seen notes.old })
+        (record { trace = S.seen trace.new; files = F.seen files.new; out = K.seen out.new; notes = N.seen notes.new })
         result.end result.order }
     ensures complete { IsComplete (task_by (map string_bytes words.now))
-        (record {
-          trace = record { left = S.left trace.old; faults = S.faults trace.old; reads = S.reads trace.old };
-          files = record { files = F.files files.old; faults = F.faults files.old; loads = F.loads files.old };
-          out = record { taken = K.taken out.old; faults = K.faults out.old; puts = K.puts out.old };
-          notes = record { taken = N.taken notes.old; faults = N.faults notes.old; puts = N.puts notes.old };
-        })
-        (record {
-          trace = record { left = S.left trace.new; faults = S.faults trace.new; reads = S.reads trace.new };
-          files = record { files = F.files files.new; faults = F.faults files.new; loads = F.loads files.new };
-          out = record { taken = K.taken out.new; faults = K.faults out.new; puts = K.puts out.new };
-          notes = record { taken = N.taken notes.new; faults = N.faults notes.new; puts = N.puts notes.new };
-        })
+        (record { trace = S.seen trace.old; files = F.seen files.old; out = K.seen out.old; notes = N.seen notes.old })
+        (record { trace = S.seen trace.new; files = F.seen files.new; out = K.seen out.new; notes = N.seen notes.new })
         result.end result.order }
 {
-    if let Some(outcome) = replay_alone(alloc, words, trace, files, out, notes) {
-        return outcome;
-    }
-    let outcome = answer_by_threads(rt, alloc, words, trace, files, out, gate);
+    let asked = task_by(words);
+    let outcome = match by_threads(asked) {
+        Some((replay, locks)) => try_threads(rt, alloc, replay, locks, trace, files, out, gate),
+        None => answer(alloc, asked, trace, files, out, notes),
+    };
     note(notes, outcome.end);
     outcome
 }

@@ -1,9 +1,10 @@
 //! What a command comes to: a trace is replayed, or one is generated and replayed, or a journal of its
 //! calls is judged.
-ghost use Rattle.std.specs.Prelude.{◌≡◌, option_map};
+ghost use Rattle.std.specs.Prelude.{◌≡◌, option_map, None, Some, IfSome, IfNone};
 ghost use Rattle.tcreplay.specs.declared.run.Telling.TheVariants as telling;
-ghost use Rattle.tcreplay.specs.Tasks.{file_of};
-ghost use Rattle.tcreplay.specs.Seen.{seen_schedule};
+ghost use Rattle.tcreplay.specs.declared.task.Task.TheVariants as task;
+ghost use Rattle.tcreplay.specs.Tasks.{file_of, locks_in, threads_in};
+ghost use Rattle.tcreplay.specs.Seen.{seen_schedule, seen_task};
 
 use crate::machines::Front;
 use crate::run::Telling;
@@ -86,4 +87,19 @@ pub enum Task<'a> {
     Generate(Workload<'a>),
     /// A journal of a trace's calls is judged.
     Audit(Audit<'a>),
+}
+
+/// The replay by worker threads that is asked for, and its locks, where one is.
+pub fn by_threads(asked: Option<Task<'_>>) -> Option<(Replay<'_>, Locks)>
+    ensures replay { IfSome result (λ both. asked ≡ Some (task.Replay both.0)) }
+    ensures locks { IfSome result (λ both. locks_in (seen_schedule both.0.schedule) ≡ Some both.1) }
+    ensures alone { IfNone result (threads_in (option_map seen_task asked) ≡ None) }
+{
+    match asked {
+        Some(Task::Replay(replay)) => match replay.schedule {
+            Schedule::ByThreads { locks } => Some((replay, locks)),
+            Schedule::InTurn | Schedule::ByFile { .. } => None,
+        },
+        Some(Task::Generate(_) | Task::Audit(_)) | None => None,
+    }
 }

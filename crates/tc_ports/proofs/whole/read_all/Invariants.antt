@@ -5,10 +5,10 @@ use Rattle.tc_ports.proofs.whole.read_all.Given as goal
 
 abbrev pub invariant-loop-all : goal.invariant-loop-all
 invariant-loop-all g l = record {
-  so_far : SoFar (g.S.Source.left l.initial.source) (g.S.Source.left l.source) l.all.items;
-  reads : g.S.Source.reads l.source ≤ g.S.Source.reads l.initial.source + vec_len l.all;
+  so_far : SoFar (g.S.Source.seen l.initial.source).left (g.S.Source.seen l.source).left l.all.items;
+  reads : (g.S.Source.seen l.source).reads ≤ (g.S.Source.seen l.initial.source).reads + vec_len l.all;
   within : vec_len l.all ≤ l.limit;
-  count : g.S.Source.faults l.source ≡ g.S.Source.faults l.initial.source;
+  count : (g.S.Source.seen l.source).faults ≡ (g.S.Source.seen l.initial.source).faults;
 }
 
 abbrev pub decreases-loop-all : goal.decreases-loop-all

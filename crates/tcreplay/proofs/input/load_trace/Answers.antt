@@ -8,33 +8,33 @@ use Rattle.tcreplay.proofs.input.load_trace.Goals as goal
 
 pub returns-in-Err-ReadFault-clause-asked : goal.returns-in-Err-ReadFault-clause-asked
 returns-in-Err-ReadFault-clause-asked g c = record {
-  text = some_text (g.S.Source.left c.args.source.now);
-  told = some_text_is (g.S.Source.left c.args.source.now);
-  step = inr (inr (refl, subst (λ f. ReadAllCounted f (g.S.Source.faults c.args.source.now) (g.S.Source.faults c.read_all.new.source)) c.in-Err-ReadFault.field-0-is c.in-Err-ReadFault.ensures.cause));
-  lost = subst (λ f. ReadAllRefused f (g.S.Source.left c.args.source.now) (g.S.Source.left c.read_all.new.source) 67108864) c.in-Err-ReadFault.field-0-is c.in-Err-ReadFault.ensures.refused;
+  text = some_text (g.S.Source.seen c.args.source.now).left;
+  told = some_text_is (g.S.Source.seen c.args.source.now).left;
+  step = inr (inr (refl, subst (λ f. ReadAllCounted f (g.S.Source.seen c.args.source.now).faults (g.S.Source.seen c.read_all.new.source).faults) c.in-Err-ReadFault.field-0-is c.in-Err-ReadFault.ensures.cause));
+  lost = subst (λ f. ReadAllRefused f (g.S.Source.seen c.args.source.now).left (g.S.Source.seen c.read_all.new.source).left 67108864) c.in-Err-ReadFault.field-0-is c.in-Err-ReadFault.ensures.refused;
   reads = c.in-Err-ReadFault.ensures.reads;
   drained = λ is. absurd (cc);
 }
 
 pub returns-in-Err-TooLong-clause-asked : goal.returns-in-Err-TooLong-clause-asked
 returns-in-Err-TooLong-clause-asked g c =
-    let passed : PassedLimit (g.S.Source.left c.args.source.now) (g.S.Source.left c.read_all.new.source) 67108864 = subst (λ f. ReadAllRefused f (g.S.Source.left c.args.source.now) (g.S.Source.left c.read_all.new.source) 67108864) c.in-Err-TooLong.field-0-is c.in-Err-TooLong.ensures.refused in
-    let long = long_text (g.S.Source.left c.args.source.now) (g.S.Source.left c.read_all.new.source) 67108864 passed in
+    let passed : PassedLimit (g.S.Source.seen c.args.source.now).left (g.S.Source.seen c.read_all.new.source).left 67108864 = subst (λ f. ReadAllRefused f (g.S.Source.seen c.args.source.now).left (g.S.Source.seen c.read_all.new.source).left 67108864) c.in-Err-TooLong.field-0-is c.in-Err-TooLong.ensures.refused in
+    let long = long_text (g.S.Source.seen c.args.source.now).left (g.S.Source.seen c.read_all.new.source).left 67108864 passed in
     record {
       text = long.0;
       told = long.1;
-      step = inl (ap (and_then (asked_for (option_map seen_front c.args.runner) c.args.table.now)) long.2, subst (λ f. ReadAllCounted f (g.S.Source.faults c.args.source.now) (g.S.Source.faults c.read_all.new.source)) c.in-Err-TooLong.field-0-is c.in-Err-TooLong.ensures.cause);
-      lost = lost_passed (g.S.Source.left c.args.source.now) (g.S.Source.left c.read_all.new.source) 67108864 passed;
+      step = inl (ap (and_then (asked_for (option_map seen_front c.args.runner) c.args.table.now)) long.2, subst (λ f. ReadAllCounted f (g.S.Source.seen c.args.source.now).faults (g.S.Source.seen c.read_all.new.source).faults) c.in-Err-TooLong.field-0-is c.in-Err-TooLong.ensures.cause);
+      lost = lost_passed (g.S.Source.seen c.args.source.now).left (g.S.Source.seen c.read_all.new.source).left 67108864 passed;
       reads = c.in-Err-TooLong.ensures.reads;
       drained = λ is. absurd (cc);
     }
 
 pub returns-in-Err-Memory-clause-asked : goal.returns-in-Err-Memory-clause-asked
 returns-in-Err-Memory-clause-asked g c = record {
-  text = some_text (g.S.Source.left c.args.source.now);
-  told = some_text_is (g.S.Source.left c.args.source.now);
-  step = inr (inl (refl, subst (λ f. ReadAllCounted f (g.S.Source.faults c.args.source.now) (g.S.Source.faults c.read_all.new.source)) c.in-Err-Memory.field-0-is c.in-Err-Memory.ensures.cause));
-  lost = subst (λ f. ReadAllRefused f (g.S.Source.left c.args.source.now) (g.S.Source.left c.read_all.new.source) 67108864) c.in-Err-Memory.field-0-is c.in-Err-Memory.ensures.refused;
+  text = some_text (g.S.Source.seen c.args.source.now).left;
+  told = some_text_is (g.S.Source.seen c.args.source.now).left;
+  step = inr (inl (refl, subst (λ f. ReadAllCounted f (g.S.Source.seen c.args.source.now).faults (g.S.Source.seen c.read_all.new.source).faults) c.in-Err-Memory.field-0-is c.in-Err-Memory.ensures.cause));
+  lost = subst (λ f. ReadAllRefused f (g.S.Source.seen c.args.source.now).left (g.S.Source.seen c.read_all.new.source).left 67108864) c.in-Err-Memory.field-0-is c.in-Err-Memory.ensures.refused;
   reads = c.in-Err-Memory.ensures.reads;
   drained = λ is. absurd (cc);
 }
