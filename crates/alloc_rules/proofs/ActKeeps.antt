@@ -9,8 +9,8 @@ use Rattle.alloc_rules.proofs.Common.{Local, step_or, no_class, class_row, decid
 use Rattle.alloc_rules.proofs.Common.{fetches, with_spans_behind, shard_row, after_new, after_new_span, without_first_span, frees_span, heap_row, found}
 use Rattle.alloc_rules.proofs.Common.{map_row, after_take, MayDecide, MayGoOnDecided, says, goes_or_ends, follows}
 use Rattle.alloc_rules.proofs.Common.{About, call_about, IsClassRow, AreRows, BeginsWith, most_slots, At, Here, Away, Standing, stand, at_row}
-use Rattle.alloc_rules.proofs.Common.{at_onward, at_next, regs_next, at_shard, at_heap, at_map, at_step, IsAsked, HandAbout, HasNone, HasSpans}
-use Rattle.alloc_rules.proofs.Common.{IsOnward, ShardShape, HeapShape, MapShape, StepShape, IsShaped, IsAct, IsLawful, FrontRules, Left, FitsShard, FitsMap}
+use Rattle.alloc_rules.proofs.Common.{at_onward, at_next, regs_next, at_step, IsAsked, HandAbout, HasNone, HasSpans}
+use Rattle.alloc_rules.proofs.Common.{IsOnward, StepShape, IsShaped, IsAct, IsLawful, FrontRules, Left, FitsShard, FitsMap}
 use Rattle.alloc_rules.proofs.Common.{IsKept, IsLowRun, ShardActsKeep, HeapActsKeep, IsKindThere, IsFoundClass, MapActsKeep, NamesActsKeep, FrontActsKeep}
 use Rattle.alloc_rules.specs.FrontLaw.{IsReady}
 use Rattle.central_free.specs.Central.{IsSound}
@@ -30,13 +30,13 @@ use Rattle.alloc_rules.proofs.Keeping.{given_back_next}
 use Rattle.alloc_rules.proofs.Keeping.{giving_not, goes_quiet, kept_by, later_shape, onward_not, publishes_next, same_next, serves_next, shape_of, stays_away}
 use Rattle.alloc_rules.proofs.Keeping.{waits_at}
 
-shard_not : {R : Type 0} (row : ShardStep R) → NotHere (at_shard row)
+shard_not : {R : Type 0} (row : ShardStep R) → NotHere (at_step (does.Shard row))
 shard_not row = grind (arith, giving_not)
 
-heap_not : {R : Type 0} (row : HeapStep R) → NotHere (at_heap row)
+heap_not : {R : Type 0} (row : HeapStep R) → NotHere (at_step (does.Heap row))
 heap_not row = grind (arith, onward_not)
 
-map_not : {R : Type 0} (row : MapStep R) → NotHere (at_map row)
+map_not : {R : Type 0} (row : MapStep R) → NotHere (at_step (does.Map row))
 map_not row = grind (arith, onward_not)
 
 module _ {P V R : Type 0} {r : FrontRules P V R} {about : R → About} {planned : Planned → Type 0} {Holds : ℕ → List P → List (Standing V R) → Type 0}
@@ -80,7 +80,7 @@ module _ {P V R : Type 0} {r : FrontRules P V R} {about : R → About} {planned 
     fetches_next : (l : Local V R) (a : Asking) (xs : List Addr) → Common' l → HasNone l → IsAsked r.calls.rows l.regs a → length xs ≤ LOADED_ROOM → Next' (away l) (fetches r.calls l a xs)
     fetches_next l a xs c n asked few = grind (arith, more_next, to)
 
-    shard_next : (s : shards.Shard) (l : Local V R) (row : ShardStep R) → Common' l → ShardShape r.calls.rows about l row → IsSound s.central → s.central.row ≡ class_row r.calls.rows l → IsLowRun row → FitsShard r.calls.rows s l row → Next' (stand l.seat l.regs (l.acts + 1) (at_shard row)) (shard_row r.calls s l row).1
+    shard_next : (s : shards.Shard) (l : Local V R) (row : ShardStep R) → Common' l → StepShape r.calls.rows about l (does.Shard row) → IsSound s.central → s.central.row ≡ class_row r.calls.rows l → IsLowRun row → FitsShard r.calls.rows s l row → Next' (stand l.seat l.regs (l.acts + 1) (at_step (does.Shard row))) (shard_row r.calls s l row).1
     shard_next s l (shard.Fetch a) c shape sound same low fit =
         let is : IsClassRow (class_row r.calls.rows l) = row_there l c in
         let n : ℕ = (class_row r.calls.rows l).batch in
@@ -112,7 +112,7 @@ module _ {P V R : Type 0} {r : FrontRules P V R} {about : R → About} {planned 
         let l' : Local V R = with_freed l (without_first_span l.freed others) in
         clears_next law table t l' o others refl (changed law table t c c.class c.hand (let e = ap length freed in omega (arith, e, c.freed))) n.hand is
 
-    heap_next : (h : heaps.Heap) (l : Local V R) (row : HeapStep R) → Common' l → HeapShape r.calls.rows about l row → Next' (stand l.seat l.regs (l.acts + 1) (at_heap row)) (heap_row r.calls h l row).1
+    heap_next : (h : heaps.Heap) (l : Local V R) (row : HeapStep R) → Common' l → StepShape r.calls.rows about l (does.Heap row) → Next' (stand l.seat l.regs (l.acts + 1) (at_step (does.Heap row))) (heap_row r.calls h l row).1
     heap_next h l row c shape = grind (arith, ends_decided, frees_next, new_next, span_next)
 
     -- the map
@@ -139,7 +139,7 @@ module _ {P V R : Type 0} {r : FrontRules P V R} {about : R → About} {planned 
         }
     found_kind l label addr span Large there space c n = to l (does.Map (map.Clear label (run_of span))) c n refl (λ none. none)
 
-    map_next : (x : SpanMap) (l : Local V R) (row : MapStep R) → Common' l → MapShape r.calls.rows about l row → FitsMap x l row → IsFoundClass r.calls.rows x row → Next' (stand l.seat l.regs (l.acts + 1) (at_map row)) (map_row r.calls x l row).1
+    map_next : (x : SpanMap) (l : Local V R) (row : MapStep R) → Common' l → StepShape r.calls.rows about l (does.Map row) → FitsMap x l row → IsFoundClass r.calls.rows x row → Next' (stand l.seat l.regs (l.acts + 1) (at_step (does.Map row))) (map_row r.calls x l row).1
     map_next x l row c shape fit there = grind (arith, same_next, found_kind, to)
 
     -- from a step that is written out

@@ -1,6 +1,6 @@
 -- The names of other crates and of the definitions that most proofs here cite, passed on from one place. Declares nothing.
 pub use Rattle.alloc_rules.{specs.Acts.IsBefore, specs.Acts.setup, specs.Fits.Fits, specs.Fits.fits_step, specs.Heads.HasRoom, specs.declared.part.Part.Part}
-pub use Rattle.alloc_rules.specs.Accounts.{account_of, apart_of, clears_of, doing_about, doing_of, first_run, giving_doing, mapped_of, off_of, onward_doing}
+pub use Rattle.alloc_rules.specs.Accounts.{account_of, apart_of, clears_of, doing_of, first_run, mapped_of, off_of}
 pub use Rattle.alloc_rules.specs.Answers.{AnswersNone, Decides, RefusesThere, pages_asked}
 pub use Rattle.alloc_rules.specs.FrontLaw.{FitsAt, IsAct, IsLawful, IsNext, IsOwn, RefusesAs, idle}
 pub use Rattle.alloc_rules.specs.Law.{AreLawful, HoldsAfter, books_of, calls, setup_of}
@@ -9,9 +9,9 @@ pub use Rattle.alloc_rules.specs.Laws.{IsLowRun, MapActsKeep, MapActsMove, Names
 pub use Rattle.alloc_rules.specs.Machine.{Parts, after, first_of, first_parts, first_shard, first_shards, heap_config, middle_of, number, number_of, parts_of}
 pub use Rattle.alloc_rules.specs.Machine.{place_of, rules, turns, waits}
 pub use Rattle.alloc_rules.specs.Scripts.{Closes, Comes, GoesOn, IsIn, Path, Stays, is_under_way}
-pub use Rattle.alloc_rules.specs.Shapes.{HandAbout, HasNone, HasSpans, HeapShape, IsAsked, IsGiving, IsLater, IsOnward, IsShaped, MapShape, ShardShape}
+pub use Rattle.alloc_rules.specs.Shapes.{HandAbout, HasNone, HasSpans, IsAsked, IsGiving, IsLater, IsOnward, IsShaped}
 pub use Rattle.alloc_rules.specs.Shapes.{StepShape}
-pub use Rattle.alloc_rules.specs.Standings.{At, Away, Here, Later, Standing, at_giving, at_heap, at_map, at_next, at_onward, at_row, at_shard, at_step}
+pub use Rattle.alloc_rules.specs.Standings.{At, Away, Here, Later, Standing, at_giving, at_next, at_onward, at_row, at_step}
 pub use Rattle.alloc_rules.specs.Standings.{regs_next, stand, standing_of}
 pub use Rattle.alloc_rules.specs.Stocks.{AreBooksOf, ArePartsOk, Does, IsShardOf, decided_at, no_shard, shard_at, stock_of, stored_in}
 pub use Rattle.alloc_rules.specs.Told.{TellsFirst, TellsScript, lines_by}
@@ -23,7 +23,8 @@ pub use Rattle.call_steps.{specs.declared.step.NamesStep.NamesStep, specs.declar
 pub use Rattle.call_steps.{specs.declared.step.Serving.Serving, specs.declared.step.ShardStep.ShardStep, specs.declared.step.Step.Step}
 pub use Rattle.call_steps.specs.Acts.{after_lookup, after_new, after_new_span, after_take, clears_span, found, frees_span, front_after, front_row, heap_after}
 pub use Rattle.call_steps.specs.Acts.{heap_row, map_after, map_row, names_after, names_row, shard_after, waits_for, waits_row, without_first_span}
-pub use Rattle.call_steps.specs.Calls.{About, HasNoLabel, IsOf, about_giving, about_onward, call_about, undecided, under, without_call}
+pub use Rattle.call_steps.specs.Calls.{About, HasNoLabel, about_giving, about_onward, call_about}
+pub use Rattle.call_steps.specs.Rows.{IsOf, doing_about, undecided, under, without_call}
 pub use Rattle.call_steps.specs.Fits.{FirstIsThere, FirstLives, FitsAdd, FitsBatch, FitsFrontStep, FitsGive, FitsHeap, FitsHeapStep, FitsMap, FitsMapStep}
 pub use Rattle.call_steps.specs.Fits.{FitsNames, FitsNamesStep, FitsShard, FitsShardStep}
 pub use Rattle.call_steps.specs.Follows.{MayDecide, MayGoOnDecided, follows, goes_or_ends, says, says as says_in}

@@ -5,7 +5,7 @@ use Rattle.alloc_rules.proofs.Common.{emptied, Shard, objects_at, small, Account
 use Rattle.alloc_rules.proofs.Common.{Stock, Books, IsCut, size_of, Said, SaysOther, Move, MovesHand, FreesObject, GetsObject, GetsFirst, Rests, MoveObjects}
 use Rattle.alloc_rules.proofs.Common.{AddSpan, Asking, Freeing, Giving, Decided, decided, goes, ends, class_row, Local, to_hand, with_freed}
 use Rattle.alloc_rules.proofs.Common.{decides_free, behind, goes_onward, publishes, comes_to, serves, Parts, About}
-use Rattle.alloc_rules.proofs.Common.{HasNoLabel, doing_about, account_of, giving_doing, stock_of, AreBooksOf, decided_at, Does, FrontCalls, AreEntries}
+use Rattle.alloc_rules.proofs.Common.{HasNoLabel, about_giving, doing_about, account_of, stock_of, AreBooksOf, decided_at, Does, FrontCalls, AreEntries}
 use Rattle.alloc_rules.proofs.Common.{FrontRules, IsGiving, setup}
 use Rattle.holdings.specs.Moves.{with_hand}
 use Rattle.call_steps.specs.declared.step.Giving.TheVariants as giving
@@ -106,7 +106,7 @@ module _ {P V R : Type 0} (r : FrontRules P V R) (about : R → About) (entries 
       frees_spans l (ends r.calls then) f k hand [] l.rest is move closes.weighs closes.acts closes.answers
 
   -- a hand is given away: no span leaves, and the call ends or goes on
-  pub gives_hand : (l : Local V R) (g : Giving R) (bag : Contents SpanRef) (k : ℕ) (hand : List Addr) → IsGiving r.calls.rows about hand g → l.regs.class.0 ≡ k → account_of about l ≡ bare (giving_doing about g) k hand l.rest → MoveObjects (stock_of r about p) (stock_of r about new) k hand [] [] → Does r about m new b l (goes_onward r.calls (decides_free (with_freed (to_hand l (emptied l.regs.hand)) bag) g) (behind g))
+  pub gives_hand : (l : Local V R) (g : Giving R) (bag : Contents SpanRef) (k : ℕ) (hand : List Addr) → IsGiving r.calls.rows about hand g → l.regs.class.0 ≡ k → account_of about l ≡ bare (doing_about (about_giving about g)) k hand l.rest → MoveObjects (stock_of r about p) (stock_of r about new) k hand [] [] → Does r about m new b l (goes_onward r.calls (decides_free (with_freed (to_hand l (emptied l.regs.hand)) bag) g) (behind g))
   gives_hand l (giving.Rest s) bag k hand gives class is move =
       carries l (publishes (with_freed (to_hand l (emptied l.regs.hand)) bag) s) (Publishes s.label (Some s.addr)) k hand [] l.rest is move (λ label o doing. cc)
       (weighs_is (bare (Publishes s.label (Some s.addr)) k [] l.rest) (bare (Publishes s.label (Some s.addr)) l.regs.class.0 [] l.rest) (ap (λ (j : ℕ). bare (Publishes s.label (Some s.addr)) j [] l.rest) class)) refl refl
@@ -126,7 +126,7 @@ module _ {P V R : Type 0} (r : FrontRules P V R) (about : R → About) (entries 
   pub spans_weigh : (d : Doing) (k j : ℕ) (hand : List Addr) (freed items : List SpanRef) (todo : List Planned) → j ≡ k → items ≡ freed → WeighSame (with_hand (bare d k hand todo) [] freed) (record { doing = d; class = j; hand = []; off = []; apart = items; mapped = items; clears = []; todo = todo })
   spans_weigh d k j hand freed items todo class are = grind (arith, append-nil, bare, weighs_is)
 
-  pub gives_spans : (l : Local V R) (g : Giving R) (bag : Contents SpanRef) (k : ℕ) (hand : List Addr) (freed : List SpanRef) → IsGiving r.calls.rows about hand g → l.regs.class.0 ≡ k → bag.items ≡ freed → account_of about l ≡ bare (giving_doing about g) k hand l.rest → MoveObjects (stock_of r about p) (stock_of r about new) k hand [] freed → Does r about m new b l (clearing_it l g bag)
+  pub gives_spans : (l : Local V R) (g : Giving R) (bag : Contents SpanRef) (k : ℕ) (hand : List Addr) (freed : List SpanRef) → IsGiving r.calls.rows about hand g → l.regs.class.0 ≡ k → bag.items ≡ freed → account_of about l ≡ bare (doing_about (about_giving about g)) k hand l.rest → MoveObjects (stock_of r about p) (stock_of r about new) k hand [] freed → Does r about m new b l (clearing_it l g bag)
   gives_spans l (giving.Rest s) bag k hand freed gives class are is move =
       carries_spans l (clearing_it l (giving.Rest s) bag) (Publishes s.label (Some s.addr)) k hand [] freed l.rest is move (λ label o doing. cc) (spans_weigh (Publishes s.label (Some s.addr)) k l.regs.class.0 hand freed bag.items l.rest class are) refl refl
   gives_spans l (giving.Freed f) bag k hand freed gives class are is move = search (arith, frees_spans, spans_weigh)

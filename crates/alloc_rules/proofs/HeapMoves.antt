@@ -4,7 +4,7 @@ use Rattle.alloc_rules.proofs.Common.{append-nil, page_bytes, pages_holding, len
 use Rattle.alloc_rules.proofs.Common.{Released, CallLine, HeapConfig, Placed, new, release, free_leaves, release_keeps, address_of, run_of, runs_like, less}
 use Rattle.alloc_rules.proofs.Common.{Account, WeighSame, Setup, Books, GetsNone, GetsRun, GetsSpan, FreesRun, FreesSpan, Rests, One, like, less_counts}
 use Rattle.alloc_rules.proofs.Common.{Asking, New, NewSpan, GiveBack, FreeSpan, Unback, decided, class_row, Local, with_freed, clears, heap_row, after_new}
-use Rattle.alloc_rules.proofs.Common.{after_new_span, frees_span, without_first_span, FirstLives, FitsHeap, Planned, About, account_of, onward_doing}
+use Rattle.alloc_rules.proofs.Common.{after_new_span, frees_span, without_first_span, FirstLives, FitsHeap, Planned, About, about_onward, account_of, doing_about}
 use Rattle.alloc_rules.proofs.Common.{first_run, AreEntries, FrontRules, Parts, AreBooksOf, Does, setup, IsBefore, Onward, HeapStep, IsOnward, HeapActsMove}
 use Rattle.alloc_rules.proofs.Common.{IsPlaced}
 use Rattle.heap_rules.specs.Free.{freed}
@@ -72,7 +72,7 @@ module _ {P V R : Type 0} (r : FrontRules P V R) (about : R → About) (planned 
         (less_like run before.books before.parts.heap there) before.books.spans (ends_counts r.calls l').0 (ends_counts r.calls l').1
 
     -- what is left to give back
-    clears_weighs : (l' : Local V R) (next : Onward R) (xs : List SpanRef) → IsOnward m.rows about next → l'.freed.items ≡ xs → l'.regs.hand.items ≡ [] → WeighSame (record (bare (onward_doing about next) l'.regs.class.0 l'.regs.hand.items l'.rest) { apart = xs; mapped = xs }) (account_of about (clears r.calls l' next xs)) × Counts l' (clears r.calls l' next xs)
+    clears_weighs : (l' : Local V R) (next : Onward R) (xs : List SpanRef) → IsOnward m.rows about next → l'.freed.items ≡ xs → l'.regs.hand.items ≡ [] → WeighSame (record (bare (doing_about (about_onward about next)) l'.regs.class.0 l'.regs.hand.items l'.rest) { apart = xs; mapped = xs }) (account_of about (clears r.calls l' next xs)) × Counts l' (clears r.calls l' next xs)
     clears_weighs l' next xs on is none = grind (arith, bare, onward_weighs, weighs_same)
 
     -- the first of the spans that left a shard is given back
@@ -81,7 +81,7 @@ module _ {P V R : Type 0} (r : FrontRules P V R) (about : R → About) (planned 
     frees next before (s ∷ others) is lives =
         let l' : Local V R = with_freed (at (FreeSpan next)) (without_first_span l.freed others) in
         let after = clears_weighs l' next others before.shaped.step.1 refl before.shaped.step.0.hand in
-        let behind : List SpanRef → Account = λ xs. record (bare (onward_doing about next) l.regs.class.0 l.regs.hand.items l.rest) { apart = others; mapped = xs } in
+        let behind : List SpanRef → Account = λ xs. record (bare (doing_about (about_onward about next)) l.regs.class.0 l.regs.hand.items l.rest) { apart = others; mapped = xs } in
         leaves before.books (freed p.heap (run_of s)) p.map (λ ns. ns)
         (FreesSpan s others _ (ap first_run is) is (ap (drop 1) is)
         (subst (λ (xs : List SpanRef). WeighSame (behind xs) (account_of about (clears r.calls l' next others))) (sym (ap (drop 1) is)) after.0))

@@ -4,7 +4,7 @@ use Rattle.alloc_rules.proofs.Common.{append-nil, page_bytes, Addr, Label, Run, 
 use Rattle.alloc_rules.proofs.Common.{without_span, HeapConfig, find_there, address_of, run_of, large, small, spans_like, without, Account, Holds, Frees}
 use Rattle.alloc_rules.proofs.Common.{WeighSame, Setup, Books, class_number, Found, SetsRun, SetsSpan, FindsObject, FindsRun, ClearsRun, ClearsSpan}
 use Rattle.alloc_rules.proofs.Common.{like_span, without_counts, is_large, frees_find, Asking, Set, SetSpan, Lookup, Clear, ClearSpan, map_row}
-use Rattle.alloc_rules.proofs.Common.{found, clears_span, FirstIsThere, FitsMap, Planned, Local, About, account_of, onward_doing, first_run, AreEntries}
+use Rattle.alloc_rules.proofs.Common.{found, clears_span, FirstIsThere, FitsMap, Planned, Local, About, about_onward, account_of, doing_about, first_run, AreEntries}
 use Rattle.alloc_rules.proofs.Common.{FrontRules, Parts, Does, setup, IsBefore, Contents, Class, Regs, appended, Freeing, Onward, MapStep}
 use Rattle.alloc_rules.proofs.Common.{with_regs, MapActsMove, with_span, without_span}
 use Rattle.call_steps.specs.declared.step.Step.TheVariants as does
@@ -57,7 +57,7 @@ module _ {P V R : Type 0} (r : FrontRules P V R) (about : R → About) (planned 
 
     -- the first of the spans that left a shard is cleared
     abbrev with_spans : Onward R → List SpanRef → Account
-    with_spans next xs = record (bare (onward_doing about next) l.regs.class.0 l.regs.hand.items l.rest) { off = first_run xs; apart = xs; mapped = drop 1 xs }
+    with_spans next xs = record (bare (doing_about (about_onward about next)) l.regs.class.0 l.regs.hand.items l.rest) { off = first_run xs; apart = xs; mapped = drop 1 xs }
 
     clears_first : (next : Onward R) → Before (ClearSpan next) → (xs : List SpanRef) → l.freed.items ≡ xs → FirstIsThere p.map xs → Goal (ClearSpan next) (clears_span p.map (at (ClearSpan next)) next xs)
     clears_first next before [] is there = absurd there

@@ -6,7 +6,7 @@ use Rattle.alloc_rules.proofs.Common.{SpanRef, CallLine, HeapConfig, SpanState, 
 use Rattle.alloc_rules.proofs.Common.{spans_cut, bit, small, same_span, objects_at, spans_like, Setup, Stock, Books, IsTaken, IsMapped, least}
 use Rattle.alloc_rules.proofs.Common.{same_span_refl, all_spans, one_number, hands_are_taken, mapped_are_there, Asking, Fetch, AddFetch, Give, no_class}
 use Rattle.alloc_rules.proofs.Common.{class_row, Local, FitsBatch, FitsShard, Planned, About, account_of, mapped_of, FrontRules, Parts, stock_of}
-use Rattle.alloc_rules.proofs.Common.{no_shard, shard_at, IsShardOf, setup, IsBefore, Step, ShardStep, IsClassRow, StepShape, ShardShape, ShardActsFit}
+use Rattle.alloc_rules.proofs.Common.{no_shard, shard_at, IsShardOf, setup, IsBefore, Step, ShardStep, IsClassRow, StepShape, ShardActsFit}
 use Rattle.class_shard.proofs.CountedOnceDiffer.{once_differ}
 use Rattle.call_steps.specs.declared.step.Step.TheVariants as does
 use Rattle.alloc_rules.proofs.{Counting.objects_count, Freeing.account_at}
@@ -79,7 +79,7 @@ module _ {P V R : Type 0} {r : FrontRules P V R} {about : R → About} {planned 
           | inr none ↦ omega (arith, none, objects_count n l.regs.hand.items)
         ]
 
-    fits_by : (row : ShardStep R) → l.step ≡ does.Shard row → ShardShape m.rows about l row → FitsShard m.rows x l row
+    fits_by : (row : ShardStep R) → l.step ≡ does.Shard row → StepShape m.rows about l (does.Shard row) → FitsShard m.rows x l row
     fits_by (Fetch asking) is shape = (batch_fits shape.0.hand, shape.0.hand)
     fits_by (AddFetch asking run) is shape = let mapped = is_mapped asking run is in (record { batch = batch_fits shape.0.hand; pages = add_pages run mapped; apart = add_apart run mapped }, shape.0.hand)
     fits_by (Give g) is shape =

@@ -8,7 +8,7 @@ use Rattle.alloc_rules.proofs.Common.{fetch_moves, add_moves, give_moves, small,
 use Rattle.alloc_rules.proofs.Common.{class_number, MoveObjects, AddSpan, shift, all_spans, span_all, Asking, Fetch, AddFetch, Give, goes, class_row, Local}
 use Rattle.alloc_rules.proofs.Common.{with_hand, with_freed, decides_free, behind, clears, serves, with_more, fetches, shard_row, Planned}
 use Rattle.alloc_rules.proofs.Common.{About, AreEntries, FrontRules, Parts, stock_of, Does, no_shard, shard_at, IsShardOf, setup, IsBefore, Step, ShardStep}
-use Rattle.alloc_rules.proofs.Common.{Giving, StepShape, ShardShape, IsGiving, FitsAdd, FitsGive, IsLowRun, AddsSome, ShardActsMove}
+use Rattle.alloc_rules.proofs.Common.{Giving, StepShape, IsGiving, FitsAdd, FitsGive, IsLowRun, AddsSome, ShardActsMove}
 use Rattle.class_shard.specs.Laws.{IsGiven}
 use Rattle.page_map.specs.Spans.{IsInside}
 use Rattle.call_steps.specs.declared.step.Step.TheVariants as does
@@ -223,11 +223,11 @@ module _ {P V R : Type 0} {r : FrontRules P V R} {about : R → About} {planned 
           gives_spans r about entries huge labels p locals b before.books p.fronts (shards_with given) give_cut (at_step (Give g)) g bag l.regs.class.0 l.regs.hand.items (s ∷ more) gives refl are refl
           (subst (λ (ss : List SpanRef). MoveObjects (stock_of r about p) (stock_of r about (with_shard given)) l.regs.class.0 l.regs.hand.items [] ss) left (objects given l.regs.hand.items [] freed give_changes))
 
-    shard_does : (row : ShardStep R) → l.step ≡ does.Shard row → ShardShape m.rows about l row → Does r about m (with_shard (shard_row r.calls x (at_step row) row).0) b (at_step row) (shard_row r.calls x (at_step row) row).1
+    shard_does : (row : ShardStep R) → l.step ≡ does.Shard row → StepShape m.rows about l (does.Shard row) → Does r about m (with_shard (shard_row r.calls x (at_step row) row).0) b (at_step row) (shard_row r.calls x (at_step row) row).1
     shard_does row is shape = grind (arith, add_does, fetch_does, give_does, is_added)
 
     -- the shard stays its class's, a new span's first page is a low number, and a new span brings an object at least
-    pub shard_stays : (row : ShardStep R) → l.step ≡ does.Shard row → ShardShape m.rows about l row → IsShardOf m.rows l.regs.class.0 (shard_row r.calls x (at_step row) row).0 × IsLowRun row × AddsSome m.rows x l row
+    pub shard_stays : (row : ShardStep R) → l.step ≡ does.Shard row → StepShape m.rows about l (does.Shard row) → IsShardOf m.rows l.regs.class.0 (shard_row r.calls x (at_step row) row).0 × IsLowRun row × AddsSome m.rows x l row
     shard_stays row is shape = grind (arith, added_of, fetched_of, given_of, is_added, is_low)
 
   pub shard_acts_move : ShardActsMove r about planned

@@ -5,7 +5,7 @@ use Rattle.alloc_rules.proofs.Common.{length-set, count_by-le-length, All-set, A
 use Rattle.alloc_rules.proofs.Common.{picks_of, Shard, SpanMap, IsWellFormed, NameState, HeapConfig, Regs, Books, of_all, Step, ShardStep, Does, setup_of}
 use Rattle.alloc_rules.proofs.Common.{HeapStep, MapStep, NamesStep, Local, About, undecided, shard_row, heap_row, map_row, names_row, waits_row}
 use Rattle.alloc_rules.proofs.Common.{front_row, FitsNames, FitsShard, FitsHeap, FitsMap, heap_config, Parts, HasRoom, IsShardOf, Here, Standing}
-use Rattle.alloc_rules.proofs.Common.{stand, at_step, standing_of, ShardShape, StepShape, IsAct, IsLawful, FrontRules, IsBefore, IsKept, FrontKept, AddsSome}
+use Rattle.alloc_rules.proofs.Common.{stand, at_step, standing_of, StepShape, IsAct, IsLawful, FrontRules, IsBefore, IsKept, FrontKept, AddsSome}
 use Rattle.alloc_rules.proofs.Common.{Path, is_under_way, IsValid, calls}
 use Rattle.alloc_rules.specs.FrontLaw.{IsReady}
 use Rattle.heap_rules.specs.Heap as heaps
@@ -161,7 +161,7 @@ module _ {P V R : Type 0} {r : FrontRules P V R} {about : R → About} {planned 
   shard_acted row x step at =
       let here : record l { step = does.Shard row } ≡ l = ap (λ s. record l { step = s }) (sym step) in
       let shaped = (now.works t l now.local).shaped in
-      let shape' : ShardShape r.calls.rows about l row = subst (λ (s : Step R). StepShape r.calls.rows about l s) step shaped.step in
+      let shape' : StepShape r.calls.rows about l (does.Shard row) = subst (λ (s : Step R). StepShape r.calls.rows about l s) step shaped.step in
       let stays = shard_stays law.entries before at row step shape' in
       let fit : FitsShard r.calls.rows x l row = shard_fit row x step at in
       let same = sym (row_is before at) in

@@ -3,10 +3,8 @@ use Rattle.std.specs.Prelude.{List, [], ◌∷◌, drop, Some}
 use Rattle.tc_units.specs.declared.units.Class.{Class}
 use Rattle.tc_units.specs.declared.spans.Run.{Run}
 use Rattle.tc_units.specs.declared.spans.SpanRef.{SpanRef}
-use Rattle.holdings.specs.Runs.{address_of, run_of, large, small}
-use Rattle.holdings.specs.Accounts.{Doing, Account, Asks, Publishes, Takes, Holds, Frees, Other}
-use Rattle.call_steps.specs.declared.step.Giving.{Giving}
-use Rattle.call_steps.specs.declared.step.Onward.{Onward}
+use Rattle.holdings.specs.Runs.{run_of, large, small}
+use Rattle.holdings.specs.Accounts.{Doing, Account}
 use Rattle.call_steps.specs.declared.step.ShardStep.{ShardStep}
 use Rattle.call_steps.specs.declared.step.HeapStep.{HeapStep}
 use Rattle.call_steps.specs.declared.step.MapStep.{MapStep}
@@ -15,55 +13,13 @@ use Rattle.call_steps.specs.declared.step.Step.TheVariants as does
 use Rattle.call_steps.specs.declared.step.ShardStep.TheVariants as shard
 use Rattle.call_steps.specs.declared.step.HeapStep.TheVariants as heap
 use Rattle.call_steps.specs.declared.step.MapStep.TheVariants as mapped
-use Rattle.call_steps.specs.declared.step.NamesStep.{NamesStep}
-use Rattle.call_steps.specs.declared.step.NamesStep.TheVariants as names
 use Rattle.call_steps.specs.Local.{Local}
-use Rattle.call_steps.specs.Calls as calls
-use Rattle.call_steps.specs.Calls.{About, about_giving, about_onward}
+use Rattle.call_steps.specs.Calls.{About}
+use Rattle.call_steps.specs.Rows.{row_at}
 
--- what a step is about with a label, by the part that it is on
-abbrev pub doing_about : About → Doing
-doing_about (calls.Asks a) = Asks a.label a.size
-doing_about (calls.Publishes s) = Publishes s.label (Some s.addr)
-doing_about (calls.Frees f) = Frees f.label f.addr
-doing_about (calls.Other call) = Other
-
-abbrev pub giving_doing : {R : Type 0} → (R → About) → Giving R → Doing
-giving_doing about g = doing_about (about_giving about g)
-
-abbrev pub onward_doing : {R : Type 0} → (R → About) → Onward R → Doing
-onward_doing about next = doing_about (about_onward about next)
-
-abbrev pub shard_doing : {R : Type 0} → (R → About) → ShardStep R → Doing
-shard_doing about (shard.Fetch a) = Asks a.label a.size
-shard_doing about (shard.AddFetch a run) = Asks a.label a.size
-shard_doing about (shard.Give g) = giving_doing about g
-
-abbrev pub heap_doing : {R : Type 0} → (R → About) → HeapStep R → Doing
-heap_doing about (heap.New label size) = Asks label size
-heap_doing about (heap.NewSpan a) = Asks a.label a.size
-heap_doing about (heap.GiveBack label run) = Holds label (address_of run)
-heap_doing about (heap.FreeSpan next) = onward_doing about next
-heap_doing about (heap.Unback pages) = Other
-
-abbrev pub map_doing : {R : Type 0} → (R → About) → MapStep R → Doing
-map_doing about (mapped.Set label run) = Publishes label (Some (address_of run))
-map_doing about (mapped.SetSpan a run) = Asks a.label a.size
-map_doing about (mapped.Lookup label addr) = Holds label addr
-map_doing about (mapped.Clear label run) = Holds label (address_of run)
-map_doing about (mapped.ClearSpan next) = onward_doing about next
-
-abbrev pub names_doing : NamesStep → Doing
-names_doing (names.Publish label value) = Publishes label value
-names_doing (names.Take label) = Takes label
-
+-- what a step is about with a label
 abbrev pub doing_of : {R : Type 0} → (R → About) → Step R → Doing
-doing_of about (does.Front row) = doing_about (about row)
-doing_of about (does.Shard row) = shard_doing about row
-doing_of about (does.Heap row) = heap_doing about row
-doing_of about (does.Map row) = map_doing about row
-doing_of about (does.Names row) = names_doing row
-doing_of about does.Ended = Other
+doing_of about s = (row_at s).doing about
 
 -- the live runs that it holds off the map
 abbrev pub first_run : List SpanRef → List Run

@@ -26,7 +26,8 @@ use Rattle.holdings.specs.Books.{Setup, Books, class_number, over_classes}
 use Rattle.holdings.specs.Facts.{IsStanding}
 use Rattle.call_steps.specs.declared.step.Step.TheVariants as does
 use Rattle.call_steps.specs.Local.{Local, Decided, told}
-use Rattle.call_steps.specs.Calls.{About, under}
+use Rattle.call_steps.specs.Calls.{About}
+use Rattle.call_steps.specs.Rows.{under}
 use Rattle.call_steps.specs.Kept.{call_at}
 use Rattle.alloc_rules.specs.Machine.{heap_config, Parts, parts_of, place_of, waits, after, rules, turns}
 use Rattle.alloc_rules.specs.declared.part.Part.{Part}

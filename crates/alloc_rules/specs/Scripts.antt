@@ -11,7 +11,8 @@ use Rattle.call_steps.specs.declared.step.Step.{Step}
 use Rattle.call_steps.specs.declared.step.Step.TheVariants as does
 use Rattle.call_steps.specs.Fronts.{FrontCalls}
 use Rattle.call_steps.specs.Local.{Local, Decided, first_act}
-use Rattle.call_steps.specs.Calls.{About, undecided, under}
+use Rattle.call_steps.specs.Calls.{About}
+use Rattle.call_steps.specs.Rows.{undecided, under}
 use Rattle.call_steps.specs.Kept.{call_at}
 use Rattle.alloc_rules.specs.Accounts.{doing_of}
 

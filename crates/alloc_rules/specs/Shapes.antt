@@ -14,15 +14,10 @@ use Rattle.call_steps.specs.declared.step.Giving.TheVariants as giving
 use Rattle.call_steps.specs.declared.step.Onward.{Onward}
 use Rattle.call_steps.specs.declared.step.Onward.TheVariants as onward
 use Rattle.call_steps.specs.declared.step.Step.{Step}
-use Rattle.call_steps.specs.declared.step.Step.TheVariants as does
-use Rattle.call_steps.specs.declared.step.ShardStep.{ShardStep}
-use Rattle.call_steps.specs.declared.step.ShardStep.TheVariants as shard
-use Rattle.call_steps.specs.declared.step.HeapStep.{HeapStep}
-use Rattle.call_steps.specs.declared.step.HeapStep.TheVariants as heap
-use Rattle.call_steps.specs.declared.step.MapStep.{MapStep}
-use Rattle.call_steps.specs.declared.step.MapStep.TheVariants as map
 use Rattle.call_steps.specs.Local.{Local}
 use Rattle.call_steps.specs.Calls.{About, Asks, Publishes, Frees, Other, HasNoLabel}
+use Rattle.call_steps.specs.Rows.{Held, row_at}
+use Rattle.call_steps.specs.Rows as held
 use Rattle.call_steps.specs.Shapes.{BeginsWith, most_slots}
 
 -- what an allocation asks for has the registers' class
@@ -67,33 +62,17 @@ IsOnward rows about (onward.Publish s) = Unit {0}
 IsOnward rows about (onward.Row k row) = IsLater rows about k row
 IsOnward rows about onward.End = Unit {0}
 
--- by the step
-abbrev pub ShardShape : {V R : Type 0} → List ClassRow → (R → About) → Local V R → ShardStep R → Type 0
-ShardShape rows about l (shard.Fetch a) = HasNone l × IsAsked rows l.regs a
-ShardShape rows about l (shard.AddFetch a run) = HasNone l × IsAsked rows l.regs a
-ShardShape rows about l (shard.Give g) = HasHand most_slots l × IsGiving rows about l.regs.hand.items g
-
-abbrev pub HeapShape : {V R : Type 0} → List ClassRow → (R → About) → Local V R → HeapStep R → Type 0
-HeapShape rows about l (heap.New label size) = HasNone l × (class_of rows size ≡ None)
-HeapShape rows about l (heap.NewSpan a) = HasNone l × IsAsked rows l.regs a
-HeapShape rows about l (heap.GiveBack label run) = HasNone l
-HeapShape rows about l (heap.FreeSpan next) = HasSpans l × IsOnward rows about next
-HeapShape rows about l (heap.Unback pages) = HasNone l
-
-abbrev pub MapShape : {V R : Type 0} → List ClassRow → (R → About) → Local V R → MapStep R → Type 0
-MapShape rows about l (map.Set label run) = HasNone l
-MapShape rows about l (map.SetSpan a run) = HasNone l × IsAsked rows l.regs a
-MapShape rows about l (map.Lookup label addr) = HasNone l
-MapShape rows about l (map.Clear label run) = HasNone l
-MapShape rows about l (map.ClearSpan next) = HasSpans l × IsOnward rows about next
+-- by what the row at its step has in hand
+abbrev pub Has : {V R : Type 0} → List ClassRow → (R → About) → Local V R → Held R → Type 0
+Has rows about l held.Nothing = HasNone l
+Has rows about l (held.Asked a) = HasNone l × IsAsked rows l.regs a
+Has rows about l (held.Large size) = HasNone l × (class_of rows size ≡ None)
+Has rows about l (held.Given g) = HasHand most_slots l × IsGiving rows about l.regs.hand.items g
+Has rows about l (held.Spans next) = HasSpans l × IsOnward rows about next
+Has rows about l (held.Own row) = HandAbout rows l.regs (about row) × (l.freed.items ≡ [])
 
 abbrev pub StepShape : {V R : Type 0} → List ClassRow → (R → About) → Local V R → Step R → Type 0
-StepShape rows about l (does.Front row) = HandAbout rows l.regs (about row) × (l.freed.items ≡ [])
-StepShape rows about l (does.Shard row) = ShardShape rows about l row
-StepShape rows about l (does.Heap row) = HeapShape rows about l row
-StepShape rows about l (does.Map row) = MapShape rows about l row
-StepShape rows about l (does.Names row) = HasNone l
-StepShape rows about l does.Ended = HasNone l
+StepShape rows about l s = Has rows about l (row_at s).held
 
 -- A local of thread t: its registers are the thread's, its class is there, its bags have their room, the calls behind are as
 -- the front-end takes them, and its step has its shape.

@@ -9,14 +9,9 @@ use Rattle.call_steps.specs.declared.step.Onward.TheVariants as onward
 use Rattle.call_steps.specs.declared.step.Next.{Next}
 use Rattle.call_steps.specs.declared.step.Next.TheVariants as next
 use Rattle.call_steps.specs.declared.step.Step.{Step}
-use Rattle.call_steps.specs.declared.step.Step.TheVariants as step
-use Rattle.call_steps.specs.declared.step.ShardStep.{ShardStep}
-use Rattle.call_steps.specs.declared.step.ShardStep.TheVariants as shard
-use Rattle.call_steps.specs.declared.step.HeapStep.{HeapStep}
-use Rattle.call_steps.specs.declared.step.HeapStep.TheVariants as heap
-use Rattle.call_steps.specs.declared.step.MapStep.{MapStep}
-use Rattle.call_steps.specs.declared.step.MapStep.TheVariants as map
 use Rattle.call_steps.specs.Local.{Local}
+use Rattle.call_steps.specs.Rows.{Held, row_at}
+use Rattle.call_steps.specs.Rows as held
 
 -- where a thread stands with a row of the front-end: that is its next act, or comes for a class behind acts elsewhere, or
 -- there is none
@@ -52,33 +47,17 @@ at_onward (onward.Publish s) = Away
 at_onward (onward.Row k row) = Later k row
 at_onward onward.End = Away
 
--- by the step
-abbrev pub at_shard : {R : Type 0} → ShardStep R → At R
-at_shard (shard.Fetch a) = Away
-at_shard (shard.AddFetch a run) = Away
-at_shard (shard.Give g) = at_giving g
-
-abbrev pub at_heap : {R : Type 0} → HeapStep R → At R
-at_heap (heap.New label size) = Away
-at_heap (heap.NewSpan a) = Away
-at_heap (heap.GiveBack label run) = Away
-at_heap (heap.FreeSpan next) = at_onward next
-at_heap (heap.Unback pages) = Away
-
-abbrev pub at_map : {R : Type 0} → MapStep R → At R
-at_map (map.Set label run) = Away
-at_map (map.SetSpan a run) = Away
-at_map (map.Lookup label addr) = Away
-at_map (map.Clear label run) = Away
-at_map (map.ClearSpan next) = at_onward next
+-- by what the row at its step has in hand
+abbrev pub at_held : {R : Type 0} → Held R → At R
+at_held held.Nothing = Away
+at_held (held.Asked a) = Away
+at_held (held.Large size) = Away
+at_held (held.Given g) = at_giving g
+at_held (held.Spans next) = at_onward next
+at_held (held.Own row) = Here row
 
 abbrev pub at_step : {R : Type 0} → Step R → At R
-at_step (step.Front row) = Here row
-at_step (step.Shard row) = at_shard row
-at_step (step.Heap row) = at_heap row
-at_step (step.Map row) = at_map row
-at_step (step.Names row) = Away
-at_step step.Ended = Away
+at_step s = at_held (row_at s).held
 
 abbrev pub standing_of : {V R : Type 0} → Local V R → Standing V R
 standing_of l = stand l.seat l.regs l.acts (at_step l.step)

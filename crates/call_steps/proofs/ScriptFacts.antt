@@ -6,7 +6,8 @@ use Rattle.tc_model.specs.declared.answers.Answered.{Answered}
 use Rattle.tc_model.specs.declared.calls.Call.{Call}
 use Rattle.tc_model.specs.declared.calls.Planned.{Planned}
 use Rattle.call_steps.specs.Local.{Decided}
-use Rattle.call_steps.specs.Calls.{About, undecided, under, without_call}
+use Rattle.call_steps.specs.Calls.{About}
+use Rattle.call_steps.specs.Rows.{undecided, under, without_call}
 use Rattle.call_steps.specs.declared.step.Step.{Step}
 use Rattle.call_steps.specs.declared.step.Step.TheVariants as does
 use Rattle.call_steps.specs.Kept.{decided_by, call_at}

@@ -13,7 +13,8 @@ use Rattle.call_steps.specs.declared.step.Step.TheVariants as step
 use Rattle.call_steps.specs.declared.step.MapStep.TheVariants as map
 use Rattle.call_steps.specs.declared.step.Onward.TheVariants as onward
 use Rattle.call_steps.specs.Local.{Local, Decided}
-use Rattle.call_steps.specs.Calls.{About, under, IsOf}
+use Rattle.call_steps.specs.Calls.{About}
+use Rattle.call_steps.specs.Rows.{under, IsOf}
 
 -- the part that the next act is on, by the places of the front-end's rows
 abbrev pub target_at : {V R : Type 0} → (V → Regs → R → ℕ) → Local V R → Step R → Option Target

@@ -1,4 +1,5 @@
 pub mod Calls
+pub mod Rows
 pub mod Fronts
 pub mod Local
 pub mod Hands

@@ -3,7 +3,8 @@ ghost use Rattle.std.specs.Prelude.{◌≡◌, ◌-◌, ◌<◌, ◌^◌, length
 ghost use Rattle.call_steps.specs.declared.step.Next.TheVariants as next;
 ghost use Rattle.call_steps.specs.declared.step.Step.TheVariants as does;
 ghost use Rattle.call_steps.specs.declared.step.NamesStep.TheVariants as named;
-ghost use Rattle.call_steps.specs.Calls.{undecided, under, asks, about_giving, about_onward, call_about, without_call};
+ghost use Rattle.call_steps.specs.Calls.{asks, about_giving, about_onward, call_about};
+ghost use Rattle.call_steps.specs.Rows.{undecided, under, without_call};
 ghost use Rattle.call_steps.specs.Hands.{serves, stock_step, stock_regs, comes_to, goes_onward, clears, gave};
 ghost use Rattle.call_steps.specs.Follows.{MayGoOnDecided, MayFollow, follows};
 

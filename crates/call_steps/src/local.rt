@@ -3,7 +3,7 @@
 ghost use Rattle.std.specs.Prelude.{◌≡◌, ℕ, ◌+◌, ◌-◌, ◌<◌, ◌≤◌, ◌^◌, [], length, drop, map, option_map, slice_get, Option, Some, None, IfOk, is_some, true};
 ghost use Rattle.tc_model.specs.declared.calls.Call as call;
 ghost use Rattle.call_steps.specs.Local.{next_call, step_or, first_of_call, regs_of_call, first_act, regs_by, first_local, goes, ends, decided, told};
-ghost use Rattle.call_steps.specs.Calls.{undecided, under, IsOf};
+ghost use Rattle.call_steps.specs.Rows.{undecided, under, IsOf};
 ghost use Rattle.call_steps.specs.Kept.{target_of, IsLowWant, over};
 
 use crate::front::FrontEnd;

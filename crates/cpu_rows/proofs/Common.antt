@@ -25,7 +25,8 @@ pub use Rattle.cpu_rows.{specs.declared.row.Stopping.Stopping, specs.declared.se
 pub use Rattle.cpu_rows.specs.CpuActs.{Left, after_pop, after_push, after_stock, at_cpu_next, cap_answer, cpu_acts, domain_acts, drained, drains_on, due}
 pub use Rattle.cpu_rows.specs.CpuActs.{fits_into, gives, gives_taken, grew_to, grows, instructed_to, instructs, is_due, leaves, leaving, left_for, looks_on}
 pub use Rattle.cpu_rows.specs.CpuActs.{moves_to, put_in, puts, replied, runs_open, sequence, sequence_by, started, stops, takes, took, yields_to_enter}
-pub use Rattle.cpu_rows.specs.CpuCalls.{cpu_calls, cpu_refuses, cpu_row, leave_row, move_of, stop_row, to_sequence, to_stop, with_move, with_next, yields_for}
+pub use Rattle.cpu_rows.specs.CpuCalls.{cpu_calls, cpu_row, leave_row, move_of, stop_row, to_sequence, to_stop, with_move, with_next, yields_for}
+pub use Rattle.cpu_rows.specs.CpuRows.{cpu_refuses}
 pub use Rattle.cpu_rows.specs.CpuFits.{FitsCpu, FitsDomain, FitsSequence, taken_by}
 pub use Rattle.cpu_rows.specs.CpuFront.{Cpu, CpuFrontPart, Domain, cpu_front, cpu_stored, domain_caches, first_cache, first_cpu, front_acts, front_parts}
 pub use Rattle.cpu_rows.specs.CpuFront.{left_with, seated}
@@ -33,8 +34,10 @@ pub use Rattle.cpu_rows.specs.CpuHolds.{ArePlaced, CpuHolds, IsSeated, RegsAt, c
 pub use Rattle.cpu_rows.specs.CpuRows.{about_cpu, about_row, as_row, at_cpu, call_of, cpu_of, domain_of}
 pub use Rattle.cpu_rows.specs.Machine.{Part, after, front_of, rules}
 pub use Rattle.cpu_rows.specs.PerCpu.{CpuLocal as Local, Next, Step}
-pub use Rattle.cpu_rows.specs.Shapes.{CpuShape, DomainShape, HasHand, HasNone, IsAtBegin, IsAtFirst, IsGiving, IsStop, IsToCome, alone, below, cpu_standing}
-pub use Rattle.cpu_rows.specs.Shapes.{empty_to_start, empty_to_take, giving_standing, no_class_empty}
+pub use Rattle.cpu_rows.specs.Shapes.{CpuShape, DomainShape, HasHand, HasNone, IsAtBegin, IsAtFirst, IsGiving, IsStop, IsToCome}
+pub use Rattle.cpu_rows.specs.CpuRows.{alone, below, cpu_standing}
+pub use Rattle.cpu_rows.specs.Shapes.{giving_standing}
+pub use Rattle.cpu_rows.specs.CpuRows.{empty_to_start, empty_to_take, no_class_empty}
 pub use Rattle.cpu_rows.specs.Slabs.{IsSlabOf, slab_class, table_class}
 pub use Rattle.cpu_rows.specs.Switches.{Kind, SwitchesAreFew, act_kind, closes, closing, count_at, enters, entry, growth_kind, instructed_kind, kind_at}
 pub use Rattle.cpu_rows.specs.Switches.{kind_of, neither, sequence_kind, step_kind}

@@ -65,7 +65,17 @@ module _ (Serves : Regs → Type 0) (rows : List ClassRow) (v : CpuSeat) where
   leave_comes p r o = grind arith
 
   pub cpu_comes : (p : CpuPart) (r : Regs) (row : CpuStep) → (let x = rseq.instructed p r in (a : Asking) → row ≡ cpu.Pop a → x.answer ≡ instructed.Done reply.Popped → Serves x.regs) → MayCome (front.Cpu row) (cpu_acts rows p v r row)
-  cpu_comes p r row some = grind (arith, cap_may, looks_may, leave_comes, sequence_comes, started_may, stop_may, gives_may, drains_about)
+  cpu_comes p r (cpu.Pop a) some = grind (arith, sequence_comes)
+  cpu_comes p r (cpu.Grow a) some = grind (arith, looks_may)
+  cpu_comes p r (cpu.Stock s) some = grind (arith, sequence_comes)
+  cpu_comes p r (cpu.Push f) some = grind (arith, sequence_comes)
+  cpu_comes p r (cpu.PopBatch f) some = grind (arith, sequence_comes)
+  cpu_comes p r (cpu.Stop s) some = grind (arith, stop_may)
+  cpu_comes p r (cpu.Fence s) some = grind arith
+  cpu_comes p r (cpu.Take s) some = grind (arith, gives_may, drains_about)
+  cpu_comes p r (cpu.SetCap x) some = grind (arith, cap_may)
+  cpu_comes p r (cpu.Start s) some = grind (arith, started_may)
+  cpu_comes p r cpu.Leave some = leave_comes p r _
 
 -- Where the act fits, an allocation is served with an object in hand.
 module _ (rows : List ClassRow) (v : CpuSeat) where

@@ -8,7 +8,7 @@ use Rattle.cpu_rows.proofs.Common.{Resizing, Stopping, CpuStep, Next, Other, lea
 use Rattle.cpu_rows.proofs.Common.{left_for, about_cpu, at_cpu, cpu_of, taken_by, thread_no, AreRows, most_slots}
 use Rattle.cpu_rows.proofs.Common.{no_class_empty, below, alone, empty_to_take, cpu_standing, IsStop, IsAtFirst, IsAtBegin, IsToCome}
 use Rattle.cpu_rows.proofs.Common.{CpuShape, Limits, limits_of, seated, objects_append, objects_reverse}
-use Rattle.cpu_rows.specs.Shapes.{stands}
+use Rattle.cpu_rows.specs.CpuRows.{stands}
 use Rattle.std.proofs.Math.Path.{fun_ext}
 use Rattle.cpu_drain.specs.Drains as drains
 use Rattle.cpu_drain.specs.Seats as seats

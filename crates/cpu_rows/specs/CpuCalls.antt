@@ -5,8 +5,6 @@ use Rattle.tc_model.specs.declared.calls.Call.{Call}
 use Rattle.tc_model.specs.declared.calls.Call.TheVariants.{Drain, Resize}
 use Rattle.tc_model.specs.declared.calls.MoveTo.{MoveTo}
 use Rattle.tc_model.specs.declared.calls.Planned.{Planned}
-use Rattle.tc_model.specs.declared.answers.Answer.{Answer}
-use Rattle.tc_model.specs.declared.answers.Answer.TheVariants.{Busy, OverLimit, OverStatic}
 use Rattle.rseq_core.specs.declared.cpu_part.CpuPart.{CpuPart}
 use Rattle.rseq_core.specs.declared.regs.Regs.{Regs}
 use Rattle.rseq_core.specs.declared.sequence.Seq.{Seq}
@@ -74,13 +72,6 @@ cpu_calls rows =
       to_other = to_stop;
       last = λ v. leave_row v.moved;
     }
-
--- which of their rows may refuse a call, and how
-abbrev pub cpu_refuses : CpuRow → Answer → Bool
-cpu_refuses (front.Cpu (Stop s)) (Busy owner) = true
-cpu_refuses (front.Cpu (SetCap r)) (OverLimit sum) = true
-cpu_refuses (front.Cpu (SetCap r)) (OverStatic most) = true
-cpu_refuses row answer = false
 
 -- an act of theirs with what comes behind it
 abbrev pub with_next : {P : Type 0} → List ClassRow → CpuLocal → About → Left P → P × CpuLocal

@@ -16,7 +16,8 @@ use Rattle.call_steps.specs.Local.{idle_local}
 use Rattle.cpu_rows.specs.PerCpu.{CpuLocal}
 use Rattle.cpu_rows.specs.CpuRows.{cpu_place}
 use Rattle.cpu_rows.specs.CpuActs.{Left, cpu_acts, domain_acts, yields_row}
-use Rattle.cpu_rows.specs.CpuCalls.{cpu_calls, cpu_refuses}
+use Rattle.cpu_rows.specs.CpuCalls.{cpu_calls}
+use Rattle.cpu_rows.specs.CpuRows.{cpu_refuses}
 use Rattle.call_steps.specs.Fronts.{FrontRules}
 pub use Rattle.cpu_rows.specs.declared.part.CpuFrontPart.{CpuFrontPart}
 pub use Rattle.cpu_rows.specs.declared.part.CpuFrontPart.TheVariants.{Cpu, Domain}

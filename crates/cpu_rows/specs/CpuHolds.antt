@@ -16,7 +16,8 @@ use Rattle.cpu_rows.specs.declared.seat.CpuSeat.{CpuSeat}
 use Rattle.cpu_rows.specs.declared.row.CpuRow.{CpuRow}
 use Rattle.cpu_rows.specs.declared.row.CpuRow.TheVariants as front
 use Rattle.alloc_rules.specs.Inputs.{Limits, limits_of, IsMove, IsPlanned}
-use Rattle.cpu_rows.specs.Shapes.{IsAtBegin, IsLater, CpuShape, DomainShape, cpu_standing, domain_standing, later_standing}
+use Rattle.cpu_rows.specs.Shapes.{IsAtBegin, IsLater, CpuShape, DomainShape, domain_standing, later_standing}
+use Rattle.cpu_rows.specs.CpuRows.{cpu_standing}
 use Rattle.cpu_rows.specs.CpuFits.{FitsCpu, FitsDomain}
 use Rattle.call_steps.specs.Local.{thread_no}
 use Rattle.cpu_rows.specs.Slabs.{IsSlabOf}

@@ -1,9 +1,13 @@
--- The rows of the calls at the per-CPU caches: which call each is of, and where it is.
-use Rattle.std.specs.Prelude.{ℕ, ◌+◌, ◌*◌, ◌%◌, ◌==◌, if◌then◌else◌, Some, None}
+-- The rows of the calls at the per-CPU caches: what each is about, where it is, and what its call has done there.
+use Rattle.std.specs.Prelude.{ℕ, ◌+◌, ◌*◌, ◌%◌, ◌==◌, if◌then◌else◌, nat_lt, Bool, true, false, List, length, Option, Some, None}
 use Rattle.tc_units.specs.declared.units.CpuNo.{CpuNo}
+use Rattle.tc_units.specs.declared.spans.ClassRow.{ClassRow}
+use Rattle.tc_model.specs.declared.answers.Answer.{Answer}
+use Rattle.tc_model.specs.declared.answers.Answer.TheVariants.{Busy, OverLimit, OverStatic}
 use Rattle.tc_model.specs.declared.calls.Call.{Call}
 use Rattle.tc_model.specs.declared.calls.Call.TheVariants.{Drain, Resize}
 use Rattle.rseq_core.specs.declared.regs.Regs.{Regs}
+use Rattle.cpu_drain.specs.Seats.{Standing}
 use Rattle.cpu_rows.specs.declared.seat.CpuSeat.{CpuSeat}
 use Rattle.cpu_rows.specs.declared.row.Stopping.{Stopping}
 use Rattle.cpu_rows.specs.declared.row.Stopping.TheVariants as stopping
@@ -26,18 +30,90 @@ abbrev pub about_start : Stopping → About
 about_start (stopping.Drain d) = Other (Some (Drain d.cpu))
 about_start (stopping.Resize r) = Other None
 
+-- the CPU that a call stops
+abbrev pub cpu_of : Stopping → CpuNo
+cpu_of (stopping.Drain d) = d.cpu
+cpu_of (stopping.Resize r) = r.cpu
+
+-- What a call has done to the CPU that it stopped: whether it is fenced, and which classes the call has emptied.
+abbrev pub stands : CpuNo → Bool → (ℕ → Bool) → Option Standing
+stands c fenced empty = Some (record { cpu = c.0; fenced = fenced; empty = empty })
+
+-- no class, the classes below a number, and one class
+abbrev pub no_class_empty : ℕ → Bool
+no_class_empty j = false
+
+abbrev pub below : ℕ → ℕ → Bool
+below n j = nat_lt j n
+
+abbrev pub alone : ℕ → ℕ → Bool
+alone k j = j == k
+
+-- A drain empties one class after another: those below class k, before it takes class k; and all, before it starts the CPU
+-- again. A resize empties its own class.
+abbrev pub empty_to_take : ℕ → Stopping → ℕ → Bool
+empty_to_take k (stopping.Drain d) = below k
+empty_to_take k (stopping.Resize r) = no_class_empty
+
+abbrev pub empty_to_start : List ClassRow → Stopping → ℕ → Bool
+empty_to_start rows (stopping.Drain d) = below (length rows)
+empty_to_start rows (stopping.Resize r) = alone r.class.0
+
+-- the answers by which a stop and a capacity are refused
+abbrev pub no_answer : Answer → Bool
+no_answer answer = false
+
+abbrev pub is_busy : Answer → Bool
+is_busy (Busy owner) = true
+is_busy answer = false
+
+abbrev pub is_over : Answer → Bool
+is_over (OverLimit sum) = true
+is_over (OverStatic most) = true
+is_over answer = false
+
+-- The rows at a CPU, in one table: what each is about, at which CPU it is, by the thread's own, what its call has done to the
+-- CPU that it stopped, by the class table and the thread's class, and by which answers it may refuse.
+pub record CpuRule : Type 0 where
+  pub about : About
+  pub cpu : CpuNo → CpuNo
+  pub stands : List ClassRow → ℕ → Option Standing
+  pub refuses : Answer → Bool
+
+abbrev pub own : About → CpuRule
+own about = record { about = about; cpu = λ own. own; stands = λ rows k. None; refuses = no_answer }
+
+abbrev pub stopped : CpuNo → About → Bool → (List ClassRow → ℕ → ℕ → Bool) → CpuRule
+stopped c about fenced empty = record { about = about; cpu = λ own. c; stands = λ rows k. stands c fenced (empty rows k); refuses = no_answer }
+
+abbrev pub cpu_rule : CpuStep → CpuRule
+cpu_rule (Pop a) = own (Asks a)
+cpu_rule (Grow a) = own (Asks a)
+cpu_rule (Stock s) = own (Publishes s)
+cpu_rule (Push f) = own (Frees f)
+cpu_rule (PopBatch f) = own (Frees f)
+cpu_rule (Stop s) = record { about = Other (Some (call_of s)); cpu = λ own. cpu_of s; stands = λ rows k. None; refuses = is_busy }
+cpu_rule (Fence s) = stopped (cpu_of s) (Other (Some (call_of s))) false (λ rows k. no_class_empty)
+cpu_rule (Take s) = stopped (cpu_of s) (Other (Some (call_of s))) true (λ rows k. empty_to_take k s)
+cpu_rule (SetCap r) = record (stopped r.cpu (Other (Some (Resize r.cpu r.class r.cap))) true (λ rows k. alone r.class.0)) { refuses = is_over }
+cpu_rule (Start s) = stopped (cpu_of s) (about_start s) true (λ rows k. empty_to_start rows s)
+cpu_rule Leave = own (Other None)
+
 abbrev pub about_cpu : CpuStep → About
-about_cpu (Pop a) = Asks a
-about_cpu (Grow a) = Asks a
-about_cpu (Stock s) = Publishes s
-about_cpu (Push f) = Frees f
-about_cpu (PopBatch f) = Frees f
-about_cpu (Stop s) = Other (Some (call_of s))
-about_cpu (Fence s) = Other (Some (call_of s))
-about_cpu (Take s) = Other (Some (call_of s))
-about_cpu (SetCap r) = Other (Some (Resize r.cpu r.class r.cap))
-about_cpu (Start s) = about_start s
-about_cpu Leave = Other None
+about_cpu row = (cpu_rule row).about
+
+-- the CPU that an act is at: the thread's own, or the one that its call stops
+abbrev pub at_cpu : CpuNo → CpuStep → CpuNo
+at_cpu own row = (cpu_rule row).cpu own
+
+-- what the call of a thread whose class is k has done to the CPU that it stopped
+abbrev pub cpu_standing : List ClassRow → ℕ → CpuStep → Option Standing
+cpu_standing rows k row = (cpu_rule row).stands rows k
+
+-- which of their rows may refuse a call, and how
+abbrev pub cpu_refuses : CpuRow → Answer → Bool
+cpu_refuses (front.Cpu row) answer = (cpu_rule row).refuses answer
+cpu_refuses (front.Domain row) answer = false
 
 abbrev pub about_domain : DomainStep → About
 about_domain (domain.Take a) = Asks a
@@ -53,25 +129,6 @@ as_row (giving.Rest s) = giving.Rest s
 as_row (giving.Freed f) = giving.Freed f
 as_row (giving.Row k row) = giving.Row k (front.Cpu row)
 as_row giving.End = giving.End
-
--- the CPU that a call stops
-abbrev pub cpu_of : Stopping → CpuNo
-cpu_of (stopping.Drain d) = d.cpu
-cpu_of (stopping.Resize r) = r.cpu
-
--- the CPU that an act is at: the thread's own, or the one that its call stops
-abbrev pub at_cpu : CpuNo → CpuStep → CpuNo
-at_cpu own (Pop a) = own
-at_cpu own (Grow a) = own
-at_cpu own (Stock s) = own
-at_cpu own (Push f) = own
-at_cpu own (PopBatch f) = own
-at_cpu own (Stop s) = cpu_of s
-at_cpu own (Fence s) = cpu_of s
-at_cpu own (Take s) = cpu_of s
-at_cpu own (SetCap r) = r.cpu
-at_cpu own (Start s) = cpu_of s
-at_cpu own Leave = own
 
 -- CPU c is in domain c mod domains
 abbrev pub domain_of : CpuSeat → ℕ

@@ -28,41 +28,9 @@ use Rattle.cpu_rows.specs.declared.row.DomainStep.{DomainStep}
 use Rattle.cpu_rows.specs.declared.row.DomainStep.TheVariants as domain
 use Rattle.call_steps.specs.Local.{class_row}
 use Rattle.call_steps.specs.Calls.{HasNoLabel}
-use Rattle.cpu_rows.specs.CpuRows.{about_cpu, as_row, cpu_of}
+use Rattle.cpu_rows.specs.CpuRows.{about_cpu, as_row, cpu_of, cpu_standing}
 use Rattle.call_steps.specs.Shapes.{BeginsWith, most_slots}
 use Rattle.alloc_rules.specs.Inputs.{Limits}
-
--- What a call has done to the CPU that it stopped: whether it is fenced, and which classes the call has emptied.
-abbrev pub stands : CpuNo → Bool → (ℕ → Bool) → Option Standing
-stands c fenced empty = Some (record { cpu = c.0; fenced = fenced; empty = empty })
-
--- no class, the classes below a number, and one class
-abbrev pub no_class_empty : ℕ → Bool
-no_class_empty j = false
-
-abbrev pub below : ℕ → ℕ → Bool
-below n j = nat_lt j n
-
-abbrev pub alone : ℕ → ℕ → Bool
-alone k j = j == k
-
--- A drain empties one class after another: those below class k, before it takes class k; and all, before it starts the CPU
--- again. A resize empties its own class.
-abbrev pub empty_to_take : ℕ → Stopping → ℕ → Bool
-empty_to_take k (stopping.Drain d) = below k
-empty_to_take k (stopping.Resize r) = no_class_empty
-
-abbrev pub empty_to_start : List ClassRow → Stopping → ℕ → Bool
-empty_to_start rows (stopping.Drain d) = below (length rows)
-empty_to_start rows (stopping.Resize r) = alone r.class.0
-
--- by the step of a local whose class is k
-abbrev pub cpu_standing : List ClassRow → ℕ → CpuStep → Option Standing
-cpu_standing rows k (cpu.Fence s) = stands (cpu_of s) false no_class_empty
-cpu_standing rows k (cpu.Take s) = stands (cpu_of s) true (empty_to_take k s)
-cpu_standing rows k (cpu.SetCap r) = stands r.cpu true (alone r.class.0)
-cpu_standing rows k (cpu.Start s) = stands (cpu_of s) true (empty_to_start rows s)
-cpu_standing rows k other = None
 
 -- while its hand is given away a call stands as at the row that comes behind that, which is at a CPU
 abbrev pub later_standing : List ClassRow → ℕ → CpuRow → Option Standing

@@ -9,7 +9,7 @@ use Rattle.std.proofs.lemmas.Option.{slice_get-map, slice_get_within}
 use Rattle.tc_units.specs.declared.spans.ClassRow.{ClassRow}
 use Rattle.tc_model.specs.Input.{Input, Asked, script_of}
 use Rattle.tc_model.specs.Run.{start}
-use Rattle.call_steps.specs.Calls.{under}
+use Rattle.call_steps.specs.Rows.{under}
 use Rattle.alloc_rules.specs.Machine.{first_parts, first_shards, first_of}
 use Rattle.alloc_rules.specs.declared.part.Part.TheVariants.{Shard as OfClass, Heap, Map, Names}
 use Rattle.alloc_rules.proofs.First.{number_at}

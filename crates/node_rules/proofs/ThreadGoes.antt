@@ -13,7 +13,7 @@ use Rattle.tc_model.specs.Input.{Input, script_of}
 use Rattle.tc_model.proofs.CallSteps.{picks-push_same}
 use Rattle.tc_model.proofs.Lists.{set_here, set_elsewhere}
 use Rattle.call_steps.specs.Local.{Decided}
-use Rattle.call_steps.specs.Calls.{under}
+use Rattle.call_steps.specs.Rows.{under}
 use Rattle.call_steps.specs.Kept.{call_at}
 use Rattle.alloc_rules.specs.Law.{IsAmong, IsPick}
 use Rattle.alloc_rules.specs.Told.{calls_in}

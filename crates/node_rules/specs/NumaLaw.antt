@@ -11,7 +11,7 @@ use Rattle.tc_model.specs.Run.{World, run}
 use Rattle.tc_model.specs.Replays.{HaveEnded}
 use Rattle.tc_model.specs.Serial.{AreThreads, NeverWaits, Rises, Ends}
 use Rattle.tc_model.specs.Sound.{IsOrder, IsSound}
-use Rattle.call_steps.specs.Calls.{under}
+use Rattle.call_steps.specs.Rows.{under}
 use Rattle.call_steps.specs.Local.{Decided}
 use Rattle.alloc_rules.specs.Fits.{Fits}
 use Rattle.alloc_rules.specs.Inputs.{IsValidInput, not_taken}

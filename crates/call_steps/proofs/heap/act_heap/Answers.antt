@@ -8,7 +8,7 @@ use Rattle.heap_rules.specs.Free.{freed}
 use Rattle.holdings.specs.Runs.{address_of}
 use Rattle.call_steps.specs.Acts.{heap_after, frees_span}
 use Rattle.call_steps.specs.Local.{Local, decided, ends}
-use Rattle.call_steps.specs.Calls.{undecided}
+use Rattle.call_steps.specs.Rows.{undecided}
 use Rattle.call_steps.specs.declared.step.Step.TheVariants as does
 use Rattle.call_steps.specs.declared.step.HeapStep.TheVariants.{GiveBack, FreeSpan}
 use Rattle.call_steps.proofs.heap.act_heap.Goals as goal

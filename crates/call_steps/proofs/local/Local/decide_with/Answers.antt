@@ -1,5 +1,5 @@
 use Rattle.std.proofs.Common.{ap, sym, ◌∙◌}
-use Rattle.call_steps.specs.Calls.{undecided}
+use Rattle.call_steps.specs.Rows.{undecided}
 use Rattle.call_steps.specs.Follows.{says, goes_or_ends}
 use Rattle.call_steps.proofs.HandFacts.{ends_by}
 use Rattle.call_steps.proofs.local.Local.decide_with.Goals as goal

@@ -1,6 +1,7 @@
 use Rattle.std.proofs.Common.{ap, ◌∙◌}
 use Rattle.call_steps.specs.Local.{Local}
-use Rattle.call_steps.specs.Calls.{undecided, asks}
+use Rattle.call_steps.specs.Calls.{asks}
+use Rattle.call_steps.specs.Rows.{undecided}
 use Rattle.call_steps.specs.Hands.{serves}
 use Rattle.call_steps.specs.Kept.{local_of}
 use Rattle.call_steps.proofs.HandFacts.{served}

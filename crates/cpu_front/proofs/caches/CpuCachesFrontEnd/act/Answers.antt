@@ -7,7 +7,7 @@ use Rattle.cpu_rows.specs.declared.row.CpuRow.{CpuRow}
 use Rattle.cpu_rows.specs.declared.row.CpuRow.TheVariants as front
 use Rattle.cpu_rows.specs.PerCpu.{Next}
 use Rattle.cpu_rows.specs.CpuActs.{cpu_acts}
-use Rattle.cpu_rows.specs.CpuCalls.{cpu_refuses}
+use Rattle.cpu_rows.specs.CpuRows.{cpu_refuses}
 use Rattle.cpu_rows.specs.CpuHolds.{cpu_fits}
 use Rattle.cpu_rows.specs.CpuRows.{about_row}
 use Rattle.cpu_rows.proofs.Nexts.{cpu_may}
