@@ -2,7 +2,7 @@
 //! counts were worked out by hand from that.
 use crate::Counters;
 use std::test::Fail;
-use tc_model::{Replay, StepFault, Stepped, chain_law, places_law};
+use tc_model::{Replay, StepFault, Stepped, chain_law};
 
 #[test]
 fn picks_that_move_are_entered(rt: HostRuntime) -> Result<(), Fail> {
@@ -60,7 +60,6 @@ fn the_pick_at_the_limit_is_refused(rt: HostRuntime) -> Result<(), Fail> {
 fn a_run_is_taken_apart_at_its_start(rt: HostRuntime) -> Result<(), Fail> {
     let run = Counters::open(rt.alloc(), 1, 4)?;
     chain_law(&run.machine);
-    places_law(&run.machine);
     let (machine, parts, locals) = run.split();
     let mut again = Replay::gather(rt.alloc(), machine, parts, locals, Vec::new(rt.alloc()), 4);
     assert_eq!(rt; again.run_serial(), Ok(()));
