@@ -1,5 +1,5 @@
 -- Parts on their way into the table and out of it.
-use Rattle.std.proofs.Common.{◌≡◌, ℕ, zero, suc, arith, length, List, map, reverse, take, [], ◌∷◌, ◌++◌, All, refl, sym, ap, ◌∙◌, subst}
+use Rattle.std.proofs.Common.{◌≡◌, ℕ, zero, suc, ◌+◌, add-one, arith, length, List, map, reverse, take, [], ◌∷◌, ◌++◌, All, refl, sym, ap, ◌∙◌, subst}
 use Rattle.std.specs.Prelude.{Vec}
 use Rattle.std.specs.declared.alloc.Global.{Global}
 use Rattle.std.proofs.lemmas.List.{map-append, reverse-append}
@@ -15,8 +15,10 @@ take_one [] i a e = absurd (some-ne-none a (sym e))
 take_one (x ∷ xs) zero a e = ap (λ (y : _). y ∷ []) (some-injective x a e)
 take_one (x ∷ xs) (suc i) a e = ap (λ (l : _). x ∷ l) (take_one xs i a e)
 
-pub map_take : {A B : Type 0} (f : A → B) (l : List A) (i : ℕ) (a : A) → get_elem? l i ≡ some a → map f (take i l) ++ f a ∷ [] ≡ map f (take (suc i) l)
-map_take f l i a e = sym (ap (map f) (take_one l i a e) ∙ map-append f (take i l) (a ∷ []))
+-- one item more of a list was carried over
+pub carried : {A B : Type 0} (f : A → B) (out out' : List B) (l l' : List A) (a : A) (i : ℕ)
+    → out' ≡ out ++ f a ∷ [] → out ≡ map f (take i l) → get_elem? l i ≡ some a → l' ≡ l → out' ≡ map f (take (i + 1) l')
+carried f out out' l l' a i longer so_far at same = rw (same, add-one, take_one l i a at, map-append) (longer ∙ ap (λ (z : List _). z ++ f a ∷ []) so_far)
 
 module _ {A : Type 0} where
   pub turned_end : (ps ps' : List A) (x : A) → ps ≡ ps' ++ x ∷ [] → reverse ps ≡ x ∷ reverse ps'
@@ -36,7 +38,8 @@ module _ {A : Type 0} where
 
 module _ {A B : Type 0} where
   -- one item more that was moved over
-  pub move_step : (f : A → B) (xs xs' : List A) (x : A) (y : B) (ps ps' all : List B) → xs' ≡ xs ++ x ∷ [] → f x ≡ y → reverse ps ≡ y ∷ reverse ps' → map f xs ++ reverse ps ≡ all → map f xs' ++ reverse ps' ≡ all
+  pub move_step : (f : A → B) (xs xs' : List A) (x : A) (y : B) (ps ps' all : List B) → xs' ≡ xs ++ x ∷ []
+      → f x ≡ y → reverse ps ≡ y ∷ reverse ps' → map f xs ++ reverse ps ≡ all → map f xs' ++ reverse ps' ≡ all
   move_step f xs xs' x y ps ps' all longer same turned is =
       ap (λ (l : List A). map f l ++ reverse ps') longer
       ∙ (ap (λ (l : List B). l ++ reverse ps') (map-append f xs (x ∷ []))
@@ -44,7 +47,8 @@ module _ {A B : Type 0} where
       ∙ (ap (λ (z : B). map f xs ++ z ∷ reverse ps') same ∙ (ap (λ (l : List B). map f xs ++ l) (sym turned) ∙ is))))
 
 module _ {P : Type 0} where
-  pub fill_step : (xs xs' : List (Stall P)) (x : Stall P) (ps ps' all : List P) → xs' ≡ xs ++ x ∷ [] → ps ≡ ps' ++ x.part ∷ [] → map (λ (y : Stall P). y.part) xs ++ reverse ps ≡ all → map (λ (y : Stall P). y.part) xs' ++ reverse ps' ≡ all
+  pub fill_step : (xs xs' : List (Stall P)) (x : Stall P) (ps ps' all : List P) → xs' ≡ xs ++ x ∷ [] → ps ≡ ps' ++ x.part ∷ []
+      → map (λ (y : Stall P). y.part) xs ++ reverse ps ≡ all → map (λ (y : Stall P). y.part) xs' ++ reverse ps' ≡ all
   fill_step xs xs' x ps ps' all longer shorter is = move_step (λ (y : Stall P). y.part) xs xs' x x.part ps ps' all longer refl (turned_end ps ps' x.part shorter) is
 
   -- the lists of entries of parts in their slots
@@ -54,7 +58,8 @@ module _ {P : Type 0} where
 
 module _ {A B : Type 0} where
   -- one item more of a list that is taken from its end
-  pub next_is : (f : A → B) (out out' : List B) (x : A) (y : B) (ps ps' : List A) (all : List B) → out' ≡ out ++ y ∷ [] → y ≡ f x → reverse ps ≡ x ∷ reverse ps' → out ++ map f (reverse ps) ≡ all → out' ++ map f (reverse ps') ≡ all
+  pub next_is : (f : A → B) (out out' : List B) (x : A) (y : B) (ps ps' : List A) (all : List B) → out' ≡ out ++ y ∷ []
+      → y ≡ f x → reverse ps ≡ x ∷ reverse ps' → out ++ map f (reverse ps) ≡ all → out' ++ map f (reverse ps') ≡ all
   next_is f out out' x y ps ps' all longer same turned is =
       ap (λ (l : List B). l ++ map f (reverse ps')) longer
       ∙ (append_snoc out y (map f (reverse ps'))

@@ -4,7 +4,7 @@ use Rattle.std.specs.List.{slice_get}
 use Rattle.std.specs.Option.{option_map}
 use Rattle.std.proofs.lemmas.List.{length-map}
 use Rattle.std.proofs.lemmas.Option.{slice_get-map, slice_get_within, slice_get_past}
-use mathlib.Core.Option.{some, some-ne-none, some-injective}
+use mathlib.Core.Option.{Option, some, some-ne-none, some-injective}
 use mathlib.Core.Logic.{dite}
 use native.Mathlib.Decide.{ℕ_discrete, dec_lt}
 use lib.ListN.{get_elem?}
@@ -12,10 +12,10 @@ use Rattle.atomic_table.specs.Table.{Final, Seen}
 use Rattle.tc_model.specs.declared.board.Act.{Act}
 use Rattle.tc_model.specs.declared.board.Entry.{Entry}
 use Rattle.tc_model.specs.Run.{Rules, start, run}
-use Rattle.tc_model.specs.Chains.{at, by, IsChain, part_after, local_after, AreChainedFrom, threads_of}
+use Rattle.tc_model.specs.Chains.{at, by, AreChainedFrom, threads_of}
 use Rattle.tc_model.specs.Rises.{Has, Rising, ticket_of, Stands}
 use Rattle.tc_model.proofs.Members.{same_some, has_none, filter_rises, map_from, map_to}
-use Rattle.tc_model.proofs.Merges.{one_list, sort, sort_from, sort_to, sort_rises, sort_length, apart_by}
+use Rattle.tc_model.proofs.Merges.{one_list, sort, sort_from, sort_to, sort_rises, sort_length}
 use Rattle.tc_model.proofs.Merged.{merge_one}
 use Rattle.tc_model.proofs.Longer.{all_go_by, polite_moves}
 use Rattle.tc_model.proofs.Chained.{chained_from}
@@ -28,10 +28,11 @@ use Rattle.part_lock.specs.declared.view.Work.{Work}
 use Rattle.part_lock.specs.declared.view.View.{View}
 use Rattle.part_lock.specs.declared.view.View.TheVariants.{Leads, Works, Spent}
 use Rattle.part_lock.specs.Closes.{IsClosed}
-use Rattle.part_lock.specs.Lock.{Once, rank, Account, part_left, local_left, at_part, of_thread, entry_of, entries_at, thread_of, Fits, HasOut, Names, Out, one, starved, lost, sum_of, drawn_in, weigh, total, Kept}
+use Rattle.part_lock.specs.Lock.{Once, rank, Account, part_left, local_left, at_part, of_thread, entry_of, entries_at, thread_of}
+use Rattle.part_lock.specs.Lock.{HasOut, Names, Out, one, starved, lost, sum_of, drawn_in, weigh, total, Ties, Kept}
 use Rattle.part_lock.proofs.Later.{word}
-use Rattle.part_lock.proofs.Halting.{few_deeds}
-use Rattle.part_lock.proofs.Facts.{lies_same, part_from, part_to, thread_from, thread_to, total_two, sum_one, rising_one}
+use Rattle.part_lock.proofs.Halting.{few_deeds, tickets_differ}
+use Rattle.part_lock.proofs.Facts.{part_from, part_to, thread_from, thread_to, total_two, sum_one, rising_one}
 
 module _ {P L : Type 0} where
   entries_rise : (ds : List (Act P L)) → Rising rank ds → Rising ticket_of (map entry_of ds)
@@ -39,13 +40,14 @@ module _ {P L : Type 0} where
   entries_rise (d ∷ ds) r = (entries_rise ds r.0, λ e h. let o = map_from entry_of ds e h in let less = r.1 o.0 o.1 in let same : o.0.ticket ≡ e.ticket = ap ticket_of o.2 in omega arith)
 
   -- a list with the members of another, by ticket, has its filters where those rise
-  part_sorted : (ds es : List (Act P L)) (i : ℕ) → Rising rank es → Rising rank (at_part i ds) → ((d : Act P L) → Has es d → Has ds d) → ((d : Act P L) → Has ds d → Has es d) → at_part i ds ≡ at_part i es
-  part_sorted ds es i rise r from to = one_list rank (at_part i ds) (at_part i es) r (filter_rises (at i) rank es rise)
-      (λ d h. let o = part_from ds i d h in part_to es i d (to d o.0) o.1) (λ d h. let o = part_from es i d h in part_to ds i d (from d o.0) o.1)
+  module _ (ds es : List (Act P L)) (i : ℕ) (rise : Rising rank es) (from : (d : Act P L) → Has es d → Has ds d) (to : (d : Act P L) → Has ds d → Has es d) where
+    part_sorted : Rising rank (at_part i ds) → at_part i ds ≡ at_part i es
+    part_sorted r = one_list rank (at_part i ds) (at_part i es) r (filter_rises (at i) rank es rise)
+        (λ d h. let o = part_from ds i d h in part_to es i d (to d o.0) o.1) (λ d h. let o = part_from es i d h in part_to ds i d (from d o.0) o.1)
 
-  thread_sorted : (ds es : List (Act P L)) (i : ℕ) → Rising rank es → Rising rank (of_thread i ds) → ((d : Act P L) → Has es d → Has ds d) → ((d : Act P L) → Has ds d → Has es d) → of_thread i ds ≡ of_thread i es
-  thread_sorted ds es i rise r from to = one_list rank (of_thread i ds) (of_thread i es) r (filter_rises (by i) rank es rise)
-      (λ d h. let o = thread_from ds i d h in thread_to es i d (to d o.0) o.1) (λ d h. let o = thread_from es i d h in thread_to ds i d (from d o.0) o.1)
+    thread_sorted : Rising rank (of_thread i ds) → of_thread i ds ≡ of_thread i es
+    thread_sorted r = one_list rank (of_thread i ds) (of_thread i es) r (filter_rises (by i) rank es rise)
+        (λ d h. let o = thread_from ds i d h in thread_to es i d (to d o.0) o.1) (λ d h. let o = thread_from es i d h in thread_to ds i d (from d o.0) o.1)
 
 -- lists that are alike at each place are one
 pub same_lists : {A : Type 0} (xs ys : List A) → ((i : ℕ) → slice_get xs i ≡ slice_get ys i) → xs ≡ ys
@@ -66,42 +68,22 @@ there_is [] i h = absurd (omega arith)
 there_is (x ∷ xs) zero h = (x, refl)
 there_is (x ∷ xs) (suc i) h = there_is xs i (omega arith)
 
+map_some : {A B : Type 0} (f : A → B) (xs : List A) (i : ℕ) (x : A) → slice_get xs i ≡ Some x → slice_get (map f xs) i ≡ Some (f x)
+map_some f xs i x e = slice_get-map f xs i ∙ ap (option_map f) e
+
 map_at : {A B : Type 0} (f : A → B) (xs : List A) (i : ℕ) (b : B) → slice_get (map f xs) i ≡ Some b → (a : A) × (slice_get xs i ≡ Some a) × (f a ≡ b)
 map_at f [] i b e = absurd (has_none b (i, e))
 map_at f (x ∷ xs) zero b e = (x, refl, same_some (f x) b e)
 map_at f (x ∷ xs) (suc i) b e = map_at f xs i b e
 
+-- the main view's sum is the whole
 module _ {X P L : Type 0} where
-  -- where as many were joined as have a seat, no worker's view is left
-  none_works : (views : List (View X P L)) (threads : List ℕ) (m : Lead X P L) (j : ℕ) (w : Work X P L) → get_elem? views 0 ≡ some (Leads m) → total one views ≡ length threads → length m.kept ≡ length threads → get_elem? views j ≡ some (Works w) → ⊥
-  none_works views threads m j w at sum all e = dite (ℕ_discrete j 0)
-      (λ z. cc (some-injective (Leads m) (Works w) (sym at ∙ subst (λ (k : ℕ). get_elem? views k ≡ some (Works w)) z e)))
-      (λ ne. absurd (let t = total_two one views 0 j (Leads m) (Works w) at e ne in let s = sum_one m.kept in omega arith))
-
-  no_out : (views : List (View X P L)) (i j : ℕ) → ((j : ℕ) (w : Work X P L) → get_elem? views j ≡ some (Works w) → ⊥) → Out views j i → ⊥
-  no_out views i j no_one o = go o.0 o.1 o.2
-    where
-      go : (v : View X P L) → get_elem? views j ≡ some v → HasOut i v → ⊥
-      go (Leads q) e h = h
-      go (Works w) e h = no_one j w e
-      go Spent e h = h
-
-  keeps_all : (mach : X → Rules P L) (x : X) (events : ℕ) (words : List ℕ) (slots : ℕ) (a : Account P L) (threads : List ℕ) (views : List (View X P L)) (m : Lead X P L) (t j : ℕ) (v : View X P L)
-      → ((id : ℕ) (v : View X P L) → get_elem? views id ≡ some v → Fits mach x events words slots a threads id v) → get_elem? views 0 ≡ some (Leads m) → ((j : ℕ) (w : Work X P L) → get_elem? views j ≡ some (Works w) → ⊥)
-      → get_elem? views j ≡ some v → Names t v → (w : Work X P L) × Has m.kept w × (w.thread ≡ t)
-  keeps_all mach x events words slots a threads views m t j (Leads q) each at no_one e n =
-      let zero_is : j ≡ 0 = (each j (Leads q) e).0 in
-      let same : q ≡ m = cc (some-injective (Leads q) (Leads m) (sym (subst (λ (k : ℕ). get_elem? views k ≡ some (Leads q)) zero_is e) ∙ at)) in
-      subst (λ (z : Lead X P L). (w : Work X P L) × Has z.kept w × (w.thread ≡ t)) same n
-  keeps_all mach x events words slots a threads views m t j (Works w) each at no_one e n = absurd (no_one j w e)
-  keeps_all mach x events words slots a threads views m t j Spent each at no_one e n = absurd n
-
-  -- the main view's sum is the whole
   total_none : (f : Work X P L → ℕ) (views : List (View X P L)) → ((j : ℕ) (v : View X P L) → get_elem? views j ≡ some v → weigh f v ≡ 0) → total f views ≡ 0
   total_none f [] none_is = refl
   total_none f (v ∷ vs) none_is = let here = none_is 0 v refl in let more = total_none f vs (λ j u e. none_is (suc j) u e) in omega arith
 
-  total_main : (f : Work X P L → ℕ) (views : List (View X P L)) (m : Lead X P L) → get_elem? views 0 ≡ some (Leads m) → ((j : ℕ) (v : View X P L) → get_elem? views j ≡ some v → j ≢ 0 → weigh f v ≡ 0) → total f views ≡ sum_of f m.kept
+  total_main : (f : Work X P L → ℕ) (views : List (View X P L)) (m : Lead X P L) → get_elem? views 0 ≡ some (Leads m)
+      → ((j : ℕ) (v : View X P L) → get_elem? views j ≡ some v → j ≢ 0 → weigh f v ≡ 0) → total f views ≡ sum_of f m.kept
   total_main f [] m at none_is = absurd (some-ne-none (Leads m) (sym at))
   total_main f (v ∷ vs) m at none_is =
       let here : weigh f v ≡ sum_of f m.kept = ap (weigh f) (some-injective v (Leads m) at) in
@@ -111,105 +93,122 @@ module _ {X P L : Type 0} where
   lost_idle [] idle = refl
   lost_idle (w ∷ ws) idle = let here : drawn_in w.stage ≡ 0 = ap drawn_in (idle w (0, refl)) in let more = lost_idle ws (λ u h. idle u (suc h.0, h.1)) in omega arith
 
-  no_weight : (mach : X → Rules P L) (x : X) (events : ℕ) (words : List ℕ) (slots : ℕ) (a : Account P L) (threads : List ℕ) (views : List (View X P L)) (f : Work X P L → ℕ)
-      → ((id : ℕ) (v : View X P L) → get_elem? views id ≡ some v → Fits mach x events words slots a threads id v) → ((j : ℕ) (w : Work X P L) → get_elem? views j ≡ some (Works w) → ⊥)
-      → (j : ℕ) (v : View X P L) → get_elem? views j ≡ some v → j ≢ 0 → weigh f v ≡ 0
-  no_weight mach x events words slots a threads views f each no_one j (Leads q) e ne = absurd (ne (each j (Leads q) e).0)
-  no_weight mach x events words slots a threads views f each no_one j (Works w) e ne = absurd (no_one j w e)
-  no_weight mach x events words slots a threads views f each no_one j Spent e ne = refl
+-- where as many were joined as have a seat
+module _ {X P L : Type 0} {mach : X → Rules P L} {key : Key X} {words : List ℕ} {homes : List (Option (Stall P))} {views : List (View X P L)} {a : Account P L} {threads : List ℕ}
+    (r : Ties mach key words homes views a threads) (m : Lead X P L) (at : get_elem? views 0 ≡ some (Leads m)) (all : length m.kept ≡ length threads) where
+  -- no worker's view is left
+  no_one : (j : ℕ) (w : Work X P L) → get_elem? views j ≡ some (Works w) → ⊥
+  no_one j w e = dite (ℕ_discrete j 0)
+      (λ z. cc (some-injective (Leads m) (Works w) (sym at ∙ rw z at e)))
+      (λ ne. absurd (let t = total_two one views 0 j (Leads m) (Works w) at e ne in let s = sum_one m.kept in omega (arith, r.leader.2)))
 
-  -- what the rule says of the table where every seat was joined
-  record Rested (mach : X → Rules P L) (key : Key X) (m : Lead X P L) (xs : List (Stall P)) (acts : List (Act P L)) : Type 0 where
-    by_tickets : Rising rank acts
-    near : (d : Act P L) → Has acts d → (d.ticket < key.events) × (d.place.0 < length xs) × Has m.threads d.thread
-    few : length acts ≤ key.events
-    chained : AreChainedFrom (mach key.machine) (start (mach key.machine)) acts
-    counted : length xs ≡ length (mach key.machine).parts
-    stalls : (i : ℕ) (x : Stall P) → slice_get xs i ≡ Some x → (part_left (mach key.machine) i (at_part i acts) ≡ Some x.part) × (x.entries.items ≡ entries_at i acts)
-    seats : (w : Work X P L) → Has m.kept w → (w.made ≡ of_thread w.thread acts) × (local_left (mach key.machine) w.thread (of_thread w.thread acts) ≡ Some w.local)
-    all : (t : ℕ) → Has m.threads t → (w : Work X P L) × Has m.kept w × (w.thread ≡ t)
-    once : Once m.threads × Once (map thread_of m.kept)
-    filled : (w : Work X P L) → Has m.kept w → w.cause ≡ 1 → key.events ≤ length acts + sum_of starved m.kept
+  no_out : (i j : ℕ) → Out views j i → ⊥
+  no_out i j o = go o.0 o.1 o.2
+    where
+      go : (v : View X P L) → get_elem? views j ≡ some v → HasOut i v → ⊥
+      go (Leads q) e h = h
+      go (Works w) e h = no_one j w e
+      go Spent e h = h
 
+  -- so each part is at home
+  home : (i : ℕ) → i < length homes → word words (i + 2) ≡ 0
+  home i less = dite (ℕ_discrete (word words (i + 2)) 0) (λ z. z) (λ full. absurd (no_out i (a.holder i) (r.away i less full)))
+
+  keeps_all : (t j : ℕ) (v : View X P L) → get_elem? views j ≡ some v → Names t v → (w : Work X P L) × Has m.kept w × (w.thread ≡ t)
+  keeps_all t j (Leads q) e n = let same : q ≡ m = cc (some-injective (Leads q) (Leads m) (sym (rw (r.each j (Leads q) e).0 at e) ∙ at)) in rw (← same) n
+  keeps_all t j (Works w) e n = absurd (no_one j w e)
+  keeps_all t j Spent e n = absurd n
+
+  no_weight : (f : Work X P L → ℕ) (j : ℕ) (v : View X P L) → get_elem? views j ≡ some v → j ≢ 0 → weigh f v ≡ 0
+  no_weight f j (Leads q) e ne = absurd (ne (r.each j (Leads q) e).0)
+  no_weight f j (Works w) e ne = absurd (no_one j w e)
+  no_weight f j Spent e ne = refl
+
+-- what the rule says of the table where every seat was joined
+record Rested {X P L : Type 0} (mach : X → Rules P L) (key : Key X) (m : Lead X P L) (xs : List (Stall P)) (acts : List (Act P L)) : Type 0 where
+  by_tickets : Rising rank acts
+  near : (d : Act P L) → Has acts d → (d.ticket < key.events) × (d.place.0 < length xs) × Has m.threads d.thread
+  few : length acts ≤ key.events
+  chained : AreChainedFrom (mach key.machine) (start (mach key.machine)) acts
+  counted : length xs ≡ length (mach key.machine).parts
+  stalls : (i : ℕ) (x : Stall P) → slice_get xs i ≡ Some x → (part_left (mach key.machine) i (at_part i acts) ≡ Some x.part) × (x.entries.items ≡ entries_at i acts)
+  seats : (w : Work X P L) → Has m.kept w → (w.made ≡ of_thread w.thread acts) × (local_left (mach key.machine) w.thread (of_thread w.thread acts) ≡ Some w.local)
+  all : (t : ℕ) → Has m.threads t → (w : Work X P L) × Has m.kept w × (w.thread ≡ t)
+  once : Once m.threads × Once (map thread_of m.kept)
+  filled : (w : Work X P L) → Has m.kept w → w.cause ≡ 1 → key.events ≤ length acts + sum_of starved m.kept
+
+module _ {X P L : Type 0} (mach : X → Rules P L) (key : Key X) (id : ℕ) where
   -- the acts by ticket
-  rests : (mach : X → Rules P L) (key : Key X) (id : ℕ) (m : Lead X P L) (words : List ℕ) (xs : List (Stall P)) → length m.kept ≡ length m.threads → Final (Seen (Kept {X = X} {P = P} {L = L} mach key) id (Leads m)) words xs → (acts : List (Act P L)) × Rested mach key m xs acts
-  rests mach key id m words xs all fin =
-      let s = fin.0 in let kept = fin.1.0 in let r = kept.3 in let a : Account P L = kept.1 in let threads : List ℕ = kept.2 in
-      let zero_is : id ≡ 0 = (r.each id (Leads m) fin.1.1).0 in
-      let at : get_elem? s.views 0 ≡ some (Leads m) = subst (λ (z : ℕ). get_elem? s.views z ≡ some (Leads m)) zero_is fin.1.1 in
-      let f = r.each 0 (Leads m) at in let l = r.leader in
-      let many : length m.threads ≡ length threads = ap length f.3 in
-      let no_one : (j : ℕ) (w : Work X P L) → get_elem? s.views j ≡ some (Works w) → ⊥ = λ j w e. none_works s.views threads m j w at l.2 (all ∙ many) e in
-      let home : (i : ℕ) → i < length s.homes → word s.words (i + 2) ≡ 0 = λ i less. dite (ℕ_discrete (word s.words (i + 2)) 0) (λ z. z) (λ full. absurd (no_out s.views i (a.holder i) no_one (r.away i less full))) in
-      let long = fin.3 in
-      let sorted : List (Act P L) = sort rank a.deeds in
-      let from : (d : Act P L) → Has sorted d → Has a.deeds d = sort_from rank a.deeds in let to : (d : Act P L) → Has a.deeds d → Has sorted d = sort_to rank a.deeds in
-      let rise : Rising rank sorted = sort_rises rank a.deeds (apart_by rank a.deeds (λ j k d e ed ee same. lies_same j k (sym (r.owned j d ed).0 ∙ (ap a.owner same ∙ (r.owned k e ee).0)))) in
-      let by_part : (i : ℕ) → at_part i a.deeds ≡ at_part i sorted = λ i. part_sorted a.deeds sorted i rise (r.rises i) from to in
-      let by_thread : (t : ℕ) → of_thread t a.deeds ≡ of_thread t sorted = λ t. thread_sorted a.deeds sorted t rise (r.steady t) from to in
-      let n = sort_length rank a.deeds in let most = few_deeds mach key s.words s.homes s.views a threads r in (
-        sorted,
+  rests : (m : Lead X P L) (words : List ℕ) (xs : List (Stall P)) → length m.kept ≡ length m.threads
+      → Final (Seen (Kept {X = X} {P = P} {L = L} mach key) id (Leads m)) words xs → (acts : List (Act P L)) × Rested mach key m xs acts
+  rests m words xs all fin =
+      let (s, seen, _, long, homes) = fin in let kept = seen.0 in let r = kept.3 in let a : Account P L = kept.1 in
+      let at : get_elem? s.views 0 ≡ some (Leads m) = rw (r.each id (Leads m) seen.1).0 at seen.1 in
+      let (_, _, _, listed, knows, once) = r.each 0 (Leads m) at in let everyone = all ∙ ap length listed in
+      let acts : List (Act P L) = sort rank a.deeds in
+      let from : (d : Act P L) → Has acts d → Has a.deeds d = sort_from rank a.deeds in let to : (d : Act P L) → Has a.deeds d → Has acts d = sort_to rank a.deeds in
+      let rise : Rising rank acts = sort_rises rank a.deeds (tickets_differ r) in
+      let by_part : (i : ℕ) → at_part i a.deeds ≡ at_part i acts = λ i. part_sorted a.deeds acts i rise from to (r.rises i) in
+      let by_thread : (t : ℕ) → of_thread t a.deeds ≡ of_thread t acts = λ t. thread_sorted a.deeds acts t rise from to (r.steady t) in
+      let n = sort_length rank a.deeds in let most = few_deeds r in let count = r.counted in (
+        acts,
         record {
           by_tickets = rise;
-          near = λ d h. let o = from d h in let p = r.owned o.0 d o.1 in (p.2, (let q = p.4 in omega arith), subst (λ (z : List ℕ). Has z d.thread) (sym f.3) p.3);
+          near = λ d h. let o = from d h in let (_, _, low, named, place) = r.owned o.0 d o.1 in (low, omega arith, rw listed named);
           few = omega arith;
           chained = record {
-            parts = λ i. subst (IsChain (λ (b : Act P L). b.part) (part_after (mach key.machine)) (slice_get (mach key.machine).parts i)) (by_part i) (r.chained.parts i);
-            locals = λ t. subst (IsChain (λ (b : Act P L). b.local) (local_after (mach key.machine)) (slice_get (mach key.machine).locals t)) (by_thread t) (r.chained.locals t);
-            go = all_go_by (mach key.machine) a.deeds sorted r.chained.go from;
+            parts = λ i. rw (← by_part i) (r.chained.parts i);
+            locals = λ t. rw (← by_thread t) (r.chained.locals t);
+            go = all_go_by (mach key.machine) a.deeds acts r.chained.go from;
           };
-          counted = (let c = r.counted in omega arith);
+          counted = omega arith;
           stalls = λ i x e.
               let inside = slice_get_within xs i x e in let less : i < length s.homes = omega arith in
-              let h = r.at_home i less (home i less) in let is = some-injective x h.0 (sym (at_either xs i x e) ∙ fin.4 i h.0 h.1) in (
-                ap (part_left (mach key.machine) i) (sym (by_part i)) ∙ (h.3 ∙ ap (λ (z : Stall P). Some z.part) (sym is)),
-                ap (λ (z : Stall P). z.entries.items) is ∙ (h.2 ∙ ap (λ q. map entry_of q) (by_part i)),
-              );
-          seats = λ w h. let k = (f.4 w h).0 in (k.4 ∙ by_thread w.thread, ap (local_left (mach key.machine) w.thread) (sym (by_thread w.thread)) ∙ k.3);
-          all = λ t h. let o = r.standing t (subst (λ (z : List ℕ). Has z t) f.3 h) in keeps_all mach key.machine key.events s.words (length s.homes) a threads s.views m t (a.seat t) o.0 r.each at no_one o.1 o.2;
-          once = (subst Once (sym f.3) r.once, f.5);
+              let (y, there, entries, part) = r.at_home i less (home r m at everyone i less) in let is : x ≡ y = some-injective x y (sym (at_either xs i x e) ∙ homes i y there) in
+              rw (is, ← by_part i) (part, entries);
+          seats = λ w h. let (_, _, _, local, made, _, _) = (knows w h).0 in rw (← by_thread w.thread) (made, local);
+          all = λ t h. let o = r.standing t (rw listed at h) in keeps_all r m at everyone t (a.seat t) o.0 o.1 o.2;
+          once = (rw listed r.once, once);
           filled = λ w h cause.
-              let met = (f.4 w h).0.6.2 cause in
-              let sum = total_main lost s.views m at (no_weight mach key.machine key.events s.words (length s.homes) a threads s.views lost r.each no_one) in
-              let idle = lost_idle m.kept (λ u g. (f.4 u g).2) in let c = r.complete key.events (omega arith) (omega arith) in omega arith;
+              let (_, _, _, _, _, _, caused) = (knows w h).0 in let met = caused.2 cause in
+              let sum = total_main lost s.views m at (no_weight r m at everyone lost) in let idle = lost_idle m.kept (λ u g. (knows u g).2) in
+              omega (arith, r.complete key.events (omega arith) (omega arith));
         },
       )
 
   -- where every seat was joined, the parts are those of the run of the merge of all entries
-  pub closes : (mach : X → Rules P L) (key : Key X) (id : ℕ) (m : Lead X P L) (words : List ℕ) (xs : List (Stall P)) → length m.kept ≡ length m.threads → Final (Seen (Kept {X = X} {P = P} {L = L} mach key) id (Leads m)) words xs
+  pub closes : (m : Lead X P L) (words : List ℕ) (xs : List (Stall P)) → length m.kept ≡ length m.threads → Final (Seen (Kept {X = X} {P = P} {L = L} mach key) id (Leads m)) words xs
       → IsClosed mach key m (map (λ (x : Stall P). x.part) xs) (map (λ (x : Stall P). x.entries.items) xs)
-  closes mach key id m words xs all fin =
-      let rested = rests mach key id m words xs all fin in let acts : List (Act P L) = rested.0 in let q = rested.1 in
-      let r : Rules P L = mach key.machine in let order : List ℕ = threads_of acts in
-      let law = chained_from r (start r) acts q.chained in
-      let parts : List P = map (λ (x : Stall P). x.part) xs in let lists : List (List Entry) = map (λ (x : Stall P). x.entries.items) xs in
-      let long : length parts ≡ length xs = length-map xs (λ (x : Stall P). x.part) in
-      let sizes = (fold_sizes r (start r) order).0 in
-      let list_of : (i : ℕ) (es : List Entry) → slice_get lists i ≡ Some es → es ≡ entries_at i acts = λ i es at. let o = map_at (λ (x : Stall P). x.entries.items) xs i es at in sym o.2 ∙ (q.stalls i o.0 o.1).1 in
+  closes m words xs all fin =
+      let rested = rests m words xs all fin in let acts : List (Act P L) = rested.0 in let q = rested.1 in
+      let r : Rules P L = mach key.machine in let order : List ℕ = threads_of acts in let law = chained_from r (start r) acts q.chained in
+      let part : Stall P → P = λ x. x.part in let items : Stall P → List Entry = λ x. x.entries.items in
+      let parts : List P = map part xs in let lists : List (List Entry) = map items xs in
+      let long = length-map xs part in let sizes = (fold_sizes r (start r) order).0 in let count = q.counted in
+      let list_of : (i : ℕ) (es : List Entry) → slice_get lists i ≡ Some es → es ≡ entries_at i acts = λ i es at. let o = map_at items xs i es at in sym o.2 ∙ (q.stalls i o.0 o.1).1 in
       let entry_at : (i : ℕ) (es : List Entry) (e : Entry) → slice_get lists i ≡ Some es → Has es e → (d : Act P L) × Has acts d × (d.place.0 ≡ i) × (entry_of d ≡ e) = λ i es e at h.
-      let o = map_from entry_of (at_part i acts) e (subst (λ (z : List Entry). Has z e) (list_of i es at) h) in let p = part_from acts i o.0 o.1 in (o.0, p.0, p.1, o.2) in
-      let one_act : (c d : Act P L) → Has acts c → Has acts d → c.ticket ≡ d.ticket → c ≡ d = λ c d hc hd same. rising_one rank acts q.by_tickets c d hc hd same in
+      let o = map_from entry_of (at_part i acts) e (rw (list_of i es at) at h) in let p = part_from acts i o.0 o.1 in (o.0, p.0, p.1, o.2) in
       let stands : (d : Act P L) → Has acts d → Stands lists (entry_of d) = λ d h.
       let x = there_is xs d.place.0 (q.near d h).1 in
       record {
         place = d.place.0;
         list = x.0.entries.items;
-        there = slice_get-map (λ (x : Stall P). x.entries.items) xs d.place.0 ∙ ap (option_map (λ (x : Stall P). x.entries.items)) x.1;
-        has = subst (λ (z : List Entry). Has z (entry_of d)) (sym (q.stalls d.place.0 x.0 x.1).1) (map_to entry_of (at_part d.place.0 acts) d (part_to acts d.place.0 d h refl));
+        there = map_some items xs d.place.0 x.0 x.1;
+        has = rw (q.stalls d.place.0 x.0 x.1).1 (map_to entry_of (at_part d.place.0 acts) d (part_to acts d.place.0 d h refl));
       } in
       record {
         acts = acts;
         by_tickets = q.by_tickets;
-        near = λ d h. let p = q.near d h in (p.0, (let g = p.1 in omega arith), p.2);
+        near = λ d h. let p = q.near d h in (p.0, omega (arith, p.1), p.2);
         few = q.few;
         chained = q.chained;
         listed = list_of;
         apart = record {
-          rise = λ i es there. subst (Rising ticket_of) (sym (list_of i es there)) (entries_rise (at_part i acts) (filter_rises (at i) rank acts q.by_tickets));
+          rise = λ i es there. rw (list_of i es there) (entries_rise (at_part i acts) (filter_rises (at i) rank acts q.by_tickets));
           once = λ i j es fs a b at at' ha hb same.
-              let c = entry_at i es a at ha in let d = entry_at j fs b at' hb in
-              let e = one_act c.0 d.0 c.1 d.1 (ap ticket_of c.3 ∙ (same ∙ sym (ap ticket_of d.3))) in
-              sym c.2 ∙ (ap (λ (z : Act P L). z.place.0) e ∙ d.2);
+              let (c, c_in, c_at, c_is) = entry_at i es a at ha in let (d, d_in, d_at, d_is) = entry_at j fs b at' hb in
+              let e : c ≡ d = rising_one rank acts q.by_tickets c d c_in d_in (ap ticket_of c_is ∙ (same ∙ sym (ap ticket_of d_is))) in
+              sym c_at ∙ (ap (λ (z : Act P L). z.place.0) e ∙ d_at);
         };
         merged = λ es is. merge_one lists es (map entry_of acts) is (entries_rise acts q.by_tickets)
             (λ e h. let o = map_from entry_of acts e h in subst (Stands lists) o.2 (stands o.0 o.1))
@@ -217,21 +216,23 @@ module _ {X P L : Type 0} where
         polite = law.0;
         moves = polite_moves r (start r) order law.0;
         ends = same_lists parts (run r order).parts (λ i. dite (dec_lt i (length xs))
-            (λ less. let x = there_is xs i less in (slice_get-map (λ (x : Stall P). x.part) xs i ∙ ap (option_map (λ (x : Stall P). x.part)) x.1) ∙ sym (law.1.parts i ∙ (q.stalls i x.0 x.1).0))
-            (λ past. let c = q.counted in slice_get_past parts i (omega arith) ∙ sym (slice_get_past (run r order).parts i (omega arith))));
-        lists = length-map xs (λ (x : Stall P). x.entries.items) ∙ sym long;
+            (λ less. let x = there_is xs i less in map_some part xs i x.0 x.1 ∙ sym (law.1.parts i ∙ (q.stalls i x.0 x.1).0))
+            (λ past. slice_get_past parts i (omega arith) ∙ sym (slice_get_past (run r order).parts i (omega arith))));
+        lists = length-map xs items ∙ sym long;
         seats = λ w h. let s = q.seats w h in (s.0, law.1.locals w.thread ∙ s.1);
         all = q.all;
         once = q.once;
         filled = q.filled;
       }
 
-  pub closes_as : (mach : X → Rules P L) (key : Key X) (id : ℕ) (v : View X P L) (m : Lead X P L) (words : List ℕ) (xs : List (Stall P)) → v ≡ Leads m → length m.kept ≡ length m.threads → Final (Seen (Kept {X = X} {P = P} {L = L} mach key) id v) words xs
+  pub closes_as : (v : View X P L) (m : Lead X P L) (words : List ℕ) (xs : List (Stall P)) → v ≡ Leads m
+      → length m.kept ≡ length m.threads → Final (Seen (Kept {X = X} {P = P} {L = L} mach key) id v) words xs
       → IsClosed mach key m (map (λ (x : Stall P). x.part) xs) (map (λ (x : Stall P). x.entries.items) xs)
-  closes_as mach key id v m words xs is all fin = closes mach key id m words xs all (subst (λ (z : View X P L). Final (Seen (Kept mach key) id z) words xs) is fin)
+  closes_as v m words xs is all fin = closes m words xs all (subst (λ (z : View X P L). Final (Seen (Kept mach key) id z) words xs) is fin)
 
+module _ {X P L : Type 0} where
   pub leads_same : (a b : Lead X P L) (u : View X P L) → u ≡ Leads a → u ≡ Leads b → a ≡ b
   leads_same a b u e f = cc
 
   pub all_same : (a b : Lead X P L) → a ≡ b → length a.kept ≡ length a.threads → length b.kept ≡ length b.threads
-  all_same a b e h = subst (λ (z : Lead X P L). length z.kept ≡ length z.threads) e h
+  all_same a b e h = rw e at h

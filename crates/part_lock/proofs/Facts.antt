@@ -1,5 +1,6 @@
 -- Acts of one part or thread, sums over views, and what stays.
-use Rattle.std.proofs.Common.{◌≡◌, ◌≢◌, ℕ, zero, suc, ◌+◌, ◌<◌, ◌≤◌, eqb, eq-eqb, ne_eqb, cond, replicate, get_or, List, [], ◌∷◌, ◌++◌, length, set, subst, refl, sym, ap, ◌∙◌, Some, ◌⊎◌, inl, inr, ⊎_elim, arith}
+use Rattle.std.proofs.Common.{◌≡◌, ◌≢◌, ℕ, zero, suc, ◌+◌, ◌<◌, ◌≤◌, eqb, eq-eqb, ne_eqb, cond, replicate, get_or, List}
+use Rattle.std.proofs.Common.{[], ◌∷◌, ◌++◌, length, set, subst, refl, sym, ap, ◌∙◌, Some, ◌⊎◌, inl, inr, ⊎_elim, arith}
 use mathlib.Core.Option.{some, some-ne-none, some-injective}
 use lib.ListN.{get_elem?}
 use Rattle.atomic_table.proofs.Lists.{set_else}
@@ -75,18 +76,6 @@ module _ {P L : Type 0} where
   thread_to es i d h e = key_to (λ (b : Act P L). b.thread) es i d h e
 
 module _ {A : Type 0} where
-  pub nothing_more : (xs : List A) → xs ≡ xs ++ []
-  nothing_more [] = refl
-  nothing_more (x ∷ xs) = ap (λ l. x ∷ l) (nothing_more xs)
-
-  pub joins_up : (xs ys zs : List A) → (xs ++ ys) ++ zs ≡ xs ++ (ys ++ zs)
-  joins_up [] ys zs = refl
-  joins_up (x ∷ xs) ys zs = ap (λ l. x ∷ l) (joins_up xs ys zs)
-
-  pub longer_length : (xs ys : List A) → length (xs ++ ys) ≡ length xs + length ys
-  longer_length [] ys = omega arith
-  longer_length (x ∷ xs) ys = let more = longer_length xs ys in omega arith
-
   pub set_at : (l : List A) (i : ℕ) (a b : A) → get_elem? l i ≡ some a → get_elem? (set l i b) i ≡ some b
   set_at [] i a b e = absurd (some-ne-none a (sym e))
   set_at (x ∷ xs) zero a b e = refl
@@ -96,8 +85,9 @@ module _ {A : Type 0} where
   pub rising_one : (key : A → ℕ) (xs : List A) → Rising key xs → (a b : A) → Has xs a → Has xs b → key a ≡ key b → a ≡ b
   rising_one key [] r a b ha hb same = absurd (has_none a ha)
   rising_one key (x ∷ xs) r a b ha hb same =
-      ⊎_elim (λ (e : x ≡ a). ⊎_elim (λ (f : x ≡ b). sym e ∙ f) (λ (t : Has xs b). absurd (let up = r.1 b t in let g : key x ≡ key a = ap key e in omega arith)) (has_cases x xs b hb))
-      (λ (t : Has xs a). ⊎_elim (λ (f : x ≡ b). absurd (let up = r.1 a t in let g : key x ≡ key b = ap key f in omega arith)) (λ (u : Has xs b). rising_one key xs r.0 a b t u same) (has_cases x xs b hb))
+      let less : (z : A) → Has xs z → key x ≡ key z → ⊥ = λ z h e. absurd (let up = r.1 z h in omega arith) in
+      ⊎_elim (λ (e : x ≡ a). ⊎_elim (λ (f : x ≡ b). sym e ∙ f) (λ (t : Has xs b). absurd (less b t (ap key e ∙ same))) (has_cases x xs b hb))
+      (λ (t : Has xs a). ⊎_elim (λ (f : x ≡ b). absurd (less a t (ap key f ∙ sym same))) (λ (u : Has xs b). rising_one key xs r.0 a b t u same) (has_cases x xs b hb))
       (has_cases x xs a ha)
 
   -- an item of a table's lists, at its end
@@ -123,7 +113,8 @@ pub few_threads : (ts : List ℕ) (n : ℕ) → Once ts → ((t : ℕ) → Has t
 few_threads ts n once small = apart_few (λ t. t) ts n (once_apart ts once) small
 
 module _ {X P L : Type 0} where
-  pub total_set : (f : Work X P L → ℕ) (views : List (View X P L)) (id : ℕ) (v w : View X P L) → get_elem? views id ≡ some v → total f (set views id w) + weigh f v ≡ total f views + weigh f w
+  pub total_set : (f : Work X P L → ℕ) (views : List (View X P L)) (id : ℕ) (v w : View X P L)
+      → get_elem? views id ≡ some v → total f (set views id w) + weigh f v ≡ total f views + weigh f w
   total_set f [] id v w e = absurd (some-ne-none v (sym e))
   total_set f (x ∷ xs) zero v w e = let same : weigh f x ≡ weigh f v = ap (weigh f) (some-injective x v e) in omega arith
   total_set f (x ∷ xs) (suc id) v w e = let more = total_set f xs id v w e in omega arith
@@ -159,5 +150,6 @@ module _ {X P L : Type 0} where
   total_at f (x ∷ xs) zero v e = let same : weigh f x ≡ weigh f v = ap (weigh f) (some-injective x v e) in omega arith
   total_at f (x ∷ xs) (suc id) v e = let more = total_at f xs id v e in omega arith
 
-  pub total_two : (f : Work X P L → ℕ) (views : List (View X P L)) (i j : ℕ) (v u : View X P L) → get_elem? views i ≡ some v → get_elem? views j ≡ some u → j ≢ i → weigh f v + weigh f u ≤ total f views
+  pub total_two : (f : Work X P L → ℕ) (views : List (View X P L)) (i j : ℕ) (v u : View X P L)
+      → get_elem? views i ≡ some v → get_elem? views j ≡ some u → j ≢ i → weigh f v + weigh f u ≤ total f views
   total_two f views i j v u a b ne = let t = total_set f views i v Spent a in let more = total_at f (set views i Spent) j u (set_else views i j Spent ne ∙ b) in omega arith

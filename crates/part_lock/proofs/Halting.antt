@@ -1,5 +1,6 @@
 -- The halt word is loaded or raised; and what comes next in a run of the acts so far.
-use Rattle.std.proofs.Common.{true, ◌≡◌, ◌⊎◌, ℕ, suc, ◌+◌, ◌-◌, ◌<◌, ◌≤◌, max, List, [], length, set, refl, sym, ap, ◌∙◌, subst, inl, inr, ⊎_elim, arith, length-set, Some}
+use Rattle.std.proofs.Common.{true, ◌≡◌, ◌⊎◌, ℕ, ◌+◌, ◌-◌, ◌<◌, ◌≤◌, max, List, []}
+use Rattle.std.proofs.Common.{length, set, refl, sym, ap, ◌∙◌, inl, inr, ⊎_elim, arith, length-set, Some}
 use Rattle.std.proofs.lemmas.List.{get_or-set_other, get_or-set_same, length-map}
 use Rattle.std.proofs.lemmas.Option.{slice_get_within}
 use Rattle.std.proofs.Math.Nat.{le-max_left, le-max_right, max-eq_left, max-eq_right}
@@ -13,7 +14,7 @@ use Rattle.tc_model.specs.Run.{Rules, start, run}
 use Rattle.tc_model.specs.Sound.{IsSound}
 use Rattle.tc_model.specs.Chains.{AreChainedFrom, threads_of}
 use Rattle.tc_model.proofs.Members.{same_some}
-use Rattle.tc_model.proofs.Merges.{apart_by, apart_few}
+use Rattle.tc_model.proofs.Merges.{Apart, apart_by, apart_few}
 use Rattle.tc_model.proofs.Longer.{polite_moves}
 use Rattle.tc_model.proofs.Chained.{chained_from}
 use Rattle.tc_model.proofs.Picks.{fold_sizes}
@@ -23,95 +24,93 @@ use Rattle.part_lock.specs.declared.view.Stage.TheVariants.{Idle}
 use Rattle.part_lock.specs.declared.view.Work.{Work}
 use Rattle.part_lock.specs.declared.view.View.{View}
 use Rattle.part_lock.specs.declared.view.View.TheVariants.{Works}
-use Rattle.part_lock.specs.Lock.{flag, part_no, rank, at_part, of_thread, part_left, local_left, Account, StageFits, ended, starved, lost, total, Ties, Kept, saw, note, Sees, Sets}
-use Rattle.part_lock.proofs.Facts.{flag_rises, flag_some, set_at, lies_same, total_set, total_at}
-use Rattle.part_lock.proofs.Later.{word, Later, each_moves, leader_stays, away_stays, stands_stays, same_deeds}
+use Rattle.part_lock.specs.Lock.{part_no, rank, at_part, of_thread, part_left, local_left, Account, HasOut, starved, total, Ties, Kept, saw, note, Sees, Sets}
+use Rattle.part_lock.proofs.Facts.{flag_rises, flag_some, set_at, lies_same, total_at}
+use Rattle.part_lock.proofs.Later.{word, view_stays, sums, turned_ties}
 
 module _ {X P L : Type 0} where
   -- The halt word becomes n, and a worker's cause c
-  halt_moves : (mach : X → Rules P L) (key : Key X) (words : List ℕ) (homes : List (Option (Stall P))) (views : List (View X P L)) (a : Account P L) (threads : List ℕ) (id n c : ℕ) (w : Work X P L)
+  halt_moves : (mach : X → Rules P L) (key : Key X) (words : List ℕ) (homes : List (Option (Stall P))) (views : List (View X P L))
+      → (a : Account P L) (threads : List ℕ) (id n c : ℕ) (w : Work X P L)
       → Ties mach key words homes views a threads → get_elem? views id ≡ some (Works w) → w.stage ≡ Idle
-      → word words 0 ≤ n → n ≤ 2 → (n ≡ 1 → key.events < word words 1) → (n ≡ 2 → (0 < total starved views) ⊎ (c ≡ 2)) → w.cause ≤ c → c ≤ n → (c ≡ 1 → key.events < word words 1)
+      → word words 0 ≤ n → n ≤ 2 → (n ≡ 1 → key.events < word words 1)
+      → (n ≡ 2 → (0 < total starved views) ⊎ (c ≡ 2)) → w.cause ≤ c → c ≤ n → (c ≡ 1 → key.events < word words 1)
       → Ties mach key (set words 0 n) homes (set views id (Works (saw c w))) a threads
   halt_moves mach key words homes views a threads id n c w r at idle grows small one_is two_is rise under limit =
-      let size : length words ≡ length homes + 2 = r.sized in
-      let words' : List ℕ = set words 0 n in let u : Work X P L = saw c w in
-      let zeroth : word words' 0 ≡ n = get_or-set_same words 0 n 0 (omega arith) in
-      let other : (k : ℕ) → word words' (suc k) ≡ word words (suc k) = λ k. get_or-set_other words 0 (suc k) n 0 (λ e. omega arith) in
-      let first : word words' 1 ≡ word words 1 = other 0 in
-      let there : (k : ℕ) → word words' (k + 2) ≡ word words (k + 2) = λ k. get_or-set_other words 0 (k + 2) n 0 (λ e. omega arith) in
-      let mine = r.each id (Works w) at in
-      let b : flag w.cause ≤ flag c = flag_rises w.cause c rise in let b' : flag (w.cause - 1) ≤ flag (c - 1) = flag_rises (w.cause - 1) (c - 1) (omega arith) in
-      let t = total_set ended views id (Works w) (Works u) at in let t' = total_set lost views id (Works w) (Works u) at in let t'' = total_set starved views id (Works w) (Works u) at in let at_least = total_at starved (set views id (Works u)) id (Works u) (set_at views id (Works w) (Works u) at) in
-      let later : Later mach key.machine key.events words words' (length homes) a a threads threads = record { halt = omega arith; next = omega arith; grew = same_deeds a; listed = λ _ h. h } in
-      let k = mine.0 in record {
-        sized = length-set words 0 n ∙ size;
-        counted = r.counted;
-        at_home = λ i less z. r.at_home i less (sym (there i) ∙ z);
-        away = λ i less f. away_stays views id (Works w) (Works u) i (a.holder i) at (λ o. o) (r.away i less (λ z. f (there i ∙ z)));
-        each = each_moves mach key.machine key.events words words' (length homes) a a threads threads later views id (Works u) (length homes) refl r.each
-            (λ j apart. record { holds = λ i less h f. (h, there i, refl); tickets = λ t o less. o; of_seat = λ t h e. (e, refl); lead = λ e. refl })
-            ((k.0, k.1, k.2, k.3, k.4, k.5, (omega arith, (λ e. omega arith), (λ e. let low = limit e in omega arith))), mine.1, subst (StageFits mach key.machine key.events words' (length homes) a threads id u) (sym idle) tt);
-        chained = r.chained;
-        rises = r.rises;
-        steady = r.steady;
-        owned = λ i d e. let o = r.owned i d e in (o.0, (let low = o.1 in omega arith), o.2, o.3, o.4);
-        leader = leader_stays views threads id w u r.leader at;
-        once = r.once;
-        small = r.small;
-        standing = λ t h. stands_stays views id (Works w) (Works u) t (a.seat t) at (λ z. z) (r.standing t h);
-        bounded = let g = r.bounded in omega arith;
-        complete = λ i less low. let g = r.complete i (omega arith) low in omega arith;
+      let size = r.sized in let u : Work X P L = saw c w in
+      let zeroth : word (set words 0 n) 0 ≡ n = get_or-set_same words 0 n 0 (omega arith) in
+      let first : word (set words 0 n) 1 ≡ word words 1 = get_or-set_other words 0 1 n 0 (λ e. omega arith) in
+      let other : (k : ℕ) → word (set words 0 n) (k + 2) ≡ word words (k + 2) = λ k. get_or-set_other words 0 (k + 2) n 0 (λ e. omega arith) in
+      let mine = r.each id (Works w) at in let (machine, events, named, local, made, saw, _) = mine.0 in
+      let b = flag_rises w.cause c rise in let b' = flag_rises (w.cause - 1) (c - 1) (omega arith) in
+      let t = sums views id w u at in let at_least = total_at starved (set views id (Works u)) id (Works u) (set_at views id (Works w) (Works u) at) in
+      turned_ties mach key words (set words 0 n) homes homes views a threads id u a.holder a.owner w refl at r record {
+        long = length-set words 0 n;
+        wide = refl;
+        halt = omega arith;
+        next = omega arith;
+        home = λ k less z. r.at_home k less (sym (other k) ∙ z);
+        away = λ k less f. view_stays (HasOut k) views id (Works w) (Works u) (a.holder k) at (λ o. o) (r.away k less (λ z. f (other k ∙ z)));
+        holds = λ j k apart less h f. (h, other k);
+        owned = λ t less. refl;
+        mine = ((machine, events, named, local, made, saw, (omega arith, (λ e. omega arith), (λ e. let low = limit e in omega arith))), mine.1, rw idle tt);
+        bounded = omega arith;
+        complete = λ k less low. let g = r.complete k (omega arith) low in omega arith;
         halting = (
           omega arith,
           (λ e. let low = one_is (sym zeroth ∙ e) in omega arith),
-          (λ e. ⊎_elim (λ (old : 0 < total starved views). let g = old in omega arith)
-              (λ (is : c ≡ 2). let f = flag_some (c - 1) (omega arith) in omega arith) (two_is (sym zeroth ∙ e))),
+          (λ e. ⊎_elim (λ (old : 0 < total starved views). omega arith) (λ (is : c ≡ 2). let f = flag_some (c - 1) (omega arith) in omega arith) (two_is (sym zeroth ∙ e))),
         );
       }
 
-  -- there are no more acts than tickets
-  pub few_deeds : (mach : X → Rules P L) (key : Key X) (words : List ℕ) (homes : List (Option (Stall P))) (views : List (View X P L)) (a : Account P L) (threads : List ℕ) → Ties mach key words homes views a threads → length a.deeds ≤ key.events
-  few_deeds mach key words homes views a threads r = apart_few rank a.deeds key.events
-      (apart_by rank a.deeds (λ j k d e ed ee same. lies_same j k (sym (r.owned j d ed).0 ∙ (ap a.owner same ∙ (r.owned k e ee).0)))) (λ d h. (r.owned h.0 d h.1).2)
+module _ {X P L : Type 0} {mach : X → Rules P L} {key : Key X} {words : List ℕ} {homes : List (Option (Stall P))} {views : List (View X P L)} {a : Account P L} {threads : List ℕ}
+    (r : Ties mach key words homes views a threads) where
+  pub tickets_differ : Apart rank a.deeds
+  tickets_differ = apart_by rank a.deeds (λ j k d e ed ee same. lies_same j k (sym (r.owned j d ed).0 ∙ (ap a.owner same ∙ (r.owned k e ee).0)))
 
+  -- there are no more acts than tickets
+  pub few_deeds : length a.deeds ≤ key.events
+  few_deeds = apart_few rank a.deeds key.events tickets_differ (λ d h. (r.owned h.0 d h.1).2)
+
+module _ {X P L : Type 0} where
   -- the acts so far are a run of picks that move: so the part wanted next is there, and the pair fits
-  pub lawful_next : (mach : X → Rules P L) (fits : X → P → L → Type 0) (key : Key X) (deeds : List (Act P L)) (w : Work X P L) (i : ℕ) → IsSound (mach key.machine) (fits key.machine) → AreChainedFrom (mach key.machine) (start (mach key.machine)) deeds → length deeds ≤ 40000000
+  pub lawful_next : (mach : X → Rules P L) (fits : X → P → L → Type 0) (key : Key X) (deeds : List (Act P L)) (w : Work X P L) (i : ℕ) → IsSound (mach key.machine) (fits key.machine)
+      → AreChainedFrom (mach key.machine) (start (mach key.machine)) deeds → length deeds ≤ 40000000
       → w.machine ≡ key.machine → local_left (mach key.machine) w.thread (of_thread w.thread deeds) ≡ Some w.local → (mach w.machine).want w.local ≡ Some (part_no i)
       → (i < length (mach key.machine).parts) × ((p : P) → part_left (mach key.machine) i (at_part i deeds) ≡ Some p → fits w.machine p w.local)
   lawful_next mach fits key deeds w i sound chained few same local wish =
       let r : Rules P L = mach key.machine in let order : List ℕ = threads_of deeds in
       let law = chained_from r (start r) deeds chained in
       let long : length order ≡ length deeds = length-map deeds (λ (d : Act P L). d.thread) in
-      let ready = sound order w.thread (record { moves = polite_moves r (start r) order law.0; few = (let g : length order ≤ 40000000 = omega arith in g) }) in
-      let there = ready w.local (part_no i) (law.1.locals w.thread ∙ local) (subst (λ (z : X). (mach z).want w.local ≡ Some (part_no i)) same wish) in
+      let ready = sound order w.thread (record { moves = polite_moves r (start r) order law.0; few = omega arith }) in
+      let there = ready w.local (part_no i) (law.1.locals w.thread ∙ local) (rw same at wish) in
       let inside = slice_get_within (run r order).parts i there.part there.there in let sizes = (fold_sizes r (start r) order).0 in (
         omega arith,
-        λ p left.
-            let is : there.part ≡ p = same_some there.part p (sym there.there ∙ (law.1.parts i ∙ left)) in
-            subst (λ (z : X). fits z p w.local) (sym same) (subst (λ (z : P). fits key.machine z w.local) is there.fit),
+        λ p left. let is : there.part ≡ p = same_some there.part p (sym there.there ∙ (law.1.parts i ∙ left)) in rw same (rw is at there.fit),
       )
 
-  pub sees_halt : (mach : X → Rules P L) (fits : X → P → L → Type 0) (key : Key X) (n id : ℕ) (w : Work X P L) → IsSound (mach key.machine) (fits key.machine) → w.stage ≡ Idle → w.noted ≡ true
+  pub sees_halt : (mach : X → Rules P L) (fits : X → P → L → Type 0) (key : Key X) (n id : ℕ) (w : Work X P L)
+      → IsSound (mach key.machine) (fits key.machine) → w.stage ≡ Idle → w.noted ≡ true
       → Allows (Kept mach key) n id (Works w, []) 0 (λ y. y) (Sees mach (step n 0 0 0 none) (Works w, []))
   sees_halt mach fits key n id w lawful idle noted s kept wide at _ =
       let r = kept.3 in let a : Account P L = kept.1 in let y : ℕ = word s.words 0 in
-      let k = (r.each id (Works w) at).0 in let low : w.cause ≤ y = k.6.1 noted in let halting = r.halting in (
+      let (machine, _, _, local, _, _, caused) = (r.each id (Works w) at).0 in let low = caused.1 noted in let (small, one_is, two_is) = r.halting in
+      let few = few_deeds r in let most = kept.0 in (
         Works (saw y w),
         keeps,
         tt,
-        (kept.0, a, kept.2, halt_moves mach key s.words s.homes s.views a kept.2 id y y w r at idle (omega arith) halting.0 halting.1 (λ e. inl (halting.2 e)) low (omega arith) halting.1),
-        (refl, halting.0, ((λ _. low), (λ i wish. let few = few_deeds mach key s.words s.homes s.views a kept.2 r in let most = kept.0 in let less = (lawful_next mach fits key a.deeds w i lawful r.chained (let g : length a.deeds ≤ 40000000 = omega arith in g) k.0 k.3 wish).0 in let c = r.counted in omega arith))),
+        (most, a, kept.2, halt_moves mach key s.words s.homes s.views a kept.2 id y y w r at idle (omega arith) small one_is (λ e. inl (two_is e)) low (omega arith) one_is),
+        (refl, small, ((λ _. low), (λ i wish. let less = (lawful_next mach fits key a.deeds w i lawful r.chained (omega arith) machine local wish).0 in omega arith))),
       )
 
   pub sets_halt : (mach : X → Rules P L) (key : Key X) (n id : ℕ) (w : Work X P L) → w.stage ≡ Idle
       → Allows (Kept mach key) n id (Works w, []) 0 (λ y. max y w.cause) (Sets (step n 0 w.cause 0 none) (Works w, []))
   sets_halt mach key n id w idle s kept wide at _ =
       let r = kept.3 in let a : Account P L = kept.1 in let y : ℕ = word s.words 0 in let z : ℕ = max y w.cause in
-      let k = (r.each id (Works w) at).0 in let halting = r.halting in
+      let (_, _, _, _, _, _, caused) = (r.each id (Works w) at).0 in let (small, one_is, two_is) = r.halting in
       let above : y ≤ z = le-max_left y w.cause in let above' : w.cause ≤ z = le-max_right y w.cause in
       let either_is : (z ≡ y) ⊎ (z ≡ w.cause) = dite (dec_le w.cause y) (λ le. inl (max-eq_left le)) (λ gt. inr (max-eq_right (omega arith))) in
-      let small = k.6.0 in let few = halting.0 in (
+      let few = caused.0 in (
         Works (note w),
         keeps,
         tt,
@@ -120,10 +119,10 @@ module _ {X P L : Type 0} where
           a,
           kept.2,
           halt_moves mach key s.words s.homes s.views a kept.2 id z w.cause w r at idle above
-              (⊎_elim (λ (e : z ≡ y). let g = few in omega arith) (λ (e : z ≡ w.cause). let g = small in omega arith) either_is)
-              (λ is. ⊎_elim (λ (e : z ≡ y). halting.1 (sym e ∙ is)) (λ (e : z ≡ w.cause). k.6.2 (sym e ∙ is)) either_is)
-              (λ is. ⊎_elim (λ (e : z ≡ y). inl (halting.2 (sym e ∙ is))) (λ (e : z ≡ w.cause). inr (sym e ∙ is)) either_is)
-              (omega arith) above' k.6.2,
+              (⊎_elim (λ (e : z ≡ y). omega arith) (λ (e : z ≡ w.cause). omega arith) either_is)
+              (λ is. ⊎_elim (λ (e : z ≡ y). one_is (sym e ∙ is)) (λ (e : z ≡ w.cause). caused.2 (sym e ∙ is)) either_is)
+              (λ is. ⊎_elim (λ (e : z ≡ y). inl (two_is (sym e ∙ is))) (λ (e : z ≡ w.cause). inr (sym e ∙ is)) either_is)
+              (omega arith) above' caused.2,
         ),
         refl,
       )

@@ -24,7 +24,8 @@ module _ {X P L : Type 0} (mach : X → Rules P L) (table : TableId) (key : Key 
       (turn.1 ∙ before.0, subst (λ z. Ready key z.0 k.local k.seat.me) (sym turn.0) turn.2)
 
   -- the hands of workers that ran fit, whatever their last answer was
-  pub workers_fit : {B : Type 0} (before after : List (Worker B (PartHand X P L))) → length before ≡ length after → All (IsWorkerReady (Fit table key)) before → RanBelow (Turned mach key) (λ h. h.thread) (Fit table key) (length before) before after
+  pub workers_fit : {B : Type 0} (before after : List (Worker B (PartHand X P L))) → length before ≡ length after
+      → All (IsWorkerReady (Fit table key)) before → RanBelow (Turned mach key) (λ h. h.thread) (Fit table key) (length before) before after
       → All (λ (w : Worker B (PartHand X P L)). Fit table key w.hand) after
   workers_fit before after long ready ran k d less =
       let r = (ran k d (omega arith)).0 in
@@ -32,14 +33,15 @@ module _ {X P L : Type 0} (mach : X → Rules P L) (table : TableId) (key : Key 
 
 module _ {X P L : Type 0} (key : Key X) where
   pub joins_none : (me : Mine X P L) → JoinsAll key me [] me
-  joins_none me m is = record { works = []; main = subst (λ (ks : List (Work X P L)). IsMain key (record m { kept = ks }) me) (sym (append-nil m.kept)) is; views = refl; threads = refl; locals = refl }
+  joins_none me m is = record { works = []; main = rw append-nil is; views = refl; threads = refl; locals = refl }
 
   pub joins_more : (me me' me'' : Mine X P L) (h : PartHand X P L) (hs : List (PartHand X P L)) → Ready key h.thread.0 h.local h.seat.me
-      → ((m : Lead X P L) (w : Work X P L) → IsMain key m me → IsReady key h.thread.0 h.local w h.seat.me → IsMain key (one_joined m w) me') → JoinsAll key me' hs me'' → JoinsAll key me (h ∷ hs) me''
+      → ((m : Lead X P L) (w : Work X P L) → IsMain key m me → IsReady key h.thread.0 h.local w h.seat.me → IsMain key (one_joined m w) me')
+      → JoinsAll key me' hs me'' → JoinsAll key me (h ∷ hs) me''
   joins_more me me' me'' h hs ready next joins m is =
       let w : Work X P L = ready.0 in let more = joins (one_joined m w) (next m w is ready.1) in record {
         works = w ∷ more.works;
-        main = subst (λ (ks : List (Work X P L)). IsMain key (record m { kept = ks }) me'') (append_snoc m.kept w more.works) more.main;
+        main = rw (append_snoc m.kept w more.works) at more.main;
         views = λ j. sym ready.1.0 j ∷ more.views j;
         threads = λ j. ready.1.3 j ∷ more.threads j;
         locals = λ j. ready.1.4 j ∷ more.locals j;

@@ -1,5 +1,6 @@
 -- The rule holds at the start.
-use Rattle.std.proofs.Common.{◌≡◌, ℕ, zero, suc, ◌+◌, ◌<◌, ◌≤◌, List, map, replicate, All, [], ◌∷◌, length, get_or, refl, sym, ap, ◌∙◌, subst, arith, Some, option_map}
+use Rattle.std.proofs.Common.{◌≡◌, ℕ, zero, suc, ◌+◌, ◌<◌, ◌≤◌, List, map, replicate, All, []}
+use Rattle.std.proofs.Common.{◌∷◌, length, get_or, refl, sym, ap, ◌∙◌, subst, arith, Some, option_map}
 use Rattle.std.specs.List.{slice_get}
 use Rattle.std.proofs.lemmas.List.{length-replicate, length-map}
 use Rattle.std.proofs.lemmas.List.Elements.{All-get_or}
@@ -35,7 +36,8 @@ module _ {P : Type 0} where
 
 module _ {X P L : Type 0} where
   -- the rule holds at the start
-  pub opens : (mach : X → Rules P L) (key : Key X) (ws : List ℕ) (xs : List (Stall P)) → key.events ≤ 40000000 → ws ≡ 0 ∷ 0 ∷ replicate (length xs) 0 → All (λ (x : Stall P). x.entries.items ≡ []) xs
+  pub opens : (mach : X → Rules P L) (key : Key X) (ws : List ℕ) (xs : List (Stall P))
+      → key.events ≤ 40000000 → ws ≡ 0 ∷ 0 ∷ replicate (length xs) 0 → All (λ (x : Stall P). x.entries.items ≡ []) xs
       → map (λ (x : Stall P). x.part) xs ≡ (mach key.machine).parts → Kept {X = X} {P = P} {L = L} mach key (opening ws xs (main_view key))
   opens mach key ws xs few zeros bare begins =
       let zero_at : (i : ℕ) → word ws i ≡ 0 = λ i. ap (λ (z : List ℕ). word z i) zeros ∙ all_zero (length xs) i in
@@ -46,7 +48,7 @@ module _ {X P L : Type 0} where
         bare_account,
         [],
         record {
-          sized = let n : length ws ≡ length (0 ∷ 0 ∷ replicate (length xs) 0) = ap length zeros in let k : length (replicate {A = ℕ} (length xs) 0) ≡ length xs = length-replicate (length xs) 0 in omega arith;
+          sized = omega (arith, ap length zeros, length-replicate {A = ℕ} (length xs) 0);
           counted = long ∙ many;
           at_home = λ i h z. let o = home xs i (omega arith) bare in (o.0, o.1, o.2, ap (λ (l : List P). slice_get l i) (sym begins) ∙ o.3);
           away = λ i h z. absurd (z (zero_at (i + 2)));

@@ -1,11 +1,11 @@
 -- What the seat is after each step of a call, as a caller has it.
-use Rattle.std.proofs.Common.{true, false, ◌≡◌, ◌≢◌, ◌⊎◌, ℕ, zero, suc, ◌+◌, ◌<◌, ◌≤◌, List, [], ◌∷◌, get_or, refl, sym, ap, ◌∙◌, subst, ⊎_elim, arith, vec_len, vec_capacity, Some}
+use Rattle.std.proofs.Common.{true, false, ◌≡◌, ◌≢◌, ℕ, ◌<◌, ◌≤◌, List, []}
+use Rattle.std.proofs.Common.{◌∷◌, get_or, refl, sym, ap, ◌∙◌, subst, arith, vec_len, vec_capacity, Some}
 use mathlib.Core.Option.{none}
-use Rattle.atomic_table.specs.Table.{step, rest}
+use Rattle.atomic_table.specs.Table.{step}
 use Rattle.part_lock.specs.declared.view.Key.{Key}
 use Rattle.part_lock.specs.declared.view.Stall.{Stall}
 use Rattle.part_lock.specs.declared.view.Hold.{Hold}
-use Rattle.part_lock.specs.declared.view.Stage.{Stage}
 use Rattle.part_lock.specs.declared.view.Stage.TheVariants.{Idle, Taken, Drawn}
 use Rattle.part_lock.specs.declared.view.Work.{Work}
 use Rattle.part_lock.specs.declared.view.View.{View}
@@ -18,7 +18,8 @@ use Rattle.std.specs.List.{slice_get}
 use Rattle.part_lock.specs.declared.view.Lead.{Lead}
 use Rattle.tc_model.specs.declared.machine.PartNo.{PartNo}
 use Rattle.tc_model.specs.Run.{Rules}
-use Rattle.part_lock.specs.Lock.{fresh_work, newcomer, newcomer_with, Mine, part_no, hold, at_view, at_stage, saw, note, full, left, entered, back_at, fail_at, give_at, Finds, Sees, Draws, Gives, Returns, Fails}
+use Rattle.part_lock.specs.Lock.{fresh_work, newcomer, newcomer_with, Mine, part_no, hold, at_view, at_stage, saw, full}
+use Rattle.part_lock.specs.Lock.{left, entered, Finds, Sees, Draws}
 use Rattle.part_lock.specs.Turns.{HoldsOnly, noted_after, cause_of, IsReady, Judges, InTurn, InPlace, Acts, Tells, Ready, halt_number}
 
 slot_same : {P : Type 0} (i : ℕ) (x y : Stall P) (c : List (ℕ × Stall P)) → c ≡ (i, x) ∷ [] → c ≡ (i, y) ∷ [] → x ≡ y
@@ -26,97 +27,101 @@ slot_same {P} i x y c a b = ap (λ (l : List (ℕ × Stall P)). (get_or l 0 (i, 
 
 module _ {X P L : Type 0} where
   -- the value that is held was changed, and the view wasn't
-  pub held_now : (part : ℕ) (v : View X P L) (x x' y : Stall P) (me me' : Mine X P L) → me ≡ (v, (part, x) ∷ []) → HoldsOnly part x' me → me' ≡ (me.0, (part, y) ∷ []) → (me' ≡ (v, (part, y) ∷ [])) × (x' ≡ x)
+  pub held_now : (part : ℕ) (v : View X P L) (x x' y : Stall P) (me me' : Mine X P L) → me ≡ (v, (part, x) ∷ [])
+      → HoldsOnly part x' me → me' ≡ (me.0, (part, y) ∷ []) → (me' ≡ (v, (part, y) ∷ [])) × (x' ≡ x)
   held_now part v x x' y me me' is has next = (next ∙ ap (λ (z : Mine X P L). (z.0, (part, y) ∷ [])) is, slot_same part x' x me.1 has (ap (λ (z : Mine X P L). z.1) is))
 
-  pub drawn_now : (n part found events : ℕ) (w : Work X P L) (x : Stall P) (c : List (ℕ × Stall P)) (me me' : Mine X P L) → me ≡ (Works (at_stage (Taken (hold part x)) w), c) → w.events ≡ events → Draws (step n 1 1 0 none) me found me'
-      → (found < events → me' ≡ (Works (at_stage (Drawn (hold part x) found) w), c)) × (events ≤ found → me' ≡ (Works (full (at_stage (Taken (hold part x)) w)), c))
-  drawn_now n part found events w x c me me' is limit d =
-      let d' = subst (λ (z : Mine X P L). Draws (step n 1 1 0 none) z found me') is d in
-      ((λ low. d'.0 (omega arith)), (λ high. d'.1 (omega arith)))
-
-  pub back_now : (n part : ℕ) (w : Work X P L) (h : Hold P) (x : Stall P) (me me' : Mine X P L) → me ≡ (Works w, (part, x) ∷ []) → w.stage ≡ Taken h → Returns (step n (part + 2) 0 0 none) me 0 me' → me' ≡ (Works (left h w.cause w.noted w), [])
-  back_now n part w h x me me' is taken r = r ∙ (ap (λ (z : Mine X P L). (at_view (λ w. back_at w w.stage) z.0, rest z.1)) is ∙ ap (λ (st : Stage P). (Works (back_at w st), [])) taken)
-
-  pub fail_now : (n part : ℕ) (w : Work X P L) (h : Hold P) (x : Stall P) (me me' : Mine X P L) → me ≡ (Works w, (part, x) ∷ []) → ((w.stage ≡ Taken h) ⊎ ((t : ℕ) × (w.stage ≡ Drawn h t))) → Fails (step n (part + 2) 0 0 none) me 0 me' → me' ≡ (Works (left h 2 false w), [])
-  fail_now n part w h x me me' is so r = r ∙ (ap (λ (z : Mine X P L). (at_view (λ w. fail_at w w.stage) z.0, rest z.1)) is
-      ∙ ⊎_elim (λ (e : w.stage ≡ Taken h). ap (λ (st : Stage P). (Works (fail_at w st), [])) e) (λ (e : (t : ℕ) × (w.stage ≡ Drawn h t)). ap (λ (st : Stage P). (Works (fail_at w st), [])) e.1) so)
-
-  pub give_now : (mach : X → Rules P L) (n part t : ℕ) (w : Work X P L) (h : Hold P) (x : Stall P) (me me' : Mine X P L) → me ≡ (Works w, (part, x) ∷ []) → w.stage ≡ Drawn h t → Gives mach (step n (part + 2) 0 0 none) me 0 me' → me' ≡ (Works (entered h t (((mach w.machine).after h.part w.local).1) w), [])
-  give_now mach n part t w h x me me' is drawn r = r ∙ (ap (λ (z : Mine X P L). (at_view (λ w. give_at mach w w.stage) z.0, rest z.1)) is ∙ ap (λ (st : Stage P). (Works (give_at mach w st), [])) drawn)
-
   module _ (mach : X → Rules P L) (key : Key X) (fits : X → P → L → Type 0) (thread part : ℕ) (l : L) (w : Work X P L) (x : Stall P) where
-    pub placed : (x' y : Stall P) (me me' : Mine X P L) → InTurn mach key fits thread part l w x me → HoldsOnly part x' me → me' ≡ (me.0, (part, y) ∷ []) → y.entries.items ≡ x'.entries.items → y.part ≡ x'.part
+    pub placed : (x' y : Stall P) (me me' : Mine X P L) → InTurn mach key fits thread part l w x me
+        → HoldsOnly part x' me → me' ≡ (me.0, (part, y) ∷ []) → y.entries.items ≡ x'.entries.items → y.part ≡ x'.part
         → Judges mach key x'.part l (vec_len y.entries) (vec_capacity y.entries) Goes → InPlace mach key fits thread part l w x y me'
     placed x' y me me' t has next same same' j =
-        let n = held_now part (Works (at_stage (Taken (hold part x)) w)) x x' y me me' t.0 has next in let is = ap (λ (z : Stall P). z.part) n.1 in
-        (n.0, same ∙ ap (λ (z : Stall P). z.entries.items) n.1, same' ∙ is, j.2, (refl, t.1, t.2, t.3, t.4, t.5), subst (λ p. (mach key.machine).waits p l ≡ false) is j.0, subst (λ p. (mach key.machine).yields p l ≡ true) is j.1)
+        let n = held_now part (Works (at_stage (Taken (hold part x)) w)) x x' y me me' t.0 has next in
+        (n.0, rw n.1 at same, rw n.1 at same', j.2, (refl, t.1, t.2, t.3, t.4, t.5), rw n.1 at j.0, rw n.1 at j.1)
 
-  -- the seat, after its cause was noted
-  pub noted_now : (c : ℕ) (w : Work X P L) (me me' : Mine X P L) → 0 < c → me ≡ (Works w, []) → me' ≡ noted_after c me → me' ≡ (Works (note w), [])
-  noted_now zero w me me' some_cause is next = absurd (omega arith)
-  noted_now (suc c) w me me' some_cause is next = next ∙ ap (noted_after (suc c)) is
+    pub drawn_now : (n found : ℕ) (y : Stall P) (me me' : Mine X P L) → InPlace mach key fits thread part l w x y me → Draws (step n 1 1 0 none) me found me'
+        → (found < key.events → me' ≡ (Works (at_stage (Drawn (hold part x) found) w), (part, y) ∷ []))
+        × (key.events ≤ found → me' ≡ (Works (full (at_stage (Taken (hold part x)) w)), (part, y) ∷ []))
+    drawn_now n found y me me' p d =
+        let (is, _, _, _, turn, _, _) = p in let (_, ready, _, _, _, _) = turn in let (_, _, _, _, _, _, limit) = ready in
+        let d' = subst (λ (z : Mine X P L). Draws (step n 1 1 0 none) z found me') is d in
+        ((λ low. d'.0 (omega arith)), (λ high. d'.1 (omega arith)))
 
-  -- the whole answer
-  pub told : (mach : X → Rules P L) (key : Key X) (w : Work X P L) (l l' : L) (h : Hold P) (me me' : Mine X P L) (answer : Step) → Acts mach key w l l' me h answer → me' ≡ noted_after (cause_of answer) me → Tells mach key w l l' me' answer
-  told mach key w l l' h me me' (Moved t) a n = (h, (a.0, a.1, a.2, a.3, n ∙ a.4, a.5))
-  told mach key w l l' h me me' NotYet a n = (h, (a.0.0, a.0.1, n ∙ a.0.2), a.1)
-  told mach key w l l' h me me' Held a n = (h, (a.0.0, a.0.1, n ∙ a.0.2), a.1, a.2)
-  told mach key w l l' h me me' (Full t) a n = (h, (a.0.0, a.0.1, n ∙ ap (noted_after 1) a.0.2), a.1, a.2, a.3)
-  told mach key w l l' h me me' Memory a n = (h, (a.0.0, a.0.1, n ∙ ap (noted_after 2) a.0.2), a.1, a.2)
-  told mach key w l l' h me me' (Halted c) a n = absurd a
+    -- after the draw of a ticket that is used, the part is held, and its act goes
+    pub goes_on : (n found : ℕ) (y : Stall P) (me me' : Mine X P L) → InPlace mach key fits thread part l w x y me → Draws (step n 1 1 0 none) me found me' → found < key.events
+        → (z : Stall P) × HoldsOnly part z me' × (vec_len z.entries < vec_capacity z.entries) × fits key.machine z.part l × ((mach key.machine).waits z.part l ≡ false)
+    goes_on n found y me me' p d low =
+        let (_, _, same, room, turn, no_wait, _) = p in let (_, _, _, _, fit, _) = turn in
+        (y, ap (λ (m : Mine X P L). m.1) ((drawn_now n found y me me' p d).0 low), room, rw same fit, rw same no_wait)
 
-  -- a turn leaves the seat at rest, with the cause that its answer sets
-  pub rests : (mach : X → Rules P L) (key : Key X) (w : Work X P L) (l l' : L) (h : Hold P) (me : Mine X P L) (answer : Step) → Acts mach key w l l' me h answer → (u : Work X P L) × (me ≡ (Works u, [])) × (u.stage ≡ Idle) × (cause_of answer ≢ 0 → u.cause ≡ cause_of answer)
-  rests mach key w l l' h me (Moved t) a = (entered h t l' w, a.4, refl, (λ ne. absurd (ne refl)))
-  rests mach key w l l' h me NotYet a = (left h w.cause w.noted w, a.0.2, refl, (λ ne. absurd (ne refl)))
-  rests mach key w l l' h me Held a = (left h w.cause w.noted w, a.0.2, refl, (λ ne. absurd (ne refl)))
-  rests mach key w l l' h me (Full t) a = (left h 1 false w, a.0.2, refl, (λ _. refl))
-  rests mach key w l l' h me Memory a = (left h 2 false w, a.0.2, refl, (λ _. refl))
-  rests mach key w l l' h me (Halted c) a = absurd a
+  module _ (mach : X → Rules P L) (key : Key X) (w : Work X P L) (l l' : L) where
+    -- the whole answer
+    pub told : (h : Hold P) (me me' : Mine X P L) (answer : Step) → Acts mach key w l l' me h answer → me' ≡ noted_after (cause_of answer) me → Tells mach key w l l' me' answer
+    told h me me' (Moved t) a n = (h, (a.0, a.1, a.2, a.3, n ∙ a.4, a.5))
+    told h me me' NotYet a n = (h, (a.0.0, a.0.1, n ∙ a.0.2), a.1)
+    told h me me' Held a n = (h, (a.0.0, a.0.1, n ∙ a.0.2), a.1, a.2)
+    told h me me' (Full t) a n = (h, (a.0.0, a.0.1, n ∙ ap (noted_after 1) a.0.2), a.1, a.2, a.3)
+    told h me me' Memory a n = (h, (a.0.0, a.0.1, n ∙ ap (noted_after 2) a.0.2), a.1, a.2)
+    told h me me' (Halted c) a n = absurd a
+
+    -- a turn leaves the seat at rest, with the cause that its answer sets
+    pub rests : (h : Hold P) (me : Mine X P L) (answer : Step) → Acts mach key w l l' me h answer
+        → (u : Work X P L) × (me ≡ (Works u, [])) × (u.stage ≡ Idle) × (cause_of answer ≢ 0 → u.cause ≡ cause_of answer)
+    rests h me (Moved t) a = (entered h t l' w, a.4, refl, (λ ne. absurd (ne refl)))
+    rests h me NotYet a = (left h w.cause w.noted w, a.0.2, refl, (λ ne. absurd (ne refl)))
+    rests h me Held a = (left h w.cause w.noted w, a.0.2, refl, (λ ne. absurd (ne refl)))
+    rests h me (Full t) a = (left h 1 false w, a.0.2, refl, (λ _. refl))
+    rests h me Memory a = (left h 2 false w, a.0.2, refl, (λ _. refl))
+    rests h me (Halted c) a = absurd a
+
+    -- after every answer the seat is ready again
+    pub ready_again : (thread : ℕ) (me me' : Mine X P L) (answer : Step) → IsReady key thread l w me → Tells mach key w l l' me' answer → Ready key thread l' me'
+    ready_again thread me me' (Moved t) r a = let (h, moves) = a in (entered h t l' w, (moves.4, refl, r.2, r.3, refl, r.5, r.6))
+    ready_again thread me me' NotYet r a = let (h, leaves, _) = a in (left h w.cause w.noted w, (leaves.2, refl, r.2, r.3, r.4 ∙ sym leaves.1, r.5, r.6))
+    ready_again thread me me' Held r a = let (h, leaves, _, _) = a in (left h w.cause w.noted w, (leaves.2, refl, r.2, r.3, r.4 ∙ sym leaves.1, r.5, r.6))
+    ready_again thread me me' (Full t) r a = let (h, leaves, _, _, _) = a in (left h 1 true w, (leaves.2, refl, refl, r.3, r.4 ∙ sym leaves.1, r.5, r.6))
+    ready_again thread me me' Memory r a = let (h, leaves, _, _) = a in (left h 2 true w, (leaves.2, refl, refl, r.3, r.4 ∙ sym leaves.1, r.5, r.6))
+    ready_again thread me me' (Halted c) r a = (saw (halt_number c) w, (a.1, r.1, refl, r.3, r.4 ∙ sym a.0, r.5, r.6))
 
   -- a seat that saw no cause in the halt word has none
-  pub clean : (w : Work X P L) (found : ℕ) → found ≡ 0 → w.noted ≡ true → w.cause ≤ found → (saw found w ≡ w) × (w.cause ≡ 0)
+  clean : (w : Work X P L) (found : ℕ) → found ≡ 0 → w.noted ≡ true → w.cause ≤ found → (saw found w ≡ w) × (w.cause ≡ 0)
   clean w found zero_is noted low =
       let none_is : w.cause ≡ 0 = omega arith in let same : found ≡ w.cause = omega arith in
       ((λ j. record { machine = w.machine; thread = w.thread; events = w.events; cause = same j; noted = sym noted j; local = w.local; made = w.made; visits = w.visits; stage = w.stage }), none_is)
 
   -- after the load of a halt word that is 0
-  pub seen_now : (mach : X → Rules P L) (n thread : ℕ) (l : L) (key : Key X) (w : Work X P L) (me me' : Mine X P L) → IsReady key thread l w me → Sees mach (step n 0 0 0 none) me 0 me' → (me' ≡ (Works w, [])) × (w.cause ≡ 0)
-  seen_now mach n thread l key w me me' r see =
-      let see' = subst (λ (z : Mine X P L). Sees mach (step n 0 0 0 none) z 0 me') r.0 see in let c = clean w 0 refl r.2 (see'.2.0 r.2) in
-      (see'.0 ∙ ap (λ (z : Work X P L). (Works z, [])) c.0, c.1)
+  module _ (mach : X → Rules P L) (n thread found : ℕ) (l : L) (key : Key X) (w : Work X P L) (me me' : Mine X P L)
+      (zero_is : found ≡ 0) (r : IsReady key thread l w me) (see : Sees mach (step n 0 0 0 none) me found me') where
+    pub seen_now : (me' ≡ (Works w, [])) × (w.cause ≡ 0)
+    seen_now =
+        let see' = subst (λ (z : Mine X P L). Sees mach (step n 0 0 0 none) z found me') r.0 see in let c = clean w found zero_is r.2 (see'.2.0 r.2) in
+        (see'.0 ∙ ap (λ (z : Work X P L). (Works z, [])) c.0, c.1)
 
-  pub in_turn : (mach : X → Rules P L) (fits : X → P → L → Type 0) (n thread part : ℕ) (l : L) (key : Key X) (w : Work X P L) (x : Stall P) (me me' me'' : Mine X P L) → IsReady key thread l w me → Sees mach (step n 0 0 0 none) me 0 me'
-      → me'' ≡ (at_view (at_stage (Taken (hold part x))) me'.0, (part, x) ∷ []) → Finds mach fits part x me'.0 → (mach key.machine).want l ≡ Some (part_no part) → InTurn mach key fits thread part l w x me''
-  in_turn mach fits n thread part l key w x me me' me'' r see next finds wish =
-      let c = seen_now mach n thread l key w me me' r see in
-      let f = subst (λ (z : Mine X P L). Finds mach fits part x z.0) c.0 finds in (
-        next ∙ ap (λ (z : Mine X P L). (at_view (at_stage (Taken (hold part x))) z.0, (part, x) ∷ [])) c.0,
-        (refl, r.1, r.2, r.3, r.4, r.5, r.6),
-        c.1,
-        wish,
-        subst (λ (z : X × L). fits z.0 x.part z.1) (λ j. (r.5 j, r.4 j)) (f.0 ((λ j. (mach (r.5 j)).want (r.4 j)) ∙ wish)),
-        f.1,
-      )
-
-  -- after every answer the seat is ready again
-  pub ready_again : (mach : X → Rules P L) (key : Key X) (thread : ℕ) (w : Work X P L) (l l' : L) (me me' : Mine X P L) (answer : Step) → IsReady key thread l w me → Tells mach key w l l' me' answer → Ready key thread l' me'
-  ready_again mach key thread w l l' me me' (Moved t) r a = (entered a.0 t l' w, (a.1.4, refl, r.2, r.3, refl, r.5, r.6))
-  ready_again mach key thread w l l' me me' NotYet r a = (left a.0 w.cause w.noted w, (a.1.2, refl, r.2, r.3, r.4 ∙ sym a.1.1, r.5, r.6))
-  ready_again mach key thread w l l' me me' Held r a = (left a.0 w.cause w.noted w, (a.1.2, refl, r.2, r.3, r.4 ∙ sym a.1.1, r.5, r.6))
-  ready_again mach key thread w l l' me me' (Full t) r a = (left a.0 1 true w, (a.1.2, refl, refl, r.3, r.4 ∙ sym a.1.1, r.5, r.6))
-  ready_again mach key thread w l l' me me' Memory r a = (left a.0 2 true w, (a.1.2, refl, refl, r.3, r.4 ∙ sym a.1.1, r.5, r.6))
-  ready_again mach key thread w l l' me me' (Halted c) r a = (saw (halt_number c) w, (a.1, r.1, refl, r.3, r.4 ∙ sym a.0, r.5, r.6))
+    pub in_turn : (fits : X → P → L → Type 0) (part : ℕ) (x : Stall P) (me'' : Mine X P L)
+        → me'' ≡ (at_view (at_stage (Taken (hold part x))) me'.0, (part, x) ∷ []) → Finds mach fits part x me'.0
+        → (mach key.machine).want l ≡ Some (part_no part) → InTurn mach key fits thread part l w x me''
+    in_turn fits part x me'' next finds wish =
+        let c = seen_now in let (_, idle, noted, named, local, machine, events) = r in
+        let f = subst (λ (z : Mine X P L). Finds mach fits part x z.0) c.0 finds in (
+          next ∙ ap (λ (z : Mine X P L). (at_view (at_stage (Taken (hold part x))) z.0, (part, x) ∷ [])) c.0,
+          (refl, idle, noted, named, local, machine, events),
+          c.1,
+          wish,
+          rw (← machine, ← local) (f.0 (rw (machine, local) wish)),
+          f.1,
+        )
 
   -- the seat of a thread that had none is ready, with the local of the machine's start
-  pub newcomer_is : (mach : X → Rules P L) (key : Key X) (t : ℕ) (m : Lead X P L) (l : L) (v : View X P L) (me : Mine X P L) → v ≡ Leads m → m.machine ≡ key.machine → slice_get (mach key.machine).locals t ≡ Some l → me ≡ (newcomer mach t v, []) → me ≡ (Works (fresh_work t l m), [])
+  pub newcomer_is : (mach : X → Rules P L) (key : Key X) (t : ℕ) (m : Lead X P L) (l : L) (v : View X P L) (me : Mine X P L)
+      → v ≡ Leads m → m.machine ≡ key.machine → slice_get (mach key.machine).locals t ≡ Some l
+      → me ≡ (newcomer mach t v, []) → me ≡ (Works (fresh_work t l m), [])
   newcomer_is mach key t m l v me is machine begins next =
-      let at : slice_get (mach m.machine).locals t ≡ Some l = subst (λ (z : X). slice_get (mach z).locals t ≡ Some l) (sym machine) begins in
+      let at : slice_get (mach m.machine).locals t ≡ Some l = rw machine begins in
       next ∙ (ap (λ (z : View X P L). (newcomer mach t z, [])) is ∙ ap (λ (o : Maybe L). (newcomer_with t m o, [])) at)
 
   -- the part that a local wants is there, as a load of the halt word tells
-  pub part_there : (mach : X → Rules P L) (n thread found : ℕ) (part : PartNo) (l : L) (key : Key X) (w : Work X P L) (me me' : Mine X P L) → IsReady key thread l w me → Sees mach (step n 0 0 0 none) me found me' → (mach key.machine).want l ≡ Some part → part.0 < n
+  pub part_there : (mach : X → Rules P L) (n thread found : ℕ) (part : PartNo) (l : L) (key : Key X) (w : Work X P L) (me me' : Mine X P L) → IsReady key thread l w me
+      → Sees mach (step n 0 0 0 none) me found me' → (mach key.machine).want l ≡ Some part → part.0 < n
   part_there mach n thread found part l key w me me' r see wish =
-      let see' = subst (λ (z : Mine X P L). Sees mach (step n 0 0 0 none) z found me') r.0 see in
-      see'.2.1 part.0 ((λ j. (mach (r.5 j)).want (r.4 j)) ∙ wish)
+      let see' = subst (λ (z : Mine X P L). Sees mach (step n 0 0 0 none) z found me') r.0 see in let (_, _, _, _, local, machine, _) = r in
+      see'.2.1 part.0 (rw (machine, local) wish)

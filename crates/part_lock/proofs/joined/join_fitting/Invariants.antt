@@ -10,7 +10,8 @@ invariant-loop-worker g l = record {
   main : (m : _) × IsMain l.parts.key m l.main.me;
   fits : All (λ w. Fit l.parts.table.shared.table_id l.parts.key w.hand) l.workers.items;
   so_far : l.locals.items ++ map (λ w. w.hand.local) (reverse l.workers.items) ≡ map (λ w. w.hand.local) (reverse l.initial.workers.items);
-  joins : (me : Mine _ _ _) → JoinsAll l.parts.key l.main.me (map (λ w. w.hand) (reverse l.workers.items)) me → JoinsAll l.parts.key l.initial.main.me (map (λ w. w.hand) (reverse l.initial.workers.items)) me;
+  joins : (me : Mine _ _ _) → JoinsAll l.parts.key l.main.me (map (λ w. w.hand) (reverse l.workers.items)) me
+      → JoinsAll l.parts.key l.initial.main.me (map (λ w. w.hand) (reverse l.initial.workers.items)) me;
 }
 
 abbrev pub decreases-loop-worker : goal.decreases-loop-worker

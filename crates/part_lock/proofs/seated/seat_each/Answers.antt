@@ -1,9 +1,7 @@
-use Rattle.std.proofs.Common.{◌≡◌, ◌++◌, All, length, map, reverse, refl, sym, ap, ◌∙◌, subst, arith, Some, add-one}
-use Rattle.std.specs.List.{slice_get}
+use Rattle.std.proofs.Common.{◌≡◌, length, map, reverse, refl, sym, ap, ◌∙◌, arith, add-one}
 use Rattle.std.proofs.lemmas.List.{length-reverse, reverse-reverse, append-nil, length-map}
 use Rattle.std.proofs.lemmas.List.Elements.{All-nil, All-push}
 use Rattle.replay_workers.specs.Runs.{IsReady as IsWorkerReady}
-use Rattle.part_lock.specs.Lock.{IsMain}
 use Rattle.part_lock.specs.Joins.{Fit, lead_of, numbers}
 use Rattle.part_lock.specs.Turns.{IsFresh}
 use Rattle.part_lock.proofs.Carried.{turned_end, move_step, none_left}
@@ -18,9 +16,9 @@ loop-local-init g c =
       few = omega (arith, c.turned-locals.result.ok.0);
       table = refl;
       main = c.requires.main;
-      ready = subst (All (IsWorkerReady (Fit c.args.parts.now.table.shared.table_id c.args.parts.now.key))) (sym c.requires.bare) (All-nil (IsWorkerReady (Fit c.args.parts.now.table.shared.table_id c.args.parts.now.key)));
-      fresh = subst (All (λ w. IsFresh w.hand.seat.me)) (sym c.requires.bare) (All-nil (λ w. IsFresh w.hand.seat.me));
-      so_far = ap (λ l. map (λ w. w.hand.local) l ++ reverse c.turned-locals.result.items) c.requires.bare ∙ (ap reverse c.turned-locals.ensures ∙ (reverse-reverse c.args.locals.items ∙ c.requires.start));
+      ready = rw c.requires.bare (All-nil _);
+      fresh = rw c.requires.bare (All-nil _);
+      so_far = rw (c.requires.bare, c.turned-locals.ensures, reverse-reverse) c.requires.start;
       threads = ap (map (λ w. w.hand.thread.0)) c.requires.bare;
     }
 
@@ -39,9 +37,8 @@ pub worker_for-requires-clause-start : goal.worker_for-requires-clause-start
 worker_for-requires-clause-start g c κs within =
     let v = c.loop-local.invariant in
     let turn = turned_end c.loop-local.locals.items c.pop.new.self.items c.in-Some.local c.in-Some.ensures.items in
-    let whole = ap (λ l. map (λ w. w.hand.local) c.loop-local.workers.items ++ l) (sym turn) ∙ v.so_far in
     let long = length-map c.loop-local.workers.items (λ w. w.hand.local) ∙ (sym c.loop-local.workers.ok.0 ∙ v.counted) in
-    subst (λ l. slice_get l c.loop-local.thread ≡ Some c.in-Some.local) whole (at_seam (map (λ w. w.hand.local) c.loop-local.workers.items) (reverse c.pop.new.self.items) c.in-Some.local c.loop-local.thread long)
+    rw (← v.so_far, turn) (at_seam (map (λ w. w.hand.local) c.loop-local.workers.items) (reverse c.pop.new.self.items) c.in-Some.local c.loop-local.thread long)
 
 pub push_reserved-requires : goal.push_reserved-requires
 push_reserved-requires g c = omega (arith, c.loop-local.invariant.room, c.loop-local.invariant.counted, c.in-Some.ensures.len)
@@ -55,10 +52,10 @@ loop-local-preserved g c =
       few = omega (arith, v.few, c.in-Some.ensures.len);
       table = c.worker_for.ensures.seat ∙ v.table;
       main = rw add-one (c.worker_for.ensures.main (lead_of c.args.parts.now.key (numbers c.loop-local.thread)) v.main);
-      ready = subst (All (IsWorkerReady (Fit c.args.parts.now.table.shared.table_id c.args.parts.now.key))) (sym c.push_reserved.ensures.items) (All-push (IsWorkerReady (Fit c.args.parts.now.table.shared.table_id c.args.parts.now.key)) c.loop-local.workers.items c.worker_for.result v.ready c.worker_for.ensures.ready);
-      fresh = subst (All (λ w. IsFresh w.hand.seat.me)) (sym c.push_reserved.ensures.items) (All-push (λ w. IsFresh w.hand.seat.me) c.loop-local.workers.items c.worker_for.result v.fresh c.worker_for.ensures.fresh);
-      so_far = move_step (λ w. w.hand.local) c.loop-local.workers.items c.push_reserved.new.self.items c.worker_for.result c.in-Some.local c.loop-local.locals.items c.pop.new.self.items _ c.push_reserved.ensures.items c.worker_for.ensures.hand.0 turn v.so_far;
-      threads = numbers_more (λ w. w.hand.thread.0) c.loop-local.workers.items c.push_reserved.new.self.items c.worker_for.result c.loop-local.thread c.push_reserved.ensures.items (ap (λ t. t.0) c.worker_for.ensures.hand.1) v.threads;
+      ready = rw c.push_reserved.ensures.items (All-push (IsWorkerReady (Fit c.args.parts.now.table.shared.table_id c.args.parts.now.key)) _ _ v.ready c.worker_for.ensures.ready);
+      fresh = rw c.push_reserved.ensures.items (All-push (λ w. IsFresh w.hand.seat.me) _ _ v.fresh c.worker_for.ensures.fresh);
+      so_far = move_step (λ w. w.hand.local) _ _ _ _ c.loop-local.locals.items c.pop.new.self.items _ c.push_reserved.ensures.items c.worker_for.ensures.hand.0 turn v.so_far;
+      threads = numbers_more (λ w. w.hand.thread.0) _ _ _ c.loop-local.thread c.push_reserved.ensures.items (ap (λ t. t.0) c.worker_for.ensures.hand.1) v.threads;
     }
 
 pub returns-clause-seat : goal.returns-clause-seat
@@ -68,7 +65,7 @@ pub returns-clause-main : goal.returns-clause-main
 returns-clause-main g c =
     let cases = rw c.in_default.is at c.pop.ensures.cases in let long = ap length c.turned-locals.ensures ∙ length-reverse c.args.locals.items in
     let count : c.loop-local.thread ≡ length c.args.locals.items = omega (arith, c.loop-local.invariant.few, cases.0, long) in
-    subst (λ n. IsMain c.args.parts.now.key (lead_of c.args.parts.now.key (numbers n)) c.loop-local.main.me) count c.loop-local.invariant.main
+    rw count at c.loop-local.invariant.main
 
 pub returns-clause-ready : goal.returns-clause-ready
 returns-clause-ready g c = c.loop-local.invariant.ready
@@ -77,8 +74,7 @@ pub returns-clause-locals : goal.returns-clause-locals
 returns-clause-locals g c =
     let cases = rw c.in_default.is at c.pop.ensures.cases in
     let none = none_left c.loop-local.locals.items (sym c.loop-local.locals.ok.0 ∙ cases.0) in
-    let bare = ap (λ l. map (λ w. w.hand.local) c.loop-local.workers.items ++ reverse l) none ∙ append-nil (map (λ w. w.hand.local) c.loop-local.workers.items) in
-    sym bare ∙ (c.loop-local.invariant.so_far ∙ sym c.requires.start)
+    rw (none, append-nil) at c.loop-local.invariant.so_far ∙ sym c.requires.start
 
 pub returns-clause-threads : goal.returns-clause-threads
 returns-clause-threads g c =

@@ -1,33 +1,27 @@
-use Rattle.std.proofs.Common.{◌∙◌, ap, refl, arith, inl}
-use Rattle.part_lock.specs.declared.view.Stage.TheVariants.{Taken}
-use Rattle.part_lock.specs.declared.view.View.TheVariants.{Works}
-use Rattle.part_lock.specs.Lock.{hold, at_stage}
-use Rattle.part_lock.proofs.Asked.{returns_as, fails_as}
-use Rattle.part_lock.proofs.Steps.{held_now, placed}
+use Rattle.std.proofs.Common.{◌∙◌, ap, arith}
+use Rattle.part_lock.proofs.Asked.{waits_as, lacks_as}
+use Rattle.part_lock.proofs.Steps.{placed}
 use Rattle.part_lock.proofs.parts.Parts.act_in.Goals as goal
 
 pub judge_held-requires-clause-holds : goal.judge_held-requires-clause-holds
-judge_held-requires-clause-holds g c = let q = c.requires.turn in (q.1, ap (λ m. m.1) q.2.0, q.2.4)
+judge_held-requires-clause-holds g c = let (w, x, turn) = c.requires.turn in (x, ap (λ m. m.1) turn.0, turn.4)
 
 pub store-requires : goal.store-requires
-store-requires g c = let q = c.requires.turn in let d = c.judge_held.ensures.same in
-    let n = held_now c.args.part (Works (at_stage (Taken (hold c.args.part q.1)) q.0)) q.1 d.0 d.1 _ _ q.2.0 d.2 d.3 in
-    (c.judge_held.ensures.seat.0 ∙ c.requires.seat, omega (arith, c.args.self.now.sized), returns_as g.M.Machine.rules _ _ _ _ (at_stage (Taken (hold c.args.part q.1)) q.0) (hold c.args.part q.1) d.1 n.0 refl (d.4 ∙ ap (λ z. z.entries.items) n.1) (d.5 ∙ ap (λ z. z.part) n.1))
+store-requires g c = let (w, x, turn) = c.requires.turn in let (x', y, has, next, entries, same, _) = c.judge_held.ensures.same in
+    (c.judge_held.ensures.seat.0 ∙ c.requires.seat, omega (arith, c.args.self.now.sized), waits_as g.M.Machine.rules _ _ g.M.Machine.fits _ _ _ w x _ _ _ x' y _ turn has next entries same)
 
 pub store-requires-in-Yields : goal.store-requires-in-Yields
-store-requires-in-Yields g c = let q = c.requires.turn in let d = c.judge_held.ensures.same in
-    let n = held_now c.args.part (Works (at_stage (Taken (hold c.args.part q.1)) q.0)) q.1 d.0 d.1 _ _ q.2.0 d.2 d.3 in
-    (c.judge_held.ensures.seat.0 ∙ c.requires.seat, omega (arith, c.args.self.now.sized), returns_as g.M.Machine.rules _ _ _ _ (at_stage (Taken (hold c.args.part q.1)) q.0) (hold c.args.part q.1) d.1 n.0 refl (d.4 ∙ ap (λ z. z.entries.items) n.1) (d.5 ∙ ap (λ z. z.part) n.1))
+store-requires-in-Yields g c = let (w, x, turn) = c.requires.turn in let (x', y, has, next, entries, same, _) = c.judge_held.ensures.same in
+    (c.judge_held.ensures.seat.0 ∙ c.requires.seat, omega (arith, c.args.self.now.sized), waits_as g.M.Machine.rules _ _ g.M.Machine.fits _ _ _ w x _ _ _ x' y _ turn has next entries same)
 
 pub store-requires-in-NoRoom : goal.store-requires-in-NoRoom
-store-requires-in-NoRoom g c = let q = c.requires.turn in let d = c.judge_held.ensures.same in
-    let n = held_now c.args.part (Works (at_stage (Taken (hold c.args.part q.1)) q.0)) q.1 d.0 d.1 _ _ q.2.0 d.2 d.3 in
-    (c.judge_held.ensures.seat.0 ∙ c.requires.seat, omega (arith, c.args.self.now.sized), fails_as g.M.Machine.rules _ _ _ _ (at_stage (Taken (hold c.args.part q.1)) q.0) (hold c.args.part q.1) d.1 n.0 (inl refl) q.2.2 (d.4 ∙ ap (λ z. z.entries.items) n.1) (d.5 ∙ ap (λ z. z.part) n.1))
+store-requires-in-NoRoom g c = let (w, x, turn) = c.requires.turn in let (x', y, has, next, entries, same, _) = c.judge_held.ensures.same in
+    (c.judge_held.ensures.seat.0 ∙ c.requires.seat, omega (arith, c.args.self.now.sized), lacks_as g.M.Machine.rules _ _ g.M.Machine.fits _ _ _ w x _ _ _ x' y _ turn has next entries same)
 
 pub act_now-requires-clause-turn : goal.act_now-requires-clause-turn
-act_now-requires-clause-turn g c = let q = c.requires.turn in let d = c.in-Goes.ensures.same in
-    (q.0, q.1, d.1, placed g.M.Machine.rules _ g.M.Machine.fits _ _ _ q.0 q.1 d.0 d.1 _ _ q.2 d.2 d.3 d.4 d.5 d.6)
+act_now-requires-clause-turn g c = let (w, x, turn) = c.requires.turn in let (x', y, has, next, entries, same, goes) = c.in-Goes.ensures.same in
+    (w, x, y, placed g.M.Machine.rules _ g.M.Machine.fits _ _ _ w x x' y _ _ turn has next entries same goes)
 
 pub returns-in-Goes-clause-acts : goal.returns-in-Goes-clause-acts
-returns-in-Goes-clause-acts g c = λ w x t. let d = c.in-Goes.ensures.same in
-    c.act_now.ensures.acts w x d.1 (placed g.M.Machine.rules _ g.M.Machine.fits _ _ _ w x d.0 d.1 _ _ t d.2 d.3 d.4 d.5 d.6)
+returns-in-Goes-clause-acts g c = λ w x turn. let (x', y, has, next, entries, same, goes) = c.in-Goes.ensures.same in
+    c.act_now.ensures.acts w x y (placed g.M.Machine.rules _ g.M.Machine.fits _ _ _ w x x' y _ _ turn has next entries same goes)

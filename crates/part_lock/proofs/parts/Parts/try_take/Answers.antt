@@ -7,8 +7,9 @@ pub compare_exchange-requires : goal.compare_exchange-requires
 compare_exchange-requires g c = (
   c.requires.seat,
   omega (arith, c.args.self.now.sized),
-  takes_as g.M.Machine.rules g.M.Machine.fits c.args.self.now.table.shared.key _ _ _ _ _ (g.met.M.Machine.sound c.args.self.now.table.shared.key.machine) c.requires.free c.requires.part,
+  takes_as g.M.Machine.rules g.M.Machine.fits _ _ _ c.args.self.now.table.shared.key _ _ (g.met.M.Machine.sound c.args.self.now.table.shared.key.machine) c.requires.free c.requires.part,
 )
 
 pub returns-clause-took : goal.returns-clause-took
-returns-clause-took g c = λ h. took g.M.Machine.rules g.M.Machine.fits c.args.self.now.table.shared.table_id.slots c.args.part.0 (c.args.thread.0 + 1) _ _ _ (eqb-true _ _ h) (ap (λ m. m.1) c.requires.free.1) c.compare_exchange.ensures.2
+returns-clause-took g c = λ h. let same = eqb-true _ _ h in let bare = ap (λ m. m.1) c.requires.free.1 in
+    took g.M.Machine.rules g.M.Machine.fits c.args.self.now.table.shared.table_id.slots c.args.part.0 _ (c.args.thread.0 + 1) _ _ same bare c.compare_exchange.ensures.2
