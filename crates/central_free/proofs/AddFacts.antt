@@ -1,5 +1,6 @@
 -- A span that is added: its first objects, and where it stands.
-use Rattle.std.proofs.Common.{◌≡◌, ℕ, zero, suc, ◌+◌, ◌-◌, ◌*◌, ◌^◌, ◌<◌, ◌≤◌, Bool, true, false, not, nat_lt, min, List, [], ◌∷◌, ◌++◌, length, get_or, set, map, replicate, count_by, position, Some, cond, refl, sym, ◌∙◌, ap, inl, inr, arith, subst}
+use Rattle.std.proofs.Common.{◌≡◌, ℕ, zero, suc, ◌+◌, ◌-◌, ◌*◌, ◌^◌, ◌<◌, ◌≤◌, Bool, true, false, not, nat_lt, min, List, [], ◌∷◌}
+use Rattle.std.proofs.Common.{◌++◌, length, get_or, set, map, replicate, count_by, Some, cond, refl, sym, ◌∙◌, ap, inl, inr, arith, subst}
 use Rattle.std.specs.Prelude.{AllPairs, All}
 use Rattle.std.specs.Option.{option_to_list}
 use Rattle.std.specs.List.{position_or_len, range_with_len}
@@ -40,70 +41,69 @@ set-front (suc a) b = ap (λ xs. false ∷ xs) (set-front a b)
 length-front : (a b : ℕ) → length (front a b) ≡ a + b
 length-front a b = omega (arith, length-append (replicate a false) (replicate b true), length-replicate a false, length-replicate b true)
 
--- the next object of a span that is being opened
-pub least-opened : (span : SpanRef) (size k : ℕ) → k < objects_in span.pages size → least (opened span size k) ≡ Some k
-least-opened span size k more =
-    let m = objects_in span.pages size in
-    let a : min k m ≡ k = min-eq_left (omega arith) in
-    let b : m - k ≡ suc (m - (k + 1)) = omega arith in
-    let is : front (min k m) (m - k) ≡ front k (suc (m - (k + 1))) = ap (λ i. front i (m - k)) a ∙ ap (front k) b in
-    ap (position (λ (f : Bool). f)) is ∙ first_is (front k (suc (m - (k + 1)))) k (first_of_front k (m - (k + 1))) (omega (arith, length-front k (suc (m - (k + 1)))))
-
 abbrev state_of : SpanRef → ℕ → List Bool → SpanState
 state_of span size free = record { span = span; size = size; free = free }
 
-pub opened-more : (span : SpanRef) (size k : ℕ) → k < objects_in span.pages size → after_take (opened span size k) (Some k) ≡ opened span size (k + 1)
-opened-more span size k more =
-    let m = objects_in span.pages size in
-    let a : min k m ≡ k = min-eq_left (omega arith) in
-    let b : m - k ≡ suc (m - (k + 1)) = omega arith in
-    let c : min (k + 1) m ≡ suc k = min-eq_left (omega arith) ∙ omega arith in
-    let is : front (min k m) (m - k) ≡ front k (suc (m - (k + 1))) = ap (λ i. front i (m - k)) a ∙ ap (front k) b in
-    ap (λ xs. state_of span size (set xs k false)) is ∙ ap (state_of span size) (set-front k (m - (k + 1))) ∙ ap (λ i. state_of span size (front i (m - (k + 1)))) (sym c)
-
-pub opened-none : (span : SpanRef) (size : ℕ) → opened span size 0 ≡ all_free span size
-opened-none span size =
-    let m = objects_in span.pages size in
-    let all : m - 0 ≡ m = omega arith in
-    let none : min 0 m ≡ 0 = min-eq_left (omega arith) in
-    ap (λ i. state_of span size (front i (m - 0))) none ∙ ap (λ i. state_of span size (front 0 i)) all
-
 -- how many objects a new span has
-pub free-all : (n : ℕ) → count_by (λ b. b) (replicate n true) ≡ n
+free-all : (n : ℕ) → count_by (λ b. b) (replicate n true) ≡ n
 free-all n = sum_by-replicate (λ (b : Bool). cond {A = ℕ} b 1 0) n true ∙ omega arith
 
--- several takes from a new span
-pub opened-run : (span : SpanRef) (size k : ℕ) → k ≤ objects_in span.pages size → (span_after k (all_free span size) ≡ opened span size k) × (given_by k (all_free span size) ≡ map (address (all_free span size)) (range_with_len 0 k))
-opened-run span size zero few = (sym (opened-none span size), refl)
-opened-run span size (suc k) few =
-    let before = opened-run span size k (omega arith) in
-    let next : k + 1 ≡ suc k = omega arith in
-    let last : least (opened span size k) ≡ Some k = least-opened span size k (omega arith) in (
-      ap (λ s. after_take s (least s)) before.0 ∙ ap (after_take (opened span size k)) last ∙ opened-more span size k (omega arith) ∙ ap (opened span size) next,
-      ap (λ s. given_by k (all_free span size) ++ option_to_list (taken_from s (least s))) before.0 ∙ ap (λ o. given_by k (all_free span size) ++ option_to_list (taken_from (opened span size k) o)) last ∙ ap (λ xs. xs ++ address (all_free span size) k ∷ []) before.1 ∙ sym (map-range_with_len_more (address (all_free span size)) 0 k k (omega arith)) ∙ ap (λ n. map (address (all_free span size)) (range_with_len 0 n)) next,
-    )
+module _ (span : SpanRef) (size : ℕ) where
+  -- what is free where k of them are taken, and some are left
+  still_free : (k : ℕ) → k < objects_in span.pages size → opened span size k ≡ state_of span size (front k (suc (objects_in span.pages size - (k + 1))))
+  still_free k more =
+      let m = objects_in span.pages size in
+      let a : min k m ≡ k = min-eq_left (omega arith) in let b : m - k ≡ suc (m - (k + 1)) = omega arith in λ i. state_of span size (front (a i) (b i))
 
--- the limit, cut to how many there are
-pub opened-min : (span : SpanRef) (size n : ℕ) → opened span size (min n (objects_in span.pages size)) ≡ opened span size n
-opened-min span size n =
-    let m = objects_in span.pages size in
-    let a : min (min n m) m ≡ min n m = min-eq_left (omega arith) in
-    let b : m - min n m ≡ m - n = omega arith in
-    ap (λ i. state_of span size (front i (m - min n m))) a ∙ ap (λ i. state_of span size (front (min n m) i)) b
+  -- the next object of a span that is being opened
+  least-opened : (k : ℕ) → k < objects_in span.pages size → least (opened span size k) ≡ Some k
+  least-opened k more =
+      let b = objects_in span.pages size - (k + 1) in
+      ap least (still_free k more) ∙ first_is (front k (suc b)) k (first_of_front k b) (omega (arith, length-front k (suc b)))
 
-pub length-opening : (span : SpanRef) (size n : ℕ) → length (opening span size n) ≡ min n (objects_in span.pages size)
-length-opening span size n = length-map-range_with_len (address (opened span size n)) 0 (min n (objects_in span.pages size))
+  opened-more : (k : ℕ) → k < objects_in span.pages size → after_take (opened span size k) (Some k) ≡ opened span size (k + 1)
+  opened-more k more =
+      let m = objects_in span.pages size in
+      let c : min (k + 1) m ≡ suc k = min-eq_left (omega arith) ∙ omega arith in
+      ap (λ s. after_take s (Some k)) (still_free k more) ∙ ap (state_of span size) (set-front k (m - (k + 1))) ∙ ap (λ i. state_of span size (front i (m - (k + 1)))) (sym c)
 
--- what a new span gives of n
-pub opened-all : (span : SpanRef) (size n came : ℕ) (s : SpanState) → s ≡ all_free span size → came ≡ min n (free_count s) → (came ≡ length (opening span size n)) × (span_after came s ≡ opened span size n) × (given_by came s ≡ opening span size n)
-opened-all span size n came s new count =
-    let m = objects_in span.pages size in
-    let all : came ≡ min n m = count ∙ ap (min n) (ap free_count new ∙ free-all m) in
-    let run = opened-run span size came (omega arith) in (
-      all ∙ sym (length-opening span size n),
-      ap (span_after came) new ∙ run.0 ∙ ap (opened span size) all ∙ opened-min span size n,
-      ap (given_by came) new ∙ run.1 ∙ ap (λ k. map (address (all_free span size)) (range_with_len 0 k)) all,
-    )
+  opened-none : opened span size 0 ≡ all_free span size
+  opened-none =
+      let m = objects_in span.pages size in
+      let all : m - 0 ≡ m = omega arith in let none : min 0 m ≡ 0 = min-eq_left (omega arith) in λ i. state_of span size (front (none i) (all i))
+
+  -- several takes from a new span
+  opened-run : (k : ℕ) → k ≤ objects_in span.pages size
+      → (span_after k (all_free span size) ≡ opened span size k) × (given_by k (all_free span size) ≡ map (address (all_free span size)) (range_with_len 0 k))
+  opened-run zero few = (sym opened-none, refl)
+  opened-run (suc k) few =
+      let new = all_free span size in
+      let before = opened-run k (omega arith) in let next : k + 1 ≡ suc k = omega arith in let last = least-opened k (omega arith) in (
+        ap (λ s. after_take s (least s)) before.0 ∙ ap (after_take (opened span size k)) last ∙ opened-more k (omega arith) ∙ ap (opened span size) next,
+        ap (λ s. given_by k new ++ option_to_list (taken_from s (least s))) before.0 ∙ ap (λ o. given_by k new ++ option_to_list (taken_from (opened span size k) o)) last
+            ∙ ap (λ xs. xs ++ address new k ∷ []) before.1 ∙ sym (map-range_with_len_more (address new) 0 k k (omega arith)) ∙ ap (λ n. map (address new) (range_with_len 0 n)) next,
+      )
+
+  -- the limit, cut to how many there are
+  opened-min : (n : ℕ) → opened span size (min n (objects_in span.pages size)) ≡ opened span size n
+  opened-min n =
+      let m = objects_in span.pages size in
+      let a : min (min n m) m ≡ min n m = min-eq_left (omega arith) in let b : m - min n m ≡ m - n = omega arith in λ i. state_of span size (front (a i) (b i))
+
+  pub length-opening : (n : ℕ) → length (opening span size n) ≡ min n (objects_in span.pages size)
+  length-opening n = length-map-range_with_len (address (opened span size n)) 0 (min n (objects_in span.pages size))
+
+  -- what a new span gives of n
+  pub opened-all : (n came : ℕ) (s : SpanState) → s ≡ all_free span size → came ≡ min n (free_count s)
+      → (came ≡ length (opening span size n)) × (span_after came s ≡ opened span size n) × (given_by came s ≡ opening span size n)
+  opened-all n came s new count =
+      let m = objects_in span.pages size in
+      let all : came ≡ min n m = count ∙ ap (min n) (ap free_count new ∙ free-all m) in
+      let run = opened-run came (omega arith) in (
+        all ∙ sym (length-opening n),
+        ap (span_after came) new ∙ run.0 ∙ ap (opened span size) all ∙ opened-min n,
+        ap (given_by came) new ∙ run.1 ∙ ap (λ k. map (address (all_free span size)) (range_with_len 0 k)) all,
+      )
 
 -- a span of which some are taken is one of its row
 length-opened : (span : SpanRef) (size n : ℕ) → length (opened span size n).free ≡ objects_in span.pages size
@@ -117,11 +117,13 @@ taken-opened : (span : SpanRef) (size n : ℕ) → 0 < n → 0 < objects_in span
 taken-opened span size n some objects =
     let m = objects_in span.pages size in
     let a = min n m in
-    let two : taken_count (opened span size n) ≡ count_by not (replicate a false) + count_by not (replicate (m - n) true) = sum_by-append (λ (b : Bool). cond {A = ℕ} (not b) 1 0) (replicate a false) (replicate (m - n) true) in
+    let two : taken_count (opened span size n) ≡ count_by not (replicate a false) + count_by not (replicate (m - n) true) =
+    sum_by-append (λ (b : Bool). cond {A = ℕ} (not b) 1 0) (replicate a false) (replicate (m - n) true) in
     let ones : count_by not (replicate a false) ≡ a * 1 = sum_by-replicate (λ (b : Bool). cond {A = ℕ} (not b) 1 0) a false in
     omega (arith, two, ones)
 
-pub IsOfRow-opened : (row : ClassRow) (span : SpanRef) (n : ℕ) → 0 < row.size → row.size < 2 ^ 32 → row.size ≤ row.pages * 8192 → span.first.0 < 2 ^ 32 → row.pages ≤ 255 → span.pages ≡ row.pages → 0 < n → IsOfRow row (opened span row.size n)
+pub IsOfRow-opened : (row : ClassRow) (span : SpanRef) (n : ℕ) → 0 < row.size → row.size < 2 ^ 32 → row.size ≤ row.pages * 8192
+    → span.first.0 < 2 ^ 32 → row.pages ≤ 255 → span.pages ≡ row.pages → 0 < n → IsOfRow row (opened span row.size n)
 IsOfRow-opened row span n some sizes fits first few pages any =
     record {
       cut = record { some = some; sizes = sizes; first = first; pages = omega arith; objects = length-opened span row.size n };
@@ -131,7 +133,8 @@ IsOfRow-opened row span n some sizes fits first few pages any =
     }
 
 -- the spans stay sound where one is added
-apart-with_span : (s : SpanState) (spans : List SpanState) → 0 < s.span.pages → All (IsApartFrom s.span) spans → AllPairs IsBefore spans → AllPairs IsBefore (with_span s spans)
+apart-with_span : (s : SpanState) (spans : List SpanState) → 0 < s.span.pages → All (IsApartFrom s.span) spans → AllPairs IsBefore spans
+    → AllPairs IsBefore (with_span s spans)
 apart-with_span s [] some clear apart = AllPairs-cons IsBefore s [] (All-nil (IsBefore s)) apart
 apart-with_span s (t ∷ ts) some clear apart =
     let a = first_byte s.span in
@@ -147,11 +150,13 @@ apart-with_span s (t ∷ ts) some clear apart =
       | false ↦ λ is.
           (let more : b ≤ a = ltb-false a b is in
           let before : IsBefore t s = elim here [ inl after ↦ absurd (omega arith) | inr before ↦ before ] in
-          AllPairs-cons IsBefore t (with_span s ts) (All-with_item (λ u. first_byte u.span) (IsBefore t) s ts before behind) (apart-with_span s ts some (All-tail (IsApartFrom s.span) t ts clear) others))
+          let rest = apart-with_span s ts some (All-tail (IsApartFrom s.span) t ts clear) others in
+          AllPairs-cons IsBefore t (with_span s ts) (All-with_item (λ u. first_byte u.span) (IsBefore t) s ts before behind) rest)
     ]) refl
 
-pub IsSound-with_span : (row : ClassRow) (spans : List SpanState) (s : SpanState) → IsSound (record { row = row; spans = spans }) → IsOfRow row s → All (IsApartFrom s.span) spans → IsSound (record { row = row; spans = with_span s spans })
-IsSound-with_span row spans s sound of_row clear =
+pub IsSound-with_span : {row : ClassRow} {spans : List SpanState} → IsSound (record { row = row; spans = spans })
+    → (s : SpanState) → IsOfRow row s → All (IsApartFrom s.span) spans → IsSound (record { row = row; spans = with_span s spans })
+IsSound-with_span {row} {spans} sound s of_row clear =
     record {
       some = sound.some;
       fits = sound.fits;
@@ -162,7 +167,8 @@ IsSound-with_span row spans s sound of_row clear =
 -- how the free objects change
 pub count-with_span : (test : Addr → Bool) (spans : List SpanState) (s : SpanState) → count_by test (free_in (with_span s spans)) ≡ count_by test (free_in spans) + count_by test (free_objects s)
 count-with_span test spans s =
-    omega (arith, count-flat_map test free_objects (with_span s spans), count-flat_map test free_objects spans, sum_by-with_item (λ (t : SpanState). first_byte t.span) (λ u. count_by test (free_objects u)) s spans)
+    let now = count-flat_map test free_objects (with_span s spans) in let was = count-flat_map test free_objects spans in
+    omega (arith, now, was, sum_by-with_item (λ (t : SpanState). first_byte t.span) (λ u. count_by test (free_objects u)) s spans)
 
 -- what came from the new span can be put back
 get_or-front : (a b i : ℕ) (d : Bool) → i < a → get_or (front a b) i d ≡ false
@@ -174,33 +180,29 @@ get_or-front (suc a) b (suc i) d less = get_or-front a b i d (omega arith)
 pub kept-with_span : (spans : List SpanState) (s : SpanState) (a : Addr) → IsTakenIn spans a → IsTakenIn (with_span s spans) a
 kept-with_span spans s a there = Any-old (λ t. first_byte t.span) (λ t. IsTaken t a) s spans there
 
-opening-IsTaken : (span : SpanRef) (size n i : ℕ) → i < min n (objects_in span.pages size) → IsTaken (opened span size n) (address (opened span size n) i)
-opening-IsTaken span size n i less =
-    let m = objects_in span.pages size in
-    let within : i < length (front (min n m) (m - n)) = omega (arith, length-front (min n m) (m - n)) in
-    record { index = i; at = refl; taken = slice_get-get_or (front (min n m) (m - n)) i true within ∙ ap (λ v. Some v) (get_or-front (min n m) (m - n) i true less) }
+module _ (span : SpanRef) (size n : ℕ) where
+  opening-IsTaken : (i : ℕ) → i < min n (objects_in span.pages size) → IsTaken (opened span size n) (address (opened span size n) i)
+  opening-IsTaken i less =
+      let m = objects_in span.pages size in let free = front (min n m) (m - n) in
+      record { index = i; at = refl; taken = slice_get-get_or free i true (omega (arith, length-front (min n m) (m - n))) ∙ ap (λ v. Some v) (get_or-front (min n m) (m - n) i true less) }
 
-pub opening-is_taken : (span : SpanRef) (size n : ℕ) → All (IsTaken (opened span size n)) (opening span size n)
-opening-is_taken span size n = λ i d within.
-    (let s = opened span size n in
-    let count = min n (objects_in span.pages size) in
-    let less : i < count = omega (arith, length-opening span size n) in
-    let read : get_or (opening span size n) i d ≡ address s i = get_or-map-range_with_len (address s) 0 count i i d less (omega arith) in
-    let P : Addr → Type 0 = IsTaken s in
-    subst P (sym read) (opening-IsTaken span size n i less))
+  -- the object at a place
+  opening_at : (i : ℕ) (d : Addr) → i < length (opening span size n) → (i < min n (objects_in span.pages size)) × (get_or (opening span size n) i d ≡ address (opened span size n) i)
+  opening_at i d within =
+      let less : i < min n (objects_in span.pages size) = omega (arith, length-opening span size n) in
+      (less, get_or-map-range_with_len (address (opened span size n)) 0 (min n (objects_in span.pages size)) i i d less (omega arith))
+
+  pub opening-is_taken : All (IsTaken (opened span size n)) (opening span size n)
+  opening-is_taken = λ i d within. let o = opening_at i d within in subst (IsTaken (opened span size n)) (sym o.1) (opening-IsTaken i o.0)
+
+  pub opening-different : 0 < size → AreDifferent (opening span size n)
+  opening-different some = λ i j d less within same.
+      let first = opening_at i d (omega arith) in let second = opening_at j d within in
+      let above : (i + 1) * size ≤ j * size = mul-le (i + 1) size j size (omega arith) (omega arith) in
+      let one : (i + 1) * size ≡ i * size + size = omega arith in
+      let at : first_byte span + i * size ≡ first_byte span + j * size = ap (λ a. a.0) (sym first.1 ∙ same ∙ second.1) in omega arith
 
 pub opening-taken : (spans : List SpanState) (span : SpanRef) (size n : ℕ) → All (IsTakenIn (with_span (opened span size n) spans)) (opening span size n)
 opening-taken spans span size n = λ i d within.
     (let a = get_or (opening span size n) i d in
     Any-new (λ t. first_byte t.span) (λ t. IsTaken t a) (opened span size n) spans (opening-is_taken span size n i d within))
-
-pub opening-different : (span : SpanRef) (size n : ℕ) → 0 < size → AreDifferent (opening span size n)
-opening-different span size n some = λ i j d less within.
-    (let s = opened span size n in
-    let count = min n (objects_in span.pages size) in
-    let inside : j < count = omega (arith, length-opening span size n) in
-    let first : get_or (opening span size n) i d ≡ address s i = get_or-map-range_with_len (address s) 0 count i i d (omega arith) (omega arith) in
-    let second : get_or (opening span size n) j d ≡ address s j = get_or-map-range_with_len (address s) 0 count j j d inside (omega arith) in
-    let above : (i + 1) * size ≤ j * size = mul-le (i + 1) size j size (omega arith) (omega arith) in
-    let one : (i + 1) * size ≡ i * size + size = omega arith in
-    λ same. (let at : first_byte span + i * size ≡ first_byte span + j * size = ap (λ a. a.0) (sym first ∙ same ∙ second) in omega arith))

@@ -22,7 +22,9 @@ pub record IsPutting (list : List Addr) (start now : Central) (before freed : Co
   pub sound : IsSound now
   pub taken : (k : ℕ) (d : Addr) → done ≤ k → k < length list → IsTakenIn now.spans (get_or list k d)
   pub kept : (a : Addr) → IsTakenIn start.spans a → All (λ b. a ≢ b) list → IsTakenIn now.spans a
-  pub moves : (test : Addr → Bool) → count_by test (free_in now.spans) + count_by test (flat_map (objects_of start.row.size) freed.items) + count_by test (drop done list) ≡ count_by test (free_in start.spans) + count_by test (flat_map (objects_of start.row.size) before.items) + count_by test list
+  pub moves : (test : Addr → Bool)
+      → count_by test (free_in now.spans) + count_by test (flat_map (objects_of start.row.size) freed.items) + count_by test (drop done list)
+      ≡ count_by test (free_in start.spans) + count_by test (flat_map (objects_of start.row.size) before.items) + count_by test list
 
 pub IsPutting-none : (list : List Addr) (start : Central) (before : Contents SpanRef) → IsSound start → All (IsTakenIn start.spans) list → IsPutting list start start before before 0
 IsPutting-none list start before sound taken =
@@ -38,16 +40,30 @@ IsPutting-none list start before sound taken =
       moves = λ test. refl;
     }
 
+-- how often something is among the objects of spans, and of more of them
+freed_counts : (test : Addr → Bool) (size : ℕ) (old new more : List SpanRef) → more ≡ old ++ new
+    → count_by test (flat_map (objects_of size) more) ≡ count_by test (flat_map (objects_of size) old) + count_by test (flat_map (objects_of size) new)
+freed_counts test size old new more is =
+    ap (λ xs. count_by test (flat_map (objects_of size) xs)) is ∙ ap (count_by test) (flat_map-append (objects_of size) old new)
+    ∙ sum_by-append (λ x. cond {A = ℕ} (test x) 1 0) (flat_map (objects_of size) old) (flat_map (objects_of size) new)
+
 -- one more object, which frees its span or doesn't
-pub IsPutting-more : (list : List Addr) (start now next : Central) (before freed more : Contents SpanRef) (done : ℕ) (a : Addr) (gone : List SpanRef) → IsPutting list start now before freed done → AreDifferent list → done < length list → a ≡ get_or list done a → next.row ≡ now.row → next.spans ≡ (put_one a now.spans).spans → gone ≡ (put_one a now.spans).freed → more.items ≡ freed.items ++ gone → length more.items + more.spare ≡ length freed.items + freed.spare → length gone ≤ 1 → IsSound next → ((b : Addr) → IsTakenIn now.spans b → b ≢ a → IsTakenIn next.spans b) → ((test : Addr → Bool) → count_by test (free_in next.spans) + count_by test (flat_map (objects_of now.row.size) gone) ≡ count_by test (free_in now.spans) + count_by test (a ∷ [])) → IsPutting list start next before more (done + 1)
-IsPutting-more list start now next before freed more done a gone so_far different less read row spans gone_is items room one sound kept moves =
-    let split : drop done list ≡ a ∷ drop (done + 1) list = drop_more list done a less ∙ ap (λ x. x ∷ drop (done + 1) list) (sym read) in
-    let rest : put_all (drop (done + 1) list) (put_one a now.spans).spans ≡ put_all (drop (done + 1) list) next.spans = ap (put_all (drop (done + 1) list)) (sym spans) in
+pub IsPutting-more : {list : List Addr} {start now : Central} {before freed : Contents SpanRef} {done : ℕ}
+    → IsPutting list start now before freed done → (next : Central) (more : Contents SpanRef) (a : Addr) (gone : List SpanRef)
+    → AreDifferent list → done < length list → a ≡ get_or list done a → next.row ≡ now.row → next.spans ≡ (put_one a now.spans).spans → gone ≡ (put_one a now.spans).freed
+    → more.items ≡ freed.items ++ gone → length more.items + more.spare ≡ length freed.items + freed.spare
+    → length gone ≤ 1 → IsSound next → ((b : Addr) → IsTakenIn now.spans b → b ≢ a → IsTakenIn next.spans b)
+    → ((test : Addr → Bool) → count_by test (free_in next.spans) + count_by test (flat_map (objects_of now.row.size) gone) ≡ count_by test (free_in now.spans) + count_by test (a ∷ []))
+    → IsPutting list start next before more (done + 1)
+IsPutting-more {list} {start} {now} {before} {freed} {done} so_far next more a gone different less read row spans gone_is items room one sound kept moves =
+    let left = drop (done + 1) list in let size = start.row.size in
+    let split : drop done list ≡ a ∷ left = drop_more list done a less ∙ ap (λ x. x ∷ left) (sym read) in
+    let whole : put_all (drop done list) now.spans ≡ record { spans = (put_all left next.spans).spans; freed = gone ++ (put_all left next.spans).freed } = rw (split, spans, gone_is) refl in
     record {
       row = row ∙ so_far.row;
-      spans = ap (λ p. p.spans) (sym rest) ∙ ap (λ xs. (put_all xs now.spans).spans) (sym split) ∙ so_far.spans;
-      items = ap (λ xs. xs ++ (put_all (drop (done + 1) list) next.spans).freed) items ∙ append_assoc freed.items gone (put_all (drop (done + 1) list) next.spans).freed
-          ∙ ap (λ xs. freed.items ++ (xs ++ (put_all (drop (done + 1) list) next.spans).freed)) gone_is ∙ ap (λ p. freed.items ++ ((put_one a now.spans).freed ++ p.freed)) (sym rest) ∙ ap (λ xs. freed.items ++ (put_all xs now.spans).freed) (sym split) ∙ so_far.items;
+      spans = ap (λ p. p.spans) (sym whole) ∙ so_far.spans;
+      items = ap (λ xs. xs ++ (put_all left next.spans).freed) items ∙ append_assoc freed.items gone (put_all left next.spans).freed
+          ∙ ap (λ p. freed.items ++ p.freed) (sym whole) ∙ so_far.items;
       room = room ∙ so_far.room;
       few = omega (arith, so_far.few, ap length items, length-append {A = SpanRef} freed.items gone);
       sound = sound;
@@ -55,12 +71,10 @@ IsPutting-more list start now next before freed more done a gone so_far differen
           kept (get_or list k d) (so_far.taken k d (omega arith) within) (λ same. different done k d (omega arith) within (sym (get_or_read list done a less read d) ∙ sym same));
       kept = λ b there differ. kept b (so_far.kept b there differ) (λ same. differ done a less (same ∙ read));
       moves = λ test. (
-          let size : flat_map (objects_of now.row.size) gone ≡ flat_map (objects_of start.row.size) gone = ap (λ r. flat_map (objects_of r.size) gone) so_far.row in
-          let sizes : count_by test (flat_map (objects_of now.row.size) gone) ≡ count_by test (flat_map (objects_of start.row.size) gone) = ap (count_by test) size in
-          let joined : count_by test (flat_map (objects_of start.row.size) more.items) ≡ count_by test (flat_map (objects_of start.row.size) freed.items) + count_by test (flat_map (objects_of start.row.size) gone) =
-          ap (λ xs. count_by test (flat_map (objects_of start.row.size) xs)) items ∙ ap (count_by test) (flat_map-append (objects_of start.row.size) freed.items gone) ∙ sum_by-append (λ x. cond {A = ℕ} (test x) 1 0) (flat_map (objects_of start.row.size) freed.items) (flat_map (objects_of start.row.size) gone) in
-          let left : count_by test (drop done list) ≡ count_by test (a ∷ []) + count_by test (drop (done + 1) list) = ap (count_by test) split ∙ sum_by-append (λ x. cond {A = ℕ} (test x) 1 0) (a ∷ []) (drop (done + 1) list) in
-          omega (arith, sizes, joined, left, moves test, so_far.moves test));
+          let sizes = ap (λ r. count_by test (flat_map (objects_of r.size) gone)) so_far.row in
+          let rest : count_by test (drop done list) ≡ count_by test (a ∷ []) + count_by test left =
+          ap (count_by test) split ∙ sum_by-append (λ x. cond {A = ℕ} (test x) 1 0) (a ∷ []) left in
+          omega (arith, sizes, freed_counts test size freed.items gone more.items items, rest, moves test, so_far.moves test));
     }
 
 -- what stands behind the last one
@@ -68,23 +82,21 @@ pub record IsPut (list : List Addr) (start now : Central) (before freed : Conten
   pub spans : now ≡ record { row = start.row; spans = (put_all list start.spans).spans }
   pub items : freed.items ≡ before.items ++ (put_all list start.spans).freed
   pub spare : freed.spare + length (put_all list start.spans).freed ≡ before.spare
-  pub moves : (test : Addr → Bool) → count_by test (free_in now.spans) + count_by test (flat_map (objects_of start.row.size) (put_all list start.spans).freed) ≡ count_by test (free_in start.spans) + count_by test list
+  pub moves : (test : Addr → Bool)
+      → count_by test (free_in now.spans) + count_by test (flat_map (objects_of start.row.size) (put_all list start.spans).freed) ≡ count_by test (free_in start.spans) + count_by test list
 
 abbrev central_of : ClassRow → List SpanState → Central
 central_of row spans = record { row = row; spans = spans }
 
-pub IsPut-end : (list : List Addr) (start now : Central) (before freed : Contents SpanRef) (done : ℕ) → IsPutting list start now before freed done → length list ≤ done → IsPut list start now before freed
-IsPut-end list start now before freed done so_far past =
-    let none : drop done list ≡ [] = drop_all done list past in
+pub IsPut-end : {list : List Addr} {start now : Central} {before freed : Contents SpanRef} {done : ℕ}
+    → IsPutting list start now before freed done → length list ≤ done → IsPut list start now before freed
+IsPut-end {list} {start} {now} {before} {freed} {done} so_far past =
+    let none : drop done list ≡ [] = drop_all done list past in let gone = (put_all list start.spans).freed in
     let last : put_all (drop done list) now.spans ≡ record { spans = now.spans; freed = [] } = ap (λ xs. put_all xs now.spans) none in
-    let items : freed.items ≡ before.items ++ (put_all list start.spans).freed = sym (append-nil freed.items) ∙ ap (λ p. freed.items ++ p.freed) (sym last) ∙ so_far.items in
+    let items : freed.items ≡ before.items ++ gone = sym (append-nil freed.items) ∙ ap (λ p. freed.items ++ p.freed) (sym last) ∙ so_far.items in
     record {
       spans = ap (λ r. central_of r now.spans) so_far.row ∙ ap (central_of start.row) (ap (λ p. p.spans) (sym last) ∙ so_far.spans);
       items = items;
-      spare = omega (arith, so_far.room, ap length items, length-append {A = SpanRef} before.items (put_all list start.spans).freed);
-      moves = λ test. (
-          let joined : count_by test (flat_map (objects_of start.row.size) freed.items) ≡ count_by test (flat_map (objects_of start.row.size) before.items) + count_by test (flat_map (objects_of start.row.size) (put_all list start.spans).freed) =
-          ap (λ xs. count_by test (flat_map (objects_of start.row.size) xs)) items ∙ ap (count_by test) (flat_map-append (objects_of start.row.size) before.items (put_all list start.spans).freed) ∙ sum_by-append (λ x. cond {A = ℕ} (test x) 1 0) (flat_map (objects_of start.row.size) before.items) (flat_map (objects_of start.row.size) (put_all list start.spans).freed) in
-          let empty : count_by test (drop done list) ≡ 0 = ap (count_by test) none in
-          omega (arith, joined, empty, so_far.moves test));
+      spare = omega (arith, so_far.room, ap length items, length-append {A = SpanRef} before.items gone);
+      moves = λ test. omega (arith, freed_counts test start.row.size before.items gone freed.items items, ap (count_by test) none, so_far.moves test);
     }

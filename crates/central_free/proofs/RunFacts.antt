@@ -1,7 +1,7 @@
 -- Several objects of one span: what stands after some of them.
-use Rattle.std.proofs.Common.{◌≡◌, ◌≢◌, ℕ, zero, suc, ◌+◌, ◌<◌, ◌≤◌, Bool, false, List, [], ◌∷◌, ◌++◌, length, get_or, count_by, Option, Some, None, cond, refl, sym, ◌∙◌, ap, subst, arith}
+use Rattle.std.proofs.Common.{◌≡◌, ◌≢◌, ℕ, zero, suc, ◌+◌, ◌<◌, ◌≤◌, Bool, false, [], ◌∷◌, ◌++◌}
+use Rattle.std.proofs.Common.{length, get_or, count_by, Option, Some, None, cond, refl, sym, ◌∙◌, ap, subst, arith}
 use Rattle.std.specs.Prelude.{All}
-use Rattle.std.specs.Option.{option_to_list}
 use Rattle.std.proofs.lemmas.List.{append_assoc, append-nil, length-append, length-set}
 use Rattle.std.proofs.lemmas.List.Elements.{All-push, All-nil}
 use Rattle.std.proofs.lemmas.List.Quantifiers.{all_pairs_push}
@@ -11,6 +11,7 @@ use Rattle.tc_units.specs.Bag.{Contents}
 use Rattle.span_list.specs.Span.{SpanState, IsTaken, least, taken_from, after_take, free_count, taken_count, free_objects}
 use Rattle.span_list.proofs.SpanFacts.{count_both, count_none, take_counts}
 use Rattle.central_free.specs.Central.{AreDifferent}
+use Rattle.central_free.proofs.SoundFacts.{span-after_take}
 use Rattle.central_free.specs.Runs.{span_after, given_by}
 
 -- how a take changes the counts, where an object is free
@@ -31,18 +32,10 @@ run_counts (suc k) s few =
     let one = take_one_counts (span_after k s) (omega (arith, before.1)) in
     (omega (arith, before.0, one.0), omega (arith, before.1, one.1))
 
-span_kept : (s : SpanState) (at : Option ℕ) → (after_take s at).span ≡ s.span
-span_kept s None = refl
-span_kept s (Some i) = refl
-
-size_kept : (s : SpanState) (at : Option ℕ) → (after_take s at).size ≡ s.size
-size_kept s None = refl
-size_kept s (Some i) = refl
-
 pub span-span_after : (k : ℕ) (s : SpanState) → (span_after k s).span ≡ s.span
 span-span_after zero s = refl
 span-span_after (suc k) s =
-    span_kept (span_after k s) (least (span_after k s)) ∙ span-span_after k s
+    span-after_take (span_after k s) ∙ span-span_after k s
 
 -- what stands after `came` takes
 pub record IsGiving (span : SpanState) (before : Contents Addr) (now : SpanState) (out : Contents Addr) (came : ℕ) : Type 0 where
@@ -70,20 +63,23 @@ IsGiving-none span before =
       moves = λ test. refl;
     }
 
-pub IsGiving-more : (span : SpanState) (before : Contents Addr) (now next : SpanState) (out more : Contents Addr) (came : ℕ) (a : Addr) → IsGiving span before now out came → Some a ≡ taken_from now (least now) → next ≡ after_take now (least now) → IsTaken next a → (IsTaken now a → ⊥) → ((b : Addr) → IsTaken now b → IsTaken next b) → more.items ≡ out.items ++ a ∷ [] → more.spare + 1 ≡ out.spare → ((test : Addr → Bool) → count_by test (free_objects next) + count_by test (a ∷ []) ≡ count_by test (free_objects now)) → IsGiving span before next more (suc came)
-IsGiving-more span before now next out more came a so_far gives after given fresh kept items spare moves =
-    let gave : given_by (suc came) span ≡ given_by came span ++ a ∷ [] = ap (λ (s : SpanState). given_by came span ++ option_to_list (taken_from s (least s))) (sym so_far.is) ∙ ap (λ (o : Option Addr). given_by came span ++ option_to_list o) (sym gives) in
-    let P : List Addr → Type 0 = All (IsTaken next) in
-    let Q : List Addr → Type 0 = All (λ b. IsTaken span b → ⊥) in
+pub IsGiving-more : {span : SpanState} {before : Contents Addr} {now : SpanState} {out : Contents Addr} {came : ℕ}
+    → IsGiving span before now out came → (next : SpanState) (more : Contents Addr) (a : Addr)
+    → Some a ≡ taken_from now (least now) → next ≡ after_take now (least now) → IsTaken next a → (IsTaken now a → ⊥) → ((b : Addr) → IsTaken now b → IsTaken next b)
+    → more.items ≡ out.items ++ a ∷ [] → more.spare + 1 ≡ out.spare
+    → ((test : Addr → Bool) → count_by test (free_objects next) + count_by test (a ∷ []) ≡ count_by test (free_objects now))
+    → IsGiving span before next more (suc came)
+IsGiving-more {span = span} {before = before} {now = now} {out = out} {came = came} so_far next more a gives after given fresh kept items spare moves =
+    let gave : given_by (suc came) span ≡ given_by came span ++ a ∷ [] = rw (← so_far.is, ← gives) refl in
+    let old = given_by came span in
     record {
       is = after ∙ ap (λ (s : SpanState). after_take s (least s)) so_far.is;
-      items = items ∙ ap (λ xs. xs ++ a ∷ []) so_far.items ∙ append_assoc before.items (given_by came span) (a ∷ []) ∙ ap (λ xs. before.items ++ xs) (sym gave);
-      count = ap length gave ∙ omega (arith, length-append {A = Addr} (given_by came span) (a ∷ []), so_far.count);
+      items = items ∙ ap (λ xs. xs ++ a ∷ []) so_far.items ∙ append_assoc before.items old (a ∷ []) ∙ ap (λ xs. before.items ++ xs) (sym gave);
+      count = omega (arith, ap length gave, length-append {A = Addr} old (a ∷ []), so_far.count);
       spare = omega (arith, so_far.spare);
-      given = subst P (sym gave) (All-push (IsTaken next) (given_by came span) a (λ k d within. kept (get_or (given_by came span) k d) (so_far.given k d within)) given);
-      fresh = subst Q (sym gave) (All-push (λ b. IsTaken span b → ⊥) (given_by came span) a so_far.fresh (λ there. fresh (so_far.kept a there)));
-      different = subst AreDifferent (sym gave) (all_pairs_push (λ b c. b ≢ c) (given_by came span) a so_far.different (λ k d within same. (let R : Addr → Type 0 = IsTaken now in fresh (subst R same (so_far.given k d within)))));
+      given = rw gave (All-push (IsTaken next) old a (λ k d within. kept (get_or old k d) (so_far.given k d within)) given);
+      fresh = rw gave (All-push (λ b. IsTaken span b → ⊥) old a so_far.fresh (λ there. fresh (so_far.kept a there)));
+      different = rw gave (all_pairs_push (λ b c. b ≢ c) old a so_far.different (λ k d within same. fresh (subst (IsTaken now) same (so_far.given k d within))));
       kept = λ b there. kept b (so_far.kept b there);
-      moves = λ test. (let pushed : count_by test more.items ≡ count_by test out.items + count_by test (a ∷ []) = ap (count_by test) items ∙ sum_by-append (λ x. cond {A = ℕ} (test x) 1 0) out.items (a ∷ []) in
-          omega (arith, pushed, moves test, so_far.moves test));
+      moves = λ test. (let pushed = ap (count_by test) items ∙ sum_by-append (λ x. cond {A = ℕ} (test x) 1 0) out.items (a ∷ []) in omega (arith, pushed, moves test, so_far.moves test));
     }

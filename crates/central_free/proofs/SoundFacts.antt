@@ -1,5 +1,6 @@
 -- A sound list of spans stays so where one of them gives or takes an object.
-use Rattle.std.proofs.Common.{◌≡◌, ℕ, ◌+◌, ◌<◌, Bool, false, List, [], ◌∷◌, length, get_or, set, count_by, Option, Some, None, cond, refl, sym, ◌∙◌, ap, subst, inl, inr, arith}
+use Rattle.std.proofs.Common.{◌≡◌, ℕ, ◌+◌, ◌<◌, Bool, false, List, [], ◌∷◌, length, get_or, set}
+use Rattle.std.proofs.Common.{count_by, Option, Some, None, cond, refl, ◌∙◌, ap, inl, inr, arith}
 use Rattle.std.specs.Prelude.{All}
 use Rattle.std.specs.List.{flat_map, sum_by}
 use Rattle.std.proofs.lemmas.List.{get_or-set_same, get_or-set_other, length-set, get_or_default}
@@ -13,8 +14,8 @@ use Rattle.span_list.proofs.SpanFacts.{take_counts}
 use Rattle.central_free.specs.Central.{Central, IsBefore, IsOfRow, IsSound, free_in}
 
 -- each span has a page
-pub has_pages : (central : Central) → IsSound central → All (λ s. 0 < s.span.pages) central.spans
-has_pages central sound = λ k d within.
+pub has_pages : {central : Central} → IsSound central → All (λ s. 0 < s.span.pages) central.spans
+has_pages {central} sound = λ k d within.
     (let row : IsOfRow central.row (get_or central.spans k d) = sound.of_row k d within in
     omega (arith, row.pages, sound.some, sound.fits))
 
@@ -51,37 +52,37 @@ pub span-after_take : (s : SpanState) → (after_take s (least s)).span ≡ s.sp
 span-after_take s = span-taken s (least s)
 
 -- a span in another's stead, with the same pages
-same_span : (spans : List SpanState) (k : ℕ) (t : SpanState) → k < length spans → ((d : SpanState) → t.span ≡ (get_or spans k d).span) → (i : ℕ) (d : SpanState) → (get_or (set spans k t) i d).span ≡ (get_or spans i d).span
+same_span : (spans : List SpanState) (k : ℕ) (t : SpanState) → k < length spans → ((d : SpanState) → t.span ≡ (get_or spans k d).span)
+    → (i : ℕ) (d : SpanState) → (get_or (set spans k t) i d).span ≡ (get_or spans i d).span
 same_span spans k t within same i d =
     elim (cases_eq i k) [
       | inl here ↦
-          (let F : ℕ → Type 0 = λ j. (get_or (set spans k t) j d).span ≡ (get_or spans j d).span in
-          subst F (sym here) (ap (λ u. u.span) (get_or-set_same spans k t d within) ∙ same d))
+          rw here (ap (λ u. u.span) (get_or-set_same spans k t d within) ∙ same d)
       | inr other ↦ ap (λ u. u.span) (get_or-set_other spans k i t d other)
     ]
 
-pub IsSound-set : (row : ClassRow) (spans : List SpanState) (k : ℕ) (s t : SpanState) → IsSound (record { row = row; spans = spans }) → k < length spans → s ≡ get_or spans k s → t.span ≡ s.span → IsOfRow row t → IsSound (record { row = row; spans = set spans k t })
-IsSound-set row spans k s t sound within read same of_row =
-    let pages : (i : ℕ) (d : SpanState) → (get_or (set spans k t) i d).span ≡ (get_or spans i d).span = same_span spans k t within (λ d. same ∙ ap (λ u. u.span) (read ∙ get_or_default spans k s d within)) in
+pub IsSound-set : {row : ClassRow} {spans : List SpanState} → IsSound (record { row = row; spans = spans }) → (k : ℕ) (s t : SpanState)
+    → k < length spans → s ≡ get_or spans k s → t.span ≡ s.span → IsOfRow row t → IsSound (record { row = row; spans = set spans k t })
+IsSound-set {row = row} {spans = spans} sound k s t within read same of_row =
+    let pages = same_span spans k t within (λ d. same ∙ ap (λ u. u.span) (read ∙ get_or_default spans k s d within)) in
     record {
       some = sound.some;
       fits = sound.fits;
       of_row = All-set (IsOfRow row) spans k t of_row sound.of_row;
       apart = λ i j d less inside.
           let before : IsBefore (get_or spans i d) (get_or spans j d) = sound.apart i j d less (omega (arith, length-set spans k t)) in
-          let from : (get_or (set spans k t) i d).span.first.0 + (get_or (set spans k t) i d).span.pages ≡ (get_or spans i d).span.first.0 + (get_or spans i d).span.pages = ap (λ u. u.first.0 + u.pages) (pages i d) in
-          let to : (get_or (set spans k t) j d).span.first.0 ≡ (get_or spans j d).span.first.0 = ap (λ u. u.first.0) (pages j d) in
-          omega arith;
+          omega (arith, before, ap (λ u. u.first.0) (pages i d), ap (λ u. u.pages) (pages i d), ap (λ u. u.first.0) (pages j d));
     }
 
 -- how often something is among the free objects of all spans
 pub count-flat_map : {X A : Type 0} (test : A → Bool) (f : X → List A) (xs : List X) → count_by test (flat_map f xs) ≡ sum_by (λ x. count_by test (f x)) xs
 count-flat_map test f [] = refl
 count-flat_map test f (x ∷ xs) =
-    sum_by-append (λ a. cond (test a) 1 0) (f x) (flat_map f xs) ∙ ap (λ n. count_by test (f x) + n) (count-flat_map test f xs) ∙ sym (sum_by-cons (λ y. count_by test (f y)) x xs)
+    omega (arith, sum_by-append (λ a. cond {A = ℕ} (test a) 1 0) (f x) (flat_map f xs), count-flat_map test f xs, sum_by-cons (λ y. count_by test (f y)) x xs)
 
 -- one span for another changes that by the two spans' own
-pub count-set : (test : Addr → Bool) (spans : List SpanState) (k : ℕ) (s t : SpanState) → k < length spans → s ≡ get_or spans k s → count_by test (free_in (set spans k t)) + count_by test (free_objects s) ≡ count_by test (free_in spans) + count_by test (free_objects t)
+pub count-set : (test : Addr → Bool) (spans : List SpanState) (k : ℕ) (s t : SpanState) → k < length spans → s ≡ get_or spans k s
+    → count_by test (free_in (set spans k t)) + count_by test (free_objects s) ≡ count_by test (free_in spans) + count_by test (free_objects t)
 count-set test spans k s t within read =
-    let old : count_by test (free_objects s) ≡ count_by test (free_objects (get_or spans k s)) = ap (λ u. count_by test (free_objects u)) read in
+    let old = ap (λ u. count_by test (free_objects u)) read in
     omega (arith, count-flat_map test free_objects (set spans k t), count-flat_map test free_objects spans, sum_by-set (λ u. count_by test (free_objects u)) spans k t s within, old)

@@ -1,37 +1,33 @@
 -- Several takes from one span are what as many takes from the list give: it goes on to serve first until it has no free object.
-use Rattle.std.proofs.Common.{◌≡◌, ◌≢◌, ℕ, zero, suc, ◌+◌, ◌<◌, ◌≤◌, ◌==◌, List, [], ◌++◌, length, get_or, set, map, Option, Some, None, MatchOption, refl, sym, ◌∙◌, ap, subst, inl, inr, arith}
+use Rattle.std.proofs.Common.{◌≡◌, ◌≢◌, ℕ, zero, suc, ◌+◌, ◌<◌, ◌≤◌, List, [], ◌++◌, length}
+use Rattle.std.proofs.Common.{get_or, set, map, Option, Some, None, MatchOption, refl, sym, ◌∙◌, ap, inl, inr, arith}
 use Rattle.std.specs.Option.{option_to_list}
 use Rattle.std.proofs.lemmas.List.{get_or-map, get_or-set_same, get_or-set_other, length-map, length-set, map-set, set-set, set-get_or}
-use Rattle.std.proofs.lemmas.Bool.{cases_eq, cond-false, ne_eqb}
+use Rattle.std.proofs.lemmas.Bool.{cases_eq}
 use Rattle.tc_units.specs.declared.units.Addr.{Addr}
 use Rattle.tc_units.specs.declared.spans.ClassRow.{ClassRow}
-use Rattle.span_list.specs.Span.{SpanState, least, taken_from, after_take, free_count, taken_count}
+use Rattle.span_list.specs.Span.{SpanState, least, taken_from, after_take, free_count}
 use Rattle.central_free.specs.Central.{Took, taken, and_then, taken_one, IsSound, IsOfRow}
 use Rattle.central_free.specs.Runs.{span_after, given_by}
 use Rattle.central_free.specs.Slots.{weight}
-use Rattle.central_free.proofs.ChoiceFacts.{IsBestPlace, taken_one-is}
+use Rattle.central_free.proofs.ChoiceFacts.{IsBestPlace, weight-free, taken_one-is}
 use Rattle.central_free.proofs.SoundFacts.{has_pages, IsOfRow-after_take, IsSound-set, span-after_take}
 use Rattle.central_free.proofs.RunFacts.{run_counts}
-use Rattle.central_free.proofs.TookFacts.{taken-add}
+use Rattle.central_free.proofs.TookFacts.{joined, taken-add}
 
 abbrev took : List Addr → List SpanState → Took
 took objects spans = record { objects = objects; spans = spans }
 
-abbrev joined : Took → ℕ → Took
-joined t b = took (t.objects ++ (taken b t.spans).objects) (taken b t.spans).spans
-
--- the weight of a span with a free object
-weight-free : (s : SpanState) → 0 < free_count s → weight s ≡ taken_count s
-weight-free s some = cond-false (free_count s == 0) 0 (taken_count s) (ne_eqb (free_count s) 0 (λ none. omega arith))
-
 -- the span goes on to be the best
-best_stays : (spans : List SpanState) (j : ℕ) (s t : SpanState) → j < length spans → ((d : SpanState) → get_or spans j d ≡ s) → weight s ≤ weight t → IsBestPlace (map weight spans) j → IsBestPlace (map weight (set spans j t)) j
+best_stays : (spans : List SpanState) (j : ℕ) (s t : SpanState) → j < length spans → ((d : SpanState) → get_or spans j d ≡ s)
+    → weight s ≤ weight t → IsBestPlace (map weight spans) j → IsBestPlace (map weight (set spans j t)) j
 best_stays spans j s t within here more best =
     let is : map weight (set spans j t) ≡ set (map weight spans) j (weight t) = map-set weight spans j t in
     let inside : j < length (map weight spans) = omega (arith, length-map spans weight) in
     let mine : get_or (map weight (set spans j t)) j 0 ≡ weight t = ap (λ ws. get_or ws j 0) is ∙ get_or-set_same (map weight spans) j (weight t) 0 inside in
     let was : get_or (map weight spans) j 0 ≡ weight s = get_or-map weight spans j s 0 within ∙ ap weight (here s) in
-    let other : (i : ℕ) → i ≢ j → get_or (map weight (set spans j t)) i 0 ≡ get_or (map weight spans) i 0 = λ i differ. ap (λ ws. get_or ws i 0) is ∙ get_or-set_other (map weight spans) j i (weight t) 0 differ in (
+    let other : (i : ℕ) → i ≢ j → get_or (map weight (set spans j t)) i 0 ≡ get_or (map weight spans) i 0 =
+    λ i differ. ap (λ ws. get_or ws i 0) is ∙ get_or-set_other (map weight spans) j i (weight t) 0 differ in (
       omega (arith, mine, was, best.0),
       λ i. elim (cases_eq i j) [
         | inl same ↦ rw same (omega arith)
@@ -50,37 +46,30 @@ one_more : (xs ys : List SpanState) (one : Option Addr) → MatchOption one ⊥ 
 one_more xs ys None none = absurd none
 one_more xs ys (Some a) some = ap (λ o. and_then xs (taken 0) o) some.0
 
-run : (row : ClassRow) (spans : List SpanState) (j : ℕ) (s : SpanState) (k : ℕ) → IsSound (record { row = row; spans = spans }) → j < length spans → ((d : SpanState) → get_or spans j d ≡ s) → IsBestPlace (map weight spans) j → k ≤ free_count s → IsRun row spans j s k
-run row spans j s zero sound within here best few =
-    let same : set spans j s ≡ spans = ap (set spans j) (sym (here s)) ∙ set-get_or spans j s in
-    let P : List SpanState → Type 0 = λ xs. IsSound (record { row = row; spans = xs }) in
-    let Q : List SpanState → Type 0 = λ xs. IsBestPlace (map weight xs) j in
-    record { is = ap (took []) (sym same); sound = subst P (sym same) sound; best = λ _. subst Q (sym same) best }
-run row spans j s (suc k) sound within here best few =
-    let before : IsRun row spans j s k = run row spans j s k sound within here best (omega arith) in
-    let counts = run_counts k s (omega arith) in
-    let t = span_after k s in
-    let u = after_take t (least t) in
-    let xs = set spans j t in
-    let some : 0 < free_count t = omega (arith, counts.1) in
-    let inside : j < length xs = omega (arith, length-set spans j t) in
-    let spot : (d : SpanState) → get_or xs j d ≡ t = λ d. get_or-set_same spans j t d within in
-    let twice : set xs j u ≡ set spans j u = set-set spans j t u in
-    let of_row : IsOfRow row t = (let P : SpanState → Type 0 = IsOfRow row in subst P (spot t) (before.sound.of_row j t inside)) in
-    let sound_xs : IsSound (record { row = row; spans = set xs j u }) = IsSound-set row xs j t u before.sound inside (sym (spot t)) (span-after_take t) (IsOfRow-after_take row t of_row) in
-    let one : taken 1 xs ≡ took (option_to_list (taken_from t (least t))) (set xs j u) = one_more xs (set xs j u) (taken_from t (least t)) (taken_one-is ⊥ (zero ≡ zero) refl xs j t u (taken_from t (least t)) before.sound.apart (has_pages (record { row = row; spans = xs }) before.sound) (before.best some) inside (sym (spot t)) refl refl) in
-    let step : taken (k + 1) spans ≡ took (given_by k s ++ option_to_list (taken_from t (least t))) (set spans j u) = taken-add k 1 spans ∙ ap (λ r. joined r 1) before.is ∙ ap (λ r. took (given_by k s ++ r.objects) r.spans) one ∙ ap (took (given_by k s ++ option_to_list (taken_from t (least t)))) twice in
-    let next : suc k ≡ k + 1 = omega arith in
-    let P : List SpanState → Type 0 = λ ys. IsSound (record { row = row; spans = ys }) in
-    let Q : List SpanState → Type 0 = λ ys. IsBestPlace (map weight ys) j in
-    record {
-      is = ap (λ n. taken n spans) next ∙ step;
-      sound = subst P twice sound_xs;
-      best = λ still. subst Q twice (best_stays xs j t u inside spot (omega (arith, weight-free t some, weight-free u still, counts.0, (run_counts (suc k) s few).0)) (before.best some));
-    }
+module _ {row : ClassRow} {spans : List SpanState} (sound : IsSound (record { row = row; spans = spans })) (j : ℕ) (s : SpanState)
+    (within : j < length spans) (here : (d : SpanState) → get_or spans j d ≡ s) (best : IsBestPlace (map weight spans) j) where
+  run : (k : ℕ) → k ≤ free_count s → IsRun row spans j s k
+  run zero few =
+      let same : set spans j s ≡ spans = ap (set spans j) (sym (here s)) ∙ set-get_or spans j s in
+      record { is = ap (took []) (sym same); sound = rw same sound; best = λ _. rw same best }
+  run (suc k) few =
+      let before = run k (omega arith) in let counts = run_counts k s (omega arith) in
+      let t = span_after k s in let u = after_take t (least t) in let one = option_to_list (taken_from t (least t)) in
+      let xs = set spans j t in let some : 0 < free_count t = omega (arith, counts.1) in let inside : j < length xs = omega (arith, length-set spans j t) in
+      let spot : (d : SpanState) → get_or xs j d ≡ t = λ d. get_or-set_same spans j t d within in
+      let twice : set xs j u ≡ set spans j u = set-set spans j t u in
+      let of_row : IsOfRow row t = rw (spot t) at (before.sound.of_row j t inside) in
+      let next = taken_one-is ⊥ (zero ≡ zero) refl xs j t u (taken_from t (least t)) before.sound.apart (has_pages before.sound) (before.best some) inside (sym (spot t)) refl refl in
+      let step : taken (k + 1) spans ≡ took (given_by k s ++ one) (set spans j u) =
+      taken-add k 1 spans ∙ ap (λ r. joined r 1) before.is
+      ∙ ap (λ r. took (given_by k s ++ r.objects) r.spans) (one_more xs (set xs j u) (taken_from t (least t)) next) ∙ ap (took (given_by k s ++ one)) twice in
+      record {
+        is = let next : suc k ≡ k + 1 = omega arith in ap (λ n. taken n spans) next ∙ step;
+        sound = rw twice at (IsSound-set before.sound j t u inside (sym (spot t)) (span-after_take t) (IsOfRow-after_take row t of_row));
+        best = λ still. rw twice at (best_stays xs j t u inside spot (omega (arith, weight-free t some, weight-free u still, counts.0, (run_counts (suc k) s few).0)) (before.best some));
+      }
 
--- what a run of takes gives, and the spans behind it
-pub run-taken : (row : ClassRow) (spans : List SpanState) (j : ℕ) (s : SpanState) (k : ℕ) → IsSound (record { row = row; spans = spans }) → j < length spans → ((d : SpanState) → get_or spans j d ≡ s) → IsBestPlace (map weight spans) j → k ≤ free_count s → (taken k spans ≡ record { objects = given_by k s; spans = set spans j (span_after k s) }) × IsSound (record { row = row; spans = set spans j (span_after k s) })
-run-taken row spans j s k sound within here best few =
-    let it : IsRun row spans j s k = run row spans j s k sound within here best few in
-    (it.is, it.sound)
+  -- what a run of takes gives, and the spans behind it
+  pub run-taken : (k : ℕ) → k ≤ free_count s
+      → (taken k spans ≡ record { objects = given_by k s; spans = set spans j (span_after k s) }) × IsSound (record { row = row; spans = set spans j (span_after k s) })
+  run-taken k few = let it = run k few in (it.is, it.sound)

@@ -1,5 +1,6 @@
 -- Several takes, one by one: what stands after some of them.
-use Rattle.std.proofs.Common.{◌≡◌, ℕ, zero, suc, ◌+◌, ◌-◌, ◌<◌, ◌≤◌, ◌⊎◌, ◌↔◌, Bool, List, [], ◌∷◌, ◌++◌, length, get_or, set, count_by, Option, Some, None, refl, sym, ◌∙◌, ap, subst, inl, inr, arith}
+use Rattle.std.proofs.Common.{◌≡◌, ◌≢◌, ℕ, zero, suc, ◌+◌, ◌-◌, ◌<◌, ◌≤◌, ◌⊎◌, ◌↔◌, Bool, List, [], ◌∷◌}
+use Rattle.std.proofs.Common.{◌++◌, length, get_or, set, count_by, Option, Some, None, refl, sym, ◌∙◌, ap, subst, inl, inr, arith}
 use Rattle.std.specs.Prelude.{All}
 use Rattle.std.specs.Option.{option_map}
 use Rattle.std.proofs.lemmas.List.{append_assoc, append-nil, length-append}
@@ -16,7 +17,8 @@ use Rattle.central_free.proofs.Differ.{AreDifferent-append}
 use Rattle.central_free.proofs.ChoiceFacts.{IsAmong, chosen_among, chosen_none, chosen_some}
 
 -- where nothing is taken, no span has a free object, and the other way round
-one_none : (spans : List SpanState) (s : SpanState) (at : Option ℕ) → least s ≡ at → option_map {U = Addr × List SpanState} (λ a. (a, set spans (place_at s.span.first.0 spans) (after_take s (least s)))) (taken_from s at) ≡ None → free_count s ≡ 0
+one_none : (spans : List SpanState) (s : SpanState) (at : Option ℕ) → least s ≡ at
+    → option_map {U = Addr × List SpanState} (λ a. (a, set spans (place_at s.span.first.0 spans) (after_take s (least s)))) (taken_from s at) ≡ None → free_count s ≡ 0
 one_none spans s None is none = count_none s.free is
 one_none spans s (Some i) is none =
     absurd (none-some (address s i, set spans (place_at s.span.first.0 spans) (after_take s (least s))) (sym none))
@@ -39,7 +41,8 @@ nothing_taken spans all =
     ap (taken_one_from spans) (chosen_none spans (λ j d less. le-ltb 0 (free_count (get_or spans j d)) (omega (arith, all j d less))))
 
 -- so nothing comes exactly where nothing is asked for or free
-came_none : (n : ℕ) (spans : List SpanState) (one : Option (Addr × List SpanState)) → taken_one spans ≡ one → (length (and_then spans (taken n) one).objects ≡ 0 → All (λ s. free_count s ≡ 0) spans) × (All (λ s. free_count s ≡ 0) spans → length (and_then spans (taken n) one).objects ≡ 0)
+came_none : (n : ℕ) (spans : List SpanState) (one : Option (Addr × List SpanState)) → taken_one spans ≡ one
+    → (length (and_then spans (taken n) one).objects ≡ 0 → All (λ s. free_count s ≡ 0) spans) × (All (λ s. free_count s ≡ 0) spans → length (and_then spans (taken n) one).objects ≡ 0)
 came_none n spans None is = (λ _. nothing_free spans is, λ _. refl)
 came_none n spans (Some one) is =
     (λ clash. absurd (omega arith), λ all. absurd (none-some one (sym (nothing_taken spans all) ∙ is)))
@@ -51,30 +54,24 @@ took_none (suc n) spans = (
   λ some. elim some [ inl clash ↦ absurd (omega arith) | inr all ↦ (came_none n spans (taken_one spans) refl).1 all ],
 )
 
--- takes where nothing is free, and no takes
-pub taken-none : (k : ℕ) (spans : List SpanState) → 0 < k → taken_one spans ≡ None → taken k spans ≡ record { objects = []; spans = spans }
-taken-none zero spans some none = absurd (omega arith)
-taken-none (suc k) spans some none = ap (λ o. and_then spans (taken k) o) none
-
-pub taken-zero : (k : ℕ) (spans : List SpanState) → k ≡ 0 → taken k spans ≡ record { objects = []; spans = spans }
-taken-zero k spans none = ap (λ j. taken j spans) none
-
 abbrev took : List Addr → List SpanState → Took
 took objects spans = record { objects = objects; spans = spans }
 
 -- some takes, and more of them
-abbrev joined : Took → ℕ → Took
+abbrev pub joined : Took → ℕ → Took
 joined t b = took (t.objects ++ (taken b t.spans).objects) (taken b t.spans).spans
 
+-- takes where nothing is free
 taken-stopped : (b : ℕ) (spans : List SpanState) → taken_one spans ≡ None → taken b spans ≡ took [] spans
-taken-stopped b spans none =
-    elim (cases_lt 0 b) [ inl some ↦ taken-none b spans some none | inr no_takes ↦ taken-zero b spans (omega arith) ]
+taken-stopped zero spans none = refl
+taken-stopped (suc b) spans none = ap (λ o. and_then spans (taken b) o) none
 
-join_one : (a b : ℕ) (spans : List SpanState) (one : Option (Addr × List SpanState)) → taken_one spans ≡ one → ((xs : List SpanState) → taken (a + b) xs ≡ joined (taken a xs) b) → and_then spans (taken (a + b)) one ≡ joined (and_then spans (taken a) one) b
+join_one : (a b : ℕ) (spans : List SpanState) (one : Option (Addr × List SpanState)) → taken_one spans ≡ one
+    → ((xs : List SpanState) → taken (a + b) xs ≡ joined (taken a xs) b) → and_then spans (taken (a + b)) one ≡ joined (and_then spans (taken a) one) b
 join_one a b spans None is next = sym (taken-stopped b spans is)
 join_one a b spans (Some one) is next = ap (λ t. took (one.0 ∷ t.objects) t.spans) (next one.1)
 
-pub taken-add : (a b : ℕ) (spans : List SpanState) → taken (a + b) spans ≡ record { objects = (taken a spans).objects ++ (taken b (taken a spans).spans).objects; spans = (taken b (taken a spans).spans).spans }
+pub taken-add : (a b : ℕ) (spans : List SpanState) → taken (a + b) spans ≡ joined (taken a spans) b
 taken-add zero b spans = ap (λ k. taken k spans) (omega arith)
 taken-add (suc a) b spans =
     let next : suc a + b ≡ suc (a + b) = omega arith in
@@ -111,41 +108,46 @@ IsTaking-none start before sound =
       moves = λ test. refl;
     }
 
--- a run of them
-pub IsTaking-more : (start now next : Central) (before out more : Contents Addr) (came r : ℕ) → IsTaking start now before out came → next ≡ record { row = now.row; spans = (taken r now.spans).spans } → more.items ≡ out.items ++ (taken r now.spans).objects → length (taken r now.spans).objects ≡ r → more.spare + r ≡ out.spare → IsSound next → All (IsTakenIn next.spans) (taken r now.spans).objects → All (λ a. IsTakenIn now.spans a → ⊥) (taken r now.spans).objects → AreDifferent (taken r now.spans).objects → ((b : Addr) → IsTakenIn now.spans b → IsTakenIn next.spans b)
-    → ((test : Addr → Bool) → count_by test (free_in next.spans) + count_by test more.items ≡ count_by test (free_in now.spans) + count_by test out.items) → IsTaking start next before more (came + r)
-IsTaking-more start now next before out more came r so_far is items count spare sound given fresh different kept moves =
-    let old = (taken came start.spans).objects in
-    let new = (taken r now.spans).objects in
-    let spans : now.spans ≡ (taken came start.spans).spans = ap (λ t. t.spans) so_far.is in
-    let all : taken (came + r) start.spans ≡ took (old ++ new) (taken r now.spans).spans = taken-add came r start.spans ∙ ap (λ xs. took (old ++ (taken r xs).objects) (taken r xs).spans) (sym spans) in
-    let objects : (taken (came + r) start.spans).objects ≡ old ++ new = ap (λ t. t.objects) all in
-    let P : List Addr → Type 0 = All (IsTakenIn next.spans) in
-    let Q : List Addr → Type 0 = All (λ a. IsTakenIn start.spans a → ⊥) in
-    record {
-      is = is ∙ ap (λ q. central_of q (taken r now.spans).spans) (ap (λ t. t.row) so_far.is) ∙ ap (central_of start.row) (ap (λ t. t.spans) (sym all));
-      items = items ∙ ap (λ xs. xs ++ new) so_far.items ∙ append_assoc before.items old new ∙ ap (λ xs. before.items ++ xs) (sym objects);
-      count = ap length objects ∙ omega (arith, length-append old new, so_far.count, count);
-      spare = omega (arith, so_far.spare);
-      sound = sound;
-      given = subst P (sym objects) (All-append (IsTakenIn next.spans) old new (λ k d within. kept (get_or old k d) (so_far.given k d within)) given);
-      fresh = subst Q (sym objects) (All-append (λ a. IsTakenIn start.spans a → ⊥) old new so_far.fresh (λ k d within there. fresh k d within (so_far.kept (get_or new k d) there)));
-      different = subst AreDifferent (sym objects) (AreDifferent-append old new so_far.different different (λ i d less_i j e less_j same. (let R : Addr → Type 0 = IsTakenIn now.spans in fresh j e less_j (subst R same (so_far.given i d less_i)))));
-      kept = λ b there. kept b (so_far.kept b there);
-      moves = λ test. omega (arith, moves test, so_far.moves test);
-    }
+module _ {start now : Central} {before out : Contents Addr} {came : ℕ} (so_far : IsTaking start now before out came) where
+  -- a run of them
+  pub IsTaking-more : (next : Central) (more : Contents Addr) (r : ℕ) → next ≡ record { row = now.row; spans = (taken r now.spans).spans }
+      → more.items ≡ out.items ++ (taken r now.spans).objects → length (taken r now.spans).objects ≡ r → more.spare + r ≡ out.spare → IsSound next
+      → All (IsTakenIn next.spans) (taken r now.spans).objects → All (λ a. IsTakenIn now.spans a → ⊥) (taken r now.spans).objects → AreDifferent (taken r now.spans).objects
+      → ((b : Addr) → IsTakenIn now.spans b → IsTakenIn next.spans b)
+      → ((test : Addr → Bool) → count_by test (free_in next.spans) + count_by test more.items ≡ count_by test (free_in now.spans) + count_by test out.items)
+      → IsTaking start next before more (came + r)
+  IsTaking-more next more r is items count spare sound given fresh different kept moves =
+      let old = (taken came start.spans).objects in let new = (taken r now.spans).objects in
+      let all : taken (came + r) start.spans ≡ took (old ++ new) (taken r now.spans).spans =
+      taken-add came r start.spans ∙ ap (λ xs. took (old ++ (taken r xs).objects) (taken r xs).spans) (sym (ap (λ t. t.spans) so_far.is)) in
+      let objects : (taken (came + r) start.spans).objects ≡ old ++ new = ap (λ t. t.objects) all in
+      let apart : (i : ℕ) (d : Addr) → i < length old → (j : ℕ) (e : Addr) → j < length new → get_or old i d ≢ get_or new j e =
+      λ i d less_i j e less_j same. fresh j e less_j (subst (IsTakenIn now.spans) same (so_far.given i d less_i)) in
+      record {
+        is = is ∙ ap (λ q. central_of q (taken r now.spans).spans) (ap (λ t. t.row) so_far.is) ∙ ap (central_of start.row) (ap (λ t. t.spans) (sym all));
+        items = items ∙ ap (λ xs. xs ++ new) so_far.items ∙ append_assoc before.items old new ∙ ap (λ xs. before.items ++ xs) (sym objects);
+        count = ap length objects ∙ omega (arith, length-append old new, so_far.count, count);
+        spare = omega (arith, so_far.spare);
+        sound = sound;
+        given = rw objects (All-append (IsTakenIn next.spans) old new (λ k d within. kept (get_or old k d) (so_far.given k d within)) given);
+        fresh = rw objects (All-append (λ a. IsTakenIn start.spans a → ⊥) old new so_far.fresh (λ k d within there. fresh k d within (so_far.kept (get_or new k d) there)));
+        different = rw objects (AreDifferent-append old new so_far.different different apart);
+        kept = λ b there. kept b (so_far.kept b there);
+        moves = λ test. omega (arith, moves test, so_far.moves test);
+      }
 
--- where no more comes, as many takes as were asked for give no more
-taken-ended : (n came : ℕ) (start now : Central) (before out : Contents Addr) → IsTaking start now before out came → came ≤ n → (came < n → taken_one now.spans ≡ None) → taken came start.spans ≡ taken n start.spans
-taken-ended n came start now before out so_far few stopped =
-    let t = taken came start.spans in
-    let rest : taken (n - came) t.spans ≡ took [] t.spans = (
-    elim (cases_lt came n) [
-      | inl less ↦ taken-stopped (n - came) t.spans (ap (λ u. taken_one u.spans) (sym so_far.is) ∙ stopped less)
-      | inr all ↦ taken-zero (n - came) t.spans (omega arith)
-    ]) in
-    let whole : came + (n - came) ≡ n = omega arith in
-    ap (λ xs. took xs t.spans) (sym (append-nil t.objects)) ∙ ap (λ u. took (t.objects ++ u.objects) u.spans) (sym rest) ∙ sym (taken-add came (n - came) start.spans) ∙ ap (λ k. taken k start.spans) whole
+  -- where no more comes, as many takes as were asked for give no more
+  taken-ended : (n : ℕ) → came ≤ n → (came < n → taken_one now.spans ≡ None) → taken came start.spans ≡ taken n start.spans
+  taken-ended n few stopped =
+      let t = taken came start.spans in
+      let rest : taken (n - came) t.spans ≡ took [] t.spans = (
+      elim (cases_lt came n) [
+        | inl less ↦ taken-stopped (n - came) t.spans (ap (λ u. taken_one u.spans) (sym so_far.is) ∙ stopped less)
+        | inr all ↦ (let none : n - came ≡ 0 = omega arith in ap (λ j. taken j t.spans) none)
+      ]) in
+      let whole : came + (n - came) ≡ n = omega arith in
+      ap (λ xs. took xs t.spans) (sym (append-nil t.objects)) ∙ ap (λ u. took (t.objects ++ u.objects) u.spans) (sym rest)
+      ∙ sym (taken-add came (n - came) start.spans) ∙ ap (λ k. taken k start.spans) whole
 
 -- what stands then
 pub record IsTook (n : ℕ) (start now : Central) (before out : Contents Addr) (came : ℕ) : Type 0 where
@@ -157,19 +159,18 @@ pub record IsTook (n : ℕ) (start now : Central) (before out : Contents Addr) (
   pub fresh : All (λ a. IsTakenIn start.spans a → ⊥) (taken n start.spans).objects
   pub different : AreDifferent (taken n start.spans).objects
 
-pub IsTook-end : (n came : ℕ) (start now : Central) (before out : Contents Addr) → IsTaking start now before out came → came ≤ n → (came < n → taken_one now.spans ≡ None) → IsTook n start now before out came
-IsTook-end n came start now before out so_far few stopped =
-    let all : taken came start.spans ≡ taken n start.spans = taken-ended n came start now before out so_far few stopped in
+pub IsTook-end : {start now : Central} {before out : Contents Addr} {came : ℕ} → IsTaking start now before out came
+    → (n : ℕ) → came ≤ n → (came < n → taken_one now.spans ≡ None) → IsTook n start now before out came
+IsTook-end {start} {now} {before} {out} {came} so_far n few stopped =
+    let all = taken-ended so_far n few stopped in
     let objects : (taken came start.spans).objects ≡ (taken n start.spans).objects = ap (λ t. t.objects) all in
     let count : came ≡ length (taken n start.spans).objects = sym so_far.count ∙ ap length objects in
-    let P : List Addr → Type 0 = All (IsTakenIn now.spans) in
-    let Q : List Addr → Type 0 = All (λ a. IsTakenIn start.spans a → ⊥) in
     record {
       count = count;
       none = (λ none. (took_none n start.spans).0 (sym count ∙ none), λ some. count ∙ (took_none n start.spans).1 some);
       spans = so_far.is ∙ ap (λ t. central_of start.row t.spans) all;
       items = so_far.items ∙ ap (λ xs. before.items ++ xs) objects;
-      given = subst P objects so_far.given;
-      fresh = subst Q objects so_far.fresh;
+      given = subst (All (IsTakenIn now.spans)) objects so_far.given;
+      fresh = subst (All (λ a. IsTakenIn start.spans a → ⊥)) objects so_far.fresh;
       different = subst AreDifferent objects so_far.different;
     }

@@ -1,6 +1,6 @@
-use Rattle.std.proofs.Common.{◌≡◌, ◌+◌, ◌-◌, ◌*◌, List, length, set, refl, sym, subst, arith}
+use Rattle.std.proofs.Common.{◌≡◌, ◌-◌, ◌*◌, List, length, refl, arith}
 use Rattle.central_free.specs.declared.ranking.Rank.{Rank}
-use Rattle.central_free.proofs.RankWrites.{HasSameLeaves-more, HasLeaves-same, standings_of-same, IsJoinedBehind, IsJoinedBehind-more}
+use Rattle.central_free.proofs.RankWrites.{HasSameLeaves-more, HasLeaves-same, standings_of-same, IsJoinedBehind-more}
 use Rattle.central_free.proofs.ranking.join_all.Goals as goal
 
 pub loop-above-init : goal.loop-above-init
@@ -11,9 +11,9 @@ loop-above-preserved c =
     let m = c.args.slots - c.loop-above.above in
     let nodes : List Rank = c.loop-above.nodes in
     let size : length nodes ≡ 2 * c.args.slots = omega (arith, c.requires.size) in
-    let P : Rank → Type 0 = λ r. IsJoinedBehind c.args.slots (set nodes m r) (c.args.slots - (c.loop-above.above + 1)) in (
+    let more = IsJoinedBehind-more c.args.slots nodes m (omega arith) (omega arith) size c.loop-above.invariant.1 in (
       HasSameLeaves-more c.args.slots c.args.nodes.now nodes m c.better.result (omega arith) c.loop-above.invariant.0,
-      subst P (sym c.better.ensures) (λ i some inner behind. IsJoinedBehind-more c.args.slots nodes m (omega arith) (omega arith) size c.loop-above.invariant.1 i some inner (omega arith)),
+      rw c.better.ensures (λ i some inner behind. more i some inner (omega arith)),
     )
 
 pub returns-clause-leaves : goal.returns-clause-leaves

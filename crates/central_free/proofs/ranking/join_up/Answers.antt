@@ -1,6 +1,5 @@
-use Rattle.std.proofs.Common.{◌≡◌, ◌*◌, ◌/◌, List, length, set, refl, sym, subst, arith}
+use Rattle.std.proofs.Common.{◌≡◌, ◌<◌, ◌*◌, ◌/◌, List, length, refl, arith}
 use Rattle.central_free.specs.declared.ranking.Rank.{Rank}
-use Rattle.central_free.specs.Ranking.{IsJoinedBut}
 use Rattle.central_free.proofs.RankWrites.{HasSameLeaves-more, HasLeaves-same, standings_of-same, IsJoinedBut-up, IsJoined-all}
 use Rattle.central_free.proofs.ranking.join_up.Goals as goal
 
@@ -12,10 +11,10 @@ loop-node-preserved c =
     let m = c.loop-node.node / 2 in
     let nodes : List Rank = c.loop-node.nodes in
     let size : length nodes ≡ 2 * c.args.slots = omega (arith, c.requires.size) in
-    let P : Rank → Type 0 = λ r. IsJoinedBut c.args.slots (set nodes m r) (m / 2) in (
+    let inner : m < c.args.slots = omega (arith, c.loop-node.invariant.0) in (
       omega (arith, c.loop-node.invariant.0),
-      HasSameLeaves-more c.args.slots c.args.nodes.now nodes m c.better.result (omega (arith, c.loop-node.invariant.0)) c.loop-node.invariant.1,
-      subst P (sym c.better.ensures) (IsJoinedBut-up c.args.slots nodes m (omega arith) (omega (arith, c.loop-node.invariant.0)) size c.loop-node.invariant.2),
+      HasSameLeaves-more c.args.slots c.args.nodes.now nodes m c.better.result inner c.loop-node.invariant.1,
+      rw c.better.ensures (IsJoinedBut-up c.args.slots nodes m (omega arith) inner size c.loop-node.invariant.2),
     )
 
 pub returns-clause-leaves : goal.returns-clause-leaves

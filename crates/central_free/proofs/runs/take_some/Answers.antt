@@ -16,11 +16,13 @@ push-requires c = omega (arith, c.loop-came.invariant.spare)
 pub loop-came-preserved : goal.loop-came-preserved
 loop-came-preserved c =
     let k = c.loop-came._came in
-    let some : 0 < free_count c.loop-came.span = omega (arith, run_counts k c.args.span.now (omega (arith, c.min-count.ensures, c.free.ensures)), ap free_count c.loop-came.invariant.is, c.min-count.ensures, c.free.ensures) in
+    let counts = run_counts k c.args.span.now (omega (arith, c.min-count.ensures, c.free.ensures)) in
+    let some : 0 < free_count c.loop-came.span = omega (arith, counts, ap free_count c.loop-came.invariant.is, c.min-count.ensures, c.free.ensures) in
     let next : suc k ≡ k + 1 = omega arith in
     let P : ℕ → Type 0 = IsGiving c.args.span.now c.args.out.now c.take.new.self c.match-take.out in
     let Q : Contents Addr → Type 0 = λ b. IsGiving c.args.span.now c.args.out.now c.take.new.self b (suc k) in
     subst P next (elim c.match-take.branch [
-      | in-Some w ↦ subst Q (sym w.out-is) (IsGiving-more c.args.span.now c.args.out.now c.loop-came.span c.take.new.self c.loop-came.out w.push.new.self k w.in-Some.object c.loop-came.invariant w.in-Some.ensures.taken c.take.ensures.after w.in-Some.ensures.given w.in-Some.ensures.fresh c.take.ensures.kept w.push.ensures.items w.push.ensures.spare w.in-Some.ensures.moves)
+      | in-Some w ↦ subst Q (sym w.out-is) (IsGiving-more c.loop-came.invariant c.take.new.self w.push.new.self w.in-Some.object
+          w.in-Some.ensures.taken c.take.ensures.after w.in-Some.ensures.given w.in-Some.ensures.fresh c.take.ensures.kept w.push.ensures.items w.push.ensures.spare w.in-Some.ensures.moves)
       | in_default w ↦ absurd (omega (arith, c.take.ensures.none.0 (ap is_some w.in_default.is)))
     ])

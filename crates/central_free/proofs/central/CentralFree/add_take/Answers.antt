@@ -1,16 +1,16 @@
-use Rattle.std.proofs.Common.{◌≡◌, ◌+◌, ◌^◌, ◌<◌, ◌≤◌, ℕ, List, ◌++◌, Option, length, get_or, set, count_by, sym, ◌∙◌, ap, subst, arith, rules}
+use Rattle.std.proofs.Common.{◌≡◌, ◌^◌, ◌<◌, ◌≤◌, ℕ, List, ◌++◌, length, get_or, set, count_by, sym, ◌∙◌, ap, subst, arith, rules}
 use Rattle.std.specs.Prelude.{All}
-use Rattle.span_list.specs.Span.{SpanState, first_byte, objects_in, all_free, free_objects}
+use Rattle.span_list.specs.Span.{SpanState, first_byte, all_free, free_objects}
 use Rattle.std.specs.BTreeMap.{insert_entry}
 use Rattle.std.specs.Ordering.{nat_cmp}
-use Rattle.tc_units.specs.declared.spans.SpanRef.{SpanRef}
 use Rattle.tc_units.specs.declared.spans.ClassRow.{ClassRow}
 use Rattle.central_free.specs.declared.ranking.Standing.{Standing}
 use Rattle.central_free.specs.Central.{Central, IsOfRow, IsApartFrom, opened, opening, with_span, IsSound, free_in, IsTakenIn}
 use Rattle.central_free.specs.Runs.{span_after, given_by}
-use Rattle.central_free.specs.Slots.{spans_of, standing_of, slot_at, IsKept}
+use Rattle.central_free.specs.Slots.{spans_of, slot_at, IsKept}
 use Rattle.central_free.proofs.SoundFacts.{has_pages}
-use Rattle.central_free.proofs.AddFacts.{opened-all, length-opening, some_objects, IsOfRow-opened, IsSound-with_span, count-with_span, opening-taken, opening-is_taken, opening-different, kept-with_span}
+use Rattle.central_free.proofs.AddFacts.{opened-all, length-opening, some_objects, IsOfRow-opened, IsSound-with_span, count-with_span}
+use Rattle.central_free.proofs.AddFacts.{opening-taken, opening-is_taken, opening-different, kept-with_span}
 use Rattle.central_free.proofs.PutFacts.{fresh-apart}
 use Rattle.central_free.proofs.SlotFacts.{IsFilled, with_entry, new_key, insert_entry-is, spans_of-insert, IsKept-insert}
 use Rattle.central_free.proofs.central.CentralFree.add_take.Goals as goal
@@ -18,79 +18,82 @@ use Rattle.central_free.proofs.central.CentralFree.add_take.Goals as goal
 abbrev central_of : ClassRow → List SpanState → Central
 central_of row spans = record { row = row; spans = spans }
 
+-- the new span as it is left, the spans before, and that they were sound
+abbrev wanted : goal.After-insert_reserved → SpanState
+wanted c = opened c.args.span c.args.self.now.row.size c.args.n
+
+abbrev old : goal.After-insert_reserved → List SpanState
+old c = spans_of c.self.inside.slots.slots c.self.inside.order.entries
+
+before : (c : goal.After-insert_reserved) → IsSound c.args.self.now
+before c = subst IsSound c.self.view_is c.self.invariant.0
+
 -- the new span, and what the slots are with it
-opens : (c : goal.After-insert_reserved) → (c.take_some-came.result ≡ length (opening c.args.span c.args.self.now.row.size c.args.n)) × (span_after c.take_some-came.result c.in_ok-added.added ≡ opened c.args.span c.args.self.now.row.size c.args.n) × (given_by c.take_some-came.result c.in_ok-added.added ≡ opening c.args.span c.args.self.now.row.size c.args.n)
+opens : (c : goal.After-insert_reserved)
+    → (c.take_some-came.result ≡ length (opening c.args.span c.args.self.now.row.size c.args.n)) × (span_after c.take_some-came.result c.in_ok-added.added ≡ wanted c)
+    × (given_by c.take_some-came.result c.in_ok-added.added ≡ opening c.args.span c.args.self.now.row.size c.args.n)
 opens c =
     let was : c.in_ok-added.added ≡ all_free c.args.span c.args.self.now.row.size = search rules in
     opened-all c.args.span c.args.self.now.row.size c.args.n c.take_some-came.result c.in_ok-added.added was c.take_some-came.ensures.count
 
-new : (c : goal.After-insert_reserved) → c.take_some-came.new.span ≡ opened c.args.span c.args.self.now.row.size c.args.n
+new : (c : goal.After-insert_reserved) → c.take_some-came.new.span ≡ wanted c
 new c = c.take_some-came.ensures.span ∙ (opens c).1
 
 filled : (c : goal.After-insert_reserved) → IsFilled c.self.inside.slots.slots c.insert_reserved.new.self.slots c.vacant_key-slot.result c.take_some-came.new.span
 filled c =
     let slot : c.insert_reserved.result ≡ c.vacant_key-slot.result = c.insert_reserved.ensures.key ∙ sym c.vacant_key-slot.ensures.value in
-    let old : c.make_room.new.slots.slots ≡ c.self.inside.slots.slots = c.in_ok-make_room.ensures.slots in
+    let same : c.make_room.new.slots.slots ≡ c.self.inside.slots.slots = c.in_ok-make_room.ensures.slots in
     record {
-      vacant = ap (λ xs. slot_at xs c.vacant_key-slot.result) (sym old) ∙ c.vacant_key-slot.ensures.vacant;
+      vacant = ap (λ xs. slot_at xs c.vacant_key-slot.result) (sym same) ∙ c.vacant_key-slot.ensures.vacant;
       has = ap (slot_at c.insert_reserved.new.self.slots) (sym slot) ∙ c.insert_reserved.ensures.updates.changed;
-      others = λ m other. c.insert_reserved.ensures.updates.others m (λ same. other (same ∙ slot)) ∙ ap (λ xs. slot_at xs m) old;
+      others = λ m other. c.insert_reserved.ensures.updates.others m (λ same. other (same ∙ slot)) ∙ ap (λ xs. slot_at xs m) same;
     }
 
 -- it has a page, and no span begins where it does
 page : (c : goal.After-insert_reserved) → 0 < c.take_some-came.new.span.span.pages
-page c =
-    let is : c.take_some-came.new.span.span.pages ≡ c.args.span.pages = ap (λ s. s.span.pages) (new c) in
-    let before : IsSound c.args.self.now = subst IsSound c.self.view_is c.self.invariant.0 in
-    omega (arith, is, c.requires.pages, before.some, before.fits)
+page c = let b = before c in omega (arith, ap (λ s. s.span.pages) (new c), c.requires.pages, b.some, b.fits)
 
 entries : (c : goal.After-insert_reserved) → c.insert.new.self.entries ≡ with_entry c.self.inside.order.entries (first_byte c.take_some-came.new.span.span) c.vacant_key-slot.result
 entries c =
-    let s : SpanState = c.take_some-came.new.span in
-    let old : List SpanState = spans_of c.self.inside.slots.slots c.self.inside.order.entries in
+    let (sound, kept) = c.self.invariant in let s : SpanState = c.take_some-came.new.span in
     let key : c.addr_of.result.0 ≡ first_byte s.span = c.addr_of.ensures ∙ ap (λ t. first_byte t.span) (sym (new c)) in
-    let P : SpanRef → Type 0 = λ r. All (IsApartFrom r) old in
-    let Q : Central → Type 0 = λ t. All (IsApartFrom c.args.span) t.spans in
-    let apart : All (IsApartFrom s.span) old = subst P (ap (λ t. t.span) (sym (new c))) (subst Q (sym c.self.view_is) c.requires.apart) in
+    let apart : All (IsApartFrom c.args.span) (old c) = subst (λ (t : Central). All (IsApartFrom c.args.span) t.spans) (sym c.self.view_is) c.requires.apart in
+    let apart_too : All (IsApartFrom s.span) (old c) = subst (λ (t : SpanState). All (IsApartFrom t.span) (old c)) (sym (new c)) apart in
     c.in_ok-insert.ensures.entries ∙ ap (λ q. insert_entry nat_cmp c.self.inside.order.entries q c.vacant_key-slot.result) key
-    ∙ insert_entry-is c.self.inside.order.entries (first_byte s.span) c.vacant_key-slot.result (new_key c.self.inside.slots.slots c.self.inside.order.entries c.self.inside.ranking s c.self.invariant.1 (page c) (has_pages (central_of c.self.inside.row old) c.self.invariant.0) apart)
+    ∙ insert_entry-is c.self.inside.order.entries (first_byte s.span) c.vacant_key-slot.result (new_key kept s (page c) (has_pages sound) apart_too)
 
-spans : (c : goal.After-insert_reserved) → spans_of c.insert_reserved.new.self.slots c.insert.new.self.entries ≡ with_span c.take_some-came.new.span (spans_of c.self.inside.slots.slots c.self.inside.order.entries)
-spans c =
-    ap (spans_of c.insert_reserved.new.self.slots) (entries c) ∙ spans_of-insert c.self.inside.slots.slots c.insert_reserved.new.self.slots c.self.inside.order.entries c.self.inside.ranking c.vacant_key-slot.result c.take_some-came.new.span c.self.invariant.1 (filled c)
+spans : (c : goal.After-insert_reserved) → spans_of c.insert_reserved.new.self.slots c.insert.new.self.entries ≡ with_span c.take_some-came.new.span (old c)
+spans c = ap (spans_of c.insert_reserved.new.self.slots) (entries c) ∙ spans_of-insert c.self.invariant.1 (filled c)
 
-added : (c : goal.After-insert_reserved) → central_of c.self.inside.row (spans_of c.insert_reserved.new.self.slots c.insert.new.self.entries) ≡ central_of c.args.self.now.row (with_span (opened c.args.span c.args.self.now.row.size c.args.n) c.args.self.now.spans)
+added : (c : goal.After-insert_reserved)
+    → central_of c.self.inside.row (spans_of c.insert_reserved.new.self.slots c.insert.new.self.entries) ≡ central_of c.args.self.now.row (with_span (wanted c) c.args.self.now.spans)
 added c =
-    ap (central_of c.self.inside.row) (spans c) ∙ ap (λ s. central_of c.self.inside.row (with_span s (spans_of c.self.inside.slots.slots c.self.inside.order.entries))) (new c) ∙ ap (λ t. central_of t.row (with_span (opened c.args.span c.args.self.now.row.size c.args.n) t.spans)) c.self.view_is
+    ap (central_of c.self.inside.row) (spans c) ∙ ap (λ s. central_of c.self.inside.row (with_span s (old c))) (new c) ∙ ap (λ t. central_of t.row (with_span (wanted c) t.spans)) c.self.view_is
 
-of_row : (c : goal.After-insert_reserved) → IsOfRow c.args.self.now.row (opened c.args.span c.args.self.now.row.size c.args.n)
+of_row : (c : goal.After-insert_reserved) → IsOfRow c.args.self.now.row (wanted c)
 of_row c =
-    let before : IsSound c.args.self.now = subst IsSound c.self.view_is c.self.invariant.0 in
     let sizes : c.args.self.now.row.size < 2 ^ 32 = search rules in
     let first : c.args.span.first.0 < 2 ^ 32 = search rules in
     let pages : c.args.self.now.row.pages ≤ 255 = search rules in
-    IsOfRow-opened c.args.self.now.row c.args.span c.args.n before.some sizes before.fits first pages c.requires.pages c.requires.some
+    IsOfRow-opened c.args.self.now.row c.args.span c.args.n (before c).some sizes (before c).fits first pages c.requires.pages c.requires.some
 
-sound : (c : goal.After-insert_reserved) → IsSound (central_of c.args.self.now.row (with_span (opened c.args.span c.args.self.now.row.size c.args.n) c.args.self.now.spans))
-sound c =
-    let before : IsSound c.args.self.now = subst IsSound c.self.view_is c.self.invariant.0 in
-    IsSound-with_span c.args.self.now.row c.args.self.now.spans (opened c.args.span c.args.self.now.row.size c.args.n) before (of_row c) c.requires.apart
+sound : (c : goal.After-insert_reserved) → IsSound (central_of c.self.inside.row (spans_of c.insert_reserved.new.self.slots c.insert.new.self.entries))
+sound c = subst IsSound (sym (added c)) (IsSound-with_span (before c) (wanted c) (of_row c) c.requires.apart)
 
 pub invariant_of-self-2 : goal.invariant_of-self-2
 invariant_of-self-2 c =
-    let slots : List (Option SpanState) = c.insert_reserved.new.self.slots in
-    let s : SpanState = c.take_some-came.new.span in
-    let slot : c.vacant_key-slot.result < length c.make_room.new.ranking = omega (arith, c.vacant_key-slot.ensures.value, c.in_ok-make_room.ensures.slot) in
-    let P : List (ℕ × ℕ) → Type 0 = λ es. IsKept slots es c.set.new.self in
-    let Q : List Standing → Type 0 = λ ts. IsKept slots (with_entry c.self.inside.order.entries (first_byte s.span) c.vacant_key-slot.result) ts in
-    let kept : Q (set c.make_room.new.ranking c.vacant_key-slot.result (standing_of s)) = IsKept-insert c.self.inside.slots.slots slots c.self.inside.order.entries c.self.inside.ranking c.make_room.new.ranking c.vacant_key-slot.result s c.self.invariant.1 (filled c) c.in_ok-make_room.ensures.standings c.in_ok-make_room.ensures.longer slot in
-    (subst IsSound (sym (added c)) (sound c), subst P (sym (entries c)) (subst Q (sym (c.set.ensures ∙ ap (set c.make_room.new.ranking c.vacant_key-slot.result) c.standing_of.ensures)) kept))
+    let s : SpanState = c.take_some-came.new.span in let grown : List Standing = c.make_room.new.ranking in let k = c.vacant_key-slot.result in
+    let slot : k < length grown = omega (arith, c.vacant_key-slot.ensures.value, c.in_ok-make_room.ensures.slot) in
+    let ranked = c.set.ensures ∙ ap (set grown k) c.standing_of.ensures in
+    let P : List (ℕ × ℕ) × List Standing → Type 0 = λ z. IsKept c.insert_reserved.new.self.slots z.0 z.1 in
+    let kept = IsKept-insert c.self.invariant.1 (filled c) grown c.in_ok-make_room.ensures.standings c.in_ok-make_room.ensures.longer slot in
+    (sound c, subst P (λ i. (sym (entries c) i, sym ranked i)) kept)
 
 pub returns-clause-spans : goal.returns-clause-spans
 returns-clause-spans c = added c
 
 pub returns-clause-sound : goal.returns-clause-sound
-returns-clause-sound c = subst IsSound (sym (added c)) (sound c)
+returns-clause-sound c = sound c
 
 pub returns-clause-count : goal.returns-clause-count
 returns-clause-count c = (opens c).0
@@ -100,35 +103,27 @@ returns-clause-out c = c.take_some-came.ensures.out ∙ ap (λ xs. c.args.out.no
 
 pub returns-clause-any : goal.returns-clause-any
 returns-clause-any c =
-    let before : IsSound c.args.self.now = subst IsSound c.self.view_is c.self.invariant.0 in
-    let objects : 0 < objects_in c.args.span.pages c.args.self.now.row.size = some_objects c.args.span.pages c.args.self.now.row.size before.some (omega (arith, before.fits, c.requires.pages)) in
+    let b = before c in let objects = some_objects c.args.span.pages c.args.self.now.row.size b.some (omega (arith, b.fits, c.requires.pages)) in
     omega (arith, (opens c).0, length-opening c.args.span c.args.self.now.row.size c.args.n, c.requires.some, objects)
 
 pub returns-clause-moves : goal.returns-clause-moves
-returns-clause-moves c =
-    λ test.
+returns-clause-moves c = λ test.
     let was : c.in_ok-added.added ≡ all_free c.args.span c.args.self.now.row.size = search rules in
-    let moved : count_by test (free_objects c.take_some-came.new.span) + count_by test c.take_some-came.new.out.items ≡ count_by test (free_objects c.in_ok-added.added) + count_by test c.args.out.now.items = c.take_some-came.ensures.moves test in
-    omega (arith, moved, ap (λ s. count_by test (free_objects s)) (new c), ap (λ s. count_by test (free_objects s)) was, ap (λ t. count_by test (free_in t.spans)) (added c), count-with_span test c.args.self.now.spans (opened c.args.span c.args.self.now.row.size c.args.n))
+    let free : SpanState → ℕ = λ s. count_by test (free_objects s) in
+    omega (arith, c.take_some-came.ensures.moves test, ap free (new c), ap free was, ap (λ t. count_by test (free_in t.spans)) (added c), count-with_span test c.args.self.now.spans (wanted c))
 
 pub returns-clause-given : goal.returns-clause-given
 returns-clause-given c =
-    let P : Central → Type 0 = λ t. All (IsTakenIn t.spans) (opening c.args.span c.args.self.now.row.size c.args.n) in
-    subst P (sym (added c)) (opening-taken c.args.self.now.spans c.args.span c.args.self.now.row.size c.args.n)
+    let objects = opening c.args.span c.args.self.now.row.size c.args.n in
+    subst (λ (t : Central). All (IsTakenIn t.spans) objects) (sym (added c)) (opening-taken c.args.self.now.spans c.args.span c.args.self.now.row.size c.args.n)
 
 pub returns-clause-fresh : goal.returns-clause-fresh
-returns-clause-fresh c =
-    let before : IsSound c.args.self.now = subst IsSound c.self.view_is c.self.invariant.0 in
-    λ k d within.
-    fresh-apart c.args.self.now.row c.args.self.now.spans (opened c.args.span c.args.self.now.row.size c.args.n) (get_or (opening c.args.span c.args.self.now.row.size c.args.n) k d) before (of_row c).cut (opening-is_taken c.args.span c.args.self.now.row.size c.args.n k d within) c.requires.apart
+returns-clause-fresh c = λ k d within.
+    let a = get_or (opening c.args.span c.args.self.now.row.size c.args.n) k d in
+    fresh-apart (before c) (wanted c) a (of_row c).cut (opening-is_taken c.args.span c.args.self.now.row.size c.args.n k d within) c.requires.apart
 
 pub returns-clause-different : goal.returns-clause-different
-returns-clause-different c =
-    let before : IsSound c.args.self.now = subst IsSound c.self.view_is c.self.invariant.0 in
-    opening-different c.args.span c.args.self.now.row.size c.args.n before.some
+returns-clause-different c = opening-different c.args.span c.args.self.now.row.size c.args.n (before c).some
 
 pub returns-clause-kept : goal.returns-clause-kept
-returns-clause-kept c =
-    λ a there.
-    let P : Central → Type 0 = λ t. IsTakenIn t.spans a in
-    subst P (sym (added c)) (kept-with_span c.args.self.now.spans (opened c.args.span c.args.self.now.row.size c.args.n) a there)
+returns-clause-kept c = λ a there. subst (λ (t : Central). IsTakenIn t.spans a) (sym (added c)) (kept-with_span c.args.self.now.spans (wanted c) a there)

@@ -1,11 +1,11 @@
-use Rattle.std.proofs.Common.{◌≡◌, ◌+◌, ◌≤◌, [], ◌∷◌, ◌++◌, length, get_or, List, Option, Some, None, refl, sym, ◌∙◌, ap, subst, arith}
+use Rattle.std.proofs.Common.{◌≡◌, ◌+◌, ◌≤◌, [], ◌∷◌, ◌++◌, length, get_or, List, Option, Some, None, refl, ap, subst, arith}
 use Rattle.std.specs.Option.{option_to_list}
 use Rattle.std.proofs.lemmas.List.{get_or_default, append-nil, length-append}
 use Rattle.tc_units.specs.declared.units.Addr.{Addr}
 use Rattle.tc_units.specs.declared.spans.SpanRef.{SpanRef}
 use Rattle.tc_units.specs.Bag.{Contents}
 use Rattle.central_free.specs.Central.{put_one, IsSound}
-use Rattle.central_free.proofs.PutAllFacts.{IsPutting, IsPutting-none, IsPutting-more, IsPut, IsPut-end}
+use Rattle.central_free.proofs.PutAllFacts.{IsPutting-none, IsPutting-more, IsPut, IsPut-end}
 use Rattle.central_free.proofs.central.CentralFree.put.Goals as goal
 use Rattle.central_free.proofs.central.CentralFree.put.Goals.{in-Some, in_default}
 
@@ -31,16 +31,19 @@ loop-object-preserved c =
     let read : a ≡ get_or list k a = get_or_default list k (record { 0 = 0 }) a c.loop-object-test.true in
     let row : c.put_one.new.self.row ≡ c.loop-object.self.row = ap (λ t. t.row) c.put_one.ensures.spans in
     let spans : c.put_one.new.self.spans ≡ (put_one a c.loop-object.self.spans).spans = ap (λ t. t.spans) c.put_one.ensures.spans in
-    let P : Contents SpanRef → Type 0 = λ b. IsPutting list c.args.self.now c.put_one.new.self c.args.freed.now b (k + 1) in
+    let one = c.put_one.ensures in let gone = option_to_list c.put_one.result in let so_far = c.loop-object.invariant in
+    let was : Contents SpanRef = c.loop-object.freed in
+    let next = λ (more : Contents SpanRef) (items : more.items ≡ was.items ++ gone) (room : length more.items + more.spare ≡ length was.items + was.spare).
+    IsPutting-more so_far c.put_one.new.self more a gone c.requires.different c.loop-object-test.true read row spans one.freed items room (at_most_one c.put_one.result) one.sound one.kept one.moves in
     elim c.match-put_one.branch [
-      | in-Some w ↦ subst P (sym w.freed-is) (IsPutting-more list c.args.self.now c.loop-object.self c.put_one.new.self c.args.freed.now c.loop-object.freed w.push.new.self k a (option_to_list c.put_one.result) c.loop-object.invariant c.requires.different c.loop-object-test.true read row spans c.put_one.ensures.freed
-          (w.push.ensures.items ∙ ap (λ o. c.loop-object.freed.items ++ option_to_list o) (sym w.in-Some.is)) (omega (arith, ap length w.push.ensures.items, length-append {A = SpanRef} c.loop-object.freed.items (w.in-Some.span ∷ []), w.push.ensures.spare)) (at_most_one c.put_one.result) c.put_one.ensures.sound c.put_one.ensures.kept c.put_one.ensures.moves)
-      | in_default w ↦ subst P (sym w.freed-is) (IsPutting-more list c.args.self.now c.loop-object.self c.put_one.new.self c.args.freed.now c.loop-object.freed c.loop-object.freed k a (option_to_list c.put_one.result) c.loop-object.invariant c.requires.different c.loop-object-test.true read row spans c.put_one.ensures.freed
-          (sym (append-nil c.loop-object.freed.items) ∙ ap (λ o. c.loop-object.freed.items ++ option_to_list o) (sym w.in_default.is)) refl (at_most_one c.put_one.result) c.put_one.ensures.sound c.put_one.ensures.kept c.put_one.ensures.moves)
+      | in-Some w ↦
+          (let long = length-append {A = SpanRef} c.loop-object.freed.items (w.in-Some.span ∷ []) in
+          rw w.freed-is (next w.push.new.self (rw w.in-Some.is w.push.ensures.items) (omega (arith, ap length w.push.ensures.items, long, w.push.ensures.spare))))
+      | in_default w ↦ rw w.freed-is (next c.loop-object.freed (rw (w.in_default.is, append-nil) refl) refl)
     ]
 
 finished : (c : goal.After-loop-object) → IsPut c.args.list.now c.args.self.now c.loop-object.self c.args.freed.now c.loop-object.freed
-finished c = IsPut-end c.args.list.now c.args.self.now c.loop-object.self c.args.freed.now c.loop-object.freed c.loop-object.object-index c.loop-object.invariant (omega arith)
+finished c = IsPut-end c.loop-object.invariant (omega arith)
 
 pub returns-clause-spans : goal.returns-clause-spans
 returns-clause-spans c = (finished c).spans

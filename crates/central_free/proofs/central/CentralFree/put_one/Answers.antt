@@ -10,8 +10,7 @@ use Rattle.span_list.specs.Span.{SpanState, taken_count, objects_of, first_byte}
 use Rattle.tc_units.specs.declared.spans.ClassRow.{ClassRow}
 use Rattle.central_free.specs.declared.ranking.Standing.{Standing}
 use Rattle.central_free.specs.Central.{Central, put_one, IsTakenIn, free_in}
-use Rattle.central_free.specs.Ranking.{no_standing}
-use Rattle.central_free.specs.Slots.{spans_of, standing_of, IsKept}
+use Rattle.central_free.specs.Slots.{spans_of, IsKept}
 use Rattle.central_free.proofs.SlotFacts.{slot_at-set, spans_of-set, IsKept-set, entry_gone, spans_of-remove, IsKept-remove}
 use Rattle.central_free.proofs.PutFacts.{IsFound, some_begun, slot_found, remove-set, IsPutOne, IsPutOne-stays, IsPutOne-leaves}
 use Rattle.central_free.proofs.central.CentralFree.put_one.Goals as goal
@@ -20,35 +19,28 @@ abbrev central_of : ClassRow → List SpanState → Central
 central_of row spans = record { row = row; spans = spans }
 
 pub last_begun-slot-requires : goal.last_begun-slot-requires
-last_begun-slot-requires c =
-    some_begun c.self.inside.row c.self.inside.slots.slots c.self.inside.order.entries c.self.inside.ranking c.args.self.now.spans c.args.object c.self.invariant.0 c.self.invariant.1 (ap (λ t. t.spans) c.self.view_is) c.requires
+last_begun-slot-requires c = let (sound, kept) = c.self.invariant in some_begun kept sound c.args.self.now.spans c.args.object (ap (λ t. t.spans) c.self.view_is) c.requires
 
 pub put-requires : goal.put-requires
 put-requires c =
-    (slot_found c.self.inside.row c.self.inside.slots.slots c.self.inside.order.entries c.self.inside.ranking c.args.self.now.spans c.args.object c.last_begun-slot.result c.index_mut.result.now c.self.invariant.0 c.self.invariant.1 (ap (λ t. t.spans) c.self.view_is) c.requires c.last_begun-slot.ensures c.index_mut.ensures.value).taken
+    let (sound, kept) = c.self.invariant in
+    (slot_found kept sound _ c.args.object c.last_begun-slot.result _ (ap (λ t. t.spans) c.self.view_is) c.requires c.last_begun-slot.ensures c.index_mut.ensures.value).taken
 
 -- the span stays
-found : (c : goal.After-set-else-put) → IsFound c.self.inside.slots.slots c.self.inside.order.entries c.args.object c.last_begun-slot.result c.index_mut.result.now
-found c =
-    slot_found c.self.inside.row c.self.inside.slots.slots c.self.inside.order.entries c.self.inside.ranking c.args.self.now.spans c.args.object c.last_begun-slot.result c.index_mut.result.now c.self.invariant.0 c.self.invariant.1 (ap (λ t. t.spans) c.self.view_is) c.requires c.last_begun-slot.ensures c.index_mut.ensures.value
-
-stayed : (c : goal.After-set-else-put) → IsPutOne c.self.inside.row (spans_of c.self.inside.slots.slots c.self.inside.order.entries) c.args.object (spans_of (set c.self.inside.slots.slots c.last_begun-slot.result (Some c.put.new.self)) c.self.inside.order.entries) []
+stayed : (c : goal.After-set-else-put) → IsPutOne c.self.inside.row (spans_of c.self.inside.slots.slots c.self.inside.order.entries) c.args.object
+    (spans_of (set c.self.inside.slots.slots c.last_begun-slot.result (Some c.put.new.self)) c.self.inside.order.entries) []
 stayed c =
-    let spans = spans_of c.self.inside.slots.slots c.self.inside.order.entries in
-    let at = found c in
-    let s : SpanState = c.index_mut.result.now in
-    let some : taken_count c.put.new.self ≡ 0 → ⊥ = λ none. both_ways c.put.result c.if-put.false (c.put.ensures.all.1 none) in
-    let P : List SpanState → Type 0 = λ xs. IsPutOne c.self.inside.row spans c.args.object xs [] in
-    subst P (sym (spans_of-set c.self.inside.slots.slots c.self.inside.order.entries c.last_begun-slot.result s c.put.new.self at.at at.stands)) (IsPutOne-stays c.self.inside.row spans c.args.object at.at s c.put.new.self c.self.invariant.0 at.place (sym (at.stands.span s)) c.put.ensures.after some c.put.ensures.kept c.put.ensures.moves)
+    let (sound, kept) = c.self.invariant in let s : SpanState = c.index_mut.result.now in let t : SpanState = c.put.new.self in
+    let at = slot_found kept sound _ c.args.object c.last_begun-slot.result s (ap (λ t. t.spans) c.self.view_is) c.requires c.last_begun-slot.ensures c.index_mut.ensures.value in
+    let some : taken_count t ≡ 0 → ⊥ = λ none. both_ways c.put.result c.if-put.false (c.put.ensures.all.1 none) in
+    rw (spans_of-set at.stands t) (IsPutOne-stays at.place s t (sym (at.stands.span s)) c.put.ensures.after sound c.put.ensures.kept c.put.ensures.moves some)
 
 pub invariant_of-self-else-put : goal.invariant_of-self-else-put
 invariant_of-self-else-put c =
-    let slots : List (Option SpanState) = c.self.inside.slots.slots in
-    let k = c.last_begun-slot.result in
-    let t : SpanState = c.put.new.self in
-    let read : c.index.result.now ≡ t = same_Some c.index.result.now t (sym c.index.ensures ∙ slot_at-set slots k c.index_mut.result.now t c.index_mut.ensures.value) in
-    let Q : List Standing → Type 0 = λ r. IsKept (set slots k (Some t)) c.self.inside.order.entries r in
-    ((stayed c).sound, subst Q (sym (c.set-else-put.ensures ∙ ap (set c.self.inside.ranking k) (c.standing_of.ensures ∙ ap standing_of read))) (IsKept-set slots c.self.inside.order.entries c.self.inside.ranking k c.index_mut.result.now t c.self.invariant.1 c.index_mut.ensures.value (ap (λ u. u.span) c.put.ensures.after)))
+    let (sound, kept) = c.self.invariant in
+    let k = c.last_begun-slot.result in let s : SpanState = c.index_mut.result.now in let t : SpanState = c.put.new.self in
+    let read : c.index.result.now ≡ t = same_Some c.index.result.now t (sym c.index.ensures ∙ slot_at-set c.self.inside.slots.slots k s t c.index_mut.ensures.value) in
+    ((stayed c).sound, rw (c.set-else-put.ensures, c.standing_of.ensures, read) (IsKept-set kept k s t c.index_mut.ensures.value (ap (λ u. u.span) c.put.ensures.after)))
 
 pub returns-else-put-clause-spans : goal.returns-else-put-clause-spans
 returns-else-put-clause-spans c =
@@ -61,54 +53,44 @@ pub returns-else-put-clause-sound : goal.returns-else-put-clause-sound
 returns-else-put-clause-sound c = (stayed c).sound
 
 pub returns-else-put-clause-kept : goal.returns-else-put-clause-kept
-returns-else-put-clause-kept c =
-    λ b there differ.
-    let P : Central → Type 0 = λ t. IsTakenIn t.spans b in
-    (stayed c).kept b (subst P (sym c.self.view_is) there) differ
+returns-else-put-clause-kept c = λ b there differ. (stayed c).kept b (subst (λ (t : Central). IsTakenIn t.spans b) (sym c.self.view_is) there) differ
 
 pub returns-else-put-clause-moves : goal.returns-else-put-clause-moves
-returns-else-put-clause-moves c =
-    λ test.
-    (stayed c).moves test ∙ ap (λ t. count_by test (free_in t.spans) + count_by test (c.args.object ∷ [])) c.self.view_is
+returns-else-put-clause-moves c = λ test. (stayed c).moves test ∙ ap (λ t. count_by test (free_in t.spans) + count_by test (c.args.object ∷ [])) c.self.view_is
 
 -- the span leaves
 gone : (c : goal.After-set) → IsFound c.self.inside.slots.slots c.self.inside.order.entries c.args.object c.last_begun-slot.result c.index_mut.result.now
 gone c =
-    slot_found c.self.inside.row c.self.inside.slots.slots c.self.inside.order.entries c.self.inside.ranking c.args.self.now.spans c.args.object c.last_begun-slot.result c.index_mut.result.now c.self.invariant.0 c.self.invariant.1 (ap (λ t. t.spans) c.self.view_is) c.requires c.last_begun-slot.ensures c.index_mut.ensures.value
+    let (sound, kept) = c.self.invariant in
+    slot_found kept sound _ c.args.object c.last_begun-slot.result _ (ap (λ t. t.spans) c.self.view_is) c.requires c.last_begun-slot.ensures c.index_mut.ensures.value
 
 -- its pages, and what is kept of it no more
 pages : (c : goal.After-set) → c.span-left.result ≡ c.index_mut.result.now.span
 pages c =
-    let t : SpanState = c.put.new.self in
-    let same : c.remove.result ≡ t = same_Some c.remove.result t (sym c.remove.ensures.value ∙ slot_at-set c.self.inside.slots.slots c.last_begun-slot.result c.index_mut.result.now t c.index_mut.ensures.value) in
+    let s : SpanState = c.index_mut.result.now in let t : SpanState = c.put.new.self in
+    let same : c.remove.result ≡ t = same_Some c.remove.result t (sym c.remove.ensures.value ∙ slot_at-set c.self.inside.slots.slots c.last_begun-slot.result s t c.index_mut.ensures.value) in
     c.span-left.ensures ∙ ap (λ s. s.span) same ∙ ap (λ s. s.span) c.put.ensures.after
 
 entries_left : (c : goal.After-set) → c.remove-then-put.new.self.entries ≡ remove c.self.inside.order.entries (gone c).at
 entries_left c =
-    let key : c.addr_of.result.0 ≡ first_byte c.index_mut.result.now.span = c.addr_of.ensures ∙ ap first_byte (pages c) in
-    c.remove-then-put.ensures.entries ∙ ap (λ q. remove_entry (is_at (nat_cmp q)) c.self.inside.order.entries) key ∙ entry_gone c.self.inside.row c.self.inside.slots.slots c.self.inside.order.entries c.self.inside.ranking c.last_begun-slot.result c.index_mut.result.now (gone c).at c.self.invariant.0 c.self.invariant.1 (gone c).stands
+    let (sound, kept) = c.self.invariant in let key = c.addr_of.ensures ∙ ap first_byte (pages c) in
+    c.remove-then-put.ensures.entries ∙ ap (λ q. remove_entry (is_at (nat_cmp q)) c.self.inside.order.entries) key ∙ entry_gone kept sound (gone c).stands
 
 slots_left : (c : goal.After-set) → c.remove.new.self.slots ≡ set c.self.inside.slots.slots c.last_begun-slot.result None
 slots_left c = c.remove.ensures.slots ∙ set-set c.self.inside.slots.slots c.last_begun-slot.result (Some c.put.new.self) None
 
-left : (c : goal.After-set) → IsPutOne c.self.inside.row (spans_of c.self.inside.slots.slots c.self.inside.order.entries) c.args.object (spans_of c.remove.new.self.slots c.remove-then-put.new.self.entries) (c.span-left.result ∷ [])
+left : (c : goal.After-set) → IsPutOne c.self.inside.row (spans_of c.self.inside.slots.slots c.self.inside.order.entries) c.args.object
+    (spans_of c.remove.new.self.slots c.remove-then-put.new.self.entries) (c.span-left.result ∷ [])
 left c =
-    let spans = spans_of c.self.inside.slots.slots c.self.inside.order.entries in
-    let at = gone c in
-    let s : SpanState = c.index_mut.result.now in
-    let t : SpanState = c.put.new.self in
-    let none : taken_count t ≡ 0 = c.put.ensures.all.0 c.if-put.true in
-    let is : spans_of c.remove.new.self.slots c.remove-then-put.new.self.entries ≡ remove (set spans at.at t) at.at = ap (λ xs. spans_of xs c.remove-then-put.new.self.entries) (slots_left c) ∙ ap (spans_of (set c.self.inside.slots.slots c.last_begun-slot.result None)) (entries_left c) ∙ spans_of-remove c.self.inside.slots.slots c.self.inside.order.entries c.last_begun-slot.result s at.at at.stands ∙ sym (remove-set spans at.at t) in
-    IsPutOne-leaves c.self.inside.row spans c.args.object at.at s t (spans_of c.remove.new.self.slots c.remove-then-put.new.self.entries) c.span-left.result c.self.invariant.0 at.place (sym (at.stands.span s)) c.put.ensures.after none c.put.ensures.kept c.put.ensures.moves is (pages c)
+    let (sound, kept) = c.self.invariant in let at = gone c in let s : SpanState = c.index_mut.result.now in let t : SpanState = c.put.new.self in
+    let is = (λ i. spans_of (slots_left c i) (entries_left c i)) ∙ spans_of-remove at.stands ∙ sym (remove-set (spans_of c.self.inside.slots.slots c.self.inside.order.entries) at.at t) in
+    IsPutOne-leaves at.place s t (sym (at.stands.span s)) c.put.ensures.after sound c.put.ensures.kept c.put.ensures.moves _ _ (c.put.ensures.all.0 c.if-put.true) is (pages c)
 
 pub invariant_of-self : goal.invariant_of-self
 invariant_of-self c =
-    let k = c.last_begun-slot.result in
-    let P : List (Option SpanState) → Type 0 = λ xs. IsKept xs c.remove-then-put.new.self.entries c.set.new.self in
-    let Q : List (ℕ × ℕ) → Type 0 = λ es. IsKept (set c.self.inside.slots.slots k None) es c.set.new.self in
-    let R : List Standing → Type 0 = IsKept (set c.self.inside.slots.slots k None) (remove c.self.inside.order.entries (gone c).at) in
-    let kept : R (set c.self.inside.ranking k no_standing) = IsKept-remove c.self.inside.slots.slots c.self.inside.order.entries c.self.inside.ranking k c.index_mut.result.now (gone c).at c.self.invariant.1 (gone c).stands in
-    ((left c).sound, subst P (sym (slots_left c)) (subst Q (sym (entries_left c)) (subst R (sym (c.set.ensures ∙ ap (set c.self.inside.ranking k) c.none.ensures)) kept)))
+    let ranked = c.set.ensures ∙ ap (set c.self.inside.ranking c.last_begun-slot.result) c.none.ensures in
+    let P : List (Option SpanState) × List (ℕ × ℕ) × List Standing → Type 0 = λ z. IsKept z.0 z.1 z.2 in
+    ((left c).sound, subst P (λ i. (sym (slots_left c) i, sym (entries_left c) i, sym ranked i)) (IsKept-remove c.self.invariant.1 (gone c).stands))
 
 pub returns-then-put-clause-spans : goal.returns-then-put-clause-spans
 returns-then-put-clause-spans c =
@@ -121,12 +103,10 @@ pub returns-then-put-clause-sound : goal.returns-then-put-clause-sound
 returns-then-put-clause-sound c = (left c).sound
 
 pub returns-then-put-clause-kept : goal.returns-then-put-clause-kept
-returns-then-put-clause-kept c =
-    λ b there differ.
-    let P : Central → Type 0 = λ t. IsTakenIn t.spans b in
-    (left c).kept b (subst P (sym c.self.view_is) there) differ
+returns-then-put-clause-kept c = λ b there differ. (left c).kept b (subst (λ (t : Central). IsTakenIn t.spans b) (sym c.self.view_is) there) differ
 
 pub returns-then-put-clause-moves : goal.returns-then-put-clause-moves
-returns-then-put-clause-moves c =
-    λ test.
-    ap (λ t. count_by test (free_in (spans_of c.remove.new.self.slots c.remove-then-put.new.self.entries)) + count_by test (flat_map (objects_of t.row.size) (c.span-left.result ∷ []))) (sym c.self.view_is) ∙ (left c).moves test ∙ ap (λ t. count_by test (free_in t.spans) + count_by test (c.args.object ∷ [])) c.self.view_is
+returns-then-put-clause-moves c = λ test.
+    let gone : ClassRow → ℕ = λ row. count_by test (flat_map (objects_of row.size) (c.span-left.result ∷ [])) in
+    ap (λ t. count_by test (free_in (spans_of c.remove.new.self.slots c.remove-then-put.new.self.entries)) + gone t.row) (sym c.self.view_is)
+    ∙ (left c).moves test ∙ ap (λ t. count_by test (free_in t.spans) + count_by test (c.args.object ∷ [])) c.self.view_is

@@ -10,18 +10,19 @@ loop-came-init c =
 pub loop-came-preserved : goal.loop-came-preserved
 loop-came-preserved c =
     let run = c.take_run-more.ensures in
-    (IsTaking-more c.args.self.now c.loop-came.self c.take_run-more.new.self c.args.out.now c.loop-came.out c.take_run-more.new.out c.loop-came.came c.take_run-more.result c.loop-came.invariant.0 run.spans run.out run.count run.spare run.sound run.given run.fresh run.different run.kept run.moves, omega (arith, run.few))
+    let more = IsTaking-more c.loop-came.invariant.0 c.take_run-more.new.self c.take_run-more.new.out c.take_run-more.result run.spans run.out run.count run.spare in
+    (more run.sound run.given run.fresh run.different run.kept run.moves, omega (arith, run.few))
 
 -- no object was left
 stopped : (c : goal.Then-more-eq0) → IsTook c.args.n c.args.self.now c.take_run-more.new.self c.args.out.now c.take_run-more.new.out c.loop-came.came
 stopped c =
     let run = c.take_run-more.ensures in
     let none : c.take_run-more.result ≡ 0 = c.if-more-eq0.true in
-    let so_far : IsTaking c.args.self.now c.take_run-more.new.self c.args.out.now c.take_run-more.new.out (c.loop-came.came + c.take_run-more.result) = IsTaking-more c.args.self.now c.loop-came.self c.take_run-more.new.self c.args.out.now c.loop-came.out c.take_run-more.new.out c.loop-came.came c.take_run-more.result c.loop-came.invariant.0 run.spans run.out run.count run.spare run.sound run.given run.fresh run.different run.kept run.moves in
+    let more = IsTaking-more c.loop-came.invariant.0 c.take_run-more.new.self c.take_run-more.new.out c.take_run-more.result run.spans run.out run.count run.spare in
     let same : c.loop-came.came + c.take_run-more.result ≡ c.loop-came.came = omega (arith, none) in
     let P : ℕ → Type 0 = IsTaking c.args.self.now c.take_run-more.new.self c.args.out.now c.take_run-more.new.out in
     let left : taken_one c.take_run-more.new.self.spans ≡ None = ap (λ t. taken_one t.spans) run.spans ∙ ap (λ k. taken_one (taken k c.loop-came.self.spans).spans) none ∙ run.none none in
-    IsTook-end c.args.n c.loop-came.came c.args.self.now c.take_run-more.new.self c.args.out.now c.take_run-more.new.out (subst P same so_far) c.loop-came.invariant.1 (λ _. left)
+    IsTook-end (subst P same (more run.sound run.given run.fresh run.different run.kept run.moves)) c.args.n c.loop-came.invariant.1 (λ _. left)
 
 pub returns-then-more-eq0-clause-count : goal.returns-then-more-eq0-clause-count
 returns-then-more-eq0-clause-count c = (stopped c).count
@@ -47,7 +48,7 @@ returns-then-more-eq0-clause-different c = (stopped c).different
 -- all that was asked for came
 finished : (c : goal.After-loop-came) → IsTook c.args.n c.args.self.now c.loop-came.self c.args.out.now c.loop-came.out c.loop-came.came
 finished c =
-    IsTook-end c.args.n c.loop-came.came c.args.self.now c.loop-came.self c.args.out.now c.loop-came.out c.loop-came.invariant.0 c.loop-came.invariant.1 (λ less. absurd (omega arith))
+    IsTook-end c.loop-came.invariant.0 c.args.n c.loop-came.invariant.1 (λ less. absurd (omega arith))
 
 pub returns-clause-none : goal.returns-clause-none
 returns-clause-none c = (finished c).none

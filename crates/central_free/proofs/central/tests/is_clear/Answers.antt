@@ -20,6 +20,7 @@ returns c =
     let within : k < length entries = omega (arith, length-map entries (λ (e : ℕ × ℕ). span_at slots e.1)) in
     let slot = (get_or entries k nobody).1 in
     let filed : IsFiled slots (get_or entries k nobody) = kept.filed k nobody within in
-    let inside : slot < length c.central.inside.ranking = elim (cases_lt slot (length c.central.inside.ranking)) [ inl below ↦ below | inr past ↦ absurd (none-some (span_at slots slot) (sym (kept.room slot past) ∙ filed.has)) ] in
+    let long = length c.central.inside.ranking in
+    let inside : slot < long = elim (cases_lt slot long) [ inl below ↦ below | inr past ↦ absurd (none-some (span_at slots slot) (sym (kept.room slot past) ∙ filed.has)) ] in
     subst Q (sym (span_of_place slots entries k d nobody within)) (c.loop-slot.invariant slot (span_at slots slot) (omega (arith, c.len-slot-end.ensures.len, c.loop-slot-test.false)) filed.has)) in
     subst P c.central.view_is all

@@ -1,8 +1,8 @@
-use Rattle.std.proofs.Common.{◌≡◌, ◌*◌, ◌<◌, List, length, Some, None, sym, ◌∙◌, ap, subst, arith}
+use Rattle.std.proofs.Common.{◌≡◌, ◌*◌, ◌<◌, List, length, None, sym, ◌∙◌, ap, subst, arith}
 use Rattle.std.proofs.lemmas.List.{get_or_read}
 use Rattle.central_free.specs.declared.ranking.Rank.{Rank}
 use Rattle.central_free.specs.declared.ranking.Standing.{Standing}
-use Rattle.central_free.specs.Ranking.{no_rank, node_at, standings_of, IsBestSlot}
+use Rattle.central_free.specs.Ranking.{no_rank, node_at, IsBestSlot}
 use Rattle.central_free.proofs.RankFacts.{best_none, best_some}
 use Rattle.central_free.proofs.ranking.Ranking.best.Goals as goal
 
@@ -21,6 +21,4 @@ returns-else-root-eq0 c =
     let some : 0 < c.self.inside.slots = omega arith in
     let root : c.index-root.result.now ≡ node_at nodes 1 = get_or_read nodes 1 c.index-root.result.now (omega arith) c.index-root.ensures no_rank in
     let heavy : 0 < (node_at nodes 1).standing.weight = omega (arith, ap (λ r. r.standing.weight) root) in
-    let P : List Standing → Type 0 = λ ts. IsBestSlot ts (Some c.index-root.result.now.slot) in
-    let Q : Rank → Type 0 = λ r. IsBestSlot (standings_of c.self.inside.slots nodes) (Some r.slot) in
-    subst P c.self.view_is (subst Q (sym root) (best_some c.self.inside.slots nodes c.self.invariant.1 c.self.invariant.2 some heavy))
+    rw (root, ← c.self.view_is) (best_some c.self.inside.slots nodes c.self.invariant.1 c.self.invariant.2 some heavy)

@@ -2,6 +2,7 @@ use Rattle.std.proofs.Common.{◌≡◌, ◌≤◌, ◌++◌, ◌-◌, ◌*◌, 
 use Rattle.std.specs.Vec.{with_items}
 use Rattle.std.proofs.lemmas.List.{length-drop, length-take, take_all}
 use Rattle.central_free.specs.declared.ranking.Rank.{Rank}
+use Rattle.central_free.specs.declared.ranking.Standing.{Standing}
 use Rattle.central_free.specs.Ranking.{no_standing, node_at, standings_of}
 use Rattle.central_free.proofs.RankFacts.{length-standings_of}
 use Rattle.central_free.proofs.RankWrites.{standings-grown, refill, refill_twice}
@@ -14,7 +15,8 @@ leaves old now few same size =
 
 pub write_leaves-requires-clause-room : goal.write_leaves-requires-clause-room
 write_leaves-requires-clause-room c =
-    omega (arith, c.requires, ap length c.self.view_is, length-standings_of c.self.inside.slots c.self.inside.nodes.items, c.deref.ensures.len, c.self.invariant.0, length-take (length c.deref.result.now - c.self.inside.slots) (drop c.self.inside.slots c.deref.result.now), length-drop c.self.inside.slots c.deref.result.now)
+    let few = c.self.inside.slots in let cut = length-take (length c.deref.result.now - few) (drop few c.deref.result.now) in
+    omega (arith, c.requires, ap length c.self.view_is, length-standings_of few c.self.inside.nodes.items, c.deref.ensures.len, c.self.invariant.0, cut, length-drop few c.deref.result.now)
 
 pub returns-clause-slots : goal.returns-clause-slots
 returns-clause-slots c = length-standings_of c.args.slots _
@@ -28,11 +30,14 @@ returns-clause-standings c =
     let size : length c.write_leaves.new.nodes ≡ nodes.len = omega (arith, c.write_leaves.auto.nodes, c.deref_mut.ensures.len) in
     let size_too : length c.join_all.new.nodes ≡ nodes.len = omega (arith, c.join_all.auto.nodes, c.deref_mut-2.ensures.len) in
     let second : c.deref_mut-2.result.now ≡ c.write_leaves.new.nodes = c.deref_mut-2.ensures.value ∙ refill nodes.len c.write_leaves.new.nodes nodes.items size (omega arith) in
-    let written : (with_items (with_items nodes c.write_leaves.new.nodes) c.join_all.new.nodes).items ≡ c.join_all.new.nodes = refill_twice nodes.len c.join_all.new.nodes (c.write_leaves.new.nodes ++ drop (length c.write_leaves.new.nodes) nodes.items) size_too in
+    let written : (with_items (with_items nodes c.write_leaves.new.nodes) c.join_all.new.nodes).items ≡ c.join_all.new.nodes =
+    refill_twice nodes.len c.join_all.new.nodes (c.write_leaves.new.nodes ++ drop (length c.write_leaves.new.nodes) nodes.items) size_too in
     let size_before : length old ≡ 2 * few = omega (arith, c.self.invariant.0) in
     let before : take (length c.deref.result.now - few) (drop few c.deref.result.now) ≡ drop few old = leaves old c.deref.result.now few c.deref.ensures.value size_before in
     let room : few ≤ c.args.slots = omega (arith, c.requires, ap length c.self.view_is, length-standings_of few old) in
+    let at : ℕ → List Rank → Standing = λ j ns. get_or (standings_of c.args.slots ns) j no_standing in
     λ k.
-    ap (λ ns. get_or (standings_of c.args.slots ns) k no_standing) written
-    ∙ standings-grown few c.args.slots old c.join_all.new.nodes size_before room (λ j less. ap (λ ts. get_or ts j no_standing) c.join_all.ensures.standings ∙ ap (λ ns. get_or (standings_of c.args.slots ns) j no_standing) second ∙ c.write_leaves.ensures.standings j less ∙ ap (λ rs. (node_at rs j).standing) before) k
+    ap (at k) written
+    ∙ standings-grown few c.args.slots old c.join_all.new.nodes size_before room
+    (λ j less. ap (λ ts. get_or ts j no_standing) c.join_all.ensures.standings ∙ ap (at j) second ∙ c.write_leaves.ensures.standings j less ∙ ap (λ rs. (node_at rs j).standing) before) k
     ∙ ap (λ ts. get_or ts k no_standing) c.self.view_is
