@@ -12,16 +12,19 @@ use Rattle.class_shard.specs.Laws.{spans_in, with_new, AddMoves}
 use Rattle.class_shard.proofs.SpanSums.{pages_of, sum_by-map, objects_passing, count-objects}
 
 -- the objects of a list of which the first a are taken, and these, are the objects of a list of which none is
-count-front : (test : Addr → Bool) (addr : ℕ → Addr) (k a b : ℕ) → count_by test (free_from addr k (replicate a false ++ replicate b true)) + count_by test (map addr (range_with_len k a)) ≡ count_by test (free_from addr k (replicate (a + b) true))
+count-front : (test : Addr → Bool) (addr : ℕ → Addr) (k a b : ℕ)
+    → count_by test (free_from addr k (replicate a false ++ replicate b true)) + count_by test (map addr (range_with_len k a)) ≡ count_by test (free_from addr k (replicate (a + b) true))
 count-front test addr k zero b =
     let none : b ≡ 0 + b = omega arith in
     omega (arith, ap (λ m. count_by test (free_from addr k (replicate m true))) none)
 count-front test addr k (suc a) b =
     let next : suc a + b ≡ suc (a + b) = omega arith in
     let f : Addr → ℕ = λ x. cond {A = ℕ} (test x) 1 0 in
-    omega (arith, count-front test addr (k + 1) a b, ap (λ m. count_by test (free_from addr k (replicate m true))) next, sum_by-cons f (addr k) (map addr (range_with_len (k + 1) a)), sum_by-cons f (addr k) (free_from addr (k + 1) (replicate (a + b) true)))
+    let first = sum_by-cons f (addr k) (map addr (range_with_len (k + 1) a)) in let free = sum_by-cons f (addr k) (free_from addr (k + 1) (replicate (a + b) true)) in
+    omega (arith, count-front test addr (k + 1) a b, ap (λ m. count_by test (free_from addr k (replicate m true))) next, first, free)
 
-count-opened : (test : Addr → Bool) (span : SpanRef) (size n : ℕ) → count_by test (free_objects (opened span size n)) + count_by test (opening span size n) ≡ count_by test (objects_of size span)
+count-opened : (test : Addr → Bool) (span : SpanRef) (size n : ℕ)
+    → count_by test (free_objects (opened span size n)) + count_by test (opening span size n) ≡ count_by test (objects_of size span)
 count-opened test span size n =
     let m = objects_in span.pages size in
     let addr : ℕ → Addr = address (all_free span size) in
@@ -32,7 +35,8 @@ count-opened test span size n =
 sum-with_span : (w : SpanRef → ℕ) (spans : List SpanState) (s : SpanState) → sum_by w (pages_of (with_span s spans)) ≡ sum_by w (pages_of spans) + w s.span
 sum-with_span w spans s =
     let span : SpanState → SpanRef = λ x. x.span in
-    omega (arith, sum_by-map w span (with_span s spans), sum_by-map w span spans, sum_by-with_item (λ (t : SpanState). first_byte t.span) (λ x. w (span x)) s spans)
+    let more = sum_by-with_item (λ (t : SpanState). first_byte t.span) (λ x. w (span x)) s spans in
+    omega (arith, sum_by-map w span (with_span s spans), sum_by-map w span spans, more)
 
 pub add_moves : AddMoves
 add_moves n s span some sound pages first sizes few apart =
@@ -40,7 +44,7 @@ add_moves n s span some sound pages first sizes few apart =
     let new = opened span row.size n in
     let of_row : IsOfRow row new = IsOfRow-opened row span n sound.some sizes sound.fits first (omega (arith, pages, few)) pages some in
     record {
-      same = record { class = refl; row = refl; room = refl; sound = IsSound-with_span row s.central.spans new sound of_row apart };
+      same = record { class = refl; row = refl; room = refl; sound = IsSound-with_span sound new of_row apart };
       some = omega (arith, length-opening span row.size n, some, some_objects span.pages row.size sound.some (omega (arith, sound.fits, pages)));
       few = omega (arith, length-opening span row.size n);
       spans = λ test.
@@ -48,7 +52,8 @@ add_moves n s span some sound pages first sizes few apart =
           omega (arith, sum-with_span w s.central.spans new, sum_by-cons w span []);
       moves = λ test.
           let f : Addr → ℕ = λ x. cond {A = ℕ} (test x) 1 0 in
-          omega (arith, count-opened test span row.size n, count-with_span test s.central.spans new, sum_by-append f s.transfer.objects (free_in (with_span new s.central.spans)), sum_by-append f s.transfer.objects (free_in s.central.spans));
+          let now = sum_by-append f s.transfer.objects (free_in (with_span new s.central.spans)) in let was = sum_by-append f s.transfer.objects (free_in s.central.spans) in
+          omega (arith, count-opened test span row.size n, count-with_span test s.central.spans new, now, was);
       objects = λ test.
           omega (arith, count-objects test row.size (spans_in (with_new n s span)), count-objects test row.size (spans_in s), sum-with_span (objects_passing test row.size) s.central.spans new);
     }

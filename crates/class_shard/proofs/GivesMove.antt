@@ -1,5 +1,6 @@
 -- What a giving leaves: objects only move, and spans that are all free leave with all of theirs.
-use Rattle.std.proofs.Common.{◌≡◌, ◌≢◌, ℕ, suc, ◌+◌, ◌<◌, ◌≤◌, Bool, true, false, List, [], ◌∷◌, ◌++◌, length, get_or, count_by, cond, refl, sym, ◌∙◌, ap, subst, inl, inr, arith}
+use Rattle.std.proofs.Common.{◌≡◌, ◌≢◌, ℕ, suc, ◌+◌, ◌<◌, ◌≤◌, Bool, true, false, List, [], ◌∷◌}
+use Rattle.std.proofs.Common.{◌++◌, length, get_or, count_by, cond, refl, sym, ◌∙◌, ap, subst, inl, inr, arith}
 use Rattle.std.specs.Prelude.{All}
 use Rattle.std.specs.List.{flat_map, sum_by, remove}
 use Rattle.std.proofs.lemmas.List.{length-append, get_or_default}
@@ -38,41 +39,39 @@ put_back s a cut taken =
     })
 
 -- a span leaves a sum
-sum-remove : (w : SpanRef → ℕ) (spans : List SpanState) (k : ℕ) (s : SpanState) → k < length spans → ((d : SpanState) → get_or spans k d ≡ s) → sum_by w (pages_of (remove spans k)) + w s.span ≡ sum_by w (pages_of spans)
+sum-remove : (w : SpanRef → ℕ) (spans : List SpanState) (k : ℕ) (s : SpanState) → k < length spans
+    → ((d : SpanState) → get_or spans k d ≡ s) → sum_by w (pages_of (remove spans k)) + w s.span ≡ sum_by w (pages_of spans)
 sum-remove w spans k s within here =
     let span : SpanState → SpanRef = λ x. x.span in
     omega (arith, sum_by-map w span (remove spans k), sum_by-map w span spans, sum_by-remove (λ x. w (span x)) spans k s within, ap (λ x. w (span x)) (here s))
 
-stays_back : (row : ClassRow) (spans : List SpanState) (a : Addr) (k : ℕ) (s : SpanState) → IsSound (central_of row spans) → IsPlace spans a k → ((d : SpanState) → get_or spans k d ≡ s) → IsPutBack s a (after_put s a) → (taken_count (after_put s a) ≡ 0 → ⊥) → IsBack row spans a (put_one a spans)
-stays_back row spans a k s sound place here back some =
-    let t = after_put s a in
-    subst (IsBack row spans a) (sym (put_stays spans a k s t place (sym (here s)) refl some)) (record {
-      one = IsPutOne-stays row spans a k s t sound place (sym (here s)) refl some back.kept back.moves;
-      few = omega arith;
-      spans = λ w. omega (arith, ap (sum_by w) (pages-set spans k s t place.within here refl));
-    })
+module _ {row : ClassRow} {spans : List SpanState} (sound : IsSound (central_of row spans)) (a : Addr) where
+  module _ (k : ℕ) (s : SpanState) (place : IsPlace spans a k) (here : (d : SpanState) → get_or spans k d ≡ s) (back : IsPutBack s a (after_put s a)) where
+    stays_back : (taken_count (after_put s a) ≡ 0 → ⊥) → IsBack row spans a (put_one a spans)
+    stays_back some =
+        let t = after_put s a in
+        rw (put_stays place s t (sym (here s)) refl some) (record {
+          one = IsPutOne-stays place s t (sym (here s)) refl sound back.kept back.moves some;
+          few = omega arith;
+          spans = λ w. omega (arith, ap (sum_by w) (pages-set spans k s t place.within here refl));
+        })
 
-leaves_back : (row : ClassRow) (spans : List SpanState) (a : Addr) (k : ℕ) (s : SpanState) → IsSound (central_of row spans) → IsPlace spans a k → ((d : SpanState) → get_or spans k d ≡ s) → IsPutBack s a (after_put s a) → taken_count (after_put s a) ≡ 0 → IsBack row spans a (put_one a spans)
-leaves_back row spans a k s sound place here back none =
-    let t = after_put s a in
-    subst (IsBack row spans a) (sym (put_leaves spans a k s t place (sym (here s)) refl none)) (record {
-      one = IsPutOne-leaves row spans a k s t (remove spans k) s.span sound place (sym (here s)) refl none back.kept back.moves (sym (remove-set spans k t)) refl;
-      few = omega arith;
-      spans = λ w. omega (arith, sum-remove w spans k s place.within here, sum_by-cons w s.span []);
-    })
+    leaves_back : taken_count (after_put s a) ≡ 0 → IsBack row spans a (put_one a spans)
+    leaves_back none =
+        let t = after_put s a in
+        rw (put_leaves place s t (sym (here s)) refl none) (record {
+          one = IsPutOne-leaves place s t (sym (here s)) refl sound back.kept back.moves (remove spans k) s.span none (sym (remove-set spans k t)) refl;
+          few = omega arith;
+          spans = λ w. omega (arith, sum-remove w spans k s place.within here, sum_by-cons w s.span []);
+        })
 
-one_back : (row : ClassRow) (spans : List SpanState) (a : Addr) → IsSound (central_of row spans) → IsTakenIn spans a → IsBack row spans a (put_one a spans)
-one_back row spans a sound there =
-    let k = there.0 in
-    let s = there.1 in
-    let place : IsPlace spans a k = IsPlace-taken row spans a sound there in
-    let here : (d : SpanState) → get_or spans k d ≡ s = λ d. get_or_default spans k d s place.within ∙ there.3 in
-    let of_row : IsOfRow row s = subst (IsOfRow row) there.3 (sound.of_row k s place.within) in
-    let back : IsPutBack s a (after_put s a) = put_back s a of_row.cut there.4 in
-    elim (cases_eq (taken_count (after_put s a)) 0) [
-      | inl none ↦ leaves_back row spans a k s sound place here back none
-      | inr some ↦ stays_back row spans a k s sound place here back some
-    ]
+  one_back : IsTakenIn spans a → IsBack row spans a (put_one a spans)
+  one_back there =
+      let (k, s, less, is, taken) = there in let place = IsPlace-taken sound a there in
+      let here : (d : SpanState) → get_or spans k d ≡ s = λ d. get_or_default spans k d s place.within ∙ is in
+      let of_row : IsOfRow row s = subst (IsOfRow row) is (sound.of_row k s place.within) in
+      let back = put_back s a of_row.cut taken in
+      elim (cases_eq (taken_count (after_put s a)) 0) [ inl none ↦ leaves_back k s place here back none | inr some ↦ stays_back k s place here back some ]
 
 -- what several leave
 record AreBack (row : ClassRow) (old : List SpanState) (list : List Addr) (put : Put) : Type 0 where
@@ -81,14 +80,16 @@ record AreBack (row : ClassRow) (old : List SpanState) (list : List Addr) (put :
   spans : (w : SpanRef → ℕ) → sum_by w (pages_of put.spans) + sum_by w put.freed ≡ sum_by w (pages_of old)
   moves : (test : Addr → Bool) → count_by test (free_in put.spans) + count_by test (flat_map (objects_of row.size) put.freed) ≡ count_by test (free_in old) + count_by test list
 
-all_back : (list : List Addr) (row : ClassRow) (spans : List SpanState) → IsSound (central_of row spans) → All (IsTakenIn spans) list → AreDifferent list → AreBack row spans list (put_all list spans)
+all_back : (list : List Addr) (row : ClassRow) (spans : List SpanState) → IsSound (central_of row spans)
+    → All (IsTakenIn spans) list → AreDifferent list → AreBack row spans list (put_all list spans)
 all_back [] row spans sound taken different =
     record { sound = sound; few = omega arith; spans = λ w. omega arith; moves = λ test. omega arith }
 all_back (a ∷ others) row spans sound taken different =
     let one = put_one a spans in
-    let first : IsBack row spans a one = one_back row spans a sound (All-head (IsTakenIn spans) a others taken) in
-    let still : All (IsTakenIn one.spans) others = λ k d less. first.one.kept (get_or others k d) (taken (suc k) d (omega arith)) (λ same. different 0 (suc k) d (omega arith) (omega arith) (sym same)) in
-    let rest : AreBack row one.spans others (put_all others one.spans) = all_back others row one.spans first.one.sound still (λ i j d less within. different (suc i) (suc j) d (omega arith) (omega arith)) in
+    let first = one_back sound a (All-head (IsTakenIn spans) a others taken) in
+    let still : All (IsTakenIn one.spans) others = λ k d less.
+    first.one.kept (get_or others k d) (taken (suc k) d (omega arith)) (λ same. different 0 (suc k) d (omega arith) (omega arith) (sym same)) in
+    let rest = all_back others row one.spans first.one.sound still (λ i j d less within. different (suc i) (suc j) d (omega arith) (omega arith)) in
     let gone = (put_all others one.spans).freed in
     record {
       sound = rest.sound;
@@ -96,11 +97,14 @@ all_back (a ∷ others) row spans sound taken different =
       spans = λ w. omega (arith, first.spans w, rest.spans w, sum_by-append w one.freed gone);
       moves = λ test. (
           let f : Addr → ℕ = λ x. cond {A = ℕ} (test x) 1 0 in
-          omega (arith, first.one.moves test, rest.moves test, count-objects test row.size (one.freed ++ gone), count-objects test row.size one.freed, count-objects test row.size gone, sum_by-append (objects_passing test row.size) one.freed gone, sum_by-cons f a others, sum_by-cons f a []));
+          let both = sum_by-append (objects_passing test row.size) one.freed gone in let counted = count-objects test row.size in
+          omega (arith, first.one.moves test, rest.moves test, counted (one.freed ++ gone), counted one.freed, counted gone, both, sum_by-cons f a others, sum_by-cons f a []));
     }
 
 -- what a giving leaves, under other names
-given_as : (list : List Addr) (s after : Shard) (freed : List SpanRef) → after_give list s ≡ after → freed_by list s ≡ freed → IsSame s after → length freed ≤ length list → ((w : SpanRef → ℕ) → sum_by w (spans_in after) + sum_by w freed ≡ sum_by w (spans_in s)) → ((test : Addr → Bool) → count_by test (places after) + count_by test (flat_map (objects_of s.central.row.size) freed) ≡ count_by test (places s) + count_by test list) → IsGiven list s
+given_as : (list : List Addr) (s after : Shard) (freed : List SpanRef) → after_give list s ≡ after → freed_by list s ≡ freed → IsSame s after → length freed ≤ length list
+    → ((w : SpanRef → ℕ) → sum_by w (spans_in after) + sum_by w freed ≡ sum_by w (spans_in s))
+    → ((test : Addr → Bool) → count_by test (places after) + count_by test (flat_map (objects_of s.central.row.size) freed) ≡ count_by test (places s) + count_by test list) → IsGiven list s
 given_as list s after freed left gone same few spans moves =
     let size = s.central.row.size in
     record {
@@ -110,9 +114,12 @@ given_as list s after freed left gone same few spans moves =
           let w : SpanRef → ℕ = λ x. cond {A = ℕ} (test x) 1 0 in
           omega (arith, ap (λ t. sum_by w (spans_in t)) left, ap (sum_by w) gone, spans w);
       moves = λ test.
-          omega (arith, ap (λ t. count_by test (places t)) left, ap (λ xs. count_by test (flat_map (objects_of size) xs)) gone, moves test);
+          let freed_objects : List SpanRef → ℕ = λ xs. count_by test (flat_map (objects_of size) xs) in
+          omega (arith, ap (λ t. count_by test (places t)) left, ap freed_objects gone, moves test);
       objects = λ test.
-          omega (arith, ap (λ t. count_by test (objects_in_spans t)) left, ap (λ n. count_by test (flat_map (objects_of n) (spans_in after))) (ap (λ r. r.size) same.row), ap (λ xs. count_by test (flat_map (objects_of size) xs)) gone, count-objects test size (spans_in after), count-objects test size freed, count-objects test size (spans_in s), spans (objects_passing test size));
+          let freed_objects : List SpanRef → ℕ = λ xs. count_by test (flat_map (objects_of size) xs) in
+          let sizes = ap (λ (r : ClassRow). count_by test (flat_map (objects_of r.size) (spans_in after))) same.row in let counted = count-objects test size in
+          omega (arith, ap (λ t. count_by test (objects_in_spans t)) left, sizes, ap freed_objects gone, counted (spans_in after), counted freed, counted (spans_in s), spans (objects_passing test size));
     }
 
 given_cached : (list : List Addr) (s : Shard) → IsSound s.central → fits_in s list ≡ true → IsGiven list s
@@ -120,7 +127,8 @@ given_cached list s sound fits =
     let put = put_all list s.central.spans in
     let objects = s.transfer.objects in
     let free = free_in s.central.spans in
-    given_as list s (with_objects s (objects ++ list)) [] (cond-true (fits_in s list) (with_objects s (objects ++ list)) (with_spans s put.spans) fits) (cond-true (fits_in s list) [] put.freed fits) (record { class = refl; row = refl; room = refl; sound = sound }) (omega arith) (λ w. omega arith) (λ test.
+    let left = cond-true (fits_in s list) (with_objects s (objects ++ list)) (with_spans s put.spans) fits in let gone = cond-true (fits_in s list) [] put.freed fits in
+    given_as list s (with_objects s (objects ++ list)) [] left gone (record { class = refl; row = refl; room = refl; sound = sound }) (omega arith) (λ w. omega arith) (λ test.
     let f : Addr → ℕ = λ x. cond {A = ℕ} (test x) 1 0 in
     omega (arith, sum_by-append f (objects ++ list) free, sum_by-append f objects list, sum_by-append f objects free))
 
@@ -128,8 +136,9 @@ given_spans : (list : List Addr) (s : Shard) → IsSound s.central → All (IsTa
 given_spans list s sound taken different over =
     let put = put_all list s.central.spans in
     let objects = s.transfer.objects in
-    let back : AreBack s.central.row s.central.spans list put = all_back list s.central.row s.central.spans sound taken different in
-    given_as list s (with_spans s put.spans) put.freed (cond-false (fits_in s list) (with_objects s (objects ++ list)) (with_spans s put.spans) over) (cond-false (fits_in s list) [] put.freed over) (record { class = refl; row = refl; room = refl; sound = back.sound }) back.few back.spans (λ test.
+    let back = all_back list s.central.row s.central.spans sound taken different in
+    let left = cond-false (fits_in s list) (with_objects s (objects ++ list)) (with_spans s put.spans) over in let gone = cond-false (fits_in s list) [] put.freed over in
+    given_as list s (with_spans s put.spans) put.freed left gone (record { class = refl; row = refl; room = refl; sound = back.sound }) back.few back.spans (λ test.
     let f : Addr → ℕ = λ x. cond {A = ℕ} (test x) 1 0 in
     omega (arith, back.moves test, sum_by-append f objects (free_in put.spans), sum_by-append f objects (free_in s.central.spans)))
 
