@@ -1,5 +1,6 @@
 //! Keys in order, in room that is made at the opening.
-ghost use Rattle.std.specs.Prelude.{◌≡◌, ◌+◌, ◌-◌, ◌*◌, ◌^◌, ◌<◌, ◌≤◌, ◌↔◌, true, None, [], ◌∷◌, length, slice_get, All, Contains, IsPermutation, IsTrue, IfOk, IfSome, insert, remove, nat_le, if◌then◌else◌};
+ghost use Rattle.std.specs.List.{slice_index_or};
+ghost use Rattle.std.specs.Prelude.{◌≡◌, ℕ, ◌+◌, ◌-◌, ◌*◌, ◌^◌, ◌<◌, ◌≤◌, ◌↔◌, true, false, None, [], ◌∷◌, length, slice_get, All, Contains, IsPermutation, IsTrue, IfOk, IfSome, insert, remove, nat_le, if◌then◌else◌};
 
 use crate::key::SortKey;
 use crate::steps::Steps;
@@ -18,6 +19,8 @@ pub struct SortedList<K: SortKey> {
     /// The numbers of all slots: first those of the keys, in the keys' order.
     order: Vec<u16>,
     len: usize,
+    /// Where the key stands that was changed last, if it still stands there: it may well be the next one.
+    recent: usize,
 }
 
 impl<K: SortKey> Model for SortedList<K> {
@@ -69,6 +72,7 @@ impl<K: SortKey> SortedList<K> {
             slots: vec![in alloc; K::sample(); room]?,
             order,
             len: 0,
+            recent: 0,
         })
     }
 
@@ -199,6 +203,49 @@ impl<K: SortKey> SortedList<K> {
         self.place_by::<Brand>(key, Blank::new(1))
     }
 
+    /// Whether all keys before a place come before a key, by the last of them.
+    fn is_behind(&self, place: usize, key: K) -> bool
+        requires { place ≤ length self.now.keys }
+        ensures early { result ≡ true → (i : ℕ) (d : K) → i < place → K.before (slice_index_or self.now.keys i d) key ≡ true }
+        ensures order { IsInOrder K.before self.now.keys }
+    {
+        let _len = self.len();
+        place == 0 || self.at(place - 1).comes_before(key)
+    }
+
+    /// Whether no key from a place on does, by the first of them.
+    fn is_ahead(&self, place: usize, key: K) -> bool
+        requires { place ≤ length self.now.keys }
+        ensures { result ≡ true → (i : ℕ) (d : K) → place ≤ i → i < length self.now.keys
+            → K.before (slice_index_or self.now.keys i d) key ≡ false }
+    {
+        place == self.len() || !self.at(place).comes_before(key)
+    }
+
+    /// Whether a place is that of a key.
+    fn is_place(&self, place: usize, key: K) -> bool
+        requires { place ≤ length self.now.keys }
+        ensures { result ≡ true → IsPlaceOf K.before self.now.keys key place }
+    {
+        self.is_behind(place, key) && self.is_ahead(place, key)
+    }
+
+    /// How many keys come before a key, which is found without a search at a place or behind the key there.
+    fn place_near(&self, near: usize, key: K) -> usize
+        ensures order { IsInOrder K.before self.now.keys }
+        ensures place { IsPlaceOf K.before self.now.keys key result }
+    {
+        if near < self.len() {
+            if self.is_place(near, key) {
+                return near;
+            }
+            if self.is_place(near + 1, key) {
+                return near + 1;
+            }
+        }
+        self.place(key)
+    }
+
     /// Adds a key.
     pub fn insert(&mut self, key: K)
         requires { 0 < self.old.spare }
@@ -232,10 +279,11 @@ impl<K: SortKey> SortedList<K> {
         ensures held { Contains self.new.keys to }
         ensures spare { self.new.spare ≡ self.old.spare }
     {
-        let place = self.place(from);
-        let target = self.place(to);
+        let place = self.place_near(self.recent, from);
+        let target = self.place_near(place, to);
         let slot = self.order[place];
         self.slots[slot as usize] = to;
         turn(&mut self.order, place, target, slot);
+        self.recent = target - usize::from(place < target);
     }
 }

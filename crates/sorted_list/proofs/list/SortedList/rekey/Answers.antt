@@ -9,10 +9,10 @@ pub index_mut-requires : goal.index_mut-requires
 index_mut-requires g c =
     let order = c.self.inside.order.items in
     let now = c.args.self.now.keys in
-    let held = held_at g.K.SortKey.before g.met.K.SortKey.order now c.args.from c.place-place.result c.place-place.ensures.order c.place-place.ensures.place c.requires in
+    let held = held_at g.K.SortKey.before g.met.K.SortKey.order now c.args.from c.place_near-place.result c.place_near-place.ensures.order c.place_near-place.ensures.place c.requires in
     let size = keys_len g.K.SortKey.sample c.self.inside.slots.items order c.self.inside.len c.self.invariant.within in
     let same = ap (λ (v : Contents g.row.K.Denot). length v.keys) c.self.view_is in
-    omega (arith, slot_fits order (length c.self.inside.slots.items) c.self.invariant.once c.place-place.result c.index-slot.result.now (omega (arith, held.0, c.self.invariant.within)) (sym c.index-slot.ensures), c.self.inside.slots.ok.0)
+    omega (arith, slot_fits order (length c.self.inside.slots.items) c.self.invariant.once c.place_near-place.result c.index-slot.result.now (omega (arith, held.0, c.self.invariant.within)) (sym c.index-slot.ensures), c.self.inside.slots.ok.0)
 
 pub turn-requires-clause-held : goal.turn-requires-clause-held
 turn-requires-clause-held g c = grind (arith, nat_tests, slice_get_read, keys_len, held_at)
@@ -25,8 +25,8 @@ invariant_of-self g c =
     let len = c.self.inside.len in
     let slot = c.index-slot.result.now in
     let same = ap (λ (v : Contents g.row.K.Denot). v.keys) c.self.view_is in
-    let back = written c.self.inside.order.len order c.deref_mut.result.now c.turn.new.order c.place-place.result _ slot c.deref_mut.ensures.len c.deref_mut.ensures.value c.turn.ensures.len c.turn.ensures.after in
-    (changed before g.met.K.SortKey.order g.K.SortKey.sample slots order len c.self.invariant c.args.self.now.keys same c.args.from c.args.to c.place-place.result c.place-target.result slot _ c.place-place.ensures.order c.place-place.ensures.place c.place-target.ensures.place c.requires c.index-slot.ensures back).0
+    let back = written c.self.inside.order.len order c.deref_mut.result.now c.turn.new.order c.place_near-place.result _ slot c.deref_mut.ensures.len c.deref_mut.ensures.value c.turn.ensures.len c.turn.ensures.after in
+    (changed before g.met.K.SortKey.order g.K.SortKey.sample slots order len c.self.invariant c.args.self.now.keys same c.args.from c.args.to c.place_near-place.result c.place_near-target.result slot _ c.place_near-place.ensures.order c.place_near-place.ensures.place c.place_near-target.ensures.place c.requires c.index-slot.ensures back).0
 
 pub returns-clause-keys : goal.returns-clause-keys
 returns-clause-keys g c =
@@ -36,8 +36,8 @@ returns-clause-keys g c =
     let len = c.self.inside.len in
     let slot = c.index-slot.result.now in
     let same = ap (λ (v : Contents g.row.K.Denot). v.keys) c.self.view_is in
-    let back = written c.self.inside.order.len order c.deref_mut.result.now c.turn.new.order c.place-place.result _ slot c.deref_mut.ensures.len c.deref_mut.ensures.value c.turn.ensures.len c.turn.ensures.after in
-    (changed before g.met.K.SortKey.order g.K.SortKey.sample slots order len c.self.invariant c.args.self.now.keys same c.args.from c.args.to c.place-place.result c.place-target.result slot _ c.place-place.ensures.order c.place-place.ensures.place c.place-target.ensures.place c.requires c.index-slot.ensures back).1
+    let back = written c.self.inside.order.len order c.deref_mut.result.now c.turn.new.order c.place_near-place.result _ slot c.deref_mut.ensures.len c.deref_mut.ensures.value c.turn.ensures.len c.turn.ensures.after in
+    (changed before g.met.K.SortKey.order g.K.SortKey.sample slots order len c.self.invariant c.args.self.now.keys same c.args.from c.args.to c.place_near-place.result c.place_near-target.result slot _ c.place_near-place.ensures.order c.place_near-place.ensures.place c.place_near-target.ensures.place c.requires c.index-slot.ensures back).1
 
 pub returns-clause-held : goal.returns-clause-held
 returns-clause-held g c =
@@ -47,5 +47,5 @@ returns-clause-held g c =
     let len = c.self.inside.len in
     let slot = c.index-slot.result.now in
     let same = ap (λ (v : Contents g.row.K.Denot). v.keys) c.self.view_is in
-    let back = written c.self.inside.order.len order c.deref_mut.result.now c.turn.new.order c.place-place.result _ slot c.deref_mut.ensures.len c.deref_mut.ensures.value c.turn.ensures.len c.turn.ensures.after in
-    (changed before g.met.K.SortKey.order g.K.SortKey.sample slots order len c.self.invariant c.args.self.now.keys same c.args.from c.args.to c.place-place.result c.place-target.result slot _ c.place-place.ensures.order c.place-place.ensures.place c.place-target.ensures.place c.requires c.index-slot.ensures back).2
+    let back = written c.self.inside.order.len order c.deref_mut.result.now c.turn.new.order c.place_near-place.result _ slot c.deref_mut.ensures.len c.deref_mut.ensures.value c.turn.ensures.len c.turn.ensures.after in
+    (changed before g.met.K.SortKey.order g.K.SortKey.sample slots order len c.self.invariant c.args.self.now.keys same c.args.from c.args.to c.place_near-place.result c.place_near-target.result slot _ c.place_near-place.ensures.order c.place_near-place.ensures.place c.place_near-target.ensures.place c.requires c.index-slot.ensures back).2
