@@ -1,9 +1,9 @@
 -- Searches and changes of a level, by those of the level above it.
 use Rattle.std.proofs.lemmas.Grind.{common_steps}
-use Rattle.std.proofs.Common.{◌≡◌, ℕ, ◌+◌, ◌-◌, ◌*◌, ◌/◌, ◌%◌, ◌^◌, ◌<◌, ◌≤◌, Bool, true, false, not, ◌&&◌, nat_le, nat_lt, cond, ◌==◌, List, [], ◌∷◌, length}
+use Rattle.std.proofs.Common.{◌≡◌, ℕ, ◌+◌, ◌-◌, ◌*◌, ◌/◌, ◌%◌, ◌^◌, ◌<◌, ◌≤◌, Bool, true, false, not, cond, ◌==◌, List, [], ◌∷◌, length}
 use Rattle.std.proofs.Common.{get_or, set, take, drop, replicate, Option, None, refl, sym, ap, subst, ◌∙◌, inl, inr, arith, w64}
 use Rattle.std.proofs.lemmas.Bool.Decides.{nat_tests}
-use Rattle.std.proofs.lemmas.Bool.{cases_lt, cases_eq, and_left, and_right, lt-leb, le-ltb, eq-eqb, ne_eqb, false≢true, false_from_ne_true}
+use Rattle.std.proofs.lemmas.Bool.{cases_lt, cases_eq, eq-eqb, ne_eqb, false≢true, false_from_ne_true}
 use Rattle.std.proofs.lemmas.List.{same_lists, take_all, drop_all, append-nil, length-set, length-replicate, get_or-replicate, get_or_default, get_or_past, get_or-set_same, get_or-set_other}
 use Rattle.std.proofs.lemmas.Nat.Bits.{bit_at-zero, bit_at-trailing_zeros}
 use Rattle.std.specs.Int.{trailing_zeros}
@@ -63,11 +63,11 @@ any_of words index w is fits =
     ]
 
 -- One bit of a word changed is one place.
-bit_at_place : (b k : ℕ) → (k ≡ b → (nat_le b k && nat_lt k (b + 1)) ≡ true) × ((k ≡ b → ⊥) → (nat_le b k && nat_lt k (b + 1)) ≡ false)
-bit_at_place b k = grind (arith, nat_tests, cases_lt, and_left, lt-leb, and_right, le-ltb)
+one_place : (k place : ℕ) → k / 64 ≡ place / 64 → (k % 64 == place % 64) ≡ (k == place)
+one_place k place e = grind (arith, nat_tests, cases_eq)
 
-pub put_place : (words : List ℕ) (place word w : ℕ) (is_in : Bool) → place < 64 * length words → word ≡ get_or words (place / 64) 0 → ((k : ℕ) → k < 64 → is_one w k ≡ cond (nat_le (place % 64) k && nat_lt k (place % 64 + 1)) is_in (is_one word k)) → (k : ℕ) → is_marked (set words (place / 64) w) k ≡ cond (k == place) is_in (is_marked words k)
-put_place words place word w is_in inside is changed k = grind (arith, nat_tests, eq-eqb, bit_at_place, ne_eqb, get_or-set_same, get_or-set_other)
+pub put_place : (words : List ℕ) (place word w : ℕ) (is_in : Bool) → place < 64 * length words → word ≡ get_or words (place / 64) 0 → ((k : ℕ) → k < 64 → is_one w k ≡ cond (k == place % 64) is_in (is_one word k)) → (k : ℕ) → is_marked (set words (place / 64) w) k ≡ cond (k == place) is_in (is_marked words k)
+put_place words place word w is_in inside is changed k = grind (arith, nat_tests, cases_eq (k / 64) (place / 64), one_place, ne_eqb, get_or-set_same, get_or-set_other)
 
 -- The same of levels, of which `first` is the lowest.
 pub places_are : (levels : List Level) (place : ℕ) (first : Level) → place < places_of levels → first ≡ get_or levels 0 first → places_of levels ≡ 64 * length first.words.items
@@ -117,6 +117,28 @@ any_same own now index b same any = grind (arith, nat_tests)
 -- the level above tells of the word that changed
 tells_still : (own now above above' : ℕ → Bool) (place : ℕ) (is_in any : Bool) → ((index : ℕ) → HasAny own index (above index)) → ((k : ℕ) → now k ≡ cond (k == place) is_in (own k)) → HasAny now (place / 64) any → ((k : ℕ) → above' k ≡ cond (k == place / 64) any (above k)) → (index : ℕ) → HasAny now index (above' index)
 tells_still own now above above' place is_in any tells changed has changed' index = grind (arith, nat_tests, eq-eqb, ne_eqb, any_same)
+
+-- where a word has a place as before, the level above stays
+any_one : (has : ℕ → Bool) (index : ℕ) (a b : Bool) → HasAny has index a → HasAny has index b → a ≡ b
+any_one has index true true h k = refl
+any_one has index false false h k = refl
+any_one has index true false h k = absurd (false≢true (sym (k h.0 h.1) ∙ h.2))
+any_one has index false true h k = absurd (false≢true (sym (h k.0 k.1) ∙ k.2))
+
+pub put_low : (levels : List Level) (place : ℕ) (is_in any : Bool) (d e now : Level) → IsTree levels → length now.words.items ≡ length (get_or levels 0 d).words.items
+    → ((k : ℕ) → is_marked now.words.items k ≡ cond (k == place) is_in (is_marked (get_or levels 0 d).words.items k)) → HasAny (is_marked now.words.items) (place / 64) any
+    → HasAny (is_marked (get_or levels 0 e).words.items) (place / 64) any → IsTree (set levels 0 now)
+put_low [] place is_in any d e now tree size changed has had = tree
+put_low (own ∷ []) place is_in any d e now tree size changed has had = size ∙ tree
+put_low (own ∷ (above ∷ rest)) place is_in any d e now tree size changed has had =
+    let up : is_marked above.words.items (place / 64) ≡ any = any_one (is_marked own.words.items) (place / 64) _ any (tree.0.tells (place / 64)) had in (
+      record {
+        size = omega (arith, tree.0.size, size);
+        tells = tells_still (is_marked own.words.items) (is_marked now.words.items) (is_marked above.words.items) (is_marked above.words.items) place is_in any
+            tree.0.tells changed has (λ k. grind (arith, nat_tests, eq-eqb, ne_eqb, cases_eq));
+      },
+      tree.1,
+    )
 
 put_tail : (x : Level) (xs ys : List Level) → put_mid 1 (length (x ∷ xs) - 1) (x ∷ xs) ys ≡ x ∷ ys
 put_tail x xs ys = grind (arith, nat_tests, drop_all, append-nil)

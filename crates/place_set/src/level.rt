@@ -3,7 +3,7 @@ ghost use Rattle.std.specs.Prelude.{◌≡◌, ℕ, ◌+◌, ◌*◌, ◌/◌, �
 ghost use Rattle.range_bits.specs.Words.{is_marked};
 ghost use Rattle.place_set.specs.Places.{HasAny, IsLast, IsFirst};
 
-use range_bits::{end_bit, next_bit, with_bits};
+use range_bits::{end_bit, next_bit, with_bit};
 use std::alloc::{AllocError, Global};
 
 /// Places in words.
@@ -38,8 +38,16 @@ impl Level {
         self.words.len() * 64
     }
 
+    /// Whether a place is in the set.
+    pub(crate) fn has(&self, place: usize) -> bool
+        requires { place < 64 * length self.now.words.items }
+        ensures { result ≡ is_marked self.now.words.items place }
+    {
+        self.words[place / 64] >> (place % 64) & 1 == 1
+    }
+
     /// Whether a place of a word is in the set.
-    fn has_any(&self, index: usize) -> bool
+    pub(crate) fn has_any(&self, index: usize) -> bool
         requires { index < length self.now.words.items }
         ensures { HasAny (is_marked self.now.words.items) index result }
     {
@@ -56,7 +64,7 @@ impl Level {
     {
         let index = place / 64;
         let bit = (place % 64) as u32;
-        self.words[index] = with_bits(self.words[index], bit, bit + 1, is_in);
+        self.words[index] = with_bit(self.words[index], bit, is_in);
         self.has_any(index)
     }
 

@@ -46,6 +46,14 @@ impl PlaceSet {
         tree::places(&self.levels)
     }
 
+    /// Whether a place is in the set.
+    pub fn has(&self, place: usize) -> bool
+        requires { place < length self.now }
+        ensures { result ≡ slice_index_or self.now place false }
+    {
+        tree::has(&self.levels, place)
+    }
+
     /// Puts a place into the set.
     pub fn insert(&mut self, place: usize)
         requires { place < length self.old }

@@ -36,7 +36,16 @@ pub(crate) fn places(levels: &[Level]) -> usize
     }
 }
 
-/// Puts a place into the set, or takes it out.
+/// Whether a place is in the set.
+pub(crate) fn has(levels: &[Level], place: usize) -> bool
+    requires { place < places_of levels.now }
+    ensures { result ≡ has_at levels.now place }
+{
+    levels[0].has(place)
+}
+
+/// Puts a place into the set, or takes it out. The level above changes where its word comes to have a place, or has
+/// none left.
 pub(crate) fn put_in(levels: &mut [Level], place: usize, is_in: bool)
     requires tree { IsTree levels.old }
     requires inside { place < places_of levels.old }
@@ -44,7 +53,11 @@ pub(crate) fn put_in(levels: &mut [Level], place: usize, is_in: bool)
     ensures size { places_of levels.new ≡ places_of levels.old }
     ensures places { (k : ℕ) → has_at levels.new k ≡ (if k == place then is_in else has_at levels.old k) }
 {
+    let had_any = levels[0].has_any(place / 64);
     let has_any = levels[0].put(place, is_in);
+    if has_any == had_any {
+        return;
+    }
     if levels.len() > 1 {
         put_in(&mut levels[1..], place / 64, has_any);
     }

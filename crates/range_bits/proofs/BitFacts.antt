@@ -1,7 +1,7 @@
 -- Bits of words: the first one from a bit on, and bits that a mask makes 1 or 0.
-use Rattle.std.proofs.Common.{◌≡◌, ℕ, ◌-◌, ◌^◌, ◌<◌, ◌≤◌, Bool, true, false, cond, eqb, not, nat_le, nat_lt, ◌&&◌, min, max, sym, ap, ◌∙◌, inl, inr, arith, bit_and, bit_or, w64}
+use Rattle.std.proofs.Common.{◌≡◌, ℕ, ◌+◌, ◌-◌, ◌*◌, ◌%◌, ◌==◌, add-one, ◌^◌, ◌<◌, ◌≤◌, Bool, true, false, cond, eqb, not, nat_le, nat_lt, ◌&&◌, min, max, sym, ap, ◌∙◌, inl, inr, arith, bit_and, bit_or, w64}
 use Rattle.range_bits.proofs.Common.{cases_lt, nat_tests, bit_at_and, bit_at_or, bit_at_not, bit_at-lt, bit_at-zero, bit_at-trailing_zeros, bit_at_mask_inside}
-use Rattle.range_bits.proofs.Common.{bit_at_mask_below, bit_at_mask_above, and_le_l, pow_pos, pow-le-pow_right, bit_at, bit_not, trailing_zeros, is_one}
+use Rattle.range_bits.proofs.Common.{bit_at_mask_below, bit_at_mask_above, and_le_l, pow_pos, pow-succ', pow-le-pow_right, bit_at, bit_not, trailing_zeros, is_one}
 use Rattle.std.specs.Int.Count.{trailing_of_zero}
 
 -- whether a bit is one of those from `low` up to `high`
@@ -31,6 +31,23 @@ free_bits word low high k order within small =
     let mask : ℕ = 2 ^ high - 2 ^ low in
     ap (λ (b : ℕ). eqb b 1) (bit_at_and word (bit_not w64 mask) k ∙ ap (λ (m : ℕ). min (bit_at word k) m) (bit_at_not w64 mask k (mask_fits low high within) small))
     ∙ and_not_bit (bit_at word k) (bit_at mask k) (is_between low high k) (bit_at-lt word k) (mask_bit low high k order)
+
+-- the same of one bit
+pub one_between : (b k : ℕ) → is_between b (b + 1) k ≡ (k == b)
+one_between b k = grind (arith, nat_tests, cases_lt)
+
+one_mask : (b : ℕ) → b < 64 → 1 * 2 ^ b % 2 ^ 64 ≡ 2 ^ (b + 1) - 2 ^ b
+one_mask b small =
+    let twice : 2 ^ (b + 1) ≡ 2 * 2 ^ b = ap (λ e. 2 ^ e) (add-one b) ∙ pow-succ' 2 b in
+    let most : 2 ^ (b + 1) ≤ 2 ^ 64 = pow-le-pow_right {n = 2} (omega arith) (let l : b + 1 ≤ 64 = omega arith in l) in
+    omega (arith, twice, pow_pos b, most)
+
+pub used_bit : (word bit k : ℕ) → bit < 64 → is_one (bit_or word (1 * 2 ^ bit % 2 ^ 64)) k ≡ cond (k == bit) true (is_one word k)
+used_bit word bit k small = rw (one_mask bit small) (used_bits word bit (bit + 1) k (omega arith) ∙ ap (λ b. cond b true (is_one word k)) (one_between bit k))
+
+pub free_bit : (word bit k : ℕ) → bit < 64 → k < 64 → is_one (bit_and word (bit_not w64 (1 * 2 ^ bit % 2 ^ 64))) k ≡ cond (k == bit) false (is_one word k)
+free_bit word bit k small within =
+    rw (one_mask bit small) (free_bits word bit (bit + 1) k (omega arith) (omega arith) within ∙ ap (λ b. cond b false (is_one word k)) (one_between bit k))
 
 -- the first bit from `low` on that is 1, or that is 0
 pub record FirstBit (word low : ℕ) (used : Bool) (at : ℕ) : Type 0 where

@@ -10,4 +10,4 @@ mod wide_bits;
 mod words;
 
 pub use wide_bits::WideBits;
-pub use words::{end_bit, next_bit, with_bits};
+pub use words::{end_bit, next_bit, with_bit};

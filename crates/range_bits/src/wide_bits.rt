@@ -9,7 +9,7 @@ ghost use Rattle.range_bits.specs.Words.{IsNext};
 
 use crate::counting::used_between;
 use crate::ranges;
-use crate::words::{end_place, keep_used, next_place, set_places};
+use crate::words::{end_place, keep_used, next_place, set_place, set_places};
 use std::alloc::{AllocError, Global};
 use std::marker::Model;
 
@@ -127,6 +127,14 @@ impl WideBits {
     {
         let from = start as usize;
         set_places(&mut self.words, from, from + n as usize, used);
+    }
+
+    /// Makes a place used or free.
+    pub fn set(&mut self, place: u32, used: bool)
+        requires { place < length self.old }
+        ensures { self.new ≡ with_places self.old place 1 used }
+    {
+        set_place(&mut self.words, place as usize, used);
     }
 
     /// Where the shortest maximal free range of at least `n` places begins in `words` words, from word

@@ -1,5 +1,5 @@
 //! Words of 64 places each: the next used or free place, and making places used or free.
-ghost use Rattle.std.specs.Prelude.{◌≡◌, ℕ, ◌+◌, ◌-◌, ◌*◌, ◌^◌, ◌<◌, ◌≤◌, ◌&&◌, nat_le, nat_lt, not, length, if◌then◌else◌};
+ghost use Rattle.std.specs.Prelude.{◌≡◌, ℕ, ◌+◌, ◌-◌, ◌*◌, ◌^◌, ◌<◌, ◌≤◌, ◌&&◌, ◌==◌, nat_le, nat_lt, not, length, if◌then◌else◌};
 ghost use Rattle.range_bits.specs.Fills.{IsEnd, StaysUsed};
 ghost use Rattle.range_bits.specs.Ranges.{with_places};
 ghost use Rattle.range_bits.specs.Words.{is_one, is_marked, row_of, IsNext};
@@ -87,6 +87,15 @@ pub fn with_bits(word: u64, low: u32, high: u32, used: bool) -> u64
     if used { word | mask } else { word & !mask }
 }
 
+/// A word one bit of which is made 1, or 0.
+pub fn with_bit(word: u64, bit: u32, used: bool) -> u64
+    requires { bit < 64 }
+    ensures { (k : ℕ) → k < 64 → is_one result k ≡ (if k == bit then used else is_one word k) }
+{
+    let mask = 1 << bit;
+    if used { word | mask } else { word & !mask }
+}
+
 /// Makes the places from `start` up to `end` used, or free.
 pub fn set_places(words: &mut [u64], start: usize, end: usize, used: bool)
     requires fits { 64 * length words.old < 2 ^ 32 }
@@ -100,6 +109,17 @@ pub fn set_places(words: &mut [u64], start: usize, end: usize, used: bool)
         let high = (end - index * 64).min(64) as u32;
         words[index] = with_bits(words[index], low, high, used);
     }
+}
+
+/// Makes a place used, or free.
+pub fn set_place(words: &mut [u64], place: usize, used: bool)
+    requires fits { 64 * length words.old < 2 ^ 32 }
+    requires inside { place < 64 * length words.old }
+    ensures places { row_of words.new ≡ with_places (row_of words.old) place 1 used }
+    ensures len { length words.new ≡ length words.old }
+{
+    let index = place / 64;
+    words[index] = with_bit(words[index], (place % 64) as u32, used);
 }
 
 /// Frees those places of `count` words, from word `first` on, that are free in other words.
