@@ -485,7 +485,7 @@ impl HugeTable {
         // The pages are in the arena.
         let _ = &self.used;
         self.used.put(first + skipped, n - skipped, state);
-        self.begins.put(first, 1, state);
-        self.ends.put(first + n - 1, 1, state);
+        self.begins.set(first, state);
+        self.ends.set(first + n - 1, state);
     }
 }

@@ -16,9 +16,9 @@ returns-clause-noted c =
     let last : first + n - 1 + 1 ≡ first + n = omega arith in
     record {
       used = grind (arith, get_or-with_places, c.put.ensures, c.self.view_is);
-      begins = grind (arith, get_or-with_places, one_place, c.put-2.ensures, c.self.invariant.begins, c.self.view_is);
+      begins = grind (arith, get_or-with_places, one_place, c.set.ensures, c.self.invariant.begins, c.self.view_is);
       ends = λ page.
-          ap (λ row. bit row page) c.put-3.ensures
+          ap (λ row. bit row page) c.set-2.ensures
           ∙ get_or-with_places t.ends (first + n - 1) 1 v page false (omega (arith, c.self.invariant.ends))
           ∙ ap (λ b. cond b v (bit t.ends page)) (last_place (first + n) page (omega arith))
           ∙ ap (λ (x : Table). cond (eqb (first + n) (page + 1)) v (bit x.ends page)) c.self.view_is;
