@@ -2,7 +2,7 @@
 pub use Rattle.heap_rules.proofs.Numbered.{at_number-next, at_number-place, at_number-there}
 pub use Rattle.heap_rules.proofs.Orders.{by_first, last_is}
 pub use Rattle.huge_filler.specs.GivingOrder.{total}
-pub use Rattle.huge_filler.specs.Keys.{comes_before, giver_of, IsKept, key_of, Lists, rank}
+pub use Rattle.huge_filler.specs.Keys.{comes_before, giver_of, IsFollowed, IsKept, key_of, Lists, rank}
 pub use Rattle.huge_filler.specs.Measures.{donated_free, free_of_donated, IsCandidate, IsPreferred, measures_at, prefers, spare_row}
 pub use Rattle.huge_filler.specs.declared.giver.Giver.{Giver}
 pub use Rattle.huge_filler.specs.declared.measures.Measures.{Measures}

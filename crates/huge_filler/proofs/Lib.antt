@@ -1,5 +1,6 @@
 mod Choosing
 mod Common
+mod Following
 mod Giving
 mod Kept
 mod Listed

@@ -1,6 +1,7 @@
--- What the filler keeps beside the measures: each hugepage of the arena in two orders, and the count of donated free pages.
-use Rattle.std.specs.Prelude.{◌≡◌, ℕ, ◌≤◌, Bool, true, false, ◌==◌, nat_lt, List, length, Option, Some, None, if◌then◌else◌}
-use Rattle.std.specs.List.{enumerate_from}
+-- What the filler keeps beside the measures: each hugepage of the arena in two orders, and the count of donated free pages. The
+-- order of giving follows when it is asked for.
+use Rattle.std.specs.Prelude.{◌≡◌, ℕ, ◌<◌, ◌≤◌, Bool, true, false, ◌==◌, nat_lt, List, length, Option, Some, None, if◌then◌else◌}
+use Rattle.std.specs.List.{enumerate_from, slice_index_or}
 use Rattle.sorted_list.specs.Order.{first_by}
 use Rattle.sorted_list.specs.Rows.{IsIndexOf}
 use Rattle.huge_index.specs.declared.key.Key.{Key}
@@ -32,9 +33,22 @@ giver_of h (Some its) = record { spent = its.spare == 0; used = its.used; huge =
 abbrev pub Lists : {K : Type 0} → (ℕ → Option Measures → K) → List (Option Measures) → List K → Type 0
 Lists {K} key rows keys = IsIndexOf (λ p. key p.0 p.1) (enumerate_from 1 rows) keys
 
-pub record IsKept (rows : List (Option Measures)) (index : List Key) (order : List Giver) (donated : ℕ) : Type 0 where
+-- what hugepages measure, and the places where the order of giving doesn't follow yet
+pub record Giving : Type 0 where
+  pub rows : List (Option Measures)
+  pub stale : List Bool
+
+-- A list for the order of giving was told what hugepages measured, and they measure the same still but where they are stale.
+pub record IsFollowed (rows told : List (Option Measures)) (order : List Giver) (stale : List Bool) : Type 0 where
+  pub arena : length rows ≤ 4096
+  pub size : length told ≡ length rows
+  pub givers : Lists giver_of told order
+  pub room : length rows < length stale
+  pub inside : (k : ℕ) → slice_index_or stale k false ≡ true → k < length rows
+  pub current : (k : ℕ) → slice_index_or stale k false ≡ false → slice_index_or told k None ≡ slice_index_or rows k None
+
+pub record IsKept (rows : List (Option Measures)) (index : List Key) (donated : ℕ) : Type 0 where
   pub arena : length rows ≤ 4096
   pub tiers : (h : ℕ) (its : Measures) → measures_at rows h ≡ Some its → its.tier ≤ 2
   pub keys : Lists key_of rows index
-  pub givers : Lists giver_of rows order
   pub counted : donated ≡ donated_free rows

@@ -3,11 +3,10 @@ ghost use Rattle.std.specs.Prelude.{◌≡◌, ℕ, ◌<◌, ◌≤◌, Some, No
 ghost use Rattle.huge_filler.specs.declared.measures.Measures.{Measures};
 ghost use Rattle.huge_filler.specs.Measures.{measures_at, with_measures, donated_free, IsPreferred, IsCandidate};
 
-use crate::giver::Giver;
-use crate::measures::{Measures, NO_TIER, free_of_donated, giver_of, key_of};
+use crate::giving_order::GivingOrder;
+use crate::measures::{Measures, NO_TIER, free_of_donated, key_of};
 use crate::preferred::first_of_tier;
 use huge_index::HugeIndex;
-use sorted_list::SortedList;
 use std::alloc::{AllocError, Global};
 use std::marker::Model;
 use tc_units::Huge;
@@ -17,12 +16,10 @@ use tc_units::Huge;
 /// hugepage of the arena, and none where it isn't the filler's. The order of choice is this project's own.
 #[derive(Drop)]
 pub struct HugeFiller {
-    /// Of hugepage `h` at place `h - 1`.
-    rows: Vec<Option<Measures>>,
-    /// All hugepages of the arena in the order of preference.
+    /// What hugepages of the arena measure, with the order in which they give pages up.
+    giving: GivingOrder,
+    /// All of them in the order of preference.
     index: HugeIndex,
-    /// And in the order in which they give pages up.
-    givers: SortedList<Giver>,
     /// Free pages of donated hugepages.
     donated_free: u64,
 }
@@ -34,9 +31,9 @@ impl Model for HugeFiller {
 
     ghost Value = { List (Option Measures) };
 
-    ghost view = { λ f. f.rows.items };
+    ghost view = { λ f. f.giving.rows };
 
-    ghost invariant = { λ f. IsKept f.rows.items f.index.keys f.givers.keys f.donated_free };
+    ghost invariant = { λ f. IsKept f.giving.rows f.index.keys f.donated_free };
 }
 
 impl HugeFiller {
@@ -45,19 +42,13 @@ impl HugeFiller {
         requires { huge ≤ 4096 }
         ensures { IfOk result (λ f. f ≡ replicate huge None) }
     {
-        let mut rows = Vec::with_capacity(alloc, huge as usize)?;
         let mut index = HugeIndex::open(alloc, huge as usize)?;
-        let mut givers = SortedList::open(alloc, huge as usize)?;
         for place in 0..huge {
-            let number = Huge(place as u16 + 1);
-            index.insert(NO_TIER, 0, 0, number);
-            givers.insert(giver_of(number, None));
-            rows.push(None)?;
+            index.insert(NO_TIER, 0, 0, Huge(place as u16 + 1));
         }
         Ok(HugeFiller {
-            rows,
+            giving: GivingOrder::open(alloc, huge)?,
             index,
-            givers,
             donated_free: 0,
         })
     }
@@ -69,17 +60,14 @@ impl HugeFiller {
         requires tier { IfSome measures (λ its. its.tier ≤ 2) }
         ensures { self.new ≡ with_measures self.old huge.0 measures }
     {
-        let place = usize::from(huge.0) - 1;
-        let before = self.rows[place];
+        let before = self.giving.at(huge);
         if before.is_none() && measures.is_none() {
             return;
         }
         self.index
             .rekey(key_of(huge, before), key_of(huge, measures));
-        self.givers
-            .rekey(giver_of(huge, before), giver_of(huge, measures));
         self.donated_free = self.donated_free - free_of_donated(before) + free_of_donated(measures);
-        self.rows[place] = measures;
+        self.giving.set(huge, measures);
     }
 
     /// Free pages of donated hugepages.
@@ -105,13 +93,11 @@ impl HugeFiller {
 
     /// The hugepage that gives pages up first: of those with a backed page that isn't used, the one with
     /// fewest used pages, ties by greatest number.
-    pub fn candidate(&self) -> Option<Huge>
-        ensures found { IfSome result (IsCandidate self.now) }
-        ensures none { IfNone result ((h : ℕ) (its : Measures) → measures_at self.now h ≡ Some its → its.spare ≡ 0) }
+    pub fn candidate(&mut self) -> Option<Huge>
+        ensures same { self.new ≡ self.old }
+        ensures found { IfSome result (IsCandidate self.old) }
+        ensures none { IfNone result ((h : ℕ) (its : Measures) → measures_at self.old h ≡ Some its → its.spare ≡ 0) }
     {
-        match self.givers.first() {
-            Some(giver) if !giver.spent => Some(giver.huge),
-            _ => None,
-        }
+        self.giving.candidate()
     }
 }

@@ -3,6 +3,7 @@
 
 mod filler;
 mod giver;
+mod giving_order;
 mod measures;
 mod preferred;
 #[cfg(test)]

@@ -120,7 +120,7 @@ fn the_first_and_the_last_of_4096(rt: HostRuntime) -> Result<(), Fail> {
 
 #[test]
 fn no_hugepages(rt: HostRuntime) -> Result<(), Fail> {
-    let filler = HugeFiller::open(rt.alloc(), 0)?;
+    let mut filler = HugeFiller::open(rt.alloc(), 0)?;
     assert_eq!(rt; filler.preferred(0), None);
     assert_eq!(rt; filler.candidate(), None);
     assert_eq!(rt; filler.donated_free(), 0);

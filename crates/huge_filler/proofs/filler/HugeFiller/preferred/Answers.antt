@@ -10,9 +10,9 @@ pub returns-in-Some-clause-found : goal.returns-in-Some-clause-found
 returns-in-Some-clause-found c =
     let found = c.in-Some.ensures.found in
     subst (λ (rows : List (Option Measures)). IsPreferred rows c.args.n c.in-Some.huge) c.self.view_is
-    (preferred_is c.self.inside.rows.items c.self.inside.index.keys c.args.n c.self.invariant.keys c.loop-tier.tier c.in-Some.huge found.0 (omega arith) c.loop-tier.invariant found.1 found.2)
+    (preferred_is c.self.inside.giving.rows c.self.inside.index.keys c.args.n c.self.invariant.keys c.loop-tier.tier c.in-Some.huge found.0 (omega arith) c.loop-tier.invariant found.1 found.2)
 
 pub returns-clause-none : goal.returns-clause-none
 returns-clause-none c =
     subst (λ (rows : List (Option Measures)). (h : ℕ) (its : Measures) → measures_at rows h ≡ Some its → its.longest < c.args.n) c.self.view_is
-    (none_has_room c.self.inside.rows.items c.self.inside.index.keys c.args.n c.self.invariant.keys c.self.invariant.tiers (λ t l. c.loop-tier.invariant t (omega arith)))
+    (none_has_room c.self.inside.giving.rows c.self.inside.index.keys c.args.n c.self.invariant.keys c.self.invariant.tiers (λ t l. c.loop-tier.invariant t (omega arith)))
