@@ -115,9 +115,10 @@ impl PageHeap {
     }
 
     /// The hugepage of the filler that gives pages up first.
-    fn candidate(&self) -> Option<Huge>
-        ensures found { IfSome result (IsFirstGiver self.now) }
-        ensures none { IfNone result ((n : ℕ) → spare_given self.now n ≡ record { heap = self.now; pages = 0 }) }
+    fn candidate(&mut self) -> Option<Huge>
+        ensures same { self.new ≡ self.old }
+        ensures found { IfSome result (IsFirstGiver self.new) }
+        ensures none { IfNone result ((n : ℕ) → spare_given self.new n ≡ record { heap = self.new; pages = 0 }) }
     {
         self.filler.candidate()
     }
@@ -135,13 +136,14 @@ impl PageHeap {
 
     /// The hugepages of a source that give pages up next, together while `n` pages are wanted. None of its hugepages
     /// behind number `most` does.
-    fn next_givers(&self, source: Source, most: u32, n: u64) -> Option<Stretch>
-        requires behind { IsPast source self.now most }
+    fn next_givers(&mut self, source: Source, most: u32, n: u64) -> Option<Stretch>
+        requires behind { IsPast source self.old most }
         requires small { most < 65536 }
         requires some { 0 < n }
-        ensures next { IfSome result (IsNext source self.now) }
+        ensures same { self.new ≡ self.old }
+        ensures next { IfSome result (IsNext source self.new) }
         ensures few { IfSome result (λ givers. huge_pages * (givers.many - 1) < n) }
-        ensures none { IfNone result ((n : ℕ) → given_by source self.now n ≡ record { heap = self.now; pages = 0 }) }
+        ensures none { IfNone result ((n : ℕ) → given_by source self.new n ≡ record { heap = self.new; pages = 0 }) }
     {
         match source {
             Source::Free => self.last_backed(n),

@@ -168,17 +168,17 @@ open_tree own [] words is more tree size none = absurd (omega arith)
 open_tree own (above ∷ rest) words is more tree size none = grind (arith, nat_tests, length-replicate, unmarked)
 
 -- The row of the lowest level, place by place.
-pub length-row_at : (levels : List Level) → length (row_at levels) ≡ places_of levels
-length-row_at levels = grind (arith, nat_tests, length-row_of)
+pub row_size : (levels : List Level) → length (row_at levels) ≡ places_of levels
+row_size levels = grind (arith, nat_tests, length-row_of)
 
 pub get_or-row_at : (levels : List Level) (k : ℕ) → get_or (row_at levels) k false ≡ has_at levels k
 get_or-row_at levels k = grind (arith, nat_tests, marked_inside, false_from_ne_true, get_or_past, get_or-row_of, length-row_of)
 
 row_by : (levels : List Level) (row : List Bool) → length row ≡ places_of levels → ((k : ℕ) → k < length row → get_or row k false ≡ has_at levels k) → row_at levels ≡ row
 row_by levels row size same =
-    same_lists (row_at levels) row (length-row_at levels ∙ sym size)
+    same_lists (row_at levels) row (row_size levels ∙ sym size)
     (λ k d l.
-    let len = length-row_at levels in
+    let len = row_size levels in
     get_or_default (row_at levels) k d false l ∙ get_or-row_at levels k ∙ sym (same k (omega arith)) ∙ get_or_default row k false d (omega arith))
 
 pub row_none : (levels : List Level) (n : ℕ) → places_of levels ≡ n → ((place : ℕ) → has_at levels place ≡ false) → row_at levels ≡ replicate n false
@@ -186,7 +186,7 @@ row_none levels n size none = row_by levels (replicate n false) (length-replicat
 
 pub row_put : (old new : List Level) (place : ℕ) (is_in : Bool) → place < places_of old → places_of new ≡ places_of old → ((k : ℕ) → has_at new k ≡ cond (k == place) is_in (has_at old k)) → row_at new ≡ set (row_at old) place is_in
 row_put old new place is_in inside size changed =
-    let len = length-row_at old in
+    let len = row_size old in
     row_by new (set (row_at old) place is_in) (length-set (row_at old) place is_in ∙ len ∙ sym size)
     (grind (arith, nat_tests, cases_eq, get_or-set_same, eq-eqb, get_or-set_other, get_or-row_at, ne_eqb))
 

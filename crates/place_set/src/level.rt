@@ -1,4 +1,6 @@
 //! One level of the tree: a bit for each place, 64 in a word.
+#![tactic(auto, using(crate::proofs::Trees::put_place, crate::proofs::Trees::any_of))]
+
 ghost use Rattle.std.specs.Prelude.{◌≡◌, ℕ, ◌+◌, ◌*◌, ◌/◌, ◌<◌, ◌^◌, ◌==◌, length, replicate, vec_len, if◌then◌else◌, IfOk};
 ghost use Rattle.range_bits.specs.Words.{is_marked};
 ghost use Rattle.place_set.specs.Places.{HasAny, IsLast, IsFirst};

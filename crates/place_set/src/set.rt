@@ -1,4 +1,6 @@
 //! A set of places below a limit.
+#![tactic(auto, using(crate::proofs::Trees::row_size, crate::proofs::Trees::read_in, crate::proofs::Trees::row_put, crate::proofs::Trees::first_as, crate::proofs::Trees::last_as))]
+
 ghost use Rattle.std.specs.Prelude.{◌≡◌, ◌*◌, ◌-◌, ◌<◌, ◌^◌, true, false, length, replicate, slice_set, IfOk};
 ghost use Rattle.std.specs.List.{slice_index_or};
 ghost use Rattle.place_set.specs.Places.{IsLast, IsFirst};

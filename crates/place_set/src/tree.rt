@@ -1,5 +1,7 @@
 //! The levels of the tree, the lowest first. A place of a level is in the set where a place of its word
 //! below is.
+#![tactic(auto, using(crate::proofs::Trees::places_are, crate::proofs::Trees::first_none, crate::proofs::Trees::first_some, crate::proofs::Trees::index_inside, crate::proofs::Trees::last_none, crate::proofs::Trees::last_some, crate::proofs::Trees::open_tree))]
+
 ghost use Rattle.std.specs.Prelude.{◌≡◌, ℕ, ◌*◌, ◌-◌, ◌<◌, ◌^◌, ◌==◌, false, if◌then◌else◌, IfOk};
 ghost use Rattle.place_set.specs.Places.{IsLast, IsFirst};
 ghost use Rattle.place_set.specs.Tree.{has_at, places_of, IsTree};

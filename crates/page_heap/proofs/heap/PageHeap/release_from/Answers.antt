@@ -33,7 +33,7 @@ next_low source.Regions heap givers is = is.own.from
 next_low source.Filler heap givers is = is.own.from
 
 pub overflow_sub-most : goal.overflow_sub-most
-overflow_sub-most c = let low = next_low c.args.source c.loop-given.self c.in-Some.givers c.in-Some.ensures.next in omega (arith, low, c.from-most.ensures)
+overflow_sub-most c = let low = next_low c.args.source c.next_givers.new.self c.in-Some.givers c.in-Some.ensures.next in omega (arith, low, c.from-most.ensures)
 
 pub loop-given-preserved : goal.loop-given-preserved
 loop-given-preserved c = grind (arith, c.from-most.ensures, c.give_up.ensures.past)
