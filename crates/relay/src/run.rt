@@ -1,17 +1,17 @@
 //! A whole run of a machine by threads: opened, seated, run, joined, closed and merged.
 ghost use Rattle.std.specs.Prelude.{◌≡◌, ◌≤◌, All, length, map, None, Some, IfSome, vec_len};
-ghost use Rattle.replay_workers.specs.Runs.{RanBelow, IsReady, Done, halt_among};
+ghost use Rattle.replay_workers.specs.Runs.{halt_among};
 ghost use Rattle.tc_model.specs.declared.board.Halt.TheVariants as halts;
 ghost use Rattle.tc_model.specs.Rises.{AreApart, IsMerge};
 ghost use Rattle.relay.specs.Ends.{IsRun, AreLasts};
 
 use merge_journal::merge;
 use part_lock::{Closed, PartBoard, Parts, join_all, seat_all};
-use replay_workers::{Worker, halt_of, lasts_of, run_workers};
+use replay_workers::{halt_of, lasts_of, run_workers};
 use std::alloc::Global;
 use std::sync::Wait;
 use std::thread::Threads;
-use tc_model::{Board, Entry, Halt, Machine, Turn};
+use tc_model::{Entry, Halt, Machine, Turn};
 use tc_ports::Gate;
 
 /// What threads left of a machine: its parts, the locals by their threads, the one order of all acts, the
@@ -23,23 +23,6 @@ pub struct Finish<M: Machine> {
     pub order: Vec<Entry>,
     pub lasts: Vec<Turn>,
     pub halt: Option<Halt>,
-}
-
-/// Runs workers, and gives them back.
-fn run_in<R: Threads + Wait + Sync, B: Board + Sync, G: Gate + Sync>(
-    rt: &R,
-    alloc: Global,
-    board: &B,
-    gate: &G,
-    mut workers: Vec<Worker<B>>,
-) -> Vec<Worker<B>>
-    requires { All (IsReady (B.fits board.now)) workers.items }
-    ensures long { length workers.items ≡ length result.items }
-    ensures each { RanBelow (B.turns board.now) (B.thread_of board.now) (B.fits board.now) (length workers.items) workers.items result.items }
-    ensures done { Done result.items }
-{
-    run_workers(rt, alloc, board, gate, workers.as_mut_slice());
-    workers
 }
 
 /// Runs a machine from its start, a thread for each local. The order is a run of at most `events` polite
@@ -81,7 +64,7 @@ where
         return None;
     };
     let board = PartBoard { parts };
-    let workers = run_in(rt, alloc, &board, gate, workers);
+    let workers = run_workers(rt, alloc, &board, gate, workers);
     let PartBoard { parts } = board;
     let halt = halt_of(workers.as_slice());
     let Ok(lasts) = lasts_of(alloc, workers.as_slice()) else {

@@ -54,6 +54,20 @@ module _ {H : Type 0} (turns : H → Turn → H → Type 0) where
   abbrev pub GivesUpAfter : {B : Type 0} → ℕ → Worker B H → Worker B H → Type 0
   GivesUpAfter n a b = is_over b.last ≡ false → (m : ℕ) × (n ≤ m) × Waited m a b
 
+module _ {B H : Type 0} (turns : H → Turn → H → Type 0) where
+  -- one turn, and it didn't move
+  abbrev pub TurnsInVain : Worker B H → Worker B H → Type 0
+  TurnsInVain a b = turns a.hand b.last b.hand × (b.last ≢ Moved)
+
+  -- if it wasn't over it took such a turn, and else it is the same
+  pub record IsStill (a b : Worker B H) : Type 0 where
+    pub turn : is_over a.last ≡ false → TurnsInVain a b
+    pub none : is_over a.last ≡ true → a ≡ b
+
+  -- so at each place below n
+  abbrev pub StillBelow : ℕ → List (Worker B H) → List (Worker B H) → Type 0
+  StillBelow n xs ys = (i : ℕ) (d : Worker B H) → i < n → IsStill (slice_index_or xs i d) (slice_index_or ys i d)
+
 module _ {B H : Type 0} (turns : H → Turn → H → Type 0) (thread_of : H → ThreadNo) where
   -- a worker came from one state to another by turns for its own thread, each of them counted
   pub record Ran (a b : Worker B H) : Type 0 where
@@ -72,6 +86,14 @@ module _ {B H : Type 0} (fits : H → Type 0) where
   IsReady w = (w.last ≡ NotYet) × fits w.hand
 
 module _ {B H : Type 0} (turns : H → Turn → H → Type 0) (thread_of : H → ThreadNo) (fits : H → Type 0) where
+  -- it ran by turns for its own thread until it was over or had waited for n turns at least
+  abbrev pub HasRun : ℕ → Worker B H → Worker B H → Type 0
+  HasRun n a b = Ran turns thread_of a b × Stands fits b × GivesUpAfter turns n a b
+
+  -- at each place the second list's worker has so run from the first's
+  abbrev pub RunEach : ℕ → List (Worker B H) → List (Worker B H) → Type 0
+  RunEach n xs ys = (i : ℕ) (d : Worker B H) → i < length xs → HasRun n (slice_index_or xs i d) (slice_index_or ys i d)
+
   -- at each place below n, the second list's worker came from the first's
   abbrev pub RanBelow : ℕ → List (Worker B H) → List (Worker B H) → Type 0
   RanBelow n xs ys = (i : ℕ) (d : Worker B H) → i < n → Ran turns thread_of (slice_index_or xs i d) (slice_index_or ys i d) × Stands fits (slice_index_or ys i d)

@@ -3,8 +3,11 @@
 
 mod halt;
 mod run;
+mod started;
 #[cfg(test)]
 mod tests;
+mod together;
+mod turns;
 mod worker;
 
 pub use halt::{halt_of, lasts_of};

@@ -1,209 +1,113 @@
-//! Each worker takes turns in a thread of its own, and the calling thread ends what they left.
-ghost use Rattle.std.specs.Prelude.{◌≡◌, ℕ, ◌<◌, length, ◌↔◌, IsTrue, slice_index_or, All, None, true, false};
+//! Each worker takes turns in a thread of its own, those for which no thread can be had take them together in the
+//! calling one, and that one ends what all left.
+ghost use Rattle.std.specs.Prelude.{◌≡◌, length, All, None, vec_capacity};
 ghost use Rattle.tc_model.specs.declared.board.Turn.TheVariants as turn;
-ghost use Rattle.replay_workers.specs.Runs.{is_over, idle_after, halt_of, Done, Ran, RanBelow, GivesUpAfter, IsReady, Stands};
+ghost use Rattle.replay_workers.specs.Runs.{halt_of, Done, RanBelow, RunEach, IsReady};
 
+use crate::started::{come, start};
+use crate::together::{is_done, run_here};
+use crate::turns::PATIENCE;
 use crate::worker::Worker;
 use std::alloc::Global;
 use std::sync::Wait;
+use std::sync::atomic::AtomicUsize;
 use std::thread;
-use std::thread::{Parker, Threads};
-use std::time::Duration;
-use tc_model::{Board, Turn};
+use std::thread::{Scope, Threads};
+use tc_model::Board;
 use tc_ports::Gate;
-use tc_units::ThreadNo;
 
-/// How many turns in a row may move nothing before a worker's thread ends (this project's own rule).
-const PATIENCE: u64 = 1_000_000;
-
-/// How often a worker leaves the processor to others, at most, between two turns of which the first moved
-/// nothing (this project's own rule).
-const MOST_YIELDS: u64 = 8;
-
-/// After so many turns in a row that moved nothing a worker sleeps between two of them, up to the last
-/// number (this project's own rule).
-const FIRST_NAP: u64 = 8;
-
-const LAST_NAP: u64 = 10_000;
-
-/// How long it sleeps, in microseconds (this project's own rule).
-const NAP: u64 = 100;
-
-/// Asks the gate before a turn of a worker. What the gate is told is the worker's own: its thread, how many
-/// turns it took, and how many of its calls have ended.
-fn pass_gate<B: Board, G: Gate>(
-    gate: &G,
-    board: &B,
-    worker: &Worker<B>,
-    thread: ThreadNo,
-    turn: u64,
-    done: u64,
-)
-    requires thread { thread ≡ B.thread_of board.now worker.now.hand }
-    requires turn { turn ≡ worker.now.turns }
-    requires done { done ≡ B.done_of board.now worker.now.hand }
-{
-    gate.pass(thread, turn, done);
-}
-
-/// Passes the gate and takes one turn.
-fn turn_once<R: Wait, B: Board, G: Gate>(
-    rt: &R,
+/// Runs each worker but the first in a thread of its own, as long as one can be had, and the others in this thread. It
+/// comes back when all these threads have ended.
+#[cycle(workers)]
+fn run_in<'s, E, R: Threads + Wait + Sync, B: Board + Sync, G: Gate + Sync>(
+    scope: &Scope<'s, E>,
+    rt: &'s R,
     alloc: Global,
-    board: &B,
-    gate: &G,
-    worker: &mut Worker<B>,
-)
-    requires fits { B.fits board.now worker.old.hand }
-    requires goes { is_over worker.old.last ≡ false }
-    ensures turned { B.turns board.now worker.old.hand worker.new.last worker.new.hand }
-    ensures ran { Ran (B.turns board.now) (B.thread_of board.now) worker.old worker.new }
-    ensures kept { Stands (B.fits board.now) worker.new }
+    board: &'s B,
+    gate: &'s G,
+    refused: &'s AtomicUsize,
+    mut workers: Vec<Worker<B>>,
+) -> Vec<Worker<B>>
+where
+    B::Hand: Drop,
+    requires { All (IsReady (B.fits board.now)) workers.items }
+    ensures long { length result.items ≡ length workers.items }
+    ensures room { vec_capacity result ≡ vec_capacity workers }
+    ensures each { RunEach (B.turns board.now) (B.thread_of board.now) (B.fits board.now) PATIENCE workers.items result.items }
 {
-    let thread = board.thread(&worker.hand);
-    let done = board.done(&worker.hand);
-    pass_gate(gate, board, worker, thread, worker.turns, done);
-    worker.last = board.turn(rt, alloc, &mut worker.hand);
-    worker.turns = worker.turns.saturating_add(1);
-}
-
-/// Leaves the processor to other threads, for longer the longer nothing moved: what this worker waits for is
-/// theirs to do, under the same locks. It sleeps, since yields of many that wait take the time of those that
-/// work.
-fn give_way<R: Wait>(rt: &R, idle: u64) {
-    if FIRST_NAP <= idle && idle < LAST_NAP {
-        Parker::new().park_timeout(rt, Duration::from_micros(NAP));
-        return;
+    let place = workers.len();
+    if place < 2 {
+        return run_here(rt, alloc, board, gate, workers);
     }
-    for _ in 0..idle.min(MOST_YIELDS) {
-        thread::yield_now();
-    }
-}
-
-fn has_ended(last: Turn) -> bool
-    ensures { result ≡ is_over last }
-{
-    matches!(last, Turn::Ended | Turn::Halted { cause: _ })
-}
-
-/// How many turns in a row moved nothing, after one more with this answer.
-fn idle_after(last: Turn, idle: u64) -> u64
-    requires { idle < PATIENCE }
-    ensures { result ≡ idle_after last idle }
-{
-    match last {
-        Turn::Moved => 0,
-        _ => idle + 1,
-    }
-}
-
-/// Takes turns until the worker ended, was halted, or moved nothing for long.
-fn run_alone<R: Wait, B: Board, G: Gate>(
-    rt: &R,
-    alloc: Global,
-    board: &B,
-    gate: &G,
-    worker: &mut Worker<B>,
-)
-    requires { IsReady (B.fits board.now) worker.old }
-    ensures ran { Ran (B.turns board.now) (B.thread_of board.now) worker.old worker.new }
-    ensures kept { Stands (B.fits board.now) worker.new }
-    ensures patient { GivesUpAfter (B.turns board.now) PATIENCE worker.old worker.new }
-{
-    let mut idle = 0;
-    for _ in rt.forever() {
-        if has_ended(worker.last) || idle >= PATIENCE {
-            return;
+    let Some(worker) = workers.pop() else {
+        unreachable!()
+    };
+    match start(scope, rt, alloc, board, gate, refused, place, worker) {
+        Ok(handle) => {
+            let mut workers = run_in(scope, rt, alloc, board, gate, refused, workers);
+            workers.push_reserved(come(rt, alloc, board, gate, handle));
+            workers
         }
-        turn_once(rt, alloc, board, gate, worker);
-        idle = idle_after(worker.last, idle);
-        give_way(rt, idle);
+        Err(worker) => {
+            workers.push_reserved(worker);
+            run_here(rt, alloc, board, gate, workers)
+        }
     }
-    unreachable!()
 }
 
-/// Runs each worker in a thread of its own.
+/// Runs each worker in a thread of its own, and the first and those for which none can be had in this one.
 fn run_beside<R: Threads + Wait + Sync, B: Board + Sync, G: Gate + Sync>(
     rt: &R,
     alloc: Global,
     board: &B,
     gate: &G,
-    workers: &mut [Worker<B>],
-)
-    requires { All (IsReady (B.fits board.now)) workers.old }
-    ensures each { RanBelow (B.turns board.now) (B.thread_of board.now) (B.fits board.now) (length workers.old) workers.old workers.new }
-    ensures patient { (i : ℕ) (d : _) → i < length workers.old → GivesUpAfter (B.turns board.now) PATIENCE (slice_index_or workers.old i d) (slice_index_or workers.new i d) }
+    workers: Vec<Worker<B>>,
+) -> Vec<Worker<B>>
+where
+    B::Hand: Drop,
+    requires { All (IsReady (B.fits board.now)) workers.items }
+    ensures long { length result.items ≡ length workers.items }
+    ensures each { RunEach (B.turns board.now) (B.thread_of board.now) (B.fits board.now) PATIENCE workers.items result.items }
 {
-    let count = workers.len();
-    if count == 0 {
-        return;
-    }
-    thread::for_each_mut(
+    let no_place = AtomicUsize::new(0);
+    let refused = &no_place;
+    thread::scope(
+        thread::scope_env(),
         rt,
-        workers,
-        count,
-        &|_, worker: &mut Worker<B>|
-            requires { IsReady (B.fits board.now) worker.now }
-            ensures { Ran (B.turns board.entry.now) (B.thread_of board.entry.now) worker.entry.now worker.exit.now × Stands (B.fits board.entry.now) worker.exit.now × GivesUpAfter (B.turns board.entry.now) PATIENCE worker.entry.now worker.exit.now }
-        { run_alone(rt, alloc, board, gate, worker) },
-    );
+        move |scope| -> Vec<Worker<B>>
+            requires { All (IsReady (B.fits board.now)) workers.items }
+            ensures long { length result.items ≡ length workers.items }
+            ensures each { RunEach (B.turns board.entry.now) (B.thread_of board.entry.now) (B.fits board.entry.now) PATIENCE workers.items result.items }
+        { run_in(scope, rt, alloc, board, gate, refused, workers) },
+    )
 }
 
-/// Gives a turn to each that hasn't ended.
-fn give_round<R: Wait, B: Board, G: Gate>(
-    rt: &R,
-    alloc: Global,
-    board: &B,
-    gate: &G,
-    workers: &mut [Worker<B>],
-)
-    requires { (i : ℕ) (d : _) → i < length workers.old → Stands (B.fits board.now) (slice_index_or workers.old i d) }
-    ensures each { RanBelow (B.turns board.now) (B.thread_of board.now) (B.fits board.now) (length workers.old) workers.old workers.new }
-{
-    for i in 0..workers.len() {
-        if !has_ended(workers[i].last) {
-            turn_once(rt, alloc, board, gate, &mut workers[i]);
-        }
-    }
-}
-
-/// Whether each has ended or one is halted.
-fn is_done<B: Board>(workers: &[Worker<B>]) -> bool
-    ensures { IsTrue result ↔ Done workers.now }
-{
-    let mut all = true;
-    for i in 0..workers.len() {
-        match workers[i].last {
-            Turn::Halted { cause: _ } => return true,
-            Turn::Ended => {}
-            _ => all = false,
-        }
-    }
-    all
-}
-
-/// Runs each worker's loop in a thread of its own, or in the calling one where no thread can be made: it
-/// passes the gate and takes a turn of the board, until it has ended, is halted, or took a million turns
-/// in a row that moved nothing. Then the calling thread gives turns to all that haven't ended, one after
-/// another, until each has ended or one is halted. Want of memory stands in `last`.
+/// Runs each worker's loop in a thread of its own: it passes the gate and takes a turn of the board, until it has
+/// ended, is halted, or took so many turns in a row that moved nothing that some seconds passed. The first worker and
+/// those for which no thread can be had run beside them in the calling thread, one after another, each as long as it
+/// moves. Then the calling thread does so with all that haven't ended, until each has ended or one is halted. Want of
+/// memory stands in `last`.
 pub fn run_workers<R: Threads + Wait + Sync, B: Board + Sync, G: Gate + Sync>(
     rt: &R,
     alloc: Global,
     board: &B,
     gate: &G,
-    workers: &mut [Worker<B>],
-)
-    requires ready { All (IsReady (B.fits board.now)) workers.old }
-    ensures each { RanBelow (B.turns board.now) (B.thread_of board.now) (B.fits board.now) (length workers.old) workers.old workers.new }
-    ensures done { Done workers.new }
-    ensures over { halt_of workers.new ≡ None → All (λ w. w.last ≡ turn.Ended) workers.new }
+    workers: Vec<Worker<B>>,
+) -> Vec<Worker<B>>
+where
+    B::Hand: Drop,
+    requires ready { All (IsReady (B.fits board.now)) workers.items }
+    ensures long { length result.items ≡ length workers.items }
+    ensures each { RanBelow (B.turns board.now) (B.thread_of board.now) (B.fits board.now) (length workers.items) workers.items result.items }
+    ensures done { Done result.items }
+    ensures over { halt_of result.items ≡ None → All (λ w. w.last ≡ turn.Ended) result.items }
 {
-    run_beside(rt, alloc, board, gate, workers);
+    let mut workers = run_beside(rt, alloc, board, gate, workers);
     for _ in rt.forever() {
-        if is_done(workers) {
-            return;
+        if is_done(workers.as_slice()) {
+            return workers;
         }
-        give_round(rt, alloc, board, gate, workers);
+        workers = run_here(rt, alloc, board, gate, workers);
     }
     unreachable!()
 }

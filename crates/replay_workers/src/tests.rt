@@ -172,16 +172,16 @@ fn each_turn_comes_after_its_gate_and_none_after_the_end(rt: HostRuntime) -> Res
         first: AtomicU64::new(0),
         wrong: AtomicU64::new(0),
     };
-    let mut workers = vec![in alloc;
+    let workers = vec![in alloc;
         worker(0, 2, 3, Turn::Ended),
-        worker(1, 1_000_003, 0, Turn::Ended),
+        worker(1, 30_003, 0, Turn::Ended),
     ]?;
-    run_workers(&rt, alloc, &script, &watch, workers.as_mut_slice());
+    let workers = run_workers(&rt, alloc, &script, &watch, workers);
     assert_eq!(rt; workers[0].turns, 6);
     assert_eq!(rt; workers[0].last, Turn::Ended);
-    assert_eq!(rt; workers[1].turns, 1_000_004);
+    assert_eq!(rt; workers[1].turns, 30_004);
     assert_eq!(rt; workers[1].last, Turn::Ended);
-    assert_eq!(rt; watch.passes.load(Ordering::SeqCst), 1_000_010);
+    assert_eq!(rt; watch.passes.load(Ordering::SeqCst), 30_010);
     assert_eq!(rt; watch.first.load(Ordering::SeqCst), 2);
     assert_eq!(rt; watch.wrong.load(Ordering::SeqCst), 0);
     assert_eq!(rt; script.late.load(Ordering::SeqCst), 0);
@@ -193,8 +193,8 @@ fn two_threads_stand_at_the_gate_at_once(rt: HostRuntime) -> Result<(), Fail> {
     let alloc = rt.alloc();
     let script = Script::new();
     let hold = Hold::of(2);
-    let mut workers = vec![in alloc; worker(0, 0, 1, Turn::Ended), worker(1, 0, 1, Turn::Ended)]?;
-    run_workers(&rt, alloc, &script, &hold, workers.as_mut_slice());
+    let workers = vec![in alloc; worker(0, 0, 1, Turn::Ended), worker(1, 0, 1, Turn::Ended)]?;
+    drop(run_workers(&rt, alloc, &script, &hold, workers));
     assert_eq!(rt; hold.met.load(Ordering::SeqCst), 2);
     Ok(())
 }
@@ -204,14 +204,14 @@ fn five_threads_stand_at_one_gate_at_once(rt: HostRuntime) -> Result<(), Fail> {
     let alloc = rt.alloc();
     let script = Script::new();
     let hold = Hold::of(5);
-    let mut workers = vec![in alloc;
+    let workers = vec![in alloc;
         worker(0, 0, 1, Turn::Ended),
         worker(1, 0, 1, Turn::Ended),
         worker(2, 0, 1, Turn::Ended),
         worker(3, 0, 1, Turn::Ended),
         worker(4, 0, 1, Turn::Ended),
     ]?;
-    run_workers(&rt, alloc, &script, &hold, workers.as_mut_slice());
+    let workers = run_workers(&rt, alloc, &script, &hold, workers);
     assert_eq!(rt; hold.met.load(Ordering::SeqCst), 5);
     for worker in workers.as_slice() {
         assert_eq!(rt; worker.turns, 2);
@@ -228,8 +228,8 @@ fn want_of_memory_stands_before_the_limit(rt: HostRuntime) -> Result<(), Fail> {
         cause: Halt::Memory,
     };
     let script = Script::new();
-    let mut workers = vec![in alloc; worker(0, 0, 1, full), worker(1, 0, 2, memory)]?;
-    run_workers(&rt, alloc, &script, &OpenGate, workers.as_mut_slice());
+    let workers = vec![in alloc; worker(0, 0, 1, full), worker(1, 0, 2, memory)]?;
+    let workers = run_workers(&rt, alloc, &script, &OpenGate, workers);
     assert_eq!(rt;
         lasts_of(alloc, workers.as_slice())?.as_slice(),
         [full, memory].as_slice()
@@ -245,16 +245,16 @@ fn a_halt_ends_all(rt: HostRuntime) -> Result<(), Fail> {
     let alloc = rt.alloc();
     let script = Script::new();
     let halted = Turn::Halted { cause: Halt::Full };
-    let mut workers = vec![in alloc;
+    let workers = vec![in alloc;
         worker(0, 0, 5, halted),
         worker(1, u64::MAX, 0, Turn::Ended),
     ]?;
-    run_workers(&rt, alloc, &script, &OpenGate, workers.as_mut_slice());
+    let workers = run_workers(&rt, alloc, &script, &OpenGate, workers);
     assert_eq!(rt; workers[0].turns, 6);
     assert_eq!(rt; workers[0].last, halted);
-    assert_eq!(rt; workers[1].turns, 1_000_000);
+    assert_eq!(rt; workers[1].turns, 30_000);
     assert_eq!(rt; workers[1].last, Turn::NotYet);
-    let mut none: Vec<Worker<Script>> = Vec::new(alloc);
-    run_workers(&rt, alloc, &script, &OpenGate, none.as_mut_slice());
+    let none: Vec<Worker<Script>> = Vec::new(alloc);
+    assert_eq!(rt; run_workers(&rt, alloc, &script, &OpenGate, none).len(), 0);
     Ok(())
 }

@@ -58,22 +58,6 @@ fn seat_all<N: Named + Send>(
     Ok(workers)
 }
 
-/// Runs workers, and gives them back.
-fn run_each<N: Named + Send + Sync, R: Threads + Wait + Sync, G: Gate + Sync>(
-    rt: &R,
-    alloc: Global,
-    board: &WorldBoard<N>,
-    gate: &G,
-    mut workers: Vec<Worker<WorldBoard<N>>>,
-) -> Vec<Worker<WorldBoard<N>>>
-    requires { All (IsReady (λ h. h.thread.0 < N.input.asked.config.threads)) workers.items }
-    ensures long { length result.items ≡ length workers.items }
-    ensures over { halt_of result.items ≡ None → All (λ w. w.last ≡ turn.Ended) result.items }
-{
-    run_workers(rt, alloc, board, gate, workers.as_mut_slice());
-    workers
-}
-
 /// Runs a state under the name of its input.
 fn run_in<N: Named + Send + Sync, R: Threads + Wait + Sync, G: Gate + Sync>(
     rt: &R,
@@ -93,7 +77,7 @@ fn run_in<N: Named + Send + Sync, R: Threads + Wait + Sync, G: Gate + Sync>(
     let threads = state.threads();
     let board = WorldBoard::<N>::new(World::new(state));
     let workers = seat_all(alloc, &board, threads)?;
-    let workers = run_each(rt, alloc, &board, gate, workers);
+    let workers = run_workers(rt, alloc, &board, gate, workers);
     let lasts = lasts_of(alloc, workers.as_slice())?;
     let halt = halt_of(workers.as_slice());
     let state = board.into_world().into_state();

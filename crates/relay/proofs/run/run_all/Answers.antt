@@ -10,22 +10,22 @@ use Rattle.relay.proofs.Wholes.{few_of, all_there, length_numbers, threads_stay,
 use Rattle.relay.specs.Ends.{IsRun, AreLasts}
 use Rattle.relay.proofs.run.run_all.Goals as goal
 
-pub run_in-workers-requires-after_bounds : goal.run_in-workers-requires-after_bounds
-run_in-workers-requires-after_bounds g c κs within = c.in-Ok-seat_all.ensures.ready
+pub run_workers-workers-requires-clause-ready : goal.run_workers-workers-requires-clause-ready
+run_workers-workers-requires-clause-ready g c κs within = c.in-Ok-seat_all.ensures.ready
 
 pub join_all-requires-clause-main : goal.join_all-requires-clause-main
 join_all-requires-clause-main g c κs within = (lead_of c.in-Ok.parts.key (numbers (length c.args.locals.items)), c.in-Ok-seat_all.ensures.main)
 
 pub join_all-requires-clause-ran : goal.join_all-requires-clause-ran
-join_all-requires-clause-ran g c κs within = (c.in-Ok-seat_all.workers.items, c.run_in-workers.ensures.long, c.in-Ok-seat_all.ensures.ready, c.run_in-workers.ensures.each)
+join_all-requires-clause-ran g c κs within = (c.in-Ok-seat_all.workers.items, (sym c.run_workers-workers.ensures.long), c.in-Ok-seat_all.ensures.ready, c.run_workers-workers.ensures.each)
 
 pub close-requires-clause-main : goal.close-requires-clause-main
 close-requires-clause-main g c =
     let n : ℕ = length c.args.locals.items in let m = lead_of c.in-Ok.parts.key (numbers n) in
-    let before = c.in-Ok-seat_all.workers.items in let after = c.run_in-workers.result.items in
+    let before = c.in-Ok-seat_all.workers.items in let after = c.run_workers-workers.result.items in
     let j = c.in-Ok-join_all.ensures.main m c.in-Ok-seat_all.ensures.main in
     let count : length before ≡ n = sym (length-map before (λ w. w.hand.thread.0)) ∙ (ap length c.in-Ok-seat_all.ensures.threads ∙ length_numbers n) in
-    (all_joined m j.works, j.main, all_there c.in-Ok.parts.key n (map (λ w. w.hand) after) j.works j.threads (length-map after (λ w. w.hand) ∙ (sym c.run_in-workers.ensures.long ∙ count)))
+    (all_joined m j.works, j.main, all_there c.in-Ok.parts.key n (map (λ w. w.hand) after) j.works j.threads (length-map after (λ w. w.hand) ∙ (c.run_workers-workers.ensures.long ∙ count)))
 
 pub merge-requires : goal.merge-requires
 merge-requires g c =
@@ -38,11 +38,11 @@ pub returns-clause-run : goal.returns-clause-run
 returns-clause-run g c =
     let rules = g.M.Machine.rules in let key = c.in-Ok.parts.key in
     let n : ℕ = length c.args.locals.items in let m = lead_of key (numbers n) in
-    let before = c.in-Ok-seat_all.workers.items in let after = c.run_in-workers.result.items in
+    let before = c.in-Ok-seat_all.workers.items in let after = c.run_workers-workers.result.items in
     let j = c.in-Ok-join_all.ensures.main m c.in-Ok-seat_all.ensures.main in
     let closed = c.in-Ok-close.ensures.closed (all_joined m j.works) j.main in
     let long = ap (λ x. length (rules x).locals) c.in-Ok.ensures.key.0 ∙ ap length (sym c.requires.locals) in
-    let threads = j.threads ∙ (sym (threads_stay (Turned rules key) (Fit c.in-Ok.parts.table.shared.table_id key) before after c.run_in-workers.ensures.long c.run_in-workers.ensures.each) ∙ c.in-Ok-seat_all.ensures.threads) in
+    let threads = j.threads ∙ (sym (threads_stay (Turned rules key) (Fit c.in-Ok.parts.table.shared.table_id key) before after (sym c.run_workers-workers.ensures.long) c.run_workers-workers.ensures.each) ∙ c.in-Ok-seat_all.ensures.threads) in
     let locals = c.in-Ok-join_all.ensures.locals ∙ (sym (map_both (λ w. w.hand) (λ h. h.local) after) ∙ sym j.locals) in
     let merged = subst (λ l. IsMerge (map (λ v. v.items) l) c.in-Ok-merge.order.items) c.as_slice-3.ensures.value c.in-Ok-merge.ensures in
     subst (λ x. IsRun (rules x) c.in-Ok-close.closed.parts.items c.in-Ok-join_all.locals.items c.in-Ok-merge.order.items) c.in-Ok.ensures.key.0
@@ -60,20 +60,20 @@ returns-clause-few g c =
 pub returns-clause-ended : goal.returns-clause-ended
 returns-clause-ended g c none =
     let rules = g.M.Machine.rules in let key = c.in-Ok.parts.key in
-    let after = c.run_in-workers.result.items in
-    let say = all_say rules c.in-Ok.parts.table.shared.table_id key c.in-Ok-seat_all.workers.items after c.run_in-workers.ensures.long c.in-Ok-seat_all.ensures.ready c.in-Ok-seat_all.ensures.fresh c.run_in-workers.ensures.each in
+    let after = c.run_workers-workers.result.items in
+    let say = all_say rules c.in-Ok.parts.table.shared.table_id key c.in-Ok-seat_all.workers.items after (sym c.run_workers-workers.ensures.long) c.in-Ok-seat_all.ensures.ready c.in-Ok-seat_all.ensures.fresh c.run_workers-workers.ensures.each in
     let halt = sym (c.halt_of-halt.ensures ∙ ap halt_of c.as_slice.ensures.value) ∙ none in
-    let ended = all_ended (rules key.machine) after c.run_in-workers.ensures.done halt say.0 in
+    let ended = all_ended (rules key.machine) after c.run_workers-workers.ensures.done halt say.0 in
     let locals = subst (All (λ l. (rules key.machine).want l ≡ None)) (sym c.in-Ok-join_all.ensures.locals) (All-map (λ l. (rules key.machine).want l ≡ None) (λ w. w.hand.local) after ended) in
     subst (λ x. All (λ l. (rules x).want l ≡ None) c.in-Ok-join_all.locals.items) c.in-Ok.ensures.key.0 locals
 
 pub returns-clause-lasts : goal.returns-clause-lasts
 returns-clause-lasts g c =
     let rules = g.M.Machine.rules in let key = c.in-Ok.parts.key in
-    let after = c.run_in-workers.result.items in
-    let say = all_say rules c.in-Ok.parts.table.shared.table_id key c.in-Ok-seat_all.workers.items after c.run_in-workers.ensures.long c.in-Ok-seat_all.ensures.ready c.in-Ok-seat_all.ensures.fresh c.run_in-workers.ensures.each in
+    let after = c.run_workers-workers.result.items in
+    let say = all_say rules c.in-Ok.parts.table.shared.table_id key c.in-Ok-seat_all.workers.items after (sym c.run_workers-workers.ensures.long) c.in-Ok-seat_all.ensures.ready c.in-Ok-seat_all.ensures.fresh c.run_workers-workers.ensures.each in
     let lasts = c.in-Ok-lasts_of.ensures ∙ ap lasts_of c.as_slice-2.ensures.value in
-    let are = subst (AreLasts (rules key.machine) (map (λ w. w.hand.local) after)) (sym lasts) (lasts_are (rules key.machine) after c.run_in-workers.ensures.done say.0) in
+    let are = subst (AreLasts (rules key.machine) (map (λ w. w.hand.local) after)) (sym lasts) (lasts_are (rules key.machine) after c.run_workers-workers.ensures.done say.0) in
     let local = subst (λ l. AreLasts (rules key.machine) l c.in-Ok-lasts_of.lasts.items) (sym c.in-Ok-join_all.ensures.locals) are in
     subst (λ x. AreLasts (rules x) c.in-Ok-join_all.locals.items c.in-Ok-lasts_of.lasts.items) c.in-Ok.ensures.key.0 local
 
@@ -84,10 +84,10 @@ pub returns-clause-full : goal.returns-clause-full
 returns-clause-full g c full =
     let rules = g.M.Machine.rules in let key = c.in-Ok.parts.key in
     let m = lead_of key (numbers (length c.args.locals.items)) in
-    let after = c.run_in-workers.result.items in
+    let after = c.run_workers-workers.result.items in
     let j = c.in-Ok-join_all.ensures.main m c.in-Ok-seat_all.ensures.main in
     let closed = c.in-Ok-close.ensures.closed (all_joined m j.works) j.main in
-    let say = all_say rules c.in-Ok.parts.table.shared.table_id key c.in-Ok-seat_all.workers.items after c.run_in-workers.ensures.long c.in-Ok-seat_all.ensures.ready c.in-Ok-seat_all.ensures.fresh c.run_in-workers.ensures.each in
+    let say = all_say rules c.in-Ok.parts.table.shared.table_id key c.in-Ok-seat_all.workers.items after (sym c.run_workers-workers.ensures.long) c.in-Ok-seat_all.ensures.ready c.in-Ok-seat_all.ensures.fresh c.run_workers-workers.ensures.each in
     let halt = sym (c.halt_of-halt.ensures ∙ ap halt_of c.as_slice.ensures.value) ∙ full in
     let used = all_used (lasts_of after) j.works key.events (length closed.acts) halt (causes_of after j.works j.views say.1) closed.filled closed.few in
     let merged = subst (λ l. IsMerge (map (λ v. v.items) l) c.in-Ok-merge.order.items) c.as_slice-3.ensures.value c.in-Ok-merge.ensures in

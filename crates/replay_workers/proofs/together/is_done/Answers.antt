@@ -3,7 +3,7 @@ use Rattle.tc_model.specs.declared.board.Turn.TheVariants.{Ended}
 use Rattle.tc_model.specs.Turns.{is_halted}
 use Rattle.replay_workers.specs.declared.worker.Worker.{Worker}
 use Rattle.replay_workers.specs.Runs.{Done}
-use Rattle.replay_workers.proofs.run.is_done.Goals as goal
+use Rattle.replay_workers.proofs.together.is_done.Goals as goal
 
 some_of : {A : Type 0} (xs : List A) (i : ℕ) → i < length xs → A
 some_of [] i less = absurd (omega arith)

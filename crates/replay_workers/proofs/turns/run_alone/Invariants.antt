@@ -1,5 +1,5 @@
 use Rattle.replay_workers.specs.Runs.{Ran, Waited, Stands}
-use Rattle.replay_workers.proofs.run.run_alone.Given as goal
+use Rattle.replay_workers.proofs.turns.run_alone.Given as goal
 
 abbrev pub invariant-loop : goal.invariant-loop
 invariant-loop g l = record {

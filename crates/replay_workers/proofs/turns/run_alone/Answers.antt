@@ -1,7 +1,7 @@
 use Rattle.std.proofs.Common.{refl, subst, sym, ◌∙◌}
 use Rattle.replay_workers.specs.Runs.{Waited}
 use Rattle.replay_workers.proofs.Steps.{ran_join, waited_more}
-use Rattle.replay_workers.proofs.run.run_alone.Goals as goal
+use Rattle.replay_workers.proofs.turns.run_alone.Goals as goal
 
 pub loop-preserved : goal.loop-preserved
 loop-preserved g c =

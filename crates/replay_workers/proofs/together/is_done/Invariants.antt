@@ -1,7 +1,7 @@
 use Rattle.std.proofs.Common.{◌≡◌, ◌≢◌, ◌<◌, ℕ, true, false, get_or}
 use Rattle.tc_model.specs.declared.board.Turn.TheVariants.{Ended}
 use Rattle.tc_model.specs.Turns.{is_halted}
-use Rattle.replay_workers.proofs.run.is_done.Given as goal
+use Rattle.replay_workers.proofs.together.is_done.Given as goal
 
 abbrev pub invariant-loop-i : goal.invariant-loop-i
 invariant-loop-i g l = record {

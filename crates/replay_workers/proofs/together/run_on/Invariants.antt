@@ -1,0 +1,10 @@
+use Rattle.std.proofs.Common.{◌≡◌, false}
+use Rattle.replay_workers.specs.Runs.{Ran, Stands}
+use Rattle.replay_workers.proofs.together.run_on.Given as goal
+
+abbrev pub invariant-loop : goal.invariant-loop
+invariant-loop g l = record {
+  ran : Ran (g.B.Board.turns l.board) (g.B.Board.thread_of l.board) l.initial.worker l.worker;
+  kept : Stands (g.B.Board.fits l.board) l.worker;
+  first : l.moved ≡ false → l.initial.worker ≡ l.worker;
+}
