@@ -126,6 +126,30 @@ fn answer<S: Source, F: Shelf, K: Sink, N: Sink>(
     }
 }
 
+/// Answers what is asked for, by worker threads where these are.
+fn answer_any<R: Threads + Wait + Sync, S: Source, F: Shelf, K: Sink, N: Sink, G: Gate + Sync>(
+    rt: &R,
+    alloc: Global,
+    asked: Option<Task>,
+    trace: &mut S,
+    files: &mut F,
+    out: &mut K,
+    notes: &mut N,
+    gate: &G,
+) -> Outcome
+    requires ranges { IfSome asked (λ task. IsTask (seen_task task)) }
+    ensures status { result.status ≡ status_of result.end }
+    ensures answered { IsAnswered (option_map seen_task asked.entry)
+        (record { trace = S.seen trace.old; files = F.seen files.old; out = K.seen out.old; notes = N.seen notes.old })
+        (record { trace = S.seen trace.new; files = F.seen files.new; out = K.seen out.new; notes = N.seen notes.new })
+        result.end result.order }
+{
+    match by_threads(asked) {
+        Some((replay, locks)) => try_threads(rt, alloc, replay, locks, trace, files, out, gate),
+        None => answer(alloc, asked, trace, files, out, notes),
+    }
+}
+
 /// Replays a trace, or generates one, without worker threads. `None` exactly where the words ask for such
 /// threads, and then nothing was read or written.
 ///
@@ -186,11 +210,7 @@ pub fn tcreplay<R: Threads + Wait + Sync, S: Source, F: Shelf, K: Sink, N: Sink,
         (record { trace = S.seen trace.new; files = F.seen files.new; out = K.seen out.new; notes = N.seen notes.new })
         result.end result.order }
 {
-    let asked = task_by(words);
-    let outcome = match by_threads(asked) {
-        Some((replay, locks)) => try_threads(rt, alloc, replay, locks, trace, files, out, gate),
-        None => answer(alloc, asked, trace, files, out, notes),
-    };
+    let outcome = answer_any(rt, alloc, task_by(words), trace, files, out, notes, gate);
     note(notes, outcome.end);
     outcome
 }
