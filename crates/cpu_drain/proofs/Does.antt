@@ -23,13 +23,20 @@ use Rattle.cpu_drain.specs.Laws.{MovesNone, AnswerMoves, BeginsAfter, AreOfSame,
 use Rattle.cpu_drain.proofs.Steps.{runs_is}
 use Rattle.cpu_drain.proofs.Lawful.{growth_keeps}
 
+-- the test closes the sequence, or counts the objects that it moves
+test_cell : (P : Cell → Type 0) (stopped pops : Bool) (row : SlabRow) (r : Regs) → P (closes row r Empty)
+    → P (closes row r Full) → ((n : ℕ) → P (counted row r n)) → P (cell stopped pops row r Test)
+test_cell P stopped true row r none full goes = cond_both (eqb r.top 0) (closes row r Empty) (counted row r (min (wanted r.seq r.hand.items) r.top)) P (λ e. none) (λ e. goes _)
+test_cell P stopped false row r none full goes =
+    cond_both (eqb r.top row.cap) (closes row r Full) (counted row r (min (wanted r.seq r.hand.items) (row.cap - r.top))) P (λ e. full) (λ e. goes _)
+
 -- an instruction ends its sequence at the begin, and is counted
 cell_begins : (stopped pops : Bool) (row : SlabRow) (r : Regs) (pc : Pc) → BeginsAfter (answered (cell stopped pops row r pc).reply) (cell stopped pops row r pc).regs
 cell_begins stopped pops row r Begin = tt
 cell_begins true pops row r Header = record { pc = refl; nothing = refl }
 cell_begins false pops row r Header = tt
-cell_begins stopped true row r Test = cond_both (eqb r.top 0) (closes row r Empty) (counted row r (min (wanted r.seq r.hand.items) r.top)) (λ (c : Cell). BeginsAfter (answered c.reply) c.regs) (λ e. record { pc = refl; nothing = refl }) (λ e. tt)
-cell_begins stopped false row r Test = cond_both (eqb r.top row.cap) (closes row r Full) (counted row r (min (wanted r.seq r.hand.items) (row.cap - r.top))) (λ (c : Cell). BeginsAfter (answered c.reply) c.regs) (λ e. record { pc = refl; nothing = refl }) (λ e. tt)
+cell_begins stopped pops row r Test = test_cell (λ c. BeginsAfter (answered c.reply) c.regs) stopped pops row r
+    (record { pc = refl; nothing = refl }) (record { pc = refl; nothing = refl }) (λ n. tt)
 cell_begins stopped true row r (Copy n) = tt
 cell_begins stopped false row r (Copy n) = tt
 cell_begins stopped true row r Commit = record { pc = refl; nothing = refl }
@@ -39,8 +46,7 @@ cell_ran : (stopped pops : Bool) (row : SlabRow) (r : Regs) (pc : Pc) → (cell 
 cell_ran stopped pops row r Begin = refl
 cell_ran true pops row r Header = refl
 cell_ran false pops row r Header = refl
-cell_ran stopped true row r Test = cond_both (eqb r.top 0) (closes row r Empty) (counted row r (min (wanted r.seq r.hand.items) r.top)) (λ (c : Cell). c.regs.ran ≡ r.ran + 1) (λ e. refl) (λ e. refl)
-cell_ran stopped false row r Test = cond_both (eqb r.top row.cap) (closes row r Full) (counted row r (min (wanted r.seq r.hand.items) (row.cap - r.top))) (λ (c : Cell). c.regs.ran ≡ r.ran + 1) (λ e. refl) (λ e. refl)
+cell_ran stopped pops row r Test = test_cell (λ c. c.regs.ran ≡ r.ran + 1) stopped pops row r refl refl (λ n. refl)
 cell_ran stopped true row r (Copy n) = refl
 cell_ran stopped false row r (Copy n) = refl
 cell_ran stopped true row r Commit = refl
@@ -59,8 +65,7 @@ cell_way : (stopped pops : Bool) (row : SlabRow) (r : Regs) (pc : Pc) → IsOfWa
 cell_way stopped pops row r Begin = tt
 cell_way true pops row r Header = tt
 cell_way false pops row r Header = tt
-cell_way stopped true row r Test = cond_both (eqb r.top 0) (closes row r Empty) (counted row r (min (wanted r.seq r.hand.items) r.top)) (λ (c : Cell). IsOfWay true c.reply) (λ e. tt) (λ e. tt)
-cell_way stopped false row r Test = cond_both (eqb r.top row.cap) (closes row r Full) (counted row r (min (wanted r.seq r.hand.items) (row.cap - r.top))) (λ (c : Cell). IsOfWay false c.reply) (λ e. tt) (λ e. tt)
+cell_way stopped pops row r Test = test_cell (λ c. IsOfWay pops c.reply) stopped pops row r tt tt (λ n. tt)
 cell_way stopped true row r (Copy n) = tt
 cell_way stopped false row r (Copy n) = tt
 cell_way stopped true row r Commit = refl
@@ -70,13 +75,15 @@ cell_way stopped false row r Commit = refl
 silent_moves : (old new : SlabRow) (r : Regs) (c : Cell) → new ≡ c.row → IsSilent old r c → MovesNone old new r c.regs
 silent_moves old new r c is quiet = record { row = ap held is ∙ quiet.row; hand = quiet.hand }
 
-cell_moves : (stopped : Bool) (old new : SlabRow) (r : Regs) (c : Cell) (o : Option Reply) → new ≡ c.row → IsOfWay (is_pop r.seq) o → Does stopped old r c o → AnswerMoves (answered o) old new r c.regs
+cell_moves : (stopped : Bool) (old new : SlabRow) (r : Regs) (c : Cell) (o : Option Reply)
+    → new ≡ c.row → IsOfWay (is_pop r.seq) o → Does stopped old r c o → AnswerMoves (answered o) old new r c.regs
 cell_moves stopped old new r c None is way does = silent_moves old new r c is does
 cell_moves stopped old new r c (Some Stopped) is way does = silent_moves old new r c is does.0
 cell_moves stopped old new r c (Some Empty) is way does = silent_moves old new r c is does.0
 cell_moves stopped old new r c (Some Full) is way does = silent_moves old new r c is does.0
 cell_moves stopped old new r c (Some Popped) is way does =
-    record { pops = way; got = does.got; some = λ e. omega (arith, does.some, does.filled); few = omega (arith, does.some); row = does.row ∙ ap (λ (x : SlabRow). held x ++ reverse does.got) (sym is); hand = does.hand }
+    let row = does.row ∙ ap (λ (x : SlabRow). held x ++ reverse does.got) (sym is) in
+    record { pops = way; got = does.got; some = λ e. omega (arith, does.some, does.filled); few = omega (arith, does.some); row = row; hand = does.hand }
 cell_moves stopped old new r c (Some (Pushed n)) is way does =
     record { pushes = way; some = λ e. omega (arith, does.some, does.free); few = does.few; row = ap held is ∙ does.row; hand = does.hand }
 
@@ -86,40 +93,78 @@ room_emptied bag = omega arith
 same_regs : (r after : Regs) → after.thread ≡ r.thread → after.class ≡ r.class → after.seq ≡ r.seq → KeepsRoom r after → AreOfSame r after
 same_regs r after thread class seq rooms = record { thread = thread; class = class; seq = seq; hand_room = rooms.hand; loaded_room = rooms.loaded }
 
-goes_does : (m : ℕ) (p : CpuPart) (r : Regs) → CpuOk m p → r.class.0 < m → Agrees (is_pop r.seq) (row_at p.slab r.class.0) r r.pc → Instructs p r (record { cpu = with_cell p r (instruction p r); regs = (instruction p r).regs; answer = answered (instruction p r).reply })
-goes_does m p r cpu low agrees =
-    let c : Cell = instruction p r in
-    let row : SlabRow = row_at p.slab r.class.0 in
-    let within : r.class.0 < length p.slab.rows = omega (arith, cpu.classes) in
-    let sound = row_sound p.slab r.class.0 cpu.sound within in
-    let ok : CellOk (stands p.stopper) (is_pop r.seq) row r c = cell_ok (stands p.stopper) (is_pop r.seq) row r r.pc sound refl agrees in
-    record {
-      others = λ k apart. row_other p.slab.rows r.class.0 k c.row apart;
-      moves = cell_moves (stands p.stopper) row (row_at (with_cell p r c).slab r.class.0) r c c.reply (row_same p.slab.rows r.class.0 c.row within) (cell_way (stands p.stopper) (is_pop r.seq) row r r.pc) ok.does;
-      thread = ok.thread;
-      class = ok.class;
-      seq = ok.seq;
-      same = λ rooms. same_regs r c.regs ok.thread ok.class ok.seq (cell_room (stands p.stopper) (is_pop r.seq) row r r.pc (able_from_agrees (is_pop r.seq) row r r.pc sound (λ e. record { loaded = (rooms e).loaded; hand = (rooms e).hand }) agrees));
-      begins = cell_begins (stands p.stopper) (is_pop r.seq) row r r.pc;
-      ran = omega (arith, cell_ran (stands p.stopper) (is_pop r.seq) row r r.pc);
-      epoch = omega arith;
-    }
+module _ (m : ℕ) (p : CpuPart) (r : Regs) (cpu : CpuOk m p) (low : r.class.0 < m) where
+  goes_does : Agrees (is_pop r.seq) (row_at p.slab r.class.0) r r.pc
+      → Instructs p r (record { cpu = with_cell p r (instruction p r); regs = (instruction p r).regs; answer = answered (instruction p r).reply })
+  goes_does agrees =
+      let c : Cell = instruction p r in let k : ℕ = r.class.0 in let row : SlabRow = row_at p.slab k in let stopped = stands p.stopper in let pops = is_pop r.seq in
+      let within : k < length p.slab.rows = omega (arith, cpu.classes) in let sound = row_sound p.slab k cpu.sound within in
+      let ok : CellOk stopped pops row r c = cell_ok stopped pops row r r.pc sound refl agrees in
+      record {
+        others = λ j apart. row_other p.slab.rows k j c.row apart;
+        moves = cell_moves stopped row (row_at (with_cell p r c).slab k) r c c.reply (row_same p.slab.rows k c.row within) (cell_way stopped pops row r r.pc) ok.does;
+        thread = ok.thread;
+        class = ok.class;
+        seq = ok.seq;
+        same = λ rooms.
+            let able = able_from_agrees pops row r r.pc sound (λ e. record { loaded = (rooms e).loaded; hand = (rooms e).hand }) agrees in
+            same_regs r c.regs ok.thread ok.class ok.seq (cell_room stopped pops row r r.pc able);
+        begins = cell_begins stopped pops row r r.pc;
+        ran = omega (arith, cell_ran stopped pops row r r.pc);
+        epoch = omega arith;
+      }
 
-does_by : (m : ℕ) (p : CpuPart) (r : Regs) → CpuOk m p → r.class.0 < m → (IsCurrent r.thread p r → Agrees (is_pop r.seq) (row_at p.slab r.class.0) r r.pc) → (a b : Bool) → runs p.running r.thread ≡ a → eqb r.epoch p.epoch ≡ b → Instructs p r (instructed_by (arrival a b) p r)
-does_by m p r cpu low agrees false b here now = record { others = λ k apart. refl; moves = record { row = refl; hand = refl }; thread = refl; class = refl; seq = refl; same = λ rooms. record { thread = refl; class = refl; seq = refl; hand_room = refl; loaded_room = room_emptied r.loaded }; begins = record { pc = refl; nothing = refl }; ran = omega arith; epoch = omega arith }
-does_by m p r cpu low agrees true false here now = record { others = λ k apart. refl; moves = record { row = refl; hand = refl }; thread = refl; class = refl; seq = refl; same = λ rooms. record { thread = refl; class = refl; seq = refl; hand_room = refl; loaded_room = room_emptied r.loaded }; begins = record { pc = refl; nothing = refl }; ran = omega arith; epoch = omega arith }
-does_by m p r cpu low agrees true true here now = goes_does m p r cpu low (agrees (record { runs = runs_is p.running r.thread here; epoch = eqb-true r.epoch p.epoch now }))
+  does_by : (IsCurrent r.thread p r → Agrees (is_pop r.seq) (row_at p.slab r.class.0) r r.pc) → (a b : Bool)
+      → runs p.running r.thread ≡ a → eqb r.epoch p.epoch ≡ b → Instructs p r (instructed_by (arrival a b) p r)
+  does_by agrees false b here now =
+      record {
+        others = λ k apart. refl;
+        moves = record { row = refl; hand = refl };
+        thread = refl;
+        class = refl;
+        seq = refl;
+        same = λ rooms. record { thread = refl; class = refl; seq = refl; hand_room = refl; loaded_room = room_emptied r.loaded };
+        begins = record { pc = refl; nothing = refl };
+        ran = omega arith;
+        epoch = omega arith;
+      }
+  does_by agrees true false here now =
+      record {
+        others = λ k apart. refl;
+        moves = record { row = refl; hand = refl };
+        thread = refl;
+        class = refl;
+        seq = refl;
+        same = λ rooms. record { thread = refl; class = refl; seq = refl; hand_room = refl; loaded_room = room_emptied r.loaded };
+        begins = record { pc = refl; nothing = refl };
+        ran = omega arith;
+        epoch = omega arith;
+      }
+  does_by agrees true true here now = goes_does (agrees (record { runs = runs_is p.running r.thread here; epoch = eqb-true r.epoch p.epoch now }))
+
+  grows_by : (a b : Bool) → Grows p r (grew_by (arrival a b) p r)
+  grows_by false b = record {
+    rows = λ k. refl;
+    hand = refl;
+    same = record { thread = refl; class = refl; seq = refl; hand_room = refl; loaded_room = room_emptied r.loaded };
+    begins = λ was. record { pc = refl; nothing = refl };
+    ran = refl;
+    epoch = omega arith;
+  }
+  grows_by true false = record {
+    rows = λ k. refl;
+    hand = refl;
+    same = record { thread = refl; class = refl; seq = refl; hand_room = refl; loaded_room = room_emptied r.loaded };
+    begins = λ was. record { pc = refl; nothing = refl };
+    ran = refl;
+    epoch = omega arith;
+  }
+  grows_by true true =
+      let within : r.class.0 < length p.slab.rows = omega (arith, cpu.classes) in let keeps = growth_keeps p r.class.0 cpu.sound within in
+      record { rows = keeps.held; hand = refl; same = record { thread = refl; class = refl; seq = refl; hand_room = refl; loaded_room = refl }; begins = λ was. was; ran = refl; epoch = omega arith }
 
 pub instruct_does : InstructDoes
 instruct_does m p r cpu low agrees = does_by m p r cpu low agrees (runs p.running r.thread) (eqb r.epoch p.epoch) refl refl
-
-grows_by : (m : ℕ) (p : CpuPart) (r : Regs) → CpuOk m p → r.class.0 < m → (a b : Bool) → Grows p r (grew_by (arrival a b) p r)
-grows_by m p r cpu low false b = record { rows = λ k. refl; hand = refl; same = record { thread = refl; class = refl; seq = refl; hand_room = refl; loaded_room = room_emptied r.loaded }; begins = λ was. record { pc = refl; nothing = refl }; ran = refl; epoch = omega arith }
-grows_by m p r cpu low true false = record { rows = λ k. refl; hand = refl; same = record { thread = refl; class = refl; seq = refl; hand_room = refl; loaded_room = room_emptied r.loaded }; begins = λ was. record { pc = refl; nothing = refl }; ran = refl; epoch = omega arith }
-grows_by m p r cpu low true true =
-    let within : r.class.0 < length p.slab.rows = omega (arith, cpu.classes) in
-    let keeps = growth_keeps p r.class.0 cpu.sound within in
-    record { rows = keeps.held; hand = refl; same = record { thread = refl; class = refl; seq = refl; hand_room = refl; loaded_room = refl }; begins = λ was. was; ran = refl; epoch = omega arith }
 
 pub grow_does : GrowDoes
 grow_does m p r cpu low = grows_by m p r cpu low (runs p.running r.thread) (eqb r.epoch p.epoch)

@@ -21,19 +21,20 @@ use Rattle.cpu_drain.proofs.Steps.{runs_is}
 use Rattle.cpu_drain.proofs.Seated.{leave_keeps, enter_keeps, back_keeps, go_keeps, grow_keeps, stop_keeps, fence_keeps, slab_keeps, start_keeps, then_set}
 
 pub leaves : LeaveKeeps
-leaves m i to t p s home = leave_keeps m i t to p s home.part home.pair home.cpu
+leaves m i to t p s home = leave_keeps home.part home.pair home.cpu to
 
 -- the thread of the registers enters
 enters : (m i : ℕ) (t : ThreadNo) (p : CpuPart) (s : Seat) → IsHome m i t p s → SeatKeeps m i t p s (entered p s.regs.thread) (with_regs s (entering p s.regs))
-enters m i t p s home = subst (λ (u : ThreadNo). SeatKeeps m i t p s (entered p u) (with_regs s (entering p s.regs))) (sym home.thread) (enter_keeps m i t p s home.part home.pair home.cpu)
+enters m i t p s home = subst (λ (u : ThreadNo). SeatKeeps m i t p s (entered p u) (with_regs s (entering p s.regs))) (sym home.thread) (enter_keeps home.part home.pair home.cpu)
 
 current : (m i : ℕ) (t : ThreadNo) (p : CpuPart) (s : Seat) → IsHome m i t p s → runs p.running s.regs.thread ≡ true → eqb s.regs.epoch p.epoch ≡ true → IsCurrent t p s.regs
 current m i t p s home here now = record { runs = runs_is p.running s.regs.thread here ∙ ap (λ (u : ThreadNo). Some u) home.thread; epoch = eqb-true s.regs.epoch p.epoch now }
 
-instructs_by : (m i : ℕ) (t : ThreadNo) (p : CpuPart) (s : Seat) → IsHome m i t p s → (a b : Bool) → runs p.running s.regs.thread ≡ a → eqb s.regs.epoch p.epoch ≡ b → SeatKeeps m i t p s (instructed_by (arrival a b) p s.regs).cpu (with_regs s (instructed_by (arrival a b) p s.regs).regs)
+instructs_by : (m i : ℕ) (t : ThreadNo) (p : CpuPart) (s : Seat) → IsHome m i t p s → (a b : Bool) → runs p.running s.regs.thread ≡ a
+    → eqb s.regs.epoch p.epoch ≡ b → SeatKeeps m i t p s (instructed_by (arrival a b) p s.regs).cpu (with_regs s (instructed_by (arrival a b) p s.regs).regs)
 instructs_by m i t p s home false b here now = enters m i t p s home
-instructs_by m i t p s home true false here now = back_keeps m i t p s home.part home.pair home.cpu
-instructs_by m i t p s home true true here now = go_keeps m i t p s home.part home.pair home.cpu (current m i t p s home here now) home.class
+instructs_by m i t p s home true false here now = back_keeps home.part home.pair home.cpu
+instructs_by m i t p s home true true here now = go_keeps home.part home.pair home.cpu (current m i t p s home here now) home.class
 
 pub instructs : InstructKeeps
 instructs m i t p s home = instructs_by m i t p s home (runs p.running s.regs.thread) (eqb s.regs.epoch p.epoch) refl refl
@@ -42,22 +43,23 @@ instructs m i t p s home = instructs_by m i t p s home (runs p.running s.regs.th
 pub growth_keeps : (p : CpuPart) (k : ℕ) → IsSoundSlab p.slab → k < length p.slab.rows → KeepsObjects p.slab (cond (stands p.stopper) p.slab (grown p.slab k))
 growth_keeps p k sound low = cond_both (stands p.stopper) p.slab (grown p.slab k) (KeepsObjects p.slab) (λ e. keeps_same p.slab sound) (λ e. grown_keeps p.slab k low sound)
 
-grows_by : (m i : ℕ) (t : ThreadNo) (p : CpuPart) (s : Seat) → IsHome m i t p s → s.regs.pc ≡ Begin → (a b : Bool) → runs p.running s.regs.thread ≡ a → eqb s.regs.epoch p.epoch ≡ b → SeatKeeps m i t p s (grew_by (arrival a b) p s.regs).cpu (with_regs s (grew_by (arrival a b) p s.regs).regs)
+grows_by : (m i : ℕ) (t : ThreadNo) (p : CpuPart) (s : Seat) → IsHome m i t p s → s.regs.pc ≡ Begin → (a b : Bool) → runs p.running s.regs.thread ≡ a
+    → eqb s.regs.epoch p.epoch ≡ b → SeatKeeps m i t p s (grew_by (arrival a b) p s.regs).cpu (with_regs s (grew_by (arrival a b) p s.regs).regs)
 grows_by m i t p s home begin false b here now = enters m i t p s home
-grows_by m i t p s home begin true false here now = back_keeps m i t p s home.part home.pair home.cpu
+grows_by m i t p s home begin true false here now = back_keeps home.part home.pair home.cpu
 grows_by m i t p s home begin true true here now =
     let low : s.regs.class.0 < length p.slab.rows = omega (arith, home.class, home.part.classes) in
-    grow_keeps m i t p s _ (growth_keeps p s.regs.class.0 home.part.sound low) home.part home.pair home.cpu (current m i t p s home here now) begin
+    grow_keeps home.part home.pair _ (growth_keeps p s.regs.class.0 home.part.sound low) (current m i t p s home here now) begin
 
 pub grows : GrowKeeps
 grows m i t p s home begin = grows_by m i t p s home begin (runs p.running s.regs.thread) (eqb s.regs.epoch p.epoch) refl refl
 
 pub stops : StopKeeps
 stops m i t p s cpu pair begin nowhere none =
-    subst (λ (o : Option ThreadNo). SeatKeeps m i t p s (stopped_by o p t) (standing_at s i false (λ j. false))) (sym none) (stop_keeps m i t p s cpu pair begin nowhere none)
+    subst (λ (o : Option ThreadNo). SeatKeeps m i t p s (stopped_by o p t) (standing_at s i false (λ j. false))) (sym none) (stop_keeps cpu pair begin nowhere none)
 
 pub fences : FenceKeeps
-fences m i t p s old cpu pair begin is here = fence_keeps m i t p s old cpu pair begin is here
+fences m i t p s old cpu pair begin is here = fence_keeps cpu pair begin old is here
 
 top_stays : (slab : CpuSlab) (k j : ℕ) → k < length slab.rows → (row_at slab j).top ≡ 0 → (j ≡ k) ⊎ (j ≡ k → ⊥) → (row_at (with_top slab k 0) j).top ≡ 0
 top_stays slab k j low zero (inl here) = rw here (ap (λ (r : SlabRow). r.top) (row_same slab.rows k (record (row_at slab k) { top = 0 }) low))
@@ -66,7 +68,9 @@ top_stays slab k j low zero (inr there) = ap (λ (r : SlabRow). r.top) (row_othe
 pub takes : TakeKeeps
 takes m i k t p s hand empty cpu pair fencing low is_empty =
     let within : k < length p.slab.rows = omega (arith, cpu.classes) in
-    slab_keeps m i t p s fencing.old hand (with_top p.slab k 0) empty cpu pair fencing.pc fencing.is fencing.here fencing.fenced (length-set p.slab.rows k (record (row_at p.slab k) { top = 0 }) ∙ cpu.classes) (sound_top p.slab k 0 within (omega arith) cpu.sound) (λ j zero. top_stays p.slab k j within zero (cases_eq j k)) is_empty
+    let classes = length-set p.slab.rows k (record (row_at p.slab k) { top = 0 }) ∙ cpu.classes in
+    slab_keeps cpu pair fencing.pc fencing.old fencing.is fencing.here hand (with_top p.slab k 0) empty fencing.fenced classes
+    (sound_top p.slab k 0 within (omega arith) cpu.sound) (λ j zero. top_stays p.slab k j within zero (cases_eq j k)) is_empty
 
 -- a capacity that is set or refused changes no object
 pub set_cap_keeps : (slab : CpuSlab) (k n : ℕ) → k < length slab.rows → (row_at slab k).top ≡ 0 → IsSoundSlab slab → KeepsObjects slab (with_cap_if slab k n)
@@ -81,10 +85,11 @@ pub sets_cap : SetCapKeeps
 sets_cap m i k n t p s empty cpu pair fencing low zero is_empty =
     let within : k < length p.slab.rows = omega (arith, cpu.classes) in
     let keeps : KeepsObjects p.slab (with_cap_if p.slab k n) = set_cap_keeps p.slab k n within zero cpu.sound in
-    slab_keeps m i t p s fencing.old s.regs.hand (with_cap_if p.slab k n) empty cpu pair fencing.pc fencing.is fencing.here fencing.fenced (keeps.classes ∙ cpu.classes) keeps.sound (λ j is. keeps.tops j ∙ is) (λ j is. keeps.tops j ∙ is_empty j is)
+    slab_keeps cpu pair fencing.pc fencing.old fencing.is fencing.here s.regs.hand (with_cap_if p.slab k n) empty fencing.fenced (keeps.classes ∙ cpu.classes) keeps.sound
+    (λ j is. keeps.tops j ∙ is) (λ j is. keeps.tops j ∙ is_empty j is)
 
 pub starts : StartKeeps
-starts m i t p s old cpu pair begin is here = start_keeps m i t p s old cpu pair begin is here
+starts m i t p s old cpu pair begin is here = start_keeps cpu pair begin old is here
 
 pub sets : SetKeeps
-sets m i t p new s after r are keeps = then_set m i t p new s after r are keeps
+sets m i t p new s after r are keeps = then_set keeps r are

@@ -27,7 +27,8 @@ sum_by-flat_map f (r ∷ rs) =
     sum_by-append f (held r) (flat_map held rs) ∙ (ap (λ n. sum_by f (held r) + n) (sum_by-flat_map f rs) ∙ sym (sum_by-cons g r rs))
 
 -- one row is written
-row_moves : (f : Addr → ℕ) (rows : List SlabRow) (k : ℕ) (row : SlabRow) → k < length rows → sum_by f (flat_map held (slice_set rows k row)) + sum_by f (held (get_or rows k no_row)) ≡ sum_by f (flat_map held rows) + sum_by f (held row)
+row_moves : (f : Addr → ℕ) (rows : List SlabRow) (k : ℕ) (row : SlabRow) → k < length rows
+    → sum_by f (flat_map held (slice_set rows k row)) + sum_by f (held (get_or rows k no_row)) ≡ sum_by f (flat_map held rows) + sum_by f (held row)
 row_moves f rows k row low =
     let g : SlabRow → ℕ = λ r. sum_by f (held r) in
     omega (arith, sum_by-set g rows k row no_row low, sum_by-flat_map f rows, sum_by-flat_map f (slice_set rows k row))
@@ -36,7 +37,9 @@ row_moves f rows k row low =
 abbrev Stays : (Addr → ℕ) → CpuPart → Regs → CpuPart → Regs → Type 0
 Stays f p r new after = sum_by f (objects_of new.slab) + sum_by f after.hand.items ≡ sum_by f (objects_of p.slab) + sum_by f r.hand.items
 
-moves_by : (f : Addr → ℕ) (m : ℕ) (p : CpuPart) (r : Regs) → CpuOk m p → r.class.0 < m → (IsCurrent r.thread p r → Agrees (is_pop r.seq) (row_at p.slab r.class.0) r r.pc) → (a b : Bool) → runs p.running r.thread ≡ a → eqb r.epoch p.epoch ≡ b → Stays f p r (instructed_by (arrival a b) p r).cpu (instructed_by (arrival a b) p r).regs
+moves_by : (f : Addr → ℕ) (m : ℕ) (p : CpuPart) (r : Regs) → CpuOk m p → r.class.0 < m
+    → (IsCurrent r.thread p r → Agrees (is_pop r.seq) (row_at p.slab r.class.0) r r.pc) → (a b : Bool) → runs p.running r.thread ≡ a
+    → eqb r.epoch p.epoch ≡ b → Stays f p r (instructed_by (arrival a b) p r).cpu (instructed_by (arrival a b) p r).regs
 moves_by f m p r cpu low agrees false b here now = refl
 moves_by f m p r cpu low agrees true false here now = refl
 moves_by f m p r cpu low agrees true true here now =
@@ -50,7 +53,8 @@ moves_by f m p r cpu low agrees true true here now =
 pub instruct_moves : InstructMoves
 instruct_moves f m p r cpu low agrees = moves_by f m p r cpu low agrees (runs p.running r.thread) (eqb r.epoch p.epoch) refl refl
 
-grow_moves_by : (m : ℕ) (p : CpuPart) (r : Regs) → CpuOk m p → r.class.0 < m → (a b : Bool) → (objects_of (grew_by (arrival a b) p r).cpu.slab ≡ objects_of p.slab) × ((grew_by (arrival a b) p r).regs.hand ≡ r.hand)
+grow_moves_by : (m : ℕ) (p : CpuPart) (r : Regs) → CpuOk m p → r.class.0 < m → (a b : Bool)
+    → (objects_of (grew_by (arrival a b) p r).cpu.slab ≡ objects_of p.slab) × ((grew_by (arrival a b) p r).regs.hand ≡ r.hand)
 grow_moves_by m p r cpu low false b = (refl, refl)
 grow_moves_by m p r cpu low true false = (refl, refl)
 grow_moves_by m p r cpu low true true = let within : r.class.0 < length p.slab.rows = omega (arith, cpu.classes) in let keeps = growth_keeps p r.class.0 cpu.sound within in (keeps.objects, refl)
@@ -59,7 +63,15 @@ pub grow_moves : GrowMoves
 grow_moves m p r cpu low = grow_moves_by m p r cpu low (runs p.running r.thread) (eqb r.epoch p.epoch)
 
 pub abort_moves : AbortMoves
-abort_moves p r = (cond_both (runs p.running r.thread) (record p { running = None; epoch = p.epoch + 1; is_open = false }) p (λ (q : CpuPart). q.slab ≡ p.slab) (λ e. refl) (λ e. refl), refl, refl, refl, refl, refl)
+abort_moves p r = (
+  cond_both (runs p.running r.thread) (record p { running = None; epoch = p.epoch + 1; is_open = false }) p
+      (λ (q : CpuPart). q.slab ≡ p.slab) (λ e. refl) (λ e. refl),
+  refl,
+  refl,
+  refl,
+  refl,
+  refl,
+)
 
 pub take_moves : TakeMoves
 take_moves f m k p out cpu low =

@@ -50,6 +50,10 @@ agrees_at_rest pops row row' r (Copy n) rests has = absurd rests
 agrees_at_rest pops row row' r Commit rests has = absurd rests
 
 -- what a stopper holds stays, where it stays the stopper, and after its fence the mark and empty classes stay
-pub stage_kept : (i : ℕ) (t : ThreadNo) (p p' : CpuPart) (o : Option Standing) → (p.stopper ≡ Some t → p'.stopper ≡ Some t) → (p.stopper ≡ Some t → p.fenced ≡ true → p'.fenced ≡ true) → (p.fenced ≡ true → (k : ℕ) → (row_at p.slab k).top ≡ 0 → (row_at p'.slab k).top ≡ 0) → Holds i t p o → Holds i t p' o
+pub stage_kept : (i : ℕ) (t : ThreadNo) (p p' : CpuPart) (o : Option Standing)
+    → (p.stopper ≡ Some t → p'.stopper ≡ Some t) → (p.stopper ≡ Some t → p.fenced ≡ true → p'.fenced ≡ true)
+    → (p.fenced ≡ true → (k : ℕ) → (row_at p.slab k).top ≡ 0 → (row_at p'.slab k).top ≡ 0) → Holds i t p o → Holds i t p' o
 stage_kept i t p p' None stopper fenced empty has = tt
-stage_kept i t p p' (Some s) stopper fenced empty has = λ e. record { stopper = stopper (has e).stopper; fenced = λ f. fenced (has e).stopper ((has e).fenced f); empty = λ k b. (let was = (has e).empty k b in (fenced (has e).stopper was.0, empty was.0 k was.1)) }
+stage_kept i t p p' (Some s) stopper fenced empty has = λ e.
+    let held = has e in
+    record { stopper = stopper held.stopper; fenced = λ f. fenced held.stopper (held.fenced f); empty = λ k b. (let was = held.empty k b in (fenced held.stopper was.0, empty was.0 k was.1)) }
