@@ -1,5 +1,5 @@
 -- Each kind of decided call keeps that the calls are a run on disjoint blocks, of which each label has its own.
-use Rattle.std.proofs.Common.{◌≡◌, ℕ, ◌+◌, ◌<◌, true, false, not, eqb, ltb, cond, List, [], ◌∷◌, ◌++◌, Option, Some, None, refl, sym, ap, ◌∙◌, subst, arith, ◌⊎◌, inl, inr, sum}
+use Rattle.std.proofs.Common.{Bool, ◌≡◌, ℕ, ◌+◌, ◌<◌, true, false, not, eqb, ltb, cond, List, [], ◌∷◌, ◌++◌, Option, Some, None, refl, sym, ap, ◌∙◌, subst, arith, ◌⊎◌, inl, inr, sum}
 use Rattle.std.specs.Prelude.{◌==◌, is_some, find, All}
 use Rattle.std.proofs.lemmas.Bool.{cases_Bool, eqb-true, eqb-false, lt-ltb, false≢true, or_parts, or_cases, cond-true, cond-false, and_from, eq-eqb, ne_eqb}
 use Rattle.std.proofs.lemmas.List.Elements.{All-filter}
@@ -18,47 +18,42 @@ use Rattle.holdings.specs.Moves.{IsOther}
 use Rattle.holdings.proofs.Sums.{All-kept, All-weaken}
 use Rattle.holdings.proofs.CallFacts.{IsBlockRun-push, answer_cases, answer_to-push_new, answer_to-push_old, blocks_after-push, find-with_block_other, find-with_block_same, find-without_block, find_all, find_apart, freed_in-push}
 
--- a block that a label has after a call that allocates another, or none, is one that it had
-has_block_before : (calls : List CallLine) (c : CallLine) (label : ℕ) (addr : Addr) (len : ℕ) → allocates label c.call ≡ false → HasBlock (calls ++ c ∷ []) label addr len → HasBlock calls label addr len
-has_block_before calls c label addr len other has =
-    let kept : (freed_in label calls ≡ false) × (frees label c.call ≡ false) = or_parts (freed_in label calls) (frees label c.call) (sym (freed_in-push label calls c) ∙ has.kept) in
-    elim (answer_cases (answer_to label calls)) [
-      | inl none ↦
-          let answered : None ≡ Some (Block addr len) = sym (cond-false (allocates label c.call) (Some c.answer) None other) ∙ (sym (answer_to-push_new label calls c none) ∙ has.answered) in
-          absurd (cc)
-      | inr there ↦
-          let same : Some there.0 ≡ Some (Block addr len) = sym (answer_to-push_old label calls c there.0 there.1) ∙ has.answered in
-          record { answered = there.1 ∙ same; kept = kept.0 }
-    ]
+module _ (calls : List CallLine) (c : CallLine) where
+  -- a label that a call frees was freed before, or the call frees it
+  kept_before : (label : ℕ) → freed_in label (calls ++ c ∷ []) ≡ false → (freed_in label calls ≡ false) × (frees label c.call ≡ false)
+  kept_before label kept = or_parts (freed_in label calls) (frees label c.call) (sym (freed_in-push label calls c) ∙ kept)
 
--- an answer that a label has after a call is one that it had, or the call's
-answer_before : (calls : List CallLine) (c : CallLine) (label : ℕ) (answer : Answer) → answer_to label (calls ++ c ∷ []) ≡ Some answer → (answer_to label calls ≡ Some answer) ⊎ ((allocates label c.call ≡ true) × (c.answer ≡ answer))
-answer_before calls c label answer h =
-    elim (answer_cases (answer_to label calls)) [
-      | inl none ↦
-          let pushed : cond (allocates label c.call) (Some c.answer) None ≡ Some answer = sym (answer_to-push_new label calls c none) ∙ h in
-          elim (cases_Bool (allocates label c.call)) [
-            | inl his ↦
-                let same : Some c.answer ≡ Some answer = sym (cond-true (allocates label c.call) (Some c.answer) None his) ∙ pushed in
-                inr (his, cc)
-            | inr other ↦
-                let wrong : None ≡ Some answer = sym (cond-false (allocates label c.call) (Some c.answer) None other) ∙ pushed in
-                absurd (cc)
-          ]
-      | inr there ↦
-          let same : Some there.0 ≡ Some answer = sym (answer_to-push_old label calls c there.0 there.1) ∙ h in
-          inl (there.1 ∙ same)
-    ]
+  -- an answer that a label has after a call is one that it had, or the call's
+  answer_before : (label : ℕ) (answer : Answer) → answer_to label (calls ++ c ∷ []) ≡ Some answer → (answer_to label calls ≡ Some answer) ⊎ ((allocates label c.call ≡ true) × (c.answer ≡ answer))
+  answer_before label answer h =
+      elim (answer_cases (answer_to label calls)) [
+        | inl none ↦
+            let pushed = sym (answer_to-push_new label calls c none) ∙ h in
+            elim (cases_Bool (allocates label c.call)) [
+              | inl his ↦ let same : Some c.answer ≡ Some answer = sym (cond-true (allocates label c.call) (Some c.answer) None his) ∙ pushed in inr (his, cc)
+              | inr other ↦ let wrong : None ≡ Some answer = sym (cond-false (allocates label c.call) (Some c.answer) None other) ∙ pushed in absurd (cc)
+            ]
+        | inr there ↦ let same : Some there.0 ≡ Some answer = sym (answer_to-push_old label calls c there.0 there.1) ∙ h in inl (there.1 ∙ same)
+      ]
 
--- a call frees no label that has no answer
-known_after : (calls : List CallLine) (c : CallLine) → ((label : ℕ) → freed_in label calls ≡ true → is_some (answer_to label calls) ≡ true) → ((label : ℕ) → frees label c.call ≡ true → is_some (answer_to label calls) ≡ true) → (label : ℕ) → freed_in label (calls ++ c ∷ []) ≡ true → is_some (answer_to label (calls ++ c ∷ [])) ≡ true
-known_after calls c known own label h =
-    let has : is_some (answer_to label calls) ≡ true =
-    elim (or_cases (freed_in label calls) (frees label c.call) (sym (freed_in-push label calls c) ∙ h)) [ inl old ↦ known label old | inr new ↦ own label new ] in
-    elim (answer_cases (answer_to label calls)) [
-      | inl none ↦ absurd (false≢true (ap is_some (sym none) ∙ has))
-      | inr there ↦ ap is_some (answer_to-push_old label calls c there.0 there.1)
-    ]
+  -- a block that a label has after a call that allocates another, or none, is one that it had
+  has_block_before : (label : ℕ) (addr : Addr) (len : ℕ) → allocates label c.call ≡ false → HasBlock (calls ++ c ∷ []) label addr len → HasBlock calls label addr len
+  has_block_before label addr len other has =
+      elim (answer_before label (Block addr len) has.answered) [
+        | inl before ↦ record { answered = before; kept = (kept_before label has.kept).0 }
+        | inr new ↦ absurd (false≢true (sym other ∙ new.0))
+      ]
+
+  -- a call frees no label that has no answer
+  known_after : ((label : ℕ) → freed_in label calls ≡ true → is_some (answer_to label calls) ≡ true) → ((label : ℕ) → frees label c.call ≡ true → is_some (answer_to label calls) ≡ true)
+      → (label : ℕ) → freed_in label (calls ++ c ∷ []) ≡ true → is_some (answer_to label (calls ++ c ∷ [])) ≡ true
+  known_after known own label h =
+      let has : is_some (answer_to label calls) ≡ true =
+      elim (or_cases (freed_in label calls) (frees label c.call) (sym (freed_in-push label calls c) ∙ h)) [ inl old ↦ known label old | inr new ↦ own label new ] in
+      elim (answer_cases (answer_to label calls)) [
+        | inl none ↦ absurd (false≢true (ap is_some (sym none) ∙ has))
+        | inr there ↦ ap is_some (answer_to-push_old label calls c there.0 there.1)
+      ]
 
 -- a block is found or isn't; addresses are one where their numbers are
 found_cases : (o : Option Extent) → (o ≡ None) ⊎ ((b : Extent) × (o ≡ Some b))
@@ -73,97 +68,111 @@ abbrev pub Labelled : List CallLine → Extent → Type 0
 Labelled calls b = (label : ℕ) × HasBlock calls label (record { 0 = b.addr }) b.len
 
 labelled_push : (calls : List CallLine) (c : CallLine) (b : Extent) (own : Labelled calls b) → frees own.0 c.call ≡ false → Labelled (calls ++ c ∷ []) b
-labelled_push calls c b own unfreed = (own.0, record { answered = answer_to-push_old own.0 calls c (Block (record { 0 = b.addr }) b.len) own.1.answered; kept = freed_in-push own.0 calls c ∙ rw (own.1.kept, unfreed) refl })
+labelled_push calls c b own unfreed = let (l, has) = own in
+    (l, record { answered = answer_to-push_old l calls c (Block (record { 0 = b.addr }) b.len) has.answered; kept = freed_in-push l calls c ∙ rw (has.kept, unfreed) refl })
 
--- a call that gives no block and takes none: it allocates no label with one, and frees none that has one
-kept_quiet : (round : ℕ → ℕ) (huge : ℕ) (calls : List CallLine) (c : CallLine) → AreKept round huge calls → IsAllowed huge round calls c.call c.answer → blocks_with (blocks_after calls) c.answer ≡ blocks_after calls → ((l : ℕ) → allocates l c.call ≡ true → c.answer ≡ NoBlock) → ((l : ℕ) → frees l c.call ≡ true → is_some (answer_to l calls) ≡ true) → ((l : ℕ) (addr : Addr) (len : ℕ) → HasBlock calls l addr len → frees l c.call ≡ false) → AreKept round huge (calls ++ c ∷ [])
-kept_quiet round huge calls c kept allowed blocks none own unfreed =
-    let same : blocks_after (calls ++ c ∷ []) ≡ blocks_after calls = blocks_after-push calls c ∙ blocks in
-    let old : (l : ℕ) (addr : Addr) (len : ℕ) → HasBlock (calls ++ c ∷ []) l addr len → HasBlock calls l addr len =
-    λ l addr len has. elim (answer_before calls c l (Block addr len) has.answered) [
-      | inl before ↦ record { answered = before; kept = (or_parts (freed_in l calls) (frees l c.call) (sym (freed_in-push l calls c) ∙ has.kept)).0 }
-      | inr new ↦ let wrong : NoBlock ≡ Block addr len = sym (none l new.0) ∙ new.1 in absurd (cc)
-    ] in
-    record {
-      run = IsBlockRun-push round huge calls c kept.run allowed;
-      some = subst (All (λ b. 0 < b.len)) (sym same) kept.some;
-      stands = λ l addr len has. ap (find (λ b. b.addr == addr.0)) same ∙ kept.stands l addr len (old l addr len has);
-      distinct = λ l m addr n k has hasm. kept.distinct l m addr n k (old l addr n has) (old m addr k hasm);
-      answers = λ l answer h. elim (answer_before calls c l answer h) [ inl before ↦ kept.answers l answer before | inr new ↦ subst IsOfMalloc (sym (none l new.0) ∙ new.1) tt ];
-      labelled = subst (All (Labelled (calls ++ c ∷ []))) (sym same) (All-weaken (Labelled calls) (Labelled (calls ++ c ∷ [])) (blocks_after calls) (λ b l. labelled_push calls c b l (unfreed l.0 (record { 0 = b.addr }) b.len l.1)) kept.labelled);
-      known = known_after calls c kept.known own;
-    }
+-- two blocks have a place in common where each begins before the other's end
+meet : (b c : Extent) → b.addr < c.addr + c.len → c.addr < b.addr + b.len → meets b c ≡ true
+meet b c low high = and_from (ltb b.addr (c.addr + c.len)) (ltb c.addr (b.addr + b.len)) (lt-ltb b.addr (c.addr + c.len) low) (lt-ltb c.addr (b.addr + b.len) high)
 
--- an allocation without a block
-pub kept_none : (round : ℕ → ℕ) (huge : ℕ) (calls : List CallLine) (thread : ThreadNo) (label : Label) (size : ℕ) → AreKept round huge calls → AreKept round huge (calls ++ record { thread = thread; call = Malloc label size; answer = NoBlock } ∷ [])
-kept_none round huge calls thread label size kept = kept_quiet round huge calls (record { thread = thread; call = Malloc label size; answer = NoBlock }) kept tt refl (λ l h. refl) (λ l h. absurd (false≢true h)) (λ l addr len has. refl)
-
--- an allocation of a block at a free place, under a label that has no answer yet
-module _ (round : ℕ → ℕ) (huge : ℕ) (calls : List CallLine) (thread : ThreadNo) (label : Label) (size : ℕ) (addr : Addr) (len : ℕ) (kept : AreKept round huge calls) (new : answer_to label.0 calls ≡ None) (free : IsFreePlace huge (blocks_after calls) (record { addr = addr.0; len = len })) (is : len ≡ round size) (some : 0 < len) where
-  abbrev line : CallLine
-  line = record { thread = thread; call = Malloc label size; answer = Block addr len }
-
-  abbrev place : Extent
-  place = record { addr = addr.0; len = len }
-
-  -- a label of an older block is another one, and its block is elsewhere
-  older : (l : ℕ) (a : Addr) (n : ℕ) → HasBlock calls l a n → (addr.0 ≡ a.0 → ⊥)
-  older l a n has same =
-      let found = kept.stands l a n has in
-      let apart : meets place (record { addr = a.0; len = n }) ≡ false = find_apart place a.0 (blocks_after calls) (record { addr = a.0; len = n }) free.apart found in
-      let positive : 0 < n = (find_all (λ b. 0 < b.len) a.0 (blocks_after calls) (record { addr = a.0; len = n }) kept.some found).0 in
-      let meet : meets place (record { addr = a.0; len = n }) ≡ true = and_from (ltb addr.0 (a.0 + n)) (ltb a.0 (addr.0 + len)) (lt-ltb addr.0 (a.0 + n) (omega arith)) (lt-ltb a.0 (addr.0 + len) (omega arith)) in
-      false≢true (sym apart ∙ meet)
-
-  -- a label's block is an older one, or the new one is the label's
-  of_label : (l : ℕ) (a : Addr) (n : ℕ) → HasBlock (calls ++ line ∷ []) l a n → HasBlock calls l a n ⊎ ((label.0 ≡ l) × (a ≡ addr) × (n ≡ len))
-  of_label l a n has =
-      elim (answer_before calls line l (Block a n) has.answered) [
-        | inl before ↦ inl (record { answered = before; kept = (or_parts (freed_in l calls) (frees l line.call) (sym (freed_in-push l calls line) ∙ has.kept)).0 })
-        | inr mine ↦
-            let same : Block addr len ≡ Block a n = mine.1 in
-            inr (eqb-true label.0 l mine.0, cc, cc)
-      ]
-
-  -- no block begins at the new address
-  none_there : find (λ b. b.addr == addr.0) (blocks_after calls) ≡ None
-  none_there =
-      elim (found_cases (find (λ b. b.addr == addr.0) (blocks_after calls))) [
-        | inl none ↦ none
-        | inr there ↦
-            let both = find_all (λ b. 0 < b.len) addr.0 (blocks_after calls) there.0 kept.some there.1 in
-            let apart : meets place there.0 ≡ false = find_apart place addr.0 (blocks_after calls) there.0 free.apart there.1 in
-            let meet : meets place there.0 ≡ true = and_from (ltb addr.0 (there.0.addr + there.0.len)) (ltb there.0.addr (addr.0 + len)) (lt-ltb addr.0 (there.0.addr + there.0.len) (omega (arith, both.0, both.1))) (lt-ltb there.0.addr (addr.0 + len) (omega (arith, both.1))) in
-            absurd (false≢true (sym apart ∙ meet))
-      ]
-
-  own_block : HasBlock (calls ++ line ∷ []) label.0 addr len
-  own_block =
-      let unfreed : freed_in label.0 calls ≡ false = elim (cases_Bool (freed_in label.0 calls)) [ inl freed ↦ absurd (false≢true (ap is_some (sym new) ∙ kept.known label.0 freed)) | inr unfreed ↦ unfreed ] in
+module _ {round : ℕ → ℕ} {huge : ℕ} {calls : List CallLine} (kept : AreKept round huge calls) where
+  -- a call that gives no block and takes none: it allocates no label with one, and frees none that has one
+  kept_quiet : (c : CallLine) → IsAllowed huge round calls c.call c.answer → blocks_with (blocks_after calls) c.answer ≡ blocks_after calls → ((l : ℕ) → allocates l c.call ≡ true → c.answer ≡ NoBlock)
+      → ((l : ℕ) → frees l c.call ≡ true → is_some (answer_to l calls) ≡ true) → ((l : ℕ) (addr : Addr) (len : ℕ) → HasBlock calls l addr len → frees l c.call ≡ false) → AreKept round huge (calls ++ c ∷ [])
+  kept_quiet c allowed blocks none own unfreed =
+      let same : blocks_after (calls ++ c ∷ []) ≡ blocks_after calls = blocks_after-push calls c ∙ blocks in
+      let old : (l : ℕ) (addr : Addr) (len : ℕ) → HasBlock (calls ++ c ∷ []) l addr len → HasBlock calls l addr len =
+      λ l addr len has. elim (answer_before calls c l (Block addr len) has.answered) [
+        | inl before ↦ record { answered = before; kept = (kept_before calls c l has.kept).0 }
+        | inr new ↦ let wrong : NoBlock ≡ Block addr len = sym (none l new.0) ∙ new.1 in absurd (cc)
+      ] in
+      let still = All-weaken (Labelled calls) (Labelled (calls ++ c ∷ [])) (blocks_after calls) (λ b l. labelled_push calls c b l (unfreed l.0 (record { 0 = b.addr }) b.len l.1)) kept.labelled in
       record {
-        answered = answer_to-push_new label.0 calls line new ∙ cond-true (eqb label.0 label.0) (Some (Block addr len)) None (eq-eqb label.0 label.0 refl);
-        kept = freed_in-push label.0 calls line ∙ rw unfreed refl;
+        run = IsBlockRun-push round huge calls c kept.run allowed;
+        some = rw same kept.some;
+        stands = λ l addr len has. ap (find (λ b. b.addr == addr.0)) same ∙ kept.stands l addr len (old l addr len has);
+        distinct = λ l m addr n k has hasm. kept.distinct l m addr n k (old l addr n has) (old m addr k hasm);
+        answers = λ l answer h. elim (answer_before calls c l answer h) [ inl before ↦ kept.answers l answer before | inr new ↦ subst IsOfMalloc (sym (none l new.0) ∙ new.1) tt ];
+        labelled = subst (All (Labelled (calls ++ c ∷ []))) (sym same) still;
+        known = known_after calls c kept.known own;
       }
 
-  pub kept_block : AreKept round huge (calls ++ line ∷ [])
-  kept_block =
-      record {
-        run = IsBlockRun-push round huge calls line kept.run (is, free);
-        some = subst (All (λ b. 0 < b.len)) (sym (blocks_after-push calls line)) (All-with_item (λ (b : Extent). b.addr) (λ b. 0 < b.len) place (blocks_after calls) some kept.some);
-        stands = λ l a n has. ap (find (λ b. b.addr == a.0)) (blocks_after-push calls line) ∙
-            elim (of_label l a n has) [
-              | inl before ↦ find-with_block_other place a.0 (blocks_after calls) (older l a n before) ∙ kept.stands l a n before
-              | inr mine ↦ subst (λ (x : Addr). find (λ b. b.addr == x.0) (with_block place (blocks_after calls)) ≡ Some (record { addr = x.0; len = n })) (sym mine.1) (subst (λ (m : ℕ). find (λ b. b.addr == addr.0) (with_block place (blocks_after calls)) ≡ Some (record { addr = addr.0; len = m })) (sym mine.2) (find-with_block_same place (blocks_after calls) none_there))
-            ];
-        distinct = λ l m a n k has hasm.
-            elim (of_label l a n has) [
-              | inl before ↦ elim (of_label m a k hasm) [ inl beforem ↦ kept.distinct l m a n k before beforem | inr minem ↦ absurd (older l a n before (ap (λ (x : Addr). x.0) (sym minem.1))) ]
-              | inr mine ↦ elim (of_label m a k hasm) [ inl beforem ↦ absurd (older m a k beforem (ap (λ (x : Addr). x.0) (sym mine.1))) | inr minem ↦ sym mine.0 ∙ minem.0 ]
-            ];
-        answers = λ l answer h. elim (answer_before calls line l answer h) [ inl before ↦ kept.answers l answer before | inr mine ↦ subst IsOfMalloc mine.1 tt ];
-        labelled = subst (All (Labelled (calls ++ line ∷ []))) (sym (blocks_after-push calls line)) (All-with_item (λ (b : Extent). b.addr) (Labelled (calls ++ line ∷ [])) place (blocks_after calls) (label.0, own_block) (All-weaken (Labelled calls) (Labelled (calls ++ line ∷ [])) (blocks_after calls) (λ b l. labelled_push calls line b l refl) kept.labelled));
-        known = known_after calls line kept.known (λ l h. absurd (false≢true h));
-      }
+  -- an allocation without a block
+  pub kept_none : (thread : ThreadNo) (label : Label) (size : ℕ) → AreKept round huge (calls ++ record { thread = thread; call = Malloc label size; answer = NoBlock } ∷ [])
+  kept_none thread label size =
+      kept_quiet (record { thread = thread; call = Malloc label size; answer = NoBlock }) tt refl (λ l h. refl) (λ l h. absurd (false≢true h)) (λ l addr len has. refl)
+
+  -- an allocation of a block at a free place, under a label that has no answer yet
+  module _ (thread : ThreadNo) (label : Label) (size : ℕ) (addr : Addr) (len : ℕ) (new : answer_to label.0 calls ≡ None)
+      (free : IsFreePlace huge (blocks_after calls) (record { addr = addr.0; len = len })) (is : len ≡ round size) (some : 0 < len) where
+    abbrev line : CallLine
+    line = record { thread = thread; call = Malloc label size; answer = Block addr len }
+
+    abbrev place : Extent
+    place = record { addr = addr.0; len = len }
+
+    -- a label of an older block is another one, and its block is elsewhere
+    older : (l : ℕ) (a : Addr) (n : ℕ) → HasBlock calls l a n → (addr.0 ≡ a.0 → ⊥)
+    older l a n has same =
+        let b : Extent = record { addr = a.0; len = n } in let found = kept.stands l a n has in
+        let apart = find_apart place a.0 (blocks_after calls) b free.apart found in
+        let positive : 0 < n = (find_all (λ b. 0 < b.len) a.0 (blocks_after calls) b kept.some found).0 in
+        false≢true (sym apart ∙ meet place b (omega arith) (omega arith))
+
+    -- a label's block is an older one, or the new one is the label's
+    of_label : (l : ℕ) (a : Addr) (n : ℕ) → HasBlock (calls ++ line ∷ []) l a n → HasBlock calls l a n ⊎ ((label.0 ≡ l) × (a ≡ addr) × (n ≡ len))
+    of_label l a n has =
+        elim (answer_before calls line l (Block a n) has.answered) [
+          | inl before ↦ inl (record { answered = before; kept = (kept_before calls line l has.kept).0 })
+          | inr mine ↦ let same : Block addr len ≡ Block a n = mine.1 in inr (eqb-true label.0 l mine.0, cc, cc)
+        ]
+
+    -- no block begins at the new address
+    none_there : find (λ b. b.addr == addr.0) (blocks_after calls) ≡ None
+    none_there =
+        elim (found_cases (find (λ b. b.addr == addr.0) (blocks_after calls))) [
+          | inl none ↦ none
+          | inr there ↦
+              let both = find_all (λ b. 0 < b.len) addr.0 (blocks_after calls) there.0 kept.some there.1 in
+              let apart = find_apart place addr.0 (blocks_after calls) there.0 free.apart there.1 in
+              absurd (false≢true (sym apart ∙ meet place there.0 (omega (arith, both.0, both.1)) (omega (arith, both.1))))
+        ]
+
+    own_block : HasBlock (calls ++ line ∷ []) label.0 addr len
+    own_block =
+        let unfreed : freed_in label.0 calls ≡ false =
+        elim (cases_Bool (freed_in label.0 calls)) [ inl freed ↦ absurd (false≢true (ap is_some (sym new) ∙ kept.known label.0 freed)) | inr unfreed ↦ unfreed ] in
+        record {
+          answered = answer_to-push_new label.0 calls line new ∙ cond-true (eqb label.0 label.0) (Some (Block addr len)) None (eq-eqb label.0 label.0 refl);
+          kept = freed_in-push label.0 calls line ∙ rw unfreed refl;
+        }
+
+    -- the block that a label finds
+    found_now : (l : ℕ) (a : Addr) (n : ℕ) → HasBlock (calls ++ line ∷ []) l a n → find (λ b. b.addr == a.0) (with_block place (blocks_after calls)) ≡ Some (record { addr = a.0; len = n })
+    found_now l a n has =
+        elim (of_label l a n has) [
+          | inl before ↦ find-with_block_other place a.0 (blocks_after calls) (older l a n before) ∙ kept.stands l a n before
+          | inr mine ↦ rw (mine.1, mine.2) (find-with_block_same place (blocks_after calls) none_there)
+        ]
+
+    pub kept_block : AreKept round huge (calls ++ line ∷ [])
+    kept_block =
+        let byte : Extent → ℕ = λ b. b.addr in let now = blocks_after-push calls line in
+        let still = All-weaken (Labelled calls) (Labelled (calls ++ line ∷ [])) (blocks_after calls) (λ b l. labelled_push calls line b l refl) kept.labelled in
+        record {
+          run = IsBlockRun-push round huge calls line kept.run (is, free);
+          some = subst (All (λ b. 0 < b.len)) (sym now) (All-with_item byte (λ b. 0 < b.len) place (blocks_after calls) some kept.some);
+          stands = λ l a n has. ap (find (λ b. b.addr == a.0)) now ∙ found_now l a n has;
+          distinct = λ l m a n k has hasm.
+              elim (of_label l a n has) [
+                | inl before ↦
+                    elim (of_label m a k hasm) [ inl beforem ↦ kept.distinct l m a n k before beforem | inr minem ↦ absurd (older l a n before (ap (λ (x : Addr). x.0) (sym minem.1))) ]
+                | inr mine ↦ elim (of_label m a k hasm) [ inl beforem ↦ absurd (older m a k beforem (ap (λ (x : Addr). x.0) (sym mine.1))) | inr minem ↦ sym mine.0 ∙ minem.0 ]
+              ];
+          answers = λ l answer h. elim (answer_before calls line l answer h) [ inl before ↦ kept.answers l answer before | inr mine ↦ subst IsOfMalloc mine.1 tt ];
+          labelled = subst (All (Labelled (calls ++ line ∷ []))) (sym now) (All-with_item byte (Labelled (calls ++ line ∷ [])) place (blocks_after calls) (label.0, own_block) still);
+          known = known_after calls line kept.known (λ l h. absurd (false≢true h));
+        }
 
 -- a call that is about no label
 other_allowed : (huge : ℕ) (round : ℕ → ℕ) (calls : List CallLine) (call : Call) (answer : Answer) → IsOther call answer → IsAllowed huge round calls call answer
@@ -193,41 +202,51 @@ other_blocks blocks (Resize cpu class cap) (OverLimit sum) is = refl
 other_blocks blocks (Resize cpu class cap) (OverStatic most) is = refl
 other_blocks blocks call answer is = absurd is
 
-pub kept_other : (round : ℕ → ℕ) (huge : ℕ) (calls : List CallLine) (c : CallLine) → AreKept round huge calls → IsOther c.call c.answer → AreKept round huge (calls ++ c ∷ [])
-kept_other round huge calls c kept is =
-    let apart = other_label c.call c.answer is in
-    kept_quiet round huge calls c kept (other_allowed huge round calls c.call c.answer is) (other_blocks (blocks_after calls) c.call c.answer is) (λ l h. absurd (false≢true (sym (apart l).0 ∙ h))) (λ l h. absurd (false≢true (sym (apart l).1 ∙ h))) (λ l addr len has. (apart l).1)
+module _ {round : ℕ → ℕ} {huge : ℕ} {calls : List CallLine} (kept : AreKept round huge calls) where
+  pub kept_other : (c : CallLine) → IsOther c.call c.answer → AreKept round huge (calls ++ c ∷ [])
+  kept_other c is =
+      let apart = other_label c.call c.answer is in
+      kept_quiet kept c (other_allowed huge round calls c.call c.answer is) (other_blocks (blocks_after calls) c.call c.answer is)
+      (λ l h. absurd (false≢true (sym (apart l).0 ∙ h))) (λ l h. absurd (false≢true (sym (apart l).1 ∙ h))) (λ l addr len has. (apart l).1)
 
--- a free of null
-pub kept_freed_null : (round : ℕ → ℕ) (huge : ℕ) (calls : List CallLine) (thread : ThreadNo) (label : Label) → AreKept round huge calls → FreesNull calls label.0 → AreKept round huge (calls ++ record { thread = thread; call = Free label; answer = FreedNull } ∷ [])
-kept_freed_null round huge calls thread label kept null =
-    kept_quiet round huge calls (record { thread = thread; call = Free label; answer = FreedNull }) kept null refl (λ l h. absurd (false≢true h))
-    (λ l h. subst (λ (x : ℕ). is_some (answer_to x calls) ≡ true) (eqb-true label.0 l h) (ap is_some null.answered))
-    (λ l addr len has. ne_eqb label.0 l (λ e. let both : Some NoBlock ≡ Some (Block addr len) = sym null.answered ∙ (ap (λ (x : ℕ). answer_to x calls) e ∙ has.answered) in absurd (cc)))
+  -- a free of null
+  pub kept_freed_null : (thread : ThreadNo) (label : Label) → FreesNull calls label.0 → AreKept round huge (calls ++ record { thread = thread; call = Free label; answer = FreedNull } ∷ [])
+  kept_freed_null thread label null =
+      let unlike : (l : ℕ) (addr : Addr) (len : ℕ) → HasBlock calls l addr len → label.0 ≡ l → ⊥ =
+      λ l addr len has e. (let both : Some NoBlock ≡ Some (Block addr len) = sym null.answered ∙ (ap (λ (x : ℕ). answer_to x calls) e ∙ has.answered) in absurd (cc)) in
+      kept_quiet kept (record { thread = thread; call = Free label; answer = FreedNull }) null refl (λ l h. absurd (false≢true h))
+      (λ l h. subst (λ (x : ℕ). is_some (answer_to x calls) ≡ true) (eqb-true label.0 l h) (ap is_some null.answered)) (λ l addr len has. ne_eqb label.0 l (unlike l addr len has))
 
--- a free of a block
-module _ (round : ℕ → ℕ) (huge : ℕ) (calls : List CallLine) (thread : ThreadNo) (label : Label) (addr : Addr) (len : ℕ) (kept : AreKept round huge calls) (has : HasBlock calls label.0 addr len) where
-  abbrev freeing : CallLine
-  freeing = record { thread = thread; call = Free label; answer = Freed addr }
+  -- a free of a block
+  module _ (thread : ThreadNo) (label : Label) (addr : Addr) (len : ℕ) (has : HasBlock calls label.0 addr len) where
+    abbrev freeing : CallLine
+    freeing = record { thread = thread; call = Free label; answer = Freed addr }
 
-  -- every other label's block is elsewhere
-  others : (l : ℕ) (a : Addr) (n : ℕ) → HasBlock (calls ++ freeing ∷ []) l a n → HasBlock calls l a n × (addr.0 ≡ a.0 → ⊥)
-  others l a n hasl =
-      let before : HasBlock calls l a n = has_block_before calls freeing l a n refl hasl in
-      let unfreed : eqb label.0 l ≡ false = (or_parts (freed_in l calls) (frees l freeing.call) (sym (freed_in-push l calls freeing) ∙ hasl.kept)).1 in
-      (before, λ e. eqb-false label.0 l unfreed (kept.distinct label.0 l addr len n has (subst (λ (x : Addr). HasBlock calls l x n) (sym (same_address addr a e)) before)))
+    -- every other label's block is elsewhere
+    others : (l : ℕ) (a : Addr) (n : ℕ) → HasBlock (calls ++ freeing ∷ []) l a n → HasBlock calls l a n × (addr.0 ≡ a.0 → ⊥)
+    others l a n hasl =
+        let before = has_block_before calls freeing l a n refl hasl in let unfreed : eqb label.0 l ≡ false = (kept_before calls freeing l hasl.kept).1 in
+        (before, λ e. eqb-false label.0 l unfreed (kept.distinct label.0 l addr len n has (subst (λ (x : Addr). HasBlock calls l x n) (sym (same_address addr a e)) before)))
 
-  pub kept_freed : AreKept round huge (calls ++ freeing ∷ [])
-  kept_freed =
-      record {
-        run = IsBlockRun-push round huge calls freeing kept.run (record { len = len; answered = has.answered; stands = kept.stands label.0 addr len has; once = has.kept });
-        some = subst (All (λ b. 0 < b.len)) (sym (blocks_after-push calls freeing)) (All-filter (λ b. not (b.addr == addr.0)) (λ b. 0 < b.len) (blocks_after calls) kept.some);
-        stands = λ l a n hasl. let o = others l a n hasl in ap (find (λ b. b.addr == a.0)) (blocks_after-push calls freeing) ∙ (find-without_block addr.0 a.0 (blocks_after calls) o.1 ∙ kept.stands l a n o.0);
-        distinct = λ l m a n k hasl hasm. kept.distinct l m a n k (others l a n hasl).0 (others m a k hasm).0;
-        answers = λ l answer h. elim (answer_before calls freeing l answer h) [ inl before ↦ kept.answers l answer before | inr new ↦ absurd (false≢true new.0) ];
-        labelled = subst (All (Labelled (calls ++ freeing ∷ []))) (sym (blocks_after-push calls freeing)) (All-kept (Labelled calls) (Labelled (calls ++ freeing ∷ [])) (λ b. not (b.addr == addr.0)) (blocks_after calls) (λ b l apart. labelled_push calls freeing b l (ne_eqb label.0 l.0 (λ e.
-            let both : Some (Block addr len) ≡ Some (Block (record { 0 = b.addr }) b.len) = sym has.answered ∙ (ap (λ (x : ℕ). answer_to x calls) e ∙ l.1.answered) in
-            let at : addr.0 ≡ b.addr = cc in
-            false≢true (sym (ap not (eq-eqb b.addr addr.0 (sym at))) ∙ apart)))) kept.labelled);
-        known = known_after calls freeing kept.known (λ l h. let e : label.0 ≡ l = eqb-true label.0 l h in subst (λ (x : ℕ). is_some (answer_to x calls) ≡ true) e (ap is_some has.answered));
-      }
+    -- and so its label isn't the one that is freed
+    unfreed : (b : Extent) (own : Labelled calls b) → not (b.addr == addr.0) ≡ true → eqb label.0 own.0 ≡ false
+    unfreed b own apart = ne_eqb label.0 own.0 (λ e.
+        let both : Some (Block addr len) ≡ Some (Block (record { 0 = b.addr }) b.len) = sym has.answered ∙ (ap (λ (x : ℕ). answer_to x calls) e ∙ own.1.answered) in
+        let at : addr.0 ≡ b.addr = cc in
+        false≢true (sym (ap not (eq-eqb b.addr addr.0 (sym at))) ∙ apart))
+
+    pub kept_freed : AreKept round huge (calls ++ freeing ∷ [])
+    kept_freed =
+        let now = blocks_after-push calls freeing in let stays : Extent → Bool = λ b. not (b.addr == addr.0) in
+        let still = All-kept (Labelled calls) (Labelled (calls ++ freeing ∷ [])) stays (blocks_after calls) (λ b l apart. labelled_push calls freeing b l (unfreed b l apart)) kept.labelled in
+        record {
+          run = IsBlockRun-push round huge calls freeing kept.run (record { len = len; answered = has.answered; stands = kept.stands label.0 addr len has; once = has.kept });
+          some = subst (All (λ b. 0 < b.len)) (sym now) (All-filter stays (λ b. 0 < b.len) (blocks_after calls) kept.some);
+          stands = λ l a n hasl.
+              let o = others l a n hasl in
+              ap (find (λ b. b.addr == a.0)) now ∙ (find-without_block addr.0 a.0 (blocks_after calls) o.1 ∙ kept.stands l a n o.0);
+          distinct = λ l m a n k hasl hasm. kept.distinct l m a n k (others l a n hasl).0 (others m a k hasm).0;
+          answers = λ l answer h. elim (answer_before calls freeing l answer h) [ inl before ↦ kept.answers l answer before | inr new ↦ absurd (false≢true new.0) ];
+          labelled = subst (All (Labelled (calls ++ freeing ∷ []))) (sym now) still;
+          known = known_after calls freeing kept.known (λ l h. let e : label.0 ≡ l = eqb-true label.0 l h in subst (λ (x : ℕ). is_some (answer_to x calls) ≡ true) e (ap is_some has.answered));
+        }

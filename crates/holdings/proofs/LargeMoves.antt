@@ -51,7 +51,7 @@ module _ (m : Setup) (b : Books) (calls : List CallLine) (f : Facts m b calls) (
       let c : CallLine = record { thread = record { 0 = t }; call = Malloc label size; answer = NoBlock } in
       let w : Account = about a (Publishes label None) in
       let zero_held : (n : ℕ) → loose n a.doing ≡ 0 = λ n. ap (loose n) is in
-      moved m b calls f t a w at b.stock b.heap b.spans b.names (calls ++ c ∷ []) (kept_none (length_of m.rows) m.huge calls (record { 0 = t }) label size f.kept)
+      moved m b calls f t a w at b.stock b.heap b.spans b.names (calls ++ c ∷ []) (kept_none f.kept (record { 0 = t }) label size)
       (subst (All (IsStanding m (books_with b b.stock b.heap b.spans b.names t w))) (sym (blocks_after-push calls c)) (still m b calls f t a w at b.heap b.spans b.names (λ x l. (l.live, l.unmapped, l.unheld t a at))))
       (heap_facts m b calls f) f.cut
       (record {
@@ -90,7 +90,7 @@ module _ (m : Setup) (b : Books) (calls : List CallLine) (f : Facts m b calls) (
         unheld = λ i x other. elim (set_cases b.accounts t a w at i x other) [ inl same ↦ subst (λ (y : Account). spans_of_run r y.apart ≡ 0) same (unheld t a at) | inr old ↦ unheld i x old ];
       } in
       moved m b calls f t a w at b.stock (r ∷ b.heap) b.spans b.names (calls ++ c ∷ [])
-      (kept_block (length_of m.rows) m.huge calls (record { 0 = t }) label size (address_of r) (r.pages * page_bytes) f.kept (unanswered m b calls f t a at label size is) (record { inside = placed.inside; apart = none_meets (block_of r) (blocks_after calls) apart }) (sym length_is) placed.inside.some)
+      (kept_block f.kept (record { 0 = t }) label size (address_of r) (r.pages * page_bytes) (unanswered m b calls f t a at label size is) (record { inside = placed.inside; apart = none_meets (block_of r) (blocks_after calls) apart }) (sym length_is) placed.inside.some)
       (subst (All (IsStanding m (books_with b b.stock (r ∷ b.heap) b.spans b.names t w))) (sym (blocks_after-push calls c)) (All-with_item (λ (b : Extent). b.addr) (IsStanding m (books_with b b.stock (r ∷ b.heap) b.spans b.names t w)) (block_of r) (blocks_after calls) (inl new) (still m b calls f t a w at (r ∷ b.heap) b.spans b.names (λ x l. (omega (arith, l.live), l.unmapped, l.unheld t a at)))))
       (heap_more m b calls f (pages_holding size) r placed) f.cut
       (record {
@@ -159,7 +159,7 @@ module _ (m : Setup) (b : Books) (calls : List CallLine) (f : Facts m b calls) (
       let returns = by_holds label (address_of r) a.doing is in
       let block = has_block calls label.0 (address_of r) (value_returned m b calls f t a at label (address_of r) returns) in
       let none = none_begins r some empty in
-      moved m b calls f t a w at b.stock (less r b.heap) b.spans b.names (calls ++ c ∷ []) (kept_freed (length_of m.rows) m.huge calls (record { 0 = t }) label (address_of r) block.0 f.kept block.1)
+      moved m b calls f t a w at b.stock (less r b.heap) b.spans b.names (calls ++ c ∷ []) (kept_freed f.kept (record { 0 = t }) label (address_of r) block.0 block.1)
       (subst (All (IsStanding m (books_with b b.stock (less r b.heap) b.spans b.names t w))) (sym (blocks_after-push calls c))
       (All-kept (IsStanding m b) (IsStanding m (books_with b b.stock (less r b.heap) b.spans b.names t w)) (λ (x : Extent). not (eqb x.addr (first_byte r))) (blocks_after calls) (λ x stands apart. elim stands [
         | inl l ↦ inl (large_still m b calls f t a w at b.stock (less r b.heap) b.spans b.names x l (

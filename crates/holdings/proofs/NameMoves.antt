@@ -94,7 +94,7 @@ module _ (m : Setup) (b : Books) (calls : List CallLine) (f : Facts m b calls) (
         let names : List NameState = slice_set b.names label.0 name.Taken in
         let has = value_named m b calls f t a at label.0 None old in
         moved m b calls f t a w at b.stock b.heap b.spans names (calls ++ c ∷ [])
-        (kept_freed_null (length_of m.rows) m.huge calls (record { 0 = t }) label f.kept (has_null calls label.0 (f.kept.answers label.0) has))
+        (kept_freed_null f.kept (record { 0 = t }) label (has_null calls label.0 (f.kept.answers label.0) has))
         (subst (All (IsStanding m (books_with b b.stock b.heap b.spans names t w))) (sym (blocks_after-push calls c)) (stands_still w names refl))
         (heap_facts m b calls f) f.cut (self_taken Other (λ l x e. absurd (cc)))
         (labels_taken m b calls f t a at w refl label None (calls ++ c ∷ []) is old (λ x. refl) (λ x. ap (λ o. bit (is_some o)) (answer_same calls c x refl)) (λ x v. let e = lose calls (record { 0 = t }) label FreedNull None has x v in omega (arith, e)))

@@ -123,7 +123,7 @@ module _ (m : Setup) (b : Books) (calls : List CallLine) (f : Facts m b calls) (
         let returns = by_frees label o a.doing is in
         let block = has_block calls label.0 o (value_returned m b calls f t a at label o returns) in
         let both : All (λ (x : Extent). IsStanding m b x × Labelled calls x) (blocks_after calls) = λ i d within. (f.live i d within, f.kept.labelled i d within) in
-        moved m b calls f t a w at g b.heap b.spans b.names (calls ++ c ∷ []) (kept_freed (length_of m.rows) m.huge calls (record { 0 = t }) label o block.0 f.kept block.1)
+        moved m b calls f t a w at g b.heap b.spans b.names (calls ++ c ∷ []) (kept_freed f.kept (record { 0 = t }) label o block.0 block.1)
         (subst (All (IsStanding m (books_with b g b.heap b.spans b.names t w))) (sym (blocks_after-push calls c))
         (All-kept (λ (x : Extent). IsStanding m b x × Labelled calls x) (IsStanding m (books_with b g b.heap b.spans b.names t w)) (λ (x : Extent). not (eqb x.addr o.0)) (blocks_after calls) (λ x has apart. stands_hand Other none x has.0 has.1 (λ label' o' is' there.
         let e : o.0 ≡ o'.0 = ap (λ (y : Addr). y.0) (one_free label label' o o' (sym is ∙ is')) in
@@ -214,7 +214,7 @@ module _ (m : Setup) (b : Books) (calls : List CallLine) (f : Facts m b calls) (
         let run = f.inside (run_of s.span) (live s.span s.owned) in
         let some = st.cut.some a.class o.0 object in
         let apart : All (λ (x : Extent). meets place x ≡ false) (blocks_after calls) = λ i d within. elim (f.live i d within) [ inl l ↦ apart_large (get_or (blocks_after calls) i d) l | inr ob ↦ apart_object (get_or (blocks_after calls) i d) (f.kept.labelled i d within) ob ] in
-        kept_block (length_of m.rows) m.huge calls (record { 0 = t }) label size o (size_of m.rows a.class) f.kept (unanswered m b calls f t a at label size is)
+        kept_block f.kept (record { 0 = t }) label size o (size_of m.rows a.class) (unanswered m b calls f t a at label size is)
         (record { inside = record { some = some; from = omega (arith, run.inside.from, s.from); to = omega (arith, run.inside.to, s.to) }; apart = none_meets place (blocks_after calls) apart })
         (sym (class_length m.rows size a.class class).1) some
 

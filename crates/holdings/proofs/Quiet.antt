@@ -103,7 +103,7 @@ pub says_other : (m : Setup) (b : Books) (calls : List CallLine) (c : CallLine) 
 says_other m b calls c f is =
     let apart = other_label c.call c.answer is in
     record {
-      kept = kept_other (length_of m.rows) m.huge calls c f.kept is;
+      kept = kept_other f.kept c is;
       live = subst (All (IsStanding m b)) (sym (blocks_after-push calls c ∙ other_blocks (blocks_after calls) c.call c.answer is)) f.live;
       inside = f.inside;
       disjoint = f.disjoint;
