@@ -23,7 +23,7 @@ use Rattle.holdings.proofs.Sums.{class_counts, least, none_counts, one_at, two}
 use Rattle.holdings.proofs.Held.{first_in}
 use Rattle.holdings.proofs.KeptFacts.{same_address}
 
-module _ (m : Setup) (b : Books) (calls : List CallLine) (f : Facts m b calls) (t : ℕ) (a : Account) (label : Label) (o : Addr) (at : slice_get b.accounts t ≡ Some a) (is : a.doing ≡ Holds label o) where
+module _ {m : Setup} {b : Books} {calls : List CallLine} (f : Facts m b calls) (t : ℕ) (a : Account) (label : Label) (o : Addr) (at : slice_get b.accounts t ≡ Some a) (is : a.doing ≡ Holds label o) where
   own : loose o.0 a.doing ≡ 1
   own = ap (loose o.0) is ∙ ap bit (eq-eqb o.0 o.0 refl)
 
@@ -85,4 +85,4 @@ module _ (m : Setup) (b : Books) (calls : List CallLine) (f : Facts m b calls) (
       ]
 
 pub frees_find : Finds
-frees_find m b calls t a label o f at is clear = find_there m b calls f t a label o at is clear
+frees_find m b calls t a label o f at is clear = find_there f t a label o at is clear

@@ -30,7 +30,7 @@ use Rattle.holdings.proofs.MapFacts.{mapped_there, one_byte, one_number, one_spa
 use Rattle.holdings.proofs.Held.{objects_one}
 use Rattle.page_map.specs.Spans as map
 
-module _ (m : Setup) (b : Books) (calls : List CallLine) (f : Facts m b calls) (t : ℕ) (a : Account) (at : slice_get b.accounts t ≡ Some a) where
+module _ {m : Setup} {b : Books} {calls : List CallLine} (f : Facts m b calls) (t : ℕ) (a : Account) (at : slice_get b.accounts t ≡ Some a) where
   module _ (label : Label) (size : ℕ) (g : Stock) (o : Addr) (rest : List Addr) (is : a.doing ≡ Asks label size) (class : class_of m.rows size ≡ Some (class_number a.class)) (empty : a.hand ≡ []) (cut : IsCut m.rows g) where
     idle_before : (n : ℕ) → (loose n a.doing ≡ 0) × (objects_at n a.hand ≡ 0)
     idle_before n = (ap (loose n) is, ap (objects_at n) empty)
@@ -42,12 +42,12 @@ module _ (m : Setup) (b : Books) (calls : List CallLine) (f : Facts m b calls) (
     gets_object move =
         let self = f.selves t a at in
         let w : Account = record (about a (Publishes label (Some o))) { hand = rest } in
-        let st : Stocked m b calls f t a at g (o ∷ rest) = record { others = move.others; moves = λ n. omega (arith, move.moves n, (idle_before n).1); cut = cut } in
+        let st : Stocked f t a at g (o ∷ rest) = record { others = move.others; moves = λ n. omega (arith, move.moves n, (idle_before n).1); cut = cut } in
         let there : (s : SpanRef) → 0 < g.owned s → 0 < spans_like s b.spans = λ s own. owned_there m b calls f s (omega (arith, own, move.spans s)) in
-        moved m b calls f t a w at g b.heap b.spans b.names (calls ++ gets_line ∷ [])
-        (kept_object m b calls f t a at label size g o rest is class empty st there)
-        (live_object m b calls f t a at label size g o rest is class empty st there w (λ q none. none))
-        (heap_facts m b calls f) cut
+        moved f t a w at g b.heap b.spans b.names (calls ++ gets_line ∷ [])
+        (kept_object f t a at label size g o rest is class empty st there)
+        (live_object f t a at label size g o rest is class empty st there w (λ q none. none))
+        (heap_facts f) cut
         (record {
           freeing = λ l x e. absurd (cc);
           spans = self.spans;
@@ -56,12 +56,12 @@ module _ (m : Setup) (b : Books) (calls : List CallLine) (f : Facts m b calls) (
           offs = λ n. omega (arith, self.offs n, (idle_before n).0);
           cleared = λ q. omega (arith, self.cleared q, (idle_before (first_byte q)).0);
         })
-        (labels_got m b calls f t a at w refl label size (Block o (size_of m.rows a.class)) is refl)
-        (spans_still m b calls f t a w at g.owned (λ r. refl) (λ s. let e = move.spans s in omega (arith, e)) (λ s. refl))
+        (labels_got f t a at w refl label size (Block o (size_of m.rows a.class)) is refl)
+        (spans_still f t a w at g.owned (λ r. refl) (λ s. let e = move.spans s in omega (arith, e)) (λ s. refl))
         (record {
-          places = λ n. omega (arith, f.places n, shift (held_at n) b.accounts t a w at, idle_before n, stock_places m b calls f t a at g (o ∷ rest) st n, move.starts n);
+          places = λ n. omega (arith, f.places n, shift (held_at n) b.accounts t a w at, idle_before n, stock_places f t a at g (o ∷ rest) st n, move.starts n);
           begins = λ n. omega (arith, f.begins n, shift (λ (x : Account). spans_at n x.apart) b.accounts t a w at, move.starts n);
-          classes = stock_classes m b calls f t a at g (o ∷ rest) st w refl (λ n. omega arith);
+          classes = stock_classes f t a at g (o ∷ rest) st w refl (λ n. omega arith);
         })
 
     pub gets_first : (r : Run) (apart mapped : List SpanRef) → a.off ≡ [] → a.apart ≡ small (class_number a.class) r ∷ apart → a.mapped ≡ small (class_number a.class) r ∷ mapped → AddSpan b.stock g a.class (small (class_number a.class) r) (o ∷ rest)
@@ -70,7 +70,7 @@ module _ (m : Setup) (b : Books) (calls : List CallLine) (f : Facts m b calls) (
         let self = f.selves t a at in
         let s : SpanRef = small (class_number a.class) r in
         let w : Account = record (about a (Publishes label (Some o))) { hand = rest; apart = apart; mapped = mapped } in
-        let st : Stocked m b calls f t a at g (o ∷ rest) = record { others = move.others; moves = λ n. omega (arith, move.moves n, (idle_before n).1); cut = cut } in
+        let st : Stocked f t a at g (o ∷ rest) = record { others = move.others; moves = λ n. omega (arith, move.moves n, (idle_before n).1); cut = cut } in
         let held : (x : SpanRef) → spans_like x a.mapped ≡ bit (same_span s x) + spans_like x mapped = λ x. ap (spans_like x) firstm in
         let kept : (x : SpanRef) → spans_like x a.apart ≡ bit (same_span s x) + spans_like x apart = λ x. ap (spans_like x) first in
         let runs : (q : Run) → spans_of_run q a.apart ≡ bit (same_run (run_of s) q) + spans_of_run q apart = λ q. ap (spans_of_run q) first in
@@ -79,10 +79,10 @@ module _ (m : Setup) (b : Books) (calls : List CallLine) (f : Facts m b calls) (
           | inl old ↦ owned_there m b calls f x old
           | inr new ↦ mapped_there m b calls f t a x at (let e = move.spans x in omega (arith, own, e, new, held x))
         ] in
-        moved m b calls f t a w at g b.heap b.spans b.names (calls ++ gets_line ∷ [])
-        (kept_object m b calls f t a at label size g o rest is class empty st there)
-        (live_object m b calls f t a at label size g o rest is class empty st there w (λ q none. let e = runs q in omega (arith, e, none)))
-        (heap_facts m b calls f) cut
+        moved f t a w at g b.heap b.spans b.names (calls ++ gets_line ∷ [])
+        (kept_object f t a at label size g o rest is class empty st there)
+        (live_object f t a at label size g o rest is class empty st there w (λ q none. let e = runs q in omega (arith, e, none)))
+        (heap_facts f) cut
         (record {
           freeing = λ l x e. absurd (cc);
           spans = All-tail (IsOfClass m.rows) s apart (subst (All (IsOfClass m.rows)) first self.spans);
@@ -94,12 +94,12 @@ module _ (m : Setup) (b : Books) (calls : List CallLine) (f : Facts m b calls) (
           offs = λ n. let z : runs_at n a.off ≡ 0 = ap (runs_at n) clear in omega (arith, z);
           cleared = λ q. omega (arith, self.cleared q, (idle_before (first_byte q)).0);
         })
-        (labels_got m b calls f t a at w refl label size (Block o (size_of m.rows a.class)) is refl)
-        (spans_still m b calls f t a w at g.owned (λ r. refl) (λ x. let e = move.spans x in omega (arith, e, held x)) (λ s. refl))
+        (labels_got f t a at w refl label size (Block o (size_of m.rows a.class)) is refl)
+        (spans_still f t a w at g.owned (λ r. refl) (λ x. let e = move.spans x in omega (arith, e, held x)) (λ s. refl))
         (record {
-          places = λ n. omega (arith, f.places n, shift (held_at n) b.accounts t a w at, idle_before n, stock_places m b calls f t a at g (o ∷ rest) st n, move.starts n, starts n);
+          places = λ n. omega (arith, f.places n, shift (held_at n) b.accounts t a w at, idle_before n, stock_places f t a at g (o ∷ rest) st n, move.starts n, starts n);
           begins = λ n. omega (arith, f.begins n, shift (λ (x : Account). spans_at n x.apart) b.accounts t a w at, move.starts n, starts n);
-          classes = stock_classes m b calls f t a at g (o ∷ rest) st w refl (λ n. omega arith);
+          classes = stock_classes f t a at g (o ∷ rest) st w refl (λ n. omega arith);
         })
 
   -- a free finds that what it took is an object
@@ -150,9 +150,9 @@ module _ (m : Setup) (b : Books) (calls : List CallLine) (f : Facts m b calls) (
         let w : Account = record (about a (Frees label o)) { class = k; hand = o ∷ [] } in
         let held : (n : ℕ) → (loose n a.doing ≡ bit (eqb o.0 n)) × (objects_at n a.hand ≡ 0) = λ n. (ap (loose n) is, ap (objects_at n) empty) in
         let was : (g : Doing → ℕ) → g a.doing ≡ g (Holds label o) = λ g. ap g is in
-        moved m b calls f t a w at b.stock b.heap b.spans b.names calls f.kept
-        (still m b calls f t a w at b.heap b.spans b.names (λ x l. (l.live, l.unmapped, l.unheld t a at)))
-        (heap_facts m b calls f) f.cut
+        moved f t a w at b.stock b.heap b.spans b.names calls f.kept
+        (still f t a w at b.heap b.spans b.names (λ x l. (l.live, l.unmapped, l.unheld t a at)))
+        (heap_facts f) f.cut
         (record {
           freeing = λ l x e.
               let d : o.0 ≡ x.0 = ap (λ (y : Addr). y.0) (one_free label l o x e) in
@@ -164,7 +164,7 @@ module _ (m : Setup) (b : Books) (calls : List CallLine) (f : Facts m b calls) (
           offs = λ n. let z : runs_at n a.off ≡ 0 = ap (runs_at n) clear in omega (arith, z);
           cleared = λ q. let z : spans_like (large q) a.clears ≡ 0 = ap (spans_like (large q)) unclear in omega (arith, z);
         })
-        (labels_still m b calls f t a w at (λ x. let e = was (asking x) in omega (arith, e)) (λ x.
+        (labels_still f t a w at (λ x. let e = was (asking x) in omega (arith, e)) (λ x.
         let e = was (asking x) in
         let p = was (publishing x) in
         omega (arith, e, p)) (λ x. let e = was (taking x) in omega (arith, e)) (λ x.
@@ -172,7 +172,7 @@ module _ (m : Setup) (b : Books) (calls : List CallLine) (f : Facts m b calls) (
         let p = was (publishing x) in
         let q = was (taking x) in
         omega (arith, e, p, q)) (λ x v. sym (was (holds x v))))
-        (spans_still m b calls f t a w at b.stock.owned (λ r. refl) (λ s. refl) (λ s. refl))
+        (spans_still f t a w at b.stock.owned (λ r. refl) (λ s. refl) (λ s. refl))
         (record {
           places = λ n. omega (arith, f.places n, shift (held_at n) b.accounts t a w at, held n);
           begins = λ n. omega (arith, f.begins n, shift (λ (x : Account). spans_at n x.apart) b.accounts t a w at);

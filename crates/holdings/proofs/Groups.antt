@@ -59,7 +59,7 @@ flip_and false false is = refl
 pub meets_flip : (x y : Extent) → meets x y ≡ false → meets y x ≡ false
 meets_flip x y apart = flip_and (ltb x.addr (y.addr + y.len)) (ltb y.addr (x.addr + x.len)) apart
 
-module _ (m : Setup) (b : Books) (calls : List CallLine) (f : Facts m b calls) where
+module _ {m : Setup} {b : Books} {calls : List CallLine} (f : Facts m b calls) where
   pub heap_facts : HeapFacts m.huge b.heap
   heap_facts = record { inside = f.inside; disjoint = f.disjoint; starts = f.starts }
 

@@ -58,7 +58,7 @@ by_holds label o d is = subst (Returns label o) (sym is) (record { asks = λ x. 
 pub by_frees : (label : Label) (o : Addr) (d : Doing) → d ≡ Frees label o → Returns label o d
 by_frees label o d is = subst (Returns label o) (sym is) (record { asks = λ x. refl; publishes = λ x. refl; takes = λ x. refl; value = λ x v. refl })
 
-module _ (m : Setup) (b : Books) (calls : List CallLine) (f : Facts m b calls) (t : ℕ) (a : Account) (at : slice_get b.accounts t ≡ Some a) where
+module _ {m : Setup} {b : Books} {calls : List CallLine} (f : Facts m b calls) (t : ℕ) (a : Account) (at : slice_get b.accounts t ≡ Some a) where
   own_bit : (label : Label) (v : Option Addr) → (bit (eqb label.0 label.0) ≡ 1) × (bit (eqb label.0 label.0 && same_value v v) ≡ 1)
   own_bit label v = let e = eq-eqb label.0 label.0 refl in (ap bit e, rw (e, same_value_refl v) refl)
 

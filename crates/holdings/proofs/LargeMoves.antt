@@ -38,7 +38,7 @@ meets_inner c x y from to apart =
       | inr unmet ↦ unmet
     ]
 
-module _ (m : Setup) (b : Books) (calls : List CallLine) (f : Facts m b calls) (t : ℕ) (a : Account) (at : slice_get b.accounts t ≡ Some a) where
+module _ {m : Setup} {b : Books} {calls : List CallLine} (f : Facts m b calls) (t : ℕ) (a : Account) (at : slice_get b.accounts t ≡ Some a) where
   -- an object lies in its span's block
   pub object_inner : (c x : Extent) (o : IsObject m b x) → ((s : SpanRef) → 0 < b.stock.owned s → meets c (block_of (run_of s)) ≡ false) → meets c x ≡ false
   object_inner c x o apart =
@@ -51,9 +51,9 @@ module _ (m : Setup) (b : Books) (calls : List CallLine) (f : Facts m b calls) (
       let c : CallLine = record { thread = record { 0 = t }; call = Malloc label size; answer = NoBlock } in
       let w : Account = about a (Publishes label None) in
       let zero_held : (n : ℕ) → loose n a.doing ≡ 0 = λ n. ap (loose n) is in
-      moved m b calls f t a w at b.stock b.heap b.spans b.names (calls ++ c ∷ []) (kept_none f.kept (record { 0 = t }) label size)
-      (subst (All (IsStanding m (books_with b b.stock b.heap b.spans b.names t w))) (sym (blocks_after-push calls c)) (still m b calls f t a w at b.heap b.spans b.names (λ x l. (l.live, l.unmapped, l.unheld t a at))))
-      (heap_facts m b calls f) f.cut
+      moved f t a w at b.stock b.heap b.spans b.names (calls ++ c ∷ []) (kept_none f.kept (record { 0 = t }) label size)
+      (subst (All (IsStanding m (books_with b b.stock b.heap b.spans b.names t w))) (sym (blocks_after-push calls c)) (still f t a w at b.heap b.spans b.names (λ x l. (l.live, l.unmapped, l.unheld t a at))))
+      (heap_facts f) f.cut
       (record {
         freeing = λ l o e. absurd (cc);
         spans = self.spans;
@@ -62,9 +62,9 @@ module _ (m : Setup) (b : Books) (calls : List CallLine) (f : Facts m b calls) (
         offs = λ n. let z = zero_held n in omega (arith, self.offs n, z);
         cleared = λ q. let z = zero_held (first_byte q) in omega (arith, self.cleared q, z);
       })
-      (labels_got m b calls f t a at w refl label size NoBlock is refl)
-      (spans_still m b calls f t a w at b.stock.owned (λ r. refl) (λ s. refl) (λ s. refl))
-      (places_still m b calls f t a w at (λ n. let z = zero_held n in omega (arith, z)) (λ n. refl) (λ k n. refl))
+      (labels_got f t a at w refl label size NoBlock is refl)
+      (spans_still f t a w at b.stock.owned (λ r. refl) (λ s. refl) (λ s. refl))
+      (places_still f t a w at (λ n. let z = zero_held n in omega (arith, z)) (λ n. refl) (λ k n. refl))
 
   pub gets_run : (label : Label) (size : ℕ) (r : Run) → a.doing ≡ Asks label size → a.off ≡ [] → IsPlaced m.huge b.heap (pages_holding size) r → length_of m.rows size ≡ r.pages * page_bytes
       → Facts m (books_with b b.stock (r ∷ b.heap) b.spans b.names t (record (about a (Publishes label (Some (address_of r)))) { off = r ∷ [] })) (calls ++ record { thread = record { 0 = t }; call = Malloc label size; answer = Block (address_of r) (r.pages * page_bytes) } ∷ [])
@@ -89,10 +89,10 @@ module _ (m : Setup) (b : Books) (calls : List CallLine) (f : Facts m b calls) (
         unmapped = λ k. omega (arith, unlike, f.map r, span_run (small (class_number k) r) b.spans);
         unheld = λ i x other. elim (set_cases b.accounts t a w at i x other) [ inl same ↦ subst (λ (y : Account). spans_of_run r y.apart ≡ 0) same (unheld t a at) | inr old ↦ unheld i x old ];
       } in
-      moved m b calls f t a w at b.stock (r ∷ b.heap) b.spans b.names (calls ++ c ∷ [])
-      (kept_block f.kept (record { 0 = t }) label size (address_of r) (r.pages * page_bytes) (unanswered m b calls f t a at label size is) (record { inside = placed.inside; apart = none_meets (block_of r) (blocks_after calls) apart }) (sym length_is) placed.inside.some)
-      (subst (All (IsStanding m (books_with b b.stock (r ∷ b.heap) b.spans b.names t w))) (sym (blocks_after-push calls c)) (All-with_item (λ (b : Extent). b.addr) (IsStanding m (books_with b b.stock (r ∷ b.heap) b.spans b.names t w)) (block_of r) (blocks_after calls) (inl new) (still m b calls f t a w at (r ∷ b.heap) b.spans b.names (λ x l. (omega (arith, l.live), l.unmapped, l.unheld t a at)))))
-      (heap_more m b calls f (pages_holding size) r placed) f.cut
+      moved f t a w at b.stock (r ∷ b.heap) b.spans b.names (calls ++ c ∷ [])
+      (kept_block f.kept (record { 0 = t }) label size (address_of r) (r.pages * page_bytes) (unanswered f t a at label size is) (record { inside = placed.inside; apart = none_meets (block_of r) (blocks_after calls) apart }) (sym length_is) placed.inside.some)
+      (subst (All (IsStanding m (books_with b b.stock (r ∷ b.heap) b.spans b.names t w))) (sym (blocks_after-push calls c)) (All-with_item (λ (b : Extent). b.addr) (IsStanding m (books_with b b.stock (r ∷ b.heap) b.spans b.names t w)) (block_of r) (blocks_after calls) (inl new) (still f t a w at (r ∷ b.heap) b.spans b.names (λ x l. (omega (arith, l.live), l.unmapped, l.unheld t a at)))))
+      (heap_more f (pages_holding size) r placed) f.cut
       (record {
         freeing = λ l o e. absurd (cc);
         spans = self.spans;
@@ -101,7 +101,7 @@ module _ (m : Setup) (b : Books) (calls : List CallLine) (f : Facts m b calls) (
         offs = λ n. omega arith;
         cleared = λ q. let z = zero_held (first_byte q) in omega (arith, self.cleared q, z);
       })
-      (labels_got m b calls f t a at w refl label size answer is refl)
+      (labels_got f t a at w refl label size answer is refl)
       (record {
         map = λ q. omega (arith, f.map q, shift (off_map q) b.accounts t a w at, off q);
         own = λ k q. omega (arith, f.own k q, shift (transit (small (class_number k) q)) b.accounts t a w at);
@@ -157,12 +157,12 @@ module _ (m : Setup) (b : Books) (calls : List CallLine) (f : Facts m b calls) (
       let there : 0 < runs_like r b.heap = (off_lives m b calls f t a r at some).0 in
       let gone : (q : Run) → runs_like q (less r b.heap) + bit (same_run r q) ≡ runs_like q b.heap = λ q. less_counts r b.heap there (like q) in
       let returns = by_holds label (address_of r) a.doing is in
-      let block = has_block calls label.0 (address_of r) (value_returned m b calls f t a at label (address_of r) returns) in
+      let block = has_block calls label.0 (address_of r) (value_returned f t a at label (address_of r) returns) in
       let none = none_begins r some empty in
-      moved m b calls f t a w at b.stock (less r b.heap) b.spans b.names (calls ++ c ∷ []) (kept_freed f.kept (record { 0 = t }) label (address_of r) block.0 block.1)
+      moved f t a w at b.stock (less r b.heap) b.spans b.names (calls ++ c ∷ []) (kept_freed f.kept (record { 0 = t }) label (address_of r) block.0 block.1)
       (subst (All (IsStanding m (books_with b b.stock (less r b.heap) b.spans b.names t w))) (sym (blocks_after-push calls c))
       (All-kept (IsStanding m b) (IsStanding m (books_with b b.stock (less r b.heap) b.spans b.names t w)) (λ (x : Extent). not (eqb x.addr (first_byte r))) (blocks_after calls) (λ x stands apart. elim stands [
-        | inl l ↦ inl (large_still m b calls f t a w at b.stock (less r b.heap) b.spans b.names x l (
+        | inl l ↦ inl (large_still f t a w at b.stock (less r b.heap) b.spans b.names x l (
             let z : bit (same_run r l.run) ≡ 0 = elim (cases_Bool (same_run r l.run)) [
               | inl same ↦
                   let e : x.addr ≡ first_byte r = ap (λ (y : Extent). y.addr) l.is ∙ same_start l.run r (first_byte r) (sym (same_run_is r l.run same)) refl in
@@ -173,7 +173,7 @@ module _ (m : Setup) (b : Books) (calls : List CallLine) (f : Facts m b calls) (
             omega (arith, e, z, l.live)) l.unmapped (l.unheld t a at))
         | inr o ↦ inr (record { class = o.class; object = o.object; size = o.size })
       ]) f.live))
-      (heap_less m b calls f r there) f.cut
+      (heap_less f r there) f.cut
       (record {
         freeing = λ l o e. absurd (cc);
         spans = self.spans;
@@ -182,7 +182,7 @@ module _ (m : Setup) (b : Books) (calls : List CallLine) (f : Facts m b calls) (
         offs = λ n. omega arith;
         cleared = λ q. let e : _ = ap (spans_like (large q)) clear in omega (arith, e);
       })
-      (labels_freed m b calls f t a at w refl label (address_of r) returns refl)
+      (labels_freed f t a at w refl label (address_of r) returns refl)
       (record {
         map = λ q. let e = gone q in omega (arith, f.map q, shift (off_map q) b.accounts t a w at, off q, e);
         own = λ k q. omega (arith, f.own k q, shift (transit (small (class_number k) q)) b.accounts t a w at);

@@ -17,7 +17,7 @@ use Rattle.holdings.proofs.Sums.{bit_most, least, less_counts, like, like_span, 
 use Rattle.holdings.proofs.Groups.{heap_facts, heap_less, heap_more, labels_still, moved, places_still, still}
 use Rattle.holdings.proofs.MapFacts.{large_apart, like_at, mapped_class, mapped_there, no_object, off_lives, run_at, small_apart, span_run}
 
-module _ (m : Setup) (b : Books) (calls : List CallLine) (f : Facts m b calls) (t : ℕ) (a : Account) (at : slice_get b.accounts t ≡ Some a) where
+module _ {m : Setup} {b : Books} {calls : List CallLine} (f : Facts m b calls) (t : ℕ) (a : Account) (at : slice_get b.accounts t ≡ Some a) where
   -- the run of a new span
   pub gets_span : (r : Run) → a.class < length m.rows → a.off ≡ [] → IsPlaced m.huge b.heap (pages_of m.rows a.class) r → Facts m (books_with b b.stock (r ∷ b.heap) b.spans b.names t (record a { off = r ∷ []; apart = small (class_number a.class) r ∷ a.apart })) calls
   gets_span r below clear placed =
@@ -26,8 +26,8 @@ module _ (m : Setup) (b : Books) (calls : List CallLine) (f : Facts m b calls) (
       let w : Account = record a { off = r ∷ []; apart = s ∷ a.apart } in
       let off : (q : Run) → runs_like q a.off ≡ 0 = λ q. ap (runs_like q) clear in
       let class : IsOfClass m.rows s = record { class = a.class; kind = refl; there = below; pages = placed.pages; some = placed.some } in
-      moved m b calls f t a w at b.stock (r ∷ b.heap) b.spans b.names calls f.kept
-      (still m b calls f t a w at (r ∷ b.heap) b.spans b.names (λ x l. (
+      moved f t a w at b.stock (r ∷ b.heap) b.spans b.names calls f.kept
+      (still f t a w at (r ∷ b.heap) b.spans b.names (λ x l. (
         omega (arith, l.live),
         l.unmapped,
         (
@@ -37,7 +37,7 @@ module _ (m : Setup) (b : Books) (calls : List CallLine) (f : Facts m b calls) (
             ] in
             omega (arith, z, l.unheld t a at)),
       )))
-      (heap_more m b calls f (pages_of m.rows a.class) r placed) f.cut
+      (heap_more f (pages_of m.rows a.class) r placed) f.cut
       (record {
         freeing = self.freeing;
         spans = All-cons (IsOfClass m.rows) s a.apart class self.spans;
@@ -46,7 +46,7 @@ module _ (m : Setup) (b : Books) (calls : List CallLine) (f : Facts m b calls) (
         offs = λ n. omega (arith, self.offs n);
         cleared = self.cleared;
       })
-      (labels_still m b calls f t a w at (λ x. refl) (λ x. refl) (λ x. refl) (λ x. refl) (λ x v. refl))
+      (labels_still f t a w at (λ x. refl) (λ x. refl) (λ x. refl) (λ x. refl) (λ x v. refl))
       (record {
         map = λ q. omega (arith, f.map q, shift (off_map q) b.accounts t a w at, off q);
         own = λ k q. omega (arith, f.own k q, shift (transit (small (class_number k) q)) b.accounts t a w at);
@@ -64,9 +64,9 @@ module _ (m : Setup) (b : Books) (calls : List CallLine) (f : Facts m b calls) (
       let self = f.selves t a at in
       let w : Account = record a { off = [] } in
       let off : (q : Run) → runs_like q a.off ≡ bit (same_run r q) + 0 = λ q. ap (runs_like q) is in
-      moved m b calls f t a w at b.stock b.heap (large r ∷ b.spans) b.names calls f.kept
-      (still m b calls f t a w at b.heap (large r ∷ b.spans) b.names (λ x l. (l.live, (λ k. omega (arith, l.unmapped k, large_apart r l.run (class_number k))), l.unheld t a at)))
-      (heap_facts m b calls f) f.cut
+      moved f t a w at b.stock b.heap (large r ∷ b.spans) b.names calls f.kept
+      (still f t a w at b.heap (large r ∷ b.spans) b.names (λ x l. (l.live, (λ k. omega (arith, l.unmapped k, large_apart r l.run (class_number k))), l.unheld t a at)))
+      (heap_facts f) f.cut
       (record {
         freeing = self.freeing;
         spans = self.spans;
@@ -78,13 +78,13 @@ module _ (m : Setup) (b : Books) (calls : List CallLine) (f : Facts m b calls) (
         offs = λ n. omega arith;
         cleared = self.cleared;
       })
-      (labels_still m b calls f t a w at (λ x. refl) (λ x. refl) (λ x. refl) (λ x. refl) (λ x v. refl))
+      (labels_still f t a w at (λ x. refl) (λ x. refl) (λ x. refl) (λ x. refl) (λ x v. refl))
       (record {
         map = λ q. omega (arith, f.map q, shift (off_map q) b.accounts t a w at, off q);
         own = λ k q. omega (arith, f.own k q, shift (transit (small (class_number k) q)) b.accounts t a w at, large_apart r q (class_number k));
         clear = λ q. omega (arith, f.clear q, shift (clearing (large q)) b.accounts t a w at);
       })
-      (places_still m b calls f t a w at (λ n. refl) (λ n. refl) (λ k n. refl))
+      (places_still f t a w at (λ n. refl) (λ n. refl) (λ k n. refl))
 
   -- as does a class's
   pub sets_span : (r : Run) (apart : List SpanRef) → a.off ≡ r ∷ [] → a.apart ≡ small (class_number a.class) r ∷ apart → a.mapped ≡ [] → Facts m (books_with b b.stock b.heap (small (class_number a.class) r ∷ b.spans) b.names t (record a { off = []; mapped = small (class_number a.class) r ∷ [] })) calls
@@ -95,11 +95,11 @@ module _ (m : Setup) (b : Books) (calls : List CallLine) (f : Facts m b calls) (
       let off : (q : Run) → runs_like q a.off ≡ bit (same_run r q) + 0 = λ q. ap (runs_like q) is in
       let mapped : (x : SpanRef) → spans_like x a.mapped ≡ 0 = λ x. ap (spans_like x) empty in
       let none : (q : Run) → spans_of_run q a.mapped ≡ 0 = λ q. ap (spans_of_run q) empty in
-      moved m b calls f t a w at b.stock b.heap (s ∷ b.spans) b.names calls f.kept
-      (still m b calls f t a w at b.heap (s ∷ b.spans) b.names (λ x l.
+      moved f t a w at b.stock b.heap (s ∷ b.spans) b.names calls f.kept
+      (still f t a w at b.heap (s ∷ b.spans) b.names (λ x l.
       let e : spans_of_run l.run a.apart ≡ bit (same_run r l.run) + spans_of_run l.run apart = ap (spans_of_run l.run) first in
       (l.live, (λ k. omega (arith, l.unmapped k, e, l.unheld t a at, same_span_run s (small (class_number k) l.run))), l.unheld t a at)))
-      (heap_facts m b calls f) f.cut
+      (heap_facts f) f.cut
       (record {
         freeing = self.freeing;
         spans = self.spans;
@@ -108,13 +108,13 @@ module _ (m : Setup) (b : Books) (calls : List CallLine) (f : Facts m b calls) (
         offs = λ n. omega arith;
         cleared = self.cleared;
       })
-      (labels_still m b calls f t a w at (λ x. refl) (λ x. refl) (λ x. refl) (λ x. refl) (λ x v. refl))
+      (labels_still f t a w at (λ x. refl) (λ x. refl) (λ x. refl) (λ x. refl) (λ x v. refl))
       (record {
         map = λ q. omega (arith, f.map q, shift (off_map q) b.accounts t a w at, off q);
         own = λ k q. omega (arith, f.own k q, shift (transit (small (class_number k) q)) b.accounts t a w at, mapped (small (class_number k) q));
         clear = λ q. omega (arith, f.clear q, shift (clearing (large q)) b.accounts t a w at);
       })
-      (places_still m b calls f t a w at (λ n. refl) (λ n. refl) (λ k n. refl))
+      (places_still f t a w at (λ n. refl) (λ n. refl) (λ k n. refl))
 
   -- a large block is found that is to be cleared
   nobody_clears : (label : Label) (r : Run) → a.doing ≡ Holds label (address_of r) → 0 < spans_like (large r) b.spans → a.clears ≡ [] → sum_by (clearing (large r)) b.accounts ≡ 0
@@ -133,9 +133,9 @@ module _ (m : Setup) (b : Books) (calls : List CallLine) (f : Facts m b calls) (
       let self = f.selves t a at in
       let w : Account = record a { clears = large r ∷ [] } in
       let none : (x : SpanRef) → spans_like x a.clears ≡ 0 = λ x. ap (spans_like x) empty in
-      moved m b calls f t a w at b.stock b.heap b.spans b.names calls f.kept
-      (still m b calls f t a w at b.heap b.spans b.names (λ x l. (l.live, l.unmapped, l.unheld t a at)))
-      (heap_facts m b calls f) f.cut
+      moved f t a w at b.stock b.heap b.spans b.names calls f.kept
+      (still f t a w at b.heap b.spans b.names (λ x l. (l.live, l.unmapped, l.unheld t a at)))
+      (heap_facts f) f.cut
       (record {
         freeing = self.freeing;
         spans = self.spans;
@@ -144,7 +144,7 @@ module _ (m : Setup) (b : Books) (calls : List CallLine) (f : Facts m b calls) (
         offs = self.offs;
         cleared = λ q. let e : loose (first_byte q) a.doing ≡ bit (eqb (first_byte r) (first_byte q)) = ap (loose (first_byte q)) is in omega (arith, e, same_span_run (large r) (large q), same_run_start r q);
       })
-      (labels_still m b calls f t a w at (λ x. refl) (λ x. refl) (λ x. refl) (λ x. refl) (λ x v. refl))
+      (labels_still f t a w at (λ x. refl) (λ x. refl) (λ x. refl) (λ x. refl) (λ x v. refl))
       (record {
         map = λ q. omega (arith, f.map q, shift (off_map q) b.accounts t a w at);
         own = λ k q. omega (arith, f.own k q, shift (transit (small (class_number k) q)) b.accounts t a w at);
@@ -158,7 +158,7 @@ module _ (m : Setup) (b : Books) (calls : List CallLine) (f : Facts m b calls) (
               omega (arith, f.clear q, shift (clearing (large q)) b.accounts t a w at, none (large q), same_span_run (large r) (large q), z)
         ];
       })
-      (places_still m b calls f t a w at (λ n. refl) (λ n. refl) (λ k n. refl))
+      (places_still f t a w at (λ n. refl) (λ n. refl) (λ k n. refl))
 
   -- and its span goes from the map
   pub clears_run : (label : Label) (r : Run) → a.doing ≡ Holds label (address_of r) → a.clears ≡ large r ∷ [] → a.off ≡ [] → Facts m (books_with b b.stock b.heap (without (large r) b.spans) b.names t (record a { clears = []; off = r ∷ [] })) calls
@@ -170,9 +170,9 @@ module _ (m : Setup) (b : Books) (calls : List CallLine) (f : Facts m b calls) (
       let own : bit (same_span (large r) (large r)) ≡ 1 = ap bit (same_span_refl (large r)) in
       let there : 0 < spans_like (large r) b.spans = omega (arith, f.clear r, least (clearing (large r)) b.accounts t a at, cleared r, own) in
       let gone : (x : SpanRef) → spans_like x (without (large r) b.spans) + bit (same_span (large r) x) ≡ spans_like x b.spans = λ x. without_counts (large r) b.spans there (like_span x) in
-      moved m b calls f t a w at b.stock b.heap (without (large r) b.spans) b.names calls f.kept
-      (still m b calls f t a w at b.heap (without (large r) b.spans) b.names (λ x l. (l.live, (λ k. let e = gone (small (class_number k) l.run) in omega (arith, l.unmapped k, e)), l.unheld t a at)))
-      (heap_facts m b calls f) f.cut
+      moved f t a w at b.stock b.heap (without (large r) b.spans) b.names calls f.kept
+      (still f t a w at b.heap (without (large r) b.spans) b.names (λ x l. (l.live, (λ k. let e = gone (small (class_number k) l.run) in omega (arith, l.unmapped k, e)), l.unheld t a at)))
+      (heap_facts f) f.cut
       (record {
         freeing = self.freeing;
         spans = self.spans;
@@ -181,13 +181,13 @@ module _ (m : Setup) (b : Books) (calls : List CallLine) (f : Facts m b calls) (
         offs = λ n. let e : loose n a.doing ≡ bit (eqb (first_byte r) n) = ap (loose n) is in omega (arith, e);
         cleared = λ q. omega arith;
       })
-      (labels_still m b calls f t a w at (λ x. refl) (λ x. refl) (λ x. refl) (λ x. refl) (λ x v. refl))
+      (labels_still f t a w at (λ x. refl) (λ x. refl) (λ x. refl) (λ x. refl) (λ x v. refl))
       (record {
         map = λ q. let e = without_counts (large r) b.spans there (of_run q) in omega (arith, f.map q, shift (off_map q) b.accounts t a w at, off q, e);
         own = λ k q. let e = gone (small (class_number k) q) in omega (arith, f.own k q, shift (transit (small (class_number k) q)) b.accounts t a w at, e, large_apart r q (class_number k));
         clear = λ q. let e = gone (large q) in omega (arith, f.clear q, shift (clearing (large q)) b.accounts t a w at, e, cleared q);
       })
-      (places_still m b calls f t a w at (λ n. refl) (λ n. refl) (λ k n. refl))
+      (places_still f t a w at (λ n. refl) (λ n. refl) (λ k n. refl))
 
   -- as does the span of a class that left its shard
   pub clears_span : (s : SpanRef) (mapped : List SpanRef) → a.mapped ≡ s ∷ mapped → a.off ≡ [] → Facts m (books_with b b.stock b.heap (without s b.spans) b.names t (record a { mapped = mapped; off = run_of s ∷ [] })) calls
@@ -201,9 +201,9 @@ module _ (m : Setup) (b : Books) (calls : List CallLine) (f : Facts m b calls) (
       let class = mapped_class m b calls f t a s at some in
       let there = mapped_there m b calls f t a s at some in
       let gone : (x : SpanRef) → spans_like x (without s b.spans) + bit (same_span s x) ≡ spans_like x b.spans = λ x. without_counts s b.spans there (like_span x) in
-      moved m b calls f t a w at b.stock b.heap (without s b.spans) b.names calls f.kept
-      (still m b calls f t a w at b.heap (without s b.spans) b.names (λ x l. (l.live, (λ k. let e = gone (small (class_number k) l.run) in omega (arith, l.unmapped k, e)), l.unheld t a at)))
-      (heap_facts m b calls f) f.cut
+      moved f t a w at b.stock b.heap (without s b.spans) b.names calls f.kept
+      (still f t a w at b.heap (without s b.spans) b.names (λ x l. (l.live, (λ k. let e = gone (small (class_number k) l.run) in omega (arith, l.unmapped k, e)), l.unheld t a at)))
+      (heap_facts f) f.cut
       (record {
         freeing = self.freeing;
         spans = self.spans;
@@ -217,13 +217,13 @@ module _ (m : Setup) (b : Books) (calls : List CallLine) (f : Facts m b calls) (
         ];
         cleared = self.cleared;
       })
-      (labels_still m b calls f t a w at (λ x. refl) (λ x. refl) (λ x. refl) (λ x. refl) (λ x v. refl))
+      (labels_still f t a w at (λ x. refl) (λ x. refl) (λ x. refl) (λ x. refl) (λ x v. refl))
       (record {
         map = λ q. let e = without_counts s b.spans there (of_run q) in omega (arith, f.map q, shift (off_map q) b.accounts t a w at, off q, e);
         own = λ k q. let e = gone (small (class_number k) q) in omega (arith, f.own k q, shift (transit (small (class_number k) q)) b.accounts t a w at, e, held (small (class_number k) q));
         clear = λ q. let e = gone (large q) in omega (arith, f.clear q, shift (clearing (large q)) b.accounts t a w at, e, small_apart s (class_number class.class) q class.kind);
       })
-      (places_still m b calls f t a w at (λ n. refl) (λ n. refl) (λ k n. refl))
+      (places_still f t a w at (λ n. refl) (λ n. refl) (λ k n. refl))
 
   -- and its run from the heap
   pub frees_span : (s : SpanRef) (apart : List SpanRef) → a.off ≡ run_of s ∷ [] → a.apart ≡ s ∷ apart → a.mapped ≡ apart → Facts m (books_with b b.stock (less (run_of s) b.heap) b.spans b.names t (record a { off = []; apart = apart })) calls
@@ -236,9 +236,9 @@ module _ (m : Setup) (b : Books) (calls : List CallLine) (f : Facts m b calls) (
       let gone : (q : Run) → runs_like q (less (run_of s) b.heap) + bit (same_run (run_of s) q) ≡ runs_like q b.heap = λ q. less_counts (run_of s) b.heap there (like q) in
       let starts : (n : ℕ) → spans_at n a.apart ≡ bit (eqb (first_byte (run_of s)) n) + spans_at n apart = λ n. ap (spans_at n) first in
       let held : (q : Run) → spans_of_run q a.apart ≡ bit (same_run (run_of s) q) + spans_of_run q apart = λ q. ap (spans_of_run q) first in
-      moved m b calls f t a w at b.stock (less (run_of s) b.heap) b.spans b.names calls f.kept
-      (still m b calls f t a w at (less (run_of s) b.heap) b.spans b.names (λ x l. ((let e = gone l.run in omega (arith, e, held l.run, l.unheld t a at, l.live)), l.unmapped, omega (arith, held l.run, l.unheld t a at))))
-      (heap_less m b calls f (run_of s) there) f.cut
+      moved f t a w at b.stock (less (run_of s) b.heap) b.spans b.names calls f.kept
+      (still f t a w at (less (run_of s) b.heap) b.spans b.names (λ x l. ((let e = gone l.run in omega (arith, e, held l.run, l.unheld t a at, l.live)), l.unmapped, omega (arith, held l.run, l.unheld t a at))))
+      (heap_less f (run_of s) there) f.cut
       (record {
         freeing = self.freeing;
         spans = All-tail (IsOfClass m.rows) s apart (subst (All (IsOfClass m.rows)) first self.spans);
@@ -247,7 +247,7 @@ module _ (m : Setup) (b : Books) (calls : List CallLine) (f : Facts m b calls) (
         offs = λ n. omega arith;
         cleared = self.cleared;
       })
-      (labels_still m b calls f t a w at (λ x. refl) (λ x. refl) (λ x. refl) (λ x. refl) (λ x v. refl))
+      (labels_still f t a w at (λ x. refl) (λ x. refl) (λ x. refl) (λ x. refl) (λ x v. refl))
       (record {
         map = λ q. let e = gone q in omega (arith, f.map q, shift (off_map q) b.accounts t a w at, off q, e);
         own = λ k q. omega (arith, f.own k q, shift (transit (small (class_number k) q)) b.accounts t a w at);

@@ -24,17 +24,17 @@ use Rattle.holdings.proofs.Labels.{labels_published, labels_taken, named, publis
 use Rattle.holdings.proofs.Sums.{shift}
 use Rattle.name_table.specs.declared.table.NameState.TheVariants as name
 
-module _ (m : Setup) (b : Books) (calls : List CallLine) (f : Facts m b calls) (t : ℕ) (a : Account) (at : slice_get b.accounts t ≡ Some a) where
+module _ {m : Setup} {b : Books} {calls : List CallLine} (f : Facts m b calls) (t : ℕ) (a : Account) (at : slice_get b.accounts t ≡ Some a) where
   stands_still : (w : Account) (names : List NameState) → w.apart ≡ a.apart → All (IsStanding m (books_with b b.stock b.heap b.spans names t w)) (blocks_after calls)
-  stands_still w names apart = still m b calls f t a w at b.heap b.spans names (λ x l. (l.live, l.unmapped, ap (spans_of_run l.run) apart ∙ l.unheld t a at))
+  stands_still w names apart = still f t a w at b.heap b.spans names (λ x l. (l.live, l.unmapped, ap (spans_of_run l.run) apart ∙ l.unheld t a at))
 
   pub publishes_name : (label : Label) (value : Option Addr) → a.doing ≡ Publishes label value → a.off ≡ [] → a.clears ≡ [] → state_of b.names label.0 ≡ name.Unpublished → Facts m (books_with b b.stock b.heap b.spans (slice_set b.names label.0 (name.Published value)) t (about a Other)) calls
   publishes_name label value is empty clear old =
       let self = f.selves t a at in
       let w : Account = about a Other in
       let names : List NameState = slice_set b.names label.0 (name.Published value) in
-      let there = publishes_within m b calls f t a at w refl label value is in
-      moved m b calls f t a w at b.stock b.heap b.spans names calls f.kept (stands_still w names refl) (heap_facts m b calls f) f.cut
+      let there = publishes_within f t a at w refl label value is in
+      moved f t a w at b.stock b.heap b.spans names calls f.kept (stands_still w names refl) (heap_facts f) f.cut
       (record {
         freeing = λ l o e. absurd (cc);
         spans = self.spans;
@@ -43,10 +43,10 @@ module _ (m : Setup) (b : Books) (calls : List CallLine) (f : Facts m b calls) (
         offs = λ n. let e : _ = ap (runs_at n) empty in omega (arith, e);
         cleared = λ q. let e : _ = ap (spans_like (large q)) clear in omega (arith, e);
       })
-      (labels_published m b calls f t a at w refl label value is refl old)
-      (spans_still m b calls f t a w at b.stock.owned (λ r. refl) (λ s. refl) (λ s. refl))
+      (labels_published f t a at w refl label value is refl old)
+      (spans_still f t a w at b.stock.owned (λ r. refl) (λ s. refl) (λ s. refl))
       (record {
-        places = λ n. let e : loose n a.doing ≡ bit (is_at n value) = ap (loose n) is in omega (arith, f.places n, shift (held_at n) b.accounts t a w at, e, named m b calls f t a at n label.0 name.Unpublished (name.Published value) there old);
+        places = λ n. let e : loose n a.doing ≡ bit (is_at n value) = ap (loose n) is in omega (arith, f.places n, shift (held_at n) b.accounts t a w at, e, named f t a at n label.0 name.Unpublished (name.Published value) there old);
         begins = λ n. omega (arith, f.begins n, shift (λ (x : Account). spans_at n x.apart) b.accounts t a w at);
         classes = λ k n. omega (arith, f.classes k n, shift (in_hand k n) b.accounts t a w at);
       })
@@ -56,12 +56,12 @@ module _ (m : Setup) (b : Books) (calls : List CallLine) (f : Facts m b calls) (
     places_taken : (u : Option Addr) (d : Doing) → state_of b.names label.0 ≡ name.Published u → ((n : ℕ) → loose n d ≡ bit (is_at n u)) → PlaceFacts m.rows b.stock b.heap (slice_set b.names label.0 name.Taken) (slice_set b.accounts t (about a d))
     places_taken u d old same =
         let w : Account = about a d in
-        let there = takes_within m b calls f t a at w refl label is in
+        let there = takes_within f t a at w refl label is in
         record {
           places = λ n.
               let e : loose n a.doing ≡ 0 = ap (loose n) is in
               let s = same n in
-              omega (arith, f.places n, shift (held_at n) b.accounts t a w at, e, s, named m b calls f t a at n label.0 (name.Published u) name.Taken there old);
+              omega (arith, f.places n, shift (held_at n) b.accounts t a w at, e, s, named f t a at n label.0 (name.Published u) name.Taken there old);
           begins = λ n. omega (arith, f.begins n, shift (λ (x : Account). spans_at n x.apart) b.accounts t a w at);
           classes = λ k n. omega (arith, f.classes k n, shift (in_hand k n) b.accounts t a w at);
         }
@@ -82,9 +82,9 @@ module _ (m : Setup) (b : Books) (calls : List CallLine) (f : Facts m b calls) (
     takes_addr o old =
         let w : Account = about a (Holds label o) in
         let names : List NameState = slice_set b.names label.0 name.Taken in
-        moved m b calls f t a w at b.stock b.heap b.spans names calls f.kept (stands_still w names refl) (heap_facts m b calls f) f.cut (self_taken (Holds label o) (λ l x e. absurd (cc)))
-        (labels_taken m b calls f t a at w refl label (Some o) calls is old (λ x. refl) (λ x. refl) (λ x v. refl))
-        (spans_still m b calls f t a w at b.stock.owned (λ r. refl) (λ s. refl) (λ s. refl))
+        moved f t a w at b.stock b.heap b.spans names calls f.kept (stands_still w names refl) (heap_facts f) f.cut (self_taken (Holds label o) (λ l x e. absurd (cc)))
+        (labels_taken f t a at w refl label (Some o) calls is old (λ x. refl) (λ x. refl) (λ x v. refl))
+        (spans_still f t a w at b.stock.owned (λ r. refl) (λ s. refl) (λ s. refl))
         (places_taken (Some o) (Holds label o) old (λ n. refl))
 
     pub takes_null : state_of b.names label.0 ≡ name.Published None → Facts m (books_with b b.stock b.heap b.spans (slice_set b.names label.0 name.Taken) t (about a Other)) (calls ++ record { thread = record { 0 = t }; call = Free label; answer = FreedNull } ∷ [])
@@ -92,11 +92,11 @@ module _ (m : Setup) (b : Books) (calls : List CallLine) (f : Facts m b calls) (
         let c : CallLine = record { thread = record { 0 = t }; call = Free label; answer = FreedNull } in
         let w : Account = about a Other in
         let names : List NameState = slice_set b.names label.0 name.Taken in
-        let has = value_named m b calls f t a at label.0 None old in
-        moved m b calls f t a w at b.stock b.heap b.spans names (calls ++ c ∷ [])
+        let has = value_named f t a at label.0 None old in
+        moved f t a w at b.stock b.heap b.spans names (calls ++ c ∷ [])
         (kept_freed_null f.kept (record { 0 = t }) label (has_null calls label.0 (f.kept.answers label.0) has))
         (subst (All (IsStanding m (books_with b b.stock b.heap b.spans names t w))) (sym (blocks_after-push calls c)) (stands_still w names refl))
-        (heap_facts m b calls f) f.cut (self_taken Other (λ l x e. absurd (cc)))
-        (labels_taken m b calls f t a at w refl label None (calls ++ c ∷ []) is old (λ x. refl) (λ x. ap (λ o. bit (is_some o)) (answer_same calls c x refl)) (λ x v. let e = lose calls (record { 0 = t }) label FreedNull None has x v in omega (arith, e)))
-        (spans_still m b calls f t a w at b.stock.owned (λ r. refl) (λ s. refl) (λ s. refl))
+        (heap_facts f) f.cut (self_taken Other (λ l x e. absurd (cc)))
+        (labels_taken f t a at w refl label None (calls ++ c ∷ []) is old (λ x. refl) (λ x. ap (λ o. bit (is_some o)) (answer_same calls c x refl)) (λ x v. let e = lose calls (record { 0 = t }) label FreedNull None has x v in omega (arith, e)))
+        (spans_still f t a w at b.stock.owned (λ r. refl) (λ s. refl) (λ s. refl))
         (places_taken None Other old (λ n. refl))

@@ -33,7 +33,7 @@ use Rattle.holdings.proofs.LargeMoves.{meets_inner}
 pub one_free : (label label' : Label) (o o' : Addr) → Frees label o ≡ Frees label' o' → o ≡ o'
 one_free label label' o o' is = cc
 
-module _ (m : Setup) (b : Books) (calls : List CallLine) (f : Facts m b calls) (t : ℕ) (a : Account) (at : slice_get b.accounts t ≡ Some a) where
+module _ {m : Setup} {b : Books} {calls : List CallLine} (f : Facts m b calls) (t : ℕ) (a : Account) (at : slice_get b.accounts t ≡ Some a) where
   -- spans that leave their shards were of the map, and of no large block
   freed_spans : (g : Stock) (freed : List SpanRef) → ((s : SpanRef) → g.owned s + spans_like s freed ≡ b.stock.owned s) → (q : Run) → ((k : ℕ) → spans_like (small (class_number k) q) b.spans ≡ 0) → spans_of_run q freed ≡ 0
   freed_spans g freed left q unmapped =
@@ -55,7 +55,7 @@ module _ (m : Setup) (b : Books) (calls : List CallLine) (f : Facts m b calls) (
   ])
 
   module _ (g : Stock) (hand : List Addr) (freed : List SpanRef) (move : MoveObjects b.stock g a.class a.hand hand freed) (cut : IsCut m.rows g) where
-    stocked : Stocked m b calls f t a at g hand
+    stocked : Stocked f t a at g hand
     stocked = record { others = move.others; moves = move.moves; cut = cut }
 
     -- the hand changes, and the call may end
@@ -85,7 +85,7 @@ module _ (m : Setup) (b : Books) (calls : List CallLine) (f : Facts m b calls) (
           }
 
       spans_hand : SpanFacts g.owned b.heap b.spans (slice_set b.accounts t then)
-      spans_hand = spans_still m b calls f t a then at g.owned (λ r. refl) (λ s. let p = counts_append (like_span s) freed a.mapped in let q = move.spans s in omega (arith, p, q)) (λ s. refl)
+      spans_hand = spans_still f t a then at g.owned (λ r. refl) (λ s. let p = counts_append (like_span s) freed a.mapped in let q = move.spans s in omega (arith, p, q)) (λ s. refl)
 
       places_hand : PlaceFacts m.rows g b.heap b.names (slice_set b.accounts t then)
       places_hand =
@@ -93,26 +93,26 @@ module _ (m : Setup) (b : Books) (calls : List CallLine) (f : Facts m b calls) (
             places = λ n.
                 let p = counts_append (starting_span n) freed a.apart in
                 let q = move.starts n in
-                let s = stock_places m b calls f t a at g hand stocked n in
+                let s = stock_places f t a at g hand stocked n in
                 let l = loosely n in
                 omega (arith, f.places n, shift (held_at n) b.accounts t a then at, p, q, s, l);
             begins = λ n.
                 let p = counts_append (starting_span n) freed a.apart in
                 let q = move.starts n in
                 omega (arith, f.begins n, shift (λ (x : Account). spans_at n x.apart) b.accounts t a then at, p, q);
-            classes = stock_classes m b calls f t a at g hand stocked then refl (λ n. omega arith);
+            classes = stock_classes f t a at g hand stocked then refl (λ n. omega arith);
           }
 
       stands_hand : (x : Extent) → IsStanding m b x → Labelled calls x → ((label : Label) (o : Addr) → a.doing ≡ Frees label o → o.0 ≡ x.addr → 0 < objects_at x.addr hand) → IsStanding m (books_with b g b.heap b.spans b.names t then) x
-      stands_hand x stands own frees = stands_on m b calls f t a at g hand stocked then x stands own frees (λ q unmapped unheld. let e = counts_append (of_run q) freed a.apart in omega (arith, e, unheld, freed_spans g freed move.spans q unmapped))
+      stands_hand x stands own frees = stands_on f t a at g hand stocked then x stands own frees (λ q unmapped unheld. let e = counts_append (of_run q) freed a.apart in omega (arith, e, unheld, freed_spans g freed move.spans q unmapped))
 
     pub moves_hand : ((label : Label) (o : Addr) → a.doing ≡ Frees label o → 0 < objects_at o.0 hand) → Facts m (books_with b g b.heap b.spans b.names t (with_hand a hand freed)) calls
     moves_hand freeing =
         let w : Account = with_hand a hand freed in
-        moved m b calls f t a w at g b.heap b.spans b.names calls f.kept
+        moved f t a w at g b.heap b.spans b.names calls f.kept
         (λ i d within. stands_hand a.doing (λ n. refl) (get_or (blocks_after calls) i d) (f.live i d within) (f.kept.labelled i d within) (λ label o is there. subst (λ k. 0 < objects_at k hand) there (freeing label o is)))
-        (heap_facts m b calls f) cut (self_hand a.doing (λ n. refl) freeing)
-        (labels_still m b calls f t a w at (λ x. refl) (λ x. refl) (λ x. refl) (λ x. refl) (λ x v. refl))
+        (heap_facts f) cut (self_hand a.doing (λ n. refl) freeing)
+        (labels_still f t a w at (λ x. refl) (λ x. refl) (λ x. refl) (λ x. refl) (λ x v. refl))
         (spans_hand a.doing (λ n. refl)) (places_hand a.doing (λ n. refl))
 
     pub frees_object : (label : Label) (o : Addr) → a.doing ≡ Frees label o → Facts m (books_with b g b.heap b.spans b.names t (with_hand (about a Other) hand freed)) (calls ++ record { thread = record { 0 = t }; call = Free label; answer = Freed o } ∷ [])
@@ -121,19 +121,19 @@ module _ (m : Setup) (b : Books) (calls : List CallLine) (f : Facts m b calls) (
         let w : Account = with_hand (about a Other) hand freed in
         let none : (n : ℕ) → loose n Other ≡ loose n a.doing = λ n. sym (ap (loose n) is) in
         let returns = by_frees label o a.doing is in
-        let block = has_block calls label.0 o (value_returned m b calls f t a at label o returns) in
+        let block = has_block calls label.0 o (value_returned f t a at label o returns) in
         let both : All (λ (x : Extent). IsStanding m b x × Labelled calls x) (blocks_after calls) = λ i d within. (f.live i d within, f.kept.labelled i d within) in
-        moved m b calls f t a w at g b.heap b.spans b.names (calls ++ c ∷ []) (kept_freed f.kept (record { 0 = t }) label o block.0 block.1)
+        moved f t a w at g b.heap b.spans b.names (calls ++ c ∷ []) (kept_freed f.kept (record { 0 = t }) label o block.0 block.1)
         (subst (All (IsStanding m (books_with b g b.heap b.spans b.names t w))) (sym (blocks_after-push calls c))
         (All-kept (λ (x : Extent). IsStanding m b x × Labelled calls x) (IsStanding m (books_with b g b.heap b.spans b.names t w)) (λ (x : Extent). not (eqb x.addr o.0)) (blocks_after calls) (λ x has apart. stands_hand Other none x has.0 has.1 (λ label' o' is' there.
         let e : o.0 ≡ o'.0 = ap (λ (y : Addr). y.0) (one_free label label' o o' (sym is ∙ is')) in
         absurd (false≢true (sym (ap not (eq-eqb x.addr o.0 (sym there ∙ sym e))) ∙ apart)))) both))
-        (heap_facts m b calls f) cut (self_hand Other none (λ l x e. absurd (cc)))
-        (labels_freed m b calls f t a at w refl label o returns refl)
+        (heap_facts f) cut (self_hand Other none (λ l x e. absurd (cc)))
+        (labels_freed f t a at w refl label o returns refl)
         (spans_hand Other none) (places_hand Other none)
 
   -- an allocation gets an object
-  module _ (label : Label) (size : ℕ) (g : Stock) (o : Addr) (rest : List Addr) (is : a.doing ≡ Asks label size) (class : class_of m.rows size ≡ Some (class_number a.class)) (empty : a.hand ≡ []) (st : Stocked m b calls f t a at g (o ∷ rest)) (there : (s : SpanRef) → 0 < g.owned s → 0 < spans_like s b.spans) where
+  module _ (label : Label) (size : ℕ) (g : Stock) (o : Addr) (rest : List Addr) (is : a.doing ≡ Asks label size) (class : class_of m.rows size ≡ Some (class_number a.class)) (empty : a.hand ≡ []) (st : Stocked f t a at g (o ∷ rest)) (there : (s : SpanRef) → 0 < g.owned s → 0 < spans_like s b.spans) where
     abbrev answer : Answer
     answer = Block o (size_of m.rows a.class)
 
@@ -162,7 +162,7 @@ module _ (m : Setup) (b : Books) (calls : List CallLine) (f : Facts m b calls) (
     -- a block that stands is no such object
     elsewhere : (x : Extent) → Labelled calls x → 0 < b.stock.objects a.class x.addr → x.addr ≡ o.0 → ⊥
     elsewhere x label_x some same =
-        let w = stands_where m b calls f t a at g (o ∷ rest) st x label_x some in
+        let w = stands_where f t a at g (o ∷ rest) st x label_x some in
         let e : bit (eqb o.0 x.addr) ≡ 1 = ap bit (eq-eqb o.0 x.addr (sym same)) in
         omega (arith, w.0, some, zero_hand x.addr, st.moves x.addr, st.cut.once a.class x.addr, e)
 
@@ -190,7 +190,7 @@ module _ (m : Setup) (b : Books) (calls : List CallLine) (f : Facts m b calls) (
 
     apart_object : (x : Extent) → Labelled calls x → IsObject m b x → meets place x ≡ false
     apart_object x label_x ob =
-        let some : 0 < g.objects ob.class x.addr = object_stays m b calls f t a at g (o ∷ rest) st x label_x (unfreed x) ob.class ob.object in
+        let some : 0 < g.objects ob.class x.addr = object_stays f t a at g (o ∷ rest) st x label_x (unfreed x) ob.class ob.object in
         elim (cases_eq ob.class a.class) [
           | inl same ↦
               let len : x.len ≡ size_of m.rows a.class = ob.size ∙ ap (size_of m.rows) same in
@@ -214,7 +214,7 @@ module _ (m : Setup) (b : Books) (calls : List CallLine) (f : Facts m b calls) (
         let run = f.inside (run_of s.span) (live s.span s.owned) in
         let some = st.cut.some a.class o.0 object in
         let apart : All (λ (x : Extent). meets place x ≡ false) (blocks_after calls) = λ i d within. elim (f.live i d within) [ inl l ↦ apart_large (get_or (blocks_after calls) i d) l | inr ob ↦ apart_object (get_or (blocks_after calls) i d) (f.kept.labelled i d within) ob ] in
-        kept_block f.kept (record { 0 = t }) label size o (size_of m.rows a.class) (unanswered m b calls f t a at label size is)
+        kept_block f.kept (record { 0 = t }) label size o (size_of m.rows a.class) (unanswered f t a at label size is)
         (record { inside = record { some = some; from = omega (arith, run.inside.from, s.from); to = omega (arith, run.inside.to, s.to) }; apart = none_meets place (blocks_after calls) apart })
         (sym (class_length m.rows size a.class class).1) some
 
@@ -222,4 +222,4 @@ module _ (m : Setup) (b : Books) (calls : List CallLine) (f : Facts m b calls) (
     live_object w apart =
         subst (All (IsStanding m (books_with b g b.heap b.spans b.names t w))) (sym (blocks_after-push calls line))
         (All-with_item (λ (b : Extent). b.addr) (IsStanding m (books_with b g b.heap b.spans b.names t w)) place (blocks_after calls) (inr (record { class = a.class; object = object; size = refl }))
-        (λ i d within. stands_on m b calls f t a at g (o ∷ rest) st w (get_or (blocks_after calls) i d) (f.live i d within) (f.kept.labelled i d within) (unfreed (get_or (blocks_after calls) i d)) (λ q unmapped unheld. apart q unheld)))
+        (λ i d within. stands_on f t a at g (o ∷ rest) st w (get_or (blocks_after calls) i d) (f.live i d within) (f.kept.labelled i d within) (unfreed (get_or (blocks_after calls) i d)) (λ q unmapped unheld. apart q unheld)))

@@ -81,12 +81,12 @@ self_same m a w self same =
 pub becomes_once : (m : Setup) (b : Books) (calls : List CallLine) (f : Facts m b calls) (t : ℕ) (a w : Account) → slice_get b.accounts t ≡ Some a → WeighSame a w → Facts m (books_with b b.stock b.heap b.spans b.names t w) calls
 becomes_once m b calls f t a w at same =
     let apart : (r : Run) → spans_of_run r w.apart ≡ spans_of_run r a.apart = λ r. ap (spans_of_run r) same.apart in
-    moved m b calls f t a w at b.stock b.heap b.spans b.names calls f.kept
-    (still m b calls f t a w at b.heap b.spans b.names (λ x l. (l.live, l.unmapped, apart l.run ∙ l.unheld t a at)))
-    (heap_facts m b calls f) f.cut (self_same m a w (f.selves t a at) same)
-    (labels_still m b calls f t a w at same.asks same.publishes same.takes same.mentioned same.value)
-    (spans_still m b calls f t a w at b.stock.owned (λ r. ap (runs_like r) same.off) (λ s. ap (λ n. b.stock.owned s + n) (ap (spans_like s) same.mapped)) (λ s. ap (spans_like s) same.clears))
-    (places_still m b calls f t a w at (λ n.
+    moved f t a w at b.stock b.heap b.spans b.names calls f.kept
+    (still f t a w at b.heap b.spans b.names (λ x l. (l.live, l.unmapped, apart l.run ∙ l.unheld t a at)))
+    (heap_facts f) f.cut (self_same m a w (f.selves t a at) same)
+    (labels_still f t a w at same.asks same.publishes same.takes same.mentioned same.value)
+    (spans_still f t a w at b.stock.owned (λ r. ap (runs_like r) same.off) (λ s. ap (λ n. b.stock.owned s + n) (ap (spans_like s) same.mapped)) (λ s. ap (spans_like s) same.clears))
+    (places_still f t a w at (λ n.
     let o : _ = ap (objects_at n) same.objects in
     let s : _ = ap (spans_at n) same.apart in
     let l = same.loosely n in

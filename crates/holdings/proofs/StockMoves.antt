@@ -59,7 +59,7 @@ means_at name.Taken o = omega arith
 means_at (name.Published None) o = omega arith
 means_at (name.Published (Some a)) o = omega arith
 
-module _ (m : Setup) (b : Books) (calls : List CallLine) (f : Facts m b calls) (t : ℕ) (a : Account) (at : slice_get b.accounts t ≡ Some a) where
+module _ {m : Setup} {b : Books} {calls : List CallLine} (f : Facts m b calls) (t : ℕ) (a : Account) (at : slice_get b.accounts t ≡ Some a) where
   -- objects of the hand's class move between the stock and the hand, and what a call takes from it
   pub record Stocked (g : Stock) (came : List Addr) : Type 0 where
     pub others : (k n : ℕ) → k ≢ a.class → (g.stored k n ≡ b.stock.stored k n) × (g.objects k n ≡ b.stock.objects k n)
@@ -167,6 +167,6 @@ module _ (m : Setup) (b : Books) (calls : List CallLine) (f : Facts m b calls) (
 
     pub stands_on : (w : Account) (x : Extent) → IsStanding m b x → Labelled calls x → ((label : Label) (o : Addr) → a.doing ≡ Frees label o → o.0 ≡ x.addr → 0 < objects_at x.addr came) → ((q : Run) → ((k : ℕ) → spans_like (small (class_number k) q) b.spans ≡ 0) → spans_of_run q a.apart ≡ 0 → spans_of_run q w.apart ≡ 0) → IsStanding m (books_with b g b.heap b.spans b.names t w) x
     stands_on w x stands own frees apart = elim stands [
-      | inl l ↦ inl (large_still m b calls f t a w at g b.heap b.spans b.names x l l.live l.unmapped (apart l.run l.unmapped (l.unheld t a at)))
+      | inl l ↦ inl (large_still f t a w at g b.heap b.spans b.names x l l.live l.unmapped (apart l.run l.unmapped (l.unheld t a at)))
       | inr o ↦ inr (record { class = o.class; object = object_stays x own frees o.class o.object; size = o.size })
     ]
