@@ -1,5 +1,6 @@
 -- Blocks that calls leave have no byte in common, and their bytes are among those of the live runs.
-use Rattle.std.proofs.Common.{◌≡◌, ℕ, zero, suc, ◌+◌, ◌*◌, ◌<◌, ◌≤◌, Bool, true, false, not, ◌&&◌, cond, eqb, leb, ltb, List, [], ◌∷◌, ◌++◌, length, take, drop, refl, sym, ap, ◌∙◌, subst, arith, inl, inr}
+use Rattle.std.proofs.Common.{◌≡◌, ℕ, zero, suc, ◌+◌, ◌*◌, ◌<◌, ◌≤◌, Bool, true, false, not, ◌&&◌, cond, eqb, leb}
+use Rattle.std.proofs.Common.{ltb, List, [], ◌∷◌, ◌++◌, length, take, drop, refl, sym, ap, ◌∙◌, subst, arith, inl, inr}
 use Rattle.std.specs.Prelude.{All, count_by, filter, sum_by}
 use Rattle.std.specs.List.{list_any, slice_index_or}
 use Rattle.std.proofs.lemmas.Bool.{cases_Bool, cases_lt, and_parts, and_from, eqb-true, le-leb, lt-ltb, leb-true, ltb-true, false≢true}
@@ -95,14 +96,16 @@ without_one bs addr are =
     }
 
 -- an allowed answer keeps them so
-pub place_of : (huge : ℕ) (round : ℕ → ℕ) (earlier : List CallLine) (call : Call) (addr : Addr) (len : ℕ) → IsAllowed huge round earlier call (Block addr len) → IsFreePlace huge (blocks_after earlier) (record { addr = addr.0; len = len })
+pub place_of : (huge : ℕ) (round : ℕ → ℕ) (earlier : List CallLine) (call : Call) (addr : Addr) (len : ℕ)
+    → IsAllowed huge round earlier call (Block addr len) → IsFreePlace huge (blocks_after earlier) (record { addr = addr.0; len = len })
 place_of huge round earlier (Malloc label size) addr len allowed = allowed.1
 place_of huge round earlier (Free label) addr len allowed = absurd allowed
 place_of huge round earlier (Release pages) addr len allowed = absurd allowed
 place_of huge round earlier (Drain cpu) addr len allowed = absurd allowed
 place_of huge round earlier (Resize cpu class n) addr len allowed = absurd allowed
 
-spread_with : (huge : ℕ) (round : ℕ → ℕ) (earlier : List CallLine) (call : Call) (answer : Answer) → AreSpread (blocks_after earlier) → IsAllowed huge round earlier call answer → AreSpread (blocks_with (blocks_after earlier) answer)
+spread_with : (huge : ℕ) (round : ℕ → ℕ) (earlier : List CallLine) (call : Call) (answer : Answer)
+    → AreSpread (blocks_after earlier) → IsAllowed huge round earlier call answer → AreSpread (blocks_with (blocks_after earlier) answer)
 spread_with huge round earlier call (Block addr len) are allowed = with_one huge (blocks_after earlier) (record { addr = addr.0; len = len }) are (place_of huge round earlier call addr len allowed)
 spread_with huge round earlier call (Freed addr) are allowed = without_one (blocks_after earlier) addr.0 are
 spread_with huge round earlier call NoBlock are allowed = are

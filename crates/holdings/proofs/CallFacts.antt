@@ -29,7 +29,8 @@ answer_to-push_old label (d ∷ ds) c answer h =
     ]
 
 -- a label without an answer has that of the call, where this is its allocation
-pub answer_to-push_new : (label : ℕ) (calls : List CallLine) (c : CallLine) → answer_to label calls ≡ None → answer_to label (calls ++ c ∷ []) ≡ cond (allocates label c.call) (Some c.answer) None
+pub answer_to-push_new : (label : ℕ) (calls : List CallLine) (c : CallLine) → answer_to label calls ≡ None
+    → answer_to label (calls ++ c ∷ []) ≡ cond (allocates label c.call) (Some c.answer) None
 answer_to-push_new label [] c h = refl
 answer_to-push_new label (d ∷ ds) c h =
     elim (cases_Bool (allocates label d.call)) [
@@ -48,7 +49,8 @@ answer_cases (Some answer) = inr (answer, refl)
 pub IsBlockRun-none : (round : ℕ → ℕ) (huge : ℕ) → IsBlockRun huge round []
 IsBlockRun-none round huge = each_of_none (λ earlier (c : CallLine). IsAllowed huge round earlier c.call c.answer)
 
-pub IsBlockRun-push : (round : ℕ → ℕ) (huge : ℕ) (calls : List CallLine) (c : CallLine) → IsBlockRun huge round calls → IsAllowed huge round calls c.call c.answer → IsBlockRun huge round (calls ++ c ∷ [])
+pub IsBlockRun-push : (round : ℕ → ℕ) (huge : ℕ) (calls : List CallLine) (c : CallLine)
+    → IsBlockRun huge round calls → IsAllowed huge round calls c.call c.answer → IsBlockRun huge round (calls ++ c ∷ [])
 IsBlockRun-push round huge = each_of_push (λ earlier (c : CallLine). IsAllowed huge round earlier c.call c.answer)
 
 -- Blocks by their addresses.

@@ -38,7 +38,8 @@ module _ {m : Setup} {b : Books} {calls : List CallLine} (f : Facts m b calls) (
     abbrev gets_line : CallLine
     gets_line = record { thread = record { 0 = t }; call = Malloc label size; answer = Block o (size_of m.rows a.class) }
 
-    pub gets_object : MoveObjects b.stock g a.class [] (o ∷ rest) [] → Facts m (books_with b g b.heap b.spans b.names t (record (about a (Publishes label (Some o))) { hand = rest })) (calls ++ gets_line ∷ [])
+    pub gets_object : MoveObjects b.stock g a.class [] (o ∷ rest) []
+        → Facts m (books_with b g b.heap b.spans b.names t (record (about a (Publishes label (Some o))) { hand = rest })) (calls ++ gets_line ∷ [])
     gets_object move =
         let self = f.selves t a at in
         let w : Account = record (about a (Publishes label (Some o))) { hand = rest } in
@@ -64,7 +65,8 @@ module _ {m : Setup} {b : Books} {calls : List CallLine} (f : Facts m b calls) (
           classes = stock_classes f t a at g (o ∷ rest) st w refl (λ n. omega arith);
         })
 
-    pub gets_first : (r : Run) (apart mapped : List SpanRef) → a.off ≡ [] → a.apart ≡ small (class_number a.class) r ∷ apart → a.mapped ≡ small (class_number a.class) r ∷ mapped → AddSpan b.stock g a.class (small (class_number a.class) r) (o ∷ rest)
+    pub gets_first : (r : Run) (apart mapped : List SpanRef) → a.off ≡ [] → a.apart ≡ small (class_number a.class) r ∷ apart
+        → a.mapped ≡ small (class_number a.class) r ∷ mapped → AddSpan b.stock g a.class (small (class_number a.class) r) (o ∷ rest)
         → Facts m (books_with b g b.heap b.spans b.names t (record (about a (Publishes label (Some o))) { hand = rest; apart = apart; mapped = mapped })) (calls ++ gets_line ∷ [])
     gets_first r apart mapped clear first firstm move =
         let self = f.selves t a at in

@@ -4,7 +4,8 @@ use Rattle.tc_units.specs.declared.units.Addr.{Addr}
 use Rattle.std.specs.Prelude.{All, is_some, sum_by}
 use Rattle.holdings.specs.Kept.{AreKept}
 use Rattle.holdings.specs.Books.{Books, IsCut, Setup, Stock, class_number, over_classes}
-use Rattle.std.proofs.Common.{Bool, List, Option, Some, ap, arith, eqb, false, inl, inr, length, ltb, refl, subst, sym, true, ℕ, ◌&&◌, ◌+◌, ◌<◌, ◌∙◌, ◌∷◌, ◌≡◌, ◌≤◌, ◌⊎◌}
+use Rattle.std.proofs.Common.{Bool, List, Option, Some, ap, arith, eqb, false, inl, inr, length, ltb, refl, subst, sym, true}
+use Rattle.std.proofs.Common.{ℕ, ◌&&◌, ◌+◌, ◌<◌, ◌∙◌, ◌∷◌, ◌≡◌, ◌≤◌, ◌⊎◌}
 use Rattle.tc_model.specs.declared.answers.CallLine.{CallLine}
 use Rattle.tc_units.specs.declared.spans.ClassRow.{ClassRow}
 use Rattle.tc_model.specs.Blocks.{Extent, answer_to, blocks_after, meets}
@@ -99,7 +100,9 @@ module _ {m : Setup} {b : Books} {calls : List CallLine} (f : Facts m b calls) w
 
   module _ (t : ℕ) (a w : Account) (at : slice_get b.accounts t ≡ Some a) where
     -- an account that has as much to do with labels as before
-    pub labels_still : ((x : ℕ) → pending x w ≡ pending x a) → ((x : ℕ) → unpublished x w ≡ unpublished x a) → ((x : ℕ) → untaken x w ≡ untaken x a) → ((x : ℕ) → mentions x w ≡ mentions x a) → ((x : ℕ) (v : Option Addr) → holding x v w ≡ holding x v a) → LabelFacts m.labels b.names (slice_set b.accounts t w) calls
+    pub labels_still : ((x : ℕ) → pending x w ≡ pending x a) → ((x : ℕ) → unpublished x w ≡ unpublished x a) → ((x : ℕ) → untaken x w ≡ untaken x a)
+        → ((x : ℕ) → mentions x w ≡ mentions x a) → ((x : ℕ) (v : Option Addr) → holding x v w ≡ holding x v a)
+        → LabelFacts m.labels b.names (slice_set b.accounts t w) calls
     labels_still p u n k h =
         record {
           count = f.names;
@@ -111,7 +114,8 @@ module _ {m : Setup} {b : Books} {calls : List CallLine} (f : Facts m b calls) w
         }
 
     -- and one with as much of runs and spans, where shards and calls may exchange spans
-    pub spans_still : (owned : SpanRef → ℕ) → ((r : Run) → off_map r w ≡ off_map r a) → ((s : SpanRef) → owned s + transit s w ≡ b.stock.owned s + transit s a) → ((s : SpanRef) → clearing s w ≡ clearing s a) → SpanFacts owned b.heap b.spans (slice_set b.accounts t w)
+    pub spans_still : (owned : SpanRef → ℕ) → ((r : Run) → off_map r w ≡ off_map r a) → ((s : SpanRef) → owned s + transit s w ≡ b.stock.owned s + transit s a)
+        → ((s : SpanRef) → clearing s w ≡ clearing s a) → SpanFacts owned b.heap b.spans (slice_set b.accounts t w)
     spans_still owned o s c =
         record {
           map = λ r. let e = o r in omega (arith, f.map r, shift (off_map r) b.accounts t a w at, e);
@@ -120,7 +124,8 @@ module _ {m : Setup} {b : Books} {calls : List CallLine} (f : Facts m b calls) w
         }
 
     -- and one with as much of addresses
-    pub places_still : ((n : ℕ) → held_at n w ≡ held_at n a) → ((n : ℕ) → spans_at n w.apart ≡ spans_at n a.apart) → ((k n : ℕ) → in_hand k n w ≡ in_hand k n a) → PlaceFacts m.rows b.stock b.heap b.names (slice_set b.accounts t w)
+    pub places_still : ((n : ℕ) → held_at n w ≡ held_at n a) → ((n : ℕ) → spans_at n w.apart ≡ spans_at n a.apart)
+        → ((k n : ℕ) → in_hand k n w ≡ in_hand k n a) → PlaceFacts m.rows b.stock b.heap b.names (slice_set b.accounts t w)
     places_still h s k =
         record {
           places = λ n. let e = h n in omega (arith, f.places n, shift (held_at n) b.accounts t a w at, e);
@@ -129,7 +134,9 @@ module _ {m : Setup} {b : Books} {calls : List CallLine} (f : Facts m b calls) w
         }
 
     -- a large block still is one, and all blocks still stand
-    pub large_still : (stock : Stock) (heap : List Run) (spans : List SpanRef) (names : List NameState) (x : Extent) (l : IsLarge b x) → 0 < runs_like l.run heap → ((k : ℕ) → spans_like (small (class_number k) l.run) spans ≡ 0) → spans_of_run l.run w.apart ≡ 0 → IsLarge (books_with b stock heap spans names t w) x
+    pub large_still : (stock : Stock) (heap : List Run) (spans : List SpanRef) (names : List NameState) (x : Extent) (l : IsLarge b x)
+        → 0 < runs_like l.run heap → ((k : ℕ) → spans_like (small (class_number k) l.run) spans ≡ 0)
+        → spans_of_run l.run w.apart ≡ 0 → IsLarge (books_with b stock heap spans names t w) x
     large_still stock heap spans names x l live unmapped own =
         record {
           run = l.run;
@@ -142,7 +149,9 @@ module _ {m : Setup} {b : Books} {calls : List CallLine} (f : Facts m b calls) w
           ];
         }
 
-    pub still : (heap : List Run) (spans : List SpanRef) (names : List NameState) → ((x : Extent) (l : IsLarge b x) → (0 < runs_like l.run heap) × ((k : ℕ) → spans_like (small (class_number k) l.run) spans ≡ 0) × (spans_of_run l.run w.apart ≡ 0)) → All (IsStanding m (books_with b b.stock heap spans names t w)) (blocks_after calls)
+    pub still : (heap : List Run) (spans : List SpanRef) (names : List NameState)
+        → ((x : Extent) (l : IsLarge b x) → (0 < runs_like l.run heap) × ((k : ℕ) → spans_like (small (class_number k) l.run) spans ≡ 0) × (spans_of_run l.run w.apart ≡ 0))
+        → All (IsStanding m (books_with b b.stock heap spans names t w)) (blocks_after calls)
     still heap spans names larges = All-weaken (IsStanding m b) (IsStanding m (books_with b b.stock heap spans names t w)) (blocks_after calls) (λ x stands. elim stands [
       | inl l ↦ let stays = larges x l in inl (large_still b.stock heap spans names x l stays.0 stays.1 stays.2)
       | inr o ↦ inr (record { class = o.class; object = o.object; size = o.size })
@@ -152,7 +161,10 @@ module _ {m : Setup} {b : Books} {calls : List CallLine} (f : Facts m b calls) w
     selves_with self i x is = elim (set_cases b.accounts t a w at i x is) [ inl same ↦ subst (IsSelf m) same self | inr old ↦ f.selves i x old ]
 
     -- all groups together
-    pub moved : (stock : Stock) (heap : List Run) (spans : List SpanRef) (names : List NameState) (after : List CallLine) → AreKept (length_of m.rows) m.huge after → All (IsStanding m (books_with b stock heap spans names t w)) (blocks_after after) → HeapFacts m.huge heap → IsCut m.rows stock → IsSelf m w → LabelFacts m.labels names (slice_set b.accounts t w) after → SpanFacts stock.owned heap spans (slice_set b.accounts t w) → PlaceFacts m.rows stock heap names (slice_set b.accounts t w)
+    pub moved : (stock : Stock) (heap : List Run) (spans : List SpanRef) (names : List NameState) (after : List CallLine) → AreKept (length_of m.rows) m.huge after
+        → All (IsStanding m (books_with b stock heap spans names t w)) (blocks_after after) → HeapFacts m.huge heap → IsCut m.rows stock → IsSelf m w
+        → LabelFacts m.labels names (slice_set b.accounts t w) after
+        → SpanFacts stock.owned heap spans (slice_set b.accounts t w) → PlaceFacts m.rows stock heap names (slice_set b.accounts t w)
         → Facts m (books_with b stock heap spans names t w) after
     moved stock heap spans names after kept live h cut self l s p =
         record {

@@ -16,7 +16,8 @@ use Rattle.std.proofs.lemmas.List.{get_or_past}
 use Rattle.std.specs.List.{slice_get}
 use Rattle.name_table.specs.Names.{state_of}
 use Rattle.std.specs.Prelude.{sum_by}
-use Rattle.holdings.proofs.MapFacts.{HasByte, class_spans, mapped_class, mapped_there, objects_once, off_lives, once_live, one_byte, one_span, owned_there, run_found, run_pages, span_lives, span_of, span_run}
+use Rattle.holdings.proofs.MapFacts.{HasByte, class_spans, mapped_class, mapped_there, objects_once, off_lives, once_live}
+use Rattle.holdings.proofs.MapFacts.{one_byte, one_span, owned_there, run_found, run_pages, span_lives, span_of, span_run}
 use Rattle.holdings.proofs.Sums.{class_counts, least, same_run_is, sum_of_both}
 use Rattle.name_table.specs.declared.table.NameState.TheVariants as name
 
@@ -47,7 +48,8 @@ module _ (m : Setup) (b : Books) (calls : List CallLine) (f : Facts m b calls) w
         | inr none ↦ omega (arith, none)
       ]
 
-  pub objects_one : (k n : ℕ) → 0 < b.stock.objects k n → sum_by (λ (a : Account). loose n a.doing + objects_at n a.hand) b.accounts + sum_by (named_at n) b.names + over_classes m.rows (λ j. b.stock.stored j n) ≡ 1
+  pub objects_one : (k n : ℕ) → 0 < b.stock.objects k n
+      → sum_by (λ (a : Account). loose n a.doing + objects_at n a.hand) b.accounts + sum_by (named_at n) b.names + over_classes m.rows (λ j. b.stock.stored j n) ≡ 1
   objects_one k n some =
       let both = sum_of_both (λ (a : Account). loose n a.doing + objects_at n a.hand) (λ (a : Account). spans_at n a.apart) b.accounts in
       omega (arith, both, f.places n, f.begins n, begins_all k n some, objects_once m b calls f k n some)

@@ -1,5 +1,6 @@
 -- Each kind of decided call keeps that the calls are a run on disjoint blocks, of which each label has its own.
-use Rattle.std.proofs.Common.{Bool, ◌≡◌, ℕ, ◌+◌, ◌<◌, true, false, not, eqb, ltb, cond, List, [], ◌∷◌, ◌++◌, Option, Some, None, refl, sym, ap, ◌∙◌, subst, arith, ◌⊎◌, inl, inr, sum}
+use Rattle.std.proofs.Common.{Bool, ◌≡◌, ℕ, ◌+◌, ◌<◌, true, false, not, eqb, ltb, cond, List, [], ◌∷◌, ◌++◌}
+use Rattle.std.proofs.Common.{Option, Some, None, refl, sym, ap, ◌∙◌, subst, arith, ◌⊎◌, inl, inr, sum}
 use Rattle.std.specs.Prelude.{◌==◌, is_some, find, All}
 use Rattle.std.proofs.lemmas.Bool.{cases_Bool, eqb-true, eqb-false, lt-ltb, false≢true, or_parts, or_cases, cond-true, cond-false, and_from, eq-eqb, ne_eqb}
 use Rattle.std.proofs.lemmas.List.Elements.{All-filter}
@@ -16,7 +17,8 @@ use Rattle.holdings.specs.Kept.{HasBlock, IsOfMalloc, AreKept}
 use Rattle.tc_model.specs.declared.calls.Call.{Call}
 use Rattle.holdings.specs.Moves.{IsOther}
 use Rattle.holdings.proofs.Sums.{All-kept, All-weaken}
-use Rattle.holdings.proofs.CallFacts.{IsBlockRun-push, answer_cases, answer_to-push_new, answer_to-push_old, blocks_after-push, find-with_block_other, find-with_block_same, find-without_block, find_all, find_apart, freed_in-push}
+use Rattle.holdings.proofs.CallFacts.{IsBlockRun-push, answer_cases, answer_to-push_new, answer_to-push_old, blocks_after-push, find-with_block_other}
+use Rattle.holdings.proofs.CallFacts.{find-with_block_same, find-without_block, find_all, find_apart, freed_in-push}
 
 module _ (calls : List CallLine) (c : CallLine) where
   -- a label that a call frees was freed before, or the call frees it
@@ -24,7 +26,8 @@ module _ (calls : List CallLine) (c : CallLine) where
   kept_before label kept = or_parts (freed_in label calls) (frees label c.call) (sym (freed_in-push label calls c) ∙ kept)
 
   -- an answer that a label has after a call is one that it had, or the call's
-  answer_before : (label : ℕ) (answer : Answer) → answer_to label (calls ++ c ∷ []) ≡ Some answer → (answer_to label calls ≡ Some answer) ⊎ ((allocates label c.call ≡ true) × (c.answer ≡ answer))
+  answer_before : (label : ℕ) (answer : Answer) → answer_to label (calls ++ c ∷ []) ≡ Some answer
+      → (answer_to label calls ≡ Some answer) ⊎ ((allocates label c.call ≡ true) × (c.answer ≡ answer))
   answer_before label answer h =
       elim (answer_cases (answer_to label calls)) [
         | inl none ↦
@@ -45,7 +48,8 @@ module _ (calls : List CallLine) (c : CallLine) where
       ]
 
   -- a call frees no label that has no answer
-  known_after : ((label : ℕ) → freed_in label calls ≡ true → is_some (answer_to label calls) ≡ true) → ((label : ℕ) → frees label c.call ≡ true → is_some (answer_to label calls) ≡ true)
+  known_after : ((label : ℕ) → freed_in label calls ≡ true → is_some (answer_to label calls) ≡ true)
+      → ((label : ℕ) → frees label c.call ≡ true → is_some (answer_to label calls) ≡ true)
       → (label : ℕ) → freed_in label (calls ++ c ∷ []) ≡ true → is_some (answer_to label (calls ++ c ∷ [])) ≡ true
   known_after known own label h =
       let has : is_some (answer_to label calls) ≡ true =
@@ -77,8 +81,10 @@ meet b c low high = and_from (ltb b.addr (c.addr + c.len)) (ltb c.addr (b.addr +
 
 module _ {round : ℕ → ℕ} {huge : ℕ} {calls : List CallLine} (kept : AreKept round huge calls) where
   -- a call that gives no block and takes none: it allocates no label with one, and frees none that has one
-  kept_quiet : (c : CallLine) → IsAllowed huge round calls c.call c.answer → blocks_with (blocks_after calls) c.answer ≡ blocks_after calls → ((l : ℕ) → allocates l c.call ≡ true → c.answer ≡ NoBlock)
-      → ((l : ℕ) → frees l c.call ≡ true → is_some (answer_to l calls) ≡ true) → ((l : ℕ) (addr : Addr) (len : ℕ) → HasBlock calls l addr len → frees l c.call ≡ false) → AreKept round huge (calls ++ c ∷ [])
+  kept_quiet : (c : CallLine) → IsAllowed huge round calls c.call c.answer
+      → blocks_with (blocks_after calls) c.answer ≡ blocks_after calls → ((l : ℕ) → allocates l c.call ≡ true → c.answer ≡ NoBlock)
+      → ((l : ℕ) → frees l c.call ≡ true → is_some (answer_to l calls) ≡ true)
+      → ((l : ℕ) (addr : Addr) (len : ℕ) → HasBlock calls l addr len → frees l c.call ≡ false) → AreKept round huge (calls ++ c ∷ [])
   kept_quiet c allowed blocks none own unfreed =
       let same : blocks_after (calls ++ c ∷ []) ≡ blocks_after calls = blocks_after-push calls c ∙ blocks in
       let old : (l : ℕ) (addr : Addr) (len : ℕ) → HasBlock (calls ++ c ∷ []) l addr len → HasBlock calls l addr len =
@@ -148,7 +154,8 @@ module _ {round : ℕ → ℕ} {huge : ℕ} {calls : List CallLine} (kept : AreK
         }
 
     -- the block that a label finds
-    found_now : (l : ℕ) (a : Addr) (n : ℕ) → HasBlock (calls ++ line ∷ []) l a n → find (λ b. b.addr == a.0) (with_block place (blocks_after calls)) ≡ Some (record { addr = a.0; len = n })
+    found_now : (l : ℕ) (a : Addr) (n : ℕ) → HasBlock (calls ++ line ∷ []) l a n
+        → find (λ b. b.addr == a.0) (with_block place (blocks_after calls)) ≡ Some (record { addr = a.0; len = n })
     found_now l a n has =
         elim (of_label l a n has) [
           | inl before ↦ find-with_block_other place a.0 (blocks_after calls) (older l a n before) ∙ kept.stands l a n before

@@ -45,7 +45,8 @@ module _ {m : Setup} {b : Books} {calls : List CallLine} (f : Facts m b calls) (
       let s = span_of m b calls f o.class x.addr o.object in
       meets_inner c x (block_of (run_of s.span)) s.from (omega (arith, s.to, o.size)) (apart s.span s.owned)
 
-  pub gets_none : (label : Label) (size : ℕ) → a.doing ≡ Asks label size → Facts m (books_with b b.stock b.heap b.spans b.names t (about a (Publishes label None))) (calls ++ record { thread = record { 0 = t }; call = Malloc label size; answer = NoBlock } ∷ [])
+  pub gets_none : (label : Label) (size : ℕ) → a.doing ≡ Asks label size
+      → Facts m (books_with b b.stock b.heap b.spans b.names t (about a (Publishes label None))) (calls ++ record { thread = record { 0 = t }; call = Malloc label size; answer = NoBlock } ∷ [])
   gets_none label size is =
       let self = f.selves t a at in
       let c : CallLine = record { thread = record { 0 = t }; call = Malloc label size; answer = NoBlock } in
@@ -66,7 +67,8 @@ module _ {m : Setup} {b : Books} {calls : List CallLine} (f : Facts m b calls) (
       (spans_still f t a w at b.stock.owned (λ r. refl) (λ s. refl) (λ s. refl))
       (places_still f t a w at (λ n. let z = zero_held n in omega (arith, z)) (λ n. refl) (λ k n. refl))
 
-  pub gets_run : (label : Label) (size : ℕ) (r : Run) → a.doing ≡ Asks label size → a.off ≡ [] → IsPlaced m.huge b.heap (pages_holding size) r → length_of m.rows size ≡ r.pages * page_bytes
+  pub gets_run : (label : Label) (size : ℕ) (r : Run) → a.doing ≡ Asks label size → a.off ≡ []
+      → IsPlaced m.huge b.heap (pages_holding size) r → length_of m.rows size ≡ r.pages * page_bytes
       → Facts m (books_with b b.stock (r ∷ b.heap) b.spans b.names t (record (about a (Publishes label (Some (address_of r)))) { off = r ∷ [] })) (calls ++ record { thread = record { 0 = t }; call = Malloc label size; answer = Block (address_of r) (r.pages * page_bytes) } ∷ [])
   gets_run label size r is empty placed length_is =
       let self = f.selves t a at in
@@ -145,7 +147,8 @@ module _ {m : Setup} {b : Books} {calls : List CallLine} (f : Facts m b calls) (
         ]),
       )
 
-  pub frees_run : (label : Label) (r : Run) → a.doing ≡ Holds label (address_of r) → a.off ≡ r ∷ [] → a.apart ≡ [] → a.clears ≡ [] → Facts m (books_with b b.stock (less r b.heap) b.spans b.names t (record (about a Other) { off = [] })) (calls ++ record { thread = record { 0 = t }; call = Free label; answer = Freed (address_of r) } ∷ [])
+  pub frees_run : (label : Label) (r : Run) → a.doing ≡ Holds label (address_of r) → a.off ≡ r ∷ [] → a.apart ≡ [] → a.clears ≡ []
+      → Facts m (books_with b b.stock (less r b.heap) b.spans b.names t (record (about a Other) { off = [] })) (calls ++ record { thread = record { 0 = t }; call = Free label; answer = Freed (address_of r) } ∷ [])
   frees_run label r is first empty clear =
       let self = f.selves t a at in
       let c : CallLine = record { thread = record { 0 = t }; call = Free label; answer = Freed (address_of r) } in

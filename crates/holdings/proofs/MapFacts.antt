@@ -6,7 +6,8 @@ use Rattle.holdings.specs.Books.{Books, IsOfClass, Setup, class_number, over_cla
 use Rattle.tc_model.specs.declared.answers.CallLine.{CallLine}
 use Rattle.holdings.specs.Facts.{Facts}
 use Rattle.tc_units.specs.declared.spans.SpanKind.TheVariants.{Large, Small}
-use Rattle.std.proofs.Common.{List, Some, [], ap, arith, eqb, false, inl, inr, leb, length, ltb, subst, sym, true, ℕ, ◌*◌, ◌+◌, ◌/◌, ◌<◌, ◌∙◌, ◌∷◌, ◌≡◌, ◌≢◌, ◌≤◌, ◌⊎◌, Bool, refl, ◌&&◌}
+use Rattle.std.proofs.Common.{List, Some, [], ap, arith, eqb, false, inl, inr, leb, length, ltb, subst, sym, true, ℕ, ◌*◌, ◌+◌}
+use Rattle.std.proofs.Common.{◌/◌, ◌<◌, ◌∙◌, ◌∷◌, ◌≡◌, ◌≢◌, ◌≤◌, ◌⊎◌, Bool, refl, ◌&&◌}
 use Rattle.tc_units.specs.declared.spans.Run.{Run}
 use Rattle.tc_units.specs.declared.spans.SpanKind.{SpanKind}
 use Rattle.tc_units.specs.declared.spans.SpanRef.{SpanRef}
@@ -17,7 +18,8 @@ use Rattle.tc_model.specs.Blocks.{meets}
 use Rattle.tc_units.specs.Units.{page_bytes}
 use Rattle.std.specs.List.{slice_get}
 use Rattle.tc_units.specs.declared.units.Class.{Class}
-use Rattle.holdings.proofs.Sums.{among, bit_is, class_alone, class_counts, counts_both, counts_most, least, like, like_span, of_run, same_run_is, same_run_refl, same_run_start, same_span_is, same_span_refl, same_span_run, starting, starting_span}
+use Rattle.holdings.proofs.Sums.{among, bit_is, class_alone, class_counts, counts_both, counts_most, least, like, like_span, of_run, same_run_is}
+use Rattle.holdings.proofs.Sums.{same_run_refl, same_run_start, same_span_is, same_span_refl, same_span_run, starting, starting_span}
 use Rattle.page_map.specs.Spans as map
 
 -- runs and spans in lists

@@ -13,13 +13,15 @@ use Rattle.tc_units.specs.declared.spans.SpanRef.{SpanRef}
 use Rattle.holdings.specs.Moves.{books_with}
 use Rattle.std.proofs.lemmas.Bool.{cases_Bool, cases_eq, eq-eqb, ne_eqb}
 use Rattle.std.specs.List.{slice_get}
-use Rattle.holdings.proofs.Sums.{bit_most, least, less_counts, like, like_span, none_counts, of_run, one_at, same_run_is, same_run_refl, same_run_start, same_span_refl, same_span_run, shift, starting, two, without_counts}
+use Rattle.holdings.proofs.Sums.{bit_most, least, less_counts, like, like_span, none_counts, of_run, one_at, same_run_is, same_run_refl}
+use Rattle.holdings.proofs.Sums.{same_run_start, same_span_refl, same_span_run, shift, starting, two, without_counts}
 use Rattle.holdings.proofs.Groups.{heap_facts, heap_less, heap_more, labels_still, moved, places_still, still}
 use Rattle.holdings.proofs.MapFacts.{large_apart, like_at, mapped_class, mapped_there, no_object, off_lives, run_at, small_apart, span_run}
 
 module _ {m : Setup} {b : Books} {calls : List CallLine} (f : Facts m b calls) (t : ℕ) (a : Account) (at : slice_get b.accounts t ≡ Some a) where
   -- the run of a new span
-  pub gets_span : (r : Run) → a.class < length m.rows → a.off ≡ [] → IsPlaced m.huge b.heap (pages_of m.rows a.class) r → Facts m (books_with b b.stock (r ∷ b.heap) b.spans b.names t (record a { off = r ∷ []; apart = small (class_number a.class) r ∷ a.apart })) calls
+  pub gets_span : (r : Run) → a.class < length m.rows → a.off ≡ [] → IsPlaced m.huge b.heap (pages_of m.rows a.class) r
+      → Facts m (books_with b b.stock (r ∷ b.heap) b.spans b.names t (record a { off = r ∷ []; apart = small (class_number a.class) r ∷ a.apart })) calls
   gets_span r below clear placed =
       let self = f.selves t a at in
       let s : SpanRef = small (class_number a.class) r in
@@ -87,7 +89,9 @@ module _ {m : Setup} {b : Books} {calls : List CallLine} (f : Facts m b calls) (
       (places_still f t a w at (λ n. refl) (λ n. refl) (λ k n. refl))
 
   -- as does a class's
-  pub sets_span : (r : Run) (apart : List SpanRef) → a.off ≡ r ∷ [] → a.apart ≡ small (class_number a.class) r ∷ apart → a.mapped ≡ [] → Facts m (books_with b b.stock b.heap (small (class_number a.class) r ∷ b.spans) b.names t (record a { off = []; mapped = small (class_number a.class) r ∷ [] })) calls
+  pub sets_span : (r : Run) (apart : List SpanRef) → a.off ≡ r ∷ [] → a.apart ≡ small (class_number a.class) r ∷ apart
+      → a.mapped ≡ []
+      → Facts m (books_with b b.stock b.heap (small (class_number a.class) r ∷ b.spans) b.names t (record a { off = []; mapped = small (class_number a.class) r ∷ [] })) calls
   sets_span r apart is first empty =
       let self = f.selves t a at in
       let s : SpanRef = small (class_number a.class) r in
@@ -128,7 +132,8 @@ module _ {m : Setup} {b : Books} {calls : List CallLine} (f : Facts m b calls) (
         | inr apart ↦ omega (arith, own, two (held_at (first_byte r)) b.accounts i t x a apart other at, (f.selves i x other).cleared r, f.places (first_byte r), f.starts (first_byte r), no_object m b calls f r there)
       ])
 
-  pub finds_run : (label : Label) (r : Run) → a.doing ≡ Holds label (address_of r) → 0 < spans_like (large r) b.spans → a.clears ≡ [] → Facts m (books_with b b.stock b.heap b.spans b.names t (record a { clears = large r ∷ [] })) calls
+  pub finds_run : (label : Label) (r : Run) → a.doing ≡ Holds label (address_of r) → 0 < spans_like (large r) b.spans
+      → a.clears ≡ [] → Facts m (books_with b b.stock b.heap b.spans b.names t (record a { clears = large r ∷ [] })) calls
   finds_run label r is there empty =
       let self = f.selves t a at in
       let w : Account = record a { clears = large r ∷ [] } in
@@ -161,7 +166,8 @@ module _ {m : Setup} {b : Books} {calls : List CallLine} (f : Facts m b calls) (
       (places_still f t a w at (λ n. refl) (λ n. refl) (λ k n. refl))
 
   -- and its span goes from the map
-  pub clears_run : (label : Label) (r : Run) → a.doing ≡ Holds label (address_of r) → a.clears ≡ large r ∷ [] → a.off ≡ [] → Facts m (books_with b b.stock b.heap (without (large r) b.spans) b.names t (record a { clears = []; off = r ∷ [] })) calls
+  pub clears_run : (label : Label) (r : Run) → a.doing ≡ Holds label (address_of r) → a.clears ≡ large r ∷ [] → a.off ≡ []
+      → Facts m (books_with b b.stock b.heap (without (large r) b.spans) b.names t (record a { clears = []; off = r ∷ [] })) calls
   clears_run label r is first empty =
       let self = f.selves t a at in
       let w : Account = record a { clears = []; off = r ∷ [] } in
@@ -190,7 +196,8 @@ module _ {m : Setup} {b : Books} {calls : List CallLine} (f : Facts m b calls) (
       (places_still f t a w at (λ n. refl) (λ n. refl) (λ k n. refl))
 
   -- as does the span of a class that left its shard
-  pub clears_span : (s : SpanRef) (mapped : List SpanRef) → a.mapped ≡ s ∷ mapped → a.off ≡ [] → Facts m (books_with b b.stock b.heap (without s b.spans) b.names t (record a { mapped = mapped; off = run_of s ∷ [] })) calls
+  pub clears_span : (s : SpanRef) (mapped : List SpanRef) → a.mapped ≡ s ∷ mapped → a.off ≡ []
+      → Facts m (books_with b b.stock b.heap (without s b.spans) b.names t (record a { mapped = mapped; off = run_of s ∷ [] })) calls
   clears_span s mapped first empty =
       let self = f.selves t a at in
       let w : Account = record a { mapped = mapped; off = run_of s ∷ [] } in
@@ -226,7 +233,8 @@ module _ {m : Setup} {b : Books} {calls : List CallLine} (f : Facts m b calls) (
       (places_still f t a w at (λ n. refl) (λ n. refl) (λ k n. refl))
 
   -- and its run from the heap
-  pub frees_span : (s : SpanRef) (apart : List SpanRef) → a.off ≡ run_of s ∷ [] → a.apart ≡ s ∷ apart → a.mapped ≡ apart → Facts m (books_with b b.stock (less (run_of s) b.heap) b.spans b.names t (record a { off = []; apart = apart })) calls
+  pub frees_span : (s : SpanRef) (apart : List SpanRef) → a.off ≡ run_of s ∷ [] → a.apart ≡ s ∷ apart → a.mapped ≡ apart
+      → Facts m (books_with b b.stock (less (run_of s) b.heap) b.spans b.names t (record a { off = []; apart = apart })) calls
   frees_span s apart is first rest =
       let self = f.selves t a at in
       let w : Account = record a { off = []; apart = apart } in

@@ -2,7 +2,8 @@
 use Rattle.holdings.specs.Accounts.{Account}
 use Rattle.holdings.specs.Books.{Books, Setup, Stock}
 use Rattle.tc_model.specs.declared.answers.CallLine.{CallLine}
-use Rattle.holdings.specs.Moves.{ClearsRun, ClearsSpan, FindsObject, FindsRun, FreesObject, FreesRun, FreesSpan, GetsFirst, GetsNone, GetsObject, GetsRun, GetsSpan, Move, MovesHand, Names, Nothing, One, Rests, Said, SaysOther, SetsRun, SetsSpan, TakesAddr, TakesNull, books_with, lines}
+use Rattle.holdings.specs.Moves.{ClearsRun, ClearsSpan, FindsObject, FindsRun, FreesObject, FreesRun, FreesSpan, GetsFirst, GetsNone, GetsObject, GetsRun, GetsSpan}
+use Rattle.holdings.specs.Moves.{Move, MovesHand, Names, Nothing, One, Rests, Said, SaysOther, SetsRun, SetsSpan, TakesAddr, TakesNull, books_with, lines}
 use Rattle.holdings.specs.Facts.{Facts}
 use Rattle.std.proofs.Common.{List, Some, [], subst, sym, ℕ, ◌++◌, ◌≡◌}
 use Rattle.holdings.specs.Laws.{MovesKeep}
@@ -26,7 +27,9 @@ other_said m b calls t (One said is) f = says_other m b calls (record { thread =
 silent : (m : Setup) (b : Books) (calls : List CallLine) → Facts m b calls → Facts m b (calls ++ [])
 silent m b calls f = subst (Facts m b) (sym (append-nil calls)) f
 
-move_keeps : (m : Setup) (b : Books) (calls : List CallLine) (t : ℕ) (a : Account) {stock : Stock} {heap : List Run} {spans : List SpanRef} {names : List NameState} {w : Account} {new : List Said} → Facts m b calls → slice_get b.accounts t ≡ Some a → Move m b a stock heap spans names w new → Facts m (books_with b stock heap spans names t w) (calls ++ lines t new)
+move_keeps : (m : Setup) (b : Books) (calls : List CallLine) (t : ℕ) (a : Account) {stock : Stock} {heap : List Run} {spans : List SpanRef} {names : List NameState} {w : Account} {new : List Said}
+    → Facts m b calls → slice_get b.accounts t ≡ Some a → Move m b a stock heap spans names w new
+    → Facts m (books_with b stock heap spans names t w) (calls ++ lines t new)
 move_keeps m b calls t a f at (Rests w new same says) = other_said m _ calls t says (becomes_once m b calls f t a w at same)
 move_keeps m b calls t a f at (GetsNone label size w is same) = becomes m b t a _ w _ _ _ _ _ at (gets_none f t a at label size is) same
 move_keeps m b calls t a f at (GetsRun label size r w is clear placed length_is same) = becomes m b t a _ w _ _ _ _ _ at (gets_run f t a at label size r is clear placed length_is) same

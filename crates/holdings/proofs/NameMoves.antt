@@ -28,7 +28,9 @@ module _ {m : Setup} {b : Books} {calls : List CallLine} (f : Facts m b calls) (
   stands_still : (w : Account) (names : List NameState) → w.apart ≡ a.apart → All (IsStanding m (books_with b b.stock b.heap b.spans names t w)) (blocks_after calls)
   stands_still w names apart = still f t a w at b.heap b.spans names (λ x l. (l.live, l.unmapped, ap (spans_of_run l.run) apart ∙ l.unheld t a at))
 
-  pub publishes_name : (label : Label) (value : Option Addr) → a.doing ≡ Publishes label value → a.off ≡ [] → a.clears ≡ [] → state_of b.names label.0 ≡ name.Unpublished → Facts m (books_with b b.stock b.heap b.spans (slice_set b.names label.0 (name.Published value)) t (about a Other)) calls
+  pub publishes_name : (label : Label) (value : Option Addr) → a.doing ≡ Publishes label value → a.off ≡ [] → a.clears ≡ []
+      → state_of b.names label.0 ≡ name.Unpublished
+      → Facts m (books_with b b.stock b.heap b.spans (slice_set b.names label.0 (name.Published value)) t (about a Other)) calls
   publishes_name label value is empty clear old =
       let self = f.selves t a at in
       let w : Account = about a Other in
@@ -53,7 +55,8 @@ module _ {m : Setup} {b : Books} {calls : List CallLine} (f : Facts m b calls) (
 
   -- a taken label, with nothing held before
   module _ (label : Label) (is : a.doing ≡ Takes label) where
-    places_taken : (u : Option Addr) (d : Doing) → state_of b.names label.0 ≡ name.Published u → ((n : ℕ) → loose n d ≡ bit (is_at n u)) → PlaceFacts m.rows b.stock b.heap (slice_set b.names label.0 name.Taken) (slice_set b.accounts t (about a d))
+    places_taken : (u : Option Addr) (d : Doing) → state_of b.names label.0 ≡ name.Published u → ((n : ℕ) → loose n d ≡ bit (is_at n u))
+        → PlaceFacts m.rows b.stock b.heap (slice_set b.names label.0 name.Taken) (slice_set b.accounts t (about a d))
     places_taken u d old same =
         let w : Account = about a d in
         let there = takes_within f t a at w refl label is in
@@ -78,7 +81,8 @@ module _ {m : Setup} {b : Books} {calls : List CallLine} (f : Facts m b calls) (
           cleared = λ q. let e : loose (first_byte q) a.doing ≡ 0 = ap (loose (first_byte q)) is in omega (arith, self.cleared q, e);
         }
 
-    pub takes_addr : (o : Addr) → state_of b.names label.0 ≡ name.Published (Some o) → Facts m (books_with b b.stock b.heap b.spans (slice_set b.names label.0 name.Taken) t (about a (Holds label o))) calls
+    pub takes_addr : (o : Addr) → state_of b.names label.0 ≡ name.Published (Some o)
+        → Facts m (books_with b b.stock b.heap b.spans (slice_set b.names label.0 name.Taken) t (about a (Holds label o))) calls
     takes_addr o old =
         let w : Account = about a (Holds label o) in
         let names : List NameState = slice_set b.names label.0 name.Taken in
@@ -87,7 +91,8 @@ module _ {m : Setup} {b : Books} {calls : List CallLine} (f : Facts m b calls) (
         (spans_still f t a w at b.stock.owned (λ r. refl) (λ s. refl) (λ s. refl))
         (places_taken (Some o) (Holds label o) old (λ n. refl))
 
-    pub takes_null : state_of b.names label.0 ≡ name.Published None → Facts m (books_with b b.stock b.heap b.spans (slice_set b.names label.0 name.Taken) t (about a Other)) (calls ++ record { thread = record { 0 = t }; call = Free label; answer = FreedNull } ∷ [])
+    pub takes_null : state_of b.names label.0 ≡ name.Published None
+        → Facts m (books_with b b.stock b.heap b.spans (slice_set b.names label.0 name.Taken) t (about a Other)) (calls ++ record { thread = record { 0 = t }; call = Free label; answer = FreedNull } ∷ [])
     takes_null old =
         let c : CallLine = record { thread = record { 0 = t }; call = Free label; answer = FreedNull } in
         let w : Account = about a Other in

@@ -35,7 +35,8 @@ one_free label label' o o' is = cc
 
 module _ {m : Setup} {b : Books} {calls : List CallLine} (f : Facts m b calls) (t : ℕ) (a : Account) (at : slice_get b.accounts t ≡ Some a) where
   -- spans that leave their shards were of the map, and of no large block
-  freed_spans : (g : Stock) (freed : List SpanRef) → ((s : SpanRef) → g.owned s + spans_like s freed ≡ b.stock.owned s) → (q : Run) → ((k : ℕ) → spans_like (small (class_number k) q) b.spans ≡ 0) → spans_of_run q freed ≡ 0
+  freed_spans : (g : Stock) (freed : List SpanRef) → ((s : SpanRef) → g.owned s + spans_like s freed ≡ b.stock.owned s)
+      → (q : Run) → ((k : ℕ) → spans_like (small (class_number k) q) b.spans ≡ 0) → spans_of_run q freed ≡ 0
   freed_spans g freed left q unmapped =
       elim (cases_lt 0 (spans_of_run q freed)) [
         | inl some ↦
@@ -103,7 +104,9 @@ module _ {m : Setup} {b : Books} {calls : List CallLine} (f : Facts m b calls) (
             classes = stock_classes f t a at g hand stocked then refl (λ n. omega arith);
           }
 
-      stands_hand : (x : Extent) → IsStanding m b x → Labelled calls x → ((label : Label) (o : Addr) → a.doing ≡ Frees label o → o.0 ≡ x.addr → 0 < objects_at x.addr hand) → IsStanding m (books_with b g b.heap b.spans b.names t then) x
+      stands_hand : (x : Extent) → IsStanding m b x → Labelled calls x
+          → ((label : Label) (o : Addr) → a.doing ≡ Frees label o → o.0 ≡ x.addr → 0 < objects_at x.addr hand)
+          → IsStanding m (books_with b g b.heap b.spans b.names t then) x
       stands_hand x stands own frees = stands_on f t a at g hand stocked then x stands own frees (λ q unmapped unheld. let e = counts_append (of_run q) freed a.apart in omega (arith, e, unheld, freed_spans g freed move.spans q unmapped))
 
     pub moves_hand : ((label : Label) (o : Addr) → a.doing ≡ Frees label o → 0 < objects_at o.0 hand) → Facts m (books_with b g b.heap b.spans b.names t (with_hand a hand freed)) calls
@@ -115,7 +118,8 @@ module _ {m : Setup} {b : Books} {calls : List CallLine} (f : Facts m b calls) (
         (labels_still f t a w at (λ x. refl) (λ x. refl) (λ x. refl) (λ x. refl) (λ x v. refl))
         (spans_hand a.doing (λ n. refl)) (places_hand a.doing (λ n. refl))
 
-    pub frees_object : (label : Label) (o : Addr) → a.doing ≡ Frees label o → Facts m (books_with b g b.heap b.spans b.names t (with_hand (about a Other) hand freed)) (calls ++ record { thread = record { 0 = t }; call = Free label; answer = Freed o } ∷ [])
+    pub frees_object : (label : Label) (o : Addr) → a.doing ≡ Frees label o
+        → Facts m (books_with b g b.heap b.spans b.names t (with_hand (about a Other) hand freed)) (calls ++ record { thread = record { 0 = t }; call = Free label; answer = Freed o } ∷ [])
     frees_object label o is =
         let c : CallLine = record { thread = record { 0 = t }; call = Free label; answer = Freed o } in
         let w : Account = with_hand (about a Other) hand freed in
@@ -218,7 +222,8 @@ module _ {m : Setup} {b : Books} {calls : List CallLine} (f : Facts m b calls) (
         (record { inside = record { some = some; from = omega (arith, run.inside.from, s.from); to = omega (arith, run.inside.to, s.to) }; apart = none_meets place (blocks_after calls) apart })
         (sym (class_length m.rows size a.class class).1) some
 
-    pub live_object : (w : Account) → ((q : Run) → spans_of_run q a.apart ≡ 0 → spans_of_run q w.apart ≡ 0) → All (IsStanding m (books_with b g b.heap b.spans b.names t w)) (blocks_after (calls ++ line ∷ []))
+    pub live_object : (w : Account) → ((q : Run) → spans_of_run q a.apart ≡ 0 → spans_of_run q w.apart ≡ 0)
+        → All (IsStanding m (books_with b g b.heap b.spans b.names t w)) (blocks_after (calls ++ line ∷ []))
     live_object w apart =
         subst (All (IsStanding m (books_with b g b.heap b.spans b.names t w))) (sym (blocks_after-push calls line))
         (All-with_item (λ (b : Extent). b.addr) (IsStanding m (books_with b g b.heap b.spans b.names t w)) place (blocks_after calls) (inr (record { class = a.class; object = object; size = refl }))

@@ -78,7 +78,8 @@ self_same m a w self same =
           omega (arith, self.cleared r, c, l);
     }
 
-pub becomes_once : (m : Setup) (b : Books) (calls : List CallLine) (f : Facts m b calls) (t : ℕ) (a w : Account) → slice_get b.accounts t ≡ Some a → WeighSame a w → Facts m (books_with b b.stock b.heap b.spans b.names t w) calls
+pub becomes_once : (m : Setup) (b : Books) (calls : List CallLine) (f : Facts m b calls) (t : ℕ) (a w : Account)
+    → slice_get b.accounts t ≡ Some a → WeighSame a w → Facts m (books_with b b.stock b.heap b.spans b.names t w) calls
 becomes_once m b calls f t a w at same =
     let apart : (r : Run) → spans_of_run r w.apart ≡ spans_of_run r a.apart = λ r. ap (spans_of_run r) same.apart in
     moved f t a w at b.stock b.heap b.spans b.names calls f.kept
@@ -93,7 +94,9 @@ becomes_once m b calls f t a w at same =
     omega (arith, o, s, l)) (λ n. ap (spans_at n) same.apart) same.classes)
 
 -- an account comes to be another that weighs the same
-pub becomes : (m : Setup) (b : Books) (t : ℕ) (a w w' : Account) (stock : Stock) (heap : List Run) (spans : List SpanRef) (names : List NameState) (calls : List CallLine) → slice_get b.accounts t ≡ Some a → Facts m (books_with b stock heap spans names t w) calls → WeighSame w w' → Facts m (books_with b stock heap spans names t w') calls
+pub becomes : (m : Setup) (b : Books) (t : ℕ) (a w w' : Account) (stock : Stock) (heap : List Run) (spans : List SpanRef) (names : List NameState) (calls : List CallLine)
+    → slice_get b.accounts t ≡ Some a → Facts m (books_with b stock heap spans names t w) calls
+    → WeighSame w w' → Facts m (books_with b stock heap spans names t w') calls
 becomes m b t a w w' stock heap spans names calls at f same =
     subst (λ (xs : List Account). Facts m (record { stock = stock; heap = heap; spans = spans; names = names; accounts = xs }) calls) (set_twice b.accounts t w w')
     (becomes_once m (books_with b stock heap spans names t w) calls f t w w' (set_here b.accounts t w a at) same)

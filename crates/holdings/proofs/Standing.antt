@@ -1,5 +1,6 @@
 -- What one more call makes of the values of labels.
-use Rattle.std.proofs.Common.{◌≡◌, ℕ, ◌+◌, ◌<◌, Bool, true, false, ◌||◌, ◌&&◌, eqb, cond, List, [], ◌∷◌, ◌++◌, Option, Some, None, refl, sym, ap, ◌∙◌, subst, arith, inl, inr, sum}
+use Rattle.std.proofs.Common.{◌≡◌, ℕ, ◌+◌, ◌<◌, Bool, true, false, ◌||◌, ◌&&◌, eqb, cond, List, [], ◌∷◌}
+use Rattle.std.proofs.Common.{◌++◌, Option, Some, None, refl, sym, ap, ◌∙◌, subst, arith, inl, inr, sum}
 use Rattle.std.proofs.lemmas.Bool.{cases_eq, eq-eqb, ne_eqb, eqb-true}
 use Rattle.tc_units.specs.declared.units.Addr.{Addr}
 use Rattle.tc_units.specs.declared.units.Label.{Label}
@@ -39,7 +40,9 @@ pub value_same : (calls : List CallLine) (c : CallLine) (x : ℕ) → allocates 
 value_same calls c x a f = rw (answer_same calls c x a, freed_same calls c x f) refl
 
 -- an allocation gives its label a value
-pub gain : (calls : List CallLine) (thread : ThreadNo) (label : Label) (size : ℕ) (answer : Answer) → answer_to label.0 calls ≡ None → freed_in label.0 calls ≡ false → (x : ℕ) (v : Option Addr) → standing x v (calls ++ record { thread = thread; call = Malloc label size; answer = answer } ∷ []) ≡ standing x v calls + bit (eqb label.0 x && same_value (value_of answer) v)
+pub gain : (calls : List CallLine) (thread : ThreadNo) (label : Label) (size : ℕ) (answer : Answer) → answer_to label.0 calls ≡ None → freed_in label.0 calls ≡ false
+    → (x : ℕ) (v : Option Addr)
+    → standing x v (calls ++ record { thread = thread; call = Malloc label size; answer = answer } ∷ []) ≡ standing x v calls + bit (eqb label.0 x && same_value (value_of answer) v)
 gain calls thread label size answer none unfreed x v =
     let c : CallLine = record { thread = thread; call = Malloc label size; answer = answer } in
     elim (cases_eq label.0 x) [
@@ -58,7 +61,9 @@ gain calls thread label size answer none unfreed x v =
     ]
 
 -- and its free takes that away
-pub lose : (calls : List CallLine) (thread : ThreadNo) (label : Label) (answer : Answer) (u : Option Addr) → value_after calls label.0 ≡ Some u → (x : ℕ) (v : Option Addr) → standing x v (calls ++ record { thread = thread; call = Free label; answer = answer } ∷ []) + bit (eqb label.0 x && same_value u v) ≡ standing x v calls
+pub lose : (calls : List CallLine) (thread : ThreadNo) (label : Label) (answer : Answer) (u : Option Addr) → value_after calls label.0 ≡ Some u
+    → (x : ℕ) (v : Option Addr)
+    → standing x v (calls ++ record { thread = thread; call = Free label; answer = answer } ∷ []) + bit (eqb label.0 x && same_value u v) ≡ standing x v calls
 lose calls thread label answer u has x v =
     let c : CallLine = record { thread = thread; call = Free label; answer = answer } in
     elim (cases_eq label.0 x) [
@@ -99,7 +104,8 @@ pub record HasAnswer (calls : List CallLine) (x : ℕ) (v : Option Addr) : Type 
   pub value : value_of answer ≡ v
   pub kept : freed_in x calls ≡ false
 
-has_answer_by : (calls : List CallLine) (x : ℕ) (v : Option Addr) (b : Bool) → freed_in x calls ≡ b → (o : Option Answer) → answer_to x calls ≡ o → cond b None (value_by o) ≡ Some v → HasAnswer calls x v
+has_answer_by : (calls : List CallLine) (x : ℕ) (v : Option Addr) (b : Bool) → freed_in x calls ≡ b
+    → (o : Option Answer) → answer_to x calls ≡ o → cond b None (value_by o) ≡ Some v → HasAnswer calls x v
 has_answer_by calls x v true freed o is has = absurd (cc)
 has_answer_by calls x v false freed None is has = absurd (cc)
 has_answer_by calls x v false freed (Some answer) is has = record { answer = answer; answered = is; value = cc; kept = freed }

@@ -2,7 +2,8 @@
 use Rattle.holdings.specs.Accounts.{Account, Frees, holding, in_hand, loose, means, named_at}
 use Rattle.tc_units.specs.declared.units.Addr.{Addr}
 use Rattle.holdings.specs.Books.{Books, IsCut, Setup, Stock, class_number, no_row, over_classes, size_of}
-use Rattle.std.proofs.Common.{Bool, List, None, Some, ap, arith, cond, eqb, false, get_or, inl, inr, length, ltb, option_map, refl, subst, sym, true, ℕ, ◌+◌, ◌<◌, ◌∙◌, ◌≡◌, ◌≢◌, ◌≤◌, ◌⊎◌}
+use Rattle.std.proofs.Common.{Bool, List, None, Some, ap, arith, cond, eqb, false, get_or, inl, inr, length, ltb, option_map, refl}
+use Rattle.std.proofs.Common.{subst, sym, true, ℕ, ◌+◌, ◌<◌, ◌∙◌, ◌≡◌, ◌≢◌, ◌≤◌, ◌⊎◌}
 use Rattle.tc_model.specs.declared.answers.CallLine.{CallLine}
 use Rattle.tc_units.specs.declared.units.Class.{Class}
 use Rattle.tc_units.specs.declared.spans.ClassRow.{ClassRow}
@@ -28,7 +29,9 @@ use Rattle.holdings.proofs.Held.{name_least, objects_one}
 use Rattle.holdings.proofs.Standing.{same_value_refl}
 use Rattle.name_table.specs.declared.table.NameState.TheVariants as name
 
-one_size : (rows : List ClassRow) (size k : ℕ) (b : Bool) → ltb (position_or_len (serves size) rows) (length rows) ≡ b → option_map (λ (n : ℕ). class_number n) (cond b (Some (position_or_len (serves size) rows)) None) ≡ Some (class_number k) → (k < length rows) × (length_of rows size ≡ size_of rows k)
+one_size : (rows : List ClassRow) (size k : ℕ) (b : Bool) → ltb (position_or_len (serves size) rows) (length rows) ≡ b
+    → option_map (λ (n : ℕ). class_number n) (cond b (Some (position_or_len (serves size) rows)) None) ≡ Some (class_number k)
+    → (k < length rows) × (length_of rows size ≡ size_of rows k)
 one_size rows size k false past is = absurd (cc)
 one_size rows size k true there is =
     let p : ℕ = position_or_len (serves size) rows in
@@ -73,7 +76,8 @@ module _ {m : Setup} {b : Books} {calls : List CallLine} (f : Facts m b calls) (
   hand_most n = omega (arith, own_hand n, least (in_hand a.class n) b.accounts t a at, f.classes a.class n)
 
   module _ (g : Stock) (came : List Addr) (st : Stocked g came) where
-    pub stock_places : (n : ℕ) → over_classes m.rows (λ k. g.stored k n) + objects_at n came + over_classes m.rows (λ k. b.stock.objects k n) ≡ over_classes m.rows (λ k. b.stock.stored k n) + objects_at n a.hand + over_classes m.rows (λ k. g.objects k n)
+    pub stock_places : (n : ℕ)
+        → over_classes m.rows (λ k. g.stored k n) + objects_at n came + over_classes m.rows (λ k. b.stock.objects k n) ≡ over_classes m.rows (λ k. b.stock.stored k n) + objects_at n a.hand + over_classes m.rows (λ k. g.objects k n)
     stock_places n =
         elim (cases_lt a.class (length m.rows)) [
           | inl below ↦
@@ -89,7 +93,8 @@ module _ {m : Setup} {b : Books} {calls : List CallLine} (f : Facts m b calls) (
               omega (arith, p, q, none, none', hand_most n, st.moves n)
         ]
 
-    pub stock_classes : (w : Account) → w.class ≡ a.class → ((n : ℕ) → objects_at n w.hand ≤ objects_at n came) → (k n : ℕ) → sum_by (in_hand k n) (slice_set b.accounts t w) + g.stored k n ≤ g.objects k n
+    pub stock_classes : (w : Account) → w.class ≡ a.class → ((n : ℕ) → objects_at n w.hand ≤ objects_at n came)
+        → (k n : ℕ) → sum_by (in_hand k n) (slice_set b.accounts t w) + g.stored k n ≤ g.objects k n
     stock_classes w class fewer k n =
         let s = shift (in_hand k n) b.accounts t a w at in
         elim (cases_eq k a.class) [
@@ -109,7 +114,8 @@ module _ {m : Setup} {b : Books} {calls : List CallLine} (f : Facts m b calls) (
         ]
 
     -- where an object's block stands, it is not in the stock; it is in the hand only where this call frees it
-    pub stands_where : (x : Extent) → Labelled calls x → 0 < b.stock.objects a.class x.addr → (b.stock.stored a.class x.addr ≡ 0) × ((objects_at x.addr a.hand ≡ 0) ⊎ ((label : Label) × (o : Addr) × (a.doing ≡ Frees label o) × (o.0 ≡ x.addr) × (objects_at x.addr a.hand ≡ 1)))
+    pub stands_where : (x : Extent) → Labelled calls x → 0 < b.stock.objects a.class x.addr
+        → (b.stock.stored a.class x.addr ≡ 0) × ((objects_at x.addr a.hand ≡ 0) ⊎ ((label : Label) × (o : Addr) × (a.doing ≡ Frees label o) × (o.0 ≡ x.addr) × (objects_at x.addr a.hand ≡ 1)))
     stands_where x own some =
         let n : ℕ = x.addr in
         let o : Addr = record { 0 = n } in
@@ -151,7 +157,8 @@ module _ {m : Setup} {b : Books} {calls : List CallLine} (f : Facts m b calls) (
         ]
 
     -- so a block still stands, but for that which the call frees
-    pub object_stays : (x : Extent) → Labelled calls x → ((label : Label) (o : Addr) → a.doing ≡ Frees label o → o.0 ≡ x.addr → 0 < objects_at x.addr came) → (k : ℕ) → 0 < b.stock.objects k x.addr → 0 < g.objects k x.addr
+    pub object_stays : (x : Extent) → Labelled calls x → ((label : Label) (o : Addr) → a.doing ≡ Frees label o → o.0 ≡ x.addr → 0 < objects_at x.addr came)
+        → (k : ℕ) → 0 < b.stock.objects k x.addr → 0 < g.objects k x.addr
     object_stays x own frees k some =
         elim (cases_eq k a.class) [
           | inl same ↦
@@ -165,7 +172,10 @@ module _ {m : Setup} {b : Books} {calls : List CallLine} (f : Facts m b calls) (
           | inr other ↦ let o = st.others k x.addr other in omega (arith, o.1, some)
         ]
 
-    pub stands_on : (w : Account) (x : Extent) → IsStanding m b x → Labelled calls x → ((label : Label) (o : Addr) → a.doing ≡ Frees label o → o.0 ≡ x.addr → 0 < objects_at x.addr came) → ((q : Run) → ((k : ℕ) → spans_like (small (class_number k) q) b.spans ≡ 0) → spans_of_run q a.apart ≡ 0 → spans_of_run q w.apart ≡ 0) → IsStanding m (books_with b g b.heap b.spans b.names t w) x
+    pub stands_on : (w : Account) (x : Extent) → IsStanding m b x → Labelled calls x
+        → ((label : Label) (o : Addr) → a.doing ≡ Frees label o → o.0 ≡ x.addr → 0 < objects_at x.addr came)
+        → ((q : Run) → ((k : ℕ) → spans_like (small (class_number k) q) b.spans ≡ 0) → spans_of_run q a.apart ≡ 0 → spans_of_run q w.apart ≡ 0)
+        → IsStanding m (books_with b g b.heap b.spans b.names t w) x
     stands_on w x stands own frees apart = elim stands [
       | inl l ↦ inl (large_still f t a w at g b.heap b.spans b.names x l l.live l.unmapped (apart l.run l.unmapped (l.unheld t a at)))
       | inr o ↦ inr (record { class = o.class; object = object_stays x own frees o.class o.object; size = o.size })

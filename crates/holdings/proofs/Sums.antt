@@ -1,5 +1,6 @@
 -- Sums over accounts, classes and names, and counts of runs, spans and objects.
-use Rattle.std.proofs.Common.{◌≡◌, ◌≢◌, ℕ, zero, suc, ◌+◌, ◌<◌, ◌≤◌, Bool, true, false, eqb, cond, List, [], ◌∷◌, ◌++◌, length, get_or, Some, refl, sym, ap, ◌∙◌, subst, arith, inl, inr, ◌⊎◌}
+use Rattle.std.proofs.Common.{◌≡◌, ◌≢◌, ℕ, zero, suc, ◌+◌, ◌<◌, ◌≤◌, Bool, true, false, eqb, cond, List, []}
+use Rattle.std.proofs.Common.{◌∷◌, ◌++◌, length, get_or, Some, refl, sym, ap, ◌∙◌, subst, arith, inl, inr, ◌⊎◌}
 use Rattle.std.specs.Prelude.{All, sum_by, filter}
 use Rattle.std.specs.List.{slice_get, slice_set, list_any, range_with_len}
 use Rattle.std.proofs.lemmas.Bool.{cases_Bool, cases_eq, eq-eqb, ne_eqb, eqb-true, and_parts, cases_lt}
@@ -99,7 +100,8 @@ sum_of_both f g [] = refl
 sum_of_both {X} f g (x ∷ xs) = omega (arith, sum_of_both f g xs, sum_by-cons (λ (y : X). f y + g y) x xs, sum_by-cons f x xs, sum_by-cons g x xs)
 
 -- accounts after one was written
-pub set_cases : {X : Type 0} (xs : List X) (t : ℕ) (l l' : X) → slice_get xs t ≡ Some l → (i : ℕ) (x : X) → slice_get (slice_set xs t l') i ≡ Some x → (l' ≡ x) ⊎ (slice_get xs i ≡ Some x)
+pub set_cases : {X : Type 0} (xs : List X) (t : ℕ) (l l' : X) → slice_get xs t ≡ Some l
+    → (i : ℕ) (x : X) → slice_get (slice_set xs t l') i ≡ Some x → (l' ≡ x) ⊎ (slice_get xs i ≡ Some x)
 set_cases xs t l l' there i x is =
     elim (cases_eq t i) [
       | inl same ↦ inl (let e : Some l' ≡ Some x = sym (set_here xs t l' l there) ∙ (ap (λ j. slice_get (slice_set xs t l') j) same ∙ is) in cc)
@@ -156,7 +158,8 @@ pub class_counts : (rows : List ClassRow) (f : ℕ → ℕ) → 0 < over_classes
 class_counts rows f some = let c = counted f (range_with_len 0 (length rows)) some in (c.one, c.some)
 
 -- Names, after one was written.
-pub name_cases : (names : List NameState) (i : ℕ) (new : NameState) → i < length names → (x : ℕ) → ((eqb i x ≡ true) × (state_of (slice_set names i new) x ≡ new) × (i ≡ x)) ⊎ ((eqb i x ≡ false) × (state_of (slice_set names i new) x ≡ state_of names x))
+pub name_cases : (names : List NameState) (i : ℕ) (new : NameState) → i < length names → (x : ℕ)
+    → ((eqb i x ≡ true) × (state_of (slice_set names i new) x ≡ new) × (i ≡ x)) ⊎ ((eqb i x ≡ false) × (state_of (slice_set names i new) x ≡ state_of names x))
 name_cases names i new within x =
     elim (cases_eq i x) [
       | inl same ↦ inl (eq-eqb i x same, subst (λ y. state_of (slice_set names i new) y ≡ new) same (get_or-set_same names i new _ within), same)
@@ -257,7 +260,8 @@ among {X} {f} {p} c (x ∷ xs) some =
     ]
 
 -- runs and spans without one of them
-without_by : {X : Type 0} (same : X → X → Bool) (r x : X) (xs ys : List X) {f : List X → ℕ} {p : X → ℕ} → ((y z : X) → same y z ≡ true → y ≡ z) → Counts f p → (b : Bool) → same x r ≡ b → (b ≡ false → f ys + p r ≡ f xs) → f (cond b xs (x ∷ ys)) + p r ≡ f (x ∷ xs)
+without_by : {X : Type 0} (same : X → X → Bool) (r x : X) (xs ys : List X) {f : List X → ℕ} {p : X → ℕ} → ((y z : X) → same y z ≡ true → y ≡ z)
+    → Counts f p → (b : Bool) → same x r ≡ b → (b ≡ false → f ys + p r ≡ f xs) → f (cond b xs (x ∷ ys)) + p r ≡ f (x ∷ xs)
 without_by same r x xs ys {f} {p} one c true is rest = let e : p x ≡ p r = ap p (one x r is) in omega (arith, e, c.more x xs)
 without_by same r x xs ys one c false is rest = omega (arith, rest refl, c.more x xs, c.more x ys)
 
