@@ -17,7 +17,8 @@ abbrev pub pages_of : List SpanState → List SpanRef
 pages_of spans = map (λ (x : SpanState). x.span) spans
 
 -- another state of a span in its place
-pub pages-set : (spans : List SpanState) (k : ℕ) (s t : SpanState) → k < length spans → ((d : SpanState) → get_or spans k d ≡ s) → t.span ≡ s.span → pages_of (set spans k t) ≡ pages_of spans
+pub pages-set : (spans : List SpanState) (k : ℕ) (s t : SpanState) → k < length spans
+    → ((d : SpanState) → get_or spans k d ≡ s) → t.span ≡ s.span → pages_of (set spans k t) ≡ pages_of spans
 pages-set spans k s t within here same =
     let there : get_or (pages_of spans) k s.span ≡ s.span = get_or-map (λ (x : SpanState). x.span) spans k s s.span within ∙ ap (λ x. x.span) (here s) in
     map-set (λ (x : SpanState). x.span) spans k t ∙ ap (set (pages_of spans) k) (same ∙ sym there) ∙ set-get_or (pages_of spans) k s.span

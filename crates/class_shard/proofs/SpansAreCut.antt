@@ -56,7 +56,8 @@ stands_in w (x ∷ xs) some =
     ]
 
 -- a sum of which at most one term is 1 and all others are 0
-sum_once : {X : Type 0} (w : X → ℕ) (xs : List X) → ((i : ℕ) (d : X) → i < length xs → w (get_or xs i d) ≤ 1) → ((i j : ℕ) (d : X) → i < j → j < length xs → 0 < w (get_or xs i d) → 0 < w (get_or xs j d) → ⊥) → sum_by w xs ≤ 1
+sum_once : {X : Type 0} (w : X → ℕ) (xs : List X) → ((i : ℕ) (d : X) → i < length xs → w (get_or xs i d) ≤ 1)
+    → ((i j : ℕ) (d : X) → i < j → j < length xs → 0 < w (get_or xs i d) → 0 < w (get_or xs j d) → ⊥) → sum_by w xs ≤ 1
 sum_once w [] few apart = omega arith
 sum_once w (x ∷ xs) few apart =
     let first : w x ≤ 1 = few 0 x (omega arith) in
@@ -167,7 +168,8 @@ placed_counts row spans a p =
     omega (arith, found_sum row.size a spans, get_or-le-sum_by w spans p.place s p.within, ap w (p.here s), object_counts row.size s.span a p.object)
 
 -- objects of two spans don't meet
-ends_before : (row : ClassRow) (spans : List SpanState) (i j : ℕ) (s t : SpanState) (a b : ℕ) → IsSound (central_of row spans) → i < j → j < length spans → get_or spans i s ≡ s → get_or spans j s ≡ t → IsObject row.size s.span a → IsObject row.size t.span b → a + row.size ≤ b
+ends_before : (row : ClassRow) (spans : List SpanState) (i j : ℕ) (s t : SpanState) (a b : ℕ) → IsSound (central_of row spans) → i < j
+    → j < length spans → get_or spans i s ≡ s → get_or spans j s ≡ t → IsObject row.size s.span a → IsObject row.size t.span b → a + row.size ≤ b
 ends_before row spans i j s t a b sound less within first second object other =
     let before : IsBefore (get_or spans i s) (get_or spans j s) = sound.apart i j s less within in
     let from : (get_or spans i s).span.first.0 + (get_or spans i s).span.pages ≡ s.span.first.0 + s.span.pages = ap (λ u. u.span.first.0 + u.span.pages) first in
@@ -206,7 +208,8 @@ cut_once row spans a sound =
     omega (arith, found_sum row.size a spans, once)
 
 -- a span of a list is counted among its spans
-span_counts : (test : SpanRef → Bool) (spans : List SpanState) (k : ℕ) (s : SpanState) → k < length spans → get_or spans k s ≡ s → test s.span ≡ true → 0 < count_by test (pages_of spans)
+span_counts : (test : SpanRef → Bool) (spans : List SpanState) (k : ℕ) (s : SpanState)
+    → k < length spans → get_or spans k s ≡ s → test s.span ≡ true → 0 < count_by test (pages_of spans)
 span_counts test spans k s within here passes =
     let w : SpanRef → ℕ = λ x. cond {A = ℕ} (test x) 1 0 in
     let span : SpanState → SpanRef = λ x. x.span in
@@ -224,7 +227,8 @@ begun_placed row spans a sound begun =
     placed_at row spans a m.place sound m.within (record { index = 0; within = some; is = omega (arith, from_at a (first_byte s.span) (m.some no_span)) })
 
 -- an object that is free is among the free ones
-free_counts : (test : Addr → Bool) (addr : ℕ → Addr) (xs : List Bool) (i : ℕ) → i < length xs → get_or xs i true ≡ true → test (addr i) ≡ true → 0 < count_by test (free_from addr 0 xs)
+free_counts : (test : Addr → Bool) (addr : ℕ → Addr) (xs : List Bool) (i : ℕ) → i < length xs
+    → get_or xs i true ≡ true → test (addr i) ≡ true → 0 < count_by test (free_from addr 0 xs)
 free_counts test addr xs i less free passes =
     let one : weight test (get_or xs i true) (addr i) ≡ 1 = ap (λ b. weight test b (addr i)) free ∙ ap (λ b. cond {A = ℕ} b 1 0) passes in
     omega (arith, one, free_from-set test addr 0 xs i false true (addr i) less (ap addr (omega arith)))
