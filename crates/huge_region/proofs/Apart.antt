@@ -1,6 +1,6 @@
 -- Rows of regions in their order: which one has a hugepage, and what stays where one changes, comes or leaves.
 use Rattle.std.proofs.Common.{◌≡◌, ℕ, zero, suc, ◌+◌, ◌-◌, ◌*◌, ◌<◌, ◌≤◌, Bool, true, false, cond, ◌==◌, not, List, [], ◌∷◌, length, get_or, set, insert, remove, map, filter, Option, Some, None, All, Contains, refl, sym, ap, ◌∙◌, inl, inr, arith}
-use Rattle.huge_region.proofs.Common.{find, suc-mul, cases_Bool, cases_lt, lt-ltb, le-ltb, leb-true, ltb-true, eq-eqb, ne_eqb, and_parts, nat_tests, none-some}
+use Rattle.huge_region.proofs.Common.{get_or_default, find, suc-mul, cases_Bool, cases_lt, lt-ltb, le-ltb, leb-true, ltb-true, eq-eqb, ne_eqb, and_parts, nat_tests, none-some}
 use Rattle.huge_region.proofs.Common.{same_Some, All-head, All-tail, spans, RegionRow, AreApartFrom}
 use Rattle.tc_units.specs.Sorted.{with_item, without_key}
 
@@ -25,6 +25,11 @@ found_parts p (y ∷ ys) x e =
       | inl t ↦ (let same : y ≡ x = same_Some y x (sym (ap (λ (b : Bool). cond b (Some y) (find p ys)) t) ∙ e) in (ap p (sym same) ∙ t, (0, omega arith, same)))
       | inr f ↦ (let rest = found_parts p ys x (sym (ap (λ (b : Bool). cond b (Some y) (find p ys)) f) ∙ e) in (rest.0, (suc rest.1.0, omega (arith, rest.1.1), rest.1.2)))
     ]
+
+-- where a row begins that was read
+pub read_first : (rows : List RegionRow) (i j : ℕ) (d r : RegionRow) → r ≡ get_or rows j r → i ≡ j → i < length rows → (get_or rows i d).first ≡ r.first
+read_first rows i j d r is same inside =
+    ap (λ (x : RegionRow). x.first) (get_or_default rows i d r inside ∙ ap (λ (k : ℕ). get_or rows k r) same ∙ sym is)
 
 module _ (w : ℕ) where
   abbrev with_huge : ℕ → List RegionRow → Option RegionRow

@@ -5,7 +5,7 @@ mod Cuts
 mod EndBits
 pub mod Least
 pub mod Placing
-mod Parts
+pub mod Parts
 pub mod RowFacts
 pub mod Scan
 pub mod Stretches

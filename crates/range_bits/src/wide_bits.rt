@@ -1,5 +1,5 @@
 //! Rows of as many places as a list of words has bits.
-#![tactic(auto, using(crate::proofs::RowFacts::places_of))]
+#![tactic(auto, using(crate::proofs::RowFacts::places_of, crate::proofs::Parts::row_of_part))]
 
 ghost use Rattle.std.specs.Prelude.{◌≡◌, ◌+◌, ◌*◌, ◌≤◌, ◌<◌, ◌↔◌, false, true, None, length, take, drop, replicate, IfOk};
 ghost use Rattle.std.specs.List.{slice_index_or};

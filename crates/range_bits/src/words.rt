@@ -88,6 +88,7 @@ pub fn with_bits(word: u64, low: u32, high: u32, used: bool) -> u64
 }
 
 /// A word one bit of which is made 1, or 0.
+#[tactic(auto, using(crate::proofs::BitFacts::used_bit, crate::proofs::BitFacts::free_bit))]
 pub fn with_bit(word: u64, bit: u32, used: bool) -> u64
     requires { bit < 64 }
     ensures { (k : ℕ) → k < 64 → is_one result k ≡ (if k == bit then used else is_one word k) }

@@ -10,7 +10,8 @@ point : (c : After-partition_point) → IsPartitionPoint (λ r. nat_le r.first c
 point c =
     let h = c.args.huge.0 in
     let rs = c.args.regions.now in
-    IsPartitionPoint-from_clause (λ (r : RegionRow). nat_le r.first h) rs c.partition_point.result c.partition_point.ensures.partitioned (IsPartitionedBy-leb (λ (r : RegionRow). r.first) rs h (λ i j d le l.
+    IsPartitionPoint-from_clause (λ (r : RegionRow). nat_le r.first h) rs c.partition_point.result c.partition_point.ensures.partitioned
+    (IsPartitionedBy-leb (λ (r : RegionRow). r.first) rs h (λ i j d le l.
     elim (cases_lt i j) [
       | inl less ↦ in_order c.args.width 1 rs i j d c.requires less l
       | inr same ↦ (let e : i ≡ j = omega arith in omega (arith, ap (λ (k : ℕ). (get_or rs k d).first) e))

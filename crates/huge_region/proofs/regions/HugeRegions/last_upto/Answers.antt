@@ -1,15 +1,17 @@
 use Rattle.std.proofs.Common.{◌≡◌, ℕ, ◌<◌, ◌≤◌, Some, List, length, get_or, sym, ap, subst, ◌∙◌, inl, inr, arith}
-use Rattle.huge_region.proofs.Common.{cases_lt, get_or_default, RegionRow, regions_of, Regions, region_with}
-use Rattle.huge_region.proofs.Apart.{found_there, none_behind}
+use Rattle.huge_region.proofs.Common.{cases_lt, RegionRow, regions_of, Regions, region_with}
+use Rattle.huge_region.proofs.Apart.{found_there, none_behind, read_first}
 use Rattle.huge_region.proofs.regions.HugeRegions.last_upto.Goals as goal
 
 pub returns-in_err-index-clause-none : goal.returns-in_err-index-clause-none
 returns-in_err-index-clause-none c =
     let v : Regions = regions_of c.self.inside in
     let none : c.begun_by.result < 1 = elim (cases_lt c.begun_by.result 1) [ inl l ↦ l | inr some ↦ absurd (c.in_err-index.ensures some) ] in
-    let behind = subst (λ (rows : List RegionRow). (i : ℕ) (d : RegionRow) → c.begun_by.result ≤ i → i < length rows → c.args.above.0 < (get_or rows i d).first) c.deref.ensures.value c.begun_by.ensures.behind in
+    let Later : List RegionRow → Type 0 = λ rows. (i : ℕ) (d : RegionRow) → c.begun_by.result ≤ i → i < length rows → c.args.above.0 < (get_or rows i d).first in
+    let behind = subst Later c.deref.ensures.value c.begun_by.ensures.behind in
     rw c.from_residual.ensures
-    (λ k l. ap (λ (x : Regions). region_with x k) (sym c.self.view_is) ∙ none_behind v.width 1 k 0 v.rows c.self.invariant.0.sound.apart (omega arith) (λ i d m n. omega (arith, behind i d (omega arith) n)) (λ i d m. absurd (omega arith)))
+    (λ k l. ap (λ (x : Regions). region_with x k) (sym c.self.view_is)
+        ∙ none_behind v.width 1 k 0 v.rows c.self.invariant.0.sound.apart (omega arith) (λ i d m n. omega (arith, behind i d (omega arith) n)) (λ i d m. absurd (omega arith)))
 
 pub returns-clause-found : goal.returns-clause-found
 returns-clause-found c =
@@ -23,7 +25,9 @@ returns-clause-found c =
     let same = ap (λ (l : List RegionRow). (get_or l i r).first) c.deref.ensures.value in (
       r,
       ap (λ (x : Regions). region_with x c.min.result) (sym c.self.view_is)
-          ∙ found_there v.width 1 c.min.result v.rows i r c.self.invariant.0.sound.apart inside (omega (arith, first, same, low, c.min.ensures, c.from.ensures, c.from-2.ensures, c.first-first.ensures, c.self.invariant.0.sound.wide)) (omega (arith, first, c.min.ensures, c.from.ensures, c.first-first.ensures, c.self.invariant.0.sound.wide))
+          ∙ found_there v.width 1 c.min.result v.rows i r c.self.invariant.0.sound.apart inside
+              (omega (arith, first, same, low, c.min.ensures, c.from.ensures, c.from-2.ensures, c.first-first.ensures, c.self.invariant.0.sound.wide))
+              (omega (arith, first, c.min.ensures, c.from.ensures, c.first-first.ensures, c.self.invariant.0.sound.wide))
           ∙ ap (λ (x : RegionRow). Some x) (sym c.index.ensures),
     )
 
@@ -32,9 +36,11 @@ returns-clause-behind c =
     let v : Regions = regions_of c.self.inside in
     let last = c.in_ok-index.ensures in
     let size = ap (λ (l : List RegionRow). length l) c.deref.ensures.value in
-    let behind = subst (λ (rows : List RegionRow). (i : ℕ) (d : RegionRow) → c.begun_by.result ≤ i → i < length rows → c.args.above.0 < (get_or rows i d).first) c.deref.ensures.value c.begun_by.ensures.behind in
+    let Later : List RegionRow → Type 0 = λ rows. (i : ℕ) (d : RegionRow) → c.begun_by.result ≤ i → i < length rows → c.args.above.0 < (get_or rows i d).first in
+    let behind = subst Later c.deref.ensures.value c.begun_by.ensures.behind in
     λ k l m.
     ap (λ (x : Regions). region_with x k) (sym c.self.view_is)
-    ∙ none_behind v.width 1 k c.begun_by.result v.rows c.self.invariant.0.sound.apart (omega (arith, size, c.begun_by.ensures.within)) (λ i d n o. omega (arith, behind i d n o)) (λ i d at.
-    let first = ap (λ (r : RegionRow). r.first) (get_or_default v.rows i d c.index.result.now (omega (arith, size, c.begun_by.ensures.within)) ∙ ap (λ (j : ℕ). get_or v.rows j c.index.result.now) (let e : i ≡ c.in_ok-index.index = omega (arith, last) in e) ∙ sym c.index.ensures) in
+    ∙ none_behind v.width 1 k c.begun_by.result v.rows c.self.invariant.0.sound.apart (omega (arith, size, c.begun_by.ensures.within))
+        (λ i d n o. omega (arith, behind i d n o)) (λ i d at.
+    let first = read_first v.rows i c.in_ok-index.index d c.index.result.now c.index.ensures (omega (arith, at, last)) (omega (arith, at, size, c.begun_by.ensures.within)) in
     omega (arith, first, c.min.ensures, c.from.ensures, c.from-2.ensures, c.first-first.ensures))
