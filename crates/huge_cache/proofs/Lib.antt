@@ -1,5 +1,5 @@
 mod Common
 mod Found
-mod Greatest
-mod Kept
-mod Padded
+pub mod Greatest
+pub mod Kept
+pub mod Padded

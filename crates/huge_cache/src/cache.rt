@@ -115,6 +115,7 @@ impl HugeCache {
     }
 
     /// Adds a hugepage.
+    #[tactic(auto, using(crate::proofs::Padded::one_place, crate::proofs::Kept::cache_of))]
     pub fn give(&mut self, huge: Huge, backed: bool)
         requires low { 0 < huge.0 }
         requires high { huge.0 ≤ length self.old.taken }
@@ -143,6 +144,7 @@ impl HugeCache {
     }
 
     /// How many hugepages are free and backed.
+    #[tactic(auto, using(crate::proofs::Kept::ready_is))]
     pub fn backed(&self) -> u32
         ensures { result ≡ count_by (λ b. b) (ready self.now) }
     {

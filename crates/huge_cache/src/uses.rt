@@ -105,6 +105,7 @@ impl UseCounts {
 
     /// How many backed free hugepages may stay: `cache`, and no more than what the greatest count is
     /// above the newest.
+    #[tactic(auto, using(crate::proofs::Greatest::first_greatest, crate::proofs::Greatest::newest))]
     pub fn limit(&self, cache: u32) -> u32
         ensures { result ≡ limit cache self.now.counts }
     {

@@ -11,10 +11,6 @@ module _ (rows told : List (Option Measures)) (order : List Giver) (stale : List
   followed_none huge most none same lists free = grind (arith, nat_tests, length-replicate, get_or-replicate, get_or_past, cases_lt)
 
   module _ (was : IsFollowed rows told order stale) (i : ℕ) (inside : i < length rows) where
-    -- a hugepage measures something else, and its place is stale
-    pub followed_set : (after : Option Measures) (stale' : List Bool) → length stale' ≡ length stale → get_or stale' i false ≡ true → ((k : ℕ) → (k ≡ i → ⊥) → get_or stale' k false ≡ get_or stale k false) → IsFollowed (set rows i after) told order stale'
-    followed_set after stale' size here others = grind (arith, nat_tests, was, length-set, cases_eq, get_or-set_other)
-
     module _ (o : Option Measures) (is : o ≡ get_or told i o) where
       at : o ≡ measures_at told (i + 1)
       at = grind (arith, nat_tests, was, get_or_default, at_number-place)

@@ -49,6 +49,7 @@ impl Leaves {
     }
 
     /// Makes the leaf of a page's hugepage, if there is none.
+    #[tactic(auto, using(crate::proofs::LeafFacts::leaf_made, crate::proofs::LeafFacts::none_by))]
     pub(crate) fn make(&mut self, page: usize) -> Result<(), AllocError>
         requires { page < huge_pages * length self.old.leaves.items }
         ensures ok { OnOk result (IsSome (slice_index_or self.new.leaves.items (page / 256) None)) }

@@ -6,7 +6,7 @@ use Rattle.range_bits.proofs.Common.{longest, best, used_count, IsNextRange}
 use Rattle.std.proofs.Common.{◌≡◌, ℕ, zero, suc, ◌+◌, ◌-◌, ◌<◌, ◌≤◌, ◌==◌, ◌⊎◌, Bool, true, false, not, nat_lt, nat_le, List, ◌∷◌, ◌++◌, length, get_or, map, filter, fold, max, Option, Some, None, IfSome, cond, refl, sym, ap, ◌∙◌, inl, inr, arith, option_map, eq-eqb, ◌↔◌}
 use Rattle.range_bits.proofs.RangeFacts.{fold_max, best_is_fit, longest_is_short, some_or_none}
 use Rattle.range_bits.proofs.RangeLemmas.{fits_at, longest-at, longest-le-length, free_fits, free_at, start_of, range-within, first_least-all}
-use Rattle.range_bits.specs.FreeRanges.{shorter_of, is_tight}
+use Rattle.range_bits.specs.FreeRanges.{shorter_of}
 use Rattle.range_bits.specs.declared.ranges.FreeRange.{FreeRange}
 
 -- numbers in a row, cut in two
@@ -70,18 +70,14 @@ pub record IsLongest (row : List Bool) (to most : ℕ) : Type 0 where
   pub bound : (y : ℕ) → y < to → begins_range row y ≡ true → free_from row y ≤ most
   pub there : 0 < most → (y : ℕ) × (y < length row) × (most ≤ free_from row y)
 
-pub longest_is : (row : List Bool) (to most : ℕ) → length row ≤ to + most → IsLongest row to most → longest row ≡ most
+pub longest_is : (row : List Bool) (to most : ℕ) → length row ≤ to → IsLongest row to most → longest row ≡ most
 longest_is row to most all is =
     let above : longest row ≤ most =
     elim (cases_lt 0 (longest row)) [
       | inr none ↦ omega arith
       | inl some ↦
           (let far = longest-at row (longest row) some (omega arith) in
-          let at = start_of row (longest row) far.0 far.1 some far.2 in
-          elim (cases_lt at.0 to) [
-            | inl early ↦ omega (arith, at.2, is.bound at.0 early at.3)
-            | inr late ↦ omega (arith, free_fits row at.0 (longest row) some at.2)
-          ])
+          grind (arith, nat_tests, start_of))
     ] in
     elim (cases_lt 0 most) [
       | inl some ↦ (let at = is.there some in omega (arith, at.2, greatest-ge (free_from row) 0 (length row) at.0 (omega arith) (omega (arith, at.1))))
@@ -150,33 +146,6 @@ best_none row n some short =
 abbrev pub IsBest : List Bool → ℕ → ℕ → Option FreeRange → Type 0
 IsBest row n to None = (y : ℕ) → y < to → begins_range row y ≡ true → free_from row y < n
 IsBest row n to (Some range) = IsShortest row n to range.start × (free_from row range.start ≡ range.len)
-
--- where no later range is long enough, or the best so far is tight, it stays the best
-rest_is_short : (row : List Bool) (n from y : ℕ) → 0 < n → length row < from + n → from ≤ y → free_from row y < n
-rest_is_short row n from y some short late =
-    elim (cases_lt (free_from row y) n) [ inl less ↦ less | inr long ↦ absurd (omega (arith, free_fits row y n some long)) ]
-
-pub best_of_all : (row : List Bool) (n from : ℕ) (found : Option FreeRange) → 0 < n → from ≤ length row
-    → (length row < from + n) ⊎ (is_tight found n ≡ true) → IsBest row n from found → IsBest row n (length row) found
-best_of_all row n from None some inside (inr tight) is = absurd (cc)
-best_of_all row n from None some inside (inl short) is =
-    λ y to here. elim (cases_lt y from) [ inl early ↦ is y early here | inr late ↦ rest_is_short row n from y some short late ]
-best_of_all row n from (Some range) some inside done is = (
-  record {
-    before = omega (arith, is.0.inside);
-    inside = is.0.inside;
-    starts = is.0.starts;
-    long = is.0.long;
-    least = λ y to here long. elim (cases_lt y from) [
-      | inl early ↦ is.0.least y early here long
-      | inr late ↦ elim done [
-        | inl short ↦ absurd (omega (arith, long, rest_is_short row n from y some short late))
-        | inr tight ↦ (omega (arith, is.1, long, leb-true range.len n tight), λ less. absurd (omega (arith, less, late, is.0.before)))
-      ]
-    ];
-  },
-  is.1,
-)
 
 pub best_found : (row : List Bool) (n to : ℕ) (found : Option FreeRange) → 0 < n → length row ≤ to → IsBest row n to found → option_map (λ (range : FreeRange). range.start) found ≡ best row n
 best_found row n to found some all is = grind (arith, nat_tests, best_none, best_is)

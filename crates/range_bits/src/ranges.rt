@@ -1,6 +1,6 @@
 //! The free ranges of a row, each found by the next free place and the next used one behind it.
 ghost use Rattle.std.specs.Prelude.{◌≡◌, ◌↔◌, None, ◌*◌, ◌+◌, ◌<◌, ◌≤◌, ◌^◌, length, option_map};
-ghost use Rattle.range_bits.specs.FreeRanges.{shorter_of, is_tight};
+ghost use Rattle.range_bits.specs.FreeRanges.{shorter_of};
 ghost use Rattle.range_bits.specs.Ranges.{free_from, longest, best};
 ghost use Rattle.range_bits.specs.Words.{row_of, IsNextRange};
 
@@ -28,15 +28,14 @@ fn next_range(words: &[u64], from: u32) -> FreeRange
     }
 }
 
-/// The greatest number of free places that follow each other: no range is longer than what is left of the row.
+/// The greatest number of free places that follow each other.
 pub fn longest(words: &[u64]) -> u32
     requires { 64 * length words.now < 2 ^ 32 }
     ensures { result ≡ longest (row_of words.now) }
 {
     let mut longest = 0;
     let mut from = 0;
-    let places = words.len() as u32 * 64;
-    while longest < places - from {
+    while (from as usize) < words.len() * 64 {
         let range = next_range(words, from);
         longest = range.len.max(longest);
         from = range.start + range.len;
@@ -54,13 +53,6 @@ fn shorter(earlier: Option<FreeRange>, range: FreeRange) -> FreeRange
     }
 }
 
-/// Whether a range has no more than `n` places, so that none of as many is shorter.
-fn is_tight(found: Option<FreeRange>, n: u32) -> bool
-    ensures { result ≡ is_tight found n }
-{
-    matches!(found, Some(range) if range.len <= n)
-}
-
 /// The shortest maximal free range of at least `n` places, the first one where several are as short.
 fn best_range(words: &[u64], n: u32) -> Option<FreeRange>
     requires fits { 64 * length words.now < 2 ^ 32 }
@@ -69,8 +61,7 @@ fn best_range(words: &[u64], n: u32) -> Option<FreeRange>
 {
     let mut found: Option<FreeRange> = None;
     let mut from = 0;
-    let places = words.len() as u32 * 64;
-    while n <= places - from && !is_tight(found, n) {
+    while (from as usize) < words.len() * 64 {
         let range = next_range(words, from);
         if n <= range.len {
             found = Some(shorter(found, range));

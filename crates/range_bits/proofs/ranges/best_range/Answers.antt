@@ -1,8 +1,7 @@
-use Rattle.std.proofs.Common.{◌≡◌, ◌+◌, ◌<◌, true, length, inl, inr, Some, sym, ap, subst, ◌∙◌, arith}
-use Rattle.range_bits.proofs.Common.{nat_tests, row_of}
-use Rattle.range_bits.specs.FreeRanges.{is_tight}
+use Rattle.std.proofs.Common.{◌+◌, Some, sym, ap, subst, ◌∙◌, arith}
+use Rattle.range_bits.proofs.Common.{row_of}
 use Rattle.range_bits.proofs.RowFacts.{length-row_of}
-use Rattle.range_bits.proofs.Scan.{IsBest, best_taken, best_passed, best_of_all, best_found}
+use Rattle.range_bits.proofs.Scan.{IsBest, best_taken, best_passed, best_found}
 use Rattle.range_bits.proofs.ranges.best_range.Goals as goal
 use Rattle.range_bits.proofs.ranges.best_range.Goals.{then-n-range, else-n-range}
 
@@ -22,16 +21,5 @@ loop-from-preserved c =
       ];
     }
 
-pub returns-else-not-is_tight : goal.returns-else-not-is_tight
-returns-else-not-is_tight c =
-    let row = row_of c.args.words.now in
-    let tight : is_tight c.loop-from.found c.args.n ≡ true = grind (arith, nat_tests) in
-    best_found row c.args.n (length row) c.loop-from.found c.requires.some (omega arith)
-    (best_of_all row c.args.n c.loop-from.from c.loop-from.found c.requires.some (omega (arith, length-row_of c.args.words.now)) (inr tight) c.loop-from.invariant.best)
-
-pub returns-after-loop-from : goal.returns-after-loop-from
-returns-after-loop-from c =
-    let row = row_of c.args.words.now in
-    let short : length row < c.loop-from.from + c.args.n = omega (arith, length-row_of c.args.words.now) in
-    best_found row c.args.n (length row) c.loop-from.found c.requires.some (omega arith)
-    (best_of_all row c.args.n c.loop-from.from c.loop-from.found c.requires.some (omega (arith, length-row_of c.args.words.now)) (inl short) c.loop-from.invariant.best)
+pub returns : goal.returns
+returns c = best_found (row_of c.args.words.now) c.args.n c.loop-from.from c.loop-from.found c.requires.some (omega (arith, length-row_of c.args.words.now)) c.loop-from.invariant.best

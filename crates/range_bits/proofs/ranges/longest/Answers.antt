@@ -4,8 +4,8 @@ use Rattle.range_bits.proofs.RowFacts.{length-row_of}
 use Rattle.range_bits.proofs.Scan.{longest_is, longest_more}
 use Rattle.range_bits.proofs.ranges.longest.Goals as goal
 
-pub loop-longest-preserved : goal.loop-longest-preserved
-loop-longest-preserved c = grind (arith, nat_tests, longest_more)
+pub loop-from-preserved : goal.loop-from-preserved
+loop-from-preserved c = grind (arith, nat_tests, longest_more)
 
 pub returns : goal.returns
-returns c = sym (longest_is (row_of c.args.words.now) c.loop-longest.from c.loop-longest.longest (omega (arith, length-row_of c.args.words.now)) c.loop-longest.invariant.longest)
+returns c = sym (longest_is (row_of c.args.words.now) c.loop-from.from c.loop-from.longest (omega (arith, length-row_of c.args.words.now)) c.loop-from.invariant.longest)

@@ -3,11 +3,11 @@ use Rattle.range_bits.proofs.Common.{row_of}
 use Rattle.range_bits.proofs.Scan.{IsLongest}
 use Rattle.range_bits.proofs.ranges.longest.Given as goal
 
-abbrev pub invariant-loop-longest : goal.invariant-loop-longest
-invariant-loop-longest l = record {
+abbrev pub invariant-loop-from : goal.invariant-loop-from
+invariant-loop-from l = record {
   inside : l.from ≤ 64 * length l.words;
   longest : IsLongest (row_of l.words) l.from l.longest;
 }
 
-abbrev pub decreases-loop-longest : goal.decreases-loop-longest
-decreases-loop-longest l = 64 * length l.words - l.from
+abbrev pub decreases-loop-from : goal.decreases-loop-from
+decreases-loop-from l = 64 * length l.words - l.from
