@@ -85,6 +85,7 @@ impl RangedBits {
     }
 
     /// Whether no place is used.
+    #[tactic(auto, using(range_bits::proofs::Scan::whole_free))]
     pub fn is_free(&self) -> bool
         ensures { result ≡ (used_count self.now == 0) }
     {

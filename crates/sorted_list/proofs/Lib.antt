@@ -1,7 +1,7 @@
 pub mod Changes
 mod Common
 mod Exchanged
-mod Found
+pub mod Found
 mod Halving
 mod Moves
 pub mod Rows

@@ -165,6 +165,7 @@ impl<K: SortKey> SortedList<K> {
     }
 
     /// The first key.
+    #[tactic(auto, using(crate::proofs::Found::first_is))]
     pub fn first(&self) -> Option<K>
         ensures found { IfSome result (IsFirst K.before self.now.keys) }
         ensures none { (result ≡ None) ↔ (self.now.keys ≡ []) }
@@ -176,6 +177,7 @@ impl<K: SortKey> SortedList<K> {
     }
 
     /// The last key.
+    #[tactic(auto, using(crate::proofs::Found::last_is))]
     pub fn last(&self) -> Option<K>
         ensures found { IfSome result (IsLast K.before self.now.keys) }
         ensures none { (result ≡ None) ↔ (self.now.keys ≡ []) }

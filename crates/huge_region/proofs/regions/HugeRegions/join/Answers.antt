@@ -14,7 +14,7 @@ pub rekey-requires : goal.rekey-requires
 rekey-requires c =
     let old = c.index_mut-region.result.now in
     let at = stands (regions_of c.self.inside) c.args.self.now c.huge_of-huge.result.0 c.place_of-index.result old c.self.view_is c.self.invariant.0.sound
-        c.place_of-index.ensures.within c.place_of-index.ensures.found c.index_mut-region.ensures.value in
+    c.place_of-index.ensures.within c.place_of-index.ensures.found c.index_mut-region.ensures.value in
     held_key (regions_of c.self.inside) c.self.inside.keys c.self.inside.spare.items c.huge_of-huge.result.0 c.place_of-index.result old
     c.key-before.result c.self.invariant.0 at c.key-before.ensures
 
@@ -25,9 +25,9 @@ done c =
     let h = c.huge_of-huge.result.0 in
     let r : RegionRow = c.requires.free.0 in
     let at = stands (regions_of c.self.inside) c.args.self.now h c.place_of-index.result old c.self.view_is c.self.invariant.0.sound
-        c.place_of-index.ensures.within c.place_of-index.ensures.found c.index_mut-region.ensures.value in
+    c.place_of-index.ensures.within c.place_of-index.ensures.found c.index_mut-region.ensures.value in
     let same : r ≡ old = read_there c.self.inside c.args.self.now h c.place_of-index.result r old c.self.view_is
-        (ap (region_with c.args.self.now) c.huge_of-huge.ensures ∙ c.requires.free.1.row) c.place_of-index.ensures.found c.index_mut-region.ensures.value in
+    (ap (region_with c.args.self.now) c.huge_of-huge.ensures ∙ c.requires.free.1.row) c.place_of-index.ensures.found c.index_mut-region.ensures.value in
     let start : page - 256 * c.from.result ≡ start_in old page = ap (λ (f : ℕ). page - 256 * f) (c.from.ensures ∙ ap (λ (k : RegionKey). k.first.0) c.key-before.ensures) in
     let is : c.join.new.self ≡ put_in (start_in old page) c.args.n true old = c.join.ensures ∙ ap (λ (s : ℕ). put_in s c.args.n true old) start in
     let free : c.args.n ≤ free_from old.used (start_in old page) = subst (λ (x : RegionRow). c.args.n ≤ free_from x.used (start_in x page)) same c.requires.free.1.free in

@@ -11,7 +11,7 @@ returns-in_err-index-clause-none c =
     let behind = subst Later c.deref.ensures.value c.begun_by.ensures.behind in
     rw c.from_residual.ensures
     (λ k l. ap (λ (x : Regions). region_with x k) (sym c.self.view_is)
-        ∙ none_behind v.width 1 k 0 v.rows c.self.invariant.0.sound.apart (omega arith) (λ i d m n. omega (arith, behind i d (omega arith) n)) (λ i d m. absurd (omega arith)))
+    ∙ none_behind v.width 1 k 0 v.rows c.self.invariant.0.sound.apart (omega arith) (λ i d m n. omega (arith, behind i d (omega arith) n)) (λ i d m. absurd (omega arith)))
 
 pub returns-clause-found : goal.returns-clause-found
 returns-clause-found c =
@@ -26,8 +26,8 @@ returns-clause-found c =
       r,
       ap (λ (x : Regions). region_with x c.min.result) (sym c.self.view_is)
           ∙ found_there v.width 1 c.min.result v.rows i r c.self.invariant.0.sound.apart inside
-              (omega (arith, first, same, low, c.min.ensures, c.from.ensures, c.from-2.ensures, c.first-first.ensures, c.self.invariant.0.sound.wide))
-              (omega (arith, first, c.min.ensures, c.from.ensures, c.first-first.ensures, c.self.invariant.0.sound.wide))
+          (omega (arith, first, same, low, c.min.ensures, c.from.ensures, c.from-2.ensures, c.first-first.ensures, c.self.invariant.0.sound.wide))
+          (omega (arith, first, c.min.ensures, c.from.ensures, c.first-first.ensures, c.self.invariant.0.sound.wide))
           ∙ ap (λ (x : RegionRow). Some x) (sym c.index.ensures),
     )
 
@@ -41,6 +41,6 @@ returns-clause-behind c =
     λ k l m.
     ap (λ (x : Regions). region_with x k) (sym c.self.view_is)
     ∙ none_behind v.width 1 k c.begun_by.result v.rows c.self.invariant.0.sound.apart (omega (arith, size, c.begun_by.ensures.within))
-        (λ i d n o. omega (arith, behind i d n o)) (λ i d at.
+    (λ i d n o. omega (arith, behind i d n o)) (λ i d at.
     let first = read_first v.rows i c.in_ok-index.index d c.index.result.now c.index.ensures (omega (arith, at, last)) (omega (arith, at, size, c.begun_by.ensures.within)) in
     omega (arith, first, c.min.ensures, c.from.ensures, c.from-2.ensures, c.first-first.ensures))

@@ -11,7 +11,7 @@ unwrap-region-requires c =
     let f = c.self.inside in
     let begun = c.begun_by-index.ensures in
     let there = new_there (regions_of f) c.args.self.now c.args.first.0 c.begun_by-index.result c.deref.result.now c.self.view_is c.deref.ensures.value
-        c.requires.low c.requires.high c.requires.free begun.within begun.before begun.behind in
+    c.requires.low c.requires.high c.requires.free begun.within begun.before begun.behind in
     let room = (comes (regions_of f) c.args.first.0 c.begun_by-index.result c.self.invariant.0.sound there).2 in
     c.pop.ensures.variant.1 (omega (arith, room, c.self.invariant.0.rest, f.spare.ok.0))
 
@@ -23,13 +23,13 @@ done c =
     let b = c.begun_by-index.result in
     let begun = c.begun_by-index.ensures in
     let there = new_there v c.args.self.now first b c.deref.result.now c.self.view_is c.deref.ensures.value
-        c.requires.low c.requires.high c.requires.free begun.within begun.before begun.behind in
+    c.requires.low c.requires.high c.requires.free begun.within begun.before begun.behind in
     let ok : is_ok c.insert-2.result ≡ true = c.insert-2.ensures.succeeds (omega (arith, (comes v first b c.self.invariant.0.sound there).2, c.self.invariant.1, f.regions.ok.0)) in
     let inserted : c.insert-2.new.self.items ≡ insert v.rows b c.begin.new.self = c.insert-2.ensures.items ∙ ap (λ (t : Bool). cond t (insert v.rows b c.begin.new.self) v.rows) ok in
     let is = came v f.keys c.insert.new.self f.spare.items c.pop.new.self.items c.insert-2.new.self.items first b
-        c.unwrap-region.result c.begin.new.self c.key.result c.self.invariant.0 there
-        (c.pop.ensures.items ∙ ap (λ (o : Option RegionRow). c.pop.new.self.items ++ option_to_list o) c.unwrap-region.ensures)
-        c.begin.ensures inserted c.key.ensures c.insert.ensures.keys c.insert.ensures.spare in
+    c.unwrap-region.result c.begin.new.self c.key.result c.self.invariant.0 there
+    (c.pop.ensures.items ∙ ap (λ (o : Option RegionRow). c.pop.new.self.items ++ option_to_list o) c.unwrap-region.ensures)
+    c.begin.ensures inserted c.key.ensures c.insert.ensures.keys c.insert.ensures.spare in
     record { kept = is.kept; view = is.view ∙ ap (λ (x : Regions). with_region x first) c.self.view_is }
 
 pub invariant_of-self : goal.invariant_of-self

@@ -25,7 +25,7 @@ pub unwrap-start-requires : goal.unwrap-start-requires
 unwrap-start-requires c =
     let is = chosen_by c.self.inside c.args.self.now c.args.n c.in_ok-key.key c.self.invariant c.self.view_is c.in_ok-key.ensures.found in
     let same = read_there c.self.inside c.args.self.now c.in_ok-key.key.first.0 c.place_of-index.result is.0 c.index.result.now c.self.view_is
-        is.1.found c.place_of-index.ensures.found c.index.ensures in
+    is.1.found c.place_of-index.ensures.found c.index.ensures in
     ap is_some (c.best.ensures.value ∙ ap (λ (r : RegionRow). best r.used c.args.n) (sym same) ∙ (best_there is.0.used c.args.n c.requires is.1.room).1)
 
 -- the place that is found
@@ -33,7 +33,7 @@ placed_at : (c : After-from) → IsPlaced c.args.self.now c.args.n (256 * c.from
 placed_at c =
     let is = chosen_by c.self.inside c.args.self.now c.args.n c.in_ok-key.key c.self.invariant c.self.view_is c.in_ok-key.ensures.found in
     let same = read_there c.self.inside c.args.self.now c.in_ok-key.key.first.0 c.place_of-index.result is.0 c.index.result.now c.self.view_is
-        is.1.found c.place_of-index.ensures.found c.index.ensures in
+    is.1.found c.place_of-index.ensures.found c.index.ensures in
     let start : best is.0.used c.args.n ≡ Some c.unwrap-start.result = ap (λ (r : RegionRow). best r.used c.args.n) same ∙ sym c.best.ensures.value ∙ c.unwrap-start.ensures in
     subst (λ (h : ℕ). IsPlaced c.args.self.now c.args.n (256 * h + c.unwrap-start.result)) (sym c.from.ensures)
     (placed c.args.self.now c.args.n c.in_ok-key.key.first.0 c.unwrap-start.result is.0 c.place_of-index.ensures.sound c.requires is.1 start)

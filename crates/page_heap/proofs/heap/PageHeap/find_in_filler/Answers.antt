@@ -48,7 +48,7 @@ overflow_add-result c =
     let h = d.in_ok-huge.huge.0 in
     let fit = best_is_fit (used_row runs h) d.args.n c.unwrap-start.result (sym (at d f) ∙ c.unwrap-start.ensures) in
     let all = few h c.unwrap-start.result _ d.args.self.now.config.huge fit.0
-        (length-map-range_with_len (is_used runs) (256 * h) 256) f.own.to (is_heap d.self.invariant d.self.view_is).well.limits.huge_to in
+    (length-map-range_with_len (is_used runs) (256 * h) 256) f.own.to (is_heap d.self.invariant d.self.view_is).well.limits.huge_to in
     omega (arith, all, c.from.ensures)
 
 pub returns-clause-place : goal.returns-clause-place

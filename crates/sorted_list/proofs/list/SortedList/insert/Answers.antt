@@ -1,4 +1,4 @@
-use Rattle.std.proofs.Common.{◌<◌, length, ap, sym, arith}
+use Rattle.std.proofs.Common.{length, ap, sym, arith}
 use Rattle.sorted_list.proofs.Common.{nat_tests, slice_get_read, Contents}
 use Rattle.sorted_list.proofs.Moves.{written, came}
 use Rattle.sorted_list.proofs.Slots.{slot_fits}
@@ -14,36 +14,30 @@ turn-requires-clause-held g c = grind (arith, nat_tests, slice_get_read)
 
 pub invariant_of-self : goal.invariant_of-self
 invariant_of-self g c =
-    let before = g.K.SortKey.before in
-    let slots = c.self.inside.slots.items in
     let order = c.self.inside.order.items in
-    let len = c.self.inside.len in
-    let slot = c.index-slot.result.now in
-    let same = ap (λ (v : Contents g.row.K.Denot). v.keys) c.self.view_is in
-    let back = written c.self.inside.order.len order c.deref_mut.result.now c.turn.new.order len _ slot c.deref_mut.ensures.len c.deref_mut.ensures.value c.turn.ensures.len c.turn.ensures.after in
-    let room : len < length order = omega (arith, ap (λ (v : Contents g.row.K.Denot). v.spare) c.self.view_is, c.requires) in
-    (came before g.met.K.SortKey.order g.K.SortKey.sample slots order len c.self.invariant c.args.self.now.keys same c.args.key c.place-place.result slot _ c.place-place.ensures.order c.place-place.ensures.place room c.index-slot.ensures back).0
+    let view = c.self.view_is in
+    let back = written c.self.inside.order.len order c.deref_mut.result.now c.turn.new.order c.self.inside.len _ c.index-slot.result.now c.deref_mut.ensures.len
+    c.deref_mut.ensures.value c.turn.ensures.len c.turn.ensures.after in
+    (came g.K.SortKey.before g.met.K.SortKey.order g.K.SortKey.sample c.self.inside.slots.items order c.self.inside.len c.self.invariant c.args.self.now.keys
+    (ap (λ (v : Contents g.row.K.Denot). v.keys) view) c.args.key c.place-place.result c.index-slot.result.now _ c.place-place.ensures.order c.place-place.ensures.place
+    (omega (arith, ap (λ (v : Contents g.row.K.Denot). v.spare) view, c.requires)) c.index-slot.ensures back).0
 
 pub returns-clause-keys : goal.returns-clause-keys
 returns-clause-keys g c =
-    let before = g.K.SortKey.before in
-    let slots = c.self.inside.slots.items in
     let order = c.self.inside.order.items in
-    let len = c.self.inside.len in
-    let slot = c.index-slot.result.now in
-    let same = ap (λ (v : Contents g.row.K.Denot). v.keys) c.self.view_is in
-    let back = written c.self.inside.order.len order c.deref_mut.result.now c.turn.new.order len _ slot c.deref_mut.ensures.len c.deref_mut.ensures.value c.turn.ensures.len c.turn.ensures.after in
-    let room : len < length order = omega (arith, ap (λ (v : Contents g.row.K.Denot). v.spare) c.self.view_is, c.requires) in
-    (came before g.met.K.SortKey.order g.K.SortKey.sample slots order len c.self.invariant c.args.self.now.keys same c.args.key c.place-place.result slot _ c.place-place.ensures.order c.place-place.ensures.place room c.index-slot.ensures back).1
+    let view = c.self.view_is in
+    let back = written c.self.inside.order.len order c.deref_mut.result.now c.turn.new.order c.self.inside.len _ c.index-slot.result.now c.deref_mut.ensures.len
+    c.deref_mut.ensures.value c.turn.ensures.len c.turn.ensures.after in
+    (came g.K.SortKey.before g.met.K.SortKey.order g.K.SortKey.sample c.self.inside.slots.items order c.self.inside.len c.self.invariant c.args.self.now.keys
+    (ap (λ (v : Contents g.row.K.Denot). v.keys) view) c.args.key c.place-place.result c.index-slot.result.now _ c.place-place.ensures.order c.place-place.ensures.place
+    (omega (arith, ap (λ (v : Contents g.row.K.Denot). v.spare) view, c.requires)) c.index-slot.ensures back).1
 
 pub returns-clause-held : goal.returns-clause-held
 returns-clause-held g c =
-    let before = g.K.SortKey.before in
-    let slots = c.self.inside.slots.items in
     let order = c.self.inside.order.items in
-    let len = c.self.inside.len in
-    let slot = c.index-slot.result.now in
-    let same = ap (λ (v : Contents g.row.K.Denot). v.keys) c.self.view_is in
-    let back = written c.self.inside.order.len order c.deref_mut.result.now c.turn.new.order len _ slot c.deref_mut.ensures.len c.deref_mut.ensures.value c.turn.ensures.len c.turn.ensures.after in
-    let room : len < length order = omega (arith, ap (λ (v : Contents g.row.K.Denot). v.spare) c.self.view_is, c.requires) in
-    (came before g.met.K.SortKey.order g.K.SortKey.sample slots order len c.self.invariant c.args.self.now.keys same c.args.key c.place-place.result slot _ c.place-place.ensures.order c.place-place.ensures.place room c.index-slot.ensures back).2
+    let view = c.self.view_is in
+    let back = written c.self.inside.order.len order c.deref_mut.result.now c.turn.new.order c.self.inside.len _ c.index-slot.result.now c.deref_mut.ensures.len
+    c.deref_mut.ensures.value c.turn.ensures.len c.turn.ensures.after in
+    (came g.K.SortKey.before g.met.K.SortKey.order g.K.SortKey.sample c.self.inside.slots.items order c.self.inside.len c.self.invariant c.args.self.now.keys
+    (ap (λ (v : Contents g.row.K.Denot). v.keys) view) c.args.key c.place-place.result c.index-slot.result.now _ c.place-place.ensures.order c.place-place.ensures.place
+    (omega (arith, ap (λ (v : Contents g.row.K.Denot). v.spare) view, c.requires)) c.index-slot.ensures back).2

@@ -19,33 +19,27 @@ turn-requires-clause-held g c = grind (arith, nat_tests, slice_get_read, keys_le
 
 pub invariant_of-self : goal.invariant_of-self
 invariant_of-self g c =
-    let before = g.K.SortKey.before in
-    let slots = c.self.inside.slots.items in
     let order = c.self.inside.order.items in
-    let len = c.self.inside.len in
-    let slot = c.index-slot.result.now in
-    let same = ap (λ (v : Contents g.row.K.Denot). v.keys) c.self.view_is in
-    let back = written c.self.inside.order.len order c.deref_mut.result.now c.turn.new.order c.place_near-place.result _ slot c.deref_mut.ensures.len c.deref_mut.ensures.value c.turn.ensures.len c.turn.ensures.after in
-    (changed before g.met.K.SortKey.order g.K.SortKey.sample slots order len c.self.invariant c.args.self.now.keys same c.args.from c.args.to c.place_near-place.result c.place_near-target.result slot _ c.place_near-place.ensures.order c.place_near-place.ensures.place c.place_near-target.ensures.place c.requires c.index-slot.ensures back).0
+    let back = written c.self.inside.order.len order c.deref_mut.result.now c.turn.new.order c.place_near-place.result _ c.index-slot.result.now
+    c.deref_mut.ensures.len c.deref_mut.ensures.value c.turn.ensures.len c.turn.ensures.after in
+    (changed g.K.SortKey.before g.met.K.SortKey.order g.K.SortKey.sample c.self.inside.slots.items order c.self.inside.len c.self.invariant c.args.self.now.keys
+    (ap (λ (v : Contents g.row.K.Denot). v.keys) c.self.view_is) c.args.from c.args.to c.place_near-place.result c.place_near-target.result c.index-slot.result.now _
+    c.place_near-place.ensures.order c.place_near-place.ensures.place c.place_near-target.ensures.place c.requires c.index-slot.ensures back).0
 
 pub returns-clause-keys : goal.returns-clause-keys
 returns-clause-keys g c =
-    let before = g.K.SortKey.before in
-    let slots = c.self.inside.slots.items in
     let order = c.self.inside.order.items in
-    let len = c.self.inside.len in
-    let slot = c.index-slot.result.now in
-    let same = ap (λ (v : Contents g.row.K.Denot). v.keys) c.self.view_is in
-    let back = written c.self.inside.order.len order c.deref_mut.result.now c.turn.new.order c.place_near-place.result _ slot c.deref_mut.ensures.len c.deref_mut.ensures.value c.turn.ensures.len c.turn.ensures.after in
-    (changed before g.met.K.SortKey.order g.K.SortKey.sample slots order len c.self.invariant c.args.self.now.keys same c.args.from c.args.to c.place_near-place.result c.place_near-target.result slot _ c.place_near-place.ensures.order c.place_near-place.ensures.place c.place_near-target.ensures.place c.requires c.index-slot.ensures back).1
+    let back = written c.self.inside.order.len order c.deref_mut.result.now c.turn.new.order c.place_near-place.result _ c.index-slot.result.now
+    c.deref_mut.ensures.len c.deref_mut.ensures.value c.turn.ensures.len c.turn.ensures.after in
+    (changed g.K.SortKey.before g.met.K.SortKey.order g.K.SortKey.sample c.self.inside.slots.items order c.self.inside.len c.self.invariant c.args.self.now.keys
+    (ap (λ (v : Contents g.row.K.Denot). v.keys) c.self.view_is) c.args.from c.args.to c.place_near-place.result c.place_near-target.result c.index-slot.result.now _
+    c.place_near-place.ensures.order c.place_near-place.ensures.place c.place_near-target.ensures.place c.requires c.index-slot.ensures back).1
 
 pub returns-clause-held : goal.returns-clause-held
 returns-clause-held g c =
-    let before = g.K.SortKey.before in
-    let slots = c.self.inside.slots.items in
     let order = c.self.inside.order.items in
-    let len = c.self.inside.len in
-    let slot = c.index-slot.result.now in
-    let same = ap (λ (v : Contents g.row.K.Denot). v.keys) c.self.view_is in
-    let back = written c.self.inside.order.len order c.deref_mut.result.now c.turn.new.order c.place_near-place.result _ slot c.deref_mut.ensures.len c.deref_mut.ensures.value c.turn.ensures.len c.turn.ensures.after in
-    (changed before g.met.K.SortKey.order g.K.SortKey.sample slots order len c.self.invariant c.args.self.now.keys same c.args.from c.args.to c.place_near-place.result c.place_near-target.result slot _ c.place_near-place.ensures.order c.place_near-place.ensures.place c.place_near-target.ensures.place c.requires c.index-slot.ensures back).2
+    let back = written c.self.inside.order.len order c.deref_mut.result.now c.turn.new.order c.place_near-place.result _ c.index-slot.result.now
+    c.deref_mut.ensures.len c.deref_mut.ensures.value c.turn.ensures.len c.turn.ensures.after in
+    (changed g.K.SortKey.before g.met.K.SortKey.order g.K.SortKey.sample c.self.inside.slots.items order c.self.inside.len c.self.invariant c.args.self.now.keys
+    (ap (λ (v : Contents g.row.K.Denot). v.keys) c.self.view_is) c.args.from c.args.to c.place_near-place.result c.place_near-target.result c.index-slot.result.now _
+    c.place_near-place.ensures.order c.place_near-place.ensures.place c.place_near-target.ensures.place c.requires c.index-slot.ensures back).2
