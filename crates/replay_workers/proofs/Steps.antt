@@ -1,12 +1,11 @@
 -- Turns put one after another.
-use Rattle.std.proofs.Common.{◌≡◌, ◌≢◌, inl, inr, ℕ, zero, suc, ◌+◌, true, false, List, refl, sym, ap, subst, ◌∙◌, arith}
+use Rattle.std.proofs.Common.{◌≡◌, inl, inr, ℕ, zero, suc, ◌+◌, true, false, List, refl, sym, ap, subst, ◌∙◌, arith}
 use Rattle.std.proofs.lemmas.Bool.{cases_Bool}
 use Rattle.std.specs.Prelude.{min}
 use Rattle.tc_model.specs.declared.board.Turn.{Turn}
-use Rattle.tc_model.specs.declared.board.Turn.TheVariants.{Moved, NotYet, Held, Ended, Halted}
 use Rattle.tc_units.specs.declared.units.ThreadNo.{ThreadNo}
 use Rattle.replay_workers.specs.declared.worker.Worker.{Worker}
-use Rattle.replay_workers.specs.Runs.{is_over, idle_after, Turns, Waited, IsStill, Ran, RanBelow, HasRun, more}
+use Rattle.replay_workers.specs.Runs.{is_over, Turns, Waited, IsStill, Ran, RanBelow, HasRun, more}
 
 module _ {H : Type 0} (turns : H → Turn → H → Type 0) where
   pub turns_join : (m n : ℕ) (h j k : H) (a b c : Turn) → Turns turns m h a j b → Turns turns n j b k c → Turns turns (n + m) h a k c
@@ -26,21 +25,9 @@ module _ {B H : Type 0} (turns : H → Turn → H → Type 0) (thread_of : H →
     thread = q.thread ∙ p.thread;
   }
 
-  one_more : (n : ℕ) (a b c : Worker B H) → Waited turns n a b → is_over b.last ≡ false → turns b.hand c.last c.hand → c.last ≢ Moved → Waited turns (suc n) a c
-  one_more n a b c waited on turned still = record { before = waited.before; hand = waited.hand; last = waited.last; by_turns = waited.by_turns; idle = (b.hand, b.last, waited.idle, on, turned, still) }
-
   pub ran_none : (a : Worker B H) → Ran turns thread_of a a
   ran_none a = record { count = 0; by_turns = (refl, refl); counted = refl; thread = refl }
 
-  -- one turn more of a worker that has waited
-  pub waited_more : (m : Turn) (n : ℕ) (a b c : Worker B H) → c.last ≡ m → Waited turns n a b → is_over b.last ≡ false → turns b.hand c.last c.hand → Ran turns thread_of a c → Waited turns (idle_after m n) a c
-  waited_more Moved n a b c is waited on turned ran = record { before = ran.count; hand = c.hand; last = c.last; by_turns = ran.by_turns; idle = (refl, refl) }
-  waited_more NotYet n a b c is waited on turned ran = one_more n a b c waited on turned (λ e. let f : NotYet ≡ Moved = sym is ∙ e in cc)
-  waited_more Held n a b c is waited on turned ran = one_more n a b c waited on turned (λ e. let f : Held ≡ Moved = sym is ∙ e in cc)
-  waited_more Ended n a b c is waited on turned ran = one_more n a b c waited on turned (λ e. let f : Ended ≡ Moved = sym is ∙ e in cc)
-  waited_more (Halted cause) n a b c is waited on turned ran = one_more n a b c waited on turned (λ e. let f : Halted cause ≡ Moved = sym is ∙ e in cc)
-
-module _ {B H : Type 0} (turns : H → Turn → H → Type 0) (thread_of : H → ThreadNo) where
   pub waited_none : (a b : Worker B H) → Ran turns thread_of a b → Waited turns 0 a b
   waited_none a b ran = record { before = ran.count; hand = b.hand; last = b.last; by_turns = ran.by_turns; idle = (refl, refl) }
 
@@ -48,7 +35,9 @@ module _ {B H : Type 0} (turns : H → Turn → H → Type 0) (thread_of : H →
   pub waited_round : (n : ℕ) (a b c : Worker B H) → (is_over b.last ≡ false → Waited turns n a b) → IsStill turns b c → is_over c.last ≡ false → Waited turns (n + 1) a c
   waited_round n a b c waited still on = elim (cases_Bool (is_over b.last)) [
     | inl over ↦ absurd (let f : false ≡ true = sym on ∙ (ap (λ (w : Worker B H). is_over w.last) (sym (still.none over)) ∙ over) in cc)
-    | inr goes ↦ let t = still.turn goes in subst (λ (m : ℕ). Waited turns m a c) (let e : suc n ≡ n + 1 = omega arith in e) (one_more turns thread_of n a b c (waited goes) goes t.0 t.1)
+    | inr goes ↦ let t = still.turn goes in let w = waited goes in
+        let more : Waited turns (suc n) a c = record { before = w.before; hand = w.hand; last = w.last; by_turns = w.by_turns; idle = (b.hand, b.last, w.idle, goes, t.0, t.1) } in
+        subst (λ (m : ℕ). Waited turns m a c) (let e : suc n ≡ n + 1 = omega arith in e) more
   ]
 
 module _ {B H : Type 0} (turns : H → Turn → H → Type 0) (thread_of : H → ThreadNo) (fits : H → Type 0) where

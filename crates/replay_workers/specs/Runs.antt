@@ -17,14 +17,6 @@ is_over Held = false
 is_over Ended = true
 is_over (Halted cause) = true
 
--- how many turns in a row moved nothing, after one more
-abbrev pub idle_after : Turn → ℕ → ℕ
-idle_after Moved n = 0
-idle_after NotYet n = suc n
-idle_after Held n = suc n
-idle_after Ended n = suc n
-idle_after (Halted cause) n = suc n
-
 -- n more, up to the greatest number
 abbrev pub more : ℕ → ℕ → ℕ
 more t zero = t

@@ -1,40 +1,13 @@
 //! Workers that one thread runs in turn.
 ghost use Rattle.std.specs.Prelude.{◌≡◌, length, ◌↔◌, IsTrue, All, false, true, vec_capacity};
-ghost use Rattle.replay_workers.specs.Runs.{is_over, Done, Ran, RanBelow, RunEach, IsStill, StillBelow, Stands};
+ghost use Rattle.replay_workers.specs.Runs.{is_over, Done, RanBelow, RunEach, StillBelow, Stands};
 
-use crate::turns::{PATIENCE, give_way, has_ended, turn_once};
+use crate::turns::{PATIENCE, give_way, has_ended, run_on};
 use crate::worker::Worker;
 use std::alloc::Global;
 use std::sync::Wait;
 use tc_model::{Board, Turn};
 use tc_ports::Gate;
-
-/// Takes turns as long as they move, unless the worker is over, and tells whether one did.
-fn run_on<R: Wait, B: Board, G: Gate>(
-    rt: &R,
-    alloc: Global,
-    board: &B,
-    gate: &G,
-    worker: &mut Worker<B>,
-) -> bool
-    requires { Stands (B.fits board.now) worker.old }
-    ensures ran { Ran (B.turns board.now) (B.thread_of board.now) worker.old worker.new }
-    ensures kept { Stands (B.fits board.now) worker.new }
-    ensures still { result ≡ false → IsStill (B.turns board.now) worker.old worker.new }
-{
-    let mut moved = false;
-    for _ in rt.forever() {
-        if has_ended(worker.last) {
-            return moved;
-        }
-        turn_once(rt, alloc, board, gate, worker);
-        if worker.last != Turn::Moved {
-            return moved;
-        }
-        moved = true;
-    }
-    unreachable!()
-}
 
 /// Has each that isn't over take turns as long as they move, and tells whether one did.
 fn give_round<R: Wait, B: Board, G: Gate>(

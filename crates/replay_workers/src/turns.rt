@@ -1,6 +1,6 @@
 //! The turns of one worker, until it has waited for long.
-ghost use Rattle.std.specs.Prelude.{◌≡◌, ◌<◌, false};
-ghost use Rattle.replay_workers.specs.Runs.{is_over, idle_after, Ran, GivesUpAfter, IsReady, Stands};
+ghost use Rattle.std.specs.Prelude.{◌≡◌, false};
+ghost use Rattle.replay_workers.specs.Runs.{is_over, Ran, GivesUpAfter, IsStill, IsReady, Stands};
 
 use crate::worker::Worker;
 use std::alloc::Global;
@@ -41,7 +41,7 @@ fn pass_gate<B: Board, G: Gate>(
 }
 
 /// Passes the gate and takes one turn.
-pub(crate) fn turn_once<R: Wait, B: Board, G: Gate>(
+fn turn_once<R: Wait, B: Board, G: Gate>(
     rt: &R,
     alloc: Global,
     board: &B,
@@ -79,15 +79,31 @@ pub(crate) fn has_ended(last: Turn) -> bool
     matches!(last, Turn::Ended | Turn::Halted { cause: _ })
 }
 
-/// How many turns in a row moved nothing, after one more with this answer.
-fn idle_after(last: Turn, idle: u64) -> u64
-    requires { idle < PATIENCE }
-    ensures { result ≡ idle_after last idle }
+/// Takes turns as long as they move, unless the worker is over, and tells whether one did.
+pub(crate) fn run_on<R: Wait, B: Board, G: Gate>(
+    rt: &R,
+    alloc: Global,
+    board: &B,
+    gate: &G,
+    worker: &mut Worker<B>,
+) -> bool
+    requires { Stands (B.fits board.now) worker.old }
+    ensures ran { Ran (B.turns board.now) (B.thread_of board.now) worker.old worker.new }
+    ensures kept { Stands (B.fits board.now) worker.new }
+    ensures still { result ≡ false → IsStill (B.turns board.now) worker.old worker.new }
 {
-    match last {
-        Turn::Moved => 0,
-        _ => idle + 1,
+    let mut moved = false;
+    for _ in rt.forever() {
+        if has_ended(worker.last) {
+            return moved;
+        }
+        turn_once(rt, alloc, board, gate, worker);
+        if worker.last != Turn::Moved {
+            return moved;
+        }
+        moved = true;
     }
+    unreachable!()
 }
 
 /// Takes turns until the worker ended, was halted, or moved nothing for long.
@@ -105,12 +121,15 @@ pub(crate) fn run_alone<R: Wait, B: Board, G: Gate>(
 {
     let mut idle = 0;
     for _ in rt.forever() {
-        if has_ended(worker.last) || idle >= PATIENCE {
+        if idle >= PATIENCE || has_ended(worker.last) {
             return;
         }
-        turn_once(rt, alloc, board, gate, worker);
-        idle = idle_after(worker.last, idle);
-        give_way(rt, idle);
+        if run_on(rt, alloc, board, gate, worker) {
+            idle = 0;
+        } else {
+            idle += 1;
+            give_way(rt, idle);
+        }
     }
     unreachable!()
 }

@@ -1,11 +1,12 @@
-use Rattle.std.proofs.Common.{refl, subst, sym, ◌∙◌}
-use Rattle.replay_workers.specs.Runs.{Waited}
-use Rattle.replay_workers.proofs.Steps.{ran_join, waited_more}
+use Rattle.replay_workers.proofs.Steps.{ran_join, waited_none, waited_round}
 use Rattle.replay_workers.proofs.turns.run_alone.Goals as goal
+
+pub loop-preserved-then-run_on : goal.loop-preserved-then-run_on
+loop-preserved-then-run_on g c =
+    let e = c.run_on.ensures in let ran = ran_join (g.B.Board.turns c.args.board.now) (g.B.Board.thread_of c.args.board.now) _ _ _ c.loop.invariant.ran e.ran in
+    record { ran = ran; kept = e.kept; waited = λ on. waited_none _ _ _ _ ran }
 
 pub loop-preserved : goal.loop-preserved
 loop-preserved g c =
-    let turns = g.B.Board.turns c.args.board.now in let v = c.loop.invariant in
-    let ran = ran_join turns _ _ _ _ v.ran c.turn_once.ensures.ran in
-    let waited = waited_more turns (g.B.Board.thread_of c.args.board.now) c.turn_once.new.worker.last c.loop.idle c.args.worker.now c.loop.worker c.turn_once.new.worker refl v.waited (sym c.has_ended.ensures ∙ c.if-has_ended.false) c.turn_once.ensures.turned ran in
-    record { ran = ran; kept = c.turn_once.ensures.kept; waited = subst (λ n. Waited turns n c.args.worker.now c.turn_once.new.worker) (sym c.idle_after-idle.ensures) waited }
+    let e = c.run_on.ensures in let v = c.loop.invariant in let thread_of = g.B.Board.thread_of c.args.board.now in
+    record { ran = ran_join _ thread_of _ _ _ v.ran e.ran; kept = e.kept; waited = waited_round _ thread_of c.loop.idle _ _ _ v.waited (e.still c.if-run_on.false) }

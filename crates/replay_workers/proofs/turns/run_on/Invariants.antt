@@ -1,6 +1,6 @@
 use Rattle.std.proofs.Common.{◌≡◌, false}
 use Rattle.replay_workers.specs.Runs.{Ran, Stands}
-use Rattle.replay_workers.proofs.together.run_on.Given as goal
+use Rattle.replay_workers.proofs.turns.run_on.Given as goal
 
 abbrev pub invariant-loop : goal.invariant-loop
 invariant-loop g l = record {

@@ -1,5 +1,5 @@
 use Rattle.replay_workers.proofs.Steps.{ran_join}
-use Rattle.replay_workers.proofs.together.run_on.Goals as goal
+use Rattle.replay_workers.proofs.turns.run_on.Goals as goal
 
 pub returns-then-ne-clause-ran : goal.returns-then-ne-clause-ran
 returns-then-ne-clause-ran g c = ran_join _ _ _ _ _ c.loop.invariant.ran c.turn_once.ensures.ran
