@@ -186,7 +186,8 @@ none_in (b ∷ bs) = omega (arith, none_in bs, sum_by-cons (in_runs []) b bs)
 few_in : (bs : List Extent) → ((n : ℕ) → sum_by (has n) bs ≤ 1) → (runs : List Run) → sum_by (in_runs runs) bs ≤ sum_by (λ (r : Run). r.pages) runs * page_bytes
 few_in bs once [] = omega (arith, none_in bs)
 few_in bs once (r ∷ rs) =
-    let both : sum_by (in_runs (r ∷ rs)) bs ≡ sum_by (over (first_byte r) (r.pages * page_bytes)) bs + sum_by (in_runs rs) bs = sum_of_both (over (first_byte r) (r.pages * page_bytes)) (in_runs rs) bs in
+    let both : sum_by (in_runs (r ∷ rs)) bs ≡ sum_by (over (first_byte r) (r.pages * page_bytes)) bs + sum_by (in_runs rs) bs =
+    sum_of_both (over (first_byte r) (r.pages * page_bytes)) (in_runs rs) bs in
     omega (arith, both, few_over bs once (first_byte r) (r.pages * page_bytes), few_in bs once rs, sum_by-cons (λ (x : Run). x.pages) r rs)
 
 in_one : (b : Extent) (r : Run) (runs : List Run) → 0 < runs_like r runs → over (first_byte r) (r.pages * page_bytes) b ≤ in_runs runs b
@@ -194,7 +195,8 @@ in_one b r [] there = absurd (omega (arith, there))
 in_one b r (x ∷ xs) there =
     elim (cases_Bool (same_run x r)) [
       | inl same ↦
-          let e : over (first_byte x) (x.pages * page_bytes) b ≡ over (first_byte r) (r.pages * page_bytes) b = ap (λ (y : Run). over (first_byte y) (y.pages * page_bytes) b) (same_run_is x r same) in
+          let e : over (first_byte x) (x.pages * page_bytes) b ≡ over (first_byte r) (r.pages * page_bytes) b =
+          ap (λ (y : Run). over (first_byte y) (y.pages * page_bytes) b) (same_run_is x r same) in
           omega (arith, e)
       | inr other ↦ (let z : bit (same_run x r) ≡ 0 = ap bit other in omega (arith, in_one b r xs (omega (arith, there, z))))
     ]

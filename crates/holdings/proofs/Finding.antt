@@ -23,7 +23,8 @@ use Rattle.holdings.proofs.Sums.{class_counts, least, none_counts, one_at, two}
 use Rattle.holdings.proofs.Held.{first_in}
 use Rattle.holdings.proofs.KeptFacts.{same_address}
 
-module _ {m : Setup} {b : Books} {calls : List CallLine} (f : Facts m b calls) (t : ℕ) (a : Account) (label : Label) (o : Addr) (at : slice_get b.accounts t ≡ Some a) (is : a.doing ≡ Holds label o) where
+module _ {m : Setup} {b : Books} {calls : List CallLine} (f : Facts m b calls) (t : ℕ) (a : Account)
+    (label : Label) (o : Addr) (at : slice_get b.accounts t ≡ Some a) (is : a.doing ≡ Holds label o) where
   own : loose o.0 a.doing ≡ 1
   own = ap (loose o.0) is ∙ ap bit (eq-eqb o.0 o.0 refl)
 
@@ -67,7 +68,8 @@ module _ {m : Setup} {b : Books} {calls : List CallLine} (f : Facts m b calls) (
     found_large : (s : SpanRef) → 0 < spans_like s b.spans → first_byte (run_of s) ≡ o.0 → Found m b o
     found_large s there start =
         let byte = first_in m b calls f (run_of s) o.0 (span_lives m b calls f s there) start in
-        let kinds : (k : SpanKind) → s.kind ≡ k → s ≡ large (run_of s) = λ k. elim k as (λ (j : SpanKind). s.kind ≡ j → s ≡ large (run_of s)) [ Large ↦ λ e. sym (is_large s e) | Small c ↦ λ e. absurd (of_no_class s c there start e) ] in
+        let kinds : (k : SpanKind) → s.kind ≡ k → s ≡ large (run_of s) =
+        λ k. elim k as (λ (j : SpanKind). s.kind ≡ j → s ≡ large (run_of s)) [ Large ↦ λ e. sym (is_large s e) | Small c ↦ λ e. absurd (of_no_class s c there start e) ] in
         record { span = s; there = there; holds = byte_page s o.0 byte; is = inr (run_of s, kinds s.kind refl, same_address o (address_of (run_of s)) (sym start)) }
 
   pub find_there : a.off ≡ [] → Found m b o

@@ -31,7 +31,8 @@ use Rattle.holdings.proofs.Held.{objects_one}
 use Rattle.page_map.specs.Spans as map
 
 module _ {m : Setup} {b : Books} {calls : List CallLine} (f : Facts m b calls) (t : ℕ) (a : Account) (at : slice_get b.accounts t ≡ Some a) where
-  module _ (label : Label) (size : ℕ) (g : Stock) (o : Addr) (rest : List Addr) (is : a.doing ≡ Asks label size) (class : class_of m.rows size ≡ Some (class_number a.class)) (empty : a.hand ≡ []) (cut : IsCut m.rows g) where
+  module _ (label : Label) (size : ℕ) (g : Stock) (o : Addr) (rest : List Addr) (is : a.doing ≡ Asks label size)
+      (class : class_of m.rows size ≡ Some (class_number a.class)) (empty : a.hand ≡ []) (cut : IsCut m.rows g) where
     idle_before : (n : ℕ) → (loose n a.doing ≡ 0) × (objects_at n a.hand ≡ 0)
     idle_before n = (ap (loose n) is, ap (objects_at n) empty)
 
@@ -105,7 +106,8 @@ module _ {m : Setup} {b : Books} {calls : List CallLine} (f : Facts m b calls) (
         })
 
   -- a free finds that what it took is an object
-  module _ (label : Label) (o : Addr) (span : SpanRef) (k : ℕ) (is : a.doing ≡ Holds label o) (empty : a.hand ≡ []) (clear : a.off ≡ []) (there : 0 < spans_like span b.spans) (holds_page : map.holds (o.0 / page_bytes) span ≡ true) (kind : span.kind ≡ Small (class_number k)) where
+  module _ (label : Label) (o : Addr) (span : SpanRef) (k : ℕ) (is : a.doing ≡ Holds label o) (empty : a.hand ≡ []) (clear : a.off ≡ [])
+      (there : 0 < spans_like span b.spans) (holds_page : map.holds (o.0 / page_bytes) span ≡ true) (kind : span.kind ≡ Small (class_number k)) where
     found_object : 0 < b.stock.objects k o.0
     found_object =
         let h : Found m b o = frees_find m b calls t a label o f at is clear in
@@ -186,7 +188,8 @@ module _ {m : Setup} {b : Books} {calls : List CallLine} (f : Facts m b calls) (
                     let new : in_hand j n w ≡ bit (eqb o.0 n) + 0 = cond-true (eqb k j) (bit (eqb o.0 n) + 0) 0 (eq-eqb k j same) in
                     elim (cases_eq o.0 n) [
                       | inl here ↦
-                          let u : sum_by (in_hand j n) b.accounts + b.stock.stored j n ≡ 0 = subst (λ i. sum_by (in_hand i n) b.accounts + b.stock.stored i n ≡ 0) same (subst (λ i. sum_by (in_hand k i) b.accounts + b.stock.stored k i ≡ 0) here untouched) in
+                          let u : sum_by (in_hand j n) b.accounts + b.stock.stored j n ≡ 0 =
+                          subst (λ i. sum_by (in_hand i n) b.accounts + b.stock.stored i n ≡ 0) same (subst (λ i. sum_by (in_hand k i) b.accounts + b.stock.stored k i ≡ 0) here untouched) in
                           let ob : 0 < b.stock.objects j n = subst (λ i. 0 < b.stock.objects i n) same (subst (λ i. 0 < b.stock.objects k i) here found_object) in
                           omega (arith, s, z, new, u, ob, bit_most (eqb o.0 n))
                       | inr away ↦ let e : bit (eqb o.0 n) ≡ 0 = ap bit (ne_eqb o.0 n away) in omega (arith, s, z, new, e, f.classes j n)

@@ -82,7 +82,8 @@ module _ {m : Setup} {b : Books} {calls : List CallLine} (f : Facts m b calls) (
         | inl l ↦ subst (λ (y : Extent). meets (block_of r) y ≡ false) (sym l.is) (placed.apart l.run l.live)
         | inr o ↦ object_inner (block_of r) x o (λ s own. placed.apart (run_of s) (span_lives m b calls f s (owned_there m b calls f s own)))
       ]) f.live in
-      let unheld : (i : ℕ) (x : Account) → slice_get b.accounts i ≡ Some x → spans_of_run r x.apart ≡ 0 = λ i x other. elim (cases_lt 0 (spans_of_run r x.apart)) [ inl some ↦ absurd (omega (arith, unlike, apart_lives m b calls f i x r other some)) | inr none ↦ omega (arith, none) ] in
+      let unheld : (i : ℕ) (x : Account) → slice_get b.accounts i ≡ Some x → spans_of_run r x.apart ≡ 0 =
+      λ i x other. elim (cases_lt 0 (spans_of_run r x.apart)) [ inl some ↦ absurd (omega (arith, unlike, apart_lives m b calls f i x r other some)) | inr none ↦ omega (arith, none) ] in
       let new : IsLarge (books_with b b.stock (r ∷ b.heap) b.spans b.names t w) (block_of r) =
       record {
         run = r;
@@ -198,7 +199,8 @@ module _ {m : Setup} {b : Books} {calls : List CallLine} (f : Facts m b calls) (
             elim (cases_eq (first_byte r) n) [
               | inl same ↦
                   let p : b.stock.begins (first_byte r) ≡ b.stock.begins n = ap b.stock.begins same in
-                  let q : sum_by (λ (x : Account). spans_at (first_byte r) x.apart) b.accounts ≡ sum_by (λ (x : Account). spans_at n x.apart) b.accounts = ap (λ k. sum_by (λ (x : Account). spans_at k x.apart) b.accounts) same in
+                  let q : sum_by (λ (x : Account). spans_at (first_byte r) x.apart) b.accounts ≡ sum_by (λ (x : Account). spans_at n x.apart) b.accounts =
+                  ap (λ k. sum_by (λ (x : Account). spans_at k x.apart) b.accounts) same in
                   omega (arith, p, q, none.0, none.1, shift (λ (x : Account). spans_at n x.apart) b.accounts t a w at)
               | inr other ↦ let z : bit (eqb (first_byte r) n) ≡ 0 = ap bit (ne_eqb (first_byte r) n other) in omega (arith, z, e, f.begins n, shift (λ (x : Account). spans_at n x.apart) b.accounts t a w at)
             ];

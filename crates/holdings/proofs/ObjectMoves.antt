@@ -137,7 +137,8 @@ module _ {m : Setup} {b : Books} {calls : List CallLine} (f : Facts m b calls) (
         (spans_hand Other none) (places_hand Other none)
 
   -- an allocation gets an object
-  module _ (label : Label) (size : ℕ) (g : Stock) (o : Addr) (rest : List Addr) (is : a.doing ≡ Asks label size) (class : class_of m.rows size ≡ Some (class_number a.class)) (empty : a.hand ≡ []) (st : Stocked f t a at g (o ∷ rest)) (there : (s : SpanRef) → 0 < g.owned s → 0 < spans_like s b.spans) where
+  module _ (label : Label) (size : ℕ) (g : Stock) (o : Addr) (rest : List Addr) (is : a.doing ≡ Asks label size) (class : class_of m.rows size ≡ Some (class_number a.class))
+      (empty : a.hand ≡ []) (st : Stocked f t a at g (o ∷ rest)) (there : (s : SpanRef) → 0 < g.owned s → 0 < spans_like s b.spans) where
     abbrev answer : Answer
     answer = Block o (size_of m.rows a.class)
 
@@ -207,7 +208,8 @@ module _ {m : Setup} {b : Books} {calls : List CallLine} (f : Facts m b calls) (
           | inr other ↦
               let s = st.cut.lies a.class o.0 object in
               let u = span_of m b calls f ob.class x.addr ob.object in
-              let unmet : meets (block_of (run_of u.span)) (block_of (run_of s.span)) ≡ false = other_spans s.span u.span s.owned u.there (λ e. other (one_number ob.class a.class (sym u.kind ∙ (ap (λ (y : SpanRef). y.kind) (sym e) ∙ s.kind)))) in
+              let unmet : meets (block_of (run_of u.span)) (block_of (run_of s.span)) ≡ false =
+              other_spans s.span u.span s.owned u.there (λ e. other (one_number ob.class a.class (sym u.kind ∙ (ap (λ (y : SpanRef). y.kind) (sym e) ∙ s.kind)))) in
               let inner : meets (block_of (run_of u.span)) place ≡ false = meets_inner (block_of (run_of u.span)) place (block_of (run_of s.span)) s.from (omega (arith, s.to)) unmet in
               meets_inner place x (block_of (run_of u.span)) u.from (omega (arith, u.to, ob.size)) (meets_flip (block_of (run_of u.span)) place inner)
         ]
@@ -217,7 +219,8 @@ module _ {m : Setup} {b : Books} {calls : List CallLine} (f : Facts m b calls) (
         let s = st.cut.lies a.class o.0 object in
         let run = f.inside (run_of s.span) (live s.span s.owned) in
         let some = st.cut.some a.class o.0 object in
-        let apart : All (λ (x : Extent). meets place x ≡ false) (blocks_after calls) = λ i d within. elim (f.live i d within) [ inl l ↦ apart_large (get_or (blocks_after calls) i d) l | inr ob ↦ apart_object (get_or (blocks_after calls) i d) (f.kept.labelled i d within) ob ] in
+        let apart : All (λ (x : Extent). meets place x ≡ false) (blocks_after calls) =
+        λ i d within. elim (f.live i d within) [ inl l ↦ apart_large (get_or (blocks_after calls) i d) l | inr ob ↦ apart_object (get_or (blocks_after calls) i d) (f.kept.labelled i d within) ob ] in
         kept_block f.kept (record { 0 = t }) label size o (size_of m.rows a.class) (unanswered f t a at label size is)
         (record { inside = record { some = some; from = omega (arith, run.inside.from, s.from); to = omega (arith, run.inside.to, s.to) }; apart = none_meets place (blocks_after calls) apart })
         (sym (class_length m.rows size a.class class).1) some

@@ -123,7 +123,8 @@ module _ {m : Setup} {b : Books} {calls : List CallLine} (f : Facts m b calls) (
         let stored = class_least m.rows (λ k. b.stock.stored k n) a.class (f.cut.class a.class n some) in
         let mine = least (λ (y : Account). loose n y.doing + objects_at n y.hand) b.accounts t a at in
         let v : value_after calls own.0 ≡ Some (Some o) = rw (own.1.kept, own.1.answered) refl in
-        let tied : sum_by (holding own.0 (Some o)) b.accounts + bit (means (Some o) (state_of b.names own.0)) ≡ 1 = f.tie own.0 (Some o) ∙ (ap (λ u. bit (has_value u (Some o))) v ∙ ap bit (same_value_refl (Some o))) in
+        let tied : sum_by (holding own.0 (Some o)) b.accounts + bit (means (Some o) (state_of b.names own.0)) ≡ 1 =
+        f.tie own.0 (Some o) ∙ (ap (λ u. bit (has_value u (Some o))) v ∙ ap bit (same_value_refl (Some o))) in
         elim (cases_lt 0 (sum_by (holding own.0 (Some o)) b.accounts)) [
           | inl held ↦
               let c = counted (holding own.0 (Some o)) b.accounts held in

@@ -1,5 +1,6 @@
 -- One instruction keeps what registers and row say of each other, and moves objects between hand and row.
-use Rattle.std.proofs.Common.{◌≡◌, ℕ, ◌+◌, ◌-◌, ◌<◌, ◌≤◌, Bool, true, false, cond, eqb, ltb, List, [], ◌∷◌, ◌++◌, length, take, get_or, reverse, min, sum_by, Option, Some, None, refl, sym, ap, ◌∙◌, subst, arith, append_assoc}
+use Rattle.std.proofs.Common.{◌≡◌, ℕ, ◌+◌, ◌-◌, ◌<◌, ◌≤◌, Bool, true, false, cond, eqb, ltb, List, [], ◌∷◌, ◌++◌}
+use Rattle.std.proofs.Common.{length, take, get_or, reverse, min, sum_by, Option, Some, None, refl, sym, ap, ◌∙◌, subst, arith, append_assoc}
 use Rattle.std.specs.List.{slice_set}
 use Rattle.std.proofs.lemmas.Bool.{cond_both, eqb-true, ltb-true, ltb-false}
 use Rattle.std.proofs.lemmas.Bool.Decides.{nat_tests}
@@ -46,17 +47,20 @@ all_copied : (pops : Bool) (row : SlabRow) (r : Regs) (n : ℕ) → HasCopied po
 all_copied true row r n has all = let e : n ≡ r.count = omega (arith, has.done) in subst (λ k. HasLoaded row r k) e has
 all_copied false row r n has all = let e : n ≡ r.count = omega (arith, has.done) in subst (λ k. HasStored row r k) e has
 
-next_agrees : (pops : Bool) (row : SlabRow) (r : Regs) (n : ℕ) → HasCopied pops row r n → (b : Bool) → ltb n r.count ≡ b → Agrees pops row (record r { pc = cond b (Copy n) Commit; ran = r.ran + 1 }) (cond b (Copy n) Commit)
+next_agrees : (pops : Bool) (row : SlabRow) (r : Regs) (n : ℕ) → HasCopied pops row r n → (b : Bool) → ltb n r.count ≡ b
+    → Agrees pops row (record r { pc = cond b (Copy n) Commit; ran = r.ran + 1 }) (cond b (Copy n) Commit)
 next_agrees pops row r n has true is = (copied_at pops row r n (Copy n) has, ltb-true n r.count is)
 next_agrees pops row r n has false is = copied_at pops row r r.count Commit (all_copied pops row r n has (ltb-false n r.count is))
 
-load_at : (slots loaded whole : List Addr) (m n : ℕ) → m + 1 ≡ n → m < length slots → take n slots ++ reverse loaded ≡ whole → take m slots ++ reverse (loaded ++ get_or slots m null ∷ []) ≡ whole
+load_at : (slots loaded whole : List Addr) (m n : ℕ) → m + 1 ≡ n → m < length slots
+    → take n slots ++ reverse loaded ≡ whole → take m slots ++ reverse (loaded ++ get_or slots m null ∷ []) ≡ whole
 load_at slots loaded whole m n next within so_far =
     let x : Addr = get_or slots m null in
     let more : take n slots ≡ take m slots ++ x ∷ [] = rw (← next) (take_more slots m null within) in
     ap (λ r. take m slots ++ r) (reverse-append loaded (x ∷ [])) ∙ (sym (append_assoc (take m slots) (x ∷ []) (reverse loaded)) ∙ (ap (λ r. r ++ reverse loaded) (sym more) ∙ so_far))
 
-store_at : (slots hand : List Addr) (top done m : ℕ) → top + done ≡ m → m < length slots → done < length hand → take m slots ≡ take top slots ++ take done hand → take (m + 1) (slice_set slots m (get_or hand done null)) ≡ take top (slice_set slots m (get_or hand done null)) ++ take (done + 1) hand
+store_at : (slots hand : List Addr) (top done m : ℕ) → top + done ≡ m → m < length slots → done < length hand → take m slots ≡ take top slots ++ take done hand
+    → take (m + 1) (slice_set slots m (get_or hand done null)) ≡ take top (slice_set slots m (get_or hand done null)) ++ take (done + 1) hand
 store_at slots hand top done m at within some so_far =
     let x : Addr = get_or hand done null in
     let same : take top (slice_set slots m x) ≡ take top slots = take-set-le top slots m x (omega arith) in
@@ -70,7 +74,8 @@ silent row r c row_same hand = record { row = row_same; hand = hand }
 begin_ok : (stopped pops : Bool) (row : SlabRow) (r : Regs) → IsSoundRow row → r.loaded.items ≡ [] → CellOk stopped pops row r (goes row r Header)
 begin_ok stopped pops row r ok nothing = record { row = ok; cap = refl; slots = refl; size = refl; batch = refl; agrees = nothing; thread = refl; class = refl; seq = refl; epoch = refl; does = record { row = refl; hand = refl } }
 
-closes_ok : (stopped pops : Bool) (row : SlabRow) (r : Regs) (reply : Reply) → IsSoundRow row → Does stopped row r (closes row r reply) (Some reply) → CellOk stopped pops row r (closes row r reply)
+closes_ok : (stopped pops : Bool) (row : SlabRow) (r : Regs) (reply : Reply) → IsSoundRow row
+    → Does stopped row r (closes row r reply) (Some reply) → CellOk stopped pops row r (closes row r reply)
 closes_ok stopped pops row r reply ok does = record { row = ok; cap = refl; slots = refl; size = refl; batch = refl; agrees = refl; thread = refl; class = refl; seq = refl; epoch = refl; does = does }
 
 header_ok : (stopped pops : Bool) (row : SlabRow) (r : Regs) → IsSoundRow row → r.loaded.items ≡ [] → CellOk stopped pops row r (header stopped row r)
@@ -96,7 +101,8 @@ first_loaded row r top filled nothing =
       loaded = let z : r.top - 0 ≡ r.top = omega arith in rw (nothing, z) (append-nil (take r.top row.slots));
     }
 
-pub first_stored : (row : SlabRow) (r : Regs) → r.top ≡ row.top → r.top < row.cap → r.loaded.items ≡ [] → wanted r.seq r.hand.items ≤ length r.hand.items → HasStored row (record r { count = min (wanted r.seq r.hand.items) (row.cap - r.top) }) 0
+pub first_stored : (row : SlabRow) (r : Regs) → r.top ≡ row.top → r.top < row.cap → r.loaded.items ≡ []
+    → wanted r.seq r.hand.items ≤ length r.hand.items → HasStored row (record r { count = min (wanted r.seq r.hand.items) (row.cap - r.top) }) 0
 first_stored row r top free nothing some =
     record {
       top = top;
@@ -188,7 +194,8 @@ commit_ok stopped false row r ok has =
       does = record { free = omega (arith, has.free, has.top); some = has.count ∙ n; few = has.some; row = has.stored ∙ ap (λ xs. xs ++ take r.count r.hand.items) whole; hand = refl };
     }
 
-pub cell_ok : (stopped pops : Bool) (row : SlabRow) (r : Regs) (pc : Pc) → IsSoundRow row → pops ≡ is_pop r.seq → Agrees pops row r pc → CellOk stopped pops row r (cell stopped pops row r pc)
+pub cell_ok : (stopped pops : Bool) (row : SlabRow) (r : Regs) (pc : Pc) → IsSoundRow row
+    → pops ≡ is_pop r.seq → Agrees pops row r pc → CellOk stopped pops row r (cell stopped pops row r pc)
 cell_ok stopped pops row r Begin ok way has = begin_ok stopped pops row r ok has
 cell_ok stopped pops row r Header ok way has = header_ok stopped pops row r ok has
 cell_ok stopped pops row r Test ok way has = test_ok stopped pops row r ok way has.0 has.1
@@ -199,7 +206,8 @@ cell_ok stopped pops row r Commit ok way has = commit_ok stopped pops row r ok h
 silent_moves : (f : Addr → ℕ) (row : SlabRow) (r : Regs) (c : Cell) → IsSilent row r c → sum_by f (held c.row) + sum_by f c.regs.hand.items ≡ sum_by f (held row) + sum_by f r.hand.items
 silent_moves f row r c is = omega (arith, ap (sum_by f) is.row, ap (sum_by f) is.hand)
 
-pub does_moves : (f : Addr → ℕ) (stopped : Bool) (row : SlabRow) (r : Regs) (c : Cell) (o : Option Reply) → Does stopped row r c o → sum_by f (held c.row) + sum_by f c.regs.hand.items ≡ sum_by f (held row) + sum_by f r.hand.items
+pub does_moves : (f : Addr → ℕ) (stopped : Bool) (row : SlabRow) (r : Regs) (c : Cell) (o : Option Reply)
+    → Does stopped row r c o → sum_by f (held c.row) + sum_by f c.regs.hand.items ≡ sum_by f (held row) + sum_by f r.hand.items
 does_moves f stopped row r c None is = silent_moves f row r c is
 does_moves f stopped row r c (Some Stopped) is = silent_moves f row r c is.0
 does_moves f stopped row r c (Some Empty) is = silent_moves f row r c is.0

@@ -30,7 +30,9 @@ cell_stores stopped false row r (Copy done) = (r.top + done, λ m apart. get_or-
 cell_stores stopped true row r Commit = same_row row
 cell_stores stopped false row r Commit = same_row row
 
-other_place : (slab : CpuSlab) (k : ℕ) (row : SlabRow) (i j m : ℕ) → k < length slab.rows → ((n : ℕ) → (n ≡ i → ⊥) → slot_of row n ≡ slot_of (row_at slab k) n) → (j ≡ k → m ≡ i → ⊥) → (j ≡ k) ⊎ (j ≡ k → ⊥) → slot_of (row_at (with_row slab k row) j) m ≡ slot_of (row_at slab j) m
+other_place : (slab : CpuSlab) (k : ℕ) (row : SlabRow) (i j m : ℕ) → k < length slab.rows
+    → ((n : ℕ) → (n ≡ i → ⊥) → slot_of row n ≡ slot_of (row_at slab k) n) → (j ≡ k → m ≡ i → ⊥)
+    → (j ≡ k) ⊎ (j ≡ k → ⊥) → slot_of (row_at (with_row slab k row) j) m ≡ slot_of (row_at slab j) m
 other_place slab k row i j m low stores apart (inl here) =
     let P : ℕ → Type 0 = λ n. slot_of (row_at (with_row slab k row) n) m ≡ slot_of (row_at slab n) m in
     let at : P k = ap (λ (r : SlabRow). slot_of r m) (row_same slab.rows k row low) ∙ stores m (apart here) in
@@ -43,7 +45,8 @@ one_place slab k row low stores = (k, (stores.0, λ j m apart. other_place slab 
 -- after an instruction at a CPU
 instruction_place : (p new : CpuPart) (r : Regs) → r.class.0 < length p.slab.rows → new ≡ with_cell p r (instruction p r) → DiffersAtMostOnce p.slab new.slab
 instruction_place p new r low is =
-    let at : DiffersAtMostOnce p.slab (with_row p.slab r.class.0 (instruction p r).row) = one_place p.slab r.class.0 (instruction p r).row low (cell_stores (stands p.stopper) (is_pop r.seq) (row_at p.slab r.class.0) r r.pc) in
+    let at : DiffersAtMostOnce p.slab (with_row p.slab r.class.0 (instruction p r).row) =
+    one_place p.slab r.class.0 (instruction p r).row low (cell_stores (stands p.stopper) (is_pop r.seq) (row_at p.slab r.class.0) r r.pc) in
     subst (λ (q : CpuPart). DiffersAtMostOnce p.slab q.slab) (sym is) at
 
 -- where nothing was done before it

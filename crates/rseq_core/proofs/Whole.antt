@@ -1,5 +1,6 @@
 -- A sequence whose instructions all run with no act between them does its whole work.
-use Rattle.std.proofs.Common.{◌≡◌, ℕ, zero, suc, ◌+◌, ◌-◌, ◌<◌, ◌≤◌, Bool, true, false, cond, eqb, ltb, [], ◌++◌, length, take, drop, min, Some, refl, sym, ap, ◌∙◌, subst, arith}
+use Rattle.std.proofs.Common.{◌≡◌, ℕ, zero, suc, ◌+◌, ◌-◌, ◌<◌, ◌≤◌, Bool, true, false, cond, eqb}
+use Rattle.std.proofs.Common.{ltb, [], ◌++◌, length, take, drop, min, Some, refl, sym, ap, ◌∙◌, subst, arith}
 use Rattle.std.proofs.lemmas.Bool.{lt-ltb, ltb-false, le-ltb}
 use Rattle.std.proofs.lemmas.Bool.Decides.{nat_tests}
 use Rattle.cpu_slab.specs.Slots.{SlabRow, held}
@@ -70,7 +71,8 @@ copied_low true row r n has = has.done
 copied_low false row r n has = has.done
 
 -- what is left of the copies, and the commit
-copies_end : (m : ℕ) (pops : Bool) (row : SlabRow) (r : Regs) (d : ℕ) → IsSoundRow row → HasCopied pops row r d → m ≡ r.count - d → Ends pops row r (alone m false pops row r (copy_or_commit d r.count))
+copies_end : (m : ℕ) (pops : Bool) (row : SlabRow) (r : Regs) (d : ℕ) → IsSoundRow row → HasCopied pops row r d
+    → m ≡ r.count - d → Ends pops row r (alone m false pops row r (copy_or_commit d r.count))
 copies_end zero pops row r d ok has left =
     let e : d ≡ r.count = omega (arith, copied_low pops row r d has) in
     let test : ltb d r.count ≡ false = le-ltb d r.count (omega arith) in
@@ -91,7 +93,8 @@ copies_end (suc m) false row r d ok has left =
     subst (λ b. Ends false row r (alone (suc m) false false row r (cond b (Copy d) Commit))) (sym (lt-ltb d r.count more)) (ends_after false row r c.row c.regs (alone m false false c.row c.regs c.regs.pc) quiet (copies_end m false c.row c.regs (d + 1) next.row has' (omega arith)))
 
 -- the copies, once they are counted
-counted_ends : (m : ℕ) (pops : Bool) (row : SlabRow) (r : Regs) (k : ℕ) → IsSoundRow row → HasCopied pops row (record r { count = k }) 0 → m ≡ k → Ends pops row r (alone m false pops row (counted row r k).regs (copy_or_commit 0 k))
+counted_ends : (m : ℕ) (pops : Bool) (row : SlabRow) (r : Regs) (k : ℕ) → IsSoundRow row → HasCopied pops row (record r { count = k }) 0
+    → m ≡ k → Ends pops row r (alone m false pops row (counted row r k).regs (copy_or_commit 0 k))
 counted_ends m pops row r k ok has all =
     let r' : Regs = (counted row r k).regs in
     let has' : HasCopied pops row r' 0 = copied_at pops row (record r { count = k }) 0 (copy_or_commit 0 k) has in
@@ -100,7 +103,8 @@ counted_ends m pops row r k ok has all =
 not_equal : (a b : ℕ) → a < b → eqb a b ≡ false
 not_equal a b below = grind (arith, nat_tests)
 
-test_pops : (m : ℕ) (row : SlabRow) (r : Regs) → IsSoundRow row → r.top ≡ row.top → r.loaded.items ≡ [] → 0 < row.top → m ≡ min (wanted r.seq r.hand.items) row.top → Ends true row r (alone (suc m) false true row r Test)
+test_pops : (m : ℕ) (row : SlabRow) (r : Regs) → IsSoundRow row → r.top ≡ row.top → r.loaded.items ≡ []
+    → 0 < row.top → m ≡ min (wanted r.seq r.hand.items) row.top → Ends true row r (alone (suc m) false true row r Test)
 test_pops m row r ok top nothing some left =
     let k : ℕ = min (wanted r.seq r.hand.items) r.top in
     let count : m ≡ k = left ∙ ap (λ n. min (wanted r.seq r.hand.items) n) (sym top) in
@@ -108,7 +112,8 @@ test_pops m row r ok top nothing some left =
     let P : Cell → Type 0 = λ c. Ends true row r (unless_replied c.reply c (alone m false true c.row c.regs c.regs.pc)) in
     subst (λ b. P (cond b (closes row r Empty) (counted row r k))) (sym filled) (counted_ends m true row r k ok (first_loaded row r top (omega (arith, top, some)) nothing) count)
 
-test_pushes : (m : ℕ) (row : SlabRow) (r : Regs) → IsSoundRow row → is_pop r.seq ≡ false → r.top ≡ row.top → r.loaded.items ≡ [] → row.top < row.cap → m ≡ pushed row r → Ends false row r (alone (suc m) false false row r Test)
+test_pushes : (m : ℕ) (row : SlabRow) (r : Regs) → IsSoundRow row → is_pop r.seq ≡ false → r.top ≡ row.top
+    → r.loaded.items ≡ [] → row.top < row.cap → m ≡ pushed row r → Ends false row r (alone (suc m) false false row r Test)
 test_pushes m row r ok way top nothing some left =
     let k : ℕ = min (wanted r.seq r.hand.items) (row.cap - r.top) in
     let count : m ≡ k = left ∙ ap (λ n. min (wanted r.seq r.hand.items) (row.cap - n)) (sym top) in

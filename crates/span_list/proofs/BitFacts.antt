@@ -1,5 +1,6 @@
 -- Words of bits as a list of truth values: a new list, one bit written, and the first bit that is clear.
-use Rattle.std.proofs.Common.{◌≡◌, ℕ, ◌+◌, ◌-◌, ◌*◌, ◌/◌, ◌%◌, ◌^◌, ◌<◌, ◌≤◌, ◌≢◌, Bool, true, false, ◌==◌, List, length, get_or, set, replicate, position, Some, None, cond, sym, ◌∙◌, ap, subst, inl, inr, arith}
+use Rattle.std.proofs.Common.{◌≡◌, ℕ, ◌+◌, ◌-◌, ◌*◌, ◌/◌, ◌%◌, ◌^◌, ◌<◌, ◌≤◌, ◌≢◌, Bool, true, false}
+use Rattle.std.proofs.Common.{◌==◌, List, length, get_or, set, replicate, position, Some, None, cond, sym, ◌∙◌, ap, subst, inl, inr, arith}
 use Rattle.std.specs.List.{position_or_len}
 use Rattle.std.specs.Int.{bit_at, bit_not, w64, trailing_ones}
 use Rattle.std.specs.Int.RustNames.{bit_or}
@@ -36,7 +37,9 @@ word_of : (i n m : ℕ) → i < n → n ≤ 64 * m → i / 64 < m
 word_of i n m less within = omega arith
 
 -- a bit at another index is as it was
-other_bit : (words : List ℕ) (i k v : ℕ) → i / 64 < length words → k ≢ i → ((j : ℕ) → j < 64 → j ≢ i % 64 → bit_at v j ≡ bit_at (get_or words (i / 64) 0) j) → bit_at (get_or (set words (i / 64) v) (k / 64) 0) (k % 64) ≡ bit_at (get_or words (k / 64) 0) (k % 64)
+other_bit : (words : List ℕ) (i k v : ℕ) → i / 64 < length words → k ≢ i
+    → ((j : ℕ) → j < 64 → j ≢ i % 64 → bit_at v j ≡ bit_at (get_or words (i / 64) 0) j)
+    → bit_at (get_or (set words (i / 64) v) (k / 64) 0) (k % 64) ≡ bit_at (get_or words (k / 64) 0) (k % 64)
 other_bit words i k v within differ others =
     elim (cases_eq (k / 64) (i / 64)) [
       | inl same ↦
@@ -47,7 +50,9 @@ other_bit words i k v within differ others =
     ]
 
 -- a word written so that one bit of it changes is one truth value written
-pub clear_bits-set : (words : List ℕ) (n i v : ℕ) (b : Bool) → n ≤ 64 * length words → i < n → (bit_at v (i % 64) == 0) ≡ b → ((k : ℕ) → k < 64 → k ≢ i % 64 → bit_at v k ≡ bit_at (get_or words (i / 64) 0) k) → clear_bits (set words (i / 64) v) n ≡ set (clear_bits words n) i b
+pub clear_bits-set : (words : List ℕ) (n i v : ℕ) (b : Bool) → n ≤ 64 * length words → i < n → (bit_at v (i % 64) == 0) ≡ b
+    → ((k : ℕ) → k < 64 → k ≢ i % 64 → bit_at v k ≡ bit_at (get_or words (i / 64) 0) k)
+    → clear_bits (set words (i / 64) v) n ≡ set (clear_bits words n) i b
 clear_bits-set words n i v b within less here others =
     sym (fill_by_all (is_clear (set words (i / 64) v)) (set (clear_bits words n) i b) n b (length-set (clear_bits words n) i b ∙ length-clear_bits words n) (λ k below.
     elim (cases_eq k i) [
@@ -64,16 +69,19 @@ first_is xs i at less =
     ap (λ t. cond t (Some (position_or_len (λ (b : Bool). b) xs)) None) (lt-ltb (position_or_len (λ (b : Bool). b) xs) (length xs) (omega arith)) ∙ ap (λ j. Some j) at
 
 -- a bit is cleared, or set
-pub clear_bits-put : (words : List ℕ) (n i old : ℕ) → n ≤ 64 * length words → i < n → old ≡ get_or words (i / 64) 0 → clear_bits (set words (i / 64) (bit_and old (bit_not w64 (1 * 2 ^ (i % 64) % 2 ^ bits w64)))) n ≡ set (clear_bits words n) i true
+pub clear_bits-put : (words : List ℕ) (n i old : ℕ) → n ≤ 64 * length words → i < n → old ≡ get_or words (i / 64) 0
+    → clear_bits (set words (i / 64) (bit_and old (bit_not w64 (1 * 2 ^ (i % 64) % 2 ^ bits w64)))) n ≡ set (clear_bits words n) i true
 clear_bits-put words n i old within less read =
     clear_bits-set words n i (bit_and old (bit_not w64 (1 * 2 ^ (i % 64) % 2 ^ bits w64))) true within less (ap (λ b. b == 0) (bit_at_clear_same w64 old (i % 64) (mod_below i 64 (omega arith)))) (λ k below differ. bit_at_clear_other w64 old (i % 64) (mod_below i 64 (omega arith)) k below differ ∙ ap (λ w. bit_at w k) read)
 
-pub clear_bits-take : (words : List ℕ) (n i old : ℕ) → n ≤ 64 * length words → i < n → old ≡ get_or words (i / 64) 0 → clear_bits (set words (i / 64) (bit_or old (1 * 2 ^ (i % 64) % 2 ^ bits w64))) n ≡ set (clear_bits words n) i false
+pub clear_bits-take : (words : List ℕ) (n i old : ℕ) → n ≤ 64 * length words → i < n → old ≡ get_or words (i / 64) 0
+    → clear_bits (set words (i / 64) (bit_or old (1 * 2 ^ (i % 64) % 2 ^ bits w64))) n ≡ set (clear_bits words n) i false
 clear_bits-take words n i old within less read =
     clear_bits-set words n i (bit_or old (1 * 2 ^ (i % 64) % 2 ^ bits w64)) false within less (ap (λ b. b == 0) (bit_at_set_same w64 old (i % 64) (mod_below i 64 (omega arith)))) (λ k below differ. bit_at_set_other w64 old (i % 64) (mod_below i 64 (omega arith)) k differ ∙ ap (λ w. bit_at w k) read)
 
 -- the first bit that is clear, by what stands at it and before it
-pub position-clear_bits : (words : List ℕ) (n i : ℕ) → i < n → is_clear words i ≡ true → ((k : ℕ) → k < i → is_clear words k ≡ false) → position (λ b. b) (clear_bits words n) ≡ Some i
+pub position-clear_bits : (words : List ℕ) (n i : ℕ) → i < n → is_clear words i ≡ true
+    → ((k : ℕ) → k < i → is_clear words k ≡ false) → position (λ b. b) (clear_bits words n) ≡ Some i
 position-clear_bits words n i less here before =
     let size : length (clear_bits words n) ≡ n = length-clear_bits words n in
     let at : position_or_len (λ (b : Bool). b) (clear_bits words n) ≡ i =
@@ -98,13 +106,15 @@ pub record IsFirstClear (words : List ℕ) (i : ℕ) : Type 0 where
   pub here : is_clear words i ≡ true
   pub before : (k : ℕ) → k < i → is_clear words k ≡ false
 
-at_place : (words : List ℕ) (place t word : ℕ) → word ≡ get_or words place 0 → t < 64 → (f : ℕ → Bool) → f (bit_at (get_or words ((64 * place + t) / 64) 0) ((64 * place + t) % 64)) ≡ f (bit_at word t)
+at_place : (words : List ℕ) (place t word : ℕ) → word ≡ get_or words place 0 → t < 64 → (f : ℕ → Bool)
+    → f (bit_at (get_or words ((64 * place + t) / 64) 0) ((64 * place + t) % 64)) ≡ f (bit_at word t)
 at_place words place t word read less f =
     let row : (64 * place + t) / 64 ≡ place = omega arith in
     let column : (64 * place + t) % 64 ≡ t = omega arith in
     ap (λ j. f (bit_at (get_or words j 0) ((64 * place + t) % 64))) row ∙ ap (λ j. f (bit_at (get_or words place 0) j)) column ∙ ap (λ w. f (bit_at w t)) (sym read)
 
-pub first_clear : (words : List ℕ) (place word : ℕ) → word ≡ get_or words place 0 → word < 2 ^ 64 → word ≢ 2 ^ 64 - 1 → ((k : ℕ) → k < place → get_or words k 0 ≡ 2 ^ 64 - 1) → IsFirstClear words (64 * place + trailing_ones w64 word)
+pub first_clear : (words : List ℕ) (place word : ℕ) → word ≡ get_or words place 0 → word < 2 ^ 64 → word ≢ 2 ^ 64 - 1
+    → ((k : ℕ) → k < place → get_or words k 0 ≡ 2 ^ 64 - 1) → IsFirstClear words (64 * place + trailing_ones w64 word)
 first_clear words place word read fits unfull full =
     let ones = bit_at-trailing_ones w64 word (omega arith) in
     let t = trailing_ones w64 word in

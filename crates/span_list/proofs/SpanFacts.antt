@@ -1,5 +1,6 @@
 -- A span's objects: how many are free, the least of them, and what taking and putting one changes.
-use Rattle.std.proofs.Common.{◌≡◌, ◌≢◌, ℕ, zero, suc, ◌+◌, ◌-◌, ◌*◌, ◌/◌, ◌<◌, ◌≤◌, Bool, true, false, not, List, [], ◌∷◌, length, get_or, set, count_by, position, Some, None, cond, refl, sym, ◌∙◌, ap, subst, inl, inr, add-zero, zero-add, arith}
+use Rattle.std.proofs.Common.{◌≡◌, ◌≢◌, ℕ, zero, suc, ◌+◌, ◌-◌, ◌*◌, ◌/◌, ◌<◌, ◌≤◌, Bool, true, false, not, List, [], ◌∷◌}
+use Rattle.std.proofs.Common.{length, get_or, set, count_by, position, Some, None, cond, refl, sym, ◌∙◌, ap, subst, inl, inr, add-zero, zero-add, arith}
 use Rattle.std.specs.List.{position_or_len, slice_get}
 use Rattle.std.proofs.lemmas.List.Sums.{sum_by-cons, sum_by-set, get_or-le-sum_by}
 use Rattle.std.proofs.lemmas.List.Quantifiers.{position-Some}
@@ -48,11 +49,13 @@ taken-set xs i b d less = sum_by-set (λ x. cond (not x) 1 0) xs i b d less
 abbrev pub weight : (Addr → Bool) → Bool → Addr → ℕ
 weight test b a = cond b (cond (test a) 1 0) 0
 
-pub free_from-cons : (test : Addr → Bool) (addr : ℕ → Addr) (k : ℕ) (b : Bool) (xs : List Bool) → count_by test (free_from addr k (b ∷ xs)) ≡ weight test b (addr k) + count_by test (free_from addr (k + 1) xs)
+pub free_from-cons : (test : Addr → Bool) (addr : ℕ → Addr) (k : ℕ) (b : Bool) (xs : List Bool)
+    → count_by test (free_from addr k (b ∷ xs)) ≡ weight test b (addr k) + count_by test (free_from addr (k + 1) xs)
 free_from-cons test addr k true xs = sum_by-cons (λ a. cond (test a) 1 0) (addr k) (free_from addr (k + 1) xs)
 free_from-cons test addr k false xs = sym (zero-add (count_by test (free_from addr (k + 1) xs)))
 
-pub free_from-set : (test : Addr → Bool) (addr : ℕ → Addr) (k : ℕ) (xs : List Bool) (i : ℕ) (b d : Bool) (a : Addr) → i < length xs → a ≡ addr (k + i) → count_by test (free_from addr k (set xs i b)) + weight test (get_or xs i d) a ≡ count_by test (free_from addr k xs) + weight test b a
+pub free_from-set : (test : Addr → Bool) (addr : ℕ → Addr) (k : ℕ) (xs : List Bool) (i : ℕ) (b d : Bool) (a : Addr) → i < length xs → a ≡ addr (k + i)
+    → count_by test (free_from addr k (set xs i b)) + weight test (get_or xs i d) a ≡ count_by test (free_from addr k xs) + weight test b a
 free_from-set test addr k [] i b d a less at = absurd (omega arith)
 free_from-set test addr k (x ∷ xs) zero b d a less at =
     let here : a ≡ addr k = at ∙ ap addr (add-zero k) in
@@ -82,7 +85,8 @@ put_counts xs i at =
     let old : cond {A = ℕ} (not (get_or xs i true)) 1 0 ≡ 1 = ap (λ (b : Bool). cond {A = ℕ} (not b) 1 0) there.1 in
     omega (arith, taken-set xs i true true there.0, old)
 
-pub put_moves : (test : Addr → Bool) (addr : ℕ → Addr) (xs : List Bool) (i : ℕ) (a : Addr) → slice_get xs i ≡ Some false → a ≡ addr i → count_by test (free_from addr 0 (set xs i true)) ≡ count_by test (free_from addr 0 xs) + count_by test (a ∷ [])
+pub put_moves : (test : Addr → Bool) (addr : ℕ → Addr) (xs : List Bool) (i : ℕ) (a : Addr) → slice_get xs i ≡ Some false
+    → a ≡ addr i → count_by test (free_from addr 0 (set xs i true)) ≡ count_by test (free_from addr 0 xs) + count_by test (a ∷ [])
 put_moves test addr xs i a at same =
     let there = taken_place xs i true at in
     let moved = free_from-set test addr 0 xs i true true a there.0 (same ∙ ap addr (sym (zero-add i))) in
@@ -96,7 +100,8 @@ take_counts xs i at =
     let old : cond {A = ℕ} (not (get_or xs i true)) 1 0 ≡ 0 = ap (λ (b : Bool). cond {A = ℕ} (not b) 1 0) first.1 in
     omega (arith, taken-set xs i false true first.0, old)
 
-pub take_moves : (test : Addr → Bool) (addr : ℕ → Addr) (xs : List Bool) (i : ℕ) (a : Addr) → position (λ b. b) xs ≡ Some i → a ≡ addr i → count_by test (free_from addr 0 (set xs i false)) + count_by test (a ∷ []) ≡ count_by test (free_from addr 0 xs)
+pub take_moves : (test : Addr → Bool) (addr : ℕ → Addr) (xs : List Bool) (i : ℕ) (a : Addr) → position (λ b. b) xs ≡ Some i
+    → a ≡ addr i → count_by test (free_from addr 0 (set xs i false)) + count_by test (a ∷ []) ≡ count_by test (free_from addr 0 xs)
 take_moves test addr xs i a at same =
     let first = position-Some (λ (b : Bool). b) xs i true at in
     let moved = free_from-set test addr 0 xs i false true a first.0 (same ∙ ap addr (sym (zero-add i))) in

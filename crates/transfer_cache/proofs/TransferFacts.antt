@@ -17,6 +17,7 @@ pub sum_by-moves : {X : Type 0} (f : X → ℕ) (out xs : List X) (i : ℕ) → 
 sum_by-moves f out xs i =
     omega (arith, sum_by-append f out (reverse (drop i xs)), sum_by-reverse f (drop i xs), sum_by-take-drop f xs i)
 
-pub count_by-moves : {X : Type 0} (test : X → Bool) (kept came out xs : List X) (i : ℕ) → kept ≡ take i xs → came ≡ out ++ reverse (drop i xs) → count_by test kept + count_by test came ≡ count_by test xs + count_by test out
+pub count_by-moves : {X : Type 0} (test : X → Bool) (kept came out xs : List X) (i : ℕ) → kept ≡ take i xs
+    → came ≡ out ++ reverse (drop i xs) → count_by test kept + count_by test came ≡ count_by test xs + count_by test out
 count_by-moves test kept came out xs i stays goes =
     ap (λ ys. count_by test ys + count_by test came) stays ∙ ap (λ ys. count_by test (take i xs) + count_by test ys) goes ∙ sum_by-moves (λ x. cond (test x) 1 0) out xs i

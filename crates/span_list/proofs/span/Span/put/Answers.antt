@@ -13,7 +13,8 @@ put-requires c =
     let s : SpanState = record { span = c.self.inside.span; size = c.self.inside.size; free = c.self.inside.free } in
     let at : c.args.object ≡ address s c.requires.index = c.requires.at ∙ ap (λ t. address t c.requires.index) (sym c.self.view_is) in
     let there : slice_get c.self.inside.free c.requires.index ≡ Some false = ap (λ t. slice_get t.free c.requires.index) c.self.view_is ∙ c.requires.taken in
-    let index : (c.args.object.0 - c.addr_of.result.0) / c.from.result ≡ c.requires.index = index_found s c.args.object c.requires.index c.addr_of.result.0 c.from.result c.self.invariant.0.some at c.addr_of.ensures c.from.ensures in
+    let index : (c.args.object.0 - c.addr_of.result.0) / c.from.result ≡ c.requires.index =
+    index_found s c.args.object c.requires.index c.addr_of.result.0 c.from.result c.self.invariant.0.some at c.addr_of.ensures c.from.ensures in
     omega (arith, index, (taken_place c.self.inside.free c.requires.index true there).0)
 
 pub overflow_cast-distance : goal.overflow_cast-distance
