@@ -16,19 +16,12 @@ use Rattle.rseq_core.specs.Bags.{room, emptied}
 use Rattle.rseq_core.specs.Tables.{Cell, is_pop, wanted, closes, counted, cell}
 use Rattle.rseq_core.specs.Agrees.{Agrees, IsSilent, Does}
 use Rattle.rseq_core.specs.Acts.{IsCurrent, runs, stands, instruction, with_cell, answered, arrival, instructed_by, grew_by}
-use Rattle.rseq_core.proofs.CellKept.{CellOk, cell_ok}
+use Rattle.rseq_core.proofs.CellKept.{CellOk, cell_ok, test_cell}
 use Rattle.rseq_core.proofs.Able.{KeepsRoom, able_from_agrees, cell_room}
 use Rattle.cpu_drain.specs.Seats.{CpuOk}
 use Rattle.cpu_drain.specs.Laws.{MovesNone, AnswerMoves, BeginsAfter, AreOfSame, Instructs, InstructDoes, Grows, GrowDoes, TakeDoes}
 use Rattle.cpu_drain.proofs.Steps.{runs_is}
 use Rattle.cpu_drain.proofs.Lawful.{growth_keeps}
-
--- the test closes the sequence, or counts the objects that it moves
-test_cell : (P : Cell → Type 0) (stopped pops : Bool) (row : SlabRow) (r : Regs) → P (closes row r Empty)
-    → P (closes row r Full) → ((n : ℕ) → P (counted row r n)) → P (cell stopped pops row r Test)
-test_cell P stopped true row r none full goes = cond_both (eqb r.top 0) (closes row r Empty) (counted row r (min (wanted r.seq r.hand.items) r.top)) P (λ e. none) (λ e. goes _)
-test_cell P stopped false row r none full goes =
-    cond_both (eqb r.top row.cap) (closes row r Full) (counted row r (min (wanted r.seq r.hand.items) (row.cap - r.top))) P (λ e. full) (λ e. goes _)
 
 -- an instruction ends its sequence at the begin, and is counted
 cell_begins : (stopped pops : Bool) (row : SlabRow) (r : Regs) (pc : Pc) → BeginsAfter (answered (cell stopped pops row r pc).reply) (cell stopped pops row r pc).regs

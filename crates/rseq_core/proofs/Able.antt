@@ -8,6 +8,7 @@ use Rattle.cpu_slab.specs.Slots.{SlabRow, slot_of, row_at}
 use Rattle.cpu_slab.specs.Sound.{IsSoundRow}
 use Rattle.rseq_core.specs.declared.sequence.Pc.{Pc}
 use Rattle.rseq_core.specs.declared.sequence.Pc.TheVariants.{Begin, Header, Test, Copy, Commit}
+use Rattle.rseq_core.specs.declared.sequence.Reply.{Reply}
 use Rattle.rseq_core.specs.declared.sequence.Reply.TheVariants.{Empty, Full}
 use Rattle.rseq_core.specs.declared.regs.Regs.{Regs}
 use Rattle.rseq_core.specs.declared.cpu_part.CpuPart.{CpuPart}
@@ -15,7 +16,7 @@ use Rattle.rseq_core.specs.Bags.{room, appended, without_first, emptied}
 use Rattle.rseq_core.specs.Tables.{Cell, is_pop, wanted, closes, counted, cell}
 use Rattle.rseq_core.specs.Agrees.{HasLoaded, HasStored, Agrees, CanLoad, CanStore, IsAble}
 use Rattle.rseq_core.specs.Acts.{stands, instruction}
-use Rattle.rseq_core.proofs.CellKept.{loaded_length}
+use Rattle.rseq_core.proofs.CellKept.{loaded_length, test_cell}
 
 -- room for all that a pop wants
 pub record HasPopRoom (r : Regs) : Type 0 where
@@ -54,12 +55,14 @@ room_without bag n low = omega (arith, length-drop n bag.items)
 room_emptied : (bag : Contents Addr) → room (emptied bag) ≡ room bag
 room_emptied bag = omega arith
 
+closes_room : (row : SlabRow) (r : Regs) (reply : Reply) → KeepsRoom r (closes row r reply).regs
+closes_room row r reply = record { hand = refl; loaded = room_emptied r.loaded }
+
 pub cell_room : (stopped pops : Bool) (row : SlabRow) (r : Regs) (pc : Pc) → IsAble pops row r pc → KeepsRoom r (cell stopped pops row r pc).regs
 cell_room stopped pops row r Begin able = record { hand = refl; loaded = refl }
 cell_room true pops row r Header able = record { hand = refl; loaded = room_emptied r.loaded }
 cell_room false pops row r Header able = record { hand = refl; loaded = refl }
-cell_room stopped true row r Test able = cond_both (eqb r.top 0) (closes row r Empty) (counted row r (min (wanted r.seq r.hand.items) r.top)) (λ (c : Cell). KeepsRoom r c.regs) (λ e. record { hand = refl; loaded = room_emptied r.loaded }) (λ e. record { hand = refl; loaded = refl })
-cell_room stopped false row r Test able = cond_both (eqb r.top row.cap) (closes row r Full) (counted row r (min (wanted r.seq r.hand.items) (row.cap - r.top))) (λ (c : Cell). KeepsRoom r c.regs) (λ e. record { hand = refl; loaded = room_emptied r.loaded }) (λ e. record { hand = refl; loaded = refl })
+cell_room stopped pops row r Test able = test_cell (λ c. KeepsRoom r c.regs) stopped pops row r (closes_room row r Empty) (closes_room row r Full) (λ n. record { hand = refl; loaded = refl })
 cell_room stopped true row r (Copy done) able = record { hand = refl; loaded = room_appended r.loaded (slot_of row (r.top - (done + 1)) ∷ []) (omega (arith, able.2)) }
 cell_room stopped false row r (Copy done) able = record { hand = refl; loaded = refl }
 cell_room stopped true row r Commit able = record { hand = room_appended r.hand r.loaded.items able.1; loaded = room_emptied r.loaded }

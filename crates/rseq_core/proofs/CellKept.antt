@@ -70,20 +70,33 @@ store_at slots hand top done m at within some so_far =
 silent : (row : SlabRow) (r : Regs) (c : Cell) → held c.row ≡ held row → c.regs.hand.items ≡ r.hand.items → IsSilent row r c
 silent row r c row_same hand = record { row = row_same; hand = hand }
 
+-- an instruction that leaves the row as it was, and the registers of the same sequence
+row_kept : (stopped pops : Bool) (row : SlabRow) (r : Regs) (c : Cell) → IsSoundRow row → row ≡ c.row → c.regs.thread ≡ r.thread → c.regs.class ≡ r.class → c.regs.seq ≡ r.seq → c.regs.epoch ≡ r.epoch
+    → Agrees pops row c.regs c.regs.pc → Does stopped row r c c.reply → CellOk stopped pops row r c
+row_kept stopped pops row r c ok same thread class seq epoch agrees does =
+    record { row = rw (← same) ok; cap = rw (← same) refl; slots = rw (← same) refl; size = rw (← same) refl; batch = rw (← same) refl; agrees = rw (← same) agrees; thread = thread; class = class; seq = seq; epoch = epoch; does = does }
+
+-- the test closes the sequence, or counts the objects that it moves
+pub test_cell : (P : Cell → Type 0) (stopped pops : Bool) (row : SlabRow) (r : Regs) → P (closes row r Empty) → P (closes row r Full) → ((n : ℕ) → P (counted row r n)) → P (cell stopped pops row r Test)
+test_cell P stopped true row r none full goes = cond_both (eqb r.top 0) (closes row r Empty) (counted row r (min (wanted r.seq r.hand.items) r.top)) P (λ e. none) (λ e. goes _)
+test_cell P stopped false row r none full goes =
+    cond_both (eqb r.top row.cap) (closes row r Full) (counted row r (min (wanted r.seq r.hand.items) (row.cap - r.top))) P (λ e. full) (λ e. goes _)
+
 -- The rows of the table.
 begin_ok : (stopped pops : Bool) (row : SlabRow) (r : Regs) → IsSoundRow row → r.loaded.items ≡ [] → CellOk stopped pops row r (goes row r Header)
-begin_ok stopped pops row r ok nothing = record { row = ok; cap = refl; slots = refl; size = refl; batch = refl; agrees = nothing; thread = refl; class = refl; seq = refl; epoch = refl; does = record { row = refl; hand = refl } }
+begin_ok stopped pops row r ok nothing = row_kept stopped pops row r (goes row r Header) ok refl refl refl refl refl nothing (record { row = refl; hand = refl })
 
 closes_ok : (stopped pops : Bool) (row : SlabRow) (r : Regs) (reply : Reply) → IsSoundRow row
     → Does stopped row r (closes row r reply) (Some reply) → CellOk stopped pops row r (closes row r reply)
-closes_ok stopped pops row r reply ok does = record { row = ok; cap = refl; slots = refl; size = refl; batch = refl; agrees = refl; thread = refl; class = refl; seq = refl; epoch = refl; does = does }
+closes_ok stopped pops row r reply ok does = row_kept stopped pops row r (closes row r reply) ok refl refl refl refl refl refl does
 
 header_ok : (stopped pops : Bool) (row : SlabRow) (r : Regs) → IsSoundRow row → r.loaded.items ≡ [] → CellOk stopped pops row r (header stopped row r)
 header_ok true pops row r ok nothing = closes_ok true pops row r Stopped ok (record { row = refl; hand = refl }, refl)
-header_ok false pops row r ok nothing = record { row = ok; cap = refl; slots = refl; size = refl; batch = refl; agrees = (refl, nothing); thread = refl; class = refl; seq = refl; epoch = refl; does = record { row = refl; hand = refl } }
+header_ok false pops row r ok nothing = row_kept false pops row r (header false row r) ok refl refl refl refl refl (refl, nothing) (record { row = refl; hand = refl })
 
 counted_ok : (stopped pops : Bool) (row : SlabRow) (r : Regs) (k : ℕ) → IsSoundRow row → HasCopied pops row (record r { count = k }) 0 → CellOk stopped pops row r (counted row r k)
-counted_ok stopped pops row r k ok has = record { row = ok; cap = refl; slots = refl; size = refl; batch = refl; agrees = next_agrees pops row (record r { count = k }) 0 has (ltb 0 k) refl; thread = refl; class = refl; seq = refl; epoch = refl; does = record { row = refl; hand = refl } }
+counted_ok stopped pops row r k ok has =
+    let next = next_agrees pops row (record r { count = k }) 0 has (ltb 0 k) refl in row_kept stopped pops row r (counted row r k) ok refl refl refl refl refl next (record { row = refl; hand = refl })
 
 pub wanted_some : (s : Seq) (hand : List Addr) → is_pop s ≡ false → wanted s hand ≤ length hand
 wanted_some Pop hand is = absurd (cc)
@@ -125,20 +138,25 @@ test_ok stopped true row r ok way top nothing =
 test_ok stopped false row r ok way top nothing =
     cond_both (eqb r.top row.cap) _ _ (CellOk stopped false row r)
     (λ e. closes_ok stopped false row r Full ok (record { row = refl; hand = refl }, sym top ∙ eqb-true r.top row.cap e))
-    (λ e. counted_ok stopped false row r (min (wanted r.seq r.hand.items) (row.cap - r.top)) ok (first_stored row r top (below r.top row.cap (omega (arith, top, ok.top)) e) nothing (wanted_some r.seq r.hand.items (sym way))))
+    (λ e.
+    let has = first_stored row r top (below r.top row.cap (omega (arith, top, ok.top)) e) nothing (wanted_some r.seq r.hand.items (sym way)) in
+    counted_ok stopped false row r (min (wanted r.seq r.hand.items) (row.cap - r.top)) ok has)
 
 pub copy_ok : (stopped pops : Bool) (row : SlabRow) (r : Regs) (done : ℕ) → IsSoundRow row → HasCopied pops row r done → done < r.count → CellOk stopped pops row r (copy pops row r done)
 copy_ok stopped true row r done ok has more =
     let top : r.top ≡ row.top = has.top in
     let r' : Regs = record r { loaded = appended r.loaded (slot_of row (r.top - (done + 1)) ∷ []) } in
-    let has' : HasLoaded row r' (done + 1) = record { top = has.top; filled = has.filled; count = has.count; done = omega arith; loaded = load_at row.slots r.loaded.items (take r.top row.slots) (r.top - (done + 1)) (r.top - done) (omega (arith, has.count)) (omega (arith, has.count, ok.top, ok.cap)) has.loaded } in
-    record { row = ok; cap = refl; slots = refl; size = refl; batch = refl; agrees = next_agrees true row r' (done + 1) has' (ltb (done + 1) r.count) refl; thread = refl; class = refl; seq = refl; epoch = refl; does = record { row = refl; hand = refl } }
+    let loaded = load_at row.slots r.loaded.items (take r.top row.slots) (r.top - (done + 1)) (r.top - done) (omega (arith, has.count)) (omega (arith, has.count, ok.top, ok.cap)) has.loaded in
+    let has' : HasLoaded row r' (done + 1) = record { top = has.top; filled = has.filled; count = has.count; done = omega arith; loaded = loaded } in
+    let next = next_agrees true row r' (done + 1) has' (ltb (done + 1) r.count) refl in
+    row_kept stopped true row r (copy true row r done) ok refl refl refl refl refl next (record { row = refl; hand = refl })
 copy_ok stopped false row r done ok has more =
     let x : Addr = object r.hand.items done in
     let row' : SlabRow = stored row (r.top + done) x in
     let same : length (slice_set row.slots (r.top + done) x) ≡ length row.slots = length-set row.slots (r.top + done) x in
     let here : r.top + (done + 1) ≡ (r.top + done) + 1 = omega arith in
-    let has' : HasStored row' r (done + 1) = record { top = has.top; free = has.free; count = has.count; some = has.some; done = omega arith; nothing = has.nothing; stored = rw here (store_at row.slots r.hand.items r.top done (r.top + done) refl (omega (arith, has.count, ok.cap)) (omega (arith, has.some)) has.stored) } in
+    let stored' = store_at row.slots r.hand.items r.top done (r.top + done) refl (omega (arith, has.count, ok.cap)) (omega (arith, has.some)) has.stored in
+    let has' : HasStored row' r (done + 1) = record { top = has.top; free = has.free; count = has.count; some = has.some; done = omega arith; nothing = has.nothing; stored = rw here stored' } in
     record {
       row = record { top = ok.top; cap = omega (arith, same, ok.cap); size = ok.size };
       cap = refl;

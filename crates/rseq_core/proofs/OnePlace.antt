@@ -10,6 +10,7 @@ use Rattle.rseq_core.specs.declared.sequence.Reply.TheVariants.{Empty, Full}
 use Rattle.rseq_core.specs.declared.regs.Regs.{Regs}
 use Rattle.rseq_core.specs.declared.cpu_part.CpuPart.{CpuPart}
 use Rattle.rseq_core.specs.Tables.{Cell, is_pop, wanted, object, closes, counted, cell}
+use Rattle.rseq_core.proofs.CellKept.{test_cell}
 use Rattle.rseq_core.specs.Acts.{DiffersAtMostOnce, stands, instruction, with_cell}
 
 -- all slots of a row but one hold what they held
@@ -23,8 +24,7 @@ pub cell_stores : (stopped pops : Bool) (row : SlabRow) (r : Regs) (pc : Pc) →
 cell_stores stopped pops row r Begin = same_row row
 cell_stores true pops row r Header = same_row row
 cell_stores false pops row r Header = same_row row
-cell_stores stopped true row r Test = cond_both (eqb r.top 0) (closes row r Empty) (counted row r (min (wanted r.seq r.hand.items) r.top)) (λ (c : Cell). StoresOnce row c.row) (λ e. same_row row) (λ e. same_row row)
-cell_stores stopped false row r Test = cond_both (eqb r.top row.cap) (closes row r Full) (counted row r (min (wanted r.seq r.hand.items) (row.cap - r.top))) (λ (c : Cell). StoresOnce row c.row) (λ e. same_row row) (λ e. same_row row)
+cell_stores stopped pops row r Test = test_cell (λ c. StoresOnce row c.row) stopped pops row r (same_row row) (same_row row) (λ n. same_row row)
 cell_stores stopped true row r (Copy done) = same_row row
 cell_stores stopped false row r (Copy done) = (r.top + done, λ m apart. get_or-set_other row.slots (r.top + done) m (object r.hand.items done) null apart)
 cell_stores stopped true row r Commit = same_row row
