@@ -1,12 +1,10 @@
 //! The top calls over ends in memory, with answers that were worked out by hand.
 use crate::outcome::{End, Outcome};
 use crate::replay::{replay_alone, tcreplay};
-use size_classes::RowWhy;
 use std::alloc::{AllocError, Global};
 use std::process::Abort;
 use std::test::Fail;
 use tc_ports::{MemShelf, MemSink, MemSource, OpenGate};
-use trace_reader::{LineWhy, OrderWhy};
 
 /// A class table, which stands on the shelf as `T0`.
 pub(crate) const TABLE: &[u8] = b"16,1,4\n64,1,2\n8192,1,2\n";
@@ -343,78 +341,6 @@ fn words_that_are_refused(rt: HostRuntime) -> Result<(), Fail> {
     let outcome = replay(&rt, alloc, "tcreplay serial", &mut ends)?;
     let usage = refused("tcreplay serial", 2, End::Usage, b"tcreplay");
     assert_case(&rt, &usage, &outcome, &ends);
-    Ok(())
-}
-
-#[test]
-fn inputs_that_are_refused(rt: HostRuntime) -> Result<(), Fail> {
-    let alloc = rt.alloc();
-    let missing = refused(
-        "tcreplay serial --classes T1",
-        11,
-        End::FileFault,
-        b"tcreplay: file fault\n",
-    );
-    check(&rt, alloc, &missing)?;
-
-    let mut ends = open(alloc, ONE, b"")?;
-    ends.files = shelf(alloc, b"16,1,4\n12,1,4\n", b"", &[])?;
-    let outcome = replay(&rt, alloc, SERIAL, &mut ends)?;
-    let why = RowWhy::Size;
-    let bad = End::BadTable { row: 2, why };
-    let size = refused(SERIAL, 3, bad, b"tcreplay: table row 2: size\n");
-    assert_case(&rt, &size, &outcome, &ends);
-
-    // Line ends alone are no record, and of one byte more than the limit nothing is read.
-    let lines = vec![in alloc; b'\n'; 65537]?;
-    let mut ends = open(alloc, ONE, b"")?;
-    ends.files = shelf(alloc, &lines, b"", &[])?;
-    let outcome = replay(&rt, alloc, SERIAL, &mut ends)?;
-    let limit = 65536;
-    let note = b"tcreplay: longer than 65536 bytes\n";
-    let long = refused(SERIAL, 8, End::TooLong { limit }, note);
-    assert_case(&rt, &long, &outcome, &ends);
-
-    for (trace, line, why, note) in [
-        (
-            b"a 0 0 300000\na 0 0 300000\n".as_slice(),
-            2,
-            LineWhy::LabelUsed,
-            b"tcreplay: trace line 2: labelused\n".as_slice(),
-        ),
-        (
-            b"f 0 3\n".as_slice(),
-            1,
-            LineWhy::LabelUnknown,
-            b"tcreplay: trace line 1: labelunknown\n".as_slice(),
-        ),
-        (
-            b"r 0 1\nd 0 1\n".as_slice(),
-            2,
-            LineWhy::Cpu,
-            b"tcreplay: trace line 2: cpu\n".as_slice(),
-        ),
-    ] {
-        // The order file is bad too, but the trace comes first.
-        let case = Case {
-            trace,
-            order: b"9\n",
-            ..refused(ORDER, 4, End::BadTrace { line, why }, note)
-        };
-        check(&rt, alloc, &case)?;
-    }
-
-    let why = OrderWhy::Thread;
-    let order = Case {
-        order: b"0\n9\n",
-        ..refused(
-            ORDER,
-            10,
-            End::BadOrder { line: 2, why },
-            b"tcreplay: order line 2: thread\n",
-        )
-    };
-    check(&rt, alloc, &order)?;
     Ok(())
 }
 
