@@ -105,7 +105,6 @@ impl HugeCache {
     }
 
     /// Takes `many` free hugepages out.
-    #[tactic(auto, using(range_bits::proofs::Counts::free_inside))]
     pub fn take_out(&mut self, first: Huge, many: u32)
         requires some { 0 < many }
         requires low { 0 < first.0 }
@@ -127,7 +126,6 @@ impl HugeCache {
     }
 
     /// Adds `many` adjacent backed hugepages.
-    #[tactic(auto, using(range_bits::proofs::Counts::used_inside))]
     pub fn give_run(&mut self, first: Huge, many: u32)
         requires some { 0 < many }
         requires low { 0 < first.0 }
