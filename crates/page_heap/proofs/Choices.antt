@@ -63,8 +63,7 @@ module _ (heap : Heap) (n : ℕ) where
       is.measures ≡ measures_of heap.runs huge.0 (hugepage heap huge.0) → huge.0 ≤ length heap.hugepages →
       first_least is_preferred (filter (has_room n) (filler_rows heap)) ≡ Some (filler_row heap huge.0)
   preferred_is huge is own its to =
-      let h : ℕ = huge.0 in
-      let rows = filter (has_room n) (filler_rows heap) in
+      let h : ℕ = huge.0 in let rows = filter (has_room n) (filler_rows heap) in
       let has = row_there h is.from to own (subst (λ (m : Measures). n ≤ m.longest) its is.room) in
       first_is is_preferred rows (filler_row heap h) has.0 (filler_row heap h) has.1 has.2
       (λ k d l.
@@ -119,8 +118,7 @@ its_there heap h its from to e = its_filler heap.runs h (hugepage heap h) its (s
 
 pub found : (heap : Heap) (rows : List (Option Measures)) (n : ℕ) (huge : Huge) → length heap.hugepages ≡ heap.config.huge → rows ≡ measures heap → IsPreferred rows n huge → IsFound heap n huge.0
 found heap rows n huge arena e given =
-    let is = subst (λ all. IsPreferred all n huge) e given in
-    let size = length-measures heap in
+    let is = subst (λ all. IsPreferred all n huge) e given in let size = length-measures heap in
     let to : huge.0 ≤ length heap.hugepages = omega (arith, is.to) in
     let its = its_there heap huge.0 is.measures is.from to is.row in
     record {

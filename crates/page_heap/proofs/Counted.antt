@@ -14,8 +14,7 @@ sum_none (x ∷ xs) = let a = sum_by-cons (λ x. 0) x xs in let rest = sum_none 
 pub count_swap : {P R : Type 0} (q : P → R → Bool) (ps : List P) (rs : List R) → sum_by (λ p. count_by (q p) rs) ps ≡ sum_by (λ r. count_by (λ p. q p r) ps) rs
 count_swap q [] rs = sym (sum_none rs)
 count_swap q (p ∷ ps) rs =
-    let rest = count_swap q ps rs in
-    let a = sum_by-cons (λ p. count_by (q p) rs) p ps in
+    let rest = count_swap q ps rs in let a = sum_by-cons (λ p. count_by (q p) rs) p ps in
     let b = sum-adds (λ r. cond (q p r) 1 0) (λ r. count_by (λ p. q p r) ps) (λ r. count_by (λ p. q p r) (p ∷ ps)) rs (λ i d l. sym (count-cons (λ p. q p (get_or rs i d)) p ps)) in
     omega arith
 
@@ -56,8 +55,7 @@ module _ (runs : List Run) (disjoint : (p : ℕ) → count_by (holds p) runs ≤
   pub used_of_hugepages : (h n : ℕ) → sum_by (used_count runs) (range_with_len h n) ≡ sum_by (pages_in (256 * h) (256 * n)) runs
   used_of_hugepages h zero = sym (same_sums (pages_in (256 * h) (256 * 0)) (λ r. 0) runs (λ k d l. omega arith) ∙ sum_none runs)
   used_of_hugepages h (suc n) =
-      let a = sum_by-cons (used_count runs) h (range_with_len (h + 1) n) in
-      let rest = used_of_hugepages (h + 1) n in
+      let a = sum_by-cons (used_count runs) h (range_with_len (h + 1) n) in let rest = used_of_hugepages (h + 1) n in
       let first = used_by_runs (256 * h) 256 in
       let both = sum-adds (pages_in (256 * h) 256) (pages_in (256 * (h + 1)) (256 * n)) (pages_in (256 * h) (256 * suc n)) runs (λ i d l. adjacent (get_or runs i d) h n) in
       join_up _ _ _ _ _ _ a first rest both

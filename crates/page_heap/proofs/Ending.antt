@@ -39,10 +39,8 @@ unused_is heap r = grind (arith, nat_tests, any_is_count)
 used_long : (runs : List Run) (first many s n : ℕ) → s + n ≤ many → ((page : ℕ) → first + s ≤ page → page < first + s + n → is_used runs page ≡ true) →
     n ≤ used_from (heaps.used_from runs first many) s
 used_long runs first many s n fits used =
-    let row = heaps.used_from runs first many in
-    let len = length-map-range_with_len (is_used runs) first many in
-    let size = length-drop s row in
-    prefix_long (λ (b : Bool). b) (drop s row) n false (omega arith)
+    let row = heaps.used_from runs first many in let len = length-map-range_with_len (is_used runs) first many in
+    let size = length-drop s row in prefix_long (λ (b : Bool). b) (drop s row) n false (omega arith)
     (λ k l. get_or-drop s row k false ∙ get_or-map-range_with_len (is_used runs) first many (s + k) (first + (s + k)) false (omega arith) refl ∙ used (first + (s + k)) (omega arith) (omega arith))
 
 -- A region without a used page ends, where each other one has some.
@@ -93,8 +91,7 @@ module _ (heap : Heap) (r : ℕ) (sound : AreRunsSound heap) (ending : IsEnding 
       ((h : ℕ) → 0 < h → h ≤ length (map p heap.hugepages) → numbered row h true ≡ cond (spans width h r) (flag h)
       (numbered (map p heap.hugepages) h true)) → row ≡ map p after_end.hugepages
   end_flags p flag row same size is_row =
-      let len = length-map heap.hugepages p in
-      flags_are heap e sound p row (size ∙ len)
+      let len = length-map heap.hugepages p in flags_are heap e sound p row (size ∙ len)
       (λ h is.
       is_row h is.from (omega (arith, is.to))
       ∙ ap (cond (spans width h r) (flag h)) (map-at p heap.hugepages h true is.from (omega (arith, is.to)))
@@ -283,8 +280,7 @@ module _ (old : Inside) (heap : Heap) (is : IsHeap old heap) (run : Run) (live :
 
     ended_now : (u : Table) → Means u (given_back heap run) → IsEnded old (given_back heap run) k u
     ended_now u means =
-        let arena = sound.runs.arena in
-        let last = given_back_sound heap run sound live in
+        let arena = sound.runs.arena in let last = given_back_sound heap run sound live in
         let size = ap length means.pages ∙ last.runs.arena in
         let taken = ap (λ (c : Cache). length c.taken) is.shows.cache ∙ length-map heap.hugepages is_taken in
         let unready = ap (λ (c : Cache). length c.unready) is.shows.cache ∙ length-map heap.hugepages is_unready in

@@ -29,10 +29,8 @@ filled_at heap n page h s sound some fit are e =
 filled_by : (heap : Heap) (n page : ℕ) → IsSound heap → 0 < n → (o : Option FillerRow) → IfSome o (IsRowWithRoom heap n) → place_in_row n o ≡ Some page → IsFilled heap n page
 filled_by heap n page sound some None is e = absurd (none-some page e)
 filled_by heap n page sound some (Some row) is e =
-    let of = mapped (λ start. 256 * row.number + start) (best row.used n) page e in
-    let s : ℕ = of.0 in
-    let h : ℕ = is.number in
-    let at : row.number ≡ h = ap (λ (r : FillerRow). r.number) is.row_is in
+    let of = mapped (λ start. 256 * row.number + start) (best row.used n) page e in let s : ℕ = of.0 in
+    let h : ℕ = is.number in let at : row.number ≡ h = ap (λ (r : FillerRow). r.number) is.row_is in
     let place : best (used_row heap.runs h) n ≡ Some s = ap (λ (r : FillerRow). best r.used n) (sym is.row_is) ∙ of.1 in
     filled_at heap n page h s sound some is.fitting (unused_at heap.runs (256 * h) 256 n s some place) (ap (λ k. 256 * k + s) (sym at) ∙ of.2)
 
@@ -106,8 +104,7 @@ module _ (old : Inside) (heap : Heap) (is : IsHeap old heap) (n page : ℕ) (som
 
   pub joining : IsJoining old heap n page
   joining =
-      let step = came run heap.runs in
-      let given = is_filled.given in
+      let step = came run heap.runs in let given = is_filled.given in
       record {
         own = own;
         near = near_of _ _ own.to is.well.limits.huge_to;

@@ -66,8 +66,7 @@ module _ (heap : Heap) (rest : List Run) (f : ℕ → Hugepage → Hugepage) (so
       ((h : ℕ) → IsHugepageOf heap.config.huge h → h ≢ k → measured heap.runs h (hugepage heap h) ≡ measured rest h (f h (hugepage heap h))) →
       with_measures (measures heap) k (measured rest k (hugepage after k)) ≡ measures after
   measures_set k own others =
-      let len = length-measures heap in
-      let its = measured rest k (hugepage after k) in
+      let len = length-measures heap in let its = measured rest k (hugepage after k) in
       let size = length-set (measures heap) (k - 1) its in
       same_numbered None (with_measures (measures heap) k its) (measures after) (size ∙ len ∙ sym (length-measures after ∙ length-each f heap.hugepages))
       (λ h some l.
@@ -99,8 +98,7 @@ module _ (heap : Heap) (f : ℕ → Hugepage → Hugepage) (sound : AreRunsSound
   pub flags_are : (p : Hugepage → Bool) (flags : List Bool) → length flags ≡ length heap.hugepages →
       ((h : ℕ) → IsHugepageOf heap.config.huge h → numbered flags h true ≡ p (f h (hugepage heap h))) → flags ≡ map p then
   flags_are p flags size same =
-      let len = length-map then p in
-      let size' = length-each f heap.hugepages in
+      let len = length-map then p in let size' = length-each f heap.hugepages in
       same_numbered true flags (map p then) (size ∙ sym (len ∙ size'))
       (λ h some l.
       same h (number heap sound h some (omega arith)) ∙ ap p (sym (at-each f heap.hugepages h some (omega arith))) ∙ sym (map-at p then h true some (omega arith)))
