@@ -91,9 +91,9 @@ pub enum Task<'a> {
 
 /// The replay by worker threads that is asked for, and its locks, where one is.
 pub fn by_threads(asked: Option<Task<'_>>) -> Option<(Replay<'_>, Locks)>
-    ensures replay { IfSome result (λ both. asked ≡ Some (task.Replay both.0)) }
+    ensures replay { IfSome result (λ both. asked.entry ≡ Some (task.Replay both.0)) }
     ensures locks { IfSome result (λ both. locks_in (seen_schedule both.0.schedule) ≡ Some both.1) }
-    ensures alone { IfNone result (threads_in (option_map seen_task asked) ≡ None) }
+    ensures alone { IfNone result (threads_in (option_map seen_task asked.entry) ≡ None) }
 {
     match asked {
         Some(Task::Replay(replay)) => match replay.schedule {
