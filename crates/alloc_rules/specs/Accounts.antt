@@ -1,5 +1,5 @@
 -- The account of a thread: what its local has in hand and is about to do.
-use Rattle.std.specs.Prelude.{List, [], ◌∷◌, drop, Some}
+use Rattle.std.specs.Prelude.{List, [], ◌∷◌, drop}
 use Rattle.tc_units.specs.declared.units.Class.{Class}
 use Rattle.tc_units.specs.declared.spans.Run.{Run}
 use Rattle.tc_units.specs.declared.spans.SpanRef.{SpanRef}
@@ -15,11 +15,11 @@ use Rattle.call_steps.specs.declared.step.HeapStep.TheVariants as heap
 use Rattle.call_steps.specs.declared.step.MapStep.TheVariants as mapped
 use Rattle.call_steps.specs.Local.{Local}
 use Rattle.call_steps.specs.Calls.{About}
-use Rattle.call_steps.specs.Rows.{row_at}
+use Rattle.call_steps.specs.Rows.{step_rule}
 
 -- what a step is about with a label
 abbrev pub doing_of : {R : Type 0} → (R → About) → Step R → Doing
-doing_of about s = (row_at s).doing about
+doing_of about s = (step_rule s).doing about
 
 -- the live runs that it holds off the map
 abbrev pub first_run : List SpanRef → List Run

@@ -16,8 +16,8 @@ use Rattle.call_steps.specs.declared.step.Onward.TheVariants as onward
 use Rattle.call_steps.specs.declared.step.Step.{Step}
 use Rattle.call_steps.specs.Local.{Local}
 use Rattle.call_steps.specs.Calls.{About, Asks, Publishes, Frees, Other, HasNoLabel}
-use Rattle.call_steps.specs.Rows.{Held, row_at}
-use Rattle.call_steps.specs.Rows as held
+use Rattle.call_steps.specs.Rows.{InHand, step_rule}
+use Rattle.call_steps.specs.Rows as has
 use Rattle.call_steps.specs.Shapes.{BeginsWith, most_slots}
 
 -- what an allocation asks for has the registers' class
@@ -63,16 +63,16 @@ IsOnward rows about (onward.Row k row) = IsLater rows about k row
 IsOnward rows about onward.End = Unit {0}
 
 -- by what the row at its step has in hand
-abbrev pub Has : {V R : Type 0} → List ClassRow → (R → About) → Local V R → Held R → Type 0
-Has rows about l held.Nothing = HasNone l
-Has rows about l (held.Asked a) = HasNone l × IsAsked rows l.regs a
-Has rows about l (held.Large size) = HasNone l × (class_of rows size ≡ None)
-Has rows about l (held.Given g) = HasHand most_slots l × IsGiving rows about l.regs.hand.items g
-Has rows about l (held.Spans next) = HasSpans l × IsOnward rows about next
-Has rows about l (held.Own row) = HandAbout rows l.regs (about row) × (l.freed.items ≡ [])
+abbrev pub HasInHand : {V R : Type 0} → List ClassRow → (R → About) → Local V R → InHand R → Type 0
+HasInHand rows about l has.Nothing = HasNone l
+HasInHand rows about l (has.ForClass a) = HasNone l × IsAsked rows l.regs a
+HasInHand rows about l (has.ForPages size) = HasNone l × (class_of rows size ≡ None)
+HasInHand rows about l (has.Gives g) = HasHand most_slots l × IsGiving rows about l.regs.hand.items g
+HasInHand rows about l (has.GivesSpans next) = HasSpans l × IsOnward rows about next
+HasInHand rows about l (has.OfFront row) = HandAbout rows l.regs (about row) × (l.freed.items ≡ [])
 
 abbrev pub StepShape : {V R : Type 0} → List ClassRow → (R → About) → Local V R → Step R → Type 0
-StepShape rows about l s = Has rows about l (row_at s).held
+StepShape rows about l s = HasInHand rows about l (step_rule s).hand
 
 -- A local of thread t: its registers are the thread's, its class is there, its bags have their room, the calls behind are as
 -- the front-end takes them, and its step has its shape.

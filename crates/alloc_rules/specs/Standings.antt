@@ -10,8 +10,8 @@ use Rattle.call_steps.specs.declared.step.Next.{Next}
 use Rattle.call_steps.specs.declared.step.Next.TheVariants as next
 use Rattle.call_steps.specs.declared.step.Step.{Step}
 use Rattle.call_steps.specs.Local.{Local}
-use Rattle.call_steps.specs.Rows.{Held, row_at}
-use Rattle.call_steps.specs.Rows as held
+use Rattle.call_steps.specs.Rows.{InHand, step_rule}
+use Rattle.call_steps.specs.Rows as has
 
 -- where a thread stands with a row of the front-end: that is its next act, or comes for a class behind acts elsewhere, or
 -- there is none
@@ -48,16 +48,16 @@ at_onward (onward.Row k row) = Later k row
 at_onward onward.End = Away
 
 -- by what the row at its step has in hand
-abbrev pub at_held : {R : Type 0} → Held R → At R
-at_held held.Nothing = Away
-at_held (held.Asked a) = Away
-at_held (held.Large size) = Away
-at_held (held.Given g) = at_giving g
-at_held (held.Spans next) = at_onward next
-at_held (held.Own row) = Here row
+abbrev pub at_hand : {R : Type 0} → InHand R → At R
+at_hand has.Nothing = Away
+at_hand (has.ForClass a) = Away
+at_hand (has.ForPages size) = Away
+at_hand (has.Gives g) = at_giving g
+at_hand (has.GivesSpans next) = at_onward next
+at_hand (has.OfFront row) = Here row
 
 abbrev pub at_step : {R : Type 0} → Step R → At R
-at_step s = at_held (row_at s).held
+at_step s = at_hand (step_rule s).hand
 
 abbrev pub standing_of : {V R : Type 0} → Local V R → Standing V R
 standing_of l = stand l.seat l.regs l.acts (at_step l.step)

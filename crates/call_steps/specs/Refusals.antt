@@ -4,7 +4,7 @@ use Rattle.tc_model.specs.declared.answers.Answer.{Answer}
 use Rattle.tc_model.specs.declared.answers.Answer.TheVariants.{Block, NoBlock, Freed, FreedNull, Released, Drained, Busy, CapSet, OverLimit, OverStatic}
 use Rattle.call_steps.specs.declared.step.Step.{Step}
 use Rattle.call_steps.specs.declared.step.Step.TheVariants as does
-use Rattle.call_steps.specs.Rows.{row_at}
+use Rattle.call_steps.specs.Rows.{step_rule}
 
 -- whether an answer refuses its call
 abbrev pub is_refusal : Answer → Bool
@@ -22,5 +22,5 @@ is_refusal (OverStatic most) = true
 -- which steps may refuse their call, and how, by the refusals of the front-end's rows
 abbrev pub may_refuse : {R : Type 0} → (R → Answer → Bool) → Step R → Answer → Bool
 may_refuse refuses (does.Front row) answer = refuses row answer
-may_refuse refuses step NoBlock = (row_at step).refuses
+may_refuse refuses step NoBlock = (step_rule step).refuses
 may_refuse refuses step answer = false

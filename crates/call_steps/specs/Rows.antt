@@ -20,19 +20,19 @@ use Rattle.call_steps.specs.Calls.{About, Asks, Publishes, Frees, Other, about_g
 
 -- What is in hand: nothing, and then the class may be that of what is asked for, or there is none; objects that are given away,
 -- and what comes then; spans to give back, and what comes then; or what a row of the front-end has.
-pub data Held (R : Type 0) : Type 0 where
-  Nothing : Held R
-  Asked : Asking → Held R
-  Large : ℕ → Held R
-  Given : Giving R → Held R
-  Spans : Onward R → Held R
-  Own : R → Held R
+pub data InHand (R : Type 0) : Type 0 where
+  Nothing : InHand R
+  ForClass : Asking → InHand R
+  ForPages : ℕ → InHand R
+  Gives : Giving R → InHand R
+  GivesSpans : Onward R → InHand R
+  OfFront : R → InHand R
 
 -- a row, by what the front-end's rows are about
-pub record Row (R : Type 0) : Type 0 where
+pub record StepRule (R : Type 0) : Type 0 where
   pub call : (R → About) → Option Call
   pub doing : (R → About) → Doing
-  pub held : Held R
+  pub hand : InHand R
   pub refuses : Bool
 
 -- what is about this has this label and these addresses
@@ -43,38 +43,38 @@ doing_about (Frees f) = does.Frees f.label f.addr
 doing_about (Other call) = does.Other
 
 -- a row that is about what rows of the front-end may be about, and one that is not
-abbrev pub like : {R : Type 0} → ((R → About) → About) → Held R → Row R
-like what held = record { call = λ about. call_about (what about); doing = λ about. doing_about (what about); held = held; refuses = false }
+abbrev pub about_rule : {R : Type 0} → ((R → About) → About) → InHand R → StepRule R
+about_rule what hand = record { call = λ about. call_about (what about); doing = λ about. doing_about (what about); hand = hand; refuses = false }
 
-abbrev pub alone : {R : Type 0} → Option Call → Doing → Held R → Row R
-alone call doing held = record { call = λ about. call; doing = λ about. doing; held = held; refuses = false }
+abbrev pub plain_rule : {R : Type 0} → Option Call → Doing → InHand R → StepRule R
+plain_rule call doing hand = record { call = λ about. call; doing = λ about. doing; hand = hand; refuses = false }
 
 -- and one that may tell that there is no room
-abbrev pub or_no_room : {R : Type 0} → Row R → Row R
+abbrev pub or_no_room : {R : Type 0} → StepRule R → StepRule R
 or_no_room r = record r { refuses = true }
 
-abbrev pub row_at : {R : Type 0} → Step R → Row R
-row_at (step.Front row) = like (λ about. about row) (Own row)
-row_at (step.Shard (Fetch a)) = like (λ about. Asks a) (Asked a)
-row_at (step.Shard (AddFetch a run)) = like (λ about. Asks a) (Asked a)
-row_at (step.Shard (Give g)) = like (λ about. about_giving about g) (Given g)
-row_at (step.Heap (New label size)) = or_no_room (alone (Some (Malloc label size)) (does.Asks label size) (Large size))
-row_at (step.Heap (NewSpan a)) = or_no_room (like (λ about. Asks a) (Asked a))
-row_at (step.Heap (GiveBack label run)) = alone (Some (Free label)) (does.Holds label (address_of run)) Nothing
-row_at (step.Heap (FreeSpan next)) = like (λ about. about_onward about next) (Spans next)
-row_at (step.Heap (Unback pages)) = alone (Some (Release pages)) does.Other Nothing
-row_at (step.Map (Set label run)) = alone None (does.Publishes label (Some (address_of run))) Nothing
-row_at (step.Map (SetSpan a run)) = like (λ about. Asks a) (Asked a)
-row_at (step.Map (Lookup label addr)) = alone (Some (Free label)) (does.Holds label addr) Nothing
-row_at (step.Map (Clear label run)) = alone (Some (Free label)) (does.Holds label (address_of run)) Nothing
-row_at (step.Map (ClearSpan next)) = like (λ about. about_onward about next) (Spans next)
-row_at (step.Names (Publish label value)) = alone None (does.Publishes label value) Nothing
-row_at (step.Names (Take label)) = alone (Some (Free label)) (does.Takes label) Nothing
-row_at step.Ended = alone None does.Other Nothing
+abbrev pub step_rule : {R : Type 0} → Step R → StepRule R
+step_rule (step.Front row) = about_rule (λ about. about row) (OfFront row)
+step_rule (step.Shard (Fetch a)) = about_rule (λ about. Asks a) (ForClass a)
+step_rule (step.Shard (AddFetch a run)) = about_rule (λ about. Asks a) (ForClass a)
+step_rule (step.Shard (Give g)) = about_rule (λ about. about_giving about g) (Gives g)
+step_rule (step.Heap (New label size)) = or_no_room (plain_rule (Some (Malloc label size)) (does.Asks label size) (ForPages size))
+step_rule (step.Heap (NewSpan a)) = or_no_room (about_rule (λ about. Asks a) (ForClass a))
+step_rule (step.Heap (GiveBack label run)) = plain_rule (Some (Free label)) (does.Holds label (address_of run)) Nothing
+step_rule (step.Heap (FreeSpan next)) = about_rule (λ about. about_onward about next) (GivesSpans next)
+step_rule (step.Heap (Unback pages)) = plain_rule (Some (Release pages)) does.Other Nothing
+step_rule (step.Map (Set label run)) = plain_rule None (does.Publishes label (Some (address_of run))) Nothing
+step_rule (step.Map (SetSpan a run)) = about_rule (λ about. Asks a) (ForClass a)
+step_rule (step.Map (Lookup label addr)) = plain_rule (Some (Free label)) (does.Holds label addr) Nothing
+step_rule (step.Map (Clear label run)) = plain_rule (Some (Free label)) (does.Holds label (address_of run)) Nothing
+step_rule (step.Map (ClearSpan next)) = about_rule (λ about. about_onward about next) (GivesSpans next)
+step_rule (step.Names (Publish label value)) = plain_rule None (does.Publishes label value) Nothing
+step_rule (step.Names (Take label)) = plain_rule (Some (Free label)) (does.Takes label) Nothing
+step_rule step.Ended = plain_rule None does.Other Nothing
 
 -- the call under way, while it isn't decided
 abbrev pub undecided : {R : Type 0} → (R → About) → Step R → Option Call
-undecided about s = (row_at s).call about
+undecided about s = (step_rule s).call about
 
 -- how many calls are under way and decided
 abbrev pub without_call : Option Call → ℕ

@@ -1,5 +1,5 @@
 -- The per-CPU caches as a front-end: with which of their rows calls begin and go on, and what their acts leave.
-use Rattle.std.specs.Prelude.{Bool, true, false, List, Option, Some, None}
+use Rattle.std.specs.Prelude.{Bool, true, List, Option, Some, None}
 use Rattle.tc_units.specs.declared.spans.ClassRow.{ClassRow}
 use Rattle.tc_model.specs.declared.calls.Call.{Call}
 use Rattle.tc_model.specs.declared.calls.Call.TheVariants.{Drain, Resize}
@@ -16,7 +16,7 @@ use Rattle.call_steps.specs.declared.step.Step.TheVariants as step
 use Rattle.cpu_rows.specs.declared.row.CpuRow.{CpuRow}
 use Rattle.cpu_rows.specs.declared.row.CpuRow.TheVariants as front
 use Rattle.cpu_rows.specs.declared.row.CpuStep.{CpuStep}
-use Rattle.cpu_rows.specs.declared.row.CpuStep.TheVariants.{Pop, Stock, Push, Stop, SetCap, Leave}
+use Rattle.cpu_rows.specs.declared.row.CpuStep.TheVariants.{Pop, Stock, Push, Stop, Leave}
 use Rattle.cpu_rows.specs.declared.row.DomainStep.{DomainStep}
 use Rattle.cpu_rows.specs.PerCpu.{CpuLocal, Step}
 use Rattle.call_steps.specs.Fronts.{FrontCalls}

@@ -60,31 +60,31 @@ empty_to_start rows (stopping.Drain d) = below (length rows)
 empty_to_start rows (stopping.Resize r) = alone r.class.0
 
 -- the answers by which a stop and a capacity are refused
-abbrev pub no_answer : Answer → Bool
-no_answer answer = false
+abbrev pub refuses_nothing : Answer → Bool
+refuses_nothing answer = false
 
-abbrev pub is_busy : Answer → Bool
-is_busy (Busy owner) = true
-is_busy answer = false
+abbrev pub refuses_stop : Answer → Bool
+refuses_stop (Busy owner) = true
+refuses_stop answer = false
 
-abbrev pub is_over : Answer → Bool
-is_over (OverLimit sum) = true
-is_over (OverStatic most) = true
-is_over answer = false
+abbrev pub refuses_cap : Answer → Bool
+refuses_cap (OverLimit sum) = true
+refuses_cap (OverStatic most) = true
+refuses_cap answer = false
 
 -- The rows at a CPU, in one table: what each is about, at which CPU it is, by the thread's own, what its call has done to the
 -- CPU that it stopped, by the class table and the thread's class, and by which answers it may refuse.
 pub record CpuRule : Type 0 where
   pub about : About
   pub cpu : CpuNo → CpuNo
-  pub stands : List ClassRow → ℕ → Option Standing
+  pub standing : List ClassRow → ℕ → Option Standing
   pub refuses : Answer → Bool
 
 abbrev pub own : About → CpuRule
-own about = record { about = about; cpu = λ own. own; stands = λ rows k. None; refuses = no_answer }
+own about = record { about = about; cpu = λ own. own; standing = λ rows k. None; refuses = refuses_nothing }
 
 abbrev pub stopped : CpuNo → About → Bool → (List ClassRow → ℕ → ℕ → Bool) → CpuRule
-stopped c about fenced empty = record { about = about; cpu = λ own. c; stands = λ rows k. stands c fenced (empty rows k); refuses = no_answer }
+stopped c about fenced empty = record { about = about; cpu = λ own. c; standing = λ rows k. stands c fenced (empty rows k); refuses = refuses_nothing }
 
 abbrev pub cpu_rule : CpuStep → CpuRule
 cpu_rule (Pop a) = own (Asks a)
@@ -92,10 +92,10 @@ cpu_rule (Grow a) = own (Asks a)
 cpu_rule (Stock s) = own (Publishes s)
 cpu_rule (Push f) = own (Frees f)
 cpu_rule (PopBatch f) = own (Frees f)
-cpu_rule (Stop s) = record { about = Other (Some (call_of s)); cpu = λ own. cpu_of s; stands = λ rows k. None; refuses = is_busy }
+cpu_rule (Stop s) = record { about = Other (Some (call_of s)); cpu = λ own. cpu_of s; standing = λ rows k. None; refuses = refuses_stop }
 cpu_rule (Fence s) = stopped (cpu_of s) (Other (Some (call_of s))) false (λ rows k. no_class_empty)
 cpu_rule (Take s) = stopped (cpu_of s) (Other (Some (call_of s))) true (λ rows k. empty_to_take k s)
-cpu_rule (SetCap r) = record (stopped r.cpu (Other (Some (Resize r.cpu r.class r.cap))) true (λ rows k. alone r.class.0)) { refuses = is_over }
+cpu_rule (SetCap r) = record (stopped r.cpu (Other (Some (Resize r.cpu r.class r.cap))) true (λ rows k. alone r.class.0)) { refuses = refuses_cap }
 cpu_rule (Start s) = stopped (cpu_of s) (about_start s) true (λ rows k. empty_to_start rows s)
 cpu_rule Leave = own (Other None)
 
@@ -108,7 +108,7 @@ at_cpu own row = (cpu_rule row).cpu own
 
 -- what the call of a thread whose class is k has done to the CPU that it stopped
 abbrev pub cpu_standing : List ClassRow → ℕ → CpuStep → Option Standing
-cpu_standing rows k row = (cpu_rule row).stands rows k
+cpu_standing rows k row = (cpu_rule row).standing rows k
 
 -- which of their rows may refuse a call, and how
 abbrev pub cpu_refuses : CpuRow → Answer → Bool

@@ -1,14 +1,9 @@
 -- What holds of a thread by its row at the caches: its registers, its hand, and what its call has done to the CPU that it stopped.
-use Rattle.std.specs.Prelude.{◌≡◌, ℕ, ◌*◌, ◌<◌, ◌≤◌, Bool, true, false, ◌==◌, nat_lt, List, [], ◌∷◌, length, Option, Some, None, is_some}
+use Rattle.std.specs.Prelude.{◌≡◌, ℕ, ◌*◌, ◌<◌, ◌≤◌, true, List, [], ◌∷◌, length, Option, Some, None, is_some}
 use Rattle.tc_units.specs.Classes.{class_of}
-use Rattle.tc_units.specs.declared.units.CpuNo.{CpuNo}
 use Rattle.tc_units.specs.declared.units.Class.{Class}
 use Rattle.tc_units.specs.declared.units.Addr.{Addr}
 use Rattle.tc_units.specs.declared.spans.ClassRow.{ClassRow}
-use Rattle.tc_model.specs.declared.calls.Call.{Call}
-use Rattle.tc_model.specs.declared.calls.Call.TheVariants.{Malloc, Free, Release, Drain, Resize}
-use Rattle.tc_model.specs.declared.calls.MoveTo.{MoveTo}
-use Rattle.tc_model.specs.declared.calls.Planned.{Planned}
 use Rattle.rseq_core.specs.declared.sequence.Seq.{Seq}
 use Rattle.rseq_core.specs.declared.sequence.Seq.TheVariants as seq
 use Rattle.rseq_core.specs.declared.sequence.Pc.TheVariants.{Begin}
@@ -28,7 +23,7 @@ use Rattle.cpu_rows.specs.declared.row.DomainStep.{DomainStep}
 use Rattle.cpu_rows.specs.declared.row.DomainStep.TheVariants as domain
 use Rattle.call_steps.specs.Local.{class_row}
 use Rattle.call_steps.specs.Calls.{HasNoLabel}
-use Rattle.cpu_rows.specs.CpuRows.{about_cpu, as_row, cpu_of, cpu_standing}
+use Rattle.cpu_rows.specs.CpuRows.{about_cpu, as_row, cpu_standing}
 use Rattle.call_steps.specs.Shapes.{BeginsWith, most_slots}
 use Rattle.alloc_rules.specs.Inputs.{Limits}
 

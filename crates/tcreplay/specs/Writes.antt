@@ -1,5 +1,5 @@
 -- What a call writes, and at which ends.
-use Rattle.std.specs.Prelude.{◌≡◌, ℕ, ◌⊎◌, List, Option}
+use Rattle.std.specs.Prelude.{◌≡◌, ℕ, ◌⊎◌, List}
 use Rattle.tc_ports.specs.Faults.{one_more, Rose}
 use Rattle.tc_ports.specs.Told.{Took, TookPart}
 use Rattle.tc_ports.specs.Ends.{Reading, Shelving, Writing}

@@ -3,7 +3,7 @@ ghost use Rattle.std.specs.Prelude.{◌≡◌, ℕ, ◌<◌, [], All, length, sl
 ghost use Rattle.tc_model.specs.declared.board.Turn.TheVariants as turn;
 ghost use Rattle.tc_model.specs.Run.{start};
 ghost use Rattle.tc_model.specs.Chains.{IsPolite};
-ghost use Rattle.replay_workers.specs.Runs.{IsReady, halt_of, halt_among};
+ghost use Rattle.replay_workers.specs.Runs.{IsReady, halt_among};
 ghost use Rattle.cpu_rows.specs.Machine as allocator;
 ghost use Rattle.cpu_rows.specs.Switches.{SwitchesAreFew};
 
