@@ -13,12 +13,16 @@ from checks.program import TOP
 
 SECONDS = 30
 
-# It tells when it begins and ends, and does what the crate's src/script says: `wait LINE` until that line was told,
-# `say TEXT`, or `fail`. Of the program it leaves one that prints its words.
+# It keeps others from the crates that its crates.txt lists, as rt does, tells when it begins and ends, and does what the
+# crate's src/script says: `wait LINE` until that line was told, `say TEXT`, or `fail`. Of the program it leaves one that
+# prints its words.
 RT = r'''
-import os, sys, time
-crate, top = os.path.basename(os.getcwd()), os.path.dirname(os.path.dirname(os.getcwd()))
-told = os.path.join(top, 'told')
+import fcntl, os, sys, time
+crate, top, told = os.path.basename(os.getcwd()), os.path.dirname(os.path.dirname(os.getcwd())), os.environ['TOLD']
+held = [os.open(os.path.join(top, 'crates', line.split(':')[0].split()[0]), os.O_RDONLY)
+        for line in sorted(open(os.path.join(top, 'crates.txt')))]
+for folder in held:
+    fcntl.flock(folder, fcntl.LOCK_EX)
 def tell(text):
     with open(told, 'a') as file:
         file.write('%s %s %s\n' % (text, sys.argv[1], crate))
@@ -28,7 +32,7 @@ for line in open('src/script'):
     if word == 'fail':
         sys.exit('this goal stays open')
     if word == 'say':
-        print(rest.replace('HERE', os.getcwd()), flush=True)
+        print(rest, flush=True)
     for _ in range(SECONDS * 20 if word == 'wait' else 0):
         if rest in open(told).read().splitlines():
             break
@@ -73,8 +77,8 @@ class Checkout:
         return os.path.join(self.folder, name)
 
     def begin(self, *words):
-        return subprocess.Popen([self.path(words[0]), *words[1:]], env={**os.environ, 'PATH': self.path('bin')}, text=True,
-                                stdin=subprocess.DEVNULL, stdout=subprocess.PIPE, stderr=subprocess.PIPE)
+        return subprocess.Popen([self.path(words[0]), *words[1:]], text=True,
+                                env={**os.environ, 'PATH': self.path('bin'), 'TOLD': self.path('told')}, stdin=subprocess.DEVNULL, stdout=subprocess.PIPE, stderr=subprocess.PIPE)
 
     def run(self, *words):
         """The status, standard output and standard error."""
@@ -97,7 +101,7 @@ def checkout(crates, **rest):
         yield Checkout(os.path.realpath(folder), crates, **rest)
 
 
-WAITING = 'say rt: waiting for another rt to finish in x\nsay rt: waiting for another rt to finish in HERE\n'
+WAITING = 'say rt: waiting for another rt to finish in x\n'
 SQUARE = {'aside': ('low', ''), 'tcreplay': ('left right slab', ''), 'left': ('low', 'wait begin lib right\n'),
           'right': ('low', 'wait begin lib left\n'), 'low': ('', WAITING)}
 
