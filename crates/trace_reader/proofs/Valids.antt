@@ -7,48 +7,26 @@ use Rattle.tc_model.specs.declared.calls.Call.{Call}
 use Rattle.tc_model.specs.declared.calls.Call.TheVariants as call
 use Rattle.tc_model.specs.declared.calls.MoveTo.{MoveTo}
 use Rattle.tc_model.specs.declared.config.Config.{Config}
-use Rattle.tc_model.specs.Input.{ThreadCall, default_config}
-use Rattle.trace_reader.specs.declared.word.Head as heads
-use Rattle.trace_reader.specs.declared.word.Head.TheVariants as head
+use Rattle.tc_model.specs.Heads.{limit_of, with_limit, default_config, IsValueOf}
+use Rattle.tc_model.specs.Input.{ThreadCall}
+use Rattle.tc_model.specs.declared.config.Head as heads
+use Rattle.tc_model.specs.declared.config.Head.TheVariants as head
 use Rattle.trace_reader.specs.declared.form.Form.{Form}
 use Rattle.trace_reader.specs.declared.form.Form.TheVariants.{Head, Malloc, Free, Move, Release, Drain, Resize}
-use Rattle.trace_reader.specs.Words.{head_range}
 use Rattle.trace_reader.specs.Form.{is_head_form, IsInRange}
-use Rattle.trace_reader.specs.Limits.{with_limit}
 use Rattle.trace_reader.specs.Reading.{SoFar, nothing, with_call, with_form}
 use Rattle.trace_reader.specs.Steps.{Fits, IsSoFar}
 use Rattle.trace_reader.specs.Valid.{IsConfig, IsMove, IsCall, IsThreadCall, AreCalls}
 
 -- the limits before a head, and with one of them set in its range
 IsConfig-default : IsConfig default_config
-IsConfig-default = record {
-  cpus = (lit≤ tt, lit≤ tt);
-  threads = (lit≤ tt, lit≤ tt);
-  huge = (lit≤ tt, lit≤ tt);
-  cache = lit≤ tt;
-  region = (lit≤ tt, lit≤ tt);
-  slack = lit≤ tt;
-  transfer = lit≤ tt;
-  slab = (lit≤ tt, lit≤ tt);
-  percpu = lit≤ tt;
-  events = (lit≤ tt, lit≤ tt);
-  window = lit≤ tt;
-  domains = lit≤ tt;
-}
+IsConfig-default head.Cpus = (lit≤ tt, lit≤ tt)
+IsConfig-default _ = (lit≤ tt, lit≤ tt)
 
-IsConfig-with : (h : heads.Head) (value : ℕ) (config : Config) → IsConfig config → (head_range h).least ≤ value → value ≤ (head_range h).most → IsConfig (with_limit h value config)
-IsConfig-with head.Cpus value config k least most = record { cpus = (least, most); threads = k.threads; huge = k.huge; cache = k.cache; region = k.region; slack = k.slack; transfer = k.transfer; slab = k.slab; percpu = k.percpu; events = k.events; window = k.window; domains = k.domains }
-IsConfig-with head.Threads value config k least most = record { cpus = k.cpus; threads = (least, most); huge = k.huge; cache = k.cache; region = k.region; slack = k.slack; transfer = k.transfer; slab = k.slab; percpu = k.percpu; events = k.events; window = k.window; domains = k.domains }
-IsConfig-with head.Huge value config k least most = record { cpus = k.cpus; threads = k.threads; huge = (least, most); cache = k.cache; region = k.region; slack = k.slack; transfer = k.transfer; slab = k.slab; percpu = k.percpu; events = k.events; window = k.window; domains = k.domains }
-IsConfig-with head.Cache value config k least most = record { cpus = k.cpus; threads = k.threads; huge = k.huge; cache = most; region = k.region; slack = k.slack; transfer = k.transfer; slab = k.slab; percpu = k.percpu; events = k.events; window = k.window; domains = k.domains }
-IsConfig-with head.Region value config k least most = record { cpus = k.cpus; threads = k.threads; huge = k.huge; cache = k.cache; region = (least, most); slack = k.slack; transfer = k.transfer; slab = k.slab; percpu = k.percpu; events = k.events; window = k.window; domains = k.domains }
-IsConfig-with head.Slack value config k least most = record { cpus = k.cpus; threads = k.threads; huge = k.huge; cache = k.cache; region = k.region; slack = most; transfer = k.transfer; slab = k.slab; percpu = k.percpu; events = k.events; window = k.window; domains = k.domains }
-IsConfig-with head.Transfer value config k least most = record { cpus = k.cpus; threads = k.threads; huge = k.huge; cache = k.cache; region = k.region; slack = k.slack; transfer = most; slab = k.slab; percpu = k.percpu; events = k.events; window = k.window; domains = k.domains }
-IsConfig-with head.Slab value config k least most = record { cpus = k.cpus; threads = k.threads; huge = k.huge; cache = k.cache; region = k.region; slack = k.slack; transfer = k.transfer; slab = (least, most); percpu = k.percpu; events = k.events; window = k.window; domains = k.domains }
-IsConfig-with head.Percpu value config k least most = record { cpus = k.cpus; threads = k.threads; huge = k.huge; cache = k.cache; region = k.region; slack = k.slack; transfer = k.transfer; slab = k.slab; percpu = most; events = k.events; window = k.window; domains = k.domains }
-IsConfig-with head.Events value config k least most = record { cpus = k.cpus; threads = k.threads; huge = k.huge; cache = k.cache; region = k.region; slack = k.slack; transfer = k.transfer; slab = k.slab; percpu = k.percpu; events = (least, most); window = k.window; domains = k.domains }
-IsConfig-with head.Window value config k least most = record { cpus = k.cpus; threads = k.threads; huge = k.huge; cache = k.cache; region = k.region; slack = k.slack; transfer = k.transfer; slab = k.slab; percpu = k.percpu; events = k.events; window = most; domains = k.domains }
-IsConfig-with head.Domains value config k least most = record { cpus = k.cpus; threads = k.threads; huge = k.huge; cache = k.cache; region = k.region; slack = k.slack; transfer = k.transfer; slab = k.slab; percpu = k.percpu; events = k.events; window = k.window; domains = most }
+limit-with : (s h : heads.Head) (value : ℕ) (config : Config) → IsValueOf s value → IsValueOf h (limit_of h config) → IsValueOf h (limit_of h (with_limit s value config))
+limit-with head.Cpus head.Cpus value config new old = assumption (new, old)
+limit-with s head.Cpus value config new old = assumption (new, old)
+limit-with _ _ value config new old = assumption (new, old)
 
 AreCalls-none : (classes : ℕ) (config : Config) (calls : List ThreadCall) → calls ≡ [] → AreCalls classes config calls
 AreCalls-none classes config calls none earlier c later is = each_of_none (IsThreadCall classes config) earlier c later (is ∙ none)
@@ -91,7 +69,7 @@ IsSoFar-form classes number (Head head value) before known range fits first =
     let P : List (Option MoveTo) → Type 0 = λ moves. (t : ℕ) → IfSome (get_or moves t None) (IsMove config) in
     let Q : Option MoveTo → Type 0 = λ o. IfSome o (IsMove config) in
     record {
-      config = IsConfig-with head value before.asked.config known.config range.0 range.1;
+      config = λ h. limit-with head h value before.asked.config range (known.config h);
       calls = AreCalls-none classes config before.asked.calls none.0;
       moves = subst P (sym none.1) (λ t. subst Q (sym (none_pending None 64 t)) tt);
       early = known.early;

@@ -2,13 +2,14 @@
 use Rattle.std.specs.Prelude.{ℕ, ◌≡◌, ◌<◌, ◌≤◌, Bool, true, false, ◌==◌, nat_le, List, [], ◌∷◌, length, Option, Some, None, Result, Err, if◌then◌else◌, option_map, option_and_then}
 use Rattle.std.specs.Option.{ok_or}
 use Rattle.tc_units.specs.Decimal.{number_of}
+use Rattle.tc_model.specs.Heads.{IsValueOf}
 use Rattle.trace_reader.specs.declared.why.LineWhy.{LineWhy}
 use Rattle.trace_reader.specs.declared.why.LineWhy.TheVariants as why
 use Rattle.trace_reader.specs.declared.word.Word.{Word}
 use Rattle.trace_reader.specs.declared.word.Word.TheVariants as word
 use Rattle.trace_reader.specs.declared.form.Form.{Form}
 use Rattle.trace_reader.specs.declared.form.Form.TheVariants.{Head, Malloc, Free, Move, Release, Drain, Resize}
-use Rattle.trace_reader.specs.Words.{Range, is_head, ranges_of, head_range}
+use Rattle.trace_reader.specs.Words.{Range, is_head, ranges_of}
 
 -- the number of a field, where it is a canonical decimal in its range
 abbrev pub number_in : Range → List ℕ → Option ℕ
@@ -44,7 +45,7 @@ read_fields word fields = if has_fields word fields then ok_or (form_of word fie
 
 -- the numbers of a form are in their ranges
 abbrev pub IsInRange : Form → Type 0
-IsInRange (Head head value) = ((head_range head).least ≤ value) × (value ≤ (head_range head).most)
+IsInRange (Head head value) = IsValueOf head value
 IsInRange (Malloc thread label size) = (label < 1000000) × (size ≤ 1099511627776)
 IsInRange (Free thread label) = label < 1000000
 IsInRange (Move thread before cpu) = (0 < before) × (before ≤ 1000000)

@@ -1,6 +1,5 @@
 pub mod Words
 pub mod Form
-pub mod Limits
 pub mod Labels
 pub mod Valid
 pub mod Reading

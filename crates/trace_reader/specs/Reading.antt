@@ -5,7 +5,8 @@ use Rattle.std.specs.Option.{option_map_or}
 use Rattle.tc_model.specs.declared.calls.Call.{Call}
 use Rattle.tc_model.specs.declared.calls.Call.TheVariants as call
 use Rattle.tc_model.specs.declared.calls.MoveTo.{MoveTo}
-use Rattle.tc_model.specs.Input.{ThreadCall, Asked, default_config}
+use Rattle.tc_model.specs.Heads.{with_limit, default_config}
+use Rattle.tc_model.specs.Input.{ThreadCall, Asked}
 use Rattle.trace_text.specs.Lines.{lines_of}
 use Rattle.trace_reader.specs.declared.why.LineWhy.{LineWhy}
 use Rattle.trace_reader.specs.declared.why.LineWhy.TheVariants as why
@@ -14,7 +15,6 @@ use Rattle.trace_reader.specs.declared.form.Form.{Form}
 use Rattle.trace_reader.specs.declared.form.Form.TheVariants.{Head, Malloc, Free, Move, Release, Drain, Resize}
 use Rattle.trace_reader.specs.Words.{word_of, is_head}
 use Rattle.trace_reader.specs.Form.{has_fields, form_of}
-use Rattle.trace_reader.specs.Limits.{with_limit}
 use Rattle.trace_reader.specs.Labels.{is_allocated, is_freed}
 
 -- what the lines so far say: what they ask for, whether one of them is no head, and each thread's pending move

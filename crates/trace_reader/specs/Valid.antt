@@ -4,23 +4,14 @@ use Rattle.tc_model.specs.declared.calls.Call.{Call}
 use Rattle.tc_model.specs.declared.calls.Call.TheVariants.{Malloc, Free, Release, Drain, Resize}
 use Rattle.tc_model.specs.declared.calls.MoveTo.{MoveTo}
 use Rattle.tc_model.specs.declared.config.Config.{Config}
+use Rattle.tc_model.specs.declared.config.Head.{Head}
+use Rattle.tc_model.specs.Heads.{limit_of, IsValueOf}
 use Rattle.tc_model.specs.Input.{ThreadCall, Asked}
 use Rattle.trace_reader.specs.Labels.{is_allocated, is_freed}
 
--- the limits are in their ranges
-pub record IsConfig (config : Config) : Type 0 where
-  pub cpus : (1 ≤ config.cpus) × (config.cpus ≤ 64)
-  pub threads : (1 ≤ config.threads) × (config.threads ≤ 64)
-  pub huge : (1 ≤ config.huge) × (config.huge ≤ 4096)
-  pub cache : config.cache ≤ 4096
-  pub region : (2 ≤ config.region) × (config.region ≤ 512)
-  pub slack : config.slack ≤ 1048576
-  pub transfer : config.transfer ≤ 4096
-  pub slab : (1 ≤ config.slab) × (config.slab ≤ 2048)
-  pub percpu : config.percpu ≤ 268435456
-  pub events : (1 ≤ config.events) × (config.events ≤ 40000000)
-  pub window : config.window ≤ 65536
-  pub domains : config.domains ≤ 64
+-- each limit is in its head's range
+abbrev pub IsConfig : Config → Type 0
+IsConfig config = (head : Head) → IsValueOf head (limit_of head config)
 
 -- a move is before an instruction that is numbered, to a CPU that is there
 pub record IsMove (config : Config) (moved : MoveTo) : Type 0 where

@@ -5,9 +5,9 @@ ghost use Rattle.trace_reader.specs.Words.{from_to, place};
 ghost use Rattle.trace_reader.specs.Form.{number_in, form_of, read_fields, IsReadAs};
 ghost use Rattle.trace_reader.specs.declared.word.Word.TheVariants as word;
 
-use crate::head::range_of;
 use crate::why::LineWhy;
-use crate::word::{Head, Word};
+use crate::word::Word;
+use tc_model::Head;
 use trace_text::{Fields, number};
 
 /// The greatest number that a thread, a CPU or a class may have in a line. Whether there is such a
@@ -131,8 +131,8 @@ fn head_with(head: Head, value: &[u8]) -> Option<Form>
     ensures form { result ≡ form_of (word.Head head) (value.now ∷ []) }
     ensures range { IfSome result (IsReadAs (word.Head head)) }
 {
-    let (least, most) = range_of(head);
-    let value = read_number(value, least, most)?;
+    let rule = head.rule();
+    let value = read_number(value, rule.least, rule.most)?;
     Some(Form::Head { head, value })
 }
 

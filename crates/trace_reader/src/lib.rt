@@ -5,7 +5,6 @@
 
 mod calls;
 mod form;
-mod head;
 mod order;
 mod reader;
 #[cfg(test)]

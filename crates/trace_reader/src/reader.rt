@@ -10,7 +10,6 @@ ghost use Rattle.trace_reader.specs.Steps.{broken, broken_label, so_far, line_at
 
 use crate::calls::{Calls, LabelUse};
 use crate::form::{Form, read_form};
-use crate::head::set_limit;
 use crate::why::{LineWhy, TraceFault};
 use crate::word::{Word, read_word};
 use std::alloc::{AllocError, Global};
@@ -23,22 +22,6 @@ const MOST_LINES: u32 = 1_000_000;
 
 /// The most size classes, since a class's number is a `u8`.
 const MOST_CLASSES: u32 = 256;
-
-/// The limits of a trace that sets none.
-const DEFAULTS: Config = Config {
-    cpus: 1,
-    threads: 1,
-    huge: 64,
-    cache: 8,
-    region: 512,
-    slack: 8192,
-    transfer: 64,
-    slab: 2048,
-    percpu: 1_572_864,
-    events: 40_000_000,
-    window: 0,
-    domains: 0,
-};
 
 /// What the lines so far say.
 #[derive(Drop)]
@@ -118,7 +101,7 @@ impl Reader {
         ensures reading { IfOk result IsReading }
     {
         Ok(Reader {
-            config: DEFAULTS,
+            config: Config::default(),
             late: false,
             moves: [None; 64],
             calls: Calls::new(alloc)?,
@@ -222,7 +205,7 @@ impl Reader {
     {
         match form {
             Form::Head { head, value } => {
-                set_limit(&mut self.config, head, value);
+                self.config.set(head, value);
                 Ok(())
             }
             Form::Move {

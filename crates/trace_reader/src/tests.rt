@@ -26,16 +26,7 @@ fn a_trace(rt: HostRuntime) -> Result<(), Fail> {
     let config = Config {
         cpus: 2,
         threads: 3,
-        huge: 64,
-        cache: 8,
-        region: 512,
-        slack: 8192,
-        transfer: 64,
-        slab: 2048,
-        percpu: 1572864,
-        events: 40000000,
-        window: 0,
-        domains: 0,
+        ..Config::default()
     };
     assert_eq!(rt; trace.config, config);
     assert_eq!(rt; trace.labels, 1000000);
@@ -118,6 +109,7 @@ fn heads(rt: HostRuntime) -> Result<(), Fail> {
         events: 1,
         window: 65536,
         domains: 64,
+        ..Config::default()
     };
     assert_eq!(rt; trace.config, config);
     assert_eq!(rt; trace.scripts.as_slice().len(), 64);

@@ -1,25 +1,10 @@
 //! The words with which a line of a trace may begin.
 ghost use Rattle.std.specs.Prelude.{◌≡◌};
-ghost use Rattle.trace_reader.specs.Words.{head_of, call_word_of, word_of};
+ghost use Rattle.trace_reader.specs.Words.{name_of, call_word_of, word_of};
 
-/// A head sets one limit of a run.
-#[derive(Clone, Copy, Debug, PartialEq, Eq)]
-pub enum Head {
-    Cpus,
-    Threads,
-    Huge,
-    Cache,
-    Region,
-    Slack,
-    Transfer,
-    Slab,
-    Percpu,
-    Events,
-    Window,
-    Domains,
-}
+use tc_model::Head;
 
-/// What the first field of a line names.
+/// What the first field of a line names: a head, a call, or the preemption of one.
 #[derive(Clone, Copy, Debug, PartialEq, Eq)]
 pub enum Word {
     Head(Head),
@@ -31,36 +16,29 @@ pub enum Word {
     Resize,
 }
 
-/// The head that a field names.
-fn read_head(field: &[u8]) -> Option<Head>
-    ensures { result ≡ head_of field.now }
-{
-    if field == b"cpus".as_slice() {
-        Some(Head::Cpus)
-    } else if field == b"threads".as_slice() {
-        Some(Head::Threads)
-    } else if field == b"huge".as_slice() {
-        Some(Head::Huge)
-    } else if field == b"cache".as_slice() {
-        Some(Head::Cache)
-    } else if field == b"region".as_slice() {
-        Some(Head::Region)
-    } else if field == b"slack".as_slice() {
-        Some(Head::Slack)
-    } else if field == b"transfer".as_slice() {
-        Some(Head::Transfer)
-    } else if field == b"slab".as_slice() {
-        Some(Head::Slab)
-    } else if field == b"percpu".as_slice() {
-        Some(Head::Percpu)
-    } else if field == b"events".as_slice() {
-        Some(Head::Events)
-    } else if field == b"window".as_slice() {
-        Some(Head::Window)
-    } else if field == b"domains".as_slice() {
-        Some(Head::Domains)
-    } else {
-        None
+/// The words that are no head's.
+const CALL_WORDS: [Word; 6] = [
+    Word::Malloc,
+    Word::Free,
+    Word::Move,
+    Word::Release,
+    Word::Drain,
+    Word::Resize,
+];
+
+impl Word {
+    fn name(self) -> &'static str
+        ensures { result.now ≡ name_of self }
+    {
+        match self {
+            Word::Head(head) => head.rule().name,
+            Word::Malloc => "a",
+            Word::Free => "f",
+            Word::Move => "p",
+            Word::Release => "r",
+            Word::Drain => "d",
+            Word::Resize => "z",
+        }
     }
 }
 
@@ -68,21 +46,10 @@ fn read_head(field: &[u8]) -> Option<Head>
 fn read_call_word(field: &[u8]) -> Option<Word>
     ensures { result ≡ call_word_of field.now }
 {
-    if field == b"a".as_slice() {
-        Some(Word::Malloc)
-    } else if field == b"f".as_slice() {
-        Some(Word::Free)
-    } else if field == b"p".as_slice() {
-        Some(Word::Move)
-    } else if field == b"r".as_slice() {
-        Some(Word::Release)
-    } else if field == b"d".as_slice() {
-        Some(Word::Drain)
-    } else if field == b"z".as_slice() {
-        Some(Word::Resize)
-    } else {
-        None
-    }
+    CALL_WORDS
+        .iter()
+        .copied()
+        .find(|word| field == word.name().as_bytes())
 }
 
 /// What a field names. `None` exactly where it is no word of a trace.
@@ -92,7 +59,7 @@ pub fn read_word(field: &[u8]) -> Option<Word>
     match read_call_word(field) {
         Some(word) => Some(word),
         None => {
-            let head = read_head(field)?;
+            let head = Head::named(field)?;
             Some(Word::Head(head))
         }
     }
