@@ -2,6 +2,7 @@
 use Rattle.std.proofs.Common.{◌≡◌, ◌&&◌, ℕ, ◌<◌, leb, Bool, true, false, not, List, Option, Some, None, Ok, Err, refl, sym, ap, ◌∙◌, cond, inl, inr, option_map, min, nat_lt}
 use Rattle.std.proofs.lemmas.Bool.{cases_Bool, le-ltb, leb-false, not-false, false≢true}
 use Rattle.std.specs.Option.{ok_or}
+use Rattle.trace_reader.specs.declared.limits.TheConstants.{MOST_LINES, MOST_CLASSES}
 use Rattle.trace_reader.specs.declared.why.LineWhy.{LineWhy}
 use Rattle.trace_reader.specs.declared.why.LineWhy.TheVariants as why
 use Rattle.trace_reader.specs.declared.word.Word.{Word}
@@ -23,7 +24,7 @@ read_fields-lacks w fields lacks = ap (λ b. cond b (ok_or (form_of w fields) wh
 -- the fields behind the word are another number of them
 verdict-fields : (line : Line) (w : Word) → HasWord line w → has_fields w (other_fields line.fields) ≡ false → verdict line ≡ Some why.Fields
 verdict-fields line w known lacks =
-    let lines : nat_lt 1000000 line.number ≡ false = le-ltb 1000000 line.number known.few in
+    let lines : nat_lt MOST_LINES line.number ≡ false = le-ltb MOST_LINES line.number known.few in
     let word = known.word in
     let early = known.early in
     rw (lines, word, early, lacks) refl
@@ -31,7 +32,7 @@ verdict-fields line w known lacks =
 -- they aren't all numbers in their ranges
 verdict-number : (line : Line) (w : Word) → HasWord line w → has_fields w (other_fields line.fields) ≡ true → form_of w (other_fields line.fields) ≡ None → verdict line ≡ Some why.Number
 verdict-number line w known has none =
-    let lines : nat_lt 1000000 line.number ≡ false = le-ltb 1000000 line.number known.few in
+    let lines : nat_lt MOST_LINES line.number ≡ false = le-ltb MOST_LINES line.number known.few in
     let word = known.word in
     let early = known.early in
     rw (lines, word, early, has, none) refl
@@ -44,7 +45,7 @@ reason-cond false first others = refl
 -- the line has a form, and the rules on it decide
 verdict-form : (line : Line) (w : Word) (form : Form) → HasWord line w → has_fields w (other_fields line.fields) ≡ true → form_of w (other_fields line.fields) ≡ Some form → verdict line ≡ broken line.classes line.before.asked form
 verdict-form line w form known has is =
-    let lines : nat_lt 1000000 line.number ≡ false = le-ltb 1000000 line.number known.few in
+    let lines : nat_lt MOST_LINES line.number ≡ false = le-ltb MOST_LINES line.number known.few in
     let word = known.word in
     let early = known.early in
     rw (lines, word, early, has, is) (simp reason-cond)
@@ -129,10 +130,10 @@ fits classes asked (Drain thread cpu) h =
     let p = none_first (leb asked.config.cpus cpu) why.Cpu None t.1 in
     (below asked.config.threads thread t.0, below asked.config.cpus cpu p.0)
 fits classes asked (Resize thread cpu class cap_) h =
-    let t = none_first (leb asked.config.threads thread) why.Thread (cond (leb asked.config.cpus cpu) (Some why.Cpu) (cond (leb (min classes 256) class) (Some why.Class) None)) h in
-    let p = none_first (leb asked.config.cpus cpu) why.Cpu (cond (leb (min classes 256) class) (Some why.Class) None) t.1 in
-    let k = none_first (leb (min classes 256) class) why.Class None p.1 in
-    (below asked.config.threads thread t.0, below asked.config.cpus cpu p.0, below (min classes 256) class k.0)
+    let t = none_first (leb asked.config.threads thread) why.Thread (cond (leb asked.config.cpus cpu) (Some why.Cpu) (cond (leb (min classes MOST_CLASSES) class) (Some why.Class) None)) h in
+    let p = none_first (leb asked.config.cpus cpu) why.Cpu (cond (leb (min classes MOST_CLASSES) class) (Some why.Class) None) t.1 in
+    let k = none_first (leb (min classes MOST_CLASSES) class) why.Class None p.1 in
+    (below asked.config.threads thread t.0, below asked.config.cpus cpu p.0, below (min classes MOST_CLASSES) class k.0)
 
 -- where no head may come, what isn't early is none
 pub early_head : (late is : Bool) → (late && is) ≡ false → is ≡ true → late ≡ false

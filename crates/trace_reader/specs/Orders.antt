@@ -2,6 +2,8 @@
 use Rattle.std.specs.Prelude.{ℕ, ◌≡◌, ◌+◌, Bool, true, false, not, nat_le, nat_lt, List, [], ◌∷◌, ◌++◌, length, replicate, find, is_none, Option, Some, None, Result, Ok, Err, option_map, if◌then◌else◌}
 use Rattle.std.specs.Option.{option_map_or, ok_or}
 use Rattle.trace_text.specs.Lines.{lines_of}
+use Rattle.tc_model.specs.declared.machine.TheConstants.{MOST_PICKS}
+use Rattle.trace_reader.specs.declared.limits.TheConstants.{MOST_LINES, MOST_TURNS}
 use Rattle.trace_reader.specs.declared.why.OrderWhy.{OrderWhy}
 use Rattle.trace_reader.specs.declared.why.OrderWhy.TheVariants as why
 use Rattle.trace_reader.specs.declared.why.OrderFault.{OrderFault}
@@ -18,7 +20,7 @@ turns_with thread picks = None
 
 abbrev pub line_turns : List (List ℕ) → Option Turns
 line_turns (thread ∷ []) = turns_with (number_in place thread) (Some 1)
-line_turns (thread ∷ picks ∷ []) = turns_with (number_in place thread) (number_in (from_to 1 1000000) picks)
+line_turns (thread ∷ picks ∷ []) = turns_with (number_in place thread) (number_in (from_to 1 MOST_TURNS) picks)
 line_turns fields = None
 
 -- whether a line has one field or two
@@ -49,11 +51,11 @@ pub record OrderRule : Type 0 where
 -- the rules, in the order in which they are tested
 abbrev pub order_rules : List OrderRule
 order_rules =
-    record { why = why.Lines; fails = λ line. nat_lt 1000000 line.number }
+    record { why = why.Lines; fails = λ line. nat_lt MOST_LINES line.number }
     ∷ record { why = why.Fields; fails = λ line. not (has_turn_fields line.fields) }
     ∷ record { why = why.Number; fails = λ line. is_none (line_turns line.fields) }
     ∷ record { why = why.Thread; fails = λ line. has_turns (λ turns. nat_le line.threads turns.thread) line }
-    ∷ record { why = why.Picks; fails = λ line. has_turns (λ turns. nat_lt 40000000 (length line.before + turns.picks)) line }
+    ∷ record { why = why.Picks; fails = λ line. has_turns (λ turns. nat_lt MOST_PICKS (length line.before + turns.picks)) line }
     ∷ []
 
 -- the verdict on a line: the first rule that it fails

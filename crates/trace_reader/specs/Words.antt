@@ -1,8 +1,9 @@
 -- The words of a trace's lines, and the values that stand behind each.
-use Rattle.std.specs.Prelude.{ℕ, Bool, false, true, List, [], ◌∷◌, find, Option, option_map, codes}
+use Rattle.std.specs.Prelude.{ℕ, ◌-◌, Bool, false, true, List, [], ◌∷◌, find, Option, option_map, codes}
 use Rattle.std.specs.Option.{option_or}
 use Rattle.std.specs.Str.{bytes_eq}
 use Rattle.tc_model.specs.Heads.{head_rule, head_of}
+use Rattle.trace_reader.specs.declared.limits.TheConstants.{MOST_PLACE, MOST_LABELS, MOST_SIZE, MOST_BEFORE, MOST_RELEASED, MOST_CAPACITY}
 use Rattle.trace_reader.specs.declared.word.Word.{Word}
 use Rattle.trace_reader.specs.declared.word.Word.TheVariants as word
 
@@ -47,17 +48,17 @@ from_to least most = record { least = least; most = most }
 
 -- a thread, a CPU or a class: whether there is such a one is a later rule
 abbrev pub place : Range
-place = from_to 0 65535
+place = from_to 0 MOST_PLACE
 
 abbrev pub label : Range
-label = from_to 0 999999
+label = from_to 0 (MOST_LABELS - 1)
 
 -- the ranges of the values that stand behind a word: a T L N, f T L, p T I C, r T N, d T C and z T C K N
 abbrev pub ranges_of : Word → List Range
 ranges_of (word.Head head) = from_to (head_rule head).least (head_rule head).most ∷ []
-ranges_of word.Malloc = place ∷ label ∷ from_to 0 1099511627776 ∷ []
+ranges_of word.Malloc = place ∷ label ∷ from_to 0 MOST_SIZE ∷ []
 ranges_of word.Free = place ∷ label ∷ []
-ranges_of word.Move = place ∷ from_to 1 1000000 ∷ place ∷ []
-ranges_of word.Release = place ∷ from_to 0 1048576 ∷ []
+ranges_of word.Move = place ∷ from_to 1 MOST_BEFORE ∷ place ∷ []
+ranges_of word.Release = place ∷ from_to 0 MOST_RELEASED ∷ []
 ranges_of word.Drain = place ∷ place ∷ []
-ranges_of word.Resize = place ∷ place ∷ place ∷ from_to 0 1000000 ∷ []
+ranges_of word.Resize = place ∷ place ∷ place ∷ from_to 0 MOST_CAPACITY ∷ []

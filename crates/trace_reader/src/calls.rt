@@ -2,12 +2,10 @@
 ghost use Rattle.std.specs.Prelude.{ℕ, ◌≡◌, ◌<◌, ◌≤◌, ◌==◌, ◌∷◌, [], ◌++◌, length, map, max, OnOk, IfOk, if◌then◌else◌};
 ghost use Rattle.std.specs.List.{range_with_len};
 
+use crate::limits::MOST_LABELS;
 use std::alloc::{AllocError, Global};
-use tc_model::{Call, Planned, Script};
+use tc_model::{Call, MOST_THREADS, Planned, Script};
 use tc_units::{Listed, ThreadNo};
-
-/// The most threads of a trace.
-const MOST_THREADS: usize = 64;
 
 /// What the calls so far did with a label.
 #[derive(Clone, Copy, Debug, PartialEq, Eq)]
@@ -37,7 +35,7 @@ impl Calls {
     /// No calls, of any thread.
     pub fn new(alloc: Global) -> Result<Self, AllocError>
         ensures none { IfOk result (λ calls. calls_of calls ≡ []) }
-        ensures threads { IfOk result (λ calls. length calls.scripts.items ≡ 64) }
+        ensures threads { IfOk result (λ calls. length calls.scripts.items ≡ MOST_THREADS) }
         ensures kept { IfOk result IsKept }
     {
         let mut scripts = Vec::with_capacity(alloc, MOST_THREADS)?;
@@ -95,7 +93,7 @@ impl Calls {
 
     /// Notes what a call does with its label.
     fn note(&mut self, call: Call) -> Result<(), AllocError>
-        requires { label_end call ≤ 1000000 }
+        requires { label_end call ≤ MOST_LABELS }
         ensures uses { OnOk result ((label : ℕ) → use_at self.new label ≡ marked call label (use_at self.old label)) }
         ensures labels { OnOk result (self.new.labels ≡ max self.old.labels (label_end call)) }
         ensures scripts { self.new.scripts ≡ self.old.scripts }
@@ -114,7 +112,7 @@ impl Calls {
     /// Appends a call, with what it does with its label.
     pub fn add(&mut self, thread: ThreadNo, planned: Planned) -> Result<(), AllocError>
         requires room { thread.0 < length self.old.scripts.items }
-        requires few { label_end planned.call ≤ 1000000 }
+        requires few { label_end planned.call ≤ MOST_LABELS }
         requires order { MayFollow (calls_of self.old) planned.call }
         requires kept { IsKept self.old }
         ensures calls { OnOk result (calls_of self.new ≡ calls_of self.old ++ record { thread = thread; planned = planned } ∷ []) }

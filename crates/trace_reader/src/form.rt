@@ -5,29 +5,13 @@ ghost use Rattle.trace_reader.specs.Words.{from_to, place};
 ghost use Rattle.trace_reader.specs.Form.{number_in, form_of, read_fields, IsReadAs};
 ghost use Rattle.trace_reader.specs.declared.word.Word.TheVariants as word;
 
+use crate::limits::{
+    MOST_BEFORE, MOST_CAPACITY, MOST_LABELS, MOST_PLACE, MOST_RELEASED, MOST_SIZE,
+};
 use crate::why::LineWhy;
 use crate::word::Word;
 use tc_model::Head;
 use trace_text::{Fields, number};
-
-/// The greatest number that a thread, a CPU or a class may have in a line. Whether there is such a
-/// one is a later rule.
-const MOST_PLACE: u64 = 65535;
-
-/// The greatest label.
-const MOST_LABEL: u64 = 999_999;
-
-/// The most bytes of a request: 1 TiB.
-const MOST_SIZE: u64 = 1 << 40;
-
-/// The last instruction of a call before which it can be preempted.
-const MOST_BEFORE: u64 = 1_000_000;
-
-/// The most pages that are released at a time.
-const MOST_RELEASED: u64 = 1_048_576;
-
-/// The greatest capacity that a line can ask for, in objects.
-const MOST_CAPACITY: u64 = 1_000_000;
 
 /// What a line says, its numbers in their ranges. Whether there are such a thread, CPU and class, and
 /// whether the label may be used, isn't known yet.
@@ -84,7 +68,7 @@ pub fn read_number(field: &[u8], least: u64, most: u64) -> Option<u64>
 /// The number of a thread, a CPU or a class, whether there is such a one or not.
 pub fn read_place(field: &[u8]) -> Option<u64>
     ensures number { result ≡ number_in place field.now }
-    ensures range { IfSome result (λ n. n ≤ 65535) }
+    ensures range { IfSome result (λ n. n ≤ MOST_PLACE) }
 {
     read_number(field, 0, MOST_PLACE)
 }
@@ -141,7 +125,7 @@ fn malloc_with(thread: &[u8], label: &[u8], size: &[u8]) -> Option<Form>
     ensures range { IfSome result (IsReadAs word.Malloc) }
 {
     let thread = read_place(thread)?;
-    let label = read_number(label, 0, MOST_LABEL)?;
+    let label = read_number(label, 0, MOST_LABELS - 1)?;
     let size = read_number(size, 0, MOST_SIZE)?;
     Some(Form::Malloc {
         thread,
@@ -155,7 +139,7 @@ fn free_with(thread: &[u8], label: &[u8]) -> Option<Form>
     ensures range { IfSome result (IsReadAs word.Free) }
 {
     let thread = read_place(thread)?;
-    let label = read_number(label, 0, MOST_LABEL)?;
+    let label = read_number(label, 0, MOST_LABELS - 1)?;
     Some(Form::Free { thread, label })
 }
 

@@ -5,6 +5,7 @@
 
 mod calls;
 mod form;
+mod limits;
 mod order;
 mod reader;
 #[cfg(test)]

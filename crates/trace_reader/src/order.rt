@@ -3,16 +3,12 @@ ghost use Rattle.std.specs.Prelude.{◌≡◌, ◌+◌, ◌≤◌, ◌++◌, [],
 ghost use Rattle.trace_reader.specs.Orders.{line_turns, order_verdict, read_order_line, picks_by, IsOrderFault};
 ghost use Rattle.trace_reader.specs.Turning.{picks_of, order_line_at, IsOrderLineFault};
 
+use crate::limits::MOST_LINES;
 use crate::turn::{Turns, read_turns};
 use crate::why::{OrderFault, OrderWhy};
 use std::alloc::{AllocError, Global};
+use tc_model::MOST_PICKS;
 use trace_text::{Fields, Lines};
-
-/// The most lines of an order file.
-const MOST_LINES: u32 = 1_000_000;
-
-/// The most picks of an order file.
-const MOST_PICKS: usize = 40_000_000;
 
 /// The picks so far.
 #[derive(Drop)]
@@ -26,11 +22,11 @@ impl Picked {
     /// What a line says, or the first rule that it fails.
     fn judge(&self, threads: u8, line: &mut Fields) -> Result<Turns, OrderWhy>
         requires count { self.now.count ≡ length (picks_of self.now.turns.items) }
-        requires few { self.now.count ≤ 40000000 }
+        requires few { self.now.count ≤ MOST_PICKS }
         ensures verdict { MatchResult result (λ _. order_verdict (order_line_at threads self.now line.old) ≡ None) (λ why. order_verdict (order_line_at threads self.now line.old) ≡ Some why) }
         ensures turns { IfOk result (λ turns. line_turns line.old.fields ≡ Some turns) }
-        ensures few { IfOk result (λ turns. self.now.count + turns.picks ≤ 40000000) }
-        ensures number { IfOk result (λ _. line.old.line ≤ 1000000) }
+        ensures few { IfOk result (λ turns. self.now.count + turns.picks ≤ MOST_PICKS) }
+        ensures number { IfOk result (λ _. line.old.line ≤ MOST_LINES) }
     {
         if line.line() > MOST_LINES {
             return Err(OrderWhy::Lines);
@@ -39,7 +35,7 @@ impl Picked {
         if turns.thread >= u16::from(threads) {
             return Err(OrderWhy::Thread);
         }
-        if self.count + turns.picks as usize > MOST_PICKS {
+        if self.count + turns.picks as usize > MOST_PICKS as usize {
             return Err(OrderWhy::Picks);
         }
         Ok(turns)
@@ -48,11 +44,11 @@ impl Picked {
     /// Reads one line by its rules, in their order.
     fn read_line(&mut self, threads: u8, line: &mut Fields) -> Result<(), OrderFault>
         requires count { self.old.count ≡ length (picks_of self.old.turns.items) }
-        requires few { self.old.count ≤ 40000000 }
+        requires few { self.old.count ≤ MOST_PICKS }
         ensures read { OnOk result (read_order_line (order_line_at threads self.old line.old) ≡ Ok (picks_of self.new.turns.items)) }
         ensures count { OnOk result (self.new.count ≡ length (picks_of self.new.turns.items)) }
-        ensures few { OnOk result (self.new.count ≤ 40000000) }
-        ensures number { OnOk result (line.old.line ≤ 1000000) }
+        ensures few { OnOk result (self.new.count ≤ MOST_PICKS) }
+        ensures number { OnOk result (line.old.line ≤ MOST_LINES) }
         ensures fault { IfErr result (IsOrderLineFault (order_line_at threads self.old line.old)) }
     {
         let number = line.line();

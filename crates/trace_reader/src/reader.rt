@@ -10,18 +10,13 @@ ghost use Rattle.trace_reader.specs.Steps.{broken, broken_label, so_far, line_at
 
 use crate::calls::{Calls, LabelUse};
 use crate::form::{Form, read_form};
+use crate::limits::{MOST_CLASSES, MOST_LABELS, MOST_LINES};
 use crate::why::{LineWhy, TraceFault};
 use crate::word::{Word, read_word};
 use std::alloc::{AllocError, Global};
-use tc_model::{Call, Config, MoveTo, Planned};
+use tc_model::{Call, Config, MOST_THREADS, MoveTo, Planned};
 use tc_units::{Class, CpuNo, Label, ThreadNo};
 use trace_text::Fields;
-
-/// The most lines of a trace.
-const MOST_LINES: u32 = 1_000_000;
-
-/// The most size classes, since a class's number is a `u8`.
-const MOST_CLASSES: u32 = 256;
 
 /// What the lines so far say.
 #[derive(Drop)]
@@ -30,7 +25,7 @@ pub struct Reader {
     /// Whether a line was no head.
     late: bool,
     /// The pending move of each thread.
-    moves: [Option<MoveTo>; 64],
+    moves: [Option<MoveTo>; MOST_THREADS],
     pub calls: Calls,
 }
 
@@ -103,7 +98,7 @@ impl Reader {
         Ok(Reader {
             config: Config::default(),
             late: false,
-            moves: [None; 64],
+            moves: [None; MOST_THREADS],
             calls: Calls::new(alloc)?,
         })
     }
@@ -168,7 +163,7 @@ impl Reader {
         ensures range { IfOk result IsInRange }
         ensures fits { IfOk result (Fits classes (so_far self.now).asked) }
         ensures head { IfOk result (λ form. is_head_form form ≡ true → self.now.late ≡ false) }
-        ensures few { IfOk result (λ _. line.old.line ≤ 1000000) }
+        ensures few { IfOk result (λ _. line.old.line ≤ MOST_LINES) }
     {
         let word = self.judge_word(line)?;
         let form = read_form(word, line)?;
@@ -181,7 +176,7 @@ impl Reader {
     /// Adds a call, which takes the thread's pending move.
     fn call(&mut self, line: u32, thread: u64, call: Call) -> Result<(), AllocError>
         requires thread { thread < self.old.config.threads }
-        requires few { label_end call ≤ 1000000 }
+        requires few { label_end call ≤ MOST_LABELS }
         requires order { MayFollow (so_far self.old).asked.calls call }
         requires reading { IsReading self.old }
         ensures added { OnOk result (so_far self.new ≡ with_call line thread call (so_far self.old)) }
@@ -261,7 +256,7 @@ impl Reader {
         ensures reading { OnOk result (IsReading self.new) }
         ensures valid { OnOk result (IsSoFar classes (so_far self.new)) }
         ensures grows { OnOk result (length (so_far self.new).asked.calls ≤ length (so_far self.old).asked.calls + 1) }
-        ensures few { OnOk result (line.old.line ≤ 1000000) }
+        ensures few { OnOk result (line.old.line ≤ MOST_LINES) }
         ensures fault { IfErr result (IsLineFault (line_at classes self.old line.old)) }
     {
         let number = line.line();
