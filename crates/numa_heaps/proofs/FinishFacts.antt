@@ -34,7 +34,7 @@ use Rattle.node_rules.specs.NumaLaw.{HoldsAfter, order_at, world_at}
 use Rattle.numa_heaps.specs.Machine.{arena, finished_in, heap_at, heap_place, used_to, runs_to, backed_to, rows_to, HasHeap}
 use Rattle.numa_heaps.proofs.Pages.{heap_is, sum_more}
 
-module _ (nodes : ℕ) (input : Input) (order : List ℕ) (h : HoldsAfter nodes input order) (parts : List NodePart) (locals : List (Beside NodeLocal))
+module _ {nodes : ℕ} {input : Input} {order : List ℕ} (h : HoldsAfter nodes input order) {parts : List NodePart} {locals : List (Beside NodeLocal)}
     (is : world_of parts locals ≡ run (numa_rules nodes input) order) where
   abbrev setting : Setting
   setting = setting_of input
@@ -65,23 +65,23 @@ module _ (nodes : ℕ) (input : Input) (order : List ℕ) (h : HoldsAfter nodes 
       }
 
   -- the calls that are told
-  pub lines_are : (lines : List CallLine) → lines ≡ numa_calls locals order → lines ≡ map (told_line input.asked.config.huge) h.lines
-  lines_are lines told = told ∙ (ap (λ (v : World NodePart (Beside NodeLocal)). numa_calls v.locals order) is ∙ h.told)
+  lines_are : {lines : List CallLine} → lines ≡ numa_calls locals order → lines ≡ map (told_line input.asked.config.huge) h.lines
+  lines_are told = told ∙ (ap (λ (v : World NodePart (Beside NodeLocal)). numa_calls v.locals order) is ∙ h.told)
 
-  pub blocks_are : (lines : List CallLine) → lines ≡ numa_calls locals order → IsBlockRun (arena nodes input) (length_of input.rows) lines
-  blocks_are lines told = subst (IsBlockRun (arena nodes input) (length_of input.rows)) (sym (lines_are lines told)) h.joined.run
+  pub blocks_are : {lines : List CallLine} → lines ≡ numa_calls locals order → IsBlockRun (arena nodes input) (length_of input.rows) lines
+  blocks_are told = subst (IsBlockRun (arena nodes input) (length_of input.rows)) (sym (lines_are told)) h.joined.run
 
-  pub scripts_are : HaveEnded (numa_rules nodes input) w → (lines : List CallLine) → lines ≡ numa_calls locals order → TellsScripts input.asked lines
-  scripts_are ended lines told =
+  pub scripts_are : {lines : List CallLine} → HaveEnded (numa_rules nodes input) w → lines ≡ numa_calls locals order → TellsScripts input.asked lines
+  scripts_are ended told =
       subst (TellsScripts input.asked) (sym (told ∙ ap (λ (v : World NodePart (Beside NodeLocal)). numa_calls v.locals order) is)) (h.all_told ended)
 
   pub rising_is : (t : ℕ) (l : Beside NodeLocal) → slice_get locals t ≡ Some l → slice_get w.locals t ≡ Some l
   rising_is t l at = ap (λ (v : World NodePart (Beside NodeLocal)). slice_get v.locals t) (sym is) ∙ at
 
-  pub finished_is : (lines : List CallLine) (s : Standing) (used resident : ℕ) (rows : List RowView) → lines ≡ numa_calls locals order → AreStanding lines s
+  pub finished_is : {lines : List CallLine} {s : Standing} {used resident : ℕ} {rows : List RowView} → lines ≡ numa_calls locals order → AreStanding lines s
       → used ≡ used_to setting parts nodes → resident ≡ backed_to setting parts nodes → rows ≡ rows_to setting parts nodes
       → (let f : Finished = record { calls = lines; live = s.count; live_bytes = s.bytes; used = used; resident = resident; rows = rows } in f ≡ finished_in nodes input order)
-  finished_is lines s used resident rows told stand used_is resident_is rows_are =
+  finished_is {lines} {s} {used} {resident} {rows} told stand used_is resident_is rows_are =
       let made : List CallLine → ℕ → ℕ → ℕ → ℕ → List RowView → Finished =
       λ ls live bytes pages backed views. record { calls = ls; live = live; live_bytes = bytes; used = pages; resident = backed; rows = views } in
       let whole : List CallLine → List NodePart → Finished =
@@ -109,13 +109,13 @@ module _ (nodes : ℕ) (input : Input) (order : List ℕ) (h : HoldsAfter nodes 
       let runs = ap (runs_to setting parts) next ∙ sum_more (λ k. sum_by (λ (x : Run). x.pages) (heap_at setting parts k).runs) n in
       omega (arith, covered_to n (omega (arith, few)), at, all.covered, same, bytes, runs)
 
-  pub covered_is : (lines : List CallLine) (s : Standing) (used resident : ℕ) → lines ≡ numa_calls locals order → AreStanding lines s → used ≡ runs_to setting parts nodes
+  pub covered_is : {lines : List CallLine} {s : Standing} {used resident : ℕ} → lines ≡ numa_calls locals order → AreStanding lines s → used ≡ runs_to setting parts nodes
       → used ≤ resident → s.bytes ≤ resident * page_bytes
-  covered_is lines s used resident told stand runs covers =
-      omega (arith, stand.bytes, ap live_bytes (lines_are lines told), h.joined.bytes, covered_to nodes (omega arith), runs, covers)
+  covered_is told stand runs covers =
+      omega (arith, stand.bytes, ap live_bytes (lines_are told), h.joined.bytes, covered_to nodes (omega arith), runs, covers)
 
 -- all that holds after an order whose picks move
-pub holds_of : (nodes : ℕ) (input : Input) → 0 < nodes → IsValidInput input → not_taken is_shared input.asked.calls ≡ 0 → input.asked.config.events ≤ 40000000 → (order : List ℕ)
+pub holds_of : {nodes : ℕ} {input : Input} → 0 < nodes → IsValidInput input → not_taken is_shared input.asked.calls ≡ 0 → input.asked.config.events ≤ 40000000 → {order : List ℕ}
     → moving (numa_rules nodes input) (start (numa_rules nodes input)) order ≡ order → length order ≤ input.asked.config.events → HoldsAfter nodes input order
-holds_of nodes input some valid taken bound order moves few =
+holds_of {nodes} {input} some valid taken bound {order} moves few =
     (nodes_are_lawful nodes input some valid taken).holds order (order_is (numa_rules nodes input) order moves (omega (arith, few, bound)))

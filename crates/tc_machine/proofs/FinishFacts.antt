@@ -8,12 +8,14 @@ use Rattle.std.proofs.lemmas.List.Elements.{All-append, All-cons, All-nil, filte
 use Rattle.std.proofs.lemmas.Option.{slice_get_within, slice_get_past, get_or_from_slice_get}
 use Rattle.tc_units.specs.Units.{page_bytes}
 use Rattle.tc_units.specs.declared.rows.RowView.{RowView}
+use Rattle.tc_units.specs.Classes.{length_of}
+use Rattle.tc_units.specs.declared.spans.ClassRow.{ClassRow}
 use Rattle.tc_units.specs.declared.spans.Run.{Run}
 use Rattle.tc_model.specs.declared.answers.CallLine.{CallLine}
 use Rattle.tc_model.specs.declared.answers.Finished.{Finished}
 use Rattle.tc_model.specs.Calls.{picks_of, calls_from, answers_at, decided_by}
 use Rattle.tc_model.specs.Replays.{HaveEnded}
-use Rattle.tc_model.specs.Blocks.{live_count, live_bytes}
+use Rattle.tc_model.specs.Blocks.{live_count, live_bytes, IsBlockRun}
 use Rattle.tc_model.specs.Input.{Asked}
 use Rattle.tc_model.specs.Run.{Rules, World, world_of, start, run}
 use Rattle.tc_model.specs.Steps.{moving}
@@ -81,12 +83,20 @@ module _ {P V R : Type 0} (r : FrontRules P V R) (about : R → About) (Holds : 
     pub heap_at : slice_get parts (heap_place r) ≡ Some (part.Heap holds.parts.heap)
     pub threads : All (λ t. t < length locals) order
 
+module _ {P V R : Type 0} {r : FrontRules P V R} {about : R → About} {Holds : ℕ → List P → List (Standing V R) → Type 0} {asked : Asked} {order : List ℕ}
+    {parts : List (Part P)} {locals : List (Local V R)} where
+  -- the number of the heap
+  pub place_is : {rows : List ClassRow} {place : ℕ} → r.calls.rows ≡ rows → place ≡ r.split + length rows → place ≡ heap_place r
+  place_is same is = is ∙ ap (λ rows. r.split + length rows) (sym same)
+
   -- the heap is the part behind the shards
   heap_of : (h : HoldsAfter r about Holds asked order) → r.split ≤ length r.parts → slice_get (parts_of r.split h.parts) (heap_place r) ≡ Some (part.Heap h.parts.heap)
-  heap_of h within = ap (λ n. slice_get (parts_of r.split h.parts) (r.split + n)) (sym h.counts.shards) ∙ get_heap r.split h.parts (omega (arith, within, h.counts.fronts))
+  heap_of h within =
+      ap (λ n. slice_get (parts_of r.split h.parts) (r.split + n)) (sym h.counts.shards) ∙ get_heap r.split h.parts (omega (arith, within, h.counts.fronts))
 
-  told_of : (h : HoldsAfter r about Holds asked order) → r.split ≤ length r.parts → (parts : List (Part P)) (locals : List (Local V R)) → world_of parts locals ≡ run (rules r about asked) order → moving (rules r about asked) (start (rules r about asked)) order ≡ order → length order ≤ 40000000 → IsTold parts locals
-  told_of h within parts locals is moves few =
+  told_of : HoldsAfter r about Holds asked order → r.split ≤ length r.parts → world_of parts locals ≡ run (rules r about asked) order
+      → moving (rules r about asked) (start (rules r about asked)) order ≡ order → length order ≤ 40000000 → IsTold r about Holds asked order parts locals
+  told_of h within is moves few =
       let same : world_of parts locals ≡ world_of (parts_of r.split h.parts) h.locals = is ∙ h.is in
       let t = threads_below (rules r about asked) order few moves in
       let parts_are : parts ≡ parts_of r.split h.parts = ap (λ (w : World (Part P) (Local V R)). w.parts) same in
@@ -100,52 +110,62 @@ module _ {P V R : Type 0} (r : FrontRules P V R) (about : R → About) (Holds : 
       }
 
   -- so does its law, in every order whose picks move
-  pub told_under : (fits : P → V → Regs → R → Type 0) (After : List ℕ → Type 0) (laws : AreLawful r about asked fits After) → (After order → HoldsAfter r about Holds asked order) → r.split ≤ length r.parts → asked.config.events ≤ 40000000
-      → (parts : List (Part P)) (locals : List (Local V R)) → world_of parts locals ≡ run (rules r about asked) order → moving (rules r about asked) (start (rules r about asked)) order ≡ order → length order ≤ asked.config.events → IsTold parts locals
-  told_under fits After laws shared within bound parts locals is moves few =
+  pub told_under : {fits : P → V → Regs → R → Type 0} {After : List ℕ → Type 0} → AreLawful r about asked fits After → (After order → HoldsAfter r about Holds asked order)
+      → r.split ≤ length r.parts → asked.config.events ≤ 40000000 → world_of parts locals ≡ run (rules r about asked) order
+      → moving (rules r about asked) (start (rules r about asked)) order ≡ order → length order ≤ asked.config.events → IsTold r about Holds asked order parts locals
+  told_under laws shared within bound is moves few =
       let most : length order ≤ 40000000 = omega (arith, few, bound) in
-      told_of (shared (laws.holds order (order_is (rules r about asked) order moves most))) within parts locals is moves most
+      told_of (shared (laws.holds order (order_is (rules r about asked) order moves most))) within is moves most
 
-  module _ (parts : List (Part P)) (locals : List (Local V R)) (told : IsTold parts locals) where
-    pub calls_are : (lines : List CallLine) → lines ≡ calls locals order → lines ≡ calls told.holds.locals order
-    calls_are lines is = is ∙ ap (λ ls. calls ls order) told.locals_are
+  module _ (told : IsTold r about Holds asked order parts locals) where
+    calls_are : {lines : List CallLine} → lines ≡ calls locals order → lines ≡ calls told.holds.locals order
+    calls_are is = is ∙ ap (λ ls. calls ls order) told.locals_are
+
+    pub blocks_are : {rows : List ClassRow} {lines : List CallLine} → r.calls.rows ≡ rows → lines ≡ calls locals order → IsBlockRun asked.config.huge (length_of rows) lines
+    blocks_are {rows} same is =
+        subst (IsBlockRun asked.config.huge (length_of rows)) (sym (calls_are is))
+        (subst (λ rows. IsBlockRun asked.config.huge (length_of rows) (calls told.holds.locals order)) same told.holds.blocks)
 
     -- the calls tell each thread's whole script, where all scripts have ended
-    pub scripts_are : HaveEnded (rules r about asked) (run (rules r about asked) order) → (lines : List CallLine) → lines ≡ calls locals order → TellsScripts asked lines
-    scripts_are ended lines is =
+    pub scripts_are : {lines : List CallLine} → HaveEnded (rules r about asked) (run (rules r about asked) order) → lines ≡ calls locals order → TellsScripts asked lines
+    scripts_are ended is =
         let h = told.holds in
-        subst (TellsScripts asked) (sym (calls_are lines is)) (record {
+        subst (TellsScripts asked) (sym (calls_are is)) (record {
           each = h.all_told ended;
           others = λ t high. no_lines h.locals t (slice_get_past h.locals t (let n = h.counts.threads in omega (arith, n, high))) [] order;
         })
 
-    pub heap_is : (heap : Heap) → slice_get parts (heap_place r) ≡ Some (part.Heap heap) → heap ≡ told.holds.parts.heap
-    heap_is heap is = let e : Some (part.Heap heap) ≡ Some (part.Heap told.holds.parts.heap) = sym is ∙ told.heap_at in cc
+    module _ {heap : Heap} (there : slice_get parts (heap_place r) ≡ Some (part.Heap heap)) where
+      heap_is : heap ≡ told.holds.parts.heap
+      heap_is = let e : Some (part.Heap heap) ≡ Some (part.Heap told.holds.parts.heap) = sym there ∙ told.heap_at in cc
 
-    pub huge_is : (heap : Heap) → slice_get parts (heap_place r) ≡ Some (part.Heap heap) → heap.config.huge ≡ asked.config.huge
-    huge_is heap is = ap (λ (h : Heap). h.config.huge) (heap_is heap is) ∙ ap (λ (config : HeapConfig). config.huge) told.holds.config
+      pub huge_is : heap.config.huge ≡ asked.config.huge
+      huge_is = ap (λ (h : Heap). h.config.huge) heap_is ∙ ap (λ (config : HeapConfig). config.huge) told.holds.config
 
-    heap_in_is : heap_in r asked (parts_of r.split told.holds.parts) ≡ told.holds.parts.heap
-    heap_in_is =
-        let first : Heap = opened (heap_config asked.config) in
-        ap (heap_by first) (get_or_from_slice_get (parts_of r.split told.holds.parts) (heap_place r) (part.Heap told.holds.parts.heap) (part.Heap first) (ap (λ ps. slice_get ps (heap_place r)) (sym told.parts_are) ∙ told.heap_at))
+      heap_in_is : heap_in r asked (parts_of r.split told.holds.parts) ≡ told.holds.parts.heap
+      heap_in_is =
+          let first : Heap = opened (heap_config asked.config) in
+          let own = ap (λ ps. slice_get ps (heap_place r)) (sym told.parts_are) ∙ told.heap_at in
+          ap (heap_by first) (get_or_from_slice_get (parts_of r.split told.holds.parts) (heap_place r) (part.Heap told.holds.parts.heap) (part.Heap first) own)
 
-    pub finished_is : (lines : List CallLine) (heap : Heap) (s : Kept) (used resident : ℕ) (rows : List RowView) → lines ≡ calls locals order → slice_get parts (heap_place r) ≡ Some (part.Heap heap) → AreStanding lines s → used ≡ used_pages heap → resident ≡ backed_pages heap → rows ≡ map (row_of heap) (range_with_len 1 heap.config.huge) →
-        record { calls = lines; live = s.count; live_bytes = s.bytes; used = used; resident = resident; rows = rows } ≡ finished_in r about asked order
-    finished_is lines heap s used resident rows is there stand used_is resident_is rows_are =
-        let made : List CallLine → ℕ → ℕ → ℕ → ℕ → List RowView → Finished = λ ls live bytes pages backed views. record { calls = ls; live = live; live_bytes = bytes; used = pages; resident = backed; rows = views } in
-        ap (λ n. made lines n s.bytes used resident rows) stand.count
-        ∙ (ap (λ n. made lines (live_count lines) n used resident rows) stand.bytes
-        ∙ (ap (λ n. made lines (live_count lines) (live_bytes lines) n resident rows) used_is
-        ∙ (ap (λ n. made lines (live_count lines) (live_bytes lines) (used_pages heap) n rows) resident_is
-        ∙ (ap (λ vs. made lines (live_count lines) (live_bytes lines) (used_pages heap) (backed_pages heap) vs) rows_are
-        ∙ (ap (λ ls. finished ls heap) (calls_are lines is)
-        ∙ (ap (λ h. finished (calls told.holds.locals order) h) (heap_is heap there)
-        ∙ (ap (λ h. finished (calls told.holds.locals order) h) (sym heap_in_is)
-        ∙ sym (ap (λ (w : World (Part P) (Local V R)). finished (calls w.locals order) (heap_in r asked w.parts)) told.holds.is))))))))
+      module _ {lines : List CallLine} {s : Kept} {used resident : ℕ} (is : lines ≡ calls locals order) (stand : AreStanding lines s) (used_is : used ≡ used_pages heap) where
+        pub finished_is : {rows : List RowView} → resident ≡ backed_pages heap → rows ≡ map (row_of heap) (range_with_len 1 heap.config.huge)
+            → record { calls = lines; live = s.count; live_bytes = s.bytes; used = used; resident = resident; rows = rows } ≡ finished_in r about asked order
+        finished_is {rows} resident_is rows_are =
+            let made : ℕ → ℕ → ℕ → ℕ → List RowView → Finished =
+            λ live bytes pages backed views. record { calls = lines; live = live; live_bytes = bytes; used = pages; resident = backed; rows = views } in
+            ap (λ n. made n s.bytes used resident rows) stand.count
+            ∙ (ap (λ n. made (live_count lines) n used resident rows) stand.bytes
+            ∙ (ap (λ n. made (live_count lines) (live_bytes lines) n resident rows) used_is
+            ∙ (ap (λ n. made (live_count lines) (live_bytes lines) (used_pages heap) n rows) resident_is
+            ∙ (ap (made (live_count lines) (live_bytes lines) (used_pages heap) (backed_pages heap)) rows_are
+            ∙ (ap (λ ls. finished ls heap) (calls_are is)
+            ∙ (ap (finished (calls told.holds.locals order)) (heap_is ∙ sym heap_in_is)
+            ∙ sym (ap (λ (w : World (Part P) (Local V R)). finished (calls w.locals order) (heap_in r asked w.parts)) told.holds.is)))))))
 
-    pub covered_is : (lines : List CallLine) (heap : Heap) (s : Kept) (used resident : ℕ) → lines ≡ calls locals order → slice_get parts (heap_place r) ≡ Some (part.Heap heap) → AreStanding lines s → used ≡ used_pages heap → used ≡ sum_by (λ (x : Run). x.pages) heap.runs → used_pages heap ≤ resident → s.bytes ≤ resident * page_bytes
-    covered_is lines heap s used resident is there stand used_is runs covers =
-        let bytes : live_bytes lines ≡ live_bytes (calls told.holds.locals order) = ap live_bytes (calls_are lines is) in
-        let same : sum_by (λ (x : Run). x.pages) heap.runs ≡ sum_by (λ (x : Run). x.pages) told.holds.parts.heap.runs = ap (λ (h : Heap). sum_by (λ (x : Run). x.pages) h.runs) (heap_is heap there) in
-        omega (arith, stand.bytes, bytes, told.holds.covered, same, used_is, runs, covers)
+        pub covered_is : used ≡ sum_by (λ (x : Run). x.pages) heap.runs → used_pages heap ≤ resident → s.bytes ≤ resident * page_bytes
+        covered_is runs_are covers =
+            let bytes : live_bytes lines ≡ live_bytes (calls told.holds.locals order) = ap live_bytes (calls_are is) in
+            let same : sum_by (λ (x : Run). x.pages) heap.runs ≡ sum_by (λ (x : Run). x.pages) told.holds.parts.heap.runs =
+            ap (λ (h : Heap). sum_by (λ (x : Run). x.pages) h.runs) heap_is in
+            omega (arith, stand.bytes, bytes, told.holds.covered, same, used_is, runs_are, covers)

@@ -19,46 +19,69 @@ use Rattle.numa_heaps.proofs.allocator.NumaMachineAllocator.finish.Goals as goal
 
 pub told_calls-requires-clause-threads : goal.told_calls-requires-clause-threads
 told_calls-requires-clause-threads c =
-    let r = numa_rules c.args.self.now.nodes.count (input_under c.args.self.now.setting c.args.self.now.trace.value) in
-    let t = threads_below r c.args.order.now (omega (arith, c.requires.few, c.args.self.now.few)) c.requires.moves in
+    let m = c.args.self.now in
+    let r = numa_rules m.nodes.count (input_under m.setting m.trace.value) in
+    let t = threads_below r c.args.order.now (omega (arith, c.requires.few, m.few)) c.requires.moves in
     let count : length c.args.locals.now ≡ length r.locals = ap (λ (w : World NodePart (Beside NodeLocal)). length w.locals) c.requires.run ∙ t.count in
     subst (λ n. All (λ u. u < n) c.args.order.now) (sym count) t.below
 
 pub told_calls-requires-clause-numbers : goal.told_calls-requires-clause-numbers
 told_calls-requires-clause-numbers c =
-    let r = numa_rules c.args.self.now.nodes.count (input_under c.args.self.now.setting c.args.self.now.trace.value) in
-    let t = threads_below r c.args.order.now (omega (arith, c.requires.few, c.args.self.now.few)) c.requires.moves in
-    omega (arith, ap (λ (w : World NodePart (Beside NodeLocal)). length w.locals) c.requires.run, t.count, threads_count c.args.self.now.nodes.count (input_under c.args.self.now.setting c.args.self.now.trace.value), c.args.self.now.valid.limits.few_threads)
+    let m = c.args.self.now in
+    let r = numa_rules m.nodes.count (input_under m.setting m.trace.value) in
+    let t = threads_below r c.args.order.now (omega (arith, c.requires.few, m.few)) c.requires.moves in
+    let count = ap (λ (w : World NodePart (Beside NodeLocal)). length w.locals) c.requires.run in
+    omega (arith, count, t.count, threads_count m.nodes.count (input_under m.setting m.trace.value), m.valid.limits.few_threads)
 
 pub told_calls-requires-clause-rising : goal.told_calls-requires-clause-rising
-told_calls-requires-clause-rising c t l at = (holds_of c.args.self.now.nodes.count (input_under c.args.self.now.setting c.args.self.now.trace.value) c.args.self.now.nodes.some c.args.self.now.valid c.args.self.now.taken c.args.self.now.few c.args.order.now c.requires.moves c.requires.few).rising t l (rising_is c.args.self.now.nodes.count (input_under c.args.self.now.setting c.args.self.now.trace.value) c.args.order.now (holds_of c.args.self.now.nodes.count (input_under c.args.self.now.setting c.args.self.now.trace.value) c.args.self.now.nodes.some c.args.self.now.valid c.args.self.now.taken c.args.self.now.few c.args.order.now c.requires.moves c.requires.few) c.args.parts.now c.args.locals.now c.requires.run t l at)
+told_calls-requires-clause-rising c t l at =
+    let m = c.args.self.now in
+    let h = holds_of m.nodes.some m.valid m.taken m.few c.requires.moves c.requires.few in
+    h.rising t l (rising_is h c.requires.run t l at)
 
 pub standing_after-requires-clause-run : goal.standing_after-requires-clause-run
 standing_after-requires-clause-run c =
-    let input = input_under c.args.self.now.setting c.args.self.now.trace.value in
-    let blocks = blocks_are c.args.self.now.nodes.count (input_under c.args.self.now.setting c.args.self.now.trace.value) c.args.order.now (holds_of c.args.self.now.nodes.count (input_under c.args.self.now.setting c.args.self.now.trace.value) c.args.self.now.nodes.some c.args.self.now.valid c.args.self.now.taken c.args.self.now.few c.args.order.now c.requires.moves c.requires.few) c.args.parts.now c.args.locals.now c.requires.run c.deref.result.now (c.deref.ensures.value ∙ c.in_ok-calls.ensures.calls) in
-    (arena c.args.self.now.nodes.count input, length_of input.rows, blocks, mul-le c.args.self.now.nodes.count input.asked.config.huge 8 4096 c.args.self.now.nodes.few c.args.self.now.valid.limits.few)
+    let m = c.args.self.now in
+    let h = holds_of m.nodes.some m.valid m.taken m.few c.requires.moves c.requires.few in
+    let input = input_under m.setting m.trace.value in
+    let blocks = blocks_are h c.requires.run (c.deref.ensures.value ∙ c.in_ok-calls.ensures.calls) in
+    (arena m.nodes.count input, length_of input.rows, blocks, mul-le m.nodes.count input.asked.config.huge 8 4096 m.nodes.few m.valid.limits.few)
 
 pub pages_of-pages-requires-clause-heaps : goal.pages_of-pages-requires-clause-heaps
-pages_of-pages-requires-clause-heaps c = has_heap c.args.self.now.nodes.count (input_under c.args.self.now.setting c.args.self.now.trace.value) c.args.order.now (holds_of c.args.self.now.nodes.count (input_under c.args.self.now.setting c.args.self.now.trace.value) c.args.self.now.nodes.some c.args.self.now.valid c.args.self.now.taken c.args.self.now.few c.args.order.now c.requires.moves c.requires.few) c.args.parts.now c.args.locals.now c.requires.run
+pages_of-pages-requires-clause-heaps c =
+    let m = c.args.self.now in
+    let h = holds_of m.nodes.some m.valid m.taken m.few c.requires.moves c.requires.few in
+    has_heap h c.requires.run
 
 pub rows_of_nodes-requires-clause-heaps : goal.rows_of_nodes-requires-clause-heaps
-rows_of_nodes-requires-clause-heaps c = has_heap c.args.self.now.nodes.count (input_under c.args.self.now.setting c.args.self.now.trace.value) c.args.order.now (holds_of c.args.self.now.nodes.count (input_under c.args.self.now.setting c.args.self.now.trace.value) c.args.self.now.nodes.some c.args.self.now.valid c.args.self.now.taken c.args.self.now.few c.args.order.now c.requires.moves c.requires.few) c.args.parts.now c.args.locals.now c.requires.run
+rows_of_nodes-requires-clause-heaps c =
+    let m = c.args.self.now in
+    let h = holds_of m.nodes.some m.valid m.taken m.few c.requires.moves c.requires.few in
+    has_heap h c.requires.run
 
 pub returns-clause-value : goal.returns-clause-value
 returns-clause-value c =
+    let m = c.args.self.now in
+    let h = holds_of m.nodes.some m.valid m.taken m.few c.requires.moves c.requires.few in
     let stand = subst (λ (ds : List CallLine). AreStanding ds c.in_ok-standing.standing) (c.deref.ensures.value ∙ sym c.new.ensures) c.in_ok-standing.ensures in
-    finished_is c.args.self.now.nodes.count (input_under c.args.self.now.setting c.args.self.now.trace.value) c.args.order.now (holds_of c.args.self.now.nodes.count (input_under c.args.self.now.setting c.args.self.now.trace.value) c.args.self.now.nodes.some c.args.self.now.valid c.args.self.now.taken c.args.self.now.few c.args.order.now c.requires.moves c.requires.few) c.args.parts.now c.args.locals.now c.requires.run c.new.result c.in_ok-standing.standing c.pages_of-pages.result.used c.pages_of-pages.result.resident c.new-2.result
-    (c.new.ensures ∙ c.in_ok-calls.ensures.calls) stand c.pages_of-pages.ensures.used c.pages_of-pages.ensures.resident (c.new-2.ensures ∙ c.in_ok-rows.ensures)
+    finished_is h c.requires.run (c.new.ensures ∙ c.in_ok-calls.ensures.calls) stand c.pages_of-pages.ensures.used c.pages_of-pages.ensures.resident
+    (c.new-2.ensures ∙ c.in_ok-rows.ensures)
 
 pub returns-clause-blocks : goal.returns-clause-blocks
-returns-clause-blocks c = blocks_are c.args.self.now.nodes.count (input_under c.args.self.now.setting c.args.self.now.trace.value) c.args.order.now (holds_of c.args.self.now.nodes.count (input_under c.args.self.now.setting c.args.self.now.trace.value) c.args.self.now.nodes.some c.args.self.now.valid c.args.self.now.taken c.args.self.now.few c.args.order.now c.requires.moves c.requires.few) c.args.parts.now c.args.locals.now c.requires.run c.new.result (c.new.ensures ∙ c.in_ok-calls.ensures.calls)
+returns-clause-blocks c =
+    let m = c.args.self.now in
+    let h = holds_of m.nodes.some m.valid m.taken m.few c.requires.moves c.requires.few in
+    blocks_are h c.requires.run (c.new.ensures ∙ c.in_ok-calls.ensures.calls)
 
 pub returns-clause-scripts : goal.returns-clause-scripts
-returns-clause-scripts c = scripts_are c.args.self.now.nodes.count (input_under c.args.self.now.setting c.args.self.now.trace.value) c.args.order.now (holds_of c.args.self.now.nodes.count (input_under c.args.self.now.setting c.args.self.now.trace.value) c.args.self.now.nodes.some c.args.self.now.valid c.args.self.now.taken c.args.self.now.few c.args.order.now c.requires.moves c.requires.few) c.args.parts.now c.args.locals.now c.requires.run c.requires.ended c.new.result (c.new.ensures ∙ c.in_ok-calls.ensures.calls)
+returns-clause-scripts c =
+    let m = c.args.self.now in
+    let h = holds_of m.nodes.some m.valid m.taken m.few c.requires.moves c.requires.few in
+    scripts_are h c.requires.run c.requires.ended (c.new.ensures ∙ c.in_ok-calls.ensures.calls)
 
 pub returns-clause-covered : goal.returns-clause-covered
 returns-clause-covered c =
+    let m = c.args.self.now in
+    let h = holds_of m.nodes.some m.valid m.taken m.few c.requires.moves c.requires.few in
     let stand = subst (λ (ds : List CallLine). AreStanding ds c.in_ok-standing.standing) (c.deref.ensures.value ∙ sym c.new.ensures) c.in_ok-standing.ensures in
-    covered_is c.args.self.now.nodes.count (input_under c.args.self.now.setting c.args.self.now.trace.value) c.args.order.now (holds_of c.args.self.now.nodes.count (input_under c.args.self.now.setting c.args.self.now.trace.value) c.args.self.now.nodes.some c.args.self.now.valid c.args.self.now.taken c.args.self.now.few c.args.order.now c.requires.moves c.requires.few) c.args.parts.now c.args.locals.now c.requires.run c.new.result c.in_ok-standing.standing c.pages_of-pages.result.used c.pages_of-pages.result.resident
-    (c.new.ensures ∙ c.in_ok-calls.ensures.calls) stand c.pages_of-pages.ensures.runs c.pages_of-pages.ensures.covers
+    covered_is h c.requires.run (c.new.ensures ∙ c.in_ok-calls.ensures.calls) stand c.pages_of-pages.ensures.runs c.pages_of-pages.ensures.covers
