@@ -27,7 +27,8 @@ without_is : (old new : Contents Addr) (a : Addr) → old.items ≡ a ∷ new.it
 without_is old new a is room = bag_is new (drop 1 old.items) (old.spare + 1) (sym (ap (drop 1) is)) room
 
 -- a call that was undecided is decided, and ends
-pub ends_by : {V R : Type 0} (e : FrontCalls V R) (l new : Local V R) (o : Option Call) (answer : Answer) → is_some o ≡ true → ((call : Call) → o ≡ Some call → new ≡ ends e (decided l call answer)) → new ≡ follows e l o (next.Decide answer None)
+pub ends_by : {V R : Type 0} (e : FrontCalls V R) (l new : Local V R) (o : Option Call) (answer : Answer) → is_some o ≡ true
+    → ((call : Call) → o ≡ Some call → new ≡ ends e (decided l call answer)) → new ≡ follows e l o (next.Decide answer None)
 ends_by e l new None answer some made = absurd (cc)
 ends_by e l new (Some call) answer some made = made call refl
 

@@ -27,7 +27,8 @@ module _ {R : Type 0} (about : R → About) where
   undecided_under does.Ended is = absurd (cc)
 
 -- one answer more decides the call behind those that were answered
-pub decided_more : (script : List Planned) (answers : List Answered) (a : Answered) (call : Call) → call_at script (length answers) ≡ Some call → decided_by script (answers ++ a ∷ []) ≡ decided_by script answers ++ record { act = a.act; call = call; answer = a.answer } ∷ []
+pub decided_more : (script : List Planned) (answers : List Answered) (a : Answered) (call : Call) → call_at script (length answers) ≡ Some call
+    → decided_by script (answers ++ a ∷ []) ≡ decided_by script answers ++ record { act = a.act; call = call; answer = a.answer } ∷ []
 decided_more [] [] a call at = absurd (cc)
 decided_more [] (b ∷ bs) a call at = absurd (cc)
 decided_more (p ∷ ps) [] a call at = cc
@@ -39,12 +40,14 @@ acts_told script [] few = refl
 acts_told [] (a ∷ as') few = absurd (omega (arith, few))
 acts_told (p ∷ ps) (a ∷ as') few = ap (λ xs. a.act ∷ xs) (acts_told ps as' (omega (arith, few)))
 
-pub answers_told : (script : List Planned) (answers : List Answered) → length answers ≤ length script → map (λ (a : Answered). a.answer) answers ≡ map (λ (d : Decided). d.answer) (decided_by script answers)
+pub answers_told : (script : List Planned) (answers : List Answered) → length answers ≤ length script
+    → map (λ (a : Answered). a.answer) answers ≡ map (λ (d : Decided). d.answer) (decided_by script answers)
 answers_told script [] few = refl
 answers_told [] (a ∷ as') few = absurd (omega (arith, few))
 answers_told (p ∷ ps) (a ∷ as') few = ap (λ xs. a.answer ∷ xs) (answers_told ps as' (omega (arith, few)))
 
-pub decided_at : (script : List Planned) (answers : List Answered) (i : ℕ) (p : Planned) (a : Answered) → slice_get script i ≡ Some p → slice_get answers i ≡ Some a → slice_get (decided_by script answers) i ≡ Some (record { act = a.act; call = p.call; answer = a.answer })
+pub decided_at : (script : List Planned) (answers : List Answered) (i : ℕ) (p : Planned) (a : Answered) → slice_get script i ≡ Some p
+    → slice_get answers i ≡ Some a → slice_get (decided_by script answers) i ≡ Some (record { act = a.act; call = p.call; answer = a.answer })
 decided_at script [] i p a at there = absurd (cc)
 decided_at [] (b ∷ bs) i p a at there = absurd (cc)
 decided_at (q ∷ qs) (b ∷ bs) zero p a at there = cc
@@ -55,7 +58,8 @@ decided_length script [] few = refl
 decided_length [] (a ∷ as') few = absurd (omega (arith, few))
 decided_length (p ∷ ps) (a ∷ as') few = ap (λ n. suc n) (decided_length ps as' (omega (arith, few)))
 
-pub answered_within : (script : List Planned) (answers : List Answered) (meant : List Decided) (i : ℕ) → length answers ≤ length script → decided_by script answers ≡ meant → i < length meant → i < length answers
+pub answered_within : (script : List Planned) (answers : List Answered) (meant : List Decided) (i : ℕ) → length answers ≤ length script
+    → decided_by script answers ≡ meant → i < length meant → i < length answers
 answered_within script answers meant i few is within = omega (arith, within, ap length is, decided_length script answers few)
 
 -- the first of what is left behind n calls, and what is left behind that

@@ -75,14 +75,14 @@ module _ {X P L : Type 0} (mach : X → Rules P L) (table : TableId) (key : Key 
   cause_left k w n m knows is same = ap (λ (me : Mine X P L). cause_in me.0) knows ∙ (is ∙ same)
 
   turn_cause : (h k : PartHand X P L) (m : Turn) → Ready key h.thread.0 h.local h.seat.me → Turned mach key h m k → cause_in h.seat.me.0 ≡ 0 → cause_in k.seat.me.0 ≡ cause_told m
-  turn_cause h k Moved ready turn bare = cause_left k _ 0 0 (turn.3 ready.0 ready.1).1.1.4 (none_yet h ready.0 ready.1.0 bare) refl
+  turn_cause h k Moved ready turn bare = let left = (turn.3 ready.0 ready.1).1.1 in cause_left k _ 0 0 left.4 (none_yet h ready.0 ready.1.0 bare) refl
   turn_cause h k NotYet ready turn bare = cause_left k _ 0 0 (turn.3 ready.0 ready.1).1.2 (none_yet h ready.0 ready.1.0 bare) refl
   turn_cause h k Held ready turn bare = cause_left k _ 0 0 (turn.3 ready.0 ready.1).1.2 (none_yet h ready.0 ready.1.0 bare) refl
   turn_cause h k Ended ready turn bare = cause_left k _ 0 0 (turn.3 ready.0 ready.1).2 (none_yet h ready.0 ready.1.0 bare) refl
   turn_cause h k (Halted cause) ready turn bare = elim (turn.3 ready.0 ready.1) [
-    | inl full ↦ cause_left k _ 1 (halt_number cause) full.2.1.2 refl (sym (ap halt_number full.0))
+    | inl full ↦ let left = full.2.1 in cause_left k _ 1 (halt_number cause) left.2 refl (sym (ap halt_number full.0))
     | inr rest ↦ elim rest [
-      | inl memory ↦ cause_left k _ 2 (halt_number cause) memory.1.1.2 refl (sym (ap halt_number memory.0))
+      | inl memory ↦ let left = memory.1.1 in cause_left k _ 2 (halt_number cause) left.2 refl (sym (ap halt_number memory.0))
       | inr seen ↦ cause_left k _ (halt_number cause) (halt_number cause) seen.2.1 refl refl
     ]
   ]
@@ -92,13 +92,16 @@ module _ {X P L : Type 0} (mach : X → Rules P L) (table : TableId) (key : Key 
   hand_says zero h k l m first t ready = subst (Says (mach key.machine) k.local) (sym first ∙ t.1) tt
   hand_says (suc n) h k l m first t ready = turn_says t.0 k m (hand_ready n h t.0 l t.1 t.2 ready) t.4
 
-  hand_cause : (n : ℕ) (h k : PartHand X P L) (l m : Turn) → l ≡ NotYet → Taken (Turned mach key) n h l k m → Ready key h.thread.0 h.local h.seat.me → cause_in h.seat.me.0 ≡ 0 → cause_in k.seat.me.0 ≡ cause_told m
+  hand_cause : (n : ℕ) (h k : PartHand X P L) (l m : Turn) → l ≡ NotYet → Taken (Turned mach key) n h l k m → Ready key h.thread.0 h.local h.seat.me
+      → cause_in h.seat.me.0 ≡ 0 → cause_in k.seat.me.0 ≡ cause_told m
   hand_cause zero h k l m first t ready bare = sym (ap (λ (j : PartHand X P L). cause_in j.seat.me.0) t.0) ∙ (bare ∙ sym (ap cause_told (sym t.1 ∙ first)))
   hand_cause (suc n) h k l m first t ready bare =
       turn_cause t.0 k m (hand_ready n h t.0 l t.1 t.2 ready) t.4 (hand_cause n h t.0 l t.1 first t.2 ready bare ∙ not_over t.1 t.3)
 
   -- of each worker: what its last answer says of its local, and that it names the cause that its seat met
-  pub all_say : {B : Type 0} (before after : List (Worker B (PartHand X P L))) → length before ≡ length after → All (IsWorkerReady (Fit table key)) before → All (λ (w : Worker B (PartHand X P L)). IsFresh w.hand.seat.me) before → RanBelow (Turned mach key) (λ h. h.thread) (Fit table key) (length before) before after
+  pub all_say : {B : Type 0} (before after : List (Worker B (PartHand X P L))) → length before ≡ length after → All (IsWorkerReady (Fit table key)) before
+      → All (λ (w : Worker B (PartHand X P L)). IsFresh w.hand.seat.me) before
+      → RanBelow (Turned mach key) (λ h. h.thread) (Fit table key) (length before) before after
       → All (λ (w : Worker B (PartHand X P L)). Says (mach key.machine) w.hand.local w.last) after × All (λ (w : Worker B (PartHand X P L)). cause_in w.hand.seat.me.0 ≡ cause_told w.last) after
   all_say before after long ready fresh ran = (
     (λ k d less. let r = (ran k d (omega arith)).0 in let first = ready k d (omega arith) in hand_says r.count (get_or before k d).hand (get_or after k d).hand (get_or before k d).last (get_or after k d).last first.0 r.by_turns first.1.1),
@@ -108,7 +111,9 @@ module _ {X P L : Type 0} (mach : X → Rules P L) (table : TableId) (key : Key 
 
 module _ {X P L : Type 0} where
   -- the causes of the seats that were joined are those that the last answers name
-  pub causes_of : {B : Type 0} (after : List (Worker B (PartHand X P L))) (works : List (Work X P L)) → map at_rest works ≡ map (λ (h : PartHand X P L). h.seat.me) (map (λ (w : Worker B (PartHand X P L)). w.hand) after) → All (λ (w : Worker B (PartHand X P L)). cause_in w.hand.seat.me.0 ≡ cause_told w.last) after
+  pub causes_of : {B : Type 0} (after : List (Worker B (PartHand X P L))) (works : List (Work X P L))
+      → map at_rest works ≡ map (λ (h : PartHand X P L). h.seat.me) (map (λ (w : Worker B (PartHand X P L)). w.hand) after)
+      → All (λ (w : Worker B (PartHand X P L)). cause_in w.hand.seat.me.0 ≡ cause_told w.last) after
       → map (λ (w : Work X P L). w.cause) works ≡ map cause_told (lasts_of after)
   causes_of [] [] views told = refl
   causes_of [] (w ∷ ws) views told = absurd (cc)
@@ -136,7 +141,8 @@ module _ {X P L : Type 0} where
   next_met : (w : Work X P L) (ws : List (Work X P L)) → (u : Work X P L) × Has ws u × (u.cause ≡ 1) → (u : Work X P L) × Has (w ∷ ws) u × (u.cause ≡ 1)
   next_met w ws met = (met.0, (suc met.1.0, met.1.1), met.2)
 
-  met_full : (lasts : List Turn) (works : List (Work X P L)) → map (λ (w : Work X P L). w.cause) works ≡ map cause_told lasts → is_any_halted Full lasts ≡ true → (w : Work X P L) × Has works w × (w.cause ≡ 1)
+  met_full : (lasts : List Turn) (works : List (Work X P L)) → map (λ (w : Work X P L). w.cause) works ≡ map cause_told lasts
+      → is_any_halted Full lasts ≡ true → (w : Work X P L) × Has works w × (w.cause ≡ 1)
   met_full [] works same is = absurd (cc)
   met_full (t ∷ ts) [] same is = absurd (cc)
   met_full (Moved ∷ ts) (w ∷ ws) same is = next_met w ws (met_full ts ws (cc) is)
@@ -156,11 +162,14 @@ all_used lasts works events acts halt same filled few =
     let most = filled met.0 met.1 met.2 in omega arith
 
 -- where no worker was halted, each script has ended
-pub all_ended : {B X P L : Type 0} (r : Rules P L) (ws : List (Worker B (PartHand X P L))) → Done ws → halt_of ws ≡ None → All (λ (w : Worker B (PartHand X P L)). Says r w.hand.local w.last) ws → All (λ (w : Worker B (PartHand X P L)). r.want w.hand.local ≡ None) ws
+pub all_ended : {B X P L : Type 0} (r : Rules P L) (ws : List (Worker B (PartHand X P L))) → Done ws → halt_of ws ≡ None
+    → All (λ (w : Worker B (PartHand X P L)). Says r w.hand.local w.last) ws → All (λ (w : Worker B (PartHand X P L)). r.want w.hand.local ≡ None) ws
 all_ended r ws done none say = λ k d less. subst (Says r (get_or ws k d).hand.local) (over_all ws done none k d less) (say k d less)
 
 -- the last answers, beside the locals
-pub lasts_are : {B X P L : Type 0} (r : Rules P L) (ws : List (Worker B (PartHand X P L))) → Done ws → All (λ (w : Worker B (PartHand X P L)). Says r w.hand.local w.last) ws → AreLasts r (map (λ (w : Worker B (PartHand X P L)). w.hand.local) ws) (lasts_of ws)
+pub lasts_are : {B X P L : Type 0} (r : Rules P L) (ws : List (Worker B (PartHand X P L))) → Done ws
+    → All (λ (w : Worker B (PartHand X P L)). Says r w.hand.local w.last) ws
+    → AreLasts r (map (λ (w : Worker B (PartHand X P L)). w.hand.local) ws) (lasts_of ws)
 lasts_are {B} {X} {P} {L} r ws done say =
     let last : Worker B (PartHand X P L) → Turn = λ w. w.last in let local : Worker B (PartHand X P L) → L = λ w. w.hand.local in
     let many = length-map ws last in let wide = length-map ws local in record {

@@ -60,7 +60,9 @@ few_of most events acts es is few same = let n = ap length is ∙ length-map act
 
 module _ {X P L : Type 0} where
   -- the seats that were joined are as many as have a seat
-  pub all_there : (key : Key X) (n : ℕ) (hands : List (PartHand X P L)) (ws : List (Work X P L)) → map (λ (w : Work X P L). w.thread) ws ≡ map (λ (h : PartHand X P L). h.thread.0) hands → length hands ≡ n → length (all_joined {P = P} {L = L} (lead_of key (numbers n)) ws).kept ≡ length (numbers n)
+  pub all_there : (key : Key X) (n : ℕ) (hands : List (PartHand X P L)) (ws : List (Work X P L))
+      → map (λ (w : Work X P L). w.thread) ws ≡ map (λ (h : PartHand X P L). h.thread.0) hands → length hands ≡ n
+      → length (all_joined {P = P} {L = L} (lead_of key (numbers n)) ws).kept ≡ length (numbers n)
   all_there key n hands ws threads long = let a = length-map ws (λ (w : Work X P L). w.thread) in let b = length-map hands (λ (h : PartHand X P L). h.thread.0) in let c = ap length threads in let d = length_numbers n in omega arith
 
   -- workers' threads stay

@@ -52,6 +52,7 @@ module _ {B H : Type 0} where
   over_all (w ∷ ws) (inr halted) none = absurd (no_halt (w ∷ ws) halted.0 w halted.1 (halted.2 w) none)
 
   -- and so each last answer is that
-  pub lasts_over : (ws : List (Worker B H)) (lasts : List Turn) → lasts ≡ lasts_of ws → (halt_of ws ≡ None → All (λ (w : Worker B H). w.last ≡ Ended) ws) → halt_among lasts ≡ None → All (λ last. last ≡ Ended) lasts
+  pub lasts_over : (ws : List (Worker B H)) (lasts : List Turn) → lasts ≡ lasts_of ws → (halt_of ws ≡ None → All (λ (w : Worker B H). w.last ≡ Ended) ws)
+      → halt_among lasts ≡ None → All (λ last. last ≡ Ended) lasts
   lasts_over ws lasts is over none =
       subst (All (λ last. last ≡ Ended)) (sym is) (All-map (λ last. last ≡ Ended) (λ (w : Worker B H). w.last) ws (over (ap halt_among (sym is) ∙ none)))

@@ -77,7 +77,8 @@ row_kept stopped pops row r c ok same thread class seq epoch agrees does =
     record { row = rw (← same) ok; cap = rw (← same) refl; slots = rw (← same) refl; size = rw (← same) refl; batch = rw (← same) refl; agrees = rw (← same) agrees; thread = thread; class = class; seq = seq; epoch = epoch; does = does }
 
 -- the test closes the sequence, or counts the objects that it moves
-pub test_cell : (P : Cell → Type 0) (stopped pops : Bool) (row : SlabRow) (r : Regs) → P (closes row r Empty) → P (closes row r Full) → ((n : ℕ) → P (counted row r n)) → P (cell stopped pops row r Test)
+pub test_cell : (P : Cell → Type 0) (stopped pops : Bool) (row : SlabRow) (r : Regs) → P (closes row r Empty) → P (closes row r Full)
+    → ((n : ℕ) → P (counted row r n)) → P (cell stopped pops row r Test)
 test_cell P stopped true row r none full goes = cond_both (eqb r.top 0) (closes row r Empty) (counted row r (min (wanted r.seq r.hand.items) r.top)) P (λ e. none) (λ e. goes _)
 test_cell P stopped false row r none full goes =
     cond_both (eqb r.top row.cap) (closes row r Full) (counted row r (min (wanted r.seq r.hand.items) (row.cap - r.top))) P (λ e. full) (λ e. goes _)

@@ -49,7 +49,8 @@ pub below_read : (classes : ℕ) (asked : Asked) → IsAsked classes asked → A
 below_read classes asked valid = below_from classes asked.config asked.calls [] asked.calls valid.calls refl
 
 -- the calls in trace order, from the scripts
-calls_are : (n : ℕ) (calls : List ThreadCall) (left : ℕ → List Planned) → ((u : ℕ) → u < n → left u ≡ script_of u calls) → AreBelow n calls → calls_by (map (λ (c : ThreadCall). c.thread) calls) left ≡ calls
+calls_are : (n : ℕ) (calls : List ThreadCall) (left : ℕ → List Planned) → ((u : ℕ) → u < n → left u ≡ script_of u calls) → AreBelow n calls
+    → calls_by (map (λ (c : ThreadCall). c.thread) calls) left ≡ calls
 calls_are n [] left same below = refl
 calls_are n (c ∷ cs) left same below =
     let t : ℕ = c.thread.0 in
@@ -120,7 +121,8 @@ module _ {P V R : Type 0} (r : FrontRules P V R) (about : R → About) where
   start_again : (asked : Asked) → world_of (parts_of r.split (parts_at r about asked.config (labels_of asked))) (locals_at r about (scripts_of asked)) ≡ start (rules r about asked)
   start_again asked = ap (λ ls. world_of (parts_of r.split (parts_at r about asked.config (labels_of asked))) ls) (locals_are asked)
 
-  pub start_is : (classes : ℕ) (trace : Trace) (asked : Asked) → IsRead classes trace asked → world_of (parts_of r.split (parts_at r about trace.config trace.labels)) (locals_at r about trace.scripts) ≡ start (rules r about (asked_of trace))
+  pub start_is : (classes : ℕ) (trace : Trace) (asked : Asked) → IsRead classes trace asked
+      → world_of (parts_of r.split (parts_at r about trace.config trace.labels)) (locals_at r about trace.scripts) ≡ start (rules r about (asked_of trace))
   start_is classes trace asked read =
       ap (λ (t : Trace). world_of (parts_of r.split (parts_at r about t.config t.labels)) (locals_at r about t.scripts)) read.is
       ∙ (start_again asked ∙ sym (ap (λ a. start (rules r about a)) (asked_is classes trace asked read)))

@@ -26,7 +26,9 @@ shards_more : (room k : ℕ) (rows : List ClassRow) (row : ClassRow) → first_s
 shards_more room k [] row = ap (λ n. first_shard room n row ∷ []) (let e : k ≡ k + 0 = omega arith in e)
 shards_more room k (r ∷ rows) row = ap (λ ys. first_shard room k r ∷ ys) (shards_more room (k + 1) rows row ∙ ap (λ n. first_shards room (k + 1) rows ++ first_shard room n row ∷ []) (let e : k + 1 + length rows ≡ k + length (r ∷ rows) = omega arith in e))
 
-pub shard_more : {P : Type 0} (room : ℕ) (rows : List ClassRow) (row : ClassRow) (old now next : List (Part P)) (n : ℕ) (y : Part P) → slice_get rows n ≡ Some row → length (take n rows) ≡ n → now ≡ old ++ map part.Shard (first_shards room 0 (take n rows)) → y ≡ part.Shard (first_shard room n row) → next ≡ now ++ y ∷ [] → next ≡ old ++ map part.Shard (first_shards room 0 (take (n + 1) rows))
+pub shard_more : {P : Type 0} (room : ℕ) (rows : List ClassRow) (row : ClassRow) (old now next : List (Part P)) (n : ℕ) (y : Part P)
+    → slice_get rows n ≡ Some row → length (take n rows) ≡ n → now ≡ old ++ map part.Shard (first_shards room 0 (take n rows))
+    → y ≡ part.Shard (first_shard room n row) → next ≡ now ++ y ∷ [] → next ≡ old ++ map part.Shard (first_shards room 0 (take (n + 1) rows))
 shard_more room rows row old now next n y at count are is more =
     let within = slice_get_within rows n row at in
     let rows_more : take (n + 1) rows ≡ take n rows ++ row ∷ [] = take_more rows n row within ∙ ap (λ x. take n rows ++ x ∷ []) (get_or_from_slice_get rows n row row at) in

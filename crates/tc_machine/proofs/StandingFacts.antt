@@ -79,7 +79,8 @@ module _ (s : Standing) (line : CallLine) (huge : ℕ) (round : ℕ → ℕ) (ea
   after : blocks_after (earlier ++ line ∷ []) ≡ blocks_with (blocks_after earlier) line.answer
   after = blocks_after-push earlier line
 
-  pub told_block : (addr : Addr) (len : ℕ) (s' : Standing) → line.answer ≡ Block addr len → Updates nat_eq s.lens s'.lens addr.0 (Some len) → s'.count ≡ s.count + 1 → s'.bytes ≡ s.bytes + len → AreStanding (earlier ++ line ∷ []) s'
+  pub told_block : (addr : Addr) (len : ℕ) (s' : Standing) → line.answer ≡ Block addr len → Updates nat_eq s.lens s'.lens addr.0 (Some len)
+      → s'.count ≡ s.count + 1 → s'.bytes ≡ s.bytes + len → AreStanding (earlier ++ line ∷ []) s'
   told_block addr len s' is updates count bytes =
       let b : Extent = record { addr = addr.0; len = len } in
       let allows : IsAllowed huge round earlier line.call (Block addr len) = subst (IsAllowed huge round earlier line.call) is allowed in
@@ -112,7 +113,8 @@ module _ (s : Standing) (line : CallLine) (huge : ℕ) (round : ℕ → ℕ) (ea
       let one = leaves_one addr.0 (blocks_after earlier) f.block (apart.starts addr.0) f.is in
       (f.block.len, stand.lens addr.0 ∙ ap (option_map (λ (x : Extent). x.len)) f.is, omega (arith, stand.bytes, one.bytes), omega (arith, stand.count, one.count))
 
-  pub told_freed : (addr : Addr) (len : ℕ) (s' : Standing) → line.answer ≡ Freed addr → Some len ≡ get nat_eq s.lens addr.0 → Updates nat_eq s.lens s'.lens addr.0 None → s'.count + 1 ≡ s.count → s'.bytes + len ≡ s.bytes → AreStanding (earlier ++ line ∷ []) s'
+  pub told_freed : (addr : Addr) (len : ℕ) (s' : Standing) → line.answer ≡ Freed addr → Some len ≡ get nat_eq s.lens addr.0
+      → Updates nat_eq s.lens s'.lens addr.0 None → s'.count + 1 ≡ s.count → s'.bytes + len ≡ s.bytes → AreStanding (earlier ++ line ∷ []) s'
   told_freed addr len s' is got updates count bytes =
       let f = found_by huge round earlier line.call addr (subst (IsAllowed huge round earlier line.call) is allowed) in
       let bs : List Extent = blocks_after earlier in

@@ -77,7 +77,8 @@ module _ (takes : Call → Bool) where
       let here = none_of_both least (refused_at takes p) later.0 in
       (here.0, All-cons (λ (q : Planned). takes q.call ≡ true) p ps (not_refused p here.1) later.1)
 
-  none_of : (scripts : List Script) (least : Option ℕ) → fold (λ so (s : Script). lesser so (refused_in takes s.calls)) least scripts ≡ None → (least ≡ None) × All (λ (s : Script). AreTaken takes s.calls) scripts
+  none_of : (scripts : List Script) (least : Option ℕ) → fold (λ so (s : Script). lesser so (refused_in takes s.calls)) least scripts ≡ None
+      → (least ≡ None) × All (λ (s : Script). AreTaken takes s.calls) scripts
   none_of [] least is = (is, All-nil (λ (s : Script). AreTaken takes s.calls))
   none_of (s ∷ ss) least is =
       let later = none_of ss (lesser least (refused_in takes s.calls)) is in

@@ -52,7 +52,8 @@ module _ (answers : List Decided) (m : Mark) (mark : IsMark answers m) where
   decides None at is = absurd (cc)
   decides (Some d) at is = (d, at, eqb-true d.act m.picks is)
 
-  pub line_told : (thread : ℕ) (line : CallLine) → Some line ≡ option_map (told thread) (slice_get answers m.told) → is_of m.picks (slice_get answers m.told) ≡ true → line ∷ [] ≡ map (told thread) (decided_at m.picks answers)
+  pub line_told : (thread : ℕ) (line : CallLine) → Some line ≡ option_map (told thread) (slice_get answers m.told)
+      → is_of m.picks (slice_get answers m.told) ≡ true → line ∷ [] ≡ map (told thread) (decided_at m.picks answers)
   line_told thread line is decided =
       let d = decides (slice_get answers m.told) refl decided in
       let same : Some line ≡ Some (told thread d.0) = is ∙ ap (option_map (told thread)) d.1 in
@@ -75,7 +76,8 @@ module _ (answers : List Decided) (m : Mark) (mark : IsMark answers m) where
       }
 
   -- the next pick decided nothing
-  first_behind : (o : Option Decided) → slice_get answers m.told ≡ o → is_of m.picks o ≡ false → (first_at act_of m.picks (drop m.told answers) ≡ []) × AreRising act_of (m.picks + 1) (drop m.told answers)
+  first_behind : (o : Option Decided) → slice_get answers m.told ≡ o → is_of m.picks o ≡ false
+      → (first_at act_of m.picks (drop m.told answers) ≡ []) × AreRising act_of (m.picks + 1) (drop m.told answers)
   first_behind None at is =
       let none = past_all answers m.told at in
       (ap (first_at act_of m.picks) none, subst (AreRising act_of (m.picks + 1)) (sym none) tt)
@@ -108,7 +110,8 @@ module _ {L : Type 0} (answers : L → List Decided) where
     pub count : length marks ≡ length locals
     pub each : (u : ℕ) (k : L) (m : Mark) → slice_get locals u ≡ Some k → slice_get marks u ≡ Some m → (m.picks ≡ picks_of u past) × IsMark (answers k) m
 
-  pub first_marks : (locals : List L) (marks : List Mark) → marks ≡ replicate (length locals) (record { picks = 0; told = 0 }) → ((t : ℕ) (l : L) → slice_get locals t ≡ Some l → AreRising act_of 0 (answers l)) → AreMarks locals marks []
+  pub first_marks : (locals : List L) (marks : List Mark) → marks ≡ replicate (length locals) (record { picks = 0; told = 0 })
+      → ((t : ℕ) (l : L) → slice_get locals t ≡ Some l → AreRising act_of 0 (answers l)) → AreMarks locals marks []
   first_marks locals marks is rising =
       let none : Mark = record { picks = 0; told = 0 } in
       record {
@@ -122,7 +125,9 @@ module _ {L : Type 0} (answers : L → List Decided) where
       }
 
   -- one pick more
-  pub next_marks : (locals : List L) (marks : List Mark) (past : List ℕ) (t : ℕ) (k : L) (m m' : Mark) → AreMarks locals marks past → slice_get locals t ≡ Some k → slice_get marks t ≡ Some m → m'.picks ≡ m.picks + 1 → IsMark (answers k) m' → AreMarks locals (slice_set marks t m') (past ++ t ∷ [])
+  pub next_marks : (locals : List L) (marks : List Mark) (past : List ℕ) (t : ℕ) (k : L) (m m' : Mark) → AreMarks locals marks past
+      → slice_get locals t ≡ Some k → slice_get marks t ≡ Some m → m'.picks ≡ m.picks + 1 → IsMark (answers k) m'
+      → AreMarks locals (slice_set marks t m') (past ++ t ∷ [])
   next_marks locals marks past t k m m' are local mark picks next =
       record {
         count = length-set marks t m' ∙ are.count;

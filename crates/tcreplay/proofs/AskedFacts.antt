@@ -12,13 +12,15 @@ use Rattle.tc_machine.proofs.InputFacts.{asked_is}
 use Rattle.tcreplay.specs.declared.outcome.End.{End}
 use Rattle.tcreplay.specs.Verdict.{or_end, trace_end}
 
-pub read_again : (classes : ℕ) (trace : Trace) (read : Result Asked (BadLine LineWhy)) → IsOkAnd read (λ asked. trace ≡ trace_of asked) → IsOkAnd read (IsAsked classes) → IsRead classes trace (asked_of trace)
+pub read_again : (classes : ℕ) (trace : Trace) (read : Result Asked (BadLine LineWhy)) → IsOkAnd read (λ asked. trace ≡ trace_of asked)
+    → IsOkAnd read (IsAsked classes) → IsRead classes trace (asked_of trace)
 read_again classes trace (Ok asked) is valid =
     let read : IsRead classes trace asked = record { is = is; valid = valid } in
     subst (IsRead classes trace) (sym (asked_is classes trace asked read)) read
 read_again classes trace (Err bad) is valid = absurd is
 
-pub asked_again : (classes : ℕ) (trace : Trace) (read : Result Asked (BadLine LineWhy)) → IsOkAnd read (λ asked. trace ≡ trace_of asked) → IsOkAnd read (IsAsked classes) → or_end trace_end read ≡ Ok (asked_of trace)
+pub asked_again : (classes : ℕ) (trace : Trace) (read : Result Asked (BadLine LineWhy)) → IsOkAnd read (λ asked. trace ≡ trace_of asked)
+    → IsOkAnd read (IsAsked classes) → or_end trace_end read ≡ Ok (asked_of trace)
 asked_again classes trace (Ok asked) is valid =
     let read : IsRead classes trace asked = record { is = is; valid = valid } in
     ap (λ (a : Asked). let r : Result Asked End = Ok a in r) (sym (asked_is classes trace asked read))

@@ -44,32 +44,42 @@ abbrev pub IsCaseRead : Audit → Reading → Reading → Shelving → Shelving 
 IsCaseRead audit t u f g result = AreRead None seen_case case_in audit.classes (Some audit.journal) t u f g result
 
 module _ (audit : Audit) where
-  pub case_table : (t : Reading) (f g : Shelving) (end : End) (result : Result AuditJob End) → IsErrAnd result (λ e. e ≡ end) → IsLoad (λ (rows : List ClassRow). rows) rows_in audit.classes f g (Err end) → IsCaseRead audit t t f g result
+  pub case_table : (t : Reading) (f g : Shelving) (end : End) (result : Result AuditJob End) → IsErrAnd result (λ e. e ≡ end)
+      → IsLoad (λ (rows : List ClassRow). rows) rows_in audit.classes f g (Err end) → IsCaseRead audit t t f g result
   case_table = table_err None case_with case_early seen_case audit.classes (Some audit.journal)
 
-  pub case_trace : (t u : Reading) (f g : Shelving) (rows : List ClassRow) (end : End) (result : Result AuditJob End) → IsErrAnd result (λ e. e ≡ end) → IsLoad (λ (rows : List ClassRow). rows) rows_in audit.classes f g (Ok rows) → IsTraceRead None rows t u (Err end) → IsCaseRead audit t u f g result
+  pub case_trace : (t u : Reading) (f g : Shelving) (rows : List ClassRow) (end : End) (result : Result AuditJob End) → IsErrAnd result (λ e. e ≡ end)
+      → IsLoad (λ (rows : List ClassRow). rows) rows_in audit.classes f g (Ok rows) → IsTraceRead None rows t u (Err end) → IsCaseRead audit t u f g result
   case_trace = trace_err None case_with case_early seen_case audit.classes (Some audit.journal)
 
-  pub case_journal : (t u : Reading) (f g h : Shelving) (rows : List ClassRow) (trace : Trace) (end : End) (result : Result AuditJob End) → IsErrAnd result (λ e. e ≡ end) → IsLoad (λ (rows : List ClassRow). rows) rows_in audit.classes f g (Ok rows) → IsTraceRead None rows t u (Ok trace) → IsLoad items_of (file_within trace_limit) audit.journal g h (Err end) → IsCaseRead audit t u f h result
+  pub case_journal : (t u : Reading) (f g h : Shelving) (rows : List ClassRow) (trace : Trace) (end : End) (result : Result AuditJob End)
+      → IsErrAnd result (λ e. e ≡ end) → IsLoad (λ (rows : List ClassRow). rows) rows_in audit.classes f g (Ok rows) → IsTraceRead None rows t u (Ok trace)
+      → IsLoad items_of (file_within trace_limit) audit.journal g h (Err end) → IsCaseRead audit t u f h result
   case_journal = file_err None case_with case_early seen_case audit.classes (Some audit.journal) items_of journal_in case_made audit.journal refl (λ given rows asked. refl)
 
-  pub case_ok : (t u : Reading) (f g h : Shelving) (rows : List ClassRow) (trace : Trace) (journal : Vec ℕ Global) → IsLoad (λ (rows : List ClassRow). rows) rows_in audit.classes f g (Ok rows) → IsTraceRead None rows t u (Ok trace) → IsLoad items_of (file_within trace_limit) audit.journal g h (Ok journal) → IsCaseRead audit t u f h (Ok (record { table = rows; trace = trace; journal = journal }))
+  pub case_ok : (t u : Reading) (f g h : Shelving) (rows : List ClassRow) (trace : Trace) (journal : Vec ℕ Global)
+      → IsLoad (λ (rows : List ClassRow). rows) rows_in audit.classes f g (Ok rows) → IsTraceRead None rows t u (Ok trace)
+      → IsLoad items_of (file_within trace_limit) audit.journal g h (Ok journal)
+      → IsCaseRead audit t u f h (Ok (record { table = rows; trace = trace; journal = journal }))
   case_ok t u f g h rows trace journal = read_with None case_with case_early seen_case audit.classes (Some audit.journal) items_of journal_in case_made audit.journal refl (λ given rows asked. refl) t u f g h rows trace journal (record { table = rows; trace = trace; journal = journal }) refl
 
 -- Judging: the scripts of a trace that was read are those that it asks for.
 pub scripts_are : (classes : ℕ) (trace : Trace) → IsRead classes trace (asked_of trace) → scripts_of (asked_of trace) ≡ trace.scripts
 scripts_are classes trace read = sym (ap (λ (t : Trace). t.scripts) read.is)
 
-pub verdict_is : (job : AuditJob) → IsRead (length job.table) job.trace (asked_of job.trace) → audited (plan_of job.trace.config.huge job.table job.trace.scripts) [] (journal_of job.journal.items) ≡ verdict_in (seen_case job)
+pub verdict_is : (job : AuditJob) → IsRead (length job.table) job.trace (asked_of job.trace)
+    → audited (plan_of job.trace.config.huge job.table job.trace.scripts) [] (journal_of job.journal.items) ≡ verdict_in (seen_case job)
 verdict_is job read = ap (λ scripts. audited (plan_of job.trace.config.huge job.table scripts) [] (journal_of job.journal.items)) (sym (scripts_are (length job.table) job.trace read))
 
-pub judged_right : (job : AuditJob) (verdict : journal.Verdict) → IsRead (length job.table) job.trace (asked_of job.trace) → verdict ≡ audited (plan_of job.trace.config.huge job.table job.trace.scripts) [] (journal_of job.journal.items)
+pub judged_right : (job : AuditJob) (verdict : journal.Verdict) → IsRead (length job.table) job.trace (asked_of job.trace)
+    → verdict ≡ audited (plan_of job.trace.config.huge job.table job.trace.scripts) [] (journal_of job.journal.items)
     → IsYesOnLegal (plan_of job.trace.config.huge job.table job.trace.scripts) (journal_of job.journal.items) verdict → IsJudgedRight (seen_case job)
 judged_right job verdict read is right =
     subst (IsYesOnLegal (plan_in (input_of job.table job.trace)) (journal_of job.journal.items)) (is ∙ verdict_is job read)
     (subst (λ scripts. IsYesOnLegal (plan_of job.trace.config.huge job.table scripts) (journal_of job.journal.items) verdict) (sym (scripts_are (length job.table) job.trace read)) right)
 
-pub right_of : (job : AuditJob) (rows : List ClassRow) (scripts : List Script) (bytes : List ℕ) (result : Result journal.Verdict AllocError) → rows ≡ job.table → scripts ≡ job.trace.scripts → bytes ≡ job.journal.items → IsRead (length job.table) job.trace (asked_of job.trace)
+pub right_of : (job : AuditJob) (rows : List ClassRow) (scripts : List Script) (bytes : List ℕ) (result : Result journal.Verdict AllocError)
+    → rows ≡ job.table → scripts ≡ job.trace.scripts → bytes ≡ job.journal.items → IsRead (length job.table) job.trace (asked_of job.trace)
     → IfOk result (λ verdict. verdict ≡ audited (plan_of job.trace.config.huge rows scripts) [] (journal_of bytes)) → IfOk result (IsYesOnLegal (plan_of job.trace.config.huge rows scripts) (journal_of bytes)) → IfOk result (λ _. IsJudgedRight (seen_case job))
 right_of job rows scripts bytes (Err e) table told text read is right = tt
 right_of job rows scripts bytes (Ok verdict) table told text read is right =
@@ -185,5 +195,6 @@ module _ (audit : Audit) (t u : Reading) (f g : Shelving) (before after : Writin
     refusal = no_by verdict refl end last;
   }
 
-  pub audited_judged : (end answered : End) (order : List ℕ) → answered ≡ end → order ≡ [] → IsLastEnd (ended_by verdict).end end → IsWritten end (ended_by verdict).text before after → HasAudited audit t u f g before after answered order
+  pub audited_judged : (end answered : End) (order : List ℕ) → answered ≡ end → order ≡ [] → IsLastEnd (ended_by verdict).end end
+      → IsWritten end (ended_by verdict).text before after → HasAudited audit t u f g before after answered order
   audited_judged end answered order same none last written = subst (λ e. HasAudited audit t u f g before after e order) (sym same) (judged_to end order none last written)

@@ -29,7 +29,8 @@ then_same : {A B : Type 0} (f g : A → Result B End) (r : Result A End) → ((a
 then_same f g (Ok a) same = same a
 then_same f g (Err end) same = refl
 
-picks_same : (all : Files) (order : Option (List ℕ)) (file : Option (List ℕ)) (threads : ℕ) (came : List ℕ) → IfSome order (λ name. file ≡ get all name) → picks_or order threads file came ≡ picks_or order threads (order_file all order) came
+picks_same : (all : Files) (order : Option (List ℕ)) (file : Option (List ℕ)) (threads : ℕ) (came : List ℕ) → IfSome order (λ name. file ≡ get all name)
+    → picks_or order threads file came ≡ picks_or order threads (order_file all order) came
 picks_same all None file threads came told = refl
 picks_same all (Some name) file threads came told = ap (λ f. picks_or (Some name) threads f came) told
 
@@ -49,10 +50,13 @@ cut_by runner given before after ReadFault cut = inr (inl cut.0)
 cut_by runner given before after FileFault cut = inr (inr (inl cut.0))
 cut_by runner given before after end cut = absurd cut
 
-told_in : (replay : Replay) (given : Given) (before : Ends) (all : Files) (text : List ℕ) → before.files.files ≡ Some all → before.trace.left ≡ Some text → AreGiven replay before.files.files before.trace.left given → AreGiven replay (Some all) (Some text) given
+told_in : (replay : Replay) (given : Given) (before : Ends) (all : Files) (text : List ℕ) → before.files.files ≡ Some all → before.trace.left ≡ Some text
+    → AreGiven replay before.files.files before.trace.left given → AreGiven replay (Some all) (Some text) given
 told_in replay given before all text files left told = subst (λ l. AreGiven replay (Some all) l given) left (subst (λ s. AreGiven replay s before.trace.left given) files told)
 
-complete_tried : (replay : Replay) (before after : Ends) (end : End) (order : List ℕ) → HasTried replay before.trace after.trace before.files after.files before.out after.out end order → IsComplete (Some (ToReplay replay)) before after end order
+complete_tried : (replay : Replay) (before after : Ends) (end : End) (order : List ℕ)
+    → HasTried replay before.trace after.trace before.files after.files before.out after.out end order
+    → IsComplete (Some (ToReplay replay)) before after end order
 complete_tried replay before after end order tried all text files left =
     let told = told_in replay tried.given before all text files left tried.told in
     let job = job_same replay tried.given all text told in
@@ -113,11 +117,15 @@ noted_count end before after (inr part) = inr part.rose
 generation_told : (workload : Workload) (all : Files) (files : Option Files) (table : Option (List ℕ)) → files ≡ Some all → IsFile files workload.classes table → table ≡ get all workload.classes
 generation_told workload all files table told is = subst (λ s. IsFile s workload.classes table) told is
 
-write_rose : (workload : Workload) (trace summary : List ℕ) (before after : Ends) (noted : Writing) → AreWritten WriteFault trace summary before.out after.out before.notes noted → (after.notes.faults ≡ noted.faults) ⊎ Rose noted.faults after.notes.faults → SomeGenerationRose before after
+write_rose : (workload : Workload) (trace summary : List ℕ) (before after : Ends) (noted : Writing)
+    → AreWritten WriteFault trace summary before.out after.out before.notes noted
+    → (after.notes.faults ≡ noted.faults) ⊎ Rose noted.faults after.notes.faults → SomeGenerationRose before after
 write_rose workload trace summary before after noted (inl part) count = inr (inl part.0.rose)
 write_rose workload trace summary before after noted (inr part) count = inr (inr (rose_on before.notes.faults noted.faults after.notes.faults part.1.rose count))
 
-complete_generated : (workload : Workload) (before after : Ends) (noted : Writing) (end : End) (order : List ℕ) → HasGenerated workload before (record after { notes = noted }) end order → IsNoted end noted after.notes → IsComplete (Some (ToGenerate workload)) before after end order
+complete_generated : (workload : Workload) (before after : Ends) (noted : Writing) (end : End) (order : List ℕ)
+    → HasGenerated workload before (record after { notes = noted }) end order → IsNoted end noted after.notes
+    → IsComplete (Some (ToGenerate workload)) before after end order
 complete_generated workload before after noted end order generated told all files =
     let table = generation_told workload all before.files.files generated.table files generated.told in
     elim generated.answer [
@@ -135,17 +143,22 @@ generated_usage Usage is = absurd is
 generated_usage end is = refl
 
 -- a journal was judged
-case_same : (audit : Audit) (given : Given) (all : Files) (text : List ℕ) → AreTold audit.classes (Some audit.journal) (Some all) (Some text) given → case_in given ≡ case_in (audit_given_by audit all text)
+case_same : (audit : Audit) (given : Given) (all : Files) (text : List ℕ) → AreTold audit.classes (Some audit.journal) (Some all) (Some text) given
+    → case_in given ≡ case_in (audit_given_by audit all text)
 case_same audit given all text told =
     ap (λ file. and_then (λ rows. and_then (case_with given rows) (asked_in None rows given.trace)) (rows_in file)) told.table
     ∙ (ap (λ bytes. and_then (λ rows. and_then (case_with given rows) (asked_in None rows bytes)) (rows_in (get all audit.classes))) told.trace
     ∙ ap (λ file. and_then (λ rows. and_then (case_with (record (audit_given_by audit all text) { file = file }) rows) (asked_in None rows text)) (rows_in (get all audit.classes))) told.file)
 
-audit_told_in : (audit : Audit) (given : Given) (before : Ends) (all : Files) (text : List ℕ) → before.files.files ≡ Some all → before.trace.left ≡ Some text → AreTold audit.classes (Some audit.journal) before.files.files before.trace.left given → AreTold audit.classes (Some audit.journal) (Some all) (Some text) given
+audit_told_in : (audit : Audit) (given : Given) (before : Ends) (all : Files) (text : List ℕ) → before.files.files ≡ Some all → before.trace.left ≡ Some text
+    → AreTold audit.classes (Some audit.journal) before.files.files before.trace.left given
+    → AreTold audit.classes (Some audit.journal) (Some all) (Some text) given
 audit_told_in audit given before all text files left told =
     subst (λ l. AreTold audit.classes (Some audit.journal) (Some all) l given) left (subst (λ s. AreTold audit.classes (Some audit.journal) s before.trace.left given) files told)
 
-complete_audited : (audit : Audit) (before after : Ends) (end : End) (order : List ℕ) → HasAudited audit before.trace after.trace before.files after.files before.out after.out end order → IsComplete (Some (ToAudit audit)) before after end order
+complete_audited : (audit : Audit) (before after : Ends) (end : End) (order : List ℕ)
+    → HasAudited audit before.trace after.trace before.files after.files before.out after.out end order
+    → IsComplete (Some (ToAudit audit)) before after end order
 complete_audited audit before after end order tried all text files left =
     let told = audit_told_in audit tried.given before all text files left tried.told in
     elim tried.answer [
@@ -182,7 +195,8 @@ usage_by (Some (ToAudit audit)) before after end order tried =
 pub usage_is : (asked : Option Task) (before after : Ends) (end : End) (order : List ℕ) → IsOutcome asked before after end order → (end ≡ Usage) ↔ (asked ≡ None)
 usage_is asked before after end order outcome = usage_by asked before (record after { notes = outcome.noted }) end order outcome.answered
 
-complete_by : (asked : Option Task) (before after : Ends) (noted : Writing) (end : End) (order : List ℕ) → IsAnswered asked before (record after { notes = noted }) end order → IsNoted end noted after.notes → IsComplete asked before after end order
+complete_by : (asked : Option Task) (before after : Ends) (noted : Writing) (end : End) (order : List ℕ)
+    → IsAnswered asked before (record after { notes = noted }) end order → IsNoted end noted after.notes → IsComplete asked before after end order
 complete_by None before after noted end order refused told = refused.usage
 complete_by (Some (ToReplay replay)) before after noted end order tried told = complete_tried replay before after end order tried.0
 complete_by (Some (ToGenerate workload)) before after noted end order generated told = complete_generated workload before after noted end order generated told

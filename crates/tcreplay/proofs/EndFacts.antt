@@ -84,7 +84,8 @@ picks_ends p None threads file came fails = tt
 picks_ends p (Some name) threads file came fails =
     then_ends p (λ bytes. or_end order_end (picks_by threads bytes)) (file_within trace_limit file) (file_ends p trace_limit file fails.table.all) (λ bytes. or_ends p order_end (picks_by threads bytes) (λ bad. fails.order bad.line bad.why))
 
-read_ends : {J : Type 0} (p : End → Bool) (runner : Option Front) (behind : Given → List ClassRow → Asked → Result J End) (given : Given) → FailsJob p → ((rows : List ClassRow) (asked : Asked) → Ends p (behind given rows asked)) → Ends p (read_of runner behind given)
+read_ends : {J : Type 0} (p : End → Bool) (runner : Option Front) (behind : Given → List ClassRow → Asked → Result J End) (given : Given) → FailsJob p
+    → ((rows : List ClassRow) (asked : Asked) → Ends p (behind given rows asked)) → Ends p (read_of runner behind given)
 read_ends p runner behind given fails later =
     then_ends p (λ rows. and_then (behind given rows) (asked_in runner rows given.trace)) (rows_in given.table) (rows_ends p given.table fails.table)
     (λ rows. then_ends p (behind given rows) (asked_in runner rows given.trace) (asked_ends p runner rows given.trace fails) (later rows))

@@ -57,11 +57,15 @@ module _ (workload : Workload) (f g : Shelving) (valid : (classes : ℕ) → IsO
   }
 
   -- what the trace asks for wasn't given: memory ran out, as it is valid
-  pub made_unread : (rows : List ClassRow) (text : List ℕ) (end : End) → text ≡ trace_of workload → IsLoad (λ (rows : List ClassRow). rows) rows_in workload.classes f g (Ok rows) → (asked_of_text rows text ≡ Err end) ⊎ (end ≡ Memory) → IsMade workload f g (Err end)
+  pub made_unread : (rows : List ClassRow) (text : List ℕ) (end : End) → text ≡ trace_of workload
+      → IsLoad (λ (rows : List ClassRow). rows) rows_in workload.classes f g (Ok rows) → (asked_of_text rows text ≡ Err end) ⊎ (end ≡ Memory)
+      → IsMade workload f g (Err end)
   made_unread rows text end is read (inl bad) = absurd (let never : false ≡ true = subst IsOk (ap (asked_of_text rows) (sym is) ∙ bad) (valid_under (trace_of workload) valid rows) in cc)
   made_unread rows text end is read (inr memory) = subst (λ e. IsMade workload f g (Err e)) (sym memory) (made_memory rows read)
 
-  pub made_whole : (rows : List ClassRow) (made : Made) → made.job.table ≡ rows → made.job.picks.items ≡ [] → made.text.items ≡ trace_of workload → IsLoad (λ (rows : List ClassRow). rows) rows_in workload.classes f g (Ok rows) → asked_of_text rows made.text.items ≡ Ok (asked_of made.job.trace) → IsMade workload f g (Ok made)
+  pub made_whole : (rows : List ClassRow) (made : Made) → made.job.table ≡ rows → made.job.picks.items ≡ [] → made.text.items ≡ trace_of workload
+      → IsLoad (λ (rows : List ClassRow). rows) rows_in workload.classes f g (Ok rows) → asked_of_text rows made.text.items ≡ Ok (asked_of made.job.trace)
+      → IsMade workload f g (Ok made)
   made_whole rows made table none text read asked = record {
     valid = valid_under (trace_of workload) valid;
     made = record {
@@ -108,7 +112,9 @@ generation_end_by FileFault is = tt
 generation_end_by (AuditNo line why) is = absurd (cc)
 
 -- a replay that can't begin ends at the class table
-table_ends : (workload : Workload) (end : End) → ((rows : List ClassRow) → IsOk (asked_of_text rows (trace_of workload))) → (file : Option (List ℕ)) (rows : Result (List ClassRow) End) → rows_in file ≡ rows → and_then (generation_job_with workload) rows ≡ Err end → rows_in file ≡ Err end
+table_ends : (workload : Workload) (end : End) → ((rows : List ClassRow) → IsOk (asked_of_text rows (trace_of workload)))
+    → (file : Option (List ℕ)) (rows : Result (List ClassRow) End) → rows_in file ≡ rows → and_then (generation_job_with workload) rows ≡ Err end
+    → rows_in file ≡ Err end
 table_ends workload end valid file (Err other) is bad = let same : other ≡ end = cc in is ∙ ap Err same
 table_ends workload end valid file (Ok rows) is bad = absurd (by_asked (asked_of_text rows (trace_of workload)) (valid rows) bad)
   where
@@ -133,7 +139,9 @@ abbrev pub ends_of : Reading → Shelving → Writing → Writing → Ends
 ends_of source files out notes = record { trace = source; files = files; out = out; notes = notes }
 
 module _ (workload : Workload) (source : Reading) (f g : Shelving) (out notes : Writing) where
-  stopped_by : (end : End) (order : List ℕ) (made : IsMade workload f g (Err end)) → IsGenerationAnswer workload made.made.file f g end order → is_barred end ≡ false → is_behind_run end ≡ false → IsCounted FileFault end f.faults g.faults → HasGenerated workload (ends_of source f out notes) (ends_of source g out notes) end order
+  stopped_by : (end : End) (order : List ℕ) (made : IsMade workload f g (Err end)) → IsGenerationAnswer workload made.made.file f g end order
+      → is_barred end ≡ false → is_behind_run end ≡ false → IsCounted FileFault end f.faults g.faults
+      → HasGenerated workload (ends_of source f out notes) (ends_of source g out notes) end order
   stopped_by end order made answer barred early count = record {
     table = made.made.file;
     told = made.made.told;
@@ -161,7 +169,8 @@ module _ (workload : Workload) (source : Reading) (f g : Shelving) (out notes : 
     | inr (inr failed) ↦ stopped_by end order made (inr (inl (none, inr failed))) (ap is_barred failed.0) (ap is_behind_run failed.0) (inr failed)
   ]
 
-  pub generated_ended : (end answered : End) (order : List ℕ) → answered ≡ end → order ≡ [] → IsMade workload f g (Err end) → HasGenerated workload (ends_of source f out notes) (ends_of source g out notes) answered order
+  pub generated_ended : (end answered : End) (order : List ℕ) → answered ≡ end → order ≡ [] → IsMade workload f g (Err end)
+      → HasGenerated workload (ends_of source f out notes) (ends_of source g out notes) answered order
   generated_ended end answered order same none made = subst (λ e. HasGenerated workload (ends_of source f out notes) (ends_of source g out notes) e order) (sym same) (generated_stopped end order none made)
 
   -- memory ran out in the run

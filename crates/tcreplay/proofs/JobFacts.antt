@@ -85,24 +85,29 @@ then_ok {A} {B} first next file good = of_result (first file) good
     of_result (Ok a) good = refl
     of_result (Err e) good = good
 
-table_only : (file : Option (List ℕ)) (end : End) (f g : Shelving) → is_of_file end ≡ true → IsOk (rows_in file) → (Rose f.faults g.faults → ⊥) → IsStep (λ (rows : List ClassRow). rows) (rows_in file) FileFault f.faults g.faults (Err end) → ⊥
+table_only : (file : Option (List ℕ)) (end : End) (f g : Shelving) → is_of_file end ≡ true → IsOk (rows_in file) → (Rose f.faults g.faults → ⊥)
+    → IsStep (λ (rows : List ClassRow). rows) (rows_in file) FileFault f.faults g.faults (Err end) → ⊥
 table_only file end f g is good whole (inl e) = let wrong : false ≡ true = sym (ap is_ok e.0) ∙ good in cc
 table_only file end f g is good whole (inr (inl memory)) = memory_not end memory.0 is
 table_only file end f g is good whole (inr (inr failed)) = whole failed.1
 
 -- and so does a trace that is good
-trace_only : (runner : Option Front) (rows : List ClassRow) (file : Option (List ℕ)) (text : List ℕ) (end : End) (t u : Reading) → rows_in file ≡ Ok rows → is_of_file end ≡ true → IsOk (and_then (λ rows. asked_in runner rows text) (rows_in file)) → IsStep asked_of (asked_in runner rows text) ReadFault t.faults u.faults (Err end) → ⊥
+trace_only : (runner : Option Front) (rows : List ClassRow) (file : Option (List ℕ)) (text : List ℕ) (end : End) (t u : Reading) → rows_in file ≡ Ok rows
+    → is_of_file end ≡ true → IsOk (and_then (λ rows. asked_in runner rows text) (rows_in file))
+    → IsStep asked_of (asked_in runner rows text) ReadFault t.faults u.faults (Err end) → ⊥
 trace_only runner rows file text end t u table is good (inl e) =
     let wrong : false ≡ true = sym (ap is_ok (ap (and_then (λ rows. asked_in runner rows text)) table ∙ e.0)) ∙ good in cc
 trace_only runner rows file text end t u table is good (inr (inl memory)) = memory_not end memory.0 is
 trace_only runner rows file text end t u table is good (inr (inr failed)) = source_not end failed.0 is
 
 -- what the class table and the trace gave together
-asked_is : (runner : Option Front) (file : Option (List ℕ)) (text : List ℕ) (rows : List ClassRow) (trace : Trace) → rows_in file ≡ Ok rows → asked_in runner rows text ≡ Ok (asked_of trace) → and_then (λ rows. asked_in runner rows text) (rows_in file) ≡ Ok (asked_of trace)
+asked_is : (runner : Option Front) (file : Option (List ℕ)) (text : List ℕ) (rows : List ClassRow) (trace : Trace) → rows_in file ≡ Ok rows
+    → asked_in runner rows text ≡ Ok (asked_of trace) → and_then (λ rows. asked_in runner rows text) (rows_in file) ≡ Ok (asked_of trace)
 asked_is runner file text rows trace good asked = ap (and_then (λ rows. asked_in runner rows text)) good ∙ asked
 
 -- the further file, as the shelf told it at the start
-file_told : (file : Option (List ℕ)) (name : List ℕ) (first second : Option Files) (bytes : Option (List ℕ)) → file ≡ Some name → second ≡ first → IsFile second name bytes → IfSome file (λ name. IsFile first name bytes)
+file_told : (file : Option (List ℕ)) (name : List ℕ) (first second : Option Files) (bytes : Option (List ℕ)) → file ≡ Some name → second ≡ first
+    → IsFile second name bytes → IfSome file (λ name. IsFile first name bytes)
 file_told file name first second bytes named same told =
     subst (λ (o : Option (List ℕ)). IfSome o (λ name. IsFile first name bytes)) (sym named) (subst (λ (files : Option Files). IsFile files name bytes) same told)
 
@@ -162,7 +167,8 @@ module _ {J K : Type 0} (runner : Option Front) (behind : Given → List ClassRo
       }
 
   -- the trace ends the work
-  trace_stops : (t u : Reading) (f g : Shelving) (rows : List ClassRow) (end : End) → IsLoad (λ (rows : List ClassRow). rows) rows_in classes f g (Ok rows) → IsTraceRead runner rows t u (Err end) → WereRead t u f g (Err end)
+  trace_stops : (t u : Reading) (f g : Shelving) (rows : List ClassRow) (end : End) → IsLoad (λ (rows : List ClassRow). rows) rows_in classes f g (Ok rows)
+      → IsTraceRead runner rows t u (Err end) → WereRead t u f g (Err end)
   trace_stops t u f g rows end load trace =
       let given : Given = record { table = load.file; trace = trace.text; file = further f.files named; came = [] } in
       let answer : IsReadAs runner seen (read_of runner behind given) given t u f g (Err end) = elim trace.step [
@@ -190,11 +196,13 @@ module _ {J K : Type 0} (runner : Option Front) (behind : Given → List ClassRo
       }
 
   -- what a good class table and a good trace come to
-  good_is : (given : Given) (rows : List ClassRow) (trace : Trace) → rows_in given.table ≡ Ok rows → asked_in runner rows given.trace ≡ Ok (asked_of trace) → read_of runner behind given ≡ behind given rows (asked_of trace)
+  good_is : (given : Given) (rows : List ClassRow) (trace : Trace) → rows_in given.table ≡ Ok rows → asked_in runner rows given.trace ≡ Ok (asked_of trace)
+      → read_of runner behind given ≡ behind given rows (asked_of trace)
   good_is given rows trace good asked = ap (λ r. and_then (λ rows. and_then (behind given rows) (asked_in runner rows given.trace)) r) good ∙ ap (and_then (behind given rows)) asked
 
   -- all is there, and no further file is named
-  pub read_without : (t u : Reading) (f g : Shelving) (rows : List ClassRow) (trace : Trace) (gave : K) → named ≡ None → IsLoad (λ (rows : List ClassRow). rows) rows_in classes f g (Ok rows) → IsTraceRead runner rows t u (Ok trace)
+  pub read_without : (t u : Reading) (f g : Shelving) (rows : List ClassRow) (trace : Trace) (gave : K) → named ≡ None
+      → IsLoad (λ (rows : List ClassRow). rows) rows_in classes f g (Ok rows) → IsTraceRead runner rows t u (Ok trace)
       → ((given : Given) → given.came ≡ [] → behind given rows (asked_of trace) ≡ Ok (seen gave)) → WereRead t u f g (Ok gave)
   read_without t u f g rows trace gave none load read gives =
       let given : Given = record { table = load.file; trace = read.text; file = None; came = [] } in
@@ -217,17 +225,22 @@ module _ {J K : Type 0} (runner : Option Front) (behind : Given → List ClassRo
         };
       }
 
-  pub table_err : (t : Reading) (f g : Shelving) (end : End) (result : Result K End) → IsErrAnd result (λ e. e ≡ end) → IsLoad (λ (rows : List ClassRow). rows) rows_in classes f g (Err end) → WereRead t t f g result
+  pub table_err : (t : Reading) (f g : Shelving) (end : End) (result : Result K End) → IsErrAnd result (λ e. e ≡ end)
+      → IsLoad (λ (rows : List ClassRow). rows) rows_in classes f g (Err end) → WereRead t t f g result
   table_err t f g end result is load = subst (WereRead t t f g) (sym (handed_on result end is)) (table_stops t f g end load)
 
-  pub trace_err : (t u : Reading) (f g : Shelving) (rows : List ClassRow) (end : End) (result : Result K End) → IsErrAnd result (λ e. e ≡ end) → IsLoad (λ (rows : List ClassRow). rows) rows_in classes f g (Ok rows) → IsTraceRead runner rows t u (Err end) → WereRead t u f g result
+  pub trace_err : (t u : Reading) (f g : Shelving) (rows : List ClassRow) (end : End) (result : Result K End) → IsErrAnd result (λ e. e ≡ end)
+      → IsLoad (λ (rows : List ClassRow). rows) rows_in classes f g (Ok rows) → IsTraceRead runner rows t u (Err end) → WereRead t u f g result
   trace_err t u f g rows end result is load read = subst (WereRead t u f g) (sym (handed_on result end is)) (trace_stops t u f g rows end load read)
 
   -- A further file is named, of whose bytes a step makes what is needed.
   module _ {P V : Type 0} (value : V → P) (step : ℕ → Option (List ℕ) → Result P End) (made : List ClassRow → Asked → P → J)
       (name : List ℕ) (is_named : named ≡ Some name) (behind_is : (given : Given) (rows : List ClassRow) (asked : Asked) → behind given rows asked ≡ and_then (λ p. Ok (made rows asked p)) (step asked.config.threads given.file)) where
     -- what was read behind a good trace
-    behind_file : (t u : Reading) (f g h : Shelving) (rows : List ClassRow) (trace : Trace) (given : Given) (end : End) → rows_in given.table ≡ Ok rows → asked_in runner rows given.trace ≡ Ok (asked_of trace) → g.files ≡ f.files → h.files ≡ g.files → g.loads ≡ one_more f.loads → h.loads ≡ one_more g.loads → IsCounted FileFault end f.faults h.faults → IsTraceRead runner rows t u (Ok trace) → HasRead runner named given t u f h end
+    behind_file : (t u : Reading) (f g h : Shelving) (rows : List ClassRow) (trace : Trace) (given : Given) (end : End) → rows_in given.table ≡ Ok rows
+        → asked_in runner rows given.trace ≡ Ok (asked_of trace) → g.files ≡ f.files → h.files ≡ g.files → g.loads ≡ one_more f.loads
+        → h.loads ≡ one_more g.loads → IsCounted FileFault end f.faults h.faults → IsTraceRead runner rows t u (Ok trace)
+        → HasRead runner named given t u f h end
     behind_file t u f g h rows trace given end good asked first second one two count read =
         let drained = read.drained refl in
         let all : IsAllRead named u f h = record { drained = drained; loads = two ∙ (ap one_more one ∙ sym (ap (λ o. loads_behind o f.loads) is_named)) } in
@@ -245,7 +258,9 @@ module _ {J K : Type 0} (runner : Option Front) (behind : Given → List ClassRo
         }
 
     -- the further file ends the work
-    file_stops : (t u : Reading) (f g h : Shelving) (rows : List ClassRow) (trace : Trace) (end : End) → IsLoad (λ (rows : List ClassRow). rows) rows_in classes f g (Ok rows) → IsTraceRead runner rows t u (Ok trace) → IsLoad value (step trace.config.threads) name g h (Err end) → WereRead t u f h (Err end)
+    file_stops : (t u : Reading) (f g h : Shelving) (rows : List ClassRow) (trace : Trace) (end : End)
+        → IsLoad (λ (rows : List ClassRow). rows) rows_in classes f g (Ok rows) → IsTraceRead runner rows t u (Ok trace)
+        → IsLoad value (step trace.config.threads) name g h (Err end) → WereRead t u f h (Err end)
     file_stops t u f g h rows trace end load read file =
         let given : Given = record { table = load.file; trace = read.text; file = file.file; came = [] } in
         let answer : IsReadAs runner seen (read_of runner behind given) given t u f h (Err end) = elim file.step [
@@ -262,7 +277,9 @@ module _ {J K : Type 0} (runner : Option Front) (behind : Given → List ClassRo
         }
 
     -- all is there, with the further file
-    pub read_with : (t u : Reading) (f g h : Shelving) (rows : List ClassRow) (trace : Trace) (v : V) (gave : K) → made rows (asked_of trace) (value v) ≡ seen gave → IsLoad (λ (rows : List ClassRow). rows) rows_in classes f g (Ok rows) → IsTraceRead runner rows t u (Ok trace) → IsLoad value (step trace.config.threads) name g h (Ok v) → WereRead t u f h (Ok gave)
+    pub read_with : (t u : Reading) (f g h : Shelving) (rows : List ClassRow) (trace : Trace) (v : V) (gave : K)
+        → made rows (asked_of trace) (value v) ≡ seen gave → IsLoad (λ (rows : List ClassRow). rows) rows_in classes f g (Ok rows)
+        → IsTraceRead runner rows t u (Ok trace) → IsLoad value (step trace.config.threads) name g h (Ok v) → WereRead t u f h (Ok gave)
     read_with t u f g h rows trace v gave same load read file =
         let given : Given = record { table = load.file; trace = read.text; file = file.file; came = [] } in
         record {
@@ -273,7 +290,9 @@ module _ {J K : Type 0} (runner : Option Front) (behind : Given → List ClassRo
           read = behind_file t u f g h rows trace given Done load.step.0 read.step.0 load.files file.files load.once file.once (inl (file.step.1 ∙ load.step.1)) read;
         }
 
-    pub file_err : (t u : Reading) (f g h : Shelving) (rows : List ClassRow) (trace : Trace) (end : End) (result : Result K End) → IsErrAnd result (λ e. e ≡ end) → IsLoad (λ (rows : List ClassRow). rows) rows_in classes f g (Ok rows) → IsTraceRead runner rows t u (Ok trace) → IsLoad value (step trace.config.threads) name g h (Err end) → WereRead t u f h result
+    pub file_err : (t u : Reading) (f g h : Shelving) (rows : List ClassRow) (trace : Trace) (end : End) (result : Result K End)
+        → IsErrAnd result (λ e. e ≡ end) → IsLoad (λ (rows : List ClassRow). rows) rows_in classes f g (Ok rows) → IsTraceRead runner rows t u (Ok trace)
+        → IsLoad value (step trace.config.threads) name g h (Err end) → WereRead t u f h result
     file_err t u f g h rows trace end result is load read file = subst (WereRead t u f h) (sym (handed_on result end is)) (file_stops t u f g h rows trace end load read file)
 
 -- Of a replay: its picks are those of an order file, or there are none.
@@ -286,32 +305,44 @@ job_made rows asked picks = record { input = record { rows = rows; asked = asked
 abbrev items_of : Vec ℕ Global → List ℕ
 items_of v = v.items
 
-named_picks : (replay : Replay) (name : List ℕ) → file_of replay.schedule ≡ Some name → (given : Given) (rows : List ClassRow) (asked : Asked) → job_with replay given rows asked ≡ and_then (λ p. Ok (job_made rows asked p)) (picks_in asked.config.threads given.file)
+named_picks : (replay : Replay) (name : List ℕ) → file_of replay.schedule ≡ Some name → (given : Given) (rows : List ClassRow) (asked : Asked)
+    → job_with replay given rows asked ≡ and_then (λ p. Ok (job_made rows asked p)) (picks_in asked.config.threads given.file)
 named_picks replay name named given rows asked = ap (λ o. and_then (λ p. Ok (job_made rows asked p)) (picks_or o asked.config.threads given.file given.came)) named
 
-no_picks : (replay : Replay) (rows : List ClassRow) (asked : Asked) → file_of replay.schedule ≡ None → (given : Given) → given.came ≡ [] → job_with replay given rows asked ≡ Ok (job_made rows asked [])
+no_picks : (replay : Replay) (rows : List ClassRow) (asked : Asked) → file_of replay.schedule ≡ None → (given : Given) → given.came ≡ []
+    → job_with replay given rows asked ≡ Ok (job_made rows asked [])
 no_picks replay rows asked none given came = ap (λ o. and_then (λ p. Ok (job_made rows asked p)) (picks_or o asked.config.threads given.file given.came)) none ∙ ap (λ p. Ok (job_made rows asked p)) came
 
 module _ (replay : Replay) where
-  pub job_table : (t : Reading) (f g : Shelving) (end : End) (result : Result Job End) → IsErrAnd result (λ e. e ≡ end) → IsLoad (λ (rows : List ClassRow). rows) rows_in replay.classes f g (Err end) → IsJobRead replay t t f g result
+  pub job_table : (t : Reading) (f g : Shelving) (end : End) (result : Result Job End) → IsErrAnd result (λ e. e ≡ end)
+      → IsLoad (λ (rows : List ClassRow). rows) rows_in replay.classes f g (Err end) → IsJobRead replay t t f g result
   job_table = table_err (Some replay.front) (job_with replay) (job_early replay) seen_job replay.classes (file_of replay.schedule)
 
-  pub job_trace : (t u : Reading) (f g : Shelving) (rows : List ClassRow) (end : End) (result : Result Job End) → IsErrAnd result (λ e. e ≡ end) → IsLoad (λ (rows : List ClassRow). rows) rows_in replay.classes f g (Ok rows) → IsTraceRead (Some replay.front) rows t u (Err end) → IsJobRead replay t u f g result
+  pub job_trace : (t u : Reading) (f g : Shelving) (rows : List ClassRow) (end : End) (result : Result Job End) → IsErrAnd result (λ e. e ≡ end)
+      → IsLoad (λ (rows : List ClassRow). rows) rows_in replay.classes f g (Ok rows) → IsTraceRead (Some replay.front) rows t u (Err end)
+      → IsJobRead replay t u f g result
   job_trace = trace_err (Some replay.front) (job_with replay) (job_early replay) seen_job replay.classes (file_of replay.schedule)
 
-  without_file : (t u : Reading) (f g h : Shelving) (rows : List ClassRow) (trace : Trace) (picks : Vec ℕ Global) → file_of replay.schedule ≡ None → IsLoad (λ (rows : List ClassRow). rows) rows_in replay.classes f g (Ok rows) → IsTraceRead (Some replay.front) rows t u (Ok trace) → h ≡ g → picks.items ≡ [] → IsJobRead replay t u f h (Ok (record { table = rows; trace = trace; picks = picks }))
+  without_file : (t u : Reading) (f g h : Shelving) (rows : List ClassRow) (trace : Trace) (picks : Vec ℕ Global) → file_of replay.schedule ≡ None
+      → IsLoad (λ (rows : List ClassRow). rows) rows_in replay.classes f g (Ok rows) → IsTraceRead (Some replay.front) rows t u (Ok trace) → h ≡ g
+      → picks.items ≡ [] → IsJobRead replay t u f h (Ok (record { table = rows; trace = trace; picks = picks }))
   without_file t u f g h rows trace picks none load read same empty =
       let job : Job = record { table = rows; trace = trace; picks = picks } in
       let gives : (given : Given) → given.came ≡ [] → job_with replay given rows (asked_of trace) ≡ Ok (seen_job job) = λ given came. no_picks replay rows (asked_of trace) none given came ∙ ap (λ p. Ok (job_made rows (asked_of trace) p)) (sym empty) in
       subst (λ (s : Shelving). IsJobRead replay t u f s (Ok job)) (sym same) (read_without (Some replay.front) (job_with replay) (job_early replay) seen_job replay.classes (file_of replay.schedule) t u f g rows trace job none load read gives)
 
-  pub job_ok : (order : Option (List ℕ)) (t u : Reading) (f g h : Shelving) (rows : List ClassRow) (trace : Trace) (picks : Vec ℕ Global) → file_of replay.schedule ≡ order → IsLoad (λ (rows : List ClassRow). rows) rows_in replay.classes f g (Ok rows) → IsTraceRead (Some replay.front) rows t u (Ok trace) → ArePicks order trace.config.threads g h (Ok picks) → IsJobRead replay t u f h (Ok (record { table = rows; trace = trace; picks = picks }))
+  pub job_ok : (order : Option (List ℕ)) (t u : Reading) (f g h : Shelving) (rows : List ClassRow) (trace : Trace) (picks : Vec ℕ Global)
+      → file_of replay.schedule ≡ order → IsLoad (λ (rows : List ClassRow). rows) rows_in replay.classes f g (Ok rows)
+      → IsTraceRead (Some replay.front) rows t u (Ok trace) → ArePicks order trace.config.threads g h (Ok picks)
+      → IsJobRead replay t u f h (Ok (record { table = rows; trace = trace; picks = picks }))
   job_ok None t u f g h rows trace picks named load read are = without_file t u f g h rows trace picks named load read are.0 are.1
   job_ok (Some name) t u f g h rows trace picks named load read are =
       let job : Job = record { table = rows; trace = trace; picks = picks } in
       read_with (Some replay.front) (job_with replay) (job_early replay) seen_job replay.classes (file_of replay.schedule) items_of picks_in job_made name named (named_picks replay name named) t u f g h rows trace picks job refl load read are
 
-  pub job_picks : (order : Option (List ℕ)) (t u : Reading) (f g h : Shelving) (rows : List ClassRow) (trace : Trace) (end : End) (result : Result Job End) → file_of replay.schedule ≡ order → IsErrAnd result (λ e. e ≡ end) → IsLoad (λ (rows : List ClassRow). rows) rows_in replay.classes f g (Ok rows) → IsTraceRead (Some replay.front) rows t u (Ok trace) → ArePicks order trace.config.threads g h (Err end) → IsJobRead replay t u f h result
+  pub job_picks : (order : Option (List ℕ)) (t u : Reading) (f g h : Shelving) (rows : List ClassRow) (trace : Trace) (end : End) (result : Result Job End)
+      → file_of replay.schedule ≡ order → IsErrAnd result (λ e. e ≡ end) → IsLoad (λ (rows : List ClassRow). rows) rows_in replay.classes f g (Ok rows)
+      → IsTraceRead (Some replay.front) rows t u (Ok trace) → ArePicks order trace.config.threads g h (Err end) → IsJobRead replay t u f h result
   job_picks None t u f g h rows trace end result named is load read are = absurd are.1
   job_picks (Some name) t u f g h rows trace end result named is load read are =
       file_err (Some replay.front) (job_with replay) (job_early replay) seen_job replay.classes (file_of replay.schedule) items_of picks_in job_made name named (named_picks replay name named) t u f g h rows trace end result is load read are

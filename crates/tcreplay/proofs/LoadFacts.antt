@@ -52,12 +52,15 @@ long_one : (file : Option (List ℕ)) (limit : ℕ) → IsSomeAnd file (λ bytes
 long_one None limit long = absurd long
 long_one (Some bytes) limit long = within_long limit bytes long
 
-pub long_is : (files : Option Files) (name : List ℕ) (limit : ℕ) → IfSome files (λ all. IsSomeAnd (get all name) (λ bytes. limit < length bytes)) → (file : Option (List ℕ)) × IsFile files name file × (file_within limit file ≡ Err (TooLong limit))
+pub long_is : (files : Option Files) (name : List ℕ) (limit : ℕ) → IfSome files (λ all. IsSomeAnd (get all name) (λ bytes. limit < length bytes))
+    → (file : Option (List ℕ)) × IsFile files name file × (file_within limit file ≡ Err (TooLong limit))
 long_is None name limit long = (Some (too_many limit), refl, within_long limit (too_many limit) (too_many_long limit))
 long_is (Some all) name limit long = (get all name, refl, long_one (get all name) limit long)
 
 -- a load that gave its bytes, and one that didn't
-pub load_ok : (name : List ℕ) (limit : ℕ) (before after : Shelving) (bytes : Vec ℕ Global) → length bytes.items ≤ limit → IfSome before.files (λ all. get all name ≡ Some bytes.items) → after.files ≡ before.files → after.loads ≡ one_more before.loads → after.faults ≡ before.faults → IsLoad (λ (v : Vec ℕ Global). v.items) (file_within limit) name before after (Ok bytes)
+pub load_ok : (name : List ℕ) (limit : ℕ) (before after : Shelving) (bytes : Vec ℕ Global) → length bytes.items ≤ limit
+    → IfSome before.files (λ all. get all name ≡ Some bytes.items) → after.files ≡ before.files → after.loads ≡ one_more before.loads
+    → after.faults ≡ before.faults → IsLoad (λ (v : Vec ℕ Global). v.items) (file_within limit) name before after (Ok bytes)
 load_ok name limit before after bytes short whole files once count = record {
   file = Some bytes.items;
   told = given_is before.files name bytes.items whole;
@@ -66,7 +69,9 @@ load_ok name limit before after bytes short whole files once count = record {
   once = once;
 }
 
-failed_load : (name : List ℕ) (limit : ℕ) (before after : Shelving) (fault : LoadFault) → IfSome before.files (λ all. Refused (get all name) limit fault) → (IsNone before.files → fault ≡ load.Missing → ⊥) → after.files ≡ before.files → after.loads ≡ one_more before.loads → LoadCounted fault before.faults after.faults → IsLoad (λ (v : Vec ℕ Global). v.items) (file_within limit) name before after (Err (load_end limit fault))
+failed_load : (name : List ℕ) (limit : ℕ) (before after : Shelving) (fault : LoadFault) → IfSome before.files (λ all. Refused (get all name) limit fault)
+    → (IsNone before.files → fault ≡ load.Missing → ⊥) → after.files ≡ before.files → after.loads ≡ one_more before.loads
+    → LoadCounted fault before.faults after.faults → IsLoad (λ (v : Vec ℕ Global). v.items) (file_within limit) name before after (Err (load_end limit fault))
 failed_load name limit before after load.Failed refused untold files once count =
     record { file = some_file before.files name; told = some_file_is before.files name; step = inr (inr (refl, count)); files = files; once = once }
 failed_load name limit before after load.Missing refused untold files once count =
@@ -77,7 +82,10 @@ failed_load name limit before after load.TooLong refused untold files once count
 failed_load name limit before after load.Memory refused untold files once count =
     record { file = some_file before.files name; told = some_file_is before.files name; step = inr (inl (refl, count)); files = files; once = once }
 
-pub load_fails : (name : List ℕ) (limit : ℕ) (before after : Shelving) (fault : LoadFault) (end : End) → end ≡ load_end limit fault → IfSome before.files (λ all. Refused (get all name) limit fault) → (IsNone before.files → fault ≡ load.Missing → ⊥) → after.files ≡ before.files → after.loads ≡ one_more before.loads → LoadCounted fault before.faults after.faults → IsLoad (λ (v : Vec ℕ Global). v.items) (file_within limit) name before after (Err end)
+pub load_fails : (name : List ℕ) (limit : ℕ) (before after : Shelving) (fault : LoadFault) (end : End) → end ≡ load_end limit fault
+    → IfSome before.files (λ all. Refused (get all name) limit fault) → (IsNone before.files → fault ≡ load.Missing → ⊥) → after.files ≡ before.files
+    → after.loads ≡ one_more before.loads → LoadCounted fault before.faults after.faults
+    → IsLoad (λ (v : Vec ℕ Global). v.items) (file_within limit) name before after (Err end)
 load_fails name limit before after fault end is refused untold files once count =
     subst (λ e. IsLoad (λ (v : Vec ℕ Global). v.items) (file_within limit) name before after (Err e)) (sym is) (failed_load name limit before after fault refused untold files once count)
 

@@ -11,7 +11,9 @@ use Rattle.tcreplay.specs.Notes.{note_of}
 use Rattle.tcreplay.specs.Writes.{TookText, TookPartOf, IsNoted}
 
 -- one put of a piece
-pub put_is : (piece : List ℕ) (before after : Writing) (result : Result (Unit {0}) Failed) → OnOk result (Took before.taken after.taken piece) → OnErr result (TookPart before.taken after.taken piece) → after.puts ≡ one_more before.puts → OnErr result (Rose before.faults after.faults) → OnOk result (after.faults ≡ before.faults) → TookText piece before after ⊎ TookPartOf piece before after
+pub put_is : (piece : List ℕ) (before after : Writing) (result : Result (Unit {0}) Failed) → OnOk result (Took before.taken after.taken piece)
+    → OnErr result (TookPart before.taken after.taken piece) → after.puts ≡ one_more before.puts → OnErr result (Rose before.faults after.faults)
+    → OnOk result (after.faults ≡ before.faults) → TookText piece before after ⊎ TookPartOf piece before after
 put_is piece before after (Ok u) whole part once cause count = inl (record { taken = whole; once = once; count = count })
 put_is piece before after (Err f) whole part once cause count = inr (record { taken = part; once = once; rose = cause })
 

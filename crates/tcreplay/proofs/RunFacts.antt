@@ -43,7 +43,8 @@ module _ {P L : Type 0} (rules : Input → Rules P L) where
   filled_at input whole order ticket limit = record { limit = limit.ticket_is; full = limit.full ∙ sym limit.ticket_is; thread = limit.thread; would_move = limit.would_move }
 
   -- the order of a job whose picks threads made is these picks, completed
-  pub completed_is : (input : Input) (came : List ℕ) → IsPolite (rules input) (start (rules input)) came → length came ≤ input.asked.config.events → completed (rules input) (turns input.asked) input.asked.config.events came ≡ order_by rules (record { input = input; picks = came })
+  pub completed_is : (input : Input) (came : List ℕ) → IsPolite (rules input) (start (rules input)) came → length came ≤ input.asked.config.events
+      → completed (rules input) (turns input.asked) input.asked.config.events came ≡ order_by rules (record { input = input; picks = came })
   completed_is input came polite few = sym (ap (completed (rules input) (turns input.asked) input.asked.config.events) (followed_each (rules input) input.asked.config.events [] came polite (omega arith)))
 
   -- and what a run of it tells
@@ -65,7 +66,9 @@ module _ {P L : Type 0} (rules : Input → Rules P L) where
     its_end false telling input order done = absurd (cc)
 
     -- the verdict on a run that has ended, and on one that stands at the limit
-    pub told_done : (telling : Telling) (input : Input) (order items text : List ℕ) (f : Finished) → HaveEnded (rules input) (run (rules input) order) → f ≡ told input order → items ≡ order → text ≡ told_by telling f → record { end = Done; order = items; text = text } ≡ judged_by rules told telling input order
+    pub told_done : (telling : Telling) (input : Input) (order items text : List ℕ) (f : Finished) → HaveEnded (rules input) (run (rules input) order)
+        → f ≡ told input order → items ≡ order → text ≡ told_by telling f
+        → record { end = Done; order = items; text = text } ≡ judged_by rules told telling input order
     told_done telling input order items text f ended finished given printed =
         let done : have_ended (rules input) (run (rules input) order) ≡ true = ended_true (rules input) (run (rules input) order) ended in
         let words : text ≡ told_by telling (told input order) = printed ∙ ap (told_by telling) finished in
@@ -73,7 +76,9 @@ module _ {P L : Type 0} (rules : Input → Rules P L) where
         let here : seen ≡ at_end telling input order = ap (λ o. let v : Verdict = record { end = Done; order = o; text = text } in v) given ∙ ap (λ t. let v : Verdict = record { end = Done; order = order; text = t } in v) words in
         here ∙ sym (ap (λ b. verdict_if b telling input order) done)
 
-    pub told_full : (telling : Telling) (input : Input) (whole order items text : List ℕ) (ticket : ℕ) → IsAtLimit (rules input) input.asked.config.events whole order ticket → items ≡ order → text ≡ [] → record { end = Full ticket; order = items; text = text } ≡ judged_by rules told telling input order
+    pub told_full : (telling : Telling) (input : Input) (whole order items text : List ℕ) (ticket : ℕ)
+        → IsAtLimit (rules input) input.asked.config.events whole order ticket → items ≡ order → text ≡ []
+        → record { end = Full ticket; order = items; text = text } ≡ judged_by rules told telling input order
     told_full telling input whole order items text ticket limit given empty =
         let going : have_ended (rules input) (run (rules input) order) ≡ false = not_ended (rules input) (run (rules input) order) limit.thread limit.would_move in
         let seen : Verdict = record { end = Full ticket; order = items; text = text } in

@@ -38,7 +38,8 @@ lost_passed None rest limit passed = passed
 lost_passed (Some bytes) rest limit passed = (limit + 1, omega arith, passed.1)
 
 -- what was read to its end has lost no more than it had
-pub lost_all : (left rest : Option (List ℕ)) (text : List ℕ) (limit : ℕ) → length text ≤ limit → IfSome left (λ bytes. text ≡ bytes) → IfSome rest (λ bytes. bytes ≡ []) → (IsNone rest ↔ IsNone left) → LostAtMost left rest limit
+pub lost_all : (left rest : Option (List ℕ)) (text : List ℕ) (limit : ℕ) → length text ≤ limit → IfSome left (λ bytes. text ≡ bytes)
+    → IfSome rest (λ bytes. bytes ≡ []) → (IsNone rest ↔ IsNone left) → LostAtMost left rest limit
 lost_all None None text limit short told end tells = refl
 lost_all None (Some bytes) text limit short told end tells = absurd (let e = tells.1 refl in cc)
 lost_all (Some bytes) None text limit short told end tells = absurd (let e = tells.0 refl in cc)

@@ -26,7 +26,8 @@ use Rattle.tcreplay.proofs.RunFacts.{completed_is}
 use Rattle.tcreplay.proofs.RanFacts.{made_by, order_is, lawful, text_is, have_all_ended, told_scripts, told_blocks, legal_journal, its_run}
 
 -- what was read without a refusal was read for any end
-pub read_for : (runner : Option Front) (file : Option (List ℕ)) (given : Given) (t u : Reading) (f g : Shelving) (end : End) → HasRead runner file given t u f g Done → HasRead runner file given t u f g end
+pub read_for : (runner : Option Front) (file : Option (List ℕ)) (given : Given) (t u : Reading) (f g : Shelving) (end : End)
+    → HasRead runner file given t u f g Done → HasRead runner file given t u f g end
 read_for runner file given t u f g end read = record {
   files = read.files;
   loads = read.loads;
@@ -66,7 +67,8 @@ given_to : (replay : Replay) (t u : Reading) (f g : Shelving) (result : Result J
 given_to replay t u f g result read = record { told = read.told; came = none_came replay.front replay.schedule (job_of replay read.given) read.given.came read.none_came }
 
 -- the reading ended the work
-pub tried_stopped : (replay : Replay) (t u : Reading) (f g : Shelving) (out : Writing) (end : End) (order : List ℕ) → order ≡ [] → IsJobRead replay t u f g (Err end) → HasTried replay t u f g out out end order
+pub tried_stopped : (replay : Replay) (t u : Reading) (f g : Shelving) (out : Writing) (end : End) (order : List ℕ) → order ≡ []
+    → IsJobRead replay t u f g (Err end) → HasTried replay t u f g out out end order
 tried_stopped replay t u f g out end order none read =
     let early : is_behind_run end ≡ false = elim read.answer [
       | inl e ↦ job_fails is_behind_run replay read.given end not_run e
@@ -88,11 +90,13 @@ tried_stopped replay t u f g out end order none read =
     }
 
 -- the same of what is answered then
-pub tried_at : (replay : Replay) (t u : Reading) (f g : Shelving) (out : Writing) (end answered : End) (order : List ℕ) → answered ≡ end → order ≡ [] → IsJobRead replay t u f g (Err end) → HasTried replay t u f g out out answered order
+pub tried_at : (replay : Replay) (t u : Reading) (f g : Shelving) (out : Writing) (end answered : End) (order : List ℕ) → answered ≡ end → order ≡ []
+    → IsJobRead replay t u f g (Err end) → HasTried replay t u f g out out answered order
 tried_at replay t u f g out end answered order same none read = subst (λ e. HasTried replay t u f g out out e order) (sym same) (tried_stopped replay t u f g out end order none read)
 
 -- memory ran out in the run
-pub tried_memory : (replay : Replay) (t u : Reading) (f g : Shelving) (out : Writing) (job : Job) (order : List ℕ) → order ≡ [] → IsJobRead replay t u f g (Ok job) → HasTried replay t u f g out out Memory order
+pub tried_memory : (replay : Replay) (t u : Reading) (f g : Shelving) (out : Writing) (job : Job) (order : List ℕ) → order ≡ []
+    → IsJobRead replay t u f g (Ok job) → HasTried replay t u f g out out Memory order
 tried_memory replay t u f g out job order none read = record {
   given = read.given;
   told = given_to replay t u f g (Ok job) read;
@@ -159,7 +163,10 @@ alone_is m InTurn job order alone = tt
 alone_is m (ByFile file) job order alone = tt
 alone_is m (ByThreads locks) job order alone = absurd (cc)
 
-pub tried_ran : (replay : Replay) (t u : Reading) (f g : Shelving) (before after : Writing) (job : Job) (ran : Ran) (end : End) (order : List ℕ) → locks_in replay.schedule ≡ None → IsJobRead replay t u f g (Ok job) → IsRan (runs replay) (Whole replay.rows replay.sample) (seen_job job).input (order_of_job (runs replay) (seen_job job)) ran → IsLastEnd ran.end end → order ≡ ran.order.items → IsWritten end ran.text.items before after → HasTried replay t u f g before after end order
+pub tried_ran : (replay : Replay) (t u : Reading) (f g : Shelving) (before after : Writing) (job : Job) (ran : Ran) (end : End) (order : List ℕ)
+    → locks_in replay.schedule ≡ None → IsJobRead replay t u f g (Ok job)
+    → IsRan (runs replay) (Whole replay.rows replay.sample) (seen_job job).input (order_of_job (runs replay) (seen_job job)) ran → IsLastEnd ran.end end
+    → order ≡ ran.order.items → IsWritten end ran.text.items before after → HasTried replay t u f g before after end order
 tried_ran replay t u f g before after job ran end order alone read is last same written = tried_by replay read.given t u f g before after (seen_job job) ran end order (given_to replay t u f g (Ok job) read) read.answer read.read is (alone_is (runs replay) replay.schedule (seen_job job) (order_of_job (runs replay) (seen_job job)) alone) last same written
 
 -- what was given, with the picks that came
@@ -178,27 +185,34 @@ abbrev job_made : List ClassRow → Asked → List ℕ → verdict.Job
 job_made rows asked picks = record { input = record { rows = rows; asked = asked }; picks = picks }
 
 -- without an order file, a job's picks are those that came
-job_came : (rows : List ClassRow) (asked : Asked) (order file : Option (List ℕ)) (came : List ℕ) → order ≡ None → and_then (λ picks. Ok (job_made rows asked picks)) (picks_or order asked.config.threads file came) ≡ Ok (job_made rows asked came)
+job_came : (rows : List ClassRow) (asked : Asked) (order file : Option (List ℕ)) (came : List ℕ) → order ≡ None
+    → and_then (λ picks. Ok (job_made rows asked picks)) (picks_or order asked.config.threads file came) ≡ Ok (job_made rows asked came)
 job_came rows asked None file came none = refl
 job_came rows asked (Some name) file came none = absurd (cc)
 
-behind_asked : (replay : Replay) (given : Given) (came : List ℕ) (job : verdict.Job) (rows : List ClassRow) → file_of replay.schedule ≡ None → (asked : Result Asked End) → and_then (job_with replay given rows) asked ≡ Ok job → and_then (job_with replay (given_with given came) rows) asked ≡ Ok (job_behind job came)
+behind_asked : (replay : Replay) (given : Given) (came : List ℕ) (job : verdict.Job) (rows : List ClassRow) → file_of replay.schedule ≡ None
+    → (asked : Result Asked End) → and_then (job_with replay given rows) asked ≡ Ok job
+    → and_then (job_with replay (given_with given came) rows) asked ≡ Ok (job_behind job came)
 behind_asked replay given came job rows none (Err end) is = absurd (cc)
 behind_asked replay given came job rows none (Ok asked) is =
     let plain : Ok (job_made rows asked given.came) ≡ Ok job = sym (job_came rows asked (file_of replay.schedule) given.file given.came none) ∙ is in
     let same : job_made rows asked given.came ≡ job = cc in
     subst (λ (j : verdict.Job). and_then (job_with replay (given_with given came) rows) (Ok asked) ≡ Ok (job_behind j came)) same (job_came rows asked (file_of replay.schedule) given.file came none)
 
-behind_rows : (replay : Replay) (given : Given) (came : List ℕ) (job : verdict.Job) → file_of replay.schedule ≡ None → (rows : Result (List ClassRow) End) → and_then (λ rows. and_then (job_with replay given rows) (asked_in (Some replay.front) rows given.trace)) rows ≡ Ok job → and_then (λ rows. and_then (job_with replay (given_with given came) rows) (asked_in (Some replay.front) rows given.trace)) rows ≡ Ok (job_behind job came)
+behind_rows : (replay : Replay) (given : Given) (came : List ℕ) (job : verdict.Job) → file_of replay.schedule ≡ None → (rows : Result (List ClassRow) End)
+    → and_then (λ rows. and_then (job_with replay given rows) (asked_in (Some replay.front) rows given.trace)) rows ≡ Ok job
+    → and_then (λ rows. and_then (job_with replay (given_with given came) rows) (asked_in (Some replay.front) rows given.trace)) rows ≡ Ok (job_behind job came)
 behind_rows replay given came job none (Err end) is = absurd (cc)
 behind_rows replay given came job none (Ok rows) is = behind_asked replay given came job rows none (asked_in (Some replay.front) rows given.trace) is
 
-came_is : (m : Machine) (schedule : Schedule) (locks : Locks) (job : verdict.Job) (came : List ℕ) → locks_in schedule ≡ Some locks → IsMadeOf m job.input came → HaveCome m schedule (Ok (job_behind job came)) came
+came_is : (m : Machine) (schedule : Schedule) (locks : Locks) (job : verdict.Job) (came : List ℕ) → locks_in schedule ≡ Some locks
+    → IsMadeOf m job.input came → HaveCome m schedule (Ok (job_behind job came)) came
 came_is m InTurn locks job came threads made = absurd (cc)
 came_is m (ByFile file) locks job came threads made = absurd (cc)
 came_is m (ByThreads other) locks job came threads made = made
 
-completed_by : (m : Machine) (schedule : Schedule) (locks : Locks) (job : verdict.Job) (came : List ℕ) → locks_in schedule ≡ Some locks → IsMadeOf m job.input came → IsCompleted m schedule (job_behind job came) (order_of_job m (job_behind job came))
+completed_by : (m : Machine) (schedule : Schedule) (locks : Locks) (job : verdict.Job) (came : List ℕ) → locks_in schedule ≡ Some locks
+    → IsMadeOf m job.input came → IsCompleted m schedule (job_behind job came) (order_of_job m (job_behind job came))
 completed_by m InTurn locks job came threads made = tt
 completed_by m (ByFile file) locks job came threads made = tt
 completed_by m (ByThreads other) locks job came threads made = sym (completed_is m.rules job.input came made.polite made.few)

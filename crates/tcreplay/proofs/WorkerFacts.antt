@@ -33,10 +33,12 @@ use Rattle.tcreplay.specs.Ran.{seen_ran, IsRunOf, IsRunByThreads}
 use Rattle.tcreplay.proofs.RunFacts.{completed_is}
 
 -- what was left is the run of the order that came
-pub left_run : {P L : Type 0} (r : Rules P L) (parts : List P) (locals : List L) (es : List Entry) (order : List ℕ) → IsRun r parts locals es → order ≡ threads_in es → world_of parts locals ≡ run r order
+pub left_run : {P L : Type 0} (r : Rules P L) (parts : List P) (locals : List L) (es : List Entry) (order : List ℕ) → IsRun r parts locals es
+    → order ≡ threads_in es → world_of parts locals ≡ run r order
 left_run r parts locals es order left is = ap (λ ps. world_of ps locals) left.parts_are ∙ (ap (λ ls. world_of (run r (threads_in es)).parts ls) left.locals_are ∙ sym (ap (run r) is))
 
-pub left_moves : {P L : Type 0} (r : Rules P L) (parts : List P) (locals : List L) (es : List Entry) (order : List ℕ) → IsRun r parts locals es → order ≡ threads_in es → moving r (start r) order ≡ order
+pub left_moves : {P L : Type 0} (r : Rules P L) (parts : List P) (locals : List L) (es : List Entry) (order : List ℕ) → IsRun r parts locals es
+    → order ≡ threads_in es → moving r (start r) order ≡ order
 left_moves r parts locals es order left is = subst (λ o. moving r (start r) o ≡ o) (sym is) (moving_all r (start r) (threads_in es) (polite_moves r (start r) (threads_in es) left.polite))
 
 pub left_few : (es : List Entry) (order : List ℕ) (events : ℕ) → order ≡ threads_in es → length es ≤ events → length order ≤ events

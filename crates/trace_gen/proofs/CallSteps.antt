@@ -9,7 +9,9 @@ use Rattle.trace_gen.specs.Generated.{State, drawn, next_kind, at_call, after_ca
 use Rattle.trace_gen.specs.TraceText.{line_text}
 
 -- a text that gains a call's lines has the lines of one call more
-pub more_text : (heads before after : List ℕ) (seed threads i : ℕ) (s : State) → s ≡ state_at seed i → before ≡ heads ++ flat_map line_text (lines_before seed threads i) → after ≡ before ++ flat_map line_text (lines_of threads i s) → after ≡ heads ++ flat_map line_text (lines_before seed threads (i + 1))
+pub more_text : (heads before after : List ℕ) (seed threads i : ℕ) (s : State) → s ≡ state_at seed i
+    → before ≡ heads ++ flat_map line_text (lines_before seed threads i) → after ≡ before ++ flat_map line_text (lines_of threads i s)
+    → after ≡ heads ++ flat_map line_text (lines_before seed threads (i + 1))
 more_text heads before after seed threads i s at was now =
     let earlier : List Line = lines_before seed threads i in
     let own : List Line = lines_of threads i (state_at seed i) in

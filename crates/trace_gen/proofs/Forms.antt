@@ -55,7 +55,9 @@ fails_none classes asked (Drain thread cpu) fits = record { thread = lt-leb aske
 fails_none classes asked (Resize thread cpu class_ cap) fits = record { thread = lt-leb asked.config.threads thread fits.0; cpu = lt-leb asked.config.cpus cpu fits.1; class = lt-leb _ class_ fits.2; used = refl; unknown = refl; freed = refl }
 
 -- a line that fails no rule is read as its form
-passes : (l : reading.Line) (w : Word) (form : Form) → l.number ≤ 1000000 → reading.first_word l.fields ≡ Some w → (l.before.late && is_head w) ≡ false → has_fields w (reading.other_fields l.fields) ≡ true → form_of w (reading.other_fields l.fields) ≡ Some form → FailsNone l.classes l.before.asked form → read_line l ≡ Ok (with_form l.number form l.before)
+passes : (l : reading.Line) (w : Word) (form : Form) → l.number ≤ 1000000 → reading.first_word l.fields ≡ Some w → (l.before.late && is_head w) ≡ false
+    → has_fields w (reading.other_fields l.fields) ≡ true → form_of w (reading.other_fields l.fields) ≡ Some form → FailsNone l.classes l.before.asked form
+    → read_line l ≡ Ok (with_form l.number form l.before)
 passes l w form few named early has is none =
     let lines : nat_lt 1000000 l.number ≡ false = le-ltb 1000000 l.number few in
     let thread = none.thread in
@@ -67,7 +69,10 @@ passes l w form few named early has is none =
     rw (lines, named, early, has, is, thread, cpu, class_, used, unknown, freed) refl
 
 -- a word with numbers behind it is read, and the lines behind it are read behind its form
-pub reads_words : (classes number : ℕ) (before : SoFar) (name : List ℕ) (w : Word) (ns : List ℕ) (form : Form) (rest : List (List (List ℕ))) → number ≤ 1000000 → word_of name ≡ Some w → (before.late && is_head w) ≡ false → has_fields w (map decimal ns) ≡ true → AreIn (ranges_of w) ns → form_with w ns ≡ Some form → Fits classes before.asked form → read_lines classes before number ((name ∷ map decimal ns) ∷ rest) ≡ read_lines classes (with_form number form before) (number + 1) rest
+pub reads_words : (classes number : ℕ) (before : SoFar) (name : List ℕ) (w : Word) (ns : List ℕ) (form : Form) (rest : List (List (List ℕ)))
+    → number ≤ 1000000 → word_of name ≡ Some w → (before.late && is_head w) ≡ false → has_fields w (map decimal ns) ≡ true → AreIn (ranges_of w) ns
+    → form_with w ns ≡ Some form → Fits classes before.asked form
+    → read_lines classes before number ((name ∷ map decimal ns) ∷ rest) ≡ read_lines classes (with_form number form before) (number + 1) rest
 reads_words classes number before name w ns form rest few named early has are is fits =
     let l : reading.Line = record { classes = classes; before = before; number = number; fields = name ∷ map decimal ns } in
     let read = passes l w form few named early has (ap (option_and_then (form_with w)) (numbers_in-decimals (ranges_of w) ns are) ∙ is) (fails_none classes before.asked form fits) in
@@ -90,7 +95,9 @@ IsIn (line.Release thread pages) = (thread < 64) × (pages < 1000)
 IsIn (line.Drain thread cpu) = (thread < 64) × (cpu < 64)
 
 -- a generated line is read, and the lines behind it are read behind its form
-pub reads_line : (classes number : ℕ) (before : SoFar) (own : Line) (rest : List (List (List ℕ))) → number ≤ 1000000 → IsIn own → Fits classes before.asked (form_for own) → read_lines classes before number (line_fields own ∷ rest) ≡ read_lines classes (with_form number (form_for own) before) (number + 1) rest
+pub reads_line : (classes number : ℕ) (before : SoFar) (own : Line) (rest : List (List (List ℕ))) → number ≤ 1000000 → IsIn own
+    → Fits classes before.asked (form_for own)
+    → read_lines classes before number (line_fields own ∷ rest) ≡ read_lines classes (with_form number (form_for own) before) (number + 1) rest
 reads_line classes number before (line.Malloc thread label size) rest few is fits =
     reads_words classes number before (codes "a") word.Malloc (thread ∷ label ∷ size ∷ []) (Malloc thread label size) rest few refl (and_right before.late false refl) refl (omega arith) refl fits
 reads_line classes number before (line.Free thread label) rest few is fits =

@@ -55,7 +55,8 @@ is_freed-push : (label : ℕ) (calls : List ThreadCall) (c : ThreadCall) → is_
 is_freed-push label calls c = or_push (is_freed label) (λ (d : ThreadCall). frees label d.planned.call) refl (λ _ _. refl) calls c
 
 -- calls that do nothing with a label to come, and after which each label is live once where it should be
-push : (calls : List ThreadCall) (c : ThreadCall) (live : List ℕ) (next : ℕ) → ((label : ℕ) → next ≤ label → (is_allocated label calls ≡ false) × (is_freed label calls ≡ false) × (allocates label c.planned.call ≡ false) × (frees label c.planned.call ≡ false)) → ((label : ℕ) → count_of label live ≡ cond ((is_allocated label calls || allocates label c.planned.call) && not (is_freed label calls || frees label c.planned.call)) 1 0) → AreLive (calls ++ c ∷ []) live next
+push : (calls : List ThreadCall) (c : ThreadCall) (live : List ℕ) (next : ℕ)
+    → ((label : ℕ) → next ≤ label → (is_allocated label calls ≡ false) × (is_freed label calls ≡ false) × (allocates label c.planned.call ≡ false) × (frees label c.planned.call ≡ false)) → ((label : ℕ) → count_of label live ≡ cond ((is_allocated label calls || allocates label c.planned.call) && not (is_freed label calls || frees label c.planned.call)) 1 0) → AreLive (calls ++ c ∷ []) live next
 push calls c live next fresh once = record {
   fresh = λ label past.
       let known = fresh label past in
@@ -67,7 +68,8 @@ push calls c live next fresh once = record {
 }
 
 -- an allocation of the next label
-once_allocated : (allocated freed hit : Bool) (n m : ℕ) → (hit ≡ true → (allocated ≡ false) × (freed ≡ false)) → n ≡ cond (allocated && not freed) 1 0 → m ≡ n + cond hit 1 0 → m ≡ cond ((allocated || hit) && not (freed || false)) 1 0
+once_allocated : (allocated freed hit : Bool) (n m : ℕ) → (hit ≡ true → (allocated ≡ false) × (freed ≡ false)) → n ≡ cond (allocated && not freed) 1 0
+    → m ≡ n + cond hit 1 0 → m ≡ cond ((allocated || hit) && not (freed || false)) 1 0
 once_allocated true freed true n m new was now = absurd (true≢false (new refl).0)
 once_allocated false true true n m new was now = absurd (true≢false (new refl).1)
 once_allocated false false true n m new was now = omega arith
@@ -75,7 +77,9 @@ once_allocated true true false n m new was now = omega arith
 once_allocated true false false n m new was now = omega arith
 once_allocated false freed false n m new was now = omega arith
 
-pub AreLive-malloc : (calls : List ThreadCall) (c : ThreadCall) (live : List ℕ) (next : ℕ) → AreLive calls live next → ((label : ℕ) → allocates label c.planned.call ≡ (next == label)) → ((label : ℕ) → frees label c.planned.call ≡ false) → AreLive (calls ++ c ∷ []) (live ++ next ∷ []) (next + 1)
+pub AreLive-malloc : (calls : List ThreadCall) (c : ThreadCall) (live : List ℕ) (next : ℕ) → AreLive calls live next
+    → ((label : ℕ) → allocates label c.planned.call ≡ (next == label)) → ((label : ℕ) → frees label c.planned.call ≡ false)
+    → AreLive (calls ++ c ∷ []) (live ++ next ∷ []) (next + 1)
 AreLive-malloc calls c live next are allocates_it frees_none = push calls c (live ++ next ∷ []) (next + 1)
     (λ label past.
     let known = are.fresh label (omega arith) in
@@ -87,7 +91,8 @@ AreLive-malloc calls c live next are allocates_it frees_none = push calls c (liv
     subst (P (allocates label c.planned.call)) (sym (frees_none label)) (subst (λ hit. P hit false) (sym (allocates_it label)) own))
 
 -- a free of a live label
-once_freed : (allocated freed hit : Bool) (n m : ℕ) → (hit ≡ true → (allocated ≡ true) × (freed ≡ false)) → n ≡ cond (allocated && not freed) 1 0 → m + cond hit 1 0 ≡ n → m ≡ cond ((allocated || false) && not (freed || hit)) 1 0
+once_freed : (allocated freed hit : Bool) (n m : ℕ) → (hit ≡ true → (allocated ≡ true) × (freed ≡ false)) → n ≡ cond (allocated && not freed) 1 0
+    → m + cond hit 1 0 ≡ n → m ≡ cond ((allocated || false) && not (freed || hit)) 1 0
 once_freed true true true n m live was now = absurd (true≢false (live refl).1)
 once_freed false freed true n m live was now = absurd (true≢false (sym (live refl).0))
 once_freed true false true n m live was now = omega arith
@@ -95,7 +100,9 @@ once_freed true true false n m live was now = omega arith
 once_freed true false false n m live was now = omega arith
 once_freed false freed false n m live was now = omega arith
 
-pub AreLive-free : (calls : List ThreadCall) (c : ThreadCall) (live : List ℕ) (next place : ℕ) → AreLive calls live next → place < length live → ((label : ℕ) → allocates label c.planned.call ≡ false) → ((label : ℕ) → frees label c.planned.call ≡ (get_or live place 0 == label)) → AreLive (calls ++ c ∷ []) (swap_remove live place (get_or live place 0)) next
+pub AreLive-free : (calls : List ThreadCall) (c : ThreadCall) (live : List ℕ) (next place : ℕ) → AreLive calls live next → place < length live
+    → ((label : ℕ) → allocates label c.planned.call ≡ false) → ((label : ℕ) → frees label c.planned.call ≡ (get_or live place 0 == label))
+    → AreLive (calls ++ c ∷ []) (swap_remove live place (get_or live place 0)) next
 AreLive-free calls c live next place are there allocates_none frees_it =
     let freed = get_or live place 0 in
     let left = swap_remove live place freed in
@@ -118,7 +125,8 @@ once_left true true n was = was
 once_left true false n was = was
 once_left false freed n was = was
 
-pub AreLive-other : (calls : List ThreadCall) (c : ThreadCall) (live : List ℕ) (next : ℕ) → AreLive calls live next → ((label : ℕ) → allocates label c.planned.call ≡ false) → ((label : ℕ) → frees label c.planned.call ≡ false) → AreLive (calls ++ c ∷ []) live next
+pub AreLive-other : (calls : List ThreadCall) (c : ThreadCall) (live : List ℕ) (next : ℕ) → AreLive calls live next
+    → ((label : ℕ) → allocates label c.planned.call ≡ false) → ((label : ℕ) → frees label c.planned.call ≡ false) → AreLive (calls ++ c ∷ []) live next
 AreLive-other calls c live next are allocates_none frees_none = push calls c live next
     (λ label past.
     let none = are.fresh label past in

@@ -83,7 +83,9 @@ line_read classes threads number lines live next live' next' own are few is fits
     }
 
 -- one call more
-call_read : (classes threads number : ℕ) (lines : List Line) (s : State) (kind : Kind) (thread : ℕ) → AreFew threads → AreRead classes threads lines number s.live s.next → number ≤ 1000000 → thread < threads → s.next < 1000000 → (kind ≡ Free → 0 < length s.live) → AreRead classes threads (lines ++ call_line (cpus_of threads) thread kind s ∷ []) (number + 1) (after_call kind s).live (after_call kind s).next
+call_read : (classes threads number : ℕ) (lines : List Line) (s : State) (kind : Kind) (thread : ℕ) → AreFew threads
+    → AreRead classes threads lines number s.live s.next → number ≤ 1000000 → thread < threads → s.next < 1000000 → (kind ≡ Free → 0 < length s.live)
+    → AreRead classes threads (lines ++ call_line (cpus_of threads) thread kind s ∷ []) (number + 1) (after_call kind s).live (after_call kind s).next
 call_read classes threads number lines s Malloc thread few are within there room has =
     line_read classes threads number lines s.live s.next _ _ (call_line (cpus_of threads) thread Malloc s) are within
     (omega (arith, few.few), room, size_of-below 0 1 s.number)
@@ -120,7 +122,9 @@ lines_with threads turn s =
     option_to_list (if turn then Some (moving threads s) else None) ++ call_line (cpus_of threads) (thread_of threads s) (next_kind s) (drawing turn s) ∷ []
 
 -- one call more with its preemption, if it has one
-step_read : (classes threads number : ℕ) (lines : List Line) (s : State) (turn : Bool) → AreFew threads → AreRead classes threads lines number s.live s.next → number + 1 ≤ 1000000 → s.next < 1000000 → AreRead classes threads (lines ++ lines_with threads turn s) (cond turn (number + 1 + 1) (number + 1)) (after_call (next_kind s) (drawing turn s)).live (after_call (next_kind s) (drawing turn s)).next
+step_read : (classes threads number : ℕ) (lines : List Line) (s : State) (turn : Bool) → AreFew threads → AreRead classes threads lines number s.live s.next
+    → number + 1 ≤ 1000000 → s.next < 1000000
+    → AreRead classes threads (lines ++ lines_with threads turn s) (cond turn (number + 1 + 1) (number + 1)) (after_call (next_kind s) (drawing turn s)).live (after_call (next_kind s) (drawing turn s)).next
 step_read classes threads number lines s true few are within room =
     let own = moving threads s in
     let after = after_call (next_kind s) (drawn 4 s) in

@@ -34,7 +34,9 @@ joined-same (thread ∷ earlier) f g e =
     ∙ ap (λ (s : List Planned). joined earlier (λ t. if t == thread.0 then all_but_last (g t) else g t) ++ record { thread = thread; planned = last_of s } ∷ []) (e thread.0)
 
 -- one call more of one thread
-pub joined-push : (turns : List ThreadNo) (f g : ℕ → List Planned) (thread : ThreadNo) (p : Planned) → g thread.0 ≡ f thread.0 ++ p ∷ [] → ((t : ℕ) → (t ≡ thread.0 → ⊥) → g t ≡ f t) → joined (reverse (turns ++ thread ∷ [])) g ≡ joined (reverse turns) f ++ record { thread = thread; planned = p } ∷ []
+pub joined-push : (turns : List ThreadNo) (f g : ℕ → List Planned) (thread : ThreadNo) (p : Planned) → g thread.0 ≡ f thread.0 ++ p ∷ []
+    → ((t : ℕ) → (t ≡ thread.0 → ⊥) → g t ≡ f t)
+    → joined (reverse (turns ++ thread ∷ [])) g ≡ joined (reverse turns) f ++ record { thread = thread; planned = p } ∷ []
 joined-push turns f g thread p here others =
     let earlier = reverse turns in
     let without : (t : ℕ) → (if t == thread.0 then all_but_last (g t) else g t) ≡ f t = λ t. elim (cases_eq t thread.0) [
@@ -48,7 +50,9 @@ joined-push turns f g thread p here others =
     ∙ ap (λ (c : Planned). joined earlier f ++ record { thread = thread; planned = c } ∷ []) (ap last_of here ∙ last_of-push (f thread.0) p)
 
 -- each thread's calls, where one thread has one call more
-pub scripts-push : {V : Type 0} (items : V → List Planned) (scripts : List V) (i : ℕ) (v w : V) (p : Planned) → i < length scripts → w ≡ get_or scripts i w → items v ≡ items w ++ p ∷ [] → (t : ℕ) → get_or (map items (set scripts i v)) t [] ≡ (if t == i then get_or (map items scripts) t [] ++ p ∷ [] else get_or (map items scripts) t [])
+pub scripts-push : {V : Type 0} (items : V → List Planned) (scripts : List V) (i : ℕ) (v w : V) (p : Planned) → i < length scripts → w ≡ get_or scripts i w
+    → items v ≡ items w ++ p ∷ [] → (t : ℕ)
+    → get_or (map items (set scripts i v)) t [] ≡ (if t == i then get_or (map items scripts) t [] ++ p ∷ [] else get_or (map items scripts) t [])
 scripts-push items scripts i v w p within was now t =
     let short : i < length (map items scripts) = omega (arith, length-map scripts items) in
     let all = get_or (map items scripts) t [] in
@@ -63,7 +67,9 @@ scripts-push items scripts i v w p within was now t =
     ]
 
 -- all calls, where one thread has one call more
-pub calls_of-push : (calls more : Calls) (thread : ThreadNo) (p : Planned) → more.turns.items ≡ calls.turns.items ++ thread ∷ [] → ((t : ℕ) → script_at more t ≡ (if t == thread.0 then script_at calls t ++ p ∷ [] else script_at calls t)) → calls_of more ≡ calls_of calls ++ record { thread = thread; planned = p } ∷ []
+pub calls_of-push : (calls more : Calls) (thread : ThreadNo) (p : Planned) → more.turns.items ≡ calls.turns.items ++ thread ∷ []
+    → ((t : ℕ) → script_at more t ≡ (if t == thread.0 then script_at calls t ++ p ∷ [] else script_at calls t))
+    → calls_of more ≡ calls_of calls ++ record { thread = thread; planned = p } ∷ []
 calls_of-push calls more thread p turns scripts =
     ap (λ ts. joined (reverse ts) (script_at more)) turns
     ∙ joined-push calls.turns.items (script_at calls) (script_at more) thread p
@@ -78,7 +84,9 @@ pub calls_of-same : (a b : Calls) → a.scripts ≡ b.scripts → a.turns ≡ b.
 calls_of-same a b scripts turns = ap (λ ts. joined (reverse ts.items) (script_at a)) turns ∙ joined-same (reverse b.turns.items) (script_at a) (script_at b) (script_at-same a b scripts)
 
 -- the scripts of the first threads, from each thread's calls
-pub scripts-first : {V : Type 0} (items : V → List Planned) (scripts : List V) (script : ℕ → List Planned) (n : ℕ) → n ≤ length scripts → ((t : ℕ) → get_or (map items scripts) t [] ≡ script t) → map {B = Script} (λ v. record { calls = items v }) (take n scripts) ≡ map {B = Script} (λ t. record { calls = script t }) (range_with_len 0 n)
+pub scripts-first : {V : Type 0} (items : V → List Planned) (scripts : List V) (script : ℕ → List Planned) (n : ℕ) → n ≤ length scripts
+    → ((t : ℕ) → get_or (map items scripts) t [] ≡ script t)
+    → map {B = Script} (λ v. record { calls = items v }) (take n scripts) ≡ map {B = Script} (λ t. record { calls = script t }) (range_with_len 0 n)
 scripts-first items scripts script n room each =
     let as_script : List Planned → Script = λ calls. record { calls = calls } in
     let of_thread : ℕ → Script = λ t. record { calls = script t } in

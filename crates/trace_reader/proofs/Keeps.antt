@@ -31,14 +31,17 @@ or_none true y h = refl
 or_none false y h = h
 
 -- a call that does nothing with a label leaves what was done with it
-label_use-same : (calls : List ThreadCall) (c : ThreadCall) (label : ℕ) → allocates label c.planned.call ≡ false → frees label c.planned.call ≡ false → label_use (calls ++ c ∷ []) label ≡ label_use calls label
+label_use-same : (calls : List ThreadCall) (c : ThreadCall) (label : ℕ) → allocates label c.planned.call ≡ false → frees label c.planned.call ≡ false
+    → label_use (calls ++ c ∷ []) label ≡ label_use calls label
 label_use-same calls c label no_malloc no_free =
     let a : is_allocated label (calls ++ c ∷ []) ≡ is_allocated label calls = is_allocated-push label calls c ∙ or_none (is_allocated label calls) (allocates label c.planned.call) no_malloc in
     let f : is_freed label (calls ++ c ∷ []) ≡ is_freed label calls = is_freed-push label calls c ∙ or_none (is_freed label calls) (frees label c.planned.call) no_free in
     ap (λ b. if b then (if is_freed label (calls ++ c ∷ []) then Freed else Allocated) else New) a ∙ ap (λ b. if is_allocated label calls then (if b then Freed else Allocated) else New) f
 
 -- what one call more makes of what was done with a label
-label_use-push : (calls : List ThreadCall) (thread : ThreadNo) (line : ℕ) (what : Call) (moved : Option MoveTo) (label : ℕ) → ((l : ℕ) → is_freed l calls ≡ true → is_allocated l calls ≡ true) → MayFollow calls what → label_use (calls ++ record { thread = thread; planned = record { line = line; call = what; moved = moved } } ∷ []) label ≡ marked what label (label_use calls label)
+label_use-push : (calls : List ThreadCall) (thread : ThreadNo) (line : ℕ) (what : Call) (moved : Option MoveTo) (label : ℕ)
+    → ((l : ℕ) → is_freed l calls ≡ true → is_allocated l calls ≡ true) → MayFollow calls what
+    → label_use (calls ++ record { thread = thread; planned = record { line = line; call = what; moved = moved } } ∷ []) label ≡ marked what label (label_use calls label)
 label_use-push calls thread line (call.Malloc l size) moved label order may =
     let c : ThreadCall = record { thread = thread; planned = record { line = line; call = call.Malloc l size; moved = moved } } in
     let was = label_use calls label in
@@ -72,7 +75,10 @@ label_use-push calls thread line (call.Drain cpu) moved label order may = label_
 label_use-push calls thread line (call.Resize cpu class cap) moved label order may = label_use-same calls (record { thread = thread; planned = record { line = line; call = call.Resize cpu class cap; moved = moved } }) label refl refl
 
 -- a freed label was allocated, behind one call more too
-order-push : (calls : List ThreadCall) (thread : ThreadNo) (line : ℕ) (what : Call) (moved : Option MoveTo) (label : ℕ) → ((l : ℕ) → is_freed l calls ≡ true → is_allocated l calls ≡ true) → MayFollow calls what → is_freed label (calls ++ record { thread = thread; planned = record { line = line; call = what; moved = moved } } ∷ []) ≡ true → is_allocated label (calls ++ record { thread = thread; planned = record { line = line; call = what; moved = moved } } ∷ []) ≡ true
+order-push : (calls : List ThreadCall) (thread : ThreadNo) (line : ℕ) (what : Call) (moved : Option MoveTo) (label : ℕ)
+    → ((l : ℕ) → is_freed l calls ≡ true → is_allocated l calls ≡ true) → MayFollow calls what
+    → is_freed label (calls ++ record { thread = thread; planned = record { line = line; call = what; moved = moved } } ∷ []) ≡ true
+    → is_allocated label (calls ++ record { thread = thread; planned = record { line = line; call = what; moved = moved } } ∷ []) ≡ true
 order-push calls thread line what moved label order may h =
     let c : ThreadCall = record { thread = thread; planned = record { line = line; call = what; moved = moved } } in
     is_allocated-push label calls c ∙ elim (or_cases (is_freed label calls) (frees label what) (sym (is_freed-push label calls c) ∙ h)) [
@@ -88,7 +94,8 @@ order-push calls thread line what moved label order may h =
     freed_now calls (call.Resize cpu class cap) label may h = absurd (false≢true h)
 
 -- a thread's script, with one call more of some thread
-script_of-push : (thread : ℕ) (calls : List ThreadCall) (c : ThreadCall) → script_of thread (calls ++ c ∷ []) ≡ (if thread == c.thread.0 then script_of thread calls ++ c.planned ∷ [] else script_of thread calls)
+script_of-push : (thread : ℕ) (calls : List ThreadCall) (c : ThreadCall)
+    → script_of thread (calls ++ c ∷ []) ≡ (if thread == c.thread.0 then script_of thread calls ++ c.planned ∷ [] else script_of thread calls)
 script_of-push thread calls c =
     let of_thread : ThreadCall → Bool = λ d. d.thread.0 == thread in
     let planned : ThreadCall → Planned = λ d. d.planned in
@@ -100,7 +107,11 @@ script_of-push thread calls c =
     ]
 
 -- what is known of the calls, with one call more
-pub keeps : (calls more : Calls) (thread : ThreadNo) (p : Planned) → IsKept calls → MayFollow (calls_of calls) p.call → calls_of more ≡ calls_of calls ++ record { thread = thread; planned = p } ∷ [] → ((label : ℕ) → use_at more label ≡ marked p.call label (use_at calls label)) → more.labels ≡ max calls.labels (label_end p.call) → ((t : ℕ) → script_at more t ≡ (if t == thread.0 then script_at calls t ++ p ∷ [] else script_at calls t)) → more.turns.items ≡ calls.turns.items ++ thread ∷ [] → IsKept more
+pub keeps : (calls more : Calls) (thread : ThreadNo) (p : Planned) → IsKept calls → MayFollow (calls_of calls) p.call
+    → calls_of more ≡ calls_of calls ++ record { thread = thread; planned = p } ∷ []
+    → ((label : ℕ) → use_at more label ≡ marked p.call label (use_at calls label)) → more.labels ≡ max calls.labels (label_end p.call)
+    → ((t : ℕ) → script_at more t ≡ (if t == thread.0 then script_at calls t ++ p ∷ [] else script_at calls t))
+    → more.turns.items ≡ calls.turns.items ++ thread ∷ [] → IsKept more
 keeps calls more thread p kept may is uses labels scripts turns =
     let all = calls_of calls in
     let c : ThreadCall = record { thread = thread; planned = p } in

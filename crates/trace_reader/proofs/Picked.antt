@@ -29,21 +29,25 @@ passes line (rule ∷ rules) none = elim (cases_Bool (rule.fails line)) [
 
 -- a good line names a thread that is there
 thread_passes : (line : OrderLine) → order_verdict line ≡ None → has_turns (λ turns. nat_le line.threads turns.thread) line ≡ false
-thread_passes line good = (passes line order_rules good).1.1.1.0
+thread_passes line good = let last = (passes line order_rules good).1.1 in last.1.0
 
 -- the picks with those of a good line
-after_line : (line : OrderLine) (found : Option Turns) → line_turns line.fields ≡ found → has_turns (λ turns. nat_le line.threads turns.thread) line ≡ false → AreOf line.threads line.before → AreOf line.threads (with_order_line line)
+after_line : (line : OrderLine) (found : Option Turns) → line_turns line.fields ≡ found → has_turns (λ turns. nat_le line.threads turns.thread) line ≡ false
+    → AreOf line.threads line.before → AreOf line.threads (with_order_line line)
 after_line line None is good before = rw is before
 after_line line (Some turns) is good before =
     let below : turns.thread < line.threads = leb-false line.threads turns.thread (sym (ap (λ o. option_map_or (λ (t : Turns). nat_le line.threads t.thread) o false) is) ∙ good) in
     rw is (All-append (λ thread. thread < line.threads) line.before (replicate turns.picks turns.thread) before (All-replicate (λ thread. thread < line.threads) turns.picks turns.thread below))
 
 -- one line, and then the others
-one_more : (line : OrderLine) (verdict : Option OrderWhy) (number : ℕ) (more : List ℕ → Result (List ℕ) (BadLine OrderWhy)) (picks : List ℕ) → order_verdict line ≡ verdict → (AreOf line.threads (with_order_line line) → more (with_order_line line) ≡ Ok picks → AreOf line.threads picks) → AreOf line.threads line.before → order_and_then number (order_judged verdict (with_order_line line)) more ≡ Ok picks → AreOf line.threads picks
+one_more : (line : OrderLine) (verdict : Option OrderWhy) (number : ℕ) (more : List ℕ → Result (List ℕ) (BadLine OrderWhy)) (picks : List ℕ)
+    → order_verdict line ≡ verdict → (AreOf line.threads (with_order_line line) → more (with_order_line line) ≡ Ok picks → AreOf line.threads picks)
+    → AreOf line.threads line.before → order_and_then number (order_judged verdict (with_order_line line)) more ≡ Ok picks → AreOf line.threads picks
 one_more line None number more picks good then before is = then (after_line line (line_turns line.fields) refl (thread_passes line good) before) is
 one_more line (Some why) number more picks bad then before is = absurd (cc)
 
-after_lines : (threads : ℕ) (before : List ℕ) (number : ℕ) (lines : List (List (List ℕ))) (picks : List ℕ) → AreOf threads before → read_order_lines threads before number lines ≡ Ok picks → AreOf threads picks
+after_lines : (threads : ℕ) (before : List ℕ) (number : ℕ) (lines : List (List (List ℕ))) (picks : List ℕ) → AreOf threads before
+    → read_order_lines threads before number lines ≡ Ok picks → AreOf threads picks
 after_lines threads before number [] picks so_far is = let e : before ≡ picks = cc in subst (AreOf threads) e so_far
 after_lines threads before number (fields ∷ lines) picks so_far is =
     let line : OrderLine = record { threads = threads; before = before; number = number; fields = fields } in

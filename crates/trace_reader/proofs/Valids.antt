@@ -33,7 +33,8 @@ AreCalls-none : (classes : ℕ) (config : Config) (calls : List ThreadCall) → 
 AreCalls-none classes config calls none earlier c later is = each_of_none (IsThreadCall classes config) earlier c later (is ∙ none)
 
 -- pending moves, of which one is set anew
-moves-set : (config : Config) (moves : List (Option MoveTo)) (thread : ℕ) (now : Option MoveTo) → ((t : ℕ) → IfSome (get_or moves t None) (IsMove config)) → IfSome now (IsMove config) → (t : ℕ) → IfSome (get_or (set moves thread now) t None) (IsMove config)
+moves-set : (config : Config) (moves : List (Option MoveTo)) (thread : ℕ) (now : Option MoveTo) → ((t : ℕ) → IfSome (get_or moves t None) (IsMove config))
+    → IfSome now (IsMove config) → (t : ℕ) → IfSome (get_or (set moves thread now) t None) (IsMove config)
 moves-set config moves thread now known new t =
     let P : Option MoveTo → Type 0 = λ o. IfSome o (IsMove config) in
     elim (cases_lt thread (length moves)) [
@@ -51,7 +52,8 @@ none_pending none n t = elim (cases_lt t n) [
 ]
 
 -- a call more, which takes the thread's pending move
-IsSoFar-call : (classes number thread : ℕ) (what : Call) (before : SoFar) → IsSoFar classes before → thread < before.asked.config.threads → IsCall classes before.asked.config before.asked.calls what → IsSoFar classes (with_call number thread what before)
+IsSoFar-call : (classes number thread : ℕ) (what : Call) (before : SoFar) → IsSoFar classes before → thread < before.asked.config.threads
+    → IsCall classes before.asked.config before.asked.calls what → IsSoFar classes (with_call number thread what before)
 IsSoFar-call classes number thread what before known there may =
     let config = before.asked.config in
     let x : ThreadCall = record { thread = record { 0 = thread }; planned = record { line = number; call = what; moved = get_or before.moves thread None } } in
@@ -63,7 +65,8 @@ IsSoFar-call classes number thread what before known there may =
     }
 
 -- a line more, of a form that fails no rule
-pub IsSoFar-form : (classes number : ℕ) (form : Form) (before : SoFar) → IsSoFar classes before → IsInRange form → Fits classes before.asked form → (is_head_form form ≡ true → before.late ≡ false) → IsSoFar classes (with_form number form before)
+pub IsSoFar-form : (classes number : ℕ) (form : Form) (before : SoFar) → IsSoFar classes before → IsInRange form → Fits classes before.asked form
+    → (is_head_form form ≡ true → before.late ≡ false) → IsSoFar classes (with_form number form before)
 IsSoFar-form classes number (Head head value) before known range fits first =
     let none = known.early (first refl) in
     let config = with_limit head value before.asked.config in

@@ -38,12 +38,14 @@ verdict-number line w known has none =
     rw (lines, word, early, has, none) refl
 
 -- the reason of the first rule that fails
-reason-cond : (fails : Bool) (first others : Option Rule) → option_map (λ (r : Rule). r.why) (cond fails first others) ≡ cond fails (option_map (λ (r : Rule). r.why) first) (option_map (λ (r : Rule). r.why) others)
+reason-cond : (fails : Bool) (first others : Option Rule)
+    → option_map (λ (r : Rule). r.why) (cond fails first others) ≡ cond fails (option_map (λ (r : Rule). r.why) first) (option_map (λ (r : Rule). r.why) others)
 reason-cond true first others = refl
 reason-cond false first others = refl
 
 -- the line has a form, and the rules on it decide
-verdict-form : (line : Line) (w : Word) (form : Form) → HasWord line w → has_fields w (other_fields line.fields) ≡ true → form_of w (other_fields line.fields) ≡ Some form → verdict line ≡ broken line.classes line.before.asked form
+verdict-form : (line : Line) (w : Word) (form : Form) → HasWord line w → has_fields w (other_fields line.fields) ≡ true
+    → form_of w (other_fields line.fields) ≡ Some form → verdict line ≡ broken line.classes line.before.asked form
 verdict-form line w form known has is =
     let lines : nat_lt MOST_LINES line.number ≡ false = le-ltb MOST_LINES line.number known.few in
     let word = known.word in
@@ -60,7 +62,8 @@ verdict-err line w reason known h =
           verdict-fields line w known lacks ∙ ap Some e
     ]
   where
-    by_form : (form : Option Form) (line : Line) (w : Word) (reason : LineWhy) → HasWord line w → has_fields w (other_fields line.fields) ≡ true → form_of w (other_fields line.fields) ≡ form → read_fields w (other_fields line.fields) ≡ Err reason → verdict line ≡ Some reason
+    by_form : (form : Option Form) (line : Line) (w : Word) (reason : LineWhy) → HasWord line w → has_fields w (other_fields line.fields) ≡ true
+        → form_of w (other_fields line.fields) ≡ form → read_fields w (other_fields line.fields) ≡ Err reason → verdict line ≡ Some reason
     by_form None line w reason known has is h =
         let same : Err why.Number ≡ Err reason = sym (read_fields-has w (other_fields line.fields) None has is) ∙ h in
         let e : why.Number ≡ reason = cc in
@@ -79,7 +82,8 @@ form_from_fields w fields form h =
           absurd (cc)
     ]
   where
-    by_form : (w : Word) (fields : List (List ℕ)) (found : Option Form) (form : Form) → has_fields w fields ≡ true → form_of w fields ≡ found → read_fields w fields ≡ Ok form → form_of w fields ≡ Some form
+    by_form : (w : Word) (fields : List (List ℕ)) (found : Option Form) (form : Form) → has_fields w fields ≡ true → form_of w fields ≡ found
+        → read_fields w fields ≡ Ok form → form_of w fields ≡ Some form
     by_form w fields None form has is h =
         let same : Err why.Number ≡ Ok form = sym (read_fields-has w fields None has is) ∙ h in
         absurd (cc)

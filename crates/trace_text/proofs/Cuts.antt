@@ -39,7 +39,8 @@ fields_of-last : (line : List ℕ) (n : ℕ) → n ≡ position_or_len is_space 
 fields_of-last line n is g = slice_split_none is_space line (λ k d l. fails_before_first is_space line k d (omega arith))
 
 -- the fields from a place on: one field of n bytes, and those behind its space
-pub fields_between-first : (text : List ℕ) (start end n : ℕ) → start ≤ end → end ≤ length text → n ≡ position_or_len is_space (slice_range text start end) → fields_between text start end ≡ take n (slice_range text start end) ∷ fields_between text (start + (n + 1)) end
+pub fields_between-first : (text : List ℕ) (start end n : ℕ) → start ≤ end → end ≤ length text → n ≡ position_or_len is_space (slice_range text start end)
+    → fields_between text start end ≡ take n (slice_range text start end) ∷ fields_between text (start + (n + 1)) end
 fields_between-first text start end n order within is =
     let rest = slice_range text start end in
     let size : length rest ≡ end - start = length-between text start end within in
@@ -55,7 +56,8 @@ fields_between-first text start end n order within is =
     ]
 
 -- where fields are left behind a field of n bytes, a space ends it
-pub space_behind : (text : List ℕ) (start end n : ℕ) → start ≤ end → end ≤ length text → n ≡ position_or_len is_space (slice_range text start end) → (fields_between text (start + (n + 1)) end ≡ [] → ⊥) → get_or text (start + n) 0 ≡ 32
+pub space_behind : (text : List ℕ) (start end n : ℕ) → start ≤ end → end ≤ length text → n ≡ position_or_len is_space (slice_range text start end)
+    → (fields_between text (start + (n + 1)) end ≡ [] → ⊥) → get_or text (start + n) 0 ≡ 32
 space_behind text start end n order within is more =
     let rest = slice_range text start end in
     let size : length rest ≡ end - start = length-between text start end within in
@@ -127,7 +129,9 @@ without_return-take line = elim (cases_Bool (get_or line (length line - 1) 0 == 
 ]
 
 -- the lines from a place on: the first line ends where its k bytes end, and the next one begins behind its line feed
-pub lines_of-next : (text : List ℕ) (start n k : ℕ) → 0 < length (drop start text) → n ≡ position_or_len is_line_feed (drop start text) → k ≡ length (without_return (take n (drop start text))) → lines_of (drop start text) ≡ fields_of (slice_range text start (start + k)) ∷ lines_of (drop (start + min (n + 1) (length (drop start text))) text)
+pub lines_of-next : (text : List ℕ) (start n k : ℕ) → 0 < length (drop start text) → n ≡ position_or_len is_line_feed (drop start text)
+    → k ≡ length (without_return (take n (drop start text)))
+    → lines_of (drop start text) ≡ fields_of (slice_range text start (start + k)) ∷ lines_of (drop (start + min (n + 1) (length (drop start text))) text)
 lines_of-next text start n k some is size =
     let rest = drop start text in
     let next = min (n + 1) (length rest) in
@@ -144,7 +148,9 @@ lines_of-next text start n k some is size =
         elim (kept (take n (drop start text))) [ inl same ↦ omega arith | inr less ↦ omega (arith, less.0) ]
 
 -- what stands between the end of a line and the next line
-pub line_ending : (text : List ℕ) (start n k next : ℕ) → 0 < length (drop start text) → n ≡ position_or_len is_line_feed (drop start text) → k ≡ length (without_return (take n (drop start text))) → next ≡ start + min (n + 1) (length (drop start text)) → EndsLine (slice_range text (start + k) next) ⊎ (EndsLastLine (slice_range text (start + k) next) × (next ≡ length text))
+pub line_ending : (text : List ℕ) (start n k next : ℕ) → 0 < length (drop start text) → n ≡ position_or_len is_line_feed (drop start text)
+    → k ≡ length (without_return (take n (drop start text))) → next ≡ start + min (n + 1) (length (drop start text))
+    → EndsLine (slice_range text (start + k) next) ⊎ (EndsLastLine (slice_range text (start + k) next) × (next ≡ length text))
 line_ending text start n k next some is size at =
     let rest = drop start text in
     let inside : n ≤ length rest = omega (arith, prefix_len-le-length (λ b. not (is_line_feed b)) rest) in
@@ -170,13 +176,18 @@ line_ending text start n k next some is size at =
           ]
     ]
   where
-    returned : (text : List ℕ) (start n k : ℕ) → k ≡ length (without_return (take n (drop start text))) → length (without_return (take n (drop start text))) + 1 ≡ length (take n (drop start text)) → get_or (take n (drop start text)) (length (without_return (take n (drop start text)))) 0 ≡ 13 → length (take n (drop start text)) ≡ n → get_or text (start + k) 0 ≡ 13
+    returned : (text : List ℕ) (start n k : ℕ) → k ≡ length (without_return (take n (drop start text)))
+        → length (without_return (take n (drop start text))) + 1 ≡ length (take n (drop start text))
+        → get_or (take n (drop start text)) (length (without_return (take n (drop start text)))) 0 ≡ 13 → length (take n (drop start text)) ≡ n
+        → get_or text (start + k) 0 ≡ 13
     returned text start n k size less last front =
         let inside : k < n = omega arith in
         sym (get_or-drop start text k 0) ∙ sym (get_or-take n (drop start text) k 0 inside) ∙ ap (λ (i : ℕ). get_or (take n (drop start text)) i 0) size ∙ last
 
 -- a line of k bytes, before n bytes to the first line feed, is taken from where the rest of its text began
-pub takes_line : (before : TextLeft) (line : LineLeft) (after : TextLeft) (n k number : ℕ) → 0 < length (drop before.start before.text) → n ≡ position_or_len is_line_feed (drop before.start before.text) → k ≡ length (without_return (take n (drop before.start before.text))) → line ≡ record { text = before.text; line = number; start = before.start; end = before.start + k; fields = fields_of (slice_range before.text before.start (before.start + k)) } → after.start ≡ before.start + min (n + 1) (length (drop before.start before.text)) → TakesLine before line after
+pub takes_line : (before : TextLeft) (line : LineLeft) (after : TextLeft) (n k number : ℕ) → 0 < length (drop before.start before.text)
+    → n ≡ position_or_len is_line_feed (drop before.start before.text) → k ≡ length (without_return (take n (drop before.start before.text)))
+    → line ≡ record { text = before.text; line = number; start = before.start; end = before.start + k; fields = fields_of (slice_range before.text before.start (before.start + k)) } → after.start ≡ before.start + min (n + 1) (length (drop before.start before.text)) → TakesLine before line after
 takes_line before line after n k number some is size made at =
     let rest = drop before.start before.text in
     let start : line.start ≡ before.start = ap (λ l. l.start) made in

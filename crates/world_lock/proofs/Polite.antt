@@ -19,7 +19,8 @@ polite-push r w [] t polite move = (move, tt)
 polite-push r w (u ∷ us) t polite move = (polite.0, polite-push r (pick r w u) us t polite.1 move)
 
 -- the order with one more polite pick, where that moved
-pub polite-with : {P L : Type 0} (r : Rules P L) (order : List ℕ) (t : ℕ) (s : Stepped) → IsPolite r (start r) order → s ≡ stepped r (run r order) t → is_polite r (run r order) t ≡ true → IsPolite r (start r) (order_with order t s)
+pub polite-with : {P L : Type 0} (r : Rules P L) (order : List ℕ) (t : ℕ) (s : Stepped) → IsPolite r (start r) order → s ≡ stepped r (run r order) t
+    → is_polite r (run r order) t ≡ true → IsPolite r (start r) (order_with order t s)
 polite-with r order t step.Moved polite answer yields = polite-push r (start r) order t polite (polite_move r (run r order) t (sym answer) yields)
 polite-with r order t step.NotYet polite answer yields = polite
 polite-with r order t step.Ended polite answer yields = polite

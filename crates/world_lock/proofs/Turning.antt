@@ -15,12 +15,14 @@ use Rattle.tc_model.specs.declared.steps.StepFault.TheVariants as fault
 use Rattle.tc_model.specs.Replays.{is_polite, IsFaultAt}
 use Rattle.world_lock.specs.Stepping.{IsTurnAt, halt_of, turn_of}
 
-pub turn_at : {P L : Type 0} (r : Rules P L) (limit : ℕ) (order : List ℕ) (t : ℕ) (s : Stepped) → is_polite r (run r order) t ≡ true → s ≡ stepped r (run r order) t → (s ≡ step.Moved → length order < limit) → IsTurnAt r limit order t (turn_of s)
+pub turn_at : {P L : Type 0} (r : Rules P L) (limit : ℕ) (order : List ℕ) (t : ℕ) (s : Stepped) → is_polite r (run r order) t ≡ true
+    → s ≡ stepped r (run r order) t → (s ≡ step.Moved → length order < limit) → IsTurnAt r limit order t (turn_of s)
 turn_at r limit order t step.Moved polite answer room = (polite, sym answer, room refl)
 turn_at r limit order t step.NotYet polite answer room = (polite, sym answer)
 turn_at r limit order t step.Ended polite answer room = (polite, sym answer)
 
-pub halted_at : {P L : Type 0} (r : Rules P L) (limit : ℕ) (order : List ℕ) (t : ℕ) (x : StepFault) → is_polite r (run r order) t ≡ true → IsFaultAt r limit order t x → IsTurnAt r limit order t (turn.Halted (halt_of x))
+pub halted_at : {P L : Type 0} (r : Rules P L) (limit : ℕ) (order : List ℕ) (t : ℕ) (x : StepFault) → is_polite r (run r order) t ≡ true
+    → IsFaultAt r limit order t x → IsTurnAt r limit order t (turn.Halted (halt_of x))
 halted_at r limit order t (fault.Full ticket) polite is = (polite, record { ticket_is = refl; full = is.full; would_move = is.would_move })
 halted_at r limit order t fault.Memory polite is = (polite, tt)
 
