@@ -80,7 +80,9 @@ module _ {P V R : Type 0} {r : FrontRules P V R} {about : R → About} {planned 
     fetches_next : (l : Local V R) (a : Asking) (xs : List Addr) → Common' l → HasNone l → IsAsked r.calls.rows l.regs a → length xs ≤ LOADED_ROOM → Next' (away l) (fetches r.calls l a xs)
     fetches_next l a xs c n asked few = grind (arith, more_next, to)
 
-    shard_next : (s : shards.Shard) (l : Local V R) (row : ShardStep R) → Common' l → StepShape r.calls.rows about l (does.Shard row) → IsSound s.central → s.central.row ≡ class_row r.calls.rows l → IsLowRun row → FitsShard r.calls.rows s l row → Next' (stand l.seat l.regs (l.acts + 1) (at_step (does.Shard row))) (shard_row r.calls s l row).1
+    shard_next : (s : shards.Shard) (l : Local V R) (row : ShardStep R) → Common' l → StepShape r.calls.rows about l (does.Shard row) → IsSound s.central
+        → s.central.row ≡ class_row r.calls.rows l → IsLowRun row → FitsShard r.calls.rows s l row
+        → Next' (stand l.seat l.regs (l.acts + 1) (at_step (does.Shard row))) (shard_row r.calls s l row).1
     shard_next s l (shard.Fetch a) c shape sound same low fit =
         let is : IsClassRow (class_row r.calls.rows l) = row_there l c in
         let n : ℕ = (class_row r.calls.rows l).batch in
@@ -106,17 +108,20 @@ module _ {P V R : Type 0} {r : FrontRules P V R} {about : R → About} {planned 
     span_next : (h : heaps.Heap) (l : Local V R) (a : Asking) (o : Option Placed) → Common' l → HasNone l → IsAsked r.calls.rows l.regs a → Next' (away l) (after_new_span h l a o).1
     span_next h l a o c n asked = grind (arith, new_next, to)
 
-    frees_next : (h : heaps.Heap) (l : Local V R) (o : Onward R) (spans : List SpanRef) → l.freed.items ≡ spans → Common' l → HasSpans l → IsOnward r.calls.rows about o → Next' (stand l.seat l.regs (l.acts + 1) (at_onward o)) (frees_span r.calls h l o spans).1
+    frees_next : (h : heaps.Heap) (l : Local V R) (o : Onward R) (spans : List SpanRef) → l.freed.items ≡ spans → Common' l → HasSpans l → IsOnward r.calls.rows about o
+        → Next' (stand l.seat l.regs (l.acts + 1) (at_onward o)) (frees_span r.calls h l o spans).1
     frees_next h l o [] freed c n is = absurd (let e = ap length freed in omega (arith, e, n.some))
     frees_next h l o (s ∷ others) freed c n is =
         let l' : Local V R = with_freed l (without_first_span l.freed others) in
         clears_next law table t l' o others refl (changed law table t c c.class c.hand (let e = ap length freed in omega (arith, e, c.freed))) n.hand is
 
-    heap_next : (h : heaps.Heap) (l : Local V R) (row : HeapStep R) → Common' l → StepShape r.calls.rows about l (does.Heap row) → Next' (stand l.seat l.regs (l.acts + 1) (at_step (does.Heap row))) (heap_row r.calls h l row).1
+    heap_next : (h : heaps.Heap) (l : Local V R) (row : HeapStep R) → Common' l → StepShape r.calls.rows about l (does.Heap row)
+        → Next' (stand l.seat l.regs (l.acts + 1) (at_step (does.Heap row))) (heap_row r.calls h l row).1
     heap_next h l row c shape = grind (arith, ends_decided, frees_next, new_next, span_next)
 
     -- the map
-    found_kind : (l : Local V R) (label : Label) (addr : Addr) (span : SpanRef) (k : SpanKind) → IsKindThere r.calls.rows k → 0 < l.regs.hand.spare → Common' l → HasNone l → Next' (away l) (found r.calls l label addr span k)
+    found_kind : (l : Local V R) (label : Label) (addr : Addr) (span : SpanRef) (k : SpanKind) → IsKindThere r.calls.rows k → 0 < l.regs.hand.spare → Common' l → HasNone l
+        → Next' (away l) (found r.calls l label addr span k)
     found_kind l label addr span (Small k) there space c n =
         let f : Freeing = record { label = label; addr = addr } in
         let hand : Contents Addr = appended l.regs.hand (addr ∷ []) in
@@ -139,7 +144,8 @@ module _ {P V R : Type 0} {r : FrontRules P V R} {about : R → About} {planned 
         }
     found_kind l label addr span Large there space c n = to l (does.Map (map.Clear label (run_of span))) c n refl (λ none. none)
 
-    map_next : (x : SpanMap) (l : Local V R) (row : MapStep R) → Common' l → StepShape r.calls.rows about l (does.Map row) → FitsMap x l row → IsFoundClass r.calls.rows x row → Next' (stand l.seat l.regs (l.acts + 1) (at_step (does.Map row))) (map_row r.calls x l row).1
+    map_next : (x : SpanMap) (l : Local V R) (row : MapStep R) → Common' l → StepShape r.calls.rows about l (does.Map row) → FitsMap x l row → IsFoundClass r.calls.rows x row
+        → Next' (stand l.seat l.regs (l.acts + 1) (at_step (does.Map row))) (map_row r.calls x l row).1
     map_next x l row c shape fit there = grind (arith, same_next, found_kind, to)
 
     -- from a step that is written out
@@ -171,7 +177,8 @@ module _ {P V R : Type 0} {r : FrontRules P V R} {about : R → About} {planned 
   names_acts_keep t all l (names.Take label) table shaped is fit = take_kept table t all l label (state_of all label.0) shaped is
 
   -- what comes behind an act of the front-end
-  module _ (table : AreRows r.calls.rows) (t : ℕ) (l : Local V R) (p : P) (row : R) (shaped : IsShaped r.calls.rows about planned t l) (none_freed : l.freed.items ≡ []) (act : IsAct r about p l.regs row (r.acts p l.seat l.regs row)) where
+  module _ (table : AreRows r.calls.rows) (t : ℕ) (l : Local V R) (p : P) (row : R) (shaped : IsShaped r.calls.rows about planned t l)
+      (none_freed : l.freed.items ≡ []) (act : IsAct r about p l.regs row (r.acts p l.seat l.regs row)) where
     abbrev x : Left P V R
     x = r.acts p l.seat l.regs row
 
@@ -205,10 +212,7 @@ module _ {P V R : Type 0} {r : FrontRules P V R} {about : R → About} {planned 
         → IsNext law table t (stand x.seat x.regs (l.acts + 1) (at_row to_row)) (goes_or_ends r.calls (says then (call_about a) answer) to_row)
     decides_behind (calls.Other (Some call)) answer None may none on few = ends_decided table t then call answer common (has_none (none refl))
     decides_behind (calls.Other (Some call)) answer (Some to_row) may none on few = grind (arith, at_front, common)
-    decides_behind (calls.Other None) answer to_row may none on few = absurd may
-    decides_behind (calls.Asks a) answer to_row may none on few = absurd may
-    decides_behind (calls.Publishes s) answer to_row may none on few = absurd may
-    decides_behind (calls.Frees f) answer to_row may none on few = absurd may
+    decides_behind a answer to_row may none on few = absurd may
 
     -- what an allocation asks for is still of its class
     asked_by : (a : Asking) → about row ≡ calls.Asks a → HandAbout r.calls.rows l.regs (about row) → IsAsked r.calls.rows x.regs a

@@ -14,11 +14,11 @@ use Rattle.heap_rules.specs.Heap as heaps
 use Rattle.call_steps.specs.declared.step.Step.TheVariants as does
 use Rattle.call_steps.specs.declared.step.HeapStep.TheVariants as heap
 use Rattle.alloc_rules.proofs.{Answering.answers_none, Elsewhere.refuses_there, PartFits.row_at_class, PartFits.some_size, Reached.there_is}
-use Rattle.alloc_rules.proofs.{SerialGoes.wants_by, Serving.IsServed, Telling.takes_all, Telling.tells_first}
+use Rattle.alloc_rules.proofs.{Placing.IsAnswered, SerialGoes.wants_by, Serving.IsServed, Telling.takes_all, Telling.tells_first}
 use Rattle.alloc_rules.proofs.Same.{same_pages, same_spans, same_starts}
 
 -- an allocation gets none exactly where none fits
-none_by : (heap : heaps.Heap) (n : ℕ) (o : Option Placed) → MatchOption o (none_fits heap n ≡ true) (λ x. IsGiven heap n x × (none_fits heap n ≡ false)) → (o ≡ None) ↔ (none_fits heap n ≡ true)
+none_by : (heap : heaps.Heap) (n : ℕ) (o : Option Placed) → IsAnswered heap n o → (o ≡ None) ↔ (none_fits heap n ≡ true)
 none_by heap n o law = grind (arith, false≢true)
 
 pub none_exactly : (heap : heaps.Heap) (n : ℕ) → IsSound heap → 2 ≤ heap.config.region → 0 < n → (new heap n ≡ None) ↔ (none_fits heap n ≡ true)
@@ -71,7 +71,8 @@ module _ {P V R : Type 0} {r : FrontRules P V R} {about : R → About} {planned 
   wide : 2 ≤ p.heap.config.region
   wide = omega (arith, valid.limits.region, ap (λ (c : HeapConfig). c.region) served.placed.ok.config)
 
-  names_live : (label : ℕ) (addr : Addr) → state_of p.names label ≡ name.Published (Some addr) → ((k : ℕ) × (0 < (stock_of r about p).objects k addr.0)) ⊎ (runs_at addr.0 p.heap.runs ≡ 1)
+  names_live : (label : ℕ) (addr : Addr) → state_of p.names label ≡ name.Published (Some addr)
+      → ((k : ℕ) × (0 < (stock_of r about p).objects k addr.0)) ⊎ (runs_at addr.0 p.heap.runs ≡ 1)
   names_live label addr is =
       elim (names_are_live (setup_of r asked) b (calls locals order) label addr f is) [
         | inl object ↦ inl object
@@ -82,14 +83,7 @@ module _ {P V R : Type 0} {r : FrontRules P V R} {about : R → About} {planned 
   asked_some : (l : Local V R) (s : Step R) (n : ℕ) → l.regs.class.0 < length r.calls.rows → StepShape r.calls.rows about l s → pages_asked r.calls.rows l s ≡ Some n → 0 < n
   asked_some l (does.Heap (heap.New label size)) n low shape is = grind (arith, some_size)
   asked_some l (does.Heap (heap.NewSpan a)) n low shape is = grind (arith, row_at_class)
-  asked_some l (does.Heap (heap.GiveBack label run)) n low shape is = absurd (cc)
-  asked_some l (does.Heap (heap.FreeSpan next)) n low shape is = absurd (cc)
-  asked_some l (does.Heap (heap.Unback pages)) n low shape is = absurd (cc)
-  asked_some l (does.Front row) n low shape is = absurd (cc)
-  asked_some l (does.Shard row) n low shape is = absurd (cc)
-  asked_some l (does.Map row) n low shape is = absurd (cc)
-  asked_some l (does.Names row) n low shape is = absurd (cc)
-  asked_some l does.Ended n low shape is = absurd (cc)
+  asked_some l s n low shape is = absurd (cc)
 
   -- a block of a live run or of an object, in whichever order runs and spans stand
   standing : (x : Extent) → IsStanding (setup_of r asked) b x → IsStanding (setup_of r asked) (books_of r about Holds asked p locals) x

@@ -7,7 +7,11 @@ use Rattle.heap_rules.specs.Heap as heaps
 use Rattle.call_steps.specs.declared.step.Step.TheVariants as does
 use Rattle.call_steps.specs.declared.step.HeapStep.TheVariants as heap
 
-pub decides_by : {V R : Type 0} (l next : Local V R) (call : Call) (x y : Answer) → next.answers ≡ l.answers ++ record { act = l.acts; call = call; answer = x } ∷ [] → Decides l next y ↔ (x ≡ y)
+-- a local has decided this call, and answered so
+abbrev pub Answers : {V R : Type 0} → Local V R → Local V R → Call → Answer → Type 0
+Answers l next call answer = next.answers ≡ l.answers ++ record { act = l.acts; call = call; answer = answer } ∷ []
+
+pub decides_by : {V R : Type 0} (l next : Local V R) (call : Call) (x y : Answer) → Answers l next call x → Decides l next y ↔ (x ≡ y)
 decides_by l next call x y is = grind (arith, append_cancel_left)
 
 pub decides_none : {V R : Type 0} (l next : Local V R) (y : Answer) → next.answers ≡ l.answers → Decides l next y → ⊥
@@ -37,21 +41,16 @@ module _ {V R : Type 0} (h : heaps.Heap) (l : Local V R) (b : Bool) where
   none_of_span a None law = (λ d. law.0 refl, λ is. record { call = Malloc a.label a.size; answers = refl })
   none_of_span a (Some x) law = (λ d. absurd (decides_none l _ NoBlock refl d), λ is. let wrong : Some x ≡ None = law.1 is in absurd (cc))
 
-none_by_step : {P V R : Type 0} (r : FrontRules P V R) (about : R → About) (h : heaps.Heap) (l : Local V R) (s : Step R) (n : ℕ) → ((new h n ≡ None) ↔ (none_fits h n ≡ true)) → pages_asked r.calls.rows l s ≡ Some n → Decides l (heap_after r.calls h l s).1 NoBlock ↔ (none_fits h n ≡ true)
+none_by_step : {P V R : Type 0} (r : FrontRules P V R) (about : R → About) (h : heaps.Heap) (l : Local V R) (s : Step R) (n : ℕ) → ((new h n ≡ None) ↔ (none_fits h n ≡ true))
+    → pages_asked r.calls.rows l s ≡ Some n → Decides l (heap_after r.calls h l s).1 NoBlock ↔ (none_fits h n ≡ true)
 none_by_step r about h l (does.Heap (heap.New label size)) n law is =
     let e : pages_holding size ≡ n = cc in
     none_of_block h l (none_fits h n) label size (new h (pages_holding size)) (subst (λ k. (new h k ≡ None) ↔ (none_fits h n ≡ true)) (sym e) law)
 none_by_step r about h l (does.Heap (heap.NewSpan a)) n law is =
     let e : (class_row r.calls.rows l).pages ≡ n = cc in
     none_of_span h l (none_fits h n) a (new h (class_row r.calls.rows l).pages) (subst (λ k. (new h k ≡ None) ↔ (none_fits h n ≡ true)) (sym e) law)
-none_by_step r about h l (does.Heap (heap.GiveBack label run)) n law is = absurd (cc)
-none_by_step r about h l (does.Heap (heap.FreeSpan next)) n law is = absurd (cc)
-none_by_step r about h l (does.Heap (heap.Unback pages)) n law is = absurd (cc)
-none_by_step r about h l (does.Front row) n law is = absurd (cc)
-none_by_step r about h l (does.Shard row) n law is = absurd (cc)
-none_by_step r about h l (does.Map row) n law is = absurd (cc)
-none_by_step r about h l (does.Names row) n law is = absurd (cc)
-none_by_step r about h l does.Ended n law is = absurd (cc)
+none_by_step r about h l s n law is = absurd (cc)
 
-pub answers_none : {P V R : Type 0} (r : FrontRules P V R) (about : R → About) (h : heaps.Heap) (l : Local V R) → ((n : ℕ) → pages_asked r.calls.rows l l.step ≡ Some n → (new h n ≡ None) ↔ (none_fits h n ≡ true)) → AnswersNone r about h l
+pub answers_none : {P V R : Type 0} (r : FrontRules P V R) (about : R → About) (h : heaps.Heap) (l : Local V R)
+    → ((n : ℕ) → pages_asked r.calls.rows l l.step ≡ Some n → (new h n ≡ None) ↔ (none_fits h n ≡ true)) → AnswersNone r about h l
 answers_none r about h l law n is = none_by_step r about h l l.step n (law n is) is

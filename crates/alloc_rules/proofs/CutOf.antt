@@ -13,7 +13,8 @@ row_pages x all =
     let P : SpanRef → Type 0 = λ s. s.pages ≡ x.central.row.pages in
     All-map P (λ (y : SpanState). y.span) x.central.spans (All-weaker (IsOfRow x.central.row) (λ (y : SpanState). y.span.pages ≡ x.central.row.pages) (λ y of. of.pages) x.central.spans all)
 
-module _ {P V R : Type 0} (r : FrontRules P V R) (about : R → About) (rows : List ClassRow) (p : Parts P) (classes : length p.shards ≡ length rows) (shards : (k : ℕ) (x : Shard) → slice_get p.shards k ≡ Some x → IsShardOf rows k x) where
+module _ {P V R : Type 0} (r : FrontRules P V R) (about : R → About) (rows : List ClassRow) (p : Parts P)
+    (classes : length p.shards ≡ length rows) (shards : (k : ℕ) (x : Shard) → slice_get p.shards k ≡ Some x → IsShardOf rows k x) where
   there : (k : ℕ) → k < length rows → IsShardOf rows k (shard_at p.shards k)
   there k below = shards k (shard_at p.shards k) (slice_get-get_or p.shards k no_shard (omega (arith, classes, below)))
 
@@ -84,6 +85,8 @@ module _ {P V R : Type 0} (r : FrontRules P V R) (about : R → About) (rows : L
         some = λ k a at. let below = found_class k a at in omega (arith, (there k below).sound.some, size_is k below);
         lies = λ k a at. let below = found_class k a at in lies_of k a below ((cut_at k below).lies a (found k a at));
         kinds = λ s owned. let c = counted (λ (y : Shard). spans_like s (spans_in y)) p.shards owned in of_class c.at c.one s c.is c.some;
-        started = λ s. sum_by-le-sum_by (λ (y : Shard). spans_like s (spans_in y)) (λ (y : Shard). spans_at (first_byte (run_of s)) (spans_in y)) p.shards (λ y. counts_most (like_span s) (starting_span (first_byte (run_of s))) (λ (x : SpanRef). omega (arith, same_span_run x s, same_run_start (run_of x) (run_of s))) (spans_in y));
+        started = λ s.
+            sum_by-le-sum_by (λ (y : Shard). spans_like s (spans_in y)) (λ (y : Shard). spans_at (first_byte (run_of s)) (spans_in y)) p.shards
+            (λ y. counts_most (like_span s) (starting_span _) (λ (x : SpanRef). omega (arith, same_span_run x s, same_run_start (run_of x) (run_of s))) (spans_in y));
         begun = λ a begins. let c = counted (λ (y : Shard). spans_at a (spans_in y)) p.shards begins in begins_of c.at a c.one c.is c.some;
       }

@@ -19,7 +19,7 @@ use Rattle.call_steps.specs.declared.step.Next.TheVariants as next
 use Rattle.call_steps.specs.declared.step.HeapStep.TheVariants as heap
 use Rattle.call_steps.specs.declared.step.MapStep.TheVariants as mapped
 use Rattle.alloc_rules.specs.declared.part.Part.TheVariants as part
-use Rattle.alloc_rules.proofs.Answering.{GoesAs, decides_by, decides_none, ends_goes}
+use Rattle.alloc_rules.proofs.Answering.{Answers, GoesAs, decides_by, decides_none, ends_goes}
 
 -- An act leaves no fewer ended calls, and refused none.
 pub record Plain {V R : Type 0} (l y : Local V R) : Type 0 where
@@ -30,7 +30,7 @@ pub record Plain {V R : Type 0} (l y : Local V R) : Type 0 where
 pub quiet : {V R : Type 0} (l y : Local V R) → l.ended ≤ y.ended → y.answers ≡ l.answers → Plain l y
 quiet l y ended same = record { ended = ended; plain = λ x refusal. decides_none l y x same }
 
-says : {V R : Type 0} (l y : Local V R) (call : Call) (answer : Answer) → is_refusal answer ≡ false → l.ended ≤ y.ended → y.answers ≡ l.answers ++ record { act = l.acts; call = call; answer = answer } ∷ [] → Plain l y
+says : {V R : Type 0} (l y : Local V R) (call : Call) (answer : Answer) → is_refusal answer ≡ false → l.ended ≤ y.ended → Answers l y call answer → Plain l y
 says l y call answer other ended is = record { ended = ended; plain = λ x refusal d. absurd (false≢true (sym other ∙ (ap is_refusal ((decides_by l y call answer x is).0 d) ∙ refusal))) }
 
 -- so it is for a local with other registers
@@ -45,8 +45,15 @@ pub record Leaves {V R : Type 0} (refuses : R → Answer → Bool) (s : Step R) 
 pub leaves_of : {V R : Type 0} (refuses : R → Answer → Bool) (s : Step R) (l y : Local V R) → Plain l y → Leaves refuses s l y
 leaves_of refuses s l y is = record { ended = is.ended; there = λ x refusal _. is.plain x refusal }
 
-refused : {V R : Type 0} (refuses : R → Answer → Bool) (s : Step R) (l y : Local V R) (call : Call) (answer : Answer) → may_refuse refuses s answer ≡ true → l.ended ≤ y.ended → y.answers ≡ l.answers ++ record { act = l.acts; call = call; answer = answer } ∷ [] → Leaves refuses s l y
-refused refuses s l y call answer may ended is = record { ended = ended; there = λ x refusal none d. absurd (false≢true (sym none ∙ (ap (may_refuse refuses s) (sym ((decides_by l y call answer x is).0 d)) ∙ may))) }
+tells : {V R : Type 0} (refuses : R → Answer → Bool) (s : Step R) (l y : Local V R) (call : Call) (answer : Answer) → (is_refusal answer ≡ true → may_refuse refuses s answer ≡ true)
+    → l.ended ≤ y.ended → Answers l y call answer → Leaves refuses s l y
+tells refuses s l y call answer may ended is =
+    record {
+      ended = ended;
+      there = λ x refusal none d.
+          (let same : answer ≡ x = (decides_by l y call answer x is).0 d in
+          absurd (false≢true (sym none ∙ (ap (may_refuse refuses s) (sym same) ∙ may (ap is_refusal same ∙ refusal)))));
+    }
 
 module _ {V R : Type 0} (e : FrontCalls V R) (about : R → About) (refuses : R → Answer → Bool) where
   -- the ways in which a call goes on
@@ -83,11 +90,12 @@ module _ {V R : Type 0} (e : FrontCalls V R) (about : R → About) (refuses : R 
   frees_leaves h l next (s ∷ others) = let g = clears_goes (with_freed l (without_first_span l.freed others)) next others in quiet l _ g.ended g.answers
 
   new_leaves : (h : heaps.Heap) (l : Local V R) (label : Label) (size : ℕ) (o : Option Placed) → Leaves refuses (does.Heap (heap.New label size)) l (after_new h l label size o).1
-  new_leaves h l label size None = refused refuses (does.Heap (heap.New label size)) l _ (Malloc label size) NoBlock refl (omega arith) refl
-  new_leaves h l label size (Some x) = leaves_of refuses (does.Heap (heap.New label size)) l _ (says l _ (Malloc label size) (Block (address_of x.run) (x.run.pages * page_bytes)) refl (omega arith) refl)
+  new_leaves h l label size None = tells refuses (does.Heap (heap.New label size)) l _ (Malloc label size) NoBlock (λ _. refl) (omega arith) refl
+  new_leaves h l label size (Some x) =
+      leaves_of refuses (does.Heap (heap.New label size)) l _ (says l _ (Malloc label size) (Block (address_of x.run) (x.run.pages * page_bytes)) refl (omega arith) refl)
 
   span_leaves : (h : heaps.Heap) (l : Local V R) (a : Asking) (o : Option Placed) → Leaves refuses (does.Heap (heap.NewSpan a)) l (after_new_span h l a o).1
-  span_leaves h l a None = refused refuses (does.Heap (heap.NewSpan a)) l _ (Malloc a.label a.size) NoBlock refl (omega arith) refl
+  span_leaves h l a None = tells refuses (does.Heap (heap.NewSpan a)) l _ (Malloc a.label a.size) NoBlock (λ _. refl) (omega arith) refl
   span_leaves h l a (Some x) = leaves_of refuses (does.Heap (heap.NewSpan a)) l _ (quiet l _ (omega arith) refl)
 
   heap_leaves : (h : heaps.Heap) (l : Local V R) (row : HeapStep R) → Leaves refuses (does.Heap row) l (heap_row e h l row).1
@@ -107,11 +115,9 @@ module _ {V R : Type 0} (e : FrontCalls V R) (about : R → About) (refuses : R 
   clears_span_leaves m l next (s ∷ others) = quiet l _ (omega arith) refl
 
   map_leaves : (m : SpanMap) (l : Local V R) (row : MapStep R) → Plain l (map_row e m l row).1
-  map_leaves m l (mapped.Set label run) = quiet l _ (omega arith) refl
-  map_leaves m l (mapped.SetSpan a run) = quiet l _ (omega arith) refl
   map_leaves m l (mapped.Lookup label addr) = lookup_leaves l label addr (find (holds (addr.0 / page_bytes)) m.spans)
-  map_leaves m l (mapped.Clear label run) = quiet l _ (omega arith) refl
   map_leaves m l (mapped.ClearSpan next) = clears_span_leaves m l next l.freed.items
+  map_leaves m l row = quiet l _ (omega arith) refl
 
   -- the names
   take_leaves : (ns : List NameState) (l : Local V R) (label : Label) (s : NameState) → Plain l (after_take e ns l label s).1
@@ -132,18 +138,12 @@ module _ {V R : Type 0} (e : FrontCalls V R) (about : R → About) (refuses : R 
   shard_leaves s l row = grind (arith, fetch_leaves, from, gave_leaves, serves_leaves)
 
   -- an act of the per-CPU caches, by what comes behind it
-  tells : (s : Step R) (l y : Local V R) (call : Call) (answer : Answer) → (is_refusal answer ≡ true → may_refuse refuses s answer ≡ true) → l.ended ≤ y.ended → y.answers ≡ l.answers ++ record { act = l.acts; call = call; answer = answer } ∷ [] → Leaves refuses s l y
-  tells s l y call answer may ended is =
-      record {
-        ended = ended;
-        there = λ x refusal none d. (let same : answer ≡ x = (decides_by l y call answer x is).0 d in absurd (false≢true (sym none ∙ (ap (may_refuse refuses s) (sym same) ∙ may (ap is_refusal same ∙ refusal)))));
-      }
-
-  decides_leaves : (s : Step R) (x : Local V R) (call : Option Call) (answer : Answer) (row : Option R) → (is_refusal answer ≡ true → may_refuse refuses s answer ≡ true) → Leaves refuses s x (goes_or_ends e (says_in x call answer) row)
+  decides_leaves : (s : Step R) (x : Local V R) (call : Option Call) (answer : Answer) (row : Option R) → (is_refusal answer ≡ true → may_refuse refuses s answer ≡ true)
+      → Leaves refuses s x (goes_or_ends e (says_in x call answer) row)
   decides_leaves s x None answer None may = leaves_of refuses s x _ (ends_quietly x)
   decides_leaves s x None answer (Some row) may = leaves_of refuses s x _ (quiet x _ (omega arith) refl)
-  decides_leaves s x (Some call) answer None may = let g = ends_goes e (decided x call answer) in tells s x _ call answer may g.ended g.answers
-  decides_leaves s x (Some call) answer (Some row) may = tells s x _ call answer may (omega arith) refl
+  decides_leaves s x (Some call) answer None may = let g = ends_goes e (decided x call answer) in tells refuses s x _ call answer may g.ended g.answers
+  decides_leaves s x (Some call) answer (Some row) may = tells refuses s x _ call answer may (omega arith) refl
 
   pub follows_leaves : (row : R) (x : Local V R) (n : Next R) → RefusesAs refuses row n → Leaves refuses (does.Front row) x (follows e x (call_about (about row)) n)
   follows_leaves row x (next.Row to) may = leaves_of refuses (does.Front row) x _ (quiet x _ (omega arith) refl)
@@ -157,12 +157,8 @@ module _ {V R : Type 0} (e : FrontCalls V R) (about : R → About) (refuses : R 
   follows_leaves row x next.End may = leaves_of refuses (does.Front row) x _ (ends_quietly x)
 
   pub shard_after_leaves : (x : shards.Shard) (l : Local V R) (s : Step R) → Leaves refuses s l (shard_after e x l s).1
-  shard_after_leaves x l (does.Front row) = leaves_of refuses (does.Front row) l l (quiet l l (omega arith) refl)
   shard_after_leaves x l (does.Shard row) = leaves_of refuses (does.Shard row) l _ (shard_leaves x l row)
-  shard_after_leaves x l (does.Heap row) = leaves_of refuses (does.Heap row) l l (quiet l l (omega arith) refl)
-  shard_after_leaves x l (does.Map row) = leaves_of refuses (does.Map row) l l (quiet l l (omega arith) refl)
-  shard_after_leaves x l (does.Names row) = leaves_of refuses (does.Names row) l l (quiet l l (omega arith) refl)
-  shard_after_leaves x l does.Ended = leaves_of refuses does.Ended l l (quiet l l (omega arith) refl)
+  shard_after_leaves x l s = leaves_of refuses s l l (quiet l l (omega arith) refl)
 
   pub heap_after_leaves : (h : heaps.Heap) (l : Local V R) (s : Step R) → Leaves refuses s l (heap_after e h l s).1
   heap_after_leaves h l (does.Front row) = leaves_of refuses (does.Front row) l l (quiet l l (omega arith) refl)

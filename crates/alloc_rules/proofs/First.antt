@@ -37,24 +37,28 @@ record IsFresh {R : Type 0} (about : R → About) (s : Step R) (rest script : Li
   pub clears : clears_of s ≡ []
 
 -- a row of the front-end about the same does for another step
-entry_fresh : {R : Type 0} (about : R → About) (a : About) (other : Step R) (o : Option R) (rest script : List Planned) → IsEntry about a o → doing_of about other ≡ doing_about a → IsFresh about other rest script → IsFresh about (step_or other o) rest script
+entry_fresh : {R : Type 0} (about : R → About) (a : About) (other : Step R) (o : Option R) (rest script : List Planned) → IsEntry about a o
+    → doing_of about other ≡ doing_about a → IsFresh about other rest script → IsFresh about (step_or other o) rest script
 entry_fresh about a other o rest script entry same f = grind arith
 
 module _ {V R : Type 0} (e : FrontCalls V R) (about : R → About) (entries : AreEntries e about) (v : V) where
-  fresh_by : (s : Step R) (rest : List Planned) (line : Planned) (call : Call) → line.call ≡ call → ((x : ℕ) → asking x (doing_of about s) ≡ got x call) → ((x : ℕ) → publishing x (doing_of about s) ≡ 0) → ((x : ℕ) → taking x (doing_of about s) ≡ put x call) → ((x : ℕ) (w : Option Addr) → holds x w (doing_of about s) ≡ 0)
+  fresh_by : (s : Step R) (rest : List Planned) (line : Planned) (call : Call) → line.call ≡ call → ((x : ℕ) → asking x (doing_of about s) ≡ got x call)
+      → ((x : ℕ) → publishing x (doing_of about s) ≡ 0) → ((x : ℕ) → taking x (doing_of about s) ≡ put x call) → ((x : ℕ) (w : Option Addr) → holds x w (doing_of about s) ≡ 0)
       → off_of [] s ≡ [] → ((k : Class) → apart_of k [] s ≡ []) → ((k : Class) → mapped_of k [] s ≡ []) → clears_of s ≡ [] → IsFresh about s rest (line ∷ rest)
   fresh_by s rest line call is asks publishes takes value off apart mapped clears = grind arith
 
-  fresh_malloc : (c : Option Class) (label : Label) (size : ℕ) (rest : List Planned) (line : Planned) → line.call ≡ Malloc label size → IsFresh about (first_of_malloc e v c label size) rest (line ∷ rest)
+  fresh_malloc : (c : Option Class) (label : Label) (size : ℕ) (rest : List Planned) (line : Planned) → line.call ≡ Malloc label size
+      → IsFresh about (first_of_malloc e v c label size) rest (line ∷ rest)
   fresh_malloc c label size rest line is = grind (arith, entry_fresh, fresh_by)
 
-  fresh_own : (call : Call) (rest : List Planned) (line : Planned) → line.call ≡ call → ((x : ℕ) → got x call ≡ 0) → ((x : ℕ) → put x call ≡ 0) → IsFresh about (step_or does.Ended (e.other v call)) rest (line ∷ rest)
+  fresh_own : (call : Call) (rest : List Planned) (line : Planned) → line.call ≡ call → ((x : ℕ) → got x call ≡ 0) → ((x : ℕ) → put x call ≡ 0)
+      → IsFresh about (step_or does.Ended (e.other v call)) rest (line ∷ rest)
   fresh_own call rest line is no_got no_put = grind (arith, entry_fresh, fresh_by)
 
   fresh_call : (c : Call) (rest : List Planned) (line : Planned) → line.call ≡ c → IsFresh about (first_of_call e v c) rest (line ∷ rest)
   fresh_call (Malloc label size) rest line is = fresh_malloc (class_of e.rows size) label size rest line is
-  fresh_call (Free label) rest line is = fresh_by (does.Names (names_step.Take label)) rest line (Free label) is (λ x. refl) (λ x. refl) (λ x. refl) (λ x w. refl) refl (λ k. refl) (λ k. refl) refl
-  fresh_call (Release pages) rest line is = fresh_by (does.Heap (heap_step.Unback pages)) rest line (Release pages) is (λ x. refl) (λ x. refl) (λ x. refl) (λ x w. refl) refl (λ k. refl) (λ k. refl) refl
+  fresh_call (Free label) rest line is = grind (arith, fresh_by)
+  fresh_call (Release pages) rest line is = grind (arith, fresh_by)
   fresh_call (Drain cpu) rest line is = fresh_own (Drain cpu) rest line is (λ x. refl) (λ x. refl)
   fresh_call (Resize cpu class cap) rest line is = fresh_own (Resize cpu class cap) rest line is (λ x. refl) (λ x. refl)
 
@@ -120,7 +124,8 @@ shard_of room k rows x are is =
 
 first_room : (room j : ℕ) (rows : List ClassRow) → All (λ (x : Shard). HasRoom room x.transfer) (first_shards room j rows)
 first_room room j [] = All-nil (λ (x : Shard). HasRoom room x.transfer)
-first_room room j (row ∷ rows) = All-cons (λ (x : Shard). HasRoom room x.transfer) (first_shard room j row) (first_shards room (j + 1) rows) (record { room = refl; within = omega arith }) (first_room room (j + 1) rows)
+first_room room j (row ∷ rows) =
+    All-cons (λ (x : Shard). HasRoom room x.transfer) (first_shard room j row) (first_shards room (j + 1) rows) (record { room = refl; within = omega arith }) (first_room room (j + 1) rows)
 
 -- in a list with one element replaced
 set_middle : {X : Type 0} (xs : List X) (y z : X) (ys : List X) → slice_set (xs ++ y ∷ ys) (length xs) z ≡ xs ++ z ∷ ys
@@ -144,7 +149,8 @@ module _ {P V R : Type 0} {r : FrontRules P V R} {about : R → About} {planned 
       let n : ℕ = asked.config.threads in
       let within : t < length first_locals = slice_get_within first_locals t l is in
       let below : t < n = omega (arith, within, length-map (range_with_len 0 n) (first_of r about asked), length-range_with_len 0 n) in
-      let e : Some (first_of r about asked t) ≡ Some l = sym (slice_get-map (first_of r about asked) (range_with_len 0 n) t ∙ ap (option_map (first_of r about asked)) (number_at n t below)) ∙ is in
+      let at = slice_get-map (first_of r about asked) (range_with_len 0 n) t ∙ ap (option_map (first_of r about asked)) (number_at n t below) in
+      let e : Some (first_of r about asked t) ≡ Some l = sym at ∙ is in
       cc
 
   fresh : (t : ℕ) → IsFresh about (first_of r about asked t).step (drop 1 (script t)) (script t)
@@ -163,13 +169,14 @@ module _ {P V R : Type 0} {r : FrontRules P V R} {about : R → About} {planned 
       } in
       come_next law valid.rows t l (script t) common (record { hand = refl; freed = refl })
 
-  each_stands : (done : List (Standing V R)) (k m : ℕ) → length done ≡ k → Holds 0 r.parts (done ++ map (idle r) (range_with_len k m)) → Holds 0 r.parts (done ++ map (λ t. standing_of (first_of r about asked t)) (range_with_len k m))
+  each_stands : (done : List (Standing V R)) (k m : ℕ) → length done ≡ k → Holds 0 r.parts (done ++ map (idle r) (range_with_len k m))
+      → Holds 0 r.parts (done ++ map (λ t. standing_of (first_of r about asked t)) (range_with_len k m))
   each_stands done k zero is holds_now = holds_now
   each_stands done k (suc m) is holds_now =
       let rest : List (Standing V R) = map (idle r) (range_with_len (k + 1) m) in
       let now : Standing V R = standing_of (first_of r about asked k) in
-      let at : slice_set (done ++ idle r k ∷ rest) k (idle r k) ≡ done ++ idle r k ∷ rest = ap (λ (j : ℕ). slice_set (done ++ idle r k ∷ rest) j (idle r k)) (sym is) ∙ set_middle done (idle r k) (idle r k) rest in
-      let then : slice_set (done ++ idle r k ∷ rest) k now ≡ (done ++ now ∷ []) ++ rest = ap (λ (j : ℕ). slice_set (done ++ idle r k ∷ rest) j now) (sym is) ∙ (set_middle done (idle r k) now rest ∙ sym (append_snoc done now rest)) in
+      let at = ap (λ (j : ℕ). slice_set (done ++ idle r k ∷ rest) j (idle r k)) (sym is) ∙ set_middle done (idle r k) (idle r k) rest in
+      let then = ap (λ (j : ℕ). slice_set (done ++ idle r k ∷ rest) j now) (sym is) ∙ (set_middle done (idle r k) now rest ∙ sym (append_snoc done now rest)) in
       let one = (next k).stands 0 r.parts (done ++ idle r k ∷ rest) (subst (Holds 0 r.parts) (sym at) holds_now) in
       subst (Holds 0 r.parts) (append_snoc done now (map (λ t. standing_of (first_of r about asked t)) (range_with_len (k + 1) m)))
       (each_stands (done ++ now ∷ []) (k + 1) m (omega (arith, is, length-append done (now ∷ []))) (subst (Holds 0 r.parts) then one))
@@ -204,9 +211,11 @@ module _ {P V R : Type 0} {r : FrontRules P V R} {about : R → About} {planned 
   all_nothing : All HasNothing (map (account_of about) first_locals)
   all_nothing =
       let numbers : List ℕ = range_with_len 0 asked.config.threads in
-      All-map HasNothing (account_of about) first_locals (All-map (λ (l : Local V R). HasNothing (account_of about l)) (first_of r about asked) numbers (λ k d low. nothing_first (get_or numbers k d)))
+      let each = All-map (λ (l : Local V R). HasNothing (account_of about l)) (first_of r about asked) numbers (λ k d low. nothing_first (get_or numbers k d)) in
+      All-map HasNothing (account_of about) first_locals each
 
-  first_sum : (f : Account → ℕ) (g : List Planned → ℕ) → ((t : ℕ) → f (account_of about (first_of r about asked t)) ≡ g (script t)) → sum_by f (map (account_of about) first_locals) ≡ in_scripts r.calls.rows planned g asked
+  first_sum : (f : Account → ℕ) (g : List Planned → ℕ) → ((t : ℕ) → f (account_of about (first_of r about asked t)) ≡ g (script t))
+      → sum_by f (map (account_of about) first_locals) ≡ in_scripts r.calls.rows planned g asked
   first_sum f g same = grind (arith, sum-same, sum_by-map)
 
   no_stored : (k n : ℕ) → stored_in r about (first_parts r about asked) k n ≡ 0

@@ -12,25 +12,26 @@ use Rattle.call_steps.specs.declared.step.Next.TheVariants as next
 use Rattle.call_steps.specs.declared.step.Step.TheVariants as does
 use Rattle.call_steps.specs.Calls as calls
 use Rattle.alloc_rules.proofs.CutOf.{cut_of}
-use Rattle.alloc_rules.proofs.Goings.{Closes, carries, comes_as, ends_as, frees_object, gets_object, other_doing, says_other}
+use Rattle.alloc_rules.proofs.Goings.{HasFreed, Restocked, Silent, carries, comes_as, ends_as, frees_object, gets_object, other_doing, says_other}
 use Rattle.alloc_rules.proofs.Stored.{front_stored, stock_same, stores_move, with_stores}
-use Rattle.alloc_rules.proofs.Weighing.{bare, none_in_hand, weighs_same}
+use Rattle.alloc_rules.proofs.Weighing.{bare, none_in_hand, quiet, weighs_same}
 
 -- an object at the head of a list is there
 begins_has : (a : Addr) (hand : List Addr) → BeginsWith a hand → 0 < objects_at a.0 hand
 begins_has a hand begins = grind (arith, eq-eqb)
 
 -- what a row's call frees is in hand
-pub frees_has : (rows : List ClassRow) (g : Regs) (a : About) → HandAbout rows g a → (label : Label) (o : Addr) → doing_about a ≡ Frees label o → 0 < objects_at o.0 g.hand.items
+pub frees_has : (rows : List ClassRow) (g : Regs) (a : About) → HandAbout rows g a → HasFreed (doing_about a) g.hand.items
 frees_has rows g a shape label o doing = grind (arith, begins_has)
 
 -- in hand nothing has a class
 weighs_class : (d : Doing) (k j : ℕ) (hand : List Addr) (todo : List Planned) → (j ≡ k) ⊎ (hand ≡ []) → WeighSame (bare d k hand todo) (bare d j hand todo)
 weighs_class d k j hand todo given = grind (arith, bare, none_in_hand, weighs_same)
 
-module _ {P V R : Type 0} (r : FrontRules P V R) (about : R → About) (planned : Planned → Type 0) (entries : AreEntries r.calls about) where
-  module _ (huge labels : ℕ) (limits : HeapConfig) (p : Parts P) (locals : List (Local V R)) (b : Books) (lines : List CallLine) (t : ℕ) (l : Local V R) (i : ℕ) (q : P) (row : R) (before : IsBefore r about planned huge labels limits p locals b lines t l)
-      (at : slice_get p.fronts i ≡ Some q) (shape : HandAbout r.calls.rows l.regs (about row)) (none_freed : l.freed.items ≡ []) (act : IsAct r about q l.regs row (r.acts q l.seat l.regs row)) where
+module _ {P V R : Type 0} {r : FrontRules P V R} {about : R → About} {planned : Planned → Type 0} (entries : AreEntries r.calls about) where
+  module _ {huge labels : ℕ} {limits : HeapConfig} {p : Parts P} {locals : List (Local V R)} {b : Books} {lines : List CallLine} {t : ℕ} {l : Local V R}
+      (i : ℕ) (q : P) (row : R) (before : IsBefore r about planned huge labels limits p locals b lines t l) (at : slice_get p.fronts i ≡ Some q)
+      (shape : HandAbout r.calls.rows l.regs (about row)) (none_freed : l.freed.items ≡ []) (act : IsAct r about q l.regs row (r.acts q l.seat l.regs row)) where
     abbrev x : Left P V R
     x = r.acts q l.seat l.regs row
 
@@ -58,47 +59,50 @@ module _ {P V R : Type 0} (r : FrontRules P V R) (about : R → About) (planned 
     abbrev Goal : Local V R → Type 0
     Goal after = Does r about (setup r huge labels) (with_stores p fronts p.shards) b at_row after
 
-    cut : IsCut r.calls.rows (stock_of r about (with_stores p fronts p.shards))
-    cut = cut_of r about r.calls.rows (with_stores p fronts p.shards) before.parts.classes before.parts.shards
+    abbrev Moved : List Addr → List Addr → Type 0
+    Moved before after = MoveObjects (stock_of r about p) (stock_of r about (with_stores p fronts p.shards)) k before after []
 
-    objects : MoveObjects (stock_of r about p) (stock_of r about (with_stores p fronts p.shards)) k hand came []
+    store : Restocked r about p locals b (with_stores p fronts p.shards)
+    store = record { books = before.books; cut = cut_of r about r.calls.rows (with_stores p fronts p.shards) before.parts.classes before.parts.shards }
+
+    objects : Moved hand came
     objects =
-        stores_move r about p fronts k hand came (λ j n other. let e = front_stored r about p i q x.part at j n in omega (arith, e, act.others j n other)) (λ n. let e = front_stored r about p i q x.part at k n in omega (arith, e, act.moves n))
+        stores_move r about p fronts k hand came (λ j n other. let e = front_stored r about p i q x.part at j n in omega (arith, e, act.others j n other))
+        (λ n. let e = front_stored r about p i q x.part at k n in omega (arith, e, act.moves n))
 
     same_or_none : (x.regs.class.0 ≡ k) ⊎ (came ≡ [])
     same_or_none = elim act.class [ inl same ↦ inl (ap (λ (c : Class). c.0) same) | inr none ↦ inr none.0 ]
 
     -- the call goes on about the same
-    on : (after : Local V R) → ((label : Label) (o : Addr) → d ≡ Frees label o → 0 < objects_at o.0 came) → account_of about after ≡ bare d x.regs.class.0 came l.rest → after.acts ≡ l.acts + 1 → after.answers ≡ l.answers → Goal after
+    on : (after : Local V R) → HasFreed d came → account_of about after ≡ bare d x.regs.class.0 came l.rest → after.acts ≡ l.acts + 1 → after.answers ≡ l.answers → Goal after
     on after frees account acts answers =
-        carries r about entries huge labels p locals b before.books fronts p.shards cut at_row after d k hand came l.rest refl objects frees
-        (subst (WeighSame (bare d k came l.rest)) (sym account) (weighs_class d k x.regs.class.0 came l.rest same_or_none)) acts answers
+        let weighs = subst (WeighSame (bare d k came l.rest)) (sym account) (weighs_class d k x.regs.class.0 came l.rest same_or_none) in
+        carries entries huge labels store {l = at_row} refl objects frees (record { weighs = weighs; acts = acts; answers = answers })
 
     with_about : (a : About) → about row ≡ a → account_of about at_row ≡ bare (doing_about a) k hand l.rest
     with_about a is = ap (λ (y : About). bare (doing_about y) k hand l.rest) is
 
     -- with nothing in hand it ends, or goes on without a label
-    given : came ≡ [] → MoveObjects (stock_of r about p) (stock_of r about (with_stores p fronts p.shards)) k hand [] []
-    given none = subst (λ (h : List Addr). MoveObjects (stock_of r about p) (stock_of r about (with_stores p fronts p.shards)) k hand h []) none objects
+    given : came ≡ [] → Moved hand []
+    given none = subst (Moved hand) none objects
 
-    quiets : (a : About) → about row ≡ a → doing_about a ≡ Other → came ≡ [] → (after : Local V R) → Closes about after k l.rest (l.acts + 1) l.answers → Goal after
-    quiets a is quiet none after closes =
-        carries r about entries huge labels p locals b before.books fronts p.shards cut at_row after Other k hand [] l.rest (with_about a is ∙ ap (λ (y : Doing). bare y k hand l.rest) quiet) (given none) (λ label o wrong. absurd (cc)) closes.weighs closes.acts closes.answers
+    quiets : (a : About) → about row ≡ a → doing_about a ≡ Other → came ≡ [] → (after : Local V R) → Silent about at_row after (quiet k l.rest) → Goal after
+    quiets a is other none after silent =
+        carries entries huge labels store (with_about a is ∙ ap (λ (y : Doing). bare y k hand l.rest) other) (given none) (λ label o wrong. absurd (cc)) silent
 
     publishing : (s : Serving) → about row ≡ calls.Publishes s → came ≡ [] → Goal (publishes then s)
     publishing s is none = grind (arith, bare, on)
 
     freeing : (f : Freeing) → about row ≡ calls.Frees f → came ≡ [] → Goal (ends r.calls (decided then (Free f.label) (Freed f.addr)))
-    freeing f is none = frees_object r about entries huge labels p locals b before.books fronts p.shards cut at_row x.seat x.regs l.freed f k hand (with_about (calls.Frees f) is) none (given none)
+    freeing f is none = frees_object entries huge labels store x.seat x.regs l.freed f (with_about (calls.Frees f) is) none (given none)
 
     -- an allocation gets the first object that came to its hand
     serving : (a : Asking) → about row ≡ calls.Asks a → HandAbout r.calls.rows l.regs (calls.Asks a) → (xs : List Addr) → came ≡ xs → 0 < length xs → Goal (serves r.calls then a)
     serving a is has [] are some = absurd (omega arith)
     serving a is has (o ∷ others) are some =
         let class : x.regs.class ≡ l.regs.class = elim act.class [ inl same ↦ same | inr none ↦ absurd (subst HasNoLabel is none.1) ] in
-        gets_object r about entries huge labels p locals b before.books fronts p.shards cut at_row x.seat x.regs a o others (with_about (calls.Asks a) is ∙ ap (λ (h : List Addr). bare (doing_about (calls.Asks a)) k h l.rest) has.1) class are has.0
-        (subst (λ (h : List Addr). MoveObjects (stock_of r about p) (stock_of r about (with_stores p fronts p.shards)) k h (o ∷ others) []) has.1
-        (subst (λ (h : List Addr). MoveObjects (stock_of r about p) (stock_of r about (with_stores p fronts p.shards)) k hand h []) are objects))
+        gets_object entries huge labels store at_row x.seat x.regs a class are has.0 (with_about (calls.Asks a) is ∙ ap (λ (h : List Addr). bare (doing_about (calls.Asks a)) k h l.rest) has.1)
+        (subst (λ (h : List Addr). Moved h (o ∷ others)) has.1 (subst (Moved hand) are objects))
 
     -- a call without a label is decided: no object moves
     stays_stocked : came ≡ hand → stock_of r about p ≡ stock_of r about (with_stores p fronts p.shards)
@@ -106,25 +110,22 @@ module _ {P V R : Type 0} (r : FrontRules P V R) (about : R → About) (planned 
         stock_same r about p fronts (λ j n.
         let e = front_stored r about p i q x.part at j n in
         elim (cases_eq j k) [
-          | inl here ↦ (let own : r.stored x.part j n ≡ r.stored q j n = subst (λ (y : ℕ). r.stored x.part y n ≡ r.stored q y n) (sym here) (omega (arith, act.moves n, ap (objects_at n) same)) in omega (arith, e, own))
+          | inl here ↦ omega (arith, e, subst (λ (y : ℕ). r.stored x.part y n ≡ r.stored q y n) (sym here) (omega (arith, act.moves n, ap (objects_at n) same)))
           | inr other ↦ omega (arith, e, act.others j n other)
         ])
 
-    decides : (a : About) (answer : Answer) (to : Option R) → about row ≡ a → MayDecide a answer → came ≡ hand → MayGoOnDecided about to → (to ≡ None → came ≡ []) → Goal (goes_or_ends r.calls (says then (call_about a) answer) to)
+    decides : (a : About) (answer : Answer) (to : Option R) → about row ≡ a → MayDecide a answer → came ≡ hand → MayGoOnDecided about to → (to ≡ None → came ≡ [])
+        → Goal (goes_or_ends r.calls (says then (call_about a) answer) to)
     decides (calls.Other (Some call)) answer None is may same on_decided none =
-        let after : Local V R = decided then call answer in
-        let closes = ends_as r.calls about entries after k (none refl) in
-        says_other r about entries huge labels p locals b before.books fronts p.shards cut at_row (ends r.calls after) (bare Other k [] l.rest) (record { call = call; answer = answer } ∷ [])
-        (with_about (calls.Other (Some call)) is ∙ ap (λ (h : List Addr). bare Other k h l.rest) (sym same ∙ none refl)) (stays_stocked same) (One (record { call = call; answer = answer }) may) closes.weighs closes.acts closes.answers
+        let silent = ends_as r.calls about entries (decided then call answer) k (none refl) in
+        let own = with_about (calls.Other (Some call)) is ∙ ap (λ (h : List Addr). bare Other k h l.rest) (sym same ∙ none refl) in
+        says_other entries huge labels store (record { call = call; answer = answer } ∷ []) own (stays_stocked same) (One _ may) silent.weighs silent.acts silent.answers
     decides (calls.Other (Some call)) answer (Some to) is may same on_decided none =
         let weighs = weighs_class Other k x.regs.class.0 came l.rest same_or_none in
-        says_other r about entries huge labels p locals b before.books fronts p.shards cut at_row (goes (decided then call answer) (does.Front to)) (bare Other k came l.rest) (record { call = call; answer = answer } ∷ [])
-        (with_about (calls.Other (Some call)) is ∙ ap (λ (h : List Addr). bare Other k h l.rest) (sym same)) (stays_stocked same) (One (record { call = call; answer = answer }) may)
+        let own = with_about (calls.Other (Some call)) is ∙ ap (λ (h : List Addr). bare Other k h l.rest) (sym same) in
+        says_other entries huge labels store (record { call = call; answer = answer } ∷ []) own (stays_stocked same) (One _ may)
         (subst (λ (y : About). WeighSame (bare Other k came l.rest) (bare (doing_about y) x.regs.class.0 came l.rest)) (sym on_decided) weighs) refl refl
-    decides (calls.Other None) answer to is may same on_decided none = absurd may
-    decides (calls.Asks a) answer to is may same on_decided none = absurd may
-    decides (calls.Publishes s) answer to is may same on_decided none = absurd may
-    decides (calls.Frees f) answer to is may same on_decided none = absurd may
+    decides a answer to is may same on_decided none = absurd may
 
     -- a hand that the front-end took itself
     gives : (g : Giving R) → IsNext r about row l.regs x.regs (next.Gave g) → Goal (clears r.calls (decides_free then g) (behind g) [])
@@ -134,7 +135,8 @@ module _ {P V R : Type 0} (r : FrontRules P V R) (about : R → About) (planned 
     gives giving.End may = quiets (calls.Other None) may.0 refl may.1 (ends r.calls then) (ends_as r.calls about entries then k may.1)
 
     follows_on : (n : Next R) → IsNext r about row l.regs x.regs n → Goal (follows r.calls then (call_about (about row)) n)
-    follows_on (next.Row to) may = on (goes then (does.Front to)) (frees_has r.calls.rows x.regs (about row) may.1) (ap (λ (y : About). bare (doing_about y) x.regs.class.0 came l.rest) may.0) refl refl
+    follows_on (next.Row to) may =
+        on (goes then (does.Front to)) (frees_has r.calls.rows x.regs (about row) may.1) (ap (λ (y : About). bare (doing_about y) x.regs.class.0 came l.rest) may.0) refl refl
     follows_on (next.Serve a) may = serving a may.0 (subst (HandAbout r.calls.rows l.regs) may.0 shape) came refl may.1
     follows_on (next.Fetch a) may = grind (arith, bare, on)
     follows_on (next.Give g) may = grind (arith, bare, begins_has, other_doing, on)
@@ -148,6 +150,6 @@ module _ {P V R : Type 0} (r : FrontRules P V R) (about : R → About) (planned 
   pub front_acts_move : FrontActsMove r about planned
   front_acts_move huge labels limits p locals b lines t l i q row before step at act =
       let is : record l { step = does.Front row } ≡ l = ap (λ s. record l { step = s }) (sym step) in
-      let shape = subst (λ (s : Step R). StepShape r.calls.rows about l s) step before.shaped.step in
+      let shape = subst (StepShape r.calls.rows about l) step before.shaped.step in
       subst (λ (y : Local V R). Does r about (setup r huge labels) (with_stores p (slice_set p.fronts i (front_row r about q y row).0) p.shards) b y (front_row r about q y row).1) is
-      (follows_on huge labels limits p locals b lines t l i q row before at shape.0 shape.1 act (r.acts q l.seat l.regs row).next act.next)
+      (follows_on i q row before at shape.0 shape.1 act (r.acts q l.seat l.regs row).next act.next)

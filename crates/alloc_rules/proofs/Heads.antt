@@ -8,7 +8,8 @@ use Rattle.class_shard.specs.Shard as shards
 taken_room : (room n : ℕ) (t : Transfer) → HasRoom room t → HasRoom room (record { objects = without_last n t.objects; room = t.room })
 taken_room room n t has = record { room = has.room; within = omega (arith, has.within, length-take (length t.objects - n) t.objects) }
 
-put_room : (room : ℕ) (t : Transfer) (list : List Addr) → leb (length t.objects + length list) t.room ≡ true → HasRoom room t → HasRoom room (record { objects = t.objects ++ list; room = t.room })
+put_room : (room : ℕ) (t : Transfer) (list : List Addr) → leb (length t.objects + length list) t.room ≡ true
+    → HasRoom room t → HasRoom room (record { objects = t.objects ++ list; room = t.room })
 put_room room t list fits has = record { room = has.room; within = omega (arith, has.room, leb-true (length t.objects + length list) t.room fits, length-append t.objects list) }
 
 pub list_stays : {V R : Type 0} (e : FrontCalls V R) (room : ℕ) (s : shards.Shard) (l : Local V R) (row : ShardStep R) → HasRoom room s.transfer → HasRoom room (shard_row e s l row).0.transfer

@@ -13,8 +13,7 @@ use Rattle.heap_rules.specs.Sound as heaps_sound
 use Rattle.call_steps.specs.declared.step.Step.TheVariants as does
 use Rattle.alloc_rules.proofs.{Lists.one_run, Moved.leaves, Moved.no_row_length, Placing.placed}
 use Rattle.alloc_rules.proofs.Likes.{like-with_run, like-without_run, there_counted}
-use Rattle.alloc_rules.proofs.Onwards.{Counts, onward_weighs, weighs_end}
-use Rattle.alloc_rules.proofs.Weighing.{bare, ends_counts, weighs_same}
+use Rattle.alloc_rules.proofs.{Goings.Silent, Onwards.ends_silent, Onwards.onward_silent, Weighing.bare, Weighing.weighs_same}
 
 module _ {P V R : Type 0} (r : FrontRules P V R) (about : R → About) (planned : Planned → Type 0) (entries : AreEntries r.calls about) where
   module _ (huge labels : ℕ) (limits : HeapConfig) (p : Parts P) (locals : List (Local V R)) (b : Books) (calls : List CallLine) (t : ℕ) (l : Local V R) where
@@ -24,11 +23,17 @@ module _ {P V R : Type 0} (r : FrontRules P V R) (about : R → About) (planned 
     abbrev at : HeapStep R → Local V R
     at row = record l { step = does.Heap row }
 
+    abbrev Is : Local V R → Type 0
+    Is = IsBefore r about planned huge labels limits p locals b calls t
+
     abbrev Before : HeapStep R → Type 0
-    Before row = IsBefore r about planned huge labels limits p locals b calls t (at row)
+    Before row = Is (at row)
+
+    abbrev Leaves : Local V R → heaps.Heap × Local V R → Type 0
+    Leaves x y = Does r about m (record p { heap = y.0 }) b x y.1
 
     abbrev Goal : HeapStep R → heaps.Heap × Local V R → Type 0
-    Goal row x = Does r about m (record p { heap = x.0 }) b (at row) x.1
+    Goal row = Leaves (at row)
 
     -- a run that the heap gives is placed, and comes to the live runs
     gets_place : (row : HeapStep R) → Before row → (n : ℕ) → 0 < n → (x : Placed) → new p.heap n ≡ Some x
@@ -40,16 +45,18 @@ module _ {P V R : Type 0} (r : FrontRules P V R) (about : R → About) (planned 
         (λ q. omega (arith, like-with_run x.run p.heap.runs q, ap (runs_like q) at_place.0.runs, before.books.heap q), at_place.1)
 
     -- New
-    gets : (label : Label) (size : ℕ) → Before (New label size) → 0 < pages_holding size → (o : Option Placed) → new p.heap (pages_holding size) ≡ o → Goal (New label size) (after_new p.heap (at (New label size)) label size o)
+    gets : (label : Label) (size : ℕ) → Before (New label size) → 0 < pages_holding size → (o : Option Placed) → new p.heap (pages_holding size) ≡ o
+        → Goal (New label size) (after_new p.heap (at (New label size)) label size o)
     gets label size before some None is =
         leaves before.books p.heap p.map (λ ns. ns) (GetsNone label size _ refl (weighs_same _)) before.books.heap before.books.spans refl refl
     gets label size before some (Some x) is =
         let at_place = gets_place _ before (pages_holding size) some x is in
-        let length_is : length_of m.rows size ≡ x.run.pages * page_bytes = no_row_length m.rows size before.shaped.step.1 ∙ ap (λ n. n * page_bytes) (sym at_place.1.pages) in
+        let length_is = no_row_length m.rows size before.shaped.step.1 ∙ ap (λ (n : ℕ). n * page_bytes) (sym at_place.1.pages) in
         leaves before.books x.heap p.map (λ ns. ns) (GetsRun label size x.run _ refl refl at_place.1 length_is (weighs_same _)) at_place.0 before.books.spans refl refl
 
     -- the run of a new span
-    gets_span : (a : Asking) → Before (NewSpan a) → 0 < (class_row m.rows l).pages → (o : Option Placed) → new p.heap (class_row m.rows l).pages ≡ o → Goal (NewSpan a) (after_new_span p.heap (at (NewSpan a)) a o)
+    gets_span : (a : Asking) → Before (NewSpan a) → 0 < (class_row m.rows l).pages → (o : Option Placed) → new p.heap (class_row m.rows l).pages ≡ o
+        → Goal (NewSpan a) (after_new_span p.heap (at (NewSpan a)) a o)
     gets_span a before some None is =
         leaves before.books p.heap p.map (λ ns. ns) (GetsNone a.label a.size _ refl (weighs_same _)) before.books.heap before.books.spans refl refl
     gets_span a before some (Some x) is =
@@ -58,46 +65,56 @@ module _ {P V R : Type 0} (r : FrontRules P V R) (about : R → About) (planned 
         refl (sym (append-nil l.answers))
 
     -- a run that leaves
-    less_like : (x : Run) → AreBooksOf r about p locals b → heaps_sound.IsSound p.heap → Contains p.heap.runs x → (q : Run) → runs_like q (less x b.heap) ≡ runs_like q (freed p.heap x).runs
-    less_like x books sound there q =
+    less_like : {row : HeapStep R} (x : Run) → Before row → Contains p.heap.runs x → (q : Run) → runs_like q (less x b.heap) ≡ runs_like q (freed p.heap x).runs
+    less_like x before there q =
+        let sound = before.parts.heap in
         let rid = free_leaves p.heap x sound there in
-        let some : 0 < runs_like x b.heap = omega (arith, there_counted x p.heap.runs there, books.heap x) in
-        omega (arith, like-without_run x p.heap.runs q there (one_run p.heap x sound there), ap (runs_like q) rid.runs, less_counts x b.heap some (like q), books.heap q)
+        let some : 0 < runs_like x b.heap = omega (arith, there_counted x p.heap.runs there, before.books.heap x) in
+        omega (arith, like-without_run x p.heap.runs q there (one_run p.heap x sound there), ap (runs_like q) rid.runs, less_counts x b.heap some (like q), before.books.heap q)
 
-    gives_back : (label : Label) (run : Run) → Before (GiveBack label run) → Contains p.heap.runs run → Goal (GiveBack label run) (heap_row r.calls p.heap (at (GiveBack label run)) (GiveBack label run))
+    abbrev left_by : HeapStep R → heaps.Heap × Local V R
+    left_by row = heap_row r.calls p.heap (at row) row
+
+    gives_back : (label : Label) (run : Run) → Before (GiveBack label run) → Contains p.heap.runs run → Goal (GiveBack label run) (left_by (GiveBack label run))
     gives_back label run before there =
-        let l' : Local V R = decided (at (GiveBack label run)) (Free label) (Freed (address_of run)) in
-        leaves before.books (freed p.heap run) p.map (λ ns. ns)
-        (FreesRun label run _ refl refl refl refl (weighs_end r.calls about entries l' before.shaped.step.hand))
-        (less_like run before.books before.parts.heap there) before.books.spans (ends_counts r.calls l').0 (ends_counts r.calls l').1
+        let ends = ends_silent r.calls about entries (decided (at (GiveBack label run)) (Free label) (Freed (address_of run))) before.shaped.step.hand in
+        leaves before.books (freed p.heap run) p.map (λ ns. ns) (FreesRun label run _ refl refl refl refl ends.weighs)
+        (less_like run before there) before.books.spans ends.acts ends.answers
 
     -- what is left to give back
-    clears_weighs : (l' : Local V R) (next : Onward R) (xs : List SpanRef) → IsOnward m.rows about next → l'.freed.items ≡ xs → l'.regs.hand.items ≡ [] → WeighSame (record (bare (doing_about (about_onward about next)) l'.regs.class.0 l'.regs.hand.items l'.rest) { apart = xs; mapped = xs }) (account_of about (clears r.calls l' next xs)) × Counts l' (clears r.calls l' next xs)
-    clears_weighs l' next xs on is none = grind (arith, bare, onward_weighs, weighs_same)
+    abbrev owes : Local V R → Onward R → List SpanRef → List SpanRef → Account
+    owes x next apart mapped = record (bare (doing_about (about_onward about next)) x.regs.class.0 x.regs.hand.items x.rest) { apart = apart; mapped = mapped }
+
+    clears_silent : (x : Local V R) (next : Onward R) (xs : List SpanRef) → IsOnward m.rows about next → x.freed.items ≡ xs → x.regs.hand.items ≡ []
+        → Silent about x (clears r.calls x next xs) (owes x next xs xs)
+    clears_silent x next xs on is none = grind (arith, bare, onward_silent, weighs_same)
 
     -- the first of the spans that left a shard is given back
-    frees : (next : Onward R) (before : Before (FreeSpan next)) (xs : List SpanRef) → l.freed.items ≡ xs → FirstLives p.heap xs → Goal (FreeSpan next) (frees_span r.calls p.heap (at (FreeSpan next)) next xs)
+    frees : (next : Onward R) → Before (FreeSpan next) → (xs : List SpanRef) → l.freed.items ≡ xs → FirstLives p.heap xs
+        → Goal (FreeSpan next) (frees_span r.calls p.heap (at (FreeSpan next)) next xs)
     frees next before [] is lives = absurd lives
     frees next before (s ∷ others) is lives =
         let l' : Local V R = with_freed (at (FreeSpan next)) (without_first_span l.freed others) in
-        let after = clears_weighs l' next others before.shaped.step.1 refl before.shaped.step.0.hand in
-        let behind : List SpanRef → Account = λ xs. record (bare (doing_about (about_onward about next)) l.regs.class.0 l.regs.hand.items l.rest) { apart = others; mapped = xs } in
+        let after = clears_silent l' next others before.shaped.step.1 refl before.shaped.step.0.hand in
         leaves before.books (freed p.heap (run_of s)) p.map (λ ns. ns)
         (FreesSpan s others _ (ap first_run is) is (ap (drop 1) is)
-        (subst (λ (xs : List SpanRef). WeighSame (behind xs) (account_of about (clears r.calls l' next others))) (sym (ap (drop 1) is)) after.0))
-        (less_like (run_of s) before.books before.parts.heap lives) before.books.spans after.1.acts (after.1.answers ∙ sym (append-nil l.answers))
+        (subst (λ (xs : List SpanRef). WeighSame (owes l next others xs) (account_of about (clears r.calls l' next others))) (sym (ap (drop 1) is)) after.weighs))
+        (less_like (run_of s) before lives) before.books.spans after.acts (after.answers ∙ sym (append-nil l.answers))
 
-    unbacks : (pages : ℕ) → Before (Unback pages) → Goal (Unback pages) (heap_row r.calls p.heap (at (Unback pages)) (Unback pages))
+    unbacks : (pages : ℕ) → Before (Unback pages) → Goal (Unback pages) (left_by (Unback pages))
     unbacks pages before =
-        let l' : Local V R = decided (at (Unback pages)) (Release pages) (Released (release p.heap pages).pages) in
+        let ends = ends_silent r.calls about entries (decided (at (Unback pages)) (Release pages) (Released (release p.heap pages).pages)) before.shaped.step.hand in
         let kept = release_keeps p.heap pages before.parts.heap in
-        leaves before.books (release p.heap pages).heap p.map (λ ns. ns) (Rests _ _ (weighs_end r.calls about entries l' before.shaped.step.hand) (One _ tt))
-        (λ r. omega (arith, before.books.heap r, ap (runs_like r) kept.runs)) before.books.spans (ends_counts r.calls l').0 (ends_counts r.calls l').1
+        leaves before.books (release p.heap pages).heap p.map (λ ns. ns) (Rests _ _ ends.weighs (One _ tt))
+        (λ r. omega (arith, before.books.heap r, ap (runs_like r) kept.runs)) before.books.spans ends.acts ends.answers
 
-    by_row : (row : HeapStep R) → Before row → FitsHeap m.rows p.heap (at row) row → Goal row (heap_row r.calls p.heap (at row) row)
+    by_row : (row : HeapStep R) → Before row → FitsHeap m.rows p.heap (at row) row → Goal row (left_by row)
     by_row row before fits = grind (arith, class_row, freed, frees, gets, gets_span, gives_back, new, pages_holding, unbacks)
 
+    by_step : (row : HeapStep R) → Is l → l.step ≡ does.Heap row → FitsHeap m.rows p.heap l row → Leaves l (heap_row r.calls p.heap l row)
+    by_step row before step fits =
+        let is : at row ≡ l = ap (λ s. record l { step = s }) (sym step) in
+        subst (λ (x : Local V R). Is x → FitsHeap m.rows p.heap x row → Leaves x (heap_row r.calls p.heap x row)) is (by_row row) before fits
+
   pub heap_acts_move : HeapActsMove r about planned
-  heap_acts_move huge labels limits p locals b calls t l row before step fits =
-      let is : record l { step = does.Heap row } ≡ l = ap (λ s. record l { step = s }) (sym step) in
-      subst (λ (x : Local V R). IsBefore r about planned huge labels limits p locals b calls t x → FitsHeap r.calls.rows p.heap x row → Does r about (setup r huge labels) (record p { heap = (heap_row r.calls p.heap x row).0 }) b x (heap_row r.calls p.heap x row).1) is (by_row huge labels limits p locals b calls t l row) before fits
+  heap_acts_move = by_step

@@ -24,11 +24,13 @@ module _ {V R : Type 0} (e : FrontCalls V R) where
   new_stays : (h : heaps.Heap) (n : ℕ) (x : Placed) → IsSound h → 2 ≤ h.config.region → 0 < n → new h n ≡ Some x → HeapStays h x.heap
   new_stays h n x sound region some is = let given = given_at h n x is (new_gives h n sound region some) in record { sound = given.sound; config = given.config }
 
-  by_new : (h : heaps.Heap) (l : Local V R) (label : Label) (size : ℕ) (o : Option Placed) → IsSound h → 2 ≤ h.config.region → 0 < pages_holding size → new h (pages_holding size) ≡ o → HeapStays h (after_new h l label size o).0
+  by_new : (h : heaps.Heap) (l : Local V R) (label : Label) (size : ℕ) (o : Option Placed) → IsSound h → 2 ≤ h.config.region
+      → 0 < pages_holding size → new h (pages_holding size) ≡ o → HeapStays h (after_new h l label size o).0
   by_new h l label size None sound region some is = heap_same h sound
   by_new h l label size (Some x) sound region some is = new_stays h (pages_holding size) x sound region some is
 
-  by_span : (rows : List ClassRow) (h : heaps.Heap) (l : Local V R) (a : Asking) (o : Option Placed) → IsSound h → 2 ≤ h.config.region → 0 < (class_row rows l).pages → new h (class_row rows l).pages ≡ o → HeapStays h (after_new_span h l a o).0
+  by_span : (rows : List ClassRow) (h : heaps.Heap) (l : Local V R) (a : Asking) (o : Option Placed) → IsSound h → 2 ≤ h.config.region
+      → 0 < (class_row rows l).pages → new h (class_row rows l).pages ≡ o → HeapStays h (after_new_span h l a o).0
   by_span rows h l a None sound region some is = heap_same h sound
   by_span rows h l a (Some x) sound region some is = new_stays h (class_row rows l).pages x sound region some is
 

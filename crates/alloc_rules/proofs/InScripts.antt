@@ -27,7 +27,8 @@ no_call o is = grind (arith, false≢true)
 
 -- what the answers are, as one comes
 module _ {V R : Type 0} (e : FrontCalls V R) (about : R → About) (names : List NameState) (script : List Planned) (l : Local V R) (inside : IsIn e about names script l) where
-  answered : (new answers : List Decided) → answers ≡ l.answers ++ new → ((d : Decided) → new ≡ d ∷ [] → (under about l.step ≡ 0) × (call_at script l.ended ≡ Some d.call)) → (new ≡ []) ⊎ ((d : Decided) × (new ≡ d ∷ [])) → (j : ℕ) (d : Decided) → slice_get answers j ≡ Some d → call_at script j ≡ Some d.call
+  answered : (new answers : List Decided) → answers ≡ l.answers ++ new → ((d : Decided) → new ≡ d ∷ [] → (under about l.step ≡ 0) × (call_at script l.ended ≡ Some d.call))
+      → (new ≡ []) ⊎ ((d : Decided) × (new ≡ d ∷ [])) → (j : ℕ) (d : Decided) → slice_get answers j ≡ Some d → call_at script j ≡ Some d.call
   answered new answers is one few j d at = grind (arith, append-nil, pushed)
 
   -- what a deciding act decides is the call here
@@ -40,7 +41,9 @@ goes_few e about s next new goes = grind arith
 closes_few : {V R : Type 0} (e : FrontCalls V R) (about : R → About) (s : Step R) (new : List Decided) → Closes e about s new → (new ≡ []) ⊎ ((d : Decided) × (new ≡ d ∷ []))
 closes_few e about s new closes = grind arith
 
-module _ {V R : Type 0} (e : FrontCalls V R) (about : R → About) (entries : AreEntries e about) (names names' : List NameState) (script : List Planned) (l after : Local V R) (way : is_under_way l.step ≡ true) (inside : IsIn e about names script l) (stay : StayOut names names') (keeps : KeepsUnpublished about names' l after) (there : HasRow e after.seat (slice_get l.rest 0)) where
+module _ {V R : Type 0} (e : FrontCalls V R) (about : R → About) (entries : AreEntries e about) (names names' : List NameState) (script : List Planned)
+    (l after : Local V R) (way : is_under_way l.step ≡ true) (inside : IsIn e about names script l)
+    (stay : StayOut names names') (keeps : KeepsUnpublished about names' l after) (there : HasRow e after.seat (slice_get l.rest 0)) where
   -- within a call
   goes_call : (new : List Decided) → GoesOn e about l.step after.step new → (c : Call) → undecided about after.step ≡ Some c → undecided about l.step ≡ Some c
   goes_call new goes c is = grind arith
@@ -51,7 +54,8 @@ module _ {V R : Type 0} (e : FrontCalls V R) (about : R → About) (entries : Ar
   goes_count : (new : List Decided) → GoesOn e about l.step after.step new → length (l.answers ++ new) ≡ l.ended + under about after.step
   goes_count new goes = grind (arith, length-append, undecided_under)
 
-  stays_in : (new : List Decided) → after.answers ≡ l.answers ++ new → after.ended ≡ l.ended → after.rest ≡ l.rest → is_under_way after.step ≡ true → GoesOn e about l.step after.step new → IsIn e about names' script after
+  stays_in : (new : List Decided) → after.answers ≡ l.answers ++ new → after.ended ≡ l.ended → after.rest ≡ l.rest → is_under_way after.step ≡ true
+      → GoesOn e about l.step after.step new → IsIn e about names' script after
   stays_in new answers ended rest on goes =
       let at : call_at script after.ended ≡ call_at script l.ended = ap (call_at script) ended in
       record {
@@ -79,13 +83,17 @@ module _ {V R : Type 0} (e : FrontCalls V R) (about : R → About) (entries : Ar
   closes_count : (new : List Decided) → Closes e about l.step new → length (l.answers ++ new) ≡ l.ended + 1
   closes_count new closes = grind (arith, length-append, undecided_under)
 
-  comes_in : (new : List Decided) → after.answers ≡ l.answers ++ new → after.ended ≡ l.ended + 1 → after.rest ≡ drop 1 l.rest → after.step ≡ first_act e after.seat (slice_get l.rest 0) → Closes e about l.step new → IsIn e about names' script after
+  comes_in : (new : List Decided) → after.answers ≡ l.answers ++ new → after.ended ≡ l.ended + 1 → after.rest ≡ drop 1 l.rest
+      → after.step ≡ first_act e after.seat (slice_get l.rest 0) → Closes e about l.step new → IsIn e about names' script after
   comes_in new answers ended rest step closes =
       let o : Option Planned = slice_get l.rest 0 in
-      let next : call_at script after.ended ≡ option_map (λ (p : Planned). p.call) o = ap (call_at script) ended ∙ ap (option_map (λ (p : Planned). p.call)) (ap (slice_get script) (let e : l.ended + 1 ≡ l.ended + 1 + 0 = omega arith in e) ∙ sym (inside.rest 0)) in
+      let first : l.ended + 1 ≡ l.ended + 1 + 0 = omega arith in
+      let next = ap (call_at script) ended ∙ ap (option_map (λ (p : Planned). p.call)) (ap (slice_get script) first ∙ sym (inside.rest 0)) in
       let w = λ (x : ℕ). next_weighs e about entries after.seat x l.rest in
       record {
-        rest = λ j. ap (λ xs. slice_get xs j) rest ∙ (rest_behind l.rest j ∙ (inside.rest (1 + j) ∙ ap (slice_get script) (let e : l.ended + 1 + (1 + j) ≡ after.ended + 1 + j = omega (arith, ended) in e)));
+        rest = λ j.
+            let e : l.ended + 1 + (1 + j) ≡ after.ended + 1 + j = omega (arith, ended) in
+            ap (λ xs. slice_get xs j) rest ∙ (rest_behind l.rest j ∙ (inside.rest (1 + j) ∙ ap (slice_get script) e));
         call = λ c is. next ∙ first_is_of e about entries after.seat o c (sym (ap (undecided about) step) ∙ is);
         some = λ on. ap is_some next ∙ (sym (next_way e about entries after.seat o there) ∙ (sym (ap is_under_way step) ∙ on));
         none = λ off. next ∙ no_call o (sym (next_way e about entries after.seat o there) ∙ (sym (ap is_under_way step) ∙ off));
@@ -97,13 +105,15 @@ module _ {V R : Type 0} (e : FrontCalls V R) (about : R → About) (entries : Ar
                 | inl out ↦ stay label.0 out
                 | inr due ↦
                     (elim (keeps label.0) [
-                      | inl same ↦ absurd (omega (arith, due, same, ap (λ s. asking label.0 (doing_of about s)) step, ap (λ s. publishing label.0 (doing_of about s)) step, ap (gets label.0) rest, (w label.0).0, (w label.0).1))
+                      | inl same ↦
+                          (let doing = ap (doing_of about) step in
+                          absurd (omega (arith, due, same, ap (asking label.0) doing, ap (publishing label.0) doing, ap (gets label.0) rest, (w label.0).0, (w label.0).1)))
                       | inr out ↦ out
                     ])
               ])
         ];
         now = λ label size is. inr (omega (arith, asks_first e about entries after.seat o label size (sym next ∙ is), ap (λ s. asking label.0 (doing_of about s)) step));
-        count = ap length answers ∙ (closes_count new closes ∙ (let e : l.ended + 1 ≡ after.ended + under about after.step = omega (arith, ended, ap (under about) step, first_under e about entries after.seat o) in e));
+        count = ap length answers ∙ (closes_count new closes ∙ omega (arith, ended, ap (under about) step, first_under e about entries after.seat o));
         decided = λ j d is. answered e about names script l inside new after.answers answers (closes_one new closes) (closes_few e about l.step new closes) j d is;
       }
 

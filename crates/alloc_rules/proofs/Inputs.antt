@@ -5,6 +5,10 @@ use Rattle.alloc_rules.proofs.Common.{range_with_len, cases_eq, eq-eqb, ne_eqb, 
 use Rattle.alloc_rules.proofs.Common.{Planned, Asked, ThreadCall, script_of, label_end, labels_of, bit_most}
 use Rattle.alloc_rules.proofs.Common.{sum_of_both, got, put, gets, puts, ClassRow, got_in, put_in, IsInOrder, IsValid}
 
+-- what holds of each call of a trace
+abbrev pub EachOf : List ThreadCall → (ThreadCall → Type 0) → Type 0
+EachOf cs P = (earlier : List ThreadCall) (c : ThreadCall) (later : List ThreadCall) → earlier ++ c ∷ later ≡ cs → P c
+
 -- the one number that passes among numbers in order
 none_in : (k v a n : ℕ) → k < a → sum_by (λ t. cond (eqb k t) v 0) (range_with_len a n) ≡ 0
 none_in k v a zero low = refl
@@ -13,7 +17,7 @@ none_in k v a (suc n) low = grind (arith, none_in k v (a + 1) n (omega arith), n
 one_in : (k v a n : ℕ) → a ≤ k → k < a + n → sum_by (λ t. cond (eqb k t) v 0) (range_with_len a n) ≡ v
 one_in k v a zero low high = absurd (omega arith)
 one_in k v a (suc n) low high =
-    let c : sum_by (λ t. cond (eqb k t) v 0) (a ∷ range_with_len (a + 1) n) ≡ cond (eqb k a) v 0 + sum_by (λ t. cond (eqb k t) v 0) (range_with_len (a + 1) n) = sum_by-cons (λ t. cond (eqb k t) v 0) a (range_with_len (a + 1) n) in
+    let c = sum_by-cons (λ t. cond (eqb k t) v 0) a (range_with_len (a + 1) n) in
     elim (cases_eq k a) [
       | inl same ↦ (let e : cond (eqb k a) v 0 ≡ v = rw (eq-eqb k a same) refl in omega (arith, c, e, none_in k v (a + 1) n (omega arith)))
       | inr other ↦ (let e : cond (eqb k a) v 0 ≡ 0 = rw (ne_eqb k a other) refl in omega (arith, c, e, one_in k v (a + 1) n (omega (arith, other)) (omega arith)))
@@ -32,7 +36,7 @@ module _ (f : List Planned → ℕ) (w : Planned → ℕ) (nothing : f [] ≡ 0)
   one_call : (t : ℕ) (c : ThreadCall) (cs : List ThreadCall) → f (script_of t (c ∷ cs)) ≡ f (script_of t cs) + cond (eqb c.thread.0 t) (w c.planned) 0
   one_call t c cs = grind (arith, cases_eq, eq-eqb, ne_eqb)
 
-  over_threads : (n : ℕ) (cs : List ThreadCall) → ((earlier : List ThreadCall) (c : ThreadCall) (later : List ThreadCall) → earlier ++ c ∷ later ≡ cs → c.thread.0 < n) → sum_by (λ t. f (script_of t cs)) (range_with_len 0 n) ≡ sum_by (λ (c : ThreadCall). w c.planned) cs
+  over_threads : (n : ℕ) (cs : List ThreadCall) → EachOf cs (λ c. c.thread.0 < n) → sum_by (λ t. f (script_of t cs)) (range_with_len 0 n) ≡ sum_by (λ (c : ThreadCall). w c.planned) cs
   over_threads n [] below = sum-zero (λ t. f []) (range_with_len 0 n) (λ t. nothing)
   over_threads n (c ∷ cs) below =
       let rest = over_threads n cs (λ earlier d later is. below (c ∷ earlier) d later (ap (λ xs. c ∷ xs) is)) in
@@ -52,7 +56,8 @@ module _ (rows : List ClassRow) (planned : Planned → Type 0) where
   abbrev pub in_scripts : (List Planned → ℕ) → Asked → ℕ
   in_scripts f asked = sum_by (λ t. f (script_of t asked.calls)) (range_with_len 0 asked.config.threads)
 
-  in_threads : (asked : Asked) (f : List Planned → ℕ) (w : Planned → ℕ) → f [] ≡ 0 → ((p : Planned) (ps : List Planned) → f (p ∷ ps) ≡ w p + f ps) → IsValid rows planned asked → in_scripts f asked ≡ sum_by (λ (c : ThreadCall). w c.planned) asked.calls
+  in_threads : (asked : Asked) (f : List Planned → ℕ) (w : Planned → ℕ) → f [] ≡ 0 → ((p : Planned) (ps : List Planned) → f (p ∷ ps) ≡ w p + f ps)
+      → IsValid rows planned asked → in_scripts f asked ≡ sum_by (λ (c : ThreadCall). w c.planned) asked.calls
   in_threads asked f w nothing adds valid = over_threads f w nothing adds asked.config.threads asked.calls (λ earlier c later is. (valid.calls earlier c later is).thread)
 
   -- Each rule in turn over all calls, from the first on.
@@ -91,7 +96,8 @@ module _ (rows : List ClassRow) (planned : Planned → Type 0) where
       let next : Counts x (earlier ++ c ∷ []) = record {
         got_once = omega (arith, g, a.got_once so_far.got_once);
         put_once = omega (arith, p, a.put_once so_far.put_once);
-        got_first = λ some. first_of_either (put_in x earlier) (put x c.planned.call) (omega (arith, some, p)) (λ old. omega (arith, g, so_far.got_first old)) (λ own. omega (arith, g, a.got_first own));
+        got_first = λ some.
+            first_of_either (put_in x earlier) (put x c.planned.call) (omega (arith, some, p)) (λ old. omega (arith, g, so_far.got_first old)) (λ own. omega (arith, g, a.got_first own));
       } in
       subst (Counts x) (append_snoc earlier c cs) (counts x (earlier ++ c ∷ []) cs order.1 next)
 
@@ -139,7 +145,7 @@ module _ (rows : List ClassRow) (planned : Planned → Type 0) where
       }
 
   -- the calls of a thread's script are there
-  planned_in : (asked : Asked) (t : ℕ) (cs : List ThreadCall) → ((earlier : List ThreadCall) (c : ThreadCall) (later : List ThreadCall) → earlier ++ c ∷ later ≡ cs → planned c.planned) → All (planned) (script_of t cs)
+  planned_in : (asked : Asked) (t : ℕ) (cs : List ThreadCall) → EachOf cs (λ c. planned c.planned) → All (planned) (script_of t cs)
   planned_in asked t [] each = All-nil (planned)
   planned_in asked t (c ∷ cs) each =
       let rest = planned_in asked t cs (λ earlier d later is. each (c ∷ earlier) d later (ap (λ xs. c ∷ xs) is)) in

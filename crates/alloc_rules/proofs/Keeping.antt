@@ -110,10 +110,12 @@ module _ {P V R : Type 0} {r : FrontRules P V R} {about : R → About} {planned 
   fresh_next l v g next rest c hand freed reaches shape = grind (arith, shape_of)
 
   -- a step that has a row of the front-end about this, or is another one that is at none
-  pub entry_shape : (a : About) (other : Step R) (l : Local V R) (o : Option R) → IsEntry about a o → HandAbout r.calls.rows l.regs a → l.freed.items ≡ [] → StepShape r.calls.rows about l other → StepShape r.calls.rows about l (step_or other o)
+  pub entry_shape : (a : About) (other : Step R) (l : Local V R) (o : Option R) → IsEntry about a o → HandAbout r.calls.rows l.regs a → l.freed.items ≡ []
+      → StepShape r.calls.rows about l other → StepShape r.calls.rows about l (step_or other o)
   entry_shape a other l o entry has none shape = grind arith
 
-  pub entry_at : (base : Standing V R) (v : V) (g : Regs) (count : ℕ) (other : Step R) (o : Option R) → at_step other ≡ Away → Reaches base (stand v g count (at_row o)) → Reaches base (stand v g count (at_step (step_or other o)))
+  pub entry_at : (base : Standing V R) (v : V) (g : Regs) (count : ℕ) (other : Step R) (o : Option R) → at_step other ≡ Away
+      → Reaches base (stand v g count (at_row o)) → Reaches base (stand v g count (at_step (step_or other o)))
   entry_at base v g count other o away reaches = grind arith
 
   module _ (l : Local V R) (n : HasNone l) (p : Planned) (plan : planned p) (rest : List Planned) (c : CommonOf l.regs l.freed rest) where
@@ -145,7 +147,8 @@ module _ {P V R : Type 0} {r : FrontRules P V R} {about : R → About} {planned 
   -- the thread comes to the first of these calls
   pub come_next : (l : Local V R) (todo : List Planned) → CommonOf l.regs l.freed todo → HasNone l → IsNext (idle_at l) (next_call r.calls l todo)
   come_next l [] c n = grind (arith, fresh_next)
-  come_next l (p ∷ ps) c n = call_next l n p (All-head planned p ps c.rest) ps (record { thread = c.thread; class = c.class; hand = c.hand; freed = c.freed; rest = All-tail planned p ps c.rest }) p.call refl
+  come_next l (p ∷ ps) c n =
+      call_next l n p (All-head planned p ps c.rest) ps (record { thread = c.thread; class = c.class; hand = c.hand; freed = c.freed; rest = All-tail planned p ps c.rest }) p.call refl
 
   -- the call ends: a row of the front-end may come first
   closes_next : (l : Local V R) (o : Option R) → IsEntry about (calls.Other None) o → Common l → HasNone l

@@ -4,7 +4,9 @@ use Rattle.alloc_rules.proofs.Common.{Planned, Asked, Regs, About, Standing, IsL
 use Rattle.alloc_rules.proofs.{Afterwards.holds_after, Runs.picks_are, Runs.served_order, Runs.sound}
 use Rattle.alloc_rules.proofs.SerialLaws.{are_threads, ends, never_waits, rises}
 
-pub in_every_order : {P V R : Type 0} (r : FrontRules P V R) (about : R → About) (planned : Planned → Type 0) (Holds : ℕ → List P → List (Standing V R) → Type 0) (fits : P → V → Regs → R → Type 0) (law : IsLawful r about planned Holds fits) (asked : Asked) (valid : IsValid r.calls.rows planned asked) → AreLawful r about asked fits (HoldsAfter r about Holds asked)
+pub in_every_order : {P V R : Type 0} (r : FrontRules P V R) (about : R → About) (planned : Planned → Type 0) (Holds : ℕ → List P → List (Standing V R) → Type 0)
+    (fits : P → V → Regs → R → Type 0) (law : IsLawful r about planned Holds fits) (asked : Asked) (valid : IsValid r.calls.rows planned asked)
+    → AreLawful r about asked fits (HoldsAfter r about Holds asked)
 in_every_order r about planned Holds fits law asked valid =
     record {
       sound = sound law valid;

@@ -7,7 +7,8 @@ use Rattle.tc_units.specs.Sorted.{with_item, without_key}
 use Rattle.alloc_rules.proofs.Counting.{bit_cond, runs_count, spans_count}
 
 -- what is counted is there, and what is there is counted
-module _ {X : Type 0} (same : X → X → Bool) (is : (x y : X) → same x y ≡ true → x ≡ y) (one : (x : X) → same x x ≡ true) {often : X → List X → ℕ} (counts : (x : X) → Counts (often x) (λ (y : X). bit (same y x))) where
+module _ {X : Type 0} (same : X → X → Bool) (is : (x y : X) → same x y ≡ true → x ≡ y) (one : (x : X) → same x x ≡ true)
+    {often : X → List X → ℕ} (counts : (x : X) → Counts (often x) (λ (y : X). bit (same y x))) where
   there : (x : X) (xs : List X) → 0 < often x xs → Contains xs x
   there x [] some = absurd (omega (arith, some, (counts x).none))
   there x (y ∷ ys) some =
@@ -53,8 +54,10 @@ like-with_run x xs r = with_one same_run (λ y. y.first.0) runs_count x xs r
 pub like-with_span : (x : SpanRef) (xs : List SpanRef) (s : SpanRef) → spans_like s (with_item (λ y. y.first.0) x xs) ≡ bit (same_span x s) + spans_like s xs
 like-with_span x xs s = with_one same_span (λ y. y.first.0) spans_count x xs s
 
-pub like-without_run : (x : Run) (xs : List Run) (r : Run) → (at : Contains xs x) → count_by (λ y. eqb y.first.0 x.first.0) xs ≤ 1 → runs_like r (without_key (λ y. y.first.0) x.first.0 xs) + bit (same_run x r) ≡ runs_like r xs
+pub like-without_run : (x : Run) (xs : List Run) (r : Run) → (at : Contains xs x) → count_by (λ y. eqb y.first.0 x.first.0) xs ≤ 1
+    → runs_like r (without_key (λ y. y.first.0) x.first.0 xs) + bit (same_run x r) ≡ runs_like r xs
 like-without_run x xs r at most = without_one same_run (λ y. y.first.0) runs_count x xs r at most
 
-pub like-without_span : (x : SpanRef) (xs : List SpanRef) (s : SpanRef) → (at : Contains xs x) → count_by (λ y. eqb y.first.0 x.first.0) xs ≤ 1 → spans_like s (without_key (λ y. y.first.0) x.first.0 xs) + bit (same_span x s) ≡ spans_like s xs
+pub like-without_span : (x : SpanRef) (xs : List SpanRef) (s : SpanRef) → (at : Contains xs x) → count_by (λ y. eqb y.first.0 x.first.0) xs ≤ 1
+    → spans_like s (without_key (λ y. y.first.0) x.first.0 xs) + bit (same_span x s) ≡ spans_like s xs
 like-without_span x xs s at most = without_one same_span (λ y. y.first.0) spans_count x xs s at most

@@ -9,11 +9,13 @@ use Rattle.page_map.specs.Spans as spans
 use Rattle.heap_rules.specs.Heap as heaps
 
 -- fewer pass a test that another follows from
-count_fewer : {X : Type 0} (q h : X → Bool) (xs : List X) → ((k : ℕ) (d : X) → k < length xs → q (get_or xs k d) ≡ true → h (get_or xs k d) ≡ true) → count_by h xs ≤ 1 → count_by q xs ≤ 1
+count_fewer : {X : Type 0} (q h : X → Bool) (xs : List X) → ((k : ℕ) (d : X) → k < length xs → q (get_or xs k d) ≡ true → h (get_or xs k d) ≡ true)
+    → count_by h xs ≤ 1 → count_by q xs ≤ 1
 count_fewer q h xs follows few = omega (arith, few, count_le q h xs follows)
 
 -- at most one item passes a test of which two can't
-most_one : {X : Type 0} (q : X → Bool) (xs : List X) → ((i j : ℕ) (d : X) → i < j → j < length xs → q (get_or xs i d) ≡ true → q (get_or xs j d) ≡ true → ⊥) → count_by q xs ≤ 1
+most_one : {X : Type 0} (q : X → Bool) (xs : List X) → ((i j : ℕ) (d : X) → i < j → j < length xs → q (get_or xs i d) ≡ true → q (get_or xs j d) ≡ true → ⊥)
+    → count_by q xs ≤ 1
 most_one q [] two = omega arith
 most_one q (x ∷ xs) two =
     let c : count_by q (x ∷ xs) ≡ cond (q x) 1 0 + count_by q xs = sum_by-cons (λ y. cond (q y) 1 0) x xs in
@@ -54,16 +56,17 @@ find_only q (z ∷ zs) x at holds only =
 pub holds_parts : (page : ℕ) (s : SpanRef) → spans.holds page s ≡ true → (s.first.0 ≤ page) × (page < s.first.0 + s.pages)
 holds_parts page s held = let parts = and_parts (nat_le s.first.0 page) (ltb page (s.first.0 + s.pages)) held in (leb-true s.first.0 page parts.0, ltb-true page (s.first.0 + s.pages) parts.1)
 
-pub only_holder : (page : ℕ) (xs : List SpanRef) (x y : SpanRef) → AllPairs IsBefore xs → Contains xs x → Contains xs y → spans.holds page x ≡ true → spans.holds page y ≡ true → y ≡ x
+pub only_holder : (page : ℕ) (xs : List SpanRef) (x y : SpanRef) → AllPairs IsBefore xs → Contains xs x → Contains xs y
+    → spans.holds page x ≡ true → spans.holds page y ≡ true → y ≡ x
 only_holder page xs x y apart xt yt hx hy =
     let px = holds_parts page x hx in
     let py = holds_parts page y hy in
     let ex : get_or xs xt.0 y ≡ x = get_or_default xs xt.0 y x xt.1 ∙ xt.2 in
     elim (cases_lt xt.0 yt.0) [
-      | inl less ↦ absurd (let b : IsBefore (get_or xs xt.0 y) (get_or xs yt.0 y) = apart xt.0 yt.0 y less yt.1 in let d : IsBefore x y = subst (λ z. IsBefore z y) ex (subst (λ z. IsBefore (get_or xs xt.0 y) z) yt.2 b) in omega (arith, d, px.0, px.1, py.0, py.1))
+      | inl less ↦ absurd (let d : IsBefore x y = rw (ex, yt.2) at (apart xt.0 yt.0 y less yt.1) in omega (arith, d, px.0, px.1, py.0, py.1))
       | inr above ↦
           (elim (cases_lt yt.0 xt.0) [
-            | inl less ↦ absurd (let b : IsBefore (get_or xs yt.0 y) (get_or xs xt.0 y) = apart yt.0 xt.0 y less xt.1 in let d : IsBefore y x = subst (λ z. IsBefore y z) ex (subst (λ z. IsBefore z (get_or xs xt.0 y)) yt.2 b) in omega (arith, d, px.0, px.1, py.0, py.1))
+            | inl less ↦ absurd (let d : IsBefore y x = rw (ex, yt.2) at (apart yt.0 xt.0 y less xt.1) in omega (arith, d, px.0, px.1, py.0, py.1))
             | inr below ↦ (let same : xt.0 ≡ yt.0 = omega arith in sym yt.2 ∙ (ap (λ i. get_or xs i y) (sym same) ∙ ex))
           ])
     ]

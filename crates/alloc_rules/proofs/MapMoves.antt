@@ -23,22 +23,31 @@ module _ {P V R : Type 0} (r : FrontRules P V R) (about : R → About) (planned 
     abbrev at : MapStep R → Local V R
     at row = record l { step = does.Map row }
 
+    abbrev Is : Local V R → Type 0
+    Is = IsBefore r about planned huge labels limits p locals b calls t
+
     abbrev Before : MapStep R → Type 0
-    Before row = IsBefore r about planned huge labels limits p locals b calls t (at row)
+    Before row = Is (at row)
+
+    abbrev Leaves : Local V R → SpanMap × Local V R → Type 0
+    Leaves x y = Does r about m (record p { map = y.0 }) b x y.1
 
     abbrev Goal : MapStep R → SpanMap × Local V R → Type 0
-    Goal row x = Does r about m (record p { map = x.0 }) b (at row) x.1
+    Goal row = Leaves (at row)
+
+    abbrev left_by : MapStep R → SpanMap × Local V R
+    left_by row = map_row r.calls p.map (at row) row
 
     -- nothing is decided
     silent : l.answers ≡ l.answers ++ []
     silent = sym (append-nil l.answers)
 
-    sets : (label : Label) (run : Run) → Before (Set label run) → Goal (Set label run) (map_row r.calls p.map (at (Set label run)) (Set label run))
+    sets : (label : Label) (run : Run) → Before (Set label run) → Goal (Set label run) (left_by (Set label run))
     sets label run before =
         leaves before.books p.heap (record p.map { spans = with_span (large run) p.map.spans }) (λ ns. ns) (SetsRun run _ refl refl (weighs_same _)) before.books.heap
         (λ s. omega (arith, like-with_span (large run) p.map.spans s, before.books.spans s)) refl silent
 
-    sets_span : (a : Asking) (run : Run) → Before (SetSpan a run) → Goal (SetSpan a run) (map_row r.calls p.map (at (SetSpan a run)) (SetSpan a run))
+    sets_span : (a : Asking) (run : Run) → Before (SetSpan a run) → Goal (SetSpan a run) (left_by (SetSpan a run))
     sets_span a run before =
         let s : SpanRef = small l.regs.class run in
         leaves before.books p.heap (record p.map { spans = with_span s p.map.spans }) (λ ns. ns) (SetsSpan run [] _ refl refl refl (weighs_same _)) before.books.heap
@@ -48,9 +57,10 @@ module _ {P V R : Type 0} (r : FrontRules P V R) (about : R → About) (planned 
     left_like : (s : SpanRef) (row : MapStep R) → Before row → Contains p.map.spans s → (x : SpanRef) → spans_like x (without s b.spans) ≡ spans_like x (without_span s p.map.spans)
     left_like s row before there x =
         let some : 0 < spans_like s b.spans = omega (arith, span_counted s p.map.spans there, before.books.spans s) in
-        omega (arith, like-without_span s p.map.spans x there (one_first p.map.huge p.map.spans s.first.0 before.parts.map), without_counts s b.spans some (like_span x), before.books.spans x)
+        let one = one_first p.map.huge p.map.spans s.first.0 before.parts.map in
+        omega (arith, like-without_span s p.map.spans x there one, without_counts s b.spans some (like_span x), before.books.spans x)
 
-    clears_run : (label : Label) (run : Run) → Before (Clear label run) → Contains p.map.spans (large run) → Goal (Clear label run) (map_row r.calls p.map (at (Clear label run)) (Clear label run))
+    clears_run : (label : Label) (run : Run) → Before (Clear label run) → Contains p.map.spans (large run) → Goal (Clear label run) (left_by (Clear label run))
     clears_run label run before there =
         leaves before.books p.heap (record p.map { spans = without_span (large run) p.map.spans }) (λ ns. ns) (ClearsRun label run _ refl refl refl (weighs_same _))
         before.books.heap (left_like (large run) (Clear label run) before there) refl silent
@@ -59,7 +69,8 @@ module _ {P V R : Type 0} (r : FrontRules P V R) (about : R → About) (planned 
     abbrev with_spans : Onward R → List SpanRef → Account
     with_spans next xs = record (bare (doing_about (about_onward about next)) l.regs.class.0 l.regs.hand.items l.rest) { off = first_run xs; apart = xs; mapped = drop 1 xs }
 
-    clears_first : (next : Onward R) → Before (ClearSpan next) → (xs : List SpanRef) → l.freed.items ≡ xs → FirstIsThere p.map xs → Goal (ClearSpan next) (clears_span p.map (at (ClearSpan next)) next xs)
+    clears_first : (next : Onward R) → Before (ClearSpan next) → (xs : List SpanRef) → l.freed.items ≡ xs → FirstIsThere p.map xs
+        → Goal (ClearSpan next) (clears_span p.map (at (ClearSpan next)) next xs)
     clears_first next before [] is there = absurd there
     clears_first next before (s ∷ others) is there =
         let own : List SpanRef → Account = λ xs. record (account_of about (at (ClearSpan next))) { off = run_of s ∷ []; apart = xs; mapped = others } in
@@ -69,7 +80,11 @@ module _ {P V R : Type 0} (r : FrontRules P V R) (about : R → About) (planned 
         before.books.heap (left_like s (ClearSpan next) before there) refl silent
 
     -- Lookup: an object's span, and a large block's, which begins at the address
-    starts : (label : Label) (addr : Addr) (span : SpanRef) → Before (Lookup label addr) → Contains p.map.spans span → holds (addr.0 / page_bytes) span ≡ true → span.kind ≡ Large → addr ≡ address_of (run_of span)
+    abbrev Held : Addr → SpanRef → Type 0
+    Held addr span = holds (addr.0 / page_bytes) span ≡ true
+
+    starts : (label : Label) (addr : Addr) (span : SpanRef) → Before (Lookup label addr) → Contains p.map.spans span → Held addr span
+        → span.kind ≡ Large → addr ≡ address_of (run_of span)
     starts label addr span before there held kind =
         let f : Found m b addr = frees_find m b calls t (account_of about (at (Lookup label addr))) label addr before.facts (account_at t before.books before.local) refl refl in
         let at_map : Contains p.map.spans f.span = span_there f.span p.map.spans (omega (arith, f.there, before.books.spans f.span)) in
@@ -79,7 +94,8 @@ module _ {P V R : Type 0} (r : FrontRules P V R) (about : R → About) (planned 
           | inr run ↦ run.2 ∙ ap (λ (s : SpanRef). address_of (run_of s)) (sym run.1 ∙ same)
         ]
 
-    finds : (label : Label) (addr : Addr) (span : SpanRef) → Before (Lookup label addr) → Contains p.map.spans span → holds (addr.0 / page_bytes) span ≡ true → (kind : SpanKind) → span.kind ≡ kind → Goal (Lookup label addr) (p.map, found r.calls (at (Lookup label addr)) label addr span kind)
+    finds : (label : Label) (addr : Addr) (span : SpanRef) → Before (Lookup label addr) → Contains p.map.spans span → Held addr span
+        → (kind : SpanKind) → span.kind ≡ kind → Goal (Lookup label addr) (p.map, found r.calls (at (Lookup label addr)) label addr span kind)
     finds label addr span before there held (Small k) is =
         let none : l.regs.hand.items ≡ [] = before.shaped.step.hand in
         let f : Freeing = record { label = label; addr = addr } in
@@ -101,10 +117,13 @@ module _ {P V R : Type 0} (r : FrontRules P V R) (about : R → About) (planned 
         (FindsRun label x _ (ap (Holds label) begins) counted refl (weighs_is (after addr) (after (address_of x)) (ap after (sym begins))))
         before.books.heap before.books.spans refl silent
 
-    by_row : (row : MapStep R) → Before row → FitsMap p.map (at row) row → Goal row (map_row r.calls p.map (at row) row)
+    by_row : (row : MapStep R) → Before row → FitsMap p.map (at row) row → Goal row (left_by row)
     by_row row before fits = grind (arith, clears_first, clears_run, find_there, finds, sets, sets_span)
 
+    by_step : (row : MapStep R) → Is l → l.step ≡ does.Map row → FitsMap p.map l row → Leaves l (map_row r.calls p.map l row)
+    by_step row before step fits =
+        let is : at row ≡ l = ap (λ s. record l { step = s }) (sym step) in
+        subst (λ (x : Local V R). Is x → FitsMap p.map x row → Leaves x (map_row r.calls p.map x row)) is (by_row row) before fits
+
   pub map_acts_move : MapActsMove r about planned
-  map_acts_move huge labels limits p locals b calls t l row before step fits =
-      let is : record l { step = does.Map row } ≡ l = ap (λ s. record l { step = s }) (sym step) in
-      subst (λ (x : Local V R). IsBefore r about planned huge labels limits p locals b calls t x → FitsMap p.map x row → Does r about (setup r huge labels) (record p { map = (map_row r.calls p.map x row).0 }) b x (map_row r.calls p.map x row).1) is (by_row huge labels limits p locals b calls t l row) before fits
+  map_acts_move = by_step

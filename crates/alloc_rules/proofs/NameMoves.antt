@@ -7,37 +7,44 @@ use Rattle.call_steps.specs.declared.step.NamesStep.TheVariants.{Publish, Take}
 use Rattle.holdings.specs.Moves.{Names}
 use Rattle.name_table.specs.declared.table.NameState.TheVariants as name
 use Rattle.call_steps.specs.declared.step.Step.TheVariants as does
-use Rattle.alloc_rules.proofs.{Moved.leaves, Onwards.weighs_end, Weighing.ends_counts, Weighing.weighs_same}
+use Rattle.alloc_rules.proofs.{Moved.leaves, Onwards.ends_silent, Weighing.weighs_same}
 
 module _ {P V R : Type 0} (r : FrontRules P V R) (about : R → About) (planned : Planned → Type 0) (entries : AreEntries r.calls about) where
   module _ (huge labels : ℕ) (limits : HeapConfig) (p : Parts P) (locals : List (Local V R)) (b : Books) (calls : List CallLine) (t : ℕ) (l : Local V R) where
     abbrev at : NamesStep → Local V R
     at row = record l { step = does.Names row }
 
+    abbrev Is : Local V R → Type 0
+    Is = IsBefore r about planned huge labels limits p locals b calls t
+
     abbrev Before : NamesStep → Type 0
-    Before row = IsBefore r about planned huge labels limits p locals b calls t (at row)
+    Before row = Is (at row)
+
+    abbrev Leaves : Local V R → List NameState × Local V R → Type 0
+    Leaves x y = Does r about (setup r huge labels) (record p { names = y.0 }) b x y.1
 
     abbrev Goal : NamesStep → List NameState × Local V R → Type 0
-    Goal row x = Does r about (setup r huge labels) (record p { names = x.0 }) b (at row) x.1
+    Goal row = Leaves (at row)
 
     state_in : (label : Label) (row : NamesStep) → Before row → (s : NameState) → state_of p.names label.0 ≡ s → state_of b.names label.0 ≡ s
     state_in label row before s is = ap (λ (ns : List NameState). state_of ns label.0) before.books.names ∙ is
 
-    publishes : (label : Label) (value : Option Addr) → Before (Publish label value) → state_of p.names label.0 ≡ name.Unpublished → Goal (Publish label value) (names_row r.calls p.names (at (Publish label value)) (Publish label value))
+    publishes : (label : Label) (value : Option Addr) → Before (Publish label value) → state_of p.names label.0 ≡ name.Unpublished
+        → Goal (Publish label value) (names_row r.calls p.names (at (Publish label value)) (Publish label value))
     publishes label value before state =
-        let x : Local V R = at (Publish label value) in
+        let ends = ends_silent r.calls about entries (at (Publish label value)) before.shaped.step.hand in
         leaves before.books p.heap p.map (λ ns. slice_set ns label.0 (name.Published value))
-        (Names label value _ refl refl refl (state_in label (Publish label value) before name.Unpublished state) (weighs_end r.calls about entries x before.shaped.step.hand))
-        before.books.heap before.books.spans (ends_counts r.calls x).0 ((ends_counts r.calls x).1 ∙ sym (append-nil l.answers))
+        (Names label value _ refl refl refl (state_in label (Publish label value) before name.Unpublished state) ends.weighs)
+        before.books.heap before.books.spans ends.acts (ends.answers ∙ sym (append-nil l.answers))
 
-    takes : (label : Label) → Before (Take label) → FitsNames p.names (Take label) → is_unpublished (state_of p.names label.0) ≡ false → (s : NameState) → state_of p.names label.0 ≡ s → Goal (Take label) (after_take r.calls p.names (at (Take label)) label s)
+    takes : (label : Label) → Before (Take label) → FitsNames p.names (Take label) → is_unpublished (state_of p.names label.0) ≡ false
+        → (s : NameState) → state_of p.names label.0 ≡ s → Goal (Take label) (after_take r.calls p.names (at (Take label)) label s)
     takes label before fits out name.Unpublished is = absurd (false≢true (sym out ∙ ap is_unpublished is))
     takes label before fits out name.Taken is = absurd (fits.1 is)
     takes label before fits out (name.Published None) is =
-        let l' : Local V R = decided (at (Take label)) (Free label) FreedNull in
+        let ends = ends_silent r.calls about entries (decided (at (Take label)) (Free label) FreedNull) before.shaped.step.hand in
         leaves before.books p.heap p.map (λ ns. slice_set ns label.0 name.Taken)
-        (TakesNull label _ refl (state_in label (Take label) before (name.Published None) is) (weighs_end r.calls about entries l' before.shaped.step.hand))
-        before.books.heap before.books.spans (ends_counts r.calls l').0 (ends_counts r.calls l').1
+        (TakesNull label _ refl (state_in label (Take label) before (name.Published None) is) ends.weighs) before.books.heap before.books.spans ends.acts ends.answers
     takes label before fits out (name.Published (Some addr)) is =
         leaves before.books p.heap p.map (λ ns. slice_set ns label.0 name.Taken)
         (TakesAddr label addr _ refl (state_in label (Take label) before (name.Published (Some addr)) is) (weighs_same _))
@@ -46,7 +53,10 @@ module _ {P V R : Type 0} (r : FrontRules P V R) (about : R → About) (planned 
     by_row : (row : NamesStep) → Before row → FitsNames p.names row → waits_row p.names row ≡ false → Goal row (names_row r.calls p.names (at row) row)
     by_row row before fits out = grind (arith, publishes, state_of, takes)
 
+    by_step : (row : NamesStep) → Is l → l.step ≡ does.Names row → FitsNames p.names row → waits_row p.names row ≡ false → Leaves l (names_row r.calls p.names l row)
+    by_step row before step fits out =
+        let is : at row ≡ l = ap (λ s. record l { step = s }) (sym step) in
+        subst (λ (x : Local V R). Is x → Leaves x (names_row r.calls p.names x row)) is (λ h. by_row row h fits out) before
+
   pub names_acts_move : NamesActsMove r about planned
-  names_acts_move huge labels limits p locals b calls t l row before step fits out =
-      let is : record l { step = does.Names row } ≡ l = ap (λ s. record l { step = s }) (sym step) in
-      subst (λ (x : Local V R). IsBefore r about planned huge labels limits p locals b calls t x → Does r about (setup r huge labels) (record p { names = (names_row r.calls p.names x row).0 }) b x (names_row r.calls p.names x row).1) is (λ before'. by_row huge labels limits p locals b calls t l row before' fits out) before
+  names_acts_move = by_step

@@ -104,13 +104,16 @@ module _ {P : Type 0} (split : ℕ) (p : Parts P) (few : split ≤ length p.fron
   set_first : (i : ℕ) (q : P) → i < split → slice_set (parts_of split p) i (Front q) ≡ parts_of split (record p { fronts = slice_set p.fronts i q })
   set_first i q low =
       set_left Front first rest i q (omega (arith, many, low))
-      ∙ (ap (λ (xs : List P). map Front xs ++ rest) (set_take split p.fronts i q low) ∙ ap (λ (xs : List P). map Front (take split (slice_set p.fronts i q)) ++ (map Shard p.shards ++ (middle_of p ++ map Front xs))) (sym (drop_below split p.fronts i q low)))
+      ∙ (ap (λ (xs : List P). map Front xs ++ rest) (set_take split p.fronts i q low)
+      ∙ ap (λ (xs : List P). map Front (take split (slice_set p.fronts i q)) ++ (map Shard p.shards ++ (middle_of p ++ map Front xs))) (sym (drop_below split p.fronts i q low)))
 
   pub get_shard : (k : ℕ) → k < length p.shards → slice_get (parts_of split p) (split + k) ≡ option_map Shard (slice_get p.shards k)
   get_shard k low = ap (λ (n : ℕ). slice_get (parts_of split p) (n + k)) (sym many) ∙ (get_right Front first rest k ∙ get_left Shard p.shards behind k low)
 
   pub set_shard : (k : ℕ) (x : shards.Shard) → k < length p.shards → slice_set (parts_of split p) (split + k) (Shard x) ≡ parts_of split (record p { shards = slice_set p.shards k x })
-  set_shard k x low = ap (λ (n : ℕ). slice_set (parts_of split p) (n + k) (Shard x)) (sym many) ∙ (set_right Front first rest k (Shard x) ∙ ap (λ zs. map Front first ++ zs) (set_left Shard p.shards behind k x low))
+  set_shard k x low =
+      ap (λ (n : ℕ). slice_set (parts_of split p) (n + k) (Shard x)) (sym many)
+      ∙ (set_right Front first rest k (Shard x) ∙ ap (λ zs. map Front first ++ zs) (set_left Shard p.shards behind k x low))
 
   -- the part of number i behind all shards
   get_behind : (i n : ℕ) → n ≡ split + (length p.shards + i) → slice_get (parts_of split p) n ≡ slice_get behind i
@@ -140,14 +143,16 @@ module _ {P : Type 0} (split : ℕ) (p : Parts P) (few : split ≤ length p.fron
   get_last : (j i : ℕ) → i ≡ split + j → slice_get (parts_of split p) (i + length p.shards + 3) ≡ option_map Front (slice_get p.fronts i)
   get_last j i is =
       get_behind (3 + j) (i + length p.shards + 3) (omega (arith, is))
-      ∙ (skip_three (Heap p.heap) (Map p.map) (Names p.names) (map Front last) j ∙ (get_map_all Front last j ∙ ap (option_map Front) (get_drop split p.fronts j ∙ ap (slice_get p.fronts) (sym is))))
+      ∙ (skip_three (Heap p.heap) (Map p.map) (Names p.names) (map Front last) j
+      ∙ (get_map_all Front last j ∙ ap (option_map Front) (get_drop split p.fronts j ∙ ap (slice_get p.fronts) (sym is))))
 
   set_last : (j i : ℕ) (q : P) → i ≡ split + j → slice_set (parts_of split p) (i + length p.shards + 3) (Front q) ≡ parts_of split (record p { fronts = slice_set p.fronts i q })
   set_last j i q is =
       let new : List P = slice_set p.fronts (split + j) q in
       let cut : List P → List P → List (Part P) = λ a b. map Front a ++ (map Shard p.shards ++ (Heap p.heap ∷ Map p.map ∷ Names p.names ∷ map Front b)) in
       set_behind (3 + j) (i + length p.shards + 3) (Front q) (omega (arith, is))
-      ∙ (ap (λ (xs : List (Part P)). map Front first ++ (map Shard p.shards ++ xs)) (set_past_three (Heap p.heap) (Map p.map) (Names p.names) (Front q) (map Front last) j ∙ ap (λ (xs : List (Part P)). Heap p.heap ∷ Map p.map ∷ Names p.names ∷ xs) (map_set Front last j q))
+      ∙ (ap (λ (xs : List (Part P)). map Front first ++ (map Shard p.shards ++ xs)) (set_past_three (Heap p.heap) (Map p.map) (Names p.names) (Front q) (map Front last) j
+      ∙ ap (λ (xs : List (Part P)). Heap p.heap ∷ Map p.map ∷ Names p.names ∷ xs) (map_set Front last j q))
       ∙ (ap (λ (xs : List P). cut first xs) (sym (drop_above split p.fronts j q))
       ∙ (ap (λ (xs : List P). cut xs (drop split new)) (sym (take_above split p.fronts j q)) ∙ ap (λ (k : ℕ). parts_of split (record p { fronts = slice_set p.fronts k q })) (sym is))))
 

@@ -59,7 +59,8 @@ module _ {P V R : Type 0} (r : FrontRules P V R) (about : R → About) (planned 
     first_lives next before [] is some = absurd (omega arith)
     first_lives next before (s ∷ others) is some = lives (does.Heap (heap.FreeSpan next)) before (run_of s) (omega (arith, alone (run_of s) [], ap (λ xs. runs_like (run_of s) (first_run xs)) is))
 
-    pub heap_fits : (row : HeapStep R) → Before (does.Heap row) → ((label : Label) (size : ℕ) → row ≡ heap.New label size → size ≤ 2 ^ 40) → FitsHeap m.rows p.heap (at (does.Heap row)) row
+    pub heap_fits : (row : HeapStep R) → Before (does.Heap row) → ((label : Label) (size : ℕ) → row ≡ heap.New label size → size ≤ 2 ^ 40)
+        → FitsHeap m.rows p.heap (at (does.Heap row)) row
     heap_fits (heap.New label size) before bound = (let some = some_size m.rows size before.rows.some before.shaped.step.1 in omega (arith, some), bound label size refl)
     heap_fits (heap.NewSpan a) before bound = (before.shaped.class, (row_at_class m.rows l before.rows before.shaped.class).pages)
     heap_fits (heap.GiveBack label run) before bound = lives (does.Heap (heap.GiveBack label run)) before run (alone run [])
@@ -67,10 +68,13 @@ module _ {P V R : Type 0} (r : FrontRules P V R) (about : R → About) (planned 
     heap_fits (heap.Unback pages) before bound = tt
 
     -- a span that is to be set
-    set_inside : (s : Step R) (before : Before s) (x : Run) (kind : SpanKind) → 0 < runs_like x (account_of about (at s)).off → maps.IsInside p.map.huge (record { first = x.first; pages = x.pages; kind = kind })
+    abbrev span : Run → SpanKind → SpanRef
+    span x kind = record { first = x.first; pages = x.pages; kind = kind }
+
+    set_inside : (s : Step R) (before : Before s) (x : Run) (kind : SpanKind) → 0 < runs_like x (account_of about (at s)).off → maps.IsInside p.map.huge (span x kind)
     set_inside s before x kind some = grind (arith, off)
 
-    set_apart : (s : Step R) (before : Before s) (x : Run) (kind : SpanKind) → 0 < runs_like x (account_of about (at s)).off → All (maps.AreApart (record { first = x.first; pages = x.pages; kind = kind })) p.map.spans
+    set_apart : (s : Step R) (before : Before s) (x : Run) (kind : SpanKind) → 0 < runs_like x (account_of about (at s)).off → All (maps.AreApart (span x kind)) p.map.spans
     set_apart s before x kind some =
         λ k d low.
         let y : SpanRef = get_or p.map.spans k d in
@@ -78,25 +82,24 @@ module _ {P V R : Type 0} (r : FrontRules P V R) (about : R → About) (planned 
         (off s before x some).apart y (omega (arith, span_counted y p.map.spans there, before.books.spans y))
 
     -- the span of an address
-    found_there : (label : Label) (addr : Addr) (before : Before (does.Map (map.Lookup label addr))) → (f : Found m b addr) × (find (maps.holds (addr.0 / page_bytes)) p.map.spans ≡ Some f.span) × Contains p.map.spans f.span
+    found_there : (label : Label) (addr : Addr) (before : Before (does.Map (map.Lookup label addr)))
+        → (f : Found m b addr) × (find (maps.holds (addr.0 / page_bytes)) p.map.spans ≡ Some f.span) × Contains p.map.spans f.span
     found_there label addr before =
         let s : Step R = does.Map (map.Lookup label addr) in
         let f : Found m b addr = frees_find m b calls t (account_of about (at s)) label addr before.facts (mine s before) refl refl in
         let there : Contains p.map.spans f.span = span_there f.span p.map.spans (omega (arith, f.there, before.books.spans f.span)) in
-        (f, find_only (maps.holds (addr.0 / page_bytes)) p.map.spans f.span there f.holds (λ y yt held. only_holder (addr.0 / page_bytes) p.map.spans f.span y before.parts.map.apart there yt f.holds held), there)
+        let only = λ (y : SpanRef). only_holder (addr.0 / page_bytes) p.map.spans f.span y before.parts.map.apart there in
+        (f, find_only (maps.holds (addr.0 / page_bytes)) p.map.spans f.span there f.holds (λ y yt held. only y yt f.holds held), there)
 
     kind_there : {label : Label} {addr : Addr} (f : Found m b addr) (before : Before (does.Map (map.Lookup label addr))) (kind : SpanKind) → f.span.kind ≡ kind → IsKindThere m.rows kind
     kind_there f before kind is = grind (arith, one_number)
 
     pub found_class : (row : MapStep R) → Before (does.Map row) → IsFoundClass m.rows p.map row
-    found_class (map.Set label run) before = tt
-    found_class (map.SetSpan a run) before = tt
-    found_class (map.Clear label run) before = tt
-    found_class (map.ClearSpan next) before = tt
     found_class (map.Lookup label addr) before = λ span is.
         let f = found_there label addr before in
         let same : f.0.span ≡ span = let e : Some f.0.span ≡ Some span = sym f.1 ∙ is in cc in
         kind_there f.0 before span.kind (ap (λ (s : SpanRef). s.kind) same)
+    found_class row before = tt
 
     first_is_there : (next : Onward R) (before : Before (does.Map (map.ClearSpan next))) (xs : List SpanRef) → l.freed.items ≡ xs → 0 < length xs → FirstIsThere p.map xs
     first_is_there next before [] is some = absurd (omega arith)
@@ -107,8 +110,8 @@ module _ {P V R : Type 0} (r : FrontRules P V R) (about : R → About) (planned 
         span_there s p.map.spans (omega (arith, h.there, before.books.spans s))
 
     pub map_fits : (row : MapStep R) → Before (does.Map row) → FitsMap p.map (at (does.Map row)) row
-    map_fits (map.Set label run) before = let s : Step R = does.Map (map.Set label run) in (set_inside s before run Large (alone run []), set_apart s before run Large (alone run []))
-    map_fits (map.SetSpan a run) before = let s : Step R = does.Map (map.SetSpan a run) in (set_inside s before run (Small l.regs.class) (alone run []), set_apart s before run (Small l.regs.class) (alone run []))
+    map_fits (map.Set label run) before = (set_inside _ before run Large (alone run []), set_apart _ before run Large (alone run []))
+    map_fits (map.SetSpan a run) before = (set_inside _ before run (Small l.regs.class) (alone run []), set_apart _ before run (Small l.regs.class) (alone run []))
     map_fits (map.Lookup label addr) before =
         let f = found_there label addr before in
         let inside : maps.IsInside p.map.huge f.0.span = All-contains (maps.IsInside p.map.huge) p.map.spans f.0.span before.parts.map.inside f.2 in
@@ -125,7 +128,8 @@ module _ {P V R : Type 0} (r : FrontRules P V R) (about : R → About) (planned 
         let s : Step R = does.Names (names.Publish label value) in
         let own : bit (eqb label.0 label.0) ≡ 1 = ap bit (eq-eqb label.0 label.0 refl) in
         let low = within m b calls t (account_of about (at s)) label.0 before.facts (mine s before) (omega (arith, own)) in
-        let out : bit (is_out (state_of b.names label.0)) ≡ 0 = omega (arith, before.facts.published label.0, least (unpublished label.0) b.accounts t (account_of about (at s)) (mine s before), own) in
+        let some = least (unpublished label.0) b.accounts t (account_of about (at s)) (mine s before) in
+        let out : bit (is_out (state_of b.names label.0)) ≡ 0 = omega (arith, before.facts.published label.0, some, own) in
         (omega (arith, low, ap length before.books.names), ap (λ (ns : List NameState). state_of ns label.0) (sym before.books.names) ∙ not_out (state_of b.names label.0) out)
     names_fits (names.Take label) before =
         let s : Step R = does.Names (names.Take label) in

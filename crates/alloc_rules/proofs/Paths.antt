@@ -8,7 +8,7 @@ use Rattle.alloc_rules.proofs.Common.{Local, step_or, Decided, first_act, decide
 use Rattle.alloc_rules.proofs.Common.{goes_onward, gave, clears, with_freed, with_more, fetches, with_spans_behind, shard_row, after_new, after_new_span}
 use Rattle.alloc_rules.proofs.Common.{frees_span, without_first_span, heap_row, found, after_lookup, clears_span, map_row, after_take, names_row, waits_row}
 use Rattle.alloc_rules.proofs.Common.{front_row, is_unpublished, About, undecided, under, without_call, about_giving, about_onward, call_about, MayDecide}
-use Rattle.alloc_rules.proofs.Common.{MayGoOnDecided, says, goes_or_ends, follows, Onward, Giving, Next, Step, ShardStep, HeapStep, MapStep, FrontCalls}
+use Rattle.alloc_rules.proofs.Common.{MayGoOnDecided, Planned, says, goes_or_ends, follows, Onward, Giving, Next, Step, ShardStep, HeapStep, MapStep, FrontCalls}
 use Rattle.alloc_rules.proofs.Common.{AreEntries, FrontRules, IsEntry, FitsNames, FirstLives, FirstIsThere, FitsHeap, FitsMap, IsNext, IsAct, AddsSome}
 use Rattle.alloc_rules.proofs.Common.{GoesOn, Closes, Path, Stays, Comes, is_under_way}
 use Rattle.name_table.specs.declared.table.NameState.TheVariants as name
@@ -31,187 +31,197 @@ first_some h xs lives = grind arith
 under_is : {R : Type 0} (about : R → About) (s : Step R) → is_under_way s ≡ true → under about s ≡ without_call (undecided about s)
 under_is about s way = grind (arith, false≢true)
 
+-- a local that has decided no more
+record Keeps {V R : Type 0} (l x : Local V R) : Type 0 where
+  answers : x.answers ≡ l.answers
+  ended : x.ended ≡ l.ended
+  rest : x.rest ≡ l.rest
+
+keeps : {V R : Type 0} (l : Local V R) → Keeps l l
+keeps l = record { answers = refl; ended = refl; rest = refl }
+
 -- within a call of a local: another one that has decided no more than this
 record IsFrom {V R : Type 0} (l x : Local V R) (new : List Decided) : Type 0 where
   answers : x.answers ≡ l.answers ++ new
   ended : x.ended ≡ l.ended
   rest : x.rest ≡ l.rest
 
-module _ {V R : Type 0} (e : FrontCalls V R) (about : R → About) (entries : AreEntries e about) (l : Local V R) where
-  -- what the next step may be of, where this was decided
-  Of : Option Call → List Decided → Type 0
-  Of o [] = (undecided about l.step ≡ o) × (under about l.step ≡ without_call o)
-  Of o (d ∷ []) = (undecided about l.step ≡ Some d.call) × (o ≡ None)
-  Of o (d ∷ e ∷ more) = ⊥
+same : {V R : Type 0} {l x : Local V R} → Keeps l x → IsFrom l x []
+same {l = l} kept = record { answers = kept.answers ∙ sym (append-nil l.answers); ended = kept.ended; rest = kept.rest }
 
-  goes_of : (next : Step R) → is_under_way next ≡ true → (new : List Decided) → Of (undecided about next) new → GoesOn e about l.step next new
-  unfolding Of
+answered : {V R : Type 0} {l x : Local V R} → Keeps l x → (call : Call) (answer : Answer) → IsFrom l (decided x call answer) (record { act = x.acts; call = call; answer = answer } ∷ [])
+answered {x = x} kept call answer = record { answers = ap (λ xs. xs ++ record { act = x.acts; call = call; answer = answer } ∷ []) kept.answers; ended = kept.ended; rest = kept.rest }
+
+-- what the next step may be of, where this was decided
+abbrev Of : {R : Type 0} → (R → About) → Step R → Option Call → List Decided → Type 0
+Of about s o [] = (undecided about s ≡ o) × (under about s ≡ without_call o)
+Of about s o (d ∷ []) = (undecided about s ≡ Some d.call) × (o ≡ None)
+Of about s o (d ∷ e ∷ more) = ⊥
+
+module _ {V R : Type 0} (e : FrontCalls V R) (about : R → About) (s : Step R) where
+  goes_of : (next : Step R) → is_under_way next ≡ true → (new : List Decided) → Of about s (undecided about next) new → GoesOn e about s next new
   goes_of next way [] of = (sym of.0, under_is about next way ∙ sym of.1)
   goes_of next way (d ∷ []) of = (of.0, of.1, under_is about next way ∙ ap without_call of.1)
   goes_of next way (d ∷ e ∷ more) of = absurd of
 
-  closes_of : (new : List Decided) → Of None new → Closes e about l.step new
-  unfolding Of
+  -- with a row of the front-end
+  enters : (row : R) (a : About) → about row ≡ a → (new : List Decided) → Of about s (call_about a) new → GoesOn e about s (does.Front row) new
+  enters row a is new of = goes_of (does.Front row) refl new (subst (λ (b : About). Of about s (call_about b) new) (sym is) of)
+
+  closes_of : (new : List Decided) → Of about s None new → Closes e about s new
   closes_of [] of = (of.1, of.0)
   closes_of (d ∷ []) of = of.0
   closes_of (d ∷ e ∷ more) of = absurd of
 
-  go : (x : Local V R) (new : List Decided) (next : Step R) → IsFrom l x new → is_under_way next ≡ true → Of (undecided about next) new → Path e about l (goes x next)
-  go x new next from way of = Stays new from.answers from.ended from.rest way (goes_of next way new of)
+module _ {V R : Type 0} {e : FrontCalls V R} {about : R → About} (entries : AreEntries e about) {l : Local V R} where
+  go : {x : Local V R} {new : List Decided} (next : Step R) → IsFrom l x new → is_under_way next ≡ true → Of about l.step (undecided about next) new → Path e about l (goes x next)
+  go {new = new} next from way of = Stays new from.answers from.ended from.rest way (goes_of e about l.step next way new of)
 
-  closed_by : (x : Local V R) (new : List Decided) → IsFrom l x new → Of None new → (o : Option R) → IsEntry about (calls.Other None) o → Path e about l (closes e x o)
-  closed_by x new from of None entry = Comes new from.answers (ap (λ n. n + 1) from.ended) (ap (drop 1) from.rest) (ap (λ xs. first_act e (e.begins x.seat (slice_get x.rest 0)) (slice_get xs 0)) from.rest) (closes_of new of)
-  closed_by x new from of (Some row) entry = Stays new from.answers from.ended from.rest refl (goes_of (does.Front row) refl new (subst (λ (b : About). Of (call_about b) new) (sym entry) of))
+  closed_by : {x : Local V R} {new : List Decided} → IsFrom l x new → Of about l.step None new → (o : Option R) → IsEntry about (calls.Other None) o → Path e about l (closes e x o)
+  closed_by {x} {new} from of None entry =
+      let begun = ap (λ (xs : List Planned). first_act e (e.begins x.seat (slice_get x.rest 0)) (slice_get xs 0)) from.rest in
+      Comes new from.answers (ap (λ n. n + 1) from.ended) (ap (drop 1) from.rest) begun (closes_of e about l.step new of)
+  closed_by {new = new} from of (Some row) entry = Stays new from.answers from.ended from.rest refl (enters e about l.step row (calls.Other None) entry new of)
 
-  over : (x : Local V R) (new : List Decided) → IsFrom l x new → Of None new → Path e about l (ends e x)
-  over x new from of = closed_by (record x { acts = x.acts + 1 }) new (record { answers = from.answers; ended = from.ended; rest = from.rest }) of (e.last x.seat) (entries.last_about x.seat)
+  over : {x : Local V R} {new : List Decided} → IsFrom l x new → Of about l.step None new → Path e about l (ends e x)
+  over {x} from of = closed_by {x = record x { acts = x.acts + 1 }} (record { answers = from.answers; ended = from.ended; rest = from.rest }) of (e.last x.seat) (entries.last_about x.seat)
 
   -- one that is decided by the act that ends it
-  ends_deciding : (x : Local V R) (call : Call) (answer : Answer) → x.answers ≡ l.answers → x.ended ≡ l.ended → x.rest ≡ l.rest → undecided about l.step ≡ Some call → Path e about l (ends e (decided x call answer))
-  unfolding Of
-  ends_deciding x call answer answers ended rest of =
-      let new : List Decided = record { act = x.acts; call = call; answer = answer } ∷ [] in
-      over (decided x call answer) new (record { answers = ap (λ xs. xs ++ new) answers; ended = ended; rest = rest }) (of, refl)
-
-  -- a local with other registers, spans or move, and nothing decided
-  same : (x : Local V R) → x.answers ≡ l.answers → x.ended ≡ l.ended → x.rest ≡ l.rest → IsFrom l x []
-  same x answers ended rest = record { answers = answers ∙ sym (append-nil l.answers); ended = ended; rest = rest }
+  ends_deciding : {x : Local V R} → Keeps l x → (call : Call) (answer : Answer) → undecided about l.step ≡ Some call → Path e about l (ends e (decided x call answer))
+  ends_deciding kept call answer of = over (answered kept call answer) (of, refl)
 
   -- a step that is a row of the front-end or another one
-  rested : (x : Local V R) (new : List Decided) (s : Serving) (o : Option R) → IsEntry about (calls.Publishes s) o → IsFrom l x new → Of None new → Path e about l (goes (with_regs x (e.to_rest x.regs)) (step_or (does.Shard (shard.Give (giving.Rest s))) o))
-  rested x new s None entry from of = Stays new from.answers from.ended from.rest refl (goes_of (does.Shard (shard.Give (giving.Rest s))) refl new of)
-  rested x new s (Some row) entry from of = Stays new from.answers from.ended from.rest refl (goes_of (does.Front row) refl new (subst (λ (b : About). Of (call_about b) new) (sym entry) of))
+  rested : {x : Local V R} {new : List Decided} (s : Serving) (o : Option R) → IsEntry about (calls.Publishes s) o → IsFrom l x new → Of about l.step None new
+      → Path e about l (goes (with_regs x (e.to_rest x.regs)) (step_or (does.Shard (shard.Give (giving.Rest s))) o))
+  rested {new = new} s None entry from of = Stays new from.answers from.ended from.rest refl (goes_of e about l.step (does.Shard (shard.Give (giving.Rest s))) refl new of)
+  rested {new = new} s (Some row) entry from of = Stays new from.answers from.ended from.rest refl (enters e about l.step row (calls.Publishes s) entry new of)
 
   -- the hand is the answer's, and the rest's
-  stocked : (x : Local V R) (new : List Decided) (s : Serving) (others : List Addr) → IsFrom l x new → Of None new → Path e about l (stocks e x s others)
-  stocked x new s [] from of = go x new (does.Names (names.Publish s.label (Some s.addr))) from refl of
-  stocked x new s (a ∷ others) from of = rested x new s (e.rest x.seat s) (entries.rest_about x.seat s) from of
+  stocked : {x : Local V R} {new : List Decided} (s : Serving) (others : List Addr) → IsFrom l x new → Of about l.step None new → Path e about l (stocks e x s others)
+  stocked s [] from of = go (does.Names (names.Publish s.label (Some s.addr))) from refl of
+  stocked {x} s (a ∷ others) from of = rested s (e.rest x.seat s) (entries.rest_about x.seat s) from of
 
-  goes_to : (x : Local V R) (new : List Decided) (next : Onward R) → IsFrom l x new → Of (call_about (about_onward about next)) new → Path e about l (goes_onward e x next)
-  goes_to x new (onward.Publish s) from of = go x new (does.Names (names.Publish s.label (Some s.addr))) from refl of
-  goes_to x new (onward.Row k row) from of = Stays new from.answers from.ended from.rest refl (goes_of (does.Front row) refl new of)
-  goes_to x new onward.End from of = over x new from of
+  goes_to : {x : Local V R} {new : List Decided} (next : Onward R) → IsFrom l x new → Of about l.step (call_about (about_onward about next)) new → Path e about l (goes_onward e x next)
+  goes_to (onward.Publish s) from of = go (does.Names (names.Publish s.label (Some s.addr))) from refl of
+  goes_to {new = new} (onward.Row k row) from of = Stays new from.answers from.ended from.rest refl (goes_of e about l.step (does.Front row) refl new of)
+  goes_to onward.End from of = over from of
 
-  cleared : (x : Local V R) (new : List Decided) (next : Onward R) (spans : List SpanRef) → IsFrom l x new → Of (call_about (about_onward about next)) new → Path e about l (clears e x next spans)
-  cleared x new next [] from of = goes_to x new next from of
-  cleared x new next (s ∷ others) from of = go x new (does.Map (map.ClearSpan next)) from refl of
+  cleared : {x : Local V R} {new : List Decided} (next : Onward R) (spans : List SpanRef) → IsFrom l x new → Of about l.step (call_about (about_onward about next)) new
+      → Path e about l (clears e x next spans)
+  cleared next [] from of = goes_to next from of
+  cleared next (s ∷ others) from of = go (does.Map (map.ClearSpan next)) from refl of
 
   -- an allocation is served by what is in hand
-  served : (x : Local V R) (a : Asking) (hand : List Addr) → x.answers ≡ l.answers → x.ended ≡ l.ended → x.rest ≡ l.rest → 0 < length hand → Of (Some (calls.asks a)) [] → Path e about l (serves_first e x a hand)
-  unfolding Of
-  served x a [] answers ended rest some of = absurd (omega arith)
-  served x a (o ∷ others) answers ended rest some of =
-      let new : List Decided = record { act = x.acts; call = Malloc a.label a.size; answer = Block o (class_row e.rows x).size } ∷ [] in
-      stocked (decided (with_hand x (without_first 1 x.regs.hand)) (Malloc a.label a.size) (Block o (class_row e.rows x).size)) new (record { label = a.label; addr = o }) others (record { answers = ap (λ xs. xs ++ new) answers; ended = ended; rest = rest }) (of.0, refl)
+  served : {x : Local V R} (a : Asking) (hand : List Addr) → Keeps l x → 0 < length hand → Of about l.step (Some (calls.asks a)) [] → Path e about l (serves_first e x a hand)
+  served a [] kept some of = absurd (omega arith)
+  served {x} a (o ∷ others) kept some of =
+      let kept' : Keeps l (with_hand x (without_first 1 x.regs.hand)) = record { answers = kept.answers; ended = kept.ended; rest = kept.rest } in
+      stocked (record { label = a.label; addr = o }) others (answered kept' (Malloc a.label a.size) (Block o (class_row e.rows x).size)) (of.0, refl)
 
   -- the hand was given, which decides a free
-  gave_path : (x : Local V R) (g : Giving R) → x.answers ≡ l.answers → x.ended ≡ l.ended → x.rest ≡ l.rest → Of (call_about (about_giving about g)) [] → Path e about l (gave e x g)
-  unfolding Of
-  gave_path x (giving.Rest s) answers ended rest of = cleared x [] (onward.Publish s) x.freed.items (same x answers ended rest) of
-  gave_path x (giving.Freed f) answers ended rest of =
-      let new : List Decided = record { act = x.acts; call = Free f.label; answer = Freed f.addr } ∷ [] in
-      cleared (decided x (Free f.label) (Freed f.addr)) new onward.End x.freed.items (record { answers = ap (λ xs. xs ++ new) answers; ended = ended; rest = rest }) (of.0, refl)
-  gave_path x (giving.Row k row) answers ended rest of = cleared x [] (onward.Row k row) x.freed.items (same x answers ended rest) of
-  gave_path x giving.End answers ended rest of = cleared x [] onward.End x.freed.items (same x answers ended rest) of
+  gave_path : {x : Local V R} (g : Giving R) → Keeps l x → Of about l.step (call_about (about_giving about g)) [] → Path e about l (gave e x g)
+  gave_path {x} (giving.Rest s) kept of = cleared (onward.Publish s) x.freed.items (same kept) of
+  gave_path {x} (giving.Freed f) kept of = cleared onward.End x.freed.items (answered kept (Free f.label) (Freed f.addr)) (of.0, refl)
+  gave_path {x} (giving.Row k row) kept of = cleared (onward.Row k row) x.freed.items (same kept) of
+  gave_path {x} giving.End kept of = cleared onward.End x.freed.items (same kept) of
 
   -- a call without a label is decided, and goes on or ends
-  decides_path : (x : Local V R) (a : About) (answer : Answer) (row : Option R) → x.answers ≡ l.answers → x.ended ≡ l.ended → x.rest ≡ l.rest → Of (call_about a) [] → MayDecide a answer → MayGoOnDecided about row → Path e about l (goes_or_ends e (says x (call_about a) answer) row)
-  unfolding Of
-  decides_path x (calls.Other (Some call)) answer None answers ended rest of decides may = ends_deciding x call answer answers ended rest of.0
-  decides_path x (calls.Other (Some call)) answer (Some row) answers ended rest of decides may =
-      let new : List Decided = record { act = x.acts; call = call; answer = answer } ∷ [] in
-      go (decided x call answer) new (does.Front row) (record { answers = ap (λ xs. xs ++ new) answers; ended = ended; rest = rest }) refl (of.0, ap call_about may)
-  decides_path x (calls.Other None) answer row answers ended rest of decides may = absurd decides
-  decides_path x (calls.Asks a) answer row answers ended rest of decides may = absurd decides
-  decides_path x (calls.Publishes s) answer row answers ended rest of decides may = absurd decides
-  decides_path x (calls.Frees f) answer row answers ended rest of decides may = absurd decides
+  decides_path : {x : Local V R} (a : About) (answer : Answer) (row : Option R) → Keeps l x → Of about l.step (call_about a) [] → MayDecide a answer → MayGoOnDecided about row
+      → Path e about l (goes_or_ends e (says x (call_about a) answer) row)
+  decides_path (calls.Other (Some call)) answer None kept of decides may = ends_deciding kept call answer of.0
+  decides_path (calls.Other (Some call)) answer (Some row) kept of decides may = go (does.Front row) (answered kept call answer) refl (of.0, ap call_about may)
+  decides_path a answer row kept of decides may = absurd decides
 
-module _ {P V R : Type 0} (r : FrontRules P V R) (about : R → About) (entries : AreEntries r.calls about) (l x : Local V R) (row : R) (old : Regs) (answers : x.answers ≡ l.answers) (ended : x.ended ≡ l.ended) (rest : x.rest ≡ l.rest) (of : Of r.calls about entries l (call_about (about row)) []) where
-  -- what may come behind an act of the front-end
-  from : IsFrom l x []
-  from = same r.calls about entries l x answers ended rest
-
-  now : (a : About) → a ≡ about row → Of r.calls about entries l (call_about a) []
-  now a is = subst (λ (b : About). Of r.calls about entries l (call_about b) []) (sym is) of
+-- what may come behind an act of the front-end
+module _ {P V R : Type 0} (r : FrontRules P V R) {about : R → About} (entries : AreEntries r.calls about) {l x : Local V R} (row : R) (old : Regs) (kept : Keeps l x)
+    (of : Of about l.step (call_about (about row)) []) where
+  now : {a : About} → a ≡ about row → Of about l.step (call_about a) []
+  now is = subst (λ (b : About). Of about l.step (call_about b) []) (sym is) of
 
   follows_path : (n : Next R) → IsNext r about row old x.regs n → Path r.calls about l (follows r.calls x (call_about (about row)) n)
-  unfolding Of
-  follows_path (next.Row to) may = go r.calls about entries l x [] (does.Front to) from refl (now (about to) may.0)
-  follows_path (next.Serve asking) may = served r.calls about entries l x asking x.regs.hand.items answers ended rest may.1 (now (calls.Asks asking) (sym may.0))
-  follows_path (next.Fetch asking) may = go r.calls about entries l x [] (does.Shard (shard.Fetch asking)) from refl (now (calls.Asks asking) (sym may.0))
-  follows_path (next.Give g) may = go r.calls about entries l x [] (does.Shard (shard.Give g)) from refl (now (about_giving about g) (sym may.0))
-  follows_path (next.Gave (giving.Rest s)) may = gave_path r.calls about entries l x (giving.Rest s) answers ended rest (now (calls.Publishes s) (sym may.0))
-  follows_path (next.Gave (giving.Freed f)) may = gave_path r.calls about entries l x (giving.Freed f) answers ended rest (now (calls.Frees f) (sym may.0))
-  follows_path (next.Gave (giving.Row k to)) may = gave_path r.calls about entries l x (giving.Row k to) answers ended rest (now (about to) (sym may.0))
-  follows_path (next.Gave giving.End) may = gave_path r.calls about entries l x giving.End answers ended rest (now (calls.Other None) (sym may.0))
-  follows_path (next.Publish s) may = go r.calls about entries l x [] (does.Names (names.Publish s.label (Some s.addr))) from refl (now (calls.Publishes s) (sym may.0))
-  follows_path (next.Freed f) may = ends_deciding r.calls about entries l x (Free f.label) (Freed f.addr) answers ended rest (of.0 ∙ ap call_about may.0)
-  follows_path (next.Decide answer None) may = decides_path r.calls about entries l x (about row) answer None answers ended rest of may.0 tt
-  follows_path (next.Decide answer (Some to)) may = decides_path r.calls about entries l x (about row) answer (Some to) answers ended rest of may.0 may.2
-  follows_path next.End may = over r.calls about entries l x [] from (now (calls.Other None) (sym may.0))
+  follows_path (next.Row to) may = go entries (does.Front to) (same kept) refl (now may.0)
+  follows_path (next.Serve asking) may = served entries asking x.regs.hand.items kept may.1 (now (sym may.0))
+  follows_path (next.Fetch asking) may = go entries (does.Shard (shard.Fetch asking)) (same kept) refl (now (sym may.0))
+  follows_path (next.Give g) may = go entries (does.Shard (shard.Give g)) (same kept) refl (now (sym may.0))
+  follows_path (next.Gave (giving.Rest s)) may = gave_path entries (giving.Rest s) kept (now (sym may.0))
+  follows_path (next.Gave (giving.Freed f)) may = gave_path entries (giving.Freed f) kept (now (sym may.0))
+  follows_path (next.Gave (giving.Row k to)) may = gave_path entries (giving.Row k to) kept (now (sym may.0))
+  follows_path (next.Gave giving.End) may = gave_path entries giving.End kept (now (sym may.0))
+  follows_path (next.Publish s) may = go entries (does.Names (names.Publish s.label (Some s.addr))) (same kept) refl (now (sym may.0))
+  follows_path (next.Freed f) may = ends_deciding entries kept (Free f.label) (Freed f.addr) (of.0 ∙ ap call_about may.0)
+  follows_path (next.Decide answer None) may = decides_path entries (about row) answer None kept of may.0 tt
+  follows_path (next.Decide answer (Some to)) may = decides_path entries (about row) answer (Some to) kept of may.0 may.2
+  follows_path next.End may = over entries (same kept) (now (sym may.0))
 
-pub front_path : {P V R : Type 0} (r : FrontRules P V R) (about : R → About) (entries : AreEntries r.calls about) (l : Local V R) (q : P) (row : R) → l.step ≡ does.Front row → IsAct r about q l.regs row (r.acts q l.seat l.regs row) → Path r.calls about l (front_row r about q l row).1
-unfolding Of
+pub front_path : {P V R : Type 0} (r : FrontRules P V R) (about : R → About) (entries : AreEntries r.calls about) (l : Local V R) (q : P) (row : R) → l.step ≡ does.Front row
+    → IsAct r about q l.regs row (r.acts q l.seat l.regs row) → Path r.calls about l (front_row r about q l row).1
 front_path r about entries l q row step act =
     let x = r.acts q l.seat l.regs row in
-    follows_path r about entries l (record l { seat = x.seat; regs = x.regs }) row l.regs refl refl refl (ap (undecided about) step, ap (under about) step) x.next act.next
+    follows_path r entries {l = l} {x = record l { seat = x.seat; regs = x.regs }} row l.regs (record { answers = refl; ended = refl; rest = refl })
+    (ap (undecided about) step, ap (under about) step) x.next act.next
 
 -- The acts by their parts. A local with another step, for a part's row.
 some_more : (hand : List Addr) (o : Addr) (others : List Addr) → 0 < length (hand ++ o ∷ others)
 some_more hand o others = omega (arith, length-append hand (o ∷ others))
 
 module _ {V R : Type 0} (e : FrontCalls V R) (about : R → About) (entries : AreEntries e about) (l : Local V R) where
+  -- a path from the local with this step
+  abbrev From : Step R → Local V R → Type 0
+  From s = Path e about (record l { step = s })
+
+  abbrev silent : l.answers ≡ l.answers ++ []
+  silent = sym (append-nil l.answers)
+
   abbrev on_heap : HeapStep R → Local V R
   on_heap row = record l { step = does.Heap row }
 
-  new_path : (h : heaps.Heap) (label : Label) (size : ℕ) (o : Option Placed) → Path e about (on_heap (heap.New label size)) (after_new h (on_heap (heap.New label size)) label size o).1
+  new_path : (h : heaps.Heap) (label : Label) (size : ℕ) (o : Option Placed) → From (does.Heap (heap.New label size)) (after_new h (on_heap (heap.New label size)) label size o).1
   new_path h label size None = Stays (record { act = l.acts; call = Malloc label size; answer = NoBlock } ∷ []) refl refl refl refl (refl, refl, refl)
   new_path h label size (Some p) = Stays (record { act = l.acts; call = Malloc label size; answer = Block (address_of p.run) (p.run.pages * page_bytes) } ∷ []) refl refl refl refl (refl, refl, refl)
 
-  span_path : (h : heaps.Heap) (a : Asking) (o : Option Placed) → Path e about (on_heap (heap.NewSpan a)) (after_new_span h (on_heap (heap.NewSpan a)) a o).1
+  span_path : (h : heaps.Heap) (a : Asking) (o : Option Placed) → From (does.Heap (heap.NewSpan a)) (after_new_span h (on_heap (heap.NewSpan a)) a o).1
   span_path h a None = Stays (record { act = l.acts; call = Malloc a.label a.size; answer = NoBlock } ∷ []) refl refl refl refl (refl, refl, refl)
   span_path h a (Some p) = Stays [] (sym (append-nil l.answers)) refl refl refl (refl, refl)
 
-  free_path : (h : heaps.Heap) (next : Onward R) (xs : List SpanRef) → 0 < length xs → Path e about (on_heap (heap.FreeSpan next)) (frees_span e h (on_heap (heap.FreeSpan next)) next xs).1
-  unfolding Of
+  free_path : (h : heaps.Heap) (next : Onward R) (xs : List SpanRef) → 0 < length xs → From (does.Heap (heap.FreeSpan next)) (frees_span e h (on_heap (heap.FreeSpan next)) next xs).1
   free_path h next [] some = absurd (omega arith)
-  free_path h next (s ∷ others) some = let x : Local V R = with_freed (on_heap (heap.FreeSpan next)) (without_first_span l.freed others) in cleared e about entries (on_heap (heap.FreeSpan next)) x [] next others (same e about entries (on_heap (heap.FreeSpan next)) x refl refl refl) (refl, refl)
+  free_path h next (s ∷ others) some =
+      cleared entries {x = with_freed (on_heap (heap.FreeSpan next)) (without_first_span l.freed others)} next others (record { answers = silent; ended = refl; rest = refl }) (refl, refl)
 
-  pub heap_path : (h : heaps.Heap) (row : HeapStep R) → FitsHeap e.rows h (on_heap row) row → Path e about (on_heap row) (heap_row e h (on_heap row) row).1
-  unfolding Of
+  pub heap_path : (h : heaps.Heap) (row : HeapStep R) → FitsHeap e.rows h (on_heap row) row → From (does.Heap row) (heap_row e h (on_heap row) row).1
   heap_path h (heap.New label size) fits = new_path h label size (new h (pages_holding size))
   heap_path h (heap.NewSpan a) fits = span_path h a (new h (class_row e.rows l).pages)
-  heap_path h (heap.GiveBack label run) fits = ends_deciding e about entries (on_heap (heap.GiveBack label run)) (on_heap (heap.GiveBack label run)) (Free label) (Freed (address_of run)) refl refl refl refl
+  heap_path h (heap.GiveBack label run) fits = ends_deciding entries (keeps (on_heap (heap.GiveBack label run))) (Free label) (Freed (address_of run)) refl
   heap_path h (heap.FreeSpan next) fits = free_path h next l.freed.items (first_some h l.freed.items fits)
-  heap_path h (heap.Unback pages) fits = ends_deciding e about entries (on_heap (heap.Unback pages)) (on_heap (heap.Unback pages)) (Release pages) (Released (release h pages).pages) refl refl refl refl
+  heap_path h (heap.Unback pages) fits = ends_deciding entries (keeps (on_heap (heap.Unback pages))) (Release pages) (Released (release h pages).pages) refl
 
   -- the page map
   abbrev on_map : MapStep R → Local V R
   on_map row = record l { step = does.Map row }
 
-  abbrev silent : l.answers ≡ l.answers ++ []
-  silent = sym (append-nil l.answers)
-
   -- the object of a free is in hand
-  freed_path : (label : Label) (addr : Addr) (x : Local V R) (f : Freeing) → x.answers ≡ l.answers → x.ended ≡ l.ended → x.rest ≡ l.rest → (o : Option R) → IsEntry about (calls.Frees f) o → f.label ≡ label → Path e about (on_map (map.Lookup label addr)) (goes x (step_or (does.Shard (shard.Give (giving.Freed f))) o))
-  freed_path label addr x f answers ended rest None entry own = Stays [] (answers ∙ silent) ended rest refl (ap (λ (y : Label). Some (Free y)) own, refl)
-  freed_path label addr x f answers ended rest (Some row) entry own = Stays [] (answers ∙ silent) ended rest refl (ap call_about entry ∙ ap (λ (y : Label). Some (Free y)) own, ap without_call (ap call_about entry))
+  freed_path : (label : Label) (addr : Addr) (x : Local V R) → Keeps l x → (o : Option R) → IsEntry about (calls.Frees (record { label = label; addr = addr })) o
+      → From (does.Map (map.Lookup label addr)) (goes x (step_or (does.Shard (shard.Give (giving.Freed (record { label = label; addr = addr })))) o))
+  freed_path label addr x kept None entry = Stays [] (kept.answers ∙ silent) kept.ended kept.rest refl (refl, refl)
+  freed_path label addr x kept (Some row) entry = Stays [] (kept.answers ∙ silent) kept.ended kept.rest refl (ap call_about entry, ap without_call (ap call_about entry))
 
-  found_path : (label : Label) (addr : Addr) (span : SpanRef) (kind : SpanKind) → Path e about (on_map (map.Lookup label addr)) (found e (on_map (map.Lookup label addr)) label addr span kind)
+  found_path : (label : Label) (addr : Addr) (span : SpanRef) (kind : SpanKind) → From (does.Map (map.Lookup label addr)) (found e (on_map (map.Lookup label addr)) label addr span kind)
   found_path label addr span (Small k) =
       let f : Freeing = record { label = label; addr = addr } in
-      freed_path label addr (record (on_map (map.Lookup label addr)) { regs = e.to_free (record l.regs { class = k; hand = appended l.regs.hand (addr ∷ []) }) }) f refl refl refl (e.free l.seat f) (entries.free_about l.seat f) refl
+      freed_path label addr (record (on_map (map.Lookup label addr)) { regs = e.to_free (record l.regs { class = k; hand = appended l.regs.hand (addr ∷ []) }) })
+      (record { answers = refl; ended = refl; rest = refl }) (e.free l.seat f) (entries.free_about l.seat f)
   found_path label addr span Large = Stays [] silent refl refl refl (refl, refl)
 
-  lookup_path : (x : SpanMap) (label : Label) (addr : Addr) (o : Option SpanRef) → find (holds (addr.0 / page_bytes)) x.spans ≡ o → FitsMap x (on_map (map.Lookup label addr)) (map.Lookup label addr) → Path e about (on_map (map.Lookup label addr)) (after_lookup e (on_map (map.Lookup label addr)) label addr o)
+  lookup_path : (x : SpanMap) (label : Label) (addr : Addr) (o : Option SpanRef) → find (holds (addr.0 / page_bytes)) x.spans ≡ o
+      → FitsMap x (on_map (map.Lookup label addr)) (map.Lookup label addr) → From (does.Map (map.Lookup label addr)) (after_lookup e (on_map (map.Lookup label addr)) label addr o)
   lookup_path x label addr None is fits = let wrong : None ≡ Some fits.0 = sym is ∙ fits.1 in absurd (cc)
   lookup_path x label addr (Some span) is fits = found_path label addr span span.kind
 
-  clear_path : (x : SpanMap) (next : Onward R) (xs : List SpanRef) → FirstIsThere x xs → Path e about (on_map (map.ClearSpan next)) (clears_span x (on_map (map.ClearSpan next)) next xs).1
+  clear_path : (x : SpanMap) (next : Onward R) (xs : List SpanRef) → FirstIsThere x xs → From (does.Map (map.ClearSpan next)) (clears_span x (on_map (map.ClearSpan next)) next xs).1
   clear_path x next [] there = absurd there
   clear_path x next (s ∷ others) there = Stays [] silent refl refl refl (refl, refl)
 
-  pub map_path : (x : SpanMap) (row : MapStep R) → FitsMap x (on_map row) row → Path e about (on_map row) (map_row e x (on_map row) row).1
+  pub map_path : (x : SpanMap) (row : MapStep R) → FitsMap x (on_map row) row → From (does.Map row) (map_row e x (on_map row) row).1
   map_path x (map.Set label run) fits = Stays [] silent refl refl refl (refl, refl)
   map_path x (map.SetSpan a run) fits = Stays [] silent refl refl refl (refl, refl)
   map_path x (map.Lookup label addr) fits = lookup_path x label addr (find (holds (addr.0 / page_bytes)) x.spans) refl fits
@@ -222,35 +232,33 @@ module _ {V R : Type 0} (e : FrontCalls V R) (about : R → About) (entries : Ar
   abbrev on_names : NamesStep → Local V R
   on_names row = record l { step = does.Names row }
 
-  take_path : (ns : List NameState) (label : Label) (s : NameState) → is_unpublished s ≡ false → (s ≡ name.Taken → ⊥) → Path e about (on_names (names.Take label)) (after_take e ns (on_names (names.Take label)) label s).1
-  unfolding Of
+  take_path : (ns : List NameState) (label : Label) (s : NameState) → is_unpublished s ≡ false → (s ≡ name.Taken → ⊥)
+      → From (does.Names (names.Take label)) (after_take e ns (on_names (names.Take label)) label s).1
   take_path ns label name.Unpublished out fresh = absurd (false≢true (sym out))
   take_path ns label name.Taken out fresh = absurd (fresh refl)
-  take_path ns label (name.Published None) out fresh = ends_deciding e about entries (on_names (names.Take label)) (on_names (names.Take label)) (Free label) FreedNull refl refl refl refl
+  take_path ns label (name.Published None) out fresh = ends_deciding entries (keeps (on_names (names.Take label))) (Free label) FreedNull refl
   take_path ns label (name.Published (Some addr)) out fresh = Stays [] silent refl refl refl (refl, refl)
 
-  pub names_path : (ns : List NameState) (row : NamesStep) → FitsNames ns row → waits_row ns row ≡ false → Path e about (on_names row) (names_row e ns (on_names row) row).1
-  unfolding Of
-  names_path ns (names.Publish label value) fits out = let x : Local V R = on_names (names.Publish label value) in over e about entries x x [] (same e about entries x x refl refl refl) (refl, refl)
+  pub names_path : (ns : List NameState) (row : NamesStep) → FitsNames ns row → waits_row ns row ≡ false → From (does.Names row) (names_row e ns (on_names row) row).1
+  names_path ns (names.Publish label value) fits out = over entries (same (keeps (on_names (names.Publish label value)))) (refl, refl)
   names_path ns (names.Take label) fits out = take_path ns label (state_of ns label.0) out fits.1
 
   -- a shard
   abbrev on_shard : ShardStep R → Local V R
   on_shard row = record l { step = does.Shard row }
 
-  fetch_path : (a : Asking) (objects : List Addr) → Path e about (on_shard (shard.Fetch a)) (fetches e (on_shard (shard.Fetch a)) a objects)
-  unfolding Of
+  fetch_path : (a : Asking) (objects : List Addr) → From (does.Shard (shard.Fetch a)) (fetches e (on_shard (shard.Fetch a)) a objects)
   fetch_path a [] = Stays [] silent refl refl refl (refl, refl)
   fetch_path a (o ∷ others) =
       let x : Local V R = with_more (on_shard (shard.Fetch a)) (o ∷ others) in
-      served e about entries (on_shard (shard.Fetch a)) x a x.regs.hand.items refl refl refl (some_more l.regs.hand.items o others) (refl, refl)
+      served entries {x = x} a x.regs.hand.items (record { answers = refl; ended = refl; rest = refl }) (some_more l.regs.hand.items o others) (refl, refl)
 
-  pub shard_path : (s : shards.Shard) (row : ShardStep R) → AddsSome e.rows s (on_shard row) row → Path e about (on_shard row) (shard_row e s (on_shard row) row).1
-  unfolding Of
+  pub shard_path : (s : shards.Shard) (row : ShardStep R) → AddsSome e.rows s (on_shard row) row → From (does.Shard row) (shard_row e s (on_shard row) row).1
   shard_path s (shard.Fetch a) adds = fetch_path a (shards.fetched (class_row e.rows l).batch s)
   shard_path s (shard.AddFetch a run) adds =
-      let x : Local V R = with_more (on_shard (shard.AddFetch a run)) (opening (small l.regs.class run) s.central.row.size (class_row e.rows l).batch) in
-      served e about entries (on_shard (shard.AddFetch a run)) x a x.regs.hand.items refl refl refl (omega (arith, adds, length-append l.regs.hand.items (opening (small l.regs.class run) s.central.row.size (class_row e.rows l).batch))) (refl, refl)
+      let came : List Addr = opening (small l.regs.class run) s.central.row.size (class_row e.rows l).batch in
+      let x : Local V R = with_more (on_shard (shard.AddFetch a run)) came in
+      served entries {x = x} a x.regs.hand.items (record { answers = refl; ended = refl; rest = refl }) (omega (arith, adds, length-append l.regs.hand.items came)) (refl, refl)
   shard_path s (shard.Give g) adds =
       let x : Local V R = with_freed (with_hand (on_shard (shard.Give g)) (emptied l.regs.hand)) (with_spans_behind l.freed (shards.freed_by l.regs.hand.items s)) in
-      gave_path e about entries (on_shard (shard.Give g)) x g refl refl refl (refl, refl)
+      gave_path entries {x = x} g (record { answers = refl; ended = refl; rest = refl }) (refl, refl)

@@ -4,7 +4,8 @@ use Rattle.alloc_rules.proofs.Common.{sum_by-cons, Run, SpanRef, bit, same_run, 
 use Rattle.alloc_rules.proofs.Common.{Counts, like, like_span, starting, of_run, less_counts, without_counts, same_run_refl, same_span_refl}
 
 -- over a test of items, how often one is in a list, and the list without it
-module _ {X : Type 0} (same : X → X → Bool) (often : X → List X → ℕ) (rest : X → List X → List X) (one : (x : X) → same x x ≡ true) (counts : (x : X) → Counts (often x) (λ (y : X). bit (same y x)))
+module _ {X : Type 0} (same : X → X → Bool) (often : X → List X → ℕ) (rest : X → List X → List X)
+    (one : (x : X) → same x x ≡ true) (counts : (x : X) → Counts (often x) (λ (y : X). bit (same y x)))
     (taken : (x : X) (xs : List X) → 0 < often x xs → (g : List X → ℕ) (q : X → ℕ) → Counts g q → g (rest x xs) + q x ≡ g xs) where
   first_there : (x : X) (xs : List X) → 0 < often x (x ∷ xs)
   first_there x xs = let e : bit (same x x) ≡ 1 = ap bit (one x) in omega (arith, (counts x).more x xs, e)
@@ -28,7 +29,9 @@ module _ (xs ys : List Run) (alike : (r : Run) → runs_like r xs ≡ runs_like 
   same_starts n = same_counts same_run runs_like less same_run_refl like (λ x rs some g q c. less_counts x rs some c) xs ys alike (starting n)
 
   pub same_pages : pages_in xs ≡ pages_in ys
-  same_pages = same_counts same_run runs_like less same_run_refl like (λ x rs some g q c. less_counts x rs some c) xs ys alike (record { none = refl; more = λ r rs. sum_by-cons (λ (x : Run). x.pages) r rs })
+  same_pages =
+      same_counts same_run runs_like less same_run_refl like (λ x rs some g q c. less_counts x rs some c) xs ys alike
+      (record { none = refl; more = λ r rs. sum_by-cons (λ (x : Run). x.pages) r rs })
 
 pub same_spans : (xs ys : List SpanRef) → ((s : SpanRef) → spans_like s xs ≡ spans_like s ys) → (r : Run) → spans_of_run r xs ≡ spans_of_run r ys
 same_spans xs ys alike r = same_counts same_span spans_like without same_span_refl like_span (λ x ss some g q c. without_counts x ss some c) xs ys alike (of_run r)

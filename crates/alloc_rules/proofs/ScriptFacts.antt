@@ -23,7 +23,8 @@ pub record IsFirst {R : Type 0} (about : R → About) (call : Call) (s : Step R)
   pub under : under about s ≡ 0
 
 -- a row of the front-end is about what another step is, so it does for it
-entry_first : {R : Type 0} (about : R → About) (call : Call) (a : About) (other : Step R) (o : Option R) → IsEntry about a o → call_about a ≡ Some call → ((x : ℕ) → asking x (doing_about a) ≡ got x call) → ((x : ℕ) → publishing x (doing_about a) ≡ 0) → IsFirst about call other → IsFirst about call (step_or other o)
+entry_first : {R : Type 0} (about : R → About) (call : Call) (a : About) (other : Step R) (o : Option R) → IsEntry about a o → call_about a ≡ Some call
+    → ((x : ℕ) → asking x (doing_about a) ≡ got x call) → ((x : ℕ) → publishing x (doing_about a) ≡ 0) → IsFirst about call other → IsFirst about call (step_or other o)
 entry_first about call a other o entry of asks publishes first = grind arith
 
 module _ {V R : Type 0} (e : FrontCalls V R) (about : R → About) (entries : AreEntries e about) (v : V) where
@@ -57,7 +58,8 @@ module _ {V R : Type 0} (e : FrontCalls V R) (about : R → About) (entries : Ar
   next_way o there = grind (arith, call_way)
 
   -- what is asked for and published then
-  pub next_weighs : (x : ℕ) (rest : List Planned) → (asking x (doing_of about (first_act e v (slice_get rest 0))) + gets x (drop 1 rest) ≡ gets x rest) × (publishing x (doing_of about (first_act e v (slice_get rest 0))) ≡ 0)
+  pub next_weighs : (x : ℕ) (rest : List Planned)
+      → (asking x (doing_of about (first_act e v (slice_get rest 0))) + gets x (drop 1 rest) ≡ gets x rest) × (publishing x (doing_of about (first_act e v (slice_get rest 0))) ≡ 0)
   next_weighs x rest = grind (arith, first_call)
 
   pub asks_first : (o : Option Planned) (label : Label) (size : ℕ) → option_map (λ (p : Planned). p.call) o ≡ Some (Malloc label size) → 0 < asking label.0 (doing_of about (first_act e v o))

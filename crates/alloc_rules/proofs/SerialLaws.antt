@@ -1,16 +1,17 @@
 -- The laws of the completion of an order: threads, rising counts of ended calls, no wait, and the end of each script.
-use Rattle.std.proofs.Common.{◌≡◌, ℕ, zero, suc, ◌<◌, Bool, true, false, List, [], ◌∷◌, ◌++◌, length, get_or, map, Option, Some, None, refl, sym, ap, ◌∙◌}
+use Rattle.std.proofs.Common.{◌≡◌, ℕ, zero, suc, ◌<◌, ◌≤◌, Bool, true, false, List, [], ◌∷◌, ◌++◌, length, get_or, map, Option, Some, None, refl, sym, ap, ◌∙◌}
 use Rattle.std.proofs.Common.{subst, arith, slice_index, option_map, slice_get, is_some}
 use Rattle.alloc_rules.proofs.Common.{range_with_len, false≢true, length-map, length-range_with_len, slice_get-get_or, slice_get_past, Planned, Asked}
-use Rattle.alloc_rules.proofs.Common.{ThreadCall, script_of, World, world_of, IsReady, stepped, done_by, done_in, HaveEnded, next_turn, AreThreads}
+use Rattle.alloc_rules.proofs.Common.{ThreadCall, script_of, Rules, World, world_of, IsReady, stepped, done_by, done_in, HaveEnded, next_turn, AreThreads}
 use Rattle.alloc_rules.proofs.Common.{NeverWaits, Rises, Ends, call_at, Regs, Step, Local, About, Part, Standing, IsLawful, FrontRules, Parts, parts_of}
 use Rattle.alloc_rules.proofs.Common.{place_of, first_of, rules, turns, Fits, IsIn, is_under_way, IsValid}
 use Rattle.tc_model.proofs.RisesBy.{rises_by, turns_none}
 use Rattle.tc_model.specs.declared.steps.Stepped.TheVariants as step
-use Rattle.alloc_rules.proofs.{Elsewhere.after_rises, Runs.served_order, Runs.sound, SerialGoes.script_length, SerialGoes.serial_goes, Serving.IsAtWork}
+use Rattle.alloc_rules.proofs.{Elsewhere.after_rises, Inputs.EachOf, Runs.served_order, Runs.sound, SerialGoes.script_length, SerialGoes.serial_goes, Serving.IsAtWork}
 
 -- calls are made by threads that there are
-pub thread_below : (n : ℕ) (cs : List ThreadCall) → ((earlier : List ThreadCall) (c : ThreadCall) (later : List ThreadCall) → earlier ++ c ∷ later ≡ cs → c.thread.0 < n) → (i : ℕ) → i < length (map (λ (c : ThreadCall). c.thread.0) cs) → slice_index (map (λ (c : ThreadCall). c.thread.0) cs) i < n
+pub thread_below : (n : ℕ) (cs : List ThreadCall) → EachOf cs (λ c. c.thread.0 < n)
+    → (i : ℕ) → i < length (map (λ (c : ThreadCall). c.thread.0) cs) → slice_index (map (λ (c : ThreadCall). c.thread.0) cs) i < n
 thread_below n [] below i within = absurd (omega arith)
 thread_below n (c ∷ cs) below zero within = below [] c cs refl
 thread_below n (c ∷ cs) below (suc i) within = thread_below n cs (λ earlier d later is. below (c ∷ earlier) d later (ap (λ xs. c ∷ xs) is)) i (omega arith)
@@ -31,8 +32,11 @@ module _ {P V R : Type 0} {r : FrontRules P V R} {about : R → About} {planned 
   pub never_waits : NeverWaits (rules r about asked) (turns asked)
   never_waits order t of =
       let h = served_order law valid order of in
-      let Q : World (Part P) (Local V R) → Type 0 = λ w. ((u : ℕ) → IsReady (rules r about asked) (Fits r.calls.rows fits) w u) → next_turn (done_in (rules r about asked) w) [] (turns asked) ≡ Some t → stepped (rules r about asked) w t ≡ step.Moved in
-      subst Q (sym h.is) (λ each. serial_goes r about planned Holds fits asked valid h.parts h.locals order h.placed (omega (arith, law.split, h.placed.fronts)) h.count h.works each t) (λ u. sound law valid order u of)
+      let rs : Rules (Part P) (Local V R) = rules r about asked in
+      let Q : World (Part P) (Local V R) → Type 0 = λ w. ((u : ℕ) → IsReady rs (Fits r.calls.rows fits) w u)
+      → next_turn (done_in rs w) [] (turns asked) ≡ Some t → stepped rs w t ≡ step.Moved in
+      let split : r.split ≤ length h.parts.fronts = omega (arith, law.split, h.placed.fronts) in
+      subst Q (sym h.is) (λ each. serial_goes r about planned Holds fits asked valid h.parts h.locals order h.placed split h.count h.works each t) (λ u. sound law valid order u of)
 
   -- where each call has ended, each script has
   ended_by : (l : Local V R) (s : Step R) → l.step ≡ s → is_under_way s ≡ false → place_of r about l ≡ None

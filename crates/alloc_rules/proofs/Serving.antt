@@ -63,7 +63,8 @@ told_lines t n [] = refl
 told_lines t n (s ∷ more) = ap (λ xs. record { thread = record { 0 = t }; call = s.call; answer = s.answer } ∷ xs) (told_lines t n more)
 
 -- in other names, in which the same are out
-stays_inside : {V R : Type 0} (e : FrontCalls V R) (about : R → About) (names names' : List NameState) (script : List Planned) (l : Local V R) → StayOut names names' → IsIn e about names script l → IsIn e about names' script l
+stays_inside : {V R : Type 0} (e : FrontCalls V R) (about : R → About) (names names' : List NameState) (script : List Planned) (l : Local V R)
+    → StayOut names names' → IsIn e about names script l → IsIn e about names' script l
 stays_inside e about names names' script l stay inside = grind arith
 
 -- A moment at which thread t is picked: what holds of parts, threads and books behind an order.
@@ -101,7 +102,8 @@ module _ {P V R : Type 0} {r : FrontRules P V R} {about : R → About} {planned 
 
     -- names that are out stay so
     out_stays : StayOut p.names new.names
-    out_stays x out = stays_out (setup_of r asked) b (calls locals order) t (account_of about l) now.facts mine acted.does.move x (ap (λ (ns : List NameState). is_out (state_of ns x)) now.books.names ∙ out)
+    out_stays x out =
+        stays_out (setup_of r asked) b (calls locals order) t (account_of about l) now.facts mine acted.does.move x (ap (λ (ns : List NameState). is_out (state_of ns x)) now.books.names ∙ out)
 
     acts_now : after.acts ≡ picks_of t (order ++ t ∷ [])
     acts_now = omega (arith, acted.does.acts, (now.works t l now.local).acts, picks-push_same t order)
@@ -117,13 +119,16 @@ module _ {P V R : Type 0} {r : FrontRules P V R} {about : R → About} {planned 
     rises_now =
         let B : Option (Local V R) → Type 0 = λ o. AreBelow (λ (x : Decided). x.act) (picks_of t order) (answers_at (λ (x : Local V R). x.answers) o) in
         let below : AreBelow (λ (x : Decided). x.act) (picks_of t order) l.answers = subst B now.local (now.of t) in
-        subst (AreRising (λ (x : Decided). x.act) 0) (sym acted.does.answers) (rising_with (λ (x : Decided). x.act) (picks_of t order) l.answers (decided_at l.acts acted.does.said) (now.works t l now.local).rising below at_pick (omega (arith, decided_few l.acts acted.does.said, said_few (setup_of r asked) b (account_of about l) acted.does.move)))
+        let few : length (decided_at l.acts acted.does.said) ≤ 1 = omega (arith, decided_few l.acts acted.does.said, said_few (setup_of r asked) b (account_of about l) acted.does.move) in
+        subst (AreRising (λ (x : Decided). x.act) 0) (sym acted.does.answers)
+        (rising_with (λ (x : Decided). x.act) (picks_of t order) l.answers (decided_at l.acts acted.does.said) (now.works t l now.local).rising below at_pick few)
 
     this_works : IsAtWork r about planned Holds asked new.names (order ++ t ∷ []) t after
     this_works =
         record {
           shaped = acted.shaped;
-          inside = path_in r.calls about entries p.names new.names (script_of t asked.calls) l after acted.way (now.works t l now.local).inside out_stays (keeps_unpublished (setup_of r asked) b (calls locals order) t (account_of about l) now.facts mine acted.does.move) acted.there acted.path;
+          inside = path_in r.calls about entries p.names new.names (script_of t asked.calls) l after acted.way (now.works t l now.local).inside out_stays
+              (keeps_unpublished (setup_of r asked) b (calls locals order) t (account_of about l) now.facts mine acted.does.move) acted.there acted.path;
           acts = acts_now;
           rising = rises_now;
         }
@@ -145,7 +150,9 @@ module _ {P V R : Type 0} {r : FrontRules P V R} {about : R → About} {planned 
     all_work = each_set Works locals t after l now.local this_works other_works
 
     calls_now : calls (slice_set locals t after) (order ++ t ∷ []) ≡ calls locals order ++ lines t acted.does.said
-    calls_now = calls-step (λ (k : Local V R). k.answers) (λ (x : Decided). x.act) told locals order t l after (decided_at l.acts acted.does.said) now.of now.local acted.does.answers at_pick ∙ ap (λ xs. calls locals order ++ xs) (told_lines t l.acts acted.does.said)
+    calls_now =
+        calls-step (λ (k : Local V R). k.answers) (λ (x : Decided). x.act) told locals order t l after (decided_at l.acts acted.does.said) now.of now.local acted.does.answers at_pick
+        ∙ ap (λ xs. calls locals order ++ xs) (told_lines t l.acts acted.does.said)
 
     -- the books' facts hold on
     next_facts : Facts (setup_of r asked) after_books (calls (slice_set locals t after) (order ++ t ∷ []))
@@ -181,7 +188,7 @@ module _ {P V R : Type 0} {r : FrontRules P V R} {about : R → About} {planned 
     all_tell : AllTell locals (calls locals order) → AllTell (slice_set locals t after) (calls (slice_set locals t after) (order ++ t ∷ []))
     all_tell tells =
         each_set (λ u k. lines_by u (calls (slice_set locals t after) (order ++ t ∷ [])) ≡ map (told u) k.answers) locals t after l now.local (this_tells tells)
-        (λ u k apart old. lines_now u ∙ (ap (λ xs. lines_by u (calls locals order) ++ xs) (others_lines t u acted.does.said apart) ∙ (append-nil (lines_by u (calls locals order)) ∙ tells u k old)))
+        (λ u k apart old. lines_now u ∙ rw (others_lines t u acted.does.said apart, append-nil (lines_by u (calls locals order))) (tells u k old))
 
     pub served : (w : World (Part P) (Local V R)) → w ≡ world_of (parts_of r.split new) (slice_set locals t after) → length locals ≡ asked.config.threads
         → AllTell locals (calls locals order) → IsServed r about planned Holds asked w (order ++ t ∷ [])

@@ -67,7 +67,7 @@ module _ {P V R : Type 0} {r : FrontRules P V R} {about : R → About} {planned 
     hand_taken_in a some =
         let taken = hand_taken a.0 some in
         let k = l.regs.class.0 in
-        let objects : b.stock.objects k a.0 ≡ objects_at a.0 (objects_in_spans x) = ap (λ (g : Stock). g.objects k a.0) before.books.stock ∙ ap (λ (y : Shard). objects_at a.0 (objects_in_spans y)) shard_is in
+        let objects = ap (λ (g : Stock). g.objects k a.0) before.books.stock ∙ ap (λ (y : Shard). objects_at a.0 (objects_in_spans y)) shard_is in
         let stored : b.stock.stored k a.0 ≡ (stock_of r about p).stored k a.0 = ap (λ (g : Stock). g.stored k a.0) before.books.stock in
         let here : objects_at a.0 (places (shard_at p.shards k)) ≡ objects_at a.0 (places x) = ap (λ (y : Shard). objects_at a.0 (places y)) shard_is in
         (spans_cut x of_class.sound).taken a (omega (arith, taken.object, objects, objects_count a.0 (objects_in_spans x))) (omega (arith, taken.free, stored, here, objects_count a.0 (places x)))
@@ -81,7 +81,9 @@ module _ {P V R : Type 0} {r : FrontRules P V R} {about : R → About} {planned 
 
     fits_by : (row : ShardStep R) → l.step ≡ does.Shard row → StepShape m.rows about l (does.Shard row) → FitsShard m.rows x l row
     fits_by (Fetch asking) is shape = (batch_fits shape.0.hand, shape.0.hand)
-    fits_by (AddFetch asking run) is shape = let mapped = is_mapped asking run is in (record { batch = batch_fits shape.0.hand; pages = add_pages run mapped; apart = add_apart run mapped }, shape.0.hand)
+    fits_by (AddFetch asking run) is shape =
+        let mapped = is_mapped asking run is in
+        (record { batch = batch_fits shape.0.hand; pages = add_pages run mapped; apart = add_apart run mapped }, shape.0.hand)
     fits_by (Give g) is shape =
         let spans : length l.freed.items ≡ 0 = ap (λ (s : List SpanRef). length s) shape.0.freed in
         record {

@@ -17,7 +17,8 @@ module _ (rows : List ClassRow) (planned : Planned → Type 0) where
   all_low asked valid t earlier (c ∷ cs) is =
       grind (arith, all_low asked valid t (earlier ++ c ∷ []) cs (append_snoc earlier c cs ∙ is), append_snoc)
 
-  low_at : (script : List Planned) (j : ℕ) (label : Label) (size : ℕ) (o : Option Planned) → Lows script → slice_get script j ≡ o → option_map (λ (q : Planned). q.call) o ≡ Some (Malloc label size) → size ≤ 2 ^ 40
+  low_at : (script : List Planned) (j : ℕ) (label : Label) (size : ℕ) (o : Option Planned) → Lows script → slice_get script j ≡ o
+      → option_map (λ (q : Planned). q.call) o ≡ Some (Malloc label size) → size ≤ 2 ^ 40
   low_at script j label size None lows at is = absurd (cc)
   low_at script j label size (Some q) lows at is =
       let e : q.call ≡ Malloc label size = cc in

@@ -86,7 +86,7 @@ module _ {P V R : Type 0} {r : FrontRules P V R} {about : R → About} {planned 
   front_kept : (after : Local V R) → IsKept r about planned Holds t l after → Holds (length order + 1) p.fronts (map standing_of (slice_set locals t after))
   front_kept after kept =
       let front = subst (Holds (length order) p.fronts) (sym (set_same (map standing_of locals) t (standing_of l) stands)) now.front in
-      law.passes (length order) p.fronts (map standing_of (slice_set locals t after)) (subst (Holds (length order) p.fronts) (map_set standing_of locals t after) (kept.stands (length order) p.fronts (map standing_of locals) front))
+      law.passes _ _ _ (subst (Holds (length order) p.fronts) (map_set standing_of locals t after) (kept.stands _ _ _ front))
 
   there_is : (after : Local V R) → HasRow r.calls after.seat (slice_get l.rest 0)
   there_is after = row_there law after.seat l.rest (now.works t l now.local).shaped.rest
@@ -96,8 +96,21 @@ module _ {P V R : Type 0} {r : FrontRules P V R} {about : R → About} {planned 
   with_step s is = subst (λ (x : Step R). IsBefore r about planned huge labels limits p locals b (calls locals order) t (record l { step = x })) is before
 
   -- no shard and no part of the front-end changes
-  placed_elsewhere : (h : heaps.Heap) (m : SpanMap) (names : List NameState) → heaps_sound.IsSound h → h.config ≡ limits → IsWellFormed m → m.huge ≡ huge → ArePlaced r asked (record p { heap = h; map = m; names = names })
+  placed_elsewhere : (h : heaps.Heap) (m : SpanMap) (names : List NameState) → heaps_sound.IsSound h → h.config ≡ limits → IsWellFormed m → m.huge ≡ huge
+      → ArePlaced r asked (record p { heap = h; map = m; names = names })
   placed_elsewhere h m names sound config well same = grind arith
+
+  -- no other part changes
+  placed_fronts : (fronts : List P) → length fronts ≡ length p.fronts → ArePlaced r asked (record p { fronts = fronts })
+  placed_fronts fronts same = grind arith
+
+  placed_shards : (shards : List Shard) → length shards ≡ length p.shards → ((k : ℕ) (x : Shard) → slice_get shards k ≡ Some x → IsShardOf r.calls.rows k x)
+      → All (λ (x : Shard). HasRoom asked.config.transfer x.transfer) shards → ArePlaced r asked (record p { shards = shards })
+  placed_shards shards same each room = grind arith
+
+  -- the local with its step written out is the local
+  here : (s : Step R) → l.step ≡ s → record l { step = s } ≡ l
+  here s step = ap (λ x. record l { step = x }) (sym step)
 
   -- an act elsewhere than at the front-end
   elsewhere : {new : Parts P} {after : Local V R} → new.fronts ≡ p.fronts → Does r about (setup_of r asked) new b l after → Path r.calls about l after
@@ -117,14 +130,20 @@ module _ {P V R : Type 0} {r : FrontRules P V R} {about : R → About} {planned 
   pub shard_fit : (row : ShardStep R) (x : Shard) → l.step ≡ does.Shard row → slice_get p.shards l.regs.class.0 ≡ Some x → FitsShard r.calls.rows x l row
   shard_fit row x step at = shard_acts_fit r about planned huge labels limits p locals b (calls locals order) t l x row before step at
 
+  heap_fits_there : (row : HeapStep R) → l.step ≡ does.Heap row → FitsHeap r.calls.rows p.heap (record l { step = does.Heap row }) row
+  heap_fits_there row step =
+      heap_fits r about planned law.entries huge labels limits p locals b (calls locals order) t l row (with_step (does.Heap row) step) (λ label size is.
+      let call = ap (undecided about) (step ∙ ap (λ (y : HeapStep R). does.Heap y) is) in
+      request_low r.calls.rows planned asked valid t l.ended label size ((now.works t l now.local).inside.call (Malloc label size) call))
+
   pub heap_fit : (row : HeapStep R) → l.step ≡ does.Heap row → FitsHeap r.calls.rows p.heap l row
-  heap_fit row step =
-      let bound : (label : Label) (size : ℕ) → row ≡ heap.New label size → size ≤ 2 ^ 40 = λ label size is.
-      request_low r.calls.rows planned asked valid t l.ended label size ((now.works t l now.local).inside.call (Malloc label size) (ap (undecided about) (step ∙ ap (λ (y : HeapStep R). does.Heap y) is))) in
-      subst (λ (y : Local V R). FitsHeap r.calls.rows p.heap y row) (ap (λ s. record l { step = s }) (sym step)) (heap_fits r about planned law.entries huge labels limits p locals b (calls locals order) t l row (with_step (does.Heap row) step) bound)
+  heap_fit row step = subst (λ (y : Local V R). FitsHeap r.calls.rows p.heap y row) (here (does.Heap row) step) (heap_fits_there row step)
+
+  map_fits_there : (row : MapStep R) → l.step ≡ does.Map row → FitsMap p.map (record l { step = does.Map row }) row
+  map_fits_there row step = map_fits r about planned law.entries huge labels limits p locals b (calls locals order) t l row (with_step (does.Map row) step)
 
   pub map_fit : (row : MapStep R) → l.step ≡ does.Map row → FitsMap p.map l row
-  map_fit row step = subst (λ (y : Local V R). FitsMap p.map y row) (ap (λ s. record l { step = s }) (sym step)) (map_fits r about planned law.entries huge labels limits p locals b (calls locals order) t l row (with_step (does.Map row) step))
+  map_fit row step = subst (λ (y : Local V R). FitsMap p.map y row) (here (does.Map row) step) (map_fits_there row step)
 
   pub names_fit : (row : NamesStep) → l.step ≡ does.Names row → FitsNames p.names row
   names_fit row step = names_fits r about planned law.entries huge labels limits p locals b (calls locals order) t l row (with_step (does.Names row) step)
@@ -132,7 +151,7 @@ module _ {P V R : Type 0} {r : FrontRules P V R} {about : R → About} {planned 
   -- at a part of the front-end
   module _ (row : R) (step : l.step ≡ does.Front row) where
     shape : StepShape r.calls.rows about l (does.Front row)
-    shape = subst (λ (s : Step R). StepShape r.calls.rows about l s) step (now.works t l now.local).shaped.step
+    shape = subst (StepShape r.calls.rows about l) step (now.works t l now.local).shaped.step
 
     pub ready_row : IsReady r t l.regs (about row)
     ready_row = let s = (now.works t l now.local).shaped in record { thread = s.thread; class = s.class; room = s.hand; hand = shape.0 }
@@ -140,52 +159,44 @@ module _ {P V R : Type 0} {r : FrontRules P V R} {about : R → About} {planned 
     pub stands_row : slice_get (map standing_of locals) t ≡ Some (stand l.seat l.regs l.acts (Here row))
     stands_row = stands ∙ ap (λ (s : Step R). Some (stand l.seat l.regs l.acts (at_step s))) step
 
-  pub front_acted : (row : R) (q : P) → l.step ≡ does.Front row → slice_get p.fronts (r.place l.seat l.regs row) ≡ Some q → Acted (record p { fronts = slice_set p.fronts (r.place l.seat l.regs row) (front_row r about q l row).0 }) (front_row r about q l row).1
+  pub front_acted : (row : R) (q : P) → l.step ≡ does.Front row → slice_get p.fronts (r.place l.seat l.regs row) ≡ Some q
+      → Acted (record p { fronts = slice_set p.fronts (r.place l.seat l.regs row) (front_row r about q l row).0 }) (front_row r about q l row).1
   front_acted row q step at =
-      let act : IsAct r about q l.regs row (r.acts q l.seat l.regs row) = law.does (length order) p.fronts (map standing_of locals) t q l.seat l.regs l.acts row now.few acts_few now.front (stands_row row step) at (ready_row row step) in
-      let kept : FrontKept r about planned Holds (length order) t p.fronts (map standing_of locals) l q row =
-      front_acts_keep law (length order) t p.fronts (map standing_of locals) l q row valid.rows (now.works t l now.local).shaped step now.few acts_few now.front stands at in
+      let act = law.does (length order) p.fronts (map standing_of locals) t q l.seat l.regs l.acts row now.few acts_few now.front (stands_row row step) at (ready_row row step) in
+      let shaped = (now.works t l now.local).shaped in
+      let kept = front_acts_keep law (length order) t p.fronts (map standing_of locals) l q row valid.rows shaped step now.few acts_few now.front stands at in
       let after : Local V R = (front_row r about q l row).1 in
       record {
-        does = front_acts_move r about planned law.entries huge labels limits p locals b (calls locals order) t l (r.place l.seat l.regs row) q row before step at act;
+        does = front_acts_move law.entries huge labels limits p locals b (calls locals order) t l (r.place l.seat l.regs row) q row before step at act;
         path = front_path r about law.entries l q row step act;
         way = ap is_under_way step;
-        placed = record { ok = record { classes = now.placed.ok.classes; shards = now.placed.ok.shards; heap = now.placed.ok.heap; config = now.placed.ok.config; map = now.placed.ok.map; huge = now.placed.ok.huge }; fronts = length-set p.fronts (r.place l.seat l.regs row) (front_row r about q l row).0 ∙ now.placed.fronts; transfers = now.placed.transfers };
+        placed = placed_fronts _ (length-set p.fronts (r.place l.seat l.regs row) (front_row r about q l row).0);
         shaped = kept.shaped;
         front = subst (Holds (length order + 1) (slice_set p.fronts (r.place l.seat l.regs row) (front_row r about q l row).0)) (map_set standing_of locals t after) kept.stands;
         there = there_is after;
       }
 
   -- at the shard of the thread's class
-  pub shard_acted : (row : ShardStep R) (x : Shard) → l.step ≡ does.Shard row → slice_get p.shards l.regs.class.0 ≡ Some x → Acted (record p { shards = slice_set p.shards l.regs.class.0 (shard_row r.calls x l row).0 }) (shard_row r.calls x l row).1
+  pub shard_acted : (row : ShardStep R) (x : Shard) → l.step ≡ does.Shard row → slice_get p.shards l.regs.class.0 ≡ Some x
+      → Acted (record p { shards = slice_set p.shards l.regs.class.0 (shard_row r.calls x l row).0 }) (shard_row r.calls x l row).1
   shard_acted row x step at =
-      let here : record l { step = does.Shard row } ≡ l = ap (λ s. record l { step = s }) (sym step) in
+      let own = here (does.Shard row) step in
       let shaped = (now.works t l now.local).shaped in
-      let shape' : StepShape r.calls.rows about l (does.Shard row) = subst (λ (s : Step R). StepShape r.calls.rows about l s) step shaped.step in
-      let stays = shard_stays law.entries before at row step shape' in
+      let stays = shard_stays law.entries before at row step (subst (StepShape r.calls.rows about l) step shaped.step) in
       let fit : FitsShard r.calls.rows x l row = shard_fit row x step at in
       let same = sym (row_is before at) in
       let kept = shard_acts_keep law t x l row valid.rows shaped step (now.placed.ok.shards l.regs.class.0 x at).sound same stays.1 fit in
-      let adds : AddsSome r.calls.rows x (record l { step = does.Shard row }) row = subst (λ (y : Local V R). AddsSome r.calls.rows x y row) (sym here) stays.2 in
+      let adds = subst (λ (y : Local V R). AddsSome r.calls.rows x y row) (sym own) stays.2 in
       let new : Shard = (shard_row r.calls x l row).0 in
-      let of_class : IsShardOf r.calls.rows l.regs.class.0 new = subst (λ (y : Local V R). IsShardOf r.calls.rows l.regs.class.0 (shard_row r.calls x y row).0) here stays.0 in
+      let of_class = subst (λ (y : Local V R). IsShardOf r.calls.rows l.regs.class.0 (shard_row r.calls x y row).0) own stays.0 in
+      let each = each_set (IsShardOf r.calls.rows) p.shards l.regs.class.0 new x at of_class (λ k y apart is. now.placed.ok.shards k y is) in
       let HasList : Shard → Type 0 = λ y. HasRoom asked.config.transfer y.transfer in
+      let list = list_stays r.calls asked.config.transfer x l row (of_all HasList p.shards l.regs.class.0 x now.placed.transfers at) in
       record {
         does = shard_acts_move law.entries huge labels limits p locals b (calls locals order) t l x row before step at;
-        path = subst (λ (y : Local V R). Path r.calls about y (shard_row r.calls x y row).1) here (shard_path r.calls about law.entries l x row adds);
+        path = subst (λ (y : Local V R). Path r.calls about y (shard_row r.calls x y row).1) own (shard_path r.calls about law.entries l x row adds);
         way = ap is_under_way step;
-        placed = record {
-          ok = record {
-            classes = length-set p.shards l.regs.class.0 new ∙ now.placed.ok.classes;
-            shards = each_set (IsShardOf r.calls.rows) p.shards l.regs.class.0 new x at of_class (λ k y apart is. now.placed.ok.shards k y is);
-            heap = now.placed.ok.heap;
-            config = now.placed.ok.config;
-            map = now.placed.ok.map;
-            huge = now.placed.ok.huge;
-          };
-          fronts = now.placed.fronts;
-          transfers = all_set HasList p.shards l.regs.class.0 new now.placed.transfers (list_stays r.calls asked.config.transfer x l row (of_all HasList p.shards l.regs.class.0 x now.placed.transfers at));
-        };
+        placed = placed_shards _ (length-set p.shards l.regs.class.0 new) each (all_set HasList p.shards l.regs.class.0 new now.placed.transfers list);
         shaped = kept.shaped;
         front = front_kept (shard_row r.calls x l row).1 kept;
         there = there_is (shard_row r.calls x l row).1;
@@ -194,36 +205,35 @@ module _ {P V R : Type 0} {r : FrontRules P V R} {about : R → About} {planned 
   -- at the page heap
   pub heap_acted : (row : HeapStep R) → l.step ≡ does.Heap row → Acted (record p { heap = (heap_row r.calls p.heap l row).0 }) (heap_row r.calls p.heap l row).1
   heap_acted row step =
-      let here : record l { step = does.Heap row } ≡ l = ap (λ s. record l { step = s }) (sym step) in
-      let fit : FitsHeap r.calls.rows p.heap l row = heap_fit row step in
+      let fit = heap_fit row step in
       let after : heaps.Heap = (heap_row r.calls p.heap l row).0 in
       let kept = heap_acts_keep law t p.heap l row valid.rows (now.works t l now.local).shaped step fit in
-      let stays : HeapStays p.heap after = heap_stays r.calls p.heap l row now.placed.ok.heap (omega (arith, valid.limits.region, ap (λ (c : HeapConfig). c.region) now.placed.ok.config)) fit in
+      let region : 2 ≤ p.heap.config.region = omega (arith, valid.limits.region, ap (λ (c : HeapConfig). c.region) now.placed.ok.config) in
+      let stays = heap_stays r.calls p.heap l row now.placed.ok.heap region fit in
       elsewhere refl
       (heap_acts_move r about planned law.entries huge labels limits p locals b (calls locals order) t l row before step fit)
-      (subst (λ (y : Local V R). Path r.calls about y (heap_row r.calls p.heap y row).1) here (heap_path r.calls about law.entries l p.heap row (subst (λ (y : Local V R). FitsHeap r.calls.rows p.heap y row) (sym here) fit)))
+      (subst (λ (y : Local V R). Path r.calls about y (heap_row r.calls p.heap y row).1) (here _ step) (heap_path r.calls about law.entries l p.heap row (heap_fits_there row step)))
       (ap is_under_way step) (placed_elsewhere after p.map p.names stays.sound (stays.config ∙ now.placed.ok.config) now.placed.ok.map now.placed.ok.huge) kept
 
   -- at the page map
   pub map_acted : (row : MapStep R) → l.step ≡ does.Map row → Acted (record p { map = (map_row r.calls p.map l row).0 }) (map_row r.calls p.map l row).1
   map_acted row step =
-      let here : record l { step = does.Map row } ≡ l = ap (λ s. record l { step = s }) (sym step) in
-      let fit : FitsMap p.map l row = map_fit row step in
+      let fit = map_fit row step in
       let found = found_class r about planned law.entries huge labels limits p locals b (calls locals order) t l row (with_step (does.Map row) step) in
       let kept = map_acts_keep law t p.map l row valid.rows (now.works t l now.local).shaped step fit found in
-      let stays : MapStays p.map (map_row r.calls p.map l row).0 = map_stays r.calls p.map l row now.placed.ok.map fit in
+      let stays = map_stays r.calls p.map l row now.placed.ok.map fit in
       elsewhere refl
       (map_acts_move r about planned law.entries huge labels limits p locals b (calls locals order) t l row before step fit)
-      (subst (λ (y : Local V R). Path r.calls about y (map_row r.calls p.map y row).1) here (map_path r.calls about law.entries l p.map row (subst (λ (y : Local V R). FitsMap p.map y row) (sym here) fit)))
+      (subst (λ (y : Local V R). Path r.calls about y (map_row r.calls p.map y row).1) (here _ step) (map_path r.calls about law.entries l p.map row (map_fits_there row step)))
       (ap is_under_way step) (placed_elsewhere p.heap (map_row r.calls p.map l row).0 p.names now.placed.ok.heap now.placed.ok.config stays.well (stays.huge ∙ now.placed.ok.huge)) kept
 
   -- at the names, where it doesn't wait
-  pub names_acted : (row : NamesStep) → l.step ≡ does.Names row → waits_row p.names row ≡ false → Acted (record p { names = (names_row r.calls p.names l row).0 }) (names_row r.calls p.names l row).1
+  pub names_acted : (row : NamesStep) → l.step ≡ does.Names row → waits_row p.names row ≡ false
+      → Acted (record p { names = (names_row r.calls p.names l row).0 }) (names_row r.calls p.names l row).1
   names_acted row step goes =
-      let here : record l { step = does.Names row } ≡ l = ap (λ s. record l { step = s }) (sym step) in
-      let fit : FitsNames p.names row = names_fit row step in
+      let fit = names_fit row step in
       let kept = names_acts_keep law t p.names l row valid.rows (now.works t l now.local).shaped step fit in
       elsewhere refl
       (names_acts_move r about planned law.entries huge labels limits p locals b (calls locals order) t l row before step fit goes)
-      (subst (λ (y : Local V R). Path r.calls about y (names_row r.calls p.names y row).1) here (names_path r.calls about law.entries l p.names row fit goes))
+      (subst (λ (y : Local V R). Path r.calls about y (names_row r.calls p.names y row).1) (here _ step) (names_path r.calls about law.entries l p.names row fit goes))
       (ap is_under_way step) (placed_elsewhere p.heap p.map (names_row r.calls p.names l row).0 now.placed.ok.heap now.placed.ok.config now.placed.ok.map now.placed.ok.huge) kept

@@ -16,31 +16,37 @@ module _ {P V R : Type 0} (r : FrontRules P V R) (about : R → About) where
   books_settled p locals b books = grind arith
 
   -- one move of these books is what an act does that leaves the heap, the map and the names
-  pub does_by : (m : Setup) (p : Parts P) (locals : List (Local V R)) (b : Books) → AreBooksOf r about p locals b → (fronts : List P) (shards : List Shard) (l after : Local V R) (a : Account) (said : List Said) → account_of about l ≡ a
-      → Move m (settled b p) a (stock_of r about (with_stores p fronts shards)) b.heap b.spans p.names (account_of about after) said → after.acts ≡ l.acts + 1 → after.answers ≡ l.answers ++ decided_at l.acts said → Does r about m (with_stores p fronts shards) b l after
-  does_by m p locals b books fronts shards l after a said is move acts answers =
+  pub does_by : {m : Setup} {p : Parts P} {locals : List (Local V R)} {b : Books} → AreBooksOf r about p locals b → {fronts : List P} {shards : List Shard} {l after : Local V R}
+      {a : Account} {said : List Said} → account_of about l ≡ a → Move m (settled b p) a (stock_of r about (with_stores p fronts shards)) b.heap b.spans p.names (account_of about after) said
+      → after.acts ≡ l.acts + 1 → after.answers ≡ l.answers ++ decided_at l.acts said → Does r about m (with_stores p fronts shards) b l after
+  does_by {m} {p} {locals} {b} books {fronts} {shards} {l} {after} {a} {said} is move acts answers =
+      let Moved : Books → Account → Type 0 = λ y z. Move m y z (stock_of r about (with_stores p fronts shards)) b.heap b.spans p.names (account_of about after) said in
       record {
         heap = b.heap;
         spans = b.spans;
         said = said;
-        move =
-            subst (λ (y : Account). Move m b y (stock_of r about (with_stores p fronts shards)) b.heap b.spans p.names (account_of about after) said) (sym is)
-            (subst (λ (y : Books). Move m y a (stock_of r about (with_stores p fronts shards)) b.heap b.spans p.names (account_of about after) said) (books_settled p locals b books) move);
+        move = subst (Moved b) (sym is) (subst (λ (y : Books). Moved y a) (books_settled p locals b books) move);
         like_heap = books.heap;
         like_spans = books.spans;
         acts = acts;
         answers = answers;
       }
 
+  -- what is stored with other parts of the front-end
+  abbrev stored_by : Parts P → List P → ℕ → ℕ → ℕ
+  stored_by p fronts = stored_in r about (with_stores p fronts p.shards)
+
   -- one part of the front-end in place of another
-  pub front_stored : (p : Parts P) (c : ℕ) (q new : P) → slice_get p.fronts c ≡ Some q → (k n : ℕ) → stored_in r about (with_stores p (slice_set p.fronts c new) p.shards) k n + r.stored q k n ≡ stored_in r about p k n + r.stored new k n
+  pub front_stored : (p : Parts P) (c : ℕ) (q new : P) → slice_get p.fronts c ≡ Some q → (k n : ℕ)
+      → stored_by p (slice_set p.fronts c new) k n + r.stored q k n ≡ stored_in r about p k n + r.stored new k n
   front_stored p c q new at k n = let s = shift (λ (x : P). r.stored x k n) p.fronts c q new at in omega (arith, s)
 
   -- objects move between the front-end and a hand, with the shards as they were
-  pub stores_move : (p : Parts P) (fronts : List P) (class : ℕ) (hand new : List Addr) → ((k n : ℕ) → k ≢ class → stored_in r about (with_stores p fronts p.shards) k n ≡ stored_in r about p k n)
-      → ((n : ℕ) → stored_in r about (with_stores p fronts p.shards) class n + objects_at n new ≡ stored_in r about p class n + objects_at n hand) → MoveObjects (stock_of r about p) (stock_of r about (with_stores p fronts p.shards)) class hand new []
+  pub stores_move : (p : Parts P) (fronts : List P) (class : ℕ) (hand new : List Addr) → ((k n : ℕ) → k ≢ class → stored_by p fronts k n ≡ stored_in r about p k n)
+      → ((n : ℕ) → stored_by p fronts class n + objects_at n new ≡ stored_in r about p class n + objects_at n hand)
+      → MoveObjects (stock_of r about p) (stock_of r about (with_stores p fronts p.shards)) class hand new []
   stores_move p fronts class hand new others moves = grind arith
 
   -- no object moves: the stock is the same
-  pub stock_same : (p : Parts P) (fronts : List P) → ((k n : ℕ) → stored_in r about (with_stores p fronts p.shards) k n ≡ stored_in r about p k n) → stock_of r about p ≡ stock_of r about (with_stores p fronts p.shards)
+  pub stock_same : (p : Parts P) (fronts : List P) → ((k n : ℕ) → stored_by p fronts k n ≡ stored_in r about p k n) → stock_of r about p ≡ stock_of r about (with_stores p fronts p.shards)
   stock_same p fronts same = grind arith

@@ -25,7 +25,11 @@ told_calls t [] = refl
 told_calls t (d ∷ ds) = ap (λ (cs : List Call). d.call ∷ cs) (told_calls t ds)
 
 -- which are the first ones of a script
-first_calls : (script : List Planned) (ds : List Decided) → ((j : ℕ) (d : Decided) → slice_get ds j ≡ Some d → call_at script j ≡ Some d.call) → map (λ (d : Decided). d.call) ds ≡ take (length ds) (map (λ (p : Planned). p.call) script)
+-- decided calls are those of a script, place by place
+abbrev AreOf : List Planned → List Decided → Type 0
+AreOf script ds = (j : ℕ) (d : Decided) → slice_get ds j ≡ Some d → call_at script j ≡ Some d.call
+
+first_calls : (script : List Planned) (ds : List Decided) → AreOf script ds → map (λ (d : Decided). d.call) ds ≡ take (length ds) (map (λ (p : Planned). p.call) script)
 first_calls script [] each = refl
 first_calls [] (d ∷ ds) each = let e = each 0 d refl in absurd (cc)
 first_calls (p ∷ ps) (d ∷ ds) each =
@@ -33,6 +37,7 @@ first_calls (p ∷ ps) (d ∷ ds) each =
     let same : d.call ≡ p.call = cc in
     ap (λ (c : Call). c ∷ map (λ (x : Decided). x.call) ds) same ∙ ap (λ (cs : List Call). p.call ∷ cs) (first_calls ps ds (λ j x is. each (suc j) x is))
 
-pub tells_first : {V R : Type 0} (script : List Planned) (t : ℕ) (l : Local V R) (told_lines : List CallLine) (n : ℕ) → told_lines ≡ map (told t) l.answers → ((j : ℕ) (d : Decided) → slice_get l.answers j ≡ Some d → call_at script j ≡ Some d.call) → length l.answers ≡ n
+pub tells_first : {V R : Type 0} (script : List Planned) (t : ℕ) (l : Local V R) (told_lines : List CallLine) (n : ℕ) → told_lines ≡ map (told t) l.answers
+    → AreOf script l.answers → length l.answers ≡ n
     → map (λ (c : CallLine). c.call) told_lines ≡ take n (map (λ (p : Planned). p.call) script)
 tells_first script t l told_lines n is each count = grind (arith, first_calls, told_calls)

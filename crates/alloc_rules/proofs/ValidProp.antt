@@ -10,20 +10,16 @@ use Rattle.tc_model.specs.declared.calls.MoveTo.{MoveTo}
 order_prop : (earlier : List ThreadCall) (call : Call) → IsProp (IsInOrder earlier call)
 order_prop earlier (Malloc label size) = hlevel (ℕ_set, le_prop)
 order_prop earlier (Free label) = hlevel (ℕ_set, le_prop)
-order_prop earlier (Release pages) = hlevel
-order_prop earlier (Drain cpu) = hlevel
-order_prop earlier (Resize cpu class n) = hlevel
+order_prop earlier call = hlevel
 
 move_prop : (m : Limits) (moved : Option MoveTo) → IsProp (IsMove m moved)
 move_prop m None = hlevel
 move_prop m (Some move) = hlevel (le_prop)
 
 there_prop : (m : Limits) (call : Call) → IsProp (IsCallThere m call)
-there_prop m (Malloc label size) = hlevel
-there_prop m (Free label) = hlevel
-there_prop m (Release pages) = hlevel
 there_prop m (Drain cpu) = hlevel (le_prop)
 there_prop m (Resize cpu class n) = hlevel (le_prop)
+there_prop m call = hlevel
 
 planned_prop : (m : Limits) (p : Planned) → IsProp (IsPlanned m p)
 planned_prop m p = hlevel (there_prop, move_prop)

@@ -16,7 +16,7 @@ abbrev pub quiet : ℕ → List Planned → Account
 quiet class todo = bare Other class [] todo
 
 pub weighs_same : (a : Account) → WeighSame a a
-weighs_same a = record { asks = λ x. refl; publishes = λ x. refl; takes = λ x. refl; mentioned = λ x. refl; value = λ x v. refl; loosely = λ n. refl; objects = refl; classes = λ k n. refl; off = refl; apart = refl; mapped = refl; clears = refl }
+weighs_same a = grind arith
 
 pub weighs_is : (a b : Account) → b ≡ a → WeighSame a b
 weighs_is a b is = subst (WeighSame a) (sym is) (weighs_same a)
@@ -30,12 +30,15 @@ pub weighs_quiet : (k j : ℕ) (hand : List Addr) (todo : List Planned) → hand
 weighs_quiet k j hand todo none = grind (arith, none_in_hand)
 
 -- a call is begun: what its script had to do with labels, its first act has
-begun : (k j : ℕ) (hand : List Addr) (d : Doing) (p : Planned) (rest : List Planned) → hand ≡ [] → ((x : ℕ) → asking x d ≡ got x p.call) → ((x : ℕ) → publishing x d ≡ 0) → ((x : ℕ) → taking x d ≡ put x p.call) → ((x : ℕ) (v : Option Addr) → holds x v d ≡ 0) → ((n : ℕ) → loose n d ≡ 0)
+begun : (k j : ℕ) (hand : List Addr) (d : Doing) (p : Planned) (rest : List Planned) → hand ≡ []
+    → ((x : ℕ) → asking x d ≡ got x p.call) → ((x : ℕ) → publishing x d ≡ 0) → ((x : ℕ) → taking x d ≡ put x p.call)
+    → ((x : ℕ) (v : Option Addr) → holds x v d ≡ 0) → ((n : ℕ) → loose n d ≡ 0)
     → WeighSame (quiet k (p ∷ rest)) (bare d j hand rest)
 begun k j hand d p rest none asks publishes takes value loosely = grind (arith, none_in_hand)
 
 -- a step that has a row of the front-end or another one, both about this
-pub entry_is : {V R : Type 0} (of : R → About) (l : Local V R) (other : Step R) (a : About) (o : Option R) → IsEntry of a o → account_of of (record l { step = other }) ≡ bare (doing_about a) l.regs.class.0 l.regs.hand.items l.rest
+pub entry_is : {V R : Type 0} (of : R → About) (l : Local V R) (other : Step R) (a : About) (o : Option R) → IsEntry of a o
+    → account_of of (record l { step = other }) ≡ bare (doing_about a) l.regs.class.0 l.regs.hand.items l.rest
     → account_of of (record l { step = step_or other o }) ≡ bare (doing_about a) l.regs.class.0 l.regs.hand.items l.rest
 entry_is of l other a o is same = grind arith
 
@@ -47,13 +50,17 @@ module _ {V R : Type 0} (e : FrontCalls V R) (of : R → About) (entries : AreEn
     malloc_weighs v label size p rest c is = grind (arith, begun, entry_is)
 
     -- one of the front-end's own
-    own_weighs : (v : V) (call : Call) (p : Planned) (rest : List Planned) → ((x : ℕ) → got x p.call ≡ 0) → ((x : ℕ) → put x p.call ≡ 0) → WeighSame (quiet k (p ∷ rest)) (account_of of (record l { seat = v; step = step_or step.Ended (e.other v call); regs = record (e.to_other call l.regs) { ran = 0 }; rest = rest }))
+    own_weighs : (v : V) (call : Call) (p : Planned) (rest : List Planned) → ((x : ℕ) → got x p.call ≡ 0) → ((x : ℕ) → put x p.call ≡ 0)
+        → WeighSame (quiet k (p ∷ rest)) (account_of of (record l { seat = v; step = step_or step.Ended (e.other v call); regs = record (e.to_other call l.regs) { ran = 0 }; rest = rest }))
     own_weighs v call p rest got_none put_none = grind (arith, begun, entry_is)
 
-    call_weighs : (v : V) (call : Call) (p : Planned) (rest : List Planned) → p.call ≡ call → WeighSame (quiet k (p ∷ rest)) (account_of of (record l { seat = v; step = first_of_call e v call; regs = fresh_regs e call l.regs; rest = rest }))
+    call_weighs : (v : V) (call : Call) (p : Planned) (rest : List Planned) → p.call ≡ call
+        → WeighSame (quiet k (p ∷ rest)) (account_of of (record l { seat = v; step = first_of_call e v call; regs = fresh_regs e call l.regs; rest = rest }))
     call_weighs v (Malloc label size) p rest is = malloc_weighs v label size p rest (class_of e.rows size) is
-    call_weighs v (Free label) p rest is = begun k l.regs.class.0 l.regs.hand.items (Takes label) p rest none (λ x. ap (got x) (sym is)) (λ x. refl) (λ x. ap (put x) (sym is)) (λ x w. refl) (λ n. refl)
-    call_weighs v (Release pages) p rest is = begun k l.regs.class.0 l.regs.hand.items Other p rest none (λ x. ap (got x) (sym is)) (λ x. refl) (λ x. ap (put x) (sym is)) (λ x w. refl) (λ n. refl)
+    call_weighs v (Free label) p rest is =
+        begun k l.regs.class.0 l.regs.hand.items (Takes label) p rest none (λ x. ap (got x) (sym is)) (λ x. refl) (λ x. ap (put x) (sym is)) (λ x w. refl) (λ n. refl)
+    call_weighs v (Release pages) p rest is =
+        begun k l.regs.class.0 l.regs.hand.items Other p rest none (λ x. ap (got x) (sym is)) (λ x. refl) (λ x. ap (put x) (sym is)) (λ x w. refl) (λ n. refl)
     call_weighs v (Drain c) p rest is = own_weighs v (Drain c) p rest (λ x. ap (got x) is) (λ x. ap (put x) is)
     call_weighs v (Resize c class most) p rest is = own_weighs v (Resize c class most) p rest (λ x. ap (got x) is) (λ x. ap (put x) is)
 
