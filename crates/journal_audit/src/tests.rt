@@ -7,20 +7,14 @@ use tc_model::{Call, Config, Planned, Script};
 use tc_units::{Class, ClassRow, CpuNo, Label, Listed};
 
 /// An arena of one hugepage: the bytes from 2097152 to 4194303.
-const CONFIG: Config = Config {
-    cpus: 2,
-    threads: 2,
-    huge: 1,
-    cache: 8,
-    region: 512,
-    slack: 8192,
-    transfer: 64,
-    slab: 2048,
-    percpu: 1_572_864,
-    events: 40_000_000,
-    window: 0,
-    domains: 0,
-};
+fn config() -> Config {
+    Config {
+        cpus: 2,
+        threads: 2,
+        huge: 1,
+        ..Config::default()
+    }
+}
 
 const ROWS: [ClassRow; 3] = [
     ClassRow {
@@ -75,7 +69,7 @@ fn judged(
     text: &[u8],
 ) -> Result<Verdict, AllocError> {
     let scripts = vec![in alloc; script(alloc, first)?, script(alloc, second)?]?;
-    audit(alloc, &CONFIG, &ROWS, scripts.as_slice(), text)
+    audit(alloc, &config(), &ROWS, scripts.as_slice(), text)
 }
 
 fn no(line: u32, why: AuditWhy) -> Verdict {
@@ -305,7 +299,7 @@ fn a_line_too_many(rt: HostRuntime) -> Result<(), Fail> {
     ] {
         text.truncate(full);
         text.extend_from_slice(last)?;
-        let judged = audit(alloc, &CONFIG, &ROWS, &scripts, text.as_slice())?;
+        let judged = audit(alloc, &config(), &ROWS, &scripts, text.as_slice())?;
         assert_eq!(rt; judged, verdict, "at {last:?}");
     }
     Ok(())

@@ -3,7 +3,7 @@ use Rattle.std.proofs.Common.{◌≡◌, ℕ, zero, suc, ◌+◌, ◌/◌, ◌%�
 use Rattle.std.proofs.lemmas.Bool.{eqb-true}
 use Rattle.std.proofs.lemmas.List.{map-append, append-nil}
 use Rattle.std.proofs.lemmas.Nat.{mod_below}
-use Rattle.trace_reader.specs.declared.word.Head.TheVariants.{Cpus, Threads, Huge}
+use Rattle.tc_model.specs.declared.config.Head.TheVariants.{Cpus, Threads, Huge}
 use Rattle.trace_reader.specs.declared.word.Word.TheVariants as word
 use Rattle.trace_reader.specs.declared.form.Form.TheVariants as form
 use Rattle.trace_reader.specs.Steps.{Fits}
