@@ -42,8 +42,7 @@ module _ (rows : List ClassRow) (c : Config) where
   gives_to_shard v row g r w is begin few has = grind arith
 
   pub gives_away : (v : CpuSeat) (row : CpuRow) (g r : Regs) (w : Giving CpuStep) → about_row row ≡ about_giving about_cpu w → IsAtBegin r
-      → length r.hand.items ≤ most_slots → IsGiving (limits_of rows c) r.hand.items (as_row w) → IsBehind v row g r (giving_standing rows (as_row w))
-      (gives v w)
+      → length r.hand.items ≤ most_slots → IsGiving (limits_of rows c) r.hand.items (as_row w) → IsBehind v row g r (giving_standing rows (as_row w)) (gives v w)
   gives_away v row g r w is begin few has = grind (arith, cond_both, gives_to_shard, some_domain)
 
   -- the call goes on with a row at a CPU
@@ -111,8 +110,7 @@ module _ (turn : Turn) where
     pub ran : r.ran ≤ g.ran + 1
     pub epoch : new.epoch ≤ p.epoch + 1
     pub others : (k n : ℕ) → k ≢ g.class.0 → objects_at n (held (row_at new.slab k)) ≡ objects_at n (held (row_at p.slab k))
-    pub moves : (n : ℕ)
-        → objects_at n (held (row_at new.slab g.class.0)) + objects_at n r.hand.items ≡ objects_at n (held (row_at p.slab g.class.0)) + objects_at n
+    pub moves : (n : ℕ) → objects_at n (held (row_at new.slab g.class.0)) + objects_at n r.hand.items ≡ objects_at n (held (row_at p.slab g.class.0)) + objects_at n
         g.hand.items
 
   -- a class is another one of the table where nothing is in hand of a call without a label
@@ -132,12 +130,10 @@ module _ (turn : Turn) where
     pub move : IsMove (limits_of rows c) to.moved
 
   builds : (row : CpuStep) (new : CpuPart) (to : CpuSeat) (r r' : Regs) (n : Next) (o o' : Option seats.Standing) → IsThere row → IsSeat to → IsMoved new r
-      → GoesOn row to r r' o' n → o ≡ o' → Keeps row new (record { regs = r'; cpu = to.cpu.0; standing = o })
-      → Acts row (leaving new to r' n)
+      → GoesOn row to r r' o' n → o ≡ o' → Keeps row new (record { regs = r'; cpu = to.cpu.0; standing = o }) → Acts row (leaving new to r' n)
   builds row new to r r' n o o' there is m x same keeps = grind arith
 
-  pub as_left : (row : CpuStep) (to : CpuSeat) (r : Regs) (o : Option seats.Standing) (n : Next) → IsBehind rows c to (front.Cpu row) g r o n
-      → GoesOn row to r r o n
+  pub as_left : (row : CpuStep) (to : CpuSeat) (r : Regs) (o : Option seats.Standing) (n : Next) → IsBehind rows c to (front.Cpu row) g r o n → GoesOn row to r r o n
   as_left row to r o n b = record { like = record { thread = refl; hand = refl; loaded = refl; ran = refl; epoch = refl }; class = inl refl; behind = b }
 
   -- in the middle of a sequence
@@ -176,7 +172,6 @@ module _ (turn : Turn) where
       let keeps = lawful.leaves (length rows) (at_cpu v.cpu row).0 move.cpu.0 (thread_no t) p (seat row) (home_of row there here) in
       let low : IsMove (limits_of rows c) (Some move) = subst (IsMove (limits_of rows c)) is there.sits.move in
       let m = moves_none (left p u) (left_part u).1 (slab_same (left p u) (left_part u).0) in
-      builds row (left p u) (moves_to v move) (dropped g) (dropped g) n (seat row).standing o there
-      (record { home = low; domains = there.sits.domains; move = tt })
-      (record { same = record { thread = refl; class = refl; seq = refl; hand_room = refl; loaded_room = omega arith }; ran = m.ran; epoch = m.epoch; others = m.others; moves = m.moves }) (as_left row (moves_to v move) (dropped g) o n b) stands
-      (subst (λ (x : ThreadNo). Keeps row (left p x) left_seat) (sym there.sits.thread) keeps)
+      builds row (left p u) (moves_to v move) (dropped g) (dropped g) n (seat row).standing o there (record { home = low; domains = there.sits.domains; move = tt })
+      (record { same = record { thread = refl; class = refl; seq = refl; hand_room = refl; loaded_room = omega arith }; ran = m.ran; epoch = m.epoch; others = m.others; moves = m.moves })
+      (as_left row (moves_to v move) (dropped g) o n b) stands (subst (λ (x : ThreadNo). Keeps row (left p x) left_seat) (sym there.sits.thread) keeps)

@@ -11,15 +11,18 @@ use Rattle.cpu_rows.specs.declared.row.CpuStep.TheVariants as cpu
 use Rattle.alloc_rules.specs.Law as allocator
 use Rattle.cpu_rows.proofs.{Answering.answers_busy, Answering.answers_cap, CpuLaw.lawful_in, Switching.switches_are_few}
 
-module _ (input : Input) (valid : IsValidInput input) (order : List ℕ) (of : IsOrder (rules input) order) (all : allocator.HoldsAfter (front_of input) about_row (CpuHolds input.rows input.asked.config) input.asked order) where
+module _ (input : Input) (valid : IsValidInput input) (order : List ℕ) (of : IsOrder (rules input) order)
+    (all : allocator.HoldsAfter (front_of input) about_row (CpuHolds input.rows input.asked.config) input.asked order) where
   seated : (t : ℕ) (l : Local) → slice_get all.locals t ≡ Some l → IsSeated input.rows input.asked.config t (standing_of l)
   seated t l at = all.front.threads t (standing_of l) (slice_get-map standing_of all.locals t ∙ ap (option_map standing_of) at)
 
-  agrees : (i t : ℕ) (p : CpuPart) (l : Local) → slice_get all.parts.fronts i ≡ Some (Cpu p) → slice_get all.locals t ≡ Some l → SeatOk i (thread_no t) p (seat_at input.rows (standing_of l))
+  agrees : (i t : ℕ) (p : CpuPart) (l : Local) → slice_get all.parts.fronts i ≡ Some (Cpu p) → slice_get all.locals t ≡ Some l
+      → SeatOk i (thread_no t) p (seat_at input.rows (standing_of l))
   agrees i t p l part at = all.front.seats_agree i t p (standing_of l) part (slice_get-map standing_of all.locals t ∙ ap (option_map standing_of) at)
 
   -- a thread that is to stop a CPU is the stopper of none
-  no_stopper : (i t : ℕ) (p : CpuPart) (l : Local) → slice_get all.parts.fronts i ≡ Some (Cpu p) → slice_get all.locals t ≡ Some l → (s : Stopping) → l.step ≡ does.Front (front.Cpu (cpu.Stop s)) → p.stopper ≢ Some l.regs.thread
+  no_stopper : (i t : ℕ) (p : CpuPart) (l : Local) → slice_get all.parts.fronts i ≡ Some (Cpu p) → slice_get all.locals t ≡ Some l
+      → (s : Stopping) → l.step ≡ does.Front (front.Cpu (cpu.Stop s)) → p.stopper ≢ Some l.regs.thread
   no_stopper i t p l part at s step is =
       subst (λ (x : Step). IsStopping i (stopping_at input.rows l.regs (at_step x))) step ((agrees i t p l part at).stops (is ∙ ap (λ (u : ThreadNo). Some u) (seated t l at).thread))
 
@@ -44,7 +47,8 @@ module _ (input : Input) (valid : IsValidInput input) (order : List ℕ) (of : I
 
 pub cpu_in_every_order : InEveryOrder
 cpu_in_every_order input valid =
-    let law = in_every_order (front_of input) about_row (cpu_planned input.rows input.asked.config) (CpuHolds input.rows input.asked.config) (cpu_fits input.rows) (lawful_in input valid) input.asked valid in
+    let law = in_every_order (front_of input) about_row (cpu_planned input.rows input.asked.config) (CpuHolds input.rows input.asked.config) (cpu_fits input.rows)
+    (lawful_in input valid) input.asked valid in
     record {
       sound = law.sound;
       threads = law.threads;

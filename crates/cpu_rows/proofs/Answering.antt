@@ -12,10 +12,11 @@ use Rattle.cpu_rows.specs.declared.row.CpuStep.TheVariants as cpu
 use Rattle.cpu_rows.specs.CpuFront as caches
 
 -- busy, by who is the stopper
-busy_of : (rows : List ClassRow) (p : CpuPart) (l : Local) (s : Stopping) (owner : ThreadNo) (o : Option ThreadNo) → Decides l (follows (cpu_calls rows) l (Some (call_of s)) (stops p l.regs.thread s o).1) (Busy owner) ↔ (o ≡ Some owner)
+busy_of : (rows : List ClassRow) (p : CpuPart) (l : Local) (s : Stopping) (owner : ThreadNo) (o : Option ThreadNo)
+    → Decides l (follows (cpu_calls rows) l (Some (call_of s)) (stops p l.regs.thread s o).1) (Busy owner) ↔ (o ≡ Some owner)
 busy_of rows p l s owner None = (λ d. absurd (decides_none l _ (Busy owner) refl d), λ is. absurd (cc))
 busy_of rows p l s owner (Some u) =
-    let told : (ends (cpu_calls rows) (decided l (call_of s) (Busy u))).answers ≡ l.answers ++ record { act = l.acts; call = call_of s; answer = Busy u } ∷ [] = (ends_goes (cpu_calls rows) (decided l (call_of s) (Busy u))).answers in
+    let told = (ends_goes (cpu_calls rows) (decided l (call_of s) (Busy u))).answers in
     let law = decides_by l (ends (cpu_calls rows) (decided l (call_of s) (Busy u))) (call_of s) (Busy u) (Busy owner) told in
     (λ d. let same : Busy u ≡ Busy owner = law.0 d in cc, λ is. law.1 cc)
 
@@ -25,17 +26,22 @@ after_step input p l s = front_after (front_of input) about_row (caches.Cpu p) l
 
 pub answers_busy : (input : Input) (p : CpuPart) (l : Local) → ((s : Stopping) → l.step ≡ does.Front (front.Cpu (cpu.Stop s)) → p.stopper ≢ Some l.regs.thread) → AnswersBusy input p l
 answers_busy input p l other s owner step =
-    let law : Decides l (after_step input p l l.step).1 (Busy owner) ↔ (p.stopper ≡ Some owner) = subst (λ (x : Step). Decides l (after_step input p l x).1 (Busy owner) ↔ (p.stopper ≡ Some owner)) (sym step) (busy_of input.rows p l s owner p.stopper) in
+    let law = subst (λ (x : Step). Decides l (after_step input p l x).1 (Busy owner) ↔ (p.stopper ≡ Some owner)) (sym step) (busy_of input.rows p l s owner p.stopper) in
     (λ d. (law.0 d, λ same. other s step (law.0 d ∙ ap (λ (u : ThreadNo). Some u) same)), λ is. law.1 is.0)
 
 -- a capacity, by the two comparisons
 module _ (l next : Local) (slab : CpuSlab) (k : Class) (n : ℕ) (call : Call) where
-  cap_by : (a b : Bool) → ltb slab.most n ≡ a → ltb slab.limit (bytes_with slab k n) ≡ b → next.answers ≡ l.answers ++ record { act = l.acts; call = call; answer = cond a (OverStatic slab.most) (cond b (OverLimit (bytes_with slab k n)) CapSet) } ∷ [] → DecidesCap l next slab k n
+  cap_by : (a b : Bool) → ltb slab.most n ≡ a → ltb slab.limit (bytes_with slab k n) ≡ b
+      → next.answers ≡ l.answers ++ record { act = l.acts; call = call; answer = cond a (OverStatic slab.most) (cond b (OverLimit (bytes_with slab k n)) CapSet) } ∷ []
+      → DecidesCap l next slab k n
   cap_by true b over more is =
       let high : slab.most < n = ltb-true slab.most n over in
       let law : (y : Answer) → Decides l next y ↔ (OverStatic slab.most ≡ y) = λ y. decides_by l next call (OverStatic slab.most) y is in
       record {
-        over_static = λ most. (λ d. let e : OverStatic slab.most ≡ OverStatic most = (law (OverStatic most)).0 d in (cc, high), λ of. (law (OverStatic most)).1 (ap (λ m. OverStatic m) (sym of.0)));
+        over_static = λ most. (
+          λ d. let e : OverStatic slab.most ≡ OverStatic most = (law (OverStatic most)).0 d in (cc, high),
+          λ of. (law (OverStatic most)).1 (ap (λ m. OverStatic m) (sym of.0)),
+        );
         over_limit = λ sum. (λ d. let e : OverStatic slab.most ≡ OverLimit sum = (law (OverLimit sum)).0 d in absurd (cc), λ of. absurd (omega (arith, high, of.0)));
         set = (λ d. let e : OverStatic slab.most ≡ CapSet = (law CapSet).0 d in absurd (cc), λ of. absurd (omega (arith, high, of.0)));
       }
@@ -61,7 +67,8 @@ module _ (l next : Local) (slab : CpuSlab) (k : Class) (n : ℕ) (call : Call) w
         set = (λ d. (low, few), λ of. (law CapSet).1 refl);
       }
 
-answer_by : (a b : Bool) (slab : CpuSlab) (k n : ℕ) → ltb slab.most n ≡ a → ltb slab.limit (bytes_with slab (record { 0 = k }) n) ≡ b → cap_answer (cap_fault slab k n) ≡ cond a (OverStatic slab.most) (cond b (OverLimit (bytes_with slab (record { 0 = k }) n)) CapSet)
+answer_by : (a b : Bool) (slab : CpuSlab) (k n : ℕ) → ltb slab.most n ≡ a → ltb slab.limit (bytes_with slab (record { 0 = k }) n) ≡ b
+    → cap_answer (cap_fault slab k n) ≡ cond a (OverStatic slab.most) (cond b (OverLimit (bytes_with slab (record { 0 = k }) n)) CapSet)
 answer_by a b slab k n over more = grind arith
 
 pub answers_cap : (input : Input) (p : CpuPart) (l : Local) → ((r : Resizing) → l.step ≡ does.Front (front.Cpu (cpu.SetCap r)) → l.regs.class ≡ r.class) → AnswersCap input p l
@@ -69,5 +76,7 @@ answers_cap input p l class r step =
     let own : Class = l.regs.class in
     let a : Bool = ltb p.slab.most r.cap in
     let b : Bool = ltb p.slab.limit (bytes_with p.slab own r.cap) in
-    let told : DecidesCap l (after_step input p l (does.Front (front.Cpu (cpu.SetCap r)))).1 p.slab own r.cap = cap_by l _ p.slab own r.cap (Resize r.cpu r.class r.cap) a b refl refl (ap (λ (x : Answer). l.answers ++ record { act = l.acts; call = Resize r.cpu r.class r.cap; answer = x } ∷ []) (answer_by a b p.slab own.0 r.cap refl refl)) in
+    let call : Call = Resize r.cpu r.class r.cap in
+    let answers = ap (λ (x : Answer). l.answers ++ record { act = l.acts; call = call; answer = x } ∷ []) (answer_by a b p.slab own.0 r.cap refl refl) in
+    let told : DecidesCap l (after_step input p l (does.Front (front.Cpu (cpu.SetCap r)))).1 p.slab own r.cap = cap_by l _ p.slab own r.cap call a b refl refl answers in
     subst (λ (k : Class). DecidesCap l (after_step input p l l.step).1 p.slab k r.cap) (class r step) (subst (λ (x : Step). DecidesCap l (after_step input p l x).1 p.slab own r.cap) (sym step) told)

@@ -54,8 +54,7 @@ module _ (rows : List ClassRow) (c : Config) where
   row_set slab k row same is = record { most = is.most; limit = is.limit; classes = class_set slab.rows k row same ∙ is.classes }
 
   grew_is : (a b : Bool) (p : CpuPart) (r : Regs) → Is p.slab → Is (rseq.grew_by (rseq.arrival a b) p r).cpu.slab
-  grew_is a b p r is =
-      grind (arith, cond_both, grown, class_set, div_ceil, narrower, slice_index_or, taken_from, unused, victim, rise, roomy, used, widened, wider, growth)
+  grew_is a b p r is = grind (arith, cond_both, grown, class_set, div_ceil, narrower, slice_index_or, taken_from, unused, victim, rise, roomy, used, widened, wider, growth)
 
   capped_is : (slab : CpuSlab) (k n : ℕ) (o : Option CapFault) → Is slab → Is (set_unless o slab k n)
   capped_is slab k n o is = grind (arith, row_set)

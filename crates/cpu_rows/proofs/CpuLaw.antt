@@ -57,7 +57,8 @@ module _ (rows : List ClassRow) (c : Config) where
         let low = h.epoch_is_within_picks i p found.1 in
         let w : Turn = record { rows = rows; config = c; thread = t; part = p; seat = v; regs = g; acts = count } in
         let there : IsThere w row =
-        record { are = are; sits = s; ready = ready; part = h.cpu_is_sound i p found.1; pair = h.seats_agree i t p (stand v g count (Here (front.Cpu row))) found.1 own; epoch = omega (arith, low, few); acts = omega (arith, le, few) } in
+        let pair = h.seats_agree i t p (stand v g count (Here (front.Cpu row))) found.1 own in
+        record { are = are; sits = s; ready = ready; part = h.cpu_is_sound i p found.1; pair = pair; epoch = omega (arith, low, few); acts = omega (arith, le, few) } in
         let d : Does w row = cpu_does w row there in
         record {
           part = Cpu p;
@@ -144,5 +145,6 @@ pub cpu_limits : (c : Config) → AreLimits c → AreCpuLimits c
 cpu_limits c limits = record { cpus = limits.cpus; slab = limits.slab; slots = limits.slots; percpu = limits.percpu }
 
 -- so they do under the table and the heads of a valid input
-pub lawful_in : (input : Input) → IsValidInput input → IsLawful (cpu_front input.rows input.asked.config) about_row (cpu_planned input.rows input.asked.config) (CpuHolds input.rows input.asked.config) (cpu_fits input.rows)
+pub lawful_in : (input : Input) → IsValidInput input
+    → IsLawful (cpu_front input.rows input.asked.config) about_row (cpu_planned input.rows input.asked.config) (CpuHolds input.rows input.asked.config) (cpu_fits input.rows)
 lawful_in input valid = cpu_law input.rows input.asked.config valid.rows (cpu_limits input.asked.config valid.limits)

@@ -54,8 +54,7 @@ module _ (rows : List ClassRow) (c : Config) (t : ℕ) (q : Transfer) (v : CpuSe
 
   put_as : (w : Giving CpuStep) → length q.objects + length g.hand.items ≤ q.room
       → IsNext (cpu_front rows c) about_row (front.Domain (domain.Put w)) g put (next.Gave (as_row w)) → KeepsRegs rows c g
-      (regs_next put (next.Gave (as_row w))) → Comes rows c v g (regs_next put (next.Gave (as_row w))) (Here (front.Domain (domain.Put w)))
-      (at_next (next.Gave (as_row w)))
+      (regs_next put (next.Gave (as_row w))) → Comes rows c v g (regs_next put (next.Gave (as_row w))) (Here (front.Domain (domain.Put w))) (at_next (next.Gave (as_row w)))
       → Goes (domain.Put w) (put_in q g.hand.items) put (next.Gave (as_row w))
   put_as w fits may keeps come = grind (arith, length-append, objects_append)
 
@@ -68,8 +67,7 @@ module _ (rows : List ClassRow) (c : Config) (t : ℕ) (q : Transfer) (v : CpuSe
   put_by (giving.Rest s) shape fits = put_as (giving.Rest s) fits (refl, refl) still (record { begin = shape.0.begin; regs = λ b. b; stands = refl })
   put_by (giving.Freed f) shape fits = put_as (giving.Freed f) fits (refl, refl) still (record { begin = shape.0.begin; regs = λ b. b; stands = refl })
   put_by (giving.Row k to) shape fits =
-      put_as (giving.Row k to) fits (refl, refl, (shape.1.class, shape.1.other))
-      (record { thread = refl; loaded = refl; ran = omega arith; epoch = refl; pc = λ pc. pc })
+      put_as (giving.Row k to) fits (refl, refl, (shape.1.class, shape.1.other)) (record { thread = refl; loaded = refl; ran = omega arith; epoch = refl; pc = λ pc. pc })
       (record { begin = shape.0.begin; regs = λ b. shape.1.shape (seated v (record g { class = k; hand = emptied g.hand })) (record { begin = b; hand = refl; freed = refl }) refl; stands = refl })
   put_by giving.End shape fits = put_as giving.End fits (refl, refl) still (record { begin = shape.0.begin; regs = λ b. b; stands = refl })
 

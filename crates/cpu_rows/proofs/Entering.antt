@@ -22,11 +22,9 @@ executed count Commit = 3 + count
 
 -- where it copies, these are few
 abbrev pub CopiesFew : ℕ → Pc → Type 0
-CopiesFew count Begin = Unit {0}
-CopiesFew count Header = Unit {0}
-CopiesFew count Test = Unit {0}
 CopiesFew count (Copy done) = (done < count) × (count ≤ LOADED_ROOM)
 CopiesFew count Commit = count ≤ LOADED_ROOM
+CopiesFew count pc = Unit {0}
 
 -- so a sequence that goes on has executed few
 pub executed_few : (count : ℕ) (pc : Pc) → CopiesFew count pc → executed count pc < 256
@@ -75,7 +73,9 @@ DoesAs neither p l x = Executes p l x ⊎ Stays p l x
 
 -- what is copied next, or the commit behind the last
 copies_few : (done count : ℕ) → done ≤ count → count ≤ LOADED_ROOM → CopiesFew count (copy_or_commit done count) × (executed count (copy_or_commit done count) ≡ 3 + done)
-copies_few done count low few = cond_both (ltb done count) (Copy done) Commit (λ (pc : Pc). CopiesFew count pc × (executed count pc ≡ 3 + done)) (λ e. ((ltb-true done count e, few), refl)) (λ e. (few, omega (arith, ltb-false done count e)))
+copies_few done count low few =
+    cond_both (ltb done count) (Copy done) Commit (λ (pc : Pc). CopiesFew count pc × (executed count pc ≡ 3 + done))
+    (λ e. ((ltb-true done count e, few), refl)) (λ e. (few, omega (arith, ltb-false done count e)))
 
 -- the mark stays behind an instruction without a reply
 open_stays : (pc : Pc) (o : Option Reply) (was : Bool) → o ≡ None → was ≡ true → open_after pc o was ≡ true
@@ -90,11 +90,14 @@ module _ (rows : List ClassRow) (p : CpuPart) (l : Local) (has : HasToEnter l.st
     abbrev c : Cell
     c = instruction p l.regs
 
-    instructs_as : (a b : Bool) → runs p.running l.regs.thread ≡ a → let x = instructed_by (arrival a b) p l.regs in DoesAs (instructed_kind x.answer) p l (with_next rows l (about_cpu row) (instructs rows l.seat row x))
+    instructs_as : (a b : Bool) → runs p.running l.regs.thread ≡ a
+        → let x = instructed_by (arrival a b) p l.regs in DoesAs (instructed_kind x.answer) p l (with_next rows l (about_cpu row) (instructs rows l.seat row x))
     instructs_as a b is = grind (arith, polite_closed, copies_few, open_stays, runs_is)
 
 -- with a move that is due the thread leaves
-sequence_as : (rows : List ClassRow) (p : CpuPart) (l : Local) (row : CpuStep) → l.step ≡ does.Front (front.Cpu row) → HasToEnter l.step → wanted l.regs.seq l.regs.hand.items ≤ LOADED_ROOM → (o : Option MoveTo) → (is_some o || yields_to_enter p l.regs.thread) ≡ true → DoesAs (sequence_kind p l o) p l (with_next rows l (about_cpu row) (sequence_by rows p l.seat l.regs row o))
+sequence_as : (rows : List ClassRow) (p : CpuPart) (l : Local) (row : CpuStep) → l.step ≡ does.Front (front.Cpu row) → HasToEnter l.step
+    → wanted l.regs.seq l.regs.hand.items ≤ LOADED_ROOM → (o : Option MoveTo) → (is_some o || yields_to_enter p l.regs.thread) ≡ true
+    → DoesAs (sequence_kind p l o) p l (with_next rows l (about_cpu row) (sequence_by rows p l.seat l.regs row o))
 sequence_as rows p l row own has few o polite = grind (arith, instructs_as)
 
 -- what a sequence of a shaped local is for

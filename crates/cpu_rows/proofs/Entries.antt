@@ -35,8 +35,7 @@ module _ (rows : List ClassRow) (c : Config) where
     pub back : (more : ℕ) (k : Class) (row : CpuRow) (hand : Contents Addr) → count ≤ more → hand.items ≡ [] → StandsAt g count (Later k row)
         → StandsAt (with_hand g k hand) more (Here row)
     back more k (front.Cpu row) hand le none h =
-        comes rows c n t ps us v g (with_hand g k hand) count more (Later k (front.Cpu row)) (Here (front.Cpu row)) le (same k hand)
-        (λ x. record
+        comes rows c n t ps us v g (with_hand g k hand) count more (Later k (front.Cpu row)) (Here (front.Cpu row)) le (same k hand) (λ x. record
         { begin = x.0; regs = λ new. x.1.shape (seated v (with_hand g k hand)) (record { begin = new; hand = none; freed = refl }) refl; stands = refl }) h
     back more k (front.Domain row) hand le none h = comes rows c n t ps us v g (with_hand g k hand) count more (Later k (front.Domain row))
         (Here (front.Domain row)) le (same k hand) (λ x. absurd x.1) h
@@ -44,8 +43,7 @@ module _ (rows : List ClassRow) (c : Config) where
     -- a call begins, with its move, and has executed nothing
     pub restarts : StandsAt g count Away → StandsAt (record g { ran = 0 }) count Away
     restarts h = comes rows c n t ps us v g (record g { ran = 0 }) count count Away Away (omega arith)
-        (record { thread = refl; loaded = refl; ran = omega arith; epoch = refl; pc = λ pc. pc })
-        (λ b. record { begin = b; regs = λ new. new; stands = refl }) h
+        (record { thread = refl; loaded = refl; ran = omega arith; epoch = refl; pc = λ pc. pc }) (λ b. record { begin = b; regs = λ new. new; stands = refl }) h
 
     pub begins : (o : Option Planned) → IfSome o (cpu_planned rows c) → StandsAt g count Away → Is n ps (slice_set us t (stand (with_move v o) g count Away))
     begins o planned h =
@@ -81,15 +79,13 @@ module _ (rows : List ClassRow) (c : Config) where
 
     pub others_begin : (call : Call) → IsCallThere (limits_of rows c) call → IsOwn call → g.hand.items ≡ [] → StandsAt g count Away
         → StandsAt (record (to_stop call g) { ran = 0 }) count (at_row (stop_row call))
-    others_begin (Malloc label size) there own none h = absurd own
-    others_begin (Free label) there own none h = absurd own
-    others_begin (Release pages) there own none h = absurd own
     others_begin (Drain i) there own none h =
         enters (record (to_stop (Drain i) g) { ran = 0 }) (cpu.Stop (stopping.Drain (record { cpu = i; taken = 0 })))
         (set (record { 0 = 0 }) seq.Pop 0 (omega arith)) (λ b. (record { begin = b; hand = none; freed = refl }, (there, omega arith), refl)) refl h
     others_begin (Resize i class cap) there own none h =
         enters (record (to_stop (Resize i class cap) g) { ran = 0 }) (cpu.Stop (stopping.Resize (record { cpu = i; class = class; cap = cap })))
         (set class seq.Pop 0 (omega arith)) (λ b. (record { begin = b; hand = none; freed = refl }, (there.0, refl), tt)) refl h
+    others_begin call there own none h = absurd own
 
     lasts_by : (o : Option MoveTo) → v.moved ≡ o → g.hand.items ≡ [] → StandsAt g count Away → StandsAt g count (at_row (leave_row o))
     lasts_by None is none h = h

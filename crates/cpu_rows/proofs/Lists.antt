@@ -7,8 +7,7 @@ pub data IsSet {X : Type 0} (xs : List X) (i : ℕ) (old new : X) (j : ℕ) (x :
   Here : j ≡ i → x ≡ new → slice_get xs i ≡ Some old → IsSet xs i old new j x
   There : (j ≡ i → ⊥) → slice_get xs j ≡ Some x → IsSet xs i old new j x
 
-pub set_twice : {X : Type 0} (xs : List X) (i : ℕ) (old new : X) (j : ℕ) (x : X) → slice_get (slice_set xs i new) j ≡ Some x
-    → IsSet (slice_set xs i old) i old new j x
+pub set_twice : {X : Type 0} (xs : List X) (i : ℕ) (old new : X) (j : ℕ) (x : X) → slice_get (slice_set xs i new) j ≡ Some x → IsSet (slice_set xs i old) i old new j x
 set_twice [] i old new j x is = absurd (cc)
 set_twice (y ∷ ys) zero old new zero x is = Here refl (cc) refl
 set_twice (y ∷ ys) zero old new (suc j) x is = There (λ e. cc) is

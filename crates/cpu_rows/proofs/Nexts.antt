@@ -41,7 +41,8 @@ module _ (Serves : Regs → Type 0) (rows : List ClassRow) (v : CpuSeat) where
   pop_may : (r : Regs) (a : Asking) (o : Reply) → (o ≡ reply.Popped → Serves r) → May (front.Cpu (cpu.Pop a)) (r, after_pop v a o)
   pop_may r a o some = grind (arith, looks_may)
 
-  instructed_may : (r : Regs) (row : CpuStep) (x : Instructed) → ((a : Asking) → row ≡ cpu.Pop a → x ≡ instructed.Done reply.Popped → Serves r) → May (front.Cpu row) (instructed_to rows v r row x)
+  instructed_may : (r : Regs) (row : CpuStep) (x : Instructed) → ((a : Asking) → row ≡ cpu.Pop a → x ≡ instructed.Done reply.Popped → Serves r)
+      → May (front.Cpu row) (instructed_to rows v r row x)
   instructed_may r row x some = grind (arith, gives_may, pop_may)
 
   -- a thread that stops a CPU
@@ -58,29 +59,29 @@ module _ (Serves : Regs → Type 0) (rows : List ClassRow) (v : CpuSeat) where
   abbrev pub MayCome : {P : Type 0} → CpuRow → Left P → Type 0
   MayCome row x = ComesWith about_row cpu_refuses Serves row x.regs x.next × (x.seat.domains ≡ v.domains)
 
-  sequence_comes : (p : CpuPart) (r : Regs) (row : CpuStep) (o : Option MoveTo) → (let x = rseq.instructed p r in (a : Asking) → row ≡ cpu.Pop a → x.answer ≡ instructed.Done reply.Popped → Serves x.regs) → MayCome (front.Cpu row) (sequence_by rows p v r row o)
+  -- what a pop brings serves its allocation
+  abbrev PopServes : CpuPart → Regs → CpuStep → Type 0
+  PopServes p r row = (a : Asking) → row ≡ cpu.Pop a → (rseq.instructed p r).answer ≡ instructed.Done reply.Popped → Serves (rseq.instructed p r).regs
+
+  sequence_comes : (p : CpuPart) (r : Regs) (row : CpuStep) (o : Option MoveTo) → PopServes p r row → MayCome (front.Cpu row) (sequence_by rows p v r row o)
   sequence_comes p r row o some = grind (arith, instructed_may)
 
   leave_comes : (p : CpuPart) (r : Regs) (o : Option MoveTo) → MayCome (front.Cpu cpu.Leave) (left_for p v r o)
   leave_comes p r o = grind arith
 
-  pub cpu_comes : (p : CpuPart) (r : Regs) (row : CpuStep) → (let x = rseq.instructed p r in (a : Asking) → row ≡ cpu.Pop a → x.answer ≡ instructed.Done reply.Popped → Serves x.regs) → MayCome (front.Cpu row) (cpu_acts rows p v r row)
-  cpu_comes p r (cpu.Pop a) some = grind (arith, sequence_comes)
+  pub cpu_comes : (p : CpuPart) (r : Regs) (row : CpuStep) → PopServes p r row → MayCome (front.Cpu row) (cpu_acts rows p v r row)
   cpu_comes p r (cpu.Grow a) some = grind (arith, looks_may)
-  cpu_comes p r (cpu.Stock s) some = grind (arith, sequence_comes)
-  cpu_comes p r (cpu.Push f) some = grind (arith, sequence_comes)
-  cpu_comes p r (cpu.PopBatch f) some = grind (arith, sequence_comes)
   cpu_comes p r (cpu.Stop s) some = grind (arith, stop_may)
   cpu_comes p r (cpu.Fence s) some = grind arith
   cpu_comes p r (cpu.Take s) some = grind (arith, gives_may, drains_about)
   cpu_comes p r (cpu.SetCap x) some = grind (arith, cap_may)
   cpu_comes p r (cpu.Start s) some = grind (arith, started_may)
   cpu_comes p r cpu.Leave some = leave_comes p r _
+  cpu_comes p r row some = grind (arith, sequence_comes)
 
 -- Where the act fits, an allocation is served with an object in hand.
 module _ (rows : List ClassRow) (v : CpuSeat) where
   pub cpu_may : (p : CpuPart) (r : Regs) (row : CpuStep) → FitsCpu rows p v r row → MayCome (HasObject rows) rows v (front.Cpu row) (cpu_acts rows p v r row)
   cpu_may p r row fits =
-      cpu_comes (HasObject rows) rows v p r row (λ a is done.
-      (let own : FitsCpu rows p v r (cpu.Pop a) = subst (FitsCpu rows p v r) is fits in
+      cpu_comes (HasObject rows) rows v p r row (λ a is done. (let own : FitsCpu rows p v r (cpu.Pop a) = subst (FitsCpu rows p v r) is fits in
       let x = own.1 done in (x.0, omega (arith, ap (λ (k : Class). k.0) x.1, own.0.class))))

@@ -108,13 +108,11 @@ module _ (rows : List ClassRow) (c : Config) where
         agrees : (j u : ℕ) (q : CpuPart) (x : Standing CpuSeat CpuRow) → IsSet ps i (Cpu p) (Cpu new) j (Cpu q) → IsSet us t s after u x
             → SeatOk j (thread_no u) q (seat_at rows x)
         agrees j u q x (Here same now was) (Here own now' was') =
-            subst (λ k. SeatOk k (thread_no u) q (seat_at rows x)) (sym same)
-            (subst (λ k. SeatOk i (thread_no k) q (seat_at rows x)) (sym own)
+            subst (λ k. SeatOk k (thread_no u) q (seat_at rows x)) (sym same) (subst (λ k. SeatOk i (thread_no k) q (seat_at rows x)) (sym own)
             (subst (λ y. SeatOk i (thread_no t) y (seat_at rows x)) (let e : new ≡ q = cc in e)
             (subst (λ y. SeatOk i (thread_no t) new (seat_at rows y)) (sym now') keeps.both)))
         agrees j u q x (Here same now was) (There apart there) =
-            subst (λ k. SeatOk k (thread_no u) q (seat_at rows x)) (sym same)
-            (subst (λ y. SeatOk i (thread_no u) y (seat_at rows x)) (let e : new ≡ q = cc in e)
+            subst (λ k. SeatOk k (thread_no u) q (seat_at rows x)) (sym same) (subst (λ y. SeatOk i (thread_no u) y (seat_at rows x)) (let e : new ≡ q = cc in e)
             (keeps.others (thread_no u) (seat_at rows x) (λ e. apart (ap (λ y. y.0) e)) (h.seats_agree i u p x at there)))
         agrees j u q x (There apart there) (Here own now was) =
             subst (λ k. SeatOk j (thread_no k) q (seat_at rows x)) (sym own)

@@ -47,8 +47,7 @@ begins_by : (a : Addr) (xs others : List Addr) → xs ≡ a ∷ others → Begin
 begins_by a xs others is = subst (λ (ys : List Addr). BeginsWith a ys) (sym is) refl
 
 -- how many are in hand behind a reply at most
-reply_few : (old new : SlabRow) (r after : Regs) (o : Reply) → ReplyMoves o old new r after
-    → length after.hand.items ≤ length r.hand.items + wanted r.seq r.hand.items
+reply_few : (old new : SlabRow) (r after : Regs) (o : Reply) → ReplyMoves o old new r after → length after.hand.items ≤ length r.hand.items + wanted r.seq r.hand.items
 reply_few old new r after o moves = grind (arith, length-append, length-drop)
 
 module _ (turn : Turn) where
@@ -89,8 +88,7 @@ module _ (turn : Turn) where
 
   -- it goes on, or is at its begin again
   stays_on : (row : CpuStep) (new : CpuPart) (r : Regs) → There row → IsRow row → AreOfSame g r → r.hand.items ≡ g.hand.items → IsMoved turn new r
-      → Keeps turn row new (seats.with_regs (seat turn row) r)
-      → Acts turn row (leaving new v r (at_cpu_next row))
+      → Keeps turn row new (seats.with_regs (seat turn row) r) → Acts turn row (leaving new v r (at_cpu_next row))
   stays_on row new r there x same hand m keeps = grind (arith, goes_on, hand_same, still)
 
   answers : (row : CpuStep) (new : CpuPart) (r : Regs) (a : Instructed) → There row → IsRow row → AreOfSame g r

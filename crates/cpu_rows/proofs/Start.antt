@@ -70,8 +70,7 @@ module _ (rows : List ClassRow) (c : Config) where
 
   parts_first : All IsFirst (front_parts rows c)
   parts_first =
-      All-append IsFirst (replicate c.cpus (Cpu (first_cpu rows c))) (copies c.domains (domain_caches rows c))
-      (All-replicate IsFirst c.cpus (Cpu (first_cpu rows c)) refl)
+      All-append IsFirst (replicate c.cpus (Cpu (first_cpu rows c))) (copies c.domains (domain_caches rows c)) (All-replicate IsFirst c.cpus (Cpu (first_cpu rows c)) refl)
       (all_copies IsFirst c.domains (domain_caches rows c) (All-map IsFirst (first_cache c) (range_with_len 0 (length rows)) (λ k d low. refl)))
 
   caches_length : length (domain_caches rows c) ≡ length rows
@@ -84,8 +83,7 @@ module _ (rows : List ClassRow) (c : Config) where
   cache_first d k low within =
       let m : ℕ = length rows in
       let first = replicate c.cpus (Cpu (first_cpu rows c)) in
-      get_right first (copies c.domains (domain_caches rows c)) (c.cpus + d * m + k) (d * m + k)
-      (omega (arith, length-replicate c.cpus (Cpu (first_cpu rows c))))
+      get_right first (copies c.domains (domain_caches rows c)) (c.cpus + d * m + k) (d * m + k) (omega (arith, length-replicate c.cpus (Cpu (first_cpu rows c))))
       ∙ (ap (λ n. slice_get (copies c.domains (domain_caches rows c)) (d * n + k)) (sym caches_length) ∙
       (copies_get c.domains d k (domain_caches rows c) low (omega (arith, caches_length, within)) ∙ mapped_at (first_cache c) m k within))
 

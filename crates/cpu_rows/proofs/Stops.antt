@@ -69,8 +69,7 @@ module _ (turn : Turn) where
   -- an act that moves no object
   quiet : (row : CpuStep) (new : CpuPart) (n : Next) (o o' : Option seats.Standing) → There row → IsAtBegin g → o ≡ o' → Behind row g o' n
       → new.epoch ≤ p.epoch + 1 → ((j : ℕ) → held (row_at new.slab j) ≡ held (row_at p.slab j)) → Keeps turn row new
-      (record { regs = g; cpu = v.cpu.0; standing = o })
-      → Acts turn row (leaving new v g n)
+      (record { regs = g; cpu = v.cpu.0; standing = o }) → Acts turn row (leaving new v g n)
   quiet row new n o o' there begin same b epoch slab keeps = grind (arith, as_left, moves_none)
 
   -- what a thread that has stopped the CPU has done there still stands
@@ -82,8 +81,7 @@ module _ (turn : Turn) where
   stopper_is row there is = is ∙ ap (λ (u : ThreadNo). Some u) (sym there.sits.thread)
 
   -- Stop
-  stop_by : (s : Stopping) (o : Option ThreadNo) → There (cpu.Stop s) → p.stopper ≡ o
-      → (let n = stops p g.thread s o in Acts turn (cpu.Stop s) (leaving n.0 v g n.1))
+  stop_by : (s : Stopping) (o : Option ThreadNo) → There (cpu.Stop s) → p.stopper ≡ o → (let n = stops p g.thread s o in Acts turn (cpu.Stop s) (leaving n.0 v g n.1))
   stop_by s o there none = grind (arith, busy_other, goes_on, quiet, same_keeps, slab_same)
 
   pub stop_does : (s : Stopping) → There (cpu.Stop s) → Does turn (cpu.Stop s)
@@ -104,8 +102,15 @@ module _ (turn : Turn) where
       let b : IsAtBegin new = record { pc = begin.pc; nothing = begin.nothing } in
       let about : about_cpu to.1 ≡ about_cpu (cpu.Take (stopping.Drain d)) = x.about ∙ ap (λ (k : CpuNo). Other (Some (Drain k))) same in
       let behind = goes_on rows c v (cpu.Take (stopping.Drain d)) to.1 g new about (omega (arith, ap length is))
-      (x.come.shape (seated v new) (record { begin = b; hand = is; freed = refl }) refl) in
-      (record { like = record { thread = refl; hand = refl; loaded = refl; ran = refl; epoch = refl }; class = inr (x.come.class, is, tt); behind = subst (λ (o : Option seats.Standing). Behind (cpu.Take (stopping.Drain d)) new o (at_cpu_next to.1)) (x.stand ∙ ap (λ (k : CpuNo). stands k true (below (g.class.0 + 1))) same) behind }, b)
+      (x.come.shape (seated v new) (record { begin = b; hand = is; freed = refl }) refl) in (
+        let at = x.stand ∙ ap (λ (k : CpuNo). stands k true (below (g.class.0 + 1))) same in
+            record {
+              like = record { thread = refl; hand = refl; loaded = refl; ran = refl; epoch = refl };
+              class = inr (x.come.class, is, tt);
+              behind = subst (λ (o : Option seats.Standing). Behind (cpu.Take (stopping.Drain d)) new o (at_cpu_next to.1)) at behind;
+            },
+        b,
+      )
   drained_so d d' r to (y ∷ ys) is few begin same x = grind (arith, as_left, gives_away)
 
   took_so : (s : Stopping) (r : Regs) → length r.hand.items ≤ most_slots → r.class ≡ g.class → g.class.0 < length rows → IsAtBegin r
@@ -178,8 +183,7 @@ module _ (turn : Turn) where
       }
 
   -- Start
-  starts : (s : Stopping) (n : Next) → There (cpu.Start s) → IsAtBegin g → Behind (cpu.Start s) g None n
-      → Acts turn (cpu.Start s) (leaving (drains.started p) v g n)
+  starts : (s : Stopping) (n : Next) → There (cpu.Start s) → IsAtBegin g → Behind (cpu.Start s) g None n → Acts turn (cpu.Start s) (leaving (drains.started p) v g n)
   starts s n there begin b = grind (arith, quiet)
 
   pub start_does : (s : Stopping) → There (cpu.Start s) → Does turn (cpu.Start s)

@@ -53,11 +53,13 @@ module _ (input : Input) (c ins ends : ℕ) (w : World Part Local) (t : ℕ) (l 
   other_place : (place : PartNo) → place_of input l ≡ Some place → (place.0 ≡ c → ⊥) → (e : HasEntered c ins ends w) → e.thread ≡ t → ⊥
   other_place place want apart e same = grind (arith, home_by, is_own)
 
-  stays_elsewhere : (place : PartNo) (pair : Part × Local) → place_of input l ≡ Some place → (place.0 ≡ c → ⊥) → Balance c ins ends w → Balance c (ins + 0) (ends + 0) (with_pair w place.0 t pair)
+  stays_elsewhere : (place : PartNo) (pair : Part × Local) → place_of input l ≡ Some place → (place.0 ≡ c → ⊥) → Balance c ins ends w
+      → Balance c (ins + 0) (ends + 0) (with_pair w place.0 t pair)
   stays_elsewhere place pair want apart given = grind (arith, other_place, set_elsewhere)
 
   -- at CPU c
-  module _ (place : PartNo) (want : place_of input l ≡ Some place) (here : place.0 ≡ c) (p : CpuPart) (there : slice_get w.parts c ≡ Some (Cpu p)) (thread : l.regs.thread.0 ≡ t) (x : CpuPart × Local) where
+  module _ (place : PartNo) (want : place_of input l ≡ Some place) (here : place.0 ≡ c) (p : CpuPart) (there : slice_get w.parts c ≡ Some (Cpu p))
+      (thread : l.regs.thread.0 ≡ t) (x : CpuPart × Local) where
     abbrev v : World Part Local
     v = with_pair w c t (Cpu x.0, x.1)
 
@@ -150,10 +152,12 @@ module _ (input : Input) (c ins ends : ℕ) (w : World Part Local) (t : ℕ) (l 
     does_there neither (inr a) b = stays_there a b
 
 -- the kind of a pick, by the thread's place and the part there
-kind_by_place : (r : Rules Part Local) (w : World Part Local) (c t : ℕ) (l : Local) (place : PartNo) → slice_get w.locals t ≡ Some l → r.want l ≡ Some place → kind_of r w c t ≡ kind_at w c l (Some place)
+kind_by_place : (r : Rules Part Local) (w : World Part Local) (c t : ℕ) (l : Local) (place : PartNo) → slice_get w.locals t ≡ Some l → r.want l ≡ Some place
+    → kind_of r w c t ≡ kind_at w c l (Some place)
 kind_by_place r w c t l place local want = rw (local, want) refl
 
-kind_here : (w : World Part Local) (c : ℕ) (l : Local) (place : PartNo) (part : Part) → place.0 ≡ c → slice_get w.parts c ≡ Some part → act_kind l (Some part) ≡ kind_at w c l (Some place)
+kind_here : (w : World Part Local) (c : ℕ) (l : Local) (place : PartNo) (part : Part) → place.0 ≡ c → slice_get w.parts c ≡ Some part
+    → act_kind l (Some part) ≡ kind_at w c l (Some place)
 kind_here w c l place part here there = rw (eq-eqb place.0 c here, there) refl
 
 kind_elsewhere : (w : World Part Local) (c : ℕ) (l : Local) (place : PartNo) → (place.0 ≡ c → ⊥) → neither ≡ kind_at w c l (Some place)
@@ -164,7 +168,8 @@ abbrev Served : Input → World Part Local → List ℕ → Type 0
 Served input w past = IsServed (front_of input) about_row (cpu_planned input.rows input.asked.config) (CpuHolds input.rows input.asked.config) input.asked w past
 
 -- an act at a CPU, as the rules have it
-pair_is : (input : Input) (p : CpuPart) (l : Local) (s : Step) → (let y = front_after (front_of input) about_row (at.Cpu p) l s in let pair : Part × Local = (Front y.0, y.1) in pair) ≡ (let x = cpu_pair input.rows p l s in (Cpu x.0, x.1))
+pair_is : (input : Input) (p : CpuPart) (l : Local) (s : Step)
+    → (let y = front_after (front_of input) about_row (at.Cpu p) l s in let pair : Part × Local = (Front y.0, y.1) in pair) ≡ (let x = cpu_pair input.rows p l s in (Cpu x.0, x.1))
 pair_is input p l s = grind arith
 
 -- and whether it is polite
@@ -199,11 +204,13 @@ module _ (input : Input) (valid : IsValidInput input) (c : ℕ) (w : World Part 
     not_there : (part : Part) → slice_get w.parts c ≡ Some part → (u : World Part Local) → ((e : CpuPart) → part ≡ Cpu e → ⊥) → Balance c ins ends w → Behind neither u
     not_there part there u other given = grind arith
 
-    at_part : (part : Part) → m.place.0 ≡ c → slice_get w.parts c ≡ Some part → machine.yields (front_of input) about_row part m.local ≡ true → Balance c ins ends w → Behind (act_kind m.local (Some part)) (with_pair w c t (after input part m.local))
+    at_part : (part : Part) → m.place.0 ≡ c → slice_get w.parts c ≡ Some part → machine.yields (front_of input) about_row part m.local ≡ true
+        → Balance c ins ends w → Behind (act_kind m.local (Some part)) (with_pair w c t (after input part m.local))
     at_part (Front (at.Cpu p)) here there polite b =
         let act = act_as (limits_of input.rows input.asked.config) p m.local valid.rows class seat.regs (sym (yields_is input p m.local m.local.step) ∙ polite) in
         subst (λ (pair : Part × Local). Behind (act_kind m.local (Some (Front (at.Cpu p)))) (with_pair w c t pair)) (sym (pair_is input p m.local m.local.step))
-        (does_there input c ins ends w t m.local m.local_there seat.home m.place m.wants here p there (ap (λ (n : ThreadNo). n.0) seat.thread) (cpu_pair input.rows p m.local m.local.step) (step_kind p m.local m.local.step) act b)
+        (does_there input c ins ends w t m.local m.local_there seat.home m.place m.wants here p there (ap (λ (n : ThreadNo). n.0) seat.thread)
+        (cpu_pair input.rows p m.local m.local.step) (step_kind p m.local m.local.step) act b)
     at_part (Shard s) here there polite b = not_there (Shard s) there _ (λ e is. cc) b
     at_part (Heap h) here there polite b = not_there (Heap h) there _ (λ e is. cc) b
     at_part (Map x) here there polite b = not_there (Map x) there _ (λ e is. cc) b
@@ -222,20 +229,27 @@ module _ (input : Input) (valid : IsValidInput input) (c : ℕ) (w : World Part 
               (subst (λ (k : Kind). Behind k (with_pair w c t (after input m.part m.local))) kind at)
           | inr apart ↦
               let kind : neither ≡ kind_at w c m.local (Some m.place) = kind_elsewhere w c m.local m.place apart in
-              subst (λ (k : Kind). Behind k (with_pair w m.place.0 t (after input m.part m.local))) kind (stays_elsewhere input c ins ends w t m.local m.local_there seat.home m.place (after input m.part m.local) m.wants apart b)
+              subst (λ (k : Kind). Behind k (with_pair w m.place.0 t (after input m.part m.local))) kind
+              (stays_elsewhere input c ins ends w t m.local m.local_there seat.home m.place (after input m.part m.local) m.wants apart b)
         ]))
 
 few_of : (c ins ends : ℕ) (w : World Part Local) → Balance c ins ends w → ins ≤ ends + 1
 few_of c ins ends w given = grind arith
 
-switches_from : (input : Input) → IsValidInput input → (c : ℕ) (order past : List ℕ) (w : World Part Local) (ins ends : ℕ) → length past + length order ≤ MOST_PICKS → Served input w past → IsPolite (rules input) w order → Balance c ins ends w → ins + count_at entry (rules input) w c order ≤ ends + count_at closing (rules input) w c order + 1
+switches_from : (input : Input) → IsValidInput input → (c : ℕ) (order past : List ℕ) (w : World Part Local) (ins ends : ℕ) → length past + length order ≤ MOST_PICKS → Served input w past
+    → IsPolite (rules input) w order → Balance c ins ends w → ins + count_at entry (rules input) w c order ≤ ends + count_at closing (rules input) w c order + 1
 switches_from input valid c [] past w ins ends few served polite balance = omega (arith, few_of c ins ends w balance)
 switches_from input valid c (t ∷ ts) past w ins ends few served polite balance =
     let m = polite.0 in
-    let next : Served input (pick (rules input) w t) (past ++ t ∷ []) = subst (λ (u : World Part Local). Served input u (past ++ t ∷ [])) (sym (moves_to input valid c w past served t m)) (served_kept (lawful_in input valid) valid w past t m.local m.place m.part (omega arith) served m.local_there m.wants m.part_there m.moves) in
-    let rest = switches_from input valid c ts (past ++ t ∷ []) (pick (rules input) w t) (ins + entry (kind_of (rules input) w c t)) (ends + closing (kind_of (rules input) w c t)) (omega (arith, length-append past (t ∷ []))) next polite.1 (keeps input valid c w past served t m ins ends balance) in
+    let kept = served_kept (lawful_in input valid) valid w past t m.local m.place m.part (omega arith) served m.local_there m.wants m.part_there m.moves in
+    let next = subst (λ (u : World Part Local). Served input u (past ++ t ∷ [])) (sym (moves_to input valid c w past served t m)) kept in
+    let kind : Kind = kind_of (rules input) w c t in
+    let rest = switches_from input valid c ts (past ++ t ∷ []) (pick (rules input) w t) (ins + entry kind) (ends + closing kind) (omega (arith, length-append past (t ∷ []))) next polite.1
+    (keeps input valid c w past served t m ins ends balance) in
     omega (arith, rest)
 
 -- in every polite order
-pub switches_are_few : (input : Input) → IsValidInput input → (order : List ℕ) → length order ≤ MOST_PICKS → IsPolite (rules input) (start (rules input)) order → SwitchesAreFew (rules input) order
-switches_are_few input valid order few polite c = let all = switches_from input valid c order [] (start (rules input)) 0 0 (omega arith) (served_first (lawful_in input valid) valid) polite (inl (omega arith)) in omega (arith, all)
+pub switches_are_few : (input : Input) → IsValidInput input → (order : List ℕ) → length order ≤ MOST_PICKS
+    → IsPolite (rules input) (start (rules input)) order → SwitchesAreFew (rules input) order
+switches_are_few input valid order few polite c =
+    omega (arith, switches_from input valid c order [] (start (rules input)) 0 0 (omega arith) (served_first (lawful_in input valid) valid) polite (inl (omega arith)))

@@ -21,8 +21,7 @@ module _ (rows : List ClassRow) (c : Config) where
   pub changes : (n more t : ℕ) (ps : List CpuFrontPart) (us : List (Standing CpuSeat CpuRow)) (s new : Standing CpuSeat CpuRow) → n ≤ more
       → (IsSeated rows c t s → IsSeated rows c t new)
       → ((i : ℕ) (p : CpuPart) → IsSeated rows c t s → CpuOk (length rows) p → SeatOk i (thread_no t) p (seat_at rows s) → SeatOk i (thread_no t) p
-      (seat_at rows new))
-      → CpuHolds rows c n ps (slice_set us t s) → CpuHolds rows c more ps (slice_set us t new)
+      (seat_at rows new)) → CpuHolds rows c n ps (slice_set us t s) → CpuHolds rows c more ps (slice_set us t new)
   changes n more t ps us s new le sits agrees h =
       record {
         placed = h.placed;
@@ -67,10 +66,16 @@ module _ (rows : List ClassRow) (c : Config) where
       → count ≤ more → KeepsRegs g new → (RegsAt (limits_of rows c) v g at → Comes v g new at to)
       → CpuHolds rows c n ps (slice_set us t (stand v g count at)) → CpuHolds rows c n ps (slice_set us t (stand v new more to))
   comes n t ps us v g new count more at to le keeps come h =
-      changes n n t ps us (stand v g count at) (stand v new more to) (omega arith)
-      (λ o. let x = come o.regs in
-      record { thread = keeps.thread ∙ o.thread; home = o.home; domains = o.domains; move = o.move; loaded = ap (λ b. room b) keeps.loaded ∙ o.loaded; ran = omega (arith, keeps.ran, o.ran, le); regs = x.regs (begins g new keeps x.begin) })
-      (λ i p o part ok.
+      changes n n t ps us (stand v g count at) (stand v new more to) (omega arith) (λ o. let x = come o.regs in
+      record {
+        thread = keeps.thread ∙ o.thread;
+        home = o.home;
+        domains = o.domains;
+        move = o.move;
+        loaded = ap room keeps.loaded ∙ o.loaded;
+        ran = omega (arith, keeps.ran, o.ran, le);
+        regs = x.regs (begins g new keeps x.begin);
+      }) (λ i p o part ok.
       let x = come o.regs in
       let b : IsAtBegin new = begins g new keeps x.begin in
       let s : seats.Seat = seat_at rows (stand v g count at) in
