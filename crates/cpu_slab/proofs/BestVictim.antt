@@ -1,5 +1,6 @@
 -- The victim has most unused bytes of all other classes, and is the least such class.
-use Rattle.std.proofs.Common.{◌≡◌, ◌≢◌, ℕ, zero, suc, ◌+◌, ◌-◌, ◌<◌, ◌≤◌, eqb, ltb, List, [], ◌∷◌, length, get_or, Option, Some, None, refl, sym, ap, ◌∙◌, subst, arith}
+use Rattle.std.proofs.Common.{◌≡◌, ◌≢◌, ℕ, zero, suc, ◌+◌, ◌-◌, ◌<◌, ◌≤◌, eqb, ltb, List, [], ◌∷◌, length, get_or, Option, Some, None, refl, sym, ap}
+use Rattle.std.proofs.Common.{◌∙◌, subst, arith}
 use Rattle.std.proofs.lemmas.Bool.{cond_both, eqb-true, eqb-false, ltb-true, ltb-false}
 use Rattle.cpu_slab.specs.declared.marks.Unused.{Unused}
 use Rattle.cpu_slab.specs.Growth.{preferred, victim, IsVictim, VictimsAreBest}
@@ -21,11 +22,13 @@ none_at : (k i n : ℕ) (ns : List ℕ) → i ≡ k → ((j : ℕ) → j < lengt
 none_at k i n ns here later zero low = omega arith
 none_at k i n ns here later (suc j) low = omega (arith, later j (omega arith))
 
-most_at : (k i n m : ℕ) (ns : List ℕ) → (i ≢ k → n ≤ m) → ((j : ℕ) → j < length ns → (i + 1) + j ≢ k → get_or ns j 0 ≤ m) → (j : ℕ) → j < length (n ∷ ns) → i + j ≢ k → get_or (n ∷ ns) j 0 ≤ m
+most_at : (k i n m : ℕ) (ns : List ℕ) → (i ≢ k → n ≤ m) → ((j : ℕ) → j < length ns → (i + 1) + j ≢ k → get_or ns j 0 ≤ m)
+    → (j : ℕ) → j < length (n ∷ ns) → i + j ≢ k → get_or (n ∷ ns) j 0 ≤ m
 most_at k i n m ns here later zero low apart = here (λ e. apart (omega arith))
 most_at k i n m ns here later (suc j) low apart = later j (omega arith) (λ e. apart (omega arith))
 
-least_at : (k i n m c : ℕ) (ns : List ℕ) → (i ≢ k → n < m) → ((j : ℕ) → j < length ns → (i + 1) + j < c → (i + 1) + j ≢ k → get_or ns j 0 < m) → (j : ℕ) → j < length (n ∷ ns) → i + j < c → i + j ≢ k → get_or (n ∷ ns) j 0 < m
+least_at : (k i n m c : ℕ) (ns : List ℕ) → (i ≢ k → n < m) → ((j : ℕ) → j < length ns → (i + 1) + j < c → (i + 1) + j ≢ k → get_or ns j 0 < m)
+    → (j : ℕ) → j < length (n ∷ ns) → i + j < c → i + j ≢ k → get_or (n ∷ ns) j 0 < m
 least_at k i n m c ns here later zero low before apart = here (λ e. apart (omega arith))
 least_at k i n m c ns here later (suc j) low before apart = later j (omega arith) (omega arith) (λ e. apart (omega arith))
 
@@ -62,19 +65,25 @@ skipped k i n ns (Some best) here is = later_best k i n ns best (λ e. absurd (e
 chosen : (k i n : ℕ) (ns : List ℕ) (o : Option Unused) → i ≢ k → IsBestIf k (i + 1) ns o → IsBestIf k i (n ∷ ns) (preferred (Some (record { class = i; bytes = n })) o)
 chosen k i n ns None apart is = first_best k i n ns apart (λ j low e. absurd (e (is j low)))
 chosen k i n ns (Some later) apart is =
-    cond_both (ltb n later.bytes) (Some later) (Some (record { class = i; bytes = n })) (IsBestIf k i (n ∷ ns)) (λ e. later_best k i n ns later (λ a. ltb-true n later.bytes e) is) (λ e. first_best k i n ns apart (λ j low a. omega (arith, is.most j low a, ltb-false n later.bytes e)))
+    cond_both (ltb n later.bytes) (Some later) (Some (record { class = i; bytes = n })) (IsBestIf k i (n ∷ ns))
+    (λ e. later_best k i n ns later (λ a. ltb-true n later.bytes e) is) (λ e. first_best k i n ns apart (λ j low a. omega (arith, is.most j low a, ltb-false n later.bytes e)))
 
 best_from : (k i : ℕ) (ns : List ℕ) → IsBestIf k i ns (victim k i ns)
 best_from k i [] = λ j low. absurd (omega arith)
-best_from k i (n ∷ ns) =
-    cond_both (eqb i k) (victim k (i + 1) ns) (preferred (Some (record { class = i; bytes = n })) (victim k (i + 1) ns)) (IsBestIf k i (n ∷ ns)) (λ e. skipped k i n ns (victim k (i + 1) ns) (eqb-true i k e) (best_from k (i + 1) ns)) (λ e. chosen k i n ns (victim k (i + 1) ns) (eqb-false i k e) (best_from k (i + 1) ns))
+best_from k i (n ∷ ns) = grind (arith, chosen, cond_both, eqb, eqb-false, eqb-true, skipped, (best_from k (i + 1) ns))
 
 best_of : (k : ℕ) (ns : List ℕ) (o : Option Unused) (best : Unused) → IsBestIf k 0 ns o → o ≡ Some best → IsVictim k ns best
 best_of k ns None best is e = absurd (cc)
 best_of k ns (Some other) best is e =
     let same : other ≡ best = (cc) in
-    let at : IsVictim k ns other = record { there = omega (arith, is.there); other = is.other; is = (let z : other.class - 0 ≡ other.class = omega arith in ap (λ c. get_or ns c 0) (sym z) ∙ is.is); most = λ j low apart. is.most j low (λ e. apart (omega arith)); least = λ j before apart. is.least j (omega (arith, is.there)) (omega arith) (λ e. apart (omega arith)) } in
-    subst (λ (b : Unused). IsVictim k ns b) same at
+    let at : IsVictim k ns other = record {
+      there = omega (arith, is.there);
+      other = is.other;
+      is = let z : other.class - 0 ≡ other.class = omega arith in ap (λ c. get_or ns c 0) (sym z) ∙ is.is;
+      most = λ j low apart. is.most j low (λ e. apart (omega arith));
+      least = λ j before apart. is.least j (omega (arith, is.there)) (omega arith) (λ e. apart (omega arith));
+    } in
+    subst (IsVictim k ns) same at
 
 none_of : (k : ℕ) (ns : List ℕ) (o : Option Unused) → IsBestIf k 0 ns o → o ≡ None → (j : ℕ) → j < length ns → j ≡ k
 none_of k ns None is e j low = omega (arith, is j low)

@@ -1,5 +1,6 @@
 -- Growth changes capacities alone, and stays in the budget.
-use Rattle.std.proofs.Common.{◌≡◌, ◌≢◌, ℕ, zero, suc, ◌+◌, ◌-◌, ◌*◌, ◌/◌, ◌%◌, ◌<◌, ◌≤◌, eqb, leb, ltb, List, [], ◌∷◌, length, map, get_or, Option, Some, None, unwrap_or, option_map, refl, sym, ap, ◌∙◌, arith, min}
+use Rattle.std.proofs.Common.{◌≡◌, ◌≢◌, ℕ, zero, suc, ◌+◌, ◌-◌, ◌*◌, ◌/◌, ◌%◌, ◌<◌, ◌≤◌, eqb, leb, ltb, List, [], ◌∷◌, length, map, get_or}
+use Rattle.std.proofs.Common.{Option, Some, None, unwrap_or, option_map, refl, sym, ap, ◌∙◌, arith, min}
 use Rattle.std.specs.List.{slice_set, flat_map}
 use Rattle.std.specs.Int.{div_ceil}
 use Rattle.std.proofs.lemmas.Bool.{cond_both, leb-true, eqb-false}
@@ -22,10 +23,7 @@ preferred_other k n one (Some later) apart low is = cond_both (ltb one.bytes lat
 
 victim_from : (k n i : ℕ) (bytes : List ℕ) → i + length bytes ≤ n → IsOther k n (victim k i bytes)
 victim_from k n i [] low = tt
-victim_from k n i (b ∷ bs) low =
-    cond_both (eqb i k) (victim k (i + 1) bs) (preferred (Some (record { class = i; bytes = b })) (victim k (i + 1) bs)) (IsOther k n)
-    (λ e. victim_from k n (i + 1) bs (omega arith))
-    (λ e. preferred_other k n (record { class = i; bytes = b }) (victim k (i + 1) bs) (eqb-false i k e) (omega arith) (victim_from k n (i + 1) bs (omega arith)))
+victim_from k n i (b ∷ bs) low = grind (arith, cond_both, eqb, eqb-false, preferred_other, (victim_from k n (i + 1) bs (omega arith)))
 
 pub victim_other : (rows : List SlabRow) (k : ℕ) → IsOther k (length rows) (victim k 0 (map unused rows))
 victim_other rows k = victim_from k (length rows) 0 (map unused rows) (omega (arith, length-map rows unused))
@@ -42,12 +40,9 @@ pub rounded_up : (bytes size : ℕ) → 0 < size → bytes ≤ div_ceil bytes si
 rounded_up bytes size some = omega (arith, add_mul (bytes / size) (min 1 (bytes % size)) size, some_place (bytes % size) size (omega arith))
 
 -- a lower capacity frees its places
-pub freed_by : (slab : CpuSlab) (v s short : ℕ) → v < length slab.rows → s ≤ (row_at slab v).cap → short ≤ s * (row_at slab v).size → used (with_cap slab v ((row_at slab v).cap - s)).rows + short ≤ used slab.rows
-freed_by slab v s short low has enough =
-    let row : SlabRow = row_at slab v in
-    let whole : (row.cap - s) + s ≡ row.cap = omega arith in
-    let split : row.cap * row.size ≡ (row.cap - s) * row.size + s * row.size = ap (λ n. n * row.size) (sym whole) ∙ add_mul (row.cap - s) s row.size in
-    omega (arith, used_set slab.rows v (record row { cap = row.cap - s }) low, split)
+pub freed_by : (slab : CpuSlab) (v s short : ℕ) → v < length slab.rows → s ≤ (row_at slab v).cap → short ≤ s * (row_at slab v).size
+    → used (with_cap slab v ((row_at slab v).cap - s)).rows + short ≤ used slab.rows
+freed_by slab v s short low has enough = grind (arith, add_mul, used_set)
 
 -- Capacities alone differ, and the slab is sound.
 pub record KeepsObjects (slab new : CpuSlab) : Type 0 where
@@ -62,7 +57,8 @@ pub record KeepsObjects (slab new : CpuSlab) : Type 0 where
 pub keeps_same : (slab : CpuSlab) → IsSoundSlab slab → KeepsObjects slab slab
 keeps_same slab sound = record { sound = sound; classes = refl; most = refl; limit = refl; tops = λ j. refl; held = λ j. refl; objects = refl }
 
-pub keeps_cap : (slab : CpuSlab) (k n : ℕ) → k < length slab.rows → (row_at slab k).top ≤ n → n ≤ slab.most → used (with_cap slab k n).rows ≤ slab.limit → IsSoundSlab slab → KeepsObjects slab (with_cap slab k n)
+pub keeps_cap : (slab : CpuSlab) (k n : ℕ) → k < length slab.rows → (row_at slab k).top ≤ n → n ≤ slab.most → used (with_cap slab k n).rows ≤ slab.limit → IsSoundSlab slab
+    → KeepsObjects slab (with_cap slab k n)
 keeps_cap slab k n low above below budget sound =
     record {
       sound = sound_cap slab k n low above below budget sound;
@@ -75,7 +71,16 @@ keeps_cap slab k n low above below budget sound =
     }
 
 keeps_then : (slab mid new : CpuSlab) → KeepsObjects slab mid → KeepsObjects mid new → KeepsObjects slab new
-keeps_then slab mid new a b = record { sound = b.sound; classes = b.classes ∙ a.classes; most = b.most ∙ a.most; limit = b.limit ∙ a.limit; tops = λ j. b.tops j ∙ a.tops j; held = λ j. b.held j ∙ a.held j; objects = b.objects ∙ a.objects }
+keeps_then slab mid new a b =
+    record {
+      sound = b.sound;
+      classes = b.classes ∙ a.classes;
+      most = b.most ∙ a.most;
+      limit = b.limit ∙ a.limit;
+      tops = λ j. b.tops j ∙ a.tops j;
+      held = λ j. b.held j ∙ a.held j;
+      objects = b.objects ∙ a.objects;
+    }
 
 -- there is room for the growth of class k, and class k is as it was
 pub record IsRoomy (slab : CpuSlab) (k need : ℕ) (rows : List SlabRow) : Type 0 where
@@ -87,31 +92,33 @@ abbrev pub IsRoomyIf : CpuSlab → ℕ → ℕ → Option (List SlabRow) → Typ
 IsRoomyIf slab k need None = Unit {0}
 IsRoomyIf slab k need (Some rows) = IsRoomy slab k need rows
 
-given_up_ok : (slab : CpuSlab) (k v need : ℕ) → IsSoundSlab slab → v < length slab.rows → v ≢ k → IsRoomyIf slab k need (given_up slab.rows v (div_ceil (need - (slab.limit - used slab.rows)) (row_at slab v).size))
+-- the bytes that are short of what is needed
+abbrev short_of : CpuSlab → ℕ → ℕ
+short_of slab need = need - (slab.limit - used slab.rows)
+
+given_up_ok : (slab : CpuSlab) (k v need : ℕ) → IsSoundSlab slab → v < length slab.rows → v ≢ k → IsRoomyIf slab k need (given_up slab.rows v (div_ceil (short_of slab need) (row_at slab v).size))
 given_up_ok slab k v need sound low apart =
     let row : SlabRow = row_at slab v in
-    let short : ℕ = need - (slab.limit - used slab.rows) in
+    let short : ℕ = short_of slab need in
     let s : ℕ = div_ceil short row.size in
     let ok : IsSoundRow row = row_sound slab v sound low in
-    cond_both (leb s (row.cap - row.top)) (Some (slice_set slab.rows v (narrower row s))) None (IsRoomyIf slab k need)
-    (λ e.
+    cond_both (leb s (row.cap - row.top)) (Some (slice_set slab.rows v (narrower row s))) None (IsRoomyIf slab k need) (λ e.
     (let has : s ≤ row.cap - row.top = leb-true s (row.cap - row.top) e in
-    let less : used (with_cap slab v (row.cap - s)).rows + short ≤ used slab.rows = freed_by slab v s short low (omega arith) (rounded_up short row.size ok.size) in
+    let less = freed_by slab v s short low (omega arith) (rounded_up short row.size ok.size) in
     record {
       keeps = keeps_cap slab v (row.cap - s) low (omega (arith, ok.top)) (omega (arith, ok.cap, row_slots slab v sound low)) (omega (arith, sound.budget)) sound;
       room = omega (arith, less, sound.budget);
       same = row_other slab.rows v k (narrower row s) (λ e. apart (sym e));
-    }))
-    (λ e. tt)
+    })) (λ e. tt)
 
-taken_ok : (slab : CpuSlab) (k need : ℕ) (o : Option Unused) → IsSoundSlab slab → IsOther k (length slab.rows) o → IsRoomyIf slab k need (taken_from slab.rows (need - (slab.limit - used slab.rows)) o)
+taken_ok : (slab : CpuSlab) (k need : ℕ) (o : Option Unused) → IsSoundSlab slab → IsOther k (length slab.rows) o → IsRoomyIf slab k need (taken_from slab.rows (short_of slab need) o)
 taken_ok slab k need None sound is = tt
 taken_ok slab k need (Some best) sound is = given_up_ok slab k best.class need sound is.1 is.0
 
 pub roomy_ok : (slab : CpuSlab) (k need : ℕ) → IsSoundSlab slab → IsRoomyIf slab k need (roomy slab k need)
 roomy_ok slab k need sound =
-    cond_both (leb need (slab.limit - used slab.rows)) (Some slab.rows) (taken_from slab.rows (need - (slab.limit - used slab.rows)) (victim k 0 (map unused slab.rows))) (IsRoomyIf slab k need)
-    (λ e. (let has : need ≤ slab.limit - used slab.rows = leb-true need (slab.limit - used slab.rows) e in record { keeps = keeps_same slab sound; room = omega (arith, sound.budget); same = refl }))
+    cond_both (leb need (slab.limit - used slab.rows)) (Some slab.rows) (taken_from slab.rows (short_of slab need) (victim k 0 (map unused slab.rows))) (IsRoomyIf slab k need)
+    (λ e. record { keeps = keeps_same slab sound; room = omega (arith, sound.budget, leb-true need (slab.limit - used slab.rows) e); same = refl })
     (λ e. taken_ok slab k need (victim k 0 (map unused slab.rows)) sound (victim_other slab.rows k))
 
 -- a class grows where there is room
@@ -120,28 +127,32 @@ wider_used slab k low =
     let row : SlabRow = row_at slab k in
     omega (arith, used_set slab.rows k (wider row) low, add_mul row.cap (rise row) row.size)
 
-widened_ok : (slab : CpuSlab) (k : ℕ) → k < length slab.rows → used slab.rows + rise (row_at slab k) * (row_at slab k).size ≤ slab.limit → IsSoundSlab slab → KeepsObjects slab (record slab { rows = widened k slab.rows })
+-- the bytes of a class's growth
+abbrev rise_bytes : CpuSlab → ℕ → ℕ
+rise_bytes slab k = rise (row_at slab k) * (row_at slab k).size
+
+widened_ok : (slab : CpuSlab) (k : ℕ) → k < length slab.rows → used slab.rows + rise_bytes slab k ≤ slab.limit → IsSoundSlab slab → KeepsObjects slab (record slab { rows = widened k slab.rows })
 widened_ok slab k low room sound =
     let row : SlabRow = row_at slab k in
     let ok : IsSoundRow row = row_sound slab k sound low in
     keeps_cap slab k (row.cap + rise row) low (omega (arith, ok.top)) (omega (arith, ok.cap, row_slots slab k sound low)) (omega (arith, wider_used slab k low)) sound
 
-growth_by : (slab : CpuSlab) (k : ℕ) (o : Option (List SlabRow)) → k < length slab.rows → IsSoundSlab slab → IsRoomyIf slab k (rise (row_at slab k) * (row_at slab k).size) o → KeepsObjects slab (record slab { rows = unwrap_or (option_map (widened k) o) slab.rows })
+growth_by : (slab : CpuSlab) (k : ℕ) (o : Option (List SlabRow)) → k < length slab.rows → IsSoundSlab slab → IsRoomyIf slab k (rise_bytes slab k) o
+    → KeepsObjects slab (record slab { rows = unwrap_or (option_map (widened k) o) slab.rows })
 growth_by slab k None low sound is = keeps_same slab sound
 growth_by slab k (Some rows) low sound is =
     let mid : CpuSlab = record slab { rows = rows } in
     let low' : k < length rows = omega (arith, is.keeps.classes) in
-    let need : rise (row_at mid k) * (row_at mid k).size ≡ rise (row_at slab k) * (row_at slab k).size = ap (λ (r : SlabRow). rise r * r.size) is.same in
+    let need = ap (λ (r : SlabRow). rise r * r.size) is.same in
     keeps_then slab mid (record mid { rows = widened k rows }) is.keeps (widened_ok mid k low' (omega (arith, is.room, need)) is.keeps.sound)
 
 -- growth changes capacities alone
 pub grown_keeps : (slab : CpuSlab) (k : ℕ) → k < length slab.rows → IsSoundSlab slab → KeepsObjects slab (grown slab k)
 grown_keeps slab k low sound =
-    let row : SlabRow = row_at slab k in
-    let need : ℕ = rise row * row.size in
-    cond_both (eqb (rise row) 0) None (option_map (widened k) (roomy slab k need)) (λ o. KeepsObjects slab (record slab { rows = unwrap_or o slab.rows })) (λ e. keeps_same slab sound) (λ e. growth_by slab k (roomy slab k need) low sound (roomy_ok slab k need sound))
+    let new : Option (List SlabRow) = roomy slab k (rise_bytes slab k) in
+    cond_both (eqb (rise (row_at slab k)) 0) None (option_map (widened k) new) (λ o. KeepsObjects slab (record slab { rows = unwrap_or o slab.rows }))
+    (λ e. keeps_same slab sound) (λ e. growth_by slab k new low sound (roomy_ok slab k (rise_bytes slab k) sound))
 
 -- another class is as it was after one gave up places
 pub gave_other : (rows : List SlabRow) (v k s : ℕ) → v ≢ k → get_or (unwrap_or (given_up rows v s) rows) k no_row ≡ get_or rows k no_row
-gave_other rows v k s apart =
-    cond_both (leb s ((get_or rows v no_row).cap - (get_or rows v no_row).top)) (Some (slice_set rows v (narrower (get_or rows v no_row) s))) None (λ o. get_or (unwrap_or o rows) k no_row ≡ get_or rows k no_row) (λ e. row_other rows v k (narrower (get_or rows v no_row) s) (λ e. apart (sym e))) (λ e. refl)
+gave_other rows v k s apart = grind (arith, cond_both, leb, row_other, unwrap_or)

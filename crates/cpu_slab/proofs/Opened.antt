@@ -16,11 +16,11 @@ use Rattle.cpu_slab.proofs.Places.{rows_of-opened}
 used_opened : (most : ℕ) (rows : List ClassRow) → used (map (empty_row most) rows) ≡ 0
 used_opened most [] = refl
 used_opened most (row ∷ rows) =
-    let e : used (empty_row most row ∷ map (empty_row most) rows) ≡ cap_bytes (empty_row most row) + used (map (empty_row most) rows) = sum_by-cons cap_bytes (empty_row most row) (map (empty_row most) rows) in
     let z : cap_bytes (empty_row most row) ≡ 0 = omega arith in
-    omega (arith, e, z, used_opened most rows)
+    omega (arith, sum_by-cons cap_bytes (empty_row most row) (map (empty_row most) rows), z, used_opened most rows)
 
-each_opened : (most : ℕ) (P : SlabRow → Type 0) (rows : List ClassRow) → ((row : ClassRow) → 0 < row.size → P (empty_row most row)) → All (λ (row : ClassRow). 0 < row.size) rows → All P (map (empty_row most) rows)
+each_opened : (most : ℕ) (P : SlabRow → Type 0) (rows : List ClassRow) → ((row : ClassRow) → 0 < row.size → P (empty_row most row))
+    → All (λ (row : ClassRow). 0 < row.size) rows → All P (map (empty_row most) rows)
 each_opened most P rows made sizes = All-map P (empty_row most) rows (λ k d low. made (get_or rows k d) (sizes k d low))
 
 pub sound_opened : (rows : List ClassRow) (most limit : ℕ) → AreSlabLimits (length rows) most limit → All (λ (row : ClassRow). 0 < row.size) rows → IsSoundSlab (opened rows most limit)
@@ -36,12 +36,17 @@ sound_opened rows most limit limits sizes =
 abbrev pub first_marks : ClassRow → ClassMarks
 first_marks row = record { size = row.size; batch = row.batch; cap = 0; top = 0 }
 
-pub opened_is : (rows : List ClassRow) (most limit : ℕ) (marks : List ClassMarks) (slots : List Addr) → marks ≡ map first_marks rows → slots ≡ replicate (length rows * most) null → slab_of most limit marks slots ≡ opened rows most limit
-opened_is rows most limit marks slots marks_are slots_are =
-    ap (λ (ms : List ClassMarks). slab_of most limit ms slots) marks_are ∙ (ap (λ (xs : List Addr). slab_of most limit (map first_marks rows) xs) slots_are ∙ ap (λ (rs : List SlabRow). record { most = most; limit = limit; rows = rs }) (rows_of-opened most rows))
+-- a representation of them
+module _ (rows : List ClassRow) (most limit : ℕ) where
+  abbrev slots : List Addr
+  slots = replicate (length rows * most) null
 
-pub opened_out : (rows : List ClassRow) (most limit : ℕ) (marks : List ClassMarks) (slots : List Addr) → AreSlabLimits (length rows) most limit → All (λ (row : ClassRow). 0 < row.size) rows → marks ≡ map first_marks rows → slots ≡ replicate (length rows * most) null → IsLaidOut most limit 0 marks slots
-opened_out rows most limit marks slots limits sizes marks_are slots_are =
-    let classes : length marks ≡ length rows = ap length marks_are ∙ length-map rows first_marks in
-    let places : length slots ≡ length rows * most = ap length slots_are ∙ length-replicate (length rows * most) null in
-    laid_out most limit 0 marks slots (opened rows most limit) (opened_is rows most limit marks slots marks_are slots_are) (places ∙ ap (λ n. n * most) (sym classes)) (sym (used_opened most rows)) (sound_opened rows most limit limits sizes)
+  pub opened_is : {marks : List ClassMarks} {places : List Addr} → marks ≡ map first_marks rows → places ≡ slots → slab_of most limit marks places ≡ opened rows most limit
+  opened_is marks_are places_are = rw (marks_are, places_are) (ap (λ (rs : List SlabRow). record { most = most; limit = limit; rows = rs }) (rows_of-opened most rows))
+
+  pub opened_out : {marks : List ClassMarks} {places : List Addr} → AreSlabLimits (length rows) most limit → All (λ (row : ClassRow). 0 < row.size) rows → marks ≡ map first_marks rows
+      → places ≡ slots → IsLaidOut most limit 0 marks places
+  opened_out {marks} {places} limits sizes marks_are places_are =
+      let classes : length marks ≡ length rows = ap length marks_are ∙ length-map rows first_marks in
+      let size : length places ≡ length rows * most = ap length places_are ∙ length-replicate (length rows * most) null in
+      laid_out marks places (opened_is marks_are places_are) (size ∙ ap (λ n. n * most) (sym classes)) (sym (used_opened most rows)) (sound_opened rows most limit limits sizes)

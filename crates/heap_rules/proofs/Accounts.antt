@@ -1,5 +1,6 @@
 -- A release answers how many pages it unbacked, and the filler's order is a walk by candidates.
-use Rattle.std.proofs.Common.{◌≡◌, ℕ, ◌+◌, ◌*◌, ◌%◌, ◌<◌, ◌≤◌, Bool, true, false, not, ◌&&◌, cond, eqb, List, [], ◌∷◌, length, get_or, filter, map, count_by, sum_by, All, refl, sym, ap, subst, ◌∙◌, inl, inr, arith}
+use Rattle.std.proofs.Common.{◌≡◌, ℕ, ◌+◌, ◌*◌, ◌%◌, ◌<◌, ◌≤◌, Bool, true, false, not, ◌&&◌, cond, eqb, List, [], ◌∷◌, length, get_or, filter, map}
+use Rattle.std.proofs.Common.{count_by, sum_by, All, refl, sym, ap, subst, ◌∙◌, inl, inr, arith}
 use Rattle.std.specs.List.{range_with_len, enumerate_from, list_all}
 use Rattle.std.proofs.lemmas.Bool.{cases_Bool, and_parts, eq-eqb, ne_eqb, false≢true}
 use Rattle.std.proofs.lemmas.List.{same_lists, get_or_default, length-map, get_or-map}
@@ -50,26 +51,22 @@ by_numbers f xs =
     let len = length-enumerate_from 1 xs in
     let len' = length-map (enumerate_from 1 xs) (λ (p : ℕ × Hugepage). f p.0 p.1) in
     let count = length-map-range_with_len g 1 (length xs) in
-    same_lists _ _ (len' ∙ len ∙ sym count)
-    (λ k d l.
+    same_lists _ _ (len' ∙ len ∙ sym count) (λ k d l.
     let short : k < length xs = omega arith in
     get_or-map (λ (p : ℕ × Hugepage). f p.0 p.1) (enumerate_from 1 xs) k (0, untouched) d (omega arith)
-    ∙ ap (λ (p : ℕ × Hugepage). f p.0 p.1) (get_or-enumerate_from 1 xs k (0, untouched) short)
-    ∙ ap (f (1 + k)) (sym (at-next xs k))
+    ∙ ap (λ (p : ℕ × Hugepage). f p.0 p.1) (get_or-enumerate_from 1 xs k (0, untouched) short) ∙ ap (f (1 + k)) (sym (at-next xs k))
     ∙ sym (get_or-map-range_with_len g 1 (length xs) k (1 + k) d short refl))
 
 pub self : (xs : List Hugepage) → xs ≡ map (at xs) (range_with_len 1 (length xs))
 self xs =
     let count = length-map-range_with_len (at xs) 1 (length xs) in
-    same_lists _ _ (sym count)
-    (λ k d l. get_or_default xs k d untouched l ∙ sym (at-next xs k) ∙ sym (get_or-map-range_with_len (at xs) 1 (length xs) k (1 + k) d l refl))
+    same_lists _ _ (sym count) (λ k d l. get_or_default xs k d untouched l ∙ sym (at-next xs k) ∙ sym (get_or-map-range_with_len (at xs) 1 (length xs) k (1 + k) d l refl))
 
 -- the backed pages of a hugepage, over the numbers of its pages
 pub own_backs : (h : ℕ) (x : Hugepage) → length x.backed ≡ 256 → x.backed ≡ map (backs x) (pages_of h)
 own_backs h x e =
     let count = length-map-range_with_len (backs x) (256 * h) 256 in
-    same_lists _ _ (e ∙ sym count)
-    (λ k d l.
+    same_lists _ _ (e ∙ sym count) (λ k d l.
     let short : k < 256 = omega (arith, e) in
     let place : k ≡ (256 * h + k) % 256 = omega (arith, short) in
     get_or_default x.backed k d false l ∙ ap (λ i. get_or x.backed i false) place ∙ sym (get_or-map-range_with_len (backs x) (256 * h) 256 k (256 * h + k) d short refl))
@@ -79,10 +76,10 @@ plus_none n = omega arith
 
 one_more : (a b : Bool) → cond (a && b) 1 0 + cond (a && not b) 1 0 ≡ cond a 1 0
 one_more true true = refl
-one_more true false = refl
-one_more false b = refl
+one_more a b = refl
 
-pub both : (backed : List Bool) (used : ℕ → Bool) (ps : List ℕ) (b : ℕ → Bool) → backed ≡ map b ps → count_by (λ x. x) (map (λ p. b p && used p) ps) + count_by (λ p. b p && not (used p)) ps ≡ count_by (λ x. x) backed
+pub both : (backed : List Bool) (used : ℕ → Bool) (ps : List ℕ) (b : ℕ → Bool) → backed ≡ map b ps
+    → count_by (λ x. x) (map (λ p. b p && used p) ps) + count_by (λ p. b p && not (used p)) ps ≡ count_by (λ x. x) backed
 both backed used ps b e =
     let one = sum-map' (λ x. cond x 1 0) (λ p. b p && used p) ps in
     let two = sum-map' (λ x. cond x 1 0) b ps in
@@ -90,17 +87,21 @@ both backed used ps b e =
     rw (e, one, two) all
 
 -- A change of each hugepage, of which each gives some of its backed pages up.
-pub change_counts : (heap : Heap) (change : ℕ → Hugepage → Hugepage) (gives : ℕ → ℕ) → ((h : ℕ) → 1 ≤ h → h < 1 + length heap.hugepages → backed_count (change h (hugepage heap h)) + gives h ≡ backed_count (hugepage heap h)) → sum_by backed_count (each change heap.hugepages) + sum_by gives (numbers heap) ≡ backed_pages heap
+pub change_counts : (heap : Heap) (change : ℕ → Hugepage → Hugepage) (gives : ℕ → ℕ)
+    → ((h : ℕ) → 1 ≤ h → h < 1 + length heap.hugepages → backed_count (change h (hugepage heap h)) + gives h ≡ backed_count (hugepage heap h))
+    → sum_by backed_count (each change heap.hugepages) + sum_by gives (numbers heap) ≡ backed_pages heap
 change_counts heap change gives gave =
-    let here : sum_by backed_count (each change heap.hugepages) ≡ sum_by (λ h. backed_count (change h (hugepage heap h))) (numbers heap) = ap (sum_by backed_count) (by_numbers change heap.hugepages) ∙ sum-map' backed_count (λ h. change h (hugepage heap h)) (numbers heap) in
-    let before : backed_pages heap ≡ sum_by (λ h. backed_count (hugepage heap h)) (numbers heap) = ap (sum_by backed_count) (self heap.hugepages) ∙ sum-map' backed_count (hugepage heap) (numbers heap) in
+    let here = ap (sum_by backed_count) (by_numbers change heap.hugepages) ∙ sum-map' backed_count (λ h. change h (hugepage heap h)) (numbers heap) in
+    let before = ap (sum_by backed_count) (self heap.hugepages) ∙ sum-map' backed_count (hugepage heap) (numbers heap) in
     let all = sum-adds (λ h. backed_count (change h (hugepage heap h))) gives (λ h. backed_count (hugepage heap h)) (numbers heap)
     (λ k d l. let inside = range-within 1 (length heap.hugepages) k d l in gave (get_or (numbers heap) k d) inside.0 inside.1) in
     rw (here, before) all
 
 pub same_sums : {X : Type 0} (f g : X → ℕ) (xs : List X) → All (λ x. f x ≡ g x) xs → sum_by f xs ≡ sum_by g xs
 same_sums f g [] h = refl
-same_sums f g (x ∷ xs) h = let a = sum_by-cons f x xs in let b = sum_by-cons g x xs in let rest = same_sums f g xs (All-tail (λ y. f y ≡ g y) x xs h) in let head : f x ≡ g x = All-head (λ y. f y ≡ g y) x xs h in omega arith
+same_sums f g (x ∷ xs) h =
+    let head : f x ≡ g x = All-head (λ y. f y ≡ g y) x xs h in
+    omega (arith, sum_by-cons f x xs, sum_by-cons g x xs, same_sums f g xs (All-tail (λ y. f y ≡ g y) x xs h))
 
 -- The pages of each step of a release.
 pub scaled : {X : Type 0} (p : X → Bool) (xs : List X) → sum_by (λ x. cond (p x) 256 0) xs ≡ 256 * count_by p xs
@@ -121,23 +122,25 @@ all_counted (x ∷ xs) e =
     let one : ◌≡◌ {A = ℕ} (cond x 1 0) 1 = one-true x parts.0 in
     omega arith
 
-nested : (f : SpareRow → ℕ) (p : SpareRow → Bool) (v : ℕ → SpareRow) (q : ℕ → Bool) (xs : List ℕ) → sum_by f (filter p (map v (filter q xs))) ≡ sum_by (λ x. cond (q x && p (v x)) (f (v x)) 0) xs
+nested : (f : SpareRow → ℕ) (p : SpareRow → Bool) (v : ℕ → SpareRow) (q : ℕ → Bool) (xs : List ℕ)
+    → sum_by f (filter p (map v (filter q xs))) ≡ sum_by (λ x. cond (q x && p (v x)) (f (v x)) 0) xs
 nested f p v q [] = refl
 nested f p v q (x ∷ xs) =
     let rest = nested f p v q xs in
-    let b = sum_by-cons (λ y. cond (q y && p (v y)) (f (v y)) 0) x xs in
-    (elim (q x) as (λ t. sum_by f (filter p (map v (cond t (x ∷ filter q xs) (filter q xs)))) ≡ cond (t && p (v x)) (f (v x)) 0 + sum_by (λ y. cond (q y && p (v y)) (f (v y)) 0) xs) [
+    let others : List SpareRow = filter p (map v (filter q xs)) in
+    let count : ℕ → ℕ = λ y. cond (q y && p (v y)) (f (v y)) 0 in
+    (elim (q x) as (λ t. sum_by f (filter p (map v (cond t (x ∷ filter q xs) (filter q xs)))) ≡ cond (t && p (v x)) (f (v x)) 0 + sum_by count xs) [
       | false ↦ omega arith
       | true ↦
-          (let a = sum_by-cons f (v x) (filter p (map v (filter q xs))) in
-          elim (p (v x)) as (λ t. sum_by f (cond t (v x ∷ filter p (map v (filter q xs))) (filter p (map v (filter q xs)))) ≡ cond t (f (v x)) 0 + sum_by (λ y. cond (q y && p (v y)) (f (v y)) 0) xs) [ true ↦ omega arith | false ↦ omega arith ])
-    ]) ∙ sym b
+          (let a = sum_by-cons f (v x) others in
+          elim (p (v x)) as (λ t. sum_by f (cond t (v x ∷ others) others) ≡ cond t (f (v x)) 0 + sum_by count xs) [ true ↦ omega arith | false ↦ omega arith ])
+    ]) ∙ sym (sum_by-cons count x xs)
 
-pub whole_counts : (flags : List Bool) (heap : Heap) (n : ℕ) → ((h : ℕ) → 1 ≤ h → h < 1 + length heap.hugepages → at_number false flags h ≡ true → backed_count (hugepage heap h) ≡ 256) → backed_pages (whole_given flags heap n).heap + (whole_given flags heap n).pages ≡ backed_pages heap
+pub whole_counts : (flags : List Bool) (heap : Heap) (n : ℕ)
+    → ((h : ℕ) → 1 ≤ h → h < 1 + length heap.hugepages → at_number false flags h ≡ true → backed_count (hugepage heap h) ≡ 256) → backed_pages (whole_given flags heap n).heap + (whole_given flags heap n).pages ≡ backed_pages heap
 whole_counts flags heap n full =
     let all = change_counts heap (λ h x. cond (gives_whole flags n h) (unbacked x) x) (λ h. cond (gives_whole flags n h) 256 0)
-    (λ h from to.
-    (let x = hugepage heap h in
+    (λ h from to. (let x = hugepage heap h in
     let P : Bool → Type 0 = λ b. backed_count (cond b (unbacked x) x) + cond b 256 0 ≡ backed_count x in
     elim (cases_Bool (gives_whole flags n h)) [
       | inl t ↦ subst P (sym t) (sym (full h from to (and_parts _ _ t).0))
@@ -145,13 +148,13 @@ whole_counts flags heap n full =
     ])) in
     ap (λ k. backed_pages (whole_given flags heap n).heap + k) (sym (scaled (gives_whole flags n) (numbers heap))) ∙ all
 
-pub spare_counts : (heap : Heap) (n : ℕ) → ((h : ℕ) → 1 ≤ h → h < 1 + length heap.hugepages → length (hugepage heap h).backed ≡ 256) → backed_pages (spare_given heap n).heap + (spare_given heap n).pages ≡ backed_pages heap
+pub spare_counts : (heap : Heap) (n : ℕ) → ((h : ℕ) → 1 ≤ h → h < 1 + length heap.hugepages → length (hugepage heap h).backed ≡ 256)
+    → backed_pages (spare_given heap n).heap + (spare_given heap n).pages ≡ backed_pages heap
 spare_counts heap n size =
     let asked : ℕ → Hugepage → Bool = λ h x. is_filler x && gives_spare (spare_rows heap) n (spare_row heap h) in
     let gives : ℕ → ℕ = λ h. cond (asked h (hugepage heap h)) (spare_row heap h).spare 0 in
     let all = change_counts heap (λ h x. cond (asked h x) (only_used heap.runs h x) x) gives
-    (λ h from to.
-    (let x = hugepage heap h in
+    (λ h from to. (let x = hugepage heap h in
     let P : Bool → Type 0 = λ b. backed_count (cond b (only_used heap.runs h x) x) + cond b (spare_row heap h).spare 0 ≡ backed_count x in
     elim (cases_Bool (asked h x)) [
       | inl t ↦ subst P (sym t) (both x.backed (is_used heap.runs) (pages_of h) (backs x) (own_backs h x (size h from to)))
@@ -166,15 +169,7 @@ all_or_fewer (true ∷ row) =
     let step = sum_by-cons (λ b. cond b 1 0) true row in
     let rest = all_or_fewer row in
     ((λ e. omega (arith, rest.0 e)), (λ e. omega (arith, rest.1 e)))
-all_or_fewer (false ∷ row) =
-    let step = sum_by-cons (λ b. cond b 1 0) false row in
-    let most = count_by-le-length (λ b. b) row in
-    ((λ e. absurd (false≢true e)), (λ e. omega arith))
+all_or_fewer (false ∷ row) = grind (arith, count_by-le-length, false≢true, sum_by-cons)
 
 pub whole_exactly : (row : List Bool) (n : ℕ) → length row ≡ n → eqb (used_count row) n ≡ list_all (λ b. b) row
-whole_exactly row n size =
-    let is = all_or_fewer row in
-    elim (cases_Bool (list_all (λ b. b) row)) [
-      | inl all ↦ eq-eqb (used_count row) n (is.0 all ∙ size) ∙ sym all
-      | inr some ↦ ne_eqb (used_count row) n (λ e. let fewer = is.1 some in omega arith) ∙ sym some
-    ]
+whole_exactly row n size = grind (arith, all_or_fewer, cases_Bool, eq-eqb, ne_eqb)

@@ -1,5 +1,6 @@
 -- What the choices of free hugepages give, and where there is none.
-use Rattle.std.proofs.Common.{◌≡◌, ℕ, ◌+◌, ◌-◌, ◌<◌, ◌≤◌, ◌⊎◌, Bool, true, not, List, length, get_or, map, Option, Some, None, option_map, refl, sym, ap, subst, ◌∙◌, inl, inr, arith}
+use Rattle.std.proofs.Common.{◌≡◌, ℕ, ◌+◌, ◌-◌, ◌<◌, ◌≤◌, ◌⊎◌, Bool, true, not, List, length, get_or, map, Option, Some, None, option_map, refl, sym, ap}
+use Rattle.std.proofs.Common.{subst, ◌∙◌, inl, inr, arith}
 use Rattle.std.proofs.lemmas.Bool.{and_parts, not-false}
 use Rattle.std.proofs.lemmas.List.{length-map, get_or-map}
 use Rattle.std.proofs.lemmas.Option.{none-some, same_Some}
@@ -46,7 +47,9 @@ free_run : (heap : Heap) (m s : ℕ) → ArePassing is_free heap.hugepages s m �
 free_run heap m s are = record {
   from = omega arith;
   to = omega (arith, are.to);
-  free = λ k a b. (let e : s + (k - 1 - s) ≡ k - 1 = omega arith in ap is_free (at-place heap.hugepages k (omega arith)) ∙ subst (λ j. is_free (get_or heap.hugepages j untouched) ≡ true) e (are.pass (k - 1 - s) (omega arith)));
+  free = λ k a b.
+      (let e : s + (k - 1 - s) ≡ k - 1 = omega arith in
+      ap is_free (at-place heap.hugepages k (omega arith)) ∙ subst (λ j. is_free (get_or heap.hugepages j untouched) ≡ true) e (are.pass (k - 1 - s) (omega arith)));
 }
 
 pub run_choice_free : (heap : Heap) (m h : ℕ) → 0 < m → run_choice heap m ≡ Some h → AreFree heap h m
@@ -69,5 +72,4 @@ mapped_none f None e = refl
 mapped_none f (Some x) e = absurd (none-some (f x) (sym e))
 
 pub run_choice_none : (heap : Heap) (m : ℕ) → 0 < m → run_choice heap m ≡ None → longest (taken_row heap) < m
-run_choice_none heap m some e =
-    longest_is_short (taken_row heap) m some (or_else_none (best (unready_row heap) m) (best (taken_row heap) m) (mapped_none (λ place. place + 1) (or_else (best (unready_row heap) m) (best (taken_row heap) m)) e))
+run_choice_none heap m some e = longest_is_short (taken_row heap) m some (or_else_none (best (unready_row heap) m) _ (mapped_none (λ place. place + 1) _ e))

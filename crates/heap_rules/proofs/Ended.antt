@@ -1,5 +1,6 @@
 -- Regions without used pages end, and the whole of a free.
-use Rattle.std.proofs.Common.{◌≡◌, ℕ, ◌+◌, ◌-◌, ◌*◌, ◌/◌, ◌<◌, ◌≤◌, Bool, true, false, not, ◌&&◌, cond, List, [], ◌∷◌, length, get_or, filter, All, Contains, refl, sym, ap, subst, ◌∙◌, inl, inr, arith}
+use Rattle.std.proofs.Common.{◌≡◌, ℕ, ◌+◌, ◌-◌, ◌*◌, ◌/◌, ◌<◌, ◌≤◌, Bool, true, false, not, ◌&&◌, cond, List, [], ◌∷◌, length, get_or, filter, All}
+use Rattle.std.proofs.Common.{Contains, refl, sym, ap, subst, ◌∙◌, inl, inr, arith}
 use Rattle.std.specs.List.{list_any}
 use Rattle.std.proofs.lemmas.Bool.{cases_Bool, and_from, and_parts, and_left, and_right, false≢true, not_from_true, not_from_false, not-true, not-false, false_from_ne_true}
 use Rattle.std.proofs.lemmas.List.Elements.{All-head, All-tail, All-filter, All-contains, filter_passes, Contains-get_or}
@@ -14,7 +15,7 @@ use Rattle.heap_rules.specs.Sound.{IsHugepageOf, HasNoUsed, LiesInRegion, Serves
 use Rattle.heap_rules.specs.Laws.{FreeLeaves}
 use Rattle.heap_rules.proofs.Live.{count-filter_le, Contains-filter, filter_holds}
 use Rattle.heap_rules.proofs.Fits.{holds_reaches, spans_parts, spans_from, serves_at, is_Region}
-use Rattle.heap_rules.proofs.Remade.{IsRemade, same_runs, remade_sound, region_kinds}
+use Rattle.heap_rules.proofs.Remade.{AreRemade, IsRemade, same_runs, remade_sound, region_kinds}
 use Rattle.heap_rules.proofs.Settled.{settled_sound, remade_not}
 use Rattle.heap_rules.proofs.Left.{left_runs, left_kinds, used_rest, same_member}
 use Rattle.heap_rules.proofs.Places.{each_is, page_of}
@@ -44,7 +45,8 @@ used_range runs first many e =
       used = sym (get_or-map-range_with_len (is_used runs) first many k (first + k) any.1 (omega (arith, any.2)) refl) ∙ at ∙ any.4;
     }
 
-module _ (heap : Heap) (sound : AreRunsSound heap) (places : (r : ℕ) → Contains heap.regions r → (0 < r) × (r + heap.config.region ≤ heap.config.huge + 1)) (kinds : (r : ℕ) → Contains heap.regions r → (h : ℕ) → spans heap.config.region h r ≡ true → is_region (hugepage heap h) ≡ true) where
+module _ (heap : Heap) (sound : AreRunsSound heap) (places : (r : ℕ) → Contains heap.regions r → (0 < r) × (r + heap.config.region ≤ heap.config.huge + 1))
+    (kinds : (r : ℕ) → Contains heap.regions r → (h : ℕ) → spans heap.config.region h r ≡ true → is_region (hugepage heap h) ≡ true) where
   abbrev width : ℕ
   width = heap.config.region
 
@@ -57,52 +59,34 @@ module _ (heap : Heap) (sound : AreRunsSound heap) (places : (r : ℕ) → Conta
   abbrev freed_page : Hugepage → Hugepage
   freed_page x = record x { kind = kind.Free }
 
+  -- whether a hugepage is of a region that is left
+  abbrev stays : ℕ → Bool
+  stays h = list_any (spans width h) kept
+
+  abbrev change : ℕ → Hugepage → Hugepage
+  change h x = cond (is_region x && not (stays h)) (freed_page x) x
+
   -- a hugepage of no region that is left has no used page
   pub none_kept : (h : ℕ) → list_any (spans width h) kept ≡ false → LiesInRegion heap.regions width h → HasNoUsed heap.runs h
   none_kept h none lies p own =
       let r = lies.region in
       let parts = spans_parts width h r lies.spanned in
-      false_from_ne_true (is_used heap.runs p)
-      (λ e.
+      false_from_ne_true (is_used heap.runs p) (λ e.
       let used = range_used heap.runs (256 * r) (256 * width) p (omega (arith, own.from)) (omega (arith, own.to)) e in
       let at : get_or heap.regions lies.known.0 r ≡ r = lies.known.2 in
       let has : Contains kept (get_or heap.regions lies.known.0 r) = Contains-filter has_used heap.regions lies.known.0 r lies.known.1 (ap has_used at ∙ used) in
-      let there : list_any (spans width h) kept ≡ true = list_any_at (spans width h) kept has.0 (get_or heap.regions lies.known.0 r) has.1 (ap (spans width h) (has.2 ∙ at) ∙ lies.spanned) in
+      let there = list_any_at (spans width h) kept has.0 (get_or heap.regions lies.known.0 r) has.1 (ap (spans width h) (has.2 ∙ at) ∙ lies.spanned) in
       false≢true (sym none ∙ there))
 
   -- what serves a region lies in one that is left
-  serves_kept : (h : ℕ) (x : Hugepage) (k : RowKind) → (is_kind_region k && not (list_any (spans width h) kept)) ≡ false → Serves heap.runs heap.regions width h x k → Serves heap.runs kept width h x k
-  serves_kept h x kind.Free e s = s
-  serves_kept h x kind.Filler e s = s
-  serves_kept h x kind.Run e s = s
+  serves_kept : (h : ℕ) (x : Hugepage) (k : RowKind) → (is_kind_region k && not (stays h)) ≡ false → Serves heap.runs heap.regions width h x k → Serves heap.runs kept width h x k
   serves_kept h x kind.Region e s =
-      let any = Any-from_list_any (spans width h) kept (not-false (list_any (spans width h) kept) e) in
+      let any = Any-from_list_any (spans width h) kept (not-false (stays h) e) in
       (record { region = any.1; known = (any.0, any.2, any.3); spanned = any.4 }, s.1)
+  serves_kept h x k e s = s
 
-  ended_each : (h : ℕ) → IsHugepageOf heap.config.huge h → IsRemade heap.runs kept width h (hugepage heap h) (cond (is_region (hugepage heap h) && not (list_any (spans width h) kept)) (freed_page (hugepage heap h)) (hugepage heap h))
-  ended_each h is =
-      let x = hugepage heap h in
-      let fit = sound.fit h is in
-      let P : Bool → Type 0 = λ b. IsRemade heap.runs kept width h x (cond b (freed_page x) x) in
-      elim (cases_Bool (is_region x && not (list_any (spans width h) kept))) [
-        | inl t ↦
-            (let parts = and_parts _ _ t in
-            let k = is_Region x.kind parts.0 in
-            let s = serves_at heap.runs heap.regions width h x kind.Region k fit in
-            let made : IsRemade heap.runs kept width h x (freed_page x) = record {
-              fit = record {
-                size = fit.size;
-                serves = (none_kept h (not-true _ parts.1) s.0, s.1);
-                donated = λ d. absurd (false≢true (sym (ap is_kind_filler k) ∙ fit.donated d));
-              };
-              kept = λ p own u b. b;
-            } in
-            subst P (sym t) made)
-        | inr f ↦ subst P (sym f) (remade_not heap.runs kept width h x (record { size = fit.size; serves = serves_kept h x x.kind f fit.serves; donated = fit.donated }))
-      ]
-
-  abbrev change : ℕ → Hugepage → Hugepage
-  change h x = cond (is_region x && not (list_any (spans width h) kept)) (freed_page x) x
+  ended_each : AreRemade heap heap.runs kept change
+  ended_each h is = grind (arith, and_parts, cases_Bool, false≢true, is_Region, none_kept, not-true, remade_not, serves_at, serves_kept)
 
   kept_region : (k : ℕ) (d : ℕ) → k < length kept → IsRegion (without_unused_regions heap) (get_or kept k d)
   kept_region k d l =
@@ -114,10 +98,9 @@ module _ (heap : Heap) (sound : AreRunsSound heap) (places : (r : ℕ) → Conta
         from = place.0;
         to = place.1;
         kinds = region_kinds heap heap.runs kept change heap.counts sound r place.0 place.1
-            (λ h e.
-            (let x = hugepage heap h in
-            let there : list_any (spans width h) kept ≡ true = list_any_at (spans width h) kept k d l e in
-            let no_end : (is_region x && not (list_any (spans width h) kept)) ≡ false = and_right _ _ (not_from_true _ there) in
+            (λ h e. (let x = hugepage heap h in
+            let there = list_any_at (spans width h) kept k d l e in
+            let no_end : (is_region x && not (stays h)) ≡ false = and_right _ _ (not_from_true _ there) in
             subst (λ b. is_region (cond b (freed_page x) x) ≡ true) (sym no_end) (kinds r known h e)));
         page = has.page;
         own = has.from;
@@ -127,7 +110,7 @@ module _ (heap : Heap) (sound : AreRunsSound heap) (places : (r : ℕ) → Conta
 
   pub ended_sound : IsSound (without_unused_regions heap)
   ended_sound = record {
-    runs = remade_sound heap heap.runs kept change heap.counts sound (same_runs heap sound) (λ h. (let a = count-filter_le (spans width h) has_used heap.regions in let b = sound.apart h in omega arith)) ended_each;
+    runs = remade_sound heap heap.runs kept change heap.counts sound (same_runs heap sound) (λ h. omega (arith, count-filter_le (spans width h) has_used heap.regions, sound.apart h)) ended_each;
     regions = kept_region;
   }
 
@@ -135,8 +118,7 @@ module _ (heap : Heap) (sound : AreRunsSound heap) (places : (r : ℕ) → Conta
 pub given_back_sound : (heap : Heap) (run : Run) → IsSound heap → Contains heap.runs run → IsSound (given_back heap run)
 given_back_sound heap run sound live =
     let region : (r : ℕ) → Contains heap.regions r → IsRegion heap r = λ r known. All-contains (IsRegion heap) heap.regions r sound.regions known in
-    ended_sound (left heap run) (left_runs heap run sound live)
-    (λ r known. let is = region r known in (is.from, is.to))
+    ended_sound (left heap run) (left_runs heap run sound live) (λ r known. let is = region r known in (is.from, is.to))
     (λ r known. left_kinds heap run sound live r (region r known))
 
 filter_all : {X : Type 0} (p : X → Bool) (xs : List X) → All (λ x. p x ≡ true) xs → filter p xs ≡ xs
@@ -156,10 +138,11 @@ module _ (heap : Heap) (run : Run) (sound : IsSound heap) (live : Contains heap.
       let now = left heap run in
       let runs = left_runs heap run sound live in
       let width : ℕ = heap.config.region in
-      let f : ℕ → Hugepage → Hugepage = λ h x. cond (is_region x && not (list_any (spans width h) (used_regions now))) (record x { kind = kind.Free }) x in
+      let ends : ℕ → Hugepage → Bool = λ h x. is_region x && not (list_any (spans width h) (used_regions now)) in
+      let f : ℕ → Hugepage → Hugepage = λ h x. cond (ends h x) (record x { kind = kind.Free }) x in
       let stay : used_regions now ≡ heap.regions =
       filter_all (some_used now) heap.regions (λ k d l. still (get_or heap.regions k d) (Contains-get_or heap.regions k d l)) in
-      let stays : (h : ℕ) → 0 < h → h ≤ length now.hugepages → (is_region (hugepage now h) && not (list_any (spans width h) (used_regions now))) ≡ false = (λ h some l. (let x = hugepage now h in
+      let stays : (h : ℕ) → 0 < h → h ≤ length now.hugepages → ends h (hugepage now h) ≡ false = (λ h some l. (let x = hugepage now h in
       elim (cases_Bool (is_region x)) [
         | inr no_region ↦ and_left (is_region x) _ no_region
         | inl region ↦
@@ -169,8 +152,7 @@ module _ (heap : Heap) (run : Run) (sound : IsSound heap) (live : Contains heap.
             let there = list_any_at (spans width h) heap.regions lies.known.0 lies.region lies.known.1 (ap (spans width h) lies.known.2 ∙ lies.spanned) in
             and_right (is_region x) _ (ap (λ rs. not (list_any (spans width h) rs)) stay ∙ ap not there))
       ])) in
-      ap (λ (rs : List ℕ). record now { regions = rs; hugepages = each f now.hugepages }) stay
-      ∙ ap (λ (xs : List Hugepage). record now { hugepages = xs })
+      ap (λ (rs : List ℕ). record now { regions = rs; hugepages = each f now.hugepages }) stay ∙ ap (λ (xs : List Hugepage). record now { hugepages = xs })
       (each_is f now.hugepages now.hugepages refl (λ h some l. ap (λ b. cond b (record (hugepage now h) { kind = kind.Free }) (hugepage now h)) (stays h some l)))
 
   -- It is so where the run reaches no region.
@@ -184,33 +166,40 @@ module _ (heap : Heap) (run : Run) (sound : IsSound heap) (live : Contains heap.
       range_used (left heap run).runs (256 * r) (256 * heap.config.region) is.page is.own is.own_to (used_rest heap run sound live is.page away is.used)
 
 -- One region ends, where each other one has a used page.
-module _ (heap : Heap) (first : ℕ) (sound : AreRunsSound heap) (listed : Contains heap.regions first) (unused : some_used heap first ≡ false) (alone : (r : ℕ) → Contains heap.regions r → some_used heap r ≡ false → r ≡ first) where
+module _ (heap : Heap) (first : ℕ) (sound : AreRunsSound heap) (listed : Contains heap.regions first) (unused : some_used heap first ≡ false)
+    (alone : (r : ℕ) → Contains heap.regions r → some_used heap r ≡ false → r ≡ first) where
   abbrev width' : ℕ
   width' = heap.config.region
 
+  abbrev stays' : ℕ → Bool
+  stays' h = list_any (spans width' h) (used_regions heap)
+
   -- a region's hugepage of no region with a used page lies in the one that ends
-  lies_there : (h : ℕ) → 0 < h → h ≤ length heap.hugepages → is_region (hugepage heap h) ≡ true → list_any (spans width' h) (used_regions heap) ≡ false → spans width' h first ≡ false → ⊥
+  lies_there : (h : ℕ) → 0 < h → h ≤ length heap.hugepages → is_region (hugepage heap h) ≡ true → stays' h ≡ false → spans width' h first ≡ false → ⊥
   lies_there h some inside region none away =
       let x = hugepage heap h in
       let arena = sound.arena in
       let own : IsHugepageOf heap.config.huge h = record { from = some; to = omega arith } in
       let lies : LiesInRegion heap.regions width' h = (serves_at heap.runs heap.regions width' h x kind.Region (is_Region x.kind region) (sound.fit h own)).0 in
       elim (cases_Bool (some_used heap lies.region)) [
-        | inl used ↦ (let has = filter_holds (some_used heap) heap.regions lies.region lies.known used in false≢true (sym none ∙ list_any_at (spans width' h) (used_regions heap) has.0 lies.region has.1 (ap (spans width' h) has.2 ∙ lies.spanned)))
+        | inl used ↦
+            (let has = filter_holds (some_used heap) heap.regions lies.region lies.known used in
+            false≢true (sym none ∙ list_any_at (spans width' h) (used_regions heap) has.0 lies.region has.1 (ap (spans width' h) has.2 ∙ lies.spanned)))
         | inr unused ↦ (let same = alone lies.region lies.known unused in false≢true (sym away ∙ ap (spans width' h) (sym same) ∙ lies.spanned))
       ]
 
   -- the hugepages of the region that ends are those of no region that has a used page
-  pub ended : (h : ℕ) → 0 < h → h ≤ length heap.hugepages → (spans width' h first ≡ true → is_region (hugepage heap h) ≡ true) → (is_region (hugepage heap h) && not (list_any (spans width' h) (used_regions heap))) ≡ spans width' h first
+  pub ended : (h : ℕ) → 0 < h → h ≤ length heap.hugepages → (spans width' h first ≡ true → is_region (hugepage heap h) ≡ true)
+      → (is_region (hugepage heap h) && not (list_any (spans width' h) (used_regions heap))) ≡ spans width' h first
   ended h some inside kinds = elim (cases_Bool (spans width' h first)) [
-    | inl e ↦ and_from _ _ (kinds e) (not_from_false _ (false_from_ne_true (list_any (spans width' h) (used_regions heap)) (λ t. (let any = Any-from_list_any (spans width' h) (used_regions heap) t in
+    | inl e ↦ and_from _ _ (kinds e) (not_from_false _ (false_from_ne_true (stays' h) (λ t. (let any = Any-from_list_any (spans width' h) (used_regions heap) t in
         let r : ℕ = any.1 in
         let at_r : get_or (used_regions heap) any.0 r ≡ r = any.3 in
         let used : some_used heap r ≡ true = ap (some_used heap) (sym at_r) ∙ filter_passes (some_used heap) heap.regions any.0 r any.2 in
-        let known : Contains heap.regions r = subst (Contains heap.regions) at_r (All-filter (some_used heap) (Contains heap.regions) heap.regions (λ i c j. Contains-get_or heap.regions i c j) any.0 r any.2) in
+        let known = subst (Contains heap.regions) at_r (All-filter (some_used heap) (Contains heap.regions) heap.regions (Contains-get_or heap.regions) any.0 r any.2) in
         let same : r ≡ first = same_member (spans width' h) heap.regions r first known listed any.4 e (sound.apart h) in
         false≢true (sym unused ∙ ap (some_used heap) (sym same) ∙ used))))) ∙ sym e
-    | inr e ↦ false_from_ne_true _ (λ t. (let parts = and_parts (is_region (hugepage heap h)) (not (list_any (spans width' h) (used_regions heap))) t in lies_there h some inside parts.0 (not-true _ parts.1) e)) ∙ sym e
+    | inr e ↦ false_from_ne_true _ (λ t. (let parts = and_parts (is_region (hugepage heap h)) (not (stays' h)) t in lies_there h some inside parts.0 (not-true _ parts.1) e)) ∙ sym e
   ]
 
 pub free_leaves : FreeLeaves

@@ -1,5 +1,6 @@
 -- A release answers at least what is asked exactly where so many pages may be given.
-use Rattle.std.proofs.Common.{◌≡◌, ℕ, zero, suc, ◌+◌, ◌-◌, ◌*◌, ◌<◌, ◌≤◌, ◌⊎◌, Bool, true, false, not, ◌&&◌, ◌||◌, ◌==◌, cond, List, length, get_or, map, filter, count_by, sum_by, replicate, refl, sym, ap, subst, ◌∙◌, inl, inr, arith}
+use Rattle.std.proofs.Common.{◌≡◌, ℕ, zero, suc, ◌+◌, ◌-◌, ◌*◌, ◌<◌, ◌≤◌, ◌⊎◌, Bool, true, false, not, ◌&&◌, ◌||◌, ◌==◌, cond, List, length}
+use Rattle.std.proofs.Common.{get_or, map, filter, count_by, sum_by, replicate, refl, sym, ap, subst, ◌∙◌, inl, inr, arith}
 use Rattle.std.specs.List.{list_all, range_with_len}
 use Rattle.std.proofs.lemmas.Bool.{and_parts, and_right, eqb-true}
 use Rattle.std.proofs.lemmas.List.{length-map, get_or-replicate, length-replicate}
@@ -8,12 +9,13 @@ use Rattle.std.proofs.lemmas.List.FromFn.{length-map-range_with_len, get_or-map-
 use Rattle.tc_units.specs.declared.spans.Run.{Run}
 use Rattle.tc_units.specs.declared.rows.RowKind.{RowKind}
 use Rattle.tc_units.specs.declared.rows.RowKind.TheVariants as kind
-use Rattle.heap_rules.specs.Heap.{Heap, Hugepage, hugepage, numbers, whole, backs, backed_count, is_used, is_free, is_filler, is_region, is_free_backed, is_kind_filler, is_kind_region, used_count, pages_of}
+use Rattle.heap_rules.specs.Heap.{Heap, Hugepage, hugepage, numbers, whole, backs, backed_count, is_used, is_free, is_filler, is_region, is_free_backed}
+use Rattle.heap_rules.specs.Heap.{is_kind_filler, is_kind_region, used_count, pages_of}
 use Rattle.heap_rules.specs.Numbered.{at_number}
 use Rattle.heap_rules.specs.Settle.{unbacked}
 use Rattle.heap_rules.specs.GiveUp.{gives_whole}
 use Rattle.heap_rules.specs.Release.{Released, whole_given, free_given, is_idle, idle_given, spare_pages, spare_row, spare_rows, spare_given, release, may_give, givable_pages}
-use Rattle.heap_rules.specs.Sound.{IsHugepageOf, HasNoUsed, IsBackedEvenly, IsFit, IsSound}
+use Rattle.heap_rules.specs.Sound.{IsHugepageOf, IsPageOf, HasNoUsed, IsBackedEvenly, IsFit, IsSound}
 use Rattle.heap_rules.specs.Laws.{ReleaseIsEnough}
 use Rattle.range_bits.proofs.RangeLemmas.{range-within}
 use Rattle.tc_units.proofs.Counts.{count_none}
@@ -47,16 +49,8 @@ all_same zero = refl
 all_same (suc n) = all_same n
 
 even_count : (x : Hugepage) → IsBackedEvenly x → backed_count x ≡ cond (list_all (λ b. b) x.backed) 256 0
-even_count x (true, is) =
-    let all : list_all (λ b. b) x.backed ≡ true = ap (list_all (λ b. b)) is ∙ all_same 256 in
-    let size : length x.backed ≡ 256 = ap length is ∙ length-replicate 256 true in
-    all_counted x.backed all ∙ size ∙ ap (λ b. cond b 256 0) (sym all)
-even_count x (false, is) =
-    let size : length x.backed ≡ 256 = ap length is ∙ length-replicate 256 false in
-    let read : (k : ℕ) → k < 256 → get_or x.backed k false ≡ false = λ k l. ap (λ bs. get_or bs k false) is ∙ get_or-replicate 256 k false false l in
-    let none : list_all (λ b. b) x.backed ≡ false = list_all_at (λ b. b) x.backed 0 false (omega (arith, size)) (read 0 (omega arith)) in
-    let counted : count_by (λ b. b) (whole false) ≡ 0 = count_none (λ b. b) (whole false) (λ k d l. get_or-replicate 256 k false d (omega (arith, l, length-replicate 256 false))) in
-    ap (count_by (λ b. b)) is ∙ counted ∙ ap (λ b. cond b 256 0) (sym none)
+even_count x (true, is) = grind (arith, all_counted, all_same, length-replicate)
+even_count x (false, is) = grind (arith, count_none, get_or-replicate, length-replicate, list_all_at)
 
 -- sums of which all numbers but one are 0
 second_alone : (a b c : ℕ) → a ≡ 0 → a + b ≡ c → b ≡ c
@@ -78,7 +72,8 @@ none_spared runs h x size none =
     let used : count_by (λ b. b) (map test (pages_of h)) ≡ 0 = count_none (λ b. b) (map test (pages_of h))
     (λ k d l.
     let short : k < 256 = omega (arith, l, len) in
-    get_or-map-range_with_len test (256 * h) 256 k (256 * h + k) d short refl ∙ and_right (backs x (256 * h + k)) _ (none (256 * h + k) (record { from = omega arith; to = omega (arith, short) }))) in
+    let own : IsPageOf h (256 * h + k) = record { from = omega arith; to = omega (arith, short) } in
+    get_or-map-range_with_len test (256 * h) 256 k (256 * h + k) d short refl ∙ and_right (backs x (256 * h + k)) _ (none (256 * h + k) own)) in
     second_alone _ _ _ used (both x.backed (is_used runs) (pages_of h) (backs x) (own_backs h x size))
 
 even_spare : (runs : List Run) (h : ℕ) (x : Hugepage) → length x.backed ≡ 256 → HasNoUsed runs h → IsBackedEvenly x → spare_of runs h x ≡ cond (list_all (λ b. b) x.backed) 256 0
@@ -98,7 +93,7 @@ parts_of runs regions width h x kind.Filler e fit = rw e (only_third (spare_of r
 parts_of runs regions width h x kind.Run e fit = rw e refl
 parts_of runs regions width h x kind.Region e fit =
     let serves = serves_at runs regions width h x kind.Region e fit in
-    rw e (region_parts (used_count runs h == 0) (list_all (λ b. b) x.backed) (spare_of runs h x) (λ idle. even_spare runs h x fit.size (none_used runs h (eqb-true (used_count runs h) 0 idle)) serves.1))
+    rw e (region_parts (used_count runs h == 0) (list_all (λ b. b) x.backed) (spare_of runs h x) (λ idle. even_spare runs h x fit.size (none_used runs h (eqb-true _ 0 idle)) serves.1))
 
 -- a number of the arena
 numbered : (heap : Heap) → IsSound heap → (k d : ℕ) → k < length (numbers heap) → IsHugepageOf heap.config.huge (get_or (numbers heap) k d)
@@ -119,13 +114,14 @@ if_given : (g : Bool) (v : Hugepage → ℕ) (x : Hugepage) → (g ≡ true → 
 if_given true v x same = same refl
 if_given false v x same = refl
 
-whole_keeps : (flags : List Bool) (heap : Heap) (n : ℕ) (part : ℕ → Hugepage → ℕ) → ((h : ℕ) → 0 < h → h ≤ length heap.hugepages → at_number false flags h ≡ true → part h (unbacked (hugepage heap h)) ≡ part h (hugepage heap h)) → total part (whole_given flags heap n).heap ≡ total part heap
+whole_keeps : (flags : List Bool) (heap : Heap) (n : ℕ) (part : ℕ → Hugepage → ℕ)
+    → ((h : ℕ) → 0 < h → h ≤ length heap.hugepages → at_number false flags h ≡ true → part h (unbacked (hugepage heap h)) ≡ part h (hugepage heap h))
+    → total part (whole_given flags heap n).heap ≡ total part heap
 whole_keeps flags heap n part same =
     let f : ℕ → Hugepage → Hugepage = λ h x. cond (gives_whole flags n h) (unbacked x) x in
     let after : Heap = (whole_given flags heap n).heap in
     ap (λ m. sum_by (λ h. part h (hugepage after h)) (range_with_len 1 m)) (length-each f heap.hugepages)
-    ∙ same_sums (λ h. part h (hugepage after h)) (λ h. part h (hugepage heap h)) (numbers heap)
-    (λ k d l.
+    ∙ same_sums (λ h. part h (hugepage after h)) (λ h. part h (hugepage heap h)) (numbers heap) (λ k d l.
     let h : ℕ = get_or (numbers heap) k d in
     let inside = range-within 1 (length heap.hugepages) k d l in
     ap (part h) (at-each f heap.hugepages h inside.0 (omega (arith, inside.1)))
@@ -159,7 +155,8 @@ free_gives : (heap : Heap) (n : ℕ) → Gives n (free_given heap n).pages (tota
 free_gives heap n =
     let flags : List Bool = map is_free_backed heap.hugepages in
     whole_gives flags heap n (total free_part heap) (length-map heap.hugepages is_free_backed)
-    (sym (scaled (λ b. b) flags) ∙ sum-map' (λ b. cond b 256 0) is_free_backed heap.hugepages ∙ ap (sum_by (free_part 0)) (self heap.hugepages) ∙ sum-map' (free_part 0) (at heap.hugepages) (numbers heap))
+    (sym (scaled (λ b. b) flags) ∙ sum-map' (λ b. cond b 256 0) is_free_backed heap.hugepages
+    ∙ ap (sum_by (free_part 0)) (self heap.hugepages) ∙ sum-map' (free_part 0) (at heap.hugepages) (numbers heap))
 
 idle_gives : (heap : Heap) (n : ℕ) → Gives n (idle_given heap n).pages (total (idle_part heap.runs) heap)
 idle_gives heap n =
@@ -195,6 +192,5 @@ release_is_enough heap n sound =
     let pages : ℕ = (release heap n).pages in
     subst (λ m. (n ≤ pages → n ≤ m) × (n ≤ m → n ≤ pages)) (sym (givable_is heap sound))
     (three_steps n a.pages b.pages (spare_given b.heap (n - (a.pages + b.pages))).pages (total free_part heap) (total (idle_part runs) heap) (total (spare_part runs) heap)
-    (free_gives heap n)
-    (subst (λ p. Gives (n - a.pages) b.pages p) idle_same (idle_gives a.heap (n - a.pages)))
+    (free_gives heap n) (subst (λ p. Gives (n - a.pages) b.pages p) idle_same (idle_gives a.heap (n - a.pages)))
     (subst (λ p. Gives (n - (a.pages + b.pages)) (spare_given b.heap (n - (a.pages + b.pages))).pages p) spare_same (spare_gives b.heap (n - (a.pages + b.pages)))))

@@ -1,5 +1,6 @@
 -- The filler's route.
-use Rattle.std.proofs.Common.{◌≡◌, ℕ, ◌+◌, ◌-◌, ◌*◌, ◌<◌, ◌≤◌, true, false, ◌||◌, List, length, get_or, filter, All, Contains, Some, refl, sym, subst, ◌∙◌, arith}
+use Rattle.std.proofs.Common.{◌≡◌, ℕ, ◌+◌, ◌-◌, ◌*◌, ◌<◌, ◌≤◌, true, false, ◌||◌, List, length, get_or, filter, All, Contains, Some, refl, sym, subst, ◌∙◌}
+use Rattle.std.proofs.Common.{arith}
 use Rattle.std.proofs.lemmas.Bool.{or_left, or_right, false≢true}
 use Rattle.std.proofs.lemmas.List.{length-map, get_or-map}
 use Rattle.std.proofs.lemmas.List.FromFn.{length-map-range_with_len, get_or-map-range_with_len}
@@ -39,10 +40,8 @@ unused_at runs first many n s some e =
     }
 
 pub is_Filler : (k : RowKind) → is_kind_filler k ≡ true → k ≡ kind.Filler
-is_Filler kind.Free e = absurd (false≢true e)
 is_Filler kind.Filler e = refl
-is_Filler kind.Run e = absurd (false≢true e)
-is_Filler kind.Region e = absurd (false≢true e)
+is_Filler k e = absurd (false≢true e)
 
 -- a row of the filler, with room
 pub record IsFitting (heap : Heap) (n h : ℕ) : Type 0 where
@@ -85,7 +84,7 @@ module _ (heap : Heap) (n h s : ℕ) (sound : IsSound heap) (some : 0 < n) (is :
       record {
         fit = record {
           size = length-map-range_with_len (λ page. backs x page || holds page run) (256 * h) 256;
-          serves = subst (λ j. Serves (with_run run heap.runs) heap.regions heap.config.region h y j) (sym k) (used_more run heap.runs h (serves_at heap.runs heap.regions heap.config.region h x kind.Filler k fit));
+          serves = subst (Serves (with_run run heap.runs) heap.regions heap.config.region h y) (sym k) (used_more run heap.runs h (serves_at heap.runs heap.regions heap.config.region h x kind.Filler k fit));
           donated = fit.donated;
         };
         held = λ p own e. backs-map (λ page. backs x page || holds page run) h p own ∙ or_right (backs x p) (holds p run) e;
@@ -96,10 +95,8 @@ module _ (heap : Heap) (n h s : ℕ) (sound : IsSound heap) (some : 0 < n) (is :
   pub given_filler : IsGiven heap n (placed heap (256 * h + s) n (more_backed run))
   given_filler =
       let len = sound.runs.arena in
-      given_by heap (256 * h + s) n (more_backed run) sound
-      (record { some = some; from = omega (arith, is.from); to = omega (arith, is.to, are.to) })
-      (λ p e. let parts = holds_parts p run e in are.unused p parts.0 parts.1)
-      (λ k in_arena e.
+      given_by heap (256 * h + s) n (more_backed run) sound (record { some = some; from = omega (arith, is.from); to = omega (arith, is.to, are.to) })
+      (λ p e. let parts = holds_parts p run e in are.unused p parts.0 parts.1) (λ k in_arena e.
       let parts = reaches_parts k run e in
       let same : h ≡ k = omega (arith, are.to) in
       let P : ℕ → Type 0 = λ j. IsTurned heap.runs heap.regions heap.config.region run j (hugepage heap j) (more_backed run j (hugepage heap j)) in

@@ -36,11 +36,9 @@ pub spans_from : (width h r : ℕ) → r ≤ h → h < r + width → spans width
 spans_from width h r a b = and_from _ _ (le-leb r h a) (lt-ltb h (r + width) b)
 
 -- adjacent hugepages are those that a run reaches
-pub spans_reaches : (first n a many h : ℕ) → 256 * a ≤ first → first < 256 * (a + 1) → 256 * (a + many) < first + n + 256 → first + n ≤ 256 * (a + many) → 0 < n → spans many h a ≡ reaches h (run_at first n)
-spans_reaches first n a many h p q r s some = elim (cases_Bool (spans many h a)) [
-  | inl t ↦ (let parts = spans_parts many h a t in t ∙ sym (reaches_from h (run_at first n) (omega arith) (omega arith)))
-  | inr f ↦ f ∙ sym (false_from_ne_true (reaches h (run_at first n)) (λ e. (let parts = reaches_parts h (run_at first n) e in false≢true (sym f ∙ spans_from many h a (omega arith) (omega arith)))))
-]
+pub spans_reaches : (first n a many h : ℕ) → 256 * a ≤ first → first < 256 * (a + 1) → 256 * (a + many) < first + n + 256 → first + n ≤ 256 * (a + many) → 0 < n
+    → spans many h a ≡ reaches h (run_at first n)
+spans_reaches first n a many h p q r s some = grind (arith, cases_Bool, false_from_ne_true, false≢true, reaches_from, reaches_parts, spans_from, spans_parts)
 
 -- runs that come: more is used
 pub used_more : (run : Run) (runs : List Run) (h : ℕ) → HasUsed runs h → HasUsed (with_run run runs) h
@@ -50,13 +48,15 @@ pub one_more : (run : Run) (runs : List Run) (h : ℕ) → HasOneRun runs h → 
 one_more run runs h has = record { run = has.run; live = Contains-old (λ (r : Run). r.first.0) run runs has.run has.live; from = has.from; to = has.to }
 
 -- and nothing where they do not reach
-serves_more : (run : Run) (runs : List Run) (regions : List ℕ) (width h : ℕ) (x : Hugepage) (k : RowKind) → reaches h run ≡ false → Serves runs regions width h x k → Serves (with_run run runs) regions width h x k
+serves_more : (run : Run) (runs : List Run) (regions : List ℕ) (width h : ℕ) (x : Hugepage) (k : RowKind) → reaches h run ≡ false
+    → Serves runs regions width h x k → Serves (with_run run runs) regions width h x k
 serves_more run runs regions width h x kind.Free e s = ((λ page own. unused_with run runs page (unreached_unheld h page run own e) (s.0 page own)), s.1)
 serves_more run runs regions width h x kind.Filler e s = used_more run runs h s
 serves_more run runs regions width h x kind.Run e s = (one_more run runs h s.0, s.1)
 serves_more run runs regions width h x kind.Region e s = s
 
-pub fit_more : (run : Run) (runs : List Run) (regions : List ℕ) (width h : ℕ) (x : Hugepage) → reaches h run ≡ false → IsFit runs regions width h x → IsFit (with_run run runs) regions width h x
+pub fit_more : (run : Run) (runs : List Run) (regions : List ℕ) (width h : ℕ) (x : Hugepage) → reaches h run ≡ false → IsFit runs regions width h x
+    → IsFit (with_run run runs) regions width h x
 fit_more run runs regions width h x e fit = record { size = fit.size; serves = serves_more run runs regions width h x x.kind e fit.serves; donated = fit.donated }
 
 -- what a hugepage of a known kind serves
@@ -65,12 +65,8 @@ serves_at runs regions width h x k e fit = subst (λ j. Serves runs regions widt
 
 pub is_Free : (k : RowKind) → is_kind_free k ≡ true → k ≡ kind.Free
 is_Free kind.Free e = refl
-is_Free kind.Filler e = absurd (false≢true e)
-is_Free kind.Run e = absurd (false≢true e)
-is_Free kind.Region e = absurd (false≢true e)
+is_Free k e = absurd (false≢true e)
 
 pub is_Region : (k : RowKind) → is_kind_region k ≡ true → k ≡ kind.Region
-is_Region kind.Free e = absurd (false≢true e)
-is_Region kind.Filler e = absurd (false≢true e)
-is_Region kind.Run e = absurd (false≢true e)
 is_Region kind.Region e = refl
+is_Region k e = absurd (false≢true e)

@@ -1,5 +1,6 @@
 -- Giving from the greatest number down, place by place, is a walk that adds up what was given.
-use Rattle.std.proofs.Common.{◌≡◌, ℕ, zero, suc, ◌+◌, ◌-◌, ◌*◌, ◌<◌, ◌≤◌, ◌⊎◌, Bool, false, ◌&&◌, cond, nat_lt, List, length, get_or, drop, count_by, sym, ap, ◌∙◌, inl, inr, arith}
+use Rattle.std.proofs.Common.{◌≡◌, ℕ, zero, suc, ◌+◌, ◌-◌, ◌*◌, ◌<◌, ◌≤◌, ◌⊎◌, Bool, false, ◌&&◌, cond, nat_lt, List, length, get_or, drop, count_by, sym}
+use Rattle.std.proofs.Common.{ap, ◌∙◌, inl, inr, arith}
 use Rattle.std.specs.List.{range_with_len}
 use Rattle.std.proofs.lemmas.Bool.{cases_Bool, cases_lt, and_left, lt-ltb, le-ltb}
 use Rattle.std.proofs.lemmas.List.{drop_more, drop_all}
@@ -18,14 +19,15 @@ flagged_behind flags h = 256 * count_by (λ b. b) (drop h flags)
 step_flag : (flags : List Bool) (h : ℕ) → h < length flags → count_by (λ b. b) (drop h flags) ≡ cond (get_or flags h false) 1 0 + count_by (λ b. b) (drop (h + 1) flags)
 step_flag flags h l = ap (count_by (λ b. b)) (drop_more flags h false l) ∙ count-cons (λ b. b) (get_or flags h false) (drop (h + 1) flags)
 
-pub all_or_enough : (flags : List Bool) (n h m : ℕ) → h + m ≡ length flags → (given_behind flags n h m ≡ flagged_behind flags h) ⊎ ((n ≤ given_behind flags n h m) × (n ≤ flagged_behind flags h))
+pub all_or_enough : (flags : List Bool) (n h m : ℕ) → h + m ≡ length flags
+    → (given_behind flags n h m ≡ flagged_behind flags h) ⊎ ((n ≤ given_behind flags n h m) × (n ≤ flagged_behind flags h))
 all_or_enough flags n h zero e = inl (ap (λ xs. 256 * count_by (λ b. b) xs) (sym (drop_all h flags (omega arith))))
 all_or_enough flags n h (suc m) e =
     let rest = all_or_enough flags n (h + 1) m (omega arith) in
     let flag = step_flag flags h (omega arith) in
     let one = count-cons (gives_whole flags n) (h + 1) (range_with_len (h + 1 + 1) m) in
     let back : h + 1 - 1 ≡ h = omega arith in
-    let test : gives_whole flags n (h + 1) ≡ (get_or flags h false && nat_lt (flagged_behind flags (h + 1)) n) = ap (λ b. b && nat_lt (flagged_behind flags (h + 1)) n) (at_number-place false flags (h + 1) (omega arith) ∙ ap (λ i. get_or flags i false) back) in
+    let test = ap (λ b. b && nat_lt (flagged_behind flags (h + 1)) n) (at_number-place false flags (h + 1) (omega arith) ∙ ap (λ i. get_or flags i false) back) in
     elim (cases_Bool (get_or flags h false)) [
       | inr f ↦
           (let not_given = one-false (gives_whole flags n (h + 1)) (test ∙ and_left _ _ f) in

@@ -1,5 +1,6 @@
 -- A new run: what it gives, and that it gives none exactly where none fits.
-use Rattle.std.proofs.Common.{◌≡◌, ℕ, ◌+◌, ◌-◌, ◌*◌, ◌<◌, ◌≤◌, Bool, true, false, not, ◌&&◌, ◌||◌, cond, nat_le, nat_lt, List, [], length, get_or, filter, All, Contains, Option, Some, None, IfSome, option_map, refl, sym, ap, subst, ◌∙◌, inl, inr, arith}
+use Rattle.std.proofs.Common.{◌≡◌, ℕ, ◌+◌, ◌-◌, ◌*◌, ◌<◌, ◌≤◌, Bool, true, false, not, ◌&&◌, ◌||◌, cond, nat_le, nat_lt, List, [], length, get_or, filter}
+use Rattle.std.proofs.Common.{All, Contains, Option, Some, None, IfSome, option_map, refl, sym, ap, subst, ◌∙◌, inl, inr, arith}
 use Rattle.std.specs.Prelude.{MatchOption}
 use Rattle.std.specs.List.{list_all}
 use Rattle.std.proofs.lemmas.Bool.{cases_Bool, cases_lt, and_parts, and_from, and_left, and_right, leb-true, lt-ltb, le-ltb, not_from_true, not_from_false}
@@ -15,7 +16,8 @@ use Rattle.heap_rules.specs.FillerRows as filler
 use Rattle.heap_rules.specs.RegionRows.{RegionRow, place_in_region, region_place}
 use Rattle.heap_rules.specs.RegionRows as regions
 use Rattle.heap_rules.specs.Choice.{filler_rows, run_choice, taken_row, region_row_of, region_rows, hugepages_for}
-use Rattle.heap_rules.specs.New.{Placed, in_filler, in_fresh, by_filler, new_small, in_free, new_whole, in_region, in_new_region, slack, or_whole, new_beside_regions, by_regions, suits_region, new_unsettled, settled_placed, none_fits}
+use Rattle.heap_rules.specs.New.{Placed, in_filler, in_fresh, by_filler, new_small, in_free, new_whole, in_region, in_new_region, slack, or_whole}
+use Rattle.heap_rules.specs.New.{new_beside_regions, by_regions, suits_region, new_unsettled, settled_placed, none_fits}
 use Rattle.heap_rules.specs.Sound.{IsRegion, IsSound}
 use Rattle.heap_rules.specs.Laws.{IsGiven, NewGives}
 use Rattle.range_bits.proofs.RangeLemmas.{first_least-all, first_least-none, filter-some}
@@ -34,10 +36,7 @@ IsAnswer heap n none o = MatchOption o (none ≡ true) (λ p. IsGiven heap n p �
 
 -- where no element of a list passes, and where one does
 none_pass : {X : Type 0} (p : X → Bool) (xs : List X) → filter p xs ≡ [] → list_all (λ x. not (p x)) xs ≡ true
-none_pass p xs e = list_all-from_AllPass (λ x. not (p x)) xs (λ k d l. elim (cases_Bool (p (get_or xs k d))) [
-  | inl t ↦ absurd (filter-some p xs k d l t e)
-  | inr f ↦ not_from_false _ f
-])
+none_pass p xs e = grind (arith, cases_Bool, filter-some, list_all-from_AllPass, not_from_false)
 
 -- a region with room
 pub record IsRegionWithRoom (heap : Heap) (n : ℕ) (row : RegionRow) : Type 0 where
@@ -51,7 +50,7 @@ pub record IsRegionWithRoom (heap : Heap) (n : ℕ) (row : RegionRow) : Type 0 w
 pub regions_fit : (heap : Heap) (n : ℕ) → IsSound heap → All (IsRegionWithRoom heap n) (filter (regions.has_room n) (region_rows heap))
 regions_fit heap n sound k d l =
     let row = get_or (filter (regions.has_room n) (region_rows heap)) k d in
-    let known : Contains (region_rows heap) row = All-filter (regions.has_room n) (Contains (region_rows heap)) (region_rows heap) (λ i c j. Contains-get_or (region_rows heap) i c j) k d l in
+    let known = All-filter (regions.has_room n) (Contains (region_rows heap)) (region_rows heap) (Contains-get_or (region_rows heap)) k d l in
     let len = length-map heap.regions (region_row_of heap) in
     let short : known.0 < length heap.regions = omega (arith, known.1) in
     record {
@@ -64,10 +63,16 @@ regions_fit heap n sound k d l =
     }
 
 -- Below a hugepage.
-abbrev none_small : Heap → ℕ → Bool
-none_small heap n = list_all (λ row. not (filler.has_room n row)) (filler_rows heap) && list_all (λ x. not (is_free x)) heap.hugepages
+abbrev none_filler : Heap → ℕ → Bool
+none_filler heap n = list_all (λ row. not (filler.has_room n row)) (filler_rows heap)
 
-longest-all : (heap : Heap) → longest (taken_row heap) < 1 → list_all (λ x. not (is_free x)) heap.hugepages ≡ true
+abbrev none_free : Heap → Bool
+none_free heap = list_all (λ x. not (is_free x)) heap.hugepages
+
+abbrev none_small : Heap → ℕ → Bool
+none_small heap n = none_filler heap n && none_free heap
+
+longest-all : (heap : Heap) → longest (taken_row heap) < 1 → none_free heap ≡ true
 longest-all heap short = list_all-from_AllPass (λ x. not (is_free x)) heap.hugepages (λ k d l. elim (cases_Bool (is_free (get_or heap.hugepages k d))) [
   | inr f ↦ not_from_false _ f
   | inl t ↦
@@ -78,15 +83,20 @@ longest-all heap short = list_all-from_AllPass (λ x. not (is_free x)) heap.huge
 ])
 
 module _ (heap : Heap) (n : ℕ) (sound : IsSound heap) (some : 0 < n) where
-  small_fresh : n < 256 → (o : Option ℕ) → run_choice heap 1 ≡ o → list_all (λ row. not (filler.has_room n row)) (filler_rows heap) ≡ true → IsAnswer heap n (none_small heap n) (option_map (in_fresh heap n) o)
+  abbrev fillers : List FillerRow
+  fillers = filter (filler.has_room n) (filler_rows heap)
+
+  small_fresh : n < 256 → (o : Option ℕ) → run_choice heap 1 ≡ o → none_filler heap n ≡ true → IsAnswer heap n (none_small heap n) (option_map (in_fresh heap n) o)
   small_fresh small None e none = and_from _ _ none (longest-all heap (run_choice_none heap 1 (omega arith) e))
   small_fresh small (Some h) e none =
-      let are = run_choice_free heap 1 h (omega arith) e in (
+      let are = run_choice_free heap 1 h (omega arith) e in
+      let free = ap is_free (sym (at-place heap.hugepages h are.from)) ∙ are.free h (omega arith) (omega arith) in (
         given_fresh heap n h 1 sound some (omega arith) are refl,
-        and_right _ _ (list_all_at (λ x. not (is_free x)) heap.hugepages (h - 1) untouched (omega (arith, are.from, are.to)) (not_from_true _ (ap is_free (sym (at-place heap.hugepages h are.from)) ∙ are.free h (omega arith) (omega arith)))),
+        and_right _ _ (list_all_at (λ x. not (is_free x)) heap.hugepages (h - 1) untouched (omega (arith, are.from, are.to)) (not_from_true _ free)),
       )
 
-  small_own : (row : FillerRow) → IsRowWithRoom heap n row → (o : Option ℕ) → best row.used n ≡ o → IsAnswer heap n (none_small heap n) (by_filler heap n (option_map (λ start. 256 * row.number + start) o))
+  small_own : (row : FillerRow) → IsRowWithRoom heap n row → (o : Option ℕ) → best row.used n ≡ o
+      → IsAnswer heap n (none_small heap n) (by_filler heap n (option_map (λ start. 256 * row.number + start) o))
   small_own row is None e =
       let there = best_there row.used n some (leb-true n (longest row.used) is.room) in
       absurd (none-some there.0 (sym e ∙ there.1))
@@ -99,23 +109,25 @@ module _ (heap : Heap) (n : ℕ) (sound : IsSound heap) (some : 0 < n) where
         and_left _ _ (list_all_at (λ r. not (filler.has_room n r)) (filler_rows heap) is.known.0 row is.known.1 (ap (λ r. not (filler.has_room n r)) is.known.2 ∙ not_from_true _ is.room)),
       )
 
-  small_by : n < 256 → (o : Option FillerRow) → first_least filler.is_preferred (filter (filler.has_room n) (filler_rows heap)) ≡ o → IfSome o (IsRowWithRoom heap n) → IsAnswer heap n (none_small heap n) (by_filler heap n (place_in_row n o))
-  small_by small None e is = small_fresh small (run_choice heap 1) refl (none_pass (filler.has_room n) (filler_rows heap) (first_least-none filler.is_preferred (filter (filler.has_room n) (filler_rows heap)) e))
+  small_by : n < 256 → (o : Option FillerRow) → first_least filler.is_preferred fillers ≡ o → IfSome o (IsRowWithRoom heap n) → IsAnswer heap n (none_small heap n) (by_filler heap n (place_in_row n o))
+  small_by small None e is = small_fresh small (run_choice heap 1) refl (none_pass (filler.has_room n) (filler_rows heap) (first_least-none filler.is_preferred fillers e))
   small_by small (Some row) e is = small_own row is (best row.used n) refl
 
   given_small : n < 256 → IsAnswer heap n (none_small heap n) (new_small heap n)
-  given_small small = small_by small (first_least filler.is_preferred (filter (filler.has_room n) (filler_rows heap))) refl (first_least-all (IsRowWithRoom heap n) filler.is_preferred (filter (filler.has_room n) (filler_rows heap)) (rows_fit heap n))
+  given_small small = small_by small (first_least filler.is_preferred fillers) refl (first_least-all (IsRowWithRoom heap n) filler.is_preferred fillers (rows_fit heap n))
 
   -- From a hugepage on.
   free_long : (h m : ℕ) → 0 < m → AreFree heap h m → m ≤ longest (taken_row heap)
   free_long h m pos are =
       let len = length-map heap.hugepages (λ x. not (is_free x)) in
-      longest-le (taken_row heap) (h - 1) m pos (omega (arith, are.from, are.to))
-      (λ k l. (let e : h + k - 1 ≡ h - 1 + k = omega (arith, are.from) in
+      longest-le (taken_row heap) (h - 1) m pos (omega (arith, are.from, are.to)) (λ k l. (let e : h + k - 1 ≡ h - 1 + k = omega (arith, are.from) in
       subst (λ i. get_or (taken_row heap) i true ≡ false) e
       (map-place (λ x. not (is_free x)) heap.hugepages (h + k) true (omega (arith, are.from)) (omega (arith, are.to)) ∙ not_from_true _ (are.free (h + k) (omega arith) (omega arith)))))
 
-  whole_by : (other : Bool) → other ≡ true → (o : Option ℕ) → run_choice heap (hugepages_for n) ≡ o → IsAnswer heap n (nat_lt (longest (taken_row heap)) (hugepages_for n) && other) (option_map (in_free heap n) o)
+  abbrev none_long : Bool
+  none_long = nat_lt (longest (taken_row heap)) (hugepages_for n)
+
+  whole_by : (other : Bool) → other ≡ true → (o : Option ℕ) → run_choice heap (hugepages_for n) ≡ o → IsAnswer heap n (none_long && other) (option_map (in_free heap n) o)
   whole_by other t None e = and_from _ _ (lt-ltb (longest (taken_row heap)) (hugepages_for n) (run_choice_none heap (hugepages_for n) (omega arith) e)) t
   whole_by other t (Some h) e =
       let are = run_choice_free heap (hugepages_for n) h (omega arith) e in (
@@ -123,14 +135,20 @@ module _ (heap : Heap) (n : ℕ) (sound : IsSound heap) (some : 0 < n) where
         and_left _ _ (le-ltb (longest (taken_row heap)) (hugepages_for n) (free_long h (hugepages_for n) (omega arith) are)),
       )
 
-  given_whole : (other : Bool) → other ≡ true → IsAnswer heap n (nat_lt (longest (taken_row heap)) (hugepages_for n) && other) (new_whole heap n)
+  given_whole : (other : Bool) → other ≡ true → IsAnswer heap n (none_long && other) (new_whole heap n)
   given_whole other t = whole_by other t (run_choice heap (hugepages_for n)) refl
 
   abbrev no_region : Bool
   no_region = list_all (λ row. not (regions.has_room n row)) (region_rows heap)
 
   abbrev none_beside : Bool
-  none_beside = nat_lt (longest (taken_row heap)) (hugepages_for n) && no_region
+  none_beside = none_long && no_region
+
+  abbrev with_room : List RegionRow
+  with_room = filter (regions.has_room n) (region_rows heap)
+
+  abbrev in_regions : Option Placed
+  in_regions = by_regions heap n (region_place (region_rows heap) n)
 
   module _ (wide : 2 ≤ heap.config.region) (fits' : n ≤ 256 * heap.config.region) where
     new_region_by : no_region ≡ true → (o : Option ℕ) → run_choice heap heap.config.region ≡ o → IsAnswer heap n none_beside (or_whole heap n (option_map (in_new_region heap n) o))
@@ -143,14 +161,11 @@ module _ (heap : Heap) (n : ℕ) (sound : IsSound heap) (some : 0 < n) where
         )
 
     given_beside : no_region ≡ true → IsAnswer heap n none_beside (new_beside_regions heap n)
-    given_beside t =
-        elim (nat_le heap.config.slack (slack heap n)) as (λ b. IsAnswer heap n none_beside (or_whole heap n (cond b (option_map (in_new_region heap n) (run_choice heap heap.config.region)) None))) [
-          | true ↦ new_region_by t (run_choice heap heap.config.region) refl
-          | false ↦ given_whole no_region t
-        ]
+    given_beside t = grind (arith, given_whole, new_region_by)
 
     -- what the choice of a region gives
-    own_by : (row : RegionRow) → IsRegionWithRoom heap n row → (o : Option ℕ) → best row.used n ≡ o → IsAnswer heap n none_beside (by_regions heap n (option_map (λ start. 256 * row.first + start) o))
+    own_by : (row : RegionRow) → IsRegionWithRoom heap n row → (o : Option ℕ) → best row.used n ≡ o
+        → IsAnswer heap n none_beside (by_regions heap n (option_map (λ start. 256 * row.first + start) o))
     own_by row is None e =
         let there = best_there row.used n some (leb-true n (longest row.used) is.room) in
         absurd (none-some there.0 (sym e ∙ there.1))
@@ -163,43 +178,27 @@ module _ (heap : Heap) (n : ℕ) (sound : IsSound heap) (some : 0 < n) where
           and_right _ _ (list_all_at (λ x. not (regions.has_room n x)) (region_rows heap) is.known.0 row is.known.1 (ap (λ x. not (regions.has_room n x)) is.known.2 ∙ not_from_true _ is.room)),
         )
 
-    region_by : (o : Option RegionRow) → first_least regions.is_preferred (filter (regions.has_room n) (region_rows heap)) ≡ o → IfSome o (IsRegionWithRoom heap n) → IsAnswer heap n none_beside (by_regions heap n (place_in_region n o))
-    region_by None e is = given_beside (none_pass (regions.has_room n) (region_rows heap) (first_least-none regions.is_preferred (filter (regions.has_room n) (region_rows heap)) e))
+    region_by : (o : Option RegionRow) → first_least regions.is_preferred with_room ≡ o → IfSome o (IsRegionWithRoom heap n) → IsAnswer heap n none_beside (by_regions heap n (place_in_region n o))
+    region_by None e is = given_beside (none_pass (regions.has_room n) (region_rows heap) (first_least-none regions.is_preferred with_room e))
     region_by (Some row) e is = own_by row is (best row.used n) refl
 
-    given_by_regions : IsAnswer heap n none_beside (by_regions heap n (region_place (region_rows heap) n))
-    given_by_regions = region_by (first_least regions.is_preferred (filter (regions.has_room n) (region_rows heap))) refl (first_least-all (IsRegionWithRoom heap n) regions.is_preferred (filter (regions.has_room n) (region_rows heap)) (regions_fit heap n sound))
+    given_by_regions : IsAnswer heap n none_beside in_regions
+    given_by_regions =
+        region_by (first_least regions.is_preferred with_room) refl (first_least-all (IsRegionWithRoom heap n) regions.is_preferred with_room (regions_fit heap n sound))
 
-  given_large : 2 ≤ heap.config.region → IsAnswer heap n (nat_lt (longest (taken_row heap)) (hugepages_for n) && (not (suits_region heap.config n) || no_region)) (cond (suits_region heap.config n) (by_regions heap n (region_place (region_rows heap) n)) (new_whole heap n))
-  given_large wide =
-      let P : Bool → Type 0 = λ b. IsAnswer heap n (nat_lt (longest (taken_row heap)) (hugepages_for n) && (not b || no_region)) (cond b (by_regions heap n (region_place (region_rows heap) n)) (new_whole heap n)) in
-      elim (cases_Bool (suits_region heap.config n)) [
-        | inl t ↦ subst P (sym t) (given_by_regions wide (leb-true n (256 * heap.config.region) (and_parts _ _ t).1))
-        | inr f ↦ subst P (sym f) (given_whole true refl)
-      ]
+  abbrev IsLarge : Bool → Type 0
+  IsLarge b = IsAnswer heap n (none_long && (not b || no_region)) (cond b in_regions (new_whole heap n))
+
+  given_large : 2 ≤ heap.config.region → IsLarge (suits_region heap.config n)
+  given_large wide = grind (arith, and_parts, cases_Bool, given_by_regions, given_whole, leb-true)
 
   given_unsettled : 2 ≤ heap.config.region → IsAnswer heap n (none_fits heap n) (new_unsettled heap n)
-  given_unsettled wide =
-      let P : Bool → Type 0 = λ b. IsAnswer heap n (cond b (none_small heap n) (nat_lt (longest (taken_row heap)) (hugepages_for n) && (not (suits_region heap.config n) || no_region))) (cond b (new_small heap n) (cond (suits_region heap.config n) (by_regions heap n (region_place (region_rows heap) n)) (new_whole heap n))) in
-      elim (cases_lt n 256) [
-        | inl small ↦ subst P (sym (lt-ltb n 256 small)) (given_small small)
-        | inr large ↦ subst P (sym (le-ltb n 256 large)) (given_large wide)
-      ]
+  given_unsettled wide = grind (arith, cases_lt, given_large, given_small, le-ltb, lt-ltb)
 
 -- settling changes no run
 given_settled : (heap : Heap) (n : ℕ) (none : Bool) (o : Option Placed) → IsAnswer heap n none o → IsAnswer heap n none (option_map settled_placed o)
 given_settled heap n none None is = is
-given_settled heap n none (Some p) is = (
-  record {
-    pages = is.0.pages;
-    inside = is.0.inside;
-    unused = is.0.unused;
-    runs = is.0.runs;
-    config = is.0.config;
-    sound = settled_sound p.heap is.0.sound;
-  },
-  is.1,
-)
+given_settled heap n none (Some p) is = grind (arith, settled_sound)
 
 pub new_gives : NewGives
 new_gives heap n sound wide some = given_settled heap n (none_fits heap n) (new_unsettled heap n) (given_unsettled heap n sound some wide)

@@ -28,11 +28,23 @@ pub record IsTurned (runs : List Run) (regions : List ℕ) (width : ℕ) (run : 
   pub kept : (page : ℕ) → IsPageOf h page → backs x page ≡ true → backs y page ≡ true
   pub region : is_region x ≡ true → is_region y ≡ true
 
+abbrev pub Turns : Heap → Run → ℕ → Hugepage → Hugepage → Type 0
+Turns heap = IsTurned heap.runs heap.regions heap.config.region
+
+-- each one that it reaches becomes so
+abbrev pub AreTurned : Heap → Run → (ℕ → Hugepage → Hugepage) → Type 0
+AreTurned heap run becomes = (h : ℕ) → IsHugepageOf heap.config.huge h → reaches h run ≡ true → Turns heap run h (hugepage heap h) (becomes h (hugepage heap h))
+
+-- a run whose pages no run has
+abbrev pub IsUnused : Heap → Run → Type 0
+IsUnused heap run = (p : ℕ) → holds p run ≡ true → is_used heap.runs p ≡ false
+
 pub most_one : (b : Bool) (n m : ℕ) → n ≤ 1 → (b ≡ true → n ≡ 0) → m ≡ cond b 1 0 + n → m ≤ 1
 most_one true n m h z e = let w = z refl in omega arith
 most_one false n m h z e = omega arith
 
-module _ (heap : Heap) (page n : ℕ) (becomes : ℕ → Hugepage → Hugepage) (sound : AreRunsSound heap) (inside : IsInside heap.config.huge (run_at page n)) (unused : (p : ℕ) → holds p (run_at page n) ≡ true → is_used heap.runs p ≡ false) (turned : (h : ℕ) → IsHugepageOf heap.config.huge h → reaches h (run_at page n) ≡ true → IsTurned heap.runs heap.regions heap.config.region (run_at page n) h (hugepage heap h) (becomes h (hugepage heap h))) where
+module _ (heap : Heap) (page n : ℕ) (becomes : ℕ → Hugepage → Hugepage) (sound : AreRunsSound heap) (inside : IsInside heap.config.huge (run_at page n))
+    (unused : IsUnused heap (run_at page n)) (turned : AreTurned heap (run_at page n) becomes) where
   abbrev run : Run
   run = run_at page n
 
@@ -46,7 +58,8 @@ module _ (heap : Heap) (page n : ℕ) (becomes : ℕ → Hugepage → Hugepage) 
   here h is = let len = sound.arena in at-each change heap.hugepages h is.from (omega (arith, is.to))
 
   -- a fact of each hugepage, from it where the run reaches and where it does not
-  by_reach : (P : Hugepage → Type 0) (h : ℕ) → IsHugepageOf heap.config.huge h → (reaches h run ≡ true → P (becomes h (hugepage heap h))) → (reaches h run ≡ false → P (hugepage heap h)) → P (hugepage after h)
+  by_reach : (P : Hugepage → Type 0) (h : ℕ) → IsHugepageOf heap.config.huge h → (reaches h run ≡ true → P (becomes h (hugepage heap h)))
+      → (reaches h run ≡ false → P (hugepage heap h)) → P (hugepage after h)
   by_reach P h is yes' no' = elim (cases_Bool (reaches h run)) [
     | inl t ↦ subst P (sym (here h is ∙ ap (λ b. cond b (becomes h (hugepage heap h)) (hugepage heap h)) t)) (yes' t)
     | inr f ↦ subst P (sym (here h is ∙ ap (λ b. cond b (becomes h (hugepage heap h)) (hugepage heap h)) f)) (no' f)
@@ -69,7 +82,9 @@ module _ (heap : Heap) (page n : ℕ) (becomes : ℕ → Hugepage → Hugepage) 
       | inl new ↦ grown_held p new
       | inr old ↦ grown_kept p (used_in heap.config.huge p heap.runs sound.inside old) (sound.backed p old)
     ];
-    fit = λ h is. by_reach (λ x. IsFit (with_run run heap.runs) heap.regions heap.config.region h x) h is (λ t. (turned h is t).fit) (λ f. fit_more run heap.runs heap.regions heap.config.region h (hugepage heap h) f (sound.fit h is));
+    fit = λ h is.
+        by_reach (IsFit (with_run run heap.runs) heap.regions heap.config.region h) h is (λ t. (turned h is t).fit)
+        (λ f. fit_more run heap.runs heap.regions heap.config.region h (hugepage heap h) f (sound.fit h is));
     apart = sound.apart;
   }
 
@@ -88,7 +103,8 @@ module _ (heap : Heap) (page n : ℕ) (becomes : ℕ → Hugepage → Hugepage) 
     used = used_with_old run heap.runs is.page is.used;
   }
 
-pub grown_sound : (heap : Heap) (page n : ℕ) (becomes : ℕ → Hugepage → Hugepage) → IsSound heap → IsInside heap.config.huge (run_at page n) → ((p : ℕ) → holds p (run_at page n) ≡ true → is_used heap.runs p ≡ false) → ((h : ℕ) → IsHugepageOf heap.config.huge h → reaches h (run_at page n) ≡ true → IsTurned heap.runs heap.regions heap.config.region (run_at page n) h (hugepage heap h) (becomes h (hugepage heap h))) → IsSound (placed heap page n becomes).heap
+pub grown_sound : (heap : Heap) (page n : ℕ) (becomes : ℕ → Hugepage → Hugepage) → IsSound heap → IsInside heap.config.huge (run_at page n) → IsUnused heap (run_at page n)
+    → AreTurned heap (run_at page n) becomes → IsSound (placed heap page n becomes).heap
 grown_sound heap page n becomes sound inside unused turned = record {
   runs = grown heap page n becomes sound.runs inside unused turned;
   regions = All-weaker (IsRegion heap) (IsRegion (placed heap page n becomes).heap) (grown_region heap page n becomes sound.runs inside unused turned) heap.regions sound.regions;

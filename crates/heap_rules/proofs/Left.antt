@@ -1,5 +1,6 @@
 -- A run leaves a sound heap.
-use Rattle.std.proofs.Common.{◌≡◌, ℕ, zero, suc, ◌+◌, ◌*◌, ◌<◌, ◌≤◌, ◌==◌, Bool, true, false, not, cond, max, List, [], ◌∷◌, length, get_or, count_by, Contains, refl, sym, ap, subst, ◌∙◌, inl, inr, arith}
+use Rattle.std.proofs.Common.{◌≡◌, ℕ, zero, suc, ◌+◌, ◌*◌, ◌<◌, ◌≤◌, ◌==◌, Bool, true, false, not, cond, max, List, [], ◌∷◌, length, get_or, count_by}
+use Rattle.std.proofs.Common.{Contains, refl, sym, ap, subst, ◌∙◌, inl, inr, arith}
 use Rattle.std.specs.List.{list_all}
 use Rattle.std.proofs.lemmas.Bool.{cases_Bool, cases_eq, lt-ltb, eq-eqb, ne_eqb, eqb-true, false≢true, not_from_false}
 use Rattle.std.proofs.lemmas.List.{length-replicate, get_or_default}
@@ -15,19 +16,19 @@ use Rattle.tc_units.proofs.Counts.{count-cons, count_some, count_le, any_is_coun
 use Rattle.heap_rules.proofs.Places.{backs-whole}
 use Rattle.heap_rules.proofs.Live.{used_counts, counts_used, unused_counts, counts_unused, count-without, Contains-filter}
 use Rattle.heap_rules.proofs.Fits.{holds_from, reaches_parts, reaches_from, holds_reaches, unreached_unheld, serves_at}
-use Rattle.heap_rules.proofs.Remade.{IsRemade, AreFewer, remade_sound, region_kinds}
+use Rattle.heap_rules.proofs.Remade.{AreRemade, IsRemade, AreFewer, remade_sound, region_kinds}
 use Rattle.heap_rules.proofs.Settled.{remade_not}
 
 -- two elements that pass a test that at most one passes are one
-same_one : {X : Type 0} (p : X → Bool) (xs : List X) (i j : ℕ) (d : X) → i < length xs → j < length xs → p (get_or xs i d) ≡ true → p (get_or xs j d) ≡ true → count_by p xs ≤ 1 → get_or xs i d ≡ get_or xs j d
+same_one : {X : Type 0} (p : X → Bool) (xs : List X) (i j : ℕ) (d : X) → i < length xs → j < length xs → p (get_or xs i d) ≡ true → p (get_or xs j d) ≡ true
+    → count_by p xs ≤ 1 → get_or xs i d ≡ get_or xs j d
 same_one p [] i j d a b s t most = absurd (omega arith)
 same_one p (x ∷ xs) zero zero d a b s t most = refl
 same_one p (x ∷ xs) zero (suc j) d a b s t most =
     let e = count-cons p x xs in let one = one-true (p x) s in let more = count_some p xs j d (omega arith) t in absurd (omega arith)
 same_one p (x ∷ xs) (suc i) zero d a b s t most =
     let e = count-cons p x xs in let one = one-true (p x) t in let more = count_some p xs i d (omega arith) s in absurd (omega arith)
-same_one p (x ∷ xs) (suc i) (suc j) d a b s t most =
-    let e = count-cons p x xs in same_one p xs i j d (omega arith) (omega arith) s t (omega arith)
+same_one p (x ∷ xs) (suc i) (suc j) d a b s t most = let e = count-cons p x xs in same_one p xs i j d (omega arith) (omega arith) s t (omega arith)
 
 -- a member of a list at its place, by any other read
 member : {X : Type 0} (P : X → Type 0) (xs : List X) (x d : X) → (has : Contains xs x) → P x → get_or xs has.0 x ≡ get_or xs has.0 d → P (get_or xs has.0 d)
@@ -57,7 +58,7 @@ module _ (heap : Heap) (run : Run) (sound : IsSound heap) (live : Contains heap.
   one_begins : count_by (λ r. r.first.0 == run.first.0) heap.runs ≤ 1
   one_begins =
       let le = count_le (λ (r : Run). r.first.0 == run.first.0) (holds run.first.0) heap.runs
-      (λ k d l e. (let same = eqb-true (get_or heap.runs k d).first.0 run.first.0 e in subst (λ p. holds p (get_or heap.runs k d) ≡ true) same (begins (get_or heap.runs k d) (sound.runs.inside k d l)))) in
+      (λ k d l e. subst (λ p. holds p (get_or heap.runs k d) ≡ true) (eqb-true _ run.first.0 e) (begins (get_or heap.runs k d) (sound.runs.inside k d l))) in
       let most = sound.runs.disjoint run.first.0 in
       omega arith
 
@@ -98,7 +99,7 @@ module _ (heap : Heap) (run : Run) (sound : IsSound heap) (live : Contains heap.
       let there : reaches h other ≡ true = reaches_from h other (omega (arith, one.from, one.to)) (omega (arith, one.from, one.to)) in
       false≢true (sym e ∙ ap (reaches h) (sym is) ∙ there))) in
       let at : get_or heap.runs one.live.0 other ≡ other = one.live.2 in
-      let pass : not ((get_or heap.runs one.live.0 other).first.0 == run.first.0) ≡ true = ap (λ (r : Run). not (r.first.0 == run.first.0)) at ∙ not_from_false _ (ne_eqb other.first.0 run.first.0 away) in
+      let pass = ap (λ (r : Run). not (r.first.0 == run.first.0)) at ∙ not_from_false _ (ne_eqb other.first.0 run.first.0 away) in
       record {
         run = other;
         live = subst (Contains rest) at (Contains-filter (λ r. not (r.first.0 == run.first.0)) heap.runs one.live.0 other one.live.1 pass);
@@ -146,7 +147,8 @@ module _ (heap : Heap) (run : Run) (sound : IsSound heap) (live : Contains heap.
   emptied_fit : (h : ℕ) (x : Hugepage) → HasNoUsed rest h → IsFit rest heap.regions width h (emptied x)
   emptied_fit h x none = record { size = length-replicate 256 (list_all (λ b. b) x.backed); serves = (none, (list_all (λ b. b) x.backed, refl)); donated = λ e. absurd (false≢true e) }
 
-  left_made : (h : ℕ) (x : Hugepage) (k : RowKind) → x.kind ≡ k → reaches h run ≡ true → IsFit heap.runs heap.regions width h x → IsRemade rest heap.regions width h x (left_by k rest h x)
+  left_made : (h : ℕ) (x : Hugepage) (k : RowKind) → x.kind ≡ k → reaches h run ≡ true → IsFit heap.runs heap.regions width h x
+      → IsRemade rest heap.regions width h x (left_by k rest h x)
   left_made h x kind.Free k e fit =
       let s = serves_at heap.runs heap.regions width h x kind.Free k fit in
       remade_not rest heap.regions width h x (record { size = fit.size; serves = subst (λ j. Serves rest heap.regions width h x j) (sym k) (none_rest h s.0, s.1); donated = fit.donated })
@@ -158,7 +160,7 @@ module _ (heap : Heap) (run : Run) (sound : IsSound heap) (live : Contains heap.
             subst P (sym (eq-eqb (allocation_count rest h) 0 none)) (record { fit = emptied_fit h x unused; kept = λ p own u b. absurd (false≢true (sym (unused p own) ∙ u)) }))
         | inr more ↦
             subst P (sym (ne_eqb (allocation_count rest h) 0 more))
-            (remade_not rest heap.regions width h x (record { size = fit.size; serves = subst (λ j. Serves rest heap.regions width h x j) (sym k) (some_reach h (omega arith)); donated = fit.donated }))
+            (remade_not rest heap.regions width h x (record { size = fit.size; serves = subst (Serves rest heap.regions width h x) (sym k) (some_reach h (omega arith)); donated = fit.donated }))
       ]
   left_made h x kind.Run k e fit =
       let s = serves_at heap.runs heap.regions width h x kind.Run k fit in
@@ -170,7 +172,7 @@ module _ (heap : Heap) (run : Run) (sound : IsSound heap) (live : Contains heap.
       let s = serves_at heap.runs heap.regions width h x kind.Region k fit in
       remade_not rest heap.regions width h x (record { size = fit.size; serves = subst (λ j. Serves rest heap.regions width h x j) (sym k) s; donated = fit.donated })
 
-  left_each : (h : ℕ) → IsHugepageOf heap.config.huge h → IsRemade rest heap.regions width h (hugepage heap h) (cond (reaches h run) (left_by (hugepage heap h).kind rest h (hugepage heap h)) (hugepage heap h))
+  left_each : AreRemade heap rest heap.regions (λ h x. cond (reaches h run) (left_by x.kind rest h x) x)
   left_each h is =
       let x = hugepage heap h in
       let fit = sound.runs.fit h is in
@@ -185,11 +187,11 @@ module _ (heap : Heap) (run : Run) (sound : IsSound heap) (live : Contains heap.
 
   -- a region's hugepage stays of the region
   region_left : (h : ℕ) (x : Hugepage) (k : RowKind) → x.kind ≡ k → is_kind_region k ≡ true → is_region (left_by k rest h x) ≡ true
-  region_left h x kind.Free k e = absurd (false≢true e)
-  region_left h x kind.Filler k e = absurd (false≢true e)
-  region_left h x kind.Run k e = absurd (false≢true e)
   region_left h x kind.Region k e = ap is_kind_region k
+  region_left h x j k e = absurd (false≢true e)
 
   pub left_kinds : (r : ℕ) → IsRegion heap r → (h : ℕ) → spans width h r ≡ true → is_region (hugepage (left heap run) h) ≡ true
   left_kinds r is = region_kinds heap rest heap.regions (λ h x. cond (reaches h run) (left_by x.kind rest h x) x) heap.counts sound.runs r is.from is.to
-      (λ h e. (let x = hugepage heap h in elim (reaches h run) as (λ b. is_region (cond b (left_by x.kind rest h x) x) ≡ true) [ true ↦ region_left h x x.kind refl (is.kinds h e) | false ↦ is.kinds h e ]))
+      (λ h e.
+      let x = hugepage heap h in
+      elim (reaches h run) as (λ b. is_region (cond b (left_by x.kind rest h x) x) ≡ true) [ true ↦ region_left h x x.kind refl (is.kinds h e) | false ↦ is.kinds h e ])

@@ -1,5 +1,6 @@
 -- The live runs with one more and with one less: counts, used pages and members.
-use Rattle.std.proofs.Common.{◌≡◌, ℕ, zero, suc, ◌+◌, ◌<◌, ◌≤◌, ◌⊎◌, Bool, true, false, not, cond, nat_lt, List, [], ◌∷◌, length, get_or, filter, count_by, Contains, refl, sym, ap, subst, ◌∙◌, inl, inr, arith}
+use Rattle.std.proofs.Common.{◌≡◌, ℕ, zero, suc, ◌+◌, ◌<◌, ◌≤◌, ◌⊎◌, Bool, true, false, not, cond, nat_lt, List, [], ◌∷◌, length, get_or, filter, count_by}
+use Rattle.std.proofs.Common.{Contains, refl, sym, ap, subst, ◌∙◌, inl, inr, arith}
 use Rattle.std.proofs.lemmas.Bool.{cases_Bool, cases_lt, ltb-true, lt-ltb, false≢true}
 use Rattle.tc_units.specs.declared.spans.Run.{Run}
 use Rattle.heap_rules.specs.Heap.{holds, is_used, with_run}
@@ -40,7 +41,7 @@ used_with_cases run runs page e = elim (cases_Bool (holds page run)) [
 ]
 
 pub unused_with : (run : Run) (runs : List Run) (page : ℕ) → holds page run ≡ false → is_used runs page ≡ false → is_used (with_run run runs) page ≡ false
-unused_with run runs page f e = let a = unused_counts runs page e in let b = count-with (holds page) run runs in let c = one-false (holds page run) f in counts_unused (with_run run runs) page (omega arith)
+unused_with run runs page f e = counts_unused (with_run run runs) page (omega (arith, unused_counts runs page e, count-with (holds page) run runs, one-false (holds page run) f))
 
 -- One element less, by a test that one element alone passes.
 pub count-filter_le : {X : Type 0} (p q : X → Bool) (xs : List X) → count_by p (filter q xs) ≤ count_by p xs
@@ -54,14 +55,10 @@ count-filter_le p q (x ∷ xs) =
       | false ↦ omega arith
     ]
 
-pub count-without : {X : Type 0} (p q : X → Bool) (xs : List X) (k : ℕ) (d : X) → k < length xs → q (get_or xs k d) ≡ true → count_by q xs ≤ 1 → count_by p (filter (λ x. not (q x)) xs) + cond (p (get_or xs k d)) 1 0 ≡ count_by p xs
+pub count-without : {X : Type 0} (p q : X → Bool) (xs : List X) (k : ℕ) (d : X) → k < length xs → q (get_or xs k d) ≡ true → count_by q xs ≤ 1
+    → count_by p (filter (λ x. not (q x)) xs) + cond (p (get_or xs k d)) 1 0 ≡ count_by p xs
 count-without p q [] k d h t most = absurd (omega arith)
-count-without p q (x ∷ xs) zero d h t most =
-    let a = count-cons q x xs in
-    let b = count-cons p x xs in
-    let one = one-true (q x) t in
-    let same = without_none q xs (omega arith) in
-    rw (t, same) (omega arith)
+count-without p q (x ∷ xs) zero d h t most = grind (arith, count-cons, one-true, without_none)
 count-without p q (x ∷ xs) (suc k) d h t most =
     let a = count-cons q x xs in
     let some = count_some q xs k d (omega arith) t in

@@ -1,5 +1,6 @@
 -- What a free and a release make of each hugepage backs no page of it.
-use Rattle.std.proofs.Common.{◌≡◌, ℕ, ◌+◌, ◌-◌, ◌*◌, ◌/◌, ◌%◌, ◌<◌, ◌≤◌, Bool, true, false, not, ◌&&◌, ◌==◌, cond, List, length, get_or, map, Contains, refl, sym, ap, ◌∙◌, inl, inr, arith}
+use Rattle.std.proofs.Common.{◌≡◌, ℕ, ◌+◌, ◌-◌, ◌*◌, ◌/◌, ◌%◌, ◌<◌, ◌≤◌, Bool, true, false, not, ◌&&◌, ◌==◌, cond, List, length, get_or, map}
+use Rattle.std.proofs.Common.{Contains, refl, sym, ap, ◌∙◌, inl, inr, arith}
 use Rattle.std.specs.List.{list_all, list_any}
 use Rattle.std.proofs.lemmas.Bool.{cases_Bool, cases_lt, and_parts, false≢true}
 use Rattle.std.proofs.lemmas.Grind.{get_or_head}
@@ -35,57 +36,31 @@ unbacks_same : (x : Hugepage) → Unbacks x x
 unbacks_same x page e = e
 
 -- a change of each hugepage that unbacks
-each_unbacks : (f : ℕ → Hugepage → Hugepage) (xs : List Hugepage) → ((h : ℕ) → 0 < h → h ≤ length xs → Unbacks (at xs h) (f h (at xs h))) → (h page : ℕ) → backs (at (each f xs) h) page ≡ true → backs (at xs h) page ≡ true
-each_unbacks f xs unbacks h page e =
-    let none : at (each f xs) h ≡ untouched → backs (at xs h) page ≡ true = λ is. absurd (false≢true (sym (backs-whole false page) ∙ ap (λ x. backs x page) (sym is) ∙ e)) in
-    elim (cases_lt 0 h) [
-      | inl some ↦ elim (cases_lt (length xs) h) [
-        | inl past ↦ none (at-place (each f xs) h some ∙ get_or_past (each f xs) (h - 1) untouched (omega (arith, length-each f xs, past)))
-        | inr within ↦ unbacks h some within page (ap (λ x. backs x page) (sym (at-each f xs h some within)) ∙ e)
-      ]
-      | inr zero ↦ none (get_or_head untouched (each f xs) h untouched (omega arith))
-    ]
+each_unbacks : (f : ℕ → Hugepage → Hugepage) (xs : List Hugepage) → ((h : ℕ) → 0 < h → h ≤ length xs → Unbacks (at xs h) (f h (at xs h)))
+    → (h page : ℕ) → backs (at (each f xs) h) page ≡ true → backs (at xs h) page ≡ true
+each_unbacks f xs unbacks h page e = grind (arith, at, at-each, at-place, backs-whole, cases_lt, false≢true, get_or_head, get_or_past, length-each)
 
 -- what a run leaves of a hugepage
 all_backed : (x : Hugepage) (page : ℕ) → length x.backed ≡ 256 → list_all (λ b. b) x.backed ≡ true → backs x page ≡ true
-all_backed x page size all =
-    elim (cases_Bool (backs x page)) [
-      | inl t ↦ t
-      | inr f ↦ absurd (false≢true (sym (list_all_at (λ b. b) x.backed (page % 256) false (omega (arith, size)) f) ∙ all))
-    ]
+all_backed x page size all = grind (arith, cases_Bool, false≢true, list_all_at)
 
-left_unbacks : (runs rest : List Run) (regions : List ℕ) (width h : ℕ) (x : Hugepage) (k : RowKind) → length x.backed ≡ 256 → Serves runs regions width h x k → Unbacks x (left_by k rest h x)
+left_unbacks : (runs rest : List Run) (regions : List ℕ) (width h : ℕ) (x : Hugepage) (k : RowKind) → length x.backed ≡ 256
+    → Serves runs regions width h x k → Unbacks x (left_by k rest h x)
 left_unbacks runs rest regions width h x kind.Free size serves = unbacks_same x
 left_unbacks runs rest regions width h x kind.Region size serves = unbacks_same x
 left_unbacks runs rest regions width h x kind.Run size serves = λ page e. ap (λ bs. get_or bs (page % 256) false) serves.1 ∙ backs-whole true page
 left_unbacks runs rest regions width h x kind.Filler size serves =
-    unbacks_if (allocation_count rest h == 0) x (emptied x) x
-    (λ _ page e. all_backed x page size (sym (backs-whole (list_all (λ b. b) x.backed) page) ∙ e))
+    unbacks_if (allocation_count rest h == 0) x (emptied x) x (λ _ page e. all_backed x page size (sym (backs-whole (list_all (λ b. b) x.backed) page) ∙ e))
     (λ _. unbacks_same x)
 
 left_backs_none : (heap : Heap) (run : Run) → IsSound heap → BacksNone heap (left heap run)
-left_backs_none heap run sound page =
-    let runs = (left heap run).runs in
-    each_unbacks (λ h x. cond (reaches h run) (left_by x.kind runs h x) x) heap.hugepages
-    (λ h from to.
-    let x = hugepage heap h in
-    let fit = sound.runs.fit h (record { from = from; to = omega (arith, to, sound.runs.arena) }) in
-    unbacks_if (reaches h run) x (left_by x.kind runs h x) x (λ _. left_unbacks heap.runs runs heap.regions heap.config.region h x x.kind fit.size fit.serves) (λ _. unbacks_same x))
-    (page / 256) page
+left_backs_none heap run sound page = grind (arith, each_unbacks, left_unbacks, unbacks_if, unbacks_same)
 
 ended_backs_none : (heap : Heap) → BacksNone heap (without_unused_regions heap)
-ended_backs_none heap page =
-    let ends : ℕ → Hugepage → Bool = λ h x. is_region x && not (list_any (spans heap.config.region h) (used_regions heap)) in
-    each_unbacks (λ h x. cond (ends h x) (record x { kind = kind.Free }) x) heap.hugepages
-    (λ h from to. let x = hugepage heap h in unbacks_if (ends h x) x (record x { kind = kind.Free }) x (λ _ p e. e) (λ _. unbacks_same x))
-    (page / 256) page
+ended_backs_none heap page = grind (arith, each_unbacks, unbacks_if, unbacks_same)
 
 settled_backs_none : (heap : Heap) → BacksNone heap (settled heap)
-settled_backs_none heap page =
-    let over : ℕ → Bool = is_over (limit heap.config.cache (counted heap)) (map is_free_backed heap.hugepages) in
-    each_unbacks (λ h x. cond (over h) (unbacked x) x) heap.hugepages
-    (λ h from to. let x = hugepage heap h in unbacks_if (over h) x (unbacked x) x (λ _. unbacks_unbacked x) (λ _. unbacks_same x))
-    (page / 256) page
+settled_backs_none heap page = grind (arith, each_unbacks, unbacks_if, unbacks_same, unbacks_unbacked)
 
 pub freed_backs_none : (heap : Heap) (run : Run) → IsSound heap → Contains heap.runs run → BacksNone heap (freed heap run)
 freed_backs_none heap run sound live page e =
@@ -96,8 +71,7 @@ freed_backs_none heap run sound live page e =
 whole_backs_none : (flags : List Bool) (heap : Heap) (n : ℕ) → BacksNone heap (whole_given flags heap n).heap
 whole_backs_none flags heap n page =
     each_unbacks (λ h x. cond (gives_whole flags n h) (unbacked x) x) heap.hugepages
-    (λ h from to. let x = hugepage heap h in unbacks_if (gives_whole flags n h) x (unbacked x) x (λ _. unbacks_unbacked x) (λ _. unbacks_same x))
-    (page / 256) page
+    (λ h from to. let x = hugepage heap h in unbacks_if (gives_whole flags n h) x (unbacked x) x (λ _. unbacks_unbacked x) (λ _. unbacks_same x)) (page / 256) page
 
 only_used_unbacks : (runs : List Run) (h : ℕ) (x : Hugepage) → Unbacks x (only_used runs h x)
 only_used_unbacks runs h x page e =
@@ -118,6 +92,5 @@ pub release_backs_none : (heap : Heap) (n : ℕ) → BacksNone heap (release hea
 release_backs_none heap n page e =
     let a : Released = free_given heap n in
     let b : Released = idle_given a.heap (n - a.pages) in
-    whole_backs_none (map is_free_backed heap.hugepages) heap n page
-    (whole_backs_none (map (is_idle a.heap) (numbers a.heap)) a.heap (n - a.pages) page
+    whole_backs_none (map is_free_backed heap.hugepages) heap n page (whole_backs_none (map (is_idle a.heap) (numbers a.heap)) a.heap (n - a.pages) page
     (spare_backs_none b.heap (n - (a.pages + b.pages)) page e))

@@ -14,8 +14,4 @@ at_number-next none xs k = let e : 1 + k - 1 ≡ k = omega arith in at_number-pl
 
 -- where there is one, the number isn't 0
 pub at_number-there : {X : Type 0} (xs : List (Option X)) (h : ℕ) (x : X) → at_number None xs h ≡ Some x → (0 < h) × (get_or xs (h - 1) None ≡ Some x)
-at_number-there xs h x e =
-    elim (cases_lt 0 h) [
-      | inl some ↦ (some, sym (at_number-place None xs h some) ∙ e)
-      | inr zero ↦ absurd (none-some x (sym (get_or_head None xs h None (omega arith)) ∙ e))
-    ]
+at_number-there xs h x e = grind (arith, at_number-place, cases_lt, get_or_head, none-some)

@@ -12,14 +12,4 @@ fit_untouched : (width h : ℕ) → IsFit [] [] width h untouched
 fit_untouched width h = record { size = length-replicate 256 false; serves = ((λ p own. refl), (false, refl)); donated = λ e. absurd (false≢true e) }
 
 pub opened_sound : (config : HeapConfig) → IsSound (opened config)
-opened_sound config = record {
-  runs = record {
-    arena = length-replicate config.huge untouched;
-    disjoint = λ p. omega arith;
-    inside = All-nil (IsInside config.huge);
-    backed = λ p e. absurd (false≢true e);
-    fit = λ h is. (let e : hugepage (opened config) h ≡ untouched = at-place (replicate config.huge untouched) h is.from ∙ get_or-replicate config.huge (h - 1) untouched untouched (omega (arith, is.from, is.to)) in subst (IsFit [] [] config.region h) (sym e) (fit_untouched config.region h));
-    apart = λ h. omega arith;
-  };
-  regions = All-nil (IsRegion (opened config));
-}
+opened_sound config = grind (arith, at-place, false≢true, fit_untouched, get_or-replicate, length-replicate)

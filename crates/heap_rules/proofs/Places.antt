@@ -27,7 +27,8 @@ pub map-at : {X : Type 0} (f : Hugepage → X) (xs : List Hugepage) (h : ℕ) (d
 map-at f xs h d some inside = at_number-place d (map f xs) h some ∙ map-place f xs h d some inside
 
 pub idle_at : (heap : Heap) (h : ℕ) → 0 < h → h ≤ length heap.hugepages → at_number false (map (is_idle heap) (numbers heap)) h ≡ is_idle heap h
-idle_at heap h some inside = at_number-place false (map (is_idle heap) (numbers heap)) h some ∙ get_or-map-range_with_len (is_idle heap) 1 (length heap.hugepages) (h - 1) h false (omega arith) (omega arith)
+idle_at heap h some inside =
+    at_number-place false (map (is_idle heap) (numbers heap)) h some ∙ get_or-map-range_with_len (is_idle heap) 1 (length heap.hugepages) (h - 1) h false (omega arith) (omega arith)
 
 pub length-each : (f : ℕ → Hugepage → Hugepage) (xs : List Hugepage) → length (each f xs) ≡ length xs
 length-each f xs = length-map (enumerate_from 1 xs) (λ (p : ℕ × Hugepage). f p.0 p.1) ∙ length-enumerate_from 1 xs
@@ -36,18 +37,14 @@ pub at-each : (f : ℕ → Hugepage → Hugepage) (xs : List Hugepage) (h : ℕ)
 at-each f xs h some inside =
     let len = length-enumerate_from 1 xs in
     let e : 1 + (h - 1) ≡ h = omega arith in
-    at-place (each f xs) h some
-    ∙ get_or-map (λ (p : ℕ × Hugepage). f p.0 p.1) (enumerate_from 1 xs) (h - 1) (0, untouched) untouched (omega arith)
-    ∙ ap (λ (p : ℕ × Hugepage). f p.0 p.1) (get_or-enumerate_from 1 xs (h - 1) (0, untouched) (omega arith))
-    ∙ ap (λ k. f k (get_or xs (h - 1) untouched)) e
+    at-place (each f xs) h some ∙ get_or-map (λ (p : ℕ × Hugepage). f p.0 p.1) (enumerate_from 1 xs) (h - 1) (0, untouched) untouched (omega arith)
+    ∙ ap (λ (p : ℕ × Hugepage). f p.0 p.1) (get_or-enumerate_from 1 xs (h - 1) (0, untouched) (omega arith)) ∙ ap (λ k. f k (get_or xs (h - 1) untouched)) e
     ∙ ap (f h) (sym (at-place xs h some))
 
 -- lists of hugepages that are alike at each number
 pub same_pages : (xs ys : List Hugepage) → length xs ≡ length ys → ((h : ℕ) → 0 < h → h ≤ length xs → at xs h ≡ at ys h) → xs ≡ ys
 same_pages xs ys size same = same_lists xs ys size (λ k d l.
-    get_or_default xs k d untouched l
-    ∙ sym (at-next xs k) ∙ same (1 + k) (omega arith) (omega arith) ∙ at-next ys k
-    ∙ get_or_default ys k untouched d (omega arith))
+    get_or_default xs k d untouched l ∙ sym (at-next xs k) ∙ same (1 + k) (omega arith) (omega arith) ∙ at-next ys k ∙ get_or_default ys k untouched d (omega arith))
 
 -- what a change makes of a list, by what it makes of each hugepage
 pub each_is : (f : ℕ → Hugepage → Hugepage) (xs ys : List Hugepage) → length ys ≡ length xs → ((h : ℕ) → 0 < h → h ≤ length xs → f h (at xs h) ≡ at ys h) → each f xs ≡ ys
@@ -62,7 +59,8 @@ each_where f g xs same = each_is f xs (each g xs) (length-each g xs) (λ h some 
 pub each_each : (f g : ℕ → Hugepage → Hugepage) (xs : List Hugepage) → each f (each g xs) ≡ each (λ h x. f h (g h x)) xs
 each_each f g xs =
     let size = length-each g xs in
-    each_is f (each g xs) (each (λ h x. f h (g h x)) xs) (length-each (λ h x. f h (g h x)) xs ∙ sym size) (λ h some l. ap (f h) (at-each g xs h some (omega arith)) ∙ sym (at-each (λ h x. f h (g h x)) xs h some (omega arith)))
+    each_is f (each g xs) (each (λ h x. f h (g h x)) xs) (length-each (λ h x. f h (g h x)) xs ∙ sym size)
+    (λ h some l. ap (f h) (at-each g xs h some (omega arith)) ∙ sym (at-each (λ h x. f h (g h x)) xs h some (omega arith)))
 
 -- the hugepage of a page
 pub own : (h page : ℕ) → IsPageOf h page → page / 256 ≡ h

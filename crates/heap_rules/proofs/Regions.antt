@@ -7,7 +7,7 @@ use Rattle.std.proofs.lemmas.List.Folds.{Any-from_list_any}
 use Rattle.tc_units.specs.declared.spans.Run.{Run}
 use Rattle.tc_units.specs.declared.rows.RowKind.{RowKind}
 use Rattle.tc_units.specs.declared.rows.RowKind.TheVariants as kind
-use Rattle.heap_rules.specs.Heap.{Heap, Hugepage, hugepage, holds, is_used, is_free, is_region, with_run, run_at, reaches, spans}
+use Rattle.heap_rules.specs.Heap.{Heap, Hugepage, hugepage, backs, holds, is_used, is_free, is_region, with_run, run_at, reaches, spans}
 use Rattle.heap_rules.specs.New.{placed, all_backed, region_page, with_region, with_new_region, in_new_region}
 use Rattle.heap_rules.specs.Sound.{IsInside, IsHugepageOf, LiesInRegion, Serves, IsFit, IsRegion, AreRunsSound, IsSound}
 use Rattle.heap_rules.specs.Laws.{IsGiven}
@@ -16,13 +16,13 @@ use Rattle.tc_units.proofs.SortedFacts.{count-with_item, All-with_item, Contains
 use Rattle.heap_rules.proofs.Places.{length-each, at-each, backs-whole}
 use Rattle.heap_rules.proofs.Live.{used_with_new}
 use Rattle.heap_rules.proofs.Fits.{holds_parts, holds_from, reaches_parts, spans_parts, spans_from, serves_at, is_Free, is_Region}
-use Rattle.heap_rules.proofs.Grown.{IsTurned, used_in, most_one, grown, grown_kind, grown_region}
+use Rattle.heap_rules.proofs.Grown.{AreTurned, Turns, used_in, most_one, grown, grown_kind, grown_region}
 use Rattle.heap_rules.proofs.Chosen.{AreFree}
 use Rattle.heap_rules.proofs.Fillers.{AreUnused}
 use Rattle.heap_rules.proofs.Routes.{given_by, free_not_region, inside_free, reached_free, unused_free}
 
 -- a hugepage of a region that is backed whole
-pub turned_region : (heap : Heap) (run : Run) (h : ℕ) (x : Hugepage) → is_region x ≡ true → IsFit heap.runs heap.regions heap.config.region h x → IsTurned heap.runs heap.regions heap.config.region run h x (all_backed x)
+pub turned_region : (heap : Heap) (run : Run) (h : ℕ) (x : Hugepage) → is_region x ≡ true → IsFit heap.runs heap.regions heap.config.region h x → Turns heap run h x (all_backed x)
 turned_region heap run h x region fit =
     let k = is_Region x.kind region in
     let lies = (serves_at heap.runs heap.regions heap.config.region h x kind.Region k fit).0 in
@@ -38,13 +38,12 @@ turned_region heap run h x region fit =
     }
 
 -- In a region.
-pub given_region : (heap : Heap) (n r s : ℕ) → IsSound heap → 0 < n → IsRegion heap r → AreUnused heap.runs (256 * r) (256 * heap.config.region) s n → IsGiven heap n (placed heap (256 * r + s) n (λ _ x. all_backed x))
+pub given_region : (heap : Heap) (n r s : ℕ) → IsSound heap → 0 < n → IsRegion heap r → AreUnused heap.runs (256 * r) (256 * heap.config.region) s n
+    → IsGiven heap n (placed heap (256 * r + s) n (λ _ x. all_backed x))
 given_region heap n r s sound some is are =
     let run = run_at (256 * r + s) n in
-    given_by heap (256 * r + s) n (λ _ x. all_backed x) sound
-    (record { some = some; from = omega (arith, is.from); to = omega (arith, is.to, are.to) })
-    (λ p e. let parts = holds_parts p run e in are.unused p parts.0 parts.1)
-    (λ k in_arena e.
+    given_by heap (256 * r + s) n (λ _ x. all_backed x) sound (record { some = some; from = omega (arith, is.from); to = omega (arith, is.to, are.to) })
+    (λ p e. let parts = holds_parts p run e in are.unused p parts.0 parts.1) (λ k in_arena e.
     let parts = reaches_parts k run e in
     turned_region heap run k (hugepage heap k) (is.kinds k (spans_from heap.config.region k r (omega arith) (omega (arith, are.to)))) (sound.runs.fit k in_arena))
 
@@ -52,11 +51,10 @@ given_region heap n r s sound some is are =
 lies_more : (r : ℕ) (regions : List ℕ) (width h : ℕ) → LiesInRegion regions width h → LiesInRegion (with_region r regions) width h
 lies_more r regions width h lies = record { region = lies.region; known = Contains-old (λ (k : ℕ). k) r regions lies.region lies.known; spanned = lies.spanned }
 
-serves_region_more : (runs : List Run) (r : ℕ) (regions : List ℕ) (width h : ℕ) (x : Hugepage) (k : RowKind) → Serves runs regions width h x k → Serves runs (with_region r regions) width h x k
-serves_region_more runs r regions width h x kind.Free s = s
-serves_region_more runs r regions width h x kind.Filler s = s
-serves_region_more runs r regions width h x kind.Run s = s
+serves_region_more : (runs : List Run) (r : ℕ) (regions : List ℕ) (width h : ℕ) (x : Hugepage) (k : RowKind)
+    → Serves runs regions width h x k → Serves runs (with_region r regions) width h x k
 serves_region_more runs r regions width h x kind.Region s = (lies_more r regions width h s.0, s.1)
+serves_region_more runs r regions width h x k s = s
 
 module _ (heap : Heap) (r : ℕ) (sound : IsSound heap) (are : AreFree heap r heap.config.region) where
   abbrev pub width : ℕ
@@ -71,7 +69,8 @@ module _ (heap : Heap) (r : ℕ) (sound : IsSound heap) (are : AreFree heap r he
   here : (h : ℕ) → IsHugepageOf heap.config.huge h → hugepage with_it h ≡ change h (hugepage heap h)
   here h is = let len = sound.runs.arena in at-each change heap.hugepages h is.from (omega (arith, is.to))
 
-  by_span : (P : Hugepage → Type 0) (h : ℕ) → IsHugepageOf heap.config.huge h → (spans width h r ≡ true → P (region_page (hugepage heap h))) → (spans width h r ≡ false → P (hugepage heap h)) → P (hugepage with_it h)
+  by_span : (P : Hugepage → Type 0) (h : ℕ) → IsHugepageOf heap.config.huge h → (spans width h r ≡ true → P (region_page (hugepage heap h)))
+      → (spans width h r ≡ false → P (hugepage heap h)) → P (hugepage with_it h)
   by_span P h is inner outer = elim (cases_Bool (spans width h r)) [
     | inl t ↦ subst P (sym (here h is ∙ ap (λ b. cond b (region_page (hugepage heap h)) (hugepage heap h)) t)) (inner t)
     | inr f ↦ subst P (sym (here h is ∙ ap (λ b. cond b (region_page (hugepage heap h)) (hugepage heap h)) f)) (outer f)
@@ -108,7 +107,7 @@ module _ (heap : Heap) (r : ℕ) (sound : IsSound heap) (are : AreFree heap r he
     arena = length-each change heap.hugepages ∙ sound.runs.arena;
     disjoint = sound.runs.disjoint;
     inside = sound.runs.inside;
-    backed = λ p e. by_span (λ x. get_or x.backed (p % 256) false ≡ true) (p / 256) (used_in heap.config.huge p heap.runs sound.runs.inside e) (λ t. sound.runs.backed p e) (λ f. sound.runs.backed p e);
+    backed = λ p e. by_span (λ x. backs x p ≡ true) (p / 256) (used_in heap.config.huge p heap.runs sound.runs.inside e) (λ t. sound.runs.backed p e) (λ f. sound.runs.backed p e);
     fit = λ h is. by_span (λ x. IsFit heap.runs (with_region r heap.regions) width h x) h is (λ t. fit_inner h is t) (λ f. fit_outer h (hugepage heap h) (sound.runs.fit h is));
     apart = λ h. most_one (spans width h r) (count_by (spans width h) heap.regions) _ (sound.runs.apart h) (none_before h) (count-with_item (λ (k : ℕ). k) (spans width h) r heap.regions);
   }
@@ -131,7 +130,7 @@ module _ (heap : Heap) (r : ℕ) (sound : IsSound heap) (are : AreFree heap r he
   }
 
   module _ (n : ℕ) (some : 0 < n) (fits : n ≤ 256 * heap.config.region) where
-    turned_new : (h : ℕ) → IsHugepageOf heap.config.huge h → reaches h (run_at (256 * r) n) ≡ true → IsTurned heap.runs (with_region r heap.regions) width (run_at (256 * r) n) h (hugepage with_it h) (all_backed (hugepage with_it h))
+    turned_new : AreTurned with_it (run_at (256 * r) n) (λ h x. all_backed x)
     turned_new h is e =
         let near = reached_free heap n r width sound some fits are h e in
         turned_region with_it (run_at (256 * r) n) h (hugepage with_it h) (kinds_inner h is (spans_from width h r near.0 near.1)) (runs_sound.fit h is)
@@ -148,7 +147,10 @@ module _ (heap : Heap) (r : ℕ) (sound : IsSound heap) (are : AreFree heap r he
         record {
           from = are.from;
           to = omega (arith, are.to);
-          kinds = λ h e. (let parts = spans_parts width h r e in let is : IsHugepageOf heap.config.huge h = record { from = omega (arith, are.from); to = omega (arith, are.to) } in grown_kind with_it (256 * r) n (λ _ x. all_backed x) runs_sound inside unused turned_new h is (kinds_inner h is e));
+          kinds = λ h e.
+              (let parts = spans_parts width h r e in
+              let is : IsHugepageOf heap.config.huge h = record { from = omega (arith, are.from); to = omega (arith, are.to) } in
+              grown_kind with_it (256 * r) n (λ _ x. all_backed x) runs_sound inside unused turned_new h is (kinds_inner h is e));
           page = 256 * r;
           own = omega arith;
           own_to = omega arith;
@@ -165,6 +167,7 @@ module _ (heap : Heap) (r : ℕ) (sound : IsSound heap) (are : AreFree heap r he
       sound = record {
         runs = grown with_it (256 * r) n (λ _ x. all_backed x) runs_sound inside unused turned_new;
         regions = All-with_item (λ (k : ℕ). k) (IsRegion (in_new_region heap n r).heap) r heap.regions own_region
-            (All-weaker (IsRegion heap) (IsRegion (in_new_region heap n r).heap) (λ s is. grown_region with_it (256 * r) n (λ _ x. all_backed x) runs_sound inside unused turned_new s (region_more s is)) heap.regions sound.regions);
+            (All-weaker (IsRegion heap) (IsRegion (in_new_region heap n r).heap)
+            (λ s is. grown_region with_it (256 * r) n (λ _ x. all_backed x) runs_sound inside unused turned_new s (region_more s is)) heap.regions sound.regions);
       };
     }

@@ -1,5 +1,6 @@
 -- A release keeps the runs, and unbacks no page that one of them holds.
-use Rattle.std.proofs.Common.{◌≡◌, ℕ, ◌+◌, ◌-◌, ◌*◌, ◌<◌, ◌≤◌, Bool, true, false, ◌&&◌, cond, List, length, map, count_by, refl, sym, subst, ◌∙◌, inl, inr, arith}
+use Rattle.std.proofs.Common.{◌≡◌, ℕ, ◌+◌, ◌-◌, ◌*◌, ◌<◌, ◌≤◌, Bool, true, false, ◌&&◌, cond, List, length, map, count_by, refl, sym, subst, ◌∙◌, inl, inr}
+use Rattle.std.proofs.Common.{arith}
 use Rattle.std.specs.List.{list_all}
 use Rattle.std.proofs.lemmas.Bool.{cases_Bool, and_parts, and_from, eqb-true, false≢true, false_from_ne_true}
 use Rattle.std.proofs.lemmas.List.{length-replicate}
@@ -18,16 +19,16 @@ use Rattle.heap_rules.proofs.Places.{backs-map, map-at, idle_at}
 use Rattle.heap_rules.proofs.Fits.{serves_at, is_Region}
 use Rattle.heap_rules.proofs.Accounts.{all_counted, whole_counts, spare_counts}
 use Rattle.heap_rules.proofs.Fillers.{is_Filler}
-use Rattle.heap_rules.proofs.Remade.{IsRemade, remade_same}
+use Rattle.heap_rules.proofs.Remade.{IsRemade, Remakes, remade_same}
 use Rattle.heap_rules.proofs.Settled.{remade_unbacked, remade_not}
 
 -- a range of pages of which none is counted as used
 none_counted : (runs : List Run) (first many p : ℕ) → first ≤ p → p < first + many → count_by (λ b. b) (used_from runs first many) ≡ 0 → is_used runs p ≡ false
 none_counted runs first many p a b e =
     let len = length-map-range_with_len (is_used runs) first many in
-    false_from_ne_true (is_used runs p)
-    (λ t.
-    let some = count_some (λ b. b) (used_from runs first many) (p - first) false (omega arith) (get_or-map-range_with_len (is_used runs) first many (p - first) p false (omega arith) (omega arith) ∙ t) in
+    false_from_ne_true (is_used runs p) (λ t.
+    let at = get_or-map-range_with_len (is_used runs) first many (p - first) p false (omega arith) (omega arith) in
+    let some = count_some (λ b. b) (used_from runs first many) (p - first) false (omega arith) (at ∙ t) in
     omega arith)
 
 -- a hugepage without used pages
@@ -51,55 +52,42 @@ remade_used runs regions width h x filler fit =
 pub spare_sound : (heap : Heap) (n : ℕ) → IsSound heap → IsSound (spare_given heap n).heap
 spare_sound heap n sound =
     let asked : ℕ → Hugepage → Bool = λ h x. is_filler x && gives_spare (spare_rows heap) n (spare_row heap h) in
-    remade_same heap (λ h x. cond (asked h x) (only_used heap.runs h x) x) heap.counts sound
-    (λ h is.
+    remade_same heap (λ h x. cond (asked h x) (only_used heap.runs h x) x) heap.counts sound (λ h is.
     let x = hugepage heap h in
     let fit = sound.runs.fit h is in
     let P : Bool → Type 0 = λ b. IsRemade heap.runs heap.regions heap.config.region h x (cond b (only_used heap.runs h x) x) in
     elim (cases_Bool (asked h x)) [
       | inl t ↦ subst P (sym t) (remade_used heap.runs heap.regions heap.config.region h x (and_parts _ _ t).0 fit)
       | inr s ↦ subst P (sym s) (remade_not heap.runs heap.regions heap.config.region h x fit)
-    ])
-    (λ h x e. elim (asked h x) as (λ b. is_region (cond b (only_used heap.runs h x) x) ≡ true) [ true ↦ e | false ↦ e ])
+    ]) (λ h x e. elim (asked h x) as (λ b. is_region (cond b (only_used heap.runs h x) x) ≡ true) [ true ↦ e | false ↦ e ])
 
 -- A hugepage without used pages gives all of them.
-remade_idle : (runs : List Run) (regions : List ℕ) (width h : ℕ) (x : Hugepage) → is_region x ≡ true → HasNoUsed runs h → IsFit runs regions width h x → IsRemade runs regions width h x (unbacked x)
-remade_idle runs regions width h x region none fit =
-    let k = is_Region x.kind region in
-    record {
-      fit = record {
-        size = length-replicate 256 false;
-        serves = subst (λ j. Serves runs regions width h (unbacked x) j) (sym k) ((serves_at runs regions width h x kind.Region k fit).0, (false, refl));
-        donated = fit.donated;
-      };
-      kept = λ p own e b. absurd (false≢true (sym (none p own) ∙ e));
-    }
+remade_idle : (runs : List Run) (regions : List ℕ) (width h : ℕ) (x : Hugepage) → is_region x ≡ true → HasNoUsed runs h → IsFit runs regions width h x
+    → IsRemade runs regions width h x (unbacked x)
+remade_idle runs regions width h x region none fit = grind (arith, false≢true, is_Region, length-replicate, serves_at)
 
 -- hugepages that give whole, where what the flag says suffices
-whole_sound : (flags : List Bool) (heap : Heap) (n : ℕ) → IsSound heap → ((h : ℕ) → IsHugepageOf heap.config.huge h → at_number false flags h ≡ true → IsRemade heap.runs heap.regions heap.config.region h (hugepage heap h) (unbacked (hugepage heap h))) → IsSound (whole_given flags heap n).heap
+whole_sound : (flags : List Bool) (heap : Heap) (n : ℕ) → IsSound heap → ((h : ℕ) → IsHugepageOf heap.config.huge h → at_number false flags h ≡ true → Remakes heap h (hugepage heap h) (unbacked (hugepage heap h)))
+    → IsSound (whole_given flags heap n).heap
 whole_sound flags heap n sound flagged =
-    remade_same heap (λ h x. cond (gives_whole flags n h) (unbacked x) x) heap.counts sound
-    (λ h is.
+    remade_same heap (λ h x. cond (gives_whole flags n h) (unbacked x) x) heap.counts sound (λ h is.
     let x = hugepage heap h in
-    let P : Bool → Type 0 = λ b. IsRemade heap.runs heap.regions heap.config.region h x (cond b (unbacked x) x) in
+    let P : Bool → Type 0 = λ b. Remakes heap h x (cond b (unbacked x) x) in
     elim (cases_Bool (gives_whole flags n h)) [
       | inl t ↦ subst P (sym t) (flagged h is (and_parts _ _ t).0)
       | inr s ↦ subst P (sym s) (remade_not heap.runs heap.regions heap.config.region h x (sound.runs.fit h is))
-    ])
-    (λ h x e. elim (gives_whole flags n h) as (λ b. is_region (cond b (unbacked x) x) ≡ true) [ true ↦ e | false ↦ e ])
+    ]) (λ h x e. elim (gives_whole flags n h) as (λ b. is_region (cond b (unbacked x) x) ≡ true) [ true ↦ e | false ↦ e ])
 
 pub free_sound : (heap : Heap) (n : ℕ) → IsSound heap → IsSound (free_given heap n).heap
 free_sound heap n sound =
-    whole_sound (map is_free_backed heap.hugepages) heap n sound
-    (λ h is e.
+    whole_sound (map is_free_backed heap.hugepages) heap n sound (λ h is e.
     let len = sound.runs.arena in
     let ready : is_free_backed (hugepage heap h) ≡ true = sym (map-at is_free_backed heap.hugepages h false is.from (omega (arith, is.to))) ∙ e in
     remade_unbacked heap.runs heap.regions heap.config.region h (hugepage heap h) (and_parts _ _ ready).0 (sound.runs.fit h is))
 
 pub idle_sound : (heap : Heap) (n : ℕ) → IsSound heap → IsSound (idle_given heap n).heap
 idle_sound heap n sound =
-    whole_sound (map (is_idle heap) (numbers heap)) heap n sound
-    (λ h is e.
+    whole_sound (map (is_idle heap) (numbers heap)) heap n sound (λ h is e.
     let len = sound.runs.arena in
     let idle : is_idle heap h ≡ true = sym (idle_at heap h is.from (omega (arith, is.to))) ∙ e in
     let parts = and_parts _ _ (and_parts _ _ idle).0 in
@@ -111,16 +99,14 @@ full x size all = all_counted x.backed all ∙ size
 
 pub free_counts : (heap : Heap) (n : ℕ) → IsSound heap → backed_pages (free_given heap n).heap + (free_given heap n).pages ≡ backed_pages heap
 free_counts heap n sound =
-    whole_counts (map is_free_backed heap.hugepages) heap n
-    (λ h from to e.
+    whole_counts (map is_free_backed heap.hugepages) heap n (λ h from to e.
     let len = sound.runs.arena in
     let ready : is_free_backed (hugepage heap h) ≡ true = sym (map-at is_free_backed heap.hugepages h false from (omega arith)) ∙ e in
     full (hugepage heap h) (sound.runs.fit h (record { from = from; to = omega arith })).size (and_parts _ _ ready).1)
 
 pub idle_counts : (heap : Heap) (n : ℕ) → IsSound heap → backed_pages (idle_given heap n).heap + (idle_given heap n).pages ≡ backed_pages heap
 idle_counts heap n sound =
-    whole_counts (map (is_idle heap) (numbers heap)) heap n
-    (λ h from to e.
+    whole_counts (map (is_idle heap) (numbers heap)) heap n (λ h from to e.
     let len = sound.runs.arena in
     let idle : is_idle heap h ≡ true = sym (idle_at heap h from (omega arith)) ∙ e in
     full (hugepage heap h) (sound.runs.fit h (record { from = from; to = omega arith })).size (and_parts _ _ idle).1)

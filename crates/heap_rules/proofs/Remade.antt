@@ -17,6 +17,12 @@ pub record IsRemade (runs : List Run) (regions : List ℕ) (width h : ℕ) (x y 
   pub fit : IsFit runs regions width h y
   pub kept : (p : ℕ) → IsPageOf h p → is_used runs p ≡ true → backs x p ≡ true → backs y p ≡ true
 
+abbrev pub Remakes : Heap → ℕ → Hugepage → Hugepage → Type 0
+Remakes heap = IsRemade heap.runs heap.regions heap.config.region
+
+abbrev pub AreRemade : Heap → List Run → List ℕ → (ℕ → Hugepage → Hugepage) → Type 0
+AreRemade heap runs regions f = (h : ℕ) → IsHugepageOf heap.config.huge h → IsRemade runs regions heap.config.region h (hugepage heap h) (f h (hugepage heap h))
+
 -- what the other runs are
 pub record AreFewer (heap : Heap) (runs : List Run) : Type 0 where
   pub disjoint : (page : ℕ) → count_by (holds page) runs ≤ 1
@@ -30,7 +36,7 @@ module _ (heap : Heap) (runs : List Run) (regions : List ℕ) (f : ℕ → Hugep
   pub here : (h : ℕ) → IsHugepageOf heap.config.huge h → hugepage (remade heap runs regions f counts) h ≡ f h (hugepage heap h)
   here h is = let len = sound.arena in at-each f heap.hugepages h is.from (omega (arith, is.to))
 
-  pub remade_sound : AreFewer heap runs → ((h : ℕ) → count_by (spans heap.config.region h) regions ≤ 1) → ((h : ℕ) → IsHugepageOf heap.config.huge h → IsRemade runs regions heap.config.region h (hugepage heap h) (f h (hugepage heap h))) → AreRunsSound (remade heap runs regions f counts)
+  pub remade_sound : AreFewer heap runs → ((h : ℕ) → count_by (spans heap.config.region h) regions ≤ 1) → AreRemade heap runs regions f → AreRunsSound (remade heap runs regions f counts)
   remade_sound fewer apart made = record {
     arena = length-each f heap.hugepages ∙ sound.arena;
     disjoint = fewer.disjoint;
@@ -44,14 +50,13 @@ module _ (heap : Heap) (runs : List Run) (regions : List ℕ) (f : ℕ → Hugep
   }
 
   -- a region whose hugepages stay of a region
-  pub region_kinds : (r : ℕ) → 0 < r → r + heap.config.region ≤ heap.config.huge + 1 → ((h : ℕ) → spans heap.config.region h r ≡ true → is_region (f h (hugepage heap h)) ≡ true) → (h : ℕ) → spans heap.config.region h r ≡ true → is_region (hugepage (remade heap runs regions f counts) h) ≡ true
-  region_kinds r from to stays h e =
-      let parts = spans_parts heap.config.region h r e in
-      let P : Hugepage → Type 0 = λ x. is_region x ≡ true in
-      subst P (sym (here h (record { from = omega arith; to = omega arith }))) (stays h e)
+  pub region_kinds : (r : ℕ) → 0 < r → r + heap.config.region ≤ heap.config.huge + 1 → ((h : ℕ) → spans heap.config.region h r ≡ true → is_region (f h (hugepage heap h)) ≡ true)
+      → (h : ℕ) → spans heap.config.region h r ≡ true → is_region (hugepage (remade heap runs regions f counts) h) ≡ true
+  region_kinds r from to stays h e = grind (arith, here, spans_parts)
 
 -- with the same runs and regions
-pub remade_same : (heap : Heap) (f : ℕ → Hugepage → Hugepage) (counts : List ℕ) → IsSound heap → ((h : ℕ) → IsHugepageOf heap.config.huge h → IsRemade heap.runs heap.regions heap.config.region h (hugepage heap h) (f h (hugepage heap h))) → ((h : ℕ) (x : Hugepage) → is_region x ≡ true → is_region (f h x) ≡ true) → IsSound (remade heap heap.runs heap.regions f counts)
+pub remade_same : (heap : Heap) (f : ℕ → Hugepage → Hugepage) (counts : List ℕ) → IsSound heap → AreRemade heap heap.runs heap.regions f
+    → ((h : ℕ) (x : Hugepage) → is_region x ≡ true → is_region (f h x) ≡ true) → IsSound (remade heap heap.runs heap.regions f counts)
 remade_same heap f counts sound made stays = record {
   runs = remade_sound heap heap.runs heap.regions f counts sound.runs (same_runs heap sound.runs) sound.runs.apart made;
   regions = All-weaker (IsRegion heap) (IsRegion (remade heap heap.runs heap.regions f counts))

@@ -12,11 +12,12 @@ use Rattle.heap_rules.specs.Laws.{IsGiven}
 use Rattle.heap_rules.proofs.Places.{backs-whole, page_of}
 use Rattle.heap_rules.proofs.Live.{used_with_new}
 use Rattle.heap_rules.proofs.Fits.{holds_from, reaches_parts, holds_reaches, serves_at, is_Free}
-use Rattle.heap_rules.proofs.Grown.{IsTurned, held_in, grown_sound}
+use Rattle.heap_rules.proofs.Grown.{AreTurned, IsUnused, Turns, held_in, grown_sound}
 use Rattle.heap_rules.proofs.Chosen.{AreFree}
 
 -- a route's answer, from what it does to the hugepages that the run reaches
-pub given_by : (heap : Heap) (page n : ℕ) (becomes : ℕ → Hugepage → Hugepage) → IsSound heap → IsInside heap.config.huge (run_at page n) → ((p : ℕ) → holds p (run_at page n) ≡ true → is_used heap.runs p ≡ false) → ((h : ℕ) → IsHugepageOf heap.config.huge h → reaches h (run_at page n) ≡ true → IsTurned heap.runs heap.regions heap.config.region (run_at page n) h (hugepage heap h) (becomes h (hugepage heap h))) → IsGiven heap n (placed heap page n becomes)
+pub given_by : (heap : Heap) (page n : ℕ) (becomes : ℕ → Hugepage → Hugepage) → IsSound heap → IsInside heap.config.huge (run_at page n) → IsUnused heap (run_at page n)
+    → AreTurned heap (run_at page n) becomes → IsGiven heap n (placed heap page n becomes)
 given_by heap page n becomes sound inside unused turned = record {
   pages = refl;
   inside = inside;
@@ -30,7 +31,8 @@ pub free_not_region : (x : Hugepage) → is_free x ≡ true → is_region x ≡ 
 free_not_region x free region = false≢true (sym (ap is_kind_region (is_Free x.kind free)) ∙ region)
 
 -- a free hugepage that becomes the filler's, or a run's alone
-turned_filler : (heap : Heap) (run : Run) (h page : ℕ) (donated : Bool) (x : Hugepage) → is_free x ≡ true → IsPageOf h page → holds page run ≡ true → IsTurned heap.runs heap.regions heap.config.region run h x (filler_page donated)
+turned_filler : (heap : Heap) (run : Run) (h page : ℕ) (donated : Bool) (x : Hugepage) → is_free x ≡ true → IsPageOf h page → holds page run ≡ true
+    → Turns heap run h x (filler_page donated)
 turned_filler heap run h page donated x free own' held = record {
   fit = record {
     size = length-replicate 256 true;
@@ -42,7 +44,7 @@ turned_filler heap run h page donated x free own' held = record {
   region = λ e. absurd (free_not_region x free e);
 }
 
-turned_run : (heap : Heap) (run : Run) (h : ℕ) (x : Hugepage) → is_free x ≡ true → run.first.0 ≤ 256 * h → 256 * h + 256 ≤ run.first.0 + run.pages → IsTurned heap.runs heap.regions heap.config.region run h x run_page
+turned_run : (heap : Heap) (run : Run) (h : ℕ) (x : Hugepage) → is_free x ≡ true → run.first.0 ≤ 256 * h → 256 * h + 256 ≤ run.first.0 + run.pages → Turns heap run h x run_page
 turned_run heap run h x free from to = record {
   fit = record {
     size = length-replicate 256 true;
@@ -65,21 +67,22 @@ module _ (heap : Heap) (n h m : ℕ) (sound : IsSound heap) (some : 0 < n) (fits
   pub reached_free : (k : ℕ) → reaches k (run_at (256 * h) n) ≡ true → (h ≤ k) × (k < h + m)
   reached_free k e = let parts = reaches_parts k (run_at (256 * h) n) e in (omega arith, omega arith)
 
-  pub unused_free : (p : ℕ) → holds p (run_at (256 * h) n) ≡ true → is_used heap.runs p ≡ false
+  pub unused_free : IsUnused heap (run_at (256 * h) n)
   unused_free p e =
       let near = reached_free (p / 256) (holds_reaches (p / 256) p (run_at (256 * h) n) (page_of p) e) in
       free_unused heap (p / 256) p sound.runs (held_in heap.config.huge p (run_at (256 * h) n) inside_free e) (are.free (p / 256) near.0 near.1) (page_of p)
 
   -- the run route
-  turned_free : (k : ℕ) → IsHugepageOf heap.config.huge k → reaches k (run_at (256 * h) n) ≡ true → IsTurned heap.runs heap.regions heap.config.region (run_at (256 * h) n) k (hugepage heap k) (run_or_tail (256 * h + n) k)
+  turned_free : AreTurned heap (run_at (256 * h) n) (λ k x. run_or_tail (256 * h + n) k)
   turned_free k is e =
       let near = reached_free k e in
       let free = are.free k near.0 near.1 in
       let parts = reaches_parts k (run_at (256 * h) n) e in
-      let P : Hugepage → Type 0 = λ y. IsTurned heap.runs heap.regions heap.config.region (run_at (256 * h) n) k (hugepage heap k) y in
+      let P = Turns heap (run_at (256 * h) n) k (hugepage heap k) in
+      let own : IsPageOf k (256 * k) = record { from = omega arith; to = omega arith } in
       elim (cases_lt (256 * h + n) (256 * (k + 1))) [
         | inl tail ↦ subst (λ b. P (cond b run_page (filler_page true))) (sym (lt-leb (256 * (k + 1)) (256 * h + n) tail))
-            (turned_filler heap (run_at (256 * h) n) k (256 * k) true (hugepage heap k) free (record { from = omega arith; to = omega arith }) (holds_from (256 * k) (run_at (256 * h) n) (omega arith) parts.1))
+            (turned_filler heap (run_at (256 * h) n) k (256 * k) true (hugepage heap k) free own (holds_from (256 * k) (run_at (256 * h) n) (omega arith) parts.1))
         | inr all ↦ subst (λ b. P (cond b run_page (filler_page true))) (sym (le-leb (256 * (k + 1)) (256 * h + n) all))
             (turned_run heap (run_at (256 * h) n) k (hugepage heap k) free (omega arith) (omega arith))
       ]
@@ -93,4 +96,5 @@ module _ (heap : Heap) (n h m : ℕ) (sound : IsSound heap) (some : 0 < n) (fits
       (λ k is e.
       let near = reached_free k e in
       let parts = reaches_parts k (run_at (256 * h) n) e in
-      turned_filler heap (run_at (256 * h) n) k (256 * k) false (hugepage heap k) (are.free k near.0 near.1) (record { from = omega arith; to = omega arith }) (holds_from (256 * k) (run_at (256 * h) n) (omega arith) parts.1))
+      let own : IsPageOf k (256 * k) = record { from = omega arith; to = omega arith } in
+      turned_filler heap (run_at (256 * h) n) k (256 * k) false (hugepage heap k) (are.free k near.0 near.1) own (holds_from (256 * k) (run_at (256 * h) n) (omega arith) parts.1))

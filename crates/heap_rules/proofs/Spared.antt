@@ -1,5 +1,6 @@
 -- The filler's rows give all their spare pages, or as many as are wanted.
-use Rattle.std.proofs.Common.{◌≡◌, ℕ, zero, suc, ◌<◌, ◌≤◌, ◌⊎◌, Bool, true, false, not, ◌&&◌, ◌||◌, cond, nat_lt, nat_eq, List, [], ◌∷◌, length, get_or, filter, count_by, sum_by, All, refl, sym, ap, ◌∙◌, inl, inr, arith}
+use Rattle.std.proofs.Common.{◌≡◌, ℕ, zero, suc, ◌<◌, ◌≤◌, ◌⊎◌, Bool, true, false, not, ◌&&◌, ◌||◌, cond, nat_lt, nat_eq, List, [], ◌∷◌, length, get_or}
+use Rattle.std.proofs.Common.{filter, count_by, sum_by, All, refl, sym, ap, ◌∙◌, inl, inr, arith}
 use Rattle.std.specs.List.{list_any}
 use Rattle.std.proofs.lemmas.Bool.{cases_Bool, and_parts, ltb-false, not-true, not-false, false≢true}
 use Rattle.std.proofs.lemmas.Bool.Decides.{nat_tests}
@@ -37,14 +38,11 @@ one_le false b n h = omega arith
 
 -- where no element passes some test, each fails it
 none_passes : {X : Type 0} (p : X → Bool) (xs : List X) → list_any p xs ≡ false → All (λ x. p x ≡ false) xs
-none_passes p xs none = λ k d within.
-    elim (cases_Bool (p (get_or xs k d))) [
-      | inl t ↦ absurd (false≢true (sym none ∙ list_any_at p xs k d within t))
-      | inr f ↦ f
-    ]
+none_passes p xs none = grind (arith, cases_Bool, false≢true, list_any_at)
 
 -- a test that fails an element which another passes, and passes none that the other fails
-count_less : {X : Type 0} (p q : X → Bool) (xs : List X) (k : ℕ) (d : X) → k < length xs → p (get_or xs k d) ≡ false → q (get_or xs k d) ≡ true → All (λ x. p x ≡ true → q x ≡ true) xs → count_by p xs < count_by q xs
+count_less : {X : Type 0} (p q : X → Bool) (xs : List X) (k : ℕ) (d : X) → k < length xs → p (get_or xs k d) ≡ false → q (get_or xs k d) ≡ true
+    → All (λ x. p x ≡ true → q x ≡ true) xs → count_by p xs < count_by q xs
 count_less p q [] k d within fails passes all = absurd (omega arith)
 count_less p q (x ∷ xs) zero d within fails passes all =
     let a = count-cons p x xs in
@@ -89,7 +87,8 @@ module _ (rows : List SpareRow) (n : ℕ) where
   all_spare = sum_by (λ r. r.spare) rows
 
   -- Where a row does not give, those before it have enough; and if one of these does not give, it has fewer before it.
-  step : (m : ℕ) → ((s : SpareRow) → gives s ≡ false → count_by (gives_before s) rows < m → n ≤ spared) → (r : SpareRow) → gives r ≡ false → count_by (gives_before r) rows ≤ m → n ≤ spared
+  step : (m : ℕ) → ((s : SpareRow) → gives s ≡ false → count_by (gives_before s) rows < m → n ≤ spared)
+      → (r : SpareRow) → gives r ≡ false → count_by (gives_before r) rows ≤ m → n ≤ spared
   step m earlier r stays few =
       let before : SpareRow → Bool = λ s. gives_before r s && not (gives s) in
       elim (cases_Bool (list_any before rows)) [
@@ -102,7 +101,8 @@ module _ (rows : List SpareRow) (n : ℕ) where
             (let any = Any-from_list_any before rows some in
             let s : SpareRow = any.1 in
             let parts = and_parts (gives_before r s) (not (gives s)) any.4 in
-            let less = count_less (gives_before s) (gives_before r) rows any.0 s any.2 (ap (gives_before s) any.3 ∙ itself s) (ap (gives_before r) any.3 ∙ parts.0) (λ k d l e. passes (get_or rows k d) s r e parts.0) in
+            let passed = ap (gives_before r) any.3 ∙ parts.0 in
+            let less = count_less (gives_before s) (gives_before r) rows any.0 s any.2 (ap (gives_before s) any.3 ∙ itself s) passed (λ k d l e. passes (get_or rows k d) s r e parts.0) in
             earlier s (not-true (gives s) parts.1) (omega arith))
       ]
 
@@ -113,7 +113,8 @@ module _ (rows : List SpareRow) (n : ℕ) where
   pub all_or_enough : (spared ≡ all_spare) ⊎ ((n ≤ spared) × (n ≤ all_spare))
   all_or_enough =
       elim (cases_Bool (list_any (λ s. not (gives s)) rows)) [
-        | inr none ↦ inl (sum-filter (λ r. r.spare) gives rows ∙ same_sums (λ r. cond (gives r) r.spare 0) (λ r. r.spare) rows (λ k d l. ap (λ b. cond b (get_or rows k d).spare 0) (not-false (gives (get_or rows k d)) (none_passes (λ s. not (gives s)) rows none k d l))))
+        | inr none ↦ inl (sum-filter (λ r. r.spare) gives rows ∙ same_sums (λ r. cond (gives r) r.spare 0) (λ r. r.spare) rows
+            (λ k d l. ap (λ b. cond b (get_or rows k d).spare 0) (not-false (gives (get_or rows k d)) (none_passes (λ s. not (gives s)) rows none k d l))))
         | inl some ↦
             (let any = Any-from_list_any (λ s. not (gives s)) rows some in
             let enough : n ≤ spared = enough_from (count_by (gives_before any.1) rows) any.1 (not-true (gives any.1) any.4) (omega arith) in

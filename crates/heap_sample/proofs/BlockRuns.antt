@@ -45,24 +45,13 @@ module _ (huge : ℕ) (length_of : ℕ → ℕ) where
 
   frees_other : (label : ℕ) (earlier : List CallLine) (call : Call) (answer : Answer)
       → IsAllowed huge length_of earlier call answer → answer_to label earlier ≡ None → frees label call ≡ false
-  frees_other label earlier (Malloc l n) answer allowed none = refl
-  frees_other label earlier (Free l) answer allowed none = elim (cases_Bool (l.0 == label)) [
-    | inl is ↦ absurd (answered earlier l answer allowed (ap (λ i. answer_to i earlier) (eqb-true l.0 label is) ∙ none))
-    | inr other ↦ other
-  ]
-  frees_other label earlier (Release pages) answer allowed none = refl
-  frees_other label earlier (Drain cpu) answer allowed none = refl
-  frees_other label earlier (Resize cpu class cap) answer allowed none = refl
+  frees_other label earlier (Free l) answer allowed none = grind (arith, answered, cases_Bool, eqb-true)
+  frees_other label earlier call answer allowed none = refl
 
   not_freed : (label : ℕ) (earlier calls : List CallLine)
       → IsBlockRun huge length_of (earlier ++ calls) → got_among label (earlier ++ calls) ≡ 0 → freed_in label calls ≡ false
   not_freed label earlier [] run none = refl
-  not_freed label earlier (c ∷ calls) run none =
-      let parts = sum_by-append (λ (d : CallLine). cond (allocates label d.call) 1 0) earlier (c ∷ calls) in
-      let own = frees_other label earlier c.call c.answer (run earlier c calls refl) (no_answer label earlier (omega (arith, parts, none))) in
-      let same = append_assoc earlier (c ∷ []) calls in
-      let rest = not_freed label (earlier ++ c ∷ []) calls (subst (IsBlockRun huge length_of) (sym same) run) (ap (got_among label) same ∙ none) in
-      ap (λ b. b || freed_in label calls) own ∙ rest
+  not_freed label earlier (c ∷ calls) run none = grind (arith, append_assoc, frees_other, no_answer, sum_by-append, (not_freed label (earlier ++ c ∷ []) calls))
 
   pub first_uses_of_run : (calls : List CallLine) → IsBlockRun huge length_of calls → ((label : ℕ) → got_among label calls ≤ 1)
       → All (λ c. AsksFew c.call) calls → AreFirstUses calls
@@ -85,7 +74,4 @@ module _ (huge : ℕ) (length_of : ℕ → ℕ) where
           let one = one-true (allocates l.0 c.call) (ap (allocates l.0) e ∙ eq-eqb l.0 l.0 refl) in
           omega (arith, parts, all, one, ap (got_among l.0) is, once l.0) in
           (record { not_answered = no_answer l.0 earlier none; not_freed = not_freed l.0 [] earlier before none }, few_here l n e)
-      first_use (Free l) e = tt
-      first_use (Release pages) e = tt
-      first_use (Drain cpu) e = tt
-      first_use (Resize cpu class cap) e = tt
+      first_use call e = tt

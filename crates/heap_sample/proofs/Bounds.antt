@@ -1,5 +1,6 @@
 -- What the live samples stand for is within what was asked for, and that within what calls may ask for.
-use Rattle.std.proofs.Common.{refl, ◌≡◌, ℕ, ◌+◌, ◌-◌, ◌*◌, ◌/◌, ◌<◌, ◌≤◌, Bool, not, List, [], ◌∷◌, ◌++◌, length, nat_lt, slice_index, slice_set, sym, ap, ◌∙◌, inl, inr, arith}
+use Rattle.std.proofs.Common.{refl, ◌≡◌, ℕ, ◌+◌, ◌-◌, ◌*◌, ◌/◌, ◌<◌, ◌≤◌, Bool, not, List, [], ◌∷◌, ◌++◌, length, nat_lt, slice_index, slice_set, sym}
+use Rattle.std.proofs.Common.{ap, ◌∙◌, inl, inr, arith}
 use Rattle.std.specs.List.{filter, sum_by, sum}
 use Rattle.std.proofs.lemmas.Bool.{cases_Bool}
 use Rattle.std.proofs.lemmas.List.Sums.{sum_by-cons, sum_by-append, sum_by-set, sum_by-le-sum_by}
@@ -48,40 +49,13 @@ module _ (step : ℕ) (asked : List ℕ) (t add : ℕ) (some : 0 < step) (inside
 -- what a call asks for is at most what a request may
 pub few_bytes : (live : List (ℕ × Sample)) (call : Call) (answer : Answer) → IsFresh live call → bytes_asked call answer ≤ most_size
 few_bytes live (Malloc l n) (Block a len) fresh = fresh.1
-few_bytes live (Malloc l n) NoBlock fresh = omega arith
-few_bytes live (Malloc l n) (Freed a) fresh = omega arith
-few_bytes live (Malloc l n) FreedNull fresh = omega arith
-few_bytes live (Malloc l n) (Released p) fresh = omega arith
-few_bytes live (Malloc l n) (Drained o) fresh = omega arith
-few_bytes live (Malloc l n) (Busy o) fresh = omega arith
-few_bytes live (Malloc l n) CapSet fresh = omega arith
-few_bytes live (Malloc l n) (OverLimit s) fresh = omega arith
-few_bytes live (Malloc l n) (OverStatic s) fresh = omega arith
-few_bytes live (Free l) answer fresh = omega arith
-few_bytes live (Release p) answer fresh = omega arith
-few_bytes live (Drain c) answer fresh = omega arith
-few_bytes live (Resize c k n) answer fresh = omega arith
+few_bytes live call answer fresh = omega arith
 
 -- at most one sample comes, of at most its weight
-pub gives : (step before : ℕ) (call : Call) (answer : Answer) → (length (sample_under step before call answer) ≤ 1) × (weight_in (sample_under step before call answer) ≤ weight_of step before (before + bytes_asked call answer))
-gives step before (Malloc l n) (Block a len) =
-    elim (cases_Bool (nat_lt (before / step) ((before + n) / step))) [
-      | inl passed ↦ rw passed (omega arith, omega arith)
-      | inr not_it ↦ rw not_it (omega arith, omega arith)
-    ]
-gives step before (Malloc l n) NoBlock = (omega arith, omega arith)
-gives step before (Malloc l n) (Freed a) = (omega arith, omega arith)
-gives step before (Malloc l n) FreedNull = (omega arith, omega arith)
-gives step before (Malloc l n) (Released p) = (omega arith, omega arith)
-gives step before (Malloc l n) (Drained o) = (omega arith, omega arith)
-gives step before (Malloc l n) (Busy o) = (omega arith, omega arith)
-gives step before (Malloc l n) CapSet = (omega arith, omega arith)
-gives step before (Malloc l n) (OverLimit s) = (omega arith, omega arith)
-gives step before (Malloc l n) (OverStatic s) = (omega arith, omega arith)
-gives step before (Free l) answer = (omega arith, omega arith)
-gives step before (Release p) answer = (omega arith, omega arith)
-gives step before (Drain c) answer = (omega arith, omega arith)
-gives step before (Resize c k n) answer = (omega arith, omega arith)
+pub gives : (step before : ℕ) (call : Call) (answer : Answer)
+    → (length (sample_under step before call answer) ≤ 1) × (weight_in (sample_under step before call answer) ≤ weight_of step before (before + bytes_asked call answer))
+gives step before (Malloc l n) (Block a len) = grind (arith, cases_Bool)
+gives step before call answer = (omega arith, omega arith)
 
 -- a sum over a filter is at most that over all
 filtered : {X : Type 0} (f : X → ℕ) (q : X → Bool) (xs : List X) → sum_by f (filter q xs) ≤ sum_by f xs

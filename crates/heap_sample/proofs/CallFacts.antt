@@ -26,29 +26,18 @@ pub record IsQuiet (call : Call) (answer : Answer) : Type 0 where
   pub gives : (step before : ℕ) → sample_under step before call answer ≡ []
   pub frees_none : (l : ℕ) → frees l call ≡ false
 
-pub quiet : (call : Call) (answer : Answer) → ((l : Label) (n : ℕ) (a : Addr) (len : ℕ) → call ≡ Malloc l n → answer ≡ Block a len → ⊥) → ((l : Label) → call ≡ Free l → ⊥) → IsQuiet call answer
+pub quiet : (call : Call) (answer : Answer) → ((l : Label) (n : ℕ) (a : Addr) (len : ℕ) → call ≡ Malloc l n → answer ≡ Block a len → ⊥)
+    → ((l : Label) → call ≡ Free l → ⊥) → IsQuiet call answer
 quiet (Malloc l n) (Block a len) block free = absurd (block l n a len refl refl)
-quiet (Malloc l n) NoBlock block free = record { asks = refl; gives = λ step before. refl; frees_none = λ k. refl }
-quiet (Malloc l n) (Freed a) block free = record { asks = refl; gives = λ step before. refl; frees_none = λ k. refl }
-quiet (Malloc l n) FreedNull block free = record { asks = refl; gives = λ step before. refl; frees_none = λ k. refl }
-quiet (Malloc l n) (Released p) block free = record { asks = refl; gives = λ step before. refl; frees_none = λ k. refl }
-quiet (Malloc l n) (Drained o) block free = record { asks = refl; gives = λ step before. refl; frees_none = λ k. refl }
-quiet (Malloc l n) (Busy o) block free = record { asks = refl; gives = λ step before. refl; frees_none = λ k. refl }
-quiet (Malloc l n) CapSet block free = record { asks = refl; gives = λ step before. refl; frees_none = λ k. refl }
-quiet (Malloc l n) (OverLimit s) block free = record { asks = refl; gives = λ step before. refl; frees_none = λ k. refl }
-quiet (Malloc l n) (OverStatic s) block free = record { asks = refl; gives = λ step before. refl; frees_none = λ k. refl }
 quiet (Free l) answer block free = absurd (free l refl)
-quiet (Release p) answer block free = record { asks = refl; gives = λ step before. refl; frees_none = λ k. refl }
-quiet (Drain c) answer block free = record { asks = refl; gives = λ step before. refl; frees_none = λ k. refl }
-quiet (Resize c k n) answer block free = record { asks = refl; gives = λ step before. refl; frees_none = λ k. refl }
+quiet call answer block free = record { asks = refl; gives = λ step before. refl; frees_none = λ k. refl }
 
 -- such a call leaves the samples as they were
-pub unchanged : (step before : ℕ) (call : Call) (answer : Answer) (live : List (ℕ × Sample)) → IsQuiet call answer → sample_under step before call answer ++ filter (λ s. not (frees s.0 call)) live ≡ live
+pub unchanged : (step before : ℕ) (call : Call) (answer : Answer) (live : List (ℕ × Sample)) → IsQuiet call answer
+    → sample_under step before call answer ++ filter (λ s. not (frees s.0 call)) live ≡ live
 unchanged step before call answer live is = ap (λ (ss : List (ℕ × Sample)). ss ++ filter (λ s. not (frees s.0 call)) live) (is.gives step before) ∙ kept call live is.frees_none
 
 -- an allocation that got a block leaves them with its sample before them
-pub with_block : (step before : ℕ) (call : Call) (answer : Answer) (l : Label) (n len : ℕ) (a : Addr) (live : List (ℕ × Sample)) → call ≡ Malloc l n → answer ≡ Block a len → sample_under step before call answer ++ filter (λ s. not (frees s.0 call)) live ≡ sampled step before l n len ++ live
-with_block step before call answer l n len a live c b =
-    ap (λ (d : Call). sample_under step before d answer ++ filter (λ s. not (frees s.0 d)) live) c
-    ∙ ap (λ (r : Answer). sample_under step before (Malloc l n) r ++ filter (λ s. not (frees s.0 (Malloc l n))) live) b
-    ∙ ap (λ (ss : List (ℕ × Sample)). sampled step before l n len ++ ss) (kept (Malloc l n) live (λ k. refl))
+pub with_block : (step before : ℕ) (call : Call) (answer : Answer) (l : Label) (n len : ℕ) (a : Addr) (live : List (ℕ × Sample)) → call ≡ Malloc l n → answer ≡ Block a len
+    → sample_under step before call answer ++ filter (λ s. not (frees s.0 call)) live ≡ sampled step before l n len ++ live
+with_block step before call answer l n len a live c b = rw (c, b) (ap (λ (ss : List (ℕ × Sample)). sampled step before l n len ++ ss) (kept (Malloc l n) live (λ k. refl)))

@@ -1,5 +1,6 @@
 -- Live samples with one more and one fewer: their rows, and what they stand for.
-use Rattle.std.proofs.Common.{refl, ◌≡◌, ℕ, ◌+◌, ◌≤◌, ◌==◌, Bool, true, false, not, List, [], ◌∷◌, cond, sym, ap, ◌∙◌, inl, inr, subst, arith, Option, Some, None, unwrap_or, nat_eq, Result, Ok, Err, is_err, IfOk}
+use Rattle.std.proofs.Common.{refl, ◌≡◌, ℕ, ◌+◌, ◌≤◌, ◌==◌, Bool, true, false, not, List, [], ◌∷◌, cond, sym, ap, ◌∙◌, inl, inr, subst, arith, Option, Some}
+use Rattle.std.proofs.Common.{None, unwrap_or, nat_eq, Result, Ok, Err, is_err, IfOk}
 use Rattle.std.specs.List.{sum_by, filter, IsDistinct, AllByRecursion}
 use Rattle.std.specs.Map.{keys_of, lookup, remove_entry}
 use Rattle.std.proofs.lemmas.Bool.{cases_Bool, true≢false, eqb-true}
@@ -39,17 +40,15 @@ none_of len (s ∷ live) none =
     ]
 
 -- the rows of samples with one more, and with one fewer
-pub noted : (fewer more : List (ℕ × Sample)) (label : ℕ) (s : Sample) (rows now : List ProfileRow) → IsOneMore fewer (label, s) more → CountSamples fewer rows → ((len : ℕ) → blocks_at len now ≡ blocks_at len rows + cond (s.len == len) 1 0) → ((len : ℕ) → bytes_at len now ≡ bytes_at len rows + cond (s.len == len) s.weight 0) → CountSamples more now
-noted fewer more label s rows now one is blocks bytes = record {
-  blocks = λ len. omega (arith, blocks len, is.blocks len, one (λ t. cond (t.1.len == len) 1 0));
-  bytes = λ len. omega (arith, bytes len, is.bytes len, one (λ t. cond (t.1.len == len) t.1.weight 0));
-}
+pub noted : (fewer more : List (ℕ × Sample)) (label : ℕ) (s : Sample) (rows now : List ProfileRow) → IsOneMore fewer (label, s) more → CountSamples fewer rows
+    → ((len : ℕ) → blocks_at len now ≡ blocks_at len rows + cond (s.len == len) 1 0)
+    → ((len : ℕ) → bytes_at len now ≡ bytes_at len rows + cond (s.len == len) s.weight 0) → CountSamples more now
+noted fewer more label s rows now one is blocks bytes = grind arith
 
-pub forgotten : (fewer more : List (ℕ × Sample)) (label : ℕ) (s : Sample) (rows now : List ProfileRow) → IsOneMore fewer (label, s) more → CountSamples more rows → ((len : ℕ) → blocks_at len now + cond (s.len == len) 1 0 ≡ blocks_at len rows) → ((len : ℕ) → bytes_at len now + cond (s.len == len) s.weight 0 ≡ bytes_at len rows) → CountSamples fewer now
-forgotten fewer more label s rows now one is blocks bytes = record {
-  blocks = λ len. omega (arith, blocks len, is.blocks len, one (λ t. cond (t.1.len == len) 1 0));
-  bytes = λ len. omega (arith, bytes len, is.bytes len, one (λ t. cond (t.1.len == len) t.1.weight 0));
-}
+pub forgotten : (fewer more : List (ℕ × Sample)) (label : ℕ) (s : Sample) (rows now : List ProfileRow) → IsOneMore fewer (label, s) more → CountSamples more rows
+    → ((len : ℕ) → blocks_at len now + cond (s.len == len) 1 0 ≡ blocks_at len rows)
+    → ((len : ℕ) → bytes_at len now + cond (s.len == len) s.weight 0 ≡ bytes_at len rows) → CountSamples fewer now
+forgotten fewer more label s rows now one is blocks bytes = grind arith
 
 -- the entry that a label has, taken out
 pub taken_out : (label : ℕ) (s : Sample) (es : List (ℕ × Sample)) → lookup (nat_eq label) es ≡ Some s → IsOneMore (remove_entry (nat_eq label) es) (label, s) es
@@ -71,14 +70,17 @@ none_left label [] none = refl
 none_left label (e ∷ es) none = rw none.0 (ap (λ ts. e ∷ ts) (none_left label es none.1))
 
 -- in a map, an entry taken out is a filter
-pub as_filter : (label : ℕ) (es : List (ℕ × Sample)) → IsDistinct nat_eq (keys_of es) → (f : ℕ × Sample → ℕ) → sum_by f (filter (λ e. not (label == e.0)) es) ≡ sum_by f (remove_entry (nat_eq label) es)
+pub as_filter : (label : ℕ) (es : List (ℕ × Sample)) → IsDistinct nat_eq (keys_of es) → (f : ℕ × Sample → ℕ)
+    → sum_by f (filter (λ e. not (label == e.0)) es) ≡ sum_by f (remove_entry (nat_eq label) es)
 as_filter label [] distinct f = refl
 as_filter label (e ∷ es) distinct f =
     elim (cases_Bool (label == e.0)) [
-      | inl is ↦ (let none = none_left label es (subst (λ (k : ℕ). AllByRecursion (λ (y : ℕ). nat_eq k y ≡ false) (keys_of es)) (sym (eqb-true label e.0 is)) (IsDistinct-head nat_eq e.0 (keys_of es) distinct)) in
-          rw is (ap (sum_by f) none))
+      | inl is ↦
+          (let none = subst (λ (k : ℕ). AllByRecursion (λ (y : ℕ). nat_eq k y ≡ false) (keys_of es)) (sym (eqb-true label e.0 is)) (IsDistinct-head nat_eq e.0 (keys_of es) distinct) in
+          rw is (ap (sum_by f) (none_left label es none)))
       | inr other ↦
-          rw other (sum_by-cons f e (filter (λ (t : ℕ × Sample). not (label == t.0)) es) ∙ ap (λ (n : ℕ). f e + n) (as_filter label es (IsDistinct-tail nat_eq e.0 (keys_of es) distinct) f) ∙ sym (sum_by-cons f e (remove_entry (nat_eq label) es)))
+          (let rest = as_filter label es (IsDistinct-tail nat_eq e.0 (keys_of es) distinct) f in
+          rw other (rw (sum_by-cons f e (filter (λ (t : ℕ × Sample). not (label == t.0)) es), sum_by-cons f e (remove_entry (nat_eq label) es), rest) refl))
     ]
 
 -- a label that no sample has isn't in the map
@@ -97,6 +99,7 @@ module _ {S : Type 0} (m n : HashMap ℕ Sample S) (label : ℕ) (s : Sample) wh
   put_one None e put f = omega (arith, sum_by-IsPermutation f ((label, s) ∷ m.entries) n.entries put, sum_by-cons f (label, s) m.entries)
   put_one (Some old) e put f = absurd (none-some old (sym e))
 
-  pub put : {E : Type 0} (r : Result (Option Sample) E) → is_err r ≡ false → IfOk r (PutsEntry nat_eq m n label s) → IfOk r (λ old. old ≡ get nat_eq m label) → (HasLabel m.entries label → ⊥) → IsOneMore m.entries (label, s) n.entries
+  pub put : {E : Type 0} (r : Result (Option Sample) E) → is_err r ≡ false → IfOk r (PutsEntry nat_eq m n label s)
+      → IfOk r (λ old. old ≡ get nat_eq m label) → (HasLabel m.entries label → ⊥) → IsOneMore m.entries (label, s) n.entries
   put (Ok old) ok came was fresh = put_one old (was ∙ not_there label m.entries fresh) came
   put (Err e) ok came was fresh = absurd (true≢false ok)

@@ -19,8 +19,7 @@ greatest_each a (n ∷ ns) (suc k) inside = greatest_each (max a n) ns k (omega 
 
 greatest_least : (a most : ℕ) (ns : List ℕ) → a ≤ most → ((k : ℕ) → k < length ns → get_or ns k 0 ≤ most) → fold max a ns ≤ most
 greatest_least a most [] first each = first
-greatest_least a most (n ∷ ns) first each =
-    greatest_least (max a n) most ns (omega (arith, first, each 0 (omega arith))) (λ k inside. each (suc k) (omega (arith, inside)))
+greatest_least a most (n ∷ ns) first each = greatest_least (max a n) most ns (omega (arith, first, each 0 (omega arith))) (λ k inside. each (suc k) (omega (arith, inside)))
 
 pub only_peak : (step : ℕ) (calls : List CallLine) (peak : Peak) → IsPeak step calls peak → peak ≡ peak_of step calls
 only_peak step calls peak is =

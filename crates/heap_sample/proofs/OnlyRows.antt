@@ -40,13 +40,7 @@ with_len k lens = with_item (λ len. len) k lens
 
 gone : (k : ℕ) (lens : List ℕ) → times k (without k lens) ≡ 0
 gone k [] = refl
-gone k (m ∷ lens) = elim (cases_Bool (m == k)) [
-  | inl is ↦ rw is (gone k lens)
-  | inr other ↦
-      (let all = count-cons (λ i. i == k) m (without k lens) in
-      let none = one-false (m == k) other in
-      rw other (omega (arith, all, none, gone k lens)))
-]
+gone k (m ∷ lens) = grind (arith, cases_Bool, count-cons, one-false, (gone k lens))
 
 others_stay : (n k : ℕ) (lens : List ℕ) → (k ≡ n → ⊥) → times n (without k lens) ≡ times n lens
 others_stay n k [] apart = refl
@@ -100,8 +94,7 @@ rises (s ∷ live) =
 abbrev at_len : (ProfileRow → ℕ) → ℕ → List ProfileRow → ℕ
 at_len g n rows = sum_by (λ r. cond (r.len == n) (g r) 0) rows
 
-at_each : (g : ProfileRow → ℕ) (live : List (ℕ × Sample)) (n : ℕ) (lens : List ℕ)
-    → at_len g n (map (row_of live) lens) ≡ times n lens * g (row_of live n)
+at_each : (g : ProfileRow → ℕ) (live : List (ℕ × Sample)) (n : ℕ) (lens : List ℕ) → at_len g n (map (row_of live) lens) ≡ times n lens * g (row_of live n)
 at_each g live n [] = omega arith
 at_each g live n (m ∷ lens) =
     let c = g (row_of live n) in
@@ -176,8 +169,7 @@ rest_are x xs are = record { rising = rest_rises (λ r. r.len) x xs are.rising; 
 -- at first lengths that are the same, first rows have the same
 same_first : (g : ProfileRow → ℕ) (x y : ProfileRow) (xs ys : List ProfileRow) → Rising (x ∷ xs) → Rising (y ∷ ys) → x.len ≡ y.len
     → ((n : ℕ) → at_len g n (x ∷ xs) ≡ at_len g n (y ∷ ys)) → g x ≡ g y
-same_first g x y xs ys a b e all =
-    sym (at_first g x xs a) ∙ all x.len ∙ ap (λ n. at_len g n (y ∷ ys)) e ∙ at_first g y ys b
+same_first g x y xs ys a b e all = sym (at_first g x xs a) ∙ all x.len ∙ ap (λ n. at_len g n (y ∷ ys)) e ∙ at_first g y ys b
 
 same_rows : (xs ys : List ProfileRow) → AreRows xs → AreRows ys
     → ((n : ℕ) → blocks_at n xs ≡ blocks_at n ys) → ((n : ℕ) → bytes_at n xs ≡ bytes_at n ys) → xs ≡ ys
@@ -200,6 +192,5 @@ same_rows (x ∷ xs) (y ∷ ys) a b blocks bytes = elim (cases_order x.len y.len
 pub only_rows : (live others : List (ℕ × Sample)) (rows : List ProfileRow) → IsRowsOf live rows → AreSame live others → rows ≡ rows_of others
 only_rows live others rows is same =
     let own = made others in
-    same_rows rows (rows_of others) is.are own.are
-    (λ n. is.counts.blocks n ∙ same (λ s. cond (s.1.len == n) 1 0) ∙ sym (own.counts.blocks n))
+    same_rows rows (rows_of others) is.are own.are (λ n. is.counts.blocks n ∙ same (λ s. cond (s.1.len == n) 1 0) ∙ sym (own.counts.blocks n))
     (λ n. is.counts.bytes n ∙ same (λ s. cond (s.1.len == n) s.1.weight 0) ∙ sym (own.counts.bytes n))

@@ -1,5 +1,6 @@
 -- Rows by rising length: with a row more, with one changed and with one fewer.
-use Rattle.std.proofs.Common.{refl, ◌≡◌, ℕ, suc, ◌+◌, ◌-◌, ◌<◌, ◌≤◌, ◌==◌, nat_lt, List, [], ◌∷◌, length, get_or, cond, subst, sym, ap, ◌∙◌, inl, inr, arith, insert, remove}
+use Rattle.std.proofs.Common.{refl, ◌≡◌, ℕ, suc, ◌+◌, ◌-◌, ◌<◌, ◌≤◌, ◌==◌, nat_lt, List, [], ◌∷◌, length, get_or, cond, subst, sym, ap, ◌∙◌, inl, inr}
+use Rattle.std.proofs.Common.{arith, insert, remove}
 use Rattle.std.specs.List.{sum_by, AllPairs}
 use Rattle.std.proofs.lemmas.Bool.{cases_lt, cases_eq, ne_eqb, eq-eqb, lt-ltb, ltb-true}
 use Rattle.std.proofs.lemmas.List.Edits.{length-insert, get_or-insert_below, get_or-insert_at, get_or-insert_above, length-remove, get_or-remove_below, get_or-remove_above}
@@ -16,7 +17,8 @@ sum_none f (x ∷ xs) d none =
     let first : f x ≡ 0 = none 0 (omega arith) in
     omega (arith, sum_by-cons f x xs, first, rest)
 
-sum_one : {X : Type 0} (f : X → ℕ) (xs : List X) (k : ℕ) (d : X) → k < length xs → ((i : ℕ) → i < length xs → (i ≡ k → ⊥) → f (get_or xs i d) ≡ 0) → sum_by f xs ≡ f (get_or xs k d)
+sum_one : {X : Type 0} (f : X → ℕ) (xs : List X) (k : ℕ) (d : X) → k < length xs → ((i : ℕ) → i < length xs → (i ≡ k → ⊥) → f (get_or xs i d) ≡ 0)
+    → sum_by f xs ≡ f (get_or xs k d)
 sum_one f xs k d inside others =
     let left = sum_by-remove f xs k d inside in
     let size = length-remove xs k inside in
@@ -31,11 +33,7 @@ Rising rows = AllPairs (λ (a b : ProfileRow). a.len < b.len) rows
 
 -- rows that rise are parted by a length
 pub parted : (rows : List ProfileRow) (len : ℕ) → Rising rows → IsPartitionedBy (λ r. nat_lt r.len len) rows
-parted rows len rising i j d le inside below =
-    elim (cases_lt i j) [
-      | inl less ↦ (let up = rising i j d less inside in let low = ltb-true (get_or rows j d).len len below in lt-ltb (get_or rows i d).len len (omega (arith, up, low)))
-      | inr same ↦ (let e : j ≡ i = omega (arith, le, same) in ap (λ (k : ℕ). nat_lt (get_or rows k d).len len) (sym e) ∙ below)
-    ]
+parted rows len rising i j d le inside below = grind (arith, cases_lt, lt-ltb, ltb-true)
 
 module _ (rows : List ProfileRow) (len place : ℕ) (rising : Rising rows) (at : IsPlaceOf rows len place) where
   -- at a length's place stands its row, if any
@@ -62,16 +60,11 @@ module _ (rows : List ProfileRow) (len place : ℕ) (rising : Rising rows) (at :
 
   -- and that row is the only one of its length
   pub only_one : (g : ProfileRow → ℕ) (d : ProfileRow) → place < length rows → (get_or rows place d).len ≡ len → sum_by (λ r. cond (r.len == len) (g r) 0) rows ≡ g (get_or rows place d)
-  only_one g d inside here =
-      sum_one (λ (r : ProfileRow). cond (r.len == len) (g r) 0) rows place d inside (λ i l apart. elim (cases_lt i place) [
-        | inl before ↦ (let less = at.before i d before in rw (ne_eqb (get_or rows i d).len len (λ same. omega (arith, less, same))) refl)
-        | inr behind ↦ (let more = rising place i d (omega (arith, behind, apart)) l in
-            rw (ne_eqb (get_or rows i d).len len (λ same. omega (arith, more, here, same))) refl)
-      ])
-      ∙ rw (eq-eqb (get_or rows place d).len len here) refl
+  only_one g d inside here = grind (arith, cases_lt, eq-eqb, ne_eqb, sum_one)
 
 -- rows with a new one at its length's place
-module _ (rows : List ProfileRow) (place : ℕ) (row : ProfileRow) (at : IsPlaceOf rows row.len place) (other : (d : ProfileRow) → place < length rows → (get_or rows place d).len ≡ row.len → ⊥) (are : AreRows rows) where
+module _ (rows : List ProfileRow) (place : ℕ) (row : ProfileRow) (at : IsPlaceOf rows row.len place)
+    (other : (d : ProfileRow) → place < length rows → (get_or rows place d).len ≡ row.len → ⊥) (are : AreRows rows) where
   abbrev now : List ProfileRow
   now = insert rows place row
 
@@ -92,40 +85,10 @@ module _ (rows : List ProfileRow) (place : ℕ) (row : ProfileRow) (at : IsPlace
 
   -- the rows from the place on are longer
   longer : (k : ℕ) (d : ProfileRow) → place ≤ k → k < length rows → row.len < (get_or rows k d).len
-  longer k d le l =
-      let least = at.behind place d (omega arith) (omega (arith, le, l)) in
-      let apart = other d (omega (arith, le, l)) in
-      elim (cases_eq (get_or rows place d).len row.len) [
-        | inl e ↦ absurd (apart e)
-        | inr ne ↦ elim (cases_lt place k) [
-          | inl less ↦ (let up = are.rising place k d less l in omega (arith, least, ne, up))
-          | inr same ↦ (let e : k ≡ place = omega (arith, le, same) in let q = ap (λ (i : ℕ). (get_or rows i d).len) e in omega (arith, least, ne, q))
-        ]
-      ]
+  longer k d le l = grind (arith, cases_eq, cases_lt)
 
   pub inserted : 0 < row.blocks → AreRows now
-  inserted some = record {
-    rising = λ i j d less l. elim (cases_lt j place) [
-      | inl early ↦ less_by (below i d (omega (arith, less, early))) (below j d early) (are.rising i j d less (omega (arith, early, at.within)))
-      | inr from ↦ elim (cases_lt place j) [
-        | inl later ↦ elim (cases_lt i place) [
-          | inl before ↦ less_by (below i d before) (above j d later) (are.rising i (j - 1) d (omega (arith, before, later)) (omega (arith, size, l, later)))
-          | inr behind ↦ elim (cases_lt place i) [
-            | inl past ↦ less_by (above i d past) (above j d later) (are.rising (i - 1) (j - 1) d (omega (arith, past, less)) (omega (arith, size, l, later)))
-            | inr at_it ↦ less_by (here i d (omega (arith, behind, at_it))) (above j d later) (longer (j - 1) d (omega (arith, later)) (omega (arith, size, l, later)))
-          ]
-        ]
-        | inr at_it ↦ less_by (below i d (omega (arith, less, at_it))) (here j d (omega (arith, from, at_it))) (at.before i d (omega (arith, less, at_it)))
-      ]
-    ];
-    some = λ k d l. elim (cases_lt k place) [
-      | inl early ↦ subst (λ (r : ProfileRow). 0 < r.blocks) (sym (below k d early)) (are.some k d (omega (arith, early, at.within)))
-      | inr from ↦ elim (cases_lt place k) [
-        | inl later ↦ subst (λ (r : ProfileRow). 0 < r.blocks) (sym (above k d later)) (are.some (k - 1) d (omega (arith, size, l, later)))
-        | inr at_it ↦ subst (λ (r : ProfileRow). 0 < r.blocks) (sym (here k d (omega (arith, from, at_it)))) some
-      ]
-    ];
-  }
+  inserted some = grind (arith, above, below, cases_lt, here, less_by, longer, size)
 
 -- a length that rows have stands at its place
 pub row_at : (rows : List ProfileRow) (len place : ℕ) → AreRows rows → IsPlaceOf rows len place → 0 < blocks_at len rows → IsRowAt rows len place

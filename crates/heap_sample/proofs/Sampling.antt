@@ -1,5 +1,6 @@
 -- The samples of calls with one call more: sums, live samples, the peak.
-use Rattle.std.proofs.Common.{refl, ◌≡◌, ℕ, ◌+◌, ◌/◌, ◌<◌, ◌≤◌, Bool, true, false, not, ◌||◌, ◌&&◌, List, [], ◌∷◌, ◌++◌, length, take, cond, nat_lt, slice_index, slice_set, sym, ap, subst, ◌∙◌, inl, inr, arith, ◌==◌, get_or, None}
+use Rattle.std.proofs.Common.{refl, ◌≡◌, ℕ, ◌+◌, ◌/◌, ◌<◌, ◌≤◌, Bool, true, false, not, ◌||◌, ◌&&◌, List, [], ◌∷◌, ◌++◌, length, take, cond, nat_lt}
+use Rattle.std.proofs.Common.{slice_index, slice_set, sym, ap, subst, ◌∙◌, inl, inr, arith, ◌==◌, get_or, None}
 use Rattle.std.specs.List.{filter, sum_by}
 use Rattle.std.proofs.lemmas.Bool.{cases_Bool, cases_lt, cases_eq, eq-eqb, ne_eqb, lt-ltb, le-ltb}
 use Rattle.std.proofs.lemmas.List.{append-nil, append_assoc, length-append, length-set, get_or-set_same, get_or-set_other, take-append-le, take_all}
@@ -20,11 +21,10 @@ use Rattle.heap_sample.specs.Samples.{bytes_asked, asked_by, sample_under, sampl
 use Rattle.heap_sample.specs.Profiles.{Noted, Follows, IsProfileOf}
 
 -- the samples of calls and one more
-samples_push : (step : ℕ) (earlier calls : List CallLine) (c : CallLine) → samples_behind step earlier (calls ++ c ∷ []) ≡ samples_behind step earlier calls ++ sample_of step (earlier ++ calls) c
+samples_push : (step : ℕ) (earlier calls : List CallLine) (c : CallLine)
+    → samples_behind step earlier (calls ++ c ∷ []) ≡ samples_behind step earlier calls ++ sample_of step (earlier ++ calls) c
 samples_push step earlier [] c = append-nil (sample_of step earlier c) ∙ ap (λ (es : List CallLine). sample_of step es c) (sym (append-nil earlier))
-samples_push step earlier (d ∷ calls) c =
-    ap (λ (ss : List (ℕ × Sample)). sample_of step earlier d ++ ss) (samples_push step (earlier ++ d ∷ []) calls c ∙ ap (λ (es : List CallLine). samples_behind step (earlier ++ d ∷ []) calls ++ sample_of step es c) (append_assoc earlier (d ∷ []) calls))
-    ∙ sym (append_assoc (sample_of step earlier d) (samples_behind step (earlier ++ d ∷ []) calls) (sample_of step (earlier ++ d ∷ calls) c))
+samples_push step earlier (d ∷ calls) c = grind (arith, append_assoc, (samples_push step (earlier ++ d ∷ []) calls c))
 
 -- a sum over a filter is one over all, and a filter by two tests is one behind the other
 sum_filtered : {X : Type 0} (f : X → ℕ) (q : X → Bool) (xs : List X) → sum_by f (filter q xs) ≡ sum_by (λ x. cond (q x) (f x) 0) xs
@@ -43,11 +43,7 @@ sum_filtered {X} f q (x ∷ xs) =
 
 twice : {X : Type 0} (p q r : X → Bool) (xs : List X) → ((x : X) → r x ≡ (p x && q x)) → filter r xs ≡ filter q (filter p xs)
 twice p q r [] both = refl
-twice {X} p q r (x ∷ xs) both =
-    elim (cases_Bool (p x)) [
-      | inl pass ↦ (let same : r x ≡ q x = both x ∙ rw pass refl in rw (pass, same) (ap (λ (ys : List X). cond (q x) (x ∷ ys) ys) (twice p q r xs both)))
-      | inr stop ↦ (let none : r x ≡ false = both x ∙ rw stop refl in rw (stop, none) (twice p q r xs both))
-    ]
+twice {X} p q r (x ∷ xs) both = grind (arith, cases_Bool, (twice p q r xs both))
 
 -- what a call adds to a thread's sum
 pub asked_push : (thread : ℕ) (calls : List CallLine) (c : CallLine) → asked_by thread (calls ++ c ∷ []) ≡ asked_by thread calls + cond (c.thread.0 == thread) (bytes_asked c.call c.answer) 0
@@ -62,26 +58,15 @@ freed_push : (label : ℕ) (calls : List CallLine) (c : CallLine) → freed_in l
 freed_push label calls c = list_any-append (λ (d : CallLine). frees label d.call) calls (c ∷ []) ∙ ap (λ (b : Bool). freed_in label calls || b) (or_false (frees label c.call))
 
 -- the sample of a call is live behind it, where its label is new
-new_lives : (step before : ℕ) (calls : List CallLine) (call : Call) (answer : Answer) → IsFirstUse calls call → filter (λ s. not (freed_in s.0 calls || frees s.0 call)) (sample_under step before call answer) ≡ sample_under step before call answer
+new_lives : (step before : ℕ) (calls : List CallLine) (call : Call) (answer : Answer) → IsFirstUse calls call
+    → filter (λ s. not (freed_in s.0 calls || frees s.0 call)) (sample_under step before call answer) ≡ sample_under step before call answer
 new_lives step before calls (Malloc l n) (Block a len) first =
     let live : not (freed_in l.0 calls || false) ≡ true = rw first.0.not_freed refl in
     elim (cases_Bool (nat_lt (before / step) ((before + n) / step))) [
       | inl passed ↦ rw passed (rw live refl)
       | inr not_it ↦ rw not_it refl
     ]
-new_lives step before calls (Malloc l n) NoBlock first = refl
-new_lives step before calls (Malloc l n) (Freed a) first = refl
-new_lives step before calls (Malloc l n) FreedNull first = refl
-new_lives step before calls (Malloc l n) (Released p) first = refl
-new_lives step before calls (Malloc l n) (Drained o) first = refl
-new_lives step before calls (Malloc l n) (Busy o) first = refl
-new_lives step before calls (Malloc l n) CapSet first = refl
-new_lives step before calls (Malloc l n) (OverLimit s) first = refl
-new_lives step before calls (Malloc l n) (OverStatic s) first = refl
-new_lives step before calls (Free l) answer first = refl
-new_lives step before calls (Release p) answer first = refl
-new_lives step before calls (Drain c) answer first = refl
-new_lives step before calls (Resize c k n) answer first = refl
+new_lives step before calls call answer first = refl
 
 not_or : (a b : Bool) → not (a || b) ≡ (not a && not b)
 not_or true b = refl
@@ -92,25 +77,13 @@ same_filter p q [] same = refl
 same_filter {X} p q (x ∷ xs) same = rw (same x) (ap (λ (ys : List X). cond (q x) (x ∷ ys) ys) (same_filter p q xs same))
 
 -- the live samples of calls and one more
-pub live_push : (step : ℕ) (calls : List CallLine) (c : CallLine) → IsFirstUse calls c.call → AreSame (live_samples step (calls ++ c ∷ [])) (sample_of step calls c ++ filter (λ s. not (frees s.0 c.call)) (live_samples step calls))
-live_push step calls c first f =
-    let p : ℕ × Sample → Bool = λ s. not (freed_in s.0 calls) in
-    let q : ℕ × Sample → Bool = λ s. not (frees s.0 c.call) in
-    let r : ℕ × Sample → Bool = λ s. not (freed_in s.0 calls || frees s.0 c.call) in
-    let old = samples step calls in
-    let new = sample_of step calls c in
-    let by_tests : live_samples step (calls ++ c ∷ []) ≡ filter r (samples step (calls ++ c ∷ [])) = same_filter _ r (samples step (calls ++ c ∷ [])) (λ s. ap not (freed_push s.0 calls c)) in
-    let parts : filter r (samples step (calls ++ c ∷ [])) ≡ filter q (filter p old) ++ new =
-    ap (filter r) (samples_push step [] calls c) ∙ filter-append r old new
-    ∙ ap (λ (ss : List (ℕ × Sample)). ss ++ filter r new) (twice p q r old (λ s. not_or (freed_in s.0 calls) (frees s.0 c.call)))
-    ∙ ap (λ (ss : List (ℕ × Sample)). filter q (filter p old) ++ ss) (new_lives step (asked_by c.thread.0 calls) calls c.call c.answer first) in
-    omega (arith, ap (sum_by f) (by_tests ∙ parts), sum_by-append f (filter q (filter p old)) new, sum_by-append f new (filter q (filter p old)))
+pub live_push : (step : ℕ) (calls : List CallLine) (c : CallLine) → IsFirstUse calls c.call
+    → AreSame (live_samples step (calls ++ c ∷ [])) (sample_of step calls c ++ filter (λ s. not (frees s.0 c.call)) (live_samples step calls))
+live_push step calls c first f = grind (arith, filter-append, freed_push, new_lives, not_or, same_filter, samples_push, sum_by-append, twice)
 
 -- samples that are the same stay so where those of a label go
 pub same_kept : (call : Call) (ones others : List (ℕ × Sample)) → AreSame ones others → AreSame (filter (λ s. not (frees s.0 call)) ones) (filter (λ s. not (frees s.0 call)) others)
-same_kept call ones others same f =
-    let q : ℕ × Sample → Bool = λ s. not (frees s.0 call) in
-    sum_filtered f q ones ∙ same (λ s. cond (q s) (f s) 0) ∙ sym (sum_filtered f q others)
+same_kept call ones others same f = grind (arith, sum_filtered)
 
 -- The peak of calls and one more.
 module _ (step : ℕ) (calls : List CallLine) (c : CallLine) (peak : Peak) (is : IsPeak step calls peak) where
@@ -130,53 +103,30 @@ module _ (step : ℕ) (calls : List CallLine) (c : CallLine) (peak : Peak) (is :
   at_end k e = ap weight e ∙ all
 
   pub risen : (now : ℕ) → now ≡ weight_in (live_samples step (calls ++ c ∷ [])) → peak.bytes < now → IsPeak step (calls ++ c ∷ []) (record { bytes = now; call = length calls + 1 })
-  risen now e more = record {
-    within = omega (arith, size);
-    reached = all ∙ sym e;
-    greatest = λ k le. elim (cases_lt k (length calls + 1)) [
-      | inl l ↦ omega (arith, earlier k (omega (arith, l)), is.greatest k (omega (arith, l)), more)
-      | inr g ↦ omega (arith, at_end k (omega (arith, g, le, size)), e)
-    ];
-    first = λ k l. omega (arith, earlier k (omega (arith, l)), is.greatest k (omega (arith, l)), more);
-  }
+  risen now e more = grind (arith, all, at_end, cases_lt, earlier, size)
 
   pub stayed : (now : ℕ) → now ≡ weight_in (live_samples step (calls ++ c ∷ [])) → now ≤ peak.bytes → IsPeak step (calls ++ c ∷ []) peak
-  stayed now e less = record {
-    within = omega (arith, size, is.within);
-    reached = earlier peak.call is.within ∙ is.reached;
-    greatest = λ k le. elim (cases_lt k (length calls + 1)) [
-      | inl l ↦ omega (arith, earlier k (omega (arith, l)), is.greatest k (omega (arith, l)))
-      | inr g ↦ omega (arith, at_end k (omega (arith, g, le, size)), e, less)
-    ];
-    first = λ k l. omega (arith, earlier k (omega (arith, l, is.within)), is.first k l);
-  }
+  stayed now e less = grind (arith, at_end, cases_lt, earlier, size)
 
 -- what a thread's entry is behind a call
-asked_now : (asked : List ℕ) (calls : List CallLine) (c : CallLine) (thread : ℕ) → c.thread.0 < length asked → ((t : ℕ) → t < length asked → slice_index asked t ≡ asked_by t calls) → thread < length asked → slice_index (slice_set asked c.thread.0 (slice_index asked c.thread.0 + bytes_asked c.call c.answer)) thread ≡ asked_by thread (calls ++ c ∷ [])
-asked_now asked calls c thread inside was l =
-    let more = asked_push thread calls c in
-    let add = bytes_asked c.call c.answer in
-    elim (cases_eq thread c.thread.0) [
-      | inl e ↦ (let it : cond {A = ℕ} (c.thread.0 == thread) add 0 ≡ add = rw (eq-eqb c.thread.0 thread (sym e)) refl in
-          let here : slice_index (slice_set asked c.thread.0 (slice_index asked c.thread.0 + add)) thread ≡ slice_index asked c.thread.0 + add =
-          ap (λ (t : ℕ). slice_index (slice_set asked c.thread.0 (slice_index asked c.thread.0 + add)) t) e ∙ get_or-set_same asked c.thread.0 (slice_index asked c.thread.0 + add) 0 inside in
-          let old : slice_index asked c.thread.0 ≡ asked_by thread calls = was c.thread.0 inside ∙ ap (λ (t : ℕ). asked_by t calls) (sym e) in
-          omega (arith, more, it, here, old))
-      | inr other ↦ (let none : cond {A = ℕ} (c.thread.0 == thread) add 0 ≡ 0 = rw (ne_eqb c.thread.0 thread (λ same. other (sym same))) refl in
-          let here : slice_index (slice_set asked c.thread.0 (slice_index asked c.thread.0 + add)) thread ≡ slice_index asked thread = get_or-set_other asked c.thread.0 thread (slice_index asked c.thread.0 + add) 0 other in
-          omega (arith, more, none, here, was thread l))
-    ]
+asked_now : (asked : List ℕ) (calls : List CallLine) (c : CallLine) (thread : ℕ) → c.thread.0 < length asked → ((t : ℕ) → t < length asked → slice_index asked t ≡ asked_by t calls)
+    → thread < length asked → slice_index (slice_set asked c.thread.0 (slice_index asked c.thread.0 + bytes_asked c.call c.answer)) thread ≡ asked_by thread (calls ++ c ∷ [])
+asked_now asked calls c thread inside was l = grind (arith, asked_push, cases_eq, eq-eqb, get_or-set_other, get_or-set_same, ne_eqb, slice_index, slice_set)
 
 -- a call that follows makes a profile that of the calls with it
-pub followed : (calls : List CallLine) (c : CallLine) (old new : Noted) → c.thread.0 < length old.asked → Follows old c new → IsProfileOf calls old → IsFirstUse calls c.call → IsProfileOf (calls ++ c ∷ []) new
+pub followed : (calls : List CallLine) (c : CallLine) (old new : Noted) → c.thread.0 < length old.asked → Follows old c new → IsProfileOf calls old
+    → IsFirstUse calls c.call → IsProfileOf (calls ++ c ∷ []) new
 followed calls c old new inside f is first =
-    let before : slice_index old.asked c.thread.0 ≡ asked_by c.thread.0 calls = is.asked c.thread.0 inside in
-    let sample : sample_under old.step (slice_index old.asked c.thread.0) c.call c.answer ≡ sample_of old.step calls c = ap (λ (n : ℕ). sample_under old.step n c.call c.answer) before in
+    let sample = ap (λ (n : ℕ). sample_under old.step n c.call c.answer) (is.asked c.thread.0 inside) in
     let live : AreSame new.live (live_samples old.step (calls ++ c ∷ [])) = λ g.
     let q : List (ℕ × Sample) → List (ℕ × Sample) = filter (λ s. not (frees s.0 c.call)) in
-    f.live g
-    ∙ sum_by-append g (sample_under old.step (slice_index old.asked c.thread.0) c.call c.answer) (q old.live)
-    ∙ omega (arith, ap (sum_by g) sample, same_kept c.call old.live (live_samples old.step calls) is.live g, sum_by-append g (sample_of old.step calls c) (q (live_samples old.step calls)), live_push old.step calls c first g) in
+    f.live g ∙ sum_by-append g (sample_under old.step (slice_index old.asked c.thread.0) c.call c.answer) (q old.live) ∙ omega (
+      arith,
+      ap (sum_by g) sample,
+      same_kept c.call old.live (live_samples old.step calls) is.live g,
+      sum_by-append g (sample_of old.step calls c) (q (live_samples old.step calls)),
+      live_push old.step calls c first g,
+    ) in
     let weight : weight_in new.live ≡ weight_in (live_samples old.step (calls ++ c ∷ [])) = live (λ s. s.1.weight) in
     let count : new.calls ≡ length calls + 1 = f.calls ∙ ap (λ (n : ℕ). n + 1) is.count in
     let peak : IsPeak old.step (calls ++ c ∷ []) new.peak = elim (cases_lt old.peak.bytes (weight_in new.live)) [
@@ -184,11 +134,10 @@ followed calls c old new inside f is first =
           (sym (f.peak ∙ rw (lt-ltb old.peak.bytes (weight_in new.live) more) (ap (λ (n : ℕ). record { bytes = weight_in new.live; call = n }) count)))
           (risen old.step calls c old.peak is.peak (weight_in new.live) weight more)
       | inr less ↦ subst (λ (p : Peak). IsPeak old.step (calls ++ c ∷ []) p)
-          (sym (f.peak ∙ rw (le-ltb old.peak.bytes (weight_in new.live) less) refl))
-          (stayed old.step calls c old.peak is.peak (weight_in new.live) weight less)
+          (sym (f.peak ∙ rw (le-ltb old.peak.bytes (weight_in new.live) less) refl)) (stayed old.step calls c old.peak is.peak (weight_in new.live) weight less)
     ] in
     record {
-      asked = λ t l. ap (λ (ns : List ℕ). slice_index ns t) f.asked ∙ asked_now old.asked calls c t inside is.asked (subst (λ (n : ℕ). t < n) (ap length f.asked ∙ length-set old.asked c.thread.0 _) l);
+      asked = λ t l. ap (λ (ns : List ℕ). slice_index ns t) f.asked ∙ asked_now old.asked calls c t inside is.asked (rw (f.asked, length-set old.asked c.thread.0 _) at l);
       live = λ g. live g ∙ ap (λ (n : ℕ). sum_by g (live_samples n (calls ++ c ∷ []))) (sym f.step);
       count = count ∙ sym (length-append calls (c ∷ []));
       peak = subst (λ (n : ℕ). IsPeak n (calls ++ c ∷ []) new.peak) (sym f.step) peak;
@@ -200,24 +149,8 @@ at_label label s = cond (s.0 == label) 1 0
 
 -- a label under which nothing was allocated has no sample
 none_under : (label step before : ℕ) (call : Call) (answer : Answer) → allocates label call ≡ false → sum_by (at_label label) (sample_under step before call answer) ≡ 0
-none_under label step before (Malloc l n) (Block a len) other =
-    elim (cases_Bool (nat_lt (before / step) ((before + n) / step))) [
-      | inl passed ↦ rw passed (rw other refl)
-      | inr not_it ↦ rw not_it refl
-    ]
-none_under label step before (Malloc l n) NoBlock other = refl
-none_under label step before (Malloc l n) (Freed a) other = refl
-none_under label step before (Malloc l n) FreedNull other = refl
-none_under label step before (Malloc l n) (Released p) other = refl
-none_under label step before (Malloc l n) (Drained o) other = refl
-none_under label step before (Malloc l n) (Busy o) other = refl
-none_under label step before (Malloc l n) CapSet other = refl
-none_under label step before (Malloc l n) (OverLimit s) other = refl
-none_under label step before (Malloc l n) (OverStatic s) other = refl
-none_under label step before (Free l) answer other = refl
-none_under label step before (Release p) answer other = refl
-none_under label step before (Drain c) answer other = refl
-none_under label step before (Resize c k n) answer other = refl
+none_under label step before (Malloc l n) (Block a len) other = grind (arith, cases_Bool)
+none_under label step before call answer other = refl
 
 no_sample : (label step : ℕ) (earlier calls : List CallLine) → answer_to label calls ≡ None → sum_by (at_label label) (samples_behind step earlier calls) ≡ 0
 no_sample label step earlier [] none = refl
@@ -225,7 +158,8 @@ no_sample label step earlier (c ∷ calls) none =
     elim (cases_Bool (allocates label c.call)) [
       | inl is ↦ absurd (none-some c.answer (sym (rw is at none)))
       | inr other ↦ (let rest = no_sample label step (earlier ++ c ∷ []) calls (rw other at none) in
-          omega (arith, sum_by-append (at_label label) (sample_of step earlier c) (samples_behind step (earlier ++ c ∷ []) calls), none_under label step (asked_by c.thread.0 earlier) c.call c.answer other, rest))
+          let none' = none_under label step (asked_by c.thread.0 earlier) c.call c.answer other in
+          omega (arith, sum_by-append (at_label label) (sample_of step earlier c) (samples_behind step (earlier ++ c ∷ []) calls), none', rest))
     ]
 
 -- an allocation's label that is new is none of a live sample
@@ -236,12 +170,10 @@ fresh calls (Malloc l n) noted is first = (
       let some = get_or-le-sum_by (at_label l.0) noted.live has.0 has.1 has.2 in
       let among = is.live (at_label l.0) in
       let all = sum_filtered (at_label l.0) (λ s. not (freed_in s.0 calls)) (samples noted.step calls) in
-      let fewer = sum_by-le-sum_by (λ (s : ℕ × Sample). cond (not (freed_in s.0 calls)) (at_label l.0 s) 0) (at_label l.0) (samples noted.step calls) (λ s. at_most (not (freed_in s.0 calls)) (at_label l.0 s)) in
+      let counted : ℕ × Sample → ℕ = λ s. cond (not (freed_in s.0 calls)) (at_label l.0 s) 0 in
+      let fewer = sum_by-le-sum_by counted (at_label l.0) (samples noted.step calls) (λ s. at_most (not (freed_in s.0 calls)) (at_label l.0 s)) in
       let none = no_sample l.0 noted.step [] calls first.0.not_answered in
       omega (arith, one, some, among, all, fewer, none)),
   first.1,
 )
-fresh calls (Free l) noted is first = first
-fresh calls (Release p) noted is first = first
-fresh calls (Drain c) noted is first = first
-fresh calls (Resize c k n) noted is first = first
+fresh calls call noted is first = first

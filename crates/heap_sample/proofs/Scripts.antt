@@ -41,10 +41,7 @@ module _ {X : Type 0} (thread : X → ℕ) (f : X → ℕ) where
 
   comes : (x : X) (xs : List X) (n : ℕ) → thread x < n → below n (x ∷ xs) ≡ f x + below n xs
   comes x xs zero less = absurd (omega (arith, less))
-  comes x xs (suc n) less = elim (cases_eq (thread x) n) [
-    | inl e ↦ omega (arith, mine x xs n e, stays x xs n (omega (arith, e)))
-    | inr apart ↦ omega (arith, other x xs n apart, comes x xs n (omega (arith, less, apart)))
-  ]
+  comes x xs (suc n) less = grind (arith, cases_eq, mine, other, stays, (comes x xs n))
 
   none : (n : ℕ) → below n [] ≡ 0
   none zero = refl
@@ -52,30 +49,20 @@ module _ {X : Type 0} (thread : X → ℕ) (f : X → ℕ) where
 
   within : (n : ℕ) (xs : List X) → below n xs ≤ sum_by f xs
   within n [] = omega (arith, none n)
-  within n (x ∷ xs) = elim (cases_lt (thread x) n) [
-    | inl less ↦ omega (arith, comes x xs n less, within n xs, sum_by-cons f x xs)
-    | inr from ↦ omega (arith, stays x xs n from, within n xs, sum_by-cons f x xs)
-  ]
+  within n (x ∷ xs) = grind (arith, cases_lt, comes, stays, sum_by-cons, (within n xs))
 
   whole : (n : ℕ) (xs : List X) → All (λ x. thread x < n) xs → below n xs ≡ sum_by f xs
   whole n [] all = none n
-  whole n (x ∷ xs) all =
-      omega (arith, comes x xs n (All-head (λ y. thread y < n) x xs all), whole n xs (All-tail (λ y. thread y < n) x xs all), sum_by-cons f x xs)
+  whole n (x ∷ xs) all = omega (arith, comes x xs n (All-head (λ y. thread y < n) x xs all), whole n xs (All-tail (λ y. thread y < n) x xs all), sum_by-cons f x xs)
 
 -- whether a call asks for more than a request may
 abbrev asks_more : Call → Bool
 asks_more (Malloc label size) = nat_lt most_size size
-asks_more (Free label) = false
-asks_more (Release pages) = false
-asks_more (Drain cpu) = false
-asks_more (Resize cpu class cap) = false
+asks_more call = false
 
 asks_few : (call : Call) → AsksFew call → asks_more call ≡ false
 asks_few (Malloc label size) few = le-ltb most_size size (few label size refl)
-asks_few (Free label) few = refl
-asks_few (Release pages) few = refl
-asks_few (Drain cpu) few = refl
-asks_few (Resize cpu class cap) few = refl
+asks_few call few = refl
 
 -- how many calls of a trace allocate under a label
 abbrev pub planned_among : ℕ → List ThreadCall → ℕ
@@ -88,10 +75,7 @@ KeepsLabels calls = (earlier : List ThreadCall) (c : ThreadCall) (later : List T
 
 is_malloc : (label : ℕ) (call : Call) → allocates label call ≡ true → (l : Label) × (size : ℕ) × (call ≡ Malloc l size) × (l.0 ≡ label)
 is_malloc label (Malloc l size) is = (l, size, refl, eqb-true l.0 label is)
-is_malloc label (Free l) is = absurd (cc)
-is_malloc label (Release pages) is = absurd (cc)
-is_malloc label (Drain cpu) is = absurd (cc)
-is_malloc label (Resize cpu class cap) is = absurd (cc)
+is_malloc label call is = absurd (cc)
 
 once_in : (calls : List ThreadCall) → KeepsLabels calls → (label : ℕ) (earlier later : List ThreadCall) → earlier ++ later ≡ calls
     → planned_among label earlier ≤ 1 → planned_among label calls ≤ 1
@@ -130,8 +114,7 @@ module _ (asked : Asked) (calls : List CallLine)
   same_thread : (f : Call → ℕ) (t : ℕ) → t < asked.config.threads
       → of_thread (λ (c : CallLine). c.thread.0) (λ c. f c.call) t calls ≡ of_thread (λ (c : ThreadCall). c.thread.0) (λ c. f c.planned.call) t asked.calls
   same_thread f t less =
-      sym (fold-map (λ n call. n + f call) (λ (c : CallLine). c.call) 0 (filter (λ (c : CallLine). c.thread.0 == t) calls))
-      ∙ ap (sum_by f) (each t less)
+      sym (fold-map (λ n call. n + f call) (λ (c : CallLine). c.call) 0 (filter (λ (c : CallLine). c.thread.0 == t) calls)) ∙ ap (sum_by f) (each t less)
       ∙ fold-map (λ n call. n + f call) (λ (p : Planned). p.call) 0 (script_of t asked.calls)
       ∙ fold-map (λ n (p : Planned). n + f p.call) (λ (c : ThreadCall). c.planned) 0 (filter (λ (c : ThreadCall). c.thread.0 == t) asked.calls)
 

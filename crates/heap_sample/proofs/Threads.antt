@@ -18,8 +18,7 @@ asked_alone : (thread : ℕ) (calls : List CallLine) → asked_by thread calls �
 asked_alone thread [] = refl
 asked_alone thread (c ∷ cs) =
     let f : CallLine → ℕ = λ d. cond (d.thread.0 == thread) (bytes_asked d.call d.answer) 0 in
-    sum_by-cons f c cs ∙
-    (elim (cases_Bool (c.thread.0 == thread)) [
+    sum_by-cons f c cs ∙ (elim (cases_Bool (c.thread.0 == thread)) [
       | inl is ↦ (let first : own thread (c ∷ cs) ≡ c ∷ own thread cs = rw is refl in
           ap (λ n. f c + n) (asked_alone thread cs) ∙ sym (ap (asked_by thread) first ∙ sum_by-cons f c (own thread cs)))
       | inr not_it ↦ (let rest = asked_alone thread cs in rw not_it (omega (arith, rest)))

@@ -41,11 +41,7 @@ has_byte : (n : ℕ) (b : Extent) → b.addr ≤ n → n < b.addr + b.len → ha
 has_byte n b low high = ap bit (and_from (leb b.addr n) (ltb n (b.addr + b.len)) (le-leb b.addr n low) (lt-ltb n (b.addr + b.len) high))
 
 bytes_of : (n : ℕ) (b : Extent) → 0 < has n b → (b.addr ≤ n) × (n < b.addr + b.len)
-bytes_of n b some =
-    elim (cases_Bool (leb b.addr n && ltb n (b.addr + b.len))) [
-      | inl is ↦ (let parts = and_parts (leb b.addr n) (ltb n (b.addr + b.len)) is in (leb-true b.addr n parts.0, ltb-true n (b.addr + b.len) parts.1))
-      | inr other ↦ (let z : has n b ≡ 0 = ap bit other in absurd (omega (arith, z, some)))
-    ]
+bytes_of n b some = grind (arith, and_parts, cases_Bool, leb, leb-true, ltb, ltb-true)
 
 -- no byte is in two of the blocks, and each block has one
 pub record AreSpread (bs : List Extent) : Type 0 where
@@ -64,18 +60,14 @@ no_byte n b (x ∷ xs) own apart =
             | inl both ↦
                 let p = bytes_of n b own in
                 let q = bytes_of n x both in
-                absurd (false≢true (sym unmet ∙ and_from (ltb b.addr (x.addr + x.len)) (ltb x.addr (b.addr + b.len)) (lt-ltb b.addr (x.addr + x.len) (omega (arith, p.0, q.1))) (lt-ltb x.addr (b.addr + b.len) (omega (arith, q.0, p.1)))))
+                absurd (false≢true (sym unmet ∙ and_from _ _ (lt-ltb b.addr (x.addr + x.len) (omega (arith, p.0, q.1))) (lt-ltb x.addr (b.addr + b.len) (omega (arith, q.0, p.1)))))
             | inr none ↦ omega (arith, none, no_byte n b xs own rest, sum_by-cons (has n) x xs)
           ]
     ]
 
 sum_filter : (f : Extent → ℕ) (p : Extent → Bool) (xs : List Extent) → sum_by f (filter p xs) ≤ sum_by f xs
 sum_filter f p [] = omega arith
-sum_filter f p (x ∷ xs) =
-    elim (p x) as (λ b. sum_by f (cond b (x ∷ filter p xs) (filter p xs)) ≤ sum_by f (x ∷ xs)) [
-      | true ↦ omega (arith, sum_by-cons f x (filter p xs), sum_by-cons f x xs, sum_filter f p xs)
-      | false ↦ omega (arith, sum_by-cons f x xs, sum_filter f p xs)
-    ]
+sum_filter f p (x ∷ xs) = grind (arith, sum_by-cons, (sum_filter f p xs))
 
 -- one block more, at a free place, and one less
 with_one : (huge : ℕ) (bs : List Extent) (b : Extent) → AreSpread bs → IsFreePlace huge bs b → AreSpread (with_block b bs)
@@ -99,23 +91,13 @@ without_one bs addr are =
 pub place_of : (huge : ℕ) (round : ℕ → ℕ) (earlier : List CallLine) (call : Call) (addr : Addr) (len : ℕ)
     → IsAllowed huge round earlier call (Block addr len) → IsFreePlace huge (blocks_after earlier) (record { addr = addr.0; len = len })
 place_of huge round earlier (Malloc label size) addr len allowed = allowed.1
-place_of huge round earlier (Free label) addr len allowed = absurd allowed
-place_of huge round earlier (Release pages) addr len allowed = absurd allowed
-place_of huge round earlier (Drain cpu) addr len allowed = absurd allowed
-place_of huge round earlier (Resize cpu class n) addr len allowed = absurd allowed
+place_of huge round earlier call addr len allowed = absurd allowed
 
 spread_with : (huge : ℕ) (round : ℕ → ℕ) (earlier : List CallLine) (call : Call) (answer : Answer)
     → AreSpread (blocks_after earlier) → IsAllowed huge round earlier call answer → AreSpread (blocks_with (blocks_after earlier) answer)
 spread_with huge round earlier call (Block addr len) are allowed = with_one huge (blocks_after earlier) (record { addr = addr.0; len = len }) are (place_of huge round earlier call addr len allowed)
 spread_with huge round earlier call (Freed addr) are allowed = without_one (blocks_after earlier) addr.0 are
-spread_with huge round earlier call NoBlock are allowed = are
-spread_with huge round earlier call FreedNull are allowed = are
-spread_with huge round earlier call (Released pages) are allowed = are
-spread_with huge round earlier call (Drained objects) are allowed = are
-spread_with huge round earlier call (Busy owner) are allowed = are
-spread_with huge round earlier call CapSet are allowed = are
-spread_with huge round earlier call (OverLimit sum) are allowed = are
-spread_with huge round earlier call (OverStatic most) are allowed = are
+spread_with huge round earlier call answer are allowed = are
 
 -- after the first n calls of a run on disjoint blocks
 spread_after : (huge : ℕ) (round : ℕ → ℕ) (calls : List CallLine) → IsBlockRun huge round calls → (n : ℕ) → n ≤ length calls → AreSpread (blocks_after (take n calls))
@@ -127,8 +109,8 @@ spread_after huge round (c ∷ cs) run (suc n) within =
     let before = spread_after huge round calls run n (omega (arith, within)) in
     let next : CallLine = slice_index_or calls n c in
     let more : take (suc n) calls ≡ take n calls ++ next ∷ [] = (let e : suc n ≡ n + 1 = omega arith in ap (λ k. take k calls) e) ∙ take_more calls n c below in
-    subst (λ (ds : List CallLine). AreSpread (blocks_after ds)) (sym more)
-    (subst AreSpread (sym (blocks_after-push (take n calls) next)) (spread_with huge round (take n calls) next.call next.answer before (run (take n calls) next (drop (suc n) calls) (sym (split_at calls n c below)))))
+    subst (λ (ds : List CallLine). AreSpread (blocks_after ds)) (sym more) (rw (blocks_after-push (take n calls) next)
+    (spread_with huge round (take n calls) next.call next.answer before (run (take n calls) next (drop (suc n) calls) (sym (split_at calls n c below)))))
 
 -- so they begin at different addresses
 starts_once : (a : ℕ) (bs : List Extent) → All (λ (b : Extent). 0 < b.len) bs → count_by (λ (b : Extent). eqb b.addr a) bs ≤ sum_by (has a) bs
@@ -158,11 +140,7 @@ none_begins b bs some each apart = omega (arith, starts_once b.addr bs each, no_
 all_over : (from : ℕ) (b : Extent) (k n : ℕ) → from ≤ b.addr → n ≤ b.len → b.addr + n ≤ from + k → n ≤ over from k b
 all_over from b zero n low few within = omega (arith, low, within)
 all_over from b (suc k) zero low few within = omega arith
-all_over from b (suc k) (suc n) low few within =
-    elim (cases_lt (b.addr + n) (from + k)) [
-      | inl before ↦ omega (arith, all_over from b k (suc n) low few (omega (arith, before)))
-      | inr last ↦ omega (arith, all_over from b k n low (omega (arith, few)) (omega (arith, within)), has_byte (from + k) b (omega (arith, last)) (omega (arith, few, within)))
-    ]
+all_over from b (suc k) (suc n) low few within = grind (arith, cases_lt, has_byte, (all_over from b k (suc n) low few), (all_over from b k n low))
 
 none_over : (bs : List Extent) (from : ℕ) → sum_by (over from zero) bs ≡ 0
 none_over [] from = refl
@@ -192,14 +170,7 @@ few_in bs once (r ∷ rs) =
 
 in_one : (b : Extent) (r : Run) (runs : List Run) → 0 < runs_like r runs → over (first_byte r) (r.pages * page_bytes) b ≤ in_runs runs b
 in_one b r [] there = absurd (omega (arith, there))
-in_one b r (x ∷ xs) there =
-    elim (cases_Bool (same_run x r)) [
-      | inl same ↦
-          let e : over (first_byte x) (x.pages * page_bytes) b ≡ over (first_byte r) (r.pages * page_bytes) b =
-          ap (λ (y : Run). over (first_byte y) (y.pages * page_bytes) b) (same_run_is x r same) in
-          omega (arith, e)
-      | inr other ↦ (let z : bit (same_run x r) ≡ 0 = ap bit other in omega (arith, in_one b r xs (omega (arith, there, z))))
-    ]
+in_one b r (x ∷ xs) there = grind (arith, cases_Bool, same_run_is, (in_one b r xs))
 
 -- a block that lies in a live run
 lies : (b : Extent) (r : Run) (runs : List Run) → 0 < runs_like r runs → first_byte r ≤ b.addr → b.addr + b.len ≤ first_byte r + r.pages * page_bytes → b.len ≤ in_runs runs b
@@ -207,7 +178,9 @@ lies b r runs there low high = omega (arith, all_over (first_byte r) b (r.pages 
 
 sum_all : (f : Extent → ℕ) (bs : List Extent) → All (λ (b : Extent). b.len ≤ f b) bs → sum_by (λ (b : Extent). b.len) bs ≤ sum_by f bs
 sum_all f [] each = omega arith
-sum_all f (b ∷ bs) each = omega (arith, All-head (λ (x : Extent). x.len ≤ f x) b bs each, sum_all f bs (All-tail (λ (x : Extent). x.len ≤ f x) b bs each), sum_by-cons (λ (x : Extent). x.len) b bs, sum_by-cons f b bs)
+sum_all f (b ∷ bs) each =
+    let rest = sum_all f bs (All-tail (λ (x : Extent). x.len ≤ f x) b bs each) in
+    omega (arith, All-head (λ (x : Extent). x.len ≤ f x) b bs each, rest, sum_by-cons (λ (x : Extent). x.len) b bs, sum_by-cons f b bs)
 
 module _ (m : Setup) (b : Books) (calls : List CallLine) (f : Facts m b calls) where
   standing_lies : (x : Extent) → IsStanding m b x → x.len ≤ in_runs b.heap x
@@ -224,7 +197,7 @@ module _ (m : Setup) (b : Books) (calls : List CallLine) (f : Facts m b calls) w
 
   pub bytes_in : live_bytes calls ≤ sum_by (λ (r : Run). r.pages) b.heap * page_bytes
   bytes_in =
-      let spread = subst (λ (ds : List CallLine). AreSpread (blocks_after ds)) (take_all (length calls) calls (omega arith)) (spread_after m.huge (length_of m.rows) calls f.kept.run (length calls) (omega arith)) in
+      let spread = rw (take_all (length calls) calls (omega arith)) at (spread_after m.huge (length_of m.rows) calls f.kept.run (length calls) (omega arith)) in
       let each = All-weaken (IsStanding m b) (λ (x : Extent). x.len ≤ in_runs b.heap x) (blocks_after calls) standing_lies f.live in
       omega (arith, sum_all (in_runs b.heap) (blocks_after calls) each, few_in (blocks_after calls) spread.bytes b.heap)
 

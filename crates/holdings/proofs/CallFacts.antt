@@ -25,7 +25,7 @@ answer_to-push_old label [] c answer h = absurd (cc)
 answer_to-push_old label (d ∷ ds) c answer h =
     elim (cases_Bool (allocates label d.call)) [
       | inl his ↦ ap (λ t. cond t (Some d.answer) (answer_to label (ds ++ c ∷ []))) his ∙ (sym (ap (λ t. cond t (Some d.answer) (answer_to label ds)) his) ∙ h)
-      | inr other ↦ ap (λ t. cond t (Some d.answer) (answer_to label (ds ++ c ∷ []))) other ∙ answer_to-push_old label ds c answer (sym (ap (λ t. cond t (Some d.answer) (answer_to label ds)) other) ∙ h)
+      | inr other ↦ rw other (answer_to-push_old label ds c answer (rw other at h))
     ]
 
 -- a label without an answer has that of the call, where this is its allocation
@@ -37,7 +37,7 @@ answer_to-push_new label (d ∷ ds) c h =
       | inl his ↦
           let found : Some d.answer ≡ None = sym (ap (λ t. cond t (Some d.answer) (answer_to label ds)) his) ∙ h in
           absurd (cc)
-      | inr other ↦ ap (λ t. cond t (Some d.answer) (answer_to label (ds ++ c ∷ []))) other ∙ answer_to-push_new label ds c (sym (ap (λ t. cond t (Some d.answer) (answer_to label ds)) other) ∙ h)
+      | inr other ↦ rw other (answer_to-push_new label ds c (rw other at h))
     ]
 
 -- an answer to a label, or none

@@ -46,21 +46,16 @@ module _ {m : Setup} {b : Books} {calls : List CallLine} (f : Facts m b calls) (
         let w : Account = record (about a (Publishes label (Some o))) { hand = rest } in
         let st : Stocked f t a at g (o ∷ rest) = record { others = move.others; moves = λ n. omega (arith, move.moves n, (idle_before n).1); cut = cut } in
         let there : (s : SpanRef) → 0 < g.owned s → 0 < spans_like s b.spans = λ s own. owned_there m b calls f s (omega (arith, own, move.spans s)) in
-        moved f t a w at g b.heap b.spans b.names (calls ++ gets_line ∷ [])
-        (kept_object f t a at label size g o rest is class empty st there)
-        (live_object f t a at label size g o rest is class empty st there w (λ q none. none))
-        (heap_facts f) cut
-        (record {
+        moved f t a w at g b.heap b.spans b.names (calls ++ gets_line ∷ []) (kept_object f t a at label size g o rest is class empty st there)
+        (live_object f t a at label size g o rest is class empty st there w (λ q none. none)) (heap_facts f) cut (record {
           freeing = λ l x e. absurd (cc);
           spans = self.spans;
           mapped = self.mapped;
           whole = self.whole;
           offs = λ n. omega (arith, self.offs n, (idle_before n).0);
           cleared = λ q. omega (arith, self.cleared q, (idle_before (first_byte q)).0);
-        })
-        (labels_got f t a at w refl label size (Block o (size_of m.rows a.class)) is refl)
-        (spans_still f t a w at g.owned (λ r. refl) (λ s. let e = move.spans s in omega (arith, e)) (λ s. refl))
-        (record {
+        }) (labels_got f t a at w refl label size (Block o (size_of m.rows a.class)) is refl)
+        (spans_still f t a w at g.owned (λ r. refl) (λ s. let e = move.spans s in omega (arith, e)) (λ s. refl)) (record {
           places = λ n. omega (arith, f.places n, shift (held_at n) b.accounts t a w at, idle_before n, stock_places f t a at g (o ∷ rest) st n, move.starts n);
           begins = λ n. omega (arith, f.begins n, shift (λ (x : Account). spans_at n x.apart) b.accounts t a w at, move.starts n);
           classes = stock_classes f t a at g (o ∷ rest) st w refl (λ n. omega arith);
@@ -82,11 +77,8 @@ module _ {m : Setup} {b : Books} {calls : List CallLine} (f : Facts m b calls) (
           | inl old ↦ owned_there m b calls f x old
           | inr new ↦ mapped_there m b calls f t a x at (let e = move.spans x in omega (arith, own, e, new, held x))
         ] in
-        moved f t a w at g b.heap b.spans b.names (calls ++ gets_line ∷ [])
-        (kept_object f t a at label size g o rest is class empty st there)
-        (live_object f t a at label size g o rest is class empty st there w (λ q none. let e = runs q in omega (arith, e, none)))
-        (heap_facts f) cut
-        (record {
+        moved f t a w at g b.heap b.spans b.names (calls ++ gets_line ∷ []) (kept_object f t a at label size g o rest is class empty st there)
+        (live_object f t a at label size g o rest is class empty st there w (λ q none. let e = runs q in omega (arith, e, none))) (heap_facts f) cut (record {
           freeing = λ l x e. absurd (cc);
           spans = All-tail (IsOfClass m.rows) s apart (subst (All (IsOfClass m.rows)) first self.spans);
           mapped = λ x. omega (arith, self.mapped x, held x, kept x);
@@ -96,10 +88,8 @@ module _ {m : Setup} {b : Books} {calls : List CallLine} (f : Facts m b calls) (
               omega (arith, self.whole q, runs q, e, z);
           offs = λ n. let z : runs_at n a.off ≡ 0 = ap (runs_at n) clear in omega (arith, z);
           cleared = λ q. omega (arith, self.cleared q, (idle_before (first_byte q)).0);
-        })
-        (labels_got f t a at w refl label size (Block o (size_of m.rows a.class)) is refl)
-        (spans_still f t a w at g.owned (λ r. refl) (λ x. let e = move.spans x in omega (arith, e, held x)) (λ s. refl))
-        (record {
+        }) (labels_got f t a at w refl label size (Block o (size_of m.rows a.class)) is refl)
+        (spans_still f t a w at g.owned (λ r. refl) (λ x. let e = move.spans x in omega (arith, e, held x)) (λ s. refl)) (record {
           places = λ n. omega (arith, f.places n, shift (held_at n) b.accounts t a w at, idle_before n, stock_places f t a at g (o ∷ rest) st n, move.starts n, starts n);
           begins = λ n. omega (arith, f.begins n, shift (λ (x : Account). spans_at n x.apart) b.accounts t a w at, move.starts n, starts n);
           classes = stock_classes f t a at g (o ∷ rest) st w refl (λ n. omega arith);
@@ -111,7 +101,8 @@ module _ {m : Setup} {b : Books} {calls : List CallLine} (f : Facts m b calls) (
     found_object : 0 < b.stock.objects k o.0
     found_object =
         let h : Found m b o = frees_find m b calls t a label o f at is clear in
-        let runs : run_of span ≡ run_of h.span = one_byte m b calls f (run_of span) (run_of h.span) o.0 (span_lives m b calls f span there) (span_lives m b calls f h.span h.there) (page_byte span o.0 holds_page) (page_byte h.span o.0 h.holds) in
+        let runs = one_byte m b calls f (run_of span) (run_of h.span) o.0 (span_lives m b calls f span there) (span_lives m b calls f h.span h.there)
+        (page_byte span o.0 holds_page) (page_byte h.span o.0 h.holds) in
         let same : span ≡ h.span = one_span m b calls f span h.span there h.there (sym runs) in
         elim h.is [
           | inl small_one ↦
@@ -126,18 +117,10 @@ module _ {m : Setup} {b : Books} {calls : List CallLine} (f : Facts m b calls) (
     own_object = ap (loose o.0) is ∙ ap bit (eq-eqb o.0 o.0 refl)
 
     hand_in : (j n : ℕ) (x : Account) → in_hand j n x ≤ loose n x.doing + objects_at n x.hand
-    hand_in j n x = elim (cases_Bool (eqb x.class j)) [
-      | inl same ↦ let e : in_hand j n x ≡ objects_at n x.hand = cond-true (eqb x.class j) (objects_at n x.hand) 0 same in omega (arith, e)
-      | inr other ↦ let e : in_hand j n x ≡ 0 = cond-false (eqb x.class j) (objects_at n x.hand) 0 other in omega (arith, e)
-    ]
+    hand_in j n x = grind (arith, cases_Bool, cond-false, cond-true, eqb)
 
     no_hand : (j n : ℕ) → in_hand j n a ≡ 0
-    no_hand j n =
-        let z : objects_at n a.hand ≡ 0 = ap (objects_at n) empty in
-        elim (cases_Bool (eqb a.class j)) [
-          | inl same ↦ cond-true (eqb a.class j) (objects_at n a.hand) 0 same ∙ z
-          | inr other ↦ cond-false (eqb a.class j) (objects_at n a.hand) 0 other
-        ]
+    no_hand j n = grind (arith, cases_Bool, cond-false, cond-true, eqb)
 
     -- nobody else has it
     untouched : sum_by (in_hand k o.0) b.accounts + b.stock.stored k o.0 ≡ 0
@@ -154,10 +137,8 @@ module _ {m : Setup} {b : Books} {calls : List CallLine} (f : Facts m b calls) (
         let w : Account = record (about a (Frees label o)) { class = k; hand = o ∷ [] } in
         let held : (n : ℕ) → (loose n a.doing ≡ bit (eqb o.0 n)) × (objects_at n a.hand ≡ 0) = λ n. (ap (loose n) is, ap (objects_at n) empty) in
         let was : (g : Doing → ℕ) → g a.doing ≡ g (Holds label o) = λ g. ap g is in
-        moved f t a w at b.stock b.heap b.spans b.names calls f.kept
-        (still f t a w at b.heap b.spans b.names (λ x l. (l.live, l.unmapped, l.unheld t a at)))
-        (heap_facts f) f.cut
-        (record {
+        moved f t a w at b.stock b.heap b.spans b.names calls f.kept (still f t a w at b.heap b.spans b.names (λ x l. (l.live, l.unmapped, l.unheld t a at)))
+        (heap_facts f) f.cut (record {
           freeing = λ l x e.
               let d : o.0 ≡ x.0 = ap (λ (y : Addr). y.0) (one_free label l o x e) in
               let one : bit (eqb o.0 x.0) ≡ 1 = ap bit (eq-eqb o.0 x.0 d) in
@@ -167,17 +148,14 @@ module _ {m : Setup} {b : Books} {calls : List CallLine} (f : Facts m b calls) (
           whole = self.whole;
           offs = λ n. let z : runs_at n a.off ≡ 0 = ap (runs_at n) clear in omega (arith, z);
           cleared = λ q. let z : spans_like (large q) a.clears ≡ 0 = ap (spans_like (large q)) unclear in omega (arith, z);
-        })
-        (labels_still f t a w at (λ x. let e = was (asking x) in omega (arith, e)) (λ x.
+        }) (labels_still f t a w at (λ x. let e = was (asking x) in omega (arith, e)) (λ x.
         let e = was (asking x) in
         let p = was (publishing x) in
         omega (arith, e, p)) (λ x. let e = was (taking x) in omega (arith, e)) (λ x.
         let e = was (asking x) in
         let p = was (publishing x) in
         let q = was (taking x) in
-        omega (arith, e, p, q)) (λ x v. sym (was (holds x v))))
-        (spans_still f t a w at b.stock.owned (λ r. refl) (λ s. refl) (λ s. refl))
-        (record {
+        omega (arith, e, p, q)) (λ x v. sym (was (holds x v)))) (spans_still f t a w at b.stock.owned (λ r. refl) (λ s. refl) (λ s. refl)) (record {
           places = λ n. omega (arith, f.places n, shift (held_at n) b.accounts t a w at, held n);
           begins = λ n. omega (arith, f.begins n, shift (λ (x : Account). spans_at n x.apart) b.accounts t a w at);
           classes = λ j n.

@@ -45,17 +45,12 @@ pub record PlaceFacts (rows : List ClassRow) (g : Stock) (heap : List Run) (name
   pub classes : (k n : ℕ) → sum_by (in_hand k n) accounts + g.stored k n ≤ g.objects k n
 
 more_cases : (r q : Run) (heap : List Run) → 0 < runs_like q (r ∷ heap) → (r ≡ q) ⊎ (0 < runs_like q heap)
-more_cases r q heap some =
-    elim (cases_Bool (same_run r q)) [
-      | inl same ↦ inl (same_run_is r q same)
-      | inr other ↦ inr (let z : bit (same_run r q) ≡ 0 = ap bit other in omega (arith, some, z))
-    ]
+more_cases r q heap some = grind (arith, cases_Bool, same_run_is)
 
 flip_and : (p q : Bool) → (p && q) ≡ false → (q && p) ≡ false
 flip_and true true is = is
-flip_and true false is = refl
 flip_and false true is = refl
-flip_and false false is = refl
+flip_and p q is = refl
 
 pub meets_flip : (x y : Extent) → meets x y ≡ false → meets y x ≡ false
 meets_flip x y apart = flip_and (ltb x.addr (y.addr + y.len)) (ltb y.addr (x.addr + x.len)) apart
@@ -137,17 +132,7 @@ module _ {m : Setup} {b : Books} {calls : List CallLine} (f : Facts m b calls) w
     pub large_still : (stock : Stock) (heap : List Run) (spans : List SpanRef) (names : List NameState) (x : Extent) (l : IsLarge b x)
         → 0 < runs_like l.run heap → ((k : ℕ) → spans_like (small (class_number k) l.run) spans ≡ 0)
         → spans_of_run l.run w.apart ≡ 0 → IsLarge (books_with b stock heap spans names t w) x
-    large_still stock heap spans names x l live unmapped own =
-        record {
-          run = l.run;
-          is = l.is;
-          live = live;
-          unmapped = unmapped;
-          unheld = λ i y is. elim (set_cases b.accounts t a w at i y is) [
-            | inl same ↦ subst (λ (z : Account). spans_of_run l.run z.apart ≡ 0) same own
-            | inr old ↦ l.unheld i y old
-          ];
-        }
+    large_still stock heap spans names x l live unmapped own = grind (arith, set_cases)
 
     pub still : (heap : List Run) (spans : List SpanRef) (names : List NameState)
         → ((x : Extent) (l : IsLarge b x) → (0 < runs_like l.run heap) × ((k : ℕ) → spans_like (small (class_number k) l.run) spans ≡ 0) × (spans_of_run l.run w.apart ≡ 0))

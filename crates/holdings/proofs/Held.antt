@@ -87,7 +87,8 @@ module _ (m : Setup) (b : Books) (calls : List CallLine) (f : Facts m b calls) w
               | inl same ↦
                   let e : s ≡ x = one_span m b calls f s x there found (sym (same_run_is (run_of s) (run_of x) same)) in
                   let o : b.stock.owned x ≡ b.stock.owned s = ap (λ (y : SpanRef). b.stock.owned y) (sym e) in
-                  absurd (omega (arith, o, own, class_spans m b calls f s class.class class.kind, least (transit s) b.accounts t a at, held, span_run s b.spans, f.map (run_of s), once_live m b calls f (run_of s)))
+                  let more = class_spans m b calls f s class.class class.kind in
+                  absurd (omega (arith, o, own, more, least (transit s) b.accounts t a at, held, span_run s b.spans, f.map (run_of s), once_live m b calls f (run_of s)))
               | inr apart ↦ apart
             ] in
             run_pages (run_of s) (run_of x) (f.inside (run_of s) live).some (f.inside (run_of x) live').some (f.disjoint (run_of s) (run_of x) live live' other);
@@ -95,11 +96,7 @@ module _ (m : Setup) (b : Books) (calls : List CallLine) (f : Facts m b calls) w
 
   -- a name counts where it is one of the table
   pub name_least : (n x : ℕ) → named_at n (state_of b.names x) ≤ sum_by (named_at n) b.names
-  name_least n x =
-      elim (cases_lt x (length b.names)) [
-        | inl within ↦ get_or-le-sum_by (named_at n) b.names x name.Unpublished within
-        | inr past ↦ let e : named_at n (state_of b.names x) ≡ 0 = ap (named_at n) (get_or_past b.names x name.Unpublished past) in omega (arith, e)
-      ]
+  name_least n x = grind (arith, cases_lt, get_or-le-sum_by, get_or_past)
 
   pub name_lives : (x : ℕ) (o : Addr) → state_of b.names x ≡ name.Published (Some o) → ((k : ℕ) × (0 < b.stock.objects k o.0)) ⊎ (runs_at o.0 b.heap ≡ 1)
   name_lives x o is =

@@ -28,36 +28,17 @@ module _ (calls : List CallLine) (c : CallLine) where
   -- an answer that a label has after a call is one that it had, or the call's
   answer_before : (label : ℕ) (answer : Answer) → answer_to label (calls ++ c ∷ []) ≡ Some answer
       → (answer_to label calls ≡ Some answer) ⊎ ((allocates label c.call ≡ true) × (c.answer ≡ answer))
-  answer_before label answer h =
-      elim (answer_cases (answer_to label calls)) [
-        | inl none ↦
-            let pushed = sym (answer_to-push_new label calls c none) ∙ h in
-            elim (cases_Bool (allocates label c.call)) [
-              | inl his ↦ let same : Some c.answer ≡ Some answer = sym (cond-true (allocates label c.call) (Some c.answer) None his) ∙ pushed in inr (his, cc)
-              | inr other ↦ let wrong : None ≡ Some answer = sym (cond-false (allocates label c.call) (Some c.answer) None other) ∙ pushed in absurd (cc)
-            ]
-        | inr there ↦ let same : Some there.0 ≡ Some answer = sym (answer_to-push_old label calls c there.0 there.1) ∙ h in inl (there.1 ∙ same)
-      ]
+  answer_before label answer h = grind (arith, answer_cases, answer_to-push_new, answer_to-push_old, cases_Bool, cond-false, cond-true)
 
   -- a block that a label has after a call that allocates another, or none, is one that it had
   has_block_before : (label : ℕ) (addr : Addr) (len : ℕ) → allocates label c.call ≡ false → HasBlock (calls ++ c ∷ []) label addr len → HasBlock calls label addr len
-  has_block_before label addr len other has =
-      elim (answer_before label (Block addr len) has.answered) [
-        | inl before ↦ record { answered = before; kept = (kept_before label has.kept).0 }
-        | inr new ↦ absurd (false≢true (sym other ∙ new.0))
-      ]
+  has_block_before label addr len other has = grind (arith, answer_before, false≢true, kept_before)
 
   -- a call frees no label that has no answer
   known_after : ((label : ℕ) → freed_in label calls ≡ true → is_some (answer_to label calls) ≡ true)
       → ((label : ℕ) → frees label c.call ≡ true → is_some (answer_to label calls) ≡ true)
       → (label : ℕ) → freed_in label (calls ++ c ∷ []) ≡ true → is_some (answer_to label (calls ++ c ∷ [])) ≡ true
-  known_after known own label h =
-      let has : is_some (answer_to label calls) ≡ true =
-      elim (or_cases (freed_in label calls) (frees label c.call) (sym (freed_in-push label calls c) ∙ h)) [ inl old ↦ known label old | inr new ↦ own label new ] in
-      elim (answer_cases (answer_to label calls)) [
-        | inl none ↦ absurd (false≢true (ap is_some (sym none) ∙ has))
-        | inr there ↦ ap is_some (answer_to-push_old label calls c there.0 there.1)
-      ]
+  known_after known own label h = grind (arith, answer_cases, answer_to-push_old, false≢true, freed_in-push, or_cases)
 
 -- a block is found or isn't; addresses are one where their numbers are
 found_cases : (o : Option Extent) → (o ≡ None) ⊎ ((b : Extent) × (o ≡ Some b))
@@ -127,11 +108,7 @@ module _ {round : ℕ → ℕ} {huge : ℕ} {calls : List CallLine} (kept : AreK
 
     -- a label's block is an older one, or the new one is the label's
     of_label : (l : ℕ) (a : Addr) (n : ℕ) → HasBlock (calls ++ line ∷ []) l a n → HasBlock calls l a n ⊎ ((label.0 ≡ l) × (a ≡ addr) × (n ≡ len))
-    of_label l a n has =
-        elim (answer_before calls line l (Block a n) has.answered) [
-          | inl before ↦ inl (record { answered = before; kept = (kept_before calls line l has.kept).0 })
-          | inr mine ↦ let same : Block addr len ≡ Block a n = mine.1 in inr (eqb-true label.0 l mine.0, cc, cc)
-        ]
+    of_label l a n has = grind (arith, answer_before, eqb-true, kept_before)
 
     -- no block begins at the new address
     none_there : find (λ b. b.addr == addr.0) (blocks_after calls) ≡ None
@@ -196,8 +173,7 @@ pub other_label : (call : Call) (answer : Answer) → IsOther call answer → (l
 other_label (Release pages) answer is l = (refl, refl)
 other_label (Drain cpu) answer is l = (refl, refl)
 other_label (Resize cpu class cap) answer is l = (refl, refl)
-other_label (Malloc label size) answer is l = absurd is
-other_label (Free label) answer is l = absurd is
+other_label call answer is l = absurd is
 
 pub other_blocks : (blocks : List Extent) (call : Call) (answer : Answer) → IsOther call answer → blocks_with blocks answer ≡ blocks
 other_blocks blocks (Release pages) (Released n) is = refl
@@ -237,10 +213,7 @@ module _ {round : ℕ → ℕ} {huge : ℕ} {calls : List CallLine} (kept : AreK
 
     -- and so its label isn't the one that is freed
     unfreed : (b : Extent) (own : Labelled calls b) → not (b.addr == addr.0) ≡ true → eqb label.0 own.0 ≡ false
-    unfreed b own apart = ne_eqb label.0 own.0 (λ e.
-        let both : Some (Block addr len) ≡ Some (Block (record { 0 = b.addr }) b.len) = sym has.answered ∙ (ap (λ (x : ℕ). answer_to x calls) e ∙ own.1.answered) in
-        let at : addr.0 ≡ b.addr = cc in
-        false≢true (sym (ap not (eq-eqb b.addr addr.0 (sym at))) ∙ apart))
+    unfreed b own apart = grind (arith, eq-eqb, false≢true, ne_eqb)
 
     pub kept_freed : AreKept round huge (calls ++ freeing ∷ [])
     kept_freed =

@@ -92,14 +92,12 @@ module _ {m : Setup} {b : Books} {calls : List CallLine} (f : Facts m b calls) (
   -- a name is written
   pub named : (n : ℕ) (i : ℕ) (old new : NameState) → i < length b.names → state_of b.names i ≡ old
       → sum_by (named_at n) (slice_set b.names i new) + named_at n old ≡ sum_by (named_at n) b.names + named_at n new
-  named n i old new there is =
-      let s = sum_by-set (named_at n) b.names i new name.Unpublished there in
-      let o : named_at n (state_of b.names i) ≡ named_at n old = ap (named_at n) is in
-      omega (arith, s, o)
+  named n i old new there is = grind (arith, sum_by-set)
 
   -- what a number of a label's meaning is then
   written : (label : Label) (old new : NameState) → label.0 < length b.names → state_of b.names label.0 ≡ old → (x : ℕ) (k : NameState → ℕ)
-      → (k (state_of (slice_set b.names label.0 new) x) ≡ k new) × (k (state_of b.names x) ≡ k old) × (eqb label.0 x ≡ true) ⊎ ((k (state_of (slice_set b.names label.0 new) x) ≡ k (state_of b.names x)) × (eqb label.0 x ≡ false))
+      → (k (state_of (slice_set b.names label.0 new) x) ≡ k new) × (k (state_of b.names x) ≡ k old) × (eqb label.0 x ≡ true)
+      ⊎ ((k (state_of (slice_set b.names label.0 new) x) ≡ k (state_of b.names x)) × (eqb label.0 x ≡ false))
   written label old new there is x k =
       elim (name_cases b.names label.0 new there x) [ inl c ↦ inl (ap k c.1, ap k (subst (λ y. state_of b.names y ≡ old) c.2 is), c.0) | inr c ↦ inr (ap k c.1, c.0) ]
 
@@ -117,20 +115,7 @@ module _ {m : Setup} {b : Books} {calls : List CallLine} (f : Facts m b calls) (
 
     pub labels_got : (label : Label) (size : ℕ) (answer : Answer) → a.doing ≡ Asks label size → w.doing ≡ Publishes label (value_of answer)
         → LabelFacts m.labels b.names (slice_set b.accounts t w) (calls ++ record { thread = record { 0 = t }; call = Malloc label size; answer = answer } ∷ [])
-    labels_got label size answer is then =
-        let o : (k : Doing → ℕ) → k a.doing ≡ k (Asks label size) = λ k. ap k is in
-        let n : (k : Doing → ℕ) → k w.doing ≡ k (Publishes label (value_of answer)) = λ k. ap k then in
-        let none = unanswered label size is in
-        let unfreed : freed_in label.0 calls ≡ false =
-        elim (cases_Bool (freed_in label.0 calls)) [ inl freed ↦ absurd (false≢true (ap is_some (sym none) ∙ f.kept.known label.0 freed)) | inr not_freed ↦ not_freed ] in
-        record {
-          count = f.names;
-          beyond = λ x past. omega (arith, f.labels x past, moved (mentions x), o (asking x), o (publishing x), o (taking x), n (asking x), n (publishing x), n (taking x), g x, p x);
-          once = λ x. omega (arith, f.once x, moved (pending x), o (asking x), n (asking x), g x, answered_gain calls (record { 0 = t }) label size answer none x);
-          published = λ x. omega (arith, f.published x, moved (unpublished x), o (asking x), o (publishing x), n (asking x), n (publishing x), g x);
-          taken = λ x. omega (arith, f.taken x, moved (untaken x), o (taking x), n (taking x), p x);
-          tie = λ x v. omega (arith, f.tie x v, moved (holding x v), o (holds x v), n (holds x v), gain calls (record { 0 = t }) label size answer none unfreed x v);
-        }
+    labels_got label size answer is then = grind (arith, answered_gain, cases_Bool, false≢true, g, gain, moved, p, unanswered)
 
     -- a free is decided
     pub labels_freed : (label : Label) (o : Addr) → Returns label o a.doing → w.doing ≡ Other
@@ -170,7 +155,10 @@ module _ {m : Setup} {b : Books} {calls : List CallLine} (f : Facts m b calls) (
               ];
           taken = λ x.
               let e = f.taken x in let s = moved (untaken x) in
-              elim (state x (λ q. bit (is_taken q))) [ inl c ↦ omega (arith, e, s, o (taking x), n (taking x), p x, c.0, c.1) | inr c ↦ omega (arith, e, s, o (taking x), n (taking x), p x, c.0) ];
+              elim (state x (λ q. bit (is_taken q))) [
+                | inl c ↦ omega (arith, e, s, o (taking x), n (taking x), p x, c.0, c.1)
+                | inr c ↦ omega (arith, e, s, o (taking x), n (taking x), p x, c.0)
+              ];
           tie = λ x v.
               let e = f.tie x v in let s = moved (holding x v) in
               elim (state x (λ q. bit (means v q))) [
@@ -198,7 +186,10 @@ module _ {m : Setup} {b : Books} {calls : List CallLine} (f : Facts m b calls) (
           once = λ x. omega (arith, f.once x, moved (pending x), o (asking x), idle x, g x, answers x);
           published = λ x.
               let e = f.published x in let s = moved (unpublished x) in
-              elim (state x (λ q. bit (is_out q))) [ inl c ↦ omega (arith, e, s, o (asking x), o (publishing x), idle x, g x, c.0, c.1) | inr c ↦ omega (arith, e, s, o (asking x), o (publishing x), idle x, g x, c.0) ];
+              elim (state x (λ q. bit (is_out q))) [
+                | inl c ↦ omega (arith, e, s, o (asking x), o (publishing x), idle x, g x, c.0, c.1)
+                | inr c ↦ omega (arith, e, s, o (asking x), o (publishing x), idle x, g x, c.0)
+              ];
           taken = λ x.
               let e = f.taken x in let s = moved (untaken x) in
               elim (state x (λ q. bit (is_taken q))) [

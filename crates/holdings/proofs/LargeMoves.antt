@@ -28,15 +28,7 @@ use Rattle.holdings.proofs.Groups.{heap_facts, heap_less, heap_more, large_still
 use Rattle.holdings.proofs.KeptFacts.{kept_block, kept_freed, kept_none}
 
 pub meets_inner : (c x y : Extent) → y.addr ≤ x.addr → x.addr + x.len ≤ y.addr + y.len → meets c y ≡ false → meets c x ≡ false
-meets_inner c x y from to apart =
-    elim (cases_Bool (meets c x)) [
-      | inl met ↦
-          let parts = and_parts (ltb c.addr (x.addr + x.len)) (ltb x.addr (c.addr + c.len)) met in
-          let l = ltb-true c.addr (x.addr + x.len) parts.0 in
-          let r = ltb-true x.addr (c.addr + c.len) parts.1 in
-          absurd (false≢true (sym apart ∙ and_from (ltb c.addr (y.addr + y.len)) (ltb y.addr (c.addr + c.len)) (lt-ltb c.addr (y.addr + y.len) (omega (arith, l, to))) (lt-ltb y.addr (c.addr + c.len) (omega (arith, r, from)))))
-      | inr unmet ↦ unmet
-    ]
+meets_inner c x y from to apart = grind (arith, and_from, and_parts, cases_Bool, false≢true, lt-ltb, ltb, ltb-true)
 
 module _ {m : Setup} {b : Books} {calls : List CallLine} (f : Facts m b calls) (t : ℕ) (a : Account) (at : slice_get b.accounts t ≡ Some a) where
   -- an object lies in its span's block
@@ -53,23 +45,20 @@ module _ {m : Setup} {b : Books} {calls : List CallLine} (f : Facts m b calls) (
       let w : Account = about a (Publishes label None) in
       let zero_held : (n : ℕ) → loose n a.doing ≡ 0 = λ n. ap (loose n) is in
       moved f t a w at b.stock b.heap b.spans b.names (calls ++ c ∷ []) (kept_none f.kept (record { 0 = t }) label size)
-      (subst (All (IsStanding m (books_with b b.stock b.heap b.spans b.names t w))) (sym (blocks_after-push calls c)) (still f t a w at b.heap b.spans b.names (λ x l. (l.live, l.unmapped, l.unheld t a at))))
-      (heap_facts f) f.cut
-      (record {
+      (rw (blocks_after-push calls c) (still f t a w at b.heap b.spans b.names (λ x l. (l.live, l.unmapped, l.unheld t a at)))) (heap_facts f) f.cut (record {
         freeing = λ l o e. absurd (cc);
         spans = self.spans;
         mapped = self.mapped;
         whole = self.whole;
         offs = λ n. let z = zero_held n in omega (arith, self.offs n, z);
         cleared = λ q. let z = zero_held (first_byte q) in omega (arith, self.cleared q, z);
-      })
-      (labels_got f t a at w refl label size NoBlock is refl)
-      (spans_still f t a w at b.stock.owned (λ r. refl) (λ s. refl) (λ s. refl))
+      }) (labels_got f t a at w refl label size NoBlock is refl) (spans_still f t a w at b.stock.owned (λ r. refl) (λ s. refl) (λ s. refl))
       (places_still f t a w at (λ n. let z = zero_held n in omega (arith, z)) (λ n. refl) (λ k n. refl))
 
   pub gets_run : (label : Label) (size : ℕ) (r : Run) → a.doing ≡ Asks label size → a.off ≡ []
       → IsPlaced m.huge b.heap (pages_holding size) r → length_of m.rows size ≡ r.pages * page_bytes
-      → Facts m (books_with b b.stock (r ∷ b.heap) b.spans b.names t (record (about a (Publishes label (Some (address_of r)))) { off = r ∷ [] })) (calls ++ record { thread = record { 0 = t }; call = Malloc label size; answer = Block (address_of r) (r.pages * page_bytes) } ∷ [])
+      → Facts m (books_with b b.stock (r ∷ b.heap) b.spans b.names t (record (about a (Publishes label (Some (address_of r)))) { off = r ∷ [] }))
+      (calls ++ record { thread = record { 0 = t }; call = Malloc label size; answer = Block (address_of r) (r.pages * page_bytes) } ∷ [])
   gets_run label size r is empty placed length_is =
       let self = f.selves t a at in
       let answer : Answer = Block (address_of r) (r.pages * page_bytes) in
@@ -78,7 +67,7 @@ module _ {m : Setup} {b : Books} {calls : List CallLine} (f : Facts m b calls) (
       let zero_held : (n : ℕ) → loose n a.doing ≡ 0 = λ n. ap (loose n) is in
       let off : (q : Run) → runs_like q a.off ≡ 0 = λ q. ap (runs_like q) empty in
       let unlike : runs_like r b.heap ≡ 0 = omega (arith, like_at r b.heap, placed.fresh) in
-      let apart : All (λ (x : Extent). meets (block_of r) x ≡ false) (blocks_after calls) = All-weaken (IsStanding m b) (λ (x : Extent). meets (block_of r) x ≡ false) (blocks_after calls) (λ x stands. elim stands [
+      let apart = All-weaken (IsStanding m b) (λ (x : Extent). meets (block_of r) x ≡ false) (blocks_after calls) (λ x stands. elim stands [
         | inl l ↦ subst (λ (y : Extent). meets (block_of r) y ≡ false) (sym l.is) (placed.apart l.run l.live)
         | inr o ↦ object_inner (block_of r) x o (λ s own. placed.apart (run_of s) (span_lives m b calls f s (owned_there m b calls f s own)))
       ]) f.live in
@@ -93,9 +82,10 @@ module _ {m : Setup} {b : Books} {calls : List CallLine} (f : Facts m b calls) (
         unheld = λ i x other. elim (set_cases b.accounts t a w at i x other) [ inl same ↦ subst (λ (y : Account). spans_of_run r y.apart ≡ 0) same (unheld t a at) | inr old ↦ unheld i x old ];
       } in
       moved f t a w at b.stock (r ∷ b.heap) b.spans b.names (calls ++ c ∷ [])
-      (kept_block f.kept (record { 0 = t }) label size (address_of r) (r.pages * page_bytes) (unanswered f t a at label size is) (record { inside = placed.inside; apart = none_meets (block_of r) (blocks_after calls) apart }) (sym length_is) placed.inside.some)
-      (subst (All (IsStanding m (books_with b b.stock (r ∷ b.heap) b.spans b.names t w))) (sym (blocks_after-push calls c)) (All-with_item (λ (b : Extent). b.addr) (IsStanding m (books_with b b.stock (r ∷ b.heap) b.spans b.names t w)) (block_of r) (blocks_after calls) (inl new) (still f t a w at (r ∷ b.heap) b.spans b.names (λ x l. (omega (arith, l.live), l.unmapped, l.unheld t a at)))))
-      (heap_more f (pages_holding size) r placed) f.cut
+      (kept_block f.kept (record { 0 = t }) label size (address_of r) (r.pages * page_bytes) (unanswered f t a at label size is)
+      (record { inside = placed.inside; apart = none_meets (block_of r) (blocks_after calls) apart }) (sym length_is) placed.inside.some)
+      (rw (blocks_after-push calls c) (All-with_item (λ (b : Extent). b.addr) (IsStanding m (books_with b b.stock (r ∷ b.heap) b.spans b.names t w)) (block_of r) (blocks_after calls) (inl new)
+      (still f t a w at (r ∷ b.heap) b.spans b.names (λ x l. (omega (arith, l.live), l.unmapped, l.unheld t a at))))) (heap_more f (pages_holding size) r placed) f.cut
       (record {
         freeing = λ l o e. absurd (cc);
         spans = self.spans;
@@ -103,14 +93,11 @@ module _ {m : Setup} {b : Books} {calls : List CallLine} (f : Facts m b calls) (
         whole = λ q. let z = off q in omega (arith, self.whole q, z);
         offs = λ n. omega arith;
         cleared = λ q. let z = zero_held (first_byte q) in omega (arith, self.cleared q, z);
-      })
-      (labels_got f t a at w refl label size answer is refl)
-      (record {
+      }) (labels_got f t a at w refl label size answer is refl) (record {
         map = λ q. omega (arith, f.map q, shift (off_map q) b.accounts t a w at, off q);
         own = λ k q. omega (arith, f.own k q, shift (transit (small (class_number k) q)) b.accounts t a w at);
         clear = λ q. omega (arith, f.clear q, shift (clearing (large q)) b.accounts t a w at);
-      })
-      (record {
+      }) (record {
         places = λ n. omega (arith, f.places n, shift (held_at n) b.accounts t a w at, zero_held n);
         begins = λ n. omega (arith, f.begins n, shift (λ (x : Account). spans_at n x.apart) b.accounts t a w at);
         classes = λ k n. omega (arith, f.classes k n, shift (in_hand k n) b.accounts t a w at);
@@ -120,7 +107,8 @@ module _ {m : Setup} {b : Books} {calls : List CallLine} (f : Facts m b calls) (
   none_begins : (r : Run) → 0 < runs_like r a.off → a.apart ≡ [] → (b.stock.begins (first_byte r) ≡ 0) × (sum_by (λ (x : Account). spans_at (first_byte r) x.apart) b.accounts ≡ 0)
   none_begins r some empty =
       let l = off_lives m b calls f t a r at some in
-      let unmapped : (s : SpanRef) → 0 < spans_like s b.spans → run_of s ≡ r → ⊥ = λ s there same. let e : spans_of_run (run_of s) b.spans ≡ spans_of_run r b.spans = ap (λ (q : Run). spans_of_run q b.spans) same in omega (arith, e, l.1, there, span_run s b.spans) in (
+      let unmapped : (s : SpanRef) → 0 < spans_like s b.spans → run_of s ≡ r → ⊥ =
+      λ s there same. omega (arith, ap (λ (q : Run). spans_of_run q b.spans) same, l.1, there, span_run s b.spans) in (
         elim (cases_lt 0 (b.stock.begins (first_byte r))) [
           | inl more ↦
               let s = f.cut.begun (first_byte r) more in
@@ -149,7 +137,8 @@ module _ {m : Setup} {b : Books} {calls : List CallLine} (f : Facts m b calls) (
       )
 
   pub frees_run : (label : Label) (r : Run) → a.doing ≡ Holds label (address_of r) → a.off ≡ r ∷ [] → a.apart ≡ [] → a.clears ≡ []
-      → Facts m (books_with b b.stock (less r b.heap) b.spans b.names t (record (about a Other) { off = [] })) (calls ++ record { thread = record { 0 = t }; call = Free label; answer = Freed (address_of r) } ∷ [])
+      → Facts m (books_with b b.stock (less r b.heap) b.spans b.names t (record (about a Other) { off = [] }))
+      (calls ++ record { thread = record { 0 = t }; call = Free label; answer = Freed (address_of r) } ∷ [])
   frees_run label r is first empty clear =
       let self = f.selves t a at in
       let c : CallLine = record { thread = record { 0 = t }; call = Free label; answer = Freed (address_of r) } in
@@ -165,7 +154,7 @@ module _ {m : Setup} {b : Books} {calls : List CallLine} (f : Facts m b calls) (
       let none = none_begins r some empty in
       moved f t a w at b.stock (less r b.heap) b.spans b.names (calls ++ c ∷ []) (kept_freed f.kept (record { 0 = t }) label (address_of r) block.0 block.1)
       (subst (All (IsStanding m (books_with b b.stock (less r b.heap) b.spans b.names t w))) (sym (blocks_after-push calls c))
-      (All-kept (IsStanding m b) (IsStanding m (books_with b b.stock (less r b.heap) b.spans b.names t w)) (λ (x : Extent). not (eqb x.addr (first_byte r))) (blocks_after calls) (λ x stands apart. elim stands [
+      (All-kept (IsStanding m b) (IsStanding m (books_with b b.stock (less r b.heap) b.spans b.names t w)) (λ (x : Extent). not (eqb x.addr (first_byte r))) _ (λ x stands apart. elim stands [
         | inl l ↦ inl (large_still f t a w at b.stock (less r b.heap) b.spans b.names x l (
             let z : bit (same_run r l.run) ≡ 0 = elim (cases_Bool (same_run r l.run)) [
               | inl same ↦
@@ -176,23 +165,18 @@ module _ {m : Setup} {b : Books} {calls : List CallLine} (f : Facts m b calls) (
             let e = gone l.run in
             omega (arith, e, z, l.live)) l.unmapped (l.unheld t a at))
         | inr o ↦ inr (record { class = o.class; object = o.object; size = o.size })
-      ]) f.live))
-      (heap_less f r there) f.cut
-      (record {
+      ]) f.live)) (heap_less f r there) f.cut (record {
         freeing = λ l o e. absurd (cc);
         spans = self.spans;
         mapped = self.mapped;
         whole = λ q. let e : spans_of_run q a.apart ≡ 0 = ap (spans_of_run q) empty in omega (arith, e);
         offs = λ n. omega arith;
         cleared = λ q. let e : _ = ap (spans_like (large q)) clear in omega (arith, e);
-      })
-      (labels_freed f t a at w refl label (address_of r) returns refl)
-      (record {
+      }) (labels_freed f t a at w refl label (address_of r) returns refl) (record {
         map = λ q. let e = gone q in omega (arith, f.map q, shift (off_map q) b.accounts t a w at, off q, e);
         own = λ k q. omega (arith, f.own k q, shift (transit (small (class_number k) q)) b.accounts t a w at);
         clear = λ q. omega (arith, f.clear q, shift (clearing (large q)) b.accounts t a w at);
-      })
-      (record {
+      }) (record {
         places = λ n. let e = less_counts r b.heap there (starting n) in omega (arith, f.places n, shift (held_at n) b.accounts t a w at, held n, e);
         begins = λ n.
             let e = less_counts r b.heap there (starting n) in
@@ -202,7 +186,7 @@ module _ {m : Setup} {b : Books} {calls : List CallLine} (f : Facts m b calls) (
                   let q : sum_by (λ (x : Account). spans_at (first_byte r) x.apart) b.accounts ≡ sum_by (λ (x : Account). spans_at n x.apart) b.accounts =
                   ap (λ k. sum_by (λ (x : Account). spans_at k x.apart) b.accounts) same in
                   omega (arith, p, q, none.0, none.1, shift (λ (x : Account). spans_at n x.apart) b.accounts t a w at)
-              | inr other ↦ let z : bit (eqb (first_byte r) n) ≡ 0 = ap bit (ne_eqb (first_byte r) n other) in omega (arith, z, e, f.begins n, shift (λ (x : Account). spans_at n x.apart) b.accounts t a w at)
+              | inr other ↦ omega (arith, ap bit (ne_eqb (first_byte r) n other), e, f.begins n, shift (λ (x : Account). spans_at n x.apart) b.accounts t a w at)
             ];
         classes = λ k n. omega (arith, f.classes k n, shift (in_hand k n) b.accounts t a w at);
       })

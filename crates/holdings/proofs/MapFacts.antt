@@ -34,33 +34,13 @@ run_at r xs = counts_most (of_run r) (starting_span (first_byte r)) (λ x. same_
 
 -- two that begin at one address, and two of one run
 apart_runs : (r q x : Run) → same_run r q ≡ false → first_byte q ≡ first_byte r → bit (same_run x r) + bit (same_run x q) ≤ bit (eqb (first_byte x) (first_byte r))
-apart_runs r q x other at =
-    elim (cases_Bool (same_run x r)) [
-      | inl is ↦
-          let e : same_run x q ≡ false = ap (λ (y : Run). same_run y q) (same_run_is x r is) ∙ other in
-          let z : bit (same_run x q) ≡ 0 = ap bit e in
-          omega (arith, z, same_run_start x r)
-      | inr not_is ↦
-          let z : bit (same_run x r) ≡ 0 = ap bit not_is in
-          let e : bit (eqb (first_byte x) (first_byte q)) ≡ bit (eqb (first_byte x) (first_byte r)) = ap (λ (n : ℕ). bit (eqb (first_byte x) n)) at in
-          omega (arith, z, e, same_run_start x q)
-    ]
+apart_runs r q x other at = grind (arith, cases_Bool, eqb, same_run_is, same_run_start)
 
 pub two_at : (r q : Run) (xs : List Run) → same_run r q ≡ false → first_byte q ≡ first_byte r → runs_like r xs + runs_like q xs ≤ runs_at (first_byte r) xs
 two_at r q xs other at = counts_both (like r) (like q) (starting (first_byte r)) (λ x. apart_runs r q x other at) xs
 
 apart_spans : (s t x : SpanRef) → same_span s t ≡ false → run_of t ≡ run_of s → bit (same_span x s) + bit (same_span x t) ≤ bit (same_run (run_of x) (run_of s))
-apart_spans s t x other at =
-    elim (cases_Bool (same_span x s)) [
-      | inl is ↦
-          let e : same_span x t ≡ false = ap (λ (y : SpanRef). same_span y t) (same_span_is x s is) ∙ other in
-          let z : bit (same_span x t) ≡ 0 = ap bit e in
-          omega (arith, z, same_span_run x s)
-      | inr not_is ↦
-          let z : bit (same_span x s) ≡ 0 = ap bit not_is in
-          let e : bit (same_run (run_of x) (run_of t)) ≡ bit (same_run (run_of x) (run_of s)) = ap (λ (y : Run). bit (same_run (run_of x) y)) at in
-          omega (arith, z, e, same_span_run x t)
-    ]
+apart_spans s t x other at = grind (arith, cases_Bool, same_span_is, same_span_run)
 
 pub two_spans : (s t : SpanRef) (xs : List SpanRef) → same_span s t ≡ false → run_of t ≡ run_of s → spans_like s xs + spans_like t xs ≤ spans_of_run (run_of s) xs
 two_spans s t xs other at = counts_both (like_span s) (like_span t) (of_run (run_of s)) (λ x. apart_spans s t x other at) xs
@@ -82,7 +62,7 @@ pub span_at_found : (n : ℕ) (xs : List SpanRef) → 0 < spans_at n xs → (s :
 span_at_found n xs some =
     let a = among (starting_span n) xs some in
     let own : bit (same_span a.one a.one) ≡ 1 = ap bit (same_span_refl a.one) in
-    (a.one, eqb-true (first_byte (run_of a.one)) n (bit_is (eqb (first_byte (run_of a.one)) n) a.some), omega (arith, own, a.least (spans_like a.one) (λ (x : SpanRef). bit (same_span x a.one)) (like_span a.one)))
+    (a.one, eqb-true _ n (bit_is (eqb (first_byte (run_of a.one)) n) a.some), omega (arith, own, a.least (spans_like a.one) (λ (x : SpanRef). bit (same_span x a.one)) (like_span a.one)))
 
 -- what all spans have
 pub span_all : (P : SpanRef → Type 0) (s : SpanRef) (xs : List SpanRef) → All P xs → 0 < spans_like s xs → P s
@@ -123,30 +103,17 @@ large_apart r q c = and_false (same_run r q)
 
 -- runs with no byte in common have no page in common
 pub run_pages : (r q : Run) → 0 < r.pages → 0 < q.pages → meets (block_of r) (block_of q) ≡ false → (r.first.0 + r.pages ≤ q.first.0) ⊎ (q.first.0 + q.pages ≤ r.first.0)
-run_pages r q some more apart =
-    elim (cases_lt r.first.0 (q.first.0 + q.pages)) [
-      | inl before ↦ elim (cases_lt q.first.0 (r.first.0 + r.pages)) [
-        | inl after ↦
-            let met : meets (block_of r) (block_of q) ≡ true = and_from (ltb (first_byte r) (first_byte q + q.pages * page_bytes)) (ltb (first_byte q) (first_byte r + r.pages * page_bytes)) (lt-ltb (first_byte r) (first_byte q + q.pages * page_bytes) (omega (arith, before))) (lt-ltb (first_byte q) (first_byte r + r.pages * page_bytes) (omega (arith, after))) in
-            absurd (false≢true (sym apart ∙ met))
-        | inr past ↦ inl past
-      ]
-      | inr past ↦ inr past
-    ]
+run_pages r q some more apart = grind (arith, and_from, cases_lt, false≢true, lt-ltb)
 
 -- a byte of a run
 abbrev pub HasByte : Run → ℕ → Type 0
 HasByte r n = (first_byte r ≤ n) × (n < (r.first.0 + r.pages) * page_bytes)
 
 pub page_byte : (s : SpanRef) (n : ℕ) → map.holds (n / page_bytes) s ≡ true → HasByte (run_of s) n
-page_byte s n is =
-    let parts = and_parts (leb s.first.0 (n / page_bytes)) (ltb (n / page_bytes) (s.first.0 + s.pages)) is in
-    let a = leb-true s.first.0 (n / page_bytes) parts.0 in
-    let b = ltb-true (n / page_bytes) (s.first.0 + s.pages) parts.1 in
-    (omega (arith, a), omega (arith, b))
+page_byte s n is = grind (arith, and_parts, leb, leb-true, ltb, ltb-true)
 
 pub byte_page : (s : SpanRef) (n : ℕ) → HasByte (run_of s) n → map.holds (n / page_bytes) s ≡ true
-byte_page s n at = and_from (leb s.first.0 (n / page_bytes)) (ltb (n / page_bytes) (s.first.0 + s.pages)) (le-leb s.first.0 (n / page_bytes) (omega (arith, at.0))) (lt-ltb (n / page_bytes) (s.first.0 + s.pages) (omega (arith, at.1)))
+byte_page s n at = and_from _ _ (le-leb s.first.0 (n / page_bytes) (omega (arith, at.0))) (lt-ltb (n / page_bytes) (s.first.0 + s.pages) (omega (arith, at.1)))
 
 module _ (m : Setup) (b : Books) (calls : List CallLine) (f : Facts m b calls) where
   pub once_live : (r : Run) → runs_like r b.heap ≤ 1
@@ -154,29 +121,17 @@ module _ (m : Setup) (b : Books) (calls : List CallLine) (f : Facts m b calls) w
 
   -- live runs that begin at one address are one, as are those that have a byte in common
   pub one_start : (r q : Run) → 0 < runs_like r b.heap → 0 < runs_like q b.heap → first_byte q ≡ first_byte r → r ≡ q
-  one_start r q live live' at =
-      elim (cases_Bool (same_run r q)) [
-        | inl is ↦ same_run_is r q is
-        | inr other ↦ absurd (omega (arith, two_at r q b.heap other at, f.starts (first_byte r), live, live'))
-      ]
+  one_start r q live live' at = grind (arith, cases_Bool, same_run_is, two_at)
 
   pub one_byte : (r q : Run) (n : ℕ) → 0 < runs_like r b.heap → 0 < runs_like q b.heap → HasByte r n → HasByte q n → r ≡ q
-  one_byte r q n live live' has has' =
-      elim (cases_Bool (same_run r q)) [
-        | inl is ↦ same_run_is r q is
-        | inr other ↦ absurd (elim (run_pages r q (f.inside r live).some (f.inside q live').some (f.disjoint r q live live' other)) [ inl before ↦ omega (arith, before, has.1, has'.0) | inr after ↦ omega (arith, after, has'.1, has.0) ])
-      ]
+  one_byte r q n live live' has has' = grind (arith, cases_Bool, run_pages, same_run_is)
 
   -- the map's spans live, and those of one run are one
   pub span_lives : (s : SpanRef) → 0 < spans_like s b.spans → 0 < runs_like (run_of s) b.heap
   span_lives s there = omega (arith, span_run s b.spans, f.map (run_of s), there)
 
   pub one_span : (s t : SpanRef) → 0 < spans_like s b.spans → 0 < spans_like t b.spans → run_of t ≡ run_of s → s ≡ t
-  one_span s t there there' at =
-      elim (cases_Bool (same_span s t)) [
-        | inl is ↦ same_span_is s t is
-        | inr other ↦ absurd (omega (arith, two_spans s t b.spans other at, f.map (run_of s), once_live (run_of s), there, there'))
-      ]
+  one_span s t there there' at = grind (arith, cases_Bool, once_live, same_span_is, two_spans)
 
   -- a run off the map isn't in the map, and lives
   pub off_lives : (i : ℕ) (a : Account) (r : Run) → slice_get b.accounts i ≡ Some a → 0 < runs_like r a.off → (0 < runs_like r b.heap) × (spans_of_run r b.spans ≡ 0)
@@ -228,7 +183,18 @@ module _ (m : Setup) (b : Books) (calls : List CallLine) (f : Facts m b calls) w
       let l = f.cut.lies k n some in
       let there = owned_there l.span l.owned in
       let z = f.cut.some k n some in
-      record { span = l.span; owned = l.owned; there = there; live = span_lives l.span there; kind = l.kind; class = f.cut.class k n some; some = z; from = l.from; to = l.to; byte = (l.from, omega (arith, l.to, z)) }
+      record {
+        span = l.span;
+        owned = l.owned;
+        there = there;
+        live = span_lives l.span there;
+        kind = l.kind;
+        class = f.cut.class k n some;
+        some = z;
+        from = l.from;
+        to = l.to;
+        byte = (l.from, omega (arith, l.to, z));
+      }
 
   -- no object is in a large block
   pub no_object : (r : Run) → 0 < spans_like (large r) b.spans → over_classes m.rows (λ k. b.stock.objects k (first_byte r)) ≡ 0
@@ -256,5 +222,6 @@ module _ (m : Setup) (b : Books) (calls : List CallLine) (f : Facts m b calls) w
 
   pub objects_once : (k n : ℕ) → 0 < b.stock.objects k n → over_classes m.rows (λ j. b.stock.objects j n) ≡ 1
   objects_once k n some =
-      let alone : (j : ℕ) → j ≢ k → b.stock.objects j n ≡ 0 = λ j other. elim (cases_lt 0 (b.stock.objects j n)) [ inl more ↦ absurd (other (one_class j k n more some)) | inr none ↦ omega arith ] in
+      let alone : (j : ℕ) → j ≢ k → b.stock.objects j n ≡ 0 =
+      λ j other. elim (cases_lt 0 (b.stock.objects j n)) [ inl more ↦ absurd (other (one_class j k n more some)) | inr none ↦ omega arith ] in
       omega (arith, class_alone m.rows (λ j. b.stock.objects j n) k (f.cut.class k n some) alone, f.cut.once k n, some)

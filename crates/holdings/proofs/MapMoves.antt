@@ -28,33 +28,27 @@ module _ {m : Setup} {b : Books} {calls : List CallLine} (f : Facts m b calls) (
       let w : Account = record a { off = r ∷ []; apart = s ∷ a.apart } in
       let off : (q : Run) → runs_like q a.off ≡ 0 = λ q. ap (runs_like q) clear in
       let class : IsOfClass m.rows s = record { class = a.class; kind = refl; there = below; pages = placed.pages; some = placed.some } in
-      moved f t a w at b.stock (r ∷ b.heap) b.spans b.names calls f.kept
-      (still f t a w at (r ∷ b.heap) b.spans b.names (λ x l. (
+      moved f t a w at b.stock (r ∷ b.heap) b.spans b.names calls f.kept (still f t a w at (r ∷ b.heap) b.spans b.names (λ x l. (
         omega (arith, l.live),
         l.unmapped,
         (
             let z : bit (same_run r l.run) ≡ 0 = elim (cases_Bool (same_run r l.run)) [
-              | inl same ↦ absurd (let e : runs_like r b.heap ≡ runs_like l.run b.heap = ap (λ (q : Run). runs_like q b.heap) (same_run_is r l.run same) in omega (arith, e, l.live, placed.fresh, like_at r b.heap))
+              | inl same ↦ absurd (omega (arith, ap (λ (q : Run). runs_like q b.heap) (same_run_is r l.run same), l.live, placed.fresh, like_at r b.heap))
               | inr other ↦ ap bit other
             ] in
             omega (arith, z, l.unheld t a at)),
-      )))
-      (heap_more f (pages_of m.rows a.class) r placed) f.cut
-      (record {
+      ))) (heap_more f (pages_of m.rows a.class) r placed) f.cut (record {
         freeing = self.freeing;
         spans = All-cons (IsOfClass m.rows) s a.apart class self.spans;
         mapped = λ x. omega (arith, self.mapped x);
         whole = λ q. omega (arith, self.whole q, off q);
         offs = λ n. omega (arith, self.offs n);
         cleared = self.cleared;
-      })
-      (labels_still f t a w at (λ x. refl) (λ x. refl) (λ x. refl) (λ x. refl) (λ x v. refl))
-      (record {
+      }) (labels_still f t a w at (λ x. refl) (λ x. refl) (λ x. refl) (λ x. refl) (λ x v. refl)) (record {
         map = λ q. omega (arith, f.map q, shift (off_map q) b.accounts t a w at, off q);
         own = λ k q. omega (arith, f.own k q, shift (transit (small (class_number k) q)) b.accounts t a w at);
         clear = λ q. omega (arith, f.clear q, shift (clearing (large q)) b.accounts t a w at);
-      })
-      (record {
+      }) (record {
         places = λ n. omega (arith, f.places n, shift (held_at n) b.accounts t a w at);
         begins = λ n. omega (arith, f.begins n, shift (λ (x : Account). spans_at n x.apart) b.accounts t a w at);
         classes = λ k n. omega (arith, f.classes k n, shift (in_hand k n) b.accounts t a w at);
@@ -68,8 +62,7 @@ module _ {m : Setup} {b : Books} {calls : List CallLine} (f : Facts m b calls) (
       let off : (q : Run) → runs_like q a.off ≡ bit (same_run r q) + 0 = λ q. ap (runs_like q) is in
       moved f t a w at b.stock b.heap (large r ∷ b.spans) b.names calls f.kept
       (still f t a w at b.heap (large r ∷ b.spans) b.names (λ x l. (l.live, (λ k. omega (arith, l.unmapped k, large_apart r l.run (class_number k))), l.unheld t a at)))
-      (heap_facts f) f.cut
-      (record {
+      (heap_facts f) f.cut (record {
         freeing = self.freeing;
         spans = self.spans;
         mapped = self.mapped;
@@ -79,18 +72,14 @@ module _ {m : Setup} {b : Books} {calls : List CallLine} (f : Facts m b calls) (
         ];
         offs = λ n. omega arith;
         cleared = self.cleared;
-      })
-      (labels_still f t a w at (λ x. refl) (λ x. refl) (λ x. refl) (λ x. refl) (λ x v. refl))
-      (record {
+      }) (labels_still f t a w at (λ x. refl) (λ x. refl) (λ x. refl) (λ x. refl) (λ x v. refl)) (record {
         map = λ q. omega (arith, f.map q, shift (off_map q) b.accounts t a w at, off q);
         own = λ k q. omega (arith, f.own k q, shift (transit (small (class_number k) q)) b.accounts t a w at, large_apart r q (class_number k));
         clear = λ q. omega (arith, f.clear q, shift (clearing (large q)) b.accounts t a w at);
-      })
-      (places_still f t a w at (λ n. refl) (λ n. refl) (λ k n. refl))
+      }) (places_still f t a w at (λ n. refl) (λ n. refl) (λ k n. refl))
 
   -- as does a class's
-  pub sets_span : (r : Run) (apart : List SpanRef) → a.off ≡ r ∷ [] → a.apart ≡ small (class_number a.class) r ∷ apart
-      → a.mapped ≡ []
+  pub sets_span : (r : Run) (apart : List SpanRef) → a.off ≡ r ∷ [] → a.apart ≡ small (class_number a.class) r ∷ apart → a.mapped ≡ []
       → Facts m (books_with b b.stock b.heap (small (class_number a.class) r ∷ b.spans) b.names t (record a { off = []; mapped = small (class_number a.class) r ∷ [] })) calls
   sets_span r apart is first empty =
       let self = f.selves t a at in
@@ -99,26 +88,20 @@ module _ {m : Setup} {b : Books} {calls : List CallLine} (f : Facts m b calls) (
       let off : (q : Run) → runs_like q a.off ≡ bit (same_run r q) + 0 = λ q. ap (runs_like q) is in
       let mapped : (x : SpanRef) → spans_like x a.mapped ≡ 0 = λ x. ap (spans_like x) empty in
       let none : (q : Run) → spans_of_run q a.mapped ≡ 0 = λ q. ap (spans_of_run q) empty in
-      moved f t a w at b.stock b.heap (s ∷ b.spans) b.names calls f.kept
-      (still f t a w at b.heap (s ∷ b.spans) b.names (λ x l.
+      moved f t a w at b.stock b.heap (s ∷ b.spans) b.names calls f.kept (still f t a w at b.heap (s ∷ b.spans) b.names (λ x l.
       let e : spans_of_run l.run a.apart ≡ bit (same_run r l.run) + spans_of_run l.run apart = ap (spans_of_run l.run) first in
-      (l.live, (λ k. omega (arith, l.unmapped k, e, l.unheld t a at, same_span_run s (small (class_number k) l.run))), l.unheld t a at)))
-      (heap_facts f) f.cut
-      (record {
+      (l.live, (λ k. omega (arith, l.unmapped k, e, l.unheld t a at, same_span_run s (small (class_number k) l.run))), l.unheld t a at))) (heap_facts f) f.cut (record {
         freeing = self.freeing;
         spans = self.spans;
         mapped = λ x. let e : spans_like x a.apart ≡ bit (same_span s x) + spans_like x apart = ap (spans_like x) first in omega (arith, e);
         whole = λ q. omega (arith, self.whole q, off q, none q);
         offs = λ n. omega arith;
         cleared = self.cleared;
-      })
-      (labels_still f t a w at (λ x. refl) (λ x. refl) (λ x. refl) (λ x. refl) (λ x v. refl))
-      (record {
+      }) (labels_still f t a w at (λ x. refl) (λ x. refl) (λ x. refl) (λ x. refl) (λ x v. refl)) (record {
         map = λ q. omega (arith, f.map q, shift (off_map q) b.accounts t a w at, off q);
         own = λ k q. omega (arith, f.own k q, shift (transit (small (class_number k) q)) b.accounts t a w at, mapped (small (class_number k) q));
         clear = λ q. omega (arith, f.clear q, shift (clearing (large q)) b.accounts t a w at);
-      })
-      (places_still f t a w at (λ n. refl) (λ n. refl) (λ k n. refl))
+      }) (places_still f t a w at (λ n. refl) (λ n. refl) (λ k n. refl))
 
   -- a large block is found that is to be cleared
   nobody_clears : (label : Label) (r : Run) → a.doing ≡ Holds label (address_of r) → 0 < spans_like (large r) b.spans → a.clears ≡ [] → sum_by (clearing (large r)) b.accounts ≡ 0
@@ -129,7 +112,9 @@ module _ {m : Setup} {b : Books} {calls : List CallLine} (f : Facts m b calls) (
         | inl same ↦
             let d : x ≡ a = one_at b.accounts i t x a other at same in
             ap (λ (y : Account). spans_like (large r) y.clears) d ∙ ap (spans_like (large r)) empty
-        | inr apart ↦ omega (arith, own, two (held_at (first_byte r)) b.accounts i t x a apart other at, (f.selves i x other).cleared r, f.places (first_byte r), f.starts (first_byte r), no_object m b calls f r there)
+        | inr apart ↦
+            (let both = two (held_at (first_byte r)) b.accounts i t x a apart other at in
+            omega (arith, own, both, (f.selves i x other).cleared r, f.places (first_byte r), f.starts (first_byte r), no_object m b calls f r there))
       ])
 
   pub finds_run : (label : Label) (r : Run) → a.doing ≡ Holds label (address_of r) → 0 < spans_like (large r) b.spans
@@ -138,19 +123,15 @@ module _ {m : Setup} {b : Books} {calls : List CallLine} (f : Facts m b calls) (
       let self = f.selves t a at in
       let w : Account = record a { clears = large r ∷ [] } in
       let none : (x : SpanRef) → spans_like x a.clears ≡ 0 = λ x. ap (spans_like x) empty in
-      moved f t a w at b.stock b.heap b.spans b.names calls f.kept
-      (still f t a w at b.heap b.spans b.names (λ x l. (l.live, l.unmapped, l.unheld t a at)))
-      (heap_facts f) f.cut
+      moved f t a w at b.stock b.heap b.spans b.names calls f.kept (still f t a w at b.heap b.spans b.names (λ x l. (l.live, l.unmapped, l.unheld t a at))) (heap_facts f) f.cut
       (record {
         freeing = self.freeing;
         spans = self.spans;
         mapped = self.mapped;
         whole = self.whole;
         offs = self.offs;
-        cleared = λ q. let e : loose (first_byte q) a.doing ≡ bit (eqb (first_byte r) (first_byte q)) = ap (loose (first_byte q)) is in omega (arith, e, same_span_run (large r) (large q), same_run_start r q);
-      })
-      (labels_still f t a w at (λ x. refl) (λ x. refl) (λ x. refl) (λ x. refl) (λ x v. refl))
-      (record {
+        cleared = λ q. omega (arith, ap (loose (first_byte q)) is, same_span_run (large r) (large q), same_run_start r q);
+      }) (labels_still f t a w at (λ x. refl) (λ x. refl) (λ x. refl) (λ x. refl) (λ x v. refl)) (record {
         map = λ q. omega (arith, f.map q, shift (off_map q) b.accounts t a w at);
         own = λ k q. omega (arith, f.own k q, shift (transit (small (class_number k) q)) b.accounts t a w at);
         clear = λ q. elim (cases_Bool (same_run r q)) [
@@ -162,8 +143,7 @@ module _ {m : Setup} {b : Books} {calls : List CallLine} (f : Facts m b calls) (
               let z : bit (same_run r q) ≡ 0 = ap bit other in
               omega (arith, f.clear q, shift (clearing (large q)) b.accounts t a w at, none (large q), same_span_run (large r) (large q), z)
         ];
-      })
-      (places_still f t a w at (λ n. refl) (λ n. refl) (λ k n. refl))
+      }) (places_still f t a w at (λ n. refl) (λ n. refl) (λ k n. refl))
 
   -- and its span goes from the map
   pub clears_run : (label : Label) (r : Run) → a.doing ≡ Holds label (address_of r) → a.clears ≡ large r ∷ [] → a.off ≡ []
@@ -178,22 +158,18 @@ module _ {m : Setup} {b : Books} {calls : List CallLine} (f : Facts m b calls) (
       let gone : (x : SpanRef) → spans_like x (without (large r) b.spans) + bit (same_span (large r) x) ≡ spans_like x b.spans = λ x. without_counts (large r) b.spans there (like_span x) in
       moved f t a w at b.stock b.heap (without (large r) b.spans) b.names calls f.kept
       (still f t a w at b.heap (without (large r) b.spans) b.names (λ x l. (l.live, (λ k. let e = gone (small (class_number k) l.run) in omega (arith, l.unmapped k, e)), l.unheld t a at)))
-      (heap_facts f) f.cut
-      (record {
+      (heap_facts f) f.cut (record {
         freeing = self.freeing;
         spans = self.spans;
         mapped = self.mapped;
         whole = λ q. omega (arith, self.whole q, off q);
         offs = λ n. let e : loose n a.doing ≡ bit (eqb (first_byte r) n) = ap (loose n) is in omega (arith, e);
         cleared = λ q. omega arith;
-      })
-      (labels_still f t a w at (λ x. refl) (λ x. refl) (λ x. refl) (λ x. refl) (λ x v. refl))
-      (record {
+      }) (labels_still f t a w at (λ x. refl) (λ x. refl) (λ x. refl) (λ x. refl) (λ x v. refl)) (record {
         map = λ q. let e = without_counts (large r) b.spans there (of_run q) in omega (arith, f.map q, shift (off_map q) b.accounts t a w at, off q, e);
         own = λ k q. let e = gone (small (class_number k) q) in omega (arith, f.own k q, shift (transit (small (class_number k) q)) b.accounts t a w at, e, large_apart r q (class_number k));
         clear = λ q. let e = gone (large q) in omega (arith, f.clear q, shift (clearing (large q)) b.accounts t a w at, e, cleared q);
-      })
-      (places_still f t a w at (λ n. refl) (λ n. refl) (λ k n. refl))
+      }) (places_still f t a w at (λ n. refl) (λ n. refl) (λ k n. refl))
 
   -- as does the span of a class that left its shard
   pub clears_span : (s : SpanRef) (mapped : List SpanRef) → a.mapped ≡ s ∷ mapped → a.off ≡ []
@@ -210,8 +186,7 @@ module _ {m : Setup} {b : Books} {calls : List CallLine} (f : Facts m b calls) (
       let gone : (x : SpanRef) → spans_like x (without s b.spans) + bit (same_span s x) ≡ spans_like x b.spans = λ x. without_counts s b.spans there (like_span x) in
       moved f t a w at b.stock b.heap (without s b.spans) b.names calls f.kept
       (still f t a w at b.heap (without s b.spans) b.names (λ x l. (l.live, (λ k. let e = gone (small (class_number k) l.run) in omega (arith, l.unmapped k, e)), l.unheld t a at)))
-      (heap_facts f) f.cut
-      (record {
+      (heap_facts f) f.cut (record {
         freeing = self.freeing;
         spans = self.spans;
         mapped = λ x. omega (arith, self.mapped x, held x);
@@ -223,14 +198,11 @@ module _ {m : Setup} {b : Books} {calls : List CallLine} (f : Facts m b calls) (
           | inr other ↦ let z : bit (eqb (first_byte (run_of s)) n) ≡ 0 = ap bit (ne_eqb (first_byte (run_of s)) n other) in omega (arith, z)
         ];
         cleared = self.cleared;
-      })
-      (labels_still f t a w at (λ x. refl) (λ x. refl) (λ x. refl) (λ x. refl) (λ x v. refl))
-      (record {
+      }) (labels_still f t a w at (λ x. refl) (λ x. refl) (λ x. refl) (λ x. refl) (λ x v. refl)) (record {
         map = λ q. let e = without_counts s b.spans there (of_run q) in omega (arith, f.map q, shift (off_map q) b.accounts t a w at, off q, e);
         own = λ k q. let e = gone (small (class_number k) q) in omega (arith, f.own k q, shift (transit (small (class_number k) q)) b.accounts t a w at, e, held (small (class_number k) q));
         clear = λ q. let e = gone (large q) in omega (arith, f.clear q, shift (clearing (large q)) b.accounts t a w at, e, small_apart s (class_number class.class) q class.kind);
-      })
-      (places_still f t a w at (λ n. refl) (λ n. refl) (λ k n. refl))
+      }) (places_still f t a w at (λ n. refl) (λ n. refl) (λ k n. refl))
 
   -- and its run from the heap
   pub frees_span : (s : SpanRef) (apart : List SpanRef) → a.off ≡ run_of s ∷ [] → a.apart ≡ s ∷ apart → a.mapped ≡ apart
@@ -245,23 +217,19 @@ module _ {m : Setup} {b : Books} {calls : List CallLine} (f : Facts m b calls) (
       let starts : (n : ℕ) → spans_at n a.apart ≡ bit (eqb (first_byte (run_of s)) n) + spans_at n apart = λ n. ap (spans_at n) first in
       let held : (q : Run) → spans_of_run q a.apart ≡ bit (same_run (run_of s) q) + spans_of_run q apart = λ q. ap (spans_of_run q) first in
       moved f t a w at b.stock (less (run_of s) b.heap) b.spans b.names calls f.kept
-      (still f t a w at (less (run_of s) b.heap) b.spans b.names (λ x l. ((let e = gone l.run in omega (arith, e, held l.run, l.unheld t a at, l.live)), l.unmapped, omega (arith, held l.run, l.unheld t a at))))
-      (heap_less f (run_of s) there) f.cut
-      (record {
+      (still f t a w at (less (run_of s) b.heap) b.spans b.names (λ x l. (omega (arith, gone l.run, held l.run, l.unheld t a at, l.live), l.unmapped, omega (arith, held l.run, l.unheld t a at))))
+      (heap_less f (run_of s) there) f.cut (record {
         freeing = self.freeing;
         spans = All-tail (IsOfClass m.rows) s apart (subst (All (IsOfClass m.rows)) first self.spans);
         mapped = λ x. let e : _ = ap (spans_like x) rest in omega (arith, e);
         whole = λ q. let e : _ = ap (spans_of_run q) rest in omega (arith, e);
         offs = λ n. omega arith;
         cleared = self.cleared;
-      })
-      (labels_still f t a w at (λ x. refl) (λ x. refl) (λ x. refl) (λ x. refl) (λ x v. refl))
-      (record {
+      }) (labels_still f t a w at (λ x. refl) (λ x. refl) (λ x. refl) (λ x. refl) (λ x v. refl)) (record {
         map = λ q. let e = gone q in omega (arith, f.map q, shift (off_map q) b.accounts t a w at, off q, e);
         own = λ k q. omega (arith, f.own k q, shift (transit (small (class_number k) q)) b.accounts t a w at);
         clear = λ q. omega (arith, f.clear q, shift (clearing (large q)) b.accounts t a w at);
-      })
-      (record {
+      }) (record {
         places = λ n. let e = less_counts (run_of s) b.heap there (starting n) in omega (arith, f.places n, shift (held_at n) b.accounts t a w at, starts n, e);
         begins = λ n. let e = less_counts (run_of s) b.heap there (starting n) in omega (arith, f.begins n, shift (λ (x : Account). spans_at n x.apart) b.accounts t a w at, starts n, e);
         classes = λ k n. omega (arith, f.classes k n, shift (in_hand k n) b.accounts t a w at);

@@ -34,11 +34,13 @@ move_keeps m b calls t a f at (Rests w new same says) = other_said m _ calls t s
 move_keeps m b calls t a f at (GetsNone label size w is same) = becomes m b t a _ w _ _ _ _ _ at (gets_none f t a at label size is) same
 move_keeps m b calls t a f at (GetsRun label size r w is clear placed length_is same) = becomes m b t a _ w _ _ _ _ _ at (gets_run f t a at label size r is clear placed length_is) same
 move_keeps m b calls t a f at (GetsObject label size g o rest w is class empty move cut same) = becomes m b t a _ w _ _ _ _ _ at (gets_object f t a at label size g o rest is class empty cut move) same
-move_keeps m b calls t a f at (GetsFirst label size g r o rest apart mapped w is clear class empty first firstm move cut same) = becomes m b t a _ w _ _ _ _ _ at (gets_first f t a at label size g o rest is class empty cut r apart mapped clear first firstm move) same
+move_keeps m b calls t a f at (GetsFirst label size g r o rest apart mapped w is clear class empty first firstm move cut same) =
+    becomes m b t a _ w _ _ _ _ _ at (gets_first f t a at label size g o rest is class empty cut r apart mapped clear first firstm move) same
 move_keeps m b calls t a f at (GetsSpan r w below clear placed same) = silent m _ calls (becomes m b t a _ w _ _ _ _ _ at (gets_span f t a at r below clear placed) same)
 move_keeps m b calls t a f at (SetsRun r w is none same) = silent m _ calls (becomes m b t a _ w _ _ _ _ _ at (sets_run f t a at r is none) same)
 move_keeps m b calls t a f at (SetsSpan r apart w is first empty same) = silent m _ calls (becomes m b t a _ w _ _ _ _ _ at (sets_span f t a at r apart is first empty) same)
-move_keeps m b calls t a f at (FindsObject label o span k w is empty clear unclear there holds_page kind same) = silent m _ calls (becomes m b t a _ w _ _ _ _ _ at (finds_object f t a at label o span k is empty clear there holds_page kind unclear) same)
+move_keeps m b calls t a f at (FindsObject label o span k w is empty clear unclear there holds_page kind same) =
+    silent m _ calls (becomes m b t a _ w _ _ _ _ _ at (finds_object f t a at label o span k is empty clear there holds_page kind unclear) same)
 move_keeps m b calls t a f at (FindsRun label r w is there empty same) = silent m _ calls (becomes m b t a _ w _ _ _ _ _ at (finds_run f t a at label r is there empty) same)
 move_keeps m b calls t a f at (ClearsRun label r w is first empty same) = silent m _ calls (becomes m b t a _ w _ _ _ _ _ at (clears_run f t a at label r is first empty) same)
 move_keeps m b calls t a f at (ClearsSpan s mapped w first empty same) = silent m _ calls (becomes m b t a _ w _ _ _ _ _ at (clears_span f t a at s mapped first empty) same)

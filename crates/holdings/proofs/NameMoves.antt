@@ -36,19 +36,15 @@ module _ {m : Setup} {b : Books} {calls : List CallLine} (f : Facts m b calls) (
       let w : Account = about a Other in
       let names : List NameState = slice_set b.names label.0 (name.Published value) in
       let there = publishes_within f t a at w refl label value is in
-      moved f t a w at b.stock b.heap b.spans names calls f.kept (stands_still w names refl) (heap_facts f) f.cut
-      (record {
+      moved f t a w at b.stock b.heap b.spans names calls f.kept (stands_still w names refl) (heap_facts f) f.cut (record {
         freeing = λ l o e. absurd (cc);
         spans = self.spans;
         mapped = self.mapped;
         whole = self.whole;
         offs = λ n. let e : _ = ap (runs_at n) empty in omega (arith, e);
         cleared = λ q. let e : _ = ap (spans_like (large q)) clear in omega (arith, e);
-      })
-      (labels_published f t a at w refl label value is refl old)
-      (spans_still f t a w at b.stock.owned (λ r. refl) (λ s. refl) (λ s. refl))
-      (record {
-        places = λ n. let e : loose n a.doing ≡ bit (is_at n value) = ap (loose n) is in omega (arith, f.places n, shift (held_at n) b.accounts t a w at, e, named f t a at n label.0 name.Unpublished (name.Published value) there old);
+      }) (labels_published f t a at w refl label value is refl old) (spans_still f t a w at b.stock.owned (λ r. refl) (λ s. refl) (λ s. refl)) (record {
+        places = λ n. omega (arith, f.places n, shift (held_at n) b.accounts t a w at, ap (loose n) is, named f t a at n label.0 name.Unpublished (name.Published value) there old);
         begins = λ n. omega (arith, f.begins n, shift (λ (x : Account). spans_at n x.apart) b.accounts t a w at);
         classes = λ k n. omega (arith, f.classes k n, shift (in_hand k n) b.accounts t a w at);
       })
@@ -70,16 +66,7 @@ module _ {m : Setup} {b : Books} {calls : List CallLine} (f : Facts m b calls) (
         }
 
     self_taken : (d : Doing) → ((l : Label) (o : Addr) → d ≡ Frees l o → ⊥) → IsSelf m (about a d)
-    self_taken d unfreed =
-        let self = f.selves t a at in
-        record {
-          freeing = λ l o e. absurd (unfreed l o e);
-          spans = self.spans;
-          mapped = self.mapped;
-          whole = self.whole;
-          offs = λ n. let e : loose n a.doing ≡ 0 = ap (loose n) is in omega (arith, self.offs n, e);
-          cleared = λ q. let e : loose (first_byte q) a.doing ≡ 0 = ap (loose (first_byte q)) is in omega (arith, self.cleared q, e);
-        }
+    self_taken d unfreed = grind arith
 
     pub takes_addr : (o : Addr) → state_of b.names label.0 ≡ name.Published (Some o)
         → Facts m (books_with b b.stock b.heap b.spans (slice_set b.names label.0 name.Taken) t (about a (Holds label o))) calls
@@ -88,20 +75,18 @@ module _ {m : Setup} {b : Books} {calls : List CallLine} (f : Facts m b calls) (
         let names : List NameState = slice_set b.names label.0 name.Taken in
         moved f t a w at b.stock b.heap b.spans names calls f.kept (stands_still w names refl) (heap_facts f) f.cut (self_taken (Holds label o) (λ l x e. absurd (cc)))
         (labels_taken f t a at w refl label (Some o) calls is old (λ x. refl) (λ x. refl) (λ x v. refl))
-        (spans_still f t a w at b.stock.owned (λ r. refl) (λ s. refl) (λ s. refl))
-        (places_taken (Some o) (Holds label o) old (λ n. refl))
+        (spans_still f t a w at b.stock.owned (λ r. refl) (λ s. refl) (λ s. refl)) (places_taken (Some o) (Holds label o) old (λ n. refl))
 
-    pub takes_null : state_of b.names label.0 ≡ name.Published None
-        → Facts m (books_with b b.stock b.heap b.spans (slice_set b.names label.0 name.Taken) t (about a Other)) (calls ++ record { thread = record { 0 = t }; call = Free label; answer = FreedNull } ∷ [])
+    pub takes_null : state_of b.names label.0 ≡ name.Published None → Facts m (books_with b b.stock b.heap b.spans (slice_set b.names label.0 name.Taken) t (about a Other))
+        (calls ++ record { thread = record { 0 = t }; call = Free label; answer = FreedNull } ∷ [])
     takes_null old =
         let c : CallLine = record { thread = record { 0 = t }; call = Free label; answer = FreedNull } in
         let w : Account = about a Other in
         let names : List NameState = slice_set b.names label.0 name.Taken in
         let has = value_named f t a at label.0 None old in
-        moved f t a w at b.stock b.heap b.spans names (calls ++ c ∷ [])
-        (kept_freed_null f.kept (record { 0 = t }) label (has_null calls label.0 (f.kept.answers label.0) has))
+        moved f t a w at b.stock b.heap b.spans names (calls ++ c ∷ []) (kept_freed_null f.kept (record { 0 = t }) label (has_null calls label.0 (f.kept.answers label.0) has))
         (subst (All (IsStanding m (books_with b b.stock b.heap b.spans names t w))) (sym (blocks_after-push calls c)) (stands_still w names refl))
         (heap_facts f) f.cut (self_taken Other (λ l x e. absurd (cc)))
-        (labels_taken f t a at w refl label None (calls ++ c ∷ []) is old (λ x. refl) (λ x. ap (λ o. bit (is_some o)) (answer_same calls c x refl)) (λ x v. let e = lose calls (record { 0 = t }) label FreedNull None has x v in omega (arith, e)))
-        (spans_still f t a w at b.stock.owned (λ r. refl) (λ s. refl) (λ s. refl))
+        (labels_taken f t a at w refl label None (calls ++ c ∷ []) is old (λ x. refl) (λ x. ap (λ o. bit (is_some o)) (answer_same calls c x refl))
+        (λ x v. omega (arith, lose calls (record { 0 = t }) label FreedNull None has x v))) (spans_still f t a w at b.stock.owned (λ r. refl) (λ s. refl) (λ s. refl))
         (places_taken None Other old (λ n. refl))

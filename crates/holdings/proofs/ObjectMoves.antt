@@ -107,15 +107,15 @@ module _ {m : Setup} {b : Books} {calls : List CallLine} (f : Facts m b calls) (
       stands_hand : (x : Extent) → IsStanding m b x → Labelled calls x
           → ((label : Label) (o : Addr) → a.doing ≡ Frees label o → o.0 ≡ x.addr → 0 < objects_at x.addr hand)
           → IsStanding m (books_with b g b.heap b.spans b.names t then) x
-      stands_hand x stands own frees = stands_on f t a at g hand stocked then x stands own frees (λ q unmapped unheld. let e = counts_append (of_run q) freed a.apart in omega (arith, e, unheld, freed_spans g freed move.spans q unmapped))
+      stands_hand x stands own frees =
+          stands_on f t a at g hand stocked then x stands own frees (λ q unmapped unheld. omega (arith, counts_append (of_run q) freed a.apart, unheld, freed_spans g freed move.spans q unmapped))
 
     pub moves_hand : ((label : Label) (o : Addr) → a.doing ≡ Frees label o → 0 < objects_at o.0 hand) → Facts m (books_with b g b.heap b.spans b.names t (with_hand a hand freed)) calls
     moves_hand freeing =
         let w : Account = with_hand a hand freed in
         moved f t a w at g b.heap b.spans b.names calls f.kept
-        (λ i d within. stands_hand a.doing (λ n. refl) (get_or (blocks_after calls) i d) (f.live i d within) (f.kept.labelled i d within) (λ label o is there. subst (λ k. 0 < objects_at k hand) there (freeing label o is)))
-        (heap_facts f) cut (self_hand a.doing (λ n. refl) freeing)
-        (labels_still f t a w at (λ x. refl) (λ x. refl) (λ x. refl) (λ x. refl) (λ x v. refl))
+        (λ i d within. stands_hand a.doing (λ n. refl) _ (f.live i d within) (f.kept.labelled i d within) (λ label o is there. subst (λ k. 0 < objects_at k hand) there (freeing label o is)))
+        (heap_facts f) cut (self_hand a.doing (λ n. refl) freeing) (labels_still f t a w at (λ x. refl) (λ x. refl) (λ x. refl) (λ x. refl) (λ x v. refl))
         (spans_hand a.doing (λ n. refl)) (places_hand a.doing (λ n. refl))
 
     pub frees_object : (label : Label) (o : Addr) → a.doing ≡ Frees label o
@@ -129,12 +129,11 @@ module _ {m : Setup} {b : Books} {calls : List CallLine} (f : Facts m b calls) (
         let both : All (λ (x : Extent). IsStanding m b x × Labelled calls x) (blocks_after calls) = λ i d within. (f.live i d within, f.kept.labelled i d within) in
         moved f t a w at g b.heap b.spans b.names (calls ++ c ∷ []) (kept_freed f.kept (record { 0 = t }) label o block.0 block.1)
         (subst (All (IsStanding m (books_with b g b.heap b.spans b.names t w))) (sym (blocks_after-push calls c))
-        (All-kept (λ (x : Extent). IsStanding m b x × Labelled calls x) (IsStanding m (books_with b g b.heap b.spans b.names t w)) (λ (x : Extent). not (eqb x.addr o.0)) (blocks_after calls) (λ x has apart. stands_hand Other none x has.0 has.1 (λ label' o' is' there.
+        (All-kept (λ (x : Extent). IsStanding m b x × Labelled calls x) (IsStanding m (books_with b g b.heap b.spans b.names t w)) (λ (x : Extent). not (eqb x.addr o.0)) _ (λ x has apart.
+        stands_hand Other none x has.0 has.1 (λ label' o' is' there.
         let e : o.0 ≡ o'.0 = ap (λ (y : Addr). y.0) (one_free label label' o o' (sym is ∙ is')) in
-        absurd (false≢true (sym (ap not (eq-eqb x.addr o.0 (sym there ∙ sym e))) ∙ apart)))) both))
-        (heap_facts f) cut (self_hand Other none (λ l x e. absurd (cc)))
-        (labels_freed f t a at w refl label o returns refl)
-        (spans_hand Other none) (places_hand Other none)
+        absurd (false≢true (sym (ap not (eq-eqb x.addr o.0 (sym there ∙ sym e))) ∙ apart)))) both)) (heap_facts f) cut (self_hand Other none (λ l x e. absurd (cc)))
+        (labels_freed f t a at w refl label o returns refl) (spans_hand Other none) (places_hand Other none)
 
   -- an allocation gets an object
   module _ (label : Label) (size : ℕ) (g : Stock) (o : Addr) (rest : List Addr) (is : a.doing ≡ Asks label size) (class : class_of m.rows size ≡ Some (class_number a.class))
@@ -220,7 +219,7 @@ module _ {m : Setup} {b : Books} {calls : List CallLine} (f : Facts m b calls) (
         let run = f.inside (run_of s.span) (live s.span s.owned) in
         let some = st.cut.some a.class o.0 object in
         let apart : All (λ (x : Extent). meets place x ≡ false) (blocks_after calls) =
-        λ i d within. elim (f.live i d within) [ inl l ↦ apart_large (get_or (blocks_after calls) i d) l | inr ob ↦ apart_object (get_or (blocks_after calls) i d) (f.kept.labelled i d within) ob ] in
+        λ i d within. elim (f.live i d within) [ inl l ↦ apart_large (get_or (blocks_after calls) i d) l | inr ob ↦ apart_object _ (f.kept.labelled i d within) ob ] in
         kept_block f.kept (record { 0 = t }) label size o (size_of m.rows a.class) (unanswered f t a at label size is)
         (record { inside = record { some = some; from = omega (arith, run.inside.from, s.from); to = omega (arith, run.inside.to, s.to) }; apart = none_meets place (blocks_after calls) apart })
         (sym (class_length m.rows size a.class class).1) some
@@ -230,4 +229,4 @@ module _ {m : Setup} {b : Books} {calls : List CallLine} (f : Facts m b calls) (
     live_object w apart =
         subst (All (IsStanding m (books_with b g b.heap b.spans b.names t w))) (sym (blocks_after-push calls line))
         (All-with_item (λ (b : Extent). b.addr) (IsStanding m (books_with b g b.heap b.spans b.names t w)) place (blocks_after calls) (inr (record { class = a.class; object = object; size = refl }))
-        (λ i d within. stands_on f t a at g (o ∷ rest) st w (get_or (blocks_after calls) i d) (f.live i d within) (f.kept.labelled i d within) (unfreed (get_or (blocks_after calls) i d)) (λ q unmapped unheld. apart q unheld)))
+        (λ i d within. stands_on f t a at g (o ∷ rest) st w _ (f.live i d within) (f.kept.labelled i d within) (unfreed (get_or (blocks_after calls) i d)) (λ q unmapped unheld. apart q unheld)))

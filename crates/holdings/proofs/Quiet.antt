@@ -26,19 +26,10 @@ use Rattle.holdings.proofs.KeptFacts.{kept_other, other_blocks, other_label}
 
 -- who holds an address of a label has it loose, or among its objects in hand
 pub holder : (d : Doing) (x : ℕ) (o : Addr) → 0 < holds x (Some o) d → (0 < loose o.0 d) ⊎ ((label : Label) × (addr : Addr) × (d ≡ Frees label addr) × (label.0 ≡ x) × (addr.0 ≡ o.0))
-holder (Asks label size) x o some = absurd (omega arith)
-holder (Takes label) x o some = absurd (omega arith)
-holder Other x o some = absurd (omega arith)
-holder (Publishes label v) x o some =
-    let parts = and_parts (eqb label.0 x) (same_value v (Some o)) (bit_is (eqb label.0 x && same_value v (Some o)) some) in
-    let e : is_at o.0 v ≡ true = ap (is_at o.0) (same_value_is v (Some o) parts.1) ∙ eq-eqb o.0 o.0 refl in
-    inl (let h : bit (is_at o.0 v) ≡ 1 = ap bit e in omega (arith, h))
-holder (Holds label a) x o some =
-    let parts = and_parts (eqb label.0 x) (eqb a.0 o.0) (bit_is (eqb label.0 x && eqb a.0 o.0) some) in
-    inl (let h : bit (eqb a.0 o.0) ≡ 1 = ap bit parts.1 in omega (arith, h))
-holder (Frees label a) x o some =
-    let parts = and_parts (eqb label.0 x) (eqb a.0 o.0) (bit_is (eqb label.0 x && eqb a.0 o.0) some) in
-    inr (label, a, refl, eqb-true label.0 x parts.0, eqb-true a.0 o.0 parts.1)
+holder (Publishes label v) x o some = grind (arith, and_parts, bit_is, eq-eqb, eqb, same_value_is)
+holder (Holds label a) x o some = grind (arith, and_parts, bit_is, eqb)
+holder (Frees label a) x o some = grind (arith, and_parts, bit_is, eqb, eqb-true)
+holder d x o some = absurd (omega arith)
 
 -- an account that weighs the same keeps of itself what the other kept
 freeing_same : (m : Setup) (a w : Account) → IsSelf m a → WeighSame a w → (label : Label) (addr : Addr) → w.doing ≡ Frees label addr → 0 < objects_at addr.0 w.hand
@@ -82,10 +73,8 @@ pub becomes_once : (m : Setup) (b : Books) (calls : List CallLine) (f : Facts m 
     → slice_get b.accounts t ≡ Some a → WeighSame a w → Facts m (books_with b b.stock b.heap b.spans b.names t w) calls
 becomes_once m b calls f t a w at same =
     let apart : (r : Run) → spans_of_run r w.apart ≡ spans_of_run r a.apart = λ r. ap (spans_of_run r) same.apart in
-    moved f t a w at b.stock b.heap b.spans b.names calls f.kept
-    (still f t a w at b.heap b.spans b.names (λ x l. (l.live, l.unmapped, apart l.run ∙ l.unheld t a at)))
-    (heap_facts f) f.cut (self_same m a w (f.selves t a at) same)
-    (labels_still f t a w at same.asks same.publishes same.takes same.mentioned same.value)
+    moved f t a w at b.stock b.heap b.spans b.names calls f.kept (still f t a w at b.heap b.spans b.names (λ x l. (l.live, l.unmapped, apart l.run ∙ l.unheld t a at)))
+    (heap_facts f) f.cut (self_same m a w (f.selves t a at) same) (labels_still f t a w at same.asks same.publishes same.takes same.mentioned same.value)
     (spans_still f t a w at b.stock.owned (λ r. ap (runs_like r) same.off) (λ s. ap (λ n. b.stock.owned s + n) (ap (spans_like s) same.mapped)) (λ s. ap (spans_like s) same.clears))
     (places_still f t a w at (λ n.
     let o : _ = ap (objects_at n) same.objects in

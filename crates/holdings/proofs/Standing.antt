@@ -27,11 +27,7 @@ or_true false = refl
 
 -- the answer to a label stays where a call doesn't allocate it
 pub answer_same : (calls : List CallLine) (c : CallLine) (x : ℕ) → allocates x c.call ≡ false → answer_to x (calls ++ c ∷ []) ≡ answer_to x calls
-answer_same calls c x other =
-    elim (answer_cases (answer_to x calls)) [
-      | inl none ↦ answer_to-push_new x calls c none ∙ (ap (λ b. cond b (Some c.answer) None) other ∙ sym none)
-      | inr there ↦ answer_to-push_old x calls c there.0 there.1 ∙ sym there.1
-    ]
+answer_same calls c x other = grind (arith, answer_cases, answer_to-push_new, answer_to-push_old)
 
 pub freed_same : (calls : List CallLine) (c : CallLine) (x : ℕ) → frees x c.call ≡ false → freed_in x (calls ++ c ∷ []) ≡ freed_in x calls
 freed_same calls c x other = freed_in-push x calls c ∙ (ap (λ b. freed_in x calls || b) other ∙ or_false (freed_in x calls))
@@ -43,42 +39,13 @@ value_same calls c x a f = rw (answer_same calls c x a, freed_same calls c x f) 
 pub gain : (calls : List CallLine) (thread : ThreadNo) (label : Label) (size : ℕ) (answer : Answer) → answer_to label.0 calls ≡ None → freed_in label.0 calls ≡ false
     → (x : ℕ) (v : Option Addr)
     → standing x v (calls ++ record { thread = thread; call = Malloc label size; answer = answer } ∷ []) ≡ standing x v calls + bit (eqb label.0 x && same_value (value_of answer) v)
-gain calls thread label size answer none unfreed x v =
-    let c : CallLine = record { thread = thread; call = Malloc label size; answer = answer } in
-    elim (cases_eq label.0 x) [
-      | inl same ↦
-          let n : answer_to x calls ≡ None = subst (λ y. answer_to y calls ≡ None) same none in
-          let u : freed_in x calls ≡ false = subst (λ y. freed_in y calls ≡ false) same unfreed in
-          let f : freed_in x (calls ++ c ∷ []) ≡ false = freed_same calls c x refl ∙ u in
-          let e : eqb label.0 x ≡ true = eq-eqb label.0 x same in
-          let g : answer_to x (calls ++ c ∷ []) ≡ Some answer = answer_to-push_new x calls c n ∙ ap (λ b. cond b (Some answer) None) e in
-          rw (f, g, u, n, e) (omega arith)
-      | inr apart ↦
-          let e : eqb label.0 x ≡ false = ne_eqb label.0 x apart in
-          let h : value_after (calls ++ c ∷ []) x ≡ value_after calls x = value_same calls c x e refl in
-          let k : standing x v (calls ++ c ∷ []) ≡ standing x v calls = ap (λ o. bit (has_value o v)) h in
-          k ∙ rw e (omega arith)
-    ]
+gain calls thread label size answer none unfreed x v = grind (arith, answer_to-push_new, cases_eq, eq-eqb, eqb, freed_same, ne_eqb, value_same)
 
 -- and its free takes that away
 pub lose : (calls : List CallLine) (thread : ThreadNo) (label : Label) (answer : Answer) (u : Option Addr) → value_after calls label.0 ≡ Some u
     → (x : ℕ) (v : Option Addr)
     → standing x v (calls ++ record { thread = thread; call = Free label; answer = answer } ∷ []) + bit (eqb label.0 x && same_value u v) ≡ standing x v calls
-lose calls thread label answer u has x v =
-    let c : CallLine = record { thread = thread; call = Free label; answer = answer } in
-    elim (cases_eq label.0 x) [
-      | inl same ↦
-          let h : value_after calls x ≡ Some u = subst (λ y. value_after calls y ≡ Some u) same has in
-          let e : eqb label.0 x ≡ true = eq-eqb label.0 x same in
-          let f : freed_in x (calls ++ c ∷ []) ≡ true = freed_in-push x calls c ∙ (ap (λ b. freed_in x calls || b) e ∙ or_true (freed_in x calls)) in
-          let k : standing x v calls ≡ bit (same_value u v) = ap (λ o. bit (has_value o v)) h in
-          rw (f, k, e) (omega arith)
-      | inr apart ↦
-          let e : eqb label.0 x ≡ false = ne_eqb label.0 x apart in
-          let h : value_after (calls ++ c ∷ []) x ≡ value_after calls x = value_same calls c x refl e in
-          let k : standing x v (calls ++ c ∷ []) ≡ standing x v calls = ap (λ o. bit (has_value o v)) h in
-          rw (e, k) (omega arith)
-    ]
+lose calls thread label answer u has x v = grind (arith, cases_eq, eq-eqb, eqb, freed_in-push, ne_eqb, or_true, value_same)
 
 pub same_value_is : (u v : Option Addr) → same_value u v ≡ true → u ≡ v
 same_value_is None None is = refl
@@ -115,15 +82,7 @@ has_answer calls x v has = has_answer_by calls x v (freed_in x calls) refl (answ
 
 block_by : (answer : Answer) (a : Addr) → value_of answer ≡ Some a → (n : ℕ) × (answer ≡ Block a n)
 block_by (Block addr len) a is = (len, ap (λ (x : Addr). Block x len) cc)
-block_by NoBlock a is = absurd (cc)
-block_by (Freed addr) a is = absurd (cc)
-block_by FreedNull a is = absurd (cc)
-block_by (Released pages) a is = absurd (cc)
-block_by (Drained objects) a is = absurd (cc)
-block_by (Busy owner) a is = absurd (cc)
-block_by CapSet a is = absurd (cc)
-block_by (OverLimit sum) a is = absurd (cc)
-block_by (OverStatic most) a is = absurd (cc)
+block_by answer a is = absurd (cc)
 
 pub has_block : (calls : List CallLine) (x : ℕ) (a : Addr) → value_after calls x ≡ Some (Some a) → (n : ℕ) × HasBlock calls x a n
 has_block calls x a has =
@@ -134,14 +93,7 @@ has_block calls x a has =
 null_by : (answer : Answer) → IsOfMalloc answer → value_of answer ≡ None → answer ≡ NoBlock
 null_by NoBlock of is = refl
 null_by (Block addr len) of is = absurd (cc)
-null_by (Freed addr) of is = absurd of
-null_by FreedNull of is = absurd of
-null_by (Released pages) of is = absurd of
-null_by (Drained objects) of is = absurd of
-null_by (Busy owner) of is = absurd of
-null_by CapSet of is = absurd of
-null_by (OverLimit sum) of is = absurd of
-null_by (OverStatic most) of is = absurd of
+null_by answer of is = absurd of
 
 pub has_null : (calls : List CallLine) (x : ℕ) → ((answer : Answer) → answer_to x calls ≡ Some answer → IsOfMalloc answer) → value_after calls x ≡ Some None → FreesNull calls x
 has_null calls x of has =

@@ -45,12 +45,10 @@ held_own : (label : Label) (v : Option Addr) → bit (eqb label.0 label.0 && sam
 held_own label v = rw (eq-eqb label.0 label.0 refl, same_value_refl v) refl
 
 idle : (d : Doing) → ((x : ℕ) (v : Option Addr) → holds x v d ≡ 0) → Idle d
-idle (Asks label size) none = record { publishes = λ x. refl; free = λ n. refl; frees = λ l a is. absurd (cc) }
-idle (Takes label) none = record { publishes = λ x. refl; free = λ n. refl; frees = λ l a is. absurd (cc) }
-idle Other none = record { publishes = λ x. refl; free = λ n. refl; frees = λ l a is. absurd (cc) }
 idle (Publishes label v) none = absurd (omega (arith, held_own label v, none label.0 v))
 idle (Holds label a) none = absurd (omega (arith, held_own label (Some a), none label.0 (Some a)))
 idle (Frees label a) none = absurd (omega (arith, held_own label (Some a), none label.0 (Some a)))
+idle d none = record { publishes = λ x. refl; free = λ n. refl; frees = λ l a is. absurd (cc) }
 
 -- and nothing of it counts
 record Zero (a : Account) : Type 0 where
@@ -149,7 +147,16 @@ holds_at_first m b h =
       places = λ n.
           let p : _ = ap (runs_at n) h.heap in
           let q : _ = ap (λ ns. sum_by (named_at n) ns) h.names in
-          omega (arith, p, q, unnamed n m.labels, h.begins n, zero_sum (held_at n) (λ a z. (zero_of a z).held n), class_zero m.rows (λ k. b.stock.stored k n) (λ k. h.stored k n), class_zero m.rows (λ k. b.stock.objects k n) (λ k. h.objects k n));
+          omega (
+            arith,
+            p,
+            q,
+            unnamed n m.labels,
+            h.begins n,
+            zero_sum (held_at n) (λ a z. (zero_of a z).held n),
+            class_zero m.rows (λ k. b.stock.stored k n) (λ k. h.stored k n),
+            class_zero m.rows (λ k. b.stock.objects k n) (λ k. h.objects k n),
+          );
       begins = λ n. omega (arith, h.begins n, zero_sum (λ (a : Account). spans_at n a.apart) (λ a z. (zero_of a z).apart n));
       classes = λ k n. omega (arith, h.stored k n, zero_sum (in_hand k n) (λ a z. (zero_of a z).hand k n));
     }

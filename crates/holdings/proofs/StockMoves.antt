@@ -33,28 +33,17 @@ one_size : (rows : List ClassRow) (size k : ℕ) (b : Bool) → ltb (position_or
     → option_map (λ (n : ℕ). class_number n) (cond b (Some (position_or_len (serves size) rows)) None) ≡ Some (class_number k)
     → (k < length rows) × (length_of rows size ≡ size_of rows k)
 one_size rows size k false past is = absurd (cc)
-one_size rows size k true there is =
-    let p : ℕ = position_or_len (serves size) rows in
-    let below : p < length rows = ltb-true p (length rows) there in
-    let e : class_number p ≡ class_number k = cc in
-    let same : p ≡ k = ap (λ (c : Class). c.0) e in
-    let found : find (serves size) rows ≡ Some (get_or rows p no_row) = find_at (serves size) rows ∙ slice_get-get_or rows p no_row below in
-    (subst (λ n. n < length rows) same below, ap (λ row. length_by row size) found ∙ ap (size_of rows) same)
+one_size rows size k true there is = grind (arith, find_at, ltb-true, slice_get-get_or)
 
 -- a request of a class gets the bytes of its objects
 pub class_length : (rows : List ClassRow) (size k : ℕ) → class_of rows size ≡ Some (class_number k) → (k < length rows) × (length_of rows size ≡ size_of rows k)
 class_length rows size k is = one_size rows size k (ltb (position_or_len (serves size) rows) (length rows)) refl is
 
 pub not_meets : (x y : Extent) → (x.addr + x.len ≤ y.addr) ⊎ (y.addr + y.len ≤ x.addr) → meets x y ≡ false
-not_meets x y apart =
-    elim (cases_Bool (meets x y)) [
-      | inl met ↦
-          let parts = and_parts (ltb x.addr (y.addr + y.len)) (ltb y.addr (x.addr + x.len)) met in
-          let l = ltb-true x.addr (y.addr + y.len) parts.0 in
-          let r = ltb-true y.addr (x.addr + x.len) parts.1 in
-          absurd (elim apart [ inl before ↦ omega (arith, before, r) | inr after ↦ omega (arith, after, l) ])
-      | inr unmet ↦ unmet
-    ]
+not_meets x y apart = grind (arith, and_parts, cases_Bool, ltb, ltb-true)
+
+none_of : (n : ℕ) → (0 < n → ⊥) → n ≡ 0
+none_of n none = elim (cases_lt 0 n) [ inl some ↦ absurd (none some) | inr zero_of ↦ omega (arith, zero_of) ]
 
 means_at : (state : NameState) (o : Addr) → bit (means (Some o) state) ≤ named_at o.0 state
 means_at name.Unpublished o = omega arith
@@ -76,8 +65,8 @@ module _ {m : Setup} {b : Books} {calls : List CallLine} (f : Facts m b calls) (
   hand_most n = omega (arith, own_hand n, least (in_hand a.class n) b.accounts t a at, f.classes a.class n)
 
   module _ (g : Stock) (came : List Addr) (st : Stocked g came) where
-    pub stock_places : (n : ℕ)
-        → over_classes m.rows (λ k. g.stored k n) + objects_at n came + over_classes m.rows (λ k. b.stock.objects k n) ≡ over_classes m.rows (λ k. b.stock.stored k n) + objects_at n a.hand + over_classes m.rows (λ k. g.objects k n)
+    pub stock_places : (n : ℕ) → over_classes m.rows (λ k. g.stored k n) + objects_at n came + over_classes m.rows (λ k. b.stock.objects k n)
+        ≡ over_classes m.rows (λ k. b.stock.stored k n) + objects_at n a.hand + over_classes m.rows (λ k. g.objects k n)
     stock_places n =
         elim (cases_lt a.class (length m.rows)) [
           | inl below ↦
@@ -85,8 +74,8 @@ module _ {m : Setup} {b : Books} {calls : List CallLine} (f : Facts m b calls) (
               let q = class_shift m.rows (λ k. b.stock.objects k n) (λ k. g.objects k n) a.class below (λ k other. (st.others k n other).1) in
               omega (arith, p, q, st.moves n)
           | inr past ↦
-              let none : b.stock.objects a.class n ≡ 0 = elim (cases_lt 0 (b.stock.objects a.class n)) [ inl some ↦ absurd (omega (arith, past, f.cut.class a.class n some)) | inr zero_of ↦ omega (arith, zero_of) ] in
-              let none' : g.objects a.class n ≡ 0 = elim (cases_lt 0 (g.objects a.class n)) [ inl some ↦ absurd (omega (arith, past, st.cut.class a.class n some)) | inr zero_of ↦ omega (arith, zero_of) ] in
+              let none : b.stock.objects a.class n ≡ 0 = none_of _ (λ some. omega (arith, past, f.cut.class a.class n some)) in
+              let none' : g.objects a.class n ≡ 0 = none_of _ (λ some. omega (arith, past, st.cut.class a.class n some)) in
               let other : (k : ℕ) → k < length m.rows → k ≢ a.class = λ k below same. omega (arith, below, past, same) in
               let p = class_same m.rows (λ k. b.stock.stored k n) (λ k. g.stored k n) (λ k below. (st.others k n (other k below)).0) in
               let q = class_same m.rows (λ k. b.stock.objects k n) (λ k. g.objects k n) (λ k below. (st.others k n (other k below)).1) in
@@ -95,27 +84,11 @@ module _ {m : Setup} {b : Books} {calls : List CallLine} (f : Facts m b calls) (
 
     pub stock_classes : (w : Account) → w.class ≡ a.class → ((n : ℕ) → objects_at n w.hand ≤ objects_at n came)
         → (k n : ℕ) → sum_by (in_hand k n) (slice_set b.accounts t w) + g.stored k n ≤ g.objects k n
-    stock_classes w class fewer k n =
-        let s = shift (in_hand k n) b.accounts t a w at in
-        elim (cases_eq k a.class) [
-          | inl same ↦
-              let old : in_hand k n a ≡ objects_at n a.hand = cond-true (eqb a.class k) (objects_at n a.hand) 0 (eq-eqb a.class k (sym same)) in
-              let new : in_hand k n w ≡ objects_at n w.hand = cond-true (eqb w.class k) (objects_at n w.hand) 0 (eq-eqb w.class k (class ∙ sym same)) in
-              let p : g.stored k n ≡ g.stored a.class n = ap (λ c. g.stored c n) same in
-              let q : g.objects k n ≡ g.objects a.class n = ap (λ c. g.objects c n) same in
-              let p' : b.stock.stored k n ≡ b.stock.stored a.class n = ap (λ c. b.stock.stored c n) same in
-              let q' : b.stock.objects k n ≡ b.stock.objects a.class n = ap (λ c. b.stock.objects c n) same in
-              omega (arith, s, old, new, p, q, p', q', fewer n, st.moves n, f.classes k n)
-          | inr other ↦
-              let old : in_hand k n a ≡ 0 = cond-false (eqb a.class k) (objects_at n a.hand) 0 (ne_eqb a.class k (λ e. other (sym e))) in
-              let new : in_hand k n w ≡ 0 = cond-false (eqb w.class k) (objects_at n w.hand) 0 (ne_eqb w.class k (λ e. other (sym e ∙ class))) in
-              let o = st.others k n other in
-              omega (arith, s, old, new, o.0, o.1, f.classes k n)
-        ]
+    stock_classes w class fewer k n = grind (arith, cases_eq, cond-false, cond-true, eq-eqb, eqb, ne_eqb, shift)
 
     -- where an object's block stands, it is not in the stock; it is in the hand only where this call frees it
-    pub stands_where : (x : Extent) → Labelled calls x → 0 < b.stock.objects a.class x.addr
-        → (b.stock.stored a.class x.addr ≡ 0) × ((objects_at x.addr a.hand ≡ 0) ⊎ ((label : Label) × (o : Addr) × (a.doing ≡ Frees label o) × (o.0 ≡ x.addr) × (objects_at x.addr a.hand ≡ 1)))
+    pub stands_where : (x : Extent) → Labelled calls x → 0 < b.stock.objects a.class x.addr → (b.stock.stored a.class x.addr ≡ 0)
+        × ((objects_at x.addr a.hand ≡ 0) ⊎ ((label : Label) × (o : Addr) × (a.doing ≡ Frees label o) × (o.0 ≡ x.addr) × (objects_at x.addr a.hand ≡ 1)))
     stands_where x own some =
         let n : ℕ = x.addr in
         let o : Addr = record { 0 = n } in

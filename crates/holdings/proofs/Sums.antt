@@ -62,11 +62,7 @@ sum_most f g (x ∷ xs) most = omega (arith, most x, sum_most f g xs most, sum_b
 
 pub gap : {X : Type 0} (f g : X → ℕ) (xs : List X) (t : ℕ) (l : X) → ((x : X) → f x ≤ g x) → slice_get xs t ≡ Some l → sum_by f xs + g l ≤ sum_by g xs + f l
 gap f g [] t l most is = absurd (cc)
-gap f g (x ∷ xs) zero l most is =
-    let e : x ≡ l = cc in
-    let p : f x ≡ f l = ap f e in
-    let q : g x ≡ g l = ap g e in
-    omega (arith, p, q, sum_most f g xs most, sum_by-cons f x xs, sum_by-cons g x xs)
+gap f g (x ∷ xs) zero l most is = grind (arith, sum_by-cons, sum_most)
 gap f g (x ∷ xs) (suc t) l most is = omega (arith, most x, gap f g xs t l most is, sum_by-cons f x xs, sum_by-cons g x xs)
 
 -- one account at one place
@@ -102,11 +98,7 @@ sum_of_both {X} f g (x ∷ xs) = omega (arith, sum_of_both f g xs, sum_by-cons (
 -- accounts after one was written
 pub set_cases : {X : Type 0} (xs : List X) (t : ℕ) (l l' : X) → slice_get xs t ≡ Some l
     → (i : ℕ) (x : X) → slice_get (slice_set xs t l') i ≡ Some x → (l' ≡ x) ⊎ (slice_get xs i ≡ Some x)
-set_cases xs t l l' there i x is =
-    elim (cases_eq t i) [
-      | inl same ↦ inl (let e : Some l' ≡ Some x = sym (set_here xs t l' l there) ∙ (ap (λ j. slice_get (slice_set xs t l') j) same ∙ is) in cc)
-      | inr apart ↦ inr (sym (set_elsewhere xs t i l' apart) ∙ is)
-    ]
+set_cases xs t l l' there i x is = grind (arith, cases_eq, set_elsewhere, set_here)
 
 pub set_twice : {X : Type 0} (xs : List X) (t : ℕ) (x y : X) → slice_set (slice_set xs t x) t y ≡ slice_set xs t y
 set_twice [] t x y = refl
@@ -116,7 +108,7 @@ set_twice (z ∷ zs) (suc t) x y = ap (λ ys. z ∷ ys) (set_twice zs t x y)
 -- Over classes.
 sum_same : (f g : ℕ → ℕ) (a n : ℕ) → ((k : ℕ) → a ≤ k → k < a + n → g k ≡ f k) → sum_by g (range_with_len a n) ≡ sum_by f (range_with_len a n)
 sum_same f g a zero same = refl
-sum_same f g a (suc n) same = omega (arith, same a (omega arith) (omega arith), sum_same f g (a + 1) n (λ k past below. same k (omega (arith, past)) (omega (arith, below))), sum_by-cons f a (range_with_len (a + 1) n), sum_by-cons g a (range_with_len (a + 1) n))
+sum_same f g a (suc n) same = grind (arith, sum_by-cons, (sum_same f g (a + 1) n))
 
 sum_shift : (f g : ℕ → ℕ) (c a n : ℕ) → a ≤ c → c < a + n → ((k : ℕ) → k ≢ c → g k ≡ f k) → sum_by g (range_with_len a n) + f c ≡ sum_by f (range_with_len a n) + g c
 sum_shift f g c a zero from to same = absurd (omega arith)
@@ -151,7 +143,8 @@ class_alone rows f c below zeros = omega (arith, class_shift rows (λ (k : ℕ).
 pub class_least : (rows : List ClassRow) (f : ℕ → ℕ) (c : ℕ) → c < length rows → f c ≤ over_classes rows f
 class_least rows f c below =
     let e : slice_get (range_with_len 0 (length rows)) c ≡ Some c =
-    slice_get-get_or (range_with_len 0 (length rows)) c 0 (omega (arith, length-range_with_len 0 (length rows))) ∙ ap (λ (k : ℕ). Some k) (get_or-range_with_len 0 (length rows) c 0 below ∙ (let z : 0 + c ≡ c = omega arith in z)) in
+    slice_get-get_or (range_with_len 0 (length rows)) c 0 (omega (arith, length-range_with_len 0 (length rows)))
+    ∙ ap (λ (k : ℕ). Some k) (get_or-range_with_len 0 (length rows) c 0 below ∙ (let z : 0 + c ≡ c = omega arith in z)) in
     least f (range_with_len 0 (length rows)) c c e
 
 pub class_counts : (rows : List ClassRow) (f : ℕ → ℕ) → 0 < over_classes rows f → (k : ℕ) × (0 < f k)
@@ -160,19 +153,11 @@ class_counts rows f some = let c = counted f (range_with_len 0 (length rows)) so
 -- Names, after one was written.
 pub name_cases : (names : List NameState) (i : ℕ) (new : NameState) → i < length names → (x : ℕ)
     → ((eqb i x ≡ true) × (state_of (slice_set names i new) x ≡ new) × (i ≡ x)) ⊎ ((eqb i x ≡ false) × (state_of (slice_set names i new) x ≡ state_of names x))
-name_cases names i new within x =
-    elim (cases_eq i x) [
-      | inl same ↦ inl (eq-eqb i x same, subst (λ y. state_of (slice_set names i new) y ≡ new) same (get_or-set_same names i new _ within), same)
-      | inr apart ↦ inr (ne_eqb i x apart, get_or-set_other names i x new _ (λ e. apart (sym e)))
-    ]
+name_cases names i new within x = grind (arith, cases_eq, eq-eqb, get_or-set_other, get_or-set_same, ne_eqb)
 
 -- Runs and spans that are one.
 pub same_run_is : (x y : Run) → same_run x y ≡ true → x ≡ y
-same_run_is x y is =
-    let parts = and_parts (eqb x.first.0 y.first.0) (eqb x.pages y.pages) is in
-    let a : x.first.0 ≡ y.first.0 = eqb-true x.first.0 y.first.0 parts.0 in
-    let b : x.pages ≡ y.pages = eqb-true x.pages y.pages parts.1 in
-    ap (λ (n : ℕ). record { first = record { 0 = n }; pages = x.pages }) a ∙ ap (λ (n : ℕ). record { first = y.first; pages = n }) b
+same_run_is x y is = grind (arith, and_parts, eqb, eqb-true)
 
 pub same_run_refl : (x : Run) → same_run x x ≡ true
 same_run_refl x = let a = eq-eqb x.first.0 x.first.0 refl in let b = eq-eqb x.pages x.pages refl in (rw (a, b) refl)
@@ -188,28 +173,16 @@ same_kind_refl Large = refl
 same_kind_refl (Small k) = eq-eqb k.0 k.0 refl
 
 pub same_span_is : (x y : SpanRef) → same_span x y ≡ true → x ≡ y
-same_span_is x y is =
-    let parts = and_parts (same_run (run_of x) (run_of y)) (same_kind x.kind y.kind) is in
-    let a : run_of x ≡ run_of y = same_run_is (run_of x) (run_of y) parts.0 in
-    let b : x.kind ≡ y.kind = same_kind_is x.kind y.kind parts.1 in
-    ap (λ (r : Run). record { first = r.first; pages = r.pages; kind = x.kind }) a ∙ ap (λ (k : SpanKind). record { first = y.first; pages = y.pages; kind = k }) b
+same_span_is x y is = grind (arith, and_parts, same_kind_is, same_run_is)
 
 pub same_span_refl : (x : SpanRef) → same_span x x ≡ true
 same_span_refl x = let a = same_run_refl (run_of x) in let b = same_kind_refl x.kind in rw (a, b) refl
 
 pub same_run_start : (x y : Run) → bit (same_run x y) ≤ bit (eqb (first_byte x) (first_byte y))
-same_run_start x y =
-    elim (cases_Bool (same_run x y)) [
-      | inl same ↦ let n : first_byte x ≡ first_byte y = ap (λ (r : Run). first_byte r) (same_run_is x y same) in rw (same, eq-eqb (first_byte x) (first_byte y) n) (omega arith)
-      | inr other ↦ rw other (omega arith)
-    ]
+same_run_start x y = grind (arith, cases_Bool, eq-eqb, same_run_is)
 
 pub same_span_run : (x y : SpanRef) → bit (same_span x y) ≤ bit (same_run (run_of x) (run_of y))
-same_span_run x y =
-    elim (cases_Bool (same_run (run_of x) (run_of y))) [
-      | inl same ↦ rw same (bit_most (same_kind x.kind y.kind))
-      | inr other ↦ rw other (omega arith)
-    ]
+same_span_run x y = grind (arith, bit_most, cases_Bool)
 
 -- A number that counts what is in a list.
 pub record Counts {X : Type 0} (f : List X → ℕ) (p : X → ℕ) : Type 0 where
@@ -267,11 +240,13 @@ without_by same r x xs ys one c false is rest = omega (arith, rest refl, c.more 
 
 pub less_counts : (r : Run) (xs : List Run) → 0 < runs_like r xs → {f : List Run → ℕ} {p : Run → ℕ} → Counts f p → f (less r xs) + p r ≡ f xs
 less_counts r [] some c = absurd (omega arith)
-less_counts r (x ∷ xs) some c = without_by same_run r x xs (less r xs) same_run_is c (same_run x r) refl (λ (other : same_run x r ≡ false). less_counts r xs (let z : bit (same_run x r) ≡ 0 = ap bit other in omega (arith, z)) c)
+less_counts r (x ∷ xs) some c =
+    without_by same_run r x xs (less r xs) same_run_is c (same_run x r) refl (λ (other : same_run x r ≡ false). less_counts r xs (omega (arith, ap bit other)) c)
 
 pub without_counts : (r : SpanRef) (xs : List SpanRef) → 0 < spans_like r xs → {f : List SpanRef → ℕ} {p : SpanRef → ℕ} → Counts f p → f (without r xs) + p r ≡ f xs
 without_counts r [] some c = absurd (omega arith)
-without_counts r (x ∷ xs) some c = without_by same_span r x xs (without r xs) same_span_is c (same_span x r) refl (λ (other : same_span x r ≡ false). without_counts r xs (let z : bit (same_span x r) ≡ 0 = ap bit other in omega (arith, z)) c)
+without_counts r (x ∷ xs) some c =
+    without_by same_span r x xs (without r xs) same_span_is c (same_span x r) refl (λ (other : same_span x r ≡ false). without_counts r xs (omega (arith, ap bit other)) c)
 
 -- Blocks.
 pub All-weaken : {X : Type 0} (P Q : X → Type 0) (xs : List X) → ((x : X) → P x → Q x) → All P xs → All Q xs

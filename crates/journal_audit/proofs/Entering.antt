@@ -1,5 +1,6 @@
 -- What books have behind one more call.
-use Rattle.std.proofs.Common.{◌≡◌, ℕ, ◌+◌, ◌<◌, Bool, true, false, ◌||◌, cond, List, [], ◌∷◌, ◌++◌, length, Option, Some, None, refl, sym, ap, ◌∙◌, subst, inl, inr, arith, length-append}
+use Rattle.std.proofs.Common.{◌≡◌, ℕ, ◌+◌, ◌<◌, Bool, true, false, ◌||◌, cond, List, [], ◌∷◌, ◌++◌, length, Option, Some, None, refl, sym, ap, ◌∙◌, subst, inl}
+use Rattle.std.proofs.Common.{inr, arith, length-append}
 use Rattle.std.specs.Prelude.{slice_get, slice_index, slice_set}
 use Rattle.std.specs.Option.{option_or}
 use Rattle.std.proofs.lemmas.Bool.{cases_eq, eq-eqb, ne_eqb}
@@ -43,11 +44,7 @@ or_true false = refl
 -- a label behind a call that is about another one, or about none
 same_label : (calls : List CallLine) (c : CallLine) (l : ℕ) (g : Given) → allocates l c.call ≡ false → frees l c.call ≡ false
     → IsGiven g (answer_to l calls) (freed_in l calls) → IsGiven g (answer_to l (calls ++ c ∷ [])) (freed_in l (calls ++ c ∷ []))
-same_label calls c l g other apart is =
-    let answer : answer_to l (calls ++ c ∷ []) ≡ answer_to l calls =
-    answer_push l calls c ∙ ap (λ b. option_or (answer_to l calls) (cond b (Some c.answer) None)) other ∙ or_none (answer_to l calls) in
-    let freed : freed_in l (calls ++ c ∷ []) ≡ freed_in l calls = freed_push l calls c ∙ ap (λ b. freed_in l calls || b) apart ∙ or_false (freed_in l calls) in
-    subst (λ o. IsGiven g o (freed_in l (calls ++ c ∷ []))) (sym answer) (subst (IsGiven g (answer_to l calls)) (sym freed) is)
+same_label calls c l g other apart is = grind (arith, answer_push, freed_push, or_false, or_none)
 
 -- a label behind its own allocation: its first answer stays
 first_answer : (g : Given) (o : Option Answer) (freed : Bool) (block : Option Place) → IsGiven g o freed
@@ -59,39 +56,13 @@ first_answer (At addr) o freed block is = ((is.0.0, ap (λ x. option_or x (Some 
 first_answer Freed o freed block is = is
 
 given_push : (calls : List CallLine) (thread : ThreadNo) (act : Act) (c : Call) (l : ℕ) (g : Given) → names act c ≡ true
-    → IsGiven g (answer_to l calls) (freed_in l calls)
-    → IsGiven (given_by c act l g) (answer_to l (calls ++ record { thread = thread; call = c; answer = answer_of act } ∷ [])) (freed_in l (calls ++ record { thread = thread; call = c; answer = answer_of act } ∷ []))
-given_push calls thread (Malloc m block) (call.Malloc label size) l g named is =
-    let c : CallLine = record { thread = thread; call = call.Malloc label size; answer = malloc_answer block } in
-    let freed : freed_in l (calls ++ c ∷ []) ≡ freed_in l calls = freed_push l calls c ∙ or_false (freed_in l calls) in
-    elim (cases_eq l label.0) [
-      | inl mine ↦
-          let told : answer_to l (calls ++ c ∷ []) ≡ option_or (answer_to l calls) (Some (malloc_answer block)) =
-          answer_push l calls c ∙ ap (λ b. option_or (answer_to l calls) (cond b (Some c.answer) None)) (eq-eqb label.0 l (sym mine)) in
-          let now : given_after l label.0 (malloc_given block) g ≡ first_given (malloc_given block) g =
-          ap (λ b. cond b (first_given (malloc_given block) g) g) (eq-eqb l label.0 mine) in
-          subst (λ x. IsGiven x (answer_to l (calls ++ c ∷ [])) (freed_in l (calls ++ c ∷ []))) (sym now)
-          (subst (λ o. IsGiven (first_given (malloc_given block) g) o (freed_in l (calls ++ c ∷ []))) (sym told)
-          (subst (IsGiven (first_given (malloc_given block) g) (option_or (answer_to l calls) (Some (malloc_answer block)))) (sym freed) (first_answer g (answer_to l calls) (freed_in l calls) block is)))
-      | inr other ↦
-          let now : given_after l label.0 (malloc_given block) g ≡ g = ap (λ b. cond b (first_given (malloc_given block) g) g) (ne_eqb l label.0 other) in
-          subst (λ x. IsGiven x (answer_to l (calls ++ c ∷ [])) (freed_in l (calls ++ c ∷ []))) (sym now) (same_label calls c l g (ne_eqb label.0 l (λ e. other (sym e))) refl is)
-    ]
-given_push calls thread (Free m addr) (call.Free label) l g named is =
-    let c : CallLine = record { thread = thread; call = call.Free label; answer = free_answer addr } in
-    elim (cases_eq l label.0) [
-      | inl mine ↦
-          let freed : freed_in l (calls ++ c ∷ []) ≡ true =
-          freed_push l calls c ∙ ap (λ b. freed_in l calls || b) (eq-eqb label.0 l (sym mine)) ∙ or_true (freed_in l calls) in
-          let now : given_by (call.Free label) (Free m addr) l g ≡ Freed = ap (λ b. cond b Freed g) (eq-eqb l label.0 mine) in
-          subst (λ x. IsGiven x (answer_to l (calls ++ c ∷ [])) (freed_in l (calls ++ c ∷ []))) (sym now) freed
-      | inr other ↦
-          let now : given_by (call.Free label) (Free m addr) l g ≡ g = ap (λ b. cond b Freed g) (ne_eqb l label.0 other) in
-          subst (λ x. IsGiven x (answer_to l (calls ++ c ∷ [])) (freed_in l (calls ++ c ∷ []))) (sym now) (same_label calls c l g refl (ne_eqb label.0 l (λ e. other (sym e))) is)
-    ]
-given_push calls thread (Release pages) (call.Release wanted) l g named is = same_label calls (record { thread = thread; call = call.Release wanted; answer = answer_of (Release pages) }) l g refl refl is
+    → IsGiven g (answer_to l calls) (freed_in l calls) → (let line : CallLine = record { thread = thread; call = c; answer = answer_of act } in
+    IsGiven (given_by c act l g) (answer_to l (calls ++ line ∷ [])) (freed_in l (calls ++ line ∷ [])))
+given_push calls thread (Malloc m block) (call.Malloc label size) l g named is = grind (arith, answer_push, answer_to, cases_eq, cond, eq-eqb, first_answer, first_given, freed_in, freed_push, given_after, malloc_answer, malloc_given, ne_eqb, option_or, or_false, same_label)
+given_push calls thread (Free m addr) (call.Free label) l g named is = grind (arith, answer_to, cases_eq, cond, eq-eqb, free_answer, freed_in, freed_push, given_by, ne_eqb, or_true, same_label)
+given_push calls thread (Release pages) (call.Release wanted) l g named is = same_label calls (record { thread = thread; call = call.Release wanted; answer = _ }) l g refl refl is
 given_push calls thread (Drain cpu told) (call.Drain at) l g named is = same_label calls (record { thread = thread; call = call.Drain at; answer = answer_of (Drain cpu told) }) l g refl refl is
-given_push calls thread (Resize cpu class cap_ told) (call.Resize at k n) l g named is = same_label calls (record { thread = thread; call = call.Resize at k n; answer = answer_of (Resize cpu class cap_ told) }) l g refl refl is
+given_push calls thread (Resize cpu class cap_ told) (call.Resize at k n) l g named is = same_label calls (record { thread = thread; call = call.Resize at k n; answer = _ }) l g refl refl is
 given_push calls thread act c l g named is = absurd (cc)
 
 -- what the count of a thread's calls allows
@@ -115,14 +86,13 @@ counts plan calls told c books are is =
 -- the books where the call is entered
 pub entered : (plan : Plan) (calls : List CallLine) (told : Told) (c : Call) (old mid new : Books) → AreOf plan.scripts calls old
     → IsTold plan calls told c → mid.calls ≡ old.calls → mid.done ≡ old.done → mid.live ≡ blocks_with old.live (answer_of told.act)
-    → ((l : ℕ) → given_at mid.answers l ≡ given_by c told.act l (given_at old.answers l))
-    → new ≡ record mid { calls = mid.calls + 1; done = new.done }
-    → new.done.items ≡ slice_set mid.done.items told.thread (slice_index mid.done.items told.thread + 1)
-    → AreOf plan.scripts (calls ++ line_of told c ∷ []) new
+    → ((l : ℕ) → given_at mid.answers l ≡ given_by c told.act l (given_at old.answers l)) → new ≡ record mid { calls = mid.calls + 1; done = new.done }
+    → new.done.items ≡ slice_set mid.done.items told.thread (slice_index mid.done.items told.thread + 1) → AreOf plan.scripts (calls ++ line_of told c ∷ []) new
 entered plan calls told c old mid new are is number same live given whole done =
     let line : CallLine = line_of told c in
     let thread : ℕ = told.thread in
     let n = counts plan calls told c old are is in
+    let next : ℕ = count_of thread calls + 1 in
     let long : length (calls ++ line ∷ []) ≡ length calls + 1 = length-append calls (line ∷ []) in
     let number' : new.calls ≡ mid.calls + 1 = ap (λ (b : Books). b.calls) whole in
     let done' : new.done.items ≡ slice_set old.done.items thread (count_of thread calls + 1) =
@@ -133,13 +103,15 @@ entered plan calls told c old mid new are is number same live given whole done =
       threads = ap length done' ∙ length-set old.done.items thread (count_of thread calls + 1) ∙ are.threads;
       done = λ t there. elim (cases_eq thread t) [
         | inl mine ↦
-            ap (λ d. slice_get d t) done'
-            ∙ subst (λ u. slice_get (slice_set old.done.items thread (count_of thread calls + 1)) u ≡ Some (count_of thread calls + 1)) mine (set_here old.done.items thread (count_of thread calls + 1) (count_of thread calls) (are.done thread (has_script plan.scripts calls thread c is.next)))
+            ap (λ d. slice_get d t) done' ∙ subst (λ u. slice_get (slice_set old.done.items thread next) u ≡ Some next) mine
+            (set_here old.done.items thread next (count_of thread calls) (are.done thread (has_script plan.scripts calls thread c is.next)))
             ∙ ap (λ k. Some k) (ap (λ u. count_of u calls + 1) mine ∙ sym (count_mine t calls line mine))
-        | inr other ↦ ap (λ d. slice_get d t) done' ∙ set_elsewhere old.done.items thread t (count_of thread calls + 1) other ∙ are.done t there ∙ ap (λ k. Some k) (sym (count_other t calls line other))
+        | inr other ↦
+            ap (λ d. slice_get d t) done' ∙ set_elsewhere old.done.items thread t (count_of thread calls + 1) other
+            ∙ are.done t there ∙ ap (λ k. Some k) (sym (count_other t calls line other))
       ];
       live = ap (λ (b : Books). b.live) whole ∙ live ∙ ap (λ bs. blocks_with bs (answer_of told.act)) are.live ∙ sym (blocks_push calls line);
       answers = λ l.
-          let here : given_at new.answers l ≡ given_by c told.act l (given_at old.answers l) = ap (λ (b : Books). given_at b.answers l) whole ∙ given l in
-          subst (λ g. IsGiven g (answer_to l (calls ++ line ∷ [])) (freed_in l (calls ++ line ∷ []))) (sym here) (given_push calls (record { 0 = thread }) told.act c l (given_at old.answers l) is.names_it (are.answers l));
+          let here = ap (λ (b : Books). given_at b.answers l) whole ∙ given l in
+          rw here (given_push calls (record { 0 = thread }) told.act c l (given_at old.answers l) is.names_it (are.answers l));
     }

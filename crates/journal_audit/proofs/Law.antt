@@ -1,5 +1,6 @@
 -- The verdict is Yes exactly on the legal journals.
-use Rattle.std.proofs.Common.{◌≡◌, ℕ, suc, ◌+◌, ◌<◌, ◌≤◌, false, nat_lt, cond, List, [], ◌∷◌, ◌++◌, length, map, filter, take, Option, Some, Result, Ok, Err, refl, sym, ap, ◌∙◌, subst, inl, inr, arith, append_assoc, append-nil, length-append}
+use Rattle.std.proofs.Common.{◌≡◌, ℕ, suc, ◌+◌, ◌<◌, ◌≤◌, Bool, false, nat_lt, cond, List, [], ◌∷◌, ◌++◌, length, map, filter, take, Option, Some, Result, Ok, Err, refl}
+use Rattle.std.proofs.Common.{sym, ap, ◌∙◌, subst, inl, inr, arith, append_assoc, append-nil, length-append}
 use Rattle.std.specs.Prelude.{slice_get, IfOk}
 use Rattle.std.specs.List.{AllZip}
 use Rattle.std.proofs.lemmas.Bool.{cases_Bool, cases_lt, ltb-false, le-ltb, eqb-true, eqb-false, eq-eqb, cond-true, cond-false}
@@ -57,8 +58,8 @@ begun_push plan calls c begun next t =
           planned_at plan calls t c.call (subst (λ (u : ℕ). next_call plan.scripts calls u ≡ Some c.call) t_is next) in
           let call : calls_of t (c ∷ []) ≡ c.call ∷ [] = ap (λ b. map (λ (d : CallLine). d.call) (cond b (c ∷ []) [])) mine in
           let n' : count_of t (calls ++ c ∷ []) ≡ n + 1 = count_mine t calls c t_is in
-          let long : take (n + 1) (calls_planned plan t) ≡ take n (calls_planned plan t) ++ c.call ∷ [] =
-          take_more (calls_planned plan t) n c.call (slice_get_within _ n c.call there) ∙ ap (λ x. take n (calls_planned plan t) ++ x ∷ []) (get_or_from_slice_get (calls_planned plan t) n c.call c.call there) in
+          let at = ap (λ (x : Call). take n (calls_planned plan t) ++ x ∷ []) (get_or_from_slice_get (calls_planned plan t) n c.call c.call there) in
+          let long = take_more (calls_planned plan t) n c.call (slice_get_within _ n c.call there) ∙ at in
           more ∙ ap (λ xs. calls_of t calls ++ xs) call ∙ ap (λ xs. xs ++ c.call ∷ []) (begun t) ∙ sym long ∙ ap (λ k. take k (calls_planned plan t)) (sym n')
       | inr other ↦
           let call : calls_of t (c ∷ []) ≡ [] = ap (λ b. map (λ (d : CallLine). d.call) (cond b (c ∷ []) [])) other in
@@ -70,9 +71,10 @@ begun_push plan calls c begun next t =
 ended : (plan : Plan) (calls : List CallLine) → IsBegun plan calls → has_left plan.scripts calls ≡ false → (t : ℕ) → calls_of t calls ≡ calls_planned plan t
 ended plan calls begun none t =
     let long : length (calls_planned plan t) ≡ length (script_at plan.scripts t) = length-map (script_at plan.scripts t) (λ (p : Planned). p.call) in
+    let left : ℕ → Bool = λ u. nat_lt (count_of u calls) (length (script_at plan.scripts u)) in
     let all : length (script_at plan.scripts t) ≤ count_of t calls =
     elim (cases_lt t (length plan.scripts)) [
-      | inl there ↦ ltb-false (count_of t calls) (length (script_at plan.scripts t)) (none_below (λ u. nat_lt (count_of u calls) (length (script_at plan.scripts u))) 0 (length plan.scripts) t none (omega arith) (omega (arith, there)))
+      | inl there ↦ ltb-false (count_of t calls) _ (none_below left 0 (length plan.scripts) t none (omega arith) (omega (arith, there)))
       | inr past ↦ (let e : length (script_at plan.scripts t) ≡ 0 = ap (λ o. length (option_map_or (λ (s : Script). s.calls) o [])) (slice_get_past plan.scripts t past) in omega (arith, e))
     ] in
     begun t ∙ take_all (count_of t calls) (calls_planned plan t) (omega (arith, long, all))
@@ -80,7 +82,7 @@ ended plan calls begun none t =
 none_left : (plan : Plan) (calls : List CallLine) → ((t : ℕ) → calls_of t calls ≡ calls_planned plan t) → has_left plan.scripts calls ≡ false
 none_left plan calls order =
     none_in (λ t. nat_lt (count_of t calls) (length (script_at plan.scripts t))) 0 (length plan.scripts)
-    (λ t less. le-ltb (count_of t calls) (length (script_at plan.scripts t)) (omega (arith, sym (count_is t calls), ap length (order t), length-map (script_at plan.scripts t) (λ (p : Planned). p.call))))
+    (λ t less. le-ltb (count_of t calls) _ (omega (arith, sym (count_is t calls), ap length (order t), length-map (script_at plan.scripts t) (λ (p : Planned). p.call))))
 
 -- What the lines that are left tell, where the verdict is Yes.
 record Rest (plan : Plan) (earlier : List CallLine) (forms : List (Option Told)) (n : ℕ) : Type 0 where
@@ -136,8 +138,8 @@ yes_from plan [] earlier n sound begun few h =
     ]
 yes_from plan (form ∷ forms) earlier n sound begun few h = by_line (λ c sound' begun' few'. yes_from plan forms (earlier ++ c ∷ []) n sound' begun' few') (judged plan earlier form) refl h
   where
-    by_line : ((c : CallLine) → IsSound plan.huge (length_of plan.rows) (earlier ++ c ∷ []) → IsBegun plan (earlier ++ c ∷ []) → length (earlier ++ c ∷ []) ≤ 1000000 → audited plan (earlier ++ c ∷ []) forms ≡ Yes n → Rest plan (earlier ++ c ∷ []) forms n)
-        → (r : Result CallLine AuditWhy) → judged plan earlier form ≡ r
+    by_line : ((c : CallLine) → IsSound plan.huge (length_of plan.rows) (earlier ++ c ∷ []) → IsBegun plan (earlier ++ c ∷ []) → length (earlier ++ c ∷ []) ≤ 1000000
+        → audited plan (earlier ++ c ∷ []) forms ≡ Yes n → Rest plan (earlier ++ c ∷ []) forms n) → (r : Result CallLine AuditWhy) → judged plan earlier form ≡ r
         → and_then (length earlier + 1) r (λ c. audited plan (earlier ++ c ∷ []) forms) ≡ Yes n → Rest plan earlier (form ∷ forms) n
     by_line more (Err reason) is h = absurd (cc)
     by_line more (Ok c) is h =
@@ -174,7 +176,8 @@ passes_legal plan earlier later form c t order allowed few =
     let parts : calls_planned plan thread ≡ calls_of thread earlier ++ c.call ∷ calls_of thread later =
     sym order ∙ calls_append thread earlier (c ∷ later) ∙ ap (λ xs. calls_of thread earlier ++ xs) first in
     let there : slice_get (calls_planned plan thread) (count_of thread earlier) ≡ Some c.call =
-    ap (slice_get (calls_planned plan thread)) (sym (count_is thread earlier)) ∙ ap (λ xs. slice_get xs (length (calls_of thread earlier))) parts ∙ at_length (calls_of thread earlier) (calls_of thread later) c.call in
+    ap (slice_get (calls_planned plan thread)) (sym (count_is thread earlier)) ∙ ap (λ xs. slice_get xs (length (calls_of thread earlier))) parts
+    ∙ at_length (calls_of thread earlier) (calls_of thread later) c.call in
     let next : next_call plan.scripts earlier thread ≡ Some c.call =
     sym (slice_get-map (λ (p : Planned). p.call) (script_at plan.scripts thread) (count_of thread earlier)) ∙ there in
     let keeps = allowed_keeps plan earlier t.told.act c.call t.call (subst (IsAllowed plan.huge (length_of plan.rows) earlier c.call) t.answer allowed) in
@@ -192,10 +195,7 @@ passes_legal plan earlier later form c t order allowed few =
 legal_from : (plan : Plan) (forms : List (Option Told)) (earlier calls : List CallLine) → AllZip Tells forms calls
     → ((t : ℕ) → calls_of t (earlier ++ calls) ≡ calls_planned plan t) → IsBlockRun plan.huge (length_of plan.rows) (earlier ++ calls)
     → length (earlier ++ calls) ≤ 1000000 → audited plan earlier forms ≡ Yes (length (earlier ++ calls))
-legal_from plan [] earlier [] told order run few =
-    let same : earlier ++ [] ≡ earlier = append-nil earlier in
-    cond-false _ (No (length earlier + 1) why.Missing) (Yes (length earlier)) (none_left plan earlier (λ t. ap (calls_of t) (sym same) ∙ order t))
-    ∙ ap (λ xs. Yes (length xs)) (sym same)
+legal_from plan [] earlier [] told order run few = grind (arith, append-nil, calls_of, cond-false, length, none_left)
 legal_from plan [] earlier (c ∷ calls) told order run few = absurd told
 legal_from plan (form ∷ forms) earlier [] told order run few = absurd told
 legal_from plan (form ∷ forms) earlier (c ∷ calls) told order run few =
@@ -203,10 +203,8 @@ legal_from plan (form ∷ forms) earlier (c ∷ calls) told order run few =
     let long : length (earlier ++ c ∷ calls) ≡ length earlier + length (c ∷ calls) = length-append earlier (c ∷ calls) in
     let p = passes_legal plan earlier calls form c told.0 (order c.thread.0) (run earlier c calls refl) (omega (arith, few, long)) in
     let rest =
-    legal_from plan forms (earlier ++ c ∷ []) calls told.1 (λ t. ap (calls_of t) same ∙ order t) (subst (IsBlockRun plan.huge (length_of plan.rows)) (sym same) run) (omega (arith, ap length same, few)) in
-    ap (λ r. and_then (length earlier + 1) r (λ d. audited plan (earlier ++ d ∷ []) forms)) (judged_ok plan earlier form c p)
-    ∙ rest
-    ∙ ap (λ xs. Yes (length xs)) same
+    legal_from plan forms (earlier ++ c ∷ []) calls told.1 (λ t. ap (calls_of t) same ∙ order t) (rw same run) (omega (arith, ap length same, few)) in
+    ap (λ r. and_then (length earlier + 1) r (λ d. audited plan (earlier ++ d ∷ []) forms)) (judged_ok plan earlier form c p) ∙ rest ∙ ap (λ xs. Yes (length xs)) same
 
 yes_is_legal : (plan : Plan) (journal : List (Option Told)) → IsYesOnLegal plan journal (audited plan [] journal)
 yes_is_legal plan journal n = (

@@ -22,9 +22,7 @@ first_behind b false (x ∷ xs) ys some = refl
 
 cut_in_two : (a rest : List ℕ) → parts (a ++ 10 ∷ rest) ≡ parts a ++ parts rest
 cut_in_two [] rest = refl
-cut_in_two (b ∷ a) rest =
-    ap (λ (xs : List (List ℕ)). cond (is_line_feed b) ([] ∷ xs) (onto_first b xs)) (cut_in_two a rest)
-    ∙ first_behind b (is_line_feed b) (parts a) (parts rest) (some_parts a)
+cut_in_two (b ∷ a) rest = grind (arith, cond, first_behind, is_line_feed, onto_first, parts, some_parts, (cut_in_two a rest))
 
 last_empty : (xs ys : List (List ℕ)) → 0 < length ys → without_last_empty (xs ++ ys) ≡ xs ++ without_last_empty ys
 last_empty [] ys some = refl
@@ -37,25 +35,14 @@ read_line line = fields_of (without_return line)
 
 lines_in_two : (a rest : List ℕ) → lines_of (a ++ 10 ∷ rest) ≡ map read_line (parts a) ++ lines_of rest
 lines_in_two a rest =
-    ap (λ (xs : List (List ℕ)). map read_line (without_last_empty xs)) (cut_in_two a rest)
-    ∙ ap (map read_line) (last_empty (parts a) (parts rest) (some_parts rest))
+    ap (λ (xs : List (List ℕ)). map read_line (without_last_empty xs)) (cut_in_two a rest) ∙ ap (map read_line) (last_empty (parts a) (parts rest) (some_parts rest))
     ∙ map-append read_line (parts a) (without_last_empty (parts rest))
 
-lines_before : (lines : List (List (List ℕ))) (more : List ℕ)
-    → lines_of (flat_map joined_line lines ++ more) ≡ lines_of (flat_map joined_line lines) ++ lines_of more
+lines_before : (lines : List (List (List ℕ))) (more : List ℕ) → lines_of (flat_map joined_line lines ++ more) ≡ lines_of (flat_map joined_line lines) ++ lines_of more
 lines_before [] more = refl
-lines_before (line ∷ lines) more =
-    let a = join_with_byte 32 line in
-    let rest = flat_map joined_line lines in
-    let own = map read_line (parts a) in
-    ap lines_of (append_assoc (a ++ 10 ∷ []) rest more ∙ append_assoc a (10 ∷ []) (rest ++ more))
-    ∙ lines_in_two a (rest ++ more)
-    ∙ ap (λ (ls : List (List (List ℕ))). own ++ ls) (lines_before lines more)
-    ∙ sym (append_assoc own (lines_of rest) (lines_of more))
-    ∙ ap (λ (ls : List (List (List ℕ))). ls ++ lines_of more) (sym (ap lines_of (append_assoc a (10 ∷ []) rest) ∙ lines_in_two a rest))
+lines_before (line ∷ lines) more = grind (arith, append_assoc, flat_map, join_with_byte, joined_line, lines_in_two, lines_of, map, parts, read_line, (lines_before lines more))
 
 pub printed_stays : (text : List ℕ) (lines : List (List (List ℕ))) (more : List ℕ) → IsPrinted text lines → lines_of (text ++ more) ≡ lines ++ lines_of more
 printed_stays text lines more printed =
-    ap (λ (t : List ℕ). lines_of (t ++ more)) printed.joined
-    ∙ lines_before lines more
+    ap (λ (t : List ℕ). lines_of (t ++ more)) printed.joined ∙ lines_before lines more
     ∙ ap (λ (ls : List (List (List ℕ))). ls ++ lines_of more) (ap lines_of (sym printed.joined) ∙ printed_is_cut text lines printed)

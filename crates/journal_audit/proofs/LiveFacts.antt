@@ -1,5 +1,6 @@
 -- The live blocks as entries of an ordered map.
-use Rattle.std.proofs.Common.{◌≡◌, ℕ, ◌+◌, ◌-◌, ◌<◌, ◌≤◌, Bool, true, false, not, ◌||◌, nat_lt, cond, List, [], ◌∷◌, ◌++◌, length, filter, refl, sym, ap, ◌∙◌, subst, inl, inr, arith, length-append}
+use Rattle.std.proofs.Common.{◌≡◌, ℕ, ◌+◌, ◌-◌, ◌<◌, ◌≤◌, Bool, true, false, not, ◌||◌, nat_lt, cond, List, [], ◌∷◌, ◌++◌, length, filter, refl, sym, ap}
+use Rattle.std.proofs.Common.{◌∙◌, subst, inl, inr, arith, length-append}
 use Rattle.std.specs.Prelude.{All}
 use Rattle.std.specs.List.{list_any}
 use Rattle.std.specs.Map.{remove_entry}
@@ -32,10 +33,9 @@ inserted (e ∷ es) addr len some spread apart =
       | inl same ↦ absurd (false≢true (sym parts.0 ∙ they_meet x (extent e) (omega (arith, same, spread.0)) (omega (arith, same, some))))
       | inr other ↦
           elim other [
-            | inl less ↦ ap placed (sym (nat_cmp_is addr e.0 Less less)) ∙ sym (cond-true (nat_lt addr e.0) (x ∷ extent e ∷ extents_of es) (extent e ∷ with_block x (extents_of es)) (lt-ltb addr e.0 less))
+            | inl less ↦ ap placed (sym (nat_cmp_is addr e.0 Less less)) ∙ sym (cond-true (nat_lt addr e.0) _ (extent e ∷ with_block x (extents_of es)) (lt-ltb addr e.0 less))
             | inr more ↦
-                ap placed (sym (nat_cmp_is addr e.0 Greater more))
-                ∙ ap (λ bs. extent e ∷ bs) (inserted es addr len some spread.2 parts.1)
+                ap placed (sym (nat_cmp_is addr e.0 Greater more)) ∙ ap (λ bs. extent e ∷ bs) (inserted es addr len some spread.2 parts.1)
                 ∙ sym (cond-false (nat_lt addr e.0) (x ∷ extent e ∷ extents_of es) (extent e ∷ with_block x (extents_of es)) (le-ltb addr e.0 (omega (arith, more))))
           ]
     ]
@@ -52,25 +52,9 @@ bytes : (bs : List Extent) → IsSpread bs → All (λ (b : Extent). 0 < b.len) 
 bytes [] spread = All-nil (λ (b : Extent). 0 < b.len)
 bytes (b ∷ bs) spread = All-cons (λ (b : Extent). 0 < b.len) b bs spread.0 (bytes bs spread.2)
 
-pub removed : (es : List (ℕ × ℕ)) (addr : ℕ) → IsSpread (extents_of es)
-    → extents_of (remove_entry (is_at (nat_cmp addr)) es) ≡ without_block addr (extents_of es)
+pub removed : (es : List (ℕ × ℕ)) (addr : ℕ) → IsSpread (extents_of es) → extents_of (remove_entry (is_at (nat_cmp addr)) es) ≡ without_block addr (extents_of es)
 removed [] addr spread = refl
-removed (e ∷ es) addr spread =
-    let taken = λ (o : Ordering). extents_of (cond (is_eq o) es (e ∷ remove_entry (is_at (nat_cmp addr)) es)) in
-    let left = λ (t : Bool). cond (not t) (extent e ∷ without_block addr (extents_of es)) (without_block addr (extents_of es)) in
-    let apart : (addr ≡ e.0 → ⊥) → without_block addr (extent e ∷ extents_of es) ≡ extent e ∷ without_block addr (extents_of es) =
-    λ other. ap left (ne_eqb e.0 addr (λ same. other (sym same))) in
-    elim (cases_order addr e.0) [
-      | inl same ↦
-          let above =
-          All-weaker (λ (c : Extent). e.0 + e.1 ≤ c.addr) (λ (c : Extent). addr < c.addr) (λ c is. omega (arith, is, same, spread.0)) (extents_of es) spread.1 in
-          ap taken (sym (nat_cmp_is addr e.0 Equal same)) ∙ sym (ap left (eq-eqb e.0 addr (sym same)) ∙ none_to_take addr (extents_of es) above)
-      | inr other ↦
-          elim other [
-            | inl less ↦ ap taken (sym (nat_cmp_is addr e.0 Less less)) ∙ ap (λ bs. extent e ∷ bs) (removed es addr spread.2) ∙ sym (apart (λ same. omega (arith, same, less)))
-            | inr more ↦ ap taken (sym (nat_cmp_is addr e.0 Greater more)) ∙ ap (λ bs. extent e ∷ bs) (removed es addr spread.2) ∙ sym (apart (λ same. omega (arith, same, more)))
-          ]
-    ]
+removed (e ∷ es) addr spread = grind (arith, cases_order, cond, eq-eqb, extent, extents_of, is_at, is_eq, nat_cmp, nat_cmp_is, ne_eqb, none_to_take, not, remove_entry, without_block, (removed es addr spread.2))
 
 -- The entries that begin before an end.
 abbrev pub before : ℕ → ℕ × ℕ → Bool
@@ -103,16 +87,7 @@ in_range end es = filter_agree (λ (e : ℕ × ℕ). range_contains nat_cmp Unbo
 -- where there are none, none is met
 pub none_met : (x : Extent) (es : List (ℕ × ℕ)) → filter (before (x.addr + x.len)) es ≡ [] → list_any (meets x) (extents_of es) ≡ false
 none_met x [] none = refl
-none_met x (e ∷ es) none =
-    elim (cases_Bool (before (x.addr + x.len) e)) [
-      | inl is ↦
-          let wrong : e ∷ filter (before (x.addr + x.len)) es ≡ [] =
-          sym (first_in (x.addr + x.len) e es is) ∙ none in
-          absurd (cc)
-      | inr behind ↦
-          ap (λ b. b || list_any (meets x) (extents_of es)) (not_met x e behind)
-          ∙ none_met x es (sym (left_out (x.addr + x.len) e es behind) ∙ none)
-    ]
+none_met x (e ∷ es) none = grind (arith, before, cases_Bool, extents_of, filter, first_in, left_out, list_any, meets, not_met, (none_met x es))
 
 -- what holds of all holds of the last of them
 pub of_last : (P : Extent → Type 0) (end : ℕ) (es t : List (ℕ × ℕ)) (last : ℕ × ℕ) → All P (extents_of es) → filter (before end) es ≡ t ++ last ∷ []
@@ -138,11 +113,7 @@ of_last P end (e ∷ es) (f ∷ t) last all is =
 
 -- the last one that begins before a block's end meets it exactly where it ends behind the block's address
 meets_last : (x b : Extent) → 0 < b.len → nat_lt b.addr (x.addr + x.len) ≡ true → meets x b ≡ nat_lt (x.addr - b.addr) b.len
-meets_last x b some first =
-    elim (cases_lt (x.addr - b.addr) b.len) [
-      | inl less ↦ they_meet x b (omega (arith, less, some)) (ltb-true b.addr (x.addr + x.len) first) ∙ sym (lt-ltb (x.addr - b.addr) b.len less)
-      | inr more ↦ and_left (nat_lt x.addr (b.addr + b.len)) (nat_lt b.addr (x.addr + x.len)) (le-ltb x.addr (b.addr + b.len) (omega (arith, more, some))) ∙ sym (le-ltb (x.addr - b.addr) b.len more)
-    ]
+meets_last x b some first = grind (arith, and_left, cases_lt, le-ltb, lt-ltb, ltb-true, they_meet)
 
 -- so it alone tells whether any is met
 pub last_met : (x : Extent) (es t : List (ℕ × ℕ)) (last : ℕ × ℕ) → IsSpread (extents_of es) → filter (before (x.addr + x.len)) es ≡ t ++ last ∷ []
@@ -155,13 +126,10 @@ last_met x (e ∷ es) [] last spread is =
           sym (first_in (x.addr + x.len) e es first) ∙ is in
           let same : e ≡ last = cc in
           let none : filter (before (x.addr + x.len)) es ≡ [] = cc in
-          ap (λ b. meets x (extent e) || b) (none_met x es none)
-          ∙ or_false (meets x (extent e))
-          ∙ meets_last x (extent e) spread.0 first
+          ap (λ b. meets x (extent e) || b) (none_met x es none) ∙ or_false (meets x (extent e)) ∙ meets_last x (extent e) spread.0 first
           ∙ ap (λ (f : ℕ × ℕ). nat_lt (x.addr - f.0) f.1) same
       | inr behind ↦
-          ap (λ b. b || list_any (meets x) (extents_of es)) (not_met x e behind)
-          ∙ last_met x es [] last spread.2 (sym (left_out (x.addr + x.len) e es behind) ∙ is)
+          ap (λ b. b || list_any (meets x) (extents_of es)) (not_met x e behind) ∙ last_met x es [] last spread.2 (sym (left_out (x.addr + x.len) e es behind) ∙ is)
     ]
   where
     or_false : (b : Bool) → (b || false) ≡ b
@@ -183,8 +151,7 @@ last_met x (e ∷ es) (f ∷ t) last spread is =
             | inr past ↦ ap (λ b. b || list_any (meets x) (extents_of es)) (and_left (nat_lt x.addr (e.0 + e.1)) (before (x.addr + x.len) e) (le-ltb x.addr (e.0 + e.1) past)) ∙ rest
           ]
       | inr behind ↦
-          ap (λ b. b || list_any (meets x) (extents_of es)) (not_met x e behind)
-          ∙ last_met x es (f ∷ t) last spread.2 (sym (left_out (x.addr + x.len) e es behind) ∙ is)
+          ap (λ b. b || list_any (meets x) (extents_of es)) (not_met x e behind) ∙ last_met x es (f ∷ t) last spread.2 (sym (left_out (x.addr + x.len) e es behind) ∙ is)
     ]
   where
     or_true : (b : Bool) → (b || true) ≡ true

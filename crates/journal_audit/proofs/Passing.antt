@@ -43,8 +43,7 @@ keeps_all plan earlier call answer h =
     let f = first_of_none (not (frees_own earlier call answer)) why.Address None o.1 in
     record { long = not-false _ l.0; inside = not-false _ a.0; apart = o.0; own = not-false _ f.0 }
 
-pub none_broken : (plan : Plan) (earlier : List CallLine) (call : Call) (answer : Answer) → Keeps plan earlier call answer
-    → broken plan earlier call answer ≡ None
+pub none_broken : (plan : Plan) (earlier : List CallLine) (call : Call) (answer : Answer) → Keeps plan earlier call answer → broken plan earlier call answer ≡ None
 none_broken plan earlier call answer k =
     let long = k.long in
     let inside = k.inside in
@@ -63,19 +62,9 @@ by_rules plan earlier told call c None few next is_named none h =
     record { few = few; told = told; form_is = refl; call = call; next = next; names_it = is_named; line = sym e; keeps = subst (λ (d : CallLine). Keeps plan earlier d.call d.answer) e keeps }
 
 by_call : (plan : Plan) (earlier : List CallLine) (told : Told) (c : CallLine) (next : Option Call) → length earlier < 1000000
-    → next_call plan.scripts earlier told.thread ≡ next → judged_call plan earlier (option_and_then (named told) next) ≡ Ok c
-    → Passes plan earlier (Some told) c
+    → next_call plan.scripts earlier told.thread ≡ next → judged_call plan earlier (option_and_then (named told) next) ≡ Ok c → Passes plan earlier (Some told) c
 by_call plan earlier told c None few is h = absurd (cc)
-by_call plan earlier told c (Some call) few is h =
-    elim (cases_Bool (names told.act call)) [
-      | inl said ↦
-          let e : named told call ≡ Some (line_of told call) = ap (λ b. cond b (Some (line_of told call)) None) said in
-          by_rules plan earlier told call c _ few is said refl (sym (ap (judged_call plan earlier) e) ∙ h)
-      | inr unsaid ↦
-          let e : named told call ≡ None = ap (λ b. cond b (Some (line_of told call)) None) unsaid in
-          let wrong : Err why.Order ≡ Ok c = sym (ap (judged_call plan earlier) e) ∙ h in
-          absurd (cc)
-    ]
+by_call plan earlier told c (Some call) few is h = grind (arith, by_rules, cases_Bool, cond, judged_call, line_of, named, names)
 
 by_form : (plan : Plan) (earlier : List CallLine) (form : Option Told) (c : CallLine) → length earlier < 1000000
     → judged_form plan earlier form ≡ Ok c → Passes plan earlier form c
@@ -101,12 +90,9 @@ judged_ok plan earlier form c p =
     let line = p.line in
     let none : broken plan earlier p.call (line_of p.told p.call).answer ≡ None =
     none_broken plan earlier _ _ (subst (λ (d : CallLine). Keeps plan earlier d.call d.answer) line p.keeps) in
-    ap (λ b. cond b (Err why.Lines) (judged_form plan earlier form)) few
-    ∙ ap (judged_form plan earlier) is
-    ∙ ap (λ o. judged_call plan earlier (option_and_then (named p.told) o)) next
-    ∙ ap (λ b. judged_call plan earlier (cond b (Some (line_of p.told p.call)) None)) said
-    ∙ ap (judged_by (line_of p.told p.call)) none
-    ∙ ap (λ d. Ok d) (sym line)
+    ap (λ b. cond b (Err why.Lines) (judged_form plan earlier form)) few ∙ ap (judged_form plan earlier) is
+    ∙ ap (λ o. judged_call plan earlier (option_and_then (named p.told) o)) next ∙ ap (λ b. judged_call plan earlier (cond b (Some (line_of p.told p.call)) None)) said
+    ∙ ap (judged_by (line_of p.told p.call)) none ∙ ap (λ d. Ok d) (sym line)
 
 -- what is known of a line that is judged to tell a call
 pub record IsTold (plan : Plan) (earlier : List CallLine) (told : Told) (call : Call) : Type 0 where
@@ -115,8 +101,7 @@ pub record IsTold (plan : Plan) (earlier : List CallLine) (told : Told) (call : 
   pub names_it : names told.act call ≡ true
   pub keeps : Keeps plan earlier call (answer_of told.act)
 
-pub is_told : (plan : Plan) (earlier : List CallLine) (told : Told) (call : Call) → judged plan earlier (Some told) ≡ Ok (line_of told call)
-    → IsTold plan earlier told call
+pub is_told : (plan : Plan) (earlier : List CallLine) (told : Told) (call : Call) → judged plan earlier (Some told) ≡ Ok (line_of told call) → IsTold plan earlier told call
 is_told plan earlier told call h =
     let p = passes plan earlier (Some told) (line_of told call) h in
     let form = p.form_is in

@@ -1,5 +1,6 @@
 -- Answered calls that keep the rules, one after another, are a run on disjoint blocks.
-use Rattle.std.proofs.Common.{◌≡◌, ℕ, ◌+◌, ◌*◌, Bool, true, false, not, ◌&&◌, ◌||◌, nat_lt, nat_le, cond, List, [], ◌∷◌, ◌++◌, Option, Some, None, refl, sym, ap, ◌∙◌, subst, inl, inr, arith, ◌⊎◌}
+use Rattle.std.proofs.Common.{◌≡◌, ℕ, ◌+◌, ◌*◌, Bool, true, false, not, ◌&&◌, ◌||◌, nat_lt, nat_le, cond, List, [], ◌∷◌, ◌++◌, Option, Some, None, refl, sym, ap}
+use Rattle.std.proofs.Common.{◌∙◌, subst, inl, inr, arith, ◌⊎◌}
 use Rattle.std.specs.Prelude.{◌==◌, find}
 use Rattle.std.specs.List.{list_any}
 use Rattle.std.specs.Option.{option_or}
@@ -39,11 +40,7 @@ freed_push label calls c = or_push (list_any (λ (d : CallLine). frees label d.c
 pub answer_push : (label : ℕ) (calls : List CallLine) (c : CallLine)
     → answer_to label (calls ++ c ∷ []) ≡ option_or (answer_to label calls) (cond (allocates label c.call) (Some c.answer) None)
 answer_push label [] c = refl
-answer_push label (d ∷ ds) c =
-    elim (allocates label d.call) as (λ t. cond t (Some d.answer) (answer_to label (ds ++ c ∷ [])) ≡ option_or (cond t (Some d.answer) (answer_to label ds)) (cond (allocates label c.call) (Some c.answer) None)) [
-      | true ↦ refl
-      | false ↦ answer_push label ds c
-    ]
+answer_push label (d ∷ ds) c = grind (arith, allocates, answer_to, cond, option_or, (answer_push label ds c))
 
 -- a label has a block that no call has freed
 pub record HasBlock (calls : List CallLine) (label addr len : ℕ) : Type 0 where
@@ -86,8 +83,7 @@ module _ (huge : ℕ) (round : ℕ → ℕ) (calls : List CallLine) (sound : IsS
 
   -- a call that leaves the blocks as they are
   quiet : (c : CallLine) → IsAllowed huge round calls c.call c.answer → blocks_with (blocks_after calls) c.answer ≡ blocks_after calls
-      → ((label addr len : ℕ) → allocates label c.call ≡ true → c.answer ≡ answer.Block (record { 0 = addr }) len → ⊥)
-      → IsSound huge round (calls ++ c ∷ [])
+      → ((label addr len : ℕ) → allocates label c.call ≡ true → c.answer ≡ answer.Block (record { 0 = addr }) len → ⊥) → IsSound huge round (calls ++ c ∷ [])
   quiet c allowed blocks none =
       let same : blocks_after (calls ++ c ∷ []) ≡ blocks_after calls = blocks_push calls c ∙ blocks in
       let old : (label addr len : ℕ) → HasBlock (calls ++ c ∷ []) label addr len → HasBlock calls label addr len =
@@ -133,8 +129,8 @@ module _ (huge : ℕ) (round : ℕ → ℕ) (calls : List CallLine) (sound : IsS
               elim (of_label l a n has) [
                 | inl before ↦ find_old block a (blocks_after calls) (elsewhere l a n before) ∙ sound.stands l a n before
                 | inr mine ↦
-                    subst (λ (x : ℕ). find (λ b. b.addr == x) (with_block block (blocks_after calls)) ≡ Some (record { addr = x; len = n })) mine.1
-                    (subst (λ (k : ℕ). find (λ b. b.addr == addr) (with_block block (blocks_after calls)) ≡ Some (record { addr = addr; len = k })) mine.2 (find_new block (blocks_after calls) none))
+                    (let Finds : ℕ → ℕ → Type 0 = λ x k. find (λ b. b.addr == x) (with_block block (blocks_after calls)) ≡ Some (record { addr = x; len = k }) in
+                    subst (λ (x : ℕ). Finds x n) mine.1 (subst (Finds addr) mine.2 (find_new block (blocks_after calls) none)))
               ];
           distinct = λ l m a n k has other.
               elim (of_label l a n has) [
@@ -165,10 +161,7 @@ module _ (huge : ℕ) (round : ℕ → ℕ) (calls : List CallLine) (sound : IsS
 
 -- what the tests on an arena and on an answer say
 in_arena : (huge addr len : ℕ) → lies_in huge addr len ≡ true → IsInArena huge_bytes huge addr len
-in_arena huge addr len h =
-    let some = and_parts (nat_lt 0 len) (nat_le huge_bytes addr && nat_le (addr + len) (huge_bytes * (huge + 1))) h in
-    let ends = and_parts (nat_le huge_bytes addr) (nat_le (addr + len) (huge_bytes * (huge + 1))) some.1 in
-    record { some = ltb-true 0 len some.0; from = leb-true huge_bytes addr ends.0; to = leb-true (addr + len) (huge_bytes * (huge + 1)) ends.1 }
+in_arena huge addr len h = grind (arith, and_parts, leb-true, ltb-true)
 
 lies_there : (huge addr len : ℕ) → IsInArena huge_bytes huge addr len → lies_in huge addr len ≡ true
 lies_there huge addr len h = and_from _ _ (lt-ltb 0 len h.some) (and_from _ _ (le-leb huge_bytes addr h.from) (le-leb (addr + len) (huge_bytes * (huge + 1)) h.to))
@@ -186,7 +179,8 @@ pub sound_push : (plan : Plan) (calls : List CallLine) (thread : ThreadNo) (act 
     → names act c ≡ true → Keeps plan calls c (answer_of act)
     → IsSound plan.huge (length_of plan.rows) (calls ++ record { thread = thread; call = c; answer = answer_of act } ∷ [])
 sound_push plan calls thread (Malloc label (Some place)) (call.Malloc l size) sound named keeps =
-    with_one plan.huge (length_of plan.rows) calls sound thread l size place.addr place.len (eqb-true place.len (length_of plan.rows size) keeps.long) (record { inside = in_arena plan.huge place.addr place.len keeps.inside; apart = keeps.apart })
+    with_one plan.huge (length_of plan.rows) calls sound thread l size place.addr place.len (eqb-true place.len _ keeps.long)
+    (record { inside = in_arena plan.huge place.addr place.len keeps.inside; apart = keeps.apart })
 sound_push plan calls thread (Malloc label None) (call.Malloc l size) sound named keeps =
     quiet plan.huge (length_of plan.rows) calls sound (record { thread = thread; call = call.Malloc l size; answer = answer.NoBlock }) tt refl (λ label addr len mine is. cc)
 sound_push plan calls thread (Free label (Some addr)) (call.Free l) sound named keeps =
@@ -195,7 +189,8 @@ sound_push plan calls thread (Free label (Some addr)) (call.Free l) sound named 
     without_one plan.huge (length_of plan.rows) calls sound thread l addr at.0 (record { answered = at.1; kept = not-true (freed_in l.0 calls) parts.0 })
 sound_push plan calls thread (Free label None) (call.Free l) sound named keeps =
     let parts = and_parts (not (freed_in l.0 calls)) (is_null (answer_to l.0 calls)) keeps.own in
-    quiet plan.huge (length_of plan.rows) calls sound (record { thread = thread; call = call.Free l; answer = answer.FreedNull }) (record { answered = null_at (answer_to l.0 calls) parts.1; once = not-true (freed_in l.0 calls) parts.0 }) refl (λ label addr len mine is. false≢true mine)
+    quiet plan.huge (length_of plan.rows) calls sound (record { thread = thread; call = call.Free l; answer = answer.FreedNull })
+    (record { answered = null_at (answer_to l.0 calls) parts.1; once = not-true (freed_in l.0 calls) parts.0 }) refl (λ label addr len mine is. false≢true mine)
 sound_push plan calls thread (Release pages) (call.Release wanted) sound named keeps =
     quiet plan.huge (length_of plan.rows) calls sound (record { thread = thread; call = call.Release wanted; answer = answer.Released pages }) tt refl (λ label addr len mine is. false≢true mine)
 sound_push plan calls thread (Drain cpu (drained.Objects n)) (call.Drain at) sound named keeps =
@@ -205,9 +200,9 @@ sound_push plan calls thread (Drain cpu (drained.Busy n)) (call.Drain at) sound 
 sound_push plan calls thread (Resize cpu class cap_ resized.Set) (call.Resize at k n) sound named keeps =
     quiet plan.huge (length_of plan.rows) calls sound (record { thread = thread; call = call.Resize at k n; answer = answer.CapSet }) tt refl (λ label addr len mine is. false≢true mine)
 sound_push plan calls thread (Resize cpu class cap_ (resized.Busy m)) (call.Resize at k n) sound named keeps =
-    quiet plan.huge (length_of plan.rows) calls sound (record { thread = thread; call = call.Resize at k n; answer = answer.Busy (record { 0 = m }) }) tt refl (λ label addr len mine is. false≢true mine)
+    quiet plan.huge (length_of plan.rows) calls sound (record { thread = thread; call = call.Resize at k n; answer = answer.Busy (record { 0 = m }) }) tt refl (λ l addr len mine is. false≢true mine)
 sound_push plan calls thread (Resize cpu class cap_ (resized.OverStatic m)) (call.Resize at k n) sound named keeps =
-    quiet plan.huge (length_of plan.rows) calls sound (record { thread = thread; call = call.Resize at k n; answer = answer.OverStatic m }) tt refl (λ label addr len mine is. false≢true mine)
+    quiet plan.huge (length_of plan.rows) calls sound (record { thread = thread; call = call.Resize at k n; answer = answer.OverStatic m }) tt refl (λ l addr len mine is. false≢true mine)
 sound_push plan calls thread (Resize cpu class cap_ (resized.OverLimit m)) (call.Resize at k n) sound named keeps =
     quiet plan.huge (length_of plan.rows) calls sound (record { thread = thread; call = call.Resize at k n; answer = answer.OverLimit m }) tt refl (λ label addr len mine is. false≢true mine)
 sound_push plan calls thread act c sound named keeps = absurd (false≢true named)
@@ -215,7 +210,8 @@ sound_push plan calls thread act c sound named keeps = absurd (false≢true name
 -- a call that a line tells, and that is allowed, keeps the rules
 pub allowed_keeps : (plan : Plan) (calls : List CallLine) (act : Act) (c : Call) → names act c ≡ true
     → IsAllowed plan.huge (length_of plan.rows) calls c (answer_of act) → Keeps plan calls c (answer_of act)
-allowed_keeps plan calls (Malloc label (Some place)) (call.Malloc l size) named allowed = record { long = eq-eqb place.len (length_of plan.rows size) allowed.0; inside = lies_there plan.huge place.addr place.len allowed.1.inside; apart = allowed.1.apart; own = refl }
+allowed_keeps plan calls (Malloc label (Some place)) (call.Malloc l size) named allowed =
+    record { long = eq-eqb place.len (length_of plan.rows size) allowed.0; inside = lies_there plan.huge place.addr place.len allowed.1.inside; apart = allowed.1.apart; own = refl }
 allowed_keeps plan calls (Free label (Some addr)) (call.Free l) named allowed =
     record { long = refl; inside = refl; apart = refl; own = and_from _ _ (ap not allowed.once) (ap (is_block_at addr) allowed.answered ∙ eq-eqb addr addr refl) }
 allowed_keeps plan calls (Free label None) (call.Free l) named allowed = record { long = refl; inside = refl; apart = refl; own = and_from _ _ (ap not allowed.once) (ap is_null allowed.answered) }

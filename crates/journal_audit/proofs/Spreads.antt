@@ -1,5 +1,6 @@
 -- Blocks that are apart, with one more and with one taken away.
-use Rattle.std.proofs.Common.{◌≡◌, ℕ, ◌+◌, ◌<◌, ◌≤◌, true, false, not, nat_lt, eqb, cond, List, [], ◌∷◌, Some, None, refl, sym, ap, ◌∙◌, subst, inl, inr, arith, ◌⊎◌}
+use Rattle.std.proofs.Common.{◌≡◌, ℕ, ◌+◌, ◌<◌, ◌≤◌, true, false, not, nat_lt, eqb, cond, List, [], ◌∷◌, Some, None, refl, sym, ap, ◌∙◌, subst, inl, inr, arith}
+use Rattle.std.proofs.Common.{◌⊎◌}
 use Rattle.std.specs.Prelude.{◌==◌, All, find}
 use Rattle.std.specs.List.{list_any}
 use Rattle.std.proofs.lemmas.Bool.{cases_Bool, cases_eq, and_cases, and_from, ltb-true, ltb-false, lt-ltb, eqb-true, eq-eqb, ne_eqb, or_parts, cond-true, cond-false, false≢true}
@@ -11,11 +12,7 @@ use Rattle.journal_audit.specs.Spread.{IsSpread}
 
 -- two blocks that don't meet: one ends by where the other begins
 pub one_ends : (a b : Extent) → meets a b ≡ false → (b.addr + b.len ≤ a.addr) ⊎ (a.addr + a.len ≤ b.addr)
-one_ends a b apart =
-    elim (and_cases (nat_lt a.addr (b.addr + b.len)) (nat_lt b.addr (a.addr + a.len)) apart) [
-      | inl before ↦ inl (ltb-false a.addr (b.addr + b.len) before)
-      | inr behind ↦ inr (ltb-false b.addr (a.addr + a.len) behind)
-    ]
+one_ends a b apart = grind (arith, and_cases, ltb-false)
 
 pub they_meet : (a b : Extent) → a.addr < b.addr + b.len → b.addr < a.addr + a.len → meets a b ≡ true
 they_meet a b before behind = and_from _ _ (lt-ltb a.addr (b.addr + b.len) before) (lt-ltb b.addr (a.addr + a.len) behind)
@@ -30,7 +27,8 @@ spread_with x (b ∷ bs) some apart spread =
           let less = ltb-true x.addr b.addr before in
           let end : x.addr + x.len ≤ b.addr = elim (one_ends x b parts.0) [ inl wrong ↦ absurd (omega (arith, wrong, less)) | inr is ↦ is ] in
           let first : All (λ (c : Extent). x.addr + x.len ≤ c.addr) (b ∷ bs) =
-          All-cons (λ (c : Extent). x.addr + x.len ≤ c.addr) b bs end (All-weaker (λ (c : Extent). b.addr + b.len ≤ c.addr) (λ (c : Extent). x.addr + x.len ≤ c.addr) (λ c is. omega (arith, is, end)) bs spread.1) in
+          All-cons (λ (c : Extent). x.addr + x.len ≤ c.addr) b bs end
+          (All-weaker (λ (c : Extent). b.addr + b.len ≤ c.addr) (λ (c : Extent). x.addr + x.len ≤ c.addr) (λ c is. omega (arith, is, end)) bs spread.1) in
           subst IsSpread (sym (cond-true (nat_lt x.addr b.addr) (x ∷ b ∷ bs) (b ∷ with_block x bs) before)) (some, first, spread)
       | inr behind ↦
           let more = ltb-false x.addr b.addr behind in
@@ -45,7 +43,7 @@ spread_without addr (b ∷ bs) spread =
     let rest = spread_without addr bs spread.2 in
     elim (cases_Bool (eqb b.addr addr)) [
       | inl here ↦ subst IsSpread (sym (ap (λ t. cond (not t) (b ∷ without_block addr bs) (without_block addr bs)) here)) rest
-      | inr other ↦ subst IsSpread (sym (ap (λ t. cond (not t) (b ∷ without_block addr bs) (without_block addr bs)) other)) (spread.0, All-filter (λ (c : Extent). not (eqb c.addr addr)) (λ (c : Extent). b.addr + b.len ≤ c.addr) bs spread.1, rest)
+      | inr other ↦ rw other (spread.0, All-filter (λ (c : Extent). not (eqb c.addr addr)) (λ (c : Extent). b.addr + b.len ≤ c.addr) bs spread.1, rest)
     ]
 
 -- what is found at an address begins there and has a byte, and what meets none doesn't meet it

@@ -64,8 +64,7 @@ named_are_fields (call.Malloc label size) = one (decimal label.0) (decimal_is_fi
 named_are_fields (call.Free label) = one (decimal label.0) (decimal_is_field label.0)
 named_are_fields (call.Release pages) = All-nil IsField
 named_are_fields (call.Drain cpu) = one (decimal cpu.0) (decimal_is_field cpu.0)
-named_are_fields (call.Resize cpu k most) =
-    All-cons IsField (decimal cpu.0) (decimal k.0 ∷ decimal most ∷ []) (decimal_is_field cpu.0) (decimals k.0 most)
+named_are_fields (call.Resize cpu k most) = All-cons IsField (decimal cpu.0) (decimal k.0 ∷ decimal most ∷ []) (decimal_is_field cpu.0) (decimals k.0 most)
 
 answer_is_fields : (a : Answer) → All IsField (answer_words a)
 answer_is_fields (answer.Block addr len) = decimals addr.0 len
@@ -84,11 +83,7 @@ abbrev call_fields : CallLine → List (List ℕ)
 call_fields c = letter_of c.call ∷ decimal c.thread.0 ∷ named_words c.call ++ answer_words c.answer
 
 call_printed : (c : CallLine) → IsPrinted (call_line c) (call_fields c ∷ [])
-call_printed c =
-    let said = named_words c.call ++ answer_words c.answer in
-    let fields = All-append IsField (named_words c.call) (answer_words c.answer) (named_are_fields c.call) (answer_is_fields c.answer) in
-    let thread = All-cons IsField (decimal c.thread.0) said (decimal_is_field c.thread.0) fields in
-    printed (letter_of c.call) (decimal c.thread.0 ∷ said) (letter_is_field c.call) thread
+call_printed c = grind (arith, answer_is_fields, decimal, decimal_is_field, letter_is_field, named_are_fields, printed)
 
 -- the lines behind those of calls: the summary, and those of hugepages
 kind_is_field : (k : RowKind) → IsField (kind_word k)
@@ -118,8 +113,7 @@ row_printed numbered =
       ),
     ) in
     let own = All-cons IsField (kind_word row.kind) (measures row) (kind_is_field row.kind) numbers in
-    printed (codes "h") words (word_is_field (codes "h") refl)
-    (All-cons IsField (decimal numbered.0) (kind_word row.kind ∷ measures row) (decimal_is_field numbered.0) own)
+    printed (codes "h") words (word_is_field (codes "h") refl) (All-cons IsField (decimal numbered.0) (kind_word row.kind ∷ measures row) (decimal_is_field numbered.0) own)
 
 module _ (calls : List CallLine) (live live_bytes used resident : ℕ) (rows : List RowView) where
   abbrev summary_lines : List (List (List ℕ))
@@ -149,18 +143,12 @@ module _ (calls : List CallLine) (live live_bytes used resident : ℕ) (rows : L
 -- the lines before the summary are those of calls
 letter_goes_on : (c : Call) (others : List (List ℕ)) → ends (letter_of c ∷ others) ≡ false
 letter_goes_on (call.Malloc label size) others = refl
-letter_goes_on (call.Free label) others = refl
-letter_goes_on (call.Release pages) others = refl
-letter_goes_on (call.Drain cpu) others = refl
-letter_goes_on (call.Resize cpu class_ cap) others = refl
+letter_goes_on c others = refl
 
 lines_are_calls : (calls : List CallLine) (count : List (List ℕ)) (more : List (List (List ℕ)))
     → call_lines (map call_fields calls ++ (codes "calls" ∷ count) ∷ more) ≡ map call_fields calls
 lines_are_calls [] count more = refl
-lines_are_calls (c ∷ cs) count more =
-    let rest : List (List (List ℕ)) = call_lines (map call_fields cs ++ (codes "calls" ∷ count) ∷ more) in
-    let goes_on = letter_goes_on c.call (decimal c.thread.0 ∷ named_words c.call ++ answer_words c.answer) in
-    ap (λ b. cond b [] (call_fields c ∷ rest)) goes_on ∙ ap (λ (lines : List (List (List ℕ))). call_fields c ∷ lines) (lines_are_calls cs count more)
+lines_are_calls (c ∷ cs) count more = grind (arith, answer_words, call_fields, call_lines, codes, cond, decimal, letter_goes_on, map, named_words, (lines_are_calls cs count more))
 
 -- What is read.
 reads : (n : ℕ) → IsSmall n → number (decimal n) ≡ Some n
@@ -187,41 +175,26 @@ module _ (huge : ℕ) (round : ℕ → ℕ) (earlier : List CallLine) (t : Threa
   same : (n : ℕ) → (n == n) ≡ true
   same n = eq-eqb n n refl
 
-  tells : (c : Call) (a : Answer) → IsAllowed huge round earlier c a → NamesSmall c → AnswersSmall a
-      → Tells (told_by (call_fields (line t c a))) (line t c a)
-  tells (call.Malloc label size) (answer.Block addr len) allowed named said =
-      says _ _ (act.Malloc label.0 (Some (record { addr = addr.0; len = len })))
-      (rw (reads t.0 small, reads label.0 named, reads addr.0 said.0, reads len said.1) refl) (same label.0) refl
-  tells (call.Malloc label size) answer.NoBlock allowed named said =
-      says _ _ (act.Malloc label.0 None) (rw (reads t.0 small, reads label.0 named) refl) (same label.0) refl
+  tells : (c : Call) (a : Answer) → IsAllowed huge round earlier c a → NamesSmall c → AnswersSmall a → Tells (told_by (call_fields (line t c a))) (line t c a)
+  tells (call.Malloc label size) (answer.Block addr len) allowed named said = grind (arith, reads, same, says)
+  tells (call.Malloc label size) answer.NoBlock allowed named said = says _ _ (act.Malloc label.0 None) (rw (reads t.0 small, reads label.0 named) refl) (same label.0) refl
   tells (call.Free label) (answer.Freed addr) allowed named said =
-      says _ _ (act.Free label.0 (Some addr.0))
-      (rw (reads t.0 small, reads label.0 named, no_none addr.0 said, reads addr.0 said) refl) (same label.0) refl
-  tells (call.Free label) answer.FreedNull allowed named said =
-      says _ _ (act.Free label.0 None) (rw (reads t.0 small, reads label.0 named) refl) (same label.0) refl
-  tells (call.Release wanted) (answer.Released pages) allowed named said =
-      says _ _ (act.Release pages) (rw (reads t.0 small, reads pages said) refl) refl refl
+      says _ _ (act.Free label.0 (Some addr.0)) (rw (reads t.0 small, reads label.0 named, no_none addr.0 said, reads addr.0 said) refl) (same label.0) refl
+  tells (call.Free label) answer.FreedNull allowed named said = says _ _ (act.Free label.0 None) (rw (reads t.0 small, reads label.0 named) refl) (same label.0) refl
+  tells (call.Release wanted) (answer.Released pages) allowed named said = says _ _ (act.Release pages) (rw (reads t.0 small, reads pages said) refl) refl refl
   tells (call.Drain cpu) (answer.Drained objects) allowed named said =
       says _ _ (act.Drain cpu.0 (drained.Objects objects)) (rw (reads t.0 small, reads cpu.0 named, reads objects said) refl) (same cpu.0) refl
   tells (call.Drain cpu) (answer.Busy owner) allowed named said =
       says _ _ (act.Drain cpu.0 (drained.Busy owner.0)) (rw (reads t.0 small, reads cpu.0 named, reads owner.0 said) refl) (same cpu.0) refl
-  tells (call.Resize cpu k most) (answer.Busy owner) allowed named said =
-      says _ _ (act.Resize cpu.0 k.0 most (resized.Busy owner.0))
-      (rw (reads t.0 small, reads cpu.0 named.0, reads k.0 named.1, reads most named.2, reads owner.0 said) refl) (names_resize cpu.0 k.0 most) refl
+  tells (call.Resize cpu k most) (answer.Busy owner) allowed named said = grind (arith, names_resize, reads, says)
   tells (call.Resize cpu k most) answer.CapSet allowed named said =
-      says _ _ (act.Resize cpu.0 k.0 most resized.Set)
-      (rw (reads t.0 small, reads cpu.0 named.0, reads k.0 named.1, reads most named.2) refl) (names_resize cpu.0 k.0 most) refl
-  tells (call.Resize cpu k most) (answer.OverLimit sum) allowed named said =
-      says _ _ (act.Resize cpu.0 k.0 most (resized.OverLimit sum))
-      (rw (reads t.0 small, reads cpu.0 named.0, reads k.0 named.1, reads most named.2, reads sum said) refl) (names_resize cpu.0 k.0 most) refl
-  tells (call.Resize cpu k most) (answer.OverStatic limit) allowed named said =
-      says _ _ (act.Resize cpu.0 k.0 most (resized.OverStatic limit))
-      (rw (reads t.0 small, reads cpu.0 named.0, reads k.0 named.1, reads most named.2, reads limit said) refl) (names_resize cpu.0 k.0 most) refl
+      says _ _ (act.Resize cpu.0 k.0 most resized.Set) (rw (reads t.0 small, reads cpu.0 named.0, reads k.0 named.1, reads most named.2) refl) (names_resize cpu.0 k.0 most) refl
+  tells (call.Resize cpu k most) (answer.OverLimit sum) allowed named said = grind (arith, names_resize, reads, says)
+  tells (call.Resize cpu k most) (answer.OverStatic limit) allowed named said = grind (arith, names_resize, reads, says)
   tells c a allowed named said = absurd allowed
 
 module _ (plan : Plan) (calls : List CallLine) (run : IsBlockRun plan.huge (length_of plan.rows) calls) where
-  all_tell : (earlier later : List CallLine) → earlier ++ later ≡ calls → All IsTellable later
-      → AllZip Tells (map told_by (map call_fields later)) later
+  all_tell : (earlier later : List CallLine) → earlier ++ later ≡ calls → All IsTellable later → AllZip Tells (map told_by (map call_fields later)) later
   all_tell earlier [] is tellable = tt
   all_tell earlier (c ∷ cs) is tellable =
       let own = All-head IsTellable c cs tellable in (

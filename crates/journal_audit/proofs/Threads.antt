@@ -1,5 +1,6 @@
 -- The calls of a thread, counted, and what holds of each thread.
-use Rattle.std.proofs.Common.{◌≡◌, ℕ, zero, suc, ◌+◌, ◌<◌, ◌≤◌, Bool, true, false, ◌||◌, cond, List, [], ◌∷◌, ◌++◌, length, filter, Some, None, refl, sym, ap, ◌∙◌, inl, inr, arith, length-append}
+use Rattle.std.proofs.Common.{◌≡◌, ℕ, zero, suc, ◌+◌, ◌<◌, ◌≤◌, Bool, true, false, ◌||◌, cond, List, [], ◌∷◌, ◌++◌, length, filter, Some, None, refl, sym, ap}
+use Rattle.std.proofs.Common.{◌∙◌, inl, inr, arith, length-append}
 use Rattle.std.specs.List.{list_any, range_with_len}
 use Rattle.std.specs.Option.{option_map_or}
 use Rattle.std.specs.Prelude.{option_map, slice_get}
@@ -31,14 +32,7 @@ count_within t calls = omega (arith, length-filter (is_by t) calls, count_by-le-
 
 -- a thread with a next call is there
 pub has_script : (scripts : List Script) (calls : List CallLine) (t : ℕ) (call : Call) → next_call scripts calls t ≡ Some call → t < length scripts
-has_script scripts calls t call next =
-    elim (cases_lt t (length scripts)) [
-      | inl there ↦ there
-      | inr past ↦
-          let none : next_call scripts calls t ≡ None =
-          ap (λ o. option_map (λ (p : Planned). p.call) (slice_get (option_map_or (λ (s : Script). s.calls) o []) (count_of t calls))) (slice_get_past scripts t past) in
-          absurd (let wrong = sym none ∙ next in cc)
-    ]
+has_script scripts calls t call next = grind (arith, cases_lt, slice_get_past)
 
 -- what holds of each number of a range
 pub none_below : (p : ℕ → Bool) (a n k : ℕ) → list_any p (range_with_len a n) ≡ false → a ≤ k → k < a + n → p k ≡ false
@@ -53,8 +47,7 @@ none_below p a (suc n) k none from less =
 pub none_in : (p : ℕ → Bool) (a n : ℕ) → ((k : ℕ) → k < a + n → p k ≡ false) → list_any p (range_with_len a n) ≡ false
 none_in p a zero none = refl
 none_in p a (suc n) none =
-    ap (λ b. b || list_any p (range_with_len (a + 1) n)) (none a (omega arith))
-    ∙ none_in p (a + 1) n (λ k less. none k (omega (arith, less)))
+    ap (λ b. b || list_any p (range_with_len (a + 1) n)) (none a (omega arith)) ∙ none_in p (a + 1) n (λ k less. none k (omega (arith, less)))
 
 pub any_in : (p : ℕ → Bool) (n k : ℕ) → k < n → p k ≡ true → list_any p (range_with_len 0 n) ≡ true
 any_in p n k less is =

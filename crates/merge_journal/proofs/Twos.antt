@@ -1,5 +1,6 @@
 -- Two lists are merged entry by entry.
-use Rattle.std.proofs.Common.{◌≡◌, ◌≢◌, ◌⊎◌, ℕ, zero, suc, ◌+◌, ◌<◌, ◌≤◌, List, [], ◌∷◌, ◌++◌, length, take, drop, get_or, ◌-◌, Some, sym, ap, ◌∙◌, subst, inl, inr, ⊎_elim, arith, add-one, drop-cons}
+use Rattle.std.proofs.Common.{◌≡◌, ◌≢◌, ◌⊎◌, ℕ, zero, suc, ◌+◌, ◌<◌, ◌≤◌, List, [], ◌∷◌, ◌++◌, length, take, drop, get_or, ◌-◌, Some, sym, ap}
+use Rattle.std.proofs.Common.{◌∙◌, subst, inl, inr, ⊎_elim, arith, add-one, drop-cons}
 use Rattle.std.proofs.lemmas.Option.{slice_get-get_or}
 use Rattle.std.proofs.Math.Seq.{append_snoc}
 use Rattle.std.proofs.lemmas.List.{append-nil, drop_all, take_all, length-drop}
@@ -12,7 +13,8 @@ pub swap : (xs ys zs : List Entry) → IsMergeOfTwo xs ys zs → IsMergeOfTwo ys
 swap xs ys zs m = record { rises = m.rises; from = λ e h. ⊎_elim (λ (l : Has xs e). inr l) (λ (r : Has ys e). inl r) (m.from e h); left = m.right; right = m.left }
 
 -- the lesser head comes first
-pub one_more : (x y : Entry) (xs ys zs : List Entry) → Rising ticket_of (x ∷ xs) → Rising ticket_of (y ∷ ys) → x.ticket < y.ticket → IsMergeOfTwo xs (y ∷ ys) zs → IsMergeOfTwo (x ∷ xs) (y ∷ ys) (x ∷ zs)
+pub one_more : (x y : Entry) (xs ys zs : List Entry) → Rising ticket_of (x ∷ xs) → Rising ticket_of (y ∷ ys) → x.ticket < y.ticket
+    → IsMergeOfTwo xs (y ∷ ys) zs → IsMergeOfTwo (x ∷ xs) (y ∷ ys) (x ∷ zs)
 one_more x y xs ys zs rx ry less m = record {
   rises = (
     m.rises,
@@ -20,7 +22,8 @@ one_more x y xs ys zs rx ry less m = record {
         (λ (r : Has (y ∷ ys) e). ⊎_elim (λ (is : y ≡ e). subst (λ (z : Entry). x.ticket < z.ticket) is less) (λ (t : Has ys e). let up = ry.1 e t in omega arith) (has_cases y ys e r))
         (m.from e h),
   );
-  from = λ e h. ⊎_elim (λ (is : x ≡ e). inl (0, ap Some is)) (λ (t : Has zs e). ⊎_elim (λ (l : Has xs e). inl (has_tail x xs e l)) (λ (r : Has (y ∷ ys) e). inr r) (m.from e t)) (has_cases x zs e h);
+  from = λ e h. ⊎_elim (λ (is : x ≡ e). inl (0, ap Some is))
+      (λ (t : Has zs e). ⊎_elim (λ (l : Has xs e). inl (has_tail x xs e l)) (λ (r : Has (y ∷ ys) e). inr r) (m.from e t)) (has_cases x zs e h);
   left = λ e h. ⊎_elim (λ (is : x ≡ e). (0, ap Some is)) (λ (t : Has xs e). has_tail x zs e (m.left e t)) (has_cases x xs e h);
   right = λ e h. has_tail x zs e (m.right e h);
 }
@@ -42,42 +45,44 @@ has_at xs i d less = (i, slice_get-get_or xs i d less)
 abbrev pub LeadsOn : List Entry → List Entry → List Entry → ℕ → ℕ → Type 0
 LeadsOn xs ys merged i j = (rest : List Entry) → IsMergeOfTwo (drop i xs) (drop j ys) rest → IsMergeOfTwo xs ys (merged ++ rest)
 
-pub lead_left : (xs ys merged : List Entry) (i j : ℕ) (d : Entry) → Rising ticket_of xs → Rising ticket_of ys → i < length xs → j < length ys → (get_or xs i d).ticket < (get_or ys j d).ticket → LeadsOn xs ys merged i j → LeadsOn xs ys (merged ++ get_or xs i d ∷ []) (suc i) j
-lead_left xs ys merged i j d rx ry inside inside' less on rest m =
-    let x : Entry = get_or xs i d in let y : Entry = get_or ys j d in
-    let cut : drop i xs ≡ x ∷ drop (suc i) xs = drop-cons xs i d inside in let cut' : drop j ys ≡ y ∷ drop (suc j) ys = drop-cons ys j d inside' in
-    let rx' : Rising ticket_of (x ∷ drop (suc i) xs) = subst (Rising ticket_of) cut (rising_drop i xs rx) in
-    let ry' : Rising ticket_of (y ∷ drop (suc j) ys) = subst (Rising ticket_of) cut' (rising_drop j ys ry) in
-    let m' : IsMergeOfTwo (drop (suc i) xs) (y ∷ drop (suc j) ys) rest = subst (λ (l : List Entry). IsMergeOfTwo (drop (suc i) xs) l rest) cut' m in
-    let more : IsMergeOfTwo (x ∷ drop (suc i) xs) (y ∷ drop (suc j) ys) (x ∷ rest) = one_more x y (drop (suc i) xs) (drop (suc j) ys) rest rx' ry' less m' in
-    let next : IsMergeOfTwo (drop i xs) (drop j ys) (x ∷ rest) = subst (λ (l : List Entry). IsMergeOfTwo l (drop j ys) (x ∷ rest)) (sym cut) (subst (λ (l : List Entry). IsMergeOfTwo (x ∷ drop (suc i) xs) l (x ∷ rest)) (sym cut') more) in
-    subst (IsMergeOfTwo xs ys) (sym (append_snoc merged x rest)) (on (x ∷ rest) next)
+-- two lists that rise, and a place within each
+pub record AreWithin (xs ys : List Entry) (i j : ℕ) : Type 0 where
+  pub rises : Rising ticket_of xs
+  pub rises' : Rising ticket_of ys
+  pub low : i < length xs
+  pub low' : j < length ys
+
+pub step_left : {xs ys : List Entry} {i j : ℕ} → AreWithin xs ys i j → (merged : List Entry) {merged' : List Entry} (d : Entry) → (get_or xs i d).ticket < (get_or ys j d).ticket
+    → LeadsOn xs ys merged i j → merged' ≡ merged ++ get_or xs i d ∷ [] → LeadsOn xs ys merged' (i + 1) j
+step_left {xs} {ys} {i} {j} at merged d less on is rest m =
+    let x : Entry = get_or xs i d in
+    let cut = drop-cons xs i d at.low in
+    let cut' = drop-cons ys j d at.low' in
+    let next : IsMergeOfTwo (drop (suc i) xs) (get_or ys j d ∷ drop (suc j) ys) rest = rw (add-one, cut') at m in
+    let more = one_more _ _ _ _ rest (rw cut at (rising_drop i xs at.rises)) (rw cut' at (rising_drop j ys at.rises')) less next in
+    let both : IsMergeOfTwo (drop i xs) (drop j ys) (x ∷ rest) = rw (cut, cut') more in
+    rw (is, append_snoc merged x rest) (on (x ∷ rest) both)
 
 pub lead_swap : (xs ys merged : List Entry) (i j : ℕ) → LeadsOn xs ys merged i j → LeadsOn ys xs merged j i
 lead_swap xs ys merged i j on rest m = swap xs ys (merged ++ rest) (on rest (swap (drop j ys) (drop i xs) rest m))
 
-pub lead_right : (xs ys merged : List Entry) (i j : ℕ) (d : Entry) → Rising ticket_of xs → Rising ticket_of ys → i < length xs → j < length ys → ((a b : Entry) → Has xs a → Has ys b → a.ticket ≢ b.ticket) → (get_or ys j d).ticket ≤ (get_or xs i d).ticket → LeadsOn xs ys merged i j → LeadsOn xs ys (merged ++ get_or ys j d ∷ []) i (suc j)
-lead_right xs ys merged i j d rx ry inside inside' apart low on =
-    let ne = apart (get_or xs i d) (get_or ys j d) (has_at xs i d inside) (has_at ys j d inside') in
-    lead_swap ys xs (merged ++ get_or ys j d ∷ []) (suc j) i (lead_left ys xs merged j i d ry rx inside' inside (omega arith) (lead_swap xs ys merged i j on))
-
--- the same, as a loop has it
-pub step_left : (xs ys merged merged' : List Entry) (i j : ℕ) (d : Entry) → Rising ticket_of xs → Rising ticket_of ys → i < length xs → j < length ys → (get_or xs i d).ticket < (get_or ys j d).ticket → LeadsOn xs ys merged i j → merged' ≡ merged ++ get_or xs i d ∷ [] → LeadsOn xs ys merged' (i + 1) j
-step_left xs ys merged merged' i j d rx ry inside inside' less on is = rw (is, add-one) (lead_left xs ys merged i j d rx ry inside inside' less on)
-
-pub step_right : (xs ys merged merged' : List Entry) (i j : ℕ) (d : Entry) → Rising ticket_of xs → Rising ticket_of ys → i < length xs → j < length ys → ((a b : Entry) → Has xs a → Has ys b → a.ticket ≢ b.ticket) → (get_or ys j d).ticket ≤ (get_or xs i d).ticket → LeadsOn xs ys merged i j → merged' ≡ merged ++ get_or ys j d ∷ [] → LeadsOn xs ys merged' i (j + 1)
-step_right xs ys merged merged' i j d rx ry inside inside' apart low on is = rw (is, add-one) (lead_right xs ys merged i j d rx ry inside inside' apart low on)
+pub step_right : {xs ys : List Entry} {i j : ℕ} → AreWithin xs ys i j → (merged : List Entry) {merged' : List Entry} (d : Entry) → ((a b : Entry) → Has xs a → Has ys b → a.ticket ≢ b.ticket)
+    → (get_or ys j d).ticket ≤ (get_or xs i d).ticket → LeadsOn xs ys merged i j → merged' ≡ merged ++ get_or ys j d ∷ [] → LeadsOn xs ys merged' i (j + 1)
+step_right {xs} {ys} {i} {j} at merged {merged'} d apart low on is =
+    let ne = apart (get_or xs i d) (get_or ys j d) (has_at xs i d at.low) (has_at ys j d at.low') in
+    let back : AreWithin ys xs j i = record { rises = at.rises'; rises' = at.rises; low = at.low'; low' = at.low } in
+    lead_swap ys xs merged' (j + 1) i (step_left back merged d (omega arith) (lead_swap xs ys merged i j on) is)
 
 -- one list is used up, and the rest of the other goes behind
-pub used_up : (xs ys merged : List Entry) (i j : ℕ) → Rising ticket_of xs → Rising ticket_of ys → (length xs ≤ i) ⊎ (length ys ≤ j) → LeadsOn xs ys merged i j → IsMergeOfTwo xs ys ((merged ++ drop i xs) ++ drop j ys)
+pub used_up : (xs ys merged : List Entry) (i j : ℕ) → Rising ticket_of xs → Rising ticket_of ys → (length xs ≤ i) ⊎ (length ys ≤ j)
+    → LeadsOn xs ys merged i j → IsMergeOfTwo xs ys ((merged ++ drop i xs) ++ drop j ys)
 used_up xs ys merged i j rx ry (inl past) on =
     let none : drop i xs ≡ [] = drop_all i xs past in
-    let next = on (drop j ys) (subst (λ (l : List Entry). IsMergeOfTwo l (drop j ys) (drop j ys)) (sym none) (none_left (drop j ys) (rising_drop j ys ry))) in
-    subst (λ (l : List Entry). IsMergeOfTwo xs ys (l ++ drop j ys)) (sym (ap (λ (l : List Entry). merged ++ l) none ∙ append-nil merged)) next
+    rw (none, append-nil merged) (on (drop j ys) (rw none (none_left (drop j ys) (rising_drop j ys ry))))
 used_up xs ys merged i j rx ry (inr past) on =
     let none : drop j ys ≡ [] = drop_all j ys past in
-    let next = on (drop i xs) (subst (λ (l : List Entry). IsMergeOfTwo (drop i xs) l (drop i xs)) (sym none) (swap [] (drop i xs) (drop i xs) (none_left (drop i xs) (rising_drop i xs rx)))) in
-    subst (IsMergeOfTwo xs ys) (sym (ap (λ (l : List Entry). (merged ++ drop i xs) ++ l) none ∙ append-nil (merged ++ drop i xs))) next
+    let back = swap [] (drop i xs) (drop i xs) (none_left (drop i xs) (rising_drop i xs rx)) in
+    rw (none, append-nil (merged ++ drop i xs)) (on (drop i xs) (rw none back))
 
 pub rest_is : (xs : List Entry) (i : ℕ) → take (length xs - i) (drop i xs) ≡ drop i xs
 rest_is xs i = take_all (length xs - i) (drop i xs) (omega (arith, length-drop i xs))

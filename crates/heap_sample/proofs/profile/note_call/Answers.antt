@@ -8,8 +8,10 @@ use Rattle.heap_sample.proofs.profile.note_call.Goals as goal
 -- src/profile.rt:82:1
 pub returns-in-Malloc-Block-clause-live : goal.returns-in-Malloc-Block-clause-live
 returns-in-Malloc-Block-clause-live c =
-    let same = with_block c.args.step c.args.asked.now c.args.call c.args.answer c.in-Malloc-Block.label c.in-Malloc-Block.size c.in-Malloc-Block.len c.in-Malloc-Block.addr-1 c.args.live.now c.in-Malloc-Block.is-0 c.in-Malloc-Block.is-1 in
-    on_ok_weaker c.allocate.result (λ (h : AreSame c.allocate.new.live (sampled c.args.step c.args.asked.now c.in-Malloc-Block.label c.in-Malloc-Block.size c.in-Malloc-Block.len ++ c.args.live.now)). λ f. h f ∙ ap (sum_by f) (sym same)) c.allocate.ensures.live
+    let arm = c.in-Malloc-Block in
+    let same = with_block c.args.step c.args.asked.now c.args.call c.args.answer arm.label arm.size arm.len arm.addr-1 c.args.live.now arm.is-0 arm.is-1 in
+    let now = sampled c.args.step c.args.asked.now arm.label arm.size arm.len ++ c.args.live.now in
+    on_ok_weaker c.allocate.result (λ (h : AreSame c.allocate.new.live now). λ f. h f ∙ ap (sum_by f) (sym same)) c.allocate.ensures.live
 
 pub returns-in_default : goal.returns-in_default
 returns-in_default c =

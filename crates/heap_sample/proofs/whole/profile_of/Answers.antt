@@ -8,7 +8,8 @@ use Rattle.heap_sample.proofs.whole.profile_of.Goals as goal
 
 -- the next call's label is new behind the calls before it
 first_at : (lines : List CallLine) (i : ℕ) (d : CallLine) → AreFirstUses lines → i < length lines → IsFirstUse (take i lines) (get_or lines i d).call
-first_at lines i d labels l = labels (take i lines) (get_or lines i d) (drop (i + 1) lines) (ap (λ (rest : List CallLine). take i lines ++ rest) (sym (drop_more lines i d l)) ∙ take-append-drop i lines)
+first_at lines i d labels l =
+    labels (take i lines) (get_or lines i d) (drop (i + 1) lines) (ap (λ (rest : List CallLine). take i lines ++ rest) (sym (drop_more lines i d l)) ∙ take-append-drop i lines)
 
 thread_at : (lines : List CallLine) (i : ℕ) (d : CallLine) (threads n : ℕ) → All (λ c. c.thread.0 < threads) lines → i < length lines → n ≡ threads → (get_or lines i d).thread.0 < n
 thread_at lines i d threads n below l same = omega (arith, below i d l, same)
@@ -31,7 +32,8 @@ add-requires-clause-few c =
 pub loop-line-preserved : goal.loop-line-preserved
 loop-line-preserved c =
     let f = c.in_ok-add.ensures.follows in
-    let next = c.in_ok-add.ensures.of_calls (take c.loop-line.line-index c.args.lines.now) c.loop-line.invariant.0 (first_at c.args.lines.now c.loop-line.line-index _ c.requires.labels c.loop-line-test.true) in (
+    let first = first_at c.args.lines.now c.loop-line.line-index _ c.requires.labels c.loop-line-test.true in
+    let next = c.in_ok-add.ensures.of_calls (take c.loop-line.line-index c.args.lines.now) c.loop-line.invariant.0 first in (
       subst (λ (calls : List CallLine). IsProfileOf calls c.add.new.self) (sym (take_more c.args.lines.now c.loop-line.line-index _ c.loop-line-test.true)) next,
       f.step ∙ c.loop-line.invariant.1,
       ap length f.asked ∙ length-set c.loop-line.profile.asked _ _ ∙ c.loop-line.invariant.2,

@@ -17,17 +17,17 @@ returns-then-done-thread c =
     let t = c.loop-thread.thread in
     let there : t < length c.args.scripts.now = omega arith in
     let calls = script_there c.args.scripts.now t c.index-scripts-thread.result there c.index-scripts-thread.is in
-    sym
-    (any_in (λ u. nat_lt (slice_index c.args.done.now u) (length (script_at c.args.scripts.now u))) (length c.args.scripts.now) t there
-    (lt-ltb (slice_index c.args.done.now t) (length (script_at c.args.scripts.now t)) (omega (arith, c.if-done-thread.true, ap length c.as_slice.ensures, ap (λ (s : Script). length s.calls) c.index-scripts-thread.is, ap length calls))))
+    let less : slice_index c.args.done.now t < length (script_at c.args.scripts.now t) =
+    omega (arith, c.if-done-thread.true, ap length c.as_slice.ensures, ap (λ (s : Script). length s.calls) c.index-scripts-thread.is, ap length calls) in
+    sym (any_in (λ u. nat_lt (slice_index c.args.done.now u) (length (script_at c.args.scripts.now u))) (length c.args.scripts.now) t there (lt-ltb _ (length (script_at c.args.scripts.now t)) less))
 
 pub loop-thread-preserved : goal.loop-thread-preserved
 loop-thread-preserved c k less =
     let t = c.loop-thread.thread in
     let there : t < length c.args.scripts.now = omega arith in
     let calls = script_there c.args.scripts.now t c.index-scripts-thread.result there c.index-scripts-thread.is in
-    let here : nat_lt (slice_index c.args.done.now t) (length (script_at c.args.scripts.now t)) ≡ false =
-    le-ltb (slice_index c.args.done.now t) (length (script_at c.args.scripts.now t)) (omega (arith, c.if-done-thread.false, ap length c.as_slice.ensures, ap (λ (s : Script). length s.calls) c.index-scripts-thread.is, ap length calls)) in
+    let here = le-ltb (slice_index c.args.done.now t) (length (script_at c.args.scripts.now t))
+    (omega (arith, c.if-done-thread.false, ap length c.as_slice.ensures, ap (λ (s : Script). length s.calls) c.index-scripts-thread.is, ap length calls)) in
     elim (cases_eq k t) [
       | inl same ↦ subst (λ u. nat_lt (slice_index c.args.done.now u) (length (script_at c.args.scripts.now u)) ≡ false) (sym same) here
       | inr other ↦ c.loop-thread.invariant k (omega (arith, less, other))

@@ -22,9 +22,7 @@ none_at p xs none =
 some_at : {X : Type 0} (p : X → Bool) (xs : List X) (k : ℕ) (d : X) → Some k ≡ position p xs → Some (get_or xs k d) ≡ find p xs
 some_at p xs k d is =
     let at = cond_some (nat_lt (position_or_len p xs) (length xs)) (position_or_len p xs) k (sym is) in
-    ap (λ i. Some (get_or xs i d)) (sym at.1)
-    ∙ sym (slice_get-get_or xs (position_or_len p xs) d (ltb-true (position_or_len p xs) (length xs) at.0))
-    ∙ sym (find_at p xs)
+    ap (λ i. Some (get_or xs i d)) (sym at.1) ∙ sym (slice_get-get_or xs (position_or_len p xs) d (ltb-true (position_or_len p xs) (length xs) at.0)) ∙ sym (find_at p xs)
 
 pub returns-in_err-class : goal.returns-in_err-class
 returns-in_err-class c = c.from_residual.ensures ∙ sym (none_at (serves c.args.size) c.args.rows.now c.in_err-class.ensures)

@@ -9,7 +9,8 @@ pub loop-i-preserved-then-first-i : goal.loop-i-preserved-then-first-i
 loop-i-preserved-then-first-i c = record {
   low = omega arith;
   low' = omega arith;
-  leads = step_left c.args.first.now c.args.second.now c.loop-i.merged.items c.push_reserved.new.self.items c.loop-i.i c.loop-i.j _ c.requires.rise.0 c.requires.rise.1 c.loop-i-test.true c.if-j-second.true c.if-first-i.true c.loop-i.invariant.leads c.push_reserved.ensures.items;
+  leads = step_left (record { rises = c.requires.rise.0; rises' = c.requires.rise.1; low = c.loop-i-test.true; low' = c.if-j-second.true }) c.loop-i.merged.items _
+      c.if-first-i.true c.loop-i.invariant.leads c.push_reserved.ensures.items;
   counted = omega (arith, c.loop-i.invariant.counted, c.push_reserved.ensures.len);
   room = omega (arith, c.loop-i.invariant.room, c.push_reserved.ensures.capacity);
 }
@@ -18,7 +19,8 @@ pub loop-i-preserved : goal.loop-i-preserved
 loop-i-preserved c = record {
   low = omega arith;
   low' = omega arith;
-  leads = step_right c.args.first.now c.args.second.now c.loop-i.merged.items c.push_reserved-else-first-i.new.self.items c.loop-i.i c.loop-i.j _ c.requires.rise.0 c.requires.rise.1 c.loop-i-test.true c.if-j-second.true c.requires.apart c.if-first-i.false c.loop-i.invariant.leads c.push_reserved-else-first-i.ensures.items;
+  leads = step_right (record { rises = c.requires.rise.0; rises' = c.requires.rise.1; low = c.loop-i-test.true; low' = c.if-j-second.true }) c.loop-i.merged.items _
+      c.requires.apart c.if-first-i.false c.loop-i.invariant.leads c.push_reserved-else-first-i.ensures.items;
   counted = omega (arith, c.loop-i.invariant.counted, c.push_reserved-else-first-i.ensures.len);
   room = omega (arith, c.loop-i.invariant.room, c.push_reserved-else-first-i.ensures.capacity);
 }
@@ -26,7 +28,10 @@ loop-i-preserved c = record {
 pub returns : goal.returns
 returns c =
     let first : List Entry = c.args.first.now in let second : List Entry = c.args.second.now in
-    let over : (length first ≤ c.loop-i.i) ⊎ (length second ≤ c.loop-i.j) = elim c.loop-i-test.branch [ then-loop-i-test+else-j-second w ↦ inr w.if-j-second.false | else-loop-i-test w ↦ inl w.loop-i-test.false ] in
+    let over : (length first ≤ c.loop-i.i) ⊎ (length second ≤ c.loop-i.j) = elim c.loop-i-test.branch [
+      | then-loop-i-test+else-j-second w ↦ inr w.if-j-second.false
+      | else-loop-i-test w ↦ inl w.loop-i-test.false
+    ] in
     let all = used_up first second c.loop-i.merged.items c.loop-i.i c.loop-i.j c.requires.rise.0 c.requires.rise.1 over c.loop-i.invariant.leads in
     let one = c.in_ok-extend_from_slice.ensures.items ∙ ap (λ (l : List Entry). c.loop-i.merged.items ++ l) (rest_is first c.loop-i.i) in
     let two = c.in_ok-extend_from_slice-2.ensures.items ∙ ap (λ (l : List Entry). c.extend_from_slice.new.self.items ++ l) (rest_is second c.loop-i.j) in

@@ -12,7 +12,7 @@ returns-clause-freed c =
     let s = c.div_ceil-places.result in
     let size : c.from.result ≡ (row_at slab v).size = c.from.ensures ∙ c.marks_at-marks.ensures.marks.size in
     let is : s ≡ div_ceil c.args.short (row_at slab v).size = c.div_ceil-places.ensures ∙ ap (λ n. div_ceil c.args.short n) size in
-    let enough : c.args.short ≤ s * (row_at slab v).size = subst (λ n. c.args.short ≤ n * (row_at slab v).size) (sym is) (rounded_up c.args.short (row_at slab v).size c.marks_at-marks.ensures.row.size) in
+    let enough = subst (λ n. c.args.short ≤ n * (row_at slab v).size) (sym is) (rounded_up c.args.short (row_at slab v).size c.marks_at-marks.ensures.row.size) in
     let cap : c.marks_at-marks.result.cap ≡ (row_at slab v).cap = c.marks_at-marks.ensures.marks.cap in
     let new : c.put_cap.new.self ≡ with_cap slab v ((row_at slab v).cap - s) = c.put_cap.ensures.cap ∙ ap (λ n. with_cap slab v (n - s)) cap in
     subst (λ (p : CpuSlab). used p.rows + c.args.short ≤ used slab.rows) (sym new) (freed_by slab v s c.args.short c.requires.class (omega arith) enough)

@@ -5,9 +5,9 @@ use Rattle.cpu_slab.proofs.slab.Slab.marks_at.Goals as goal
 pub index-requires : goal.index-requires
 index-requires c =
     let s = c.self.inside in
-    omega (arith, class_low s.most s.limit s.marks.items s.slots.items c.args.self.now c.args.k c.self.view_is c.requires)
+    omega (arith, class_low s.marks.items s.slots.items c.self.view_is c.args.k c.requires)
 
 pub returns-clause-marks : goal.returns-clause-marks
 returns-clause-marks c =
     let s = c.self.inside in
-    read_marks s.most s.limit s.marks.items s.slots.items c.args.self.now c.args.k c.index.result.now c.self.view_is c.requires c.index.ensures
+    read_marks s.marks.items s.slots.items c.self.view_is c.args.k c.requires c.index.result.now c.index.ensures

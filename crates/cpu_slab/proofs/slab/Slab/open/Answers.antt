@@ -2,10 +2,10 @@ use Rattle.cpu_slab.proofs.Opened.{opened_is, opened_out}
 use Rattle.cpu_slab.proofs.slab.Slab.open.Goals as goal
 
 pub returns-clause-opened : goal.returns-clause-opened
-returns-clause-opened c = opened_is c.args.rows.now c.args.most c.args.limit c.in_ok-marks.marks.items c.in_ok-slots.slots.items c.in_ok-marks.ensures c.in_ok-slots.ensures
+returns-clause-opened c = opened_is c.args.rows.now c.args.most c.args.limit c.in_ok-marks.ensures c.in_ok-slots.ensures
 
 pub invariant_of-result : goal.invariant_of-result
-invariant_of-result c = opened_out c.args.rows.now c.args.most c.args.limit c.in_ok-marks.marks.items c.in_ok-slots.slots.items c.requires.limits c.requires.sizes c.in_ok-marks.ensures c.in_ok-slots.ensures
+invariant_of-result c = opened_out c.args.rows.now c.args.most c.args.limit c.requires.limits c.requires.sizes c.in_ok-marks.ensures c.in_ok-slots.ensures
 
 pub returns-clause-sound : goal.returns-clause-sound
 returns-clause-sound c = (invariant_of-result c).sound

@@ -6,17 +6,18 @@ use Rattle.cpu_slab.proofs.slab.Slab.put_cap.Goals as goal
 pub index_mut-requires : goal.index_mut-requires
 index_mut-requires c =
     let s = c.self.inside in
-    omega (arith, class_low s.most s.limit s.marks.items s.slots.items c.args.self.now c.args.k c.self.view_is c.requires.class)
+    omega (arith, class_low s.marks.items s.slots.items c.self.view_is c.args.k c.requires.class)
 
 pub returns-clause-cap : goal.returns-clause-cap
 returns-clause-cap c =
     let s = c.self.inside in
-    cap_set s.most s.limit s.marks.items s.slots.items c.args.self.now c.args.k c.args.n c.index_mut.result.now c.self.view_is c.requires.class c.index_mut.ensures.value
+    cap_set s.marks.items s.slots.items c.self.view_is c.args.k c.requires.class c.args.n c.index_mut.result.now c.index_mut.ensures.value
 
 pub invariant_of-self : goal.invariant_of-self
 invariant_of-self c =
     let s = c.self.inside in
-    laid_out_marks s.most s.limit c.counted_with-self-inside.result s.marks.items s.slots.items _ c.args.k _ (returns-clause-cap c) c.self.invariant.slots c.counted_with-self-inside.ensures.sum (sound_cap c.args.self.now c.args.k c.args.n c.requires.class c.requires.above c.requires.below c.requires.budget c.counted_with-self-inside.ensures.sound)
+    let sound = sound_cap c.args.self.now c.args.k c.args.n c.requires.class c.requires.above c.requires.below c.requires.budget c.counted_with-self-inside.ensures.sound in
+    laid_out_marks s.marks.items s.slots.items c.args.k _ (returns-clause-cap c) c.self.invariant.slots c.counted_with-self-inside.ensures.sum sound
 
 pub returns-clause-sound : goal.returns-clause-sound
 returns-clause-sound c = (invariant_of-self c).sound

@@ -13,7 +13,7 @@ index_mut-requires c =
     let old : IsSoundSlab c.args.self.now = subst IsSoundSlab c.self.view_is c.self.invariant.sound in
     let row : IsSoundRow (row_at c.args.self.now k) = row_sound c.args.self.now k old c.requires.class in
     let within : c.args.i < c.args.self.now.most = omega (arith, row.cap, row_slots c.args.self.now k old c.requires.class, c.requires.place) in
-    omega (arith, place_low s.most s.limit s.counted s.marks.items s.slots.items c.args.self.now k c.args.i c.self.invariant c.self.view_is c.requires.class within)
+    omega (arith, place_low s.marks.items s.slots.items c.self.view_is k c.requires.class c.args.i within c.self.invariant)
 
 pub returns-clause-stored : goal.returns-clause-stored
 returns-clause-stored c =
@@ -22,7 +22,7 @@ returns-clause-stored c =
     let old : IsSoundSlab c.args.self.now = subst IsSoundSlab c.self.view_is c.self.invariant.sound in
     let row : IsSoundRow (row_at c.args.self.now k) = row_sound c.args.self.now k old c.requires.class in
     let within : c.args.i < c.args.self.now.most = omega (arith, row.cap, row_slots c.args.self.now k old c.requires.class, c.requires.place) in
-    slot_stored s.most s.limit s.marks.items s.slots.items c.args.self.now k c.args.i c.args.a c.self.view_is c.requires.class within
+    slot_stored s.marks.items s.slots.items c.self.view_is k c.requires.class c.args.i within c.args.a
 
 pub invariant_of-self : goal.invariant_of-self
 invariant_of-self c =
@@ -30,7 +30,8 @@ invariant_of-self c =
     let k = c.args.class.0 in
     let old : IsSoundSlab c.args.self.now = subst IsSoundSlab c.self.view_is c.self.invariant.sound in
     let same = used_same c.args.self.now.rows k (stored (row_at c.args.self.now k) c.args.i c.args.a) c.requires.class refl refl in
-    laid_out s.most s.limit s.counted s.marks.items _ _ (returns-clause-stored c) (length-set s.slots.items _ c.args.a ∙ c.self.invariant.slots) (counted_is s.most s.limit s.counted s.marks.items s.slots.items c.args.self.now c.self.invariant c.self.view_is ∙ sym same) (sound_stored c.args.self.now k c.args.i c.args.a c.requires.class old)
+    let counted = counted_is s.marks.items s.slots.items c.self.view_is c.self.invariant ∙ sym same in
+    laid_out s.marks.items _ (returns-clause-stored c) (length-set s.slots.items _ c.args.a ∙ c.self.invariant.slots) counted (sound_stored c.args.self.now k c.args.i c.args.a c.requires.class old)
 
 pub returns-clause-sound : goal.returns-clause-sound
 returns-clause-sound c = (invariant_of-self c).sound

@@ -8,12 +8,12 @@ use Rattle.cpu_slab.proofs.slab.Slab.set_top.Goals as goal
 pub index_mut-requires : goal.index_mut-requires
 index_mut-requires c =
     let s = c.self.inside in
-    omega (arith, class_low s.most s.limit s.marks.items s.slots.items c.args.self.now c.args.class.0 c.self.view_is c.requires.class)
+    omega (arith, class_low s.marks.items s.slots.items c.self.view_is c.args.class.0 c.requires.class)
 
 pub returns-clause-top : goal.returns-clause-top
 returns-clause-top c =
     let s = c.self.inside in
-    top_set s.most s.limit s.marks.items s.slots.items c.args.self.now c.args.class.0 c.args.n c.index_mut.result.now c.self.view_is c.requires.class c.index_mut.ensures.value
+    top_set s.marks.items s.slots.items c.self.view_is c.args.class.0 c.requires.class c.args.n c.index_mut.result.now c.index_mut.ensures.value
 
 pub invariant_of-self : goal.invariant_of-self
 invariant_of-self c =
@@ -21,7 +21,8 @@ invariant_of-self c =
     let k = c.args.class.0 in
     let old : IsSoundSlab c.args.self.now = subst IsSoundSlab c.self.view_is c.self.invariant.sound in
     let same = used_same c.args.self.now.rows k (record (row_at c.args.self.now k) { top = c.args.n }) c.requires.class refl refl in
-    laid_out_marks s.most s.limit s.counted s.marks.items s.slots.items _ k _ (returns-clause-top c) c.self.invariant.slots (counted_is s.most s.limit s.counted s.marks.items s.slots.items c.args.self.now c.self.invariant c.self.view_is ∙ sym same) (sound_top c.args.self.now k c.args.n c.requires.class c.requires.within old)
+    let counted = counted_is s.marks.items s.slots.items c.self.view_is c.self.invariant ∙ sym same in
+    laid_out_marks s.marks.items s.slots.items k _ (returns-clause-top c) c.self.invariant.slots counted (sound_top c.args.self.now k c.args.n c.requires.class c.requires.within old)
 
 pub returns-clause-sound : goal.returns-clause-sound
 returns-clause-sound c = (invariant_of-self c).sound

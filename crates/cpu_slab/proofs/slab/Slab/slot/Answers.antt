@@ -1,4 +1,4 @@
-use Rattle.std.proofs.Common.{◌+◌, ◌*◌, ◌<◌, length, arith}
+use Rattle.std.proofs.Common.{◌+◌, ◌*◌, arith}
 use Rattle.std.proofs.lemmas.List.{get_or_read}
 use Rattle.cpu_slab.specs.Slots.{null}
 use Rattle.cpu_slab.proofs.LaidOut.{place_low, read_slot}
@@ -7,11 +7,12 @@ use Rattle.cpu_slab.proofs.slab.Slab.slot.Goals as goal
 pub index-requires : goal.index-requires
 index-requires c =
     let s = c.self.inside in
-    omega (arith, place_low s.most s.limit s.counted s.marks.items s.slots.items c.args.self.now c.args.class.0 c.args.i c.self.invariant c.self.view_is c.requires.class c.requires.place)
+    omega (arith, place_low s.marks.items s.slots.items c.self.view_is c.args.class.0 c.requires.class c.args.i c.requires.place c.self.invariant)
 
 pub returns : goal.returns
 returns c =
     let s = c.self.inside in
     let k = c.args.class.0 in
-    let low : k * s.most + c.args.i < length s.slots.items = place_low s.most s.limit s.counted s.marks.items s.slots.items c.args.self.now k c.args.i c.self.invariant c.self.view_is c.requires.class c.requires.place in
-    record { slot = read_slot s.most s.limit s.marks.items s.slots.items c.args.self.now k c.args.i c.index.result.now c.self.view_is c.requires.class c.requires.place (get_or_read s.slots.items (k * s.most + c.args.i) c.index.result.now low c.index.ensures null) }
+    let low = place_low s.marks.items s.slots.items c.self.view_is k c.requires.class c.args.i c.requires.place c.self.invariant in
+    let read = get_or_read s.slots.items (k * s.most + c.args.i) c.index.result.now low c.index.ensures null in
+    record { slot = read_slot s.marks.items s.slots.items c.self.view_is k c.requires.class c.args.i c.requires.place c.index.result.now read }

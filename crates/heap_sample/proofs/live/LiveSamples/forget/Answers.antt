@@ -45,7 +45,8 @@ overflow_sub-self c =
 pub invariant_of-self : goal.invariant_of-self
 invariant_of-self c =
     let there = taken_out c.args.label.0 c.in-Some.sample c.self.inside.samples.entries (sym c.remove.ensures.value ∙ c.in-Some.is) in
-    let one : IsOneMore c.remove.new.self.entries (c.args.label.0, c.in-Some.sample) c.self.inside.samples.entries = λ f. omega (arith, there f, sum_by-IsPermutation f _ _ c.remove.ensures.entries) in (
+    let one : IsOneMore c.remove.new.self.entries (c.args.label.0, c.in-Some.sample) c.self.inside.samples.entries =
+    λ f. omega (arith, there f, sum_by-IsPermutation f _ _ c.remove.ensures.entries) in (
       forgotten _ _ c.args.label.0 c.in-Some.sample c.self.inside.rows c.forget.new.self one c.self.invariant.0 c.forget.ensures.blocks c.forget.ensures.bytes,
       omega (arith, one (λ (s : ℕ × Sample). s.1.weight), c.self.invariant.1),
       c.remove.ensures.unique,

@@ -35,7 +35,8 @@ pub invariant_of-self-2 : goal.invariant_of-self-2
 invariant_of-self-2 c =
     let one = came c in
     let weight = one (λ (s : ℕ × Sample). s.1.weight) in
-    (noted _ _ c.args.label.0 c.args.sample c.self.inside.rows c.note.new.self one c.self.invariant.0 c.in_ok-note.ensures.blocks c.in_ok-note.ensures.bytes, omega (arith, weight, c.self.invariant.1), c.insert.ensures.unique)
+    let counts = noted _ _ c.args.label.0 c.args.sample c.self.inside.rows c.note.new.self one c.self.invariant.0 c.in_ok-note.ensures.blocks c.in_ok-note.ensures.bytes in
+    (counts, omega (arith, weight, c.self.invariant.1), c.insert.ensures.unique)
 
 pub returns-clause-samples : goal.returns-clause-samples
 returns-clause-samples c f =

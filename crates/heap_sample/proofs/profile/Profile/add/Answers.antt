@@ -1,9 +1,11 @@
-use Rattle.std.proofs.Common.{◌≡◌, ℕ, ◌+◌, ◌*◌, ◌<◌, ◌≤◌, List, length, slice_index, slice_set, nat_lt, if◌then◌else◌, ◌++◌, not, refl, subst, ap, sym, ◌∙◌, arith}
+use Rattle.std.proofs.Common.{◌≡◌, ℕ, ◌+◌, ◌*◌, ◌<◌, ◌≤◌, List, length, slice_index, slice_set, nat_lt, if◌then◌else◌, ◌++◌, not, refl, subst, ap, sym}
+use Rattle.std.proofs.Common.{◌∙◌, arith}
 use Rattle.std.proofs.lemmas.Grind.{common_steps}
 use Rattle.std.proofs.lemmas.List.{get_or_default}
 use Rattle.std.specs.List.{sum_by, sum}
 use Rattle.std.specs.List.{filter}
 use Rattle.tc_model.specs.Blocks.{frees}
+use Rattle.heap_sample.specs.declared.sample.Sample.{Sample}
 use Rattle.heap_sample.specs.Samples.{weight_of, weight_in, bytes_asked, sample_under, most_calls, most_size, IsFresh, AreSame}
 use Rattle.heap_sample.specs.Profiles.{Noted, Follows}
 use Rattle.heap_sample.proofs.Bounds.{covered, after, covers, sums, at_most, few_bytes, few, light}
@@ -44,15 +46,16 @@ invariant_of-self-2 c =
     let some = c.self.invariant.0 in
     let inside : t < length asked = grind (arith, common_steps) in
     let now : c.index_mut-asked.result.now ≡ slice_index asked t = c.index_mut-asked.ensures.value ∙ get_or_default asked t _ 0 inside in
-    let same : AreSame c.note_call.new.live (sample_under step (slice_index asked t) call answer ++ filter (λ s. not (frees s.0 call)) c.self.inside.live) = λ f. c.in_ok-note_call.ensures.live f ∙ ap (λ (n : ℕ). sum_by f (sample_under step n call answer ++ filter (λ s. not (frees s.0 call)) c.self.inside.live)) now in
+    let with_asked : ℕ → List (ℕ × Sample) = λ n. sample_under step n call answer ++ filter (λ s. not (frees s.0 call)) c.self.inside.live in
+    let same : AreSame c.note_call.new.live (with_asked (slice_index asked t)) = λ f. c.in_ok-note_call.ensures.live f ∙ ap (λ (n : ℕ). sum_by f (with_asked n)) now in
     let bytes = few_bytes c.self.inside.live call answer (subst (λ (v : Noted). IsFresh v.live call) (sym c.self.view_is) c.requires.fresh) in
     let new : slice_set asked t c.note_call.new.asked ≡ after step asked t add some inside = ap (slice_set asked t) (c.in_ok-note_call.ensures.asked ∙ ap (λ (n : ℕ). n + add) now) in
     let calls : c.self.inside.calls < most_calls = subst (λ (v : Noted). v.calls < most_calls) (sym c.self.view_is) c.requires.few in (
       some,
       omega (arith, calls),
       omega (arith, few step asked t call answer c.self.inside.live c.note_call.new.live some inside same, c.self.invariant.2),
-      subst (λ (ns : List ℕ). weight_in c.note_call.new.live ≤ sum_by (covered step) ns) (sym new) (light step asked t call answer c.self.inside.live c.note_call.new.live some inside same c.self.invariant.3),
-      subst (λ (ns : List ℕ). sum ns ≤ (c.self.inside.calls + 1) * most_size) (sym new) (omega (arith, sums step asked t add some inside, bytes, c.self.invariant.4)),
+      rw new (light step asked t call answer c.self.inside.live c.note_call.new.live some inside same c.self.invariant.3),
+      rw new (omega (arith, sums step asked t add some inside, bytes, c.self.invariant.4)),
     )
 
 pub returns-clause-of_calls : goal.returns-clause-of_calls
@@ -64,14 +67,16 @@ returns-clause-of_calls c calls is first =
     let add = bytes_asked call answer in
     let inside : t < length asked = grind (arith, common_steps) in
     let now : c.index_mut-asked.result.now ≡ slice_index asked t = c.index_mut-asked.ensures.value ∙ get_or_default asked t _ 0 inside in
-    let new : Noted = record { step = c.self.inside.step; asked = slice_set asked t c.note_call.new.asked; live = c.note_call.new.live; calls = c.self.inside.calls + 1; peak = c.after-self-inside.result } in
-    let before : Noted = record { step = c.self.inside.step; asked = asked; live = c.self.inside.live; calls = c.self.inside.calls; peak = c.self.inside.peak } in
+    let inner = c.self.inside in
+    let new : Noted = record { step = inner.step; asked = slice_set asked t c.note_call.new.asked; live = c.note_call.new.live; calls = inner.calls + 1; peak = c.after-self-inside.result } in
+    let before : Noted = record { step = inner.step; asked = asked; live = inner.live; calls = inner.calls; peak = inner.peak } in
     let thread : c.args.line.now.thread.0 ≡ t = sym c.from.ensures in
     let follows : Follows before c.args.line.now new = record {
       step = refl;
       asked = ap (slice_set asked t) (c.in_ok-note_call.ensures.asked ∙ ap (λ (n : ℕ). n + add) now) ∙ ap (λ (u : ℕ). slice_set asked u (slice_index asked u + add)) (sym thread);
-      live = λ f. c.in_ok-note_call.ensures.live f ∙ ap (λ (n : ℕ). sum_by f (sample_under c.self.inside.step n call answer ++ filter (λ s. not (frees s.0 call)) c.self.inside.live)) (now ∙ ap (slice_index asked) (sym thread));
+      live = λ f. c.in_ok-note_call.ensures.live f
+          ∙ ap (λ (n : ℕ). sum_by f (sample_under inner.step n call answer ++ filter (λ s. not (frees s.0 call)) inner.live)) (now ∙ ap (slice_index asked) (sym thread));
       calls = refl;
-      peak = c.after-self-inside.ensures ∙ ap (λ (n : ℕ). if nat_lt c.self.inside.peak.bytes n then (record { bytes = n; call = c.self.inside.calls + 1 }) else c.self.inside.peak) c.weight.ensures;
+      peak = c.after-self-inside.ensures ∙ ap (λ (n : ℕ). if nat_lt inner.peak.bytes n then (record { bytes = n; call = inner.calls + 1 }) else inner.peak) c.weight.ensures;
     } in
     followed calls c.args.line.now c.args.self.now new c.requires.thread (subst (λ (v : Noted). Follows v c.args.line.now new) c.self.view_is follows) is first

@@ -11,7 +11,5 @@ pub returns : goal.returns
 returns c =
     let live = c.args.self.now.live in
     let rows = only_rows live live c.rows.result.now c.rows.ensures (λ f. refl) in
-    c.in_ok-push_profile.ensures
-    ∙ ap (λ (t : List ℕ). t ++ profile_text c.rows.result.now c.self.inside.peak) c.new-text.ensures.items
-    ∙ ap (λ (rs : List ProfileRow). profile_text rs c.self.inside.peak) rows
-    ∙ ap (λ (v : Noted). profile_text (rows_of live) v.peak) c.self.view_is
+    c.in_ok-push_profile.ensures ∙ ap (λ (t : List ℕ). t ++ profile_text c.rows.result.now c.self.inside.peak) c.new-text.ensures.items
+    ∙ ap (λ (rs : List ProfileRow). profile_text rs c.self.inside.peak) rows ∙ ap (λ (v : Noted). profile_text (rows_of live) v.peak) c.self.view_is

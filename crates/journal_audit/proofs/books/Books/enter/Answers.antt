@@ -24,4 +24,5 @@ count-requires-clause-fits c =
 pub returns : goal.returns
 returns c plan calls are is =
     let kept = c.in_ok-note.ensures in
-    entered plan calls c.args.entry.told c.args.entry.call c.args.self.now c.note.new.self c.count.new.self are (is_told plan calls c.args.entry.told c.args.entry.call is) kept.calls kept.done kept.live kept.label c.count.ensures.calls c.count.ensures.done
+    let told = is_told plan calls c.args.entry.told c.args.entry.call is in
+    entered plan calls c.args.entry.told c.args.entry.call c.args.self.now _ c.count.new.self are told kept.calls kept.done kept.live kept.label c.count.ensures.calls c.count.ensures.done

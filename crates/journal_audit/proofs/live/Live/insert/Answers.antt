@@ -13,7 +13,8 @@ invariant_of-self c =
     let es = c.self.inside.lens.entries in
     let apart : list_any (meets x) (extents_of es) ≡ false = ap (list_any (meets x)) c.self.view_is ∙ c.requires.apart in
     elim c.match-insert.branch [
-      | in-Ok w ↦ subst IsSpread (sym (ap extents_of w.in-Ok.ensures.entries ∙ inserted es c.args.addr c.args.len c.requires.some c.self.invariant apart)) (spread_with x (extents_of es) c.requires.some apart c.self.invariant)
+      | in-Ok w ↦
+          rw (ap extents_of w.in-Ok.ensures.entries ∙ inserted es c.args.addr c.args.len c.requires.some c.self.invariant apart) (spread_with x (extents_of es) c.requires.some apart c.self.invariant)
       | in-Err w ↦ subst IsSpread (sym (ap extents_of w.in-Err.ensures.err)) c.self.invariant
     ]
 

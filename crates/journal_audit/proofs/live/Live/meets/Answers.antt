@@ -10,8 +10,7 @@ returns-in-Some c =
     let es = c.self.inside.lens.entries in
     let last : filter (before (c.args.addr + c.args.len)) es ≡ c.next_back.new.self ++ (c.in-Some.begin.now, c.in-Some.bytes.now) ∷ [] =
     sym (in_range (c.args.addr + c.args.len) es) ∙ (sym (c.range.ensures.between tt) ∙ c.in-Some.ensures.steps) in
-    ap (λ n. nat_lt n c.in-Some.bytes.now) c.saturating_sub.ensures
-    ∙ sym (last_met x es c.next_back.new.self (c.in-Some.begin.now, c.in-Some.bytes.now) c.self.invariant last)
+    ap (λ n. nat_lt n c.in-Some.bytes.now) c.saturating_sub.ensures ∙ sym (last_met x es c.next_back.new.self (c.in-Some.begin.now, c.in-Some.bytes.now) c.self.invariant last)
     ∙ ap (list_any (meets x)) c.self.view_is
 
 pub returns-in-None : goal.returns-in-None

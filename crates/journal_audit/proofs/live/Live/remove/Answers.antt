@@ -7,10 +7,9 @@ use Rattle.journal_audit.proofs.live.Live.remove.Goals as goal
 
 pub invariant_of-self : goal.invariant_of-self
 invariant_of-self c =
-    subst IsSpread (sym (ap extents_of c.remove.ensures.entries ∙ removed c.self.inside.lens.entries c.args.addr c.self.invariant)) (spread_without c.args.addr (extents_of c.self.inside.lens.entries) c.self.invariant)
+    rw (ap extents_of c.remove.ensures.entries ∙ removed c.self.inside.lens.entries c.args.addr c.self.invariant)
+    (spread_without c.args.addr (extents_of c.self.inside.lens.entries) c.self.invariant)
 
 pub returns : goal.returns
 returns c =
-    ap extents_of c.remove.ensures.entries
-    ∙ removed c.self.inside.lens.entries c.args.addr c.self.invariant
-    ∙ ap (without_block c.args.addr) c.self.view_is
+    ap extents_of c.remove.ensures.entries ∙ removed c.self.inside.lens.entries c.args.addr c.self.invariant ∙ ap (without_block c.args.addr) c.self.view_is
