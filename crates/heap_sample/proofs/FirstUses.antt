@@ -2,6 +2,8 @@
 use Rattle.std.proofs.Common.{◌≡◌, ℕ, List, [], ◌∷◌, ◌++◌, length, drop, take, get_or, subst, sym, ap, ◌∙◌, arith}
 use Rattle.std.proofs.lemmas.List.{append-nil, append_assoc, length-append, take-append-drop}
 use Rattle.tc_model.specs.declared.answers.CallLine.{CallLine}
+use Rattle.tc_model.specs.declared.calls.Call.{Call}
+use Rattle.tc_model.specs.declared.calls.Call.TheVariants.{Malloc, Free}
 use Rattle.heap_sample.specs.Samples.{IsFirstUse}
 use Rattle.heap_sample.specs.Profiles.{AreFirstUses}
 
@@ -9,7 +11,8 @@ abbrev pub FirstUsesFrom : List CallLine → List CallLine → Type 0
 FirstUsesFrom before [] = Unit {0}
 FirstUsesFrom before (c ∷ calls) = IsFirstUse before c.call × FirstUsesFrom (before ++ c ∷ []) calls
 
-uses_behind : (before calls : List CallLine) → FirstUsesFrom before calls → (earlier : List CallLine) (c : CallLine) (later : List CallLine) → earlier ++ c ∷ later ≡ calls → IsFirstUse (before ++ earlier) c.call
+uses_behind : (before calls : List CallLine) → FirstUsesFrom before calls → (earlier : List CallLine) (c : CallLine) (later : List CallLine)
+    → earlier ++ c ∷ later ≡ calls → IsFirstUse (before ++ earlier) c.call
 uses_behind before [] uses earlier c later is = absurd (omega (arith, ap length is, length-append earlier (c ∷ later)))
 uses_behind before (d ∷ calls) uses [] c later is =
     subst (λ (x : CallLine). IsFirstUse (before ++ []) x.call) (sym (ap (λ (xs : List CallLine). get_or xs 0 d) is))
@@ -18,6 +21,19 @@ uses_behind before (d ∷ calls) uses (x ∷ earlier) c later is =
     let first : x ≡ d = ap (λ (xs : List CallLine). get_or xs 0 d) is in
     let rest = uses_behind (before ++ d ∷ []) calls uses.1 earlier c later (ap (λ (xs : List CallLine). drop 1 xs) is) in
     subst (λ (xs : List CallLine). IsFirstUse xs c.call) (append_assoc before (d ∷ []) earlier ∙ ap (λ (y : CallLine). before ++ y ∷ earlier) (sym first)) rest
+
+-- the call of a line
+pub record IsOf (l : CallLine) (k : Call) : Type 0 where
+  pub call : l.call ≡ k
+
+pub call_of : {l m : CallLine} {k : Call} → l ≡ m → m.call ≡ k → IsOf l k
+call_of e h = record { call = ap (λ (x : CallLine). x.call) e ∙ h }
+
+abbrev pub allocates : ℕ → ℕ → Call
+allocates label size = Malloc (record { 0 = label }) size
+
+abbrev pub frees : ℕ → Call
+frees label = Free (record { 0 = label })
 
 pub first_uses : (calls : List CallLine) → FirstUsesFrom [] calls → AreFirstUses calls
 first_uses calls uses earlier c later is = uses_behind [] calls uses earlier c later is
