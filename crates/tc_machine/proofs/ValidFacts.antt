@@ -11,6 +11,7 @@ use Rattle.tc_model.specs.declared.calls.Call.{Call}
 use Rattle.tc_model.specs.declared.calls.Call.TheVariants.{Malloc, Free, Release, Drain, Resize}
 use Rattle.tc_model.specs.declared.calls.MoveTo.{MoveTo}
 use Rattle.tc_model.specs.declared.config.Config.{Config}
+use Rattle.tc_model.specs.declared.config.Head.TheVariants.{Cpus, Threads, Huge, Cache, Region, Slack, Slab, Percpu, Window}
 use Rattle.tc_model.specs.Blocks.{allocates, frees}
 use Rattle.tc_model.specs.Input.{Asked, ThreadCall}
 use Rattle.size_classes.specs.Rows as table
@@ -19,6 +20,8 @@ use Rattle.trace_reader.specs.Valid as reads
 use Rattle.holdings.specs.Runs.{bit}
 use Rattle.holdings.specs.Accounts.{got, put}
 use Rattle.call_steps.specs.Shapes.{IsClassRow, AreRows}
+use Rattle.heap_rules.specs.Sound as heaps
+use Rattle.alloc_rules.specs.Machine.{heap_config}
 use Rattle.alloc_rules.specs.Inputs.{Limits, limits_of, IsMove, IsCallThere, IsValidInput}
 use Rattle.alloc_rules.specs.Valid.{IsInOrder, AreLimits}
 use Rattle.tc_machine.specs.Inputs.{IsRead, input_of}
@@ -98,18 +101,31 @@ all_rows above (row ∷ rows) are = All-cons IsClassRow row rows (row_of row are
 rows_of : (rows : List ClassRow) → table.IsTable rows → AreRows rows
 rows_of rows is = record { some = omega (arith, is.some); few = is.most; each = all_rows 0 rows is.rows_rise }
 
+-- the limits of a trace, as the core with its front-ends and the page heap need them
 pub heads_of : (config : Config) → reads.IsConfig config → AreLimits config
 heads_of config is =
     record {
-      cpus = omega (arith, is.cpus.0);
-      threads = omega (arith, is.threads.0);
-      few_threads = is.threads.1;
-      some = omega (arith, is.huge.0);
-      few = is.huge.1;
-      region = is.region.0;
-      slab = omega (arith, is.slab.0);
-      slots = is.slab.1;
-      percpu = is.percpu;
+      cpus = omega (arith, (is Cpus).0);
+      threads = omega (arith, (is Threads).0);
+      few_threads = (is Threads).1;
+      some = omega (arith, (is Huge).0);
+      few = (is Huge).1;
+      region = (is Region).0;
+      slab = omega (arith, (is Slab).0);
+      slots = (is Slab).1;
+      percpu = (is Percpu).1;
+    }
+
+pub heap_heads_of : (config : Config) → reads.IsConfig config → heaps.AreLimits (heap_config config)
+heap_heads_of config is =
+    record {
+      huge_from = (is Huge).0;
+      huge_to = (is Huge).1;
+      cache = (is Cache).1;
+      region_from = (is Region).0;
+      region_to = (is Region).1;
+      slack = (is Slack).1;
+      window = (is Window).1;
     }
 
 valid_asked : (rows : List ClassRow) (asked : Asked) → table.IsTable rows → reads.IsAsked (length rows) asked → IsValidInput (record { rows = rows; asked = asked })

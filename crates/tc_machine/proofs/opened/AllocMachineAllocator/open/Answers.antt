@@ -1,4 +1,5 @@
 use Rattle.std.proofs.Common.{◌≡◌, length, ap, sym, subst, ◌∙◌, arith}
+use Rattle.tc_model.specs.declared.config.Head.TheVariants.{Threads, Events}
 use Rattle.tc_model.specs.Run.{world_of, start}
 use Rattle.call_steps.specs.declared.setting.Setting.{Setting}
 use Rattle.trace_reader.specs.declared.trace.Trace.{Trace}
@@ -20,7 +21,7 @@ parts_of-requires-clause-opens g c = g.met.F.LawfulFront.opens (record { table =
 pub locals_of-requires-clause-few : goal.locals_of-requires-clause-few
 locals_of-requires-clause-few g c =
     let config : IsConfig c.args.trace.config = subst IsConfig (sym (ap (λ (t : Trace). t.config) c.requires.read.1.is)) c.requires.read.1.valid.config in
-    omega (arith, ap length c.into_vec.ensures, threads_are (length c.args.table) c.args.trace c.requires.read.0 c.requires.read.1, config.threads.1)
+    omega (arith, ap length c.into_vec.ensures, threads_are (length c.args.table) c.args.trace c.requires.read.0 c.requires.read.1, (config Threads).1)
 
 pub locals_of-requires-clause-opens : goal.locals_of-requires-clause-opens
 locals_of-requires-clause-opens g c = g.met.F.LawfulFront.opens (record { table = c.args.table; config = c.args.trace.config }) (heads_of c.args.trace.config (subst IsConfig (sym (ap (λ (t : Trace). t.config) c.requires.read.1.is)) c.requires.read.1.valid.config))
@@ -34,7 +35,7 @@ invariant_of-machine g c =
     let seen : c.args.trace ≡ c.of-seen.result.value = sym c.of-seen.ensures in
     let setting : Setting = record { table = rows; config = c.args.trace.config } in
     record {
-      few = config.events.1;
+      few = (config Events).1;
       same_turns = turns_are rows (length rows) c.args.trace asked read ∙ ap (λ (t : Trace). turns (input_under setting t).asked) seen;
       valid = subst (λ (t : Trace). IsValidInput (input_under setting t)) seen (valid_read rows c.args.trace asked c.in_ok-parts.ensures.table read);
       taken = subst (λ (t : Trace). not_taken g.F.LawfulFront.takes (input_under setting t).asked.calls ≡ 0) seen c.requires.taken;
