@@ -26,6 +26,7 @@ use Rattle.tc_model.specs.declared.calls.Planned.{Planned}
 use Rattle.tc_machine.specs.Inputs.{IsRead, asked_under, input_under, script_at}
 use Rattle.tc_model.specs.declared.calls.Script.{Script}
 use Rattle.tc_model.specs.declared.config.Config.{Config}
+use Rattle.tc_model.specs.declared.config.Head.TheVariants.{Cpus, Threads}
 use Rattle.tc_model.specs.Input.{Asked, Input, ThreadCall, script_of, labels_of}
 use Rattle.tc_machine.proofs.InputFacts.{below_read, same_below, script_at_is, input_is, threads_are as scripts_are}
 use Rattle.tc_machine.proofs.ValidFacts.{valid_read}
@@ -253,7 +254,11 @@ module _ (nodes : ℕ) (setting : Setting) (trace : Trace) (asked : Asked) (head
       subst (λ (c : Config). IsValidInput (record { rows = setting.table; asked = asked_under c trace })) (sym heads)
       (valid_read setting.table trace asked is_table read)
 
+  pub some_cpus : 0 < setting.config.cpus
+  some_cpus =
+      omega (arith, ap (λ (c : Config). c.cpus) heads, ap (λ (t : Trace). t.config.cpus) read.is, (read.valid.config Cpus).0)
+
   pub few_scripts : (scripts : List Script) → scripts ≡ trace.scripts → length scripts ≤ 64
   few_scripts scripts are =
       let many = scripts_are (length setting.table) trace asked read in
-      omega (arith, ap length are, many, ap (λ (t : Trace). t.config.threads) read.is, read.valid.config.threads.1)
+      omega (arith, ap length are, many, ap (λ (t : Trace). t.config.threads) read.is, (read.valid.config Threads).1)

@@ -1,5 +1,6 @@
 use Rattle.std.proofs.Common.{◌≡◌, ℕ, ◌+◌, ◌<◌, ◌≤◌, true, false, cond, List, [], length, map, drop, All, Option, Some, None, refl, sym, ap, ◌∙◌, subst, arith}
-use Rattle.tc_model.specs.Input.{Asked, default_config}
+use Rattle.tc_model.specs.Heads.{default_config}
+use Rattle.tc_model.specs.Input.{Asked}
 use Rattle.tc_model.specs.Steps.{acted}
 use Rattle.alloc_rules.specs.Machine.{after, waits}
 use Rattle.no_caches.specs.NoCaches.{no_caches, about_none}

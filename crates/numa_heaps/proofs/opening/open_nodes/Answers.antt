@@ -7,7 +7,7 @@ use Rattle.numa_heaps.specs.declared.nodes.NodeNo.{NodeNo}
 use Rattle.node_rules.specs.Beside.{Beside}
 use Rattle.node_rules.specs.Numa.{NodePart, NodeLocal}
 use Rattle.numa_heaps.specs.Opening.{labels_by, owners_of, thread_by, parts_by}
-use Rattle.numa_heaps.proofs.Opened.{opened_is, few_labels, few_scripts, valid_in, labels_in, owners_in}
+use Rattle.numa_heaps.proofs.Opened.{opened_is, some_cpus, few_labels, few_scripts, valid_in, labels_in, owners_in}
 use Rattle.numa_heaps.proofs.opening.open_nodes.Goals as goal
 
 pub parts_of_nodes-requires-clause-few : goal.parts_of_nodes-requires-clause-few
@@ -21,6 +21,14 @@ parts_of_nodes-requires-clause-labels c k =
     few_labels c.args.nodes.count c.args.setting.now c.args.trace.now c.requires.read.0 c.requires.config c.requires.read.1 k in
     subst (λ (ss : List Script). labels_by c.args.nodes.count c.args.setting.now.config (script_at ss) k (length ss) < 4294967296)
     (sym c.as_slice-scripts.ensures) (omega (arith, most))
+
+pub owners_of-requires-clause-cpus : goal.owners_of-requires-clause-cpus
+owners_of-requires-clause-cpus c =
+    some_cpus c.args.nodes.count c.args.setting.now c.args.trace.now c.requires.read.0 c.requires.config c.requires.read.1
+
+pub threads_of-requires-clause-cpus : goal.threads_of-requires-clause-cpus
+threads_of-requires-clause-cpus c =
+    some_cpus c.args.nodes.count c.args.setting.now c.args.trace.now c.requires.read.0 c.requires.config c.requires.read.1
 
 pub owners_of-requires-clause-few : goal.owners_of-requires-clause-few
 owners_of-requires-clause-few c =

@@ -1,4 +1,5 @@
-use Rattle.std.proofs.Common.{◌≡◌, ℕ, List, [], ◌++◌, length, ap, sym, ◌∙◌}
+use Rattle.std.proofs.Common.{◌≡◌, ℕ, List, [], ◌++◌, length, ap, sym, ◌∙◌, arith}
+use Rattle.tc_model.specs.declared.config.Head.TheVariants.{Cpus}
 use Rattle.tc_machine.specs.Inputs.{script_at}
 use Rattle.tc_machine.specs.Opening.{parts_at}
 use Rattle.alloc_rules.specs.Machine.{parts_of}
@@ -7,6 +8,9 @@ use Rattle.node_rules.specs.Numa.{NodePart}
 use Rattle.numa_heaps.specs.Opening.{labels_by, parts_with}
 use Rattle.numa_heaps.proofs.Owners.{fold_more}
 use Rattle.numa_heaps.proofs.opening.parts_of_nodes.Goals as goal
+
+pub labels_at-labels-requires-clause-cpus : goal.labels_at-labels-requires-clause-cpus
+labels_at-labels-requires-clause-cpus c = omega (arith, (c.requires.config Cpus).0)
 
 pub loop-node-preserved : goal.loop-node-preserved
 loop-node-preserved c =

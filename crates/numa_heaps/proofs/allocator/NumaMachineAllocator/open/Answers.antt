@@ -1,4 +1,5 @@
 use Rattle.std.proofs.Common.{◌≡◌, length, ap, sym, subst, ◌∙◌}
+use Rattle.tc_model.specs.declared.config.Head.TheVariants.{Events}
 use Rattle.call_steps.specs.declared.setting.Setting.{Setting}
 use Rattle.trace_reader.specs.declared.trace.Trace.{Trace}
 use Rattle.trace_reader.specs.Valid.{IsConfig}
@@ -18,7 +19,7 @@ invariant_of-machine c =
     let seen : c.args.trace ≡ c.of-seen.result.value = sym c.of-seen.ensures in
     let setting : Setting = record { table = rows; config = c.args.trace.config } in
     record {
-      few = config.events.1;
+      few = (config Events).1;
       same_turns = turns_are rows (length rows) c.args.trace asked read ∙ ap (λ (t : Trace). turns (input_under setting t).asked) seen;
       valid = subst (λ (t : Trace). IsValidInput (input_under setting t)) seen c.in_ok-parts.ensures.valid;
       taken = subst (λ (t : Trace). not_taken is_shared (input_under setting t).asked.calls ≡ 0) seen c.requires.taken;

@@ -1,5 +1,5 @@
 use Rattle.std.proofs.Common.{sym, ap, subst, ◌∙◌}
-use Rattle.tc_model.specs.Input.{default_config}
+use Rattle.tc_model.specs.Heads.{default_config}
 use Rattle.node_rules.specs.NumaLaw.{FitsNow, waits_now}
 use Rattle.numa_heaps.proofs.Acting.{now_is}
 use Rattle.numa_heaps.proofs.local.NumaLocal.waits.Goals as goal
