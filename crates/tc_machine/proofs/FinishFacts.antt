@@ -83,17 +83,18 @@ module _ {P V R : Type 0} (r : FrontRules P V R) (about : R → About) (Holds : 
     pub heap_at : slice_get parts (heap_place r) ≡ Some (part.Heap holds.parts.heap)
     pub threads : All (λ t. t < length locals) order
 
+-- the number of the heap
+pub place_is : {P V R : Type 0} (r : FrontRules P V R) {rows : List ClassRow} {place : ℕ} → r.calls.rows ≡ rows → place ≡ r.split + length rows → place ≡ heap_place r
+place_is r same is = is ∙ ap (λ rows. r.split + length rows) (sym same)
+
+-- the heap is the part behind the shards
+heap_of : {P V R : Type 0} {r : FrontRules P V R} {about : R → About} {Holds : ℕ → List P → List (Standing V R) → Type 0} {asked : Asked} {order : List ℕ}
+    → (h : HoldsAfter r about Holds asked order) → r.split ≤ length r.parts → slice_get (parts_of r.split h.parts) (heap_place r) ≡ Some (part.Heap h.parts.heap)
+heap_of {r} h within =
+    ap (λ n. slice_get (parts_of r.split h.parts) (r.split + n)) (sym h.counts.shards) ∙ get_heap r.split h.parts (omega (arith, within, h.counts.fronts))
+
 module _ {P V R : Type 0} {r : FrontRules P V R} {about : R → About} {Holds : ℕ → List P → List (Standing V R) → Type 0} {asked : Asked} {order : List ℕ}
     {parts : List (Part P)} {locals : List (Local V R)} where
-  -- the number of the heap
-  pub place_is : {rows : List ClassRow} {place : ℕ} → r.calls.rows ≡ rows → place ≡ r.split + length rows → place ≡ heap_place r
-  place_is same is = is ∙ ap (λ rows. r.split + length rows) (sym same)
-
-  -- the heap is the part behind the shards
-  heap_of : (h : HoldsAfter r about Holds asked order) → r.split ≤ length r.parts → slice_get (parts_of r.split h.parts) (heap_place r) ≡ Some (part.Heap h.parts.heap)
-  heap_of h within =
-      ap (λ n. slice_get (parts_of r.split h.parts) (r.split + n)) (sym h.counts.shards) ∙ get_heap r.split h.parts (omega (arith, within, h.counts.fronts))
-
   told_of : HoldsAfter r about Holds asked order → r.split ≤ length r.parts → world_of parts locals ≡ run (rules r about asked) order
       → moving (rules r about asked) (start (rules r about asked)) order ≡ order → length order ≤ 40000000 → IsTold r about Holds asked order parts locals
   told_of h within is moves few =

@@ -14,7 +14,7 @@ use Rattle.node_rules.specs.Beside.{Beside}
 use Rattle.node_rules.specs.Numa.{NodeLocal, NodePart, numa_rules}
 use Rattle.node_rules.proofs.NodesLaw.{threads_count}
 use Rattle.numa_heaps.specs.Machine.{arena}
-use Rattle.numa_heaps.proofs.FinishFacts.{holds_of, has_heap, lines_are, blocks_are, scripts_are, rising_is, finished_is, covered_is}
+use Rattle.numa_heaps.proofs.FinishFacts.{holds_of, has_heap, blocks_are, scripts_are, rising_is, finished_is, covered_is}
 use Rattle.numa_heaps.proofs.allocator.NumaMachineAllocator.finish.Goals as goal
 
 pub told_calls-requires-clause-threads : goal.told_calls-requires-clause-threads

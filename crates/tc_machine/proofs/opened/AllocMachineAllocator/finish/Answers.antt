@@ -43,14 +43,14 @@ heap_of-heap-requires g c =
     let m = c.args.self.now in
     let told = told_under (g.met.F.LawfulFront.lawful _ m.valid m.taken) (g.met.F.LawfulFront.shared _ c.args.order.now) (g.F.FrontEnd.split_is_within m.setting) m.few
     c.requires.run c.requires.moves c.requires.few in
-    (told.holds.parts.heap, ap (slice_get c.args.parts.now) (place_is (g.F.FrontEnd.same_rows m.setting) c.heap_place.ensures) ∙ told.heap_at)
+    (told.holds.parts.heap, ap (slice_get c.args.parts.now) (place_is (g.F.FrontEnd.rules m.setting) (g.F.FrontEnd.same_rows m.setting) c.heap_place.ensures) ∙ told.heap_at)
 
 pub rows_of-requires-clause-all : goal.rows_of-requires-clause-all
 rows_of-requires-clause-all g c =
     let m = c.args.self.now in
     let told = told_under (g.met.F.LawfulFront.lawful _ m.valid m.taken) (g.met.F.LawfulFront.shared _ c.args.order.now) (g.F.FrontEnd.split_is_within m.setting) m.few
     c.requires.run c.requires.moves c.requires.few in
-    let there = ap (slice_get c.args.parts.now) (sym (place_is (g.F.FrontEnd.same_rows m.setting) c.heap_place.ensures)) ∙ c.heap_of-heap.ensures in
+    let there = ap (slice_get c.args.parts.now) (sym (place_is (g.F.FrontEnd.rules m.setting) (g.F.FrontEnd.same_rows m.setting) c.heap_place.ensures)) ∙ c.heap_of-heap.ensures in
     sym (huge_is told there)
 
 pub returns-clause-value : goal.returns-clause-value
@@ -58,7 +58,7 @@ returns-clause-value g c =
     let m = c.args.self.now in
     let told = told_under (g.met.F.LawfulFront.lawful _ m.valid m.taken) (g.met.F.LawfulFront.shared _ c.args.order.now) (g.F.FrontEnd.split_is_within m.setting) m.few
     c.requires.run c.requires.moves c.requires.few in
-    let there = ap (slice_get c.args.parts.now) (sym (place_is (g.F.FrontEnd.same_rows m.setting) c.heap_place.ensures)) ∙ c.heap_of-heap.ensures in
+    let there = ap (slice_get c.args.parts.now) (sym (place_is (g.F.FrontEnd.rules m.setting) (g.F.FrontEnd.same_rows m.setting) c.heap_place.ensures)) ∙ c.heap_of-heap.ensures in
     let stand = subst (λ (ds : List CallLine). AreStanding ds c.in_ok-standing.standing) c.deref.ensures.value c.in_ok-standing.ensures in
     let rows = c.new-2.ensures ∙ (c.in_ok-rows.ensures ∙ ap (λ n. map (row_of c.heap_of-heap.result.now) (range_with_len 1 n)) (sym (huge_is told there))) in
     let s = c.in_ok-standing.standing in
@@ -85,7 +85,7 @@ returns-clause-covered g c =
     let m = c.args.self.now in
     let told = told_under (g.met.F.LawfulFront.lawful _ m.valid m.taken) (g.met.F.LawfulFront.shared _ c.args.order.now) (g.F.FrontEnd.split_is_within m.setting) m.few
     c.requires.run c.requires.moves c.requires.few in
-    let there = ap (slice_get c.args.parts.now) (sym (place_is (g.F.FrontEnd.same_rows m.setting) c.heap_place.ensures)) ∙ c.heap_of-heap.ensures in
+    let there = ap (slice_get c.args.parts.now) (sym (place_is (g.F.FrontEnd.rules m.setting) (g.F.FrontEnd.same_rows m.setting) c.heap_place.ensures)) ∙ c.heap_of-heap.ensures in
     let stand = subst (λ (ds : List CallLine). AreStanding ds c.in_ok-standing.standing) c.deref.ensures.value c.in_ok-standing.ensures in
     covered_is told there c.in_ok-calls.ensures.calls stand c.used_pages.ensures.value c.used_pages.ensures.runs c.backed_pages.ensures.covers
 
@@ -94,7 +94,7 @@ returns-clause-most g c =
     let m = c.args.self.now in
     let told = told_under (g.met.F.LawfulFront.lawful _ m.valid m.taken) (g.met.F.LawfulFront.shared _ c.args.order.now) (g.F.FrontEnd.split_is_within m.setting) m.few
     c.requires.run c.requires.moves c.requires.few in
-    let there = ap (slice_get c.args.parts.now) (sym (place_is (g.F.FrontEnd.same_rows m.setting) c.heap_place.ensures)) ∙ c.heap_of-heap.ensures in
+    let there = ap (slice_get c.args.parts.now) (sym (place_is (g.F.FrontEnd.rules m.setting) (g.F.FrontEnd.same_rows m.setting) c.heap_place.ensures)) ∙ c.heap_of-heap.ensures in
     omega (arith, c.backed_pages.ensures.most, huge_is told there)
 
 pub returns-clause-arena : goal.returns-clause-arena
@@ -102,5 +102,5 @@ returns-clause-arena g c =
     let m = c.args.self.now in
     let told = told_under (g.met.F.LawfulFront.lawful _ m.valid m.taken) (g.met.F.LawfulFront.shared _ c.args.order.now) (g.F.FrontEnd.split_is_within m.setting) m.few
     c.requires.run c.requires.moves c.requires.few in
-    let there = ap (slice_get c.args.parts.now) (sym (place_is (g.F.FrontEnd.same_rows m.setting) c.heap_place.ensures)) ∙ c.heap_of-heap.ensures in
+    let there = ap (slice_get c.args.parts.now) (sym (place_is (g.F.FrontEnd.rules m.setting) (g.F.FrontEnd.same_rows m.setting) c.heap_place.ensures)) ∙ c.heap_of-heap.ensures in
     omega (arith, c.backed_pages.ensures.most, m.valid.limits.few, huge_is told there)
