@@ -1,7 +1,8 @@
 -- A state under the lock, as contracts see it.
 use Rattle.std.specs.Prelude.{ℕ, List, [], Option}
 use Rattle.tc_model.specs.declared.board.Halt.{Halt}
-use Rattle.tc_model.specs.Input.{Input, default_config}
+use Rattle.tc_model.specs.Heads.{default_config}
+use Rattle.tc_model.specs.Input.{Input}
 
 -- the order of its picks, and why no further pick moves, where one was halted
 pub record Locked : Type 0 where
