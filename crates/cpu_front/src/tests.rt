@@ -11,21 +11,17 @@ use std::test::Fail;
 use tc_model::{Call, Config, Planned, Script};
 use tc_units::{Class, CpuNo, Label, Listed, ThreadNo};
 
-/// So many CPUs in two domains, and the least of everything else.
-const CONFIG: Config = Config {
-    cpus: 4,
-    threads: 4,
-    huge: 1,
-    cache: 0,
-    region: 2,
-    slack: 0,
-    transfer: 0,
-    slab: 1,
-    percpu: 0,
-    events: 100,
-    window: 0,
-    domains: 2,
-};
+/// Four CPUs in two domains.
+fn config() -> Config
+    ensures { AreCpuLimits result }
+{
+    Config {
+        cpus: 4,
+        threads: 4,
+        domains: 2,
+        ..Config::default()
+    }
+}
 
 /// A table of 16, 64 and 8192 bytes, with four CPUs in two domains.
 fn setting_of(rt: &impl Abort, alloc: Global) -> Setting
@@ -33,7 +29,7 @@ fn setting_of(rt: &impl Abort, alloc: Global) -> Setting
 {
     Setting {
         table: ClassTable::read(alloc, b"16,1,4\n64,1,2\n8192,1,2\n").expect(rt, "a table"),
-        config: CONFIG,
+        config: config(),
     }
 }
 
@@ -114,7 +110,7 @@ fn memory_that_runs_out(rt: HostRuntime) -> Result<(), Fail> {
     let label = Label(0);
     let setting = Setting {
         table,
-        config: CONFIG,
+        config: config(),
     };
     if let Ok(local) = local_of(rt.alloc(), &setting, Call::Free { label }) {
         assert_eq!(rt; local.step(), Step::Names(NamesStep::Take { label }));
