@@ -11,21 +11,16 @@ use tc_model::{Call, Config, Planned, Script};
 use tc_units::{Label, Listed, ThreadNo};
 use thread_cache::{CacheRow, CacheSeat};
 
-/// Four threads, with 100 bytes each at first, and the least of everything else.
-const CONFIG: Config = Config {
-    cpus: 1,
-    threads: 4,
-    huge: 1,
-    cache: 0,
-    region: 2,
-    slack: 0,
-    transfer: 0,
-    slab: 1,
-    percpu: 100,
-    events: 100,
-    window: 0,
-    domains: 0,
-};
+/// Four threads, with 100 bytes each at first.
+fn config() -> Config
+    ensures { AreCacheLimits result }
+{
+    Config {
+        threads: 4,
+        percpu: 100,
+        ..Config::default()
+    }
+}
 
 /// A table of 16, 64 and 8192 bytes.
 fn setting_of(rt: &impl Abort, alloc: Global) -> Setting
@@ -33,7 +28,7 @@ fn setting_of(rt: &impl Abort, alloc: Global) -> Setting
 {
     Setting {
         table: ClassTable::read(alloc, b"16,1,4\n64,1,2\n8192,1,2\n").expect(rt, "a table"),
-        config: CONFIG,
+        config: config(),
     }
 }
 
