@@ -1,8 +1,8 @@
 -- What holds after every order, from the books of its parts and locals.
 use Rattle.std.proofs.Common.{◌≡◌, ℕ, ◌+◌, ◌*◌, ◌<◌, ◌≤◌, ◌⊎◌, ◌↔◌, true, false, eqb, List, length, map, Option, Some, None, refl, sym, ap, ◌∙◌, subst, inl}
-use Rattle.std.proofs.Common.{inr, arith, sum_by, slice_get, All, MatchOption}
+use Rattle.std.proofs.Common.{inr, arith, sum_by, slice_get, All}
 use Rattle.alloc_rules.proofs.Common.{All-weaker, cases_Bool, cond-true, eq-eqb, false≢true, Addr, Run, MOST_PICKS, script_of, Asked, World, run, HaveEnded}
-use Rattle.alloc_rules.proofs.Common.{Extent, blocks_after, live_bytes, CallLine, Planned, state_of, HeapConfig, Placed, new, none_fits, IsGiven}
+use Rattle.alloc_rules.proofs.Common.{Extent, blocks_after, live_bytes, CallLine, Planned, state_of, HeapConfig, Placed, new, none_fits}
 use Rattle.alloc_rules.proofs.Common.{IsSound, new_gives, small, runs_at, spans_at, objects_at, Account, loose, in_hand, named_at, Setup, Books}
 use Rattle.alloc_rules.proofs.Common.{class_number, IsStanding, Facts, least, none_counts, of_all, sum_of_both, class_zero, objects_are_once, names_are_live}
 use Rattle.alloc_rules.proofs.Common.{page_bytes, Local, under, About, Parts, place_of, rules, lines_by, TellsFirst, TellsScript}

@@ -1,5 +1,5 @@
 -- What no act does, over any front-end: it lowers no number of ended calls, and refuses a call only where its step may.
-use Rattle.std.proofs.Common.{◌≡◌, ℕ, ◌*◌, ◌/◌, ◌≤◌, Bool, true, false, List, [], ◌∷◌, ◌++◌, Option, Some, None, refl, sym, ap, ◌∙◌, arith, find}
+use Rattle.std.proofs.Common.{◌≡◌, ℕ, ◌*◌, ◌/◌, ◌≤◌, Bool, true, false, List, [], ◌∷◌, Option, Some, None, refl, sym, ap, ◌∙◌, arith, find}
 use Rattle.alloc_rules.proofs.Common.{false≢true, page_bytes, Addr, Label, SpanRef, SpanKind, Small, Large, Call, Malloc, Free}
 use Rattle.alloc_rules.proofs.Common.{Answer, Block, Freed, FreedNull, NoBlock, SpanMap, holds, NameState, Placed, Regs}
 use Rattle.alloc_rules.proofs.Common.{without_first, address_of, Asking, Serving, Giving, Onward, Step, Next, ShardStep, HeapStep}

@@ -17,8 +17,6 @@ use Rattle.holdings.{proofs.Start.holds_at_first, specs.Accounts.holds}
 use Rattle.rseq_core.specs.Registers.{first_regs}
 use Rattle.name_table.specs.declared.table.NameState.TheVariants as name
 use Rattle.call_steps.specs.declared.step.Step.TheVariants as does
-use Rattle.call_steps.specs.declared.step.HeapStep.TheVariants as heap_step
-use Rattle.call_steps.specs.declared.step.NamesStep.TheVariants as names_step
 use Rattle.alloc_rules.proofs.Steps.{row_there}
 use Rattle.alloc_rules.proofs.Inputs.{both_in, in_scripts, sum-same, valid_once, valid_planned}
 use Rattle.alloc_rules.proofs.Keeping.{CommonOf, IsNext, come_next}

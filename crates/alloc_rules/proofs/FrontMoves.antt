@@ -1,9 +1,9 @@
 -- An act of the front-end is one move of the books: objects move between its part and the hand, and its call goes on or is decided.
 use Rattle.std.proofs.Common.{◌≡◌, ℕ, ◌+◌, ◌<◌, ◌⊎◌, List, [], ◌∷◌, Option, Some, None, refl, sym, ap, ◌∙◌, subst, inl, inr, arith, length, slice_get}
 use Rattle.std.proofs.Common.{slice_set}
-use Rattle.alloc_rules.proofs.Common.{eq-eqb, cases_eq, Addr, Class, Label, Free, Freed, SpanRef, Regs, ClassRow, Serving, Freeing, Planned, Answer, CallLine}
-use Rattle.alloc_rules.proofs.Common.{HeapConfig, objects_at, Doing, Frees, Other, WeighSame, Books, IsCut, One, MoveObjects, Asking}
-use Rattle.alloc_rules.proofs.Common.{Giving, Next, Step, Local, decided, goes, ends, publishes, comes_to, serves, decides_free, behind, clears, About}
+use Rattle.alloc_rules.proofs.Common.{eq-eqb, cases_eq, Addr, Class, Free, Freed, SpanRef, Regs, ClassRow, Serving, Freeing, Planned, Answer, CallLine}
+use Rattle.alloc_rules.proofs.Common.{HeapConfig, objects_at, Doing, Other, WeighSame, Books, One, MoveObjects, Asking}
+use Rattle.alloc_rules.proofs.Common.{Giving, Next, Local, decided, goes, ends, publishes, comes_to, serves, decides_free, behind, clears, About}
 use Rattle.alloc_rules.proofs.Common.{HasNoLabel, call_about, MayDecide, MayGoOnDecided, says, goes_or_ends, follows, BeginsWith, account_of}
 use Rattle.alloc_rules.proofs.Common.{doing_about, HandAbout, StepShape, IsNext, IsAct, AreEntries, FrontRules, Left, Parts, front_row, stock_of}
 use Rattle.alloc_rules.proofs.Common.{Does, setup, IsBefore, FrontActsMove}

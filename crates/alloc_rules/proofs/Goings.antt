@@ -4,7 +4,7 @@ use Rattle.alloc_rules.proofs.Common.{append-nil, Contents, class_of, Addr, Clas
 use Rattle.alloc_rules.proofs.Common.{emptied, Shard, objects_at, small, Account, Doing, Asks, Publishes, Frees, Other, WeighSame, Setup}
 use Rattle.alloc_rules.proofs.Common.{Stock, Books, IsCut, size_of, Said, SaysOther, Move, MovesHand, FreesObject, GetsObject, GetsFirst, Rests, MoveObjects}
 use Rattle.alloc_rules.proofs.Common.{AddSpan, Asking, Freeing, Giving, Decided, decided, goes, ends, class_row, Local, to_hand, with_freed}
-use Rattle.alloc_rules.proofs.Common.{decides_free, behind, goes_onward, publishes, comes_to, serves, Parts, About}
+use Rattle.alloc_rules.proofs.Common.{decides_free, behind, goes_onward, comes_to, serves, Parts, About}
 use Rattle.alloc_rules.proofs.Common.{HasNoLabel, about_giving, doing_about, account_of, stock_of, AreBooksOf, decided_at, Does, FrontCalls, AreEntries}
 use Rattle.alloc_rules.proofs.Common.{FrontRules, IsGiving, setup}
 use Rattle.holdings.specs.Moves.{with_hand}

@@ -1,15 +1,14 @@
 -- What the acts at the page heap do to the books.
 use Rattle.std.proofs.Common.{◌≡◌, ℕ, ◌*◌, ◌<◌, ◌≤◌, List, [], ◌∷◌, drop, Contains, Option, Some, None, refl, sym, ap, ◌∙◌, subst, arith}
-use Rattle.alloc_rules.proofs.Common.{append-nil, page_bytes, pages_holding, length_of, Label, Run, SpanRef, Free, Release, Freed}
+use Rattle.alloc_rules.proofs.Common.{append-nil, page_bytes, pages_holding, Label, Run, SpanRef, Free, Release, Freed}
 use Rattle.alloc_rules.proofs.Common.{Released, CallLine, HeapConfig, Placed, new, release, free_leaves, release_keeps, address_of, run_of, runs_like, less}
 use Rattle.alloc_rules.proofs.Common.{Account, WeighSame, Setup, Books, GetsNone, GetsRun, GetsSpan, FreesRun, FreesSpan, Rests, One, like, less_counts}
 use Rattle.alloc_rules.proofs.Common.{Asking, New, NewSpan, GiveBack, FreeSpan, Unback, decided, class_row, Local, with_freed, clears, heap_row, after_new}
 use Rattle.alloc_rules.proofs.Common.{after_new_span, frees_span, without_first_span, FirstLives, FitsHeap, Planned, About, about_onward, account_of, doing_about}
-use Rattle.alloc_rules.proofs.Common.{first_run, AreEntries, FrontRules, Parts, AreBooksOf, Does, setup, IsBefore, Onward, HeapStep, IsOnward, HeapActsMove}
+use Rattle.alloc_rules.proofs.Common.{first_run, AreEntries, FrontRules, Parts, Does, setup, IsBefore, Onward, HeapStep, IsOnward, HeapActsMove}
 use Rattle.alloc_rules.proofs.Common.{IsPlaced}
 use Rattle.heap_rules.specs.Free.{freed}
 use Rattle.heap_rules.specs.Heap as heaps
-use Rattle.heap_rules.specs.Sound as heaps_sound
 use Rattle.call_steps.specs.declared.step.Step.TheVariants as does
 use Rattle.alloc_rules.proofs.{Lists.one_run, Moved.leaves, Moved.no_row_length, Placing.placed}
 use Rattle.alloc_rules.proofs.Likes.{like-with_run, like-without_run, there_counted}

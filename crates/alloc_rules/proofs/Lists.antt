@@ -1,6 +1,6 @@
 -- Members of lists: which pass a test, that one alone begins at a page, and that the one holder of a page is found.
 use Rattle.std.proofs.Common.{◌≡◌, ℕ, suc, ◌+◌, ◌<◌, ◌≤◌, Bool, true, false, eqb, ltb, nat_le, cond, List, [], ◌∷◌, length, get_or, count_by, AllPairs}
-use Rattle.std.proofs.Common.{Contains, Some, refl, sym, ap, subst, ◌∙◌, inl, inr, arith, find}
+use Rattle.std.proofs.Common.{Contains, Some, refl, sym, ap, ◌∙◌, inl, inr, arith, find}
 use Rattle.alloc_rules.proofs.Common.{cases_Bool, cases_lt, ltb-true, leb-true, eqb-true, and_parts, false≢true, get_or_default, sum_by-cons}
 use Rattle.alloc_rules.proofs.Common.{false_from_ne_true, Run, SpanRef, one-true, one-false, count_none, count_le, IsWellFormed, IsSound, IsInside}
 use Rattle.alloc_rules.proofs.Common.{holds_from}

@@ -1,7 +1,7 @@
 -- How a call goes on behind its last span, and what that makes of its account.
 use Rattle.std.proofs.Common.{◌≡◌, List, [], refl, sym, subst, arith}
 use Rattle.alloc_rules.proofs.Common.{Addr, ClassRow, Other, Onward, FrontCalls, AreEntries, Local, ends, goes_onward, About}
-use Rattle.alloc_rules.proofs.Common.{about_onward, account_of, doing_about, IsOnward}
+use Rattle.alloc_rules.proofs.Common.{about_onward, doing_about, IsOnward}
 use Rattle.call_steps.specs.declared.step.Onward.TheVariants as onward
 use Rattle.alloc_rules.proofs.Weighing.{bare, quiet, weighs_same}
 use Rattle.alloc_rules.proofs.Goings.{Silent, comes_as, ends_as, other_doing}

@@ -1,5 +1,5 @@
 -- A new run may be placed where the heap places it: it lies in the arena and meets no live run.
-use Rattle.std.proofs.Common.{◌≡◌, ℕ, ◌+◌, ◌*◌, ◌<◌, ◌≤◌, true, false, ltb, List, get_or, Contains, Option, Some, ap, ◌∙◌, subst, arith, inl, inr}
+use Rattle.std.proofs.Common.{◌≡◌, ℕ, ◌+◌, ◌*◌, ◌<◌, ◌≤◌, true, false, List, get_or, Contains, Option, Some, ap, ◌∙◌, subst, arith, inl, inr}
 use Rattle.std.proofs.Common.{MatchOption}
 use Rattle.alloc_rules.proofs.Common.{cases_lt, lt-ltb, le-ltb, and_from, and_left, and_right, false≢true, page_bytes, Run, count_some, meets, Placed, new}
 use Rattle.alloc_rules.proofs.Common.{none_fits, IsSound, IsInside, IsGiven, new_gives, unused_counts, holds_from, runs_like, runs_at, block_of, IsPlaced}

@@ -3,7 +3,7 @@ use Rattle.std.proofs.Common.{◌≡◌, ℕ, ◌+◌, ◌<◌, ◌≤◌, Bool,
 use Rattle.std.proofs.Common.{None, refl, sym, ap, ◌∙◌, subst, arith, inl, inr, option_map, slice_get}
 use Rattle.alloc_rules.proofs.Common.{cases_lt, cases_eq, eq-eqb, ltb-true, ltb-false, eqb-true, slice_get-get_or, append_snoc, Label, PartNo, Call}
 use Rattle.alloc_rules.proofs.Common.{Free, Planned, Asked, ThreadCall, script_of, Rules, World, world_of, FitsThere, IsReady}
-use Rattle.alloc_rules.proofs.Common.{stepped, stepped_on, stepped_at, stepped_by, done_by, done_in, picks_of, next_turn, picks-cons, picks-push_same}
+use Rattle.alloc_rules.proofs.Common.{stepped, done_by, done_in, picks_of, next_turn, picks-cons, picks-push_same}
 use Rattle.alloc_rules.proofs.Common.{picks-push_other, NameState, state_of, got, is_out, bit_is, undecided, About, call_at, target_at}
 use Rattle.alloc_rules.proofs.Common.{waits_for, Regs, Step, Local, Part, Names, number, number_of, Parts, parts_of, waits, first_of, rules}
 use Rattle.alloc_rules.proofs.Common.{turns, got_in, IsInOrder, IsValid, Standing, FrontRules, Fits, IsIn, is_under_way}

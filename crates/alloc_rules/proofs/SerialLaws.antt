@@ -1,5 +1,5 @@
 -- The laws of the completion of an order: threads, rising counts of ended calls, no wait, and the end of each script.
-use Rattle.std.proofs.Common.{◌≡◌, ℕ, zero, suc, ◌<◌, ◌≤◌, Bool, true, false, List, [], ◌∷◌, ◌++◌, length, get_or, map, Option, Some, None, refl, sym, ap, ◌∙◌}
+use Rattle.std.proofs.Common.{◌≡◌, ℕ, zero, suc, ◌<◌, ◌≤◌, Bool, true, false, List, [], ◌∷◌, length, get_or, map, Option, Some, None, refl, sym, ap, ◌∙◌}
 use Rattle.std.proofs.Common.{subst, arith, slice_index, option_map, slice_get, is_some}
 use Rattle.alloc_rules.proofs.Common.{range_with_len, false≢true, length-map, length-range_with_len, slice_get-get_or, slice_get_past, Planned, Asked}
 use Rattle.alloc_rules.proofs.Common.{ThreadCall, script_of, Rules, World, world_of, IsReady, stepped, done_by, done_in, HaveEnded, next_turn, AreThreads}

@@ -4,15 +4,14 @@ use Rattle.std.proofs.Common.{inl, inr, slice_get, slice_set}
 use Rattle.alloc_rules.proofs.Common.{cases_lt, get_or-set_same, get_or-set_other, length-set, All-cons, All-nil, slice_get_within, Contents, class_of, Addr}
 use Rattle.alloc_rules.proofs.Common.{ClassRow, Run, SpanRef, Small, CallLine, HeapConfig, appended, emptied, objects_of, opening, Shard, fetched}
 use Rattle.alloc_rules.proofs.Common.{after_fetch, after_give, freed_by, places, spans_in, objects_in_spans, IsSame, IsFetched, IsAdded, with_new}
-use Rattle.alloc_rules.proofs.Common.{fetch_moves, add_moves, give_moves, small, objects_at, spans_like, spans_at, Asks, Setup, Stock, Books, IsCut}
-use Rattle.alloc_rules.proofs.Common.{class_number, MoveObjects, AddSpan, shift, all_spans, span_all, Asking, Fetch, AddFetch, Give, goes, class_row, Local}
+use Rattle.alloc_rules.proofs.Common.{fetch_moves, add_moves, give_moves, small, objects_at, spans_like, spans_at, Asks, Setup, Stock, Books}
+use Rattle.alloc_rules.proofs.Common.{class_number, MoveObjects, AddSpan, shift, all_spans, span_all, Asking, Fetch, AddFetch, Give, class_row, Local}
 use Rattle.alloc_rules.proofs.Common.{with_hand, with_freed, decides_free, behind, clears, serves, with_more, fetches, shard_row, Planned}
 use Rattle.alloc_rules.proofs.Common.{About, AreEntries, FrontRules, Parts, stock_of, Does, no_shard, shard_at, IsShardOf, setup, IsBefore, Step, ShardStep}
 use Rattle.alloc_rules.proofs.Common.{Giving, StepShape, IsGiving, FitsAdd, FitsGive, IsLowRun, AddsSome, ShardActsMove}
 use Rattle.class_shard.specs.Laws.{IsGiven}
 use Rattle.page_map.specs.Spans.{IsInside}
 use Rattle.call_steps.specs.declared.step.Step.TheVariants as does
-use Rattle.call_steps.specs.declared.step.HeapStep.TheVariants as heap
 use Rattle.alloc_rules.proofs.{CutOf.cut_of, Sets.each_set, Stored.with_stores, Weighing.bare, Weighing.weighs_is}
 use Rattle.alloc_rules.proofs.Counting.{begun_count, objects_count, spans_count}
 use Rattle.alloc_rules.proofs.Goings.{Restocked, adding, carries, gets_first, gets_object, gives_hand, gives_spans}

@@ -1,22 +1,21 @@
 -- Each act of a thread, at the part that it wants, keeps what holds of a world.
-use Rattle.std.proofs.Common.{true, ◌≡◌, ℕ, zero, suc, ◌+◌, ◌≤◌, ◌^◌, false, eqb, List, [], ◌∷◌, length, map, Some, refl, sym, ap, ◌∙◌, subst, arith, All}
+use Rattle.std.proofs.Common.{true, ◌≡◌, ℕ, zero, suc, ◌+◌, ◌≤◌, false, eqb, List, [], ◌∷◌, length, map, Some, refl, sym, ap, ◌∙◌, subst, arith, All}
 use Rattle.std.proofs.Common.{option_map, slice_get, slice_set}
-use Rattle.alloc_rules.proofs.Common.{length-set, count_by-le-length, All-set, All-head, slice_get-map, Label, Malloc, Planned, MOST_PICKS, Asked, labels_of}
+use Rattle.alloc_rules.proofs.Common.{length-set, count_by-le-length, All-set, All-head, slice_get-map, Malloc, Planned, MOST_PICKS, Asked, labels_of}
 use Rattle.alloc_rules.proofs.Common.{picks_of, Shard, SpanMap, IsWellFormed, NameState, HeapConfig, Regs, Books, of_all, Step, ShardStep, Does, setup_of}
 use Rattle.alloc_rules.proofs.Common.{HeapStep, MapStep, NamesStep, Local, About, undecided, shard_row, heap_row, map_row, names_row, waits_row}
 use Rattle.alloc_rules.proofs.Common.{front_row, FitsNames, FitsShard, FitsHeap, FitsMap, heap_config, Parts, HasRoom, IsShardOf, Here, Standing}
-use Rattle.alloc_rules.proofs.Common.{stand, at_step, standing_of, StepShape, IsAct, IsLawful, FrontRules, IsBefore, IsKept, FrontKept, AddsSome}
+use Rattle.alloc_rules.proofs.Common.{stand, at_step, standing_of, StepShape, IsLawful, FrontRules, IsBefore, IsKept, AddsSome}
 use Rattle.alloc_rules.proofs.Common.{Path, is_under_way, IsValid, calls}
 use Rattle.alloc_rules.specs.FrontLaw.{IsReady}
 use Rattle.heap_rules.specs.Heap as heaps
 use Rattle.heap_rules.specs.Sound as heaps_sound
 use Rattle.call_steps.specs.declared.step.Step.TheVariants as does
-use Rattle.call_steps.specs.declared.step.HeapStep.TheVariants as heap
 use Rattle.alloc_rules.proofs.{FrontMoves.front_acts_move, Heads.list_stays, HeapMoves.heap_acts_move, MapMoves.map_acts_move, NameMoves.names_acts_move}
 use Rattle.alloc_rules.proofs.{ScriptFacts.HasRow, Sets.each_set, ShardFits.row_is, ShardFits.shard_acts_fit, ShardMoves.shard_acts_move}
 use Rattle.alloc_rules.proofs.{Sets.map_set, ShardMoves.shard_stays, Sizes.request_low}
 use Rattle.alloc_rules.proofs.ActKeeps.{front_acts_keep, heap_acts_keep, map_acts_keep, names_acts_keep, shard_acts_keep}
-use Rattle.alloc_rules.proofs.HeapStays.{HeapStays, MapStays, heap_stays, map_stays}
+use Rattle.alloc_rules.proofs.HeapStays.{heap_stays, map_stays}
 use Rattle.alloc_rules.proofs.PartFits.{found_class, heap_fits, map_fits, names_fits}
 use Rattle.alloc_rules.proofs.Paths.{front_path, heap_path, map_path, names_path, shard_path}
 use Rattle.alloc_rules.proofs.Serving.{ArePlaced, IsActed, Moment}

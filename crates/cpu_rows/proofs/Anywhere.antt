@@ -1,5 +1,5 @@
 -- What each act keeps, wherever it finds its part: a slab is as the table and the heads say, and a row refuses a call as it may.
-use Rattle.std.proofs.Common.{◌≡◌, ℕ, zero, suc, Bool, eqb, List, [], ◌∷◌, map, Option, Some, None, refl, ap, ◌∙◌}
+use Rattle.std.proofs.Common.{◌≡◌, ℕ, zero, suc, Bool, eqb, List, [], ◌∷◌, map, Option, refl, ap, ◌∙◌}
 use Rattle.std.proofs.Common.{slice_set, slice_index_or, arith}
 use Rattle.cpu_rows.proofs.Common.{cond_both, ClassRow, ThreadNo, MoveTo, Config, CapFault, SlabRow, CpuSlab, no_row, row_at, with_row, set_unless}
 use Rattle.cpu_rows.proofs.Common.{CpuPart, Regs, CpuSeat, CpuStep}

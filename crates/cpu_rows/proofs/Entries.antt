@@ -1,6 +1,6 @@
 -- Entries, and acts elsewhere: a thread comes to a row of the caches, or from one, or its registers change.
 use Rattle.std.proofs.Common.{◌≡◌, ℕ, ◌<◌, ◌≤◌, true, List, [], ◌∷◌, length, Option, Some, None, refl, ap, arith, IfSome, is_some, slice_set}
-use Rattle.cpu_rows.proofs.Common.{Contents, Addr, Class, ClassRow, Call, Malloc, Free, Release, Drain, Resize, MoveTo, Planned, Config, Seq, Begin, Regs}
+use Rattle.cpu_rows.proofs.Common.{Contents, Addr, Class, ClassRow, Call, Drain, Resize, MoveTo, Planned, Config, Seq, Begin, Regs}
 use Rattle.cpu_rows.proofs.Common.{LOADED_ROOM, CpuSeat, Asking, Serving, Freeing, CpuRow, CpuStep, Other, cpu_calls, to_sequence, move_of, with_move}
 use Rattle.cpu_rows.proofs.Common.{stop_row, to_stop, leave_row, about_row, AreRows, IsAtBegin, CpuShape, IsMove, IsCallThere, limits_of, At, Here, Later}
 use Rattle.cpu_rows.proofs.Common.{Away, Standing, stand, at_row, IsAsked, with_hand, IsOwn, AreEntries, IsEntry, CpuFrontPart, seated, cpu_planned, seat_at}

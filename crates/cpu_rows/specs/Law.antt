@@ -4,7 +4,6 @@ use Rattle.tc_units.specs.declared.units.Class.{Class}
 use Rattle.tc_model.specs.Input.{Input}
 use Rattle.tc_model.specs.Run.{start}
 use Rattle.tc_model.specs.Chains.{IsPolite}
-use Rattle.tc_model.specs.Sound.{IsOrder}
 use Rattle.rseq_core.specs.declared.cpu_part.CpuPart.{CpuPart}
 use Rattle.transfer_cache.specs.Transfer.{Transfer}
 use Rattle.cpu_drain.specs.Seats.{CpuOk, SeatOk}

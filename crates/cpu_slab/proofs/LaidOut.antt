@@ -5,10 +5,10 @@ use Rattle.std.proofs.lemmas.List.{length-set}
 use Rattle.std.proofs.lemmas.Nat.{mul-add-lt}
 use Rattle.tc_units.specs.declared.units.Addr.{Addr}
 use Rattle.cpu_slab.specs.declared.marks.ClassMarks.{ClassMarks}
-use Rattle.cpu_slab.specs.Slots.{SlabRow, CpuSlab, null, no_row, row_at, slot_of, with_row, with_slot, with_top, with_cap}
+use Rattle.cpu_slab.specs.Slots.{SlabRow, CpuSlab, null, row_at, slot_of, with_row, with_slot, with_top, with_cap}
 use Rattle.cpu_slab.specs.Growth.{used, unused}
 use Rattle.cpu_slab.specs.Sound.{IsSoundSlab}
-use Rattle.cpu_slab.specs.Layout.{AreMarksOf, row_of, rows_of, slab_of, IsLaidOut}
+use Rattle.cpu_slab.specs.Layout.{AreMarksOf, row_of, slab_of, IsLaidOut}
 use Rattle.cpu_slab.proofs.Places.{no_marks, length-rows_of, get_or-rows_of, rows_of-set_marks, rows_of-set_slot, get_or-slots, map-unused}
 
 -- a representation that means a slab

@@ -6,7 +6,7 @@ use Rattle.std.proofs.lemmas.List.{length-set, get_or-set_same, get_or-set_other
 use Rattle.std.proofs.lemmas.List.Sums.{sum_by-set}
 use Rattle.std.proofs.lemmas.List.Elements.{All-set}
 use Rattle.tc_units.specs.declared.units.Addr.{Addr}
-use Rattle.cpu_slab.specs.Slots.{SlabRow, CpuSlab, no_row, row_at, with_cap, with_row, with_slot, with_top, stored}
+use Rattle.cpu_slab.specs.Slots.{SlabRow, CpuSlab, no_row, row_at, with_cap, with_row, with_slot, with_top}
 use Rattle.cpu_slab.specs.Growth.{cap_bytes, used}
 use Rattle.cpu_slab.specs.Sound.{IsSoundRow, IsSoundSlab}
 

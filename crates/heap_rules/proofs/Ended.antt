@@ -9,13 +9,13 @@ use Rattle.std.proofs.lemmas.List.FromFn.{length-map-range_with_len, get_or-map-
 use Rattle.tc_units.specs.declared.spans.Run.{Run}
 use Rattle.tc_units.specs.declared.rows.RowKind.{RowKind}
 use Rattle.tc_units.specs.declared.rows.RowKind.TheVariants as kind
-use Rattle.heap_rules.specs.Heap.{Heap, Hugepage, hugepage, each, holds, reaches, is_used, is_region, is_kind_region, is_kind_filler, spans, used_from, region_row}
+use Rattle.heap_rules.specs.Heap.{Heap, Hugepage, hugepage, each, holds, reaches, is_used, is_region, is_kind_region, spans, used_from, region_row}
 use Rattle.heap_rules.specs.Free.{left, used_regions, without_unused_regions, given_back}
 use Rattle.heap_rules.specs.Sound.{IsHugepageOf, HasNoUsed, LiesInRegion, Serves, IsRegion, AreRunsSound, IsSound}
 use Rattle.heap_rules.specs.Laws.{FreeLeaves}
 use Rattle.heap_rules.proofs.Live.{count-filter_le, Contains-filter, filter_holds}
 use Rattle.heap_rules.proofs.Fits.{holds_reaches, spans_parts, spans_from, serves_at, is_Region}
-use Rattle.heap_rules.proofs.Remade.{AreRemade, IsRemade, same_runs, remade_sound, region_kinds}
+use Rattle.heap_rules.proofs.Remade.{AreRemade, same_runs, remade_sound, region_kinds}
 use Rattle.heap_rules.proofs.Settled.{settled_sound, remade_not}
 use Rattle.heap_rules.proofs.Left.{left_runs, left_kinds, used_rest, same_member}
 use Rattle.heap_rules.proofs.Places.{each_is, page_of}

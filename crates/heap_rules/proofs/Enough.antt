@@ -9,7 +9,7 @@ use Rattle.std.proofs.lemmas.List.FromFn.{length-map-range_with_len, get_or-map-
 use Rattle.tc_units.specs.declared.spans.Run.{Run}
 use Rattle.tc_units.specs.declared.rows.RowKind.{RowKind}
 use Rattle.tc_units.specs.declared.rows.RowKind.TheVariants as kind
-use Rattle.heap_rules.specs.Heap.{Heap, Hugepage, hugepage, numbers, whole, backs, backed_count, is_used, is_free, is_filler, is_region, is_free_backed}
+use Rattle.heap_rules.specs.Heap.{Heap, Hugepage, hugepage, numbers, backs, backed_count, is_used, is_free, is_filler, is_region, is_free_backed}
 use Rattle.heap_rules.specs.Heap.{is_kind_filler, is_kind_region, used_count, pages_of}
 use Rattle.heap_rules.specs.Numbered.{at_number}
 use Rattle.heap_rules.specs.Settle.{unbacked}

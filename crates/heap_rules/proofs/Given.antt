@@ -1,5 +1,5 @@
 -- A new run: what it gives, and that it gives none exactly where none fits.
-use Rattle.std.proofs.Common.{◌≡◌, ℕ, ◌+◌, ◌-◌, ◌*◌, ◌<◌, ◌≤◌, Bool, true, false, not, ◌&&◌, ◌||◌, cond, nat_le, nat_lt, List, [], length, get_or, filter}
+use Rattle.std.proofs.Common.{◌≡◌, ℕ, ◌+◌, ◌-◌, ◌*◌, ◌<◌, ◌≤◌, Bool, true, false, not, ◌&&◌, ◌||◌, cond, nat_lt, List, [], length, get_or, filter}
 use Rattle.std.proofs.Common.{All, Contains, Option, Some, None, IfSome, option_map, refl, sym, ap, subst, ◌∙◌, inl, inr, arith}
 use Rattle.std.specs.Prelude.{MatchOption}
 use Rattle.std.specs.List.{list_all}
@@ -16,7 +16,7 @@ use Rattle.heap_rules.specs.FillerRows as filler
 use Rattle.heap_rules.specs.RegionRows.{RegionRow, place_in_region, region_place}
 use Rattle.heap_rules.specs.RegionRows as regions
 use Rattle.heap_rules.specs.Choice.{filler_rows, run_choice, taken_row, region_row_of, region_rows, hugepages_for}
-use Rattle.heap_rules.specs.New.{Placed, in_filler, in_fresh, by_filler, new_small, in_free, new_whole, in_region, in_new_region, slack, or_whole}
+use Rattle.heap_rules.specs.New.{Placed, in_filler, in_fresh, by_filler, new_small, in_free, new_whole, in_region, in_new_region, or_whole}
 use Rattle.heap_rules.specs.New.{new_beside_regions, by_regions, suits_region, new_unsettled, settled_placed, none_fits}
 use Rattle.heap_rules.specs.Sound.{IsRegion, IsSound}
 use Rattle.heap_rules.specs.Laws.{IsGiven, NewGives}

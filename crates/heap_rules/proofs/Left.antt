@@ -11,7 +11,7 @@ use Rattle.tc_units.specs.declared.rows.RowKind.{RowKind}
 use Rattle.tc_units.specs.declared.rows.RowKind.TheVariants as kind
 use Rattle.heap_rules.specs.Heap.{Heap, Hugepage, hugepage, holds, is_used, is_region, is_kind_region, without_run, reaches, allocation_count, spans}
 use Rattle.heap_rules.specs.Free.{emptied, left_by, left}
-use Rattle.heap_rules.specs.Sound.{IsInside, IsHugepageOf, HasNoUsed, HasUsed, HasOneRun, Serves, IsFit, IsRegion, AreRunsSound, IsSound}
+use Rattle.heap_rules.specs.Sound.{IsInside, HasNoUsed, HasUsed, HasOneRun, Serves, IsFit, IsRegion, AreRunsSound, IsSound}
 use Rattle.tc_units.proofs.Counts.{count-cons, count_some, count_le, any_is_count, one-true, one-false}
 use Rattle.heap_rules.proofs.Places.{backs-whole}
 use Rattle.heap_rules.proofs.Live.{used_counts, counts_used, unused_counts, counts_unused, count-without, Contains-filter}

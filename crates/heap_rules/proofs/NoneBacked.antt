@@ -1,7 +1,7 @@
 -- What a free and a release make of each hugepage backs no page of it.
-use Rattle.std.proofs.Common.{◌≡◌, ℕ, ◌+◌, ◌-◌, ◌*◌, ◌/◌, ◌%◌, ◌<◌, ◌≤◌, Bool, true, false, not, ◌&&◌, ◌==◌, cond, List, length, get_or, map}
-use Rattle.std.proofs.Common.{Contains, refl, sym, ap, ◌∙◌, inl, inr, arith}
-use Rattle.std.specs.List.{list_all, list_any}
+use Rattle.std.proofs.Common.{◌≡◌, ℕ, ◌+◌, ◌-◌, ◌*◌, ◌/◌, ◌%◌, ◌<◌, ◌≤◌, Bool, true, false, ◌&&◌, ◌==◌, cond, List, length, get_or, map}
+use Rattle.std.proofs.Common.{Contains, refl, sym, ap, ◌∙◌, arith}
+use Rattle.std.specs.List.{list_all}
 use Rattle.std.proofs.lemmas.Bool.{cases_Bool, cases_lt, and_parts, false≢true}
 use Rattle.std.proofs.lemmas.Grind.{get_or_head}
 use Rattle.std.proofs.lemmas.List.{get_or_past}
@@ -10,11 +10,10 @@ use Rattle.std.proofs.lemmas.List.FromFn.{get_or-map-range_with_len}
 use Rattle.tc_units.specs.declared.spans.Run.{Run}
 use Rattle.tc_units.specs.declared.rows.RowKind.{RowKind}
 use Rattle.tc_units.specs.declared.rows.RowKind.TheVariants as kind
-use Rattle.heap_rules.specs.Heap.{Heap, Hugepage, hugepage, untouched, each, backs, is_used, is_filler, is_region, is_free_backed, reaches, allocation_count, spans, numbers}
-use Rattle.heap_rules.specs.CacheFlags.{is_over, limit}
-use Rattle.heap_rules.specs.Settle.{unbacked, counted, settled}
+use Rattle.heap_rules.specs.Heap.{Heap, Hugepage, hugepage, each, backs, is_used, is_filler, is_free_backed, allocation_count, numbers}
+use Rattle.heap_rules.specs.Settle.{unbacked, settled}
 use Rattle.heap_rules.specs.GiveUp.{gives_whole, gives_spare}
-use Rattle.heap_rules.specs.Free.{emptied, left_by, left, used_regions, without_unused_regions, freed}
+use Rattle.heap_rules.specs.Free.{emptied, left_by, left, without_unused_regions, freed}
 use Rattle.heap_rules.specs.Release.{Released, whole_given, free_given, is_idle, idle_given, spare_row, spare_rows, only_used, spare_given, release}
 use Rattle.heap_rules.specs.Sound.{Serves, IsSound}
 use Rattle.heap_rules.specs.Laws.{BacksNone}

@@ -1,11 +1,10 @@
 -- A heap at its opening is sound.
-use Rattle.std.proofs.Common.{◌≡◌, ℕ, ◌-◌, false, [], replicate, refl, sym, subst, ◌∙◌, arith}
+use Rattle.std.proofs.Common.{ℕ, false, [], refl, arith}
 use Rattle.std.proofs.lemmas.Bool.{false≢true}
 use Rattle.std.proofs.lemmas.List.{length-replicate, get_or-replicate}
-use Rattle.std.proofs.lemmas.List.Elements.{All-nil}
 use Rattle.heap_rules.specs.declared.config.HeapConfig.{HeapConfig}
-use Rattle.heap_rules.specs.Heap.{hugepage, untouched, opened}
-use Rattle.heap_rules.specs.Sound.{IsInside, IsFit, IsRegion, IsSound}
+use Rattle.heap_rules.specs.Heap.{untouched, opened}
+use Rattle.heap_rules.specs.Sound.{IsFit, IsSound}
 use Rattle.heap_rules.proofs.Places.{at-place}
 
 fit_untouched : (width h : ℕ) → IsFit [] [] width h untouched

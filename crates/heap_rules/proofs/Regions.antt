@@ -1,5 +1,5 @@
 -- The routes by regions.
-use Rattle.std.proofs.Common.{◌≡◌, ℕ, ◌+◌, ◌*◌, ◌/◌, ◌%◌, ◌<◌, ◌≤◌, true, false, cond, List, get_or, count_by, refl, sym, ap, subst, ◌∙◌, inl, inr, arith}
+use Rattle.std.proofs.Common.{◌≡◌, ℕ, ◌+◌, ◌*◌, ◌/◌, ◌<◌, ◌≤◌, true, false, cond, List, count_by, refl, sym, ap, subst, ◌∙◌, inl, inr, arith}
 use Rattle.std.proofs.lemmas.Bool.{cases_Bool, cases_lt, lt-ltb, false≢true}
 use Rattle.std.proofs.lemmas.List.{length-replicate}
 use Rattle.std.proofs.lemmas.List.Elements.{All-weaker, All-contains}
@@ -7,7 +7,7 @@ use Rattle.std.proofs.lemmas.List.Folds.{Any-from_list_any}
 use Rattle.tc_units.specs.declared.spans.Run.{Run}
 use Rattle.tc_units.specs.declared.rows.RowKind.{RowKind}
 use Rattle.tc_units.specs.declared.rows.RowKind.TheVariants as kind
-use Rattle.heap_rules.specs.Heap.{Heap, Hugepage, hugepage, backs, holds, is_used, is_free, is_region, with_run, run_at, reaches, spans}
+use Rattle.heap_rules.specs.Heap.{Heap, Hugepage, hugepage, backs, holds, is_used, is_free, is_region, with_run, run_at, spans}
 use Rattle.heap_rules.specs.New.{placed, all_backed, region_page, with_region, with_new_region, in_new_region}
 use Rattle.heap_rules.specs.Sound.{IsInside, IsHugepageOf, LiesInRegion, Serves, IsFit, IsRegion, AreRunsSound, IsSound}
 use Rattle.heap_rules.specs.Laws.{IsGiven}

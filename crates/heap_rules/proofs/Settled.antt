@@ -1,13 +1,12 @@
 -- A sound heap settles to a sound heap.
-use Rattle.std.proofs.Common.{◌≡◌, ℕ, Bool, true, false, cond, List, map, refl, sym, subst, ◌∙◌, inl, inr, arith}
+use Rattle.std.proofs.Common.{◌≡◌, ℕ, Bool, true, false, cond, List, map, sym, subst, ◌∙◌, inl, inr, arith}
 use Rattle.std.proofs.lemmas.Bool.{cases_Bool, and_parts, false≢true}
 use Rattle.std.proofs.lemmas.List.{length-replicate}
 use Rattle.tc_units.specs.declared.spans.Run.{Run}
-use Rattle.tc_units.specs.declared.rows.RowKind.TheVariants as kind
 use Rattle.heap_rules.specs.Heap.{Heap, Hugepage, hugepage, is_free, is_free_backed, is_region}
 use Rattle.heap_rules.specs.CacheFlags.{is_over, limit}
 use Rattle.heap_rules.specs.Settle.{unbacked, counted, settled}
-use Rattle.heap_rules.specs.Sound.{Serves, IsFit, IsSound}
+use Rattle.heap_rules.specs.Sound.{IsFit, IsSound}
 use Rattle.heap_rules.proofs.Places.{map-at}
 use Rattle.heap_rules.proofs.Fits.{serves_at, is_Free}
 use Rattle.heap_rules.proofs.Remade.{IsRemade, remade_same}

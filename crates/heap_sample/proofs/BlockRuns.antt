@@ -1,6 +1,6 @@
 -- Calls that are a run on disjoint blocks are first uses of their labels, where each label is allocated once and no request
 -- is too large.
-use Rattle.std.proofs.Common.{◌≡◌, ℕ, ◌≤◌, ◌==◌, false, ◌||◌, None, List, [], ◌∷◌, ◌++◌, length, get_or, cond}
+use Rattle.std.proofs.Common.{◌≡◌, ℕ, ◌≤◌, false, None, List, [], ◌∷◌, ◌++◌, length, get_or, cond}
 use Rattle.std.proofs.Common.{refl, subst, sym, ap, ◌∙◌, inl, inr, arith, append_assoc}
 use Rattle.std.specs.List.{count_by, All}
 use Rattle.std.proofs.lemmas.Bool.{cases_Bool, eq-eqb, eqb-true}
@@ -11,7 +11,7 @@ use Rattle.tc_units.specs.declared.units.Label.{Label}
 use Rattle.tc_units.proofs.Counts.{count-cons, one-true}
 use Rattle.tc_model.specs.Blocks.{allocates, frees, answer_to, freed_in, IsAllowed, IsBlockRun}
 use Rattle.tc_model.specs.declared.calls.Call.{Call}
-use Rattle.tc_model.specs.declared.calls.Call.TheVariants.{Malloc, Free, Release, Drain, Resize}
+use Rattle.tc_model.specs.declared.calls.Call.TheVariants.{Malloc, Free}
 use Rattle.tc_model.specs.declared.answers.Answer.{Answer}
 use Rattle.tc_model.specs.declared.answers.Answer.TheVariants.{Freed, FreedNull}
 use Rattle.tc_model.specs.declared.answers.CallLine.{CallLine}

@@ -1,5 +1,5 @@
 -- Rows by rising length: with a row more, with one changed and with one fewer.
-use Rattle.std.proofs.Common.{refl, ◌≡◌, ℕ, suc, ◌+◌, ◌-◌, ◌<◌, ◌≤◌, ◌==◌, nat_lt, List, [], ◌∷◌, length, get_or, cond, subst, sym, ap, ◌∙◌, inl, inr}
+use Rattle.std.proofs.Common.{refl, ◌≡◌, ℕ, suc, ◌+◌, ◌-◌, ◌<◌, ◌≤◌, ◌==◌, nat_lt, List, [], ◌∷◌, length, get_or, cond, sym, ap, ◌∙◌, inl, inr}
 use Rattle.std.proofs.Common.{arith, insert, remove}
 use Rattle.std.specs.List.{sum_by, AllPairs}
 use Rattle.std.proofs.lemmas.Bool.{cases_lt, cases_eq, ne_eqb, eq-eqb, lt-ltb, ltb-true}

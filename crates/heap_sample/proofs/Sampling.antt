@@ -11,9 +11,9 @@ use Rattle.std.proofs.lemmas.Option.{none-some}
 use Rattle.heap_sample.proofs.LiveFacts.{at_most}
 use Rattle.tc_model.specs.Blocks.{frees, freed_in, answer_to, allocates}
 use Rattle.tc_model.specs.declared.calls.Call.{Call}
-use Rattle.tc_model.specs.declared.calls.Call.TheVariants.{Malloc, Free, Release, Drain, Resize}
+use Rattle.tc_model.specs.declared.calls.Call.TheVariants.{Malloc}
 use Rattle.tc_model.specs.declared.answers.Answer.{Answer}
-use Rattle.tc_model.specs.declared.answers.Answer.TheVariants.{Block, NoBlock, Freed, FreedNull, Released, Drained, Busy, CapSet, OverLimit, OverStatic}
+use Rattle.tc_model.specs.declared.answers.Answer.TheVariants.{Block}
 use Rattle.tc_model.specs.declared.answers.CallLine.{CallLine}
 use Rattle.heap_sample.specs.declared.sample.Sample.{Sample}
 use Rattle.heap_sample.specs.declared.sample.Peak.{Peak}

@@ -12,7 +12,7 @@ use Rattle.tc_units.proofs.Counts.{any_is_count, count_none, count_some, one-tru
 use Rattle.tc_model.specs.Blocks.{allocates, IsBlockRun}
 use Rattle.tc_model.specs.Input.{ThreadCall, Asked, script_of}
 use Rattle.tc_model.specs.declared.calls.Call.{Call}
-use Rattle.tc_model.specs.declared.calls.Call.TheVariants.{Malloc, Free, Release, Drain, Resize}
+use Rattle.tc_model.specs.declared.calls.Call.TheVariants.{Malloc}
 use Rattle.tc_model.specs.declared.calls.Planned.{Planned}
 use Rattle.tc_model.specs.declared.answers.CallLine.{CallLine}
 use Rattle.heap_sample.specs.Samples.{most_size}

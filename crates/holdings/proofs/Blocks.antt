@@ -13,9 +13,9 @@ use Rattle.tc_units.specs.declared.spans.Run.{Run}
 use Rattle.tc_units.specs.declared.units.Addr.{Addr}
 use Rattle.tc_units.proofs.Counts.{count-cons}
 use Rattle.tc_model.specs.declared.calls.Call.{Call}
-use Rattle.tc_model.specs.declared.calls.Call.TheVariants.{Malloc, Free, Release, Drain, Resize}
+use Rattle.tc_model.specs.declared.calls.Call.TheVariants.{Malloc}
 use Rattle.tc_model.specs.declared.answers.Answer.{Answer}
-use Rattle.tc_model.specs.declared.answers.Answer.TheVariants.{Block, NoBlock, Freed, FreedNull, Released, Drained, Busy, CapSet, OverLimit, OverStatic}
+use Rattle.tc_model.specs.declared.answers.Answer.TheVariants.{Block, Freed}
 use Rattle.tc_model.specs.declared.answers.CallLine.{CallLine}
 use Rattle.tc_model.specs.Blocks.{Extent, meets, blocks_after, blocks_with, with_block, without_block, live_bytes, IsAllowed, IsFreePlace, IsBlockRun}
 use Rattle.tc_units.specs.Classes.{length_of}
@@ -24,7 +24,7 @@ use Rattle.holdings.specs.Apart.{AreApart}
 use Rattle.holdings.specs.Books.{Setup, Books}
 use Rattle.holdings.specs.Facts.{Facts, IsStanding}
 use Rattle.holdings.specs.Laws.{BytesWithin}
-use Rattle.holdings.specs.Runs.{bit, first_byte, runs_like, same_run}
+use Rattle.holdings.specs.Runs.{bit, first_byte, runs_like}
 use Rattle.holdings.proofs.CallFacts.{blocks_after-push}
 use Rattle.holdings.proofs.MapFacts.{span_of}
 use Rattle.holdings.proofs.Sums.{All-weaken, bit_most, same_run_is, sum_of_both}

@@ -5,7 +5,7 @@ use Rattle.holdings.specs.Books.{Books, Setup, over_classes}
 use Rattle.tc_model.specs.declared.answers.CallLine.{CallLine}
 use Rattle.holdings.specs.Laws.{ClearsAreThere, HandsAreTaken, IsMapped, IsOff, IsTaken, MappedAreThere, NamesAreLive, ObjectsAreOnce, OffsLive}
 use Rattle.holdings.specs.Facts.{Facts}
-use Rattle.std.proofs.Common.{List, Some, ap, arith, eqb, false, inl, inr, length, refl, sym, ℕ, ◌+◌, ◌<◌, ◌∙◌, ◌≡◌, ◌≤◌, ◌⊎◌}
+use Rattle.std.proofs.Common.{List, Some, ap, arith, eqb, false, inl, inr, refl, sym, ℕ, ◌+◌, ◌<◌, ◌∙◌, ◌≡◌, ◌≤◌, ◌⊎◌}
 use Rattle.tc_units.specs.declared.spans.Run.{Run}
 use Rattle.tc_units.specs.declared.spans.SpanRef.{SpanRef}
 use Rattle.tc_model.specs.Chains.{at}

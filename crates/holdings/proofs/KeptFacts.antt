@@ -1,5 +1,5 @@
 -- Each kind of decided call keeps that the calls are a run on disjoint blocks, of which each label has its own.
-use Rattle.std.proofs.Common.{Bool, ◌≡◌, ℕ, ◌+◌, ◌<◌, true, false, not, eqb, ltb, cond, List, [], ◌∷◌, ◌++◌}
+use Rattle.std.proofs.Common.{Bool, ◌≡◌, ℕ, ◌+◌, ◌<◌, true, false, not, eqb, ltb, List, [], ◌∷◌, ◌++◌}
 use Rattle.std.proofs.Common.{Option, Some, None, refl, sym, ap, ◌∙◌, subst, arith, ◌⊎◌, inl, inr, sum}
 use Rattle.std.specs.Prelude.{◌==◌, is_some, find, All}
 use Rattle.std.proofs.lemmas.Bool.{cases_Bool, eqb-true, eqb-false, lt-ltb, false≢true, or_parts, or_cases, cond-true, cond-false, and_from, eq-eqb, ne_eqb}

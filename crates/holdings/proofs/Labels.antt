@@ -13,7 +13,7 @@ use Rattle.std.proofs.Common.{List, None, Option, Some, [], ap, arith, cond, eqb
 use Rattle.std.proofs.Common.{true, ℕ, ◌&&◌, ◌++◌, ◌+◌, ◌<◌, ◌∙◌, ◌∷◌, ◌≡◌, ◌⊎◌}
 use Rattle.name_table.specs.declared.table.NameState.{NameState}
 use Rattle.tc_units.specs.declared.units.ThreadNo.{ThreadNo}
-use Rattle.tc_model.specs.Blocks.{answer_to, freed_in}
+use Rattle.tc_model.specs.Blocks.{answer_to}
 use Rattle.holdings.specs.Runs.{bit}
 use Rattle.std.proofs.lemmas.Bool.{cases_Bool, cases_eq, cases_lt, eq-eqb, false≢true, ne_eqb}
 use Rattle.std.specs.Prelude.{is_some, sum_by}

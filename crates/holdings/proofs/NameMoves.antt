@@ -11,9 +11,8 @@ use Rattle.tc_units.specs.declared.units.Label.{Label}
 use Rattle.std.proofs.Common.{List, None, Option, Some, [], ap, arith, refl, subst, sym, ℕ, ◌++◌, ◌∙◌, ◌∷◌, ◌≡◌}
 use Rattle.name_table.specs.declared.table.NameState.{NameState}
 use Rattle.holdings.specs.Moves.{about, books_with}
-use Rattle.holdings.specs.Runs.{bit, first_byte, large, runs_at, spans_at, spans_like, spans_of_run}
+use Rattle.holdings.specs.Runs.{bit, large, runs_at, spans_at, spans_like, spans_of_run}
 use Rattle.tc_model.specs.Blocks.{blocks_after}
-use Rattle.tc_units.specs.Classes.{length_of}
 use Rattle.std.specs.List.{slice_get, slice_set}
 use Rattle.name_table.specs.Names.{state_of}
 use Rattle.holdings.proofs.Groups.{PlaceFacts, heap_facts, moved, spans_still, still}

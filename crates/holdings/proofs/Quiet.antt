@@ -1,5 +1,5 @@
 -- Accounts that weigh the same, and calls that are about no label.
-use Rattle.holdings.specs.Accounts.{Account, Asks, Doing, Frees, Holds, Other, Publishes, Takes, WeighSame, holds, is_at, loose, same_value}
+use Rattle.holdings.specs.Accounts.{Account, Doing, Frees, Holds, Publishes, WeighSame, holds, loose}
 use Rattle.tc_units.specs.declared.units.Addr.{Addr}
 use Rattle.std.specs.Prelude.{All, is_some}
 use Rattle.holdings.specs.Books.{Books, IsOfClass, Setup, Stock}
@@ -7,7 +7,7 @@ use Rattle.tc_model.specs.declared.answers.CallLine.{CallLine}
 use Rattle.holdings.specs.Facts.{Facts, IsSelf, IsStanding, has_value, standing}
 use Rattle.holdings.specs.Moves.{IsOther, books_with}
 use Rattle.tc_units.specs.declared.units.Label.{Label}
-use Rattle.std.proofs.Common.{List, Some, [], ap, arith, eqb, inl, inr, refl, subst, sym, true, ℕ, ◌&&◌, ◌++◌, ◌+◌, ◌<◌, ◌∙◌, ◌∷◌, ◌≡◌, ◌⊎◌}
+use Rattle.std.proofs.Common.{List, Some, [], ap, arith, eqb, inl, inr, refl, subst, sym, ℕ, ◌++◌, ◌+◌, ◌<◌, ◌∙◌, ◌∷◌, ◌≡◌, ◌⊎◌}
 use Rattle.name_table.specs.declared.table.NameState.{NameState}
 use Rattle.tc_units.specs.declared.spans.Run.{Run}
 use Rattle.tc_units.specs.declared.spans.SpanRef.{SpanRef}
@@ -15,7 +15,6 @@ use Rattle.std.proofs.lemmas.Bool.{and_parts, eq-eqb, eqb-true}
 use Rattle.tc_model.specs.Chains.{at}
 use Rattle.holdings.specs.Runs.{bit, first_byte, large, objects_at, runs_at, runs_like, spans_at, spans_like, spans_of_run}
 use Rattle.tc_model.specs.Blocks.{blocks_after, frees}
-use Rattle.tc_units.specs.Classes.{length_of}
 use Rattle.tc_model.proofs.Lists.{set_here}
 use Rattle.std.specs.List.{slice_get}
 use Rattle.holdings.proofs.Standing.{answer_same, same_value_is, value_same}

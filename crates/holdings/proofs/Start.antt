@@ -1,5 +1,5 @@
 -- What holds at the start.
-use Rattle.holdings.specs.Accounts.{Account, Asks, Doing, Frees, Holds, Other, Publishes, Takes, clearing, held_at, holding, holds, is_out, is_taken}
+use Rattle.holdings.specs.Accounts.{Account, Doing, Frees, Holds, Publishes, clearing, held_at, holding, holds, is_out, is_taken}
 use Rattle.holdings.specs.Accounts.{means, named_at, off_map, pending, same_value, in_hand, loose, publishing, transit, unpublished}
 use Rattle.tc_units.specs.Classes.{length_of}
 use Rattle.tc_units.specs.declared.units.Addr.{Addr}

@@ -1,11 +1,10 @@
 -- Objects that move between the stock and hands.
 use Rattle.holdings.specs.Accounts.{Account, Frees, holding, in_hand, loose, means, named_at}
 use Rattle.tc_units.specs.declared.units.Addr.{Addr}
-use Rattle.holdings.specs.Books.{Books, IsCut, Setup, Stock, class_number, no_row, over_classes, size_of}
-use Rattle.std.proofs.Common.{Bool, List, None, Some, ap, arith, cond, eqb, false, get_or, inl, inr, length, ltb, option_map, refl}
+use Rattle.holdings.specs.Books.{Books, IsCut, Setup, Stock, class_number, over_classes, size_of}
+use Rattle.std.proofs.Common.{Bool, List, None, Some, ap, arith, cond, eqb, false, inl, inr, length, ltb, option_map, refl}
 use Rattle.std.proofs.Common.{subst, sym, true, ℕ, ◌+◌, ◌<◌, ◌∙◌, ◌≡◌, ◌≢◌, ◌≤◌, ◌⊎◌}
 use Rattle.tc_model.specs.declared.answers.CallLine.{CallLine}
-use Rattle.tc_units.specs.declared.units.Class.{Class}
 use Rattle.tc_units.specs.declared.spans.ClassRow.{ClassRow}
 use Rattle.tc_model.specs.Blocks.{Extent, frees, meets}
 use Rattle.holdings.specs.Facts.{Facts, IsStanding, has_value, value_after}
@@ -15,8 +14,8 @@ use Rattle.tc_units.specs.declared.spans.Run.{Run}
 use Rattle.std.proofs.lemmas.Bool.{and_parts, cases_Bool, cases_eq, cases_lt, cond-false, cond-true, eq-eqb, ltb-true, ne_eqb}
 use Rattle.holdings.specs.Runs.{bit, objects_at, small, spans_like, spans_of_run}
 use Rattle.holdings.specs.Moves.{books_with}
-use Rattle.tc_units.specs.Classes.{class_of, length_by, length_of, serves}
-use Rattle.std.specs.Prelude.{find, sum_by}
+use Rattle.tc_units.specs.Classes.{class_of, length_of, serves}
+use Rattle.std.specs.Prelude.{sum_by}
 use Rattle.std.proofs.lemmas.List.Folds.{find_at}
 use Rattle.std.specs.List.{position_or_len, slice_get, slice_set}
 use Rattle.std.proofs.lemmas.Option.{slice_get-get_or}

@@ -12,7 +12,7 @@ use Rattle.std.specs.Cmp.{nat_cmp_is}
 use Rattle.std.specs.declared.cmp.Ordering.{Ordering}
 use Rattle.std.specs.declared.cmp.Ordering.TheVariants.{Less, Equal, Greater}
 use Rattle.std.proofs.lemmas.Bool.{cases_Bool, cases_lt, cases_order, and_left, and_right, lt-ltb, le-ltb, ltb-true, eq-eqb, ne_eqb, or_parts, cond-true, cond-false, false≢true}
-use Rattle.std.proofs.lemmas.List.Elements.{All-cons, All-head, All-tail, All-nil, All-weaker, filter_agree}
+use Rattle.std.proofs.lemmas.List.Elements.{All-cons, All-head, All-tail, All-nil, filter_agree}
 use Rattle.tc_model.specs.Blocks.{Extent, with_block, without_block, meets}
 use Rattle.journal_audit.specs.Spread.{IsSpread, extents_of}
 use Rattle.journal_audit.proofs.Spreads.{they_meet}

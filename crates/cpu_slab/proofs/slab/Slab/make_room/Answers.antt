@@ -1,4 +1,4 @@
-use Rattle.std.proofs.Common.{◌-◌, Some, length, sym, ap, ◌∙◌, subst}
+use Rattle.std.proofs.Common.{◌-◌, length, sym, ap, ◌∙◌, subst}
 use Rattle.std.specs.Int.{div_ceil}
 use Rattle.cpu_slab.specs.Slots.{CpuSlab, row_at}
 use Rattle.cpu_slab.proofs.GrowthFacts.{IsOther, victim_other, gave_other}

@@ -1,14 +1,14 @@
-use Rattle.std.proofs.Common.{◌≡◌, ℕ, ◌+◌, ◌*◌, ◌<◌, ◌≤◌, List, length, slice_index, slice_set, nat_lt, if◌then◌else◌, ◌++◌, not, refl, subst, ap, sym}
+use Rattle.std.proofs.Common.{◌≡◌, ℕ, ◌+◌, ◌<◌, List, length, slice_index, slice_set, nat_lt, if◌then◌else◌, ◌++◌, not, refl, subst, ap, sym}
 use Rattle.std.proofs.Common.{◌∙◌, arith}
 use Rattle.std.proofs.lemmas.Grind.{common_steps}
 use Rattle.std.proofs.lemmas.List.{get_or_default}
-use Rattle.std.specs.List.{sum_by, sum}
+use Rattle.std.specs.List.{sum_by}
 use Rattle.std.specs.List.{filter}
 use Rattle.tc_model.specs.Blocks.{frees}
 use Rattle.heap_sample.specs.declared.sample.Sample.{Sample}
-use Rattle.heap_sample.specs.Samples.{weight_of, weight_in, bytes_asked, sample_under, most_calls, most_size, IsFresh, AreSame}
+use Rattle.heap_sample.specs.Samples.{weight_of, bytes_asked, sample_under, most_calls, IsFresh, AreSame}
 use Rattle.heap_sample.specs.Profiles.{Noted, Follows}
-use Rattle.heap_sample.proofs.Bounds.{covered, after, covers, sums, at_most, few_bytes, few, light}
+use Rattle.heap_sample.proofs.Bounds.{after, covers, sums, at_most, few_bytes, few, light}
 use Rattle.heap_sample.proofs.Sampling.{followed}
 use Rattle.heap_sample.proofs.profile.Profile.add.Goals as goal
 

@@ -1,6 +1,6 @@
-use Rattle.std.proofs.Common.{sym, ap, ◌∙◌, subst}
+use Rattle.std.proofs.Common.{ap, ◌∙◌}
 use Rattle.tc_model.specs.Blocks.{without_block}
-use Rattle.journal_audit.specs.Spread.{IsSpread, extents_of}
+use Rattle.journal_audit.specs.Spread.{extents_of}
 use Rattle.journal_audit.proofs.LiveFacts.{removed}
 use Rattle.journal_audit.proofs.Spreads.{spread_without}
 use Rattle.journal_audit.proofs.live.Live.remove.Goals as goal
