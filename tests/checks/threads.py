@@ -118,6 +118,16 @@ def wrong_of(result, expected, seconds_in_turn):
     return wrong
 
 
+def wrong_at_best(room, words, calls, files, expected, seconds):
+    """What is wrong with a run there. One that ends right and only takes long is run once more, since other work on the
+    machine slows it down."""
+    for _ in range(2):
+        wrong = wrong_of(room.run(words, calls, files), expected, seconds)
+        if not wrong or not wrong[0].startswith('it took '):
+            break
+    return wrong
+
+
 def threads_that_cannot_be_had():
     """Where some or all threads are refused, traces in which threads wait for each other end as those in which each has a
     thread, and soon. That some are refused is shown first."""
@@ -137,7 +147,7 @@ def threads_that_cannot_be_had():
             expected = run(in_turn + [b'--classes', table], calls, files)[1]
             seconds = time.monotonic() - start
             wrong += ['%s: %s: %s' % (room, b' '.join(words).decode(), each) for room in places for words in by_threads
-                      for each in wrong_of(room.run(words + [b'--classes', table], calls, files), expected, seconds)]
+                      for each in wrong_at_best(room, words + [b'--classes', table], calls, files, expected, seconds)]
     print('threads_that_cannot_be_had: %.1f s' % (time.monotonic() - begun), file=sys.stderr)
     return wrong
 
