@@ -45,19 +45,19 @@ abbrev pub IsValueOf : Head → ℕ → Type 0
 IsValueOf head value = ((head_rule head).least ≤ value) × (value ≤ (head_rule head).most)
 
 -- the limit that a head sets
-abbrev pub limit_of : Head → Config → ℕ
-limit_of Cpus config = config.cpus
-limit_of Threads config = config.threads
-limit_of Huge config = config.huge
-limit_of Cache config = config.cache
-limit_of Region config = config.region
-limit_of Slack config = config.slack
-limit_of Transfer config = config.transfer
-limit_of Slab config = config.slab
-limit_of Percpu config = config.percpu
-limit_of Events config = config.events
-limit_of Window config = config.window
-limit_of Domains config = config.domains
+abbrev pub head_limit : Head → Config → ℕ
+head_limit Cpus config = config.cpus
+head_limit Threads config = config.threads
+head_limit Huge config = config.huge
+head_limit Cache config = config.cache
+head_limit Region config = config.region
+head_limit Slack config = config.slack
+head_limit Transfer config = config.transfer
+head_limit Slab config = config.slab
+head_limit Percpu config = config.percpu
+head_limit Events config = config.events
+head_limit Window config = config.window
+head_limit Domains config = config.domains
 
 -- the limits with one of them set anew
 abbrev pub with_limit : Head → ℕ → Config → Config

@@ -7,7 +7,7 @@ use Rattle.tc_model.specs.declared.calls.Call.{Call}
 use Rattle.tc_model.specs.declared.calls.Call.TheVariants as call
 use Rattle.tc_model.specs.declared.calls.MoveTo.{MoveTo}
 use Rattle.tc_model.specs.declared.config.Config.{Config}
-use Rattle.tc_model.specs.Heads.{limit_of, with_limit, default_config, IsValueOf}
+use Rattle.tc_model.specs.Heads.{head_limit, with_limit, default_config, IsValueOf}
 use Rattle.tc_model.specs.Input.{ThreadCall}
 use Rattle.tc_model.specs.declared.config.TheConstants.{MOST_THREADS}
 use Rattle.tc_model.specs.declared.config.Head as heads
@@ -24,7 +24,7 @@ IsConfig-default : IsConfig default_config
 IsConfig-default head.Cpus = (lit≤ tt, lit≤ tt)
 IsConfig-default _ = (lit≤ tt, lit≤ tt)
 
-limit-with : (s h : heads.Head) (value : ℕ) (config : Config) → IsValueOf s value → IsValueOf h (limit_of h config) → IsValueOf h (limit_of h (with_limit s value config))
+limit-with : (s h : heads.Head) (value : ℕ) (config : Config) → IsValueOf s value → IsValueOf h (head_limit h config) → IsValueOf h (head_limit h (with_limit s value config))
 limit-with head.Cpus head.Cpus value config new old = assumption (new, old)
 limit-with s head.Cpus value config new old = assumption (new, old)
 limit-with _ _ value config new old = assumption (new, old)

@@ -5,14 +5,14 @@ use Rattle.tc_model.specs.declared.calls.Call.TheVariants.{Malloc, Free, Release
 use Rattle.tc_model.specs.declared.calls.MoveTo.{MoveTo}
 use Rattle.tc_model.specs.declared.config.Config.{Config}
 use Rattle.tc_model.specs.declared.config.Head.{Head}
-use Rattle.tc_model.specs.Heads.{limit_of, IsValueOf}
+use Rattle.tc_model.specs.Heads.{head_limit, IsValueOf}
 use Rattle.tc_model.specs.Input.{ThreadCall, Asked}
 use Rattle.trace_reader.specs.declared.limits.TheConstants.{MOST_LINES, MOST_CLASSES, MOST_LABELS, MOST_SIZE, MOST_BEFORE, MOST_RELEASED, MOST_CAPACITY}
 use Rattle.trace_reader.specs.Labels.{is_allocated, is_freed}
 
 -- each limit is in its head's range
 abbrev pub IsConfig : Config → Type 0
-IsConfig config = (head : Head) → IsValueOf head (limit_of head config)
+IsConfig config = (head : Head) → IsValueOf head (head_limit head config)
 
 -- a move is before an instruction that is numbered, to a CPU that is there
 pub record IsMove (config : Config) (moved : MoveTo) : Type 0 where

@@ -8,14 +8,14 @@ use Rattle.trace_reader.specs.declared.word.Word.{Word}
 use Rattle.trace_reader.specs.declared.word.Word.TheVariants as word
 
 -- what a word is called
-abbrev pub name_of : Word → List ℕ
-name_of (word.Head head) = (head_rule head).name
-name_of word.Malloc = codes "a"
-name_of word.Free = codes "f"
-name_of word.Move = codes "p"
-name_of word.Release = codes "r"
-name_of word.Drain = codes "d"
-name_of word.Resize = codes "z"
+abbrev pub word_name : Word → List ℕ
+word_name (word.Head head) = (head_rule head).name
+word_name word.Malloc = codes "a"
+word_name word.Free = codes "f"
+word_name word.Move = codes "p"
+word_name word.Release = codes "r"
+word_name word.Drain = codes "d"
+word_name word.Resize = codes "z"
 
 -- the words that are no head's
 abbrev pub call_words : List Word
@@ -23,7 +23,7 @@ call_words = word.Malloc ∷ word.Free ∷ word.Move ∷ word.Release ∷ word.D
 
 -- the call or the preemption that a field names
 abbrev pub call_word_of : List ℕ → Option Word
-call_word_of field = find (λ w. bytes_eq field (name_of w)) call_words
+call_word_of field = find (λ w. bytes_eq field (word_name w)) call_words
 
 -- what a field names
 abbrev pub word_of : List ℕ → Option Word

@@ -1,6 +1,6 @@
 //! The words with which a line of a trace may begin.
 ghost use Rattle.std.specs.Prelude.{◌≡◌};
-ghost use Rattle.trace_reader.specs.Words.{name_of, call_word_of, word_of};
+ghost use Rattle.trace_reader.specs.Words.{word_name, call_word_of, word_of};
 
 use tc_model::Head;
 
@@ -28,7 +28,7 @@ const CALL_WORDS: [Word; 6] = [
 
 impl Word {
     fn name(self) -> &'static str
-        ensures { result.now ≡ name_of self }
+        ensures { result.now ≡ word_name self }
     {
         match self {
             Word::Head(head) => head.rule().name,
