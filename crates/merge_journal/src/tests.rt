@@ -6,7 +6,7 @@ use std::test::Fail;
 use tc_model::Entry;
 use tc_units::ThreadNo;
 
-fn entry(ticket: u64, thread: u8) -> Entry
+fn entry(ticket: u32, thread: u8) -> Entry
     ensures ticket { result.ticket ≡ ticket }
 {
     Entry {

@@ -83,7 +83,10 @@ impl<M: Machine> Parts<M> {
             return Err(OpenFault { machine, parts });
         };
         let stalls = fill(alloc, parts, stalls);
-        let key = Key { machine, events };
+        let key = Key {
+            machine,
+            events: events as u32,
+        };
         match Table::new(alloc, words.as_slice(), stalls, &key) {
             Ok((table, seat)) => Ok((Parts { key, table, alloc }, seat)),
             Err(Refused { slots }) => {

@@ -176,11 +176,15 @@ impl<M: Machine> Parts<M> {
     {
         let shared = &self.table.shared;
         let ticket = shared.fetch_add::<Draw>(seat, 1, 1);
-        if ticket >= self.key.events {
+        if ticket >= u64::from(self.key.events) {
             shared.store::<Return>(seat, part + 2, 0);
             return Step::Full { ticket };
         }
-        if !self.act_held(seat, part, Entry { ticket, thread }, local) {
+        let entry = Entry {
+            ticket: ticket as u32,
+            thread,
+        };
+        if !self.act_held(seat, part, entry, local) {
             shared.store::<Fail>(seat, part + 2, 0);
             return Step::Memory;
         }

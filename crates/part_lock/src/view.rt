@@ -6,7 +6,7 @@ use tc_model::{Act, Entry, Halt};
 #[derive(Drop)]
 pub struct Key<X> {
     pub machine: X,
-    pub events: u64,
+    pub events: u32,
 }
 
 /// A part with the entries of its acts.

@@ -101,7 +101,7 @@ fn is_order(end: &Finish<Relay>, threads: &[u8]) -> bool {
         return false;
     }
     for (i, entry) in end.order.as_slice().iter().enumerate() {
-        if entry.ticket != i as u64 || entry.thread.0 != threads[i] {
+        if u64::from(entry.ticket) != i as u64 || entry.thread.0 != threads[i] {
             return false;
         }
     }
