@@ -1,10 +1,19 @@
 -- What the labels of a table mean, from label 0 on.
-use Rattle.std.specs.Prelude.{◌≡◌, ℕ, Bool, true, false, List, slice_set}
+use Rattle.std.specs.Prelude.{◌≡◌, ℕ, Bool, true, false, List, Some, None, slice_set}
 use Rattle.std.specs.List.{slice_index_or}
 use Rattle.name_table.specs.declared.table.NameState.{NameState}
 use Rattle.name_table.specs.declared.table.NameState.TheVariants as state
+use Rattle.name_table.specs.declared.table.Slot.{Slot}
+use Rattle.name_table.specs.declared.table.Slot.TheVariants as slot
 use Rattle.name_table.specs.declared.table.Taken.{Taken}
 use Rattle.name_table.specs.declared.table.Taken.TheVariants.{Set, NotYet}
+
+-- what a table keeps of a label, as its state
+abbrev pub meaning : Slot → NameState
+meaning slot.Unpublished = state.Unpublished
+meaning slot.Null = state.Published None
+meaning (slot.At addr) = state.Published (Some addr)
+meaning slot.Taken = state.Taken
 
 -- what a label means
 abbrev pub state_of : List NameState → ℕ → NameState

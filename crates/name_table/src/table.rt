@@ -1,6 +1,6 @@
 //! Labels, each published at most once and taken at most once.
 ghost use Rattle.std.specs.Prelude.{◌≡◌, ◌≢◌, ◌<◌, ◌↔◌, false, length, replicate, slice_set, IfOk};
-ghost use Rattle.name_table.specs.Names.{state_of, was_published, TakesName};
+ghost use Rattle.name_table.specs.Names.{meaning, state_of, was_published, TakesName};
 
 use std::alloc::{AllocError, Global};
 use std::marker::Model;
@@ -26,19 +26,41 @@ pub enum Taken {
     NotYet,
 }
 
+/// What a label means, as the table keeps it: in 16 bytes, since an address that may be null takes as many by itself.
+#[derive(Clone, Copy, PartialEq, Eq)]
+enum Slot {
+    Unpublished,
+    Null,
+    At(Addr),
+    Taken,
+}
+
+impl Slot {
+    /// A label that is published with this value.
+    fn published(value: Option<Addr>) -> Slot
+        ensures { meaning result ≡ NameState.Published value }
+    {
+        match value {
+            Some(addr) => Slot::At(addr),
+            None => Slot::Null,
+        }
+    }
+}
+
 /// The states of the labels from 0 on.
 #[derive(Drop)]
 pub struct NameTable {
-    states: Vec<NameState>,
+    slots: Vec<Slot>,
 }
 
 impl Model for NameTable {
-    ghost use Rattle.std.specs.Prelude.{List};
+    ghost use Rattle.std.specs.Prelude.{List, map};
     ghost use Rattle.name_table.specs.declared.table.NameState.{NameState};
+    ghost use Rattle.name_table.specs.Names.{meaning};
 
     ghost Value = { List NameState };
 
-    ghost view = { λ t. t.states.items };
+    ghost view = { λ t. map meaning t.slots.items };
 }
 
 impl NameTable {
@@ -47,7 +69,7 @@ impl NameTable {
         ensures { IfOk result (λ names. names ≡ replicate labels NameState.Unpublished) }
     {
         Ok(NameTable {
-            states: vec![in alloc; NameState::Unpublished; labels as usize]?,
+            slots: vec![in alloc; Slot::Unpublished; labels as usize]?,
         })
     }
 
@@ -57,7 +79,7 @@ impl NameTable {
         ensures published { result ≡ was_published (state_of self.now label.0) }
         ensures unpublished { (result ≡ false) ↔ (state_of self.now label.0 ≡ NameState.Unpublished) }
     {
-        self.states[label.0 as usize] != NameState::Unpublished
+        self.slots[label.0 as usize] != Slot::Unpublished
     }
 
     /// Gives a label its value.
@@ -66,7 +88,7 @@ impl NameTable {
         requires unpublished { state_of self.old label.0 ≡ NameState.Unpublished }
         ensures { self.new ≡ slice_set self.old label.0 (NameState.Published value) }
     {
-        self.states[label.0 as usize] = NameState::Published(value);
+        self.slots[label.0 as usize] = Slot::published(value);
     }
 
     /// Takes the value of a label, if it is published.
@@ -76,13 +98,13 @@ impl NameTable {
         ensures not_yet { (result ≡ Taken.NotYet) ↔ (state_of self.old label.0 ≡ NameState.Unpublished) }
         ensures taken { TakesName self.old self.new label.0 result }
     {
-        match self.states[label.0 as usize] {
-            NameState::Published(value) => {
-                self.states[label.0 as usize] = NameState::Taken;
-                Taken::Set(value)
-            }
-            _ => Taken::NotYet,
-        }
+        let value = match self.slots[label.0 as usize] {
+            Slot::At(addr) => Some(addr),
+            Slot::Null => None,
+            Slot::Unpublished | Slot::Taken => return Taken::NotYet,
+        };
+        self.slots[label.0 as usize] = Slot::Taken;
+        Taken::Set(value)
     }
 }
 
