@@ -7,6 +7,8 @@ use Rattle.tc_model.specs.declared.answers.Answer.{Answer}
 use Rattle.tc_model.specs.declared.answers.Answer.TheVariants.{Freed}
 use Rattle.rseq_core.specs.declared.regs.Regs.{Regs}
 use Rattle.holdings.specs.Moves.{IsOther}
+use Rattle.call_steps.specs.declared.step.Came.{Came}
+use Rattle.call_steps.specs.declared.step.Came.TheVariants as came
 use Rattle.call_steps.specs.declared.step.Next.{Next}
 use Rattle.call_steps.specs.declared.step.Step.{Step}
 use Rattle.call_steps.specs.declared.step.Next.TheVariants as next
@@ -40,6 +42,16 @@ ComesWith about refuses Serves row r (next.Publish s) = about row ≡ Publishes 
 ComesWith about refuses Serves row r (next.Freed f) = about row ≡ Frees f
 ComesWith about refuses Serves row r (next.Decide answer to) = MayDecide (about row) answer × (is_refusal answer ≡ true → refuses row answer ≡ true) × MayGoOnDecided about to
 ComesWith about refuses Serves row r next.End = about row ≡ Other None
+
+-- what comes next, where a row stands behind the act
+abbrev pub next_of : {R : Type 0} → Came R → R → Next R
+next_of came.Row row = next.Row row
+next_of (came.Next n) row = n
+
+-- the row that was done stands unless another one comes
+abbrev pub Stays : {R : Type 0} → Came R → R → R → Type 0
+Stays came.Row old new = Unit {0}
+Stays (came.Next n) old new = new ≡ old
 
 -- an object is in hand, of a class of the table
 abbrev pub HasObject : List ClassRow → Regs → Type 0

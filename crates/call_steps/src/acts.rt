@@ -6,7 +6,7 @@ ghost use Rattle.call_steps.specs.Fits.{FitsFrontStep};
 use crate::front::FrontEnd;
 use crate::local::Local;
 use crate::setting::Setting;
-use crate::step::Step;
+use crate::step::{Came, Step};
 use std::alloc::AllocError;
 
 /// The act at a part of the front-end that the thread does next. Where memory is wanting, all is as before.
@@ -21,10 +21,12 @@ pub fn act_front<F: FrontEnd>(
     ensures local { OnOk result (local.new ≡ (front_after (F.rules setting.now) F.about part.old local.old local.old.step).1) }
     ensures err { OnErr result ((part.new ≡ part.old) × (local.new ≡ local.old)) }
 {
-    match local.step {
+    match &mut local.step {
         Step::Front(row) => {
-            let next = F::act(setting, part, &mut local.seat, &mut local.regs, row)?;
-            local.enter(setting, next);
+            match F::act(setting, part, &mut local.seat, &mut local.regs, row)? {
+                Came::Row => local.go_on(),
+                Came::Next(next) => local.enter(setting, next),
+            }
             Ok(())
         }
         _ => unreachable!(),

@@ -4,18 +4,18 @@ ghost use Rattle.std.specs.Prelude.{◌≡◌, ◌<◌, ◌≤◌, length, take,
 ghost use Rattle.rseq_core.specs.declared.regs.Regs.{Regs as Registers};
 ghost use Rattle.call_steps.specs.declared.setting.Setting.{Setting as Under};
 ghost use Rattle.call_steps.specs.Calls.{About, Asks, Publishes, Frees, Other};
-ghost use Rattle.call_steps.specs.Follows.{ComesWith, HasObject};
+ghost use Rattle.call_steps.specs.Follows.{next_of, ComesWith, HasObject, Stays};
 ghost use Rattle.call_steps.specs.Fronts.{FrontRules, IsEntry};
 
 use crate::setting::Setting;
-use crate::step::{Asking, Freeing, Next, Serving};
+use crate::step::{Asking, Came, Freeing, Serving};
 use rseq_core::Regs;
 use std::alloc::{AllocError, Global};
 use tc_model::{Call, Planned};
 use tc_units::ThreadNo;
 
 /// A front-end: what stands between the calls of small objects and the shards of their classes. Its rows are
-/// all that it adds to the calls: what an act of it hands on is told by a `Next`, so that the calls are
+/// all that it adds to the calls: what an act of it hands on is told by a `Came`, so that the calls are
 /// decided, fetch, give and publish in one place for all front-ends.
 pub trait FrontEnd {
     /// A part, on which one act works at a time.
@@ -121,15 +121,16 @@ pub trait FrontEnd {
         part: &mut Self::Part,
         seat: &mut Self::Seat,
         regs: &mut Regs,
-        row: Self::Row,
-    ) -> Result<Next<Self::Row>, AllocError>
-        requires { fits setting.now part.old seat.old regs.old row }
-        ensures part { OnOk result (part.new ≡ ((rules setting.now).acts part.old seat.old regs.old row).part) }
-        ensures seat { OnOk result (seat.new ≡ ((rules setting.now).acts part.old seat.old regs.old row).seat) }
-        ensures regs { OnOk result (regs.new ≡ ((rules setting.now).acts part.old seat.old regs.old row).regs) }
-        ensures next { IfOk result (λ n. n ≡ ((rules setting.now).acts part.old seat.old regs.old row).next) }
-        ensures may { IfOk result (ComesWith about (rules setting.now).refuses (HasObject (rules setting.now).calls.rows) row regs.new) }
-        ensures err { OnErr result ((part.new ≡ part.old) × (seat.new ≡ seat.old) × (regs.new ≡ regs.old)) };
+        row: &mut Self::Row,
+    ) -> Result<Came<Self::Row>, AllocError>
+        requires { fits setting.now part.old seat.old regs.old row.old }
+        ensures part { OnOk result (part.new ≡ ((rules setting.now).acts part.old seat.old regs.old row.old).part) }
+        ensures seat { OnOk result (seat.new ≡ ((rules setting.now).acts part.old seat.old regs.old row.old).seat) }
+        ensures regs { OnOk result (regs.new ≡ ((rules setting.now).acts part.old seat.old regs.old row.old).regs) }
+        ensures next { IfOk result (λ c. next_of c row.new ≡ ((rules setting.now).acts part.old seat.old regs.old row.old).next) }
+        ensures stays { IfOk result (λ c. Stays c row.old row.new) }
+        ensures may { IfOk result (λ c. ComesWith about (rules setting.now).refuses (HasObject (rules setting.now).calls.rows) row.old regs.new (next_of c row.new)) }
+        ensures err { OnErr result ((part.new ≡ part.old) × (seat.new ≡ seat.old) × (regs.new ≡ regs.old) × (row.new ≡ row.old)) };
 
     /// Whether it is polite to do the act of a row now.
     fn yields(

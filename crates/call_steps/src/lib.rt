@@ -22,6 +22,6 @@ pub use names::{act_names, waits};
 pub use setting::Setting;
 pub use shard::act_shard;
 pub use step::{
-    Asking, Freeing, Giving, HeapStep, MapStep, NamesStep, Next, Onward, Serving, ShardStep, Step,
-    Target,
+    Asking, Came, Freeing, Giving, HeapStep, MapStep, NamesStep, Next, Onward, Serving, ShardStep,
+    Step, Target,
 };

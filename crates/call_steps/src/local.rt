@@ -143,6 +143,14 @@ impl<F: FrontEnd> Local<F> {
         self.acts += 1;
     }
 
+    /// The act is done, and the call goes on with the row that stands.
+    pub(crate) fn go_on(&mut self)
+        requires acts { self.old.acts < 2 ^ 64 - 1 }
+        ensures { self.new ≡ record self.old { acts = self.old.acts + 1 } }
+    {
+        self.acts += 1;
+    }
+
     /// The act is done: it decides the call under way, which goes on with `next`.
     pub(crate) fn go_deciding(&mut self, answer: Answer, next: Step<F::Row>)
         requires acts { self.old.acts < 2 ^ 64 - 1 }

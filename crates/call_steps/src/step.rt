@@ -93,6 +93,15 @@ pub enum Next<R> {
     End,
 }
 
+/// What an act of the front-end came to. A row changes in place, since most acts go on with the same row or the next one.
+#[derive(Clone, Copy, Debug, PartialEq, Eq)]
+pub enum Came<R> {
+    /// Another row of its own, which stands where the one stood that was done.
+    Row,
+    /// This; the row that was done still stands.
+    Next(Next<R>),
+}
+
 /// A row of the call programs at the page heap.
 #[derive(Clone, Copy, Debug, PartialEq, Eq)]
 pub enum HeapStep<R> {

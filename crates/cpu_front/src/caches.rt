@@ -2,7 +2,7 @@
 ghost use Rattle.std.specs.Prelude.{◌≡◌, ◌<◌};
 
 use crate::opening::{caches_of, cpus_of};
-use call_steps::{Asking, Freeing, FrontEnd, Local, Next, Serving, Setting};
+use call_steps::{Asking, Came, Freeing, FrontEnd, Local, Serving, Setting};
 use cpu_rows::{
     CpuFrontPart, CpuRow, CpuSeat, CpuStep, act_cpu, act_domain, place, stop_row, yields,
 };
@@ -120,15 +120,19 @@ impl FrontEnd for CpuCaches {
         part: &mut CpuFrontPart,
         seat: &mut CpuSeat,
         regs: &mut Regs,
-        row: CpuRow,
-    ) -> Result<Next<CpuRow>, AllocError> {
+        row: &mut CpuRow,
+    ) -> Result<Came<CpuRow>, AllocError> {
+        let table = &setting.table;
         match part {
             CpuFrontPart::Cpu(cpu) => match row {
-                CpuRow::Cpu(row) => Ok(act_cpu(&setting.table, cpu, seat, regs, row)),
+                CpuRow::Cpu(row) => Ok(act_cpu(table, cpu, seat, regs, row)),
                 CpuRow::Domain(_) => unreachable!(),
             },
             CpuFrontPart::Domain { class: _, cache } => match row {
-                CpuRow::Domain(row) => Ok(act_domain(&setting.table, cache, seat, regs, row)),
+                CpuRow::Domain(row) => {
+                    let next = act_domain(table, cache, seat, regs, *row);
+                    Ok(Came::Next(next))
+                }
                 CpuRow::Cpu(_) => unreachable!(),
             },
         }

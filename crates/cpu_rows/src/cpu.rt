@@ -8,13 +8,14 @@ ghost use Rattle.cpu_drain.specs.Drains as drains;
 ghost use Rattle.cpu_rows.specs.declared.row.CpuRow.TheVariants as front;
 ghost use Rattle.cpu_rows.specs.declared.row.CpuStep.TheVariants.{Start};
 ghost use Rattle.call_steps.specs.declared.step.Next.TheVariants as next;
+ghost use Rattle.call_steps.specs.Follows.{next_of, Stays};
 ghost use Rattle.cpu_rows.specs.declared.row.Stopping.TheVariants as stopping;
 ghost use Rattle.cpu_rows.specs.CpuActs.{due, cpu_acts, sequence, replied, after_pop, after_stock, after_push, grew_to, stops, drains_on, took, cap_answer, started, left_for, yields_to_enter, yields_row};
 ghost use Rattle.cpu_rows.specs.CpuFits.{FitsCpu, FitsSequence, FitsSetCap, IsSequence, taken_by};
 
 use crate::row::{CpuRow, CpuStep, Draining, Resizing, Stopping};
 use crate::seat::CpuSeat;
-use call_steps::{Asking, Freeing, Giving, Next, Serving};
+use call_steps::{Asking, Came, Freeing, Giving, Next, Serving};
 use cpu_drain::{StopAnswer, fence, set_cap, start, stop, take_class};
 use cpu_slab::CapFault;
 use rseq_core::{CpuPart, Grew, Instructed, Regs, Reply, Seq, grow_here, instruct, leave};
@@ -31,34 +32,50 @@ pub fn act_cpu(
     cpu: &mut CpuPart,
     seat: &mut CpuSeat,
     regs: &mut Regs,
-    row: CpuStep,
-) -> Next<CpuRow>
-    requires { FitsCpu table.now cpu.old seat.old regs.old row }
-    ensures cpu { cpu.new ≡ (cpu_acts table.now cpu.old seat.old regs.old row).part }
-    ensures seat { seat.new ≡ (cpu_acts table.now cpu.old seat.old regs.old row).seat }
-    ensures regs { regs.new ≡ (cpu_acts table.now cpu.old seat.old regs.old row).regs }
-    ensures next { result ≡ (cpu_acts table.now cpu.old seat.old regs.old row).next }
+    row: &mut CpuStep,
+) -> Came<CpuRow>
+    requires { FitsCpu table.now cpu.old seat.old regs.old row.old }
+    ensures cpu { cpu.new ≡ (cpu_acts table.now cpu.old seat.old regs.old row.old).part }
+    ensures seat { seat.new ≡ (cpu_acts table.now cpu.old seat.old regs.old row.old).seat }
+    ensures regs { regs.new ≡ (cpu_acts table.now cpu.old seat.old regs.old row.old).regs }
+    ensures next { next_of result (front.Cpu row.new) ≡ (cpu_acts table.now cpu.old seat.old regs.old row.old).next }
+    ensures stays { Stays result (front.Cpu row.old) (front.Cpu row.new) }
 {
     let thread = regs.thread;
-    match row {
-        CpuStep::Grow(asking) => grow(cpu, seat, regs, asking),
-        CpuStep::Stop(stopping) => stop_cpu(cpu, thread, stopping),
+    match *row {
+        CpuStep::Grow(asking) => placed(row, grow(cpu, seat, regs, asking)),
+        CpuStep::Stop(stopping) => placed(row, stop_cpu(cpu, thread, stopping)),
         CpuStep::Fence(stopping) => {
             fence(cpu, thread);
-            Next::Row(CpuRow::Cpu(CpuStep::Take(stopping)))
+            *row = CpuStep::Take(stopping);
+            Came::Row
         }
         CpuStep::Take(stopping) => {
             let class = regs.class;
             take_class(cpu, thread, class, &mut regs.hand);
-            took(table, seat, regs, stopping)
+            placed(row, took(table, seat, regs, stopping))
         }
-        CpuStep::SetCap(resizing) => resize(cpu, regs, resizing),
+        CpuStep::SetCap(resizing) => placed(row, resize(cpu, regs, resizing)),
         CpuStep::Start(stopping) => {
             start(cpu, thread);
-            started(seat, regs, stopping)
+            placed(row, started(seat, regs, stopping))
         }
-        CpuStep::Leave => leave_at_end(cpu, seat, regs),
-        row => sequence(table, cpu, seat, regs, row),
+        CpuStep::Leave => placed(row, leave_at_end(cpu, seat, regs)),
+        _ => sequence(table, cpu, seat, regs, row),
+    }
+}
+
+/// What comes next: a row at a CPU comes in the place of the one that was done.
+fn placed(row: &mut CpuStep, next: Next<CpuRow>) -> Came<CpuRow>
+    ensures next { next_of result (front.Cpu row.new) ≡ next }
+    ensures stays { Stays result (front.Cpu row.old) (front.Cpu row.new) }
+{
+    match next {
+        Next::Row(CpuRow::Cpu(to)) => {
+            *row = to;
+            Came::Row
+        }
+        next => Came::Next(next),
     }
 }
 
@@ -80,23 +97,24 @@ fn sequence(
     cpu: &mut CpuPart,
     seat: &mut CpuSeat,
     regs: &mut Regs,
-    row: CpuStep,
-) -> Next<CpuRow>
+    row: &mut CpuStep,
+) -> Came<CpuRow>
     requires fits { FitsSequence table.now cpu.old regs.old }
-    requires row { IsSequence row }
-    ensures cpu { cpu.new ≡ (sequence table.now cpu.old seat.old regs.old row).part }
-    ensures seat { seat.new ≡ (sequence table.now cpu.old seat.old regs.old row).seat }
-    ensures regs { regs.new ≡ (sequence table.now cpu.old seat.old regs.old row).regs }
-    ensures next { result ≡ (sequence table.now cpu.old seat.old regs.old row).next }
+    requires row { IsSequence row.old }
+    ensures cpu { cpu.new ≡ (sequence table.now cpu.old seat.old regs.old row.old).part }
+    ensures seat { seat.new ≡ (sequence table.now cpu.old seat.old regs.old row.old).seat }
+    ensures regs { regs.new ≡ (sequence table.now cpu.old seat.old regs.old row.old).regs }
+    ensures next { next_of result (front.Cpu row.new) ≡ (sequence table.now cpu.old seat.old regs.old row.old).next }
+    ensures stays { Stays result (front.Cpu row.old) (front.Cpu row.new) }
 {
     if let Some(to) = due(seat, regs.ran) {
         leave(cpu, regs);
         seat.arrive(to.cpu);
-        return Next::Row(CpuRow::Cpu(row));
+        return Came::Row;
     }
     match instruct(cpu, regs) {
-        Instructed::Done(reply) => go_on(table, seat, regs, row, reply),
-        _ => Next::Row(CpuRow::Cpu(row)),
+        Instructed::Done(reply) => placed(row, go_on(table, seat, regs, *row, reply)),
+        _ => Came::Row,
     }
 }
 

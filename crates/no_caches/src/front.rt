@@ -2,7 +2,7 @@
 ghost use Rattle.std.specs.Prelude.{◌≡◌};
 
 use alloc_rules::LawfulFront;
-use call_steps::{Asking, Freeing, FrontEnd, Local, Next, Serving, Setting};
+use call_steps::{Asking, Came, Freeing, FrontEnd, Local, Next, Serving, Setting};
 use rseq_core::Regs;
 use std::alloc::{AllocError, Global};
 use tc_machine::{AllocMachine, State};
@@ -119,9 +119,9 @@ impl FrontEnd for NoCaches {
         _part: &mut NoPart,
         _seat: &mut NoSeat,
         _regs: &mut Regs,
-        _row: NoRow,
-    ) -> Result<Next<NoRow>, AllocError> {
-        Ok(Next::End)
+        _row: &mut NoRow,
+    ) -> Result<Came<NoRow>, AllocError> {
+        Ok(Came::Next(Next::End))
     }
 
     fn yields(

@@ -3,7 +3,7 @@ ghost use Rattle.std.specs.Prelude.{◌≡◌, ◌<◌};
 
 use crate::opening::caches_of;
 use alloc_rules::LawfulFront;
-use call_steps::{Asking, Freeing, FrontEnd, Local, Next, Serving, Setting};
+use call_steps::{Asking, Came, Freeing, FrontEnd, Local, Serving, Setting};
 use rseq_core::Regs;
 use std::alloc::{AllocError, Global};
 use tc_machine::{AllocMachine, State};
@@ -116,9 +116,10 @@ impl FrontEnd for ThreadCaches {
         part: &mut CachePart,
         seat: &mut CacheSeat,
         regs: &mut Regs,
-        row: CacheRow,
-    ) -> Result<Next<CacheRow>, AllocError> {
-        act_cache(&setting.table, part, seat, regs, row)
+        row: &mut CacheRow,
+    ) -> Result<Came<CacheRow>, AllocError> {
+        let next = act_cache(&setting.table, part, seat, regs, *row)?;
+        Ok(Came::Next(next))
     }
 
     fn yields(
