@@ -1,28 +1,16 @@
-//! The printed profile of a finished list of calls.
-ghost use Rattle.std.specs.Prelude.{◌≡◌, ◌<◌, ◌≤◌, ◌++◌, All, OnOk, length};
-ghost use Rattle.heap_sample.specs.Samples.{most_calls};
-ghost use Rattle.heap_sample.specs.Profiles.{AreFirstUses};
+//! The printed profile of some calls.
+ghost use Rattle.std.specs.Prelude.{◌≡◌, ◌++◌, List, OnOk};
+ghost use Rattle.tc_model.specs.declared.answers.CallLine.{CallLine};
+ghost use Rattle.heap_sample.specs.Profiles.{IsProfileOf};
 ghost use Rattle.heap_sample.specs.Lines.{profile_of_calls};
 
+use crate::profile::Profile;
 use crate::text::push_profile;
-use crate::whole::profile_of;
-use std::alloc::{AllocError, Global};
-use tc_model::CallLine;
+use std::alloc::AllocError;
 
-/// Appends the profile's text of calls that `threads` threads made, with a sample at each `step` bytes.
-pub fn push_profile_of(
-    alloc: Global,
-    text: &mut Vec<u8>,
-    calls: &[CallLine],
-    step: u64,
-    threads: u8,
-) -> Result<(), AllocError>
-    requires some { 0 < step }
-    requires few { length calls.now ≤ most_calls }
-    requires threads { All (λ c. c.thread.0 < threads) calls.now }
-    requires labels { AreFirstUses calls.now }
-    ensures { OnOk result (text.new.items ≡ text.old.items ++ profile_of_calls step calls.now) }
+/// Appends the text of a profile, which is that of the calls whose profile it is.
+pub fn push_profile_of(text: &mut Vec<u8>, profile: &Profile) -> Result<(), AllocError>
+    ensures { OnOk result ((calls : List CallLine) → IsProfileOf calls profile.now → text.new.items ≡ text.old.items ++ profile_of_calls profile.now.step calls) }
 {
-    let profile = profile_of(alloc, calls, step, threads)?;
     push_profile(text, profile.rows(), profile.peak())
 }

@@ -135,6 +135,18 @@ impl Profile {
         Ok(())
     }
 
+    /// Adds the next call behind those whose profile it is. Where memory is wanting, the profile is as before.
+    pub fn add_next(&mut self, line: &CallLine) -> Result<(), AllocError>
+        requires thread { line.now.thread.0 < length self.old.asked }
+        requires behind { (calls : List CallLine) × IsProfileOf calls self.old × IsFirstUse calls line.now.call × (length calls < most_calls) }
+        ensures step { OnOk result (self.new.step ≡ self.old.step) }
+        ensures threads { OnOk result (length self.new.asked ≡ length self.old.asked) }
+        ensures of_calls { OnOk result ((calls : List CallLine) → IsProfileOf calls self.old → IsFirstUse calls line.now.call → IsProfileOf (calls ++ line.now ∷ []) self.new) }
+        ensures err { OnErr result (self.new ≡ self.old) }
+    {
+        self.add(line)
+    }
+
     /// The live samples by rising length: how many there are of each, and what they stand for.
     pub fn rows(&self) -> &[ProfileRow]
         ensures { IsRowsOf self.now.live result.now }

@@ -69,7 +69,7 @@ fn assert_text(
     let profile = profile_of(alloc, lines, step, 64)?;
     assert_eq!(rt; profile.text()?.as_slice(), text.as_bytes());
     let mut printed = Vec::new(alloc);
-    push_profile_of(alloc, &mut printed, lines, step, 64)?;
+    push_profile_of(&mut printed, &profile)?;
     assert_eq!(rt; printed.as_slice(), text.as_bytes());
     Ok(())
 }

@@ -23,7 +23,7 @@ pub fn profile_of(
 {
     let mut profile = Profile::open(alloc, step, threads)?;
     for line in lines {
-        profile.add(line)?;
+        profile.add_next(line)?;
     }
     Ok(profile)
 }

@@ -7,7 +7,6 @@ use Rattle.tc_units.specs.Classes.{length_of}
 use Rattle.tc_units.specs.declared.spans.Run.{Run}
 use Rattle.tc_units.specs.declared.rows.RowView.{RowView}
 use Rattle.tc_model.specs.declared.answers.CallLine.{CallLine}
-use Rattle.tc_model.specs.declared.answers.Finished.{Finished}
 use Rattle.tc_model.specs.Blocks.{IsBlockRun, live_count, live_bytes}
 use Rattle.tc_model.specs.Input.{Input}
 use Rattle.tc_model.specs.Replays.{HaveEnded}
@@ -26,6 +25,8 @@ use Rattle.alloc_rules.specs.Machine.{parts_of}
 use Rattle.alloc_rules.specs.Told.{TellsScripts}
 use Rattle.alloc_rules.proofs.Numbers.{get_heap}
 use Rattle.tc_machine.specs.declared.standing.Standing.{Standing}
+use Rattle.tc_machine.specs.declared.totals.Totals.{Totals}
+use Rattle.tc_machine.specs.Finish.{totals_of}
 use Rattle.tc_machine.specs.Standing.{AreStanding}
 use Rattle.node_rules.specs.Joined.{told_line, lines_at}
 use Rattle.node_rules.specs.Beside.{Beside}
@@ -78,21 +79,26 @@ module _ {nodes : ℕ} {input : Input} {order : List ℕ} (h : HoldsAfter nodes 
   pub rising_is : (t : ℕ) (l : Beside NodeLocal) → slice_get locals t ≡ Some l → slice_get w.locals t ≡ Some l
   rising_is t l at = ap (λ (v : World NodePart (Beside NodeLocal)). slice_get v.locals t) (sym is) ∙ at
 
-  pub finished_is : {lines : List CallLine} {s : Standing} {used resident : ℕ} {rows : List RowView} → lines ≡ numa_calls locals order → AreStanding lines s
+  -- the calls that are told of the run
+  pub told_are : numa_calls locals order ≡ (finished_in nodes input order).calls
+  told_are = ap (λ (v : World NodePart (Beside NodeLocal)). numa_calls v.locals order) is
+
+  pub totals_are : {lines : List CallLine} {s : Standing} {count used resident : ℕ} {rows : List RowView} → lines ≡ numa_calls locals order → AreStanding lines s → count ≡ length lines
       → used ≡ used_to setting parts nodes → resident ≡ backed_to setting parts nodes → rows ≡ rows_to setting parts nodes
-      → (let f : Finished = record { calls = lines; live = s.count; live_bytes = s.bytes; used = used; resident = resident; rows = rows } in f ≡ finished_in nodes input order)
-  finished_is {lines} {s} {used} {resident} {rows} told stand used_is resident_is rows_are =
-      let made : List CallLine → ℕ → ℕ → ℕ → ℕ → List RowView → Finished =
-      λ ls live bytes pages backed views. record { calls = ls; live = live; live_bytes = bytes; used = pages; resident = backed; rows = views } in
-      let whole : List CallLine → List NodePart → Finished =
-      λ ls ps. made ls (live_count ls) (live_bytes ls) (used_to setting ps nodes) (backed_to setting ps nodes) (rows_to setting ps nodes) in
-      ap (λ n. made lines n s.bytes used resident rows) stand.count
-      ∙ (ap (λ n. made lines (live_count lines) n used resident rows) stand.bytes
-      ∙ (ap (λ n. made lines (live_count lines) (live_bytes lines) n resident rows) used_is
-      ∙ (ap (λ n. made lines (live_count lines) (live_bytes lines) (used_to setting parts nodes) n rows) resident_is
-      ∙ (ap (made lines (live_count lines) (live_bytes lines) (used_to setting parts nodes) (backed_to setting parts nodes)) rows_are
+      → (let t : Totals = record { calls = count; live = s.count; live_bytes = s.bytes; used = used; resident = resident; rows = rows } in t ≡ totals_of (finished_in nodes input order))
+  totals_are {lines} {s} {count} {used} {resident} {rows} told stand count_is used_is resident_is rows_are =
+      let made : ℕ → ℕ → ℕ → ℕ → ℕ → List RowView → Totals =
+      λ n live bytes pages backed views. record { calls = n; live = live; live_bytes = bytes; used = pages; resident = backed; rows = views } in
+      let whole : List CallLine → List NodePart → Totals =
+      λ ls ps. made (length ls) (live_count ls) (live_bytes ls) (used_to setting ps nodes) (backed_to setting ps nodes) (rows_to setting ps nodes) in
+      ap (λ n. made n s.count s.bytes used resident rows) count_is
+      ∙ (ap (λ n. made (length lines) n s.bytes used resident rows) stand.count
+      ∙ (ap (λ n. made (length lines) (live_count lines) n used resident rows) stand.bytes
+      ∙ (ap (λ n. made (length lines) (live_count lines) (live_bytes lines) n resident rows) used_is
+      ∙ (ap (λ n. made (length lines) (live_count lines) (live_bytes lines) (used_to setting parts nodes) n rows) resident_is
+      ∙ (ap (made (length lines) (live_count lines) (live_bytes lines) (used_to setting parts nodes) (backed_to setting parts nodes)) rows_are
       ∙ (ap (λ ls. whole ls parts) told
-      ∙ ap (λ (v : World NodePart (Beside NodeLocal)). whole (numa_calls v.locals order) v.parts) is)))))
+      ∙ ap (λ (v : World NodePart (Beside NodeLocal)). whole (numa_calls v.locals order) v.parts) is))))))
 
   -- the blocks of each node are among its live runs
   covered_to : (n : ℕ) → n ≤ nodes → sum_by (λ k. live_bytes (lines_at k h.lines)) (range_with_len 0 n) ≤ runs_to setting parts n * page_bytes

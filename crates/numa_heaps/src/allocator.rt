@@ -12,8 +12,8 @@ use no_caches::NoCaches;
 use size_classes::ClassTable;
 use std::alloc::{AllocError, Global};
 use std::snapshot::Snapshot;
-use tc_machine::{Allocator, Opened, Teller, standing_after, told_calls};
-use tc_model::{Call, CallLine, Finished};
+use tc_machine::{Allocator, Listener, Opened, Teller, Totals, tell_all};
+use tc_model::{Call, CallLine};
 use tc_units::{Listed, ThreadNo};
 use trace_reader::Trace;
 
@@ -112,24 +112,25 @@ impl Allocator for NumaMachine {
         self.setting.config.events
     }
 
-    fn finish(
+    fn tell<L: Listener>(
         &self,
         alloc: Global,
         parts: &[NumaPart],
         locals: &[NumaLocal],
         order: &[u16],
-    ) -> Result<Finished, AllocError> {
-        let calls = told_calls(alloc, locals, order)?;
-        let standing = standing_after(alloc, &calls)?;
+        listener: L,
+    ) -> Result<(L, Totals), AllocError> {
+        let (listener, told) = tell_all(alloc, locals, order, listener)?;
         let pages = pages_of(&self.setting, self.nodes, parts);
         let rows = rows_of_nodes(alloc, &self.setting, self.nodes, parts)?;
-        Ok(Finished {
-            calls: Listed::new(calls),
-            live: standing.count,
-            live_bytes: standing.bytes,
+        let totals = Totals {
+            calls: told.calls,
+            live: told.standing.count,
+            live_bytes: told.standing.bytes,
             used: pages.used,
             resident: pages.resident,
             rows: Listed::new(rows),
-        })
+        };
+        Ok((listener, totals))
     }
 }

@@ -12,7 +12,6 @@ use Rattle.tc_units.specs.Classes.{length_of}
 use Rattle.tc_units.specs.declared.spans.ClassRow.{ClassRow}
 use Rattle.tc_units.specs.declared.spans.Run.{Run}
 use Rattle.tc_model.specs.declared.answers.CallLine.{CallLine}
-use Rattle.tc_model.specs.declared.answers.Finished.{Finished}
 use Rattle.tc_model.specs.Calls.{picks_of, calls_from, answers_at, decided_by}
 use Rattle.tc_model.specs.Replays.{HaveEnded}
 use Rattle.tc_model.specs.Blocks.{live_count, live_bytes, IsBlockRun}
@@ -36,7 +35,8 @@ use Rattle.alloc_rules.proofs.Numbers.{get_heap}
 use Rattle.alloc_rules.proofs.Orders.{order_is}
 use Rattle.tc_machine.specs.declared.standing.Standing.{Standing as Kept}
 use Rattle.tc_machine.specs.Standing.{AreStanding}
-use Rattle.tc_machine.specs.Finish.{finished, finished_in, heap_by, heap_in, heap_place}
+use Rattle.tc_machine.specs.declared.totals.Totals.{Totals}
+use Rattle.tc_machine.specs.Finish.{finished, finished_in, totals_of, heap_by, heap_in, heap_place}
 
 -- The picks of an order are of threads that there are.
 pub record HasThreads {P L : Type 0} (n : ℕ) (w : World P L) (order : List ℕ) : Type 0 where
@@ -122,6 +122,10 @@ module _ {P V R : Type 0} {r : FrontRules P V R} {about : R → About} {Holds : 
     calls_are : {lines : List CallLine} → lines ≡ calls locals order → lines ≡ calls told.holds.locals order
     calls_are is = is ∙ ap (λ ls. calls ls order) told.locals_are
 
+    -- the calls that are told of the run
+    pub told_are : calls locals order ≡ (finished_in r about asked order).calls
+    told_are = ap (λ ls. calls ls order) told.locals_are ∙ sym (ap (λ (w : World (Part P) (Local V R)). calls w.locals order) told.holds.is)
+
     pub blocks_are : {rows : List ClassRow} {lines : List CallLine} → r.calls.rows ≡ rows → lines ≡ calls locals order → IsBlockRun asked.config.huge (length_of rows) lines
     blocks_are {rows} same is =
         subst (IsBlockRun asked.config.huge (length_of rows)) (sym (calls_are is))
@@ -150,19 +154,20 @@ module _ {P V R : Type 0} {r : FrontRules P V R} {about : R → About} {Holds : 
           ap (heap_by first) (get_or_from_slice_get (parts_of r.split told.holds.parts) (heap_place r) (part.Heap told.holds.parts.heap) (part.Heap first) own)
 
       module _ {lines : List CallLine} {s : Kept} {used resident : ℕ} (is : lines ≡ calls locals order) (stand : AreStanding lines s) (used_is : used ≡ used_pages heap) where
-        pub finished_is : {rows : List RowView} → resident ≡ backed_pages heap → rows ≡ map (row_of heap) (range_with_len 1 heap.config.huge)
-            → record { calls = lines; live = s.count; live_bytes = s.bytes; used = used; resident = resident; rows = rows } ≡ finished_in r about asked order
-        finished_is {rows} resident_is rows_are =
-            let made : ℕ → ℕ → ℕ → ℕ → List RowView → Finished =
-            λ live bytes pages backed views. record { calls = lines; live = live; live_bytes = bytes; used = pages; resident = backed; rows = views } in
-            ap (λ n. made n s.bytes used resident rows) stand.count
-            ∙ (ap (λ n. made (live_count lines) n used resident rows) stand.bytes
-            ∙ (ap (λ n. made (live_count lines) (live_bytes lines) n resident rows) used_is
-            ∙ (ap (λ n. made (live_count lines) (live_bytes lines) (used_pages heap) n rows) resident_is
-            ∙ (ap (made (live_count lines) (live_bytes lines) (used_pages heap) (backed_pages heap)) rows_are
-            ∙ (ap (λ ls. finished ls heap) (calls_are is)
+        pub totals_are : {count : ℕ} {rows : List RowView} → count ≡ length lines → resident ≡ backed_pages heap → rows ≡ map (row_of heap) (range_with_len 1 heap.config.huge)
+            → record { calls = count; live = s.count; live_bytes = s.bytes; used = used; resident = resident; rows = rows } ≡ totals_of (finished_in r about asked order)
+        totals_are {count} {rows} count_is resident_is rows_are =
+            let made : ℕ → ℕ → ℕ → ℕ → ℕ → List RowView → Totals =
+            λ n live bytes pages backed views. record { calls = n; live = live; live_bytes = bytes; used = pages; resident = backed; rows = views } in
+            ap (λ n. made n s.count s.bytes used resident rows) count_is
+            ∙ (ap (λ n. made (length lines) n s.bytes used resident rows) stand.count
+            ∙ (ap (λ n. made (length lines) (live_count lines) n used resident rows) stand.bytes
+            ∙ (ap (λ n. made (length lines) (live_count lines) (live_bytes lines) n resident rows) used_is
+            ∙ (ap (λ n. made (length lines) (live_count lines) (live_bytes lines) (used_pages heap) n rows) resident_is
+            ∙ (ap (made (length lines) (live_count lines) (live_bytes lines) (used_pages heap) (backed_pages heap)) rows_are
+            ∙ ap totals_of (ap (λ ls. finished ls heap) (calls_are is)
             ∙ (ap (finished (calls told.holds.locals order)) (heap_is ∙ sym heap_in_is)
-            ∙ sym (ap (λ (w : World (Part P) (Local V R)). finished (calls w.locals order) (heap_in r asked w.parts)) told.holds.is)))))))
+            ∙ sym (ap (λ (w : World (Part P) (Local V R)). finished (calls w.locals order) (heap_in r asked w.parts)) told.holds.is))))))))
 
         pub covered_is : used ≡ sum_by (λ (x : Run). x.pages) heap.runs → used_pages heap ≤ resident → s.bytes ≤ resident * page_bytes
         covered_is runs_are covers =

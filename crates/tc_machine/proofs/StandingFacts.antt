@@ -1,9 +1,10 @@
 -- What a call's answer makes of the blocks that stand.
-use Rattle.std.proofs.Common.{◌≡◌, ℕ, ◌+◌, ◌^◌, ◌≤◌, true, false, not, cond, eqb, List, [], ◌∷◌, ◌++◌, length, Some, None, refl, sym, ap, ◌∙◌, subst, arith, inl, inr, eq-eqb}
+use Rattle.std.proofs.Common.{◌≡◌, ℕ, ◌+◌, ◌^◌, ◌≤◌, true, false, not, cond, eqb, List, [], ◌∷◌, ◌++◌, length, take, Some, None, refl, sym, ap, ◌∙◌, subst, arith, inl, inr, eq-eqb}
 use Rattle.std.specs.Prelude.{nat_eq, count_by, find, sum_by, option_map}
 use Rattle.std.specs.HashMap.{get, Updates}
 use Rattle.std.proofs.lemmas.Bool.{cases_Bool, cases_eq, ne_eqb, cond-true, cond-false}
 use Rattle.std.proofs.lemmas.List.{length-append}
+use Rattle.std.proofs.Math.Seq.{take-append_seam}
 use Rattle.std.proofs.lemmas.List.Sums.{sum_by-cons}
 use Rattle.tc_units.specs.declared.units.Addr.{Addr}
 use Rattle.tc_units.proofs.Counts.{count-cons}
@@ -12,13 +13,14 @@ use Rattle.tc_model.specs.declared.calls.Call.{Call}
 use Rattle.tc_model.specs.declared.calls.Call.TheVariants.{Malloc, Free, Release, Drain, Resize}
 use Rattle.tc_model.specs.declared.answers.Answer.TheVariants.{Block, Freed}
 use Rattle.tc_model.specs.declared.answers.CallLine.{CallLine}
-use Rattle.tc_model.specs.Blocks.{Extent, blocks_after, blocks_with, with_block, without_block, IsAllowed}
+use Rattle.tc_model.specs.Blocks.{Extent, blocks_after, blocks_with, with_block, without_block, IsAllowed, IsBlockRun}
 use Rattle.holdings.specs.Apart.{AreApart}
 use Rattle.holdings.proofs.CallFacts.{blocks_after-push, find-with_block_same, find-with_block_other, find-without_block}
-use Rattle.holdings.proofs.Blocks.{none_begins, place_of}
+use Rattle.holdings.proofs.Blocks.{apart_after, none_begins, place_of}
 use Rattle.tc_machine.specs.Arena.{most_huge}
 use Rattle.tc_machine.specs.declared.standing.Standing.{Standing}
-use Rattle.tc_machine.specs.Standing.{AreStanding}
+use Rattle.tc_machine.specs.Standing.{AreStanding, MayStand}
+use Rattle.tc_machine.specs.Telling.{HearsEach}
 
 -- where none begins at an address, none is found there
 none_found : (a : ℕ) (bs : List Extent) → count_by (λ (b : Extent). eqb b.addr a) bs ≡ 0 → find (λ (b : Extent). eqb b.addr a) bs ≡ None
@@ -74,6 +76,20 @@ found_by huge round earlier (Resize cpu class n) addr allowed = absurd allowed
 -- an allocation's block lies in an arena of at most 2^37 bytes
 pub len_small : (huge : ℕ) (round : ℕ → ℕ) (earlier : List CallLine) (call : Call) (addr : Addr) (len : ℕ) → huge ≤ most_huge → IsAllowed huge round earlier call (Block addr len) → len ≤ 2 ^ 37
 len_small huge round earlier call addr len arena allowed = let p = place_of huge round earlier call addr len allowed in omega (arith, arena, p.inside.to)
+
+-- each call of a run on disjoint blocks may come
+pub may_stand : (huge : ℕ) (round : ℕ → ℕ) (calls : List CallLine) → IsBlockRun huge round calls → huge ≤ most_huge → HearsEach MayStand calls
+may_stand huge round calls run arena earlier line later is few =
+    let taken : take (length earlier) calls ≡ earlier = ap (take (length earlier)) (sym is) ∙ take-append_seam earlier (line ∷ later) in
+    let within : length earlier ≤ length calls = omega (arith, ap length is, length-append earlier (line ∷ later)) in
+    record {
+      huge = huge;
+      round = round;
+      arena = arena;
+      few = omega (arith, few);
+      apart = subst (λ (e : List CallLine). AreApart (blocks_after e)) taken (apart_after huge round calls run (length earlier) within);
+      allowed = run earlier line later is;
+    }
 
 module _ (s : Standing) (line : CallLine) (huge : ℕ) (round : ℕ → ℕ) (earlier : List CallLine) (stand : AreStanding earlier s) (apart : AreApart (blocks_after earlier)) (arena : huge ≤ most_huge) (allowed : IsAllowed huge round earlier line.call line.answer) where
   after : blocks_after (earlier ++ line ∷ []) ≡ blocks_with (blocks_after earlier) line.answer

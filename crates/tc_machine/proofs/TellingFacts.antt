@@ -1,8 +1,8 @@
 -- How the mark of a thread goes on.
-use Rattle.std.proofs.Common.{◌≡◌, ℕ, zero, suc, ◌+◌, ◌<◌, ◌≤◌, true, false, eqb, eq-eqb, get_or, List, [], ◌∷◌, ◌++◌, length, drop, map, Option, None, Some, refl, sym, ap, ◌∙◌, subst, arith, inl, inr}
+use Rattle.std.proofs.Common.{◌≡◌, ℕ, zero, suc, ◌+◌, ◌<◌, ◌≤◌, true, false, eqb, eq-eqb, get_or, List, [], ◌∷◌, ◌++◌, length, take, drop, map, Option, None, Some, refl, sym, ap, ◌∙◌, subst, arith, inl, inr}
 use Rattle.std.specs.Prelude.{option_map, replicate}
 use Rattle.std.specs.List.{slice_get, slice_set}
-use Rattle.std.proofs.lemmas.List.{length-replicate, length-set}
+use Rattle.std.proofs.lemmas.List.{append-nil, append_assoc, take_more, take-append-drop, length-replicate, length-set}
 use Rattle.std.proofs.lemmas.Option.{slice_get_within, slice_get-get_or}
 use Rattle.tc_model.proofs.Lists.{set_here, set_elsewhere}
 use Rattle.tc_model.proofs.CallSteps.{picks-push_same, picks-push_other, calls_from-push}
@@ -145,6 +145,16 @@ module _ {L : Type 0} (answers : L → List Decided) where
         ];
       }
 
+  -- the calls of more picks stand behind those of fewer
+  pub told_prefix : (locals : List L) (past more : List ℕ) → (later : List CallLine) × (calls_of answers act_of told locals (past ++ more) ≡ calls_of answers act_of told locals past ++ later)
+  told_prefix locals past [] = ([], ap (calls_of answers act_of told locals) (append-nil past) ∙ sym (append-nil (calls_of answers act_of told locals past)))
+  told_prefix locals past (t ∷ ts) =
+      let decided = decided_by answers act_of told locals in
+      let calls = calls_of answers act_of told locals in
+      let next = decided t (picks_of t [] + picks_of t past) in
+      let rest = told_prefix locals (past ++ t ∷ []) ts in
+      (next ++ rest.0, ap calls (sym (append_assoc past (t ∷ []) ts)) ∙ (rest.1 ∙ (ap (λ xs. xs ++ rest.0) (calls_from-push decided [] past t) ∙ append_assoc (calls past) next rest.0)))
+
   -- what the next pick of thread t adds to the calls
   pub told_next : (locals : List L) (past : List ℕ) (t n : ℕ) (k : L) (added : List CallLine) → slice_get locals t ≡ Some k → n ≡ picks_of t past → added ≡ map (told t) (decided_at n (answers k)) →
       calls_of answers act_of told locals (past ++ t ∷ []) ≡ calls_of answers act_of told locals past ++ added
@@ -153,3 +163,14 @@ module _ {L : Type 0} (answers : L → List Decided) where
       let number : picks_of t [] + picks_of t past ≡ n = omega (arith, picks) in
       let same : decided t n ≡ added = ap (λ o. map (told t) (decided_at n (answers_at answers o))) local ∙ sym is in
       calls_from-push decided [] past t ∙ ap (λ xs. calls_from decided [] past ++ xs) (ap (decided t) number ∙ same)
+
+  -- a call that the next pick decided stands behind those before it, and before those of later picks
+  pub told_split : (locals : List L) (order : List ℕ) (i : ℕ) (line : CallLine) → i < length order
+      → calls_of answers act_of told locals (take i order ++ get_or order i 0 ∷ []) ≡ calls_of answers act_of told locals (take i order) ++ line ∷ []
+      → (later : List CallLine) × (calls_of answers act_of told locals (take i order) ++ line ∷ later ≡ calls_of answers act_of told locals order)
+  told_split locals order i line within added =
+      let calls = calls_of answers act_of told locals in
+      let past = take i order ++ get_or order i 0 ∷ [] in
+      let whole : past ++ drop (i + 1) order ≡ order = ap (λ xs. xs ++ drop (i + 1) order) (sym (take_more order i 0 within)) ∙ take-append-drop (i + 1) order in
+      let rest = told_prefix locals past (drop (i + 1) order) in
+      (rest.0, sym (append_assoc (calls (take i order)) (line ∷ []) rest.0) ∙ (ap (λ xs. xs ++ rest.0) (sym added) ∙ (sym rest.1 ∙ ap calls whole)))

@@ -13,10 +13,15 @@ use Rattle.alloc_rules.specs.declared.part.Part.{Part}
 use Rattle.alloc_rules.specs.declared.part.Part.TheVariants as part
 use Rattle.alloc_rules.specs.Machine.{heap_config, rules}
 use Rattle.alloc_rules.specs.Law.{calls}
+use Rattle.tc_machine.specs.declared.totals.Totals.{Totals}
 
 -- these calls, in the order in which they were decided, the blocks that they leave, and the pages of the heap
 abbrev pub finished : List CallLine → Heap → Finished
 finished lines heap = record { calls = lines; live = live_count lines; live_bytes = live_bytes lines; used = used_pages heap; resident = backed_pages heap; rows = map (row_of heap) (range_with_len 1 heap.config.huge) }
+
+-- what is told of a run beside its calls, of which the number is
+abbrev pub totals_of : Finished → Totals
+totals_of f = record { calls = length f.calls; live = f.live; live_bytes = f.live_bytes; used = f.used; resident = f.resident; rows = f.rows }
 
 -- the heap among parts, which is behind the shards
 abbrev pub heap_by : {P : Type 0} → Heap → Part P → Heap

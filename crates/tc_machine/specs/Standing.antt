@@ -14,13 +14,11 @@ pub record AreStanding (earlier : List CallLine) (s : Standing) : Type 0 where
   pub few : s.count ≤ length earlier
   pub small : s.bytes ≤ length earlier * 2 ^ 37
 
--- a call that comes behind some calls whose blocks stand: its answer is one that they allow
-pub record IsNext (s : Standing) (line : CallLine) : Type 0 where
+-- a call that comes behind some calls: its answer is one that their blocks allow
+pub record MayStand (earlier : List CallLine) (line : CallLine) : Type 0 where
   pub huge : ℕ
   pub round : ℕ → ℕ
-  pub earlier : List CallLine
   pub arena : huge ≤ most_huge
   pub few : length earlier < 2 ^ 26
-  pub standing : AreStanding earlier s
   pub apart : AreApart (blocks_after earlier)
   pub allowed : IsAllowed huge round earlier line.call line.answer

@@ -1,17 +1,12 @@
-//! What a run has to tell: its blocks, and the measures of its hugepages.
-ghost use Rattle.std.specs.Prelude.{◌≡◌, ℕ, ◌^◌, ◌<◌, ◌≤◌, length, map, IfOk, Some, slice_get};
+//! What a run has to tell of its hugepages.
+ghost use Rattle.std.specs.Prelude.{◌≡◌, ◌≤◌, map, IfOk, Some, slice_get};
 ghost use Rattle.heap_rules.specs.Heap.{Heap, row_of};
 ghost use Rattle.alloc_rules.specs.declared.part.Part.TheVariants as part;
 ghost use Rattle.std.specs.List.{range_with_len};
-ghost use Rattle.tc_model.specs.Blocks.{IsBlockRun};
-ghost use Rattle.tc_machine.specs.Arena.{most_huge};
-ghost use Rattle.tc_machine.specs.Standing.{AreStanding};
 
-use crate::standing::Standing;
 use alloc_rules::Part;
 use page_heap::PageHeap;
 use std::alloc::{AllocError, Global};
-use tc_model::CallLine;
 use tc_units::{Huge, RowView};
 
 /// The page heap, which is the part with this number.
@@ -36,17 +31,4 @@ pub fn rows_of(alloc: Global, heap: &PageHeap, huge: u32) -> Result<Vec<RowView>
         rows.push(heap.row(Huge(place as u16 + 1)))?;
     }
     Ok(rows)
-}
-
-/// The blocks that stand after calls that are a run on disjoint blocks.
-pub fn standing_after(alloc: Global, calls: &[CallLine]) -> Result<Standing, AllocError>
-    requires run { (huge : ℕ) × (round : ℕ → ℕ) × IsBlockRun huge round calls.now × (huge ≤ most_huge) }
-    requires few { length calls.now < 2 ^ 26 }
-    ensures { IfOk result (AreStanding calls.now) }
-{
-    let mut standing = Standing::new(alloc);
-    for line in calls {
-        standing.tell(line)?;
-    }
-    Ok(standing)
 }

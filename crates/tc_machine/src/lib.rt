@@ -3,6 +3,7 @@
 
 mod allocator;
 mod finish;
+mod listener;
 mod machine;
 mod opened;
 mod opening;
@@ -10,12 +11,15 @@ mod standing;
 mod state;
 mod taking;
 mod telling;
+mod totals;
 
 pub use allocator::{Allocator, Opened};
-pub use finish::{heap_of, rows_of, standing_after};
+pub use finish::{heap_of, rows_of};
+pub use listener::Listener;
 pub use machine::{AllocMachine, act_at, waits_at};
 pub use opening::parts_of;
 pub use standing::Standing;
 pub use state::State;
 pub use taking::refused_line;
-pub use telling::{Teller, told_calls};
+pub use telling::{Teller, Told, tell_all};
+pub use totals::Totals;

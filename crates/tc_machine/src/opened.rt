@@ -2,17 +2,19 @@
 ghost use Rattle.std.specs.Prelude.{◌≡◌};
 
 use crate::allocator::{Allocator, Opened};
-use crate::finish::{heap_of, rows_of, standing_after};
+use crate::finish::{heap_of, rows_of};
+use crate::listener::Listener;
 use crate::machine::AllocMachine;
 use crate::opening::{locals_of, parts_of};
-use crate::telling::told_calls;
+use crate::telling::tell_all;
+use crate::totals::Totals;
 use alloc_rules::{LawfulFront, Part};
 use call_steps::{Local, Setting};
 use size_classes::ClassTable;
 use std::alloc::{AllocError, Global};
 use std::marker::PhantomData;
 use std::snapshot::Snapshot;
-use tc_model::{Call, Finished};
+use tc_model::Call;
 use tc_units::Listed;
 use trace_reader::Trace;
 
@@ -94,24 +96,25 @@ impl<F: LawfulFront> Allocator for AllocMachine<F> {
         self.setting.config.events
     }
 
-    fn finish(
+    fn tell<L: Listener>(
         &self,
         alloc: Global,
         parts: &[Part<F::Part>],
         locals: &[Local<F>],
         order: &[u16],
-    ) -> Result<Finished, AllocError> {
-        let calls = told_calls(alloc, locals, order)?;
-        let standing = standing_after(alloc, &calls)?;
+        listener: L,
+    ) -> Result<(L, Totals), AllocError> {
+        let (listener, told) = tell_all(alloc, locals, order, listener)?;
         let heap = heap_of(parts, self.heap_place());
         let rows = rows_of(alloc, heap, self.setting.config.huge)?;
-        Ok(Finished {
-            calls: Listed::new(calls),
-            live: standing.count,
-            live_bytes: standing.bytes,
+        let totals = Totals {
+            calls: told.calls,
+            live: told.standing.count,
+            live_bytes: told.standing.bytes,
             used: heap.used_pages(),
             resident: heap.backed_pages(),
             rows: Listed::new(rows),
-        })
+        };
+        Ok((listener, totals))
     }
 }

@@ -1,11 +1,8 @@
 //! The blocks that stand after some calls.
-ghost use Rattle.std.specs.Prelude.{ℕ, ◌≤◌, ◌∷◌, [], ◌++◌, List, OnOk};
-ghost use Rattle.tc_model.specs.Blocks.{IsAllowed, blocks_after};
-ghost use Rattle.tc_model.specs.declared.answers.CallLine.{CallLine as Line};
-ghost use Rattle.holdings.specs.Apart.{AreApart};
-ghost use Rattle.tc_machine.specs.Arena.{most_huge};
-ghost use Rattle.tc_machine.specs.Standing.{AreStanding, IsNext};
+ghost use Rattle.std.specs.Prelude.{[]};
+ghost use Rattle.tc_machine.specs.Standing.{AreStanding};
 
+use crate::listener::Listener;
 use std::alloc::{AllocError, Global};
 use std::collections::HashMap;
 use tc_model::{Answer, CallLine};
@@ -29,12 +26,17 @@ impl Standing {
             bytes: 0,
         }
     }
+}
 
-    /// What a call's answer makes of the blocks: an allocation adds its own, and a free takes one away.
-    pub(crate) fn tell(&mut self, line: &CallLine) -> Result<(), AllocError>
-        requires { IsNext self.old line.now }
-        ensures { OnOk result ((huge : ℕ) (round : ℕ → ℕ) (earlier : List Line) → AreStanding earlier self.old → AreApart (blocks_after earlier) → huge ≤ most_huge → IsAllowed huge round earlier line.now.call line.now.answer → AreStanding (earlier ++ line.now ∷ []) self.new) }
-    {
+/// A call's answer adds the block of an allocation, and takes away that of a free.
+impl Listener for Standing {
+    ghost use Rattle.tc_machine.specs.Standing.{AreStanding, MayStand};
+
+    ghost heard = { λ before standing calls. AreStanding calls standing };
+
+    ghost may_hear = { λ before. MayStand };
+
+    fn hear(&mut self, line: &CallLine) -> Result<(), AllocError> {
         match line.answer {
             Answer::Block { addr, len } => {
                 match self.lens.insert(addr.0, len) {

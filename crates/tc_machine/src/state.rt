@@ -13,15 +13,19 @@ ghost use Rattle.alloc_rules.specs.Inputs.{not_taken};
 ghost use Rattle.alloc_rules.specs.Machine.{turns};
 ghost use Rattle.alloc_rules.specs.Told.{TellsScripts};
 ghost use Rattle.tc_machine.specs.Arena.{most_huge};
+ghost use Rattle.tc_machine.specs.Finish.{totals_of};
 ghost use Rattle.tc_machine.specs.Inputs.{IsRead, asked_of, input_of};
-ghost use Rattle.tc_machine.specs.Played.{world};
+ghost use Rattle.tc_machine.specs.Played.{told_at, world};
+ghost use Rattle.tc_machine.specs.Telling.{HearsEach};
 
 use crate::allocator::{Allocator, Opened};
+use crate::listener::{Listener, Noted};
+use crate::totals::Totals;
 use size_classes::ClassTable;
 use std::alloc::{AllocError, Global};
 use std::marker::Model;
-use tc_model::{Finished, Replay, StepFault, Stepped};
-use tc_units::ThreadNo;
+use tc_model::{Finished, Replay, Serial, StepFault, Stepped};
+use tc_units::{Listed, ThreadNo};
 use trace_reader::Trace;
 
 /// The allocator's parts and its threads, after the picks of an order. Contracts see what it is a run of
@@ -75,6 +79,13 @@ impl<M: Allocator> State<M> {
         ensures { result ≡ self.now.input.asked.config.threads }
     {
         self.replay.machine.threads()
+    }
+
+    /// How many calls the trace has.
+    pub fn calls(&self) -> usize
+        ensures { result ≡ length (turns self.now.input.asked) }
+    {
+        self.replay.machine.calls()
     }
 
     /// Picks a thread. Its act and its entry in the order are done both or neither.
@@ -205,8 +216,29 @@ impl<M: Allocator> State<M> {
         State { replay, alloc }
     }
 
-    /// What a run has to tell once all scripts have ended: its calls in the order in which they were
-    /// decided, the blocks that they leave, and the heap's pages.
+    /// Tells a listener the calls of a run whose scripts have all ended, in the order in which they were decided, and gives
+    /// what the run has to tell beside them: how many there are, the blocks that they leave, and the heap's pages.
+    pub fn tell<L: Listener>(&self, listener: L) -> Result<(L, Totals), AllocError>
+        requires ended { HaveEnded (M.rules_of self.now.options self.now.input) (world M.rules_of self.now) }
+        requires first { L.heard listener listener [] }
+        requires may { HearsEach (L.may_hear listener) (told_at M.told self.now).calls }
+        ensures heard { IfOk result (λ r. L.heard listener r.0 (told_at M.told self.now).calls) }
+        ensures totals { IfOk result (λ r. r.1 ≡ totals_of (told_at M.told self.now)) }
+        ensures blocks { IfOk result (λ _. IsBlockRun (M.arena self.now.options self.now.input) (length_of self.now.input.rows) (told_at M.told self.now).calls) }
+        ensures scripts { IfOk result (λ _. TellsScripts self.now.input.asked (told_at M.told self.now).calls) }
+
+        // A live block's bytes are backed, and no more is backed than the arena has.
+        ensures covered { IfOk result (λ r. r.1.live_bytes ≤ r.1.resident * page_bytes) }
+        ensures most { IfOk result (λ r. r.1.resident ≤ huge_pages * M.arena self.now.options self.now.input) }
+        ensures arena { IfOk result (λ r. r.1.resident ≤ huge_pages * most_huge) }
+    {
+        let replay = &self.replay;
+        replay
+            .machine
+            .tell(self.alloc, &replay.parts, &replay.locals, &replay.order, listener)
+    }
+
+    /// All that a run has to tell once all scripts have ended, with the list of its calls.
     pub fn finish(&self) -> Result<Finished, AllocError>
         requires { HaveEnded (M.rules_of self.now.options self.now.input) (world M.rules_of self.now) }
         ensures value { IfOk result (λ f. f ≡ M.told self.now.options self.now.input self.now.order) }
@@ -218,9 +250,14 @@ impl<M: Allocator> State<M> {
         ensures most { IfOk result (λ f. f.resident ≤ huge_pages * M.arena self.now.options self.now.input) }
         ensures arena { IfOk result (λ f. f.resident ≤ huge_pages * most_huge) }
     {
-        let replay = &self.replay;
-        replay
-            .machine
-            .finish(self.alloc, &replay.parts, &replay.locals, &replay.order)
+        let (noted, totals) = self.tell(Noted::new(self.alloc))?;
+        Ok(Finished {
+            calls: Listed::new(noted.calls),
+            live: totals.live,
+            live_bytes: totals.live_bytes,
+            used: totals.used,
+            resident: totals.resident,
+            rows: totals.rows,
+        })
     }
 }

@@ -1,10 +1,16 @@
 //! The calls of a run, in the order in which they were decided.
-ghost use Rattle.std.specs.Prelude.{◌≡◌, ℕ, ◌+◌, ◌-◌, ◌^◌, ◌<◌, ◌≤◌, List, length, map, option_map, All, IfOk, Some, slice_get};
+ghost use Rattle.std.specs.Prelude.{◌≡◌, ℕ, ◌+◌, ◌-◌, ◌^◌, ◌<◌, ◌≤◌, List, [], length, map, option_map, All, IfOk, Some, slice_get};
 ghost use Rattle.std.specs.Option.{option_to_list};
+ghost use Rattle.tc_model.specs.declared.machine.TheConstants.{MOST_PICKS};
+ghost use Rattle.tc_model.specs.Blocks.{IsBlockRun};
 ghost use Rattle.tc_model.specs.Calls.{AreRising, calls_of};
 ghost use Rattle.call_steps.specs.Local.{Decided, told};
-ghost use Rattle.tc_machine.specs.Telling.{decided_at, is_of, IsMark};
+ghost use Rattle.tc_machine.specs.Arena.{most_huge};
+ghost use Rattle.tc_machine.specs.Standing.{AreStanding};
+ghost use Rattle.tc_machine.specs.Telling.{decided_at, is_of, HearsEach, IsMark};
 
+use crate::listener::{Both, Listener};
+use crate::standing::Standing;
 use call_steps::{FrontEnd, Local};
 use std::alloc::{AllocError, Global};
 use tc_model::CallLine;
@@ -76,26 +82,68 @@ fn next_line<T: Teller>(teller: &T, thread: ThreadNo, mark: &mut Mark) -> Option
     }
 }
 
-/// The calls that the picks of an order decided, in their order. A thread's number is its place.
-pub fn told_calls<T: Teller>(
+/// Tells a listener the calls that the picks of an order decided, in their order, and counts them. A thread's number is its
+/// place.
+fn tell_calls<T: Teller, L: Listener>(
     alloc: Global,
     tellers: &[T],
     order: &[u16],
-) -> Result<Vec<CallLine>, AllocError>
+    listener: L,
+) -> Result<(L, u64), AllocError>
     requires numbers { length tellers.now ≤ 2 ^ 8 }
     requires threads { All (λ t. t < length tellers.now) order.now }
-    requires few { length order.now ≤ 40000000 }
+    requires few { length order.now ≤ MOST_PICKS }
     requires rising { (t : ℕ) (l : T) → slice_get tellers.now t ≡ Some l → AreRising (λ (d : Decided). d.act) 0 (T.answers l) }
-    ensures calls { IfOk result (λ lines. lines.items ≡ calls_of T.answers (λ (d : Decided). d.act) told tellers.now order.now) }
-    ensures few { IfOk result (λ lines. length lines.items ≤ length order.now) }
+    requires first { L.heard listener listener [] }
+    requires may { HearsEach (L.may_hear listener) (calls_of T.answers (λ (d : Decided). d.act) told tellers.now order.now) }
+    ensures heard { IfOk result (λ r. L.heard listener r.0 (calls_of T.answers (λ (d : Decided). d.act) told tellers.now order.now)) }
+    ensures count { IfOk result (λ r. r.1 ≡ length (calls_of T.answers (λ (d : Decided). d.act) told tellers.now order.now)) }
 {
     let mut marks = vec![in alloc; Mark { picks: 0, told: 0 }; tellers.len()]?;
-    let mut lines = Vec::new(alloc);
+    let mut listener = listener;
+    let mut count = 0;
     for thread in order {
         let t = *thread as usize;
         if let Some(line) = next_line(&tellers[t], ThreadNo(t as u8), &mut marks[t]) {
-            lines.push(line)?;
+            listener.hear(&line)?;
+            count += 1;
         }
     }
-    Ok(lines)
+    Ok((listener, count))
+}
+
+/// How many calls a run decided, and the blocks that they leave.
+#[derive(Drop)]
+pub struct Told {
+    pub calls: u64,
+    pub standing: Standing,
+}
+
+/// Tells a listener the calls that the picks of an order decided, in their order, and gives what they leave. They are a run on
+/// disjoint blocks.
+pub fn tell_all<T: Teller, L: Listener>(
+    alloc: Global,
+    tellers: &[T],
+    order: &[u16],
+    listener: L,
+) -> Result<(L, Told), AllocError>
+    requires numbers { length tellers.now ≤ 2 ^ 8 }
+    requires threads { All (λ t. t < length tellers.now) order.now }
+    requires few { length order.now ≤ MOST_PICKS }
+    requires rising { (t : ℕ) (l : T) → slice_get tellers.now t ≡ Some l → AreRising (λ (d : Decided). d.act) 0 (T.answers l) }
+    requires blocks { (huge : ℕ) × (round : ℕ → ℕ) × IsBlockRun huge round (calls_of T.answers (λ (d : Decided). d.act) told tellers.now order.now) × (huge ≤ most_huge) }
+    requires first { L.heard listener listener [] }
+    requires may { HearsEach (L.may_hear listener) (calls_of T.answers (λ (d : Decided). d.act) told tellers.now order.now) }
+    ensures heard { IfOk result (λ r. L.heard listener r.0 (calls_of T.answers (λ (d : Decided). d.act) told tellers.now order.now)) }
+    ensures calls { IfOk result (λ r. r.1.calls ≡ length (calls_of T.answers (λ (d : Decided). d.act) told tellers.now order.now)) }
+    ensures standing { IfOk result (λ r. AreStanding (calls_of T.answers (λ (d : Decided). d.act) told tellers.now order.now) r.1.standing) }
+{
+    let both = Both {
+        first: Standing::new(alloc),
+        second: listener,
+    };
+    let (both, calls) = tell_calls(alloc, tellers, order, both)?;
+    let Both { first, second } = both;
+    let standing = first;
+    Ok((second, Told { calls, standing }))
 }

@@ -1,6 +1,7 @@
 -- What a run comes to, from what the machine says of it.
-use Rattle.std.proofs.Common.{◌≡◌, ℕ, ◌+◌, ◌≤◌, Bool, true, false, cond, List, [], ◌∷◌, ◌++◌, length, Result, Err, refl, sym, ap, subst, ◌∙◌, arith, nat_lt}
+use Rattle.std.proofs.Common.{◌≡◌, ℕ, ◌+◌, ◌≤◌, Bool, true, false, cond, List, [], ◌∷◌, ◌++◌, length, Option, Result, Err, refl, sym, ap, subst, ◌∙◌, arith, nat_lt}
 use Rattle.std.specs.Prelude.{IfErr}
+use Rattle.std.specs.List.{flat_map}
 use Rattle.std.proofs.lemmas.Bool.Decides.{nat_tests}
 use Rattle.std.proofs.lemmas.List.{append-nil, append_assoc, length-append}
 use Rattle.std.proofs.lemmas.List.Sums.{fold-append}
@@ -16,7 +17,11 @@ use Rattle.tc_model.proofs.Longer.{polite_moves}
 use Rattle.alloc_rules.specs.Machine.{turns}
 use Rattle.tcreplay.specs.declared.outcome.End.TheVariants.{Done, Full}
 use Rattle.tcreplay.specs.declared.run.Telling.{Telling}
-use Rattle.tcreplay.specs.Verdict.{Verdict, have_ended, judged_by, order_by, told_by}
+use Rattle.tc_units.specs.declared.rows.RowView.{RowView}
+use Rattle.usage_report.specs.Report.{call_line, row_lines, summary_of}
+use Rattle.tc_machine.specs.declared.totals.Totals.{Totals}
+use Rattle.tc_machine.specs.Finish.{totals_of}
+use Rattle.tcreplay.specs.Verdict.{Verdict, have_ended, judged_by, order_by, profile_if, rows_if, text_with, told_by}
 use Rattle.tcreplay.specs.Order.{IsFilled}
 use Rattle.tcreplay.proofs.Ended.{ended_true, not_ended}
 
@@ -32,6 +37,18 @@ followed_each r limit past (t ∷ ts) polite few =
     let step : order_to r limit past t ≡ past ++ t ∷ [] = ap (λ b. cond b (order_with past t (stepped r (run r past) t)) past) room ∙ ap (order_with past t) (polite_moves r (run r past) (t ∷ ts) polite).0 in
     let next : IsPolite r (run r (past ++ t ∷ [])) ts = subst (λ w. IsPolite r w ts) (sym (fold-append (pick r) (start r) past (t ∷ []))) polite.1 in
     ap (λ o. followed r limit o ts) step ∙ (followed_each r limit (past ++ t ∷ []) ts next (let l = length-append past (t ∷ []) in omega (arith, l)) ∙ append_assoc past (t ∷ []) ts)
+
+-- a text in whose turn the lines of calls, the summary, the lines of hugepages and the profile came
+pub text_is : (f : Finished) (rows : Bool) (sample : Option ℕ) (t : Totals) (views : List RowView) (lines summed told whole : List ℕ) → t ≡ totals_of f → lines ≡ flat_map call_line f.calls
+    → summed ≡ lines ++ summary_of t.calls t.live t.live_bytes t.used t.resident → views ≡ rows_if rows t.rows → told ≡ summed ++ row_lines views
+    → whole ≡ told ++ profile_if sample f.calls → whole ≡ text_with rows sample f
+text_is f rows sample t views lines summed told whole same of_calls of_summary of_views of_rows of_profile =
+    let calls : List ℕ = flat_map call_line f.calls in
+    let summary : Totals → List ℕ = λ (x : Totals). summary_of x.calls x.live x.live_bytes x.used x.resident in
+    let now : summed ≡ calls ++ summary (totals_of f) = of_summary ∙ (ap (λ x. x ++ summary t) of_calls ∙ ap (λ x. calls ++ summary x) same) in
+    let behind : row_lines views ≡ row_lines (rows_if rows f.rows) = ap row_lines (of_views ∙ ap (λ (x : Totals). rows_if rows x.rows) same) in
+    let both : told ≡ (calls ++ summary (totals_of f)) ++ row_lines (rows_if rows f.rows) = of_rows ∙ (ap (λ x. x ++ row_lines views) now ∙ ap (λ x. (calls ++ summary (totals_of f)) ++ x) behind) in
+    of_profile ∙ ap (λ x. x ++ profile_if sample f.calls) both
 
 -- over the rules of a machine
 module _ {P L : Type 0} (rules : Input → Rules P L) where

@@ -8,6 +8,7 @@ pub mod Verdict
 pub mod Reads
 pub mod Writes
 pub mod Order
+pub mod Hearing
 pub mod Ran
 pub mod Came
 pub mod Replayed

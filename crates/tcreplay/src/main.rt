@@ -12,6 +12,7 @@ mod front_tests;
 mod generate;
 #[cfg(test)]
 mod generate_tests;
+mod hearing;
 mod input;
 mod machines;
 mod notes;

@@ -1,31 +1,32 @@
 //! Running a job: the order of its picks that moved, and the text of what the run came to.
-ghost use Rattle.std.specs.Prelude.{◌≡◌, ◌<◌, ◌≤◌, ◌*◌, ℕ, List, All, length, IfOk, IfErr, IsOk, OnOk, IsTrue};
-ghost use Rattle.std.specs.List.{list_all};
-ghost use Rattle.tc_units.specs.Units.{page_bytes};
+ghost use Rattle.std.specs.Prelude.{◌≡◌, ◌≤◌, ◌++◌, ℕ, List, All, IfOk, IfErr, IfSome, IsOk, OnOk};
+ghost use Rattle.tc_units.specs.Classes.{length_of};
+ghost use Rattle.tc_model.specs.Blocks.{IsBlockRun};
 ghost use Rattle.tc_model.specs.Replays.{HaveEnded};
 ghost use Rattle.tc_model.specs.declared.steps.StepFault.TheVariants as faults;
 ghost use Rattle.tc_model.specs.Serial.{IsAtLimit, IsCutShort};
 ghost use Rattle.trace_reader.specs.Valid.{IsAsked};
-ghost use Rattle.heap_sample.specs.Samples.{most_calls};
-ghost use Rattle.heap_sample.specs.Profiles.{AreFirstUses};
 ghost use Rattle.alloc_rules.specs.Inputs.{not_taken};
+ghost use Rattle.alloc_rules.specs.Told.{TellsScripts};
 ghost use Rattle.tc_machine.specs.Inputs.{asked_of};
-ghost use Rattle.tc_machine.specs.Played.{world};
-ghost use Rattle.usage_report.specs.Report.{can_answer};
-ghost use Rattle.tcreplay.specs.Verdict.{told_by, order_by};
+ghost use Rattle.tc_machine.specs.Played.{told_at, world};
+ghost use Rattle.usage_report.specs.Report.{IsTellable};
+ghost use Rattle.tcreplay.specs.Verdict.{profile_if, rows_if, summary_in, text_with, told_by, order_by};
 ghost use Rattle.tcreplay.specs.Reads.{seen_job, IsRunnable};
 ghost use Rattle.tcreplay.specs.Ran.{AreTellable, HasStep, IsRunOf};
 ghost use Rattle.tcreplay.specs.declared.run.Telling.{Telling};
 
+use crate::hearing::{Ignored, Lines, Sampled};
 use crate::input::Job;
 use crate::outcome::End;
 use crate::task::Locks;
-use heap_sample::push_profile_of;
+use heap_sample::{Profile, push_profile_of};
 use journal_audit::journal_law;
 use std::alloc::{AllocError, Global};
-use tc_machine::{Allocator, State};
-use tc_model::{Finished, StepFault};
-use usage_report::{report, summary};
+use tc_machine::{Allocator, State, Totals};
+use tc_model::StepFault;
+use tc_units::RowView;
+use usage_report::{Summary, push_rows, push_summary, roomy_text};
 
 /// What is told of a run that has ended.
 #[derive(Clone, Copy, Debug)]
@@ -50,32 +51,107 @@ pub struct Ran {
     pub under: Option<Locks>,
 }
 
-/// What is told of a run that has ended.
-fn told(
+/// The numbers of a run's summary.
+fn summary_of(totals: &Totals) -> Summary
+    ensures { result ≡ record { calls = totals.now.calls; live = totals.now.live; live_bytes = totals.now.live_bytes; used = totals.now.used; resident = totals.now.resident } }
+{
+    Summary {
+        calls: totals.calls,
+        live: totals.live,
+        live_bytes: totals.live_bytes,
+        used: totals.used,
+        resident: totals.resident,
+    }
+}
+
+/// The arena's hugepages, where they are told.
+fn rows_if(told: bool, totals: &Totals) -> &[RowView]
+    ensures { result.now ≡ rows_if told totals.now.rows }
+{
+    if told {
+        totals.rows.as_slice()
+    } else {
+        &[]
+    }
+}
+
+/// Appends the profile of a run's sampled allocations, where a step is named.
+fn push_sampled<M: Allocator>(
     alloc: Global,
-    finished: &Finished,
-    telling: Telling,
-    threads: u8,
+    text: &mut Vec<u8>,
+    state: &State<M>,
+    sample: Option<u64>,
+) -> Result<(), AllocError>
+    requires step { IfSome sample (λ step. 1 ≤ step) }
+    requires ended { HaveEnded (M.rules_of state.now.options state.now.input) (world M.rules_of state.now) }
+    requires valid { (classes : ℕ) × IsAsked classes state.now.input.asked }
+    requires blocks { IsBlockRun (M.arena state.now.options state.now.input) (length_of state.now.input.rows) (told_at M.told state.now).calls }
+    requires scripts { TellsScripts state.now.input.asked (told_at M.told state.now).calls }
+    ensures { OnOk result (text.new.items ≡ text.old.items ++ profile_if sample (told_at M.told state.now).calls) }
+{
+    let Some(step) = sample else {
+        return Ok(());
+    };
+    let profile = Profile::open(alloc, step, state.threads())?;
+    let (sampled, _) = state.tell(Sampled { profile })?;
+    push_profile_of(text, &sampled.profile)
+}
+
+/// The whole text of a run that has ended: the line of each call as it is told, the summary, and on demand a line for each
+/// hugepage and the profile.
+fn whole<M: Allocator>(
+    alloc: Global,
+    state: &State<M>,
+    rows: bool,
+    sample: Option<u64>,
 ) -> Result<Vec<u8>, AllocError>
-    requires few { finished.now.resident ≤ 8388608 }
-    requires within { finished.now.live_bytes ≤ finished.now.resident * page_bytes }
-    requires answered { IsTrue (list_all (λ c. can_answer c.call c.answer) finished.now.calls) }
+    requires step { IfSome sample (λ step. 1 ≤ step) }
+    requires ended { HaveEnded (M.rules_of state.now.options state.now.input) (world M.rules_of state.now) }
+    requires valid { (classes : ℕ) × IsAsked classes state.now.input.asked }
+    ensures text { IfOk result (λ text. text.items ≡ text_with rows sample (told_at M.told state.now)) }
+    ensures tellable { IfOk result (λ _. All IsTellable (told_at M.told state.now).calls) }
+    ensures blocks { IfOk result (λ _. IsBlockRun (M.arena state.now.options state.now.input) (length_of state.now.input.rows) (told_at M.told state.now).calls) }
+    ensures scripts { IfOk result (λ _. TellsScripts state.now.input.asked (told_at M.told state.now).calls) }
+{
+    let text = roomy_text(alloc, state.calls(), 0)?;
+    let (lines, totals) = state.tell(Lines { text })?;
+    let mut text = lines.text;
+    push_summary(&mut text, &summary_of(&totals))?;
+    push_rows(&mut text, rows_if(rows, &totals))?;
+    push_sampled(alloc, &mut text, state, sample)?;
+    Ok(text)
+}
+
+/// The summary alone of a run that has ended.
+fn brief<M: Allocator>(alloc: Global, state: &State<M>) -> Result<Vec<u8>, AllocError>
+    requires ended { HaveEnded (M.rules_of state.now.options state.now.input) (world M.rules_of state.now) }
+    ensures text { IfOk result (λ text. text.items ≡ summary_in (told_at M.told state.now)) }
+    ensures blocks { IfOk result (λ _. IsBlockRun (M.arena state.now.options state.now.input) (length_of state.now.input.rows) (told_at M.told state.now).calls) }
+    ensures scripts { IfOk result (λ _. TellsScripts state.now.input.asked (told_at M.told state.now).calls) }
+{
+    let (_, totals) = state.tell(Ignored)?;
+    let mut text = roomy_text(alloc, 0, 0)?;
+    push_summary(&mut text, &summary_of(&totals))?;
+    Ok(text)
+}
+
+/// What is told of a run that has ended.
+fn told<M: Allocator>(
+    alloc: Global,
+    state: &State<M>,
+    telling: Telling,
+) -> Result<Vec<u8>, AllocError>
     requires step { HasStep telling }
-    requires calls { length finished.now.calls ≤ most_calls }
-    requires threads { All (λ c. c.thread.0 < threads) finished.now.calls }
-    requires labels { AreFirstUses finished.now.calls }
-    ensures text { IfOk result (λ text. text.items ≡ told_by telling finished.now) }
-    ensures tellable { IfOk result (λ _. AreTellable telling finished.now.calls) }
+    requires ended { HaveEnded (M.rules_of state.now.options state.now.input) (world M.rules_of state.now) }
+    requires valid { (classes : ℕ) × IsAsked classes state.now.input.asked }
+    ensures text { IfOk result (λ text. text.items ≡ told_by telling (told_at M.told state.now)) }
+    ensures tellable { IfOk result (λ _. AreTellable telling (told_at M.told state.now).calls) }
+    ensures blocks { IfOk result (λ _. IsBlockRun (M.arena state.now.options state.now.input) (length_of state.now.input.rows) (told_at M.told state.now).calls) }
+    ensures scripts { IfOk result (λ _. TellsScripts state.now.input.asked (told_at M.told state.now).calls) }
 {
     match telling {
-        Telling::Whole { rows, sample } => {
-            let mut text = report(alloc, finished, rows)?;
-            if let Some(step) = sample {
-                push_profile_of(alloc, &mut text, finished.calls.as_slice(), step, threads)?;
-            }
-            Ok(text)
-        }
-        Telling::Summary => summary(alloc, finished),
+        Telling::Whole { rows, sample } => whole(alloc, state, rows, sample),
+        Telling::Summary => brief(alloc, state),
     }
 }
 
@@ -86,10 +162,8 @@ fn tell<M: Allocator>(alloc: Global, state: State<M>, telling: Telling) -> Resul
     requires step { HasStep telling }
     ensures { IfOk result (IsRunOf (M.rules_of state.options) (M.arena state.options) (M.told state.options) (M.lawful state.options) telling state.input state.order) }
 {
-    let finished = state.finish()?;
-    let threads = state.threads();
+    let text = told(alloc, &state, telling)?;
     let order = state.into_order();
-    let text = told(alloc, &finished, telling, threads)?;
     journal_law();
     Ok(Ran {
         end: End::Done,

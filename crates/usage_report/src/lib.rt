@@ -10,5 +10,8 @@ mod text;
 mod totals;
 mod words;
 
-pub use text::{report, summary};
+pub use lines::push_call_line;
+pub use rows::push_rows;
+pub use text::{report, roomy_text, summary};
+pub use totals::{Summary, push_summary};
 pub use words::{push_counted, push_lettered, push_number};

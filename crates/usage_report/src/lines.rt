@@ -63,7 +63,7 @@ fn push_answer(text: &mut Vec<u8>, answer: Answer) -> Result<(), AllocError>
 }
 
 /// Appends a call's line.
-fn push_call_line(text: &mut Vec<u8>, line: &CallLine) -> Result<(), AllocError>
+pub fn push_call_line(text: &mut Vec<u8>, line: &CallLine) -> Result<(), AllocError>
     ensures line { OnOk result (text.new.items ≡ text.old.items ++ call_line line.now) }
     ensures tellable { OnOk result (IsTellable line.now) }
 {

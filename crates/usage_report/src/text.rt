@@ -6,7 +6,7 @@ ghost use Rattle.usage_report.specs.Report.{can_answer, summary_of, text_of, IsT
 
 use crate::lines::push_call_lines;
 use crate::rows::push_rows;
-use crate::totals::push_summary;
+use crate::totals::{push_summary, summary_in};
 use std::alloc::{AllocError, Global};
 use tc_model::Finished;
 
@@ -19,8 +19,9 @@ const ROW_BYTES: usize = 80;
 /// At least the bytes of the summary.
 const SUMMARY_BYTES: usize = 160;
 
-/// An empty text with room for so many lines, which is made at once so that the text never moves.
-fn roomy(alloc: Global, calls: usize, rows: usize) -> Result<Vec<u8>, AllocError>
+/// An empty text with room for the lines of so many calls and hugepages and for a summary, which is made at once so that the
+/// text never moves.
+pub fn roomy_text(alloc: Global, calls: usize, rows: usize) -> Result<Vec<u8>, AllocError>
     ensures { IfOk result (λ text. text.items ≡ []) }
 {
     let calls = calls.checked_mul(CALL_BYTES).ok_or(AllocError)?;
@@ -43,9 +44,9 @@ pub fn report(alloc: Global, finished: &Finished, rows: bool) -> Result<Vec<u8>,
 {
     let told = if rows { finished.rows.as_slice() } else { &[] };
     let calls = finished.calls.as_slice();
-    let mut text = roomy(alloc, calls.len(), told.len())?;
+    let mut text = roomy_text(alloc, calls.len(), told.len())?;
     push_call_lines(&mut text, calls)?;
-    push_summary(&mut text, finished)?;
+    push_summary(&mut text, &summary_in(finished))?;
     push_rows(&mut text, told)?;
     Ok(text)
 }
@@ -59,7 +60,7 @@ pub fn summary(alloc: Global, finished: &Finished) -> Result<Vec<u8>, AllocError
         ≡ summary_of (length finished.now.calls) finished.now.live finished.now.live_bytes
         finished.now.used finished.now.resident) }
 {
-    let mut text = roomy(alloc, 0, 0)?;
-    push_summary(&mut text, finished)?;
+    let mut text = roomy_text(alloc, 0, 0)?;
+    push_summary(&mut text, &summary_in(finished))?;
     Ok(text)
 }

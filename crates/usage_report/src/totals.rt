@@ -32,19 +32,46 @@ fn push_live(text: &mut Vec<u8>, blocks: u64, bytes: u64) -> Result<(), AllocErr
     Ok(())
 }
 
-/// Appends the five lines of the summary.
-pub fn push_summary(text: &mut Vec<u8>, finished: &Finished) -> Result<(), AllocError>
-    requires few { finished.now.resident ≤ 8388608 }
-    requires within { finished.now.live_bytes ≤ finished.now.resident * page_bytes }
-    ensures { OnOk result (text.new.items ≡ text.old.items
-        ++ summary_of (length finished.now.calls) finished.now.live finished.now.live_bytes
-        finished.now.used finished.now.resident) }
+/// The numbers of a summary.
+#[derive(Clone, Copy, Debug, PartialEq, Eq)]
+pub struct Summary {
+    /// How many calls were decided.
+    pub calls: u64,
+    /// Blocks that were allocated and not freed.
+    pub live: u64,
+    /// The bytes of those blocks.
+    pub live_bytes: u64,
+    /// Pages of live runs.
+    pub used: u64,
+    /// Backed pages.
+    pub resident: u64,
+}
+
+/// The numbers of a finished run.
+pub(crate) fn summary_in(finished: &Finished) -> Summary
+    ensures { result ≡ record { calls = length finished.now.calls; live = finished.now.live; live_bytes = finished.now.live_bytes; used = finished.now.used; resident = finished.now.resident } }
 {
-    let fragmented = fragmentation(finished.resident, finished.live_bytes);
-    push_count_line(text, b"calls", finished.calls.as_slice().len() as u64)?;
-    push_live(text, finished.live, finished.live_bytes)?;
-    push_count_line(text, b"used", finished.used)?;
-    push_count_line(text, b"resident", finished.resident)?;
+    Summary {
+        calls: finished.calls.as_slice().len() as u64,
+        live: finished.live,
+        live_bytes: finished.live_bytes,
+        used: finished.used,
+        resident: finished.resident,
+    }
+}
+
+/// Appends the five lines of the summary.
+pub fn push_summary(text: &mut Vec<u8>, summary: &Summary) -> Result<(), AllocError>
+    requires few { summary.now.resident ≤ 8388608 }
+    requires within { summary.now.live_bytes ≤ summary.now.resident * page_bytes }
+    ensures { OnOk result (text.new.items ≡ text.old.items
+        ++ summary_of summary.now.calls summary.now.live summary.now.live_bytes summary.now.used summary.now.resident) }
+{
+    let fragmented = fragmentation(summary.resident, summary.live_bytes);
+    push_count_line(text, b"calls", summary.calls)?;
+    push_live(text, summary.live, summary.live_bytes)?;
+    push_count_line(text, b"used", summary.used)?;
+    push_count_line(text, b"resident", summary.resident)?;
     push_count_line(text, b"frag", fragmented)?;
     Ok(())
 }

@@ -1,9 +1,8 @@
 use Rattle.std.proofs.Common.{◌≡◌, ◌<◌, ℕ, ◌+◌, List, All, ◌++◌, length, take, drop, get_or, subst, sym, ap, ◌∙◌, arith}
-use Rattle.std.proofs.lemmas.List.{take-append-drop, drop_more, take_more, take_all, length-take, length-set}
+use Rattle.std.proofs.lemmas.List.{take-append-drop, drop_more, take_more, take_all, length-take}
 use Rattle.tc_model.specs.declared.answers.CallLine.{CallLine}
 use Rattle.heap_sample.specs.Samples.{IsFirstUse}
 use Rattle.heap_sample.specs.Profiles.{IsProfileOf, AreFirstUses}
-use Rattle.heap_sample.proofs.Sampling.{fresh}
 use Rattle.heap_sample.proofs.whole.profile_of.Goals as goal
 
 -- the next call's label is new behind the calls before it
@@ -18,25 +17,25 @@ thread_at lines i d threads n below l same = omega (arith, below i d l, same)
 pub loop-line-init : goal.loop-line-init
 loop-line-init c = (c.in_ok-profile.ensures.of_none, c.in_ok-profile.ensures.step, c.in_ok-profile.ensures.threads)
 
-pub add-requires-clause-thread : goal.add-requires-clause-thread
-add-requires-clause-thread c = thread_at c.args.lines.now c.loop-line.line-index _ _ _ c.requires.threads c.loop-line-test.true c.loop-line.invariant.2
+pub add_next-requires-clause-thread : goal.add_next-requires-clause-thread
+add_next-requires-clause-thread c = thread_at c.args.lines.now c.loop-line.line-index _ _ _ c.requires.threads c.loop-line-test.true c.loop-line.invariant.2
 
-pub add-requires-clause-fresh : goal.add-requires-clause-fresh
-add-requires-clause-fresh c = fresh _ _ _ c.loop-line.invariant.0 (first_at c.args.lines.now c.loop-line.line-index _ c.requires.labels c.loop-line-test.true)
-
-pub add-requires-clause-few : goal.add-requires-clause-few
-add-requires-clause-few c =
-    let few = c.requires.few in
-    omega (arith, c.loop-line.invariant.0.count, length-take c.loop-line.line-index c.args.lines.now, c.loop-line-test.true, few)
+pub add_next-requires-clause-behind : goal.add_next-requires-clause-behind
+add_next-requires-clause-behind c =
+    let lines = c.args.lines.now in
+    let i = c.loop-line.line-index in
+    (take i lines, c.loop-line.invariant.0, first_at lines i _ c.requires.labels c.loop-line-test.true, omega (arith, length-take i lines, c.loop-line-test.true, c.requires.few))
 
 pub loop-line-preserved : goal.loop-line-preserved
 loop-line-preserved c =
-    let f = c.in_ok-add.ensures.follows in
-    let first = first_at c.args.lines.now c.loop-line.line-index _ c.requires.labels c.loop-line-test.true in
-    let next = c.in_ok-add.ensures.of_calls (take c.loop-line.line-index c.args.lines.now) c.loop-line.invariant.0 first in (
-      subst (λ (calls : List CallLine). IsProfileOf calls c.add.new.self) (sym (take_more c.args.lines.now c.loop-line.line-index _ c.loop-line-test.true)) next,
-      f.step ∙ c.loop-line.invariant.1,
-      ap length f.asked ∙ length-set c.loop-line.profile.asked _ _ ∙ c.loop-line.invariant.2,
+    let lines = c.args.lines.now in
+    let i = c.loop-line.line-index in
+    let added = c.in_ok-add_next.ensures in
+    let next = added.of_calls (take i lines) c.loop-line.invariant.0 (first_at lines i _ c.requires.labels c.loop-line-test.true) in
+    (
+      subst (λ (calls : List CallLine). IsProfileOf calls c.add_next.new.self) (sym (take_more lines i _ c.loop-line-test.true)) next,
+      added.step ∙ c.loop-line.invariant.1,
+      added.threads ∙ c.loop-line.invariant.2,
     )
 
 pub returns-clause-step : goal.returns-clause-step

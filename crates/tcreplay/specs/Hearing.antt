@@ -1,0 +1,17 @@
+-- What a sampled profile is behind the calls of a run.
+use Rattle.std.specs.Prelude.{◌≡◌, ◌<◌, List, length}
+use Rattle.tc_model.specs.declared.answers.CallLine.{CallLine}
+use Rattle.heap_sample.specs.Samples.{IsFirstUse, most_calls}
+use Rattle.heap_sample.specs.Profiles.{Noted, IsProfileOf}
+
+-- a profile of no call became that of these calls, of as many threads, by the same step
+pub record HasSampled (before after : Noted) (calls : List CallLine) : Type 0 where
+  pub step : after.step ≡ before.step
+  pub threads : length after.asked ≡ length before.asked
+  pub profile : IsProfileOf calls after
+
+-- a call that it may note behind others: it is of one of the threads, and its label is new
+pub record MaySample (before : Noted) (earlier : List CallLine) (line : CallLine) : Type 0 where
+  pub thread : line.thread.0 < length before.asked
+  pub first : IsFirstUse earlier line.call
+  pub few : length earlier < most_calls
