@@ -233,9 +233,13 @@ impl<M: Allocator> State<M> {
         ensures arena { IfOk result (λ r. r.1.resident ≤ huge_pages * most_huge) }
     {
         let replay = &self.replay;
-        replay
-            .machine
-            .tell(self.alloc, &replay.parts, &replay.locals, &replay.order, listener)
+        replay.machine.tell(
+            self.alloc,
+            &replay.parts,
+            &replay.locals,
+            &replay.order,
+            listener,
+        )
     }
 
     /// All that a run has to tell once all scripts have ended, with the list of its calls.

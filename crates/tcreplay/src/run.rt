@@ -68,11 +68,7 @@ fn summary_of(totals: &Totals) -> Summary
 fn rows_if(told: bool, totals: &Totals) -> &[RowView]
     ensures { result.now ≡ rows_if told totals.now.rows }
 {
-    if told {
-        totals.rows.as_slice()
-    } else {
-        &[]
-    }
+    if told { totals.rows.as_slice() } else { &[] }
 }
 
 /// Appends the profile of a run's sampled allocations, where a step is named.

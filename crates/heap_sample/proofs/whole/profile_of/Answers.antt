@@ -31,8 +31,7 @@ loop-line-preserved c =
     let lines = c.args.lines.now in
     let i = c.loop-line.line-index in
     let added = c.in_ok-add_next.ensures in
-    let next = added.of_calls (take i lines) c.loop-line.invariant.0 (first_at lines i _ c.requires.labels c.loop-line-test.true) in
-    (
+    let next = added.of_calls (take i lines) c.loop-line.invariant.0 (first_at lines i _ c.requires.labels c.loop-line-test.true) in (
       subst (λ (calls : List CallLine). IsProfileOf calls c.add_next.new.self) (sym (take_more lines i _ c.loop-line-test.true)) next,
       added.step ∙ c.loop-line.invariant.1,
       added.threads ∙ c.loop-line.invariant.2,

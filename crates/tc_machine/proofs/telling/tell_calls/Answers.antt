@@ -90,16 +90,14 @@ loop-thread-preserved g c =
           let few : length (calls past) < 40000000 = omega (arith, c.loop-thread.invariant.2, c.loop-thread.invariant.3, c.requires.few, c.loop-thread-test.true) in
           let next = w.in_ok-hear.ensures c.args.listener (calls past) c.loop-thread.invariant.1 (c.requires.may (calls past) line split.0 split.1 few) in
           let all : calls past ++ line ∷ [] ≡ calls (take (i + 1) order) = sym now ∙ ap calls more in
-          let count = length-append (calls past) (line ∷ []) in
-          (
+          let count = length-append (calls past) (line ∷ []) in (
             marks,
             subst (λ l. heard l (calls (take (i + 1) order))) (sym w.listener-is) (subst (heard w.hear.new.self) all next),
             omega (arith, w.count-is, c.loop-thread.invariant.2, ap length all, count),
             omega (arith, w.count-is, c.loop-thread.invariant.3),
           )
       | in_default w ↦
-          let all : calls past ≡ calls (take (i + 1) order) = sym (append-nil (calls past)) ∙ (ap (λ o. calls past ++ option_to_list o) (sym w.in_default.is) ∙ (sym added ∙ ap calls more)) in
-          (
+          let all : calls past ≡ calls (take (i + 1) order) = sym (append-nil (calls past)) ∙ (ap (λ o. calls past ++ option_to_list o) (sym w.in_default.is) ∙ (sym added ∙ ap calls more)) in (
             marks,
             subst (λ l. heard l (calls (take (i + 1) order))) (sym w.listener-is) (subst (heard c.loop-thread.listener) all c.loop-thread.invariant.1),
             omega (arith, w.count-is, c.loop-thread.invariant.2, ap length all),

@@ -11,8 +11,7 @@ returns c before earlier heard may =
     let line = c.args.line.now in
     let text = before.text.items in
     let more = flat_map-append call_line earlier (line ∷ []) ∙ ap (λ xs. flat_map call_line earlier ++ xs) (append-nil (call_line line)) in
-    let told = c.in_ok-push_call_line.ensures in
-    (
+    let told = c.in_ok-push_call_line.ensures in (
       told.line ∙ (ap (λ xs. xs ++ call_line line) heard.0 ∙ (append_assoc text (flat_map call_line earlier) (call_line line) ∙ ap (λ xs. text ++ xs) (sym more))),
       All-append IsTellable earlier (line ∷ []) heard.1 (All-cons IsTellable line [] told.tellable (All-nil IsTellable)),
     )
