@@ -1,5 +1,5 @@
 -- An act of a thread at the node of its call, as the machine of all nodes has it.
-use Rattle.std.proofs.Common.{◌≡◌, ℕ, zero, suc, ◌+◌, ◌-◌, ◌<◌, ◌≤◌, Bool, true, false, cond, List, [], ◌∷◌, ◌++◌, length, map, drop, get_or, Option, Some, None, refl, sym, ap, ◌∙◌, subst, arith, All}
+use Rattle.std.proofs.Common.{◌≡◌, ℕ, zero, suc, ◌+◌, ◌-◌, ◌<◌, ◌≤◌, Bool, true, false, cond, List, [], ◌∷◌, ◌++◌, length, map, drop, get_or, Option, Some, None, refl, sym, ap, ◌∙◌, subst, arith}
 use Rattle.std.specs.Prelude.{slice_get, slice_set, option_map}
 use Rattle.std.specs.Option.{option_flatten, option_to_list}
 use Rattle.std.proofs.lemmas.List.{length-map, map-append}
@@ -10,7 +10,7 @@ use Rattle.tc_model.specs.Input.{Input}
 use Rattle.tc_model.specs.declared.machine.Acted.TheVariants as act
 use Rattle.tc_model.specs.declared.machine.Acted.{Acted}
 use Rattle.tc_model.specs.Steps.{acted}
-use Rattle.tc_model.specs.Run.{Rules, tried}
+use Rattle.tc_model.specs.Run.{tried}
 use Rattle.call_steps.specs.Local.{Decided}
 use Rattle.alloc_rules.specs.Machine.{after, waits}
 use Rattle.no_caches.specs.NoCaches.{no_caches, about_none}
@@ -22,7 +22,7 @@ use Rattle.numa_heaps.specs.declared.nodes.NodeNo.{NodeNo}
 use Rattle.node_rules.specs.Beside.{Beside, node_now, local_now, decided_at, with_act}
 use Rattle.numa_heaps.specs.Local.{decided_of, thread_of, IsGone}
 use Rattle.node_rules.specs.Numa.{NodeLocal, NodePart, width_of, rules_at, numa_rules}
-use Rattle.node_rules.specs.NumaLaw.{FitsNow, IsOneAct, waits_now}
+use Rattle.node_rules.specs.NumaLaw.{FitsNow, IsOneAct}
 
 -- what is behind n of at most one more
 pub one_new : (huge k act n : ℕ) (ds : List Decided) (told : Told) → n < length ds → length ds ≤ n + 1

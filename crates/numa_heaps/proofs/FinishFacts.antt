@@ -1,5 +1,5 @@
 -- What a finished run of memory nodes tells, from all that holds after its order.
-use Rattle.std.proofs.Common.{◌≡◌, ℕ, zero, suc, ◌+◌, ◌*◌, ◌<◌, ◌≤◌, List, [], ◌∷◌, length, map, Some, refl, sym, ap, ◌∙◌, subst, arith, All}
+use Rattle.std.proofs.Common.{◌≡◌, ℕ, zero, suc, ◌+◌, ◌*◌, ◌<◌, ◌≤◌, List, length, map, Some, sym, ap, ◌∙◌, subst, arith}
 use Rattle.std.specs.Prelude.{slice_get, sum_by}
 use Rattle.std.specs.List.{range_with_len}
 use Rattle.tc_units.specs.Units.{page_bytes}
@@ -30,8 +30,8 @@ use Rattle.tc_machine.specs.Finish.{totals_of}
 use Rattle.tc_machine.specs.Standing.{AreStanding}
 use Rattle.node_rules.specs.Joined.{told_line, lines_at}
 use Rattle.node_rules.specs.Beside.{Beside}
-use Rattle.node_rules.specs.Numa.{NodeLocal, NodePart, width_of, numa_rules, numa_calls}
-use Rattle.node_rules.specs.NumaLaw.{HoldsAfter, order_at, world_at}
+use Rattle.node_rules.specs.Numa.{NodeLocal, NodePart, numa_rules, numa_calls}
+use Rattle.node_rules.specs.NumaLaw.{HoldsAfter, order_at}
 use Rattle.numa_heaps.specs.Machine.{arena, finished_in, heap_at, heap_place, used_to, runs_to, backed_to, rows_to, HasHeap}
 use Rattle.numa_heaps.proofs.Pages.{heap_is, sum_more}
 

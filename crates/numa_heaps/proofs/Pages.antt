@@ -1,5 +1,5 @@
 -- Sums over nodes, one node more, and a node's heap among the parts.
-use Rattle.std.proofs.Common.{◌≡◌, ℕ, zero, suc, ◌+◌, ◌*◌, ◌<◌, ◌≤◌, List, [], ◌∷◌, ◌++◌, map, fold, Some, refl, sym, ap, ◌∙◌, subst, arith}
+use Rattle.std.proofs.Common.{◌≡◌, ℕ, zero, suc, ◌+◌, ◌*◌, ◌<◌, ◌≤◌, List, [], ◌∷◌, ◌++◌, fold, Some, sym, ap, ◌∙◌, arith}
 use Rattle.std.specs.Prelude.{slice_get, sum_by}
 use Rattle.std.specs.List.{range_with_len}
 use Rattle.std.proofs.lemmas.List.Sums.{sum_by-append, sum_by-cons, fold-append}
@@ -12,7 +12,7 @@ use Rattle.alloc_rules.specs.declared.part.Part.TheVariants as part
 use Rattle.tc_machine.specs.Finish.{heap_by}
 use Rattle.call_steps.specs.declared.setting.Setting.{Setting}
 use Rattle.node_rules.specs.Numa.{NodePart}
-use Rattle.numa_heaps.specs.Machine.{heap_at, heap_place, HasHeap}
+use Rattle.numa_heaps.specs.Machine.{heap_at, heap_place}
 
 -- one number more
 range_more : (a n : ℕ) → range_with_len a (n + 1) ≡ range_with_len a n ++ (a + n) ∷ []

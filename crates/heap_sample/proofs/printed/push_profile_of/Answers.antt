@@ -1,12 +1,12 @@
-use Rattle.std.proofs.Common.{◌≡◌, ℕ, List, ◌++◌, ap, ◌∙◌}
+use Rattle.std.proofs.Common.{◌≡◌, List, ◌++◌, ap, ◌∙◌}
 use Rattle.std.proofs.lemmas.Result.{on_ok_weaker}
 use Rattle.heap_sample.specs.declared.sample.ProfileRow.{ProfileRow}
 use Rattle.heap_sample.specs.declared.sample.Peak.{Peak}
 use Rattle.tc_model.specs.declared.answers.CallLine.{CallLine}
-use Rattle.heap_sample.specs.Samples.{live_samples, peak_of}
+use Rattle.heap_sample.specs.Samples.{live_samples}
 use Rattle.heap_sample.specs.Rows.{rows_of}
 use Rattle.heap_sample.specs.Profiles.{IsProfileOf}
-use Rattle.heap_sample.specs.Lines.{profile_text, profile_of_calls}
+use Rattle.heap_sample.specs.Lines.{profile_text}
 use Rattle.heap_sample.proofs.OnlyPeak.{only_peak}
 use Rattle.heap_sample.proofs.OnlyRows.{only_rows}
 use Rattle.heap_sample.proofs.printed.push_profile_of.Goals as goal

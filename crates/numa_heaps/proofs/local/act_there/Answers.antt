@@ -1,10 +1,8 @@
-use Rattle.std.proofs.Common.{◌≡◌, ℕ, ◌+◌, ◌<◌, ◌≤◌, true, false, cond, List, [], length, map, drop, All, Option, Some, None, refl, sym, ap, ◌∙◌, subst, arith}
+use Rattle.std.proofs.Common.{◌≡◌, true, false, [], map, drop, All, refl, sym, ap, ◌∙◌, subst, arith}
 use Rattle.tc_model.specs.Heads.{default_config}
 use Rattle.tc_model.specs.Input.{Asked}
-use Rattle.tc_model.specs.Steps.{acted}
 use Rattle.alloc_rules.specs.Machine.{after, waits}
 use Rattle.no_caches.specs.NoCaches.{no_caches, about_none}
-use Rattle.node_rules.specs.Numa.{NodeLocal, NodePart}
 use Rattle.node_rules.specs.Beside.{decided_at}
 use Rattle.node_rules.specs.NumaLaw.{IsLow, IsOneAct}
 use Rattle.call_steps.specs.Local.{Decided}

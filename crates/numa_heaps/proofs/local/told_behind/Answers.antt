@@ -1,8 +1,4 @@
-use Rattle.std.proofs.Common.{◌≡◌, ℕ, ◌+◌, ◌<◌, ◌≤◌, List, length, map, sym, ap, ◌∙◌, arith}
-use Rattle.std.proofs.lemmas.List.{length-map}
-use Rattle.tc_model.specs.declared.answers.Answer.{Answer}
-use Rattle.tc_model.specs.declared.answers.Answered.{Answered}
-use Rattle.call_steps.specs.Local.{Decided}
+use Rattle.std.proofs.Common.{sym, arith}
 use Rattle.numa_heaps.proofs.Acting.{one_new, none_new, same_length}
 use Rattle.numa_heaps.proofs.local.told_behind.Goals as goal
 

@@ -1,5 +1,5 @@
-use Rattle.std.proofs.Common.{◌≡◌, ℕ, ◌+◌, ◌<◌, ◌≤◌, true, false, List, [], ◌∷◌, ◌++◌, length, map, Option, Some, None, refl, sym, ap, ◌∙◌, subst, arith}
-use Rattle.std.specs.Prelude.{slice_get, slice_set, option_map}
+use Rattle.std.proofs.Common.{◌≡◌, ℕ, ◌+◌, List, [], ◌∷◌, ◌++◌, Option, None, sym, ap, ◌∙◌, subst}
+use Rattle.std.specs.Prelude.{slice_set}
 use Rattle.std.specs.Option.{option_to_list}
 use Rattle.std.proofs.lemmas.List.{append-nil}
 use Rattle.tc_model.specs.Input.{Input}
@@ -7,10 +7,8 @@ use Rattle.tc_model.specs.Run.{tried}
 use Rattle.tc_model.specs.Steps.{acted}
 use Rattle.tc_model.proofs.Lists.{set_there}
 use Rattle.alloc_rules.specs.Inputs.{setting_of}
-use Rattle.alloc_rules.specs.Machine.{waits}
-use Rattle.numa_heaps.specs.declared.local.Change.{Change}
 use Rattle.numa_heaps.specs.declared.local.Told.{Told}
-use Rattle.node_rules.specs.Beside.{Beside, local_now}
+use Rattle.node_rules.specs.Beside.{Beside}
 use Rattle.numa_heaps.specs.Local.{IsChange, IsGone, thread_of}
 use Rattle.node_rules.specs.Numa.{NodeLocal, NodePart, numa_rules}
 use Rattle.node_rules.specs.NumaLaw.{waits_now}
