@@ -1,4 +1,5 @@
--- How far a thread has come in telling the calls that its picks decided.
+-- How the calls of a run are told: which of them a listener hears, and how far a thread has come in telling those that its
+-- picks decided.
 use Rattle.std.specs.Prelude.{◌≡◌, ℕ, ◌≤◌, ◌<◌, ◌==◌, Bool, false, List, ◌∷◌, ◌++◌, length, drop, filter, Option, None, Some}
 use Rattle.tc_model.specs.declared.answers.CallLine.{CallLine}
 use Rattle.tc_model.specs.declared.machine.TheConstants.{MOST_PICKS}
