@@ -37,6 +37,21 @@ taken test keys keys' start len some moved =
       counts_some test start len some,
     )
 
+-- a range that comes in place of another one
+pub exchanged : (test : FreeRange → Bool) (keys keys' : List FreeRange) (from to : FreeRange) → 0 < from.len → 0 < to.len → IsPermutation (to ∷ keys) (from ∷ keys')
+    → count_by test keys' + counts test from.start from.len ≡ count_by test keys + counts test to.start to.len
+exchanged test keys keys' from to some some' moved =
+    omega (
+      arith,
+      sum_by-IsPermutation (λ (r : FreeRange). cond (test r) 1 0) (to ∷ keys) (from ∷ keys') moved,
+      sum_by-cons
+          (λ (r : FreeRange). cond (test r) 1 0) to keys,
+      sum_by-cons
+          (λ (r : FreeRange). cond (test r) 1 0) from keys',
+      counts_some test from.start from.len some,
+      counts_some test to.start to.len some',
+    )
+
 -- the free range around places that become free
 module _ (row : List Bool) (begin start n end : ℕ) (some : 1 ≤ n) (used : n ≤ used_from row start) (first : IsEnd row start true begin) (last : IsNext row (start + n) true end) where
   fits : start + n ≤ length row
@@ -75,12 +90,12 @@ range_listed row range l is index all =
     (listed row l.ranges (index all) range.start (omega (arith, is.some, is.within)) (begins row range.start (is.free range.start (omega arith) (omega (arith, is.some))) is.before))
 
 -- and it is listed still where another one went
-pub still_listed : (l l1 : Listing) (left right : FreeRange) → left.start < right.start
-    → ((test : FreeRange → Bool) → count_by test l1.ranges + counts test left.start left.len ≡ count_by test l.ranges) → Contains l.ranges right
-    → Contains l1.ranges right
-still_listed l l1 left right order went held =
-    let test : FreeRange → Bool = λ r. (r.start == right.start) && (r.len == right.len) in
-    let some = count_held test l.ranges right held (and_from _ _ (eq-eqb right.start right.start refl) (eq-eqb right.len right.len refl)) in
+pub still_listed : (l l1 : Listing) (gone left : FreeRange) → left.start < gone.start
+    → ((test : FreeRange → Bool) → count_by test l1.ranges + counts test gone.start gone.len ≡ count_by test l.ranges) → Contains l.ranges left
+    → Contains l1.ranges left
+still_listed l l1 gone left order went held =
+    let test : FreeRange → Bool = λ r. (r.start == left.start) && (r.len == left.len) in
+    let some = count_held test l.ranges left held (and_from _ _ (eq-eqb left.start left.start refl) (eq-eqb left.len left.len refl)) in
     grind (arith, nat_tests, counts, found_some, and_parts, eqb-true)
 
 -- places that are free are of the last range
@@ -98,44 +113,33 @@ free_within row range start n some free last =
 pub was_complete : (old ok new : Bool) → new ≡ (old && ok) → new ≡ true → old ≡ true
 was_complete old ok new e all = (and_parts old ok (sym e ∙ all)).0
 
--- the index of a row in three changes: its range went, and what is left of it came
+-- the index of a row where a range went, and what is left of it came
 pub marked_listed : (row row' : List Bool) (range : FreeRange) (start n : ℕ) → IsRange row range → range.start ≤ start → 1 ≤ n → start + n ≤ range.start + range.len
-    → row' ≡ with_places row start n true
-    → (l l1 l2 l3 : Listing) → IsListed row l
-    → l1.complete ≡ l.complete → (l1.complete ≡ true → (test : FreeRange → Bool) → count_by test l1.ranges + counts test range.start range.len ≡ count_by test l.ranges)
-    → (l2.complete ≡ true → l1.complete ≡ true) → (l2.complete ≡ true → (test : FreeRange → Bool) → count_by test l2.ranges ≡ count_by test l1.ranges + counts test range.start (start - range.start))
-    → (l3.complete ≡ true → l2.complete ≡ true)
-    → (l3.complete ≡ true → (test : FreeRange → Bool) → count_by test l3.ranges ≡ count_by test l2.ranges + counts test (start + n) (range.start + range.len - (start + n)))
-    → IsListed row' l3
-marked_listed row row' range start n is order some within e l l1 l2 l3 index s1 c1 s2 c2 s3 c3 all test =
-    let a2 = s3 all in
-    let a1 = s2 a2 in
+    → row' ≡ with_places row start n true → (l l' : Listing) → IsListed row l → (l'.complete ≡ true → l.complete ≡ true)
+    → (l'.complete ≡ true → (test : FreeRange → Bool) → count_by test l'.ranges + counts test range.start range.len
+    ≡ count_by test l.ranges + counts test range.start (start - range.start) + counts test (start + n) (range.start + range.len - (start + n)))
+    → IsListed row' l'
+marked_listed row row' range start n is order some within e l l' index was came all test =
     let size : length row' ≡ length row = ap length e ∙ length-with_places row start n true (omega (arith, within, is.within)) in
     let now : count_by (λ p. test (range_at row' p)) (starts row') ≡ count_in (with_places row start n true) test 0 (length row) =
     all_parts row' test ∙ ap (λ (m : ℕ). count_in row' test 0 m) size ∙ ap (λ (r : List Bool). count_in r test 0 (length row)) e in
-    omega (arith, c3 all test, c2 a2 test, c1 a1 test, index (sym s1 ∙ a1) test, all_parts row test, parted row range start n is order some within test)
+    omega (arith, came all test, index (was all) test, all_parts row test, parted row range start n is order some within test)
 
 -- and the other way: what was there on both sides went, and one came
 pub freed_listed : (row row' : List Bool) (begin start n end : ℕ) → IsRange row' (record { len = end - begin; start = begin }) → begin ≤ start → 1 ≤ n
-    → start + n ≤ end → row ≡ with_places row' start n true
-    → (l l1 l2 l3 : Listing) → IsListed row l
-    → l1.complete ≡ l.complete → (l1.complete ≡ true → (test : FreeRange → Bool) → count_by test l1.ranges + counts test begin (start - begin) ≡ count_by test l.ranges)
-    → l2.complete ≡ l1.complete → (l2.complete ≡ true → (test : FreeRange → Bool) → count_by test l2.ranges + counts test (start + n) (end - (start + n)) ≡ count_by test l1.ranges)
-    → (l3.complete ≡ true → l2.complete ≡ true) → (l3.complete ≡ true → (test : FreeRange → Bool) → count_by test l3.ranges ≡ count_by test l2.ranges + counts test begin (end - begin))
-    → IsListed row' l3
-freed_listed row row' begin start n end range order some within e l l1 l2 l3 is s1 c1 s2 c2 s3 c3 all test =
-    let a2 = s3 all in
-    let a1 = sym s2 ∙ a2 in
+    → start + n ≤ end → row ≡ with_places row' start n true → (l l' : Listing) → IsListed row l → (l'.complete ≡ true → l.complete ≡ true)
+    → (l'.complete ≡ true → (test : FreeRange → Bool) → count_by test l'.ranges + counts test begin (start - begin) + counts test (start + n) (end - (start + n))
+    ≡ count_by test l.ranges + counts test begin (end - begin))
+    → IsListed row' l'
+freed_listed row row' begin start n end range order some within e l l' is was came all test =
     let at : begin + (end - begin) ≡ end = omega arith in
     let size : length row ≡ length row' = ap length e ∙ length-with_places row' start n true (omega (arith, range.within)) in
-    let was : count_by (λ p. test (range_at row p)) (starts row) ≡ count_in (with_places row' start n true) test 0 (length row') =
+    let before : count_by (λ p. test (range_at row p)) (starts row) ≡ count_in (with_places row' start n true) test 0 (length row') =
     all_parts row test ∙ ap (λ (m : ℕ). count_in row test 0 m) size ∙ ap (λ (r : List Bool). count_in r test 0 (length row')) e in
     omega (
       arith,
-      c3 all test,
-      c2 a2 test,
-      c1 a1 test,
-      is (sym s1 ∙ a1) test,
+      came all test,
+      is (was all) test,
       all_parts row' test,
       parted row'
           (record { len = end - begin; start = begin }) start n range order some (omega arith) test,

@@ -1,5 +1,5 @@
 -- The maximal free ranges of a row, as keys of a sorted list.
-use Rattle.std.specs.Prelude.{◌≡◌, ℕ, ◌+◌, ◌-◌, ◌<◌, ◌≤◌, Bool, true, false, List, nat_lt, filter, length}
+use Rattle.std.specs.Prelude.{◌≡◌, ℕ, ◌+◌, ◌-◌, ◌<◌, ◌≤◌, ◌&&◌, Bool, true, false, List, nat_lt, filter, length, if◌then◌else◌}
 use Rattle.std.specs.List.{slice_index_or}
 use Rattle.range_bits.specs.Ranges.{free_from, begins_range, places}
 use Rattle.sorted_list.specs.Order.{first_by}
@@ -25,6 +25,10 @@ pub record Listing : Type 0 where
   pub complete : Bool
   pub spare : ℕ
   pub ranges : List FreeRange
+
+-- how often a range counts among those that pass a test: one that is empty is none
+abbrev pub counted : (FreeRange → Bool) → FreeRange → ℕ
+counted test range = if nat_lt 0 range.len && test range then 1 else 0
 
 -- the ranges of a row, where all are listed
 abbrev pub IsListed : List Bool → Listing → Type 0

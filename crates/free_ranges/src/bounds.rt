@@ -36,18 +36,14 @@ fn used_at(bits: &WideBits, place: u32) -> bool
     place >= bits.places() || bits.is_used(place)
 }
 
-/// Whether a maximal free range begins at a place.
-fn begins_at(bits: &WideBits, place: u32) -> bool
-    ensures { result ≡ begins_range bits.now place }
+/// Whether a maximal free range begins at a place, and whether one stops before it.
+fn bounds_at(bits: &WideBits, place: u32) -> (bool, bool)
+    ensures begins { result.0 ≡ begins_range bits.now place }
+    ensures stops { result.1 ≡ stops_range bits.now place }
 {
-    !used_at(bits, place) && (place == 0 || used_at(bits, place - 1))
-}
-
-/// Whether one stops before a place.
-fn stops_at(bits: &WideBits, place: u32) -> bool
-    ensures { result ≡ stops_range bits.now place }
-{
-    place > 0 && !used_at(bits, place - 1) && used_at(bits, place)
+    let used = used_at(bits, place);
+    let used_before = place == 0 || used_at(bits, place - 1);
+    (!used && used_before, used && !used_before)
 }
 
 /// Puts a place into a set, or takes it out.
@@ -81,8 +77,9 @@ impl RangeBounds {
         ensures begins { self.new.begins ≡ slice_set self.old.begins place (begins_range bits.now place) }
         ensures stops { self.new.stops ≡ slice_set self.old.stops place (stops_range bits.now place) }
     {
-        put(&mut self.begins, place, begins_at(bits, place));
-        put(&mut self.stops, place, stops_at(bits, place));
+        let (begins, stops) = bounds_at(bits, place);
+        put(&mut self.begins, place, begins);
+        put(&mut self.stops, place, stops);
     }
 
     /// Tells of a row of which `n` places, from `start` on, were all used or all free, and are so now.

@@ -25,7 +25,7 @@ impl Model for RangeList {
 
 impl RangeList {
     ghost use Rattle.sorted_list.specs.Order.{IsFirstFrom, IsLast};
-    ghost use Rattle.free_ranges.specs.Ranges.{comes_before};
+    ghost use Rattle.free_ranges.specs.Ranges.{comes_before, counted};
     ghost use Rattle.free_ranges.specs.declared.range.FreeRange.{FreeRange};
 
     /// No range, with room for `room` of them.
@@ -76,6 +76,57 @@ impl RangeList {
             return;
         }
         self.by_length.remove(FreeRange { len, start });
+    }
+
+    /// Puts a range in place of another one. One that is empty counts as none.
+    fn replace(&mut self, from: FreeRange, to: FreeRange)
+        requires { self.old.complete ≡ true → 0 < from.len → Contains self.old.ranges from }
+        ensures complete { self.new.complete ≡ (self.old.complete && (to.len == 0 || nat_lt 0 from.len || nat_lt 0 self.old.spare)) }
+        ensures spare { self.new.spare + (if nat_lt 0 to.len && self.new.complete then 1 else 0)
+            ≡ self.old.spare + (if nat_lt 0 from.len && self.old.complete then 1 else 0) }
+        ensures ranges { self.new.complete ≡ true → (test : FreeRange → Bool) → count_by test self.new.ranges + counted test from
+            ≡ count_by test self.old.ranges + counted test to }
+    {
+        if from.len == 0 || to.len == 0 || !self.complete {
+            self.remove(from.start, from.len);
+            self.add(to.start, to.len);
+            return;
+        }
+        self.by_length.rekey(from, to);
+    }
+
+    /// Puts what is left of a range on both sides in its place.
+    pub fn split(&mut self, range: FreeRange, left: FreeRange, right: FreeRange)
+        requires some { 0 < range.len }
+        requires held { self.old.complete ≡ true → Contains self.old.ranges range }
+        ensures complete { self.new.complete ≡ (self.old.complete && (left.len == 0 || right.len == 0 || nat_lt 0 self.old.spare)) }
+        ensures ranges { self.new.complete ≡ true → (test : FreeRange → Bool) → count_by test self.new.ranges + counted test range
+            ≡ count_by test self.old.ranges + counted test left + counted test right }
+    {
+        if left.len == 0 {
+            self.replace(range, right);
+        } else {
+            self.replace(range, left);
+            self.add(right.start, right.len);
+        }
+    }
+
+    /// Puts a whole range in place of those that it has on both sides.
+    pub fn join(&mut self, left: FreeRange, right: FreeRange, whole: FreeRange)
+        requires some { 0 < whole.len }
+        requires order { left.start < right.start }
+        requires left { self.old.complete ≡ true → 0 < left.len → Contains self.old.ranges left }
+        requires right { self.old.complete ≡ true → 0 < right.len → Contains self.old.ranges right }
+        ensures complete { self.new.complete ≡ (self.old.complete && (nat_lt 0 left.len || nat_lt 0 right.len || nat_lt 0 self.old.spare)) }
+        ensures ranges { self.new.complete ≡ true → (test : FreeRange → Bool) → count_by test self.new.ranges + counted test left + counted test right
+            ≡ count_by test self.old.ranges + counted test whole }
+    {
+        if left.len == 0 {
+            self.replace(right, whole);
+        } else {
+            self.remove(right.start, right.len);
+            self.replace(left, whole);
+        }
     }
 
     /// The first range that isn't shorter than `n`: of the shortest ones the earliest.

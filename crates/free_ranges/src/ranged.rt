@@ -144,10 +144,15 @@ impl RangedBits {
         let _ = self.bits.places();
         self.bits.put(start, n, true);
         self.bounds.note(&self.bits, start, n);
-        self.ranges.remove(range.start, range.len);
-        self.ranges.add(range.start, start - range.start);
-        self.ranges
-            .add(start + n, range.start + range.len - (start + n));
+        let left = FreeRange {
+            len: start - range.start,
+            start: range.start,
+        };
+        let right = FreeRange {
+            len: range.start + range.len - (start + n),
+            start: start + n,
+        };
+        self.ranges.split(range, left, right);
     }
 
     /// Makes `n` free places used, from `start` on.
@@ -174,9 +179,19 @@ impl RangedBits {
         let end = self.next_used(start + n);
         self.bits.put(start, n, false);
         self.bounds.note(&self.bits, start, n);
-        self.ranges.remove(begin, start - begin);
-        self.ranges.remove(start + n, end - (start + n));
-        self.ranges.add(begin, end - begin);
+        let left = FreeRange {
+            len: start - begin,
+            start: begin,
+        };
+        let right = FreeRange {
+            len: end - (start + n),
+            start: start + n,
+        };
+        let whole = FreeRange {
+            len: end - begin,
+            start: begin,
+        };
+        self.ranges.join(left, right, whole);
     }
 
     /// Makes `n` places used, from `start` on, whatever they were: one free range after another, the last

@@ -5,8 +5,8 @@ use Rattle.free_ranges.proofs.Common.{with_places, IsListed}
 use Rattle.free_ranges.proofs.Listed.{range_listed, was_complete, marked_listed}
 use Rattle.free_ranges.proofs.ranged.RangedBits.part.Goals as goal
 
-pub remove-requires : goal.remove-requires
-remove-requires c all some =
+pub split-requires-clause-held : goal.split-requires-clause-held
+split-requires-clause-held c all =
     let is : IsListed c.args.self.now c.self.inside.ranges = rw c.self.view_is at c.self.invariant.0 in
     range_listed c.args.self.now c.args.range c.self.inside.ranges c.requires.maximal is all
 
@@ -15,8 +15,7 @@ invariant_of-self c =
     let is : IsListed c.args.self.now c.self.inside.ranges = rw c.self.view_is at c.self.invariant.0 in
     let put : c.put.new.self ≡ with_places c.args.self.now c.args.start c.args.n true = rw c.self.view_is at c.put.ensures in (
       marked_listed c.args.self.now c.put.new.self c.args.range c.args.start c.args.n c.requires.maximal c.requires.order c.requires.some c.requires.within put
-          c.self.inside.ranges c.remove.new.self c.add.new.self c.add-2.new.self is c.remove.ensures.complete c.remove.ensures.ranges
-          (was_complete _ _ _ c.add.ensures.complete) c.add.ensures.ranges (was_complete _ _ _ c.add-2.ensures.complete) c.add-2.ensures.ranges,
+          c.self.inside.ranges c.split.new.self is (was_complete _ _ _ c.split.ensures.complete) c.split.ensures.ranges,
       c.note.ensures c.args.self.now (subst (λ (row : List Bool). Tells row c.self.inside.bounds) c.self.view_is c.self.invariant.1)
           (is_put c.args.self.now c.put.new.self c.args.start c.args.n false true (omega (arith, c.requires.within, c.requires.maximal.within))
           (λ k low high. c.requires.maximal.free k (omega (arith, c.requires.order)) (omega (arith, c.requires.within))) put),

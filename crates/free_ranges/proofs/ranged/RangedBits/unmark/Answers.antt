@@ -2,7 +2,7 @@ use Rattle.std.proofs.Common.{◌≡◌, ◌-◌, true, false, List, Bool, lengt
 use Rattle.free_ranges.specs.Bounds.{Tells}
 use Rattle.free_ranges.proofs.Bounded.{is_put, used_places}
 use Rattle.free_ranges.proofs.Common.{with_places, used_inside, IsListed, IsRange}
-use Rattle.free_ranges.proofs.Listed.{room_freed, freed_back, left_range, right_range, range_listed, still_listed, was_complete, freed_listed}
+use Rattle.free_ranges.proofs.Listed.{room_freed, freed_back, left_range, right_range, range_listed, was_complete, freed_listed}
 use Rattle.free_ranges.proofs.ranged.RangedBits.unmark.Goals as goal
 
 pub overflow_add-start : goal.overflow_add-start
@@ -11,19 +11,17 @@ overflow_add-start c = omega (arith, used_inside c.args.self.now c.args.start c.
 pub next_used-end-requires : goal.next_used-end-requires
 next_used-end-requires c = omega (arith, used_inside c.args.self.now c.args.start c.args.n c.requires.some c.requires.used)
 
-pub remove-requires : goal.remove-requires
-remove-requires c all some =
+pub join-requires-clause-left : goal.join-requires-clause-left
+join-requires-clause-left c all some =
     let is : IsListed c.args.self.now c.self.inside.ranges = rw c.self.view_is at c.self.invariant.0 in
     range_listed c.args.self.now _ c.self.inside.ranges (left_range c.args.self.now c.used_end-begin.result c.args.start c.args.n c.next_used-end.result
     c.requires.some c.requires.used c.used_end-begin.ensures c.next_used-end.ensures some) is all
 
-pub remove-requires-2 : goal.remove-requires-2
-remove-requires-2 c all some =
+pub join-requires-clause-right : goal.join-requires-clause-right
+join-requires-clause-right c all some =
     let is : IsListed c.args.self.now c.self.inside.ranges = rw c.self.view_is at c.self.invariant.0 in
-    let begin = c.used_end-begin.result in
-    let range = right_range c.args.self.now begin c.args.start c.args.n c.next_used-end.result c.requires.some c.requires.used c.used_end-begin.ensures c.next_used-end.ensures some in
-    still_listed c.self.inside.ranges c.remove.new.self (record { len = c.args.start - begin; start = begin }) _ (omega (arith, c.used_end-begin.ensures.within))
-    (c.remove.ensures.ranges all) (range_listed c.args.self.now _ c.self.inside.ranges range is (sym c.remove.ensures.complete ∙ all))
+    range_listed c.args.self.now _ c.self.inside.ranges (right_range c.args.self.now c.used_end-begin.result c.args.start c.args.n c.next_used-end.result
+    c.requires.some c.requires.used c.used_end-begin.ensures c.next_used-end.ensures some) is all
 
 pub invariant_of-self : goal.invariant_of-self
 invariant_of-self c =
@@ -37,8 +35,7 @@ invariant_of-self c =
     let back = freed_back row begin c.args.start c.args.n end c.requires.some c.requires.used c.used_end-begin.ensures c.next_used-end.ensures
     ∙ ap (λ (r : List Bool). with_places r c.args.start c.args.n true) (sym put) in (
       freed_listed row c.put.new.self begin c.args.start c.args.n end range c.used_end-begin.ensures.within c.requires.some c.next_used-end.ensures.behind back
-          c.self.inside.ranges c.remove.new.self c.remove-2.new.self c.add.new.self is c.remove.ensures.complete c.remove.ensures.ranges c.remove-2.ensures.complete
-          c.remove-2.ensures.ranges (was_complete _ _ _ c.add.ensures.complete) c.add.ensures.ranges,
+          c.self.inside.ranges c.join.new.self is (was_complete _ _ _ c.join.ensures.complete) c.join.ensures.ranges,
       c.note.ensures row (subst (λ (r : List Bool). Tells r c.self.inside.bounds) c.self.view_is c.self.invariant.1)
           (is_put row c.put.new.self c.args.start c.args.n true false (used_inside row c.args.start c.args.n c.requires.some c.requires.used)
           (used_places row c.args.start c.args.n c.requires.used) put),
