@@ -43,15 +43,15 @@ ComesWith about refuses Serves row r (next.Freed f) = about row ≡ Frees f
 ComesWith about refuses Serves row r (next.Decide answer to) = MayDecide (about row) answer × (is_refusal answer ≡ true → refuses row answer ≡ true) × MayGoOnDecided about to
 ComesWith about refuses Serves row r next.End = about row ≡ Other None
 
--- what comes next, where a row stands behind the act
-abbrev pub next_of : {R : Type 0} → Came R → R → Next R
-next_of came.Row row = next.Row row
-next_of (came.Next n) row = n
+-- what comes next, where a row stands behind the act and this was put beside it
+abbrev pub next_of : {R : Type 0} → Came → R → Next R → Next R
+next_of came.Row row put = next.Row row
+next_of came.Next row put = put
 
 -- the row that was done stands unless another one comes
-abbrev pub Stays : {R : Type 0} → Came R → R → R → Type 0
+abbrev pub Stays : {R : Type 0} → Came → R → R → Type 0
 Stays came.Row old new = Unit {0}
-Stays (came.Next n) old new = new ≡ old
+Stays came.Next old new = new ≡ old
 
 -- an object is in hand, of a class of the table
 abbrev pub HasObject : List ClassRow → Regs → Type 0

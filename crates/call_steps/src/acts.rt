@@ -10,6 +10,7 @@ use crate::step::{Came, Step};
 use std::alloc::AllocError;
 
 /// The act at a part of the front-end that the thread does next. Where memory is wanting, all is as before.
+#[inline(always)]
 pub fn act_front<F: FrontEnd>(
     setting: &Setting,
     part: &mut F::Part,
@@ -23,9 +24,13 @@ pub fn act_front<F: FrontEnd>(
 {
     match &mut local.step {
         Step::Front(row) => {
-            match F::act(setting, part, &mut local.seat, &mut local.regs, row)? {
+            let next = &mut local.next;
+            match F::act(setting, part, &mut local.seat, &mut local.regs, row, next)? {
                 Came::Row => local.go_on(),
-                Came::Next(next) => local.enter(setting, next),
+                Came::Next => {
+                    let next = local.next;
+                    local.enter(setting, next);
+                }
             }
             Ok(())
         }

@@ -8,7 +8,7 @@ ghost use Rattle.call_steps.specs.Follows.{next_of, ComesWith, HasObject, Stays}
 ghost use Rattle.call_steps.specs.Fronts.{FrontRules, IsEntry};
 
 use crate::setting::Setting;
-use crate::step::{Asking, Came, Freeing, Serving};
+use crate::step::{Asking, Came, Freeing, Next, Serving};
 use rseq_core::Regs;
 use std::alloc::{AllocError, Global};
 use tc_model::{Call, Planned};
@@ -111,8 +111,8 @@ pub trait FrontEnd {
         ensures about { IsEntry about (Other None) result };
 
     /// The part that a row is at, by its number among the front-end's.
-    fn place(setting: &Setting, seat: &Self::Seat, regs: &Regs, row: Self::Row) -> u16
-        ensures place { result ≡ (rules setting.now).place seat.now regs.now row }
+    fn place(setting: &Setting, seat: &Self::Seat, regs: &Regs, row: &Self::Row) -> u16
+        ensures place { result ≡ (rules setting.now).place seat.now regs.now row.now }
         ensures low { result < 32768 };
 
     /// The act of a row, and what comes behind it, as it may. Want of memory changes nothing.
@@ -122,14 +122,15 @@ pub trait FrontEnd {
         seat: &mut Self::Seat,
         regs: &mut Regs,
         row: &mut Self::Row,
-    ) -> Result<Came<Self::Row>, AllocError>
+        next: &mut Next<Self::Row>,
+    ) -> Result<Came, AllocError>
         requires { fits setting.now part.old seat.old regs.old row.old }
         ensures part { OnOk result (part.new ≡ ((rules setting.now).acts part.old seat.old regs.old row.old).part) }
         ensures seat { OnOk result (seat.new ≡ ((rules setting.now).acts part.old seat.old regs.old row.old).seat) }
         ensures regs { OnOk result (regs.new ≡ ((rules setting.now).acts part.old seat.old regs.old row.old).regs) }
-        ensures next { IfOk result (λ c. next_of c row.new ≡ ((rules setting.now).acts part.old seat.old regs.old row.old).next) }
+        ensures next { IfOk result (λ c. next_of c row.new next.new ≡ ((rules setting.now).acts part.old seat.old regs.old row.old).next) }
         ensures stays { IfOk result (λ c. Stays c row.old row.new) }
-        ensures may { IfOk result (λ c. ComesWith about (rules setting.now).refuses (HasObject (rules setting.now).calls.rows) row.old regs.new (next_of c row.new)) }
+        ensures may { IfOk result (λ c. ComesWith about (rules setting.now).refuses (HasObject (rules setting.now).calls.rows) row.old regs.new (next_of c row.new next.new)) }
         ensures err { OnErr result ((part.new ≡ part.old) × (seat.new ≡ seat.old) × (regs.new ≡ regs.old) × (row.new ≡ row.old)) };
 
     /// Whether it is polite to do the act of a row now.

@@ -19,6 +19,7 @@ use tc_units::Class;
 impl<F: FrontEnd> Local<F> {
     /// An allocation is decided by the objects that came to its hand: the first is its answer, and with the
     /// others it is to stock the front-end, or gives these to the shard.
+    #[inline(always)]
     pub(crate) fn serve(&mut self, setting: &Setting, asking: Asking)
         requires acts { self.old.acts < 2 ^ 64 - 1 }
         requires class { self.old.regs.class.0 < length (F.rules setting.now).calls.rows }

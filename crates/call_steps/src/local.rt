@@ -8,7 +8,7 @@ ghost use Rattle.call_steps.specs.Kept.{target_of, IsLowWant, over};
 
 use crate::front::FrontEnd;
 use crate::setting::Setting;
-use crate::step::{Asking, HeapStep, MapStep, NamesStep, Onward, ShardStep, Step, Target};
+use crate::step::{Asking, HeapStep, MapStep, NamesStep, Next, Onward, ShardStep, Step, Target};
 use rseq_core::{HAND_ROOM, Regs};
 use std::alloc::{AllocError, Global};
 use std::marker::Model;
@@ -31,6 +31,8 @@ pub struct Local<F: FrontEnd> {
     /// Acts that the thread has done.
     acts: u64,
     answers: Bag<Answered>,
+    /// Room for what comes behind an act of the front-end. Between acts it says nothing.
+    pub(crate) next: Next<F::Row>,
 }
 
 impl<F: FrontEnd> Model for Local<F> {
@@ -73,6 +75,7 @@ impl<F: FrontEnd> Local<F> {
             freed,
             acts: 0,
             answers,
+            next: Next::End,
         })
     }
 
@@ -81,7 +84,7 @@ impl<F: FrontEnd> Local<F> {
         ensures target { result ≡ target_of (F.rules setting.now).place self.now }
         ensures low { IsLowWant result }
     {
-        match self.step {
+        match &self.step {
             Step::Front(row) => Some(Target::Front(F::place(setting, &self.seat, &self.regs, row))),
             Step::Shard(_) => Some(Target::Shard(self.regs.class)),
             Step::Heap(_) => Some(Target::Heap),
@@ -163,6 +166,7 @@ impl<F: FrontEnd> Local<F> {
     }
 
     /// The act is done, and the call ends, which was decided before. A row of the front-end may come first.
+    #[inline(always)]
     pub(crate) fn end(&mut self, setting: &Setting)
         requires acts { self.old.acts < 2 ^ 64 - 1 }
         requires decided { under F.about self.old.step ≡ 1 }
@@ -176,6 +180,7 @@ impl<F: FrontEnd> Local<F> {
     }
 
     /// The act is done: it decides the call under way and ends it.
+    #[inline(always)]
     pub(crate) fn end_deciding(&mut self, setting: &Setting, answer: Answer)
         requires acts { self.old.acts < 2 ^ 64 - 1 }
         requires undecided { is_some (undecided F.about self.old.step) ≡ true }
@@ -220,6 +225,7 @@ fn planned_at(script: &[Planned], place: usize) -> Option<Planned>
 }
 
 /// The first act of the call that is planned next, for which the registers are set.
+#[inline(always)]
 fn first_act<F: FrontEnd>(
     setting: &Setting,
     seat: &F::Seat,

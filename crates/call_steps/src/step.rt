@@ -93,13 +93,14 @@ pub enum Next<R> {
     End,
 }
 
-/// What an act of the front-end came to. A row changes in place, since most acts go on with the same row or the next one.
+/// What an act of the front-end came to. A row changes in place, since most acts go on with the same row or the next one;
+/// what else may come is put where the act is lent room for it.
 #[derive(Clone, Copy, Debug, PartialEq, Eq)]
-pub enum Came<R> {
+pub enum Came {
     /// Another row of its own, which stands where the one stood that was done.
     Row,
-    /// This; the row that was done still stands.
-    Next(Next<R>),
+    /// What was put there; the row that was done still stands.
+    Next,
 }
 
 /// A row of the call programs at the page heap.

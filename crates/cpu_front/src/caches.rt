@@ -2,7 +2,7 @@
 ghost use Rattle.std.specs.Prelude.{◌≡◌, ◌<◌};
 
 use crate::opening::{caches_of, cpus_of};
-use call_steps::{Asking, Came, Freeing, FrontEnd, Local, Serving, Setting};
+use call_steps::{Asking, Came, Freeing, FrontEnd, Local, Next, Serving, Setting};
 use cpu_rows::{
     CpuFrontPart, CpuRow, CpuSeat, CpuStep, act_cpu, act_domain, place, stop_row, yields,
 };
@@ -111,7 +111,7 @@ impl FrontEnd for CpuCaches {
         seat.last()
     }
 
-    fn place(setting: &Setting, seat: &CpuSeat, regs: &Regs, row: CpuRow) -> u16 {
+    fn place(setting: &Setting, seat: &CpuSeat, regs: &Regs, row: &CpuRow) -> u16 {
         place(setting.config.cpus, setting.table.len(), seat, regs, row)
     }
 
@@ -121,17 +121,18 @@ impl FrontEnd for CpuCaches {
         seat: &mut CpuSeat,
         regs: &mut Regs,
         row: &mut CpuRow,
-    ) -> Result<Came<CpuRow>, AllocError> {
+        next: &mut Next<CpuRow>,
+    ) -> Result<Came, AllocError> {
         let table = &setting.table;
         match part {
             CpuFrontPart::Cpu(cpu) => match row {
-                CpuRow::Cpu(row) => Ok(act_cpu(table, cpu, seat, regs, row)),
+                CpuRow::Cpu(row) => Ok(act_cpu(table, cpu, seat, regs, row, next)),
                 CpuRow::Domain(_) => unreachable!(),
             },
             CpuFrontPart::Domain { class: _, cache } => match row {
                 CpuRow::Domain(row) => {
-                    let next = act_domain(table, cache, seat, regs, *row);
-                    Ok(Came::Next(next))
+                    *next = act_domain(table, cache, seat, regs, *row);
+                    Ok(Came::Next)
                 }
                 CpuRow::Cpu(_) => unreachable!(),
             },

@@ -6,7 +6,7 @@ ghost use Rattle.cpu_slab.specs.Caps.{cap_fault};
 ghost use Rattle.rseq_core.specs.Acts as rseq;
 ghost use Rattle.cpu_drain.specs.Drains as drains;
 ghost use Rattle.cpu_rows.specs.declared.row.CpuRow.TheVariants as front;
-ghost use Rattle.cpu_rows.specs.declared.row.CpuStep.TheVariants.{Start};
+ghost use Rattle.cpu_rows.specs.declared.row.CpuStep.TheVariants.{Grow, Take, Start};
 ghost use Rattle.call_steps.specs.declared.step.Next.TheVariants as next;
 ghost use Rattle.call_steps.specs.Follows.{next_of, Stays};
 ghost use Rattle.cpu_rows.specs.declared.row.Stopping.TheVariants as stopping;
@@ -26,25 +26,26 @@ use tc_units::{Class, ThreadNo};
 /// Executed instructions since a switch from which on a thread that runs is polite to be switched out.
 const LONG_RUN: u32 = 256;
 
-/// The act of a row at a CPU, and what comes behind it.
+/// The act of a row at a CPU, and what comes behind it: a row at a CPU in the place of this one, or what is put into `next`.
 pub fn act_cpu(
     table: &ClassTable,
     cpu: &mut CpuPart,
     seat: &mut CpuSeat,
     regs: &mut Regs,
     row: &mut CpuStep,
-) -> Came<CpuRow>
+    next: &mut Next<CpuRow>,
+) -> Came
     requires { FitsCpu table.now cpu.old seat.old regs.old row.old }
     ensures cpu { cpu.new ≡ (cpu_acts table.now cpu.old seat.old regs.old row.old).part }
     ensures seat { seat.new ≡ (cpu_acts table.now cpu.old seat.old regs.old row.old).seat }
     ensures regs { regs.new ≡ (cpu_acts table.now cpu.old seat.old regs.old row.old).regs }
-    ensures next { next_of result (front.Cpu row.new) ≡ (cpu_acts table.now cpu.old seat.old regs.old row.old).next }
+    ensures next { next_of result (front.Cpu row.new) next.new ≡ (cpu_acts table.now cpu.old seat.old regs.old row.old).next }
     ensures stays { Stays result (front.Cpu row.old) (front.Cpu row.new) }
 {
     let thread = regs.thread;
     match *row {
-        CpuStep::Grow(asking) => placed(row, grow(cpu, seat, regs, asking)),
-        CpuStep::Stop(stopping) => placed(row, stop_cpu(cpu, thread, stopping)),
+        CpuStep::Grow(asking) => grow(cpu, seat, regs, asking, next),
+        CpuStep::Stop(stopping) => stop_cpu(cpu, thread, stopping, row, next),
         CpuStep::Fence(stopping) => {
             fence(cpu, thread);
             *row = CpuStep::Take(stopping);
@@ -53,29 +54,22 @@ pub fn act_cpu(
         CpuStep::Take(stopping) => {
             let class = regs.class;
             take_class(cpu, thread, class, &mut regs.hand);
-            placed(row, took(table, seat, regs, stopping))
+            took(table, seat, regs, stopping, row, next)
         }
-        CpuStep::SetCap(resizing) => placed(row, resize(cpu, regs, resizing)),
+        CpuStep::SetCap(resizing) => {
+            *next = resize(cpu, regs, resizing);
+            Came::Next
+        }
         CpuStep::Start(stopping) => {
             start(cpu, thread);
-            placed(row, started(seat, regs, stopping))
+            *next = started(seat, regs, stopping);
+            Came::Next
         }
-        CpuStep::Leave => placed(row, leave_at_end(cpu, seat, regs)),
-        _ => sequence(table, cpu, seat, regs, row),
-    }
-}
-
-/// What comes next: a row at a CPU comes in the place of the one that was done.
-fn placed(row: &mut CpuStep, next: Next<CpuRow>) -> Came<CpuRow>
-    ensures next { next_of result (front.Cpu row.new) ≡ next }
-    ensures stays { Stays result (front.Cpu row.old) (front.Cpu row.new) }
-{
-    match next {
-        Next::Row(CpuRow::Cpu(to)) => {
-            *row = to;
-            Came::Row
+        CpuStep::Leave => {
+            *next = leave_at_end(cpu, seat, regs);
+            Came::Next
         }
-        next => Came::Next(next),
+        _ => sequence(table, cpu, seat, regs, row, next),
     }
 }
 
@@ -98,13 +92,14 @@ fn sequence(
     seat: &mut CpuSeat,
     regs: &mut Regs,
     row: &mut CpuStep,
-) -> Came<CpuRow>
+    next: &mut Next<CpuRow>,
+) -> Came
     requires fits { FitsSequence table.now cpu.old regs.old }
     requires row { IsSequence row.old }
     ensures cpu { cpu.new ≡ (sequence table.now cpu.old seat.old regs.old row.old).part }
     ensures seat { seat.new ≡ (sequence table.now cpu.old seat.old regs.old row.old).seat }
     ensures regs { regs.new ≡ (sequence table.now cpu.old seat.old regs.old row.old).regs }
-    ensures next { next_of result (front.Cpu row.new) ≡ (sequence table.now cpu.old seat.old regs.old row.old).next }
+    ensures next { next_of result (front.Cpu row.new) next.new ≡ (sequence table.now cpu.old seat.old regs.old row.old).next }
     ensures stays { Stays result (front.Cpu row.old) (front.Cpu row.new) }
 {
     if let Some(to) = due(seat, regs.ran) {
@@ -113,7 +108,7 @@ fn sequence(
         return Came::Row;
     }
     match instruct(cpu, regs) {
-        Instructed::Done(reply) => placed(row, go_on(table, seat, regs, *row, reply)),
+        Instructed::Done(reply) => go_on(table, seat, regs, reply, row, next),
         _ => Came::Row,
     }
 }
@@ -123,31 +118,55 @@ fn go_on(
     table: &ClassTable,
     seat: &CpuSeat,
     regs: &mut Regs,
-    row: CpuStep,
     reply: Reply,
-) -> Next<CpuRow>
+    row: &mut CpuStep,
+    next: &mut Next<CpuRow>,
+) -> Came
     requires class { regs.old.class.0 < length table.now }
-    requires row { IsSequence row }
-    ensures regs { regs.new ≡ (replied table.now seat.now regs.old row reply).0 }
-    ensures next { result ≡ (replied table.now seat.now regs.old row reply).1 }
+    requires row { IsSequence row.old }
+    ensures regs { regs.new ≡ (replied table.now seat.now regs.old row.old reply).0 }
+    ensures next { next_of result (front.Cpu row.new) next.new ≡ (replied table.now seat.now regs.old row.old reply).1 }
+    ensures stays { Stays result (front.Cpu row.old) (front.Cpu row.new) }
 {
-    match row {
-        CpuStep::Pop(asking) => popped(seat, asking, reply),
-        CpuStep::Stock(serving) => stocked(seat, regs, serving),
-        CpuStep::Push(freeing) => pushed(table, seat, regs, freeing, reply),
-        CpuStep::PopBatch(freeing) => seat.give_away(Giving::Freed(freeing)),
+    match *row {
+        CpuStep::Pop(asking) => popped(seat, asking, reply, row, next),
+        CpuStep::Stock(serving) => {
+            *next = stocked(seat, regs, serving);
+            Came::Next
+        }
+        CpuStep::Push(freeing) => pushed(table, seat, regs, freeing, reply, row, next),
+        CpuStep::PopBatch(freeing) => {
+            *next = seat.give_away(Giving::Freed(freeing));
+            Came::Next
+        }
         _ => unreachable!(),
     }
 }
 
 /// An allocation has its object, or lets its class grow, or looks elsewhere.
-fn popped(seat: &CpuSeat, asking: Asking, reply: Reply) -> Next<CpuRow>
-    ensures { result ≡ after_pop seat.now asking reply }
+fn popped(
+    seat: &CpuSeat,
+    asking: Asking,
+    reply: Reply,
+    row: &mut CpuStep,
+    next: &mut Next<CpuRow>,
+) -> Came
+    ensures next { next_of result (front.Cpu row.new) next.new ≡ after_pop seat.now asking reply }
+    ensures stays { Stays result (front.Cpu row.old) (front.Cpu row.new) }
 {
     match reply {
-        Reply::Popped => Next::Serve(asking),
-        Reply::Empty => Next::Row(CpuRow::Cpu(CpuStep::Grow(asking))),
-        _ => seat.look_on(asking),
+        Reply::Popped => {
+            *next = Next::Serve(asking);
+            Came::Next
+        }
+        Reply::Empty => {
+            *row = CpuStep::Grow(asking);
+            Came::Row
+        }
+        _ => {
+            *next = seat.look_on(asking);
+            Came::Next
+        }
     }
 }
 
@@ -169,78 +188,135 @@ fn pushed(
     regs: &mut Regs,
     freeing: Freeing,
     reply: Reply,
-) -> Next<CpuRow>
+    row: &mut CpuStep,
+    next: &mut Next<CpuRow>,
+) -> Came
     requires class { regs.old.class.0 < length table.now }
     ensures regs { regs.new ≡ (after_push table.now seat.now regs.old freeing reply).0 }
-    ensures next { result ≡ (after_push table.now seat.now regs.old freeing reply).1 }
+    ensures next { next_of result (front.Cpu row.new) next.new ≡ (after_push table.now seat.now regs.old freeing reply).1 }
+    ensures stays { Stays result (front.Cpu row.old) (front.Cpu row.new) }
 {
     match reply {
-        Reply::Pushed { .. } => Next::Freed(freeing),
+        Reply::Pushed { .. } => {
+            *next = Next::Freed(freeing);
+            Came::Next
+        }
         Reply::Full => {
             let class = regs.class;
             let want = u32::from(table.row(class).batch);
             regs.start(class, Seq::PopBatch { want });
-            Next::Row(CpuRow::Cpu(CpuStep::PopBatch(freeing)))
+            *row = CpuStep::PopBatch(freeing);
+            Came::Row
         }
-        _ => seat.give_away(Giving::Freed(freeing)),
+        _ => {
+            *next = seat.give_away(Giving::Freed(freeing));
+            Came::Next
+        }
     }
 }
 
 /// A thread with a growth to do switches in, goes back, or lets its class grow.
-fn grow(cpu: &mut CpuPart, seat: &CpuSeat, regs: &mut Regs, asking: Asking) -> Next<CpuRow>
+fn grow(
+    cpu: &mut CpuPart,
+    seat: &CpuSeat,
+    regs: &mut Regs,
+    asking: Asking,
+    next: &mut Next<CpuRow>,
+) -> Came
     requires class { regs.old.class.0 < length cpu.old.slab.rows }
     requires epoch { cpu.old.epoch < 2 ^ 64 - 1 }
     ensures cpu { cpu.new ≡ (rseq.grew_here cpu.old regs.old).cpu }
     ensures regs { regs.new ≡ (rseq.grew_here cpu.old regs.old).regs }
-    ensures next { result ≡ grew_to seat.now asking (rseq.grew_here cpu.old regs.old).answer }
+    ensures next { next_of result (front.Cpu (Grow asking)) next.new ≡ grew_to seat.now asking (rseq.grew_here cpu.old regs.old).answer }
 {
     match grow_here(cpu, regs) {
-        Grew::Done => seat.look_on(asking),
-        _ => Next::Row(CpuRow::Cpu(CpuStep::Grow(asking))),
+        Grew::Done => {
+            *next = seat.look_on(asking);
+            Came::Next
+        }
+        _ => Came::Row,
     }
 }
 
 /// A drain or a resize stops a CPU, or ends where another thread has.
-fn stop_cpu(cpu: &mut CpuPart, thread: ThreadNo, stopping: Stopping) -> Next<CpuRow>
+fn stop_cpu(
+    cpu: &mut CpuPart,
+    thread: ThreadNo,
+    stopping: Stopping,
+    row: &mut CpuStep,
+    next: &mut Next<CpuRow>,
+) -> Came
     requires { cpu.old.stopper ≢ Some thread }
     ensures cpu { cpu.new ≡ (stops cpu.old thread stopping cpu.old.stopper).0 }
-    ensures next { result ≡ (stops cpu.old thread stopping cpu.old.stopper).1 }
+    ensures next { next_of result (front.Cpu row.new) next.new ≡ (stops cpu.old thread stopping cpu.old.stopper).1 }
+    ensures stays { Stays result (front.Cpu row.old) (front.Cpu row.new) }
 {
     match stop(cpu, thread) {
-        StopAnswer::Stopped => Next::Row(CpuRow::Cpu(CpuStep::Fence(stopping))),
+        StopAnswer::Stopped => {
+            *row = CpuStep::Fence(stopping);
+            Came::Row
+        }
         StopAnswer::Busy { owner } => {
             let answer = Answer::Busy { owner };
-            Next::Decide { answer, row: None }
+            *next = Next::Decide { answer, row: None };
+            Came::Next
         }
     }
 }
 
 /// A drain gives away what it took of a class, and a resize sets the capacity first.
-fn took(table: &ClassTable, seat: &CpuSeat, regs: &mut Regs, stopping: Stopping) -> Next<CpuRow>
-    requires { taken_by stopping + length regs.old.hand.items < 2 ^ 64 }
+fn took(
+    table: &ClassTable,
+    seat: &CpuSeat,
+    regs: &mut Regs,
+    stopping: Stopping,
+    row: &mut CpuStep,
+    next: &mut Next<CpuRow>,
+) -> Came
+    requires row { row.old ≡ Take stopping }
+    requires taken { taken_by stopping + length regs.old.hand.items < 2 ^ 64 }
     ensures regs { regs.new ≡ (took table.now seat.now regs.old stopping).0 }
-    ensures next { result ≡ (took table.now seat.now regs.old stopping).1 }
+    ensures next { next_of result (front.Cpu row.new) next.new ≡ (took table.now seat.now regs.old stopping).1 }
+    ensures stays { Stays result (front.Cpu row.old) (front.Cpu row.new) }
 {
     match stopping {
-        Stopping::Drain(draining) => drained(table, seat, regs, draining),
-        Stopping::Resize(resizing) => Next::Row(CpuRow::Cpu(CpuStep::SetCap(resizing))),
+        Stopping::Drain(draining) => drained(table, seat, regs, draining, row, next),
+        Stopping::Resize(resizing) => {
+            *row = CpuStep::SetCap(resizing);
+            Came::Row
+        }
     }
 }
 
-/// A drain gives away what it took of a class, and counts it.
-fn drained(table: &ClassTable, seat: &CpuSeat, regs: &mut Regs, draining: Draining) -> Next<CpuRow>
-    requires { draining.taken + length regs.old.hand.items < 2 ^ 64 }
+/// A drain gives away what it took of a class, and counts it. Behind an empty class the same row stands, for the next class.
+fn drained(
+    table: &ClassTable,
+    seat: &CpuSeat,
+    regs: &mut Regs,
+    draining: Draining,
+    row: &mut CpuStep,
+    next: &mut Next<CpuRow>,
+) -> Came
+    requires row { row.old ≡ Take (stopping.Drain draining) }
+    requires taken { draining.taken + length regs.old.hand.items < 2 ^ 64 }
     ensures regs { regs.new ≡ (took table.now seat.now regs.old (stopping.Drain draining)).0 }
-    ensures next { result ≡ (took table.now seat.now regs.old (stopping.Drain draining)).1 }
+    ensures next { next_of result (front.Cpu row.new) next.new ≡ (took table.now seat.now regs.old (stopping.Drain draining)).1 }
+    ensures stays { Stays result (front.Cpu row.old) (front.Cpu row.new) }
 {
     let came = regs.hand.as_slice().len();
+    if came == 0 && u32::from(regs.class.0) + 1 < table.len() {
+        regs.class = Class(regs.class.0 + 1);
+        return Came::Row;
+    }
     let taken = draining.taken + came as u64;
-    let (class, row) = drain_on(table, regs.class, Draining { taken, ..draining });
+    let (class, to) = drain_on(table, regs.class, Draining { taken, ..draining });
     if came == 0 {
         regs.class = class;
-        Next::Row(CpuRow::Cpu(row))
+        *row = to;
+        Came::Row
     } else {
-        seat.give_away(Giving::Row { class, row })
+        *next = seat.give_away(Giving::Row { class, row: to });
+        Came::Next
     }
 }
 

@@ -113,9 +113,9 @@ pub(crate) fn as_row(giving: Giving<CpuStep>) -> Giving<CpuRow>
 
 /// The part that a row is at, where there are so many CPUs and classes: a CPU, or behind all of them the
 /// cache of a class in a domain.
-pub fn place(cpus: u8, classes: u32, seat: &CpuSeat, regs: &Regs, row: CpuRow) -> u16
+pub fn place(cpus: u8, classes: u32, seat: &CpuSeat, regs: &Regs, row: &CpuRow) -> u16
     requires { classes ≤ 120 }
-    ensures place { result ≡ cpu_place cpus classes seat.now regs.now row }
+    ensures place { result ≡ cpu_place cpus classes seat.now regs.now row.now }
     ensures low { result < 32768 }
 {
     match row {
@@ -134,8 +134,8 @@ fn cache_place(cpus: u8, classes: u32, domain: u8, class: Class) -> u16
 }
 
 /// The CPU that an act is at: the thread's own, or the one that its call stops.
-fn at_cpu(own: CpuNo, row: CpuStep) -> CpuNo
-    ensures { result ≡ at_cpu own row }
+fn at_cpu(own: CpuNo, row: &CpuStep) -> CpuNo
+    ensures { result ≡ at_cpu own row.now }
 {
     match row {
         CpuStep::Stop(stopping)
@@ -148,8 +148,8 @@ fn at_cpu(own: CpuNo, row: CpuStep) -> CpuNo
 }
 
 /// The CPU that a call stops.
-fn cpu_of(stopping: Stopping) -> CpuNo
-    ensures { result ≡ cpu_of stopping }
+fn cpu_of(stopping: &Stopping) -> CpuNo
+    ensures { result ≡ cpu_of stopping.now }
 {
     match stopping {
         Stopping::Drain(draining) => draining.cpu,

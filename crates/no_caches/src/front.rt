@@ -110,7 +110,7 @@ impl FrontEnd for NoCaches {
         None
     }
 
-    fn place(_setting: &Setting, _seat: &NoSeat, _regs: &Regs, _row: NoRow) -> u16 {
+    fn place(_setting: &Setting, _seat: &NoSeat, _regs: &Regs, _row: &NoRow) -> u16 {
         0
     }
 
@@ -120,8 +120,10 @@ impl FrontEnd for NoCaches {
         _seat: &mut NoSeat,
         _regs: &mut Regs,
         _row: &mut NoRow,
-    ) -> Result<Came<NoRow>, AllocError> {
-        Ok(Came::Next(Next::End))
+        next: &mut Next<NoRow>,
+    ) -> Result<Came, AllocError> {
+        *next = Next::End;
+        Ok(Came::Next)
     }
 
     fn yields(

@@ -3,7 +3,7 @@ ghost use Rattle.std.specs.Prelude.{◌≡◌, ◌<◌};
 
 use crate::opening::caches_of;
 use alloc_rules::LawfulFront;
-use call_steps::{Asking, Came, Freeing, FrontEnd, Local, Serving, Setting};
+use call_steps::{Asking, Came, Freeing, FrontEnd, Local, Next, Serving, Setting};
 use rseq_core::Regs;
 use std::alloc::{AllocError, Global};
 use tc_machine::{AllocMachine, State};
@@ -107,8 +107,8 @@ impl FrontEnd for ThreadCaches {
         None
     }
 
-    fn place(_setting: &Setting, seat: &CacheSeat, _regs: &Regs, row: CacheRow) -> u16 {
-        seat.place(row)
+    fn place(_setting: &Setting, seat: &CacheSeat, _regs: &Regs, row: &CacheRow) -> u16 {
+        seat.place(*row)
     }
 
     fn act(
@@ -117,9 +117,10 @@ impl FrontEnd for ThreadCaches {
         seat: &mut CacheSeat,
         regs: &mut Regs,
         row: &mut CacheRow,
-    ) -> Result<Came<CacheRow>, AllocError> {
-        let next = act_cache(&setting.table, part, seat, regs, *row)?;
-        Ok(Came::Next(next))
+        next: &mut Next<CacheRow>,
+    ) -> Result<Came, AllocError> {
+        *next = act_cache(&setting.table, part, seat, regs, *row)?;
+        Ok(Came::Next)
     }
 
     fn yields(

@@ -22,7 +22,7 @@ returns-in-Cpu-row-clause-may c =
     let row = c.in-Cpu-row.row in
     let x = cpu_acts rows cpu v r row in
     let fits = subst (λ (y : CpuRow). cpu_fits rows (Cpu cpu) v r y) c.in-Cpu-row.is (subst (λ (p : CpuFrontPart). cpu_fits rows p v r c.args.row.now) c.in-Cpu.is c.requires) in
-    let came : Next = next_of c.act_cpu.result (front.Cpu c.act_cpu.new.row) in
+    let came : Next = next_of c.act_cpu.result (front.Cpu c.act_cpu.new.row) c.act_cpu.new.next in
     let may : CpuRow → Regs → Next → Type 0 = λ y g n. ComesWith about_row cpu_refuses (HasObject rows) y g n in
     subst (λ (y : CpuRow). may y c.act_cpu.new.regs came) (sym c.in-Cpu-row.is)
     (subst (λ (g : Regs). may (front.Cpu row) g came) (sym c.act_cpu.ensures.regs) (subst (may (front.Cpu row) x.regs) (sym c.act_cpu.ensures.next) (cpu_may rows v cpu r row fits.0).0))
