@@ -1,25 +1,31 @@
 -- What a call's answer makes of the blocks that stand.
-use Rattle.std.proofs.Common.{◌≡◌, ℕ, ◌+◌, ◌^◌, ◌≤◌, true, false, not, cond, eqb, List, [], ◌∷◌, ◌++◌, length, take, Some, None, refl, sym, ap, ◌∙◌, subst, arith, inl, inr, eq-eqb}
-use Rattle.std.specs.Prelude.{nat_eq, count_by, find, sum_by, option_map}
-use Rattle.std.specs.HashMap.{get, Updates}
+use Rattle.std.proofs.Common.{◌≡◌, ℕ, ◌+◌, ◌^◌, ◌≤◌, true, false, not, cond, eqb, get_or, List, [], ◌∷◌, ◌++◌, length, take, Option, Some, None, refl, sym, ap, ◌∙◌, subst, arith, inl, inr, eq-eqb}
+use Rattle.std.specs.Prelude.{count_by, find, sum_by}
+use Rattle.std.specs.List.{slice_get}
+use Rattle.std.specs.Option.{option_or}
 use Rattle.std.proofs.lemmas.Bool.{cases_Bool, cases_eq, ne_eqb, cond-true, cond-false}
 use Rattle.std.proofs.lemmas.List.{length-append}
 use Rattle.std.proofs.Math.Seq.{take-append_seam}
 use Rattle.std.proofs.lemmas.List.Sums.{sum_by-cons}
+use Rattle.std.proofs.lemmas.Option.{slice_get_within, slice_get-get_or}
 use Rattle.tc_units.specs.declared.units.Addr.{Addr}
+use Rattle.tc_units.specs.declared.units.Label.{Label}
 use Rattle.tc_units.proofs.Counts.{count-cons}
 use Rattle.tc_units.proofs.SortedFacts.{length-with_item, sum_by-with_item, without_none}
 use Rattle.tc_model.specs.declared.calls.Call.{Call}
-use Rattle.tc_model.specs.declared.calls.Call.TheVariants.{Malloc, Free, Release, Drain, Resize}
-use Rattle.tc_model.specs.declared.answers.Answer.TheVariants.{Block, Freed}
+use Rattle.tc_model.specs.declared.calls.Call.TheVariants.{Malloc, Free}
+use Rattle.tc_model.specs.declared.answers.Answer.{Answer}
+use Rattle.tc_model.specs.declared.answers.Answer.TheVariants.{Block, NoBlock, Freed, FreedNull, Released, Drained, Busy, CapSet, OverLimit, OverStatic}
 use Rattle.tc_model.specs.declared.answers.CallLine.{CallLine}
-use Rattle.tc_model.specs.Blocks.{Extent, blocks_after, blocks_with, with_block, without_block, IsAllowed, IsBlockRun}
+use Rattle.tc_model.specs.Blocks.{Extent, blocks_after, blocks_with, with_block, without_block, allocates, answer_to, FreesBlock, IsAllowed, IsBlockRun}
 use Rattle.holdings.specs.Apart.{AreApart}
-use Rattle.holdings.proofs.CallFacts.{blocks_after-push, find-with_block_same, find-with_block_other, find-without_block}
-use Rattle.holdings.proofs.Blocks.{apart_after, none_begins, place_of}
+use Rattle.holdings.proofs.CallFacts.{blocks_after-push, answer_cases, answer_to-push_new, answer_to-push_old}
+use Rattle.holdings.proofs.Standing.{answer_same}
+use Rattle.holdings.proofs.Blocks.{apart_after, place_of}
 use Rattle.tc_machine.specs.Arena.{most_huge}
 use Rattle.tc_machine.specs.declared.standing.Standing.{Standing}
-use Rattle.tc_machine.specs.Standing.{AreStanding, MayStand}
+use Rattle.tc_machine.specs.declared.standing.TheConstants.{NO_BLOCK}
+use Rattle.tc_machine.specs.Standing.{noted, len_of, IsNoted, AreStanding, MayStand}
 use Rattle.tc_machine.specs.Telling.{HearsEach}
 
 -- where none begins at an address, none is found there
@@ -61,17 +67,62 @@ leaves_one a (x ∷ xs) b once found =
           }
     ]
 
--- a free that is allowed finds its block
-pub record Found (earlier : List CallLine) (addr : Addr) : Type 0 where
-  pub block : Extent
-  pub is : find (λ (b : Extent). eqb b.addr addr.0) (blocks_after earlier) ≡ Some block
+-- what is noted of a label stands at its place
+noted_is : (o : Option ℕ) (len : ℕ) → noted o ≡ Some len → o ≡ Some len
+noted_is None len is = absurd (cc)
+noted_is (Some n) len is = elim (cases_Bool (eqb n NO_BLOCK)) [
+  | inl none ↦ (let e : None ≡ Some len = sym (cond-true (eqb n NO_BLOCK) None (Some n) none) ∙ is in absurd (cc))
+  | inr some ↦ sym (cond-false (eqb n NO_BLOCK) None (Some n) some) ∙ is
+]
 
-found_by : (huge : ℕ) (round : ℕ → ℕ) (earlier : List CallLine) (call : Call) (addr : Addr) → IsAllowed huge round earlier call (Freed addr) → Found earlier addr
-found_by huge round earlier (Malloc label size) addr allowed = absurd allowed
-found_by huge round earlier (Free label) addr allowed = record { block = record { addr = addr.0; len = allowed.len }; is = allowed.stands }
-found_by huge round earlier (Release pages) addr allowed = absurd allowed
-found_by huge round earlier (Drain cpu) addr allowed = absurd allowed
-found_by huge round earlier (Resize cpu class n) addr allowed = absurd allowed
+pub read_noted : (lens : List ℕ) (label len n : ℕ) → len_of lens label ≡ Some len → n ≡ get_or lens label n → n ≡ len
+read_noted lens label len n is read =
+    let there : slice_get lens label ≡ Some len = noted_is (slice_get lens label) len is in
+    let same : Some (get_or lens label n) ≡ Some len = sym (slice_get-get_or lens label n (slice_get_within lens label len there)) ∙ there in
+    let e : get_or lens label n ≡ len = cc in
+    read ∙ e
+
+-- An answer that is no block's and frees none changes nothing, and nothing is noted of it.
+pub record IsQuiet (answer : Answer) : Type 0 where
+  pub same : (blocks : List Extent) → blocks_with blocks answer ≡ blocks
+  pub notes : (n : Option ℕ) → IsNoted (Some answer) n
+
+pub quiet_answer : (answer : Answer) → ((addr : Addr) (len : ℕ) → answer ≡ Block addr len → ⊥) → ((addr : Addr) → answer ≡ Freed addr → ⊥) → IsQuiet answer
+quiet_answer (Block addr len) block freed = absurd (block addr len refl)
+quiet_answer NoBlock block freed = record { same = λ _. refl; notes = λ _. tt }
+quiet_answer (Freed addr) block freed = absurd (freed addr refl)
+quiet_answer FreedNull block freed = record { same = λ _. refl; notes = λ _. tt }
+quiet_answer (Released pages) block freed = record { same = λ _. refl; notes = λ _. tt }
+quiet_answer (Drained objects) block freed = record { same = λ _. refl; notes = λ _. tt }
+quiet_answer (Busy owner) block freed = record { same = λ _. refl; notes = λ _. tt }
+quiet_answer CapSet block freed = record { same = λ _. refl; notes = λ _. tt }
+quiet_answer (OverLimit sum) block freed = record { same = λ _. refl; notes = λ _. tt }
+quiet_answer (OverStatic cap) block freed = record { same = λ _. refl; notes = λ _. tt }
+
+-- what is noted stays
+noted_still : (answer : Answer) (n m : Option ℕ) (len : ℕ) → m ≡ option_or n (Some len) → IsNoted (Some answer) n → IsNoted (Some answer) m
+noted_still (Block addr bytes) n m len is noted = is ∙ ap (λ k. option_or k (Some len)) noted
+noted_still NoBlock n m len is noted = tt
+noted_still (Freed addr) n m len is noted = tt
+noted_still FreedNull n m len is noted = tt
+noted_still (Released pages) n m len is noted = tt
+noted_still (Drained objects) n m len is noted = tt
+noted_still (Busy owner) n m len is noted = tt
+noted_still CapSet n m len is noted = tt
+noted_still (OverLimit sum) n m len is noted = tt
+noted_still (OverStatic cap) n m len is noted = tt
+
+-- of two allocations of a label the first one counts
+noted_first : (earlier : List CallLine) (line : CallLine) (addr : Addr) (len : ℕ) (label : Label) (size : ℕ) (n m : Option ℕ) → line.answer ≡ Block addr len → line.call ≡ Malloc label size
+    → m ≡ option_or n (Some len) → IsNoted (answer_to label.0 earlier) n → IsNoted (answer_to label.0 (earlier ++ line ∷ [])) m
+noted_first earlier line addr len label size n m is asks after noted = elim (answer_cases (answer_to label.0 earlier)) [
+  | inl none ↦
+      let own : allocates label.0 line.call ≡ true = ap (allocates label.0) asks ∙ eq-eqb label.0 label.0 refl in
+      let now : answer_to label.0 (earlier ++ line ∷ []) ≡ Some (Block addr len) = answer_to-push_new label.0 earlier line none ∙ (ap (λ b. cond b (Some line.answer) None) own ∙ ap (λ a. Some a) is) in
+      let before : n ≡ None = subst (λ (o : Option Answer). IsNoted o n) none noted in
+      subst (λ (o : Option Answer). IsNoted o m) (sym now) (after ∙ ap (λ k. option_or k (Some len)) before)
+  | inr some ↦ subst (λ (o : Option Answer). IsNoted o m) (sym (answer_to-push_old label.0 earlier line some.0 some.1)) (noted_still some.0 n m len after (subst (λ (o : Option Answer). IsNoted o n) some.1 noted))
+]
 
 -- an allocation's block lies in an arena of at most 2^37 bytes
 pub len_small : (huge : ℕ) (round : ℕ → ℕ) (earlier : List CallLine) (call : Call) (addr : Addr) (len : ℕ) → huge ≤ most_huge → IsAllowed huge round earlier call (Block addr len) → len ≤ 2 ^ 37
@@ -95,74 +146,75 @@ module _ (s : Standing) (line : CallLine) (huge : ℕ) (round : ℕ → ℕ) (ea
   after : blocks_after (earlier ++ line ∷ []) ≡ blocks_with (blocks_after earlier) line.answer
   after = blocks_after-push earlier line
 
-  pub told_block : (addr : Addr) (len : ℕ) (s' : Standing) → line.answer ≡ Block addr len → Updates nat_eq s.lens s'.lens addr.0 (Some len)
+  counted : {before : ℕ} → before ≤ length earlier → before + 1 ≤ length (earlier ++ line ∷ [])
+  counted few = omega (arith, few, length-append earlier (line ∷ []))
+
+  -- what an allocation got is noted
+  pub told_block : (addr : Addr) (len : ℕ) (label : Label) (size : ℕ) (s' : Standing) → line.answer ≡ Block addr len → line.call ≡ Malloc label size
+      → len_of s'.lens.items label.0 ≡ option_or (len_of s.lens.items label.0) (Some len) → ((other : ℕ) → (label.0 ≡ other → ⊥) → len_of s'.lens.items other ≡ len_of s.lens.items other)
       → s'.count ≡ s.count + 1 → s'.bytes ≡ s.bytes + len → AreStanding (earlier ++ line ∷ []) s'
-  told_block addr len s' is updates count bytes =
+  told_block addr len label size s' is asks here others count bytes =
       let b : Extent = record { addr = addr.0; len = len } in
       let allows : IsAllowed huge round earlier line.call (Block addr len) = subst (IsAllowed huge round earlier line.call) is allowed in
-      let p = place_of huge round earlier line.call addr len allows in
       let bs : List Extent = blocks_after earlier in
       let e : blocks_after (earlier ++ line ∷ []) ≡ with_block b bs = after ∙ ap (blocks_with bs) is in
-      let none : find (λ (x : Extent). eqb x.addr addr.0) bs ≡ None = none_found addr.0 bs (none_begins b bs p.inside.some apart.some p.apart) in
-      let n : length (earlier ++ line ∷ []) ≡ length earlier + 1 = length-append earlier (line ∷ []) in
       let small : len ≤ 2 ^ 37 = len_small huge round earlier line.call addr len arena allows in
       record {
-        lens = λ a. elim (cases_eq addr.0 a) [
-          | inl same ↦
-              let t : eqb addr.0 a ≡ true = eq-eqb addr.0 a same in
-              let here : find (λ (x : Extent). eqb x.addr a) (with_block b bs) ≡ Some b = subst (λ k. find (λ (x : Extent). eqb x.addr k) (with_block b bs) ≡ Some b) same (find-with_block_same b bs none) in
-              updates.0 a ∙ (cond-true (eqb addr.0 a) (Some len) (get nat_eq s.lens a) t ∙ sym (ap (λ xs. option_map (λ (x : Extent). x.len) (find (λ (x : Extent). eqb x.addr a) xs)) e ∙ ap (option_map (λ (x : Extent). x.len)) here))
+        lens = λ l. elim (cases_eq label.0 l) [
+          | inl same ↦ subst (λ k. IsNoted (answer_to k (earlier ++ line ∷ [])) (len_of s'.lens.items k)) same (noted_first earlier line addr len label size (len_of s.lens.items label.0) (len_of s'.lens.items label.0) is asks here (stand.lens label.0))
           | inr other ↦
-              let t : eqb addr.0 a ≡ false = ne_eqb addr.0 a other in
-              updates.0 a ∙ (cond-false (eqb addr.0 a) (Some len) (get nat_eq s.lens a) t ∙ (stand.lens a ∙ sym (ap (λ xs. option_map (λ (x : Extent). x.len) (find (λ (x : Extent). eqb x.addr a) xs)) e ∙ ap (option_map (λ (x : Extent). x.len)) (find-with_block_other b a bs other))))
+              let apart : allocates l line.call ≡ false = ap (allocates l) asks ∙ ne_eqb label.0 l other in
+              subst (λ (n : Option ℕ). IsNoted (answer_to l (earlier ++ line ∷ [])) n) (sym (others l other)) (subst (λ (o : Option Answer). IsNoted o (len_of s.lens.items l)) (sym (answer_same earlier line l apart)) (stand.lens l))
         ];
         count = omega (arith, count, stand.count, ap length e, length-with_item (λ (x : Extent). x.addr) b bs);
         bytes = omega (arith, bytes, stand.bytes, ap (sum_by (λ (x : Extent). x.len)) e, sum_by-with_item (λ (x : Extent). x.addr) (λ (x : Extent). x.len) b bs);
-        few = omega (arith, count, stand.few, n);
-        small = omega (arith, bytes, stand.small, small, n);
+        few = omega (arith, count, counted stand.few);
+        small = omega (arith, bytes, stand.small, small, length-append earlier (line ∷ []));
       }
 
-  -- the block that a free takes away
-  pub freed_len : (addr : Addr) → line.answer ≡ Freed addr → (len : ℕ) × (get nat_eq s.lens addr.0 ≡ Some len) × (len ≤ s.bytes) × (1 ≤ s.count)
-  freed_len addr is =
-      let f = found_by huge round earlier line.call addr (subst (IsAllowed huge round earlier line.call) is allowed) in
-      let one = leaves_one addr.0 (blocks_after earlier) f.block (apart.starts addr.0) f.is in
-      (f.block.len, stand.lens addr.0 ∙ ap (option_map (λ (x : Extent). x.len)) f.is, omega (arith, stand.bytes, one.bytes), omega (arith, stand.count, one.count))
+  -- another answer notes nothing
+  quiet_lens : ((n : Option ℕ) → IsNoted (Some line.answer) n) → (label : ℕ) → IsNoted (answer_to label (earlier ++ line ∷ [])) (len_of s.lens.items label)
+  quiet_lens quiet label = elim (answer_cases (answer_to label earlier)) [
+    | inl none ↦ subst (λ (o : Option Answer). IsNoted o (len_of s.lens.items label)) (sym (answer_to-push_new label earlier line none)) (
+        elim (allocates label line.call) as (λ b. IsNoted (cond b (Some line.answer) None) (len_of s.lens.items label)) [
+          | true ↦ quiet (len_of s.lens.items label)
+          | false ↦ subst (λ (o : Option Answer). IsNoted o (len_of s.lens.items label)) none (stand.lens label)
+        ])
+    | inr some ↦ subst (λ (o : Option Answer). IsNoted o (len_of s.lens.items label)) (some.1 ∙ sym (answer_to-push_old label earlier line some.0 some.1)) (stand.lens label)
+  ]
 
-  pub told_freed : (addr : Addr) (len : ℕ) (s' : Standing) → line.answer ≡ Freed addr → Some len ≡ get nat_eq s.lens addr.0
-      → Updates nat_eq s.lens s'.lens addr.0 None → s'.count + 1 ≡ s.count → s'.bytes + len ≡ s.bytes → AreStanding (earlier ++ line ∷ []) s'
-  told_freed addr len s' is got updates count bytes =
-      let f = found_by huge round earlier line.call addr (subst (IsAllowed huge round earlier line.call) is allowed) in
-      let bs : List Extent = blocks_after earlier in
-      let one = leaves_one addr.0 bs f.block (apart.starts addr.0) f.is in
-      let e : blocks_after (earlier ++ line ∷ []) ≡ without_block addr.0 bs = after ∙ ap (blocks_with bs) is in
-      let same : Some len ≡ Some f.block.len = got ∙ (stand.lens addr.0 ∙ ap (option_map (λ (x : Extent). x.len)) f.is) in
-      let l : len ≡ f.block.len = cc in
-      let n : length (earlier ++ line ∷ []) ≡ length earlier + 1 = length-append earlier (line ∷ []) in
-      record {
-        lens = λ a. elim (cases_eq addr.0 a) [
-          | inl at ↦
-              let t : eqb addr.0 a ≡ true = eq-eqb addr.0 a at in
-              let none : find (λ (x : Extent). eqb x.addr a) (without_block addr.0 bs) ≡ None = subst (λ k. find (λ (x : Extent). eqb x.addr k) (without_block addr.0 bs) ≡ None) at one.gone in
-              updates.0 a ∙ (cond-true (eqb addr.0 a) None (get nat_eq s.lens a) t ∙ sym (ap (λ xs. option_map (λ (x : Extent). x.len) (find (λ (x : Extent). eqb x.addr a) xs)) e ∙ ap (option_map (λ (x : Extent). x.len)) none))
-          | inr other ↦
-              let t : eqb addr.0 a ≡ false = ne_eqb addr.0 a other in
-              updates.0 a ∙ (cond-false (eqb addr.0 a) None (get nat_eq s.lens a) t ∙ (stand.lens a ∙ sym (ap (λ xs. option_map (λ (x : Extent). x.len) (find (λ (x : Extent). eqb x.addr a) xs)) e ∙ ap (option_map (λ (x : Extent). x.len)) (find-without_block addr.0 a bs other))))
-        ];
-        count = omega (arith, count, stand.count, ap length e, one.count);
-        bytes = omega (arith, bytes, stand.bytes, ap (sum_by (λ (x : Extent). x.len)) e, one.bytes, l);
-        few = omega (arith, count, stand.few, n);
-        small = omega (arith, bytes, stand.small, n);
-      }
+  module _ (label : Label) (addr : Addr) (is : line.answer ≡ Freed addr) (asks : line.call ≡ Free label) where
+    abbrev pub frees : FreesBlock earlier label.0 addr.0
+    frees = subst (λ (c : Call). IsAllowed huge round earlier c (Freed addr)) asks (subst (IsAllowed huge round earlier line.call) is allowed)
 
-  pub told_other : (blocks_with (blocks_after earlier) line.answer ≡ blocks_after earlier) → AreStanding (earlier ++ line ∷ []) s
-  told_other same =
-      let e : blocks_after (earlier ++ line ∷ []) ≡ blocks_after earlier = after ∙ same in
-      let n : length (earlier ++ line ∷ []) ≡ length earlier + 1 = length-append earlier (line ∷ []) in
+    one : LeavesOne addr.0 (blocks_after earlier) (record { addr = addr.0; len = frees.len })
+    one = leaves_one addr.0 (blocks_after earlier) (record { addr = addr.0; len = frees.len }) (apart.starts addr.0) frees.stands
+
+    -- the block that a free takes away is the one that is noted of its label
+    pub freed_noted : len_of s.lens.items label.0 ≡ Some frees.len
+    freed_noted = subst (λ (o : Option Answer). IsNoted o (len_of s.lens.items label.0)) frees.answered (stand.lens label.0)
+
+    pub freed_within : (frees.len ≤ s.bytes) × (1 ≤ s.count)
+    freed_within = (omega (arith, stand.bytes, one.bytes), omega (arith, stand.count, one.count))
+
+    pub told_freed : (s' : Standing) → s'.lens.items ≡ s.lens.items → s'.count + 1 ≡ s.count → s'.bytes + frees.len ≡ s.bytes → AreStanding (earlier ++ line ∷ []) s'
+    told_freed s' lens count bytes =
+        let e : blocks_after (earlier ++ line ∷ []) ≡ without_block addr.0 (blocks_after earlier) = after ∙ ap (blocks_with (blocks_after earlier)) is in
+        record {
+          lens = λ l. subst (λ ns. IsNoted (answer_to l (earlier ++ line ∷ [])) (len_of ns l)) (sym lens) (quiet_lens (λ n. subst (λ (a : Answer). IsNoted (Some a) n) (sym is) tt) l);
+          count = omega (arith, count, stand.count, ap length e, one.count);
+          bytes = omega (arith, bytes, stand.bytes, ap (sum_by (λ (x : Extent). x.len)) e, one.bytes);
+          few = omega (arith, count, counted stand.few);
+          small = omega (arith, bytes, stand.small, length-append earlier (line ∷ []));
+        }
+
+  pub told_other : IsQuiet line.answer → AreStanding (earlier ++ line ∷ []) s
+  told_other quiet =
+      let e : blocks_after (earlier ++ line ∷ []) ≡ blocks_after earlier = after ∙ quiet.same (blocks_after earlier) in
       record {
-        lens = λ a. stand.lens a ∙ sym (ap (λ xs. option_map (λ (x : Extent). x.len) (find (λ (x : Extent). eqb x.addr a) xs)) e);
+        lens = quiet_lens quiet.notes;
         count = omega (arith, stand.count, ap length e);
         bytes = omega (arith, stand.bytes, ap (sum_by (λ (x : Extent). x.len)) e);
-        few = omega (arith, stand.few, n);
-        small = omega (arith, stand.small, n);
+        few = omega (arith, counted stand.few);
+        small = omega (arith, stand.small, length-append earlier (line ∷ []));
       }

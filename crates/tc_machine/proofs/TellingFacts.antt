@@ -1,9 +1,9 @@
 -- How the mark of a thread goes on.
 use Rattle.std.proofs.Common.{◌≡◌, ℕ, zero, suc, ◌+◌, ◌<◌, ◌≤◌, true, false, eqb, eq-eqb, get_or, List, [], ◌∷◌, ◌++◌, length, take, drop, map, Option, None, Some, refl, sym, ap, ◌∙◌, subst, arith, inl, inr}
-use Rattle.std.specs.Prelude.{option_map, replicate}
+use Rattle.std.specs.Prelude.{option_map}
 use Rattle.std.specs.List.{slice_get, slice_set}
-use Rattle.std.proofs.lemmas.List.{append-nil, append_assoc, take_more, take-append-drop, length-replicate, length-set}
-use Rattle.std.proofs.lemmas.Option.{slice_get_within, slice_get-get_or}
+use Rattle.std.proofs.lemmas.List.{append-nil, append_assoc, take_more, take-append-drop, length-map, length-set}
+use Rattle.std.proofs.lemmas.Option.{slice_get-get_or, slice_get-map}
 use Rattle.tc_model.proofs.Lists.{set_here, set_elsewhere}
 use Rattle.tc_model.proofs.CallSteps.{picks-push_same, picks-push_other, calls_from-push}
 use Rattle.std.proofs.lemmas.Bool.{cases_eq, false≢true, eqb-true, ne_eqb, cond-true, cond-false}
@@ -12,19 +12,10 @@ use Rattle.tc_model.specs.Calls.{AreRising, first_at, picks_of, answers_at, call
 use Rattle.tc_model.proofs.Rising.{rising_first}
 use Rattle.call_steps.specs.Local.{Decided, told}
 use Rattle.tc_machine.specs.declared.telling.Mark.{Mark}
-use Rattle.tc_machine.specs.Telling.{decided_at, is_of, IsMark}
+use Rattle.tc_machine.specs.Telling.{decided_at, due_at, first_mark, is_at, IsMark}
 
 abbrev pub act_of : Decided → ℕ
 act_of d = d.act
-
--- whether an answer is of a pick, by its act alone
-pub some_is_of : (n a : ℕ) (o : Option Decided) → option_map act_of o ≡ Some a → is_of n o ≡ eqb a n
-some_is_of n a None is = absurd (cc)
-some_is_of n a (Some d) is = let same : d.act ≡ a = cc in ap (λ k. eqb k n) same
-
-pub none_is_of : (n : ℕ) (o : Option Decided) → option_map act_of o ≡ None → is_of n o ≡ false
-none_is_of n None is = refl
-none_is_of n (Some d) is = absurd (cc)
 
 -- what stands at a place stands first behind it
 split_at : {X : Type 0} (xs : List X) (i : ℕ) (x : X) → slice_get xs i ≡ Some x → drop i xs ≡ x ∷ drop (i + 1) xs
@@ -48,27 +39,31 @@ module _ (answers : List Decided) (m : Mark) (mark : IsMark answers m) where
   here : decided_at m.picks answers ≡ first_at act_of m.picks (drop m.told answers)
   here = mark.later m.picks (omega arith) ∙ rising_first act_of m.picks (drop m.told answers) mark.behind
 
-  decides : (o : Option Decided) → slice_get answers m.told ≡ o → is_of m.picks o ≡ true → (d : Decided) × (slice_get answers m.told ≡ Some d) × (d.act ≡ m.picks)
+  decides : (o : Option Decided) → slice_get answers m.told ≡ o → is_at m.picks (option_map act_of o) ≡ true → (d : Decided) × (slice_get answers m.told ≡ Some d) × (d.act ≡ m.picks)
   decides None at is = absurd (cc)
   decides (Some d) at is = (d, at, eqb-true d.act m.picks is)
 
+  due_here : is_at m.picks m.due ≡ true → (d : Decided) × (slice_get answers m.told ≡ Some d) × (d.act ≡ m.picks)
+  due_here is = decides (slice_get answers m.told) refl (sym (ap (is_at m.picks) mark.due) ∙ is)
+
   pub line_told : (thread : ℕ) (line : CallLine) → Some line ≡ option_map (told thread) (slice_get answers m.told)
-      → is_of m.picks (slice_get answers m.told) ≡ true → line ∷ [] ≡ map (told thread) (decided_at m.picks answers)
+      → is_at m.picks m.due ≡ true → line ∷ [] ≡ map (told thread) (decided_at m.picks answers)
   line_told thread line is decided =
-      let d = decides (slice_get answers m.told) refl decided in
+      let d = due_here decided in
       let same : Some line ≡ Some (told thread d.0) = is ∙ ap (option_map (told thread)) d.1 in
       let e : line ≡ told thread d.0 = cc in
       let first : first_at act_of m.picks (drop m.told answers) ≡ d.0 ∷ [] = ap (first_at act_of m.picks) (split_at answers m.told d.0 d.1) ∙ cond-true (eqb d.0.act m.picks) (d.0 ∷ []) [] (eq-eqb d.0.act m.picks d.2) in
       ap (λ x. x ∷ []) e ∙ sym (ap (map (told thread)) (here ∙ first))
 
-  pub mark_told : is_of m.picks (slice_get answers m.told) ≡ true → IsMark answers (record { picks = m.picks + 1; told = m.told + 1 })
-  mark_told decided =
-      let d = decides (slice_get answers m.told) refl decided in
+  pub mark_told : {due : Option ℕ} → due ≡ due_at (m.told + 1) answers → is_at m.picks m.due ≡ true → IsMark answers (record { picks = m.picks + 1; told = m.told + 1; due = due })
+  mark_told next decided =
+      let d = due_here decided in
       let rest : drop m.told answers ≡ d.0 ∷ drop (m.told + 1) answers = split_at answers m.told d.0 d.1 in
       let rising : AreRising act_of m.picks (d.0 ∷ drop (m.told + 1) answers) = subst (AreRising act_of m.picks) rest mark.behind in
       record {
         within = within_at answers m.told d.0 d.1;
         few = omega (arith, mark.few);
+        due = next;
         behind = subst (λ n. AreRising act_of (n + 1) (drop (m.told + 1) answers)) d.2 rising.1;
         later = λ n from.
             let other : eqb d.0.act n ≡ false = ne_eqb d.0.act n (λ same. absurd (omega (arith, from, same, d.2))) in
@@ -76,7 +71,7 @@ module _ (answers : List Decided) (m : Mark) (mark : IsMark answers m) where
       }
 
   -- the next pick decided nothing
-  first_behind : (o : Option Decided) → slice_get answers m.told ≡ o → is_of m.picks o ≡ false
+  first_behind : (o : Option Decided) → slice_get answers m.told ≡ o → is_at m.picks (option_map act_of o) ≡ false
       → (first_at act_of m.picks (drop m.told answers) ≡ []) × AreRising act_of (m.picks + 1) (drop m.told answers)
   first_behind None at is =
       let none = past_all answers m.told at in
@@ -90,16 +85,15 @@ module _ (answers : List Decided) (m : Mark) (mark : IsMark answers m) where
       ] in
       (ap (first_at act_of m.picks) rest ∙ cond-false (eqb d.act m.picks) (d ∷ []) [] is, subst (AreRising act_of (m.picks + 1)) (sym rest) (above, rising.1))
 
-  pub nothing_told : (thread : ℕ) → is_of m.picks (slice_get answers m.told) ≡ false → [] ≡ map (told thread) (decided_at m.picks answers)
-  nothing_told thread undecided = sym (ap (map (told thread)) (here ∙ (first_behind (slice_get answers m.told) refl undecided).0))
+  module _ (undecided : is_at m.picks m.due ≡ false) where
+    behind_here : (first_at act_of m.picks (drop m.told answers) ≡ []) × AreRising act_of (m.picks + 1) (drop m.told answers)
+    behind_here = first_behind (slice_get answers m.told) refl (sym (ap (is_at m.picks) mark.due) ∙ undecided)
 
-  pub mark_passed : is_of m.picks (slice_get answers m.told) ≡ false → IsMark answers (record { picks = m.picks + 1; told = m.told })
-  mark_passed undecided = record { within = mark.within; few = omega (arith, mark.few); behind = (first_behind (slice_get answers m.told) refl undecided).1; later = λ n from. mark.later n (omega (arith, from)) }
+    pub nothing_told : (thread : ℕ) → [] ≡ map (told thread) (decided_at m.picks answers)
+    nothing_told thread = sym (ap (map (told thread)) (here ∙ behind_here.0))
 
-slice_get-replicate : {X : Type 0} (n : ℕ) (x : X) (i : ℕ) → i < n → slice_get (replicate n x) i ≡ Some x
-slice_get-replicate zero x i below = absurd (omega (arith, below))
-slice_get-replicate (suc n) x zero below = refl
-slice_get-replicate (suc n) x (suc i) below = slice_get-replicate n x i (omega (arith, below))
+    pub mark_passed : IsMark answers (record { picks = m.picks + 1; told = m.told; due = m.due })
+    mark_passed = record { within = mark.within; few = omega (arith, mark.few); due = mark.due; behind = behind_here.1; later = λ n from. mark.later n (omega (arith, from)) }
 
 pub here_is : {X : Type 0} (xs : List X) (t : ℕ) (x : X) → t < length xs → x ≡ get_or xs t x → slice_get xs t ≡ Some x
 here_is xs t x below is = slice_get-get_or xs t x below ∙ ap (λ y. Some y) (sym is)
@@ -110,18 +104,15 @@ module _ {L : Type 0} (answers : L → List Decided) where
     pub count : length marks ≡ length locals
     pub each : (u : ℕ) (k : L) (m : Mark) → slice_get locals u ≡ Some k → slice_get marks u ≡ Some m → (m.picks ≡ picks_of u past) × IsMark (answers k) m
 
-  pub first_marks : (locals : List L) (marks : List Mark) → marks ≡ replicate (length locals) (record { picks = 0; told = 0 })
+  pub first_marks : (locals : List L) (marks : List Mark) → marks ≡ map (λ l. first_mark (answers l)) locals
       → ((t : ℕ) (l : L) → slice_get locals t ≡ Some l → AreRising act_of 0 (answers l)) → AreMarks locals marks []
   first_marks locals marks is rising =
-      let none : Mark = record { picks = 0; told = 0 } in
       record {
-        count = ap length is ∙ length-replicate (length locals) none;
+        count = ap length is ∙ length-map locals (λ l. first_mark (answers l));
         each = λ u k m local mark.
-            let within : u < length locals = slice_get_within locals u k local in
-            let there : slice_get (replicate (length locals) none) u ≡ Some none = slice_get-replicate (length locals) none u within in
-            let same : Some none ≡ Some m = sym there ∙ (ap (λ xs. slice_get xs u) (sym is) ∙ mark) in
-            let e : none ≡ m = cc in
-            subst (λ (x : Mark). (x.picks ≡ 0) × IsMark (answers k) x) e (refl, record { within = omega arith; few = omega arith; behind = rising u k local; later = λ n from. refl });
+            let same : Some (first_mark (answers k)) ≡ Some m = sym (ap (option_map (λ l. first_mark (answers l))) local) ∙ (sym (slice_get-map (λ l. first_mark (answers l)) locals u) ∙ (ap (λ xs. slice_get xs u) (sym is) ∙ mark)) in
+            let e : first_mark (answers k) ≡ m = cc in
+            subst (λ (x : Mark). (x.picks ≡ 0) × IsMark (answers k) x) e (refl, record { within = omega arith; few = omega arith; due = refl; behind = rising u k local; later = λ n from. refl });
       }
 
   -- one pick more

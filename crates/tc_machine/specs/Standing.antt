@@ -1,14 +1,30 @@
--- The blocks that stand after some calls, as code keeps them: by address, with their number and bytes.
-use Rattle.std.specs.Prelude.{◌≡◌, ℕ, ◌*◌, ◌^◌, ◌<◌, ◌≤◌, ◌==◌, nat_eq, List, length, find, option_map}
-use Rattle.std.specs.HashMap.{get}
+-- The blocks that stand after some calls, as code keeps them: their number and bytes, and by label what its allocation got.
+use Rattle.std.specs.Prelude.{◌≡◌, ℕ, ◌*◌, ◌^◌, ◌<◌, ◌≤◌, ◌==◌, List, length, Option, None, Some, if◌then◌else◌, slice_get}
+use Rattle.tc_model.specs.declared.answers.Answer.{Answer}
+use Rattle.tc_model.specs.declared.answers.Answer.TheVariants.{Block}
 use Rattle.tc_model.specs.declared.answers.CallLine.{CallLine}
-use Rattle.tc_model.specs.Blocks.{Extent, blocks_after, live_count, live_bytes, IsAllowed}
+use Rattle.tc_model.specs.Blocks.{blocks_after, answer_to, live_count, live_bytes, IsAllowed}
 use Rattle.holdings.specs.Apart.{AreApart}
 use Rattle.tc_machine.specs.Arena.{most_huge}
 use Rattle.tc_machine.specs.declared.standing.Standing.{Standing}
+use Rattle.tc_machine.specs.declared.standing.TheConstants.{NO_BLOCK}
+
+-- the bytes of a label's block, where they are noted
+abbrev pub noted : Option ℕ → Option ℕ
+noted None = None
+noted (Some len) = if len == NO_BLOCK then None else Some len
+
+abbrev pub len_of : List ℕ → ℕ → Option ℕ
+len_of lens label = noted (slice_get lens label)
+
+-- what is noted of a label whose allocation answered so: nothing before it, and the bytes of the block that it got
+abbrev pub IsNoted : Option Answer → Option ℕ → Type 0
+IsNoted None len = len ≡ None
+IsNoted (Some (Block addr bytes)) len = len ≡ Some bytes
+IsNoted (Some other) len = Unit {0}
 
 pub record AreStanding (earlier : List CallLine) (s : Standing) : Type 0 where
-  pub lens : (a : ℕ) → get nat_eq s.lens a ≡ option_map (λ (b : Extent). b.len) (find (λ (b : Extent). b.addr == a) (blocks_after earlier))
+  pub lens : (label : ℕ) → IsNoted (answer_to label earlier) (len_of s.lens.items label)
   pub count : s.count ≡ live_count earlier
   pub bytes : s.bytes ≡ live_bytes earlier
   pub few : s.count ≤ length earlier

@@ -31,6 +31,7 @@ impl<A: Listener, B: Listener> Listener for Both<A, B> {
 
     ghost may_hear = { λ before earlier line. A.may_hear before.first earlier line × B.may_hear before.second earlier line };
 
+    #[inline(always)]
     fn hear(&mut self, line: &CallLine) -> Result<(), AllocError> {
         self.first.hear(line)?;
         self.second.hear(line)

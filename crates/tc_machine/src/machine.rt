@@ -23,6 +23,7 @@ use tc_units::{Listed, ThreadNo};
 use trace_reader::Trace;
 
 /// The act of a thread at a part, whichever it is. Want of memory changes nothing.
+#[inline(always)]
 pub fn act_at<F: FrontEnd>(
     setting: &Setting,
     part: &mut Part<F::Part>,
@@ -118,6 +119,7 @@ impl<F: LawfulFront> Machine for AllocMachine<F> {
         }
     }
 
+    #[inline(always)]
     fn act(
         &self,
         _alloc: Global,

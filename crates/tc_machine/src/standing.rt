@@ -1,16 +1,21 @@
 //! The blocks that stand after some calls.
-ghost use Rattle.std.specs.Prelude.{[]};
-ghost use Rattle.tc_machine.specs.Standing.{AreStanding};
+ghost use Rattle.std.specs.Prelude.{◌≡◌, ◌≢◌, ◌≤◌, ◌^◌, ℕ, [], Some, OnOk};
+ghost use Rattle.std.specs.Option.{option_or};
+ghost use Rattle.tc_machine.specs.Standing.{len_of, AreStanding};
 
 use crate::listener::Listener;
 use std::alloc::{AllocError, Global};
-use std::collections::HashMap;
-use tc_model::{Answer, CallLine};
+use tc_model::{Answer, Call, CallLine};
+use tc_units::Label;
 
-/// The blocks that stand: the bytes of each by its address, their number, and the bytes of all.
+/// More bytes than any block has.
+const NO_BLOCK: u64 = u64::MAX;
+
+/// The blocks that stand: their number, the bytes of all, and by label the bytes of the block that its allocation got, or
+/// `NO_BLOCK`.
 #[derive(Drop)]
 pub struct Standing {
-    pub lens: HashMap<u64, u64>,
+    pub lens: Vec<u64>,
     pub count: u64,
     pub bytes: u64,
 }
@@ -21,11 +26,27 @@ impl Standing {
         ensures { AreStanding [] result }
     {
         Standing {
-            lens: HashMap::new(alloc),
+            lens: Vec::new(alloc),
             count: 0,
             bytes: 0,
         }
     }
+}
+
+/// Notes the bytes of a label's block, where none is noted.
+fn note(lens: &mut Vec<u64>, label: Label, len: u64) -> Result<(), AllocError>
+    requires { len ≤ 2 ^ 37 }
+    ensures here { OnOk result (len_of lens.new.items label.0 ≡ option_or (len_of lens.old.items label.0) (Some len)) }
+    ensures others { OnOk result ((other : ℕ) → label.0 ≢ other → len_of lens.new.items other ≡ len_of lens.old.items other) }
+{
+    let place = label.0 as usize;
+    if lens.len() <= place {
+        lens.resize(place + 1, NO_BLOCK)?;
+    }
+    if lens[place] == NO_BLOCK {
+        lens[place] = len;
+    }
+    Ok(())
 }
 
 /// A call's answer adds the block of an allocation, and takes away that of a free.
@@ -36,22 +57,23 @@ impl Listener for Standing {
 
     ghost may_hear = { λ before. MayStand };
 
+    #[inline(always)]
     fn hear(&mut self, line: &CallLine) -> Result<(), AllocError> {
         match line.answer {
-            Answer::Block { addr, len } => {
-                match self.lens.insert(addr.0, len) {
-                    Ok(_) => {}
-                    Err(_) => return Err(AllocError),
-                }
+            Answer::Block { len, .. } => {
+                let Call::Malloc { label, .. } = line.call else {
+                    unreachable!()
+                };
+                note(&mut self.lens, label, len)?;
                 self.count += 1;
                 self.bytes += len;
             }
-            Answer::Freed { addr } => {
-                let Some(len) = self.lens.remove(&addr.0) else {
+            Answer::Freed { .. } => {
+                let Call::Free { label } = line.call else {
                     unreachable!()
                 };
                 self.count -= 1;
-                self.bytes -= len;
+                self.bytes -= self.lens[label.0 as usize];
             }
             _ => {}
         }

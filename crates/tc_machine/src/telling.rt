@@ -7,7 +7,7 @@ ghost use Rattle.tc_model.specs.Calls.{AreRising, calls_of};
 ghost use Rattle.call_steps.specs.Local.{Decided, told};
 ghost use Rattle.tc_machine.specs.Arena.{most_huge};
 ghost use Rattle.tc_machine.specs.Standing.{AreStanding};
-ghost use Rattle.tc_machine.specs.Telling.{decided_at, is_of, HearsEach, IsMark};
+ghost use Rattle.tc_machine.specs.Telling.{decided_at, first_mark, is_at, HearsEach, IsMark};
 
 use crate::listener::{Both, Listener};
 use crate::standing::Standing;
@@ -46,24 +46,49 @@ impl<F: FrontEnd> Teller for Local<F> {
     }
 }
 
-/// How far a thread has come: its picks so far, and how many of its calls they decided.
+/// How far a thread has come: its picks so far, how many of its calls they decided, and the pick that decides the next one.
 #[derive(Clone, Copy)]
 pub(crate) struct Mark {
     pub picks: u64,
     pub told: usize,
+    pub due: Option<u64>,
+}
+
+/// The mark of a thread before its first pick.
+fn first_mark<T: Teller>(teller: &T) -> Mark
+    ensures { result ≡ first_mark (T.answers teller.now) }
+{
+    Mark {
+        picks: 0,
+        told: 0,
+        due: teller.act_of(0),
+    }
+}
+
+/// The marks of all threads before their first picks.
+fn first_marks<T: Teller>(alloc: Global, tellers: &[T]) -> Result<Vec<Mark>, AllocError>
+    ensures { IfOk result (λ marks. marks.items ≡ map (λ l. first_mark (T.answers l)) tellers.now) }
+{
+    let mut marks = Vec::with_capacity(alloc, tellers.len())?;
+    for teller in tellers {
+        marks.push(first_mark(teller))?;
+    }
+    Ok(marks)
 }
 
 /// Whether the thread's next pick decided a call.
-fn is_decided<T: Teller>(teller: &T, mark: &Mark) -> bool
-    ensures { result ≡ is_of mark.now.picks (slice_get (T.answers teller.now) mark.now.told) }
+#[inline(always)]
+fn is_due(mark: &Mark) -> bool
+    ensures { result ≡ is_at mark.now.picks mark.now.due }
 {
-    match teller.act_of(mark.told) {
+    match mark.due {
         Some(act) => act == mark.picks,
         None => false,
     }
 }
 
 /// The call that the thread's next pick decided, if it decided one.
+#[inline(always)]
 fn next_line<T: Teller>(teller: &T, thread: ThreadNo, mark: &mut Mark) -> Option<CallLine>
     requires mark { IsMark (T.answers teller.now) mark.old }
     requires few { mark.old.picks < 2 ^ 64 - 1 }
@@ -71,11 +96,12 @@ fn next_line<T: Teller>(teller: &T, thread: ThreadNo, mark: &mut Mark) -> Option
     ensures mark { IsMark (T.answers teller.now) mark.new }
     ensures picks { mark.new.picks ≡ mark.old.picks + 1 }
 {
-    let decided = is_decided(teller, mark);
+    let decided = is_due(mark);
     mark.picks += 1;
     if decided {
         let line = teller.line_of(thread, mark.told);
         mark.told += 1;
+        mark.due = teller.act_of(mark.told);
         Some(line)
     } else {
         None
@@ -99,7 +125,7 @@ fn tell_calls<T: Teller, L: Listener>(
     ensures heard { IfOk result (λ r. L.heard listener r.0 (calls_of T.answers (λ (d : Decided). d.act) told tellers.now order.now)) }
     ensures count { IfOk result (λ r. r.1 ≡ length (calls_of T.answers (λ (d : Decided). d.act) told tellers.now order.now)) }
 {
-    let mut marks = vec![in alloc; Mark { picks: 0, told: 0 }; tellers.len()]?;
+    let mut marks = first_marks(alloc, tellers)?;
     let mut listener = listener;
     let mut count = 0;
     for thread in order {

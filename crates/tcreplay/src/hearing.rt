@@ -20,6 +20,7 @@ impl Listener for Lines {
 
     ghost may_hear = { λ before earlier line. ⊤ };
 
+    #[inline(always)]
     fn hear(&mut self, line: &CallLine) -> Result<(), AllocError> {
         push_call_line(&mut self.text, line)?;
         Ok(())

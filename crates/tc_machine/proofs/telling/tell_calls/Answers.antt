@@ -11,7 +11,7 @@ use Rattle.tc_machine.proofs.telling.tell_calls.Goals.{in-Some+in_ok-hear, in_de
 
 pub loop-thread-init : goal.loop-thread-init
 loop-thread-init g c =
-    (first_marks g.T.Teller.answers c.args.tellers.now c.in_ok-marks.marks.items (c.in_ok-marks.ensures.items_if_clones_equal (λ y is. is)) c.requires.rising, c.requires.first, refl, omega arith)
+    (first_marks g.T.Teller.answers c.args.tellers.now c.in_ok-marks.marks.items c.in_ok-marks.ensures c.requires.rising, c.requires.first, refl, omega arith)
 
 pub offset_bounds-tellers-t : goal.offset_bounds-tellers-t
 offset_bounds-tellers-t g c = let below = c.requires.threads c.loop-thread.thread-index 0 c.loop-thread-test.true in omega (arith, below)

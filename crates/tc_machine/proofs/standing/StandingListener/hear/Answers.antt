@@ -1,28 +1,27 @@
-use Rattle.std.proofs.Common.{◌≡◌, ℕ, Some, refl, sym, ◌∙◌, arith}
-use Rattle.std.specs.Prelude.{nat_eq}
-use Rattle.std.specs.HashMap.{get}
-use Rattle.tc_machine.proofs.StandingFacts.{freed_len, told_block, told_freed}
+use Rattle.std.proofs.Common.{◌≡◌, refl, arith}
+use Rattle.tc_machine.proofs.StandingFacts.{quiet_answer, read_noted, freed_noted, freed_within, told_block, told_freed, told_other}
 use Rattle.tc_machine.proofs.standing.StandingListener.hear.Goals as goal
-
--- what is taken away, by the call's condition
-taken : {a b : ℕ} → Some a ≡ Some b → a ≡ b
-taken is = cc
 
 pub overflow_sub-self-in-Freed : goal.overflow_sub-self-in-Freed
 overflow_sub-self-in-Freed c =
+    let s = c.args.self.now in
     let r = c.requires in
-    let may = r.3 in
-    let f = freed_len c.args.self.now c.args.line.now may.huge may.round r.1 r.2 may.apart may.arena may.allowed c.in-Freed.addr c.in-Freed.is in
-    let same : c.in-Some.len ≡ f.0 = taken (sym c.in-Some.is ∙ (c.remove.ensures.value ∙ f.1)) in
-    omega (arith, same, f.2)
+    let noted = freed_noted s c.args.line.now r.3.huge r.3.round r.1 r.2 r.3.apart r.3.arena r.3.allowed c.in-Free.label c.in-Freed.addr c.in-Freed.is c.in-Free.is in
+    let within = freed_within s c.args.line.now r.3.huge r.3.round r.1 r.2 r.3.apart r.3.arena r.3.allowed c.in-Free.label c.in-Freed.addr c.in-Freed.is c.in-Free.is in
+    omega (arith, read_noted s.lens.items c.in-Free.label.0 _ c.index.result.now noted c.index.ensures, within.0)
 
-pub returns-in-Ok : goal.returns-in-Ok
-returns-in-Ok c before earlier stand may =
-    told_block c.args.self.now c.args.line.now may.huge may.round earlier stand may.apart may.arena may.allowed c.in-Block.addr c.in-Block.len _ c.in-Block.is c.in-Ok.ensures.updates refl refl
+pub returns-in_ok-note-in-Block : goal.returns-in_ok-note-in-Block
+returns-in_ok-note-in-Block c before earlier stand may =
+    told_block c.args.self.now c.args.line.now may.huge may.round earlier stand may.apart may.arena may.allowed c.in-Block.addr c.in-Block.len c.in-Malloc.label c.in-Malloc.size _ c.in-Block.is c.in-Malloc.is c.in_ok-note-in-Block.ensures.here c.in_ok-note-in-Block.ensures.others refl refl
 
-pub returns-in-Some : goal.returns-in-Some
-returns-in-Some c before earlier stand may =
-    let f = freed_len c.args.self.now c.args.line.now may.huge may.round earlier stand may.apart may.arena may.allowed c.in-Freed.addr c.in-Freed.is in
-    let got : Some c.in-Some.len ≡ get nat_eq c.args.self.now.lens c.in-Freed.addr.0 = sym c.in-Some.is ∙ c.remove.ensures.value in
-    let same : c.in-Some.len ≡ f.0 = taken (got ∙ f.1) in
-    told_freed c.args.self.now c.args.line.now may.huge may.round earlier stand may.apart may.arena may.allowed c.in-Freed.addr c.in-Some.len _ c.in-Freed.is got c.in-Some.ensures.updates (omega (arith, f.3)) (omega (arith, f.2, same))
+pub returns-in-Free : goal.returns-in-Free
+returns-in-Free c before earlier stand may =
+    let s = c.args.self.now in
+    let noted = freed_noted s c.args.line.now may.huge may.round earlier stand may.apart may.arena may.allowed c.in-Free.label c.in-Freed.addr c.in-Freed.is c.in-Free.is in
+    let within = freed_within s c.args.line.now may.huge may.round earlier stand may.apart may.arena may.allowed c.in-Free.label c.in-Freed.addr c.in-Freed.is c.in-Free.is in
+    let same = read_noted s.lens.items c.in-Free.label.0 _ c.index.result.now noted c.index.ensures in
+    told_freed s c.args.line.now may.huge may.round earlier stand may.apart may.arena may.allowed c.in-Free.label c.in-Freed.addr c.in-Freed.is c.in-Free.is _ refl (omega (arith, within.1)) (omega (arith, within.0, same))
+
+pub returns-in_default : goal.returns-in_default
+returns-in_default c before earlier stand may =
+    told_other c.args.self.now c.args.line.now may.huge may.round earlier stand may.apart may.arena may.allowed (quiet_answer c.args.line.now.answer c.in_default.not-Block c.in_default.not-Freed)
