@@ -109,8 +109,8 @@ impl RangedBits {
         requires { before ≤ length self.now }
         ensures { IsEnd self.now before true result }
     {
-        if before == 0 {
-            return 0;
+        if before == 0 || self.bits.is_used(before - 1) {
+            return before;
         }
         match self.last_range(before - 1) {
             Some(range) if before <= range.start + range.len => range.start,
@@ -123,7 +123,7 @@ impl RangedBits {
         requires { from ≤ length self.now }
         ensures { IsNext self.now from true result }
     {
-        if from == self.bits.places() {
+        if from == self.bits.places() || self.bits.is_used(from) {
             return from;
         }
         match self.last_range(from) {
