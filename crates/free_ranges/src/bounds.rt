@@ -46,11 +46,15 @@ fn bounds_at(bits: &WideBits, place: u32) -> (bool, bool)
     (!used && used_before, used && !used_before)
 }
 
-/// Puts a place into a set, or takes it out.
+/// Puts a place into a set, or takes it out. Most places are as they shall be.
+#[inline(always)]
 fn put(set: &mut PlaceSet, place: u32, is_in: bool)
     requires { place < length set.old }
     ensures { set.new ≡ slice_set set.old place is_in }
 {
+    if set.has(place as usize) == is_in {
+        return;
+    }
     if is_in {
         set.insert(place as usize);
     } else {

@@ -46,8 +46,8 @@ pub(crate) fn has(levels: &[Level], place: usize) -> bool
     levels[0].has(place)
 }
 
-/// Puts a place into the set, or takes it out. Nothing changes where it is as it shall be. The level above changes where
-/// its word comes to have a place, or has none left.
+/// Puts a place into the set, or takes it out. The level above changes where its word comes to have a place, or has
+/// none left.
 pub(crate) fn put_in(levels: &mut [Level], place: usize, is_in: bool)
     requires tree { IsTree levels.old }
     requires inside { place < places_of levels.old }
@@ -55,9 +55,6 @@ pub(crate) fn put_in(levels: &mut [Level], place: usize, is_in: bool)
     ensures size { places_of levels.new ≡ places_of levels.old }
     ensures places { (k : ℕ) → has_at levels.new k ≡ (if k == place then is_in else has_at levels.old k) }
 {
-    if levels[0].has(place) == is_in {
-        return;
-    }
     let had_any = levels[0].has_any(place / 64);
     let has_any = levels[0].put(place, is_in);
     if has_any == had_any {
