@@ -1,5 +1,5 @@
 //! Words and numbers, written into a line from its end, or appended to a text.
-ghost use Rattle.std.specs.Prelude.{◌≡◌, ◌+◌, ◌≤◌, [], ◌∷◌, ◌++◌, OnOk, codes, decimal, drop, length};
+ghost use Rattle.std.specs.Prelude.{◌≡◌, ◌+◌, ◌≤◌, [], ◌∷◌, ◌++◌, OnOk, decimal, drop, length};
 ghost use Rattle.usage_report.specs.Report.{spaced, line_of};
 
 use itoa::write_digits;

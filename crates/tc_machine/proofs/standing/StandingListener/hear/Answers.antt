@@ -1,4 +1,4 @@
-use Rattle.std.proofs.Common.{◌≡◌, refl, arith}
+use Rattle.std.proofs.Common.{refl, arith}
 use Rattle.tc_machine.proofs.StandingFacts.{quiet_answer, read_noted, freed_noted, freed_within, told_block, told_freed, told_other}
 use Rattle.tc_machine.proofs.standing.StandingListener.hear.Goals as goal
 
