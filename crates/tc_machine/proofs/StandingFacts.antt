@@ -1,5 +1,5 @@
 -- What a call's answer makes of the blocks that stand.
-use Rattle.std.proofs.Common.{◌≡◌, ℕ, ◌+◌, ◌^◌, ◌≤◌, true, false, not, cond, eqb, get_or, List, [], ◌∷◌, ◌++◌, length, take, Option, Some, None, refl, sym, ap, ◌∙◌, subst, arith, inl, inr, eq-eqb}
+use Rattle.std.proofs.Common.{◌≡◌, ℕ, ◌+◌, ◌^◌, ◌≤◌, false, not, cond, eqb, get_or, List, [], ◌∷◌, ◌++◌, length, take, Option, Some, None, refl, sym, ap, ◌∙◌, subst, arith, inl, inr}
 use Rattle.std.specs.Prelude.{count_by, find, sum_by}
 use Rattle.std.specs.List.{slice_get}
 use Rattle.std.specs.Option.{option_or}
@@ -15,7 +15,7 @@ use Rattle.tc_units.proofs.SortedFacts.{length-with_item, sum_by-with_item, with
 use Rattle.tc_model.specs.declared.calls.Call.{Call}
 use Rattle.tc_model.specs.declared.calls.Call.TheVariants.{Malloc, Free}
 use Rattle.tc_model.specs.declared.answers.Answer.{Answer}
-use Rattle.tc_model.specs.declared.answers.Answer.TheVariants.{Block, NoBlock, Freed, FreedNull, Released, Drained, Busy, CapSet, OverLimit, OverStatic}
+use Rattle.tc_model.specs.declared.answers.Answer.TheVariants.{Block, Freed}
 use Rattle.tc_model.specs.declared.answers.CallLine.{CallLine}
 use Rattle.tc_model.specs.Blocks.{Extent, blocks_after, blocks_with, with_block, without_block, allocates, answer_to, FreesBlock, IsAllowed, IsBlockRun}
 use Rattle.holdings.specs.Apart.{AreApart}
@@ -24,18 +24,13 @@ use Rattle.holdings.proofs.Standing.{answer_same}
 use Rattle.holdings.proofs.Blocks.{apart_after, place_of}
 use Rattle.tc_machine.specs.Arena.{most_huge}
 use Rattle.tc_machine.specs.declared.standing.Standing.{Standing}
-use Rattle.tc_machine.specs.declared.standing.TheConstants.{NO_BLOCK}
 use Rattle.tc_machine.specs.Standing.{noted, len_of, IsNoted, AreStanding, MayStand}
 use Rattle.tc_machine.specs.Telling.{HearsEach}
 
 -- where none begins at an address, none is found there
 none_found : (a : ℕ) (bs : List Extent) → count_by (λ (b : Extent). eqb b.addr a) bs ≡ 0 → find (λ (b : Extent). eqb b.addr a) bs ≡ None
 none_found a [] none = refl
-none_found a (b ∷ bs) none =
-    elim (cases_Bool (eqb b.addr a)) [
-      | inl here ↦ absurd (omega (arith, none, count-cons (λ (x : Extent). eqb x.addr a) b bs, ap (λ t. cond {A = ℕ} t 1 0) here))
-      | inr other ↦ cond-false (eqb b.addr a) (Some b) (find (λ (x : Extent). eqb x.addr a) bs) other ∙ none_found a bs (omega (arith, none, count-cons (λ (x : Extent). eqb x.addr a) b bs))
-    ]
+none_found a (b ∷ bs) none = grind (arith, count-cons (λ (x : Extent). eqb x.addr a) b bs, none_found a bs)
 
 -- and where one is found, that one alone leaves
 pub record LeavesOne (a : ℕ) (bs : List Extent) (b : Extent) : Type 0 where
@@ -69,11 +64,7 @@ leaves_one a (x ∷ xs) b once found =
 
 -- what is noted of a label stands at its place
 noted_is : (o : Option ℕ) (len : ℕ) → noted o ≡ Some len → o ≡ Some len
-noted_is None len is = absurd (cc)
-noted_is (Some n) len is = elim (cases_Bool (eqb n NO_BLOCK)) [
-  | inl none ↦ (let e : None ≡ Some len = sym (cond-true (eqb n NO_BLOCK) None (Some n) none) ∙ is in absurd (cc))
-  | inr some ↦ sym (cond-false (eqb n NO_BLOCK) None (Some n) some) ∙ is
-]
+noted_is o len is = grind (arith)
 
 pub read_noted : (lens : List ℕ) (label len n : ℕ) → len_of lens label ≡ Some len → n ≡ get_or lens label n → n ≡ len
 read_noted lens label len n is read =
@@ -88,41 +79,16 @@ pub record IsQuiet (answer : Answer) : Type 0 where
   pub notes : (n : Option ℕ) → IsNoted (Some answer) n
 
 pub quiet_answer : (answer : Answer) → ((addr : Addr) (len : ℕ) → answer ≡ Block addr len → ⊥) → ((addr : Addr) → answer ≡ Freed addr → ⊥) → IsQuiet answer
-quiet_answer (Block addr len) block freed = absurd (block addr len refl)
-quiet_answer NoBlock block freed = record { same = λ _. refl; notes = λ _. tt }
-quiet_answer (Freed addr) block freed = absurd (freed addr refl)
-quiet_answer FreedNull block freed = record { same = λ _. refl; notes = λ _. tt }
-quiet_answer (Released pages) block freed = record { same = λ _. refl; notes = λ _. tt }
-quiet_answer (Drained objects) block freed = record { same = λ _. refl; notes = λ _. tt }
-quiet_answer (Busy owner) block freed = record { same = λ _. refl; notes = λ _. tt }
-quiet_answer CapSet block freed = record { same = λ _. refl; notes = λ _. tt }
-quiet_answer (OverLimit sum) block freed = record { same = λ _. refl; notes = λ _. tt }
-quiet_answer (OverStatic cap) block freed = record { same = λ _. refl; notes = λ _. tt }
+quiet_answer answer block freed = record { same = λ blocks. grind (arith, block, freed); notes = λ n. grind (arith, block) }
 
 -- what is noted stays
 noted_still : (answer : Answer) (n m : Option ℕ) (len : ℕ) → m ≡ option_or n (Some len) → IsNoted (Some answer) n → IsNoted (Some answer) m
-noted_still (Block addr bytes) n m len is noted = is ∙ ap (λ k. option_or k (Some len)) noted
-noted_still NoBlock n m len is noted = tt
-noted_still (Freed addr) n m len is noted = tt
-noted_still FreedNull n m len is noted = tt
-noted_still (Released pages) n m len is noted = tt
-noted_still (Drained objects) n m len is noted = tt
-noted_still (Busy owner) n m len is noted = tt
-noted_still CapSet n m len is noted = tt
-noted_still (OverLimit sum) n m len is noted = tt
-noted_still (OverStatic cap) n m len is noted = tt
+noted_still answer n m len is noted = grind (arith)
 
 -- of two allocations of a label the first one counts
 noted_first : (earlier : List CallLine) (line : CallLine) (addr : Addr) (len : ℕ) (label : Label) (size : ℕ) (n m : Option ℕ) → line.answer ≡ Block addr len → line.call ≡ Malloc label size
     → m ≡ option_or n (Some len) → IsNoted (answer_to label.0 earlier) n → IsNoted (answer_to label.0 (earlier ++ line ∷ [])) m
-noted_first earlier line addr len label size n m is asks after noted = elim (answer_cases (answer_to label.0 earlier)) [
-  | inl none ↦
-      let own : allocates label.0 line.call ≡ true = ap (allocates label.0) asks ∙ eq-eqb label.0 label.0 refl in
-      let now : answer_to label.0 (earlier ++ line ∷ []) ≡ Some (Block addr len) = answer_to-push_new label.0 earlier line none ∙ (ap (λ b. cond b (Some line.answer) None) own ∙ ap (λ a. Some a) is) in
-      let before : n ≡ None = subst (λ (o : Option Answer). IsNoted o n) none noted in
-      subst (λ (o : Option Answer). IsNoted o m) (sym now) (after ∙ ap (λ k. option_or k (Some len)) before)
-  | inr some ↦ subst (λ (o : Option Answer). IsNoted o m) (sym (answer_to-push_old label.0 earlier line some.0 some.1)) (noted_still some.0 n m len after (subst (λ (o : Option Answer). IsNoted o n) some.1 noted))
-]
+noted_first earlier line addr len label size n m is asks after noted = grind (arith, answer_cases, answer_to-push_new, answer_to-push_old, noted_still)
 
 -- an allocation's block lies in an arena of at most 2^37 bytes
 pub len_small : (huge : ℕ) (round : ℕ → ℕ) (earlier : List CallLine) (call : Call) (addr : Addr) (len : ℕ) → huge ≤ most_huge → IsAllowed huge round earlier call (Block addr len) → len ≤ 2 ^ 37
@@ -174,14 +140,7 @@ module _ (s : Standing) (line : CallLine) (huge : ℕ) (round : ℕ → ℕ) (ea
 
   -- another answer notes nothing
   quiet_lens : ((n : Option ℕ) → IsNoted (Some line.answer) n) → (label : ℕ) → IsNoted (answer_to label (earlier ++ line ∷ [])) (len_of s.lens.items label)
-  quiet_lens quiet label = elim (answer_cases (answer_to label earlier)) [
-    | inl none ↦ subst (λ (o : Option Answer). IsNoted o (len_of s.lens.items label)) (sym (answer_to-push_new label earlier line none)) (
-        elim (allocates label line.call) as (λ b. IsNoted (cond b (Some line.answer) None) (len_of s.lens.items label)) [
-          | true ↦ quiet (len_of s.lens.items label)
-          | false ↦ subst (λ (o : Option Answer). IsNoted o (len_of s.lens.items label)) none (stand.lens label)
-        ])
-    | inr some ↦ subst (λ (o : Option Answer). IsNoted o (len_of s.lens.items label)) (some.1 ∙ sym (answer_to-push_old label earlier line some.0 some.1)) (stand.lens label)
-  ]
+  quiet_lens quiet label = grind (arith, answer_cases, answer_to-push_new, answer_to-push_old, quiet, stand.lens label)
 
   module _ (label : Label) (addr : Addr) (is : line.answer ≡ Freed addr) (asks : line.call ≡ Free label) where
     abbrev pub frees : FreesBlock earlier label.0 addr.0

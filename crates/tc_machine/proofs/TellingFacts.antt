@@ -3,7 +3,7 @@ use Rattle.std.proofs.Common.{◌≡◌, ℕ, zero, suc, ◌+◌, ◌<◌, ◌�
 use Rattle.std.specs.Prelude.{option_map}
 use Rattle.std.specs.List.{slice_get, slice_set}
 use Rattle.std.proofs.lemmas.List.{append-nil, append_assoc, take_more, take-append-drop, length-map, length-set}
-use Rattle.std.proofs.lemmas.Option.{slice_get-get_or, slice_get-map}
+use Rattle.std.proofs.lemmas.Option.{slice_get_within, slice_get-get_or, slice_get-map}
 use Rattle.tc_model.proofs.Lists.{set_here, set_elsewhere}
 use Rattle.tc_model.proofs.CallSteps.{picks-push_same, picks-push_other, calls_from-push}
 use Rattle.std.proofs.lemmas.Bool.{cases_eq, false≢true, eqb-true, ne_eqb, cond-true, cond-false}
@@ -28,11 +28,6 @@ past_all [] zero is = refl
 past_all [] (suc i) is = refl
 past_all (y ∷ ys) zero is = absurd (cc)
 past_all (y ∷ ys) (suc i) is = past_all ys i is
-
-within_at : {X : Type 0} (xs : List X) (i : ℕ) (x : X) → slice_get xs i ≡ Some x → i + 1 ≤ length xs
-within_at [] i x is = absurd (cc)
-within_at (y ∷ ys) zero x is = omega arith
-within_at (y ∷ ys) (suc i) x is = omega (arith, within_at ys i x is)
 
 -- The next pick decided the answer at the place.
 module _ (answers : List Decided) (m : Mark) (mark : IsMark answers m) where
@@ -61,7 +56,7 @@ module _ (answers : List Decided) (m : Mark) (mark : IsMark answers m) where
       let rest : drop m.told answers ≡ d.0 ∷ drop (m.told + 1) answers = split_at answers m.told d.0 d.1 in
       let rising : AreRising act_of m.picks (d.0 ∷ drop (m.told + 1) answers) = subst (AreRising act_of m.picks) rest mark.behind in
       record {
-        within = within_at answers m.told d.0 d.1;
+        within = omega (arith, slice_get_within answers m.told d.0 d.1);
         few = omega (arith, mark.few);
         due = next;
         behind = subst (λ n. AreRising act_of (n + 1) (drop (m.told + 1) answers)) d.2 rising.1;
