@@ -1,22 +1,21 @@
 -- The laws: which objects an act moves, by its answer, and what else it keeps.
-use Rattle.std.proofs.Common.{◌≡◌, ℕ, ◌+◌, ◌-◌, ◌<◌, Bool, true, false, eqb, ◌++◌, reverse, length, min, Option, Some, None, refl, sym, ap, ◌∙◌, arith}
-use Rattle.std.proofs.lemmas.Bool.{cond_both, eqb-true}
+use Rattle.std.proofs.Common.{◌≡◌, ℕ, ◌+◌, ◌-◌, ◌<◌, Bool, true, false, eqb, length, Option, Some, None, refl, ap, ◌∙◌, arith}
+use Rattle.std.proofs.lemmas.Bool.{eqb-true}
 use Rattle.std.proofs.lemmas.List.{length-take}
 use Rattle.tc_units.specs.Bag.{Contents}
 use Rattle.tc_units.specs.declared.units.Addr.{Addr}
 use Rattle.cpu_slab.specs.Slots.{SlabRow, row_at, held}
 use Rattle.cpu_slab.proofs.SlabFacts.{row_same, row_other, row_sound, row_slots}
 use Rattle.rseq_core.specs.declared.sequence.Pc.{Pc}
-use Rattle.rseq_core.specs.declared.sequence.Pc.TheVariants.{Begin, Header, Test, Copy, Commit}
 use Rattle.rseq_core.specs.declared.sequence.Reply.{Reply}
 use Rattle.rseq_core.specs.declared.sequence.Reply.TheVariants.{Popped, Pushed, Empty, Full, Stopped}
 use Rattle.rseq_core.specs.declared.regs.Regs.{Regs}
 use Rattle.rseq_core.specs.declared.cpu_part.CpuPart.{CpuPart}
 use Rattle.rseq_core.specs.Bags.{room, emptied}
-use Rattle.rseq_core.specs.Tables.{Cell, is_pop, wanted, closes, counted, cell}
+use Rattle.rseq_core.specs.Tables.{Cell, is_pop, counted, cell}
 use Rattle.rseq_core.specs.Agrees.{Agrees, IsSilent, Does}
 use Rattle.rseq_core.specs.Acts.{IsCurrent, runs, stands, instruction, with_cell, answered, arrival, instructed_by, grew_by}
-use Rattle.rseq_core.proofs.CellKept.{CellOk, cell_ok, test_cell}
+use Rattle.rseq_core.proofs.CellKept.{CellOk, cell_ok}
 use Rattle.rseq_core.proofs.Able.{KeepsRoom, able_from_agrees, cell_room}
 use Rattle.cpu_drain.specs.Seats.{CpuOk}
 use Rattle.cpu_drain.specs.Laws.{MovesNone, AnswerMoves, BeginsAfter, AreOfSame, Instructs, InstructDoes, Grows, GrowDoes, TakeDoes}
@@ -25,25 +24,10 @@ use Rattle.cpu_drain.proofs.Lawful.{growth_keeps}
 
 -- an instruction ends its sequence at the begin, and is counted
 cell_begins : (stopped pops : Bool) (row : SlabRow) (r : Regs) (pc : Pc) → BeginsAfter (answered (cell stopped pops row r pc).reply) (cell stopped pops row r pc).regs
-cell_begins stopped pops row r Begin = tt
-cell_begins true pops row r Header = record { pc = refl; nothing = refl }
-cell_begins false pops row r Header = tt
-cell_begins stopped pops row r Test = test_cell (λ c. BeginsAfter (answered c.reply) c.regs) stopped pops row r
-    (record { pc = refl; nothing = refl }) (record { pc = refl; nothing = refl }) (λ n. tt)
-cell_begins stopped true row r (Copy n) = tt
-cell_begins stopped false row r (Copy n) = tt
-cell_begins stopped true row r Commit = record { pc = refl; nothing = refl }
-cell_begins stopped false row r Commit = record { pc = refl; nothing = refl }
+cell_begins x0 x1 row r x4 = grind (arith)
 
 cell_ran : (stopped pops : Bool) (row : SlabRow) (r : Regs) (pc : Pc) → (cell stopped pops row r pc).regs.ran ≡ r.ran + 1
-cell_ran stopped pops row r Begin = refl
-cell_ran true pops row r Header = refl
-cell_ran false pops row r Header = refl
-cell_ran stopped pops row r Test = test_cell (λ c. c.regs.ran ≡ r.ran + 1) stopped pops row r refl refl (λ n. refl)
-cell_ran stopped true row r (Copy n) = refl
-cell_ran stopped false row r (Copy n) = refl
-cell_ran stopped true row r Commit = refl
-cell_ran stopped false row r Commit = refl
+cell_ran x0 x1 row r x4 = grind (arith)
 
 -- which sequence a reply is of
 abbrev pub IsOfWay : Bool → Option Reply → Type 0
@@ -55,14 +39,7 @@ IsOfWay pops (Some Stopped) = Unit {0}
 IsOfWay pops None = Unit {0}
 
 cell_way : (stopped pops : Bool) (row : SlabRow) (r : Regs) (pc : Pc) → IsOfWay pops (cell stopped pops row r pc).reply
-cell_way stopped pops row r Begin = tt
-cell_way true pops row r Header = tt
-cell_way false pops row r Header = tt
-cell_way stopped pops row r Test = test_cell (λ c. IsOfWay pops c.reply) stopped pops row r tt tt (λ n. tt)
-cell_way stopped true row r (Copy n) = tt
-cell_way stopped false row r (Copy n) = tt
-cell_way stopped true row r Commit = refl
-cell_way stopped false row r Commit = refl
+cell_way x0 x1 row r x4 = grind (arith)
 
 -- what its cell does moves the objects of its class's row
 silent_moves : (old new : SlabRow) (r : Regs) (c : Cell) → new ≡ c.row → IsSilent old r c → MovesNone old new r c.regs
@@ -70,15 +47,7 @@ silent_moves old new r c is quiet = record { row = ap held is ∙ quiet.row; han
 
 cell_moves : (stopped : Bool) (old new : SlabRow) (r : Regs) (c : Cell) (o : Option Reply)
     → new ≡ c.row → IsOfWay (is_pop r.seq) o → Does stopped old r c o → AnswerMoves (answered o) old new r c.regs
-cell_moves stopped old new r c None is way does = silent_moves old new r c is does
-cell_moves stopped old new r c (Some Stopped) is way does = silent_moves old new r c is does.0
-cell_moves stopped old new r c (Some Empty) is way does = silent_moves old new r c is does.0
-cell_moves stopped old new r c (Some Full) is way does = silent_moves old new r c is does.0
-cell_moves stopped old new r c (Some Popped) is way does =
-    let row = does.row ∙ ap (λ (x : SlabRow). held x ++ reverse does.got) (sym is) in
-    record { pops = way; got = does.got; some = λ e. omega (arith, does.some, does.filled); few = omega (arith, does.some); row = row; hand = does.hand }
-cell_moves stopped old new r c (Some (Pushed n)) is way does =
-    record { pushes = way; some = λ e. omega (arith, does.some, does.free); few = does.few; row = ap held is ∙ does.row; hand = does.hand }
+cell_moves stopped old new r c x5 is way does = grind (arith)
 
 room_emptied : (bag : Contents Addr) → room (emptied bag) ≡ room bag
 room_emptied bag = omega arith

@@ -6,7 +6,7 @@ use Rattle.std.proofs.lemmas.Bool.Decides.{nat_tests}
 use Rattle.tc_units.specs.declared.units.ThreadNo.{ThreadNo}
 use Rattle.cpu_slab.specs.Slots.{SlabRow, row_at}
 use Rattle.rseq_core.specs.declared.sequence.Pc.{Pc}
-use Rattle.rseq_core.specs.declared.sequence.Pc.TheVariants.{Begin, Header, Test, Copy, Commit}
+use Rattle.rseq_core.specs.declared.sequence.Pc.TheVariants.{Begin}
 use Rattle.rseq_core.specs.declared.regs.Regs.{Regs}
 use Rattle.rseq_core.specs.declared.cpu_part.CpuPart.{CpuPart}
 use Rattle.rseq_core.specs.Agrees.{Agrees, IsAtRest}
@@ -43,11 +43,7 @@ begin_rests pc begin = rw begin tt
 
 -- at rest nothing is said of the row
 pub agrees_at_rest : (pops : Bool) (row row' : SlabRow) (r : Regs) (pc : Pc) → IsAtRest pc → Agrees pops row r pc → Agrees pops row' r pc
-agrees_at_rest pops row row' r Begin rests has = has
-agrees_at_rest pops row row' r Header rests has = has
-agrees_at_rest pops row row' r Test rests has = absurd rests
-agrees_at_rest pops row row' r (Copy n) rests has = absurd rests
-agrees_at_rest pops row row' r Commit rests has = absurd rests
+agrees_at_rest pops row row' r x4 rests has = grind (arith)
 
 -- what a stopper holds stays, where it stays the stopper, and after its fence the mark and empty classes stay
 pub stage_kept : (i : ℕ) (t : ThreadNo) (p p' : CpuPart) (o : Option Standing)

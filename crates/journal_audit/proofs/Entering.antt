@@ -19,7 +19,6 @@ use Rattle.journal_audit.specs.declared.told.Place.{Place}
 use Rattle.journal_audit.specs.declared.told.Act.{Act}
 use Rattle.journal_audit.specs.declared.told.Act.TheVariants.{Malloc, Free, Release, Drain, Resize}
 use Rattle.journal_audit.specs.declared.answers.Given.{Given}
-use Rattle.journal_audit.specs.declared.answers.Given.TheVariants.{Unanswered, Null, At, Freed}
 use Rattle.journal_audit.specs.declared.books.Books.{Books}
 use Rattle.journal_audit.specs.Forms.{names, answer_of, malloc_answer, free_answer}
 use Rattle.journal_audit.specs.Rules.{Plan, count_of, line_of}
@@ -49,11 +48,7 @@ same_label calls c l g other apart is = grind (arith, answer_push, freed_push, o
 -- a label behind its own allocation: its first answer stays
 first_answer : (g : Given) (o : Option Answer) (freed : Bool) (block : Option Place) → IsGiven g o freed
     → IsGiven (first_given (malloc_given block) g) (option_or o (Some (malloc_answer block))) freed
-first_answer Unanswered o freed None is = (ap (λ x. option_or x (Some answer.NoBlock)) is.0, is.1)
-first_answer Unanswered o freed (Some place) is = ((place.len, ap (λ x. option_or x (Some (malloc_answer (Some place)))) is.0), is.1)
-first_answer Null o freed block is = (ap (λ x. option_or x (Some (malloc_answer block))) is.0, is.1)
-first_answer (At addr) o freed block is = ((is.0.0, ap (λ x. option_or x (Some (malloc_answer block))) is.0.1), is.1)
-first_answer Freed o freed block is = is
+first_answer x0 o freed x3 is = grind (arith)
 
 given_push : (calls : List CallLine) (thread : ThreadNo) (act : Act) (c : Call) (l : ℕ) (g : Given) → names act c ≡ true
     → IsGiven g (answer_to l calls) (freed_in l calls) → (let line : CallLine = record { thread = thread; call = c; answer = answer_of act } in

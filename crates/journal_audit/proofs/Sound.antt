@@ -210,17 +210,4 @@ sound_push plan calls thread act c sound named keeps = absurd (false≢true name
 -- a call that a line tells, and that is allowed, keeps the rules
 pub allowed_keeps : (plan : Plan) (calls : List CallLine) (act : Act) (c : Call) → names act c ≡ true
     → IsAllowed plan.huge (length_of plan.rows) calls c (answer_of act) → Keeps plan calls c (answer_of act)
-allowed_keeps plan calls (Malloc label (Some place)) (call.Malloc l size) named allowed =
-    record { long = eq-eqb place.len (length_of plan.rows size) allowed.0; inside = lies_there plan.huge place.addr place.len allowed.1.inside; apart = allowed.1.apart; own = refl }
-allowed_keeps plan calls (Free label (Some addr)) (call.Free l) named allowed =
-    record { long = refl; inside = refl; apart = refl; own = and_from _ _ (ap not allowed.once) (ap (is_block_at addr) allowed.answered ∙ eq-eqb addr addr refl) }
-allowed_keeps plan calls (Free label None) (call.Free l) named allowed = record { long = refl; inside = refl; apart = refl; own = and_from _ _ (ap not allowed.once) (ap is_null allowed.answered) }
-allowed_keeps plan calls (Malloc label None) (call.Malloc l size) named allowed = record { long = refl; inside = refl; apart = refl; own = refl }
-allowed_keeps plan calls (Release pages) (call.Release wanted) named allowed = record { long = refl; inside = refl; apart = refl; own = refl }
-allowed_keeps plan calls (Drain cpu (drained.Objects n)) (call.Drain at) named allowed = record { long = refl; inside = refl; apart = refl; own = refl }
-allowed_keeps plan calls (Drain cpu (drained.Busy n)) (call.Drain at) named allowed = record { long = refl; inside = refl; apart = refl; own = refl }
-allowed_keeps plan calls (Resize cpu class cap_ resized.Set) (call.Resize at k n) named allowed = record { long = refl; inside = refl; apart = refl; own = refl }
-allowed_keeps plan calls (Resize cpu class cap_ (resized.Busy m)) (call.Resize at k n) named allowed = record { long = refl; inside = refl; apart = refl; own = refl }
-allowed_keeps plan calls (Resize cpu class cap_ (resized.OverStatic m)) (call.Resize at k n) named allowed = record { long = refl; inside = refl; apart = refl; own = refl }
-allowed_keeps plan calls (Resize cpu class cap_ (resized.OverLimit m)) (call.Resize at k n) named allowed = record { long = refl; inside = refl; apart = refl; own = refl }
-allowed_keeps plan calls act c named allowed = absurd (false≢true named)
+allowed_keeps plan calls x2 x3 named allowed = grind (arith)

@@ -53,11 +53,7 @@ counted : (word : List ℕ) (n : ℕ) → IsField word → All IsField (word ∷
 counted word n is = two word (decimal n) is (decimal_is_field n)
 
 letter_is_field : (c : Call) → IsField (letter_of c)
-letter_is_field (call.Malloc label size) = word_is_field (codes "a") refl
-letter_is_field (call.Free label) = word_is_field (codes "f") refl
-letter_is_field (call.Release pages) = word_is_field (codes "r") refl
-letter_is_field (call.Drain cpu) = word_is_field (codes "d") refl
-letter_is_field (call.Resize cpu class_ cap) = word_is_field (codes "z") refl
+letter_is_field x0 = grind (arith)
 
 named_are_fields : (c : Call) → All IsField (named_words c)
 named_are_fields (call.Malloc label size) = one (decimal label.0) (decimal_is_field label.0)

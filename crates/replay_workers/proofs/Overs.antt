@@ -7,19 +7,14 @@ use Rattle.std.proofs.lemmas.List.Folds.{list_any_at}
 use Rattle.tc_model.specs.declared.board.Halt.{Halt}
 use Rattle.tc_model.specs.declared.board.Halt.TheVariants.{Memory, Full}
 use Rattle.tc_model.specs.declared.board.Turn.{Turn}
-use Rattle.tc_model.specs.declared.board.Turn.TheVariants.{Moved, NotYet, Held, Ended, Halted}
+use Rattle.tc_model.specs.declared.board.Turn.TheVariants.{Ended}
 use Rattle.tc_model.specs.Turns.{is_halted}
 use Rattle.replay_workers.specs.declared.worker.Worker.{Worker}
 use Rattle.replay_workers.specs.Runs.{Done, is_halt_for, is_any_halted, halt_among, halt_of, lasts_of}
 
 -- a turn that was halted was so for one of the causes
 halted_for : (answer : Turn) → is_halted answer ≡ true → (is_halt_for Memory answer ≡ true) ⊎ (is_halt_for Full answer ≡ true)
-halted_for (Halted Memory) is = inl refl
-halted_for (Halted Full) is = inr refl
-halted_for Moved is = absurd (cc)
-halted_for NotYet is = absurd (cc)
-halted_for Held is = absurd (cc)
-halted_for Ended is = absurd (cc)
+halted_for x0 is = grind (arith)
 
 no_cause : (memory full : Bool) → cond memory (Some Memory) (cond full (Some Full) None) ≡ None → (memory ≡ false) × (full ≡ false)
 no_cause false false none = (refl, refl)

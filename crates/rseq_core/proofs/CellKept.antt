@@ -240,8 +240,4 @@ pub record RestsThen (old : SlabRow) (c : Cell) : Type 0 where
   pub row : c.row ≡ old
 
 pub cell_rests : (pops : Bool) (row : SlabRow) (r : Regs) (pc : Pc) → IsAtRest pc → RestsThen row (cell true pops row r pc)
-cell_rests pops row r Begin rests = record { rests = tt; row = refl }
-cell_rests pops row r Header rests = record { rests = tt; row = refl }
-cell_rests pops row r Test rests = absurd rests
-cell_rests pops row r (Copy done) rests = absurd rests
-cell_rests pops row r Commit rests = absurd rests
+cell_rests pops row r x3 rests = grind (arith)

@@ -1,15 +1,14 @@
 -- An instruction stores at most one place.
-use Rattle.std.proofs.Common.{◌≡◌, ℕ, ◌+◌, ◌-◌, ◌<◌, Bool, true, false, eqb, length, min, refl, sym, ap, ◌∙◌, subst, inl, inr, ◌⊎◌}
-use Rattle.std.proofs.lemmas.Bool.{cond_both, cases_eq}
+use Rattle.std.proofs.Common.{◌≡◌, ℕ, ◌+◌, ◌-◌, ◌<◌, Bool, true, false, length, refl, sym, ap, ◌∙◌, subst, inl, inr, ◌⊎◌}
+use Rattle.std.proofs.lemmas.Bool.{cases_eq}
 use Rattle.std.proofs.lemmas.List.{get_or-set_other}
 use Rattle.cpu_slab.specs.Slots.{SlabRow, CpuSlab, null, row_at, slot_of, with_row}
 use Rattle.cpu_slab.proofs.SlabFacts.{row_same, row_other}
 use Rattle.rseq_core.specs.declared.sequence.Pc.{Pc}
 use Rattle.rseq_core.specs.declared.sequence.Pc.TheVariants.{Begin, Header, Test, Copy, Commit}
-use Rattle.rseq_core.specs.declared.sequence.Reply.TheVariants.{Empty, Full}
 use Rattle.rseq_core.specs.declared.regs.Regs.{Regs}
 use Rattle.rseq_core.specs.declared.cpu_part.CpuPart.{CpuPart}
-use Rattle.rseq_core.specs.Tables.{Cell, is_pop, wanted, object, closes, counted, cell}
+use Rattle.rseq_core.specs.Tables.{is_pop, object, cell}
 use Rattle.rseq_core.proofs.CellKept.{test_cell}
 use Rattle.rseq_core.specs.Acts.{DiffersAtMostOnce, stands, instruction, with_cell}
 

@@ -34,11 +34,7 @@ three_fields (x ∷ y ∷ z ∷ w ∷ more) a b c three first second third = abs
 
 -- any other number of fields breaks the first rule
 pub not_three : (above : ℕ) (fields : List (List ℕ)) → length fields ≢ 3 → check_fields above fields ≡ Err why.Fields
-not_three above [] other = refl
-not_three above (x ∷ []) other = refl
-not_three above (x ∷ y ∷ []) other = refl
-not_three above (x ∷ y ∷ z ∷ []) other = absurd (other refl)
-not_three above (x ∷ y ∷ z ∷ w ∷ more) other = refl
+not_three above x1 other = grind (arith)
 
 -- the rules on three fields, by their numbers
 pub three_numbers : (row above : ℕ) (fields : List (List ℕ)) (a b c : List ℕ) (x y z : Option ℕ) → row ≤ 120 → length fields ≡ 3

@@ -50,18 +50,7 @@ start_record_leaves c =
     leaves_if (ends_with term.CRLF c) (st.StartRecord, act.Skip) (start_field default_config c) (record { leaves = λ e. absurd (false≢true e) }) (start_field_leaves c)
 
 step_leaves : (s : State) (c : ℕ) → Leaves (step default_config s c)
-step_leaves st.StartRecord c = start_record_leaves c
-step_leaves st.StartField c = start_field_leaves c
-step_leaves st.InField c = in_field_leaves c
-step_leaves st.InQuoted c =
-    leaves_if (c == 34) (st.AfterQuote, act.Skip) (st.InQuoted, act.Copy) (record { leaves = λ e. absurd (false≢true e) }) (record { leaves = λ e. absurd (false≢true e) })
-step_leaves st.InEscape c = record { leaves = λ e. absurd (false≢true e) }
-step_leaves st.AfterQuote c =
-    leaves_if (c == 34) (st.InQuoted, act.Copy) (in_field default_config c) (record { leaves = λ e. absurd (false≢true e) }) (in_field_leaves c)
-step_leaves st.InComment c =
-    leaves_if (c == 10) (st.StartRecord, act.Skip) (st.InComment, act.Skip) (record { leaves = λ e. absurd (false≢true e) }) (record { leaves = λ e. absurd (false≢true e) })
-step_leaves st.AfterCr c =
-    leaves_if (c == 10) (st.StartRecord, act.Skip) (start_record default_config c) (record { leaves = λ e. absurd (false≢true e) }) (start_record_leaves c)
+step_leaves x0 c = grind (arith)
 
 -- the end of a text may give one record more
 abbrev one_more : State → ℕ

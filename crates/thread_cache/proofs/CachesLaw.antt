@@ -1,8 +1,8 @@
 -- The caches of threads meet the law of a front-end.
-use Rattle.std.proofs.Common.{◌≡◌, ℕ, zero, suc, ◌+◌, ◌*◌, ◌%◌, ◌<◌, ◌≤◌, ltb, eqb, get_or, List, [], ◌∷◌, length, map, Some, refl, sym, ap, ◌∙◌, subst, inl, inr, arith}
+use Rattle.std.proofs.Common.{◌≡◌, ℕ, zero, suc, ◌+◌, ◌*◌, ◌%◌, ◌<◌, ◌≤◌, ltb, get_or, List, [], ◌∷◌, length, map, Some, refl, sym, ap, ◌∙◌, subst, inl, inr, arith}
 use Rattle.std.specs.Prelude.{slice_get, slice_set}
 use Rattle.std.specs.List.{range_with_len}
-use Rattle.std.proofs.Math.Nat.{mod-lt, mul_comm, mul-le-mul_left}
+use Rattle.std.proofs.Math.Nat.{mul_comm, mul-le-mul_left}
 use Rattle.std.proofs.lemmas.Bool.{cond_both}
 use Rattle.std.proofs.lemmas.Option.{slice_get-get_or}
 use Rattle.std.proofs.lemmas.List.{length-set, length-replicate}
@@ -27,9 +27,8 @@ use Rattle.alloc_rules.specs.FrontLaw.{IsReady, FitsAt, RefusesAs, idle, with_ha
 use Rattle.thread_cache.specs.declared.row.CacheRow.{CacheRow}
 use Rattle.thread_cache.specs.declared.row.CacheRow.TheVariants.{Pop, Stock, Add, Ask, Raise, AddAgain, Trim}
 use Rattle.thread_cache.specs.declared.seat.CacheSeat.{CacheSeat}
-use Rattle.thread_cache.specs.Cache.{Stack, Cache, empty_stack, no_stack, objects_of, opened, given}
-use Rattle.transfer_cache.specs.Transfer.{last_first}
-use Rattle.thread_cache.specs.Rows.{about_row, cache_place, popped, left_in, after_stock, after_add, after_again, ask_most, cache_acts, cache_calls, cache_refuses, cache_front}
+use Rattle.thread_cache.specs.Cache.{Stack, Cache, empty_stack, no_stack, objects_of, opened}
+use Rattle.thread_cache.specs.Rows.{about_row, cache_place, popped, after_stock, after_add, after_again, cache_acts, cache_calls, cache_refuses, cache_front}
 use Rattle.thread_cache.specs.Fits.{FitsRow, cache_fits}
 use Rattle.thread_cache.specs.Holds.{given_in, given_of, HandFor, limit_of, IsSeated, IsCacheOf, CachesHold}
 use Rattle.thread_cache.specs.Laws.{AreCacheLimits, CachesAreLawful}
@@ -66,15 +65,7 @@ again_no f [] = tt
 again_no f (x ∷ xs) = tt
 
 refuses : (rows : List ClassRow) (p : Cache) (v : CacheSeat) (g : Regs) (row : CacheRow) → RefusesAs cache_refuses row (cache_acts rows p v g row).next
-refuses rows p v g (Pop a) = pops_no p g a (last_first 1 (objects_of p g.class.0))
-refuses rows p v g (Stock s) = stocks_no s (left_in p g).hand.items
-refuses rows p v g (Add f) = adds_no v.caches f (left_in p g).hand.items
-refuses rows p v g (Ask f) =
-    let n : ℕ = given p (ask_most rows g) in
-    cond_both (eqb n 0) (next.Row (Trim f)) (next.Row (Raise f n)) (RefusesAs cache_refuses (Ask f)) (λ e. tt) (λ e. tt)
-refuses rows p v g (Raise f n) = tt
-refuses rows p v g (AddAgain f) = again_no f (left_in p g).hand.items
-refuses rows p v g (Trim f) = tt
+refuses rows p v g x4 = grind (arith)
 
 -- all of the caches stand before the shards
 pub split_first : (rows : List ClassRow) (c : Config) → c.threads ≤ length (cache_front rows c).parts
@@ -144,13 +135,7 @@ module _ (rows : List ClassRow) (c : Config) where
 
     -- the cache of a row is there
     place_low : (t : ℕ) (v : CacheSeat) (row : CacheRow) → v.own ≡ t % c.threads → v.victim < c.threads → cache_place v row < c.threads
-    place_low t v (Ask f) own victim = victim
-    place_low t v (Pop a) own victim = omega (arith, own, mod-lt t {m = c.threads} limits.threads)
-    place_low t v (Stock s) own victim = omega (arith, own, mod-lt t {m = c.threads} limits.threads)
-    place_low t v (Add f) own victim = omega (arith, own, mod-lt t {m = c.threads} limits.threads)
-    place_low t v (Raise f n) own victim = omega (arith, own, mod-lt t {m = c.threads} limits.threads)
-    place_low t v (AddAgain f) own victim = omega (arith, own, mod-lt t {m = c.threads} limits.threads)
-    place_low t v (Trim f) own victim = omega (arith, own, mod-lt t {m = c.threads} limits.threads)
+    place_low t v x2 own victim = grind (arith)
 
     -- and an act there fits
     fits_row : (t : ℕ) (p : Cache) (g : Regs) (row : CacheRow) → IsReady (cache_front rows c) t g (about_row row) → HandFor g row

@@ -4,7 +4,6 @@ use Rattle.std.specs.Prelude.{option_map}
 use Rattle.std.proofs.lemmas.Option.{slice_get-map}
 use Rattle.std.proofs.lemmas.List.Sums.{sum_by-cons, sum_by-append}
 use Rattle.tc_model.specs.declared.calls.Call.{Call}
-use Rattle.tc_model.specs.declared.calls.Call.TheVariants.{Malloc, Free, Release, Drain, Resize}
 use Rattle.tc_model.specs.Input.{Input, ThreadCall}
 use Rattle.alloc_rules.specs.FrontLaw.{IsOwn}
 use Rattle.alloc_rules.specs.Standings.{standing_of}
@@ -20,11 +19,7 @@ use Rattle.tc_model.specs.declared.config.Config.{Config}
 
 -- what is taken is no call of a front-end's own
 taken_call : (call : Call) → cond {A = ℕ} (takes call) 0 1 ≡ 0 → IsOwn call → ⊥
-taken_call (Malloc label size) is own = own
-taken_call (Free label) is own = own
-taken_call (Release pages) is own = own
-taken_call (Drain cpu) is own = absurd (omega (arith, is))
-taken_call (Resize cpu class cap) is own = absurd (omega (arith, is))
+taken_call x0 is own = grind (arith)
 
 taken_one : (input : Input) → not_taken takes input.asked.calls ≡ 0 → (earlier : List ThreadCall) (c : ThreadCall) (later : List ThreadCall)
     → earlier ++ c ∷ later ≡ input.asked.calls → planned c.planned

@@ -31,12 +31,7 @@ size_of-below n m x = size-below (nat_lt (draw n x % 16) 12) (draw n x % 16 == 1
 
 -- only where a label is live is a call a free
 none_is_freed : (few last one : Bool) → (if few && not true then Free else (if last then Drain else (if one then Release else Malloc))) ≡ Free → ⊥
-none_is_freed true true one is = cc
-none_is_freed true false true is = cc
-none_is_freed true false false is = cc
-none_is_freed false true one is = cc
-none_is_freed false false true is = cc
-none_is_freed false false false is = cc
+none_is_freed x0 x1 x2 is = grind (arith)
 
 pub free-has_label : (chance : ℕ) (live : List ℕ) → kind_of chance live ≡ Free → 0 < length live
 free-has_label chance [] is = absurd (none_is_freed (nat_lt chance 45) (chance == 98) (chance == 99) is)

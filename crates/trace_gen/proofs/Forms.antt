@@ -1,11 +1,11 @@
 -- A line of a generated trace is read as what it says.
 use Rattle.std.proofs.Common.{◌≡◌, ℕ, ◌+◌, ◌^◌, ◌<◌, ◌≤◌, ◌&&◌, nat_lt, nat_le, true, false, if◌then◌else◌, List, [], ◌∷◌, map, codes, decimal, Some, None, Ok, refl, ap, ◌∙◌, arith, option_map, option_and_then, cond}
-use Rattle.std.proofs.lemmas.Bool.{le-ltb, le-leb, lt-leb, not_from_true, and_right}
+use Rattle.std.proofs.lemmas.Bool.{le-ltb, le-leb, and_right}
 use Rattle.tc_model.specs.Input.{Asked}
 use Rattle.trace_reader.specs.declared.word.Word.{Word}
 use Rattle.trace_reader.specs.declared.word.Word.TheVariants as word
 use Rattle.trace_reader.specs.declared.form.Form.{Form}
-use Rattle.trace_reader.specs.declared.form.Form.TheVariants.{Head, Malloc, Free, Move, Release, Drain, Resize}
+use Rattle.trace_reader.specs.declared.form.Form.TheVariants.{Malloc, Free, Move, Release, Drain}
 use Rattle.trace_reader.specs.Words.{Range, word_of, is_head, ranges_of}
 use Rattle.trace_reader.specs.Form.{number_in, numbers_in, form_with, form_of, has_fields}
 use Rattle.trace_reader.specs.Steps.{Fits}
@@ -46,13 +46,7 @@ record FailsNone (classes : ℕ) (asked : Asked) (form : Form) : Type 0 where
   freed : label_freed asked.calls form ≡ false
 
 fails_none : (classes : ℕ) (asked : Asked) (form : Form) → Fits classes asked form → FailsNone classes asked form
-fails_none classes asked (Head head value) fits = record { thread = refl; cpu = refl; class = refl; used = refl; unknown = refl; freed = refl }
-fails_none classes asked (Malloc thread label size) fits = record { thread = lt-leb asked.config.threads thread fits.0; cpu = refl; class = refl; used = fits.1; unknown = refl; freed = refl }
-fails_none classes asked (Free thread label) fits = record { thread = lt-leb asked.config.threads thread fits.0; cpu = refl; class = refl; used = refl; unknown = not_from_true _ fits.1; freed = fits.2 }
-fails_none classes asked (Move thread before cpu) fits = record { thread = lt-leb asked.config.threads thread fits.0; cpu = lt-leb asked.config.cpus cpu fits.1; class = refl; used = refl; unknown = refl; freed = refl }
-fails_none classes asked (Release thread pages) fits = record { thread = lt-leb asked.config.threads thread fits; cpu = refl; class = refl; used = refl; unknown = refl; freed = refl }
-fails_none classes asked (Drain thread cpu) fits = record { thread = lt-leb asked.config.threads thread fits.0; cpu = lt-leb asked.config.cpus cpu fits.1; class = refl; used = refl; unknown = refl; freed = refl }
-fails_none classes asked (Resize thread cpu class_ cap) fits = record { thread = lt-leb asked.config.threads thread fits.0; cpu = lt-leb asked.config.cpus cpu fits.1; class = lt-leb _ class_ fits.2; used = refl; unknown = refl; freed = refl }
+fails_none classes asked x2 fits = grind (arith)
 
 -- a line that fails no rule is read as its form
 passes : (l : reading.Line) (w : Word) (form : Form) → l.number ≤ 1000000 → reading.first_word l.fields ≡ Some w → (l.before.late && is_head w) ≡ false

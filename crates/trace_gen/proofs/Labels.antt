@@ -1,6 +1,6 @@
 -- The live labels of a generator are those that the calls so far allocated and did not free.
 use Rattle.std.proofs.Common.{◌≡◌, ℕ, ◌+◌, ◌<◌, ◌≤◌, ◌==◌, ◌&&◌, ◌||◌, not, Bool, true, false, List, [], ◌∷◌, ◌++◌, length, get_or, swap_remove, count_by, cond, refl, sym, ap, ◌∙◌, subst, inl, inr, arith}
-use Rattle.std.proofs.lemmas.Bool.{cases_lt, eq-eqb, ne_eqb, eqb-true, both_ways, true≢false, or_from}
+use Rattle.std.proofs.lemmas.Bool.{cases_lt, eq-eqb, ne_eqb, eqb-true, both_ways, or_from}
 use Rattle.std.proofs.lemmas.List.{get_or_default}
 use Rattle.std.proofs.lemmas.List.Recursion.{or_push}
 use Rattle.std.proofs.lemmas.List.Sums.{sum_by_push, sum_by-swap_remove, get_or-le-sum_by}
@@ -70,12 +70,7 @@ push calls c live next fresh once = record {
 -- an allocation of the next label
 once_allocated : (allocated freed hit : Bool) (n m : ℕ) → (hit ≡ true → (allocated ≡ false) × (freed ≡ false)) → n ≡ cond (allocated && not freed) 1 0
     → m ≡ n + cond hit 1 0 → m ≡ cond ((allocated || hit) && not (freed || false)) 1 0
-once_allocated true freed true n m new was now = absurd (true≢false (new refl).0)
-once_allocated false true true n m new was now = absurd (true≢false (new refl).1)
-once_allocated false false true n m new was now = omega arith
-once_allocated true true false n m new was now = omega arith
-once_allocated true false false n m new was now = omega arith
-once_allocated false freed false n m new was now = omega arith
+once_allocated x0 x1 x2 n m new was now = grind (arith)
 
 pub AreLive-malloc : (calls : List ThreadCall) (c : ThreadCall) (live : List ℕ) (next : ℕ) → AreLive calls live next
     → ((label : ℕ) → allocates label c.planned.call ≡ (next == label)) → ((label : ℕ) → frees label c.planned.call ≡ false)
@@ -93,12 +88,7 @@ AreLive-malloc calls c live next are allocates_it frees_none = push calls c (liv
 -- a free of a live label
 once_freed : (allocated freed hit : Bool) (n m : ℕ) → (hit ≡ true → (allocated ≡ true) × (freed ≡ false)) → n ≡ cond (allocated && not freed) 1 0
     → m + cond hit 1 0 ≡ n → m ≡ cond ((allocated || false) && not (freed || hit)) 1 0
-once_freed true true true n m live was now = absurd (true≢false (live refl).1)
-once_freed false freed true n m live was now = absurd (true≢false (sym (live refl).0))
-once_freed true false true n m live was now = omega arith
-once_freed true true false n m live was now = omega arith
-once_freed true false false n m live was now = omega arith
-once_freed false freed false n m live was now = omega arith
+once_freed x0 x1 x2 n m live was now = grind (arith)
 
 pub AreLive-free : (calls : List ThreadCall) (c : ThreadCall) (live : List ℕ) (next place : ℕ) → AreLive calls live next → place < length live
     → ((label : ℕ) → allocates label c.planned.call ≡ false) → ((label : ℕ) → frees label c.planned.call ≡ (get_or live place 0 == label))

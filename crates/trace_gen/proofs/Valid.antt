@@ -58,11 +58,7 @@ heads_read classes threads are =
 
 -- a line leaves the limits
 same_limits : (number : ℕ) (own : Line) (before : SoFar) → (with_form number (form_for own) before).asked.config ≡ before.asked.config
-same_limits number (line.Malloc thread label size) before = refl
-same_limits number (line.Free thread label) before = refl
-same_limits number (line.Preempt thread instruction cpu) before = refl
-same_limits number (line.Release thread pages) before = refl
-same_limits number (line.Drain thread cpu) before = refl
+same_limits number x1 before = grind (arith)
 
 -- one line more
 line_read : (classes threads number : ℕ) (lines : List Line) (live : List ℕ) (next : ℕ) (live' : List ℕ) (next' : ℕ) (own : Line) (are : AreRead classes threads lines number live next) → number ≤ 1000000 → IsIn own → Fits classes are.sofar.asked (form_for own) → AreLive (with_form number (form_for own) are.sofar).asked.calls live' next' → AreRead classes threads (lines ++ own ∷ []) (number + 1) live' next'
