@@ -1,18 +1,16 @@
 -- The verdict on a line, by what is known of it.
-use Rattle.std.proofs.Common.{◌≡◌, ◌&&◌, ℕ, ◌<◌, leb, Bool, true, false, not, List, Option, Some, None, Ok, Err, refl, sym, ap, ◌∙◌, cond, inl, inr, option_map, min, nat_lt}
-use Rattle.std.proofs.lemmas.Bool.{cases_Bool, le-ltb, leb-false, not-false, false≢true}
+use Rattle.std.proofs.Common.{◌≡◌, ◌&&◌, ℕ, ◌<◌, leb, Bool, true, false, List, Option, Some, None, Ok, Err, refl, sym, ap, ◌∙◌, cond, inl, inr, option_map, nat_lt, arith}
+use Rattle.std.proofs.lemmas.Bool.{cases_Bool, le-ltb, leb-false, false≢true}
 use Rattle.std.specs.Option.{ok_or}
-use Rattle.trace_reader.specs.declared.limits.TheConstants.{MOST_LINES, MOST_CLASSES}
+use Rattle.trace_reader.specs.declared.limits.TheConstants.{MOST_LINES}
 use Rattle.trace_reader.specs.declared.why.LineWhy.{LineWhy}
 use Rattle.trace_reader.specs.declared.why.LineWhy.TheVariants as why
 use Rattle.trace_reader.specs.declared.word.Word.{Word}
 use Rattle.tc_model.specs.Input.{Asked}
 use Rattle.trace_reader.specs.declared.form.Form.{Form}
-use Rattle.trace_reader.specs.declared.form.Form.TheVariants.{Head, Malloc, Free, Move, Release, Drain, Resize}
 use Rattle.trace_reader.specs.Form.{has_fields, form_of, read_fields}
 use Rattle.trace_reader.specs.Reading.{Line, Rule, other_fields, line_form, verdict}
-use Rattle.trace_reader.specs.Steps.{HasWord, broken, broken_label, Fits}
-use Rattle.trace_reader.specs.Labels.{is_allocated, is_freed}
+use Rattle.trace_reader.specs.Steps.{HasWord, broken, Fits}
 
 -- what the rules on the fields give, where their number is right
 read_fields-has : (w : Word) (fields : List (List ℕ)) (form : Option Form) → has_fields w fields ≡ true → form_of w fields ≡ form → read_fields w fields ≡ ok_or form why.Number
@@ -112,32 +110,7 @@ below : (bound n : ℕ) → leb bound n ≡ false → n < bound
 below bound n h = leb-false bound n h
 
 pub fits : (classes : ℕ) (asked : Asked) (form : Form) → broken classes asked form ≡ None → Fits classes asked form
-fits classes asked (Head head value) h = tt
-fits classes asked (Malloc thread label size) h =
-    let t = none_first (leb asked.config.threads thread) why.Thread (broken_label asked.calls (Malloc thread label size)) h in
-    let l = none_first (is_allocated label asked.calls) why.LabelUsed None t.1 in
-    (below asked.config.threads thread t.0, l.0)
-fits classes asked (Free thread label) h =
-    let t = none_first (leb asked.config.threads thread) why.Thread (broken_label asked.calls (Free thread label)) h in
-    let l = none_first (not (is_allocated label asked.calls)) why.LabelUnknown (cond (is_freed label asked.calls) (Some why.LabelFreed) None) t.1 in
-    let f = none_first (is_freed label asked.calls) why.LabelFreed None l.1 in
-    (below asked.config.threads thread t.0, not-false (is_allocated label asked.calls) l.0, f.0)
-fits classes asked (Move thread before cpu) h =
-    let t = none_first (leb asked.config.threads thread) why.Thread (cond (leb asked.config.cpus cpu) (Some why.Cpu) None) h in
-    let p = none_first (leb asked.config.cpus cpu) why.Cpu None t.1 in
-    (below asked.config.threads thread t.0, below asked.config.cpus cpu p.0)
-fits classes asked (Release thread pages) h =
-    let t = none_first (leb asked.config.threads thread) why.Thread None h in
-    below asked.config.threads thread t.0
-fits classes asked (Drain thread cpu) h =
-    let t = none_first (leb asked.config.threads thread) why.Thread (cond (leb asked.config.cpus cpu) (Some why.Cpu) None) h in
-    let p = none_first (leb asked.config.cpus cpu) why.Cpu None t.1 in
-    (below asked.config.threads thread t.0, below asked.config.cpus cpu p.0)
-fits classes asked (Resize thread cpu class cap_) h =
-    let t = none_first (leb asked.config.threads thread) why.Thread (cond (leb asked.config.cpus cpu) (Some why.Cpu) (cond (leb (min classes MOST_CLASSES) class) (Some why.Class) None)) h in
-    let p = none_first (leb asked.config.cpus cpu) why.Cpu (cond (leb (min classes MOST_CLASSES) class) (Some why.Class) None) t.1 in
-    let k = none_first (leb (min classes MOST_CLASSES) class) why.Class None p.1 in
-    (below asked.config.threads thread t.0, below asked.config.cpus cpu p.0, below (min classes MOST_CLASSES) class k.0)
+fits classes asked x2 h = grind (arith)
 
 -- where no head may come, what isn't early is none
 pub early_head : (late is : Bool) → (late && is) ≡ false → is ≡ true → late ≡ false
