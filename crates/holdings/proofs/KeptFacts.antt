@@ -1,6 +1,6 @@
 -- Each kind of decided call keeps that the calls are a run on disjoint blocks, of which each label has its own.
 use Rattle.std.proofs.Common.{Bool, ◌≡◌, ℕ, ◌+◌, ◌<◌, true, false, not, eqb, ltb, List, [], ◌∷◌, ◌++◌}
-use Rattle.std.proofs.Common.{Option, Some, None, refl, sym, ap, ◌∙◌, subst, arith, ◌⊎◌, inl, inr, sum}
+use Rattle.std.proofs.Common.{Option, Some, None, refl, sym, ap, ◌∙◌, subst, arith, ◌⊎◌, inl, inr}
 use Rattle.std.specs.Prelude.{◌==◌, is_some, find, All}
 use Rattle.std.proofs.lemmas.Bool.{cases_Bool, eqb-true, eqb-false, lt-ltb, false≢true, or_parts, or_cases, cond-true, cond-false, and_from, eq-eqb, ne_eqb}
 use Rattle.std.proofs.lemmas.List.Elements.{All-filter}
@@ -10,7 +10,7 @@ use Rattle.tc_units.specs.declared.units.ThreadNo.{ThreadNo}
 use Rattle.tc_units.proofs.SortedFacts.{All-with_item}
 use Rattle.tc_model.specs.declared.calls.Call.TheVariants.{Malloc, Free, Release, Drain, Resize}
 use Rattle.tc_model.specs.declared.answers.Answer.{Answer}
-use Rattle.tc_model.specs.declared.answers.Answer.TheVariants.{Block, NoBlock, Freed, FreedNull, Released, Busy, CapSet, Drained, OverLimit, OverStatic}
+use Rattle.tc_model.specs.declared.answers.Answer.TheVariants.{Block, NoBlock, Freed, FreedNull}
 use Rattle.tc_model.specs.declared.answers.CallLine.{CallLine}
 use Rattle.tc_model.specs.Blocks.{Extent, with_block, meets, blocks_after, allocates, frees, answer_to, freed_in, IsFreePlace, FreesNull, IsAllowed, blocks_with}
 use Rattle.holdings.specs.Kept.{HasBlock, IsOfMalloc, AreKept}
@@ -160,14 +160,7 @@ module _ {round : ℕ → ℕ} {huge : ℕ} {calls : List CallLine} (kept : AreK
 
 -- a call that is about no label
 other_allowed : (huge : ℕ) (round : ℕ → ℕ) (calls : List CallLine) (call : Call) (answer : Answer) → IsOther call answer → IsAllowed huge round calls call answer
-other_allowed huge round calls (Release pages) (Released n) is = tt
-other_allowed huge round calls (Drain cpu) (Drained n) is = tt
-other_allowed huge round calls (Drain cpu) (Busy owner) is = tt
-other_allowed huge round calls (Resize cpu class cap) (Busy owner) is = tt
-other_allowed huge round calls (Resize cpu class cap) CapSet is = tt
-other_allowed huge round calls (Resize cpu class cap) (OverLimit sum) is = tt
-other_allowed huge round calls (Resize cpu class cap) (OverStatic most) is = tt
-other_allowed huge round calls call answer is = absurd is
+other_allowed huge round calls x3 x4 is = grind (arith)
 
 pub other_label : (call : Call) (answer : Answer) → IsOther call answer → (l : ℕ) → (allocates l call ≡ false) × (frees l call ≡ false)
 other_label (Release pages) answer is l = (refl, refl)
@@ -176,14 +169,7 @@ other_label (Resize cpu class cap) answer is l = (refl, refl)
 other_label call answer is l = absurd is
 
 pub other_blocks : (blocks : List Extent) (call : Call) (answer : Answer) → IsOther call answer → blocks_with blocks answer ≡ blocks
-other_blocks blocks (Release pages) (Released n) is = refl
-other_blocks blocks (Drain cpu) (Drained n) is = refl
-other_blocks blocks (Drain cpu) (Busy owner) is = refl
-other_blocks blocks (Resize cpu class cap) (Busy owner) is = refl
-other_blocks blocks (Resize cpu class cap) CapSet is = refl
-other_blocks blocks (Resize cpu class cap) (OverLimit sum) is = refl
-other_blocks blocks (Resize cpu class cap) (OverStatic most) is = refl
-other_blocks blocks call answer is = absurd is
+other_blocks blocks x1 x2 is = grind (arith)
 
 module _ {round : ℕ → ℕ} {huge : ℕ} {calls : List CallLine} (kept : AreKept round huge calls) where
   pub kept_other : (c : CallLine) → IsOther c.call c.answer → AreKept round huge (calls ++ c ∷ [])
