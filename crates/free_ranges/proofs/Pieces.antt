@@ -3,6 +3,7 @@ use Rattle.free_ranges.proofs.Common.{nat_tests, range_with_len, cases_lt, lt-lt
 use Rattle.free_ranges.proofs.Common.{behind_free, FreeRange, range_at, starts}
 use Rattle.std.proofs.Common.{◌≡◌, ℕ, suc, ◌+◌, ◌-◌, ◌<◌, ◌≤◌, ◌&&◌, Bool, true, false, cond, nat_lt, List, length, get_or, count_by, sym, ap, ◌∙◌, inl, inr}
 use Rattle.std.proofs.Common.{arith}
+use Rattle.free_ranges.specs.Ranges.{range_count}
 use Rattle.free_ranges.proofs.Lists.{count_filter, count_no_one}
 
 -- whether a range that passes a test begins at a place
@@ -14,7 +15,7 @@ count_in row test from to = count_by (tested row test) (range_with_len from (to 
 
 -- whether a range of a length counts, where it has places
 abbrev pub counts : (FreeRange → Bool) → ℕ → ℕ → ℕ
-counts test start len = cond (nat_lt 0 len && test (record { len = len; start = start })) 1 0
+counts test start len = range_count test (record { len = len; start = start })
 
 pub counts_none : (test : FreeRange → Bool) (start len : ℕ) → len ≡ 0 → counts test start len ≡ 0
 counts_none test start len e = ap (λ (b : Bool). cond (b && test (record { len = len; start = start })) 1 0) (le-ltb 0 len (omega arith))

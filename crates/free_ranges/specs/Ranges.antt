@@ -27,8 +27,8 @@ pub record Listing : Type 0 where
   pub ranges : List FreeRange
 
 -- how often a range counts among those that pass a test: one that is empty is none
-abbrev pub counted : (FreeRange → Bool) → FreeRange → ℕ
-counted test range = if nat_lt 0 range.len && test range then 1 else 0
+abbrev pub range_count : (FreeRange → Bool) → FreeRange → ℕ
+range_count test range = if nat_lt 0 range.len && test range then 1 else 0
 
 -- the ranges of a row, where all are listed
 abbrev pub IsListed : List Bool → Listing → Type 0

@@ -25,7 +25,7 @@ impl Model for RangeList {
 
 impl RangeList {
     ghost use Rattle.sorted_list.specs.Order.{IsFirstFrom, IsLast};
-    ghost use Rattle.free_ranges.specs.Ranges.{comes_before, counted};
+    ghost use Rattle.free_ranges.specs.Ranges.{comes_before, range_count};
     ghost use Rattle.free_ranges.specs.declared.range.FreeRange.{FreeRange};
 
     /// No range, with room for `room` of them.
@@ -51,7 +51,7 @@ impl RangeList {
         ensures spare { self.new.spare + (if nat_lt 0 len && self.new.complete then 1 else 0) ≡ self.old.spare }
         ensures ranges { self.new.complete ≡ true → (test : FreeRange → Bool) → count_by test self.new.ranges
             ≡ count_by test self.old.ranges
-            + (if nat_lt 0 len && test (record { len = len; start = start }) then 1 else 0) }
+            + range_count test (record { len = len; start = start }) }
     {
         if len == 0 || !self.complete {
             return;
@@ -69,7 +69,7 @@ impl RangeList {
         ensures complete { self.new.complete ≡ self.old.complete }
         ensures spare { self.new.spare ≡ self.old.spare + (if nat_lt 0 len && self.new.complete then 1 else 0) }
         ensures ranges { self.new.complete ≡ true → (test : FreeRange → Bool) → count_by test self.new.ranges
-            + (if nat_lt 0 len && test (record { len = len; start = start }) then 1 else 0)
+            + range_count test (record { len = len; start = start })
             ≡ count_by test self.old.ranges }
     {
         if len == 0 || !self.complete {
@@ -84,8 +84,8 @@ impl RangeList {
         ensures complete { self.new.complete ≡ (self.old.complete && (to.len == 0 || nat_lt 0 from.len || nat_lt 0 self.old.spare)) }
         ensures spare { self.new.spare + (if nat_lt 0 to.len && self.new.complete then 1 else 0)
             ≡ self.old.spare + (if nat_lt 0 from.len && self.old.complete then 1 else 0) }
-        ensures ranges { self.new.complete ≡ true → (test : FreeRange → Bool) → count_by test self.new.ranges + counted test from
-            ≡ count_by test self.old.ranges + counted test to }
+        ensures ranges { self.new.complete ≡ true → (test : FreeRange → Bool) → count_by test self.new.ranges + range_count test from
+            ≡ count_by test self.old.ranges + range_count test to }
     {
         if from.len == 0 || to.len == 0 || !self.complete {
             self.remove(from.start, from.len);
@@ -100,8 +100,8 @@ impl RangeList {
         requires some { 0 < range.len }
         requires held { self.old.complete ≡ true → Contains self.old.ranges range }
         ensures complete { self.new.complete ≡ (self.old.complete && (left.len == 0 || right.len == 0 || nat_lt 0 self.old.spare)) }
-        ensures ranges { self.new.complete ≡ true → (test : FreeRange → Bool) → count_by test self.new.ranges + counted test range
-            ≡ count_by test self.old.ranges + counted test left + counted test right }
+        ensures ranges { self.new.complete ≡ true → (test : FreeRange → Bool) → count_by test self.new.ranges + range_count test range
+            ≡ count_by test self.old.ranges + range_count test left + range_count test right }
     {
         if left.len == 0 {
             self.replace(range, right);
@@ -118,8 +118,8 @@ impl RangeList {
         requires left { self.old.complete ≡ true → 0 < left.len → Contains self.old.ranges left }
         requires right { self.old.complete ≡ true → 0 < right.len → Contains self.old.ranges right }
         ensures complete { self.new.complete ≡ (self.old.complete && (nat_lt 0 left.len || nat_lt 0 right.len || nat_lt 0 self.old.spare)) }
-        ensures ranges { self.new.complete ≡ true → (test : FreeRange → Bool) → count_by test self.new.ranges + counted test left + counted test right
-            ≡ count_by test self.old.ranges + counted test whole }
+        ensures ranges { self.new.complete ≡ true → (test : FreeRange → Bool) → count_by test self.new.ranges + range_count test left + range_count test right
+            ≡ count_by test self.old.ranges + range_count test whole }
     {
         if left.len == 0 {
             self.replace(right, whole);

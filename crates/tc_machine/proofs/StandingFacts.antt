@@ -24,7 +24,7 @@ use Rattle.holdings.proofs.Standing.{answer_same}
 use Rattle.holdings.proofs.Blocks.{apart_after, place_of}
 use Rattle.tc_machine.specs.Arena.{most_huge}
 use Rattle.tc_machine.specs.declared.standing.Standing.{Standing}
-use Rattle.tc_machine.specs.Standing.{noted, len_of, IsNoted, AreStanding, MayStand}
+use Rattle.tc_machine.specs.Standing.{known_bytes, bytes_of_label, AreBytesOf, AreStanding, MayStand}
 use Rattle.tc_machine.specs.Telling.{HearsEach}
 
 -- where none begins at an address, none is found there
@@ -63,10 +63,10 @@ leaves_one a (x ∷ xs) b once found =
     ]
 
 -- what is noted of a label stands at its place
-noted_is : (o : Option ℕ) (len : ℕ) → noted o ≡ Some len → o ≡ Some len
+noted_is : (o : Option ℕ) (len : ℕ) → known_bytes o ≡ Some len → o ≡ Some len
 noted_is o len is = grind (arith)
 
-pub read_noted : (lens : List ℕ) (label len n : ℕ) → len_of lens label ≡ Some len → n ≡ get_or lens label n → n ≡ len
+pub read_noted : (lens : List ℕ) (label len n : ℕ) → bytes_of_label lens label ≡ Some len → n ≡ get_or lens label n → n ≡ len
 read_noted lens label len n is read =
     let there : slice_get lens label ≡ Some len = noted_is (slice_get lens label) len is in
     let same : Some (get_or lens label n) ≡ Some len = sym (slice_get-get_or lens label n (slice_get_within lens label len there)) ∙ there in
@@ -76,18 +76,18 @@ read_noted lens label len n is read =
 -- An answer that is no block's and frees none changes nothing, and nothing is noted of it.
 pub record IsQuiet (answer : Answer) : Type 0 where
   pub same : (blocks : List Extent) → blocks_with blocks answer ≡ blocks
-  pub notes : (n : Option ℕ) → IsNoted (Some answer) n
+  pub notes : (n : Option ℕ) → AreBytesOf (Some answer) n
 
 pub quiet_answer : (answer : Answer) → ((addr : Addr) (len : ℕ) → answer ≡ Block addr len → ⊥) → ((addr : Addr) → answer ≡ Freed addr → ⊥) → IsQuiet answer
 quiet_answer answer block freed = record { same = λ blocks. grind (arith, block, freed); notes = λ n. grind (arith, block) }
 
 -- what is noted stays
-noted_still : (answer : Answer) (n m : Option ℕ) (len : ℕ) → m ≡ option_or n (Some len) → IsNoted (Some answer) n → IsNoted (Some answer) m
+noted_still : (answer : Answer) (n m : Option ℕ) (len : ℕ) → m ≡ option_or n (Some len) → AreBytesOf (Some answer) n → AreBytesOf (Some answer) m
 noted_still answer n m len is noted = grind (arith)
 
 -- of two allocations of a label the first one counts
 noted_first : (earlier : List CallLine) (line : CallLine) (addr : Addr) (len : ℕ) (label : Label) (size : ℕ) (n m : Option ℕ) → line.answer ≡ Block addr len → line.call ≡ Malloc label size
-    → m ≡ option_or n (Some len) → IsNoted (answer_to label.0 earlier) n → IsNoted (answer_to label.0 (earlier ++ line ∷ [])) m
+    → m ≡ option_or n (Some len) → AreBytesOf (answer_to label.0 earlier) n → AreBytesOf (answer_to label.0 (earlier ++ line ∷ [])) m
 noted_first earlier line addr len label size n m is asks after noted = grind (arith, answer_cases, answer_to-push_new, answer_to-push_old, noted_still)
 
 -- an allocation's block lies in an arena of at most 2^37 bytes
@@ -117,7 +117,7 @@ module _ (s : Standing) (line : CallLine) (huge : ℕ) (round : ℕ → ℕ) (ea
 
   -- what an allocation got is noted
   pub told_block : (addr : Addr) (len : ℕ) (label : Label) (size : ℕ) (s' : Standing) → line.answer ≡ Block addr len → line.call ≡ Malloc label size
-      → len_of s'.lens.items label.0 ≡ option_or (len_of s.lens.items label.0) (Some len) → ((other : ℕ) → (label.0 ≡ other → ⊥) → len_of s'.lens.items other ≡ len_of s.lens.items other)
+      → bytes_of_label s'.lens.items label.0 ≡ option_or (bytes_of_label s.lens.items label.0) (Some len) → ((other : ℕ) → (label.0 ≡ other → ⊥) → bytes_of_label s'.lens.items other ≡ bytes_of_label s.lens.items other)
       → s'.count ≡ s.count + 1 → s'.bytes ≡ s.bytes + len → AreStanding (earlier ++ line ∷ []) s'
   told_block addr len label size s' is asks here others count bytes =
       let b : Extent = record { addr = addr.0; len = len } in
@@ -127,10 +127,10 @@ module _ (s : Standing) (line : CallLine) (huge : ℕ) (round : ℕ → ℕ) (ea
       let small : len ≤ 2 ^ 37 = len_small huge round earlier line.call addr len arena allows in
       record {
         lens = λ l. elim (cases_eq label.0 l) [
-          | inl same ↦ subst (λ k. IsNoted (answer_to k (earlier ++ line ∷ [])) (len_of s'.lens.items k)) same (noted_first earlier line addr len label size (len_of s.lens.items label.0) (len_of s'.lens.items label.0) is asks here (stand.lens label.0))
+          | inl same ↦ subst (λ k. AreBytesOf (answer_to k (earlier ++ line ∷ [])) (bytes_of_label s'.lens.items k)) same (noted_first earlier line addr len label size (bytes_of_label s.lens.items label.0) (bytes_of_label s'.lens.items label.0) is asks here (stand.lens label.0))
           | inr other ↦
               let apart : allocates l line.call ≡ false = ap (allocates l) asks ∙ ne_eqb label.0 l other in
-              subst (λ (n : Option ℕ). IsNoted (answer_to l (earlier ++ line ∷ [])) n) (sym (others l other)) (subst (λ (o : Option Answer). IsNoted o (len_of s.lens.items l)) (sym (answer_same earlier line l apart)) (stand.lens l))
+              subst (λ (n : Option ℕ). AreBytesOf (answer_to l (earlier ++ line ∷ [])) n) (sym (others l other)) (subst (λ (o : Option Answer). AreBytesOf o (bytes_of_label s.lens.items l)) (sym (answer_same earlier line l apart)) (stand.lens l))
         ];
         count = omega (arith, count, stand.count, ap length e, length-with_item (λ (x : Extent). x.addr) b bs);
         bytes = omega (arith, bytes, stand.bytes, ap (sum_by (λ (x : Extent). x.len)) e, sum_by-with_item (λ (x : Extent). x.addr) (λ (x : Extent). x.len) b bs);
@@ -139,7 +139,7 @@ module _ (s : Standing) (line : CallLine) (huge : ℕ) (round : ℕ → ℕ) (ea
       }
 
   -- another answer notes nothing
-  quiet_lens : ((n : Option ℕ) → IsNoted (Some line.answer) n) → (label : ℕ) → IsNoted (answer_to label (earlier ++ line ∷ [])) (len_of s.lens.items label)
+  quiet_lens : ((n : Option ℕ) → AreBytesOf (Some line.answer) n) → (label : ℕ) → AreBytesOf (answer_to label (earlier ++ line ∷ [])) (bytes_of_label s.lens.items label)
   quiet_lens quiet label = grind (arith, answer_cases, answer_to-push_new, answer_to-push_old, quiet, stand.lens label)
 
   module _ (label : Label) (addr : Addr) (is : line.answer ≡ Freed addr) (asks : line.call ≡ Free label) where
@@ -150,8 +150,8 @@ module _ (s : Standing) (line : CallLine) (huge : ℕ) (round : ℕ → ℕ) (ea
     one = leaves_one addr.0 (blocks_after earlier) (record { addr = addr.0; len = frees.len }) (apart.starts addr.0) frees.stands
 
     -- the block that a free takes away is the one that is noted of its label
-    pub freed_noted : len_of s.lens.items label.0 ≡ Some frees.len
-    freed_noted = subst (λ (o : Option Answer). IsNoted o (len_of s.lens.items label.0)) frees.answered (stand.lens label.0)
+    pub freed_noted : bytes_of_label s.lens.items label.0 ≡ Some frees.len
+    freed_noted = subst (λ (o : Option Answer). AreBytesOf o (bytes_of_label s.lens.items label.0)) frees.answered (stand.lens label.0)
 
     pub freed_within : (frees.len ≤ s.bytes) × (1 ≤ s.count)
     freed_within = (omega (arith, stand.bytes, one.bytes), omega (arith, stand.count, one.count))
@@ -160,7 +160,7 @@ module _ (s : Standing) (line : CallLine) (huge : ℕ) (round : ℕ → ℕ) (ea
     told_freed s' lens count bytes =
         let e : blocks_after (earlier ++ line ∷ []) ≡ without_block addr.0 (blocks_after earlier) = after ∙ ap (blocks_with (blocks_after earlier)) is in
         record {
-          lens = λ l. subst (λ ns. IsNoted (answer_to l (earlier ++ line ∷ [])) (len_of ns l)) (sym lens) (quiet_lens (λ n. subst (λ (a : Answer). IsNoted (Some a) n) (sym is) tt) l);
+          lens = λ l. subst (λ ns. AreBytesOf (answer_to l (earlier ++ line ∷ [])) (bytes_of_label ns l)) (sym lens) (quiet_lens (λ n. subst (λ (a : Answer). AreBytesOf (Some a) n) (sym is) tt) l);
           count = omega (arith, count, stand.count, ap length e, one.count);
           bytes = omega (arith, bytes, stand.bytes, ap (sum_by (λ (x : Extent). x.len)) e, one.bytes);
           few = omega (arith, count, counted stand.few);

@@ -12,7 +12,7 @@ use Rattle.tc_model.specs.Calls.{AreRising, first_at, picks_of, answers_at, call
 use Rattle.tc_model.proofs.Rising.{rising_first}
 use Rattle.call_steps.specs.Local.{Decided, told}
 use Rattle.tc_machine.specs.declared.telling.Mark.{Mark}
-use Rattle.tc_machine.specs.Telling.{decided_at, due_at, first_mark, is_at, IsMark}
+use Rattle.tc_machine.specs.Telling.{decided_at, due_at, first_mark, decides_next, IsMark}
 
 abbrev pub act_of : Decided → ℕ
 act_of d = d.act
@@ -34,15 +34,15 @@ module _ (answers : List Decided) (m : Mark) (mark : IsMark answers m) where
   here : decided_at m.picks answers ≡ first_at act_of m.picks (drop m.told answers)
   here = mark.later m.picks (omega arith) ∙ rising_first act_of m.picks (drop m.told answers) mark.behind
 
-  decides : (o : Option Decided) → slice_get answers m.told ≡ o → is_at m.picks (option_map act_of o) ≡ true → (d : Decided) × (slice_get answers m.told ≡ Some d) × (d.act ≡ m.picks)
+  decides : (o : Option Decided) → slice_get answers m.told ≡ o → decides_next m.picks (option_map act_of o) ≡ true → (d : Decided) × (slice_get answers m.told ≡ Some d) × (d.act ≡ m.picks)
   decides None at is = absurd (cc)
   decides (Some d) at is = (d, at, eqb-true d.act m.picks is)
 
-  due_here : is_at m.picks m.due ≡ true → (d : Decided) × (slice_get answers m.told ≡ Some d) × (d.act ≡ m.picks)
-  due_here is = decides (slice_get answers m.told) refl (sym (ap (is_at m.picks) mark.due) ∙ is)
+  due_here : decides_next m.picks m.due ≡ true → (d : Decided) × (slice_get answers m.told ≡ Some d) × (d.act ≡ m.picks)
+  due_here is = decides (slice_get answers m.told) refl (sym (ap (decides_next m.picks) mark.due) ∙ is)
 
   pub line_told : (thread : ℕ) (line : CallLine) → Some line ≡ option_map (told thread) (slice_get answers m.told)
-      → is_at m.picks m.due ≡ true → line ∷ [] ≡ map (told thread) (decided_at m.picks answers)
+      → decides_next m.picks m.due ≡ true → line ∷ [] ≡ map (told thread) (decided_at m.picks answers)
   line_told thread line is decided =
       let d = due_here decided in
       let same : Some line ≡ Some (told thread d.0) = is ∙ ap (option_map (told thread)) d.1 in
@@ -50,7 +50,7 @@ module _ (answers : List Decided) (m : Mark) (mark : IsMark answers m) where
       let first : first_at act_of m.picks (drop m.told answers) ≡ d.0 ∷ [] = ap (first_at act_of m.picks) (split_at answers m.told d.0 d.1) ∙ cond-true (eqb d.0.act m.picks) (d.0 ∷ []) [] (eq-eqb d.0.act m.picks d.2) in
       ap (λ x. x ∷ []) e ∙ sym (ap (map (told thread)) (here ∙ first))
 
-  pub mark_told : {due : Option ℕ} → due ≡ due_at (m.told + 1) answers → is_at m.picks m.due ≡ true → IsMark answers (record { picks = m.picks + 1; told = m.told + 1; due = due })
+  pub mark_told : {due : Option ℕ} → due ≡ due_at (m.told + 1) answers → decides_next m.picks m.due ≡ true → IsMark answers (record { picks = m.picks + 1; told = m.told + 1; due = due })
   mark_told next decided =
       let d = due_here decided in
       let rest : drop m.told answers ≡ d.0 ∷ drop (m.told + 1) answers = split_at answers m.told d.0 d.1 in
@@ -66,7 +66,7 @@ module _ (answers : List Decided) (m : Mark) (mark : IsMark answers m) where
       }
 
   -- the next pick decided nothing
-  first_behind : (o : Option Decided) → slice_get answers m.told ≡ o → is_at m.picks (option_map act_of o) ≡ false
+  first_behind : (o : Option Decided) → slice_get answers m.told ≡ o → decides_next m.picks (option_map act_of o) ≡ false
       → (first_at act_of m.picks (drop m.told answers) ≡ []) × AreRising act_of (m.picks + 1) (drop m.told answers)
   first_behind None at is =
       let none = past_all answers m.told at in
@@ -80,9 +80,9 @@ module _ (answers : List Decided) (m : Mark) (mark : IsMark answers m) where
       ] in
       (ap (first_at act_of m.picks) rest ∙ cond-false (eqb d.act m.picks) (d ∷ []) [] is, subst (AreRising act_of (m.picks + 1)) (sym rest) (above, rising.1))
 
-  module _ (undecided : is_at m.picks m.due ≡ false) where
+  module _ (undecided : decides_next m.picks m.due ≡ false) where
     behind_here : (first_at act_of m.picks (drop m.told answers) ≡ []) × AreRising act_of (m.picks + 1) (drop m.told answers)
-    behind_here = first_behind (slice_get answers m.told) refl (sym (ap (is_at m.picks) mark.due) ∙ undecided)
+    behind_here = first_behind (slice_get answers m.told) refl (sym (ap (decides_next m.picks) mark.due) ∙ undecided)
 
     pub nothing_told : (thread : ℕ) → [] ≡ map (told thread) (decided_at m.picks answers)
     nothing_told thread = sym (ap (map (told thread)) (here ∙ behind_here.0))

@@ -9,22 +9,24 @@ use Rattle.tc_machine.specs.Arena.{most_huge}
 use Rattle.tc_machine.specs.declared.standing.Standing.{Standing}
 use Rattle.tc_machine.specs.declared.standing.TheConstants.{NO_BLOCK}
 
--- the bytes of a label's block, where they are noted
-abbrev pub noted : Option ℕ → Option ℕ
-noted None = None
-noted (Some len) = if len == NO_BLOCK then None else Some len
+-- the bytes that are noted at a place, if any are
+abbrev pub known_bytes : Option ℕ → Option ℕ
+known_bytes None = None
+known_bytes (Some len) = if len == NO_BLOCK then None else Some len
 
-abbrev pub len_of : List ℕ → ℕ → Option ℕ
-len_of lens label = noted (slice_get lens label)
+-- the bytes that are noted of a label's block
+abbrev pub bytes_of_label : List ℕ → ℕ → Option ℕ
+bytes_of_label lens label = known_bytes (slice_get lens label)
 
 -- what is noted of a label whose allocation answered so: nothing before it, and the bytes of the block that it got
-abbrev pub IsNoted : Option Answer → Option ℕ → Type 0
-IsNoted None len = len ≡ None
-IsNoted (Some (Block addr bytes)) len = len ≡ Some bytes
-IsNoted (Some other) len = Unit {0}
+abbrev pub AreBytesOf : Option Answer → Option ℕ → Type 0
+AreBytesOf None len = len ≡ None
+AreBytesOf (Some (Block addr bytes)) len = len ≡ Some bytes
+AreBytesOf (Some other) len = Unit {0}
 
+-- the number and the bytes of the blocks that stand, and what is noted of each label
 pub record AreStanding (earlier : List CallLine) (s : Standing) : Type 0 where
-  pub lens : (label : ℕ) → IsNoted (answer_to label earlier) (len_of s.lens.items label)
+  pub lens : (label : ℕ) → AreBytesOf (answer_to label earlier) (bytes_of_label s.lens.items label)
   pub count : s.count ≡ live_count earlier
   pub bytes : s.bytes ≡ live_bytes earlier
   pub few : s.count ≤ length earlier

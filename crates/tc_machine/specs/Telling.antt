@@ -20,9 +20,9 @@ abbrev pub due_at : ℕ → List Decided → Option ℕ
 due_at place answers = option_map (λ (d : Decided). d.act) (slice_get answers place)
 
 -- whether a pick is the one that is due
-abbrev pub is_at : ℕ → Option ℕ → Bool
-is_at n None = false
-is_at n (Some due) = due == n
+abbrev pub decides_next : ℕ → Option ℕ → Bool
+decides_next n None = false
+decides_next n (Some due) = due == n
 
 -- the mark of a thread before its first pick
 abbrev pub first_mark : List Decided → Mark

@@ -1,7 +1,7 @@
 //! The blocks that stand after some calls.
 ghost use Rattle.std.specs.Prelude.{◌≡◌, ◌≢◌, ◌≤◌, ◌^◌, ℕ, [], Some, OnOk};
 ghost use Rattle.std.specs.Option.{option_or};
-ghost use Rattle.tc_machine.specs.Standing.{len_of, AreStanding};
+ghost use Rattle.tc_machine.specs.Standing.{bytes_of_label, AreStanding};
 
 use crate::listener::Listener;
 use std::alloc::{AllocError, Global};
@@ -36,8 +36,8 @@ impl Standing {
 /// Notes the bytes of a label's block, where none is noted.
 fn note(lens: &mut Vec<u64>, label: Label, len: u64) -> Result<(), AllocError>
     requires { len ≤ 2 ^ 37 }
-    ensures here { OnOk result (len_of lens.new.items label.0 ≡ option_or (len_of lens.old.items label.0) (Some len)) }
-    ensures others { OnOk result ((other : ℕ) → label.0 ≢ other → len_of lens.new.items other ≡ len_of lens.old.items other) }
+    ensures here { OnOk result (bytes_of_label lens.new.items label.0 ≡ option_or (bytes_of_label lens.old.items label.0) (Some len)) }
+    ensures others { OnOk result ((other : ℕ) → label.0 ≢ other → bytes_of_label lens.new.items other ≡ bytes_of_label lens.old.items other) }
 {
     let place = label.0 as usize;
     if lens.len() <= place {

@@ -7,7 +7,7 @@ ghost use Rattle.tc_model.specs.Calls.{AreRising, calls_of};
 ghost use Rattle.call_steps.specs.Local.{Decided, told};
 ghost use Rattle.tc_machine.specs.Arena.{most_huge};
 ghost use Rattle.tc_machine.specs.Standing.{AreStanding};
-ghost use Rattle.tc_machine.specs.Telling.{decided_at, first_mark, is_at, HearsEach, IsMark};
+ghost use Rattle.tc_machine.specs.Telling.{decided_at, first_mark, decides_next, HearsEach, IsMark};
 
 use crate::listener::{Both, Listener};
 use crate::standing::Standing;
@@ -79,7 +79,7 @@ fn first_marks<T: Teller>(alloc: Global, tellers: &[T]) -> Result<Vec<Mark>, All
 /// Whether the thread's next pick decided a call.
 #[inline(always)]
 fn is_due(mark: &Mark) -> bool
-    ensures { result ≡ is_at mark.now.picks mark.now.due }
+    ensures { result ≡ decides_next mark.now.picks mark.now.due }
 {
     match mark.due {
         Some(act) => act == mark.picks,

@@ -9,7 +9,8 @@ use std::alloc::AllocError;
 use tc_model::{Answer, Call, CallLine};
 use tc_units::ThreadNo;
 
-/// At least the bytes of a call's line: a letter, six numbers behind a space each or fewer of them with a word, and a line feed.
+/// Room for a letter, six numbers of twenty digits behind a space each, or fewer of them with a word, and a line feed. No call's
+/// line has as many bytes.
 const LINE_BYTES: usize = 128;
 
 /// Writes what a call answered so that it ends at `end`.
