@@ -1,12 +1,14 @@
 -- What the bounds of free ranges tell, and what a change of places makes of them.
-use Rattle.std.proofs.Common.{◌≡◌, ◌≢◌, ℕ, zero, suc, ◌+◌, ◌-◌, ◌<◌, ◌≤◌, Bool, true, false, List, drop, length, get_or, set, replicate}
-use Rattle.std.proofs.Common.{sym, ap, ◌∙◌, inl, inr, arith}
+use Rattle.std.proofs.Common.{◌≡◌, ◌≢◌, ℕ, zero, suc, ◌+◌, ◌-◌, ◌<◌, ◌≤◌, ◌==◌, ◌&&◌, not, Bool, true, false, List, drop, length, get_or, set, replicate}
+use Rattle.std.proofs.Common.{refl, sym, ap, ◌∙◌, inl, inr, arith}
 use Rattle.free_ranges.proofs.Common.{nat_tests, cases_lt, false≢true, get_or_past, get_or-set_same, get_or-set_other, get_or-replicate}
 use Rattle.free_ranges.proofs.Common.{length-set, length-replicate, cases_eq, begins_range, with_places, length-with_places, place_before, place_in, place_behind}
-use Rattle.free_ranges.proofs.Common.{IsLastRange, used_from, get_or-drop, prefix_len_passes}
+use Rattle.range_bits.specs.Fills.{IsEnd}
+use Rattle.range_bits.specs.Words.{IsNext}
+use Rattle.free_ranges.proofs.Common.{FreeRange, IsRange, IsLastRange, used_from, get_or-drop, prefix_len_passes}
 use Rattle.free_ranges.proofs.Found.{none_free, used_here}
 use Rattle.place_set.specs.Places.{IsLastAt, IsFirstAt}
-use Rattle.free_ranges.specs.Bounds.{stops_range, Bounds, Tells, IsPut}
+use Rattle.free_ranges.specs.Bounds.{stops_range, Bounds, Tells, IsPut, IsBetween}
 
 -- from a free place on all are free up to where a range stops
 free_up : (row : List Bool) (a k p : ℕ) → p ≡ a + k → get_or row a true ≡ false → ((q : ℕ) → a < q → q ≤ p → stops_range row q ≡ false) →
@@ -108,17 +110,34 @@ twice xs start end p f inside inside' other = grind (arith, nat_tests, cases_eq,
 twice_length : (xs : List Bool) (i j : ℕ) (a b : Bool) → length (set (set xs i a) j b) ≡ length xs
 twice_length xs i j a b = length-set (set xs i a) j b ∙ length-set xs i a
 
-pub told_put : (row new : List Bool) (start n : ℕ) (old now : Bounds) → Tells row old → IsPut row new start n → start + n < length old.begins → start + n < length old.stops →
-    now.begins ≡ set (set old.begins start (begins_range new start)) (start + n) (begins_range new (start + n)) →
-    now.stops ≡ set (set old.stops start (stops_range new start)) (start + n) (stops_range new (start + n)) → Tells new now
-told_put row new start n old now tells put room room' e f = record {
-  begun = λ p. ap (λ (r : List Bool). get_or r p false) e
-      ∙ twice old.begins start (start + n) p (begins_range new) (omega arith) room (λ a b. tells.begun p ∙ sym (begins_same row new start n p put a b));
-  stopped = λ p. ap (λ (r : List Bool). get_or r p false) f
-      ∙ twice old.stops start (start + n) p (stops_range new) (omega arith) room' (λ a b. tells.stopped p ∙ sym (stops_same row new start n p put a b));
-  begin_room = omega (arith, put.size, tells.begin_room, ap length e ∙ twice_length old.begins start (start + n) (begins_range new start) (begins_range new (start + n)));
-  stop_room = omega (arith, put.size, tells.stop_room, ap length f ∙ twice_length old.stops start (start + n) (stops_range new start) (stops_range new (start + n)));
-}
+-- what is between two states
+module _ (new : List Bool) (start n : ℕ) (used before behind : Bool) (between : IsBetween new start n used before behind) where
+  begins_first : begins_range new start ≡ not used && before
+  begins_first = grind (arith, nat_tests, between.first, between.before, between.none)
+
+  stops_first : stops_range new start ≡ not before && used
+  stops_first = grind (arith, nat_tests, between.first, between.before, between.none)
+
+  begins_behind : begins_range new (start + n) ≡ not behind && used
+  begins_behind = grind (arith, nat_tests, between.some, between.last, between.behind)
+
+  stops_behind : stops_range new (start + n) ≡ not used && behind
+  stops_behind = grind (arith, nat_tests, between.some, between.last, between.behind)
+
+  pub told_put : (row : List Bool) (old now : Bounds) → Tells row old → IsPut row new start n → start + n < length old.begins → start + n < length old.stops →
+      now.begins ≡ set (set old.begins start (not used && before)) (start + n) (not behind && used) →
+      now.stops ≡ set (set old.stops start (not before && used)) (start + n) (not used && behind) → Tells new now
+  told_put row old now tells put room room' e f =
+      let begun : now.begins ≡ set (set old.begins start (begins_range new start)) (start + n) (begins_range new (start + n)) = grind (arith, begins_first, begins_behind) in
+      let stopped : now.stops ≡ set (set old.stops start (stops_range new start)) (start + n) (stops_range new (start + n)) = grind (arith, stops_first, stops_behind) in
+      record {
+        begun = λ p. ap (λ (r : List Bool). get_or r p false) begun
+            ∙ twice old.begins start (start + n) p (begins_range new) (omega arith) room (λ a b. tells.begun p ∙ sym (begins_same row new start n p put a b));
+        stopped = λ p. ap (λ (r : List Bool). get_or r p false) stopped
+            ∙ twice old.stops start (start + n) p (stops_range new) (omega arith) room' (λ a b. tells.stopped p ∙ sym (stops_same row new start n p put a b));
+        begin_room = omega (arith, put.size, tells.begin_room, ap length begun ∙ twice_length old.begins start (start + n) (begins_range new start) (begins_range new (start + n)));
+        stop_room = omega (arith, put.size, tells.stop_room, ap length stopped ∙ twice_length old.stops start (start + n) (stops_range new start) (stops_range new (start + n)));
+      }
 
 -- places that come into another state
 pub is_put : (row new : List Bool) (start n : ℕ) (was is : Bool) → start + n ≤ length row → ((k : ℕ) → start ≤ k → k < start + n → get_or row k true ≡ was) →
@@ -149,3 +168,41 @@ put_all places = record {
   early = λ k l. absurd (omega arith);
   late = λ k l. grind (arith, nat_tests, get_or_past, length-replicate);
 }
+
+pub between_all : (places : ℕ) → 0 < places → IsBetween (replicate places false) 0 places false true true
+between_all places some = record {
+  some = some;
+  first = get_or-replicate places 0 false true some;
+  last = get_or-replicate places (0 + places - 1) false true (omega arith);
+  before = λ l. absurd (omega arith);
+  none = λ z. refl;
+  behind = grind (arith, nat_tests, get_or_past, length-replicate);
+}
+
+-- what places that come into another state stand between
+module _ (row new : List Bool) (start n : ℕ) (used : Bool) (inside : start + n ≤ length row) (some : 0 < n) (e : new ≡ with_places row start n used) where
+  at : (k : ℕ) → get_or new k true ≡ get_or (with_places row start n used) k true
+  at k = ap (λ (r : List Bool). get_or r k true) e
+
+  placed_between : (before behind : Bool) → (0 < start → get_or row (start - 1) true ≡ before) → (start ≡ 0 → before ≡ true) →
+      get_or row (start + n) true ≡ behind → IsBetween new start n used before behind
+  placed_between before behind left none right = record {
+    some = some;
+    first = at start ∙ place_in row start n used inside start true (omega arith) (omega arith);
+    last = at (start + n - 1) ∙ place_in row start n used inside (start + n - 1) true (omega arith) (omega arith);
+    before = λ l. at (start - 1) ∙ place_before row start n used inside (start - 1) true (omega arith) ∙ left l;
+    none = none;
+    behind = at (start + n) ∙ place_behind row start n used inside (start + n) true (omega arith) ∙ right;
+  }
+
+-- a part of a free range, and what is freed beside free places
+module _ (row new : List Bool) (start n : ℕ) (inside : start + n ≤ length row) (some : 0 < n) where
+  pub between_parted : (range : FreeRange) → IsRange row range → range.start ≤ start → start + n ≤ range.start + range.len →
+      new ≡ with_places row start n true → IsBetween new start n true (start - range.start == 0) (range.start + range.len - (start + n) == 0)
+  between_parted range maximal order within e = placed_between row new start n true inside some e _ _
+      (λ l. grind (arith, nat_tests, maximal.before, maximal.free)) (λ z. grind (arith, nat_tests)) (grind (arith, nat_tests, maximal.end, maximal.free, get_or_past))
+
+  pub between_freed : (begin end : ℕ) → IsEnd row start true begin → IsNext row (start + n) true end →
+      new ≡ with_places row start n false → IsBetween new start n false (start - begin == 0) (end - (start + n) == 0)
+  between_freed begin end left right e = placed_between row new start n false inside some e _ _
+      (λ l. grind (arith, nat_tests, left.behind, left.there, left.within)) (λ z. grind (arith, nat_tests)) (grind (arith, nat_tests, right.behind, right.before, right.there, get_or_past))

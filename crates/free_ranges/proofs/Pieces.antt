@@ -1,7 +1,7 @@
 -- The ranges that begin in a part of a row.
 use Rattle.free_ranges.proofs.Common.{nat_tests, range_with_len, cases_lt, lt-ltb, le-ltb, sum_by-cons, free_from, begins_range, free_run, used_begins}
 use Rattle.free_ranges.proofs.Common.{behind_free, FreeRange, range_at, starts}
-use Rattle.std.proofs.Common.{◌≡◌, ℕ, suc, ◌+◌, ◌-◌, ◌<◌, ◌≤◌, ◌&&◌, Bool, true, false, cond, nat_lt, List, length, get_or, count_by, sym, ap, ◌∙◌, inl, inr}
+use Rattle.std.proofs.Common.{◌≡◌, ℕ, suc, ◌+◌, ◌-◌, ◌<◌, ◌≤◌, ◌&&◌, Bool, true, false, cond, List, length, get_or, count_by, sym, ap, ◌∙◌, inl, inr}
 use Rattle.std.proofs.Common.{arith}
 use Rattle.free_ranges.specs.Ranges.{range_count}
 use Rattle.free_ranges.proofs.Lists.{count_filter, count_no_one}

@@ -27,3 +27,13 @@ pub record IsPut (row new : List Bool) (start n : ℕ) : Type 0 where
   pub after : (k : ℕ) → start ≤ k → k < start + n → slice_index_or new k true ≡ is
   pub early : (k : ℕ) → k < start → slice_index_or new k true ≡ slice_index_or row k true
   pub late : (k : ℕ) → start + n ≤ k → slice_index_or new k true ≡ slice_index_or row k true
+
+-- between what n places from `start` on stand that are in one state: whether they are used, and whether the place before them
+-- and the one behind them are; beyond the row all are
+pub record IsBetween (row : List Bool) (start n : ℕ) (used used_before used_behind : Bool) : Type 0 where
+  pub some : 0 < n
+  pub first : slice_index_or row start true ≡ used
+  pub last : slice_index_or row (start + n - 1) true ≡ used
+  pub before : 0 < start → slice_index_or row (start - 1) true ≡ used_before
+  pub none : start ≡ 0 → used_before ≡ true
+  pub behind : slice_index_or row (start + n) true ≡ used_behind

@@ -1,13 +1,11 @@
 //! Where the maximal free ranges of a row begin and stop, as sets of places.
-ghost use Rattle.std.specs.Prelude.{◌≡◌, ℕ, ◌+◌, ◌^◌, ◌<◌, ◌≤◌, true, None, List, Bool, length, replicate, slice_set, IfOk, IfSome};
+ghost use Rattle.std.specs.Prelude.{◌≡◌, ℕ, ◌+◌, ◌^◌, ◌<◌, ◌≤◌, ◌&&◌, not, true, None, List, Bool, length, replicate, slice_set, IfOk, IfSome};
 ghost use Rattle.std.specs.List.{slice_index_or};
-ghost use Rattle.range_bits.specs.Ranges.{begins_range};
 ghost use Rattle.free_ranges.specs.Ranges.{IsLastRange};
-ghost use Rattle.free_ranges.specs.Bounds.{stops_range, Tells, IsPut};
+ghost use Rattle.free_ranges.specs.Bounds.{Tells, IsPut, IsBetween};
 
 use crate::range::FreeRange;
 use place_set::PlaceSet;
-use range_bits::WideBits;
 use std::alloc::{AllocError, Global};
 use std::marker::Model;
 
@@ -27,23 +25,6 @@ impl Model for RangeBounds {
     ghost view = { λ b. record { begins = b.begins; stops = b.stops } };
 
     ghost invariant = { λ b. length b.stops ≤ 2 ^ 32 };
-}
-
-/// Whether a place is used, as all behind the row are.
-fn used_at(bits: &WideBits, place: u32) -> bool
-    ensures { result ≡ slice_index_or bits.now place true }
-{
-    place >= bits.places() || bits.is_used(place)
-}
-
-/// Whether a maximal free range begins at a place, and whether one stops before it.
-fn bounds_at(bits: &WideBits, place: u32) -> (bool, bool)
-    ensures begins { result.0 ≡ begins_range bits.now place }
-    ensures stops { result.1 ≡ stops_range bits.now place }
-{
-    let used = used_at(bits, place);
-    let used_before = place == 0 || used_at(bits, place - 1);
-    (!used && used_before, used && !used_before)
 }
 
 /// Puts a place into a set, or takes it out. Most places are as they shall be.
@@ -74,27 +55,29 @@ impl RangeBounds {
         })
     }
 
-    /// Looks whether a range begins at a place, and whether one stops before it.
-    fn tell(&mut self, bits: &WideBits, place: u32)
+    /// Notes of a place whether the one before it is used, and whether it is.
+    #[inline(always)]
+    fn tell(&mut self, place: u32, used_before: bool, used: bool)
         requires begins { place < length self.old.begins }
         requires stops { place < length self.old.stops }
-        ensures begins { self.new.begins ≡ slice_set self.old.begins place (begins_range bits.now place) }
-        ensures stops { self.new.stops ≡ slice_set self.old.stops place (stops_range bits.now place) }
+        ensures begins { self.new.begins ≡ slice_set self.old.begins place (not used && used_before) }
+        ensures stops { self.new.stops ≡ slice_set self.old.stops place (not used_before && used) }
     {
-        let (begins, stops) = bounds_at(bits, place);
-        put(&mut self.begins, place, begins);
-        put(&mut self.stops, place, stops);
+        put(&mut self.begins, place, !used && used_before);
+        put(&mut self.stops, place, !used_before && used);
     }
 
-    /// Tells of a row of which `n` places, from `start` on, were all used or all free, and are so now.
-    pub fn note(&mut self, bits: &WideBits, start: u32, n: u32)
+    /// Tells of a row of which `n` places, from `start` on, were all used or all free, and are so now: whether they are used,
+    /// and whether the place before them and the one behind them are, as all beyond the row are.
+    #[inline(always)]
+    pub fn note(&mut self, start: u32, n: u32, used: bool, used_before: bool, used_behind: bool)
         requires begins { start + n < length self.old.begins }
         requires stops { start + n < length self.old.stops }
         requires fits { start + n < 2 ^ 32 }
-        ensures { (row : List Bool) → Tells row self.old → IsPut row bits.now start n → Tells bits.now self.new }
+        ensures { (row new : List Bool) → Tells row self.old → IsPut row new start n → IsBetween new start n used used_before used_behind → Tells new self.new }
     {
-        self.tell(bits, start);
-        self.tell(bits, start + n);
+        self.tell(start, used_before, used);
+        self.tell(start + n, used, used_behind);
     }
 
     /// The last maximal free range that begins at a place or before it.

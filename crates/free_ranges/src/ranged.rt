@@ -45,7 +45,9 @@ impl RangedBits {
         let bits = WideBits::open(alloc, words)?;
         let places = bits.places();
         let mut bounds = RangeBounds::open(alloc, places)?;
-        bounds.note(&bits, 0, places);
+        if places > 0 {
+            bounds.note(0, places, false, true, true);
+        }
         let mut ranges = RangeList::open(alloc, ranges)?;
         ranges.add(0, places);
         Ok(RangedBits {
@@ -142,8 +144,6 @@ impl RangedBits {
     {
         // The places are numbered by a `u32`.
         let _ = self.bits.places();
-        self.bits.put(start, n, true);
-        self.bounds.note(&self.bits, start, n);
         let left = FreeRange {
             len: start - range.start,
             start: range.start,
@@ -152,6 +152,9 @@ impl RangedBits {
             len: range.start + range.len - (start + n),
             start: start + n,
         };
+        self.bits.put(start, n, true);
+        self.bounds
+            .note(start, n, true, left.len == 0, right.len == 0);
         self.ranges.split(range, left, right);
     }
 
@@ -177,8 +180,6 @@ impl RangedBits {
         let _ = self.bits.places();
         let begin = self.used_end(start);
         let end = self.next_used(start + n);
-        self.bits.put(start, n, false);
-        self.bounds.note(&self.bits, start, n);
         let left = FreeRange {
             len: start - begin,
             start: begin,
@@ -187,6 +188,9 @@ impl RangedBits {
             len: end - (start + n),
             start: start + n,
         };
+        self.bits.put(start, n, false);
+        self.bounds
+            .note(start, n, false, left.len == 0, right.len == 0);
         let whole = FreeRange {
             len: end - begin,
             start: begin,

@@ -1,6 +1,6 @@
 use Rattle.std.proofs.Common.{◌≡◌, ◌-◌, true, false, List, Bool, length, sym, ap, subst, ◌∙◌, arith}
 use Rattle.free_ranges.specs.Bounds.{Tells}
-use Rattle.free_ranges.proofs.Bounded.{is_put, used_places}
+use Rattle.free_ranges.proofs.Bounded.{is_put, used_places, between_freed}
 use Rattle.free_ranges.proofs.Common.{with_places, used_inside, IsListed, IsRange}
 use Rattle.free_ranges.proofs.Listed.{room_freed, freed_back, left_range, right_range, range_listed, was_complete, freed_listed}
 use Rattle.free_ranges.proofs.ranged.RangedBits.unmark.Goals as goal
@@ -36,7 +36,9 @@ invariant_of-self c =
     ∙ ap (λ (r : List Bool). with_places r c.args.start c.args.n true) (sym put) in (
       freed_listed row c.put.new.self begin c.args.start c.args.n end range c.used_end-begin.ensures.within c.requires.some c.next_used-end.ensures.behind back
           c.self.inside.ranges c.join.new.self is (was_complete _ _ _ c.join.ensures.complete) c.join.ensures.ranges,
-      c.note.ensures row (subst (λ (r : List Bool). Tells r c.self.inside.bounds) c.self.view_is c.self.invariant.1)
+      c.note.ensures row c.put.new.self (subst (λ (r : List Bool). Tells r c.self.inside.bounds) c.self.view_is c.self.invariant.1)
           (is_put row c.put.new.self c.args.start c.args.n true false (used_inside row c.args.start c.args.n c.requires.some c.requires.used)
-          (used_places row c.args.start c.args.n c.requires.used) put),
+          (used_places row c.args.start c.args.n c.requires.used) put)
+          (between_freed row c.put.new.self c.args.start c.args.n (used_inside row c.args.start c.args.n c.requires.some c.requires.used) c.requires.some
+          begin end c.used_end-begin.ensures c.next_used-end.ensures put),
     )
