@@ -1,11 +1,12 @@
 -- Rows with used places behind the arena's: what each question and change makes of the arena's part.
-use Rattle.std.proofs.Common.{◌≡◌, ℕ, ◌+◌, ◌-◌, ◌<◌, ◌≤◌, ◌&&◌, Bool, true, false, not, cond, nat_le, nat_lt, List, [], ◌∷◌, ◌++◌, length, get_or, set, take, Option, Some, None, IfSome}
+use Rattle.std.proofs.Common.{◌≡◌, ℕ, zero, suc, ◌+◌, ◌-◌, ◌<◌, ◌≤◌, ◌&&◌, Bool, true, false, not, cond, nat_le, nat_lt, List, [], ◌∷◌, ◌++◌, length, get_or, set, take, Option, Some, None, IfSome}
 use Rattle.std.proofs.Common.{drop, replicate, filter, All, refl, sym, ap, ◌∙◌, inl, inr, arith, add-one}
 use Rattle.huge_cache.proofs.Common.{nat_tests, prefix_len, range_with_len, cases_lt, and_left, not_from_true, append_assoc, append-nil, length-append}
 use Rattle.huge_cache.proofs.Common.{length-replicate, length-take-le, take-append-le, take_at, take-take, drop-take, drop-append-le, drop_all, take-replicate}
 use Rattle.huge_cache.proofs.Common.{replicate-append-replicate, get_or_append_left, get_or-append_right, get_or-replicate, get_or-take, set_split}
 use Rattle.huge_cache.proofs.Common.{count_by-le-length, filter-append, All-weaker, All-filter, IsLastRange, IsRange, free_from, used_from, used_count, places, begins_range}
 use Rattle.huge_cache.proofs.Common.{first_least, best, with_places, range-within, filter-agree, filter-none, first_least-agree, range-append}
+use Rattle.std.proofs.lemmas.List.Sums.{sum_by-cons}
 use Rattle.huge_cache.proofs.Common.{length-with_places, put_count, IsPadded, FreeRange, get_or_past, false≢true}
 
 -- used places behind a row
@@ -75,6 +76,15 @@ with_places-padded v k start n used inside = grind (arith, nat_tests, pad, appen
 
 pub one_place : (v : List Bool) (p : ℕ) (used : Bool) → p < length v → with_places v p 1 used ≡ set v p used
 one_place v p used inside = grind (arith, nat_tests, append_assoc, add-one, set_split)
+
+pub all_used : (row : List Bool) (n : ℕ) → n ≤ prefix_len (λ used. used) row → used_count (take n row) ≡ n
+all_used row zero all = refl
+all_used [] (suc n) all = grind (arith, nat_tests, prefix_len)
+all_used (true ∷ row) (suc n) all =
+    let rest : n ≤ prefix_len (λ used. used) row = grind (arith, nat_tests, prefix_len) in
+    let here = sum_by-cons (λ (used : Bool). cond used 1 0) true (take n row) in
+    grind (arith, here, all_used row n rest)
+all_used (false ∷ row) (suc n) all = grind (arith, nat_tests, prefix_len)
 
 -- no more are used than there are
 pub few : (huge : ℕ) (row : List Bool) → IsPadded huge row → used_count (take huge row) ≤ huge

@@ -1,6 +1,6 @@
 //! A row of any number of places, in words of 64: places behind its own are used. Its free ranges are kept
 //! in order, so that none of the questions looks at the places.
-ghost use Rattle.std.specs.Prelude.{◌≡◌, ℕ, ◌+◌, ◌-◌, ◌<◌, ◌≤◌, true, false, None, length, replicate, IfOk, IfSome, if◌then◌else◌};
+ghost use Rattle.std.specs.Prelude.{◌≡◌, ℕ, ◌+◌, ◌-◌, ◌<◌, ◌≤◌, true, false, None, length, take, drop, replicate, IfOk, IfSome, if◌then◌else◌};
 ghost use Rattle.std.specs.List.{slice_index_or};
 ghost use Rattle.free_ranges.specs.Ranges.{IsLastRange};
 ghost use Rattle.range_bits.specs.Fills.{free_count};
@@ -38,17 +38,21 @@ fn used_of(n: u32, used: bool) -> u32
     if used { n } else { 0 }
 }
 
-/// Makes `n` places used, whatever they were, or used ones free.
-fn change(bits: &mut RangedBits, start: u32, n: u32, used: bool)
+/// Makes `n` places used, whatever they were, or used ones free. Says how many of them were used.
+fn change(bits: &mut RangedBits, start: u32, n: u32, used: bool) -> u32
     requires some { 0 < n }
     requires inside { start + n ≤ length bits.old }
     requires taken { used ≡ false → n ≤ used_from bits.old start }
-    ensures { bits.new ≡ with_places bits.old start n used }
+    ensures places { bits.new ≡ with_places bits.old start n used }
+    ensures was { result ≡ used_count (take n (drop start bits.old)) }
 {
     if used {
+        let was = bits.used_in(start, n);
         bits.fill(start, n);
+        was
     } else {
         bits.unmark(start, n);
+        n
     }
 }
 
@@ -86,8 +90,7 @@ impl Row {
         requires taken { used ≡ false → n ≤ used_from self.old start }
         ensures { self.new ≡ with_places self.old start n used }
     {
-        let was = self.bits.used_in(start, n);
-        change(&mut self.bits, start, n, used);
+        let was = change(&mut self.bits, start, n, used);
         self.used = self.used - was + used_of(n, used);
     }
 

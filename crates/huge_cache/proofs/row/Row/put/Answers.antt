@@ -3,11 +3,11 @@ use Rattle.std.proofs.Common.{List, Bool, length, ap, arith}
 use Rattle.huge_cache.proofs.Padded.{changed, front_length, used-front}
 use Rattle.huge_cache.proofs.row.Row.put.Goals as goal
 
-pub used_in-was-requires : goal.used_in-was-requires
-used_in-was-requires c = omega (arith, c.requires, front_length c.self.inside.len c.self.inside.bits c.self.invariant.0, ap (λ (r : List Bool). length r) c.self.view_is, c.self.invariant.0.within)
+pub change-was-requires-clause-inside : goal.change-was-requires-clause-inside
+change-was-requires-clause-inside c = omega (arith, c.requires, front_length c.self.inside.len c.self.inside.bits c.self.invariant.0, ap (λ (r : List Bool). length r) c.self.view_is, c.self.invariant.0.within)
 
-pub change-requires-clause-taken : goal.change-requires-clause-taken
-change-requires-clause-taken c free =
+pub change-was-requires-clause-taken : goal.change-was-requires-clause-taken
+change-was-requires-clause-taken c free =
     omega (
       arith,
       c.requires.taken free,
@@ -18,18 +18,18 @@ change-requires-clause-taken c free =
 
 pub overflow_sub-self : goal.overflow_sub-self
 overflow_sub-self c =
-    let to = changed c.change.new.bits c.args.start c.args.n c.args.used c.self.invariant.0 c.change.ensures (omega (arith, c.requires, ap (λ (r : List Bool). length r) c.self.view_is)) in
-    omega (arith, to.was, c.self.invariant.1)
+    let to = changed c.change-was.new.bits c.args.start c.args.n c.args.used c.self.invariant.0 c.change-was.ensures.places (omega (arith, c.requires, ap (λ (r : List Bool). length r) c.self.view_is)) in
+    omega (arith, to.was, c.change-was.ensures.was, c.self.invariant.1)
 
 pub overflow_add-self : goal.overflow_add-self
 overflow_add-self c =
-    let to = changed c.change.new.bits c.args.start c.args.n c.args.used c.self.invariant.0 c.change.ensures (omega (arith, c.requires, ap (λ (r : List Bool). length r) c.self.view_is)) in
-    omega (arith, to.count, to.few, c.self.invariant.1)
+    let to = changed c.change-was.new.bits c.args.start c.args.n c.args.used c.self.invariant.0 c.change-was.ensures.places (omega (arith, c.requires, ap (λ (r : List Bool). length r) c.self.view_is)) in
+    omega (arith, to.count, to.few, c.change-was.ensures.was, c.self.invariant.1)
 
 pub invariant_of-self : goal.invariant_of-self
 invariant_of-self c =
-    let to = changed c.change.new.bits c.args.start c.args.n c.args.used c.self.invariant.0 c.change.ensures (omega (arith, c.requires, ap (λ (r : List Bool). length r) c.self.view_is)) in
-    (to.padded, omega (arith, to.count, c.self.invariant.1))
+    let to = changed c.change-was.new.bits c.args.start c.args.n c.args.used c.self.invariant.0 c.change-was.ensures.places (omega (arith, c.requires, ap (λ (r : List Bool). length r) c.self.view_is)) in
+    (to.padded, omega (arith, to.count, c.change-was.ensures.was, c.self.invariant.1))
 
 pub returns : goal.returns
 returns c = grind (arith, nat_tests, common_steps, changed)
