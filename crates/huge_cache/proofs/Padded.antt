@@ -7,7 +7,9 @@ use Rattle.huge_cache.proofs.Common.{replicate-append-replicate, get_or_append_l
 use Rattle.huge_cache.proofs.Common.{count_by-le-length, filter-append, All-weaker, All-filter, IsLastRange, IsRange, free_from, used_from, used_count, places, begins_range}
 use Rattle.huge_cache.proofs.Common.{first_least, best, with_places, range-within, filter-agree, filter-none, first_least-agree, range-append}
 use Rattle.std.proofs.lemmas.List.Sums.{sum_by-cons}
-use Rattle.huge_cache.proofs.Common.{length-with_places, put_count, IsPadded, FreeRange, get_or_past, false≢true}
+use Rattle.huge_cache.proofs.Common.{length-with_places, put_count, IsPadded, FreeRange, get_or_past, false≢true, get_or-with_places, length-drop, get_or-drop}
+use Rattle.std.proofs.lemmas.List.{ext_get_or}
+use Rattle.range_bits.proofs.BitFacts.{is_between}
 
 -- used places behind a row
 abbrev pub pad : ℕ → List Bool
@@ -76,6 +78,30 @@ with_places-padded v k start n used inside = grind (arith, nat_tests, pad, appen
 
 pub one_place : (v : List Bool) (p : ℕ) (used : Bool) → p < length v → with_places v p 1 used ≡ set v p used
 one_place v p used inside = grind (arith, nat_tests, append_assoc, add-one, set_split)
+
+-- one place more
+pub place_more : (row : List Bool) (start n : ℕ) (used : Bool) → start + n < length row → with_places row start (n + 1) used ≡ set (with_places row start n used) (start + n) used
+place_more row start n used inside =
+    let part = with_places row start n used in
+    let size = length-with_places row start n used (omega arith) in
+    let sizes : length (with_places row start (n + 1) used) ≡ length (with_places part (start + n) 1 used) =
+    length-with_places row start (n + 1) used (omega arith) ∙ sym (length-with_places part (start + n) 1 used (omega arith) ∙ size) in
+    let again : with_places row start (n + 1) used ≡ with_places part (start + n) 1 used = ext_get_or false _ _ sizes (λ k l. (
+    let one = get_or-with_places row start (n + 1) used k false (omega arith) in
+    let two = get_or-with_places part (start + n) 1 used k false (omega arith) in
+    let three = get_or-with_places row start n used k false (omega arith) in
+    grind (arith, nat_tests, one, two, three, is_between))) in
+    again ∙ one_place part (start + n) used (omega arith)
+
+used_next : (row : List Bool) (n : ℕ) → n ≤ prefix_len (λ used. used) row → n < length row → get_or row n true ≡ true → n + 1 ≤ prefix_len (λ used. used) row
+used_next [] n all inside here = absurd (omega arith)
+used_next (true ∷ row) zero all inside here = grind (arith, nat_tests, prefix_len)
+used_next (false ∷ row) zero all inside here = absurd (false≢true here)
+used_next (true ∷ row) (suc n) all inside here = grind (arith, nat_tests, prefix_len, used_next row n)
+used_next (false ∷ row) (suc n) all inside here = grind (arith, nat_tests, prefix_len)
+
+pub used_more : (row : List Bool) (start n : ℕ) → n ≤ used_from row start → start + n < length row → get_or row (start + n) true ≡ true → n + 1 ≤ used_from row start
+used_more row start n all inside here = used_next (drop start row) n all (omega (arith, length-drop start row)) (get_or-drop start row n true ∙ here)
 
 pub all_used : (row : List Bool) (n : ℕ) → n ≤ prefix_len (λ used. used) row → used_count (take n row) ≡ n
 all_used row zero all = refl

@@ -135,6 +135,27 @@ impl HugeCache {
         self.put(first, many, false, false);
     }
 
+    /// Adds what a run leaves: `many` adjacent hugepages that it had whole, which are backed, and the last one behind them.
+    pub fn give_left(&mut self, first: Huge, many: u32, last: Huge, backed: bool)
+        requires low { 0 < first.0 }
+        requires behind { first.0 + many ≡ last.0 }
+        requires high { last.0 ≤ length self.old.taken }
+        requires out { many ≤ used_from self.old.taken (first.0 - 1) }
+        requires last { holds self.old last.0 ≡ false }
+        ensures { self.new ≡ with_huge (with_backed_run self.old first.0 many) last.0 backed }
+    {
+        // Both rows are as long.
+        let _ = self.in_use();
+        if backed {
+            self.give_run(first, many + 1);
+            return;
+        }
+        if many > 0 {
+            self.give_run(first, many);
+        }
+        self.give(last, false);
+    }
+
     /// How many hugepages aren't free.
     pub fn in_use(&self) -> u32
         ensures value { result ≡ used_count self.now.taken }

@@ -2,7 +2,7 @@
 use Rattle.std.proofs.Common.{◌≡◌, ℕ, ◌+◌, ◌-◌, ◌*◌, ◌/◌, ◌%◌, ◌<◌, ◌≤◌, ◌⊎◌, Bool, true, false, not, ◌&&◌, cond, List, length, get_or, drop, map}
 use Rattle.std.proofs.Common.{Contains, refl, sym, ap, subst, ◌∙◌, inl, inr, arith}
 use Rattle.page_heap.proofs.Common.{list_all, cases_Bool, cases_lt, cases_eq, false_from_ne_true, not_from_false, and_left, and_right}
-use Rattle.page_heap.proofs.Common.{length-map, length-drop, get_or-drop, Run, RowKind, length-with_places, Heap, Hugepage, hugepage, reaches, spans}
+use Rattle.page_heap.proofs.Common.{length-map, length-drop, get_or-drop, Run, RowKind, Heap, Hugepage, hugepage, reaches, spans}
 use Rattle.page_heap.proofs.Common.{is_free, is_kind_free, is_kind_region, is_filler, hugepages_for, left_by, given_back}
 use Rattle.page_heap.proofs.Common.{IsHugepageOf, IsInside, IsSound, given_back_sound, given_is_left, all_used, reaches_parts, reaches_from, spans_parts}
 use Rattle.page_heap.proofs.Common.{spans_from, live_inside, prefix_long, at, map-place, here, IsSpan, is_run, shares, Cache, with_huge, with_backed_run}
@@ -12,7 +12,7 @@ use Rattle.range_bits.specs.Ranges.{used_from}
 use Rattle.heap_rules.specs.Heap.{without_run}
 use Rattle.heap_rules.specs.Free.{left}
 use Rattle.huge_cache.specs.Cache.{holds}
-use Rattle.page_heap.proofs.Numbered.{numbered, one_is, one_not, numbered-with_places}
+use Rattle.page_heap.proofs.Numbered.{one_is, one_not}
 use Rattle.page_heap.proofs.Steps.{went}
 use Rattle.page_heap.proofs.Frames.{is_taken, is_unready, flags_run, flags_two, same_cache, measures_step, regions_away, holds_there}
 use Rattle.page_heap.proofs.Results.{IsHeap, IsMade, run_counted, left_made}
@@ -52,8 +52,7 @@ pub record IsLeaving (old : Inside) (heap : Heap) (run : Run) (start many last :
   pub whole_span : IsSpan old.table start many is_run
   pub tail_span : IsSpan old.table (start + many) (hugepages_for run.pages - many) is_filler
   pub whole_out : last - start ≤ used_from old.cache.taken (start - 1)
-  pub size : length (with_backed_run old.cache start (last - start)).taken ≡ length old.cache.taken
-  pub last_out : holds (with_backed_run old.cache start (last - start)) last ≡ false
+  pub last_out : holds old.cache last ≡ false
   pub counted : run.pages ≤ old.used
   pub sound : IsSound (given_back heap run)
   pub makes : IsMade (given_back heap run) old.config (remeasured old.filler (given_back heap run) last)
@@ -196,9 +195,7 @@ module _ (old : Inside) (heap : Heap) (is : IsHeap old heap) (run : Run) (live :
           all = grind (arith, nat_tests, in_table, at'.ends, at'.least, at'.tail);
         };
         whole_out = out;
-        size = length-with_places old.cache.taken (start - 1) (last - start) false (omega (arith, at'.to, at'.from));
-        last_out = ap not (grind (arith, nat_tests, numbered-with_places, numbered, spans_parts, old.cache.taken, at'.from, at'.to))
-            ∙ ap (λ (k : Cache). holds k last) is.shows.cache
+        last_out = ap (λ (k : Cache). holds k last) is.shows.cache
             ∙ holds_there heap last last_own.from (let all = sound.runs.arena in omega (arith, at'.to))
             ∙ other_kind last is_kind_free refl refl at'.first (omega arith);
         counted = run_counted old heap is run live;

@@ -1,5 +1,5 @@
 //! What the choosers are told of a hugepage, as the table has it.
-ghost use Rattle.std.specs.Prelude.{◌≡◌, ◌-◌, ◌<◌, ◌≤◌, ◌==◌, false, length, if◌then◌else◌, IfSome};
+ghost use Rattle.std.specs.Prelude.{◌≡◌, ◌+◌, ◌-◌, ◌<◌, ◌≤◌, ◌==◌, false, length, if◌then◌else◌, IfSome};
 ghost use Rattle.tc_units.specs.Units.{huge_pages};
 ghost use Rattle.heap_rules.specs.Heap.{Heap, hugepage};
 ghost use Rattle.huge_table.specs.Runs.{TellsRuns};
@@ -78,7 +78,7 @@ pub(crate) fn give_emptied(cache: &mut HugeCache, huge: Huge, row: RowView)
 }
 
 /// Gives the cache hugepages that a run had whole, if there are any.
-pub(crate) fn give_whole(cache: &mut HugeCache, first: Huge, many: u32)
+fn give_whole(cache: &mut HugeCache, first: Huge, many: u32)
     requires low { 0 < first.0 }
     requires out { many ≤ used_from cache.old.taken (first.0 - 1) }
     ensures { cache.new ≡ with_backed_run cache.old first.0 many }
@@ -88,26 +88,45 @@ pub(crate) fn give_whole(cache: &mut HugeCache, first: Huge, many: u32)
     }
 }
 
-/// Tells the filler and the cache what a hugepage is now that a run has left.
+/// Gives the cache what a run has left: hugepages that it had whole, if there are any, and the last one behind them, where
+/// that is free as its row shows it.
+fn give_left(cache: &mut HugeCache, first: Huge, many: u32, last: Huge, row: RowView)
+    requires low { 0 < first.0 }
+    requires behind { first.0 + many ≡ last.0 }
+    requires high { last.0 ≤ length cache.old.taken }
+    requires out { many ≤ used_from cache.old.taken (first.0 - 1) }
+    requires last { holds cache.old last.0 ≡ false }
+    ensures { cache.new ≡ with_shown (with_backed_run cache.old first.0 many) last.0 row }
+{
+    match row.kind {
+        RowKind::Free => cache.give_left(first, many, last, row.backed == HUGE_PAGES),
+        RowKind::Filler | RowKind::Run | RowKind::Region => give_whole(cache, first, many),
+    }
+}
+
+/// Tells the filler and the cache what hugepages are now that a run has left them: those that it had whole, and the last one.
 pub(crate) fn tell_left(
     filler: &mut HugeFiller,
     cache: &mut HugeCache,
     table: &HugeTable,
-    huge: Huge,
+    first: Huge,
+    last: Huge,
 )
-    requires low { 0 < huge.0 }
-    requires high { huge.0 ≤ length table.now.pages }
+    requires low { 0 < first.0 }
+    requires order { first.0 ≤ last.0 }
+    requires high { last.0 ≤ length table.now.pages }
     requires same { length filler.old ≡ length table.now.pages }
     requires taken { length cache.old.taken ≡ length table.now.pages }
-    requires out { holds cache.old huge.0 ≡ false }
+    requires out { last.0 - first.0 ≤ used_from cache.old.taken (first.0 - 1) }
+    requires last { holds cache.old last.0 ≡ false }
     requires told { (heap : Heap) × IsTold table.now heap }
-    ensures filler { (heap : Heap) → IsTold table.now heap → filler.new ≡ remeasured filler.old heap huge.0 }
+    ensures filler { (heap : Heap) → IsTold table.now heap → filler.new ≡ remeasured filler.old heap last.0 }
     ensures cache { (heap : Heap) → IsTold table.now heap
-        → cache.new ≡ with_freed cache.old huge.0 (hugepage heap huge.0) }
+        → cache.new ≡ with_freed (with_backed_run cache.old first.0 (last.0 - first.0)) last.0 (hugepage heap last.0) }
     ensures runs { TellsRuns table.now }
 {
     tells_runs(table);
-    let row = table.row(huge);
-    filler.set(huge, measures_of(row));
-    give_emptied(cache, huge, row);
+    let row = table.row(last);
+    filler.set(last, measures_of(row));
+    give_left(cache, first, u32::from(last.0 - first.0), last, row);
 }

@@ -9,7 +9,7 @@ ghost use Rattle.page_heap.specs.Routes.{IsInOneHugepage, IsInHugepages};
 ghost use Rattle.page_heap.specs.Told.{answered};
 
 use crate::heap::PageHeap;
-use crate::told::{give_whole, measure, tell_left};
+use crate::told::{measure, tell_left};
 use tc_units::{HUGE_PAGES, Huge, Page, Run, first_page, huge_of};
 
 impl PageHeap {
@@ -71,8 +71,7 @@ impl PageHeap {
         self.table.give_run(run);
         let first = huge_of(run.first);
         let last = huge_of(Page(run.first.0 + run.pages - 1));
-        give_whole(&mut self.cache, first, u32::from(last.0 - first.0));
-        tell_left(&mut self.filler, &mut self.cache, &self.table, last);
+        tell_left(&mut self.filler, &mut self.cache, &self.table, first, last);
         self.used -= u64::from(run.pages);
     }
 }

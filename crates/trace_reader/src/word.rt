@@ -1,6 +1,6 @@
 //! The words with which a line of a trace may begin.
 ghost use Rattle.std.specs.Prelude.{◌≡◌};
-ghost use Rattle.trace_reader.specs.Words.{word_name, call_word_of, word_of};
+ghost use Rattle.trace_reader.specs.Words.{call_word_of, word_of};
 
 use tc_model::Head;
 
@@ -16,40 +16,19 @@ pub enum Word {
     Resize,
 }
 
-/// The words that are no head's.
-const CALL_WORDS: [Word; 6] = [
-    Word::Malloc,
-    Word::Free,
-    Word::Move,
-    Word::Release,
-    Word::Drain,
-    Word::Resize,
-];
-
-impl Word {
-    fn name(self) -> &'static str
-        ensures { result.now ≡ word_name self }
-    {
-        match self {
-            Word::Head(head) => head.rule().name,
-            Word::Malloc => "a",
-            Word::Free => "f",
-            Word::Move => "p",
-            Word::Release => "r",
-            Word::Drain => "d",
-            Word::Resize => "z",
-        }
-    }
-}
-
 /// The call, or the preemption, that a field names.
 fn read_call_word(field: &[u8]) -> Option<Word>
     ensures { result ≡ call_word_of field.now }
 {
-    CALL_WORDS
-        .iter()
-        .copied()
-        .find(|word| field == word.name().as_bytes())
+    match field {
+        [b'a'] => Some(Word::Malloc),
+        [b'f'] => Some(Word::Free),
+        [b'p'] => Some(Word::Move),
+        [b'r'] => Some(Word::Release),
+        [b'd'] => Some(Word::Drain),
+        [b'z'] => Some(Word::Resize),
+        _ => None,
+    }
 }
 
 /// What a field names. `None` exactly where it is no word of a trace.
