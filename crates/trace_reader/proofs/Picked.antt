@@ -7,28 +7,29 @@ use Rattle.std.proofs.lemmas.Bool.{cases_Bool, leb-false}
 use Rattle.std.proofs.lemmas.List.Elements.{All-append, All-replicate, All-nil}
 use Rattle.trace_reader.specs.declared.why.OrderWhy.{OrderWhy}
 use Rattle.trace_reader.specs.declared.turn.Turns.{Turns}
-use Rattle.trace_reader.specs.Reading.{BadLine}
-use Rattle.trace_reader.specs.Orders.{OrderLine, OrderRule, order_rules, line_turns, has_turns, order_verdict, with_order_line, order_judged, order_and_then, read_order_lines, picks_by}
+use Rattle.trace_reader.specs.Reading.{BadLine, Rule, verdict, judged, and_then}
+use Rattle.trace_reader.specs.Orders.{OrderLine, order_rules, line_turns, has_turns, with_order_line, read_order_lines, picks_by}
 use Rattle.trace_text.specs.Lines.{lines_of}
 
 -- each pick is of a thread below a bound
 abbrev pub AreOf : ℕ → List ℕ → Type 0
 AreOf threads picks = All (λ thread. thread < threads) picks
 
--- none of the rules fails
-abbrev Passes : OrderLine → List OrderRule → Type 0
-Passes line [] = Unit {0}
-Passes line (rule ∷ rules) = (rule.fails line ≡ false) × Passes line rules
+module _ {L Why : Type 0} (line : L) where
+  -- none of the rules fails
+  abbrev Passes : List (Rule L Why) → Type 0
+  Passes [] = Unit {0}
+  Passes (rule ∷ rules) = (rule.fails line ≡ false) × Passes rules
 
-passes : (line : OrderLine) (rules : List OrderRule) → option_map (λ (r : OrderRule). r.why) (find (λ (r : OrderRule). r.fails line) rules) ≡ None → Passes line rules
-passes line [] none = tt
-passes line (rule ∷ rules) none = elim (cases_Bool (rule.fails line)) [
-  | inl fails ↦ let e : Some rule.why ≡ None = sym (ap (λ b. option_map (λ (r : OrderRule). r.why) (cond b (Some rule) (find (λ (r : OrderRule). r.fails line) rules))) fails) ∙ none in absurd (cc)
-  | inr good ↦ (good, passes line rules (sym (ap (λ b. option_map (λ (r : OrderRule). r.why) (cond b (Some rule) (find (λ (r : OrderRule). r.fails line) rules))) good) ∙ none))
-]
+  passes : (rules : List (Rule L Why)) → option_map (λ (r : Rule L Why). r.why) (find (λ (r : Rule L Why). r.fails line) rules) ≡ None → Passes rules
+  passes [] none = tt
+  passes (rule ∷ rules) none = elim (cases_Bool (rule.fails line)) [
+    | inl fails ↦ let e : Some rule.why ≡ None = sym (ap (λ b. option_map (λ (r : Rule L Why). r.why) (cond b (Some rule) (find (λ (r : Rule L Why). r.fails line) rules))) fails) ∙ none in absurd (cc)
+    | inr good ↦ (good, passes rules (sym (ap (λ b. option_map (λ (r : Rule L Why). r.why) (cond b (Some rule) (find (λ (r : Rule L Why). r.fails line) rules))) good) ∙ none))
+  ]
 
 -- a good line names a thread that is there
-thread_passes : (line : OrderLine) → order_verdict line ≡ None → has_turns (λ turns. nat_le line.threads turns.thread) line ≡ false
+thread_passes : (line : OrderLine) → verdict order_rules line ≡ None → has_turns (λ turns. nat_le line.threads turns.thread) line ≡ false
 thread_passes line good = let last = (passes line order_rules good).1.1 in last.1.0
 
 -- the picks with those of a good line
@@ -40,9 +41,9 @@ after_line line (Some turns) is good before =
     rw is (All-append (λ thread. thread < line.threads) line.before (replicate turns.picks turns.thread) before (All-replicate (λ thread. thread < line.threads) turns.picks turns.thread below))
 
 -- one line, and then the others
-one_more : (line : OrderLine) (verdict : Option OrderWhy) (number : ℕ) (more : List ℕ → Result (List ℕ) (BadLine OrderWhy)) (picks : List ℕ)
-    → order_verdict line ≡ verdict → (AreOf line.threads (with_order_line line) → more (with_order_line line) ≡ Ok picks → AreOf line.threads picks)
-    → AreOf line.threads line.before → order_and_then number (order_judged verdict (with_order_line line)) more ≡ Ok picks → AreOf line.threads picks
+one_more : (line : OrderLine) (found : Option OrderWhy) (number : ℕ) (more : List ℕ → Result (List ℕ) (BadLine OrderWhy)) (picks : List ℕ)
+    → verdict order_rules line ≡ found → (AreOf line.threads (with_order_line line) → more (with_order_line line) ≡ Ok picks → AreOf line.threads picks)
+    → AreOf line.threads line.before → and_then number (judged found (with_order_line line)) more ≡ Ok picks → AreOf line.threads picks
 one_more line None number more picks good then before is = then (after_line line (line_turns line.fields) refl (thread_passes line good) before) is
 one_more line (Some why) number more picks bad then before is = absurd (cc)
 
@@ -51,7 +52,7 @@ after_lines : (threads : ℕ) (before : List ℕ) (number : ℕ) (lines : List (
 after_lines threads before number [] picks so_far is = let e : before ≡ picks = cc in subst (AreOf threads) e so_far
 after_lines threads before number (fields ∷ lines) picks so_far is =
     let line : OrderLine = record { threads = threads; before = before; number = number; fields = fields } in
-    one_more line (order_verdict line) number (λ after. read_order_lines threads after (number + 1) lines) picks refl (after_lines threads (with_order_line line) (number + 1) lines picks) so_far is
+    one_more line (verdict order_rules line) number (λ after. read_order_lines threads after (number + 1) lines) picks refl (after_lines threads (with_order_line line) (number + 1) lines picks) so_far is
 
 pub picked_below : (threads : ℕ) (text picks : List ℕ) → picks_by threads text ≡ Ok picks → All (λ thread. thread < threads) picks
 picked_below threads text picks is = after_lines threads [] 1 (lines_of text) picks (All-nil (λ thread. thread < threads)) is

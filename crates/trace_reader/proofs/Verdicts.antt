@@ -9,7 +9,7 @@ use Rattle.trace_reader.specs.declared.word.Word.{Word}
 use Rattle.tc_model.specs.Input.{Asked}
 use Rattle.trace_reader.specs.declared.form.Form.{Form}
 use Rattle.trace_reader.specs.Form.{has_fields, form_of, read_fields}
-use Rattle.trace_reader.specs.Reading.{Line, Rule, other_fields, line_form, verdict}
+use Rattle.trace_reader.specs.Reading.{Line, Rule, other_fields, line_form, rules, verdict}
 use Rattle.trace_reader.specs.Steps.{HasWord, broken, Fits}
 
 -- what the rules on the fields give, where their number is right
@@ -20,7 +20,7 @@ read_fields-lacks : (w : Word) (fields : List (List ℕ)) → has_fields w field
 read_fields-lacks w fields lacks = ap (λ b. cond b (ok_or (form_of w fields) why.Number) (Err why.Fields)) lacks
 
 -- the fields behind the word are another number of them
-verdict-fields : (line : Line) (w : Word) → HasWord line w → has_fields w (other_fields line.fields) ≡ false → verdict line ≡ Some why.Fields
+verdict-fields : (line : Line) (w : Word) → HasWord line w → has_fields w (other_fields line.fields) ≡ false → verdict rules line ≡ Some why.Fields
 verdict-fields line w known lacks =
     let lines : nat_lt MOST_LINES line.number ≡ false = le-ltb MOST_LINES line.number known.few in
     let word = known.word in
@@ -28,7 +28,7 @@ verdict-fields line w known lacks =
     rw (lines, word, early, lacks) refl
 
 -- they aren't all numbers in their ranges
-verdict-number : (line : Line) (w : Word) → HasWord line w → has_fields w (other_fields line.fields) ≡ true → form_of w (other_fields line.fields) ≡ None → verdict line ≡ Some why.Number
+verdict-number : (line : Line) (w : Word) → HasWord line w → has_fields w (other_fields line.fields) ≡ true → form_of w (other_fields line.fields) ≡ None → verdict rules line ≡ Some why.Number
 verdict-number line w known has none =
     let lines : nat_lt MOST_LINES line.number ≡ false = le-ltb MOST_LINES line.number known.few in
     let word = known.word in
@@ -36,21 +36,21 @@ verdict-number line w known has none =
     rw (lines, word, early, has, none) refl
 
 -- the reason of the first rule that fails
-reason-cond : (fails : Bool) (first others : Option Rule)
-    → option_map (λ (r : Rule). r.why) (cond fails first others) ≡ cond fails (option_map (λ (r : Rule). r.why) first) (option_map (λ (r : Rule). r.why) others)
+reason-cond : (fails : Bool) (first others : Option (Rule Line LineWhy))
+    → option_map (λ (r : Rule Line LineWhy). r.why) (cond fails first others) ≡ cond fails (option_map (λ (r : Rule Line LineWhy). r.why) first) (option_map (λ (r : Rule Line LineWhy). r.why) others)
 reason-cond true first others = refl
 reason-cond false first others = refl
 
 -- the line has a form, and the rules on it decide
 verdict-form : (line : Line) (w : Word) (form : Form) → HasWord line w → has_fields w (other_fields line.fields) ≡ true
-    → form_of w (other_fields line.fields) ≡ Some form → verdict line ≡ broken line.classes line.before.asked form
+    → form_of w (other_fields line.fields) ≡ Some form → verdict rules line ≡ broken line.classes line.before.asked form
 verdict-form line w form known has is =
     let lines : nat_lt MOST_LINES line.number ≡ false = le-ltb MOST_LINES line.number known.few in
     let word = known.word in
     let early = known.early in
     rw (lines, word, early, has, is) (simp reason-cond)
 
-pub verdict-err : (line : Line) (w : Word) (reason : LineWhy) → HasWord line w → read_fields w (other_fields line.fields) ≡ Err reason → verdict line ≡ Some reason
+pub verdict-err : (line : Line) (w : Word) (reason : LineWhy) → HasWord line w → read_fields w (other_fields line.fields) ≡ Err reason → verdict rules line ≡ Some reason
 verdict-err line w reason known h =
     elim (cases_Bool (has_fields w (other_fields line.fields))) [
       | inl has ↦ by_form (form_of w (other_fields line.fields)) line w reason known has refl h
@@ -61,7 +61,7 @@ verdict-err line w reason known h =
     ]
   where
     by_form : (form : Option Form) (line : Line) (w : Word) (reason : LineWhy) → HasWord line w → has_fields w (other_fields line.fields) ≡ true
-        → form_of w (other_fields line.fields) ≡ form → read_fields w (other_fields line.fields) ≡ Err reason → verdict line ≡ Some reason
+        → form_of w (other_fields line.fields) ≡ form → read_fields w (other_fields line.fields) ≡ Err reason → verdict rules line ≡ Some reason
     by_form None line w reason known has is h =
         let same : Err why.Number ≡ Err reason = sym (read_fields-has w (other_fields line.fields) None has is) ∙ h in
         let e : why.Number ≡ reason = cc in
@@ -90,7 +90,7 @@ form_from_fields w fields form h =
         let e : found ≡ form = cc in
         is ∙ ap Some e
 
-pub verdict-ok : (line : Line) (w : Word) (form : Form) → HasWord line w → read_fields w (other_fields line.fields) ≡ Ok form → verdict line ≡ broken line.classes line.before.asked form
+pub verdict-ok : (line : Line) (w : Word) (form : Form) → HasWord line w → read_fields w (other_fields line.fields) ≡ Ok form → verdict rules line ≡ broken line.classes line.before.asked form
 verdict-ok line w form known h =
     let facts = form_from_fields w (other_fields line.fields) form h in
     verdict-form line w form known facts.0 facts.1

@@ -1,5 +1,5 @@
 -- What an order file asks for, line by line, or its first bad line with the first rule that it fails.
-use Rattle.std.specs.Prelude.{ℕ, ◌≡◌, ◌+◌, Bool, true, false, not, nat_le, nat_lt, List, [], ◌∷◌, ◌++◌, length, replicate, find, is_none, Option, Some, None, Result, Ok, Err, option_map, if◌then◌else◌}
+use Rattle.std.specs.Prelude.{ℕ, ◌≡◌, ◌+◌, Bool, true, false, not, nat_le, nat_lt, List, [], ◌∷◌, ◌++◌, length, replicate, is_none, Option, Some, None, Result, Ok, Err, if◌then◌else◌}
 use Rattle.std.specs.Option.{option_map_or, ok_or}
 use Rattle.trace_text.specs.Lines.{lines_of}
 use Rattle.tc_model.specs.declared.machine.TheConstants.{MOST_PICKS}
@@ -11,7 +11,7 @@ use Rattle.trace_reader.specs.declared.why.OrderFault.TheVariants as fault
 use Rattle.trace_reader.specs.declared.turn.Turns.{Turns}
 use Rattle.trace_reader.specs.Words.{place, from_to}
 use Rattle.trace_reader.specs.Form.{number_in}
-use Rattle.trace_reader.specs.Reading.{BadLine}
+use Rattle.trace_reader.specs.Reading.{Rule, verdict, judged, BadLine, and_then}
 
 -- how often a thread is picked in a line: `T`, once, or `T N`
 abbrev pub turns_with : Option ℕ → Option ℕ → Option Turns
@@ -43,13 +43,8 @@ pub record OrderLine : Type 0 where
 abbrev pub has_turns : (Turns → Bool) → OrderLine → Bool
 has_turns test line = option_map_or test (line_turns line.fields) false
 
--- a rule: what is wrong with a line that fails it, and which lines fail it
-pub record OrderRule : Type 0 where
-  pub why : OrderWhy
-  pub fails : OrderLine → Bool
-
 -- the rules, in the order in which they are tested
-abbrev pub order_rules : List OrderRule
+abbrev pub order_rules : List (Rule OrderLine OrderWhy)
 order_rules =
     record { why = why.Lines; fails = λ line. nat_lt MOST_LINES line.number }
     ∷ record { why = why.Fields; fails = λ line. not (has_turn_fields line.fields) }
@@ -58,33 +53,18 @@ order_rules =
     ∷ record { why = why.Picks; fails = λ line. has_turns (λ turns. nat_lt MOST_PICKS (length line.before + turns.picks)) line }
     ∷ []
 
--- the verdict on a line: the first rule that it fails
-abbrev pub order_verdict : OrderLine → Option OrderWhy
-order_verdict line = option_map (λ rule. rule.why) (find (λ rule. rule.fails line) order_rules)
-
 -- the picks with those of a line
-abbrev pub with_turns : List ℕ → Turns → List ℕ
-with_turns before turns = before ++ replicate turns.picks turns.thread
-
 abbrev pub with_order_line : OrderLine → List ℕ
-with_order_line line = option_map_or (with_turns line.before) (line_turns line.fields) line.before
+with_order_line line = option_map_or (λ turns. line.before ++ replicate turns.picks turns.thread) (line_turns line.fields) line.before
 
 -- one line
-abbrev pub order_judged : Option OrderWhy → List ℕ → Result (List ℕ) OrderWhy
-order_judged None after = Ok after
-order_judged (Some why) after = Err why
-
 abbrev pub read_order_line : OrderLine → Result (List ℕ) OrderWhy
-read_order_line line = order_judged (order_verdict line) (with_order_line line)
+read_order_line line = judged (verdict order_rules line) (with_order_line line)
 
 -- the lines from a number on, one after another
-abbrev pub order_and_then : ℕ → Result (List ℕ) OrderWhy → (List ℕ → Result (List ℕ) (BadLine OrderWhy)) → Result (List ℕ) (BadLine OrderWhy)
-order_and_then number (Ok after) more = more after
-order_and_then number (Err why) more = Err (record { line = number; why = why })
-
 abbrev pub read_order_lines : ℕ → List ℕ → ℕ → List (List (List ℕ)) → Result (List ℕ) (BadLine OrderWhy)
 read_order_lines threads before number [] = Ok before
-read_order_lines threads before number (fields ∷ lines) = order_and_then number (read_order_line (record { threads = threads; before = before; number = number; fields = fields })) (λ after. read_order_lines threads after (number + 1) lines)
+read_order_lines threads before number (fields ∷ lines) = and_then number (read_order_line (record { threads = threads; before = before; number = number; fields = fields })) (λ after. read_order_lines threads after (number + 1) lines)
 
 -- the threads that are picked, in the order of their picks, by the text of an order file for so many threads
 abbrev pub picks_by : ℕ → List ℕ → Result (List ℕ) (BadLine OrderWhy)

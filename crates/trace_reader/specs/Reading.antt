@@ -112,13 +112,13 @@ has_word test line = option_map_or test (first_word line.fields) false
 abbrev pub has_form : (Form → Bool) → Line → Bool
 has_form test line = option_map_or test (line_form line.fields) false
 
--- a rule: what is wrong with a line that fails it, and which lines fail it
-pub record Rule : Type 0 where
-  pub why : LineWhy
-  pub fails : Line → Bool
+-- a rule on lines: what is wrong with a line that fails it, and which lines fail it
+pub record Rule (L Why : Type 0) : Type 0 where
+  pub why : Why
+  pub fails : L → Bool
 
 -- the rules, in the order in which they are tested
-abbrev pub rules : List Rule
+abbrev pub rules : List (Rule Line LineWhy)
 rules =
     record { why = why.Lines; fails = λ line. nat_lt MOST_LINES line.number }
     ∷ record { why = why.Word; fails = λ line. is_none (first_word line.fields) }
@@ -133,9 +133,9 @@ rules =
     ∷ record { why = why.LabelFreed; fails = λ line. has_form (label_freed line.before.asked.calls) line }
     ∷ []
 
--- the verdict on a line: the first rule that it fails
-abbrev pub verdict : Line → Option LineWhy
-verdict line = option_map (λ rule. rule.why) (find (λ rule. rule.fails line) rules)
+-- the verdict on a line by such rules: the first that it fails
+abbrev pub verdict : {L Why : Type 0} → List (Rule L Why) → L → Option Why
+verdict rules line = option_map (λ rule. rule.why) (find (λ rule. rule.fails line) rules)
 
 -- what the lines say with a call more, which takes the thread's pending move
 abbrev pub with_call : ℕ → ℕ → Call → SoFar → SoFar
@@ -158,13 +158,13 @@ with_form number (Resize thread cpu class cap) before = with_call number thread 
 abbrev pub with_line : Line → SoFar
 with_line line = option_map_or (λ form. with_form line.number form line.before) (line_form line.fields) line.before
 
--- one line
-abbrev pub judged : Option LineWhy → SoFar → Result SoFar LineWhy
+-- one line, by the verdict on it
+abbrev pub judged : {After Why : Type 0} → Option Why → After → Result After Why
 judged None after = Ok after
 judged (Some why) after = Err why
 
 abbrev pub read_line : Line → Result SoFar LineWhy
-read_line line = judged (verdict line) (with_line line)
+read_line line = judged (verdict rules line) (with_line line)
 
 -- the first bad line, with the first rule that it fails
 pub record BadLine (Why : Type 0) : Type 0 where
@@ -172,7 +172,7 @@ pub record BadLine (Why : Type 0) : Type 0 where
   pub why : Why
 
 -- the lines from a number on, one after another
-abbrev pub and_then : ℕ → Result SoFar LineWhy → (SoFar → Result Asked (BadLine LineWhy)) → Result Asked (BadLine LineWhy)
+abbrev pub and_then : {After Answer Why : Type 0} → ℕ → Result After Why → (After → Result Answer (BadLine Why)) → Result Answer (BadLine Why)
 and_then number (Ok after) more = more after
 and_then number (Err why) more = Err (record { line = number; why = why })
 

@@ -1,6 +1,7 @@
 //! Reading an order file.
 ghost use Rattle.std.specs.Prelude.{◌≡◌, ◌+◌, ◌≤◌, ◌++◌, [], length, Ok, Some, None, OnOk, IfOk, IfErr, MatchResult, All, ◌<◌};
-ghost use Rattle.trace_reader.specs.Orders.{line_turns, order_verdict, read_order_line, picks_by, IsOrderFault};
+ghost use Rattle.trace_reader.specs.Reading.{verdict};
+ghost use Rattle.trace_reader.specs.Orders.{line_turns, order_rules, read_order_line, picks_by, IsOrderFault};
 ghost use Rattle.trace_reader.specs.Turning.{picks_of, order_line_at, IsOrderLineFault};
 
 use crate::limits::MOST_LINES;
@@ -23,7 +24,7 @@ impl Picked {
     fn judge(&self, threads: u8, line: &mut Fields) -> Result<Turns, OrderWhy>
         requires count { self.now.count ≡ length (picks_of self.now.turns.items) }
         requires few { self.now.count ≤ MOST_PICKS }
-        ensures verdict { MatchResult result (λ _. order_verdict (order_line_at threads self.now line.old) ≡ None) (λ why. order_verdict (order_line_at threads self.now line.old) ≡ Some why) }
+        ensures verdict { MatchResult result (λ _. verdict order_rules (order_line_at threads self.now line.old) ≡ None) (λ why. verdict order_rules (order_line_at threads self.now line.old) ≡ Some why) }
         ensures turns { IfOk result (λ turns. line_turns line.old.fields ≡ Some turns) }
         ensures few { IfOk result (λ turns. self.now.count + turns.picks ≤ MOST_PICKS) }
         ensures number { IfOk result (λ _. line.old.line ≤ MOST_LINES) }

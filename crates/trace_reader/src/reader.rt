@@ -3,7 +3,7 @@ ghost use Rattle.std.specs.Prelude.{ℕ, ◌≡◌, ◌<◌, ◌≤◌, Ok, Some
 ghost use Rattle.std.specs.Option.{option_map_or};
 ghost use Rattle.trace_reader.specs.Words.{is_head};
 ghost use Rattle.trace_reader.specs.Form.{is_head_form, IsInRange};
-ghost use Rattle.trace_reader.specs.Reading.{first_word, other_fields, is_past, thread_of, cpu_of, class_of, line_form, verdict, nothing, read_line, with_call, with_form};
+ghost use Rattle.trace_reader.specs.Reading.{first_word, other_fields, is_past, thread_of, cpu_of, class_of, line_form, rules, verdict, nothing, read_line, with_call, with_form};
 ghost use Rattle.tc_model.specs.Input.{label_end};
 ghost use Rattle.trace_reader.specs.Kept.{MayFollow};
 ghost use Rattle.trace_reader.specs.Steps.{broken, broken_label, so_far, line_at, IsLineFault, HasWord, Fits, IsReading, IsSoFar};
@@ -140,7 +140,7 @@ impl Reader {
 
     /// What a line's first field names, or the first rule on it that the line fails.
     fn judge_word(&self, line: &mut Fields) -> Result<Word, LineWhy>
-        ensures word { (classes : ℕ) → MatchResult result (HasWord (line_at classes self.now line.old)) (λ why. verdict (line_at classes self.now line.old) ≡ Some why) }
+        ensures word { (classes : ℕ) → MatchResult result (HasWord (line_at classes self.now line.old)) (λ why. verdict rules (line_at classes self.now line.old) ≡ Some why) }
         ensures others { OnOk result (line.new.fields ≡ other_fields line.old.fields) }
     {
         if line.line() > MOST_LINES {
@@ -158,7 +158,7 @@ impl Reader {
     /// What a line says, or the first rule that it fails.
     fn judge(&self, classes: u32, line: &mut Fields) -> Result<Form, LineWhy>
         requires { IsReading self.now }
-        ensures verdict { MatchResult result (λ _. verdict (line_at classes self.now line.old) ≡ None) (λ why. verdict (line_at classes self.now line.old) ≡ Some why) }
+        ensures verdict { MatchResult result (λ _. verdict rules (line_at classes self.now line.old) ≡ None) (λ why. verdict rules (line_at classes self.now line.old) ≡ Some why) }
         ensures form { IfOk result (λ form. line_form line.old.fields ≡ Some form) }
         ensures range { IfOk result IsInRange }
         ensures fits { IfOk result (Fits classes (so_far self.now).asked) }
