@@ -1,7 +1,7 @@
 -- The text of a run is read again: its lines of calls tell the calls that it was printed of.
 use Rattle.std.proofs.Common.{◌≡◌, ℕ, ◌&&◌, ◌==◌, if◌then◌else◌, true, false, List, [], ◌∷◌, ◌++◌, length, map, cond, codes, decimal, Some, None}
-use Rattle.std.proofs.Common.{refl, sym, ap, ◌∙◌, subst, arith, append_assoc}
-use Rattle.std.specs.List.{All, AllZip, enumerate_from}
+use Rattle.std.proofs.Common.{refl, sym, ap, ◌∙◌, ◌+◌, suc, not, take, subst, arith, append_assoc}
+use Rattle.std.specs.List.{All, AllZip, before_first, enumerate_from, position_or_len}
 use Rattle.std.proofs.lemmas.Bool.{eq-eqb, false_from_ne_true}
 use Rattle.std.proofs.lemmas.List.{map-id}
 use Rattle.std.proofs.lemmas.List.Elements.{All-nil, All-cons, All-head, All-tail, All-from_recursion}
@@ -29,7 +29,7 @@ use Rattle.journal_audit.specs.declared.told.Resized.TheVariants as resized
 use Rattle.journal_audit.specs.declared.told.Act.{Act}
 use Rattle.journal_audit.specs.declared.told.Act.TheVariants as act
 use Rattle.journal_audit.specs.Forms.{number, told_by, is_none_word, names, answer_of}
-use Rattle.journal_audit.specs.Rules.{Plan, ends, call_lines, journal_of}
+use Rattle.journal_audit.specs.Rules.{Plan, ends, journal_of}
 use Rattle.journal_audit.specs.Legal.{Tells}
 use Rattle.journal_audit.specs.Printed.{PrintedIsLegal}
 use Rattle.journal_audit.proofs.LinesBehind.{printed_stays}
@@ -142,9 +142,13 @@ letter_goes_on (call.Malloc label size) others = refl
 letter_goes_on c others = refl
 
 lines_are_calls : (calls : List CallLine) (count : List (List ℕ)) (more : List (List (List ℕ)))
-    → call_lines (map call_fields calls ++ (codes "calls" ∷ count) ∷ more) ≡ map call_fields calls
+    → before_first ends (map call_fields calls ++ (codes "calls" ∷ count) ∷ more) ≡ map call_fields calls
 lines_are_calls [] count more = refl
-lines_are_calls (c ∷ cs) count more = grind (arith, answer_words, call_fields, call_lines, codes, cond, decimal, letter_goes_on, map, named_words, (lines_are_calls cs count more))
+lines_are_calls (c ∷ cs) count more =
+    let rest = map call_fields cs ++ (codes "calls" ∷ count) ∷ more in
+    let past : position_or_len ends (call_fields c ∷ rest) ≡ suc (position_or_len ends rest) =
+    ap (λ b. cond (not b) (1 + position_or_len ends rest) 0) (letter_goes_on c.call []) ∙ omega arith in
+    ap (λ n. take n (call_fields c ∷ rest)) past ∙ ap (λ xs. call_fields c ∷ xs) (lines_are_calls cs count more)
 
 -- What is read.
 reads : (n : ℕ) → IsSmall n → number (decimal n) ≡ Some n
@@ -203,6 +207,6 @@ printed_is_legal plan calls live live_bytes used resident rows more run order te
     let text = text_of calls live live_bytes used resident rows in
     let lines = printed_stays text _ more (text_printed calls live live_bytes used resident rows) in
     let cut = append_assoc (map call_fields calls) (lines_behind calls live live_bytes used resident rows) (lines_of more) in
-    let journal : journal_of (text ++ more) ≡ map told_by (map call_fields calls) = ap (map told_by) (ap call_lines (lines ∙ cut) ∙ lines_are_calls calls _ _) in
+    let journal : journal_of (text ++ more) ≡ map told_by (map call_fields calls) = ap (map told_by) (ap (before_first ends) (lines ∙ cut) ∙ lines_are_calls calls _ _) in
     let told = subst (λ forms. AllZip Tells forms calls) (sym journal) (all_tell plan calls run [] calls refl tellable) in
     record { calls = calls; told = told; order = order; run = run }

@@ -1,6 +1,6 @@
 -- What a call line says: its thread, what it names of its call, and the answer. All numbers are canonical decimals of at
 -- most 64 bits.
-use Rattle.std.specs.Prelude.{ℕ, Bool, true, false, ◌==◌, ◌&&◌, List, [], ◌∷◌, Option, Some, None, if◌then◌else◌, codes, option_map}
+use Rattle.std.specs.Prelude.{ℕ, Bool, true, false, ◌==◌, ◌&&◌, List, [], ◌∷◌, drop, Option, Some, None, if◌then◌else◌, codes, option_map}
 use Rattle.std.specs.Option.{option_and_then}
 use Rattle.std.specs.Str.{bytes_eq}
 use Rattle.tc_units.specs.Decimal.{number_of}
@@ -21,14 +21,10 @@ use Rattle.journal_audit.specs.declared.told.Told.{Told}
 abbrev pub number : List ℕ → Option ℕ
 number field = number_of 18446744073709551615 field
 
--- the number of the first field, and the fields behind it
+-- the number of the first field
 abbrev pub first_number : List (List ℕ) → Option ℕ
 first_number [] = None
 first_number (field ∷ fields) = number field
-
-abbrev pub others : List (List ℕ) → List (List ℕ)
-others [] = []
-others (field ∷ fields) = fields
 
 -- what stands in a line whose first field is a number, by that number
 abbrev pub with_number : {A : Type 0} → List (List ℕ) → (ℕ → Option A) → Option A
@@ -82,11 +78,11 @@ resized_with first (Some second) =
 -- The fields behind the thread, by the kind of the call.
 -- `L ADDR LEN`, or `L none`
 abbrev pub malloc_by : List (List ℕ) → Option Act
-malloc_by fields = with_number fields (λ label. option_map (λ block. Malloc label block) (by_words place_with (others fields)))
+malloc_by fields = with_number fields (λ label. option_map (λ block. Malloc label block) (by_words place_with (drop 1 fields)))
 
 -- `L ADDR`, or `L none`
 abbrev pub free_by : List (List ℕ) → Option Act
-free_by fields = with_number fields (λ label. option_map (λ addr. Free label addr) (address_by (others fields)))
+free_by fields = with_number fields (λ label. option_map (λ addr. Free label addr) (address_by (drop 1 fields)))
 
 -- `PAGES`
 abbrev pub release_by : List (List ℕ) → Option Act
@@ -95,15 +91,15 @@ release_by fields = None
 
 -- `C ok OBJECTS`, or `C busy OWNER`
 abbrev pub drain_by : List (List ℕ) → Option Act
-drain_by fields = with_number fields (λ cpu. option_map (λ answer. Drain cpu answer) (by_words drained_with (others fields)))
+drain_by fields = with_number fields (λ cpu. option_map (λ answer. Drain cpu answer) (by_words drained_with (drop 1 fields)))
 
 -- `C K N` with `ok`, `busy OWNER`, `overstatic CAP` or `overlimit SUM` behind it
 abbrev pub resize_by : List (List ℕ) → Option Act
 resize_by fields =
     with_number fields (λ cpu.
-    with_number (others fields) (λ class.
-    with_number (others (others fields)) (λ cap.
-    option_map (λ answer. Resize cpu class cap answer) (by_words resized_with (others (others (others fields)))))))
+    with_number (drop 1 fields) (λ class.
+    with_number (drop 2 fields) (λ cap.
+    option_map (λ answer. Resize cpu class cap answer) (by_words resized_with (drop 3 fields)))))
 
 -- the kind of a call, by its letter
 abbrev pub act_by : List ℕ → List (List ℕ) → Option Act
@@ -117,7 +113,7 @@ act_by letter fields =
 -- what a line says, where it has the form of a call's line: a letter, a thread, and what the kind of call has behind them
 abbrev pub told_by : List (List ℕ) → Option Told
 told_by [] = None
-told_by (letter ∷ fields) = with_number fields (λ thread. option_map (λ act. record { thread = thread; act = act }) (act_by letter (others fields)))
+told_by (letter ∷ fields) = with_number fields (λ thread. option_map (λ act. record { thread = thread; act = act }) (act_by letter (drop 1 fields)))
 
 -- whether a line names this call; of a release it names nothing
 abbrev pub names : Act → Call → Bool

@@ -2,7 +2,7 @@
 use Rattle.std.specs.Prelude.{ℕ, ◌+◌, ◌*◌, Bool, true, false, ◌==◌, ◌&&◌, not, nat_lt, nat_le, if◌then◌else◌, codes}
 use Rattle.std.specs.Prelude.{List, [], ◌∷◌, ◌++◌, length, map, filter, slice_get, Option, Some, None, option_map, Result, Ok, Err}
 use Rattle.std.specs.Option.{option_and_then, option_map_or}
-use Rattle.std.specs.List.{list_any, range_with_len}
+use Rattle.std.specs.List.{list_any, before_first, range_with_len}
 use Rattle.trace_text.specs.Lines.{lines_of}
 use Rattle.std.specs.Str.{bytes_eq}
 use Rattle.tc_units.specs.Units.{huge_bytes}
@@ -23,18 +23,14 @@ use Rattle.journal_audit.specs.declared.verdict.Verdict.{Verdict}
 use Rattle.journal_audit.specs.declared.verdict.Verdict.TheVariants.{Yes, No}
 use Rattle.journal_audit.specs.Forms.{told_by, names, answer_of}
 
--- the lines of calls: those before the first one that begins with the word `calls`
+-- whether a line begins with the word `calls`: the lines of calls are those before the first such one
 abbrev pub ends : List (List ℕ) → Bool
 ends [] = false
 ends (field ∷ fields) = bytes_eq field (codes "calls")
 
-abbrev pub call_lines : List (List (List ℕ)) → List (List (List ℕ))
-call_lines [] = []
-call_lines (fields ∷ lines) = if ends fields then [] else fields ∷ call_lines lines
-
 -- what each line of calls says, where it has the form of one
 abbrev pub forms_in : List (List (List ℕ)) → List (Option Told)
-forms_in lines = map told_by (call_lines lines)
+forms_in lines = map told_by (before_first ends lines)
 
 abbrev pub journal_of : List ℕ → List (Option Told)
 journal_of text = forms_in (lines_of text)

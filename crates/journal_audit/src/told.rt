@@ -1,7 +1,7 @@
 //! What a call line says.
-ghost use Rattle.std.specs.Prelude.{◌≡◌, ◌≢◌, [], ◌∷◌, length, option_map, MatchOption};
+ghost use Rattle.std.specs.Prelude.{◌≡◌, ◌≢◌, [], ◌∷◌, length, drop, option_map, MatchOption};
 ghost use Rattle.std.specs.Option.{option_copied};
-ghost use Rattle.journal_audit.specs.Forms.{number, first_number, others, one_or_two, words, place_with, address_by, drained_with, resized_with};
+ghost use Rattle.journal_audit.specs.Forms.{number, first_number, one_or_two, words, place_with, address_by, drained_with, resized_with};
 ghost use Rattle.journal_audit.specs.Forms.{malloc_by, free_by, release_by, drain_by, resize_by, act_by, told_by, names};
 
 use tc_model::Call;
@@ -80,7 +80,7 @@ fn read_number(field: &[u8]) -> Option<u64>
 /// The number of the next field.
 fn next_number(fields: &mut Fields) -> Option<u64>
     ensures number { result ≡ first_number fields.old.fields }
-    ensures others { fields.new.fields ≡ others fields.old.fields }
+    ensures others { fields.new.fields ≡ drop 1 fields.old.fields }
 {
     let field = fields.next()?;
     read_number(field.bytes)
