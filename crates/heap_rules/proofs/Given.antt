@@ -3,6 +3,7 @@ use Rattle.std.proofs.Common.{◌≡◌, ℕ, ◌+◌, ◌-◌, ◌*◌, ◌<◌
 use Rattle.std.proofs.Common.{All, Contains, Option, Some, None, IfSome, option_map, refl, sym, ap, subst, ◌∙◌, inl, inr, arith}
 use Rattle.std.specs.Prelude.{MatchOption}
 use Rattle.std.specs.List.{list_all}
+use Rattle.std.specs.Option.{option_or}
 use Rattle.std.proofs.lemmas.Bool.{cases_Bool, cases_lt, and_parts, and_from, and_left, and_right, leb-true, lt-ltb, le-ltb, not_from_true, not_from_false}
 use Rattle.std.proofs.lemmas.Option.{none-some}
 use Rattle.std.proofs.lemmas.List.{length-map, get_or-map}
@@ -16,7 +17,7 @@ use Rattle.heap_rules.specs.FillerRows as filler
 use Rattle.heap_rules.specs.RegionRows.{RegionRow, place_in_region, region_place}
 use Rattle.heap_rules.specs.RegionRows as regions
 use Rattle.heap_rules.specs.Choice.{filler_rows, run_choice, taken_row, region_row_of, region_rows, hugepages_for}
-use Rattle.heap_rules.specs.New.{Placed, in_filler, in_fresh, by_filler, new_small, in_free, new_whole, in_region, in_new_region, or_whole}
+use Rattle.heap_rules.specs.New.{Placed, in_filler, in_fresh, by_filler, new_small, in_free, new_whole, in_region, in_new_region}
 use Rattle.heap_rules.specs.New.{new_beside_regions, by_regions, suits_region, new_unsettled, settled_placed, none_fits}
 use Rattle.heap_rules.specs.Sound.{IsRegion, IsSound}
 use Rattle.heap_rules.specs.Laws.{IsGiven, NewGives}
@@ -151,7 +152,7 @@ module _ (heap : Heap) (n : ℕ) (sound : IsSound heap) (some : 0 < n) where
   in_regions = by_regions heap n (region_place (region_rows heap) n)
 
   module _ (wide : 2 ≤ heap.config.region) (fits' : n ≤ 256 * heap.config.region) where
-    new_region_by : no_region ≡ true → (o : Option ℕ) → run_choice heap heap.config.region ≡ o → IsAnswer heap n none_beside (or_whole heap n (option_map (in_new_region heap n) o))
+    new_region_by : no_region ≡ true → (o : Option ℕ) → run_choice heap heap.config.region ≡ o → IsAnswer heap n none_beside (option_or (option_map (in_new_region heap n) o) (new_whole heap n))
     new_region_by t None e = given_whole no_region t
     new_region_by t (Some r) e =
         let are = run_choice_free heap heap.config.region r (omega arith) e in

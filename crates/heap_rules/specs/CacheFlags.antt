@@ -1,18 +1,14 @@
 -- (huge_cache) The choice of adjacent free hugepages, and the limit of backed ones, over flags.
 use Rattle.std.specs.Prelude.{ℕ, ◌+◌, ◌-◌, Bool, false, ◌&&◌, nat_le, List, [], ◌∷◌, ◌++◌, length, take, drop, fold, min, max, count_by, Option, Some, None, option_map}
 use Rattle.std.specs.List.{last_or}
+use Rattle.std.specs.Option.{option_or}
 use Rattle.range_bits.specs.Ranges.{best}
 use Rattle.heap_rules.specs.Numbered.{at_number}
-
--- the first, or where there is none the second
-abbrev pub or_else : Option ℕ → Option ℕ → Option ℕ
-or_else (Some x) y = Some x
-or_else None y = y
 
 -- The first of `many` adjacent free hugepages, by which aren't free and which aren't free and backed: where the shortest
 -- maximal run of backed ones that is long enough begins, or, where there is none, that of free ones, backed or not.
 abbrev pub run_choice : List Bool → List Bool → ℕ → Option ℕ
-run_choice taken unready many = option_map (λ place. place + 1) (or_else (best unready many) (best taken many))
+run_choice taken unready many = option_map (λ place. place + 1) (option_or (best unready many) (best taken many))
 
 -- whether hugepage h is backed and free, and at least `limit` such ones stand before it
 abbrev pub is_over : ℕ → List Bool → ℕ → Bool

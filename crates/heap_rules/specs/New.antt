@@ -1,6 +1,7 @@
 -- A new run: its three routes, and where none fits.
 use Rattle.std.specs.Prelude.{ℕ, ◌+◌, ◌-◌, ◌*◌, ◌%◌, Bool, true, false, ◌==◌, ◌&&◌, ◌||◌, not, nat_lt, nat_le, List, map, sum_by, Option, Some, None, option_map, if◌then◌else◌}
 use Rattle.std.specs.List.{list_all}
+use Rattle.std.specs.Option.{option_or}
 use Rattle.tc_units.specs.Units.{huge_pages}
 use Rattle.tc_units.specs.Sorted.{with_item}
 use Rattle.tc_units.specs.declared.spans.Run.{Run}
@@ -90,12 +91,8 @@ abbrev pub slack : Heap → ℕ → ℕ
 slack heap n = sum_by (λ h. if (hugepage heap h).donated then huge_pages - used_count heap.runs h else 0) (numbers heap) + (huge_pages * hugepages_for n - n)
 
 -- In a new region where the slack is large enough, else by the run route.
-abbrev pub or_whole : Heap → ℕ → Option Placed → Option Placed
-or_whole heap n (Some p) = Some p
-or_whole heap n None = new_whole heap n
-
 abbrev pub new_beside_regions : Heap → ℕ → Option Placed
-new_beside_regions heap n = or_whole heap n (if nat_le heap.config.slack (slack heap n) then option_map (in_new_region heap n) (run_choice heap heap.config.region) else None)
+new_beside_regions heap n = option_or (if nat_le heap.config.slack (slack heap n) then option_map (in_new_region heap n) (run_choice heap heap.config.region) else None) (new_whole heap n)
 
 abbrev pub by_regions : Heap → ℕ → Option ℕ → Option Placed
 by_regions heap n (Some page) = Some (in_region heap n page)

@@ -2,7 +2,7 @@
 pub use Rattle.free_ranges.specs.Ranges.{IsLastRange, IsRange}
 pub use Rattle.free_ranges.specs.declared.range.FreeRange.{FreeRange}
 pub use Rattle.heap_rules.proofs.Numbered.{at_number-place}
-pub use Rattle.heap_rules.specs.CacheFlags.{limit, or_else}
+pub use Rattle.heap_rules.specs.CacheFlags.{limit}
 pub use Rattle.huge_cache.specs.Cache.{Cache, is_backed}
 pub use Rattle.huge_cache.specs.Rows.{IsPadded, IsSound}
 pub use Rattle.huge_cache.specs.Uses.{greatest_of, IsFalling, with_newest}

@@ -1,8 +1,9 @@
 -- The place that is found for adjacent hugepages.
 use Rattle.std.proofs.Common.{◌≡◌, ℕ, suc, ◌+◌, ◌<◌, ◌≤◌, ◌↔◌, Bool, true, false, not, List, [], ◌∷◌, length, get_or, drop, Option, Some, None, IsNone, IfSome}
 use Rattle.std.proofs.Common.{refl, sym, subst, ◌∙◌, arith}
+use Rattle.std.specs.Option.{option_or}
 use Rattle.huge_cache.proofs.Common.{prefix_len, length-drop, get_or-drop, free_from, used_from, longest, best, best_is_fit, free_fits, greatest-ge, nat_tests}
-use Rattle.huge_cache.proofs.Common.{none_exactly, or_else, Cache, IsSound}
+use Rattle.huge_cache.proofs.Common.{none_exactly, Cache, IsSound}
 
 -- stretches of two rows of which the second is used where the first is
 used_prefix : (xs ys : List Bool) → length xs ≡ length ys → ((k : ℕ) → get_or xs k true ≡ true → get_or ys k true ≡ true) → prefix_len (λ used. used) xs ≤ prefix_len (λ used. used) ys
@@ -30,7 +31,7 @@ free_too c p h = free_prefix (drop p c.taken) (drop p c.unready) (omega (arith, 
 
 -- what is found
 pub record FoundPlace (c : Cache) (n : ℕ) (result : Option ℕ) : Type 0 where
-  pub place : result ≡ or_else (best c.unready n) (best c.taken n)
+  pub place : result ≡ option_or (best c.unready n) (best c.taken n)
   pub none : IsNone result ↔ (longest c.taken < n)
   pub free : IfSome result (λ place. n ≤ free_from c.taken place)
   pub inside : IfSome result (λ place. place + n ≤ 4096)
@@ -46,7 +47,7 @@ found_backed c n place h some e =
     let fit = best_is_fit c.unready n place e in
     let far : n ≤ free_from c.taken place = omega (arith, fit.1, free_too c place h) in
     let there = fits_there c n place h some (omega (arith, fit.0, h.lengths)) far in
-    grind (arith, nat_tests, or_else)
+    grind (arith, nat_tests, option_or)
 
 none_is : (r : Option ℕ) → IsNone r → r ≡ None
 none_is r h = grind (arith, nat_tests)
@@ -64,4 +65,4 @@ pub found_free : (c : Cache) (n : ℕ) (r : Option ℕ) → IsSound c → 0 < n 
 found_free c n r h some none e =
     let exactly = none_exactly c.taken n r some e in
     let free = some_free c n r h some e in
-    grind (arith, nat_tests, or_else, none_is, is_none)
+    grind (arith, nat_tests, option_or, none_is, is_none)

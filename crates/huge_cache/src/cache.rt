@@ -1,7 +1,8 @@
 //! The free hugepages, a place each, with those that are backed.
 ghost use Rattle.std.specs.Prelude.{◌≡◌, ℕ, ◌+◌, ◌-◌, ◌*◌, ◌<◌, ◌≤◌, ◌↔◌, true, false, length, map, count_by, option_map, IsNone, IfNone, IfSome, IfOk};
+ghost use Rattle.std.specs.Option.{option_or};
 ghost use Rattle.range_bits.specs.Ranges.{best, longest, free_from, used_from, used_count};
-ghost use Rattle.heap_rules.specs.CacheFlags.{or_else, run_choice};
+ghost use Rattle.heap_rules.specs.CacheFlags.{run_choice};
 
 use crate::row::Row;
 use crate::stretch::Stretch;
@@ -62,7 +63,7 @@ impl HugeCache {
     /// The place of `many` adjacent free hugepages: backed ones where there are.
     fn find_place(&self, many: u32) -> Option<u32>
         requires { 0 < many }
-        ensures place { result ≡ or_else (best self.now.unready many) (best self.now.taken many) }
+        ensures place { result ≡ option_or (best self.now.unready many) (best self.now.taken many) }
         ensures none { IsNone result ↔ (longest self.now.taken < many) }
         ensures free { IfSome result (λ place. many ≤ free_from self.now.taken place) }
         ensures inside { IfSome result (λ place. place + many ≤ 4096) }
