@@ -1,6 +1,6 @@
 -- Where the ends tell what they have, what a replay comes to is the verdict on that.
 use Rattle.std.proofs.Common.{◌≡◌, ◌⊎◌, ℕ, Bool, true, false, List, Option, Some, None, Result, Ok, Err, refl, sym, ap, subst, ◌∙◌, inl, inr, arith}
-use Rattle.std.specs.Prelude.{IfSome, ◌↔◌}
+use Rattle.std.specs.Prelude.{IfSome, ◌↔◌, option_and_then}
 use Rattle.std.specs.FinMap.{get}
 use Rattle.tc_ports.specs.Shelves.{Files}
 use Rattle.tc_ports.specs.Ends.{Reading, Shelving, Writing}
@@ -20,7 +20,7 @@ use Rattle.tcreplay.specs.Writes.{Ends, IsWritten, IsNoted}
 use Rattle.tcreplay.specs.Generating.{trace_of, generation_verdict, AreWritten, IsGenerationEnd, HasGenerated}
 use Rattle.tcreplay.specs.Auditing.{Case, case_with, case_in, ended_by, verdict_in, case_verdict, audit_verdict, HasAudited}
 use Rattle.tcreplay.specs.Replayed.{HasTried, runs, verdict_on}
-use Rattle.tcreplay.specs.Outcomes.{IsAnswered, IsOutcome, SomeRose, SomeGenerationRose, IsComplete, order_file, given_by, audit_given_by}
+use Rattle.tcreplay.specs.Outcomes.{IsAnswered, IsOutcome, SomeRose, SomeGenerationRose, IsComplete, given_by, audit_given_by}
 use Rattle.tcreplay.proofs.EndFacts.{FailsJob, job_fails, case_fails}
 use Rattle.tcreplay.proofs.RunFacts.{verdict_if}
 
@@ -30,7 +30,7 @@ then_same f g (Ok a) same = same a
 then_same f g (Err end) same = refl
 
 picks_same : (all : Files) (order : Option (List ℕ)) (file : Option (List ℕ)) (threads : ℕ) (came : List ℕ) → IfSome order (λ name. file ≡ get all name)
-    → picks_or order threads file came ≡ picks_or order threads (order_file all order) came
+    → picks_or order threads file came ≡ picks_or order threads (option_and_then (get all) order) came
 picks_same all None file threads came told = refl
 picks_same all (Some name) file threads came told = ap (λ f. picks_or (Some name) threads f came) told
 

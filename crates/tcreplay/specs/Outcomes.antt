@@ -1,5 +1,5 @@
 -- What the top call comes to: what the words ask for is done, the end is told, and where nothing failed that is complete.
-use Rattle.std.specs.Prelude.{◌≡◌, ℕ, ◌⊎◌, List, [], Option, Some, None}
+use Rattle.std.specs.Prelude.{◌≡◌, ℕ, ◌⊎◌, List, [], Option, Some, None, option_and_then}
 use Rattle.std.specs.FinMap.{get}
 use Rattle.tc_ports.specs.Faults.{Rose}
 use Rattle.tc_ports.specs.Shelves.{Files}
@@ -33,14 +33,9 @@ pub record IsOutcome (asked : Option Task) (before after : Ends) (end : End) (or
   pub answered : IsAnswered asked before (record after { notes = noted }) end order
   pub notes : IsNoted end noted after.notes
 
--- the file of an order, where one is named
-abbrev pub order_file : Files → Option (List ℕ) → Option (List ℕ)
-order_file all None = None
-order_file all (Some name) = get all name
-
--- what ends that tell their bytes give, where these picks came
+-- what ends that tell their bytes give, where these picks came: the order file, where one is named
 abbrev pub given_by : Replay → Files → List ℕ → List ℕ → Given
-given_by replay all text came = record { table = get all replay.classes; trace = text; file = order_file all (file_of replay.schedule); came = came }
+given_by replay all text came = record { table = get all replay.classes; trace = text; file = option_and_then (get all) (file_of replay.schedule); came = came }
 
 -- the end and the order are those of the verdict on what these ends tell; of worker threads there are picks with which it
 -- is so
@@ -50,12 +45,9 @@ pub record IsToldBy (replay : Replay) (all : Files) (text : List ℕ) (end : End
   pub end_is : end ≡ (verdict_on replay (given_by replay all text came)).end
   pub order_is : order ≡ (verdict_on replay (given_by replay all text came)).order
 
--- what ends that tell their bytes give an audit, and that its end is that of the verdict on it
+-- what ends that tell their bytes give an audit
 abbrev pub audit_given_by : Audit → Files → List ℕ → Given
 audit_given_by audit all text = record { table = get all audit.classes; trace = text; file = get all audit.journal; came = [] }
-
-abbrev pub IsAuditToldBy : Audit → Files → List ℕ → End → Type 0
-IsAuditToldBy audit all text end = end ≡ (audit_verdict (audit_given_by audit all text)).end
 
 -- a count of faults rose at one of the ends that a replay or an audit, or a generation, can't do without
 abbrev pub SomeRose : Ends → Ends → Type 0
@@ -73,7 +65,7 @@ IsComplete (Some (ToReplay replay)) before after end order =
     IsToldBy replay all text end order ⊎ ((end ≡ Memory) ⊎ SomeRose before after)
 IsComplete (Some (ToAudit audit)) before after end order =
     (all : Files) (text : List ℕ) → before.files.files ≡ Some all → before.trace.left ≡ Some text →
-    IsAuditToldBy audit all text end ⊎ ((end ≡ Memory) ⊎ SomeRose before after)
+    (end ≡ (audit_verdict (audit_given_by audit all text)).end) ⊎ ((end ≡ Memory) ⊎ SomeRose before after)
 IsComplete (Some (ToGenerate workload)) before after end order =
     (all : Files) → before.files.files ≡ Some all →
     IsGenerationToldBy workload all end order ⊎ ((end ≡ Memory) ⊎ SomeGenerationRose before after)

@@ -1,5 +1,5 @@
 -- What a command comes to: a trace is replayed, or one is generated and replayed, or a journal of its calls is judged.
-use Rattle.std.specs.Prelude.{ℕ, ◌≤◌, Bool, IfSome, List, Option, Some, None, option_and_then}
+use Rattle.std.specs.Prelude.{ℕ, ◌≤◌, Bool, IfSome, List, Option, Some, None}
 use Rattle.tcreplay.specs.declared.task.Locks.{Locks}
 
 -- What serves small objects: slabs of CPUs or caches of threads before the shards, or the shards of a thread's memory node
@@ -55,13 +55,9 @@ pub data Task : Type 0 where
   ToAudit : Audit → Task
 
 -- the locks of the worker threads that are asked for, where any are
-abbrev pub task_locks : Task → Option Locks
-task_locks (ToReplay replay) = locks_in replay.schedule
-task_locks (ToGenerate workload) = None
-task_locks (ToAudit audit) = None
-
 abbrev pub threads_in : Option Task → Option Locks
-threads_in asked = option_and_then task_locks asked
+threads_in (Some (ToReplay replay)) = locks_in replay.schedule
+threads_in other = None
 
 -- the numbers of a workload are in their ranges
 pub record IsWorkload (workload : Workload) : Type 0 where

@@ -1,5 +1,5 @@
 -- The grammar of the command line.
-use Rattle.std.specs.Prelude.{ℕ, Bool, true, false, ◌==◌, not, nat_le, List, [], ◌∷◌, Option, Some, None, if◌then◌else◌, option_map, option_and_then, codes}
+use Rattle.std.specs.Prelude.{ℕ, Bool, true, false, ◌==◌, nat_le, List, [], ◌∷◌, Option, Some, None, if◌then◌else◌, option_map, option_and_then, unwrap_or, codes}
 use Rattle.std.specs.Str.{bytes_eq}
 use Rattle.tc_units.specs.Decimal.{number_of}
 use Rattle.tcreplay.specs.declared.task.Locks.{Locks}
@@ -11,12 +11,9 @@ use Rattle.tcreplay.specs.declared.words.Flag.{Flag}
 use Rattle.tcreplay.specs.declared.words.Flag.TheVariants as flag
 
 -- a word that names a file isn't empty and doesn't begin as an option does
-abbrev pub is_name : List ℕ → Bool
-is_name [] = false
-is_name (c ∷ cs) = not (c == 45)
-
 abbrev pub name_of : List ℕ → Option (List ℕ)
-name_of word = if is_name word then Some word else None
+name_of [] = None
+name_of (c ∷ cs) = if c == 45 then None else Some (c ∷ cs)
 
 -- the words for the locks of workers
 abbrev pub locks_of : List ℕ → Option Locks
@@ -139,11 +136,6 @@ options_of kind so (word ∷ value ∷ words) =
     then option_and_then (λ more. options_of kind more (value ∷ words)) (with_switch so flag)
     else option_and_then (λ more. options_of kind more words) (with_value so flag value)) (taken_flag kind word)
 
--- the locks of workers are one for each part, unless an option says it
-abbrev pub locks_or : Option Locks → Locks
-locks_or None = Parts
-locks_or (Some locks) = locks
-
 -- the picks that come first on a machine that takes an order file or worker threads, and not both
 abbrev pub schedule_with : Bool → Option (List ℕ) → Option Schedule
 schedule_with false None = Some InTurn
@@ -158,11 +150,12 @@ schedule_by so = schedule_with so.workers so.order
 abbrev pub replay_with : Options → Front → List ℕ → Schedule → Task
 replay_with so front classes schedule = ToReplay (record { front = front; classes = classes; schedule = schedule; rows = so.rows; sample = so.sample })
 
--- what a command with its options asks for, under a class table: all that it needs are there
+-- what a command with its options asks for, under a class table: all that it needs are there; the locks of workers are one
+-- for each part, unless an option says it
 abbrev pub task_under : Kind → Options → List ℕ → Option Task
 task_under kind.Serial so classes = Some (replay_with so Cpus classes InTurn)
 task_under kind.Order so classes = option_map (λ order. replay_with so Cpus classes (ByFile order)) so.order
-task_under kind.Workers so classes = Some (replay_with so Cpus classes (ByThreads (locks_or so.locks)))
+task_under kind.Workers so classes = Some (replay_with so Cpus classes (ByThreads (unwrap_or so.locks Parts)))
 task_under kind.PerThread so classes = option_map (replay_with so Threads classes) (schedule_by so)
 task_under kind.Numa so classes = option_and_then (λ nodes. option_map (replay_with so (Nodes nodes) classes) (schedule_by so)) so.nodes
 task_under kind.Gen so classes = option_and_then (λ seed. option_and_then (λ calls. option_map (λ threads. ToGenerate (record { classes = classes; seed = seed; calls = calls; threads = threads })) so.threads) so.calls) so.seed
