@@ -6,7 +6,7 @@ use Rattle.alloc_rules.proofs.Common.{Large, Free, Planned, Answer, Freed, SpanM
 use Rattle.alloc_rules.proofs.Common.{state_of, Placed, new, Regs, LOADED_ROOM, room, appended, opening, IsFetched, IsAdded, fetch_moves, add_moves}
 use Rattle.alloc_rules.proofs.Common.{give_moves, small, run_of, Asking, Freeing, Giving, Onward, Next, Step, ShardStep, HeapStep, MapStep}
 use Rattle.alloc_rules.proofs.Common.{Local, step_or, no_class, class_row, decided, goes, ends, with_regs, serves, with_freed, with_more}
-use Rattle.alloc_rules.proofs.Common.{fetches, with_spans_behind, shard_row, after_new, after_new_span, without_first_span, frees_span, heap_row, found}
+use Rattle.alloc_rules.proofs.Common.{fetches, shard_row, after_new, after_new_span, without_first_span, frees_span, heap_row, found}
 use Rattle.alloc_rules.proofs.Common.{map_row, after_take, MayDecide, MayGoOnDecided, says, goes_or_ends, follows}
 use Rattle.alloc_rules.proofs.Common.{About, call_about, IsClassRow, AreRows, BeginsWith, most_slots, At, Here, Away, Standing, stand, at_row}
 use Rattle.alloc_rules.proofs.Common.{at_onward, at_next, regs_next, at_step, IsAsked, HandAbout, HasNone, HasSpans}
@@ -99,7 +99,7 @@ module _ {P V R : Type 0} {r : FrontRules P V R} {about : R → About} {planned 
     shard_next s l (shard.Give g) c shape sound same low fit =
         let spans : List SpanRef = shards.freed_by l.regs.hand.items s in
         let got : IsGiven l.regs.hand.items s = give_moves l.regs.hand.items s sound fit.taken fit.different in
-        given_back_next law table t l g (with_spans_behind l.freed spans) c (omega (arith, length-append l.freed.items spans, got.few, fit.room, c.freed)) shape.1
+        given_back_next law table t l g (appended l.freed spans) c (omega (arith, length-append l.freed.items spans, got.few, fit.room, c.freed)) shape.1
 
     -- the heap
     new_next : (h : heaps.Heap) (l : Local V R) (label : Label) (size : ℕ) (o : Option Placed) → Common' l → HasNone l → Next' (away l) (after_new h l label size o).1

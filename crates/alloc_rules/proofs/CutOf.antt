@@ -2,7 +2,7 @@
 use Rattle.std.proofs.Common.{◌≡◌, ℕ, ◌<◌, ◌≤◌, List, length, Some, sym, ap, ◌∙◌, arith, inl, inr, All, slice_get}
 use Rattle.alloc_rules.proofs.Common.{cases_lt, get_or_past, sum_by-le-sum_by, All-map, All-weaker, slice_get_within, get_or_from_slice_get, slice_get-get_or}
 use Rattle.alloc_rules.proofs.Common.{ClassRow, SpanRef, Small, SpanState, IsOfRow, Shard, spans_in, objects_in_spans, found_at, IsCutInto, LiesInSpan}
-use Rattle.alloc_rules.proofs.Common.{spans_cut, first_byte, run_of, same_span, objects_at, spans_like, spans_at, class_number, no_row, size_of, IsOfClass}
+use Rattle.alloc_rules.proofs.Common.{spans_cut, first_byte, run_of, same_span, objects_at, spans_like, spans_at, class_number, no_class, size_of, IsOfClass}
 use Rattle.alloc_rules.proofs.Common.{LiesIn, Begins, IsCut, least, counted, like_span, starting_span, counts_most, same_span_refl, same_span_run}
 use Rattle.alloc_rules.proofs.Common.{same_run_start, span_all, span_at_found, Parts, no_shard, shard_at, stock_of, IsShardOf, FrontRules, About}
 use Rattle.alloc_rules.proofs.Counting.{begun_count, objects_count, spans_count}
@@ -54,7 +54,7 @@ module _ {P V R : Type 0} (r : FrontRules P V R) (about : R → About) (rows : L
         class = k;
         kind = span_all (λ (y : SpanRef). y.kind ≡ Small (class_number k)) s (spans_in x) of.kinds some;
         there = omega (arith, classes, slice_get_within p.shards k x is);
-        pages = pages ∙ sym (ap (λ (r : ClassRow). r.pages) (get_or_from_slice_get rows k x.central.row no_row of.row));
+        pages = pages ∙ sym (ap (λ (r : ClassRow). r.pages) (get_or_from_slice_get rows k x.central.row no_class of.row));
         some = omega (arith, pages, of.sound.some, of.sound.fits);
       }
 

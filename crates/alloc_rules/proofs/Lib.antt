@@ -28,6 +28,7 @@ pub mod Keeping
 pub mod ActKeeps
 pub mod Numbers
 pub mod Inputs
+pub mod CommonCalls
 pub mod Sizes
 pub mod Serving
 pub mod Heads

@@ -5,7 +5,7 @@ use Rattle.alloc_rules.proofs.Common.{false≢true, append-nil, length-append, p
 use Rattle.alloc_rules.proofs.Common.{Malloc, Free, Release, Answer, Block, NoBlock, Freed, FreedNull, Released, SpanMap, holds, NameState, state_of, Placed}
 use Rattle.alloc_rules.proofs.Common.{new, release, opening, without_first, emptied, appended, small, address_of, Regs, Freeing, Asking, Serving, NamesStep}
 use Rattle.alloc_rules.proofs.Common.{Local, step_or, Decided, first_act, decided, goes, closes, ends, class_row, with_hand, with_regs, stocks, serves_first}
-use Rattle.alloc_rules.proofs.Common.{goes_onward, gave, clears, with_freed, with_more, fetches, with_spans_behind, shard_row, after_new, after_new_span}
+use Rattle.alloc_rules.proofs.Common.{goes_onward, gave, clears, with_freed, with_more, fetches, shard_row, after_new, after_new_span}
 use Rattle.alloc_rules.proofs.Common.{frees_span, without_first_span, heap_row, found, after_lookup, clears_span, map_row, after_take, names_row, waits_row}
 use Rattle.alloc_rules.proofs.Common.{front_row, is_unpublished, About, undecided, under, without_call, about_giving, about_onward, call_about, MayDecide}
 use Rattle.alloc_rules.proofs.Common.{MayGoOnDecided, Planned, says, goes_or_ends, follows, Onward, Giving, Next, Step, ShardStep, HeapStep, MapStep, FrontCalls}
@@ -260,5 +260,5 @@ module _ {V R : Type 0} (e : FrontCalls V R) (about : R → About) (entries : Ar
       let x : Local V R = with_more (on_shard (shard.AddFetch a run)) came in
       served entries {x = x} a x.regs.hand.items (record { answers = refl; ended = refl; rest = refl }) (omega (arith, adds, length-append l.regs.hand.items came)) (refl, refl)
   shard_path s (shard.Give g) adds =
-      let x : Local V R = with_freed (with_hand (on_shard (shard.Give g)) (emptied l.regs.hand)) (with_spans_behind l.freed (shards.freed_by l.regs.hand.items s)) in
+      let x : Local V R = with_freed (with_hand (on_shard (shard.Give g)) (emptied l.regs.hand)) (appended l.freed (shards.freed_by l.regs.hand.items s)) in
       gave_path entries {x = x} g (record { answers = refl; ended = refl; rest = refl }) (refl, refl)

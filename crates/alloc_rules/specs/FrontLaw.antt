@@ -82,6 +82,10 @@ IsOwn (Release pages) = ⊥
 IsOwn (Drain cpu) = Unit {0}
 IsOwn (Resize cpu class cap) = Unit {0}
 
+-- a planned call that is none of its own
+abbrev pub IsNotOwn : Planned → Type 0
+IsNotOwn p = IsOwn p.call → ⊥
+
 -- what is refused is refused by a row that may
 abbrev pub RefusesAs : {R : Type 0} → (R → Answer → Bool) → R → Next R → Type 0
 RefusesAs refuses row (next.Decide answer to) = is_refusal answer ≡ true → refuses row answer ≡ true

@@ -1,5 +1,5 @@
 -- The inputs that the rules serve, whatever the front-end: every class table, and every trace that a reader takes.
-use Rattle.std.specs.Prelude.{◌≡◌, ℕ, ◌<◌, Bool, true, if◌then◌else◌, List, length, sum_by, All, Option, Some, None}
+use Rattle.std.specs.Prelude.{◌≡◌, ℕ, ◌<◌, Bool, true, false, if◌then◌else◌, List, length, sum_by, All, Option, Some, None}
 use Rattle.tc_units.specs.declared.spans.ClassRow.{ClassRow}
 use Rattle.tc_model.specs.declared.calls.Call.{Call}
 use Rattle.tc_model.specs.declared.calls.Call.TheVariants.{Malloc, Free, Release, Drain, Resize}
@@ -41,6 +41,14 @@ pub record IsPlanned (m : Limits) (p : Planned) : Type 0 where
 -- what a reader takes
 abbrev pub IsValidInput : Input → Type 0
 IsValidInput input = IsValid input.rows (IsPlanned (limits_of input.rows input.asked.config)) input.asked
+
+-- the calls that every front-end takes: no drain and no resize
+abbrev pub is_common : Call → Bool
+is_common (Malloc label size) = true
+is_common (Free label) = true
+is_common (Release pages) = true
+is_common (Drain cpu) = false
+is_common (Resize cpu class cap) = false
 
 -- whether each call of a script is one that a front-end takes, by what it says of each
 abbrev pub AreTaken : (Call → Bool) → List Planned → Type 0

@@ -12,7 +12,7 @@ use Rattle.central_free.specs.Central.{IsSound}
 use Rattle.class_shard.specs.Shard.{Shard, places}
 use Rattle.class_shard.specs.Laws.{spans_in, objects_in_spans}
 use Rattle.holdings.specs.Runs.{runs_like, spans_like, spans_at, objects_at}
-use Rattle.holdings.specs.Books.{Setup, Stock, Books, class_number, no_row}
+use Rattle.holdings.specs.Books.{Setup, Stock, Books, class_number, no_class}
 use Rattle.holdings.specs.Moves.{Said, Move}
 use Rattle.call_steps.specs.Local.{Decided, Local}
 use Rattle.alloc_rules.specs.Machine.{Parts}
@@ -22,7 +22,7 @@ use Rattle.call_steps.specs.Fronts.{FrontRules}
 
 -- the shard of a class; of a class that isn't there, one without anything
 abbrev pub no_shard : Shard
-no_shard = record { class = class_number 0; transfer = record { objects = []; room = 0 }; central = record { row = no_row; spans = [] } }
+no_shard = record { class = class_number 0; transfer = record { objects = []; room = 0 }; central = record { row = no_class; spans = [] } }
 
 abbrev pub shard_at : List Shard → ℕ → Shard
 shard_at shards k = slice_index_or shards k no_shard

@@ -36,6 +36,10 @@ pub record Left (P V R : Type 0) : Type 0 where
   pub regs : Regs
   pub next : Next R
 
+-- an act that leaves these
+abbrev pub leaving : {P V R : Type 0} → P → V → Regs → Next R → Left P V R
+leaving p v g n = record { part = p; seat = v; regs = g; next = n }
+
 -- A front-end of parts P, seats V and rows R: its parts at the start, how many of them have the first numbers (the others come
 -- behind the names), the seat of each thread at the start, what calls need of it, the number of the part that a row is at
 -- among its parts, what the act of a row leaves, whether it is polite, how many objects of a class are at an address in a

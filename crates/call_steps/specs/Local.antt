@@ -16,6 +16,7 @@ use Rattle.tc_model.specs.declared.answers.CallLine.{CallLine}
 use Rattle.rseq_core.specs.declared.regs.Regs.{Regs}
 use Rattle.rseq_core.specs.declared.regs.TheConstants.{HAND_ROOM}
 use Rattle.rseq_core.specs.Registers.{first_regs}
+use Rattle.holdings.specs.Books.{no_class}
 use Rattle.call_steps.specs.declared.step.Asking.{Asking}
 use Rattle.call_steps.specs.declared.step.Step.{Step}
 use Rattle.call_steps.specs.declared.step.Step.TheVariants as step
@@ -130,10 +131,6 @@ closes e l (Some row) = record l { step = step.Front row }
 
 abbrev pub ends : {V R : Type 0} → FrontCalls V R → Local V R → Local V R
 ends e l = closes e (record l { acts = l.acts + 1 }) (e.last l.seat)
-
--- a row without objects, for a class that isn't there
-abbrev pub no_class : ClassRow
-no_class = record { size = 0; pages = 0; batch = 0 }
 
 -- the row of a class, and that of the thread's class
 abbrev pub row_of : List ClassRow → Class → ClassRow

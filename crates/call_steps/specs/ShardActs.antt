@@ -1,6 +1,5 @@
 -- The acts at the shard of the thread's class.
-use Rattle.std.specs.Prelude.{◌-◌, ◌++◌, List, [], ◌∷◌, length}
-use Rattle.tc_units.specs.Bag.{Contents}
+use Rattle.std.specs.Prelude.{List, [], ◌∷◌}
 use Rattle.tc_units.specs.declared.units.Addr.{Addr}
 use Rattle.tc_units.specs.declared.spans.SpanRef.{SpanRef}
 use Rattle.rseq_core.specs.Bags.{appended}
@@ -30,12 +29,8 @@ abbrev pub adds : {V R : Type 0} → FrontCalls V R → shards.Shard → Local V
 adds e s l asking span =
     (shards.with_spans s (with_span (opened span s.central.row.size (class_row e.rows l).batch) s.central.spans), serves e (with_more l (opening span s.central.row.size (class_row e.rows l).batch)) asking)
 
--- a bag of spans with more of them
-abbrev pub with_spans_behind : Contents SpanRef → List SpanRef → Contents SpanRef
-with_spans_behind bag spans = record { items = bag.items ++ spans; spare = bag.spare - length spans }
-
 -- the acts at a shard
 abbrev pub shard_row : {V R : Type 0} → FrontCalls V R → shards.Shard → Local V R → ShardStep R → shards.Shard × Local V R
 shard_row e s l (Fetch asking) = (shards.after_fetch (class_row e.rows l).batch s, fetches e l asking (shards.fetched (class_row e.rows l).batch s))
 shard_row e s l (AddFetch asking run) = adds e s l asking (small l.regs.class run)
-shard_row e s l (Give giving) = (shards.after_give l.regs.hand.items s, given_back e l giving (with_spans_behind l.freed (shards.freed_by l.regs.hand.items s)))
+shard_row e s l (Give giving) = (shards.after_give l.regs.hand.items s, given_back e l giving (appended l.freed (shards.freed_by l.regs.hand.items s)))

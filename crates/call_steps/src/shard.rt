@@ -2,11 +2,12 @@
 ghost use Rattle.std.specs.Prelude.{◌≡◌, ◌<◌, ◌-◌, ◌^◌, [], OnOk, OnErr};
 ghost use Rattle.class_shard.specs.Shard.{fetched, after_fetch, after_give, freed_by};
 ghost use Rattle.holdings.specs.Runs.{small};
+ghost use Rattle.rseq_core.specs.Bags.{appended};
 ghost use Rattle.call_steps.specs.declared.step.Step.TheVariants as does;
 ghost use Rattle.call_steps.specs.declared.step.ShardStep.TheVariants.{Fetch, AddFetch, Give};
 ghost use Rattle.call_steps.specs.Local.{class_row};
 ghost use Rattle.call_steps.specs.Hands.{given_back};
-ghost use Rattle.call_steps.specs.ShardActs.{fetches, adds, with_spans_behind};
+ghost use Rattle.call_steps.specs.ShardActs.{fetches, adds};
 ghost use Rattle.call_steps.specs.Acts.{shard_after};
 ghost use Rattle.call_steps.specs.Fits.{FitsBatch, FitsAdd, FitsGive, FitsShardStep};
 
@@ -101,7 +102,7 @@ fn give<F: FrontEnd>(
     requires acts { local.old.acts < 2 ^ 64 - 1 }
     requires step { local.old.step ≡ does.Shard (Give giving) }
     ensures shard { shard.new ≡ after_give local.old.regs.hand.items shard.old }
-    ensures local { local.new ≡ given_back (F.rules setting.now).calls local.old giving (with_spans_behind local.old.freed (freed_by local.old.regs.hand.items shard.old)) }
+    ensures local { local.new ≡ given_back (F.rules setting.now).calls local.old giving (appended local.old.freed (freed_by local.old.regs.hand.items shard.old)) }
 {
     shard.give(local.regs.hand.as_slice(), &mut local.freed);
     local.regs.hand.clear();

@@ -1,5 +1,5 @@
 -- The laws: which objects an act moves, by its answer, and what else it keeps.
-use Rattle.std.proofs.Common.{◌≡◌, ℕ, ◌+◌, ◌-◌, ◌<◌, Bool, true, false, eqb, length, Option, Some, None, refl, ap, ◌∙◌, arith}
+use Rattle.std.proofs.Common.{◌≡◌, ℕ, ◌+◌, ◌-◌, ◌<◌, Bool, true, false, is_some, eqb, length, Option, Some, None, refl, ap, ◌∙◌, arith}
 use Rattle.std.proofs.lemmas.Bool.{eqb-true}
 use Rattle.std.proofs.lemmas.List.{length-take}
 use Rattle.tc_units.specs.Bag.{Contents}
@@ -14,7 +14,7 @@ use Rattle.rseq_core.specs.declared.cpu_part.CpuPart.{CpuPart}
 use Rattle.rseq_core.specs.Bags.{room, emptied}
 use Rattle.rseq_core.specs.Tables.{Cell, is_pop, counted, cell}
 use Rattle.rseq_core.specs.Agrees.{Agrees, IsSilent, Does}
-use Rattle.rseq_core.specs.Acts.{IsCurrent, runs, stands, instruction, with_cell, answered, arrival, instructed_by, grew_by}
+use Rattle.rseq_core.specs.Acts.{IsCurrent, runs, instruction, with_cell, answered, arrival, instructed_by, grew_by}
 use Rattle.rseq_core.proofs.CellKept.{CellOk, cell_ok}
 use Rattle.rseq_core.proofs.Able.{KeepsRoom, able_from_agrees, cell_room}
 use Rattle.cpu_drain.specs.Seats.{CpuOk}
@@ -59,7 +59,7 @@ module _ (m : ℕ) (p : CpuPart) (r : Regs) (cpu : CpuOk m p) (low : r.class.0 <
   goes_does : Agrees (is_pop r.seq) (row_at p.slab r.class.0) r r.pc
       → Instructs p r (record { cpu = with_cell p r (instruction p r); regs = (instruction p r).regs; answer = answered (instruction p r).reply })
   goes_does agrees =
-      let c : Cell = instruction p r in let k : ℕ = r.class.0 in let row : SlabRow = row_at p.slab k in let stopped = stands p.stopper in let pops = is_pop r.seq in
+      let c : Cell = instruction p r in let k : ℕ = r.class.0 in let row : SlabRow = row_at p.slab k in let stopped = is_some p.stopper in let pops = is_pop r.seq in
       let within : k < length p.slab.rows = omega (arith, cpu.classes) in let sound = row_sound p.slab k cpu.sound within in
       let ok : CellOk stopped pops row r c = cell_ok stopped pops row r r.pc sound refl agrees in
       record {

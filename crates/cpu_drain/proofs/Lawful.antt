@@ -1,5 +1,5 @@
 -- The laws: each act of a thread keeps what holds of its CPU and of all threads.
-use Rattle.std.proofs.Common.{◌≡◌, ℕ, ◌<◌, Bool, true, false, cond, eqb, ltb, length, Option, Some, None, refl, sym, ap, ◌∙◌, subst, arith, inl, inr, ◌⊎◌}
+use Rattle.std.proofs.Common.{◌≡◌, ℕ, ◌<◌, Bool, true, false, is_some, cond, eqb, ltb, length, Option, Some, None, refl, sym, ap, ◌∙◌, subst, arith, inl, inr, ◌⊎◌}
 use Rattle.std.proofs.lemmas.Bool.{cond_both, cases_eq, eqb-true, ltb-false}
 use Rattle.std.proofs.lemmas.List.{length-set}
 use Rattle.tc_units.specs.declared.units.ThreadNo.{ThreadNo}
@@ -13,7 +13,7 @@ use Rattle.cpu_slab.proofs.SlabFacts.{row_same, row_other, sound_top}
 use Rattle.cpu_slab.proofs.GrowthFacts.{KeepsObjects, keeps_same, keeps_cap, grown_keeps}
 use Rattle.rseq_core.specs.declared.sequence.Pc.TheVariants.{Begin}
 use Rattle.rseq_core.specs.declared.cpu_part.CpuPart.{CpuPart}
-use Rattle.rseq_core.specs.Acts.{IsCurrent, runs, stands, entered, entering, arrival, instructed_by, grew_by}
+use Rattle.rseq_core.specs.Acts.{IsCurrent, runs, entered, entering, arrival, instructed_by, grew_by}
 use Rattle.cpu_drain.specs.Drains.{stopped_by}
 use Rattle.cpu_drain.specs.Seats.{Seat, SeatKeeps, with_regs, standing_at}
 use Rattle.cpu_drain.specs.Laws.{IsHome, LeaveKeeps, InstructKeeps, GrowKeeps, StopKeeps, FenceKeeps, TakeKeeps, SetCapKeeps, StartKeeps, SetKeeps}
@@ -40,8 +40,8 @@ pub instructs : InstructKeeps
 instructs m i t p s home = instructs_by m i t p s home (runs p.running s.regs.thread) (eqb s.regs.epoch p.epoch) refl refl
 
 -- a growth, unless a stopper stands there
-pub growth_keeps : (p : CpuPart) (k : ℕ) → IsSoundSlab p.slab → k < length p.slab.rows → KeepsObjects p.slab (cond (stands p.stopper) p.slab (grown p.slab k))
-growth_keeps p k sound low = cond_both (stands p.stopper) p.slab (grown p.slab k) (KeepsObjects p.slab) (λ e. keeps_same p.slab sound) (λ e. grown_keeps p.slab k low sound)
+pub growth_keeps : (p : CpuPart) (k : ℕ) → IsSoundSlab p.slab → k < length p.slab.rows → KeepsObjects p.slab (cond (is_some p.stopper) p.slab (grown p.slab k))
+growth_keeps p k sound low = cond_both (is_some p.stopper) p.slab (grown p.slab k) (KeepsObjects p.slab) (λ e. keeps_same p.slab sound) (λ e. grown_keeps p.slab k low sound)
 
 grows_by : (m i : ℕ) (t : ThreadNo) (p : CpuPart) (s : Seat) → IsHome m i t p s → s.regs.pc ≡ Begin → (a b : Bool) → runs p.running s.regs.thread ≡ a
     → eqb s.regs.epoch p.epoch ≡ b → SeatKeeps m i t p s (grew_by (arrival a b) p s.regs).cpu (with_regs s (grew_by (arrival a b) p s.regs).regs)

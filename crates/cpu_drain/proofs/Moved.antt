@@ -1,5 +1,5 @@
 -- The laws: acts only move objects.
-use Rattle.std.proofs.Common.{◌≡◌, ℕ, ◌+◌, ◌<◌, Bool, true, false, eqb, List, [], ◌∷◌, length, get_or, reverse, sum_by, Option, Some, None, refl, sym, ap, ◌∙◌, arith}
+use Rattle.std.proofs.Common.{◌≡◌, ℕ, ◌+◌, ◌<◌, Bool, true, false, is_some, eqb, List, [], ◌∷◌, length, get_or, reverse, sum_by, Option, Some, None, refl, sym, ap, ◌∙◌, arith}
 use Rattle.std.specs.List.{slice_set, flat_map}
 use Rattle.std.proofs.lemmas.Bool.{cond_both, eqb-true}
 use Rattle.std.proofs.lemmas.List.Sums.{sum_by-set, sum_by-append, sum_by-cons}
@@ -11,7 +11,7 @@ use Rattle.rseq_core.specs.declared.regs.Regs.{Regs}
 use Rattle.rseq_core.specs.declared.cpu_part.CpuPart.{CpuPart}
 use Rattle.rseq_core.specs.Tables.{Cell, is_pop}
 use Rattle.rseq_core.specs.Agrees.{Agrees}
-use Rattle.rseq_core.specs.Acts.{IsCurrent, runs, stands, instruction, arrival, instructed_by, grew_by}
+use Rattle.rseq_core.specs.Acts.{IsCurrent, runs, instruction, arrival, instructed_by, grew_by}
 use Rattle.rseq_core.proofs.CellKept.{CellOk, cell_ok, does_moves, sum_by-reverse}
 use Rattle.cpu_drain.specs.Drains.{stopped_by}
 use Rattle.cpu_drain.specs.Seats.{objects_of, CpuOk}
@@ -47,8 +47,8 @@ moves_by f m p r cpu low agrees true true here now =
     let row : SlabRow = row_at p.slab r.class.0 in
     let within : r.class.0 < length p.slab.rows = omega (arith, cpu.classes) in
     let is : IsCurrent r.thread p r = record { runs = runs_is p.running r.thread here; epoch = eqb-true r.epoch p.epoch now } in
-    let ok : CellOk (stands p.stopper) (is_pop r.seq) row r c = cell_ok (stands p.stopper) (is_pop r.seq) row r r.pc (row_sound p.slab r.class.0 cpu.sound within) refl (agrees is) in
-    omega (arith, row_moves f p.slab.rows r.class.0 c.row within, does_moves f (stands p.stopper) row r c c.reply ok.does)
+    let ok : CellOk (is_some p.stopper) (is_pop r.seq) row r c = cell_ok (is_some p.stopper) (is_pop r.seq) row r r.pc (row_sound p.slab r.class.0 cpu.sound within) refl (agrees is) in
+    omega (arith, row_moves f p.slab.rows r.class.0 c.row within, does_moves f (is_some p.stopper) row r c c.reply ok.does)
 
 pub instruct_moves : InstructMoves
 instruct_moves f m p r cpu low agrees = moves_by f m p r cpu low agrees (runs p.running r.thread) (eqb r.epoch p.epoch) refl refl

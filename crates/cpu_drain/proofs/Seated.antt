@@ -1,5 +1,5 @@
 -- Each act at a CPU keeps its pair and fits the others.
-use Rattle.std.proofs.Common.{◌≡◌, ℕ, ◌+◌, ◌<◌, ◌≤◌, Bool, true, false, cond, [], length, Option, Some, None, refl, sym, ap, ◌∙◌, subst, arith}
+use Rattle.std.proofs.Common.{◌≡◌, ℕ, ◌+◌, ◌<◌, ◌≤◌, Bool, true, false, is_some, cond, [], length, Option, Some, None, refl, sym, ap, ◌∙◌, subst, arith}
 use Rattle.std.proofs.lemmas.List.{length-set}
 use Rattle.tc_units.specs.declared.units.ThreadNo.{ThreadNo}
 use Rattle.tc_units.specs.Bag.{Contents}
@@ -15,11 +15,11 @@ use Rattle.rseq_core.specs.declared.regs.Regs.{Regs}
 use Rattle.rseq_core.specs.declared.cpu_part.CpuPart.{CpuPart}
 use Rattle.rseq_core.specs.Tables.{Cell, is_pop}
 use Rattle.rseq_core.specs.Agrees.{Agrees}
-use Rattle.rseq_core.specs.Acts.{IsCurrent, dropped, runs, stands, left, entered, entering, backed, backing, instruction, with_cell}
+use Rattle.rseq_core.specs.Acts.{IsCurrent, dropped, runs, left, entered, entering, backed, backing, instruction, with_cell}
 use Rattle.rseq_core.proofs.CellKept.{CellOk, cell_ok, RestsThen, cell_rests}
 use Rattle.cpu_drain.specs.Seats.{Standing, Seat, CpuOk, IsStopping, IsHeld, Holds, SeatOk, SeatKeeps, with_regs, AreSet}
 use Rattle.cpu_drain.specs.Drains.{fenced}
-use Rattle.cpu_drain.proofs.Steps.{runs_not, stands_some, some_is, agrees_begin, begin_nothing, begin_rests, agrees_at_rest, stage_kept}
+use Rattle.cpu_drain.proofs.Steps.{runs_not, some_is, agrees_begin, begin_nothing, begin_rests, agrees_at_rest, stage_kept}
 
 one_runs : (o : Option ThreadNo) (t u : ThreadNo) → (u ≡ t → ⊥) → o ≡ Some t → o ≡ Some u → ⊥
 one_runs o t u apart mine other = let same : u ≡ t = (cc) in apart same
@@ -134,9 +134,9 @@ module _ {m i : ℕ} {t : ThreadNo} {p : CpuPart} {s : Seat} (cpu : CpuOk m p) (
         let c : Cell = instruction p s.regs in let k : ℕ = s.regs.class.0 in let row : SlabRow = row_at p.slab k in let pops = is_pop s.regs.seq in
         let p' : CpuPart = with_cell p s.regs c in let s' : Seat = with_regs s c.regs in
         let within : k < length p.slab.rows = omega (arith, cpu.classes) in
-        let ok : CellOk (stands p.stopper) pops row s.regs c = cell_ok (stands p.stopper) pops row s.regs s.regs.pc (row_sound p.slab k cpu.sound within) refl (pair.agrees current) in
+        let ok : CellOk (is_some p.stopper) pops row s.regs c = cell_ok (is_some p.stopper) pops row s.regs s.regs.pc (row_sound p.slab k cpu.sound within) refl (pair.agrees current) in
         let rests : p.fenced ≡ true → RestsThen row c =
-        λ f. (let e : stands p.stopper ≡ true = stands_some p.stopper (cpu.stopped f) in rw e (cell_rests pops row s.regs s.regs.pc (pair.rests f current))) in
+        λ f. (let e : is_some p.stopper ≡ true = cpu.stopped f in rw e (cell_rests pops row s.regs s.regs.pc (pair.rests f current))) in
         let class : row_at p'.slab c.regs.class.0 ≡ c.row = ap (λ (j : Class). row_at p'.slab j.0) ok.class ∙ row_same p.slab.rows k c.row within in
         let seq : Agrees (is_pop c.regs.seq) c.row c.regs c.regs.pc = subst (λ (q : Seq). Agrees (is_pop q) c.row c.regs c.regs.pc) (sym ok.seq) ok.agrees in
         let agrees : Agrees (is_pop c.regs.seq) (row_at p'.slab c.regs.class.0) c.regs c.regs.pc = subst (λ (r : SlabRow). Agrees (is_pop c.regs.seq) r c.regs c.regs.pc) (sym class) seq in

@@ -10,7 +10,7 @@ use Rattle.rseq_core.specs.declared.sequence.Pc.TheVariants.{Begin}
 use Rattle.rseq_core.specs.declared.regs.Regs.{Regs}
 use Rattle.rseq_core.specs.declared.cpu_part.CpuPart.{CpuPart}
 use Rattle.rseq_core.specs.Agrees.{Agrees, IsAtRest}
-use Rattle.rseq_core.specs.Acts.{runs, stands}
+use Rattle.rseq_core.specs.Acts.{runs}
 use Rattle.cpu_drain.specs.Seats.{Standing, Holds}
 
 pub runs_is : (o : Option ThreadNo) (t : ThreadNo) → runs o t ≡ true → o ≡ Some t
@@ -23,10 +23,6 @@ runs_not (Some u) t is e =
     let same : u ≡ t = (cc) in
     let number : u.0 ≡ t.0 = ap (λ (v : ThreadNo). v.0) same in
     grind (arith, nat_tests)
-
-pub stands_some : (o : Option ThreadNo) → IsSome o → stands o ≡ true
-stands_some None some = (cc)
-stands_some (Some t) some = refl
 
 pub some_is : (o : Option ThreadNo) (t : ThreadNo) → o ≡ Some t → IsSome o
 some_is o t is = rw is refl

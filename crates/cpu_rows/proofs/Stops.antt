@@ -6,7 +6,7 @@ use Rattle.cpu_rows.proofs.Common.{Class, CpuNo, ThreadNo, Drain, Resize, MoveTo
 use Rattle.cpu_rows.proofs.Common.{set_unless, row_same, row_other, CpuPart, Regs, IsHeld, Takes, take_does, objects_at, IsOther, Draining}
 use Rattle.cpu_rows.proofs.Common.{Resizing, Stopping, CpuStep, Next, Other, leaving, at_cpu_next, stops, drained, took, cap_answer}
 use Rattle.cpu_rows.proofs.Common.{left_for, about_cpu, at_cpu, cpu_of, taken_by, thread_no, AreRows, most_slots}
-use Rattle.cpu_rows.proofs.Common.{no_class_empty, below, alone, empty_to_take, cpu_standing, IsStop, IsAtFirst, IsAtBegin, IsToCome}
+use Rattle.cpu_rows.proofs.Common.{never, below, alone, empty_to_take, cpu_standing, IsStop, IsAtFirst, IsAtBegin, IsToCome}
 use Rattle.cpu_rows.proofs.Common.{CpuShape, Limits, limits_of, seated, objects_append, objects_reverse}
 use Rattle.cpu_rows.specs.CpuRows.{stands}
 use Rattle.std.proofs.Math.Path.{fun_ext}
@@ -26,7 +26,7 @@ cap_other : (r : Resizing) (o : Option CapFault) → IsOther (Resize r.cpu r.cla
 cap_other r o = grind arith
 
 -- a drain is to take class 0 behind its fence, below which there is none
-nothing_taken : (k : Class) (s : Stopping) → IsAtFirst k s → empty_to_take k.0 s ≡ no_class_empty
+nothing_taken : (k : Class) (s : Stopping) → IsAtFirst k s → empty_to_take k.0 s ≡ never
 nothing_taken k s is = grind (arith, fun_ext, le-ltb)
 
 -- which classes the thread knows to be empty behind a take

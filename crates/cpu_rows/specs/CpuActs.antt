@@ -32,7 +32,7 @@ use Rattle.cpu_rows.specs.declared.row.Stopping.{Stopping}
 use Rattle.cpu_rows.specs.declared.row.Stopping.TheVariants as stopping
 use Rattle.call_steps.specs.declared.step.Giving.{Giving}
 use Rattle.cpu_rows.specs.PerCpu.{Next}
-use Rattle.call_steps.specs.Fronts.{Left as AnyLeft}
+use Rattle.call_steps.specs.Fronts.{Left as AnyLeft, leaving}
 use Rattle.cpu_rows.specs.declared.row.CpuRow.{CpuRow}
 use Rattle.call_steps.specs.declared.step.Giving.TheVariants as giving
 use Rattle.call_steps.specs.declared.step.Next.TheVariants as next
@@ -48,9 +48,6 @@ use Rattle.cpu_rows.specs.CpuRows.{as_row}
 -- what an act at a part of these leaves
 abbrev pub Left : Type 0 → Type 0
 Left P = AnyLeft P CpuSeat CpuRow
-
-abbrev pub leaving : {P : Type 0} → P → CpuSeat → Regs → Next → Left P
-leaving p v r n = record { part = p; seat = v; regs = r; next = n }
 
 -- an allocation that found nothing at its CPU looks in the cache of its domain, where there are domains, and else in the shard
 abbrev pub looks_on : CpuSeat → Asking → Next
@@ -152,9 +149,6 @@ abbrev pub took : List ClassRow → CpuSeat → Regs → Stopping → Regs × Ne
 took rows v r (stopping.Drain d) = drained v r r.hand.items (drains_on rows r.class (record d { taken = d.taken + length r.hand.items }))
 took rows v r (stopping.Resize x) = (r, at_cpu_next (SetCap x))
 
-abbrev pub takes_class : List ClassRow → CpuPart → CpuSeat → Regs → Stopping → Left CpuPart
-takes_class rows p v r s = let n = took rows v (record r { hand = drains.taken_to p r.class.0 r.hand }) s in leaving (drains.taken p r.class.0) v n.0 n.1
-
 -- what a capacity answers
 abbrev pub cap_answer : Option CapFault → Answer
 cap_answer None = CapSet
@@ -184,7 +178,7 @@ cpu_acts rows p v r (Push f) = sequence rows p v r (Push f)
 cpu_acts rows p v r (PopBatch f) = sequence rows p v r (PopBatch f)
 cpu_acts rows p v r (Stop s) = let n = stops p r.thread s p.stopper in leaving n.0 v r n.1
 cpu_acts rows p v r (Fence s) = leaving (drains.fenced p) v r (at_cpu_next (Take s))
-cpu_acts rows p v r (Take s) = takes_class rows p v r s
+cpu_acts rows p v r (Take s) = let n = took rows v (record r { hand = drains.taken_to p r.class.0 r.hand }) s in leaving (drains.taken p r.class.0) v n.0 n.1
 cpu_acts rows p v r (SetCap x) = leaving (drains.capped p r.class.0 x.cap) v r (next.Decide (cap_answer (cap_fault p.slab r.class.0 x.cap)) (Some (front.Cpu (Start (stopping.Resize x)))))
 cpu_acts rows p v r (Start s) = leaving (drains.started p) v r (started v r.hand.items s)
 cpu_acts rows p v r Leave = left_for p v r v.moved
@@ -194,16 +188,13 @@ abbrev pub takes : Regs → Asking → List Addr → Regs × Next
 takes r asking [] = (r, next.Fetch asking)
 takes r asking (a ∷ others) = (record r { hand = appended r.hand (a ∷ others) }, next.Serve asking)
 
--- whether a whole list fits into a cache
-abbrev pub fits_into : Transfer → List Addr → Bool
-fits_into t objects = nat_le (length t.objects + length objects) t.room
-
+-- a cache with a list behind its objects
 abbrev pub put_in : Transfer → List Addr → Transfer
 put_in t objects = record { objects = t.objects ++ objects; room = t.room }
 
--- the hand is put there where it fits, and else it goes to the shard
+-- the hand is put there where all of it fits, and else it goes to the shard
 abbrev pub puts : Transfer → Regs → Giving CpuStep → Transfer × Regs × Next
-puts t r g = if fits_into t r.hand.items then (put_in t r.hand.items, record r { hand = emptied r.hand }, next.Gave (as_row g)) else (t, r, next.Give (as_row g))
+puts t r g = if nat_le (length t.objects + length r.hand.items) t.room then (put_in t r.hand.items, record r { hand = emptied r.hand }, next.Gave (as_row g)) else (t, r, next.Give (as_row g))
 
 -- the acts at the cache of a domain
 abbrev pub domain_acts : List ClassRow → Transfer → CpuSeat → Regs → DomainStep → Left Transfer
@@ -213,7 +204,7 @@ domain_acts rows t v r (domain.Put g) = let n = puts t r g in leaving n.0 v n.1 
 
 -- Yielding: a thread isn't polite to switch in where another runs whose sequence is open and hasn't executed 256 instructions yet.
 abbrev pub runs_open : CpuPart → Bool
-runs_open p = rseq.stands p.running && p.is_open && nat_lt p.ran 256
+runs_open p = is_some p.running && p.is_open && nat_lt p.ran 256
 
 abbrev pub yields_to_enter : CpuPart → ThreadNo → Bool
 yields_to_enter p t = rseq.runs p.running t || not (runs_open p)

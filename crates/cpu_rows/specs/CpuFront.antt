@@ -70,17 +70,13 @@ all_caches domains caches = flat_map (λ (one : List CpuFrontPart). one) (replic
 abbrev pub front_parts : List ClassRow → Config → List CpuFrontPart
 front_parts rows c = replicate c.cpus (Cpu (first_cpu rows c)) ++ all_caches c.domains (domain_caches rows c)
 
--- thread t starts at CPU t mod cpus
-abbrev pub first_seat : Config → ℕ → CpuSeat
-first_seat c t = record { cpu = record { 0 = t % c.cpus }; moved = None; domains = c.domains }
-
--- the rules of the per-CPU caches, under a class table and the heads of a trace
+-- the rules of the per-CPU caches, under a class table and the heads of a trace; thread t starts at CPU t mod cpus
 abbrev pub cpu_front : List ClassRow → Config → FrontRules CpuFrontPart CpuSeat CpuRow
 cpu_front rows c =
     record {
       parts = front_parts rows c;
       split = c.cpus;
-      seats = first_seat c;
+      seats = λ t. record { cpu = record { 0 = t % c.cpus }; moved = None; domains = c.domains };
       calls = cpu_calls rows;
       place = cpu_place c.cpus (length rows);
       acts = front_acts rows;

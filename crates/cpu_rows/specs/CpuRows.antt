@@ -39,9 +39,9 @@ cpu_of (stopping.Resize r) = r.cpu
 abbrev pub stands : CpuNo → Bool → (ℕ → Bool) → Option Standing
 stands c fenced empty = Some (record { cpu = c.0; fenced = fenced; empty = empty })
 
--- no class, the classes below a number, and one class
-abbrev pub no_class_empty : ℕ → Bool
-no_class_empty j = false
+-- a test of classes, or of answers, that none passes; that of the classes below a number, and that of one class
+abbrev pub never : {A : Type 0} → A → Bool
+never one = false
 
 abbrev pub below : ℕ → ℕ → Bool
 below n j = nat_lt j n
@@ -53,16 +53,13 @@ alone k j = j == k
 -- again. A resize empties its own class.
 abbrev pub empty_to_take : ℕ → Stopping → ℕ → Bool
 empty_to_take k (stopping.Drain d) = below k
-empty_to_take k (stopping.Resize r) = no_class_empty
+empty_to_take k (stopping.Resize r) = never
 
 abbrev pub empty_to_start : List ClassRow → Stopping → ℕ → Bool
 empty_to_start rows (stopping.Drain d) = below (length rows)
 empty_to_start rows (stopping.Resize r) = alone r.class.0
 
 -- the answers by which a stop and a capacity are refused
-abbrev pub refuses_nothing : Answer → Bool
-refuses_nothing answer = false
-
 abbrev pub refuses_stop : Answer → Bool
 refuses_stop (Busy owner) = true
 refuses_stop answer = false
@@ -81,10 +78,10 @@ pub record CpuRule : Type 0 where
   pub refuses : Answer → Bool
 
 abbrev pub own : About → CpuRule
-own about = record { about = about; cpu = λ own. own; standing = λ rows k. None; refuses = refuses_nothing }
+own about = record { about = about; cpu = λ own. own; standing = λ rows k. None; refuses = never }
 
 abbrev pub stopped : CpuNo → About → Bool → (List ClassRow → ℕ → ℕ → Bool) → CpuRule
-stopped c about fenced empty = record { about = about; cpu = λ own. c; standing = λ rows k. stands c fenced (empty rows k); refuses = refuses_nothing }
+stopped c about fenced empty = record { about = about; cpu = λ own. c; standing = λ rows k. stands c fenced (empty rows k); refuses = never }
 
 abbrev pub cpu_rule : CpuStep → CpuRule
 cpu_rule (Pop a) = own (Asks a)
@@ -93,7 +90,7 @@ cpu_rule (Stock s) = own (Publishes s)
 cpu_rule (Push f) = own (Frees f)
 cpu_rule (PopBatch f) = own (Frees f)
 cpu_rule (Stop s) = record { about = Other (Some (call_of s)); cpu = λ own. cpu_of s; standing = λ rows k. None; refuses = refuses_stop }
-cpu_rule (Fence s) = stopped (cpu_of s) (Other (Some (call_of s))) false (λ rows k. no_class_empty)
+cpu_rule (Fence s) = stopped (cpu_of s) (Other (Some (call_of s))) false (λ rows k. never)
 cpu_rule (Take s) = stopped (cpu_of s) (Other (Some (call_of s))) true (λ rows k. empty_to_take k s)
 cpu_rule (SetCap r) = record (stopped r.cpu (Other (Some (Resize r.cpu r.class r.cap))) true (λ rows k. alone r.class.0)) { refuses = refuses_cap }
 cpu_rule (Start s) = stopped (cpu_of s) (about_start s) true (λ rows k. empty_to_start rows s)

@@ -34,18 +34,19 @@ pub record Books : Type 0 where
   pub names : List NameState
   pub accounts : List Account
 
--- a class's number, its row, and the bytes of its objects and the pages of its spans
+-- a class's number; a row without objects, for a class that isn't there; and the bytes of a class's objects and the pages of
+-- its spans
 abbrev pub class_number : ℕ → Class
 class_number k = record { 0 = k }
 
-abbrev pub no_row : ClassRow
-no_row = record { size = 0; pages = 0; batch = 0 }
+abbrev pub no_class : ClassRow
+no_class = record { size = 0; pages = 0; batch = 0 }
 
 abbrev pub size_of : List ClassRow → ℕ → ℕ
-size_of rows k = (slice_index_or rows k no_row).size
+size_of rows k = (slice_index_or rows k no_class).size
 
 abbrev pub pages_of : List ClassRow → ℕ → ℕ
-pages_of rows k = (slice_index_or rows k no_row).pages
+pages_of rows k = (slice_index_or rows k no_class).pages
 
 -- over all classes
 abbrev pub over_classes : List ClassRow → (ℕ → ℕ) → ℕ

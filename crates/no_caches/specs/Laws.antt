@@ -2,13 +2,13 @@
 use Rattle.std.specs.Prelude.{List}
 use Rattle.tc_units.specs.declared.spans.ClassRow.{ClassRow}
 use Rattle.tc_model.specs.Input.{Asked}
-use Rattle.alloc_rules.specs.FrontLaw.{IsLawful}
+use Rattle.alloc_rules.specs.FrontLaw.{IsNotOwn, IsLawful}
 use Rattle.alloc_rules.specs.Law.{HoldsAfter, AreLawful}
 use Rattle.alloc_rules.specs.Valid.{IsValid}
-use Rattle.no_caches.specs.NoCaches.{no_caches, about_none, planned, Holds, fits}
+use Rattle.no_caches.specs.NoCaches.{no_caches, about_none, Holds, fits}
 
 abbrev pub AreNoCachesLawful : Type 0
-AreNoCachesLawful = (rows : List ClassRow) → IsLawful (no_caches rows) about_none planned Holds fits
+AreNoCachesLawful = (rows : List ClassRow) → IsLawful (no_caches rows) about_none IsNotOwn Holds fits
 
 abbrev pub InEveryOrder : Type 0
-InEveryOrder = (rows : List ClassRow) (asked : Asked) → IsValid rows planned asked → AreLawful (no_caches rows) about_none asked fits (HoldsAfter (no_caches rows) about_none Holds asked)
+InEveryOrder = (rows : List ClassRow) (asked : Asked) → IsValid rows IsNotOwn asked → AreLawful (no_caches rows) about_none asked fits (HoldsAfter (no_caches rows) about_none Holds asked)

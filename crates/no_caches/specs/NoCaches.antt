@@ -2,9 +2,6 @@
 -- fetched from their shards and given back to them.
 use Rattle.std.specs.Prelude.{◌≡◌, ℕ, Bool, true, false, List, [], map, All, None}
 use Rattle.tc_units.specs.declared.spans.ClassRow.{ClassRow}
-use Rattle.tc_model.specs.declared.calls.Call.{Call}
-use Rattle.tc_model.specs.declared.calls.Call.TheVariants.{Malloc, Free, Release, Drain, Resize}
-use Rattle.tc_model.specs.declared.calls.Planned.{Planned}
 use Rattle.rseq_core.specs.declared.regs.Regs.{Regs}
 use Rattle.no_caches.specs.declared.front.NoPart.{NoPart}
 use Rattle.no_caches.specs.declared.front.NoRow.{NoRow}
@@ -12,7 +9,6 @@ use Rattle.no_caches.specs.declared.front.NoSeat.{NoSeat}
 use Rattle.call_steps.specs.declared.step.Next.TheVariants.{End}
 use Rattle.call_steps.specs.Calls.{About, Other}
 use Rattle.call_steps.specs.Fronts.{FrontCalls, FrontRules}
-use Rattle.alloc_rules.specs.FrontLaw.{IsOwn}
 use Rattle.alloc_rules.specs.Standings.{At, Here, Later, Away, Standing}
 
 -- a thread knows nothing there
@@ -53,17 +49,6 @@ no_caches rows =
       stored = λ p k n. 0;
       refuses = λ row answer. false;
     }
-
--- the calls that it takes, as every front-end does: no drain and no resize
-abbrev pub is_shared : Call → Bool
-is_shared (Malloc label size) = true
-is_shared (Free label) = true
-is_shared (Release pages) = true
-is_shared (Drain cpu) = false
-is_shared (Resize cpu class cap) = false
-
-abbrev pub planned : Planned → Type 0
-planned p = IsOwn p.call → ⊥
 
 -- whether a thread stands at no row
 abbrev pub is_away : At NoRow → Bool

@@ -1,23 +1,19 @@
 -- No caches meet the law of a front-end: no thread comes to a row, and nothing else is to be kept.
-use Rattle.std.proofs.Common.{◌≡◌, ℕ, zero, suc, true, false, cond, List, [], ◌∷◌, ◌++◌, map, refl, sym, ap, subst, ◌∙◌, inl, inr, arith}
+use Rattle.std.proofs.Common.{◌≡◌, ℕ, zero, suc, true, false, List, [], ◌∷◌, map, refl, sym, ap, subst, ◌∙◌, arith}
 use Rattle.std.specs.Prelude.{Bool, All, Some, slice_get, slice_set}
 use Rattle.std.specs.List.{range_with_len}
 use Rattle.std.proofs.lemmas.List.Elements.{All-map, All-head, All-tail}
-use Rattle.std.proofs.lemmas.Bool.{cases_Bool}
-use Rattle.std.proofs.lemmas.List.Sums.{sum_by-cons}
-use Rattle.tc_model.specs.declared.calls.Call.{Call}
-use Rattle.tc_model.specs.declared.calls.Call.TheVariants.{Malloc, Free, Release, Drain, Resize}
-use Rattle.tc_model.specs.Input.{Input, ThreadCall}
-use Rattle.alloc_rules.specs.FrontLaw.{IsOwn, idle, with_hand}
+use Rattle.tc_model.specs.Input.{Input}
+use Rattle.alloc_rules.specs.FrontLaw.{IsNotOwn, idle, with_hand}
 use Rattle.alloc_rules.specs.Standings.{Here, Later, Away, Standing, stand}
 use Rattle.no_caches.specs.declared.front.NoPart.{NoPart}
 use Rattle.no_caches.specs.declared.front.NoRow.{NoRow}
 use Rattle.no_caches.specs.declared.front.NoSeat.{NoSeat}
-use Rattle.alloc_rules.specs.Inputs.{IsValidInput, not_taken}
-use Rattle.alloc_rules.specs.Valid.{IsValid}
+use Rattle.alloc_rules.specs.Inputs.{IsValidInput, is_common, not_taken}
 use Rattle.alloc_rules.specs.Law.{HoldsAfter, AreLawful}
+use Rattle.alloc_rules.proofs.CommonCalls.{valid_common}
 use Rattle.alloc_rules.proofs.Laws.{in_every_order}
-use Rattle.no_caches.specs.NoCaches.{no_caches, about_none, is_shared, is_away, planned, Holds, fits}
+use Rattle.no_caches.specs.NoCaches.{no_caches, about_none, is_away, Holds, fits}
 use Rattle.no_caches.specs.Laws.{AreNoCachesLawful, InEveryOrder}
 
 abbrev Seen : Type 0
@@ -83,35 +79,7 @@ no_caches_law rows =
     }
 
 pub no_caches_in_every_order : InEveryOrder
-no_caches_in_every_order rows asked valid = in_every_order (no_caches rows) about_none planned Holds fits (no_caches_law rows) asked valid
+no_caches_in_every_order rows asked valid = in_every_order (no_caches rows) about_none IsNotOwn Holds fits (no_caches_law rows) asked valid
 
--- every call of a trace that it takes is one that it may plan
-shared_planned : (call : Call) → is_shared call ≡ true → IsOwn call → ⊥
-shared_planned (Drain cpu) is own = absurd (cc)
-shared_planned (Resize cpu class cap) is own = absurd (cc)
-shared_planned call is own = own
-
-taken_here : (earlier : List ThreadCall) (c : ThreadCall) (later : List ThreadCall) → not_taken is_shared (earlier ++ c ∷ later) ≡ 0 → is_shared c.planned.call ≡ true
-taken_here [] c later none = elim (cases_Bool (is_shared c.planned.call)) [
-  | inl is ↦ is
-  | inr isnt ↦ absurd (let bit : Bool → ℕ = λ b. cond b 0 1 in omega (arith, none, sum_by-cons (λ (d : ThreadCall). cond (is_shared d.planned.call) 0 1) c later, ap bit isnt))
-]
-taken_here (d ∷ earlier) c later none =
-    taken_here earlier c later (omega (arith, none, sum_by-cons (λ (x : ThreadCall). cond (is_shared x.planned.call) 0 1) d (earlier ++ c ∷ later)))
-
-pub valid_without : (input : Input) → IsValidInput input → not_taken is_shared input.asked.calls ≡ 0 → IsValid input.rows planned input.asked
-valid_without input valid taken =
-    record {
-      rows = valid.rows;
-      limits = valid.limits;
-      calls = λ earlier c later is.
-          (let call = valid.calls earlier c later is in
-          record {
-            thread = call.thread;
-            planned = shared_planned c.planned.call (taken_here earlier c later (ap (not_taken is_shared) is ∙ taken));
-            order = call.order;
-          });
-    }
-
-pub lawful_in : (input : Input) → IsValidInput input → not_taken is_shared input.asked.calls ≡ 0 → AreLawful (no_caches input.rows) about_none input.asked fits (HoldsAfter (no_caches input.rows) about_none Holds input.asked)
-lawful_in input valid taken = no_caches_in_every_order input.rows input.asked (valid_without input valid taken)
+pub lawful_in : (input : Input) → IsValidInput input → not_taken is_common input.asked.calls ≡ 0 → AreLawful (no_caches input.rows) about_none input.asked fits (HoldsAfter (no_caches input.rows) about_none Holds input.asked)
+lawful_in input valid taken = no_caches_in_every_order input.rows input.asked (valid_common input valid taken)

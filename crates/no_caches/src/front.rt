@@ -139,10 +139,11 @@ impl FrontEnd for NoCaches {
 
 impl LawfulFront for NoCaches {
     ghost use Rattle.alloc_rules.specs.Law.{HoldsAfter};
-    ghost use Rattle.no_caches.specs.NoCaches.{no_caches, about_none, is_shared, Holds};
+    ghost use Rattle.alloc_rules.specs.Inputs.{is_common};
+    ghost use Rattle.no_caches.specs.NoCaches.{no_caches, about_none, Holds};
     ghost use Rattle.no_caches.specs.NoCachesLaw.{lawful_in};
 
-    ghost takes = { is_shared };
+    ghost takes = { is_common };
 
     ghost keeps = { λ setting. Holds };
 

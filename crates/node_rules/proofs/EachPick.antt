@@ -15,12 +15,13 @@ use Rattle.no_caches.specs.declared.front.NoRow.{NoRow}
 use Rattle.no_caches.specs.declared.front.NoSeat.{NoSeat}
 use Rattle.no_caches.specs.NoCaches.{no_calls, no_caches, about_none, fits}
 use Rattle.node_rules.specs.OneNode.{Node, Ask, answer, node_after}
-use Rattle.node_rules.specs.NodeActs.{asked_by, resumed, PlainLocal, PlainWorld, with_names}
+use Rattle.node_rules.specs.Numa.{NodeLocal}
+use Rattle.node_rules.specs.NodeActs.{asked_by, resumed, PlainWorld, with_names}
 use Rattle.node_rules.specs.NodeActs.{HasNode, node_rules}
 use Rattle.node_rules.proofs.EachAct.{acts_are_asked}
 
 -- a part that an act at a shard fits is one of the shards that there are
-shard_low : (rows : List ClassRow) (l : PlainLocal) (row : ShardStep NoRow) → l.step ≡ does.Shard row → (p : Parts NoPart) (xs : List Shard) (k : ℕ)
+shard_low : (rows : List ClassRow) (l : NodeLocal) (row : ShardStep NoRow) → l.step ≡ does.Shard row → (p : Parts NoPart) (xs : List Shard) (k : ℕ)
     (q : Part NoPart) → slice_get (map part.Shard xs ++ middle_of p) k ≡ Some q → fits_step rows fits q l → k < length xs
 shard_low rows l row is p [] k q at fit = grind arith
 shard_low rows l row is p (x ∷ xs) zero q at fit = omega arith
@@ -42,10 +43,10 @@ module _ (input : Input) (w : PlainWorld) (n : Node) (has : HasNode w n) (as_man
   -- What the pick leaves where so much is asked: the node that answers, and a thread that goes on by the reply.
   pub record Picked (o : Option Ask) : Type 0 where
     pub node : HasNode next (node_after n (option_to_list o))
-    pub goes : (l : PlainLocal) (a : Ask) → slice_get w.locals t ≡ Some l → o ≡ Some a
+    pub goes : (l : NodeLocal) (a : Ask) → slice_get w.locals t ≡ Some l → o ≡ Some a
         → next.locals ≡ slice_set w.locals t (resumed e l l.step (answer n a).1)
 
-  module _ (l : PlainLocal) (local : slice_get w.locals t ≡ Some l) where
+  module _ (l : NodeLocal) (local : slice_get w.locals t ≡ Some l) where
     wants : (step : Step NoRow) → l.step ≡ step
         → place_of (no_caches input.rows) about_none l ≡ option_map (number_of 0 (length n.shards)) (target_at (no_caches input.rows).place l step)
     wants step is = grind arith
@@ -85,7 +86,7 @@ module _ (input : Input) (w : PlainWorld) (n : Node) (has : HasNode w n) (as_man
         record { node = record { names = has.names; is = grind arith }; goes = λ j a local' asks. grind arith }
 
   -- of any thread, which is ready
-  pub picked : IsReady (node_rules input) (Fits input.rows fits) w t → (o : Option PlainLocal) → slice_get w.locals t ≡ o
+  pub picked : IsReady (node_rules input) (Fits input.rows fits) w t → (o : Option NodeLocal) → slice_get w.locals t ≡ o
       → Picked (option_and_then (asked_by input.rows) o)
   picked ready None local = record { node = record { names = has.names; is = grind arith }; goes = λ j a local' asks. grind arith }
   picked ready (Some l) local = picked_at l local ready l.step refl

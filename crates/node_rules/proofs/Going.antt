@@ -25,11 +25,11 @@ use Rattle.tc_model.proofs.Lists.{set_here, set_elsewhere}
 use Rattle.tc_model.proofs.MovingFacts.{all_move-push}
 use Rattle.call_steps.specs.Local.{Decided, told}
 use Rattle.alloc_rules.specs.Fits.{Fits}
-use Rattle.alloc_rules.specs.Inputs.{IsValidInput, not_taken}
+use Rattle.alloc_rules.specs.Inputs.{IsValidInput, is_common, not_taken}
 use Rattle.alloc_rules.specs.Law as allocator
 use Rattle.alloc_rules.specs.Law.{IsAmong, IsPick}
 use Rattle.alloc_rules.specs.Machine.{parts_of}
-use Rattle.no_caches.specs.NoCaches.{no_caches, about_none, is_shared, Holds, fits}
+use Rattle.no_caches.specs.NoCaches.{no_caches, about_none, Holds, fits}
 use Rattle.no_caches.specs.NoCachesLaw.{lawful_in}
 use Rattle.node_rules.specs.Joined.{NodeLine, told_line, lines_at, AreOfNodes, IsAbout}
 use Rattle.node_rules.specs.Nodes.{acts_at, asked_at, input_at}
@@ -103,7 +103,7 @@ all_new Q k t [] few each = λ i d within. absurd (omega (arith, within))
 all_new Q k t (d ∷ []) few each = All-cons Q (record { node = k; line = told t d }) [] (each d refl) (All-nil Q)
 all_new Q k t (d ∷ e ∷ more) few each = absurd (omega (arith, few))
 
-module _ (nodes : ℕ) (input : Input) (valid : IsValidInput input) (taken : not_taken is_shared input.asked.calls ≡ 0) (some : 0 < nodes) where
+module _ (nodes : ℕ) (input : Input) (valid : IsValidInput input) (taken : not_taken is_common input.asked.calls ≡ 0) (some : 0 < nodes) where
   abbrev numa : Rules NodePart (Beside NodeLocal)
   numa = numa_rules nodes input
 
@@ -111,7 +111,7 @@ module _ (nodes : ℕ) (input : Input) (valid : IsValidInput input) (taken : not
   huge = input.asked.config.huge
 
   abbrev pub law : (k : ℕ) → allocator.AreLawful (no_caches input.rows) about_none (asked_at nodes input.asked k) fits (allocator.HoldsAfter (no_caches input.rows) about_none Holds (asked_at nodes input.asked k))
-  law k = lawful_in (input_at nodes input k) (valid_at nodes input valid k) (taken_at nodes input is_shared k taken)
+  law k = lawful_in (input_at nodes input k) (valid_at nodes input valid k) (taken_at nodes input is_common k taken)
 
   -- node k's world, after an order
   pub record IsAt (order : List ℕ) (k : ℕ) : Type 0 where

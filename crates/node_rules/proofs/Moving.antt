@@ -1,5 +1,5 @@
 -- A pick of machines side by side: what it finds, what it leaves, and that it is one of its node's own machine.
-use Rattle.std.proofs.Common.{◌≡◌, ℕ, zero, suc, ◌+◌, ◌*◌, ◌<◌, ◌≤◌, ◌⊎◌, Bool, true, false, cond, List, [], ◌∷◌, ◌++◌, length, Option, Some, None, refl, sym, ap, ◌∙◌, subst, arith, inl, inr}
+use Rattle.std.proofs.Common.{◌≡◌, ℕ, zero, suc, ◌+◌, ◌*◌, ◌<◌, ◌≤◌, ◌⊎◌, Bool, true, false, cond, List, [], ◌∷◌, ◌++◌, length, Option, Some, None, option_and_then, refl, sym, ap, ◌∙◌, subst, arith, inl, inr}
 use Rattle.std.specs.Prelude.{slice_get, slice_set, option_map}
 use Rattle.std.specs.Option.{option_flatten}
 use Rattle.std.proofs.lemmas.Bool.{cases_Bool, cases_eq, false≢true}
@@ -10,7 +10,7 @@ use Rattle.tc_model.specs.Run.{Rules, World, pick, act_by, act_at, act_on, with_
 use Rattle.tc_model.specs.Steps.{stepped, stepped_by, stepped_at, stepped_on}
 use Rattle.tc_model.proofs.Lists.{set_here, set_elsewhere}
 use Rattle.call_steps.specs.Local.{Decided}
-use Rattle.node_rules.specs.Beside.{Beside, beside, node_now, local_now, part_at, want_at, want_by, waits_by, with_act, after_by, IsNodeOf}
+use Rattle.node_rules.specs.Beside.{Beside, beside, node_now, local_now, part_at, want_by, with_act, after_by, IsNodeOf}
 
 -- A machine's thread whose next act doesn't wait moves, and leaves the pair of that act.
 module _ {P L : Type 0} (one : Rules P L) (v : World P L) (t : ℕ) (x : L) (place : PartNo) (p : P) (at : slice_get v.locals t ≡ Some x)
@@ -63,7 +63,7 @@ module _ {P L : Type 0} (one : Rules P L) (answers : L → List Decided) (width 
     at_want l k x (Some place) at now here want moved = at_part l k x place (slice_get w.parts (k * width + place.0)) at now here want refl moved
 
     at_here : (l : Beside L) (k : ℕ) (o : Option L) → slice_get w.locals t ≡ Some l → node_now l ≡ Some k → slice_get l.here k ≡ o
-        → stepped_at r w l (want_at one answers width huge k o) ≡ step.Moved → IsMove w t
+        → stepped_at r w l (option_and_then (λ x. option_map (part_at one answers width huge k) (one.want x)) o) ≡ step.Moved → IsMove w t
     at_here l k None at now here moved = absurd (cc)
     at_here l k (Some x) at now here moved = at_want l k x (one.want x) at now here refl moved
 

@@ -8,10 +8,12 @@ use Rattle.alloc_rules.proofs.Common.{ClassRow, Fits, Input, IsOrder, IsReady, I
 use Rattle.alloc_rules.proofs.Common.{length-set, shard_at, start}
 use Rattle.alloc_rules.specs.declared.part.Part.{Part}
 use Rattle.no_caches.specs.declared.front.NoPart.{NoPart}
-use Rattle.no_caches.specs.NoCaches.{no_calls, planned, fits}
+use Rattle.alloc_rules.specs.FrontLaw.{IsNotOwn}
+use Rattle.no_caches.specs.NoCaches.{no_calls, fits}
 use Rattle.no_caches.specs.NoCachesLaw.{no_caches_in_every_order}
 use Rattle.node_rules.specs.OneNode.{Node, empty_node, Ask, OfShard, shard_answer, answer, node_after, replies, node}
-use Rattle.node_rules.specs.NodeActs.{PlainLocal, PlainWorld, HasNode, node_rules, behind, pick_asks, acts_from, acts_of, IsRunOf, NodeIsItsActs}
+use Rattle.node_rules.specs.Numa.{NodeLocal, NodePart}
+use Rattle.node_rules.specs.NodeActs.{PlainWorld, HasNode, node_rules, behind, pick_asks, acts_from, acts_of, IsRunOf, NodeIsItsActs}
 use Rattle.node_rules.proofs.EachAct.{acts_are_asked}
 use Rattle.node_rules.proofs.EachPick.{Picked, picked}
 
@@ -39,7 +41,7 @@ replies_count n [] = refl
 replies_count n (a ∷ acts) = ap (λ (k : ℕ). suc k) (replies_count (answer n a).0 acts)
 
 module _ (input : Input) where
-  abbrev r : Rules (Part NoPart) PlainLocal
+  abbrev r : Rules NodePart NodeLocal
   r = node_rules input
 
   abbrev empty : Node
@@ -61,7 +63,7 @@ module _ (input : Input) where
   first_picks earlier later order =
       record { moves = front_moves r (start r) earlier later order.moves; few = omega (arith, length-append earlier later, order.few) }
 
-  module _ (valid : IsValid input.rows planned input.asked) where
+  module _ (valid : IsValid input.rows IsNotOwn input.asked) where
     -- a pick behind an order, and the picks of one
     picked_behind : (past : List ℕ) (w : PlainWorld) → behind input past ≡ w → IsOrder r past → (n : Node) (has : HasNode w n)
         (many : length n.shards ≡ length input.rows) (t : ℕ) → Picked input w n has many t (pick_asks input w t)

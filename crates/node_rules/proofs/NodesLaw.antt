@@ -1,5 +1,5 @@
 -- The law of memory nodes: all that holds between two picks, that each pick fits, that the earliest call moves, and that scripts end.
-use Rattle.std.proofs.Common.{◌≡◌, ℕ, zero, suc, ◌+◌, ◌*◌, ◌-◌, ◌%◌, ◌<◌, ◌≤◌, ◌⊎◌, Bool, true, false, cond, eqb, List, [], ◌∷◌, ◌++◌, length, map, take, drop, filter, fold, get_or, Option, Some, None, refl, sym, ap, ◌∙◌, subst, arith, inl, inr, All}
+use Rattle.std.proofs.Common.{◌≡◌, ℕ, zero, suc, ◌+◌, ◌*◌, ◌-◌, ◌%◌, ◌<◌, ◌≤◌, ◌⊎◌, Bool, true, false, cond, eqb, List, [], ◌∷◌, ◌++◌, length, map, take, drop, filter, fold, get_or, Option, Some, None, option_and_then, refl, sym, ap, ◌∙◌, subst, arith, inl, inr, All}
 use Rattle.std.specs.Prelude.{slice_get, slice_set, slice_index, option_map, count_by}
 use Rattle.std.specs.Option.{option_flatten}
 use Rattle.std.specs.List.{range_with_len}
@@ -38,7 +38,7 @@ use Rattle.call_steps.specs.Local.{Decided, told}
 use Rattle.call_steps.specs.Kept.{call_at}
 use Rattle.call_steps.specs.declared.step.Step.TheVariants as does
 use Rattle.alloc_rules.specs.Fits.{Fits}
-use Rattle.alloc_rules.specs.Inputs.{IsValidInput, not_taken}
+use Rattle.alloc_rules.specs.Inputs.{IsValidInput, is_common, not_taken}
 use Rattle.alloc_rules.specs.Law as allocator
 use Rattle.alloc_rules.specs.Machine.{after, turns, place_of, waits}
 use Rattle.alloc_rules.specs.Told.{TellsFirst, TellsScript, TellsScripts, calls_in, lines_by}
@@ -46,16 +46,16 @@ use Rattle.alloc_rules.proofs.Reached.{there_is}
 use Rattle.alloc_rules.proofs.SerialLaws.{thread_below}
 use Rattle.call_steps.specs.declared.step.Step.{Step}
 use Rattle.no_caches.specs.declared.front.NoRow.{NoRow}
-use Rattle.no_caches.specs.NoCaches.{no_caches, about_none, is_shared, Holds, fits}
+use Rattle.no_caches.specs.NoCaches.{no_caches, about_none, Holds, fits}
 use Rattle.node_rules.specs.Joined.{NodeLine, IsAbout, told_line, lines_at}
 use Rattle.node_rules.specs.Nodes.{maker, node_of, acts_at, asked_at, input_at, route_of}
-use Rattle.node_rules.specs.Beside.{Beside, local_now, node_now, part_at, want_at, want_by, after_at, after_by}
+use Rattle.node_rules.specs.Beside.{Beside, local_now, node_now, part_at, want_by, after_at, after_by}
 use Rattle.node_rules.specs.Numa.{NodeLocal, NodePart, width_of, rules_at, numa_rules, numa_calls, first_parts, first_thread}
 use Rattle.node_rules.specs.NumaLaw.{NodesAreLawful, AreLawful, HoldsAfter, FitsNow, FitsThread, IsLow, IsOneAct, order_at, world_at, under_now}
 use Rattle.node_rules.proofs.Going.{IsAt, IsRun, goes_on, law}
 use Rattle.node_rules.proofs.JoinedRun.{block_runs_join}
 use Rattle.node_rules.proofs.Moving.{IsMove, does_move, moves}
-use Rattle.no_caches.specs.NoCachesLaw.{valid_without}
+use Rattle.alloc_rules.proofs.CommonCalls.{valid_common}
 use Rattle.node_rules.specs.OneNode.{node}
 use Rattle.node_rules.specs.NodeActs.{acts_of, IsRunOf}
 use Rattle.node_rules.proofs.NodeRuns.{node_is_its_acts}
@@ -93,7 +93,7 @@ told_calls : (t : ℕ) (ds : List Decided) → map (λ (c : CallLine). c.call) (
 told_calls t [] = refl
 told_calls t (d ∷ ds) = ap (λ (cs : List Call). d.call ∷ cs) (told_calls t ds)
 
-module _ (nodes : ℕ) (input : Input) (valid : IsValidInput input) (taken : not_taken is_shared input.asked.calls ≡ 0) (some : 0 < nodes) where
+module _ (nodes : ℕ) (input : Input) (valid : IsValidInput input) (taken : not_taken is_common input.asked.calls ≡ 0) (some : 0 < nodes) where
   abbrev numa : Rules NodePart (Beside NodeLocal)
   numa = numa_rules nodes input
 
@@ -180,7 +180,7 @@ module _ (nodes : ℕ) (input : Input) (valid : IsValidInput input) (taken : not
       record { node = k; now = now; x = x; here = here; place = place; want = want; is = ap (λ (n : PartNo). n.0) (sym same) }
 
   want_here : (l : Beside NodeLocal) (part : PartNo) (k : ℕ) (o : Option NodeLocal) → node_now l ≡ Some k → slice_get l.here k ≡ o
-      → want_at one answers width huge k o ≡ Some part → IsWant l part
+      → option_and_then (λ x. option_map (part_at one answers width huge k) (one.want x)) o ≡ Some part → IsWant l part
   want_here l part k None now here is = absurd (cc)
   want_here l part k (Some x) now here is = want_place l part k x (one.want x) now here refl is
 
@@ -418,7 +418,7 @@ module _ (nodes : ℕ) (input : Input) (valid : IsValidInput input) (taken : not
       let low : k < nodes = node_low order h t l at k now in
       let x = there_is l.here k (omega (arith, low, s.here)) in
       let a = h.at_nodes k low in
-      let none_x : one.want x.0 ≡ None = map_none (part_at one answers width huge k) (one.want x.0) (sym (ap (want_at one answers width huge k) x.1) ∙ none) in
+      let none_x : one.want x.0 ≡ None = map_none (part_at one answers width huge k) (one.want x.0) (sym (ap (option_and_then (λ y. option_map (part_at one answers width huge k) (one.want y))) x.1) ∙ none) in
       let holds = (law nodes input valid taken some k).holds (order_at nodes input k order) a.moves in
       let local : slice_get holds.locals t ≡ Some x.0 =
       ap (λ (z : World NodePart NodeLocal). slice_get z.locals t) (sym holds.is) ∙ (sym (a.of.locals t l at) ∙ x.1) in
@@ -450,7 +450,7 @@ module _ (nodes : ℕ) (input : Input) (valid : IsValidInput input) (taken : not
       λ k low. (law nodes input valid taken some k).holds (order_at nodes input k order) (h.at_nodes k low).moves in
       let made : (k : ℕ) → (low : k < nodes) → IsRunOf (input_at nodes input k) (order_at nodes input k order) (node input.rows input.asked.config (acts_of (input_at nodes input k) (order_at nodes input k order))) =
       λ k low. node_is_its_acts.runs (input_at nodes input k) (order_at nodes input k order)
-      (record { valid = valid_without (input_at nodes input k) (valid_at nodes input valid k) (taken_at nodes input is_shared k taken); moves = (h.at_nodes k low).moves }) in
+      (record { valid = valid_common (input_at nodes input k) (valid_at nodes input valid k) (taken_at nodes input is_common k taken); moves = (h.at_nodes k low).moves }) in
       let blocks : (k : ℕ) → k < nodes → IsBlockRun huge (length_of input.rows) (lines_at k h.lines) =
       λ k low. subst (IsBlockRun huge (length_of input.rows)) (sym (h.told_at k low ∙ ap (λ (z : World NodePart NodeLocal). allocator.calls z.locals (order_at nodes input k order)) (at k low).is)) (at k low).blocks in
       record {

@@ -2,7 +2,7 @@
 -- at the parts of its node alone.
 use Rattle.std.specs.Prelude.{◌≡◌, ℕ, ◌+◌, ◌-◌, ◌*◌, ◌<◌, ◌==◌, Bool, true, false, List, [], ◌∷◌, ◌++◌, length, map, drop, fold, Option, Some, None, option_map, slice_get, slice_set, if◌then◌else◌}
 use Rattle.std.specs.List.{range_with_len}
-use Rattle.std.specs.Option.{option_flatten}
+use Rattle.std.specs.Option.{option_and_then, option_flatten, option_map_or}
 use Rattle.tc_model.specs.declared.machine.PartNo.{PartNo}
 use Rattle.tc_model.specs.Run.{Rules, World, start, pick, run}
 use Rattle.call_steps.specs.Local.{Decided}
@@ -39,21 +39,9 @@ module _ {P L : Type 0} (one : Rules P L) (answers : L → List Decided) (width 
   abbrev pub part_at : ℕ → PartNo → PartNo
   part_at k place = record { 0 = k * width + place.0 }
 
-  abbrev pub want_at : ℕ → Option L → Option PartNo
-  want_at k None = None
-  want_at k (Some x) = option_map (part_at k) (one.want x)
-
   abbrev pub want_by : Beside L → Option ℕ → Option PartNo
   want_by l None = None
-  want_by l (Some k) = want_at k (slice_get l.here k)
-
-  abbrev pub waits_by : P → Option L → Bool
-  waits_by p None = false
-  waits_by p (Some x) = one.waits p x
-
-  abbrev pub yields_by : P → Option L → Bool
-  yields_by p None = true
-  yields_by p (Some x) = one.yields p x
+  want_by l (Some k) = option_and_then (λ x. option_map (part_at k) (one.want x)) (slice_get l.here k)
 
   -- an act leaves another local at its node, and what it decided is told of the thread
   abbrev pub with_act : Beside L → ℕ → L → L → Beside L
@@ -73,7 +61,7 @@ module _ {P L : Type 0} (one : Rules P L) (answers : L → List Decided) (width 
   after_by p l None = (p, l)
   after_by p l (Some k) = after_at p l k (slice_get l.here k)
 
-  -- the machine of these parts and threads
+  -- the machine of these parts and threads; whether one waits, and whether its act is polite, is told by its node
   abbrev pub beside : List P → List (Beside L) → Rules P (Beside L)
   beside parts locals =
       record {
@@ -81,8 +69,8 @@ module _ {P L : Type 0} (one : Rules P L) (answers : L → List Decided) (width 
         locals = locals;
         want = λ l. want_by l (node_now l);
         done = λ l. l.ended;
-        waits = λ p l. waits_by p (local_now l);
-        yields = λ p l. yields_by p (local_now l);
+        waits = λ p l. option_map_or (one.waits p) (local_now l) false;
+        yields = λ p l. option_map_or (one.yields p) (local_now l) true;
         after = λ p l. after_by p l (node_now l);
       }
 

@@ -13,6 +13,7 @@ use Rattle.class_shard.specs.Shard.{Shard}
 use Rattle.heap_rules.specs.Heap as heaps
 use Rattle.page_map.specs.Spans.{SpanMap}
 use Rattle.name_table.specs.declared.table.NameState.{NameState}
+use Rattle.rseq_core.specs.Bags.{appended}
 use Rattle.holdings.specs.Runs.{large, small, run_of, address_of}
 use Rattle.call_steps.specs.declared.step.Step.{Step}
 use Rattle.call_steps.specs.declared.step.Step.TheVariants as does
@@ -23,15 +24,14 @@ use Rattle.call_steps.specs.declared.step.NamesStep.TheVariants.{Publish}
 use Rattle.call_steps.specs.Fronts.{FrontCalls}
 use Rattle.call_steps.specs.Local.{Local, class_row, decided, goes, ends}
 use Rattle.call_steps.specs.Hands.{with_freed, serves, given_back, clears}
-use Rattle.call_steps.specs.ShardActs.{with_more, fetches, with_spans_behind}
+use Rattle.call_steps.specs.ShardActs.{with_more, fetches}
 use Rattle.call_steps.specs.Acts.{without_first_span, after_lookup, shard_after, heap_after, map_after}
-use Rattle.alloc_rules.specs.declared.part.Part.{Part}
+use Rattle.alloc_rules.specs.FrontLaw.{IsNotOwn}
 use Rattle.alloc_rules.specs.Machine.{Parts, parts_of, rules}
 use Rattle.alloc_rules.specs.Valid.{IsValid}
 use Rattle.no_caches.specs.declared.front.NoPart.{NoPart}
-use Rattle.no_caches.specs.declared.front.NoRow.{NoRow}
-use Rattle.no_caches.specs.declared.front.NoSeat.{NoSeat}
-use Rattle.no_caches.specs.NoCaches.{no_calls, no_caches, about_none, planned}
+use Rattle.no_caches.specs.NoCaches.{no_calls, no_caches, about_none}
+use Rattle.node_rules.specs.Numa.{NodePart, NodeLocal}
 use Rattle.node_rules.specs.OneNode.{Node, empty_node, ShardAsk, Fetch, Add, Give, HeapAsk, New, GiveBack, Unback, MapAsk, Set, Find, Clear}
 use Rattle.node_rules.specs.OneNode.{Ask, OfShard, OfHeap, OfMap, Reply, Objects, Left, Got, Pages, Found, shard_answer, heap_answer, map_answer, Made, node}
 
@@ -74,7 +74,7 @@ module _ {V R : Type 0} where
   abbrev pub resumed : FrontCalls V R → Local V R → Step R → Reply → Local V R
   resumed e l (does.Shard (shard.Fetch asking)) (Objects objects) = fetches e l asking objects
   resumed e l (does.Shard (shard.AddFetch asking run)) (Objects objects) = serves e (with_more l objects) asking
-  resumed e l (does.Shard (shard.Give giving)) (Left spans) = given_back e l giving (with_spans_behind l.freed spans)
+  resumed e l (does.Shard (shard.Give giving)) (Left spans) = given_back e l giving (appended l.freed spans)
   resumed e l (does.Heap (heap.New label size)) (Got None) = goes (decided l (Malloc label size) NoBlock) (does.Names (Publish label None))
   resumed e l (does.Heap (heap.New label size)) (Got (Some run)) =
       goes (decided l (Malloc label size) (Block (address_of run) (run.pages * page_bytes))) (does.Map (map.Set label run))
@@ -103,11 +103,8 @@ module _ {V R : Type 0} where
     pub heap : (h : heaps.Heap) (l : Local V R) → heap_after e h l l.step ≡ left_by e l l.step h (heap_answer h) (heap_asked e.rows l l.step)
     pub map : (m : SpanMap) (l : Local V R) → map_after e m l l.step ≡ left_by e l l.step m (map_answer m) (map_asked l l.step)
 
-abbrev pub PlainLocal : Type 0
-PlainLocal = Local NoSeat NoRow
-
 abbrev pub PlainWorld : Type 0
-PlainWorld = World (Part NoPart) PlainLocal
+PlainWorld = World NodePart NodeLocal
 
 -- a node's parts, with names
 abbrev pub with_names : Node → List NameState → Parts NoPart
@@ -120,7 +117,7 @@ pub record HasNode (w : PlainWorld) (n : Node) : Type 0 where
 
 -- The runs of an input.
 module _ (input : Input) where
-  abbrev pub node_rules : Rules (Part NoPart) PlainLocal
+  abbrev pub node_rules : Rules NodePart NodeLocal
   node_rules = rules (no_caches input.rows) about_none input.asked
 
   abbrev pub behind : List ℕ → PlainWorld
@@ -139,7 +136,7 @@ module _ (input : Input) where
   acts_of order = acts_from (start node_rules) order
 
   -- Behind an order, thread t goes on by the reply whose place is that of its act, and no other thread changes.
-  pub record GoesOn (order : List ℕ) (t : ℕ) (l : PlainLocal) (replies : List Reply) : Type 0 where
+  pub record GoesOn (order : List ℕ) (t : ℕ) (l : NodeLocal) (replies : List Reply) : Type 0 where
     pub reply : Reply
     pub is : slice_get replies (length (acts_of order)) ≡ Some reply
     pub locals : (behind (order ++ t ∷ [])).locals ≡ slice_set (behind order).locals t (resumed (no_calls input.rows) l l.step reply)
@@ -148,12 +145,12 @@ module _ (input : Input) where
   pub record IsRunOf (order : List ℕ) (made : Made) : Type 0 where
     pub parts : HasNode (behind order) made.parts
     pub many : length made.replies ≡ length (acts_of order)
-    pub replies : (earlier : List ℕ) (t : ℕ) (later : List ℕ) (l : PlainLocal) (a : Ask) → earlier ++ t ∷ later ≡ order
+    pub replies : (earlier : List ℕ) (t : ℕ) (later : List ℕ) (l : NodeLocal) (a : Ask) → earlier ++ t ∷ later ≡ order
         → slice_get (behind earlier).locals t ≡ Some l → asked_by input.rows l ≡ Some a → GoesOn earlier t l made.replies
 
   -- a valid trace of calls that the allocator without caches takes, and an order of picks that move
   pub record IsNodeRun (order : List ℕ) : Type 0 where
-    pub valid : IsValid input.rows planned input.asked
+    pub valid : IsValid input.rows IsNotOwn input.asked
     pub moves : IsOrder node_rules order
 
 -- A node's parts are what was asked of them makes of them.

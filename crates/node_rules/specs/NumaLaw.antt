@@ -14,11 +14,11 @@ use Rattle.tc_model.specs.Sound.{IsOrder, IsSound}
 use Rattle.call_steps.specs.Rows.{under}
 use Rattle.call_steps.specs.Local.{Decided}
 use Rattle.alloc_rules.specs.Fits.{Fits}
-use Rattle.alloc_rules.specs.Inputs.{IsValidInput, not_taken}
+use Rattle.alloc_rules.specs.Inputs.{IsValidInput, is_common, not_taken}
 use Rattle.alloc_rules.specs.Law as allocator
 use Rattle.alloc_rules.specs.Machine.{after, turns, waits}
 use Rattle.alloc_rules.specs.Told.{TellsFirst, TellsScripts}
-use Rattle.no_caches.specs.NoCaches.{no_caches, about_none, is_shared, Holds, fits}
+use Rattle.no_caches.specs.NoCaches.{no_caches, about_none, Holds, fits}
 use Rattle.node_rules.specs.Joined.{NodeLine, told_line, lines_at, AreJoined}
 use Rattle.node_rules.specs.OneNode.{node}
 use Rattle.node_rules.specs.NodeActs.{acts_of, IsRunOf}
@@ -122,4 +122,4 @@ module _ (nodes : ℕ) (input : Input) where
 
 -- for every class table, every number of nodes and every trace without a drain and a resize
 abbrev pub NodesAreLawful : Type 0
-NodesAreLawful = (nodes : ℕ) (input : Input) → 0 < nodes → IsValidInput input → not_taken is_shared input.asked.calls ≡ 0 → AreLawful nodes input
+NodesAreLawful = (nodes : ℕ) (input : Input) → 0 < nodes → IsValidInput input → not_taken is_common input.asked.calls ≡ 0 → AreLawful nodes input

@@ -12,10 +12,9 @@ use Rattle.tc_model.specs.Input.{Input}
 use Rattle.tc_model.specs.Replays.{HaveEnded}
 use Rattle.tc_model.specs.Run.{World, run, start, world_of}
 use Rattle.heap_rules.specs.declared.config.HeapConfig.{HeapConfig}
-use Rattle.heap_rules.specs.Heap.{Heap}
+use Rattle.heap_rules.specs.Heap.{Heap, used_pages, backed_pages}
 use Rattle.call_steps.specs.declared.setting.Setting.{Setting}
-use Rattle.alloc_rules.specs.Inputs.{setting_of, IsValidInput, not_taken}
-use Rattle.no_caches.specs.NoCaches.{is_shared}
+use Rattle.alloc_rules.specs.Inputs.{setting_of, IsValidInput, is_common, not_taken}
 use Rattle.tc_model.specs.Steps.{moving}
 use Rattle.alloc_rules.proofs.Orders.{order_is}
 use Rattle.node_rules.proofs.NodesLaw.{nodes_are_lawful}
@@ -32,7 +31,7 @@ use Rattle.node_rules.specs.Joined.{told_line, lines_at}
 use Rattle.node_rules.specs.Beside.{Beside}
 use Rattle.node_rules.specs.Numa.{NodeLocal, NodePart, numa_rules, numa_calls}
 use Rattle.node_rules.specs.NumaLaw.{HoldsAfter, order_at}
-use Rattle.numa_heaps.specs.Machine.{arena, finished_in, heap_at, heap_place, used_to, runs_to, backed_to, rows_to, HasHeap}
+use Rattle.numa_heaps.specs.Machine.{arena, finished_in, heap_at, heap_place, over_nodes, runs_to, rows_to, HasHeap}
 use Rattle.numa_heaps.proofs.Pages.{heap_is, sum_more}
 
 module _ {nodes : ℕ} {input : Input} {order : List ℕ} (h : HoldsAfter nodes input order) {parts : List NodePart} {locals : List (Beside NodeLocal)}
@@ -84,19 +83,19 @@ module _ {nodes : ℕ} {input : Input} {order : List ℕ} (h : HoldsAfter nodes 
   told_are = ap (λ (v : World NodePart (Beside NodeLocal)). numa_calls v.locals order) is
 
   pub totals_are : {lines : List CallLine} {s : Standing} {count used resident : ℕ} {rows : List RowView} → lines ≡ numa_calls locals order → AreStanding lines s → count ≡ length lines
-      → used ≡ used_to setting parts nodes → resident ≡ backed_to setting parts nodes → rows ≡ rows_to setting parts nodes
+      → used ≡ over_nodes used_pages setting parts nodes → resident ≡ over_nodes backed_pages setting parts nodes → rows ≡ rows_to setting parts nodes
       → (let t : Totals = record { calls = count; live = s.count; live_bytes = s.bytes; used = used; resident = resident; rows = rows } in t ≡ totals_of (finished_in nodes input order))
   totals_are {lines} {s} {count} {used} {resident} {rows} told stand count_is used_is resident_is rows_are =
       let made : ℕ → ℕ → ℕ → ℕ → ℕ → List RowView → Totals =
       λ n live bytes pages backed views. record { calls = n; live = live; live_bytes = bytes; used = pages; resident = backed; rows = views } in
       let whole : List CallLine → List NodePart → Totals =
-      λ ls ps. made (length ls) (live_count ls) (live_bytes ls) (used_to setting ps nodes) (backed_to setting ps nodes) (rows_to setting ps nodes) in
+      λ ls ps. made (length ls) (live_count ls) (live_bytes ls) (over_nodes used_pages setting ps nodes) (over_nodes backed_pages setting ps nodes) (rows_to setting ps nodes) in
       ap (λ n. made n s.count s.bytes used resident rows) count_is
       ∙ (ap (λ n. made (length lines) n s.bytes used resident rows) stand.count
       ∙ (ap (λ n. made (length lines) (live_count lines) n used resident rows) stand.bytes
       ∙ (ap (λ n. made (length lines) (live_count lines) (live_bytes lines) n resident rows) used_is
-      ∙ (ap (λ n. made (length lines) (live_count lines) (live_bytes lines) (used_to setting parts nodes) n rows) resident_is
-      ∙ (ap (made (length lines) (live_count lines) (live_bytes lines) (used_to setting parts nodes) (backed_to setting parts nodes)) rows_are
+      ∙ (ap (λ n. made (length lines) (live_count lines) (live_bytes lines) (over_nodes used_pages setting parts nodes) n rows) resident_is
+      ∙ (ap (made (length lines) (live_count lines) (live_bytes lines) (over_nodes used_pages setting parts nodes) (over_nodes backed_pages setting parts nodes)) rows_are
       ∙ (ap (λ ls. whole ls parts) told
       ∙ ap (λ (v : World NodePart (Beside NodeLocal)). whole (numa_calls v.locals order) v.parts) is))))))
 
@@ -121,7 +120,7 @@ module _ {nodes : ℕ} {input : Input} {order : List ℕ} (h : HoldsAfter nodes 
       omega (arith, stand.bytes, ap live_bytes (lines_are told), h.joined.bytes, covered_to nodes (omega arith), runs, covers)
 
 -- all that holds after an order whose picks move
-pub holds_of : {nodes : ℕ} {input : Input} → 0 < nodes → IsValidInput input → not_taken is_shared input.asked.calls ≡ 0 → input.asked.config.events ≤ 40000000 → {order : List ℕ}
+pub holds_of : {nodes : ℕ} {input : Input} → 0 < nodes → IsValidInput input → not_taken is_common input.asked.calls ≡ 0 → input.asked.config.events ≤ 40000000 → {order : List ℕ}
     → moving (numa_rules nodes input) (start (numa_rules nodes input)) order ≡ order → length order ≤ input.asked.config.events → HoldsAfter nodes input order
 holds_of {nodes} {input} some valid taken bound {order} moves few =
     (nodes_are_lawful nodes input some valid taken).holds order (order_is (numa_rules nodes input) order moves (omega (arith, few, bound)))

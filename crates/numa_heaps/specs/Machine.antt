@@ -34,12 +34,9 @@ pub record HasHeap (setting : Setting) (parts : List NodePart) (k : ℕ) : Type 
   pub there : slice_get parts (heap_place setting k) ≡ Some (part.Heap heap)
   pub limits : heap.config.huge ≡ setting.config.huge
 
--- the used and the backed pages of the first n nodes, and the pages of their live runs
-abbrev pub used_to : Setting → List NodePart → ℕ → ℕ
-used_to setting parts n = sum_by (λ k. used_pages (heap_at setting parts k)) (range_with_len 0 n)
-
-abbrev pub backed_to : Setting → List NodePart → ℕ → ℕ
-backed_to setting parts n = sum_by (λ k. backed_pages (heap_at setting parts k)) (range_with_len 0 n)
+-- a sum over the heaps of the first n nodes, and the pages of their live runs
+abbrev pub over_nodes : (Heap → ℕ) → Setting → List NodePart → ℕ → ℕ
+over_nodes count setting parts n = sum_by (λ k. count (heap_at setting parts k)) (range_with_len 0 n)
 
 abbrev pub runs_to : Setting → List NodePart → ℕ → ℕ
 runs_to setting parts n = sum_by (λ k. sum_by (λ (x : Run). x.pages) (heap_at setting parts k).runs) (range_with_len 0 n)
@@ -57,8 +54,8 @@ finished_in nodes input order =
       calls = lines;
       live = live_count lines;
       live_bytes = live_bytes lines;
-      used = used_to (setting_of input) w.parts nodes;
-      resident = backed_to (setting_of input) w.parts nodes;
+      used = over_nodes used_pages (setting_of input) w.parts nodes;
+      resident = over_nodes backed_pages (setting_of input) w.parts nodes;
       rows = rows_to (setting_of input) w.parts nodes;
     }
 

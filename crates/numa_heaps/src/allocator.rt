@@ -42,7 +42,7 @@ impl Allocator for NumaMachine {
     ghost use Rattle.std.proofs.Common.{refl};
     ghost use Rattle.alloc_rules.proofs.Orders.{lawful_order};
     ghost use Rattle.tc_machine.specs.Inputs.{input_under};
-    ghost use Rattle.no_caches.specs.NoCaches.{is_shared};
+    ghost use Rattle.alloc_rules.specs.Inputs.{is_common};
     ghost use Rattle.node_rules.specs.Numa.{numa_rules};
     ghost use Rattle.node_rules.specs.NumaLaw.{AreLawful, HoldsAfter};
     ghost use Rattle.node_rules.proofs.NodesLaw.{nodes_are_lawful, threads_count};
@@ -64,7 +64,7 @@ impl Allocator for NumaMachine {
 
     ghost as_many = { λ m. threads_count m.nodes.count (input_under m.setting m.trace.value) };
 
-    ghost takes = { is_shared };
+    ghost takes = { is_common };
 
     ghost lawful = { λ options. IsLawful options.count };
 

@@ -1,7 +1,8 @@
 //! What a run of memory nodes has to tell of their heaps.
 ghost use Rattle.std.specs.Prelude.{◌≡◌, ℕ, ◌*◌, ◌<◌, ◌≤◌, IfOk};
 ghost use Rattle.tc_units.specs.Units.{huge_pages};
-ghost use Rattle.numa_heaps.specs.Machine.{heap_at, used_to, runs_to, backed_to, rows_to, HasHeap};
+ghost use Rattle.heap_rules.specs.Heap.{used_pages, backed_pages};
+ghost use Rattle.numa_heaps.specs.Machine.{heap_at, over_nodes, runs_to, rows_to, HasHeap};
 
 use crate::machine::NumaPart;
 use crate::nodes::Nodes;
@@ -32,9 +33,9 @@ fn heap_at<'a>(setting: &Setting, parts: &'a [NumaPart], k: u8) -> &'a PageHeap
 pub(crate) fn pages_of(setting: &Setting, nodes: Nodes, parts: &[NumaPart]) -> NodePages
     requires heaps { (k : ℕ) → k < nodes.count → HasHeap setting.now parts.now k }
     requires few { setting.now.config.huge ≤ 4096 }
-    ensures used { result.used ≡ used_to setting.now parts.now nodes.count }
+    ensures used { result.used ≡ over_nodes used_pages setting.now parts.now nodes.count }
     ensures runs { result.used ≡ runs_to setting.now parts.now nodes.count }
-    ensures resident { result.resident ≡ backed_to setting.now parts.now nodes.count }
+    ensures resident { result.resident ≡ over_nodes backed_pages setting.now parts.now nodes.count }
     ensures covers { result.used ≤ result.resident }
     ensures most { result.resident ≤ huge_pages * (nodes.count * setting.now.config.huge) }
 {

@@ -1,11 +1,10 @@
 //! The machine of memory nodes: at each one the allocator without caches, for the calls that act there.
 ghost use Rattle.std.specs.Prelude.{◌≡◌, ◌≤◌, map};
 ghost use Rattle.tc_units.specs.declared.units.ThreadNo.{ThreadNo as Number};
-ghost use Rattle.alloc_rules.specs.Inputs.{IsValidInput, not_taken};
+ghost use Rattle.alloc_rules.specs.Inputs.{IsValidInput, is_common, not_taken};
 ghost use Rattle.alloc_rules.specs.Machine.{turns as turns_of};
 ghost use Rattle.alloc_rules.proofs.ValidProp.{valid_prop};
 ghost use Rattle.tc_machine.specs.Inputs.{input_under};
-ghost use Rattle.no_caches.specs.NoCaches.{is_shared};
 
 use crate::local::NumaLocal;
 use crate::nodes::Nodes;
@@ -34,7 +33,7 @@ pub struct NumaMachine {
     pub ghost few: { setting.config.events ≤ 40000000 },
     pub ghost same_turns: { map (λ (t : Number). t.0) turns ≡ turns_of (input_under setting trace.value).asked },
     pub ghost valid: { IsValidInput (input_under setting trace.value) } by { valid_prop (input_under setting trace.value) },
-    pub ghost taken: { not_taken is_shared (input_under setting trace.value).asked.calls ≡ 0 },
+    pub ghost taken: { not_taken is_common (input_under setting trace.value).asked.calls ≡ 0 },
 }
 
 impl Machine for NumaMachine {

@@ -1,5 +1,5 @@
 -- What is said of a current thread's registers is enough for its next instruction, which keeps all room.
-use Rattle.std.proofs.Common.{◌≡◌, ℕ, ◌+◌, ◌-◌, ◌≤◌, Bool, true, false, eqb, List, [], ◌∷◌, length, min, refl, sym, subst, arith}
+use Rattle.std.proofs.Common.{◌≡◌, ℕ, ◌+◌, ◌-◌, ◌≤◌, Bool, true, false, is_some, eqb, List, [], ◌∷◌, length, min, refl, sym, subst, arith}
 use Rattle.std.proofs.lemmas.Bool.{cond_both}
 use Rattle.std.proofs.lemmas.List.{length-append, length-drop}
 use Rattle.tc_units.specs.declared.units.Addr.{Addr}
@@ -15,7 +15,7 @@ use Rattle.rseq_core.specs.declared.cpu_part.CpuPart.{CpuPart}
 use Rattle.rseq_core.specs.Bags.{room, appended, without_first, emptied}
 use Rattle.rseq_core.specs.Tables.{Cell, is_pop, wanted, closes, counted, cell}
 use Rattle.rseq_core.specs.Agrees.{HasLoaded, HasStored, Agrees, CanLoad, CanStore, IsAble}
-use Rattle.rseq_core.specs.Acts.{stands, instruction}
+use Rattle.rseq_core.specs.Acts.{instruction}
 use Rattle.rseq_core.proofs.CellKept.{loaded_length, test_cell}
 
 -- room for all that a pop wants
@@ -69,4 +69,4 @@ cell_room stopped true row r Commit able = record { hand = room_appended r.hand 
 cell_room stopped false row r Commit able = record { hand = room_without r.hand r.count able.some; loaded = room_emptied r.loaded }
 
 pub instruction_room : (p : CpuPart) (r new : Regs) → IsAble (is_pop r.seq) (row_at p.slab r.class.0) r r.pc → new ≡ (instruction p r).regs → KeepsRoom r new
-instruction_room p r new able is = subst (λ (q : Regs). KeepsRoom r q) (sym is) (cell_room (stands p.stopper) (is_pop r.seq) (row_at p.slab r.class.0) r r.pc able)
+instruction_room p r new able is = subst (λ (q : Regs). KeepsRoom r q) (sym is) (cell_room (is_some p.stopper) (is_pop r.seq) (row_at p.slab r.class.0) r r.pc able)

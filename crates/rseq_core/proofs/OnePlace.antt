@@ -1,5 +1,5 @@
 -- An instruction stores at most one place.
-use Rattle.std.proofs.Common.{◌≡◌, ℕ, ◌+◌, ◌-◌, ◌<◌, Bool, true, false, length, refl, sym, ap, ◌∙◌, subst, inl, inr, ◌⊎◌}
+use Rattle.std.proofs.Common.{◌≡◌, ℕ, ◌+◌, ◌-◌, ◌<◌, Bool, true, false, is_some, length, refl, sym, ap, ◌∙◌, subst, inl, inr, ◌⊎◌}
 use Rattle.std.proofs.lemmas.Bool.{cases_eq}
 use Rattle.std.proofs.lemmas.List.{get_or-set_other}
 use Rattle.cpu_slab.specs.Slots.{SlabRow, CpuSlab, null, row_at, slot_of, with_row}
@@ -10,7 +10,7 @@ use Rattle.rseq_core.specs.declared.regs.Regs.{Regs}
 use Rattle.rseq_core.specs.declared.cpu_part.CpuPart.{CpuPart}
 use Rattle.rseq_core.specs.Tables.{is_pop, object, cell}
 use Rattle.rseq_core.proofs.CellKept.{test_cell}
-use Rattle.rseq_core.specs.Acts.{DiffersAtMostOnce, stands, instruction, with_cell}
+use Rattle.rseq_core.specs.Acts.{DiffersAtMostOnce, instruction, with_cell}
 
 -- all slots of a row but one hold what they held
 abbrev pub StoresOnce : SlabRow → SlabRow → Type 0
@@ -45,7 +45,7 @@ one_place slab k row low stores = (k, (stores.0, λ j m apart. other_place slab 
 instruction_place : (p new : CpuPart) (r : Regs) → r.class.0 < length p.slab.rows → new ≡ with_cell p r (instruction p r) → DiffersAtMostOnce p.slab new.slab
 instruction_place p new r low is =
     let at : DiffersAtMostOnce p.slab (with_row p.slab r.class.0 (instruction p r).row) =
-    one_place p.slab r.class.0 (instruction p r).row low (cell_stores (stands p.stopper) (is_pop r.seq) (row_at p.slab r.class.0) r r.pc) in
+    one_place p.slab r.class.0 (instruction p r).row low (cell_stores (is_some p.stopper) (is_pop r.seq) (row_at p.slab r.class.0) r r.pc) in
     subst (λ (q : CpuPart). DiffersAtMostOnce p.slab q.slab) (sym is) at
 
 -- where nothing was done before it

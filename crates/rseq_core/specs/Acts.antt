@@ -26,11 +26,6 @@ abbrev pub runs : Option ThreadNo → ThreadNo → Bool
 runs None t = false
 runs (Some u) t = u.0 == t.0
 
--- whether a stopper stands there
-abbrev pub stands : Option ThreadNo → Bool
-stands None = false
-stands (Some t) = true
-
 -- a thread runs at a CPU, and its epoch is the CPU's
 pub record IsCurrent (t : ThreadNo) (p : CpuPart) (r : Regs) : Type 0 where
   pub runs : p.running ≡ Some t
@@ -68,7 +63,7 @@ open_after pc reply was = if is_some reply then false else if is_begin pc then t
 
 -- the instruction of a current thread
 abbrev pub instruction : CpuPart → Regs → Cell
-instruction p r = cell (stands p.stopper) (is_pop r.seq) (row_at p.slab r.class.0) r r.pc
+instruction p r = cell (is_some p.stopper) (is_pop r.seq) (row_at p.slab r.class.0) r r.pc
 
 -- the CPU after an instruction with this effect
 abbrev pub with_cell : CpuPart → Regs → Cell → CpuPart
@@ -107,7 +102,7 @@ instructed p r = instructed_by (arrival_at p r) p r
 
 -- Grow: the open mark is cleared, and where the CPU isn't stopped the class grows
 abbrev pub grown_there : CpuPart → ℕ → CpuPart
-grown_there p k = record p { is_open = false; slab = if stands p.stopper then p.slab else grown p.slab k }
+grown_there p k = record p { is_open = false; slab = if is_some p.stopper then p.slab else grown p.slab k }
 
 -- the first that applies of In, Back and Grow
 abbrev pub grew_by : Arrival → CpuPart → Regs → Acted Grew

@@ -7,9 +7,9 @@ use Rattle.tc_units.specs.Bag.{Contents}
 abbrev pub room : Contents Addr → ℕ
 room bag = length bag.items + bag.spare
 
--- with these objects behind the others
-abbrev pub appended : Contents Addr → List Addr → Contents Addr
-appended bag objects = record { items = bag.items ++ objects; spare = bag.spare - length objects }
+-- with these items behind the others, of a bag of any items
+abbrev pub appended : {A : Type 0} → Contents A → List A → Contents A
+appended bag items = record { items = bag.items ++ items; spare = bag.spare - length items }
 
 -- without the first n objects
 abbrev pub without_first : ℕ → Contents Addr → Contents Addr

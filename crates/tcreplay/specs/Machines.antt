@@ -8,9 +8,8 @@ use Rattle.cpu_rows.specs.Machine as cpus
 use Rattle.cpu_rows.specs.PerCpu.{CpuLocal}
 use Rattle.cpu_rows.specs.Switches.{SwitchesAreFew}
 use Rattle.cpu_front.specs.Machine as cpu_machine
-use Rattle.thread_cache.specs.Laws.{takes}
+use Rattle.alloc_rules.specs.Inputs.{is_common}
 use Rattle.thread_front.specs.Machine as thread_machine
-use Rattle.no_caches.specs.NoCaches.{is_shared}
 use Rattle.node_rules.specs.Beside.{Beside}
 use Rattle.node_rules.specs.Numa.{NodePart, NodeLocal, numa_rules}
 use Rattle.numa_heaps.specs.Machine as node_machine
@@ -52,7 +51,7 @@ per_thread =
       local = thread_machine.CacheLocal;
       rules = thread_machine.rules;
       arena = λ input. input.asked.config.huge;
-      takes = takes;
+      takes = is_common;
       told = thread_machine.finished_in;
       lawful = thread_machine.IsLawful;
       made = λ input picks. Unit {0};
@@ -66,7 +65,7 @@ per_node nodes =
       local = Beside NodeLocal;
       rules = numa_rules nodes;
       arena = node_machine.arena nodes;
-      takes = is_shared;
+      takes = is_common;
       told = node_machine.finished_in nodes;
       lawful = node_machine.IsLawful nodes;
       made = λ input picks. Unit {0};

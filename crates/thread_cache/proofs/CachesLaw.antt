@@ -13,14 +13,13 @@ use Rattle.tc_units.specs.declared.spans.ClassRow.{ClassRow}
 use Rattle.tc_model.specs.declared.config.Config.{Config}
 use Rattle.rseq_core.specs.declared.regs.Regs.{Regs}
 use Rattle.size_classes.specs.Rows.{sizes_of}
-use Rattle.holdings.specs.Runs.{objects_at}
+use Rattle.holdings.specs.{Runs.objects_at, Books.no_class}
 use Rattle.holdings.proofs.Sums.{of_all, shift, least}
 use Rattle.call_steps.specs.declared.step.Asking.{Asking}
 use Rattle.call_steps.specs.declared.step.Serving.{Serving}
 use Rattle.call_steps.specs.declared.step.Freeing.{Freeing}
 use Rattle.call_steps.specs.declared.step.Next.TheVariants as next
 use Rattle.call_steps.specs.Fronts.{AreEntries}
-use Rattle.call_steps.specs.Local.{no_class}
 use Rattle.call_steps.specs.Shapes.{AreRows}
 use Rattle.alloc_rules.specs.Standings.{Here, Later, Away, Standing, stand, at_next, regs_next}
 use Rattle.alloc_rules.specs.FrontLaw.{IsReady, FitsAt, RefusesAs, idle, with_hand}

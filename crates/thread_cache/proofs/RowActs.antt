@@ -10,7 +10,7 @@ use Rattle.tc_units.specs.declared.spans.ClassRow.{ClassRow}
 use Rattle.tc_model.specs.declared.config.Config.{Config}
 use Rattle.rseq_core.specs.declared.regs.Regs.{Regs}
 use Rattle.rseq_core.specs.Bags.{room, appended, without_first}
-use Rattle.holdings.specs.Runs.{objects_at}
+use Rattle.holdings.specs.{Runs.objects_at, Books.no_class}
 use Rattle.transfer_cache.specs.Transfer.{last_first, without_last}
 use Rattle.call_steps.specs.declared.step.Asking.{Asking}
 use Rattle.call_steps.specs.declared.step.Serving.{Serving}
@@ -19,8 +19,8 @@ use Rattle.call_steps.specs.declared.step.Giving.TheVariants as giving
 use Rattle.call_steps.specs.declared.step.Next.{Next}
 use Rattle.call_steps.specs.declared.step.Next.TheVariants as next
 use Rattle.call_steps.specs.Calls.{Frees}
-use Rattle.call_steps.specs.Fronts.{Left, FrontRules}
-use Rattle.call_steps.specs.Local.{row_of, no_class}
+use Rattle.call_steps.specs.Fronts.{Left, leaving, FrontRules}
+use Rattle.call_steps.specs.Local.{row_of}
 use Rattle.call_steps.specs.Shapes.{AreRows, BeginsWith, most_slots}
 use Rattle.alloc_rules.specs.Shapes.{HandAbout}
 use Rattle.alloc_rules.specs.Standings.{Here, stand, at_next, regs_next}
@@ -30,7 +30,7 @@ use Rattle.thread_cache.specs.declared.row.CacheRow.{CacheRow}
 use Rattle.thread_cache.specs.declared.row.CacheRow.TheVariants.{Pop, Stock, Add, Ask, Raise, AddAgain, Trim}
 use Rattle.thread_cache.specs.declared.seat.CacheSeat.{CacheSeat}
 use Rattle.thread_cache.specs.Cache.{Cache, bytes, unused, objects_of, with_class, fitting, given}
-use Rattle.thread_cache.specs.Rows.{about_row, next_cache, next_victim, popped, stocked, left_in, after_stock, after_add, after_again, ask_most, after_ask, leaves, cache_acts, cache_front}
+use Rattle.thread_cache.specs.Rows.{about_row, next_cache, next_victim, popped, stocked, left_in, after_stock, after_add, after_again, ask_most, after_ask, cache_acts, cache_front}
 use Rattle.thread_cache.specs.Holds.{given_in, given_at, HandAt, IsSeated, IsCacheOf}
 use Rattle.thread_cache.proofs.Stacks.{of_class, of_other, classes, trimmed_is, added_is}
 
@@ -93,7 +93,7 @@ module _ (rows : List ClassRow) (c : Config) (are : AreRows rows) (t : ℕ) (p :
     -- the class has other objects, and the hand has others
     moved : (kept : List Addr) (h : Contents Addr) (n : Next CacheRow) → IsCacheOf rows (with_class p k kept) → room h ≡ room g.hand
         → ((m : ℕ) → objects_at m kept + objects_at m h.items ≡ objects_at m (objects_of p k) + objects_at m g.hand.items)
-        → given_in row ≡ 0 → Behind row (record g { hand = h }) n 0 → Leaves row (leaves (with_class p k kept) v (record g { hand = h }) n)
+        → given_in row ≡ 0 → Behind row (record g { hand = h }) n 0 → Leaves row (leaving (with_class p k kept) v (record g { hand = h }) n)
     moved kept h n part same moves way b =
         record {
           act = record {
@@ -115,7 +115,7 @@ module _ (rows : List ClassRow) (c : Config) (are : AreRows rows) (t : ℕ) (p :
         }
 
     -- what fits of the hand goes to the cache
-    stocks : (n : Next CacheRow) → given_in row ≡ 0 → Behind row (left_in p g) n 0 → Leaves row (leaves (stocked p g) v (left_in p g) n)
+    stocks : (n : Next CacheRow) → given_in row ≡ 0 → Behind row (left_in p g) n 0 → Leaves row (leaving (stocked p g) v (left_in p g) n)
     stocks n way b =
         let items : List Addr = g.hand.items in
         let m : ℕ = fitting p k (length items) in
@@ -165,7 +165,7 @@ module _ (rows : List ClassRow) (c : Config) (are : AreRows rows) (t : ℕ) (p :
   limited : (row : CacheRow) (q : ℕ) (w : CacheSeat) (n : Next CacheRow) → IsReady r t g (about_row row) → IsCacheOf rows p → bytes p ≤ q
       → w.own ≡ v.own → w.caches ≡ v.caches → w.victim < c.threads → (1 < c.threads → w.victim ≢ w.own) → (way : ℕ)
       → Behind row g n way → q + way ≡ p.limit + given_in row
-      → Leaves row (leaves (record p { limit = q }) w g n)
+      → Leaves row (leaving (record p { limit = q }) w g n)
   limited row q w n ready is within own caches victim apart way b sum =
       record {
         act = record { thread = refl; room = refl; low = ready.class; class = inl refl; others = λ j m apart. refl; moves = λ m. refl; next = b.next };
@@ -182,7 +182,7 @@ module _ (rows : List ClassRow) (c : Config) (are : AreRows rows) (t : ℕ) (p :
   popped_leaves : (a : Asking) (xs : List Addr) → IsSeated c t (stand v g count (Here (Pop a))) → IsReady r t g (about_row (Pop a)) → IsCacheOf rows p
       → length xs ≤ 1
       → ((m : ℕ) → objects_at m (without_last 1 (objects_of p g.class.0)) + objects_at m xs ≡ objects_at m (objects_of p g.class.0))
-      → Leaves (Pop a) (let x = popped p g a xs in leaves x.0 v x.1 x.2)
+      → Leaves (Pop a) (let x = popped p g a xs in leaving x.0 v x.1 x.2)
   popped_leaves a [] s ready is few last =
       let kept : List Addr = without_last 1 (objects_of p g.class.0) in
       moved (Pop a) s ready is kept g.hand (next.Fetch a) (trimmed_is rows are p is g.class.0 (there (Pop a) s ready is) 1) refl

@@ -5,7 +5,7 @@ use Rattle.std.proofs.lemmas.List.{get_or-map, get_or_default, get_or-set_same, 
 use Rattle.tc_units.specs.declared.units.Addr.{Addr}
 use Rattle.tc_units.specs.declared.spans.ClassRow.{ClassRow}
 use Rattle.transfer_cache.specs.Transfer.{without_last}
-use Rattle.call_steps.specs.Local.{no_class}
+use Rattle.holdings.specs.Books.{no_class}
 use Rattle.call_steps.specs.Shapes.{AreRows}
 use Rattle.thread_cache.specs.Cache.{Stack, Cache, bytes, no_stack, stack_at, objects_of, with_objects, with_class, fitting, added, trimmed, IsCounted}
 use Rattle.thread_cache.specs.Holds.{IsCacheOf}

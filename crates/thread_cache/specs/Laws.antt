@@ -1,16 +1,13 @@
 -- That the caches of threads meet the law of a front-end, and what holds of the allocator over them in every order.
-use Rattle.std.specs.Prelude.{◌≡◌, ℕ, ◌*◌, ◌<◌, ◌≤◌, Bool, true, false, List, length, map, All, Some, slice_get}
+use Rattle.std.specs.Prelude.{◌≡◌, ℕ, ◌*◌, ◌<◌, ◌≤◌, List, length, map, All, Some, slice_get}
 use Rattle.tc_units.specs.declared.spans.ClassRow.{ClassRow}
 use Rattle.tc_model.specs.declared.config.Config.{Config}
-use Rattle.tc_model.specs.declared.calls.Call.{Call}
-use Rattle.tc_model.specs.declared.calls.Call.TheVariants.{Malloc, Free, Release, Drain, Resize}
-use Rattle.tc_model.specs.declared.calls.Planned.{Planned}
 use Rattle.tc_model.specs.Input.{Input}
 use Rattle.call_steps.specs.Local.{Local}
 use Rattle.call_steps.specs.Shapes.{AreRows}
-use Rattle.alloc_rules.specs.FrontLaw.{IsOwn, IsLawful}
+use Rattle.alloc_rules.specs.FrontLaw.{IsNotOwn, IsLawful}
 use Rattle.alloc_rules.specs.Standings.{standing_of}
-use Rattle.alloc_rules.specs.Inputs.{IsValidInput, not_taken}
+use Rattle.alloc_rules.specs.Inputs.{IsValidInput, is_common, not_taken}
 use Rattle.alloc_rules.specs.Law as allocator
 use Rattle.thread_cache.specs.declared.row.CacheRow.{CacheRow}
 use Rattle.thread_cache.specs.declared.seat.CacheSeat.{CacheSeat}
@@ -24,20 +21,9 @@ pub record AreCacheLimits (c : Config) : Type 0 where
   pub few : c.threads ≤ 64
   pub percpu : c.percpu ≤ 268435456
 
--- the calls that the caches take: no drain and no resize
-abbrev pub takes : Call → Bool
-takes (Malloc label size) = true
-takes (Free label) = true
-takes (Release pages) = true
-takes (Drain cpu) = false
-takes (Resize cpu class cap) = false
-
-abbrev pub planned : Planned → Type 0
-planned p = IsOwn p.call → ⊥
-
 abbrev pub CachesAreLawful : Type 0
 CachesAreLawful = (rows : List ClassRow) (c : Config) → AreRows rows → AreCacheLimits c
-    → IsLawful (cache_front rows c) about_row planned (CachesHold rows c) (cache_fits rows)
+    → IsLawful (cache_front rows c) about_row IsNotOwn (CachesHold rows c) (cache_fits rows)
 
 -- After the picks of an order: what holds over any front-end; there are as many caches as threads; none has more bytes than its
 -- limit; each thread has its own cache and asks others; and the sum of all limits and of what victims gave up and isn't raised yet
@@ -50,5 +36,5 @@ pub record HoldsAfter (input : Input) (order : List ℕ) : Type 0 where
   pub limits : all_limits all.parts.fronts (map standing_of all.locals) ≡ input.asked.config.threads * input.asked.config.percpu
 
 abbrev pub InEveryOrder : Type 0
-InEveryOrder = (input : Input) → IsValidInput input → not_taken takes input.asked.calls ≡ 0
+InEveryOrder = (input : Input) → IsValidInput input → not_taken is_common input.asked.calls ≡ 0
     → allocator.AreLawful (cache_front input.rows input.asked.config) about_row input.asked (cache_fits input.rows) (HoldsAfter input)

@@ -15,7 +15,7 @@ use Rattle.call_steps.specs.declared.step.Giving.TheVariants as giving
 use Rattle.call_steps.specs.declared.step.Next.{Next}
 use Rattle.call_steps.specs.declared.step.Next.TheVariants as next
 use Rattle.call_steps.specs.Calls.{About, Asks, Publishes, Frees}
-use Rattle.call_steps.specs.Fronts.{FrontCalls, Left, FrontRules}
+use Rattle.call_steps.specs.Fronts.{FrontCalls, Left, leaving, FrontRules}
 use Rattle.call_steps.specs.Local.{row_of}
 use Rattle.thread_cache.specs.declared.row.CacheRow.{CacheRow}
 use Rattle.thread_cache.specs.declared.row.CacheRow.TheVariants.{Pop, Stock, Add, Ask, Raise, AddAgain, Trim}
@@ -91,17 +91,14 @@ trims rows p g =
     (trimmed p g.class.0 n, record g { hand = appended g.hand (last_first n (objects_of p g.class.0)) })
 
 -- what the act of each row leaves
-abbrev pub leaves : Cache → CacheSeat → Regs → Next CacheRow → Left Cache CacheSeat CacheRow
-leaves p v g n = record { part = p; seat = v; regs = g; next = n }
-
 abbrev pub cache_acts : List ClassRow → Cache → CacheSeat → Regs → CacheRow → Left Cache CacheSeat CacheRow
-cache_acts rows p v g (Pop a) = let x = pops p g a in leaves x.0 v x.1 x.2
-cache_acts rows p v g (Stock s) = leaves (stocked p g) v (left_in p g) (after_stock (left_in p g).hand.items s)
-cache_acts rows p v g (Add f) = leaves (stocked p g) v (left_in p g) (after_add v.caches (left_in p g).hand.items f)
-cache_acts rows p v g (Ask f) = leaves (lowered p (ask_most rows g)) (next_victim v) g (after_ask (given p (ask_most rows g)) f)
-cache_acts rows p v g (Raise f n) = leaves (raised p n) v g (next.Row (AddAgain f))
-cache_acts rows p v g (AddAgain f) = leaves (stocked p g) v (left_in p g) (after_again (left_in p g).hand.items f)
-cache_acts rows p v g (Trim f) = let x = trims rows p g in leaves x.0 v x.1 (next.Give (giving.Freed f))
+cache_acts rows p v g (Pop a) = let x = pops p g a in leaving x.0 v x.1 x.2
+cache_acts rows p v g (Stock s) = leaving (stocked p g) v (left_in p g) (after_stock (left_in p g).hand.items s)
+cache_acts rows p v g (Add f) = leaving (stocked p g) v (left_in p g) (after_add v.caches (left_in p g).hand.items f)
+cache_acts rows p v g (Ask f) = leaving (lowered p (ask_most rows g)) (next_victim v) g (after_ask (given p (ask_most rows g)) f)
+cache_acts rows p v g (Raise f n) = leaving (raised p n) v g (next.Row (AddAgain f))
+cache_acts rows p v g (AddAgain f) = leaving (stocked p g) v (left_in p g) (after_again (left_in p g).hand.items f)
+cache_acts rows p v g (Trim f) = let x = trims rows p g in leaving x.0 v x.1 (next.Give (giving.Freed f))
 
 -- calls begin and go on at the thread's own cache
 abbrev pub cache_calls : List ClassRow → FrontCalls CacheSeat CacheRow

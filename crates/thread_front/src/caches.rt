@@ -136,10 +136,11 @@ impl FrontEnd for ThreadCaches {
 
 impl LawfulFront for ThreadCaches {
     ghost use Rattle.thread_cache.specs.Holds.{CachesHold};
-    ghost use Rattle.thread_cache.specs.Laws.{takes, HoldsAfter};
+    ghost use Rattle.alloc_rules.specs.Inputs.{is_common};
+    ghost use Rattle.thread_cache.specs.Laws.{HoldsAfter};
     ghost use Rattle.thread_cache.proofs.Orders.{limits_of, caches_in_every_order};
 
-    ghost takes = { takes };
+    ghost takes = { is_common };
 
     ghost keeps = { λ u. CachesHold u.table u.config };
 

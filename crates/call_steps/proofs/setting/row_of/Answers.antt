@@ -1,7 +1,7 @@
 use Rattle.std.proofs.Common.{ap, sym, ◌∙◌, arith, length}
 use Rattle.std.specs.Prelude.{slice_get}
 use Rattle.std.proofs.lemmas.Option.{get_or_from_slice_get}
-use Rattle.call_steps.specs.Local.{no_class}
+use Rattle.holdings.specs.Books.{no_class}
 use Rattle.call_steps.proofs.setting.row_of.Goals as goal
 
 pub row-requires : goal.row-requires

@@ -3,9 +3,8 @@ use Rattle.tc_model.specs.declared.config.Head.TheVariants.{Events}
 use Rattle.call_steps.specs.declared.setting.Setting.{Setting}
 use Rattle.trace_reader.specs.declared.trace.Trace.{Trace}
 use Rattle.trace_reader.specs.Valid.{IsConfig}
-use Rattle.alloc_rules.specs.Inputs.{IsValidInput, not_taken}
+use Rattle.alloc_rules.specs.Inputs.{IsValidInput, is_common, not_taken}
 use Rattle.alloc_rules.specs.Machine.{turns}
-use Rattle.no_caches.specs.NoCaches.{is_shared}
 use Rattle.tc_machine.specs.Inputs.{input_under}
 use Rattle.tc_machine.proofs.InputFacts.{turns_are}
 use Rattle.numa_heaps.proofs.allocator.NumaMachineAllocator.open.Goals as goal
@@ -22,5 +21,5 @@ invariant_of-machine c =
       few = (config Events).1;
       same_turns = turns_are rows (length rows) c.args.trace asked read ∙ ap (λ (t : Trace). turns (input_under setting t).asked) seen;
       valid = subst (λ (t : Trace). IsValidInput (input_under setting t)) seen c.in_ok-parts.ensures.valid;
-      taken = subst (λ (t : Trace). not_taken is_shared (input_under setting t).asked.calls ≡ 0) seen c.requires.taken;
+      taken = subst (λ (t : Trace). not_taken is_common (input_under setting t).asked.calls ≡ 0) seen c.requires.taken;
     }
