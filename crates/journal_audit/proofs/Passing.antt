@@ -32,8 +32,7 @@ pub record Passes (plan : Plan) (earlier : List CallLine) (form : Option Told) (
 
 -- no rule fails, so none of the first ones does
 first_of_none : (fails : Bool) (reason : AuditWhy) (others : Option AuditWhy) → cond fails (Some reason) others ≡ None → (fails ≡ false) × (others ≡ None)
-first_of_none true reason others h = absurd (cc)
-first_of_none false reason others h = (refl, h)
+first_of_none fails reason others h = grind arith
 
 keeps_all : (plan : Plan) (earlier : List CallLine) (call : Call) (answer : Answer) → broken plan earlier call answer ≡ None → Keeps plan earlier call answer
 keeps_all plan earlier call answer h =

@@ -65,9 +65,7 @@ sound_none huge round = record {
 -- a block that a label has after a call is one that it had, or the call's
 block_before : (o : Option Answer) (mine : Bool) (new block : Answer) → option_or o (cond mine (Some new) None) ≡ Some block
     → (o ≡ Some block) ⊎ ((mine ≡ true) × (new ≡ block))
-block_before (Some old) mine new block h = inl h
-block_before None true new block h = inr (refl, cc)
-block_before None false new block h = absurd (cc)
+block_before old mine new block h = grind arith
 
 block_of : (calls : List CallLine) (c : CallLine) (label addr len : ℕ) → HasBlock (calls ++ c ∷ []) label addr len
     → HasBlock calls label addr len ⊎ ((allocates label c.call ≡ true) × (c.answer ≡ answer.Block (record { 0 = addr }) len))

@@ -138,8 +138,7 @@ module _ (calls : List CallLine) (live live_bytes used resident : ℕ) (rows : L
 
 -- the lines before the summary are those of calls
 letter_goes_on : (c : Call) (others : List (List ℕ)) → ends (letter_of c ∷ others) ≡ false
-letter_goes_on (call.Malloc label size) others = refl
-letter_goes_on c others = refl
+letter_goes_on c others = grind arith
 
 lines_are_calls : (calls : List CallLine) (count : List (List ℕ)) (more : List (List (List ℕ)))
     → before_first ends (map call_fields calls ++ (codes "calls" ∷ count) ∷ more) ≡ map call_fields calls

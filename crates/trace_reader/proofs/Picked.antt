@@ -1,9 +1,9 @@
 -- The picks of an order file are of threads that are there.
-use Rattle.std.proofs.Common.{◌≡◌, ℕ, ◌+◌, ◌<◌, subst, false, List, [], ◌∷◌, Option, Some, None, Result, Ok, refl, sym, ap, ◌∙◌, cond, option_map, inl, inr}
+use Rattle.std.proofs.Common.{◌≡◌, ℕ, ◌+◌, ◌<◌, subst, false, List, [], ◌∷◌, Option, Some, None, Result, Ok, refl, sym, ap, ◌∙◌, option_map, arith}
 use Rattle.std.specs.Prelude.{replicate, nat_le}
 use Rattle.std.specs.List.{All, find}
 use Rattle.std.specs.Option.{option_map_or}
-use Rattle.std.proofs.lemmas.Bool.{cases_Bool, leb-false}
+use Rattle.std.proofs.lemmas.Bool.{leb-false}
 use Rattle.std.proofs.lemmas.List.Elements.{All-append, All-replicate, All-nil}
 use Rattle.trace_reader.specs.declared.why.OrderWhy.{OrderWhy}
 use Rattle.trace_reader.specs.declared.turn.Turns.{Turns}
@@ -23,10 +23,7 @@ module _ {L Why : Type 0} (line : L) where
 
   passes : (rules : List (Rule L Why)) → option_map (λ (r : Rule L Why). r.why) (find (λ (r : Rule L Why). r.fails line) rules) ≡ None → Passes rules
   passes [] none = tt
-  passes (rule ∷ rules) none = elim (cases_Bool (rule.fails line)) [
-    | inl fails ↦ let e : Some rule.why ≡ None = sym (ap (λ b. option_map (λ (r : Rule L Why). r.why) (cond b (Some rule) (find (λ (r : Rule L Why). r.fails line) rules))) fails) ∙ none in absurd (cc)
-    | inr good ↦ (good, passes rules (sym (ap (λ b. option_map (λ (r : Rule L Why). r.why) (cond b (Some rule) (find (λ (r : Rule L Why). r.fails line) rules))) good) ∙ none))
-  ]
+  passes (rule ∷ rules) none = grind (arith, passes rules)
 
 -- a good line names a thread that is there
 thread_passes : (line : OrderLine) → verdict order_rules line ≡ None → has_turns (λ turns. nat_le line.threads turns.thread) line ≡ false

@@ -38,8 +38,7 @@ verdict-number line w known has none =
 -- the reason of the first rule that fails
 reason-cond : (fails : Bool) (first others : Option (Rule Line LineWhy))
     → option_map (λ (r : Rule Line LineWhy). r.why) (cond fails first others) ≡ cond fails (option_map (λ (r : Rule Line LineWhy). r.why) first) (option_map (λ (r : Rule Line LineWhy). r.why) others)
-reason-cond true first others = refl
-reason-cond false first others = refl
+reason-cond fails first others = grind arith
 
 -- the line has a form, and the rules on it decide
 verdict-form : (line : Line) (w : Word) (form : Form) → HasWord line w → has_fields w (other_fields line.fields) ≡ true
@@ -103,8 +102,7 @@ line_form-ok line w form known h =
 
 -- no rule on a form fails, so none of the first ones does
 none_first : (fails : Bool) (reason : LineWhy) (others : Option LineWhy) → cond fails (Some reason) others ≡ None → (fails ≡ false) × (others ≡ None)
-none_first true reason others h = absurd (cc)
-none_first false reason others h = (refl, h)
+none_first fails reason others h = grind arith
 
 below : (bound n : ℕ) → leb bound n ≡ false → n < bound
 below bound n h = leb-false bound n h
